@@ -1,5 +1,5 @@
 use Rattle.std.specs.Int.{div_ceil}
-use Rattle.std.specs.Prelude.{ℕ, ◌+◌, ◌-◌, ◌*◌, ◌%◌, ◌==◌, Bool, List, [], ◌++◌, length, take, drop, map, zip, replicate, bit_xor, nat_lt, if◌then◌else◌}
+use Rattle.std.specs.Prelude.{ℕ, zero, suc, ◌+◌, ◌-◌, ◌*◌, ◌%◌, ◌==◌, List, [], ◌++◌, length, take, drop, map, zip, replicate, bit_xor, nat_lt, if◌then◌else◌}
 
 -- how blocks are cut: the bytes of a sector, and how many data and parity columns a stripe has
 pub record Cut : Type 0 where

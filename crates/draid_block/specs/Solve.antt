@@ -1,4 +1,4 @@
-use Rattle.std.specs.Prelude.{◌≡◌, ◌≤◌, ◌<◌, ◌+◌, ◌-◌, ◌*◌, ◌==◌, ℕ, List, [], ◌++◌, length, take, Option, Some, None, Result, Ok, Err, is_none, count_by, slice_get, slice_index_or, option_map, unwrap_or}
+use Rattle.std.specs.Prelude.{◌≡◌, ◌≤◌, ◌<◌, ◌+◌, ◌*◌, ℕ, zero, suc, List, [], ◌++◌, length, take, Option, Some, None, Result, Ok, Err, is_none, count_by, slice_get, slice_index_or, option_map, unwrap_or}
 use Rattle.std.specs.declared.vec.Vec.{Vec}
 use Rattle.std.specs.declared.alloc.Global.{Global}
 use Rattle.sha2.specs.Sha256.{sha256}
@@ -34,10 +34,10 @@ pub record IsWhole (fetched : Fetched) : Type 0 where
   pub long : (i : ℕ) (c : Vec ℕ Global) → slice_get fetched.columns.items i ≡ Some (Some c) → length c.items ≡ fetched.pointer.stripes * 512
 
 -- no column is absent, and what they restore has the pointer's digest
-pub record IsRestored (fetched : Fetched) (bytes : List ℕ) : Type 0 where
+pub record IsRestored (fetched : Fetched) (found : List ℕ) : Type 0 where
   pub whole : absent_of fetched.columns.items ≡ 0
-  pub bytes : bytes ≡ restored first_cut fetched.pointer.len fetched.columns.items
-  pub digest : sha256 bytes ≡ fetched.pointer.digest
+  pub bytes : found ≡ restored first_cut fetched.pointer.len fetched.columns.items
+  pub digest : sha256 found ≡ fetched.pointer.digest
 
 -- Without absent columns the one set of missing columns that was tried, the empty one, doesn't have the digest. With some, none was tried.
 pub record IsUnreadable (fetched : Fetched) (absent tried : ℕ) : Type 0 where

@@ -32,6 +32,7 @@ impl Model for Encoded {
 }
 
 /// How many stripes a block of `len` bytes takes.
+#[tactic(auto, unfolding(crate::specs::Columns::stripes_of, crate::specs::Columns::sectors_of))]
 fn stripes_for(len: u32) -> u32
     requires { len ≤ 131072 }
     ensures { result ≡ stripes_of first_cut len }
@@ -95,6 +96,7 @@ impl Encoded {
     }
 
     /// How many consecutive stripes the block takes, 1 to 128.
+    #[tactic(auto, using(crate::proofs::Cut::stripes_some, crate::proofs::Cut::stripes_few))]
     pub fn stripes(&self) -> u32
         ensures stripes { result ≡ stripes_of first_cut (length self.now) }
         ensures some { 1 ≤ result }
@@ -110,6 +112,7 @@ impl Encoded {
         self.digest
     }
 
+    #[tactic(auto, using(crate::proofs::Halves::lengths))]
     /// A column: 0 is the parity (P of OpenZFS's `vdev_raidz.c`), 1 and 2 are the data.
     pub fn column(&self, i: u32) -> &[u8]
         requires { i < 3 }

@@ -50,6 +50,7 @@ fn count_absent(columns: &[Option<Vec<u8>>]) -> u32
 }
 
 /// The bytes of two data columns, cut to `len`.
+#[tactic(auto, using(crate::proofs::Restores::joined_parts))]
 fn joined_to(alloc: Global, left: &[u8], right: &[u8], len: usize) -> Result<Vec<u8>, AllocError>
     requires { len ≤ length left.now + length right.now }
     ensures { IfOk result (λ v. v.items ≡ joined left.now right.now len) }
@@ -67,7 +68,10 @@ pub fn solve_block(alloc: Global, fetched: &Fetched) -> Result<Vec<u8>, SolveFau
     ensures solves { Solves fetched.now result }
     ensures gives { (w : List ℕ) → HoldsBytes fetched.now w → GivesBytes w result }
 {
-    let [Some(_), Some(left), Some(right)] = fetched.columns.as_slice() else {
+    let columns = &fetched.columns;
+    let (Some(_), Some(left), Some(right)) =
+        (columns[0].as_ref(), columns[1].as_ref(), columns[2].as_ref())
+    else {
         return Err(SolveFault::Unreadable {
             absent: count_absent(&fetched.columns),
             tried: 0,
