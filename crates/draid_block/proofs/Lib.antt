@@ -1,0 +1,5 @@
+pub mod Cut
+pub mod Encodes
+pub mod Halves
+pub mod Restores
+pub mod Solved

@@ -1,0 +1,4 @@
+pub mod Columns
+pub mod Entry
+pub mod Shard
+pub mod Space

@@ -1,0 +1,12 @@
+//! One metaslab: which stripes are taken, where its blocks stand, and the writing and fetching of blocks.
+
+#![tactic(auto)]
+
+mod column;
+mod entry;
+mod shard;
+mod space;
+mod ticket;
+
+pub use shard::{BeginFault, FetchFault, Missed, Shard, ShardRefused};
+pub use ticket::Ticket;
