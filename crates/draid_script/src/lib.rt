@@ -1,0 +1,16 @@
+//! Scripts of commands: where their bytes come from and replies go to, their lines, and the texts of replies.
+
+#![tactic(auto)]
+
+mod line;
+mod lines;
+mod reply;
+mod sink;
+mod source;
+mod word;
+
+pub use line::{CommandName, Line, ParseFault, parse_line};
+pub use lines::{Lines, ReadFault};
+pub use reply::{Reply, reply_text};
+pub use sink::{MemorySink, Sink};
+pub use source::{MemorySource, Source};

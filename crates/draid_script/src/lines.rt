@@ -1,0 +1,195 @@
+ghost use Rattle.std.specs.Prelude.{◌≡◌, ◌≢◌, ◌+◌, ◌<◌, ◌≤◌, ◌⊎◌, ℕ, Some, None, Ok, Err, [], All, Contains, IfOk, IfSome, MatchResult, length};
+ghost use Rattle.std.specs.Io.KnownBytes.{IsAtEnd, prepend_known};
+ghost use Rattle.draid_names.specs.Faults.{Rose};
+
+use crate::Source;
+use draid_names::Failed;
+use std::alloc::{AllocError, Global};
+use std::marker::Model;
+
+/// How many bytes a source is asked for at a time.
+const CHUNK: usize = 8_192;
+
+/// The most bytes of a line, its end not counted.
+const LONGEST_LINE: usize = 300_000;
+
+/// The most lines of an input.
+const MOST_LINES: u64 = 1_048_576;
+
+/// Why no line was given.
+#[derive(Clone, Copy, Debug, PartialEq, Eq)]
+pub enum ReadFault {
+    /// The source failed.
+    SourceFault,
+    /// This line has more than 300,000 bytes, or is more than the 1,048,576 lines of an input.
+    TooLong { line: u64 },
+    /// Want of memory.
+    NoMemory,
+}
+
+/// The lines of a source, one after another.
+#[derive(Drop)]
+pub struct Lines {
+    held: Vec<u8>,
+    start: usize,
+    given: u64,
+    fault: Option<ReadFault>,
+}
+
+impl Model for Lines {
+    ghost use Rattle.std.specs.Prelude.{◌≤◌, drop, vec_len};
+    ghost use Rattle.draid_script.specs.Lines.{Rest, most_lines};
+
+    ghost Value = { Rest };
+
+    ghost view = { λ l. record { held = drop l.start l.held.items; given = l.given; fault = l.fault } };
+
+    ghost invariant = { λ l. (l.start ≤ vec_len l.held) × (l.given ≤ most_lines) };
+}
+
+impl Lines {
+    ghost use Rattle.draid_script.specs.Lines.{Answers, WhereKnown, IsTooLong, longest_line, most_lines};
+    ghost use Rattle.draid_script.specs.declared.lines.ReadFault.TheVariants.{SourceFault, TooLong};
+
+    /// Holds nothing yet.
+    pub fn new(alloc: Global) -> Lines
+        ensures { result ≡ record { held = []; given = 0; fault = None } }
+    {
+        Lines {
+            held: Vec::new(alloc),
+            start: 0,
+            given: 0,
+            fault: None,
+        }
+    }
+
+    /// The next line without its end, which is the byte 0a, or `None` at the end of the input. The source is asked
+    /// only where no whole line is held.
+    pub fn next<S: Source>(
+        &mut self,
+        alloc: Global,
+        source: &mut S,
+    ) -> Result<Option<Vec<u8>>, ReadFault>
+        // Where the source tells: the line given, and behind it what is still to come, was to come.
+        ensures answer { self.old.fault ≡ None → WhereKnown
+            (prepend_known self.old.held (S.left source.old))
+            (prepend_known self.new.held (S.left source.new))
+            (λ old new. Answers self.old.given old new result) }
+
+        // Whether or not it tells.
+        ensures line { IfOk result (λ next. IfSome next (λ line.
+            (length line.items ≤ longest_line) × All (λ byte. byte ≢ 10) line.items
+            × (self.new.given ≡ self.old.given + 1) × (self.new.given ≤ most_lines))) }
+        ensures end { result ≡ Ok None → (self.old.held ≡ []) × (self.new.held ≡ [])
+            × (self.new.given ≡ self.old.given) × IsAtEnd (S.left source.new) }
+        ensures too_long { (line : ℕ) → self.old.fault ≡ None → result ≡ Err (TooLong line)
+            → (line ≡ self.old.given + 1) × IsTooLong self.old.given self.new.held }
+        ensures waits { Contains self.old.held 10 → source.new ≡ source.old }
+
+        // A refusal stays.
+        ensures again { IfSome self.old.fault (λ fault.
+            (result ≡ Err fault) × (self.new ≡ self.old) × (source.new ≡ source.old)) }
+        ensures fault { MatchResult result (λ _. self.new.fault ≡ None) (λ fault. self.new.fault ≡ Some fault) }
+        ensures later { S.faults source.old ≤ S.faults source.new }
+        ensures cause { result ≡ Err SourceFault →
+            (self.old.fault ≡ Some SourceFault) ⊎ Rose (S.faults source.old) (S.faults source.new) }
+    {
+        if let Some(fault) = self.fault {
+            return Err(fault);
+        }
+        let next = next_line(alloc, &mut self.held, &mut self.start, self.given, source);
+        match &next {
+            Ok(Some(_)) => self.given += 1,
+            Ok(None) => {}
+            Err(fault) => self.fault = Some(*fault),
+        }
+        next
+    }
+}
+
+/// Gives the next line of what is held from `start` on and of the source, after `given` lines.
+fn next_line<S: Source>(
+    alloc: Global,
+    held: &mut Vec<u8>,
+    start: &mut usize,
+    given: u64,
+    source: &mut S,
+) -> Result<Option<Vec<u8>>, ReadFault> {
+    let len = match end_of(&held[*start..], 0) {
+        Some(len) => len,
+        None => {
+            drop_front(held, *start);
+            *start = 0;
+            fill(held, longest(given), source)?
+        }
+    };
+    let rest = &held[*start..];
+    if len > LONGEST_LINE || given == MOST_LINES && !rest.is_empty() {
+        return Err(ReadFault::TooLong { line: given + 1 });
+    }
+    if rest.is_empty() {
+        return Ok(None);
+    }
+    let line = Vec::from_slice(alloc, &rest[..len])?;
+    *start = held.len().min(*start + len + 1);
+    Ok(Some(line))
+}
+
+/// Drops the first `count` bytes.
+fn drop_front(held: &mut Vec<u8>, count: usize) {
+    let rest = held.len() - count;
+    held.as_mut_slice().copy_within(count.., 0);
+    held.truncate(rest);
+}
+
+/// How many bytes are taken for a line at most, so that it is known whether it is too long: behind the last line
+/// that may be given one byte is enough.
+fn longest(given: u64) -> usize {
+    if given == MOST_LINES { 0 } else { LONGEST_LINE }
+}
+
+/// Takes bytes until a line's end is held, or more than `longest` bytes, or the source ends. Answers how many bytes
+/// stand before the first end.
+fn fill<S: Source>(held: &mut Vec<u8>, longest: usize, source: &mut S) -> Result<usize, ReadFault> {
+    while held.len() <= longest {
+        let searched = held.len();
+        if take_more(held, source)? == 0 {
+            return Ok(searched);
+        }
+        if let Some(len) = end_of(held, searched) {
+            return Ok(len);
+        }
+    }
+    Ok(held.len())
+}
+
+/// Where the first end of a line stands at or behind `from`.
+fn end_of(bytes: &[u8], from: usize) -> Option<usize> {
+    bytes[from..]
+        .iter()
+        .position(|byte| *byte == b'\n')
+        .map(|at| from + at)
+}
+
+/// Takes bytes from the source, and answers how many; 0 at its end.
+fn take_more<S: Source>(held: &mut Vec<u8>, source: &mut S) -> Result<usize, ReadFault> {
+    held.reserve(CHUNK)?;
+    let mut chunk = [0; CHUNK];
+    match source.take(&mut chunk) {
+        Ok(taken) => {
+            held.extend_from_slice(&chunk[..taken])?;
+            Ok(taken)
+        }
+        Err(Failed) => Err(ReadFault::SourceFault),
+    }
+}
+
+impl From<AllocError> for ReadFault {
+    ghost use Rattle.draid_script.specs.declared.lines.ReadFault.TheVariants.{NoMemory};
+
+    ghost from_gives = { λ _ fault. fault ≡ NoMemory };
+
+    fn from(_error: AllocError) -> ReadFault {
+        ReadFault::NoMemory
+    }
+}
