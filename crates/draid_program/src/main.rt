@@ -1,0 +1,28 @@
+//! `dzpool`: runs a script of pool commands from standard input, and prints the replies.
+
+#![tactic(auto)]
+
+mod adapters;
+
+use adapters::{Input, Output};
+use draid_run::{Status, run};
+use draid_shelf::MemoryShelf;
+use std::env;
+use std::io;
+use std::process::ExitCode;
+
+/// The words behind the program's name.
+fn words(rt: &HostRuntime) -> io::Result<Vec<String>> {
+    Ok(env::args(rt)?.skip(1).collect(rt.alloc())?)
+}
+
+fn main(rt: HostRuntime) -> ExitCode {
+    let mut shelf = MemoryShelf::new(Vec::new(rt.alloc()));
+    let mut source = Input::new(rt.stdin());
+    let mut sink = Output::new(rt.stdout());
+    let status = match words(&rt) {
+        Ok(words) => run(&rt, &words, &mut shelf, &mut source, &mut sink),
+        Err(_) => Status::NoMemory,
+    };
+    ExitCode::from(status.code())
+}

@@ -1,0 +1,78 @@
+use Rattle.std.specs.Prelude.{◌≡◌, ◌≢◌, ◌+◌, ◌⊎◌, ◌↔◌, ⊤, ℕ, List, [], ◌∷◌, ◌++◌, Bool, Option, Some, None, MatchOption, is_some, length, map, codes, flat_map}
+use Rattle.std.specs.Io.KnownBytes.{Appends}
+use Rattle.draid_rack.specs.Rack.{Told, OnTold}
+use Rattle.draid_shard.specs.Columns.{Stands}
+use Rattle.draid_script.specs.Line.{command_of}
+use Rattle.draid_script.specs.Lines.{IsTooLong, lines_of}
+use Rattle.draid_script.specs.Reply.{text_of}
+use Rattle.draid_script.specs.Sink.{AppendsFront}
+use Rattle.draid_script.specs.declared.reply.Reply.{Reply}
+use Rattle.draid_run.specs.State.{CannotRun, Pool, Runs, Write}
+use Rattle.draid_run.specs.Status.{last_text}
+use Rattle.draid_run.specs.declared.status.Status.{Status}
+use Rattle.draid_run.specs.declared.status.Status.TheVariants.{Done, Usage, Line, SourceFault, SinkFault, NoMemory, TooLong}
+
+-- Why a run ended, after these lines of an input were answered, with the pool in this state.
+abbrev pub Ends : Status → Option Pool → List (List ℕ) → List ℕ → Type 0
+Ends Done last lines input = lines_of input ≡ lines
+Ends Usage last lines input = lines ≡ []
+Ends (Line line kind at) last lines input =
+    (bad : List ℕ) × (rest : List (List ℕ)) × (lines_of input ≡ lines ++ (bad ∷ rest)) × CannotRun (command_of bad) last
+    × (line ≡ length lines + 1) × (kind ≡ 7) × (at ≡ 0)
+Ends (TooLong line) last lines input =
+    (rest : List ℕ) × (lines_of input ≡ lines ++ lines_of rest) × IsTooLong (length lines) rest × (line ≡ length lines + 1)
+Ends SourceFault last lines input = (rest : List (List ℕ)) × (lines_of input ≡ lines ++ rest)
+Ends SinkFault last lines input = (rest : List (List ℕ)) × (lines_of input ≡ lines ++ rest)
+Ends NoMemory last lines input = (rest : List (List ℕ)) × (lines_of input ≡ lines ++ rest)
+
+-- the replies that were printed: all, but for one whose text could not be made for want of memory
+abbrev pub Shows : Status → List Reply → List Reply → Type 0
+Shows NoMemory replies shown = (replies ≡ shown) ⊎ ((reply : Reply) × (replies ≡ shown ++ reply ∷ []))
+Shows ended replies shown = replies ≡ shown
+
+-- the texts of these replies, and then the last line
+abbrev pub printed_text : List Reply → Status → List ℕ
+printed_text shown ended = flat_map text_of shown ++ last_text ended
+
+-- What the sink holds: all of the text, or where it failed some front of it.
+abbrev pub Prints : Status → Status → List ℕ → Option (List ℕ) → Option (List ℕ) → Type 0
+Prints SinkFault ended text old new = AppendsFront old new text
+Prints status ended text old new = (status ≡ ended) × Appends old new text
+
+-- The last line was printed: that of the status, or for want of memory the one that says so.
+pub record EndsWithLine (ended status : Status) (old new : Option (List ℕ)) : Type 0 where
+  pub meant : Status
+  pub is : (meant ≡ ended) ⊎ (meant ≡ NoMemory)
+  pub prints : Prints status meant (last_text meant) old new
+
+-- the one list of words that the program takes
+abbrev pub IsSession : List (List ℕ) → Type 0
+IsSession words = words ≡ codes "session" ∷ []
+
+-- A run: some lines were answered by replies, one after another; it ended for a cause; and the sink got the replies' texts and the last line.
+pub record HasRun (words : List (List ℕ)) (status : Status) (input : Option (List ℕ)) (old new : Option (List ℕ)) (last : Option Pool) : Type 0 where
+  pub lines : List (List ℕ)
+  pub replies : List Reply
+  pub shown : List Reply
+  pub ended : Status
+  pub usage : (ended ≡ Usage) ↔ (IsSession words → ⊥)
+  pub runs : Runs None lines replies last
+  pub ends : MatchOption input ⊤ (Ends ended last lines)
+  pub shows : Shows ended replies shown
+  pub prints : Prints status ended (printed_text shown ended) old new
+
+-- each column of the block of each accepted write stands
+abbrev pub AllStand : (ℕ → ℕ → Option (List ℕ)) → List Write → Type 0
+AllStand reads [] = ⊤
+AllStand reads (write ∷ writes) = Stands reads write.first write.bytes × AllStand reads writes
+
+-- the shelf holds the pool's rack: where it tells, so did the pool, and each block's columns stand there
+pub record HoldsPool (told : Option Told) (pool : Pool) : Type 0 where
+  pub tells : pool.tells ≡ is_some told
+  pub stand : OnTold told (λ x. AllStand x.reads pool.writes)
+
+-- What a run of the program is: a session of lines, states and replies, whose pool is given back to the shelf.
+pub record RunIs (words : List (List ℕ)) (status : Status) (input old new : Option (List ℕ)) (held : Option Told) : Type 0 where
+  pub last : Option Pool
+  pub session : HasRun words status input old new last
+  pub shelf : MatchOption last ⊤ (HoldsPool held)

@@ -1,0 +1,12 @@
+//! The top call: a script of commands from a source, run on the pool of a shelf, with its replies to a sink.
+
+#![tactic(auto)]
+
+mod serve;
+mod session;
+mod status;
+mod store;
+mod top;
+
+pub use status::Status;
+pub use top::run;

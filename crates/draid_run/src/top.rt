@@ -1,0 +1,75 @@
+ghost use Rattle.std.specs.Prelude.{◌≡◌, ◌↔◌, ◌≤◌, ◌⊎◌, IsTrue, map, string_bytes};
+ghost use Rattle.draid_names.specs.Faults.{Rose};
+ghost use Rattle.draid_run.specs.Script.{EndsWithLine, IsSession, Prints, RunIs};
+
+use crate::serve::serve;
+use crate::status::{Status, fixed_line, numbered_line};
+use draid_script::{Sink, Source};
+use draid_shelf::Shelf;
+use std::alloc::Global;
+
+/// Puts the last line, where there is one.
+fn put_last<K: Sink>(sink: &mut K, line: &[u8], ended: Status) -> Status
+    ensures line { Prints result ended line.now (K.held sink.old) (K.held sink.new) }
+    ensures later { K.faults sink.old ≤ K.faults sink.new }
+    ensures cause { result ≡ Status.SinkFault → (ended ≡ Status.SinkFault) ⊎ Rose (K.faults sink.old) (K.faults sink.new) }
+{
+    if line.is_empty() {
+        return ended;
+    }
+    match sink.put(line) {
+        Ok(()) => ended,
+        Err(_) => Status::SinkFault,
+    }
+}
+
+/// Prints the line of a status, and gives the status that the run then has.
+fn end_run<K: Sink>(alloc: Global, sink: &mut K, ended: Status) -> Status
+    ensures line { EndsWithLine ended result (K.held sink.old) (K.held sink.new) }
+    ensures later { K.faults sink.old ≤ K.faults sink.new }
+    ensures cause { result ≡ Status.SinkFault → (ended ≡ Status.SinkFault) ⊎ Rose (K.faults sink.old) (K.faults sink.new) }
+    ensures source { result ≡ Status.SourceFault → ended ≡ Status.SourceFault }
+{
+    match numbered_line(alloc, ended) {
+        Ok(Some(line)) => put_last(sink, line.as_bytes(), ended),
+        Ok(None) => put_last(sink, fixed_line(ended).as_bytes(), ended),
+        Err(_) => put_last(sink, fixed_line(Status::NoMemory).as_bytes(), Status::NoMemory),
+    }
+}
+
+/// Whether the words are exactly `session`.
+fn is_session(words: &[String]) -> bool
+    ensures { IsTrue result ↔ IsSession (map string_bytes words.now) }
+{
+    match words {
+        [word] => word.as_str() == "session",
+        _ => false,
+    }
+}
+
+/// Runs the script of `source` on the pool of `shelf`, with its replies to `sink`. The words are those of the
+/// command line behind the program's name.
+pub fn run<H: Shelf, S: Source, K: Sink, A: AllocGlobal>(
+    rt: &A,
+    words: &[String],
+    shelf: &mut H,
+    source: &mut S,
+    sink: &mut K,
+) -> Status
+    ensures run { RunIs (map string_bytes words.now) result (S.left source.old) (K.held sink.old) (K.held sink.new) (H.holds shelf.new) }
+
+    // The devices are to blame only where they failed in this run.
+    ensures source_fault { result ≡ Status.SourceFault → Rose (S.faults source.old) (S.faults source.new) }
+    ensures sink_fault { result ≡ Status.SinkFault → Rose (K.faults sink.old) (K.faults sink.new) }
+{
+    let alloc = rt.alloc();
+    if !is_session(words) {
+        return end_run(alloc, sink, Status::Usage);
+    }
+    let mut pool = None;
+    let ended = serve(alloc, shelf, &mut pool, source, sink);
+    if let Some(session) = pool {
+        shelf.give(session.into_rack());
+    }
+    end_run(alloc, sink, ended)
+}
