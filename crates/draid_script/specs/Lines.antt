@@ -1,5 +1,6 @@
-use Rattle.std.specs.Prelude.{◌≡◌, ◌<◌, ◌==◌, ◌≢◌, ◌⊎◌, ℕ, Bool, List, [], ◌∷◌, length, Option, None, Some, Result, Ok, Err, ⊤, if◌then◌else◌}
-use Rattle.std.specs.List.{slice_split, before_first}
+use Rattle.std.specs.Prelude.{◌≡◌, ◌+◌, ◌<◌, ◌≤◌, ◌==◌, ◌≢◌, ◌⊎◌, ℕ, Bool, List, [], ◌∷◌, ◌++◌, length, Option, None, Some, Result, Ok, Err, ⊤, if◌then◌else◌}
+use Rattle.std.specs.List.{slice_split, before_first, position_or_len}
+use Rattle.std.specs.Io.KnownBytes.{IsAtEnd, Keeps, prepend_known}
 use Rattle.std.specs.declared.vec.Vec.{Vec}
 use Rattle.std.specs.declared.alloc.Global.{Global}
 use Rattle.draid_script.specs.declared.lines.ReadFault.{ReadFault}
@@ -47,6 +48,30 @@ Answers given old new (Ok (Some line)) = (lines_of old ≡ line.items ∷ lines_
 Answers given old new (Err (TooLong line)) = IsTooLong given old × (new ≡ old)
 Answers given old new (Err SourceFault) = new ≡ old
 Answers given old new (Err NoMemory) = new ≡ old
+
+-- What is answered after so many lines where the held bytes have the next line's end, or all of it.
+abbrev pub Cuts : ℕ → List ℕ → Result (Option (Vec ℕ Global)) ReadFault → Type 0
+Cuts given held (Ok None) = held ≡ []
+Cuts given held (Ok (Some line)) =
+    (line.items ≡ before_first is_end held) × (held ≢ []) × (given < most_lines) × (length line.items ≤ longest_line)
+Cuts given held (Err (TooLong line)) = (line ≡ given + 1) × IsTooLong given held
+Cuts given held (Err SourceFault) = ⊥
+Cuts given held (Err NoMemory) = ⊤
+
+-- The first end of a line stands behind so many of the held bytes; or there is none, and nothing is left, or
+-- more bytes than the longest are held.
+pub record Finds (longest : ℕ) (held : List ℕ) (left : Option (List ℕ)) (len : ℕ) : Type 0 where
+  pub first : len ≡ position_or_len is_end held
+  pub enough : (len < length held) ⊎ (longest < length held) ⊎ IsAtEnd left
+
+-- Some bytes that were left are held now, behind those that were.
+pub record Takes (old new : List ℕ) (left left' : Option (List ℕ)) : Type 0 where
+  pub more : (bytes : List ℕ) × (new ≡ old ++ bytes)
+  pub keeps : Keeps (prepend_known old left) (prepend_known new left')
+
+-- how many bytes are taken for the line behind so many
+abbrev pub longest_after : ℕ → ℕ
+longest_after given = if given == most_lines then 0 else longest_line
 
 -- a fact of the bytes before and after, where they are known; what was known stays known
 abbrev pub WhereKnown : Option (List ℕ) → Option (List ℕ) → (List ℕ → List ℕ → Type 0) → Type 0

@@ -1,5 +1,6 @@
 ghost use Rattle.std.specs.Prelude.{◌≡◌, ◌^◌, Some, None, Err, IfOk, option_map};
-ghost use Rattle.draid_script.specs.Line.{command_in, command_of, block_of, object_of};
+ghost use Rattle.draid_script.specs.Line.{command_in, command_of, command_of_words, block_of, object_of, read_of, write_of};
+ghost use Rattle.draid_script.specs.Word.{texts};
 ghost use Rattle.draid_script.specs.declared.line.ParseFault.TheVariants.{Unbuilt, NoMemory as no_memory};
 
 use crate::word::{bytes, number, words};
@@ -79,6 +80,7 @@ const WRITE: &[u8] = b"write";
 const CREATE: &[u8] = b"create draid1:2d:3c:0s 3 sector=512 height=8 metaslabs=1 slices=4";
 
 /// Reads a line, without its end.
+#[tactic(auto, unfolding(crate::specs::Line::command_of))]
 pub fn parse_line(alloc: Global, text: &[u8]) -> Result<Line, ParseFault>
     ensures found { IfOk result (λ line. command_of text.now ≡ Some (command_in line)) }
     ensures unbuilt { result ≡ Err Unbuilt → command_of text.now ≡ None }
@@ -87,21 +89,34 @@ pub fn parse_line(alloc: Global, text: &[u8]) -> Result<Line, ParseFault>
         return Ok(Line::Create);
     }
     let words = words(alloc, text)?;
-    match words.as_slice() {
+    parse_words(alloc, &words)
+}
+
+fn parse_words(alloc: Global, words: &[&[u8]]) -> Result<Line, ParseFault>
+    ensures found { IfOk result (λ line. command_of_words (texts words.now) ≡ Some (command_in line)) }
+    ensures unbuilt { result ≡ Err Unbuilt → command_of_words (texts words.now) ≡ None }
+{
+    match words {
         [name, object] if *name == READ => read_line(object),
         [name, object, hex] if *name == WRITE => write_line(alloc, object, hex),
         _ => Err(ParseFault::Unbuilt),
     }
 }
 
-fn read_line(object: &[u8]) -> Result<Line, ParseFault> {
+fn read_line(object: &[u8]) -> Result<Line, ParseFault>
+    ensures found { IfOk result (λ line. read_of (object_of object.now) ≡ Some (command_in line)) }
+    ensures unbuilt { result ≡ Err Unbuilt → read_of (object_of object.now) ≡ None }
+{
     match object_number(object) {
         Some(object) => Ok(Line::Read { object }),
         None => Err(ParseFault::Unbuilt),
     }
 }
 
-fn write_line(alloc: Global, object: &[u8], hex: &[u8]) -> Result<Line, ParseFault> {
+fn write_line(alloc: Global, object: &[u8], hex: &[u8]) -> Result<Line, ParseFault>
+    ensures found { IfOk result (λ line. write_of (object_of object.now) (block_of hex.now) ≡ Some (command_in line)) }
+    ensures unbuilt { result ≡ Err Unbuilt → write_of (object_of object.now) (block_of hex.now) ≡ None }
+{
     match (object_number(object), block(alloc, hex)?) {
         (Some(object), Some(bytes)) => Ok(Line::Write { object, bytes }),
         _ => Err(ParseFault::Unbuilt),

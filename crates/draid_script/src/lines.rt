@@ -1,6 +1,9 @@
-ghost use Rattle.std.specs.Prelude.{◌≡◌, ◌≢◌, ◌+◌, ◌<◌, ◌≤◌, ◌⊎◌, ℕ, Some, None, Ok, Err, [], All, Contains, IfOk, IfSome, MatchResult, length};
+ghost use Rattle.std.specs.Prelude.{◌≡◌, ◌≢◌, ◌+◌, ◌<◌, ◌≤◌, ◌⊎◌, ℕ, Some, None, Ok, Err, [], All, Contains, IfOk, IfSome, MatchResult, length, drop, position, vec_len};
+ghost use Rattle.std.specs.List.{position_or_len};
 ghost use Rattle.std.specs.Io.KnownBytes.{IsAtEnd, prepend_known};
 ghost use Rattle.draid_names.specs.Faults.{Rose};
+ghost use Rattle.draid_script.specs.Lines.{Answers, Cuts, Finds, Takes, WhereKnown, IsTooLong, is_end, longest_after, longest_line, most_lines};
+ghost use Rattle.draid_script.specs.declared.lines.ReadFault.TheVariants.{SourceFault, TooLong};
 
 use crate::Source;
 use draid_names::Failed;
@@ -48,9 +51,6 @@ impl Model for Lines {
 }
 
 impl Lines {
-    ghost use Rattle.draid_script.specs.Lines.{Answers, WhereKnown, IsTooLong, longest_line, most_lines};
-    ghost use Rattle.draid_script.specs.declared.lines.ReadFault.TheVariants.{SourceFault, TooLong};
-
     /// Holds nothing yet.
     pub fn new(alloc: Global) -> Lines
         ensures { result ≡ record { held = []; given = 0; fault = None } }
@@ -114,29 +114,87 @@ fn next_line<S: Source>(
     start: &mut usize,
     given: u64,
     source: &mut S,
-) -> Result<Option<Vec<u8>>, ReadFault> {
-    let len = match end_of(&held[*start..], 0) {
-        Some(len) => len,
-        None => {
-            drop_front(held, *start);
-            *start = 0;
-            fill(held, longest(given), source)?
+) -> Result<Option<Vec<u8>>, ReadFault>
+    requires start { start.old ≤ vec_len held.old }
+    requires given { given ≤ most_lines }
+    ensures start { start.new ≤ vec_len held.new }
+    ensures answer { WhereKnown
+        (prepend_known (drop start.old held.old.items) (S.left source.old))
+        (prepend_known (drop start.new held.new.items) (S.left source.new))
+        (λ old new. Answers given old new result) }
+    ensures line { IfOk result (λ next. IfSome next (λ line.
+        (length line.items ≤ longest_line) × All (λ byte. byte ≢ 10) line.items × (given < most_lines))) }
+    ensures end { result ≡ Ok None → (drop start.old held.old.items ≡ [])
+        × (drop start.new held.new.items ≡ []) × IsAtEnd (S.left source.new) }
+    ensures too_long { (line : ℕ) → result ≡ Err (TooLong line)
+        → (line ≡ given + 1) × IsTooLong given (drop start.new held.new.items) }
+    ensures waits { Contains (drop start.old held.old.items) 10 → source.new ≡ source.old }
+    ensures later { S.faults source.old ≤ S.faults source.new }
+    ensures cause { result ≡ Err SourceFault → Rose (S.faults source.old) (S.faults source.new) }
+{
+    let len = find_end(held, start, longest(given), source)?;
+    let (_, rest) = held.split_at(*start);
+    match line_of(alloc, rest, len, given) {
+        Ok(Some(line)) => {
+            *start = held.len().min(*start + len + 1);
+            Ok(Some(line))
         }
-    };
-    let rest = &held[*start..];
-    if len > LONGEST_LINE || given == MOST_LINES && !rest.is_empty() {
+        Ok(None) => Ok(None),
+        Err(fault) => Err(fault),
+    }
+}
+
+/// Finds how many bytes the next line has, and takes bytes where no whole line is held.
+#[tactic(auto, using(crate::proofs::Ends::position_none, crate::proofs::Ends::position_some, crate::proofs::Ends::holds_no_end))]
+fn find_end<S: Source>(
+    held: &mut Vec<u8>,
+    start: &mut usize,
+    longest: usize,
+    source: &mut S,
+) -> Result<usize, ReadFault>
+    requires { start.old ≤ vec_len held.old }
+    ensures start { start.new ≤ vec_len held.new }
+    ensures takes { Takes (drop start.old held.old.items) (drop start.new held.new.items)
+        (S.left source.old) (S.left source.new) }
+    ensures found { IfOk result (λ len. Finds longest (drop start.new held.new.items) (S.left source.new) len) }
+    ensures waits { Contains (drop start.old held.old.items) 10 → source.new ≡ source.old }
+    ensures later { S.faults source.old ≤ S.faults source.new }
+    ensures cause { result ≡ Err SourceFault → Rose (S.faults source.old) (S.faults source.new) }
+    ensures read { (line : ℕ) → result ≡ Err (TooLong line) → ⊥ }
+{
+    if let Some(len) = end_behind(held, *start) {
+        return Ok(len);
+    }
+    drop_front(held, *start);
+    *start = 0;
+    fill(held, longest, source)
+}
+
+/// The line at the front of what is held, which ends behind `len` bytes, unless there is none or it is too long.
+fn line_of(
+    alloc: Global,
+    held: &[u8],
+    len: usize,
+    given: u64,
+) -> Result<Option<Vec<u8>>, ReadFault>
+    requires len { len ≡ position_or_len is_end held.now }
+    requires given { given ≤ most_lines }
+    ensures { Cuts given held.now result }
+{
+    if len > LONGEST_LINE || given == MOST_LINES && !held.is_empty() {
         return Err(ReadFault::TooLong { line: given + 1 });
     }
-    if rest.is_empty() {
+    if held.is_empty() {
         return Ok(None);
     }
-    let line = Vec::from_slice(alloc, &rest[..len])?;
-    *start = held.len().min(*start + len + 1);
-    Ok(Some(line))
+    Ok(Some(Vec::from_slice(alloc, &held[..len])?))
 }
 
 /// Drops the first `count` bytes.
-fn drop_front(held: &mut Vec<u8>, count: usize) {
+fn drop_front(held: &mut Vec<u8>, count: usize)
+    requires { count ≤ vec_len held.old }
+    ensures { held.new.items ≡ drop count held.old.items }
+{
     let rest = held.len() - count;
     held.as_mut_slice().copy_within(count.., 0);
     held.truncate(rest);
@@ -144,40 +202,61 @@ fn drop_front(held: &mut Vec<u8>, count: usize) {
 
 /// How many bytes are taken for a line at most, so that it is known whether it is too long: behind the last line
 /// that may be given one byte is enough.
-fn longest(given: u64) -> usize {
+fn longest(given: u64) -> usize
+    ensures { result ≡ longest_after given }
+{
     if given == MOST_LINES { 0 } else { LONGEST_LINE }
 }
 
 /// Takes bytes until a line's end is held, or more than `longest` bytes, or the source ends. Answers how many bytes
 /// stand before the first end.
-fn fill<S: Source>(held: &mut Vec<u8>, longest: usize, source: &mut S) -> Result<usize, ReadFault> {
+fn fill<S: Source>(
+    held: &mut Vec<u8>,
+    longest: usize,
+    source: &mut S,
+) -> Result<usize, ReadFault>
+    requires { position_or_len is_end held.old.items ≡ length held.old.items }
+    ensures takes { Takes held.old.items held.new.items (S.left source.old) (S.left source.new) }
+    ensures found { IfOk result (λ len. Finds longest held.new.items (S.left source.new) len) }
+    ensures later { S.faults source.old ≤ S.faults source.new }
+    ensures cause { result ≡ Err SourceFault → Rose (S.faults source.old) (S.faults source.new) }
+    ensures read { (line : ℕ) → result ≡ Err (TooLong line) → ⊥ }
+{
     while held.len() <= longest {
         let searched = held.len();
         if take_more(held, source)? == 0 {
             return Ok(searched);
         }
-        if let Some(len) = end_of(held, searched) {
-            return Ok(len);
+        if let Some(len) = end_behind(held, searched) {
+            return Ok(searched + len);
         }
     }
     Ok(held.len())
 }
 
-/// Where the first end of a line stands at or behind `from`.
-fn end_of(bytes: &[u8], from: usize) -> Option<usize> {
-    bytes[from..]
-        .iter()
-        .position(|byte| *byte == b'\n')
-        .map(|at| from + at)
+/// How many bytes stand between `from` and the first end of a line.
+fn end_behind(bytes: &[u8], from: usize) -> Option<usize>
+    requires { from ≤ length bytes.now }
+    ensures { result ≡ position is_end (drop from bytes.now) }
+{
+    let (_, rest) = bytes.split_at(from);
+    rest.iter().position(|byte| *byte == b'\n')
 }
 
 /// Takes bytes from the source, and answers how many; 0 at its end.
-fn take_more<S: Source>(held: &mut Vec<u8>, source: &mut S) -> Result<usize, ReadFault> {
+fn take_more<S: Source>(held: &mut Vec<u8>, source: &mut S) -> Result<usize, ReadFault>
+    ensures takes { Takes held.old.items held.new.items (S.left source.old) (S.left source.new) }
+    ensures count { IfOk result (λ taken. length held.new.items ≡ length held.old.items + taken) }
+    ensures end { result ≡ Ok 0 → IsAtEnd (S.left source.new) }
+    ensures later { S.faults source.old ≤ S.faults source.new }
+    ensures cause { result ≡ Err SourceFault → Rose (S.faults source.old) (S.faults source.new) }
+    ensures read { (line : ℕ) → result ≡ Err (TooLong line) → ⊥ }
+{
     held.reserve(CHUNK)?;
     let mut chunk = [0; CHUNK];
     match source.take(&mut chunk) {
         Ok(taken) => {
-            held.extend_from_slice(&chunk[..taken])?;
+            held.extend_from_slice(&chunk[..taken]).unwrap();
             Ok(taken)
         }
         Err(Failed) => Err(ReadFault::SourceFault),

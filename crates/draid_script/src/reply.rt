@@ -45,6 +45,7 @@ pub fn reply_text(alloc: Global, reply: &Reply) -> Result<Vec<u8>, NoMemory>
     Ok(text(alloc, reply)?.into_bytes())
 }
 
+#[tactic(auto, unfolding(crate::specs::Reply::text_of))]
 fn text(alloc: Global, reply: &Reply) -> Result<String, AllocError>
     ensures { IfOk result (λ text. string_bytes text ≡ text_of reply.now) }
 {

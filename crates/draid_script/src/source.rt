@@ -87,7 +87,8 @@ impl Source for MemorySource {
             self.faults = self.faults.saturating_add(1);
             return Err(Failed);
         }
-        let taken = copy_front(&self.bytes[self.start..], into);
+        let (_, rest) = self.bytes.split_at(self.start);
+        let taken = copy_front(rest, into);
         self.start += taken;
         Ok(taken)
     }

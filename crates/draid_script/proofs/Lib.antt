@@ -1,0 +1,4 @@
+pub mod Copies
+pub mod Ends
+pub mod Given
+pub mod Numbers
