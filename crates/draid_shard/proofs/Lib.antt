@@ -1,3 +1,4 @@
+pub mod Columns
 pub mod Largest
 pub mod Read
 pub mod Written
