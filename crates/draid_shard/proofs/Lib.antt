@@ -1,0 +1,4 @@
+pub mod Columns
+pub mod Largest
+pub mod Read
+pub mod Written

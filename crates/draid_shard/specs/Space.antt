@@ -18,7 +18,7 @@ in_run first need k = nat_le first k && nat_lt k (first + need)
 -- the stripes of the run became taken, or free, and the others are as before
 pub record SetsRun (old new : List Bool) (first need : ℕ) (value : Bool) : Type 0 where
   pub len : length new ≡ length old
-  pub stripes : (k : ℕ) → slice_index_or new k true ≡ (if in_run first need k && nat_lt k (length old) then value else slice_index_or old k true)
+  pub stripes : (k : ℕ) → slice_index_or new k true ≡ (if in_run first need k then value else slice_index_or old k true)
 
 -- the lowest run that fits, and nothing else, became taken
 pub record TakesLowest (old new : List Bool) (first need : ℕ) : Type 0 where

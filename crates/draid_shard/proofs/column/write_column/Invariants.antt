@@ -1,0 +1,9 @@
+use Rattle.std.proofs.Common.{◌≡◌, ◌≤◌, ℕ, Option}
+use Rattle.draid_shard.specs.Columns.{WritesRows, TellsBoth}
+use Rattle.draid_shard.proofs.column.write_column.Given as goal
+
+abbrev pub invariant-loop-row : goal.invariant-loop-row
+invariant-loop-row g l = let rack = g.R.Rack in record {
+  shape : rack.shape l.rack ≡ rack.shape l.initial.rack;
+  later : (who : Option ℕ) → rack.faults l.initial.rack who ≤ rack.faults l.rack who;
+  told : TellsBoth (rack.told l.initial.rack) (rack.told l.rack) (WritesRows l.leaf l.first l.column l.row) }
