@@ -1,10 +1,10 @@
 -- The tables fit together after each change of one entry.
-use Rattle.std.proofs.Common.{◌≡◌, ◌⊎◌, ◌+◌, ◌<◌, ◌≤◌, ◌==◌, ◌%◌, ◌&&◌, ℕ, List, Bool, true, false, Option, Some, None, arith, refl, sym, ap, inl, inr, ◌∙◌, length, get_or, set, length-set, get_or-set_same, get_or-set_other, if◌then◌else◌, subst}
+use Rattle.std.proofs.Common.{◌≡◌, ◌⊎◌, ◌+◌, ◌<◌, ◌≤◌, ◌%◌, ℕ, List, Bool, true, false, Option, Some, None, arith, refl, sym, ap, inl, inr, ◌∙◌, length, get_or, set, length-set, get_or-set_same, get_or-set_other, subst}
 use Rattle.std.proofs.lemmas.Bool.{cases_lt, cases_eq}
 use Rattle.std.proofs.lemmas.Bool.Decides.{nat_tests}
 use Rattle.draid_names.specs.declared.pointer.Pointer.{Pointer}
 use Rattle.draid_shard.specs.declared.entry.Entry.{Entry}
-use Rattle.draid_shard.specs.Space.{FitsRun, SetsRun, in_run}
+use Rattle.draid_shard.specs.Space.{FitsRun, SetsRun}
 use Rattle.draid_shard.specs.Entry.{IsSized, IsPlaced, SetsEntry, Tables, entry_at, live, opened}
 
 -- an entry is the one that was set, or one that was there elsewhere
