@@ -1,5 +1,5 @@
 -- The two data columns give the block back.
-use Rattle.std.proofs.Common.{◌≡◌, ℕ, ◌+◌, ◌-◌, ◌*◌, ◌<◌, ◌≤◌, List, ◌++◌, length, take, drop, replicate, arith, refl, inl, inr, length-append, length-take, length-drop, append_assoc}
+use Rattle.std.proofs.Common.{◌≡◌, ℕ, zero, suc, ◌+◌, ◌-◌, ◌*◌, ◌<◌, ◌≤◌, List, ◌++◌, length, take, drop, replicate, arith, refl, inl, inr, length-append, length-take, length-drop, append_assoc}
 use Rattle.std.proofs.lemmas.Bool.{cases_lt}
 use Rattle.std.proofs.lemmas.List.{length-replicate, take_all, take_at, take-append-drop, append-nil, length-map}
 use Rattle.std.proofs.lemmas.Slice.Zip.{length-zip}
@@ -62,3 +62,9 @@ pub joined-columns : (w : List ℕ) → joined (column_of first_cut w 1) (column
 joined-columns w = rw (column-left w, column-right w) (joined-filled _ w (stripes_room (length w)))
 
 pub ruleset lengths = (length-left, length-right, length-parity)
+
+pub length-column : (w : List ℕ) (i : ℕ) → i < 3 → length (column_of first_cut w i) ≡ stripes_of first_cut (length w) * 512
+length-column w zero lt = length-parity w
+length-column w (suc zero) lt = length-left w
+length-column w (suc (suc zero)) lt = length-right w
+length-column w (suc (suc (suc i))) lt = absurd (omega arith)

@@ -1,5 +1,5 @@
 -- One more column was read.
-use Rattle.std.proofs.Common.{◌≡◌, ◌⊎◌, ◌+◌, ◌*◌, ◌<◌, ◌≤◌, ◌++◌, [], ◌∷◌, ℕ, zero, suc, List, Option, Some, None, Vec, Global, arith, refl, sym, ap, inl, inr, ◌∙◌, length, slice_get, subst, min, ◌^◌}
+use Rattle.std.proofs.Common.{◌≡◌, ◌⊎◌, ◌+◌, ◌<◌, ◌≤◌, ◌++◌, [], ◌∷◌, ℕ, zero, suc, List, Option, Some, None, Vec, Global, arith, refl, ap, inl, inr, length, slice_get, subst}
 use Rattle.std.proofs.lemmas.List.Sums.{sum_by-append}
 use Rattle.std.specs.Option.{IfSome, IfNone}
 use Rattle.draid_names.specs.Faults.{Rose}

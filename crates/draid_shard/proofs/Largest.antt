@@ -1,5 +1,5 @@
 -- One more length of a run was looked for.
-use Rattle.std.proofs.Common.{◌≡◌, ◌⊎◌, ◌+◌, ◌<◌, ◌≤◌, ℕ, List, Bool, true, false, Option, Some, None, arith, inl, inr, sym, subst}
+use Rattle.std.proofs.Common.{◌≡◌, ◌+◌, ◌<◌, ◌≤◌, ℕ, List, Bool, true, false, Option, Some, None, arith, inl, inr, subst}
 use Rattle.std.specs.Option.{is_some, IfSome, IfNone}
 use Rattle.std.proofs.lemmas.Bool.{cases_lt}
 use Rattle.draid_shard.specs.Space.{FitsRun, NoneFits}

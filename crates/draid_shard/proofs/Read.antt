@@ -1,5 +1,5 @@
 -- Rows of a column are read one after another into its bytes.
-use Rattle.std.proofs.Common.{◌≡◌, ◌⊎◌, ◌+◌, ◌-◌, ◌*◌, ◌<◌, ◌≤◌, ◌++◌, [], ℕ, List, Option, Some, None, arith, refl, sym, ap, inl, inr, ◌∙◌, take, drop, length, Result, Ok, Err, true}
+use Rattle.std.proofs.Common.{◌≡◌, ◌+◌, ◌-◌, ◌*◌, ◌<◌, ◌≤◌, ◌++◌, [], ℕ, List, Option, Some, None, arith, sym, ap, inl, inr, ◌∙◌, take, drop, length, Result, Ok, Err, true}
 use Rattle.std.proofs.lemmas.Bool.{cases_lt}
 use Rattle.std.proofs.lemmas.List.{drop-take, drop_all, take_all, append-nil}
 use Rattle.std.proofs.lemmas.Slice.{take-put_mid_below, between-put_mid}

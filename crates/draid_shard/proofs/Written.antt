@@ -1,10 +1,9 @@
 -- Rows of a column are written one after another.
-use Rattle.std.proofs.Common.{◌≡◌, ◌⊎◌, ◌+◌, ◌<◌, ◌≤◌, ◌==◌, ◌&&◌, ℕ, List, Bool, true, false, Option, Some, None, arith, refl, ap, inl, inr, ◌-◌, ◌*◌, ◌∙◌, take, drop}
+use Rattle.std.proofs.Common.{◌≡◌, ◌+◌, ◌<◌, ℕ, List, Option, Some, None, arith, refl, ap, inl, inr, ◌-◌, ◌*◌, ◌∙◌, take, drop}
 use Rattle.std.specs.Prelude.{option_map}
 use Rattle.std.proofs.lemmas.Bool.{cases_lt}
 use Rattle.std.proofs.lemmas.Bool.Decides.{nat_tests}
-use Rattle.draid_rack.specs.Rack.{Told, lands, put}
-use Rattle.draid_shard.specs.Space.{in_run}
+use Rattle.draid_rack.specs.Rack.{Told, lands}
 use Rattle.draid_shard.specs.Columns.{sector_of, RowsStand, SparesOthers, WritesRows, TellsBoth}
 
 pub wrote_none : (leaf first : ℕ) (column : List ℕ) (o : Option Told) → TellsBoth o o (WritesRows leaf first column 0)

@@ -1,4 +1,4 @@
-use Rattle.std.specs.Prelude.{◌≡◌, ◌<◌, ◌≤◌, ◌+◌, ◌%◌, ℕ, List, Bool, true, false, Option, Some, None, length, slice_index_or, ◌==◌, if◌then◌else◌}
+use Rattle.std.specs.Prelude.{◌≡◌, ◌<◌, ◌≤◌, ◌+◌, ◌%◌, ℕ, List, Bool, true, false, Option, Some, None, length, slice_index_or}
 use Rattle.draid_names.specs.declared.pointer.Pointer.{Pointer}
 use Rattle.draid_block.specs.Columns.{first_cut, stripes_of}
 use Rattle.draid_shard.specs.declared.entry.Entry.{Entry}
@@ -7,16 +7,20 @@ use Rattle.draid_shard.specs.declared.entry.Entry.{Entry}
 abbrev pub entry_at : List (Option Entry) → ℕ → Option Entry
 entry_at entries k = slice_index_or entries k None
 
--- a pointer's block lies at stripe k on taken stripes within one group, and its numbers fit together
+-- a pointer's length and stripes fit together
+pub record IsSized (pointer : Pointer) : Type 0 where
+  pub some : 1 ≤ pointer.len
+  pub short : pointer.len ≤ 131072
+  pub stripes : pointer.stripes ≡ stripes_of first_cut pointer.len
+
+-- a pointer's block lies at stripe k, on taken stripes within one group
 pub record IsPlaced (taken : List Bool) (k : ℕ) (pointer : Pointer) : Type 0 where
   pub first : pointer.first ≡ k
   pub some : 1 ≤ pointer.stripes
   pub inside : k + pointer.stripes ≤ 32
   pub group : k % 8 + pointer.stripes ≤ 8
   pub held : (i : ℕ) → k ≤ i → i < k + pointer.stripes → slice_index_or taken i true ≡ true
-  pub one : 1 ≤ pointer.len
-  pub short : pointer.len ≤ 131072
-  pub stripes : pointer.stripes ≡ stripes_of first_cut pointer.len
+  pub sized : IsSized pointer
 
 -- Entries stand at their first stripes, on taken stripes, and apart from each other.
 pub record Tables (taken : List Bool) (entries : List (Option Entry)) : Type 0 where
@@ -31,7 +35,8 @@ live p = record { pointer = p; is_open = false }
 abbrev pub opened : Pointer → Entry
 opened p = record { pointer = p; is_open = true }
 
--- the table has another entry at one place
+-- The table has this at one place, and what it had at the others.
 pub record SetsEntry (old new : List (Option Entry)) (at : ℕ) (entry : Option Entry) : Type 0 where
   pub len : length new ≡ length old
-  pub entries : (k : ℕ) → entry_at new k ≡ (if k == at then entry else entry_at old k)
+  pub here : entry_at new at ≡ entry
+  pub others : (k : ℕ) → (k ≡ at → ⊥) → entry_at new k ≡ entry_at old k

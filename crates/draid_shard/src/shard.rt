@@ -9,8 +9,8 @@ ghost use Rattle.draid_shard.specs.Space.{FitsRun, NoneFits, SetsRun, TakesLowes
 
 use crate::Ticket;
 use crate::column::{read_column, write_column};
-use crate::entry::Entry;
-use crate::space::{largest_run, lowest_run, set_run};
+use crate::entry::{Entry, hold, publish, release};
+use crate::space::{largest_run, lowest_run};
 use draid_block::{Encoded, Fetched};
 use draid_names::{NoMemory, Pointer};
 use draid_rack::Rack;
@@ -164,11 +164,7 @@ impl<R: Rack> Shard<R> {
             birth: OPEN_GROUP,
             digest: block.digest(),
         };
-        set_run(&mut self.taken, first, stripes as usize, true);
-        self.entries[first] = Some(Entry {
-            pointer,
-            is_open: true,
-        });
+        hold(&mut self.taken, &mut self.entries, pointer);
         Ok(Ticket {
             pointer,
             next: 0,
@@ -226,18 +222,13 @@ impl<R: Rack> Shard<R> {
         ensures kept { KeepsBlocks R.told self.old self.new }
     {
         let pointer = ticket.pointer;
-        let first = pointer.first as usize;
         if ticket.missed > 0 {
-            set_run(&mut self.taken, first, pointer.stripes as usize, false);
-            self.entries[first] = None;
+            release(&mut self.taken, &mut self.entries, &pointer);
             return Err(Missed {
                 columns: ticket.missed,
             });
         }
-        self.entries[first] = Some(Entry {
-            pointer,
-            is_open: false,
-        });
+        publish(&self.taken, &mut self.entries, pointer);
         Ok(pointer)
     }
 

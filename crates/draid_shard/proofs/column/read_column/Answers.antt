@@ -1,5 +1,5 @@
-use Rattle.std.proofs.Common.{◌≡◌, ◌+◌, ◌*◌, ◌∙◌, refl, arith, Some, subst, Option}
-use Rattle.draid_rack.specs.Rack.{Told, OnTold, Reads}
+use Rattle.std.proofs.Common.{◌+◌, ◌∙◌, arith, subst, Option}
+use Rattle.draid_rack.specs.Rack.{Told, Reads}
 use Rattle.draid_shard.proofs.Read.{ReadsRow, length-after_row, rows-after_row, on_ok}
 use Rattle.draid_shard.proofs.column.read_column.Goals as goal
 

@@ -1,4 +1,4 @@
-use Rattle.std.proofs.Common.{◌≡◌, ◌+◌, ◌*◌, ◌∙◌, refl, arith}
+use Rattle.std.proofs.Common.{◌*◌, ◌∙◌, refl, arith}
 use Rattle.draid_shard.proofs.Written.{wrote_more, sector_is}
 use Rattle.draid_shard.proofs.column.write_column.Goals as goal
 

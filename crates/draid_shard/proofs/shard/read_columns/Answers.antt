@@ -1,6 +1,4 @@
-use Rattle.std.proofs.Common.{◌≡◌, ◌++◌, [], ◌∷◌, ◌+◌, ◌*◌, ◌∙◌, refl, arith, Some, subst, Option, length, length-append, ap}
-use Rattle.draid_rack.specs.Rack.{Told, OnTold}
-use Rattle.draid_shard.specs.Columns.{RowsStand}
+use Rattle.std.proofs.Common.{[], ◌∷◌, ◌*◌, ◌∙◌, arith, length, length-append, ap}
 use Rattle.draid_shard.proofs.Columns.{pushed_long, pushed_read, pushed_absent}
 use Rattle.draid_shard.proofs.shard.read_columns.Goals as goal
 

@@ -1,4 +1,4 @@
-use Rattle.std.proofs.Common.{◌<◌, ◌≤◌, ℕ, arith}
+use Rattle.std.proofs.Common.{arith}
 use Rattle.draid_shard.proofs.Largest.{found_one, found_none}
 use Rattle.draid_shard.proofs.space.largest_run.Goals as goal
 use Rattle.draid_shard.proofs.space.largest_run.Goals.{then-is_some, else-is_some}

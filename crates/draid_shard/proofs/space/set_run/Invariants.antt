@@ -1,4 +1,4 @@
-use Rattle.std.proofs.Common.{◌≡◌, ◌-◌, ℕ, true, length, get_or, if◌then◌else◌, nat_le, nat_lt, ◌&&◌}
+use Rattle.std.proofs.Common.{◌≡◌, ℕ, true, length, get_or, if◌then◌else◌, nat_le, nat_lt, ◌&&◌}
 use Rattle.draid_shard.proofs.space.set_run.Given as goal
 
 abbrev pub invariant-loop-stripe : goal.invariant-loop-stripe
