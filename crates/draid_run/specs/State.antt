@@ -71,9 +71,9 @@ pub record ReadsLast (object : ℕ) (bytes : List ℕ) (old : Pool) : Type 0 whe
   pub same : AreBytesOf old.tells last bytes
 
 -- the object was written, and its block can't be read
-pub record IsLost (object absent tried : ℕ) (old new : Pool) : Type 0 where
+pub record IsLost (object columns sets : ℕ) (old new : Pool) : Type 0 where
   pub written : IsSome (bytes_of old.writes object)
-  pub unread : IsUnread old.tells absent tried old.faults new.faults
+  pub unread : IsUnread old.tells columns sets old.faults new.faults
 
 -- a read changes nothing but counts
 pub record Looks (old new : Pool) : Type 0 where

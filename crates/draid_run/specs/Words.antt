@@ -19,7 +19,7 @@ pub record AreBytesOf (tells : Bool) (w bytes : List ℕ) : Type 0 where
   pub same : IsTrue tells → bytes ≡ w
 
 -- A column is absent only where calls on its leaf failed. Where the rack tells, one is.
-pub record IsUnread (tells : Bool) (absent tried : ℕ) (old new : Option ℕ → ℕ) : Type 0 where
-  pub absent : IsTrue tells → 0 < absent
-  pub untried : IsTrue tells → tried ≡ 0
-  pub cause : 0 < absent → SomeRose old new
+pub record IsUnread (tells : Bool) (columns sets : ℕ) (old new : Option ℕ → ℕ) : Type 0 where
+  pub absent : IsTrue tells → 0 < columns
+  pub untried : IsTrue tells → sets ≡ 0
+  pub cause : 0 < columns → SomeRose old new

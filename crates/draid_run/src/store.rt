@@ -1,4 +1,5 @@
 ghost use Rattle.std.specs.Prelude.{◌≡◌, ◌<◌, ◌≤◌, ◌^◌, ℕ, List, is_some};
+ghost use Rattle.draid_run.specs.Store.{BlockAnswers, StoreAnswers};
 ghost use Rattle.draid_shard.specs.Shard.{HoldsBlock, IsLive, KeepsBlocks, NoneFalls, Valid, taken_of};
 
 use draid_block::{Encoded, SolveFault, solve_block};
