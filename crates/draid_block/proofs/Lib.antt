@@ -3,3 +3,4 @@ pub mod Encodes
 pub mod Halves
 pub mod Restores
 pub mod Solved
+pub mod Worked

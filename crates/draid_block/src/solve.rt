@@ -87,3 +87,50 @@ pub fn solve_block(alloc: Global, fetched: &Fetched) -> Result<Vec<u8>, SolveFau
         })
     }
 }
+
+#[cfg(test)]
+mod tests {
+    use super::*;
+    use crate::{Encoded, SECTOR};
+    use std::test::Fail;
+
+    fn fetched(alloc: Global, block: &Encoded) -> Result<Fetched, Fail> {
+        let pointer = Pointer {
+            object: 7,
+            seq: 1,
+            metaslab: 0,
+            first: 0,
+            stripes: block.stripes(),
+            len: block.len(),
+            birth: 2,
+            digest: block.digest(),
+        };
+        let mut columns = Vec::new(alloc);
+        for i in 0..3 {
+            columns.push(Some(Vec::from_slice(alloc, block.column(i))?))?;
+        }
+        Ok(Fetched { pointer, columns })
+    }
+
+    // The digest of "abc" is the example of FIPS 180-4.
+    #[test]
+    fn gives_the_block_back(rt: HostRuntime) -> Result<(), Fail> {
+        let alloc = rt.alloc();
+        let block = Encoded::of(alloc, b"abc").map_err(|_| Fail)?;
+        let digest = block.digest();
+        assert_eq!(rt; digest[..4], [0xba, 0x78, 0x16, 0xbf]);
+        assert_eq!(rt; block.stripes(), 1);
+        let mut fetched = fetched(alloc, &block)?;
+        let bytes = solve_block(alloc, &fetched).map_err(|_| Fail)?;
+        assert_eq!(rt; bytes.as_slice(), b"abc");
+
+        fetched.pointer.digest[0] ^= 1;
+        let other = solve_block(alloc, &fetched).err();
+        assert_eq!(rt; other, Some(SolveFault::Unreadable { absent: 0, tried: 1 }));
+
+        fetched.columns[0] = None;
+        let absent = solve_block(alloc, &fetched).err();
+        assert_eq!(rt; absent, Some(SolveFault::Unreadable { absent: 1, tried: 0 }));
+        Ok(())
+    }
+}

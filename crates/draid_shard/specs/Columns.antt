@@ -46,3 +46,7 @@ AreLong columns len = (i : ℕ) (c : Vec ℕ Global) → slice_get columns i ≡
 -- each column that is there is what its leaf reads
 abbrev pub AreRead : (ℕ → ℕ → Option (List ℕ)) → ℕ → ℕ → List (Option (Vec ℕ Global)) → Type 0
 AreRead reads first rows columns = (i : ℕ) (c : Vec ℕ Global) → slice_get columns i ≡ Some (Some c) → RowsStand reads i first c.items rows
+
+-- Where a column is absent, the count of faults of its leaf rose.
+abbrev pub AbsentRose : List (Option (Vec ℕ Global)) → (Option ℕ → ℕ) → (Option ℕ → ℕ) → Type 0
+AbsentRose columns old new = (i : ℕ) → slice_get columns i ≡ Some None → Rose (old (Some i)) (new (Some i))

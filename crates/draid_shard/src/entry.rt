@@ -1,4 +1,4 @@
-ghost use Rattle.std.specs.Prelude.{◌≡◌, Some, None, true, false};
+ghost use Rattle.std.specs.Prelude.{◌≡◌, ◌<◌, Some, None, true, false, length};
 ghost use Rattle.draid_shard.specs.Space.{FitsRun, SetsRun};
 
 use crate::space::set_run;
@@ -46,11 +46,9 @@ pub(crate) fn release(taken: &mut Vec<bool>, entries: &mut Vec<Option<Entry>>, p
 }
 
 /// Ends an open write with a live block.
-pub(crate) fn publish(taken: &Vec<bool>, entries: &mut Vec<Option<Entry>>, pointer: Pointer)
-    requires tables { Tables taken.now.items entries.old.items }
-    requires is_open { entry_at entries.old.items pointer.first ≡ Some (opened pointer) }
-    ensures tables { Tables taken.now.items entries.new.items }
-    ensures entry { SetsEntry entries.old.items entries.new.items pointer.first (Some (live pointer)) }
+pub(crate) fn publish(entries: &mut Vec<Option<Entry>>, pointer: Pointer)
+    requires { pointer.first < length entries.old.items }
+    ensures { SetsEntry entries.old.items entries.new.items pointer.first (Some (live pointer)) }
 {
     entries[pointer.first as usize] = Some(Entry {
         pointer,

@@ -4,7 +4,7 @@ ghost use Rattle.draid_names.specs.Faults.{Rose};
 ghost use Rattle.draid_block.specs.Columns.{first_cut, stripes_of};
 ghost use Rattle.draid_block.specs.Solve.{IsWhole, HoldsBytes, absent_of};
 ghost use Rattle.draid_rack.specs.Rack.{HasJust, OnTold};
-ghost use Rattle.draid_shard.specs.Columns.{AreLong, AreRead, SomeRose};
+ghost use Rattle.draid_shard.specs.Columns.{AbsentRose, AreLong, AreRead, SomeRose};
 ghost use Rattle.draid_shard.specs.Space.{FitsRun, NoneFits, SetsRun, TakesLowest, IsLargest};
 
 use crate::Ticket;
@@ -17,10 +17,10 @@ use draid_rack::Rack;
 use std::alloc::{AllocError, Global};
 
 /// How many stripes a metaslab has, and how many sectors each of its leaves.
-pub(crate) const STRIPES: usize = 32;
+const STRIPES: usize = 32;
 
 /// How many columns a block has, and how many leaves the rack.
-pub(crate) const COLUMNS: u64 = 3;
+const COLUMNS: u64 = 3;
 
 /// The transaction group in which blocks are born.
 const OPEN_GROUP: u64 = 2;
@@ -85,7 +85,7 @@ fn read_columns<R: Rack>(
     ensures count { IfOk result (λ columns. length columns.items ≡ 3) }
     ensures long { IfOk result (λ columns. AreLong columns.items (pointer.now.stripes * 512)) }
     ensures stand { IfOk result (λ columns. OnTold (R.told rack.old) (λ x. AreRead x.reads pointer.now.first pointer.now.stripes columns.items)) }
-    ensures absent { IfOk result (λ columns. 0 < absent_of columns.items → SomeRose (R.faults rack.old) (R.faults rack.new)) }
+    ensures absent { IfOk result (λ columns. AbsentRose columns.items (R.faults rack.old) (R.faults rack.new)) }
     ensures told { R.told rack.new ≡ R.told rack.old }
     ensures shape { R.shape rack.new ≡ R.shape rack.old }
     ensures later { (who : Option ℕ) → R.faults rack.old who ≤ R.faults rack.new who }
@@ -228,7 +228,7 @@ impl<R: Rack> Shard<R> {
                 columns: ticket.missed,
             });
         }
-        publish(&self.taken, &mut self.entries, pointer);
+        publish(&mut self.entries, pointer);
         Ok(pointer)
     }
 
@@ -248,12 +248,13 @@ impl<R: Rack> Shard<R> {
     pub fn fetch(&mut self, pointer: &Pointer) -> Result<Fetched, FetchFault>
         requires valid { Valid R.shape self.old }
         ensures valid { Valid R.shape self.new }
-        ensures not_live { result ≡ Err FetchFault.NotLive → IsLive self.old pointer.now → ⊥ }
+        ensures not_live { (result ≡ Err FetchFault.NotLive) ↔ (IsLive self.old pointer.now → ⊥) }
         ensures is_live { IfOk result (λ _. IsLive self.old pointer.now) }
         ensures pointer { IfOk result (λ fetched. fetched.pointer ≡ pointer.now) }
         ensures whole { IfOk result IsWhole }
         ensures holds { IfOk result (λ fetched. (w : List ℕ) → HoldsBlock R.told self.old pointer.now w → OnTold (R.told self.old.rack) (λ _. HoldsBytes fetched w)) }
-        ensures absent { IfOk result (λ fetched. 0 < absent_of fetched.columns.items → SomeRose (R.faults self.old.rack) (R.faults self.new.rack)) }
+        ensures absent { IfOk result (λ fetched. AbsentRose fetched.columns.items (R.faults self.old.rack) (R.faults self.new.rack)) }
+        ensures some_rose { IfOk result (λ fetched. 0 < absent_of fetched.columns.items → SomeRose (R.faults self.old.rack) (R.faults self.new.rack)) }
         ensures later { NoneFalls (R.faults self.old.rack) (R.faults self.new.rack) }
         ensures told { R.told self.new.rack ≡ R.told self.old.rack }
         ensures shape { R.shape self.new.rack ≡ R.shape self.old.rack }

@@ -18,5 +18,5 @@ loop-leaf-preserved g c =
       pushed_read (g.R.Rack.told c.args.rack.now) c.args.pointer.now.first c.args.pointer.now.stripes c.loop-leaf.leaf cs new x e c.loop-leaf.invariant.count c.loop-leaf.invariant.stand
         (rw (c.from.ensures, c.loop-leaf.invariant.told) at c.in_ok-column.ensures.stand);
     absent =
-      pushed_absent (g.R.Rack.faults c.args.rack.now) (g.R.Rack.faults c.loop-leaf.rack) (g.R.Rack.faults c.read_column.new.rack) c.loop-leaf.leaf cs new x e
+      pushed_absent (g.R.Rack.faults c.args.rack.now) (g.R.Rack.faults c.loop-leaf.rack) (g.R.Rack.faults c.read_column.new.rack) c.loop-leaf.leaf cs new x e c.loop-leaf.invariant.count
         c.loop-leaf.invariant.later c.read_column.ensures.later c.loop-leaf.invariant.absent c.in_ok-column.ensures.cause }

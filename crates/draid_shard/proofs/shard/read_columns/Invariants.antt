@@ -1,7 +1,6 @@
-use Rattle.std.proofs.Common.{◌≡◌, ◌<◌, ◌≤◌, ◌*◌, ℕ, Option, length}
+use Rattle.std.proofs.Common.{◌≡◌, ◌≤◌, ◌*◌, ℕ, Option, length}
 use Rattle.draid_rack.specs.Rack.{OnTold}
-use Rattle.draid_block.specs.Solve.{absent_of}
-use Rattle.draid_shard.specs.Columns.{AreLong, AreRead, SomeRose}
+use Rattle.draid_shard.specs.Columns.{AreLong, AreRead, AbsentRose}
 use Rattle.draid_shard.proofs.shard.read_columns.Given as goal
 
 abbrev pub invariant-loop-leaf : goal.invariant-loop-leaf
@@ -12,4 +11,4 @@ invariant-loop-leaf g l = let rack = g.R.Rack in record {
   count : length l.columns.items ≡ l.leaf;
   long : AreLong l.columns.items (l.pointer.stripes * 512);
   stand : OnTold (rack.told l.initial.rack) (λ x. AreRead x.reads l.pointer.first l.pointer.stripes l.columns.items);
-  absent : 0 < absent_of l.columns.items → SomeRose (rack.faults l.initial.rack) (rack.faults l.rack) }
+  absent : AbsentRose l.columns.items (rack.faults l.initial.rack) (rack.faults l.rack) }

@@ -1,5 +1,6 @@
 use Rattle.std.proofs.Common.{refl}
 use Rattle.draid_shard.proofs.Fetched.{entry_inside, is_whole, holds_bytes}
+use Rattle.draid_shard.proofs.Columns.{some_rose}
 use Rattle.draid_shard.proofs.shard.Shard.fetch.Goals as goal
 
 pub read_columns-requires-clause-inside : goal.read_columns-requires-clause-inside
@@ -13,3 +14,7 @@ returns-clause-whole g c =
 pub returns-clause-holds : goal.returns-clause-holds
 returns-clause-holds g c w holds =
   holds_bytes (g.R.Rack.told c.args.self.now.rack) _ w holds.is_of c.in_ok-columns.ensures.count c.in_ok-columns.ensures.long c.in_ok-columns.ensures.stand holds.stands
+
+pub returns-clause-some_rose : goal.returns-clause-some_rose
+returns-clause-some_rose g c some =
+  some_rose c.in_ok-columns.columns.items (g.R.Rack.faults c.args.self.now.rack) (g.R.Rack.faults c.read_columns.new.rack) c.in_ok-columns.ensures.absent some
