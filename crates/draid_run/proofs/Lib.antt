@@ -1,3 +1,4 @@
 pub mod Keeps
 pub mod Misses
 pub mod Runs
+pub mod Steps

@@ -53,14 +53,15 @@ impl<R: Rack> Session<R> {
             (pool_of R.told R.faults self.new) }
         ensures seq { self.new.seq ≤ self.old.seq + 1 }
     {
-        let refused = Reply::NoMemory {
-            command: CommandName::Write,
-        };
         let Ok(block) = Encoded::of(alloc, bytes) else {
-            return refused;
+            return Reply::NoMemory {
+                command: CommandName::Write,
+            };
         };
         if self.objects.reserve(1).is_err() {
-            return refused;
+            return Reply::NoMemory {
+                command: CommandName::Write,
+            };
         }
         match store(&mut self.shard, object, self.seq + 1, &block) {
             Ok(pointer) => {

@@ -31,6 +31,7 @@ pub(crate) fn store<R: Rack>(
     ensures valid { Valid R.shape shard.new }
     ensures answer { StoreAnswers R.told R.faults object block.now shard.old shard.new result }
     ensures later { NoneFalls (R.faults shard.old.rack) (R.faults shard.new.rack) }
+    ensures tells { is_some (R.told shard.new.rack) ≡ is_some (R.told shard.old.rack) }
     ensures kept { KeepsBlocks R.told shard.old shard.new }
 {
     let mut ticket = match shard.begin(object, seq, block) {

@@ -1,6 +1,6 @@
 -- Rows of a column are written one after another.
 use Rattle.std.proofs.Common.{◌≡◌, ◌+◌, ◌<◌, ℕ, List, Option, Some, None, arith, refl, ap, inl, inr, ◌-◌, ◌*◌, ◌∙◌, take, drop}
-use Rattle.std.specs.Prelude.{option_map}
+use Rattle.std.specs.Prelude.{option_map, is_some, Result, Ok, Err, OnOk, OnErr}
 use Rattle.std.proofs.lemmas.Bool.{cases_lt}
 use Rattle.std.proofs.lemmas.Bool.Decides.{nat_tests}
 use Rattle.draid_rack.specs.Rack.{Told, lands}
@@ -30,3 +30,13 @@ wrote_more leaf first row column bytes (Some x) (Some y) h e =
 -- the part of a column that the code takes is its sector
 pub sector_is : (column bytes : List ℕ) (at row : ℕ) → at ≡ row * 512 → bytes ≡ take (at + 512 - at) (drop at column) → bytes ≡ sector_of column row
 sector_is column bytes at row h e = let n : at + 512 - at ≡ 512 = omega arith in e ∙ rw (n, h) refl
+
+tells_same : (o p : Option Told) (P : Told → Told → Type 0) → TellsBoth o p P → is_some p ≡ is_some o
+tells_same None p P h = rw h refl
+tells_same (Some x) None P h = absurd h
+tells_same (Some x) (Some y) P h = refl
+
+-- a write that was answered so leaves told what was told
+pub tells_on : {E : Type 0} (o p : Option Told) (r : Result Unit E) (P Q : Told → Told → Type 0) → OnOk r (TellsBoth o p P) → OnErr r (TellsBoth o p Q) → is_some p ≡ is_some o
+tells_on o p (Ok done) P Q ok err = tells_same o p P ok
+tells_on o p (Err e) P Q ok err = tells_same o p Q err

@@ -1,4 +1,4 @@
-ghost use Rattle.std.specs.Prelude.{◌≡◌, ◌<◌, ◌≤◌, ◌+◌, ◌^◌, ℕ, List, Bool, true, false, Option, Some, None, IfOk, OnOk, OnErr, IfErr, IsTrue, ◌↔◌, ◌*◌, length, replicate};
+ghost use Rattle.std.specs.Prelude.{is_some, ◌≡◌, ◌<◌, ◌≤◌, ◌+◌, ◌^◌, ℕ, List, Bool, true, false, Option, Some, None, IfOk, OnOk, OnErr, IfErr, IsTrue, ◌↔◌, ◌*◌, length, replicate};
 ghost use Rattle.draid_names.specs.declared.pointer.Pointer.{Pointer};
 ghost use Rattle.draid_names.specs.Faults.{Rose};
 ghost use Rattle.draid_block.specs.Columns.{first_cut, stripes_of};
@@ -183,6 +183,7 @@ impl<R: Rack> Shard<R> {
         ensures pointer { ticket.new.pointer ≡ ticket.old.pointer }
         ensures missed { CountsMiss ticket.old.missed ticket.new.missed (R.faults self.old.rack (Some ticket.old.next)) (R.faults self.new.rack (Some ticket.old.next)) }
         ensures later { NoneFalls (R.faults self.old.rack) (R.faults self.new.rack) }
+        ensures tells { is_some (R.told self.new.rack) ≡ is_some (R.told self.old.rack) }
         ensures taken { taken_of self.new ≡ taken_of self.old }
         ensures shape { R.shape self.new.rack ≡ R.shape self.old.rack }
         ensures same { SameLive self.old self.new }
