@@ -1,4 +1,6 @@
 pub mod Keeps
+pub mod Known
 pub mod Misses
 pub mod Runs
+pub mod Serving
 pub mod Steps

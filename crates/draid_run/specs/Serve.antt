@@ -1,8 +1,10 @@
 use Rattle.std.specs.Prelude.{◌≡◌, ◌<◌, ◌≤◌, ◌+◌, ◌^◌, ◌⊎◌, ⊤, ℕ, List, [], ◌∷◌, ◌++◌, Option, Some, None, Result, Ok, Err, MatchOption, length, flat_map}
-use Rattle.std.specs.Io.KnownBytes.{Appends}
+use Rattle.std.specs.Io.KnownBytes.{Appends, prepend_known}
+use Rattle.std.specs.declared.vec.Vec.{Vec}
+use Rattle.std.specs.declared.alloc.Global.{Global}
 use Rattle.draid_rack.specs.Rack.{Shape, Told}
 use Rattle.draid_script.specs.Line.{Command, command_of}
-use Rattle.draid_script.specs.Lines.{Rest, WhereKnown, lines_of}
+use Rattle.draid_script.specs.Lines.{Rest, WhereKnown, IsTooLong, lines_of, most_lines}
 use Rattle.draid_script.specs.Reply.{text_of}
 use Rattle.draid_script.specs.Sink.{AppendsFront}
 use Rattle.draid_script.specs.declared.reply.Reply.{Reply}
@@ -14,6 +16,18 @@ use Rattle.draid_run.specs.declared.serve.Unanswered.{Unanswered}
 use Rattle.draid_run.specs.declared.serve.Unanswered.TheVariants as unanswered
 use Rattle.draid_run.specs.declared.status.Status.{Status}
 use Rattle.draid_run.specs.declared.status.Status.TheVariants.{Done, Usage, Line, SourceFault, SinkFault, NoMemory, TooLong}
+
+-- What became of the next line, where the bytes to come before and after the call are known.
+abbrev pub TextIs : Rest → Rest → Option (List ℕ) → Option (List ℕ) → Result (Option (Vec ℕ Global)) Status → Type 0
+TextIs lines lines' left left' (Ok None) = WhereKnown (prepend_known lines.held left) (prepend_known lines'.held left') (λ old new. old ≡ [])
+TextIs lines lines' left left' (Ok (Some line)) =
+    (lines'.given ≡ lines.given + 1) × (lines'.given ≤ most_lines) × (lines'.fault ≡ None)
+    × WhereKnown (prepend_known lines.held left) (prepend_known lines'.held left') (λ old new. lines_of old ≡ line.items ∷ lines_of new)
+TextIs lines lines' left left' (Err SourceFault) = WhereKnown (prepend_known lines.held left) (prepend_known lines'.held left') (λ old new. new ≡ old)
+TextIs lines lines' left left' (Err NoMemory) = WhereKnown (prepend_known lines.held left) (prepend_known lines'.held left') (λ old new. new ≡ old)
+TextIs lines lines' left left' (Err (TooLong line)) =
+    (line ≡ lines.given + 1) × WhereKnown (prepend_known lines.held left) (prepend_known lines'.held left') (λ old new. IsTooLong lines.given old)
+TextIs lines lines' left left' (Err status) = ⊥
 
 module _ {R : Type 0} (shape : R → Shape) (told : R → Option Told) (faults : R → Option ℕ → ℕ) where
   -- a command was done, and this is its reply
@@ -45,7 +59,7 @@ module _ {R : Type 0} (shape : R → Shape) (told : R → Option Told) (faults :
   LineIs number text pool writes pool' held held' (Err status) = ⊥
 
   -- The lines so far were answered and their replies printed.
-  pub record Serving (input : Option (List ℕ)) (start : Option (List ℕ)) (rest left : Option (List ℕ)) (held : Option (List ℕ)) (pool : Option (Session R)) (count : ℕ) : Type 0 where
+  pub record Serving (input rest start held : Option (List ℕ)) (pool : Option (Session R)) (count : ℕ) : Type 0 where
     pub lines : List (List ℕ)
     pub replies : List Reply
     pub writes : List Write

@@ -4,7 +4,7 @@ ghost use Rattle.draid_names.specs.Faults.{Rose};
 ghost use Rattle.draid_script.specs.Line.{command_in, IsInRange};
 ghost use Rattle.draid_run.specs.State.{Write, IsFresh};
 ghost use Rattle.draid_run.specs.Session.{IsDesk, Represents, pool_of, seq_of};
-ghost use Rattle.draid_run.specs.Serve.{AnswerIs, LineIs, Served};
+ghost use Rattle.draid_run.specs.Serve.{AnswerIs, LineIs, Served, TextIs};
 
 use crate::session::Session;
 use crate::status::Status;
@@ -15,7 +15,7 @@ use draid_shard::Shard;
 use draid_shelf::{Extent, Shelf};
 use std::alloc::Global;
 
-/// The most lines of a script, and one more.
+/// One line more than a script may have.
 const LINES: u64 = 1_048_577;
 
 /// The leaves of the one pool that can be created.
@@ -124,12 +124,22 @@ fn serve_line<H: Shelf, K: Sink>(
     Ok(())
 }
 
-/// The status of a run that could not read its next line.
-fn status_of(fault: ReadFault) -> Status {
-    match fault {
-        ReadFault::SourceFault => Status::SourceFault,
-        ReadFault::TooLong { line } => Status::TooLong { line },
-        ReadFault::NoMemory => Status::NoMemory,
+/// The next line of the source, or the status of a run that can't read it.
+fn next_text<S: Source>(
+    alloc: Global,
+    lines: &mut Lines,
+    source: &mut S,
+) -> Result<Option<Vec<u8>>, Status>
+    requires { lines.old.fault ≡ None }
+    ensures text { TextIs lines.old lines.new (S.left source.old) (S.left source.new) result }
+    ensures later { S.faults source.old ≤ S.faults source.new }
+    ensures cause { result ≡ Err Status.SourceFault → Rose (S.faults source.old) (S.faults source.new) }
+{
+    match lines.next(alloc, source) {
+        Ok(text) => Ok(text),
+        Err(ReadFault::SourceFault) => Err(Status::SourceFault),
+        Err(ReadFault::TooLong { line }) => Err(Status::TooLong { line }),
+        Err(ReadFault::NoMemory) => Err(Status::NoMemory),
     }
 }
 
@@ -150,11 +160,11 @@ pub(crate) fn serve<H: Shelf, S: Source, K: Sink>(
     ensures no_usage { result ≡ Status.Usage → ⊥ }
 {
     let mut lines = Lines::new(alloc);
-    'lines: for number in 1..=LINES {
-        let text = match lines.next(alloc, source) {
+    'lines: for number in 1..LINES + 1 {
+        let text = match next_text(alloc, &mut lines, source) {
             Ok(Some(text)) => text,
             Ok(None) => return Status::Done,
-            Err(fault) => return status_of(fault),
+            Err(status) => return status,
         };
         if let Err(status) = serve_line(alloc, shelf, pool, sink, number, &text) {
             return status;
