@@ -1,3 +1,4 @@
+pub mod Ended
 pub mod Keeps
 pub mod Known
 pub mod Misses

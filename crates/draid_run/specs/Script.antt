@@ -8,7 +8,7 @@ use Rattle.draid_script.specs.Reply.{text_of}
 use Rattle.draid_script.specs.Sink.{AppendsFront}
 use Rattle.draid_script.specs.declared.reply.Reply.{Reply}
 use Rattle.draid_run.specs.State.{CannotRun, Pool, Runs, Write}
-use Rattle.draid_run.specs.Status.{last_text}
+use Rattle.draid_run.specs.Status.{HasNumber, last_text}
 use Rattle.draid_run.specs.declared.status.Status.{Status}
 use Rattle.draid_run.specs.declared.status.Status.TheVariants.{Done, Usage, Line, SourceFault, SinkFault, NoMemory, TooLong}
 
@@ -42,7 +42,7 @@ Prints status ended text old new = (status ≡ ended) × Appends old new text
 -- The last line was printed: that of the status, or for want of memory the one that says so.
 pub record EndsWithLine (ended status : Status) (old new : Option (List ℕ)) : Type 0 where
   pub meant : Status
-  pub is : (meant ≡ ended) ⊎ (meant ≡ NoMemory)
+  pub is : (meant ≡ ended) ⊎ ((meant ≡ NoMemory) × HasNumber ended)
   pub prints : Prints status meant (last_text meant) old new
 
 -- the one list of words that the program takes

@@ -29,6 +29,11 @@ TextIs lines lines' left left' (Err (TooLong line)) =
     (line ≡ lines.given + 1) × WhereKnown (prepend_known lines.held left) (prepend_known lines'.held left') (λ old new. IsTooLong lines.given old)
 TextIs lines lines' left left' (Err status) = ⊥
 
+-- what the sink got but for the last line
+abbrev pub PrintsReplies : Status → List ℕ → Option (List ℕ) → Option (List ℕ) → Type 0
+PrintsReplies SinkFault text old new = AppendsFront old new text
+PrintsReplies status text old new = Appends old new text
+
 module _ {R : Type 0} (shape : R → Shape) (told : R → Option Told) (faults : R → Option ℕ → ℕ) where
   -- a command was done, and this is its reply
   pub record Turned (command : Option Command) (old : Option Pool) (reply : Reply) (pool : Option (Session R)) : Type 0 where
@@ -68,11 +73,6 @@ module _ {R : Type 0} (shape : R → Shape) (told : R → Option Told) (faults :
     pub runs : Runs None lines replies (state_of told faults pool writes)
     pub known : WhereKnown input rest (λ all behind. lines_of all ≡ lines ++ lines_of behind)
     pub printed : Appends start held (flat_map text_of replies)
-
-  -- what the sink got but for the last line
-  abbrev pub PrintsReplies : Status → List ℕ → Option (List ℕ) → Option (List ℕ) → Type 0
-  PrintsReplies SinkFault text old new = AppendsFront old new text
-  PrintsReplies status text old new = Appends old new text
 
   -- the lines were served until the run ended
   pub record Served (ended : Status) (input : Option (List ℕ)) (start held : Option (List ℕ)) (pool : Option (Session R)) : Type 0 where

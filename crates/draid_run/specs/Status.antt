@@ -1,4 +1,4 @@
-use Rattle.std.specs.Prelude.{ℕ, List, [], ◌++◌, codes}
+use Rattle.std.specs.Prelude.{ℕ, ⊤, List, [], ◌++◌, codes}
 use Rattle.std.specs.Fmt.{decimal}
 use Rattle.draid_run.specs.declared.status.Status.{Status}
 use Rattle.draid_run.specs.declared.status.Status.TheVariants.{Done, Usage, Line, SourceFault, SinkFault, NoMemory, TooLong}
@@ -12,6 +12,12 @@ code_of SourceFault = 3
 code_of SinkFault = 4
 code_of NoMemory = 5
 code_of (TooLong line) = 6
+
+-- the status's line names a number
+abbrev pub HasNumber : Status → Type 0
+HasNumber (Line line kind at) = ⊤
+HasNumber (TooLong line) = ⊤
+HasNumber status = ⊥
 
 -- the line that is printed last where it names no number, its end included
 abbrev pub fixed_text : Status → List ℕ

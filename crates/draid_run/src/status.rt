@@ -1,5 +1,5 @@
-ghost use Rattle.std.specs.Prelude.{◌≡◌, IfOk, IfSome, IfNone, string_bytes};
-ghost use Rattle.draid_run.specs.Status.{fixed_text, last_text};
+ghost use Rattle.std.specs.Prelude.{◌≡◌, IfOk, IfSome, IfNone, OnErr, string_bytes};
+ghost use Rattle.draid_run.specs.Status.{HasNumber, fixed_text, last_text};
 
 use draid_names::NoMemory;
 use std::alloc::Global;
@@ -46,6 +46,7 @@ impl Status {
 pub(crate) fn numbered_line(alloc: Global, status: Status) -> Result<Option<String>, NoMemory>
     ensures some { IfOk result (λ line. IfSome line (λ text. string_bytes text ≡ last_text status)) }
     ensures none { IfOk result (λ line. IfNone line (last_text status ≡ fixed_text status)) }
+    ensures err { OnErr result (HasNumber status) }
 {
     match status {
         Status::Line { line, kind, at } => Ok(Some(

@@ -1,8 +1,11 @@
-ghost use Rattle.std.specs.Prelude.{◌≡◌, ◌↔◌, ◌≤◌, ◌⊎◌, IsTrue, map, string_bytes};
+ghost use Rattle.std.specs.Prelude.{◌≡◌, ◌↔◌, ◌≤◌, ◌⊎◌, ⊤, List, MatchOption, IsTrue, map, string_bytes};
 ghost use Rattle.draid_names.specs.Faults.{Rose};
-ghost use Rattle.draid_run.specs.Script.{EndsWithLine, IsSession, Prints, RunIs};
+ghost use Rattle.draid_run.specs.Session.{IsDesk, state_of};
+ghost use Rattle.draid_run.specs.State.{Write};
+ghost use Rattle.draid_run.specs.Script.{EndsWithLine, HoldsPool, IsSession, Prints, RunIs};
 
 use crate::serve::serve;
+use crate::session::Session;
 use crate::status::{Status, fixed_line, numbered_line};
 use draid_script::{Sink, Source};
 use draid_shelf::Shelf;
@@ -47,6 +50,15 @@ fn is_session(words: &[String]) -> bool
     }
 }
 
+/// Gives the rack of an open pool back to the shelf.
+fn give_back<H: Shelf>(shelf: &mut H, pool: Option<Session<H::R>>)
+    ensures { (writes : List Write) → IsDesk H.R.shape H.R.told pool writes → MatchOption (state_of H.R.told H.R.faults pool writes) ⊤ (HoldsPool (H.holds shelf.new)) }
+{
+    if let Some(session) = pool {
+        shelf.give(session.into_rack());
+    }
+}
+
 /// Runs the script of `source` on the pool of `shelf`, with its replies to `sink`. The words are those of the
 /// command line behind the program's name.
 pub fn run<H: Shelf, S: Source, K: Sink, A: AllocGlobal>(
@@ -68,8 +80,6 @@ pub fn run<H: Shelf, S: Source, K: Sink, A: AllocGlobal>(
     }
     let mut pool = None;
     let ended = serve(alloc, shelf, &mut pool, source, sink);
-    if let Some(session) = pool {
-        shelf.give(session.into_rack());
-    }
+    give_back(shelf, pool);
     end_run(alloc, sink, ended)
 }

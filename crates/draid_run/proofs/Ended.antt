@@ -1,0 +1,153 @@
+-- A run that has ended: what was served, and then the last line.
+use Rattle.std.proofs.Common.{arith, refl, sym, ap, subst, ◌≡◌, ◌∙◌, ◌↔◌, ◌⊎◌, inl, inr, ℕ, List, [], ◌∷◌, ◌++◌, length, Option, Some, None, MatchOption, is_some}
+use Rattle.std.specs.Prelude.{⊤, flat_map}
+use Rattle.std.specs.Io.KnownBytes.{Appends}
+use Rattle.std.proofs.lemmas.List.{append-nil}
+use Rattle.draid_names.specs.declared.pointer.Pointer.{Pointer}
+use Rattle.draid_rack.specs.Rack.{Shape, Told, OnTold}
+use Rattle.draid_shard.specs.declared.shard.Shard.{Shard}
+use Rattle.draid_shard.specs.Columns.{Stands}
+use Rattle.draid_script.specs.Lines.{lines_of}
+use Rattle.draid_script.specs.Reply.{text_of}
+use Rattle.draid_script.specs.Sink.{AppendsFront}
+use Rattle.draid_script.specs.declared.reply.Reply.{Reply}
+use Rattle.draid_run.specs.State.{Pool, Runs, Write}
+use Rattle.draid_run.specs.Script.{AllStand, Ends, EndsWithLine, HasRun, HoldsPool, IsSession, Prints, RunIs, Shows, printed_text}
+use Rattle.draid_run.specs.Session.{IsDesk, KeepsAll, Represents, pool_of, state_of}
+use Rattle.draid_run.specs.Serve.{PrintsReplies, Served}
+use Rattle.draid_run.specs.Status.{HasNumber, last_text}
+use Rattle.draid_run.specs.declared.session.Session.{Session}
+use Rattle.draid_run.specs.declared.status.Status.{Status}
+use Rattle.draid_run.specs.declared.status.Status.TheVariants.{Done, Usage, Line, SourceFault, SinkFault, NoMemory, TooLong}
+use Rattle.draid_run.proofs.Known.{appends_none, appends_more, front_more}
+
+no_front : (front back : List ℕ) → [] ≡ front ++ back → front ≡ []
+no_front [] back is = refl
+no_front (x ∷ front) back is = absurd (omega (arith, ap length is))
+
+-- after a failure nothing more is added
+front_end : (start mid new : Option (List ℕ)) (text : List ℕ) → AppendsFront start mid text → AppendsFront mid new [] → AppendsFront start new (text ++ [])
+front_end start mid new text a b =
+    let nothing : Appends mid new [] = subst (λ xs. Appends mid new xs) (no_front b.0 b.1 b.2) b.3 in
+    let whole : Appends start new a.0 = subst (λ xs. Appends start new xs) (append-nil a.0) (appends_more start mid new a.0 [] a.3 nothing) in
+    (a.0, a.1, append-nil text ∙ a.2, whole)
+
+-- the sink failed at a reply or at the last line
+fails_all : (ended : Status) (text : List ℕ) (start mid new : Option (List ℕ)) → PrintsReplies ended text start mid → AppendsFront mid new (last_text ended) → AppendsFront start new (text ++ last_text ended)
+fails_all Done text start mid new a b = front_more start mid new text _ a b
+fails_all Usage text start mid new a b = front_more start mid new text _ a b
+fails_all (Line line kind at) text start mid new a b = front_more start mid new text _ a b
+fails_all SourceFault text start mid new a b = front_more start mid new text _ a b
+fails_all SinkFault text start mid new a b = front_end start mid new text a b
+fails_all NoMemory text start mid new a b = front_more start mid new text _ a b
+fails_all (TooLong line) text start mid new a b = front_more start mid new text _ a b
+
+prints_all : (status ended : Status) (text : List ℕ) (start mid new : Option (List ℕ)) → PrintsReplies ended text start mid → Prints status ended (last_text ended) mid new → Prints status ended (text ++ last_text ended) start new
+prints_all SinkFault ended text start mid new a b = fails_all ended text start mid new a b
+prints_all Done ended text start mid new a b = (b.0, appends_more start mid new text _ (subst (λ s. PrintsReplies s text start mid) (sym b.0) a) b.1)
+prints_all Usage ended text start mid new a b = (b.0, appends_more start mid new text _ (subst (λ s. PrintsReplies s text start mid) (sym b.0) a) b.1)
+prints_all (Line line kind at) ended text start mid new a b = (b.0, appends_more start mid new text _ (subst (λ s. PrintsReplies s text start mid) (sym b.0) a) b.1)
+prints_all SourceFault ended text start mid new a b = (b.0, appends_more start mid new text _ (subst (λ s. PrintsReplies s text start mid) (sym b.0) a) b.1)
+prints_all NoMemory ended text start mid new a b = (b.0, appends_more start mid new text _ (subst (λ s. PrintsReplies s text start mid) (sym b.0) a) b.1)
+prints_all (TooLong line) ended text start mid new a b = (b.0, appends_more start mid new text _ (subst (λ s. PrintsReplies s text start mid) (sym b.0) a) b.1)
+
+-- a run that ended at a number may as well have ended for want of memory
+ends_short : (ended : Status) (last : Option Pool) (lines : List (List ℕ)) (input : List ℕ) → HasNumber ended → Ends ended last lines input → Ends NoMemory last lines input
+ends_short (Line line kind at) last lines input number ends = (ends.0 ∷ ends.1, ends.2)
+ends_short (TooLong line) last lines input number ends = (lines_of ends.0, ends.1)
+ends_short Done last lines input number ends = absurd number
+ends_short Usage last lines input number ends = absurd number
+ends_short SourceFault last lines input number ends = absurd number
+ends_short SinkFault last lines input number ends = absurd number
+ends_short NoMemory last lines input number ends = absurd number
+
+ends_known : (ended : Status) (last : Option Pool) (lines : List (List ℕ)) (input : Option (List ℕ)) → HasNumber ended → MatchOption input ⊤ (Ends ended last lines) → MatchOption input ⊤ (Ends NoMemory last lines)
+ends_known ended last lines None number ends = tt
+ends_known ended last lines (Some bytes) number ends = ends_short ended last lines bytes number ends
+
+shows_short : (ended : Status) (replies shown : List Reply) → HasNumber ended → Shows ended replies shown → Shows NoMemory replies shown
+shows_short (Line line kind at) replies shown number shows = inl shows
+shows_short (TooLong line) replies shown number shows = inl shows
+shows_short Done replies shown number shows = absurd number
+shows_short Usage replies shown number shows = absurd number
+shows_short SourceFault replies shown number shows = absurd number
+shows_short SinkFault replies shown number shows = absurd number
+shows_short NoMemory replies shown number shows = absurd number
+
+prints_short : (ended : Status) (text : List ℕ) (old new : Option (List ℕ)) → HasNumber ended → PrintsReplies ended text old new → PrintsReplies NoMemory text old new
+prints_short (Line line kind at) text old new number prints = prints
+prints_short (TooLong line) text old new number prints = prints
+prints_short Done text old new number prints = absurd number
+prints_short Usage text old new number prints = absurd number
+prints_short SourceFault text old new number prints = absurd number
+prints_short SinkFault text old new number prints = absurd number
+prints_short NoMemory text old new number prints = absurd number
+
+module _ {R : Type 0} (shape : R → Shape) (told : R → Option Told) (faults : R → Option ℕ → ℕ) where
+  -- want of memory for the last line is as good an end as that line
+  short_served : (ended : Status) (input start held : Option (List ℕ)) (pool : Option (Session R)) → HasNumber ended → Served shape told faults ended input start held pool → Served shape told faults NoMemory input start held pool
+  short_served ended input start held pool number is = record {
+    lines = is.lines; replies = is.replies; shown = is.shown; writes = is.writes; desk = is.desk; runs = is.runs;
+    ends = ends_known ended _ is.lines input number is.ends;
+    shows = shows_short ended is.replies is.shown number is.shows;
+    prints = prints_short ended _ start held number is.prints }
+
+  -- what was served, as the run of these words
+  run_of : (words : List (List ℕ)) (status ended : Status) (input start mid new : Option (List ℕ)) (pool : Option (Session R)) → (ended ≡ Usage → ⊥) → IsSession words
+      → (is : Served shape told faults ended input start mid pool) → Prints status ended (last_text ended) mid new → HasRun words status input start new (state_of told faults pool is.writes)
+  run_of words status ended input start mid new pool other session is last = record {
+    lines = is.lines; replies = is.replies; shown = is.shown; ended = ended;
+    usage = (λ e. absurd (other e), λ wrong. absurd (wrong session));
+    runs = is.runs; ends = is.ends; shows = is.shows;
+    prints = prints_all status ended _ start mid new is.prints last }
+
+  all_stand : (shard : Shard R) (pointers : List Pointer) (writes : List Write) (x : Told) → told shard.rack ≡ Some x → KeepsAll told shard pointers writes → AllStand x.reads writes
+  all_stand shard [] [] x is keeps = tt
+  all_stand shard [] (w ∷ ws) x is keeps = absurd keeps
+  all_stand shard (p ∷ ps) [] x is keeps = absurd keeps
+  all_stand shard (p ∷ ps) (w ∷ ws) x is keeps =
+      let stands = subst (λ t. OnTold t (λ y. Stands y.reads p.first w.bytes)) is keeps.0.holds.stands in
+      (subst (λ first. Stands x.reads first w.bytes) keeps.0.first stands, all_stand shard ps ws x is keeps.1)
+
+  stand_told : (shard : Shard R) (pointers : List Pointer) (writes : List Write) (held : Option Told) → told shard.rack ≡ held → KeepsAll told shard pointers writes → OnTold held (λ x. AllStand x.reads writes)
+  stand_told shard pointers writes None is keeps = tt
+  stand_told shard pointers writes (Some x) is keeps = all_stand shard pointers writes x is keeps
+
+  pub holds_pool : (session : Session R) (writes : List Write) (held : Option Told) → held ≡ told session.shard.rack → Represents shape told session writes → HoldsPool held (pool_of told faults session writes)
+  holds_pool session writes held is represents = record {
+    tells = ap is_some (sym is);
+    stand = stand_told session.shard session.objects.items writes held (sym is) represents.keeps }
+
+  pub holds_desk : (session : Session R) (pool : Option (Session R)) (held : Option Told) → pool ≡ Some session → held ≡ told session.shard.rack
+      → (writes : List Write) → IsDesk shape told pool writes → MatchOption (state_of told faults pool writes) ⊤ (HoldsPool held)
+  holds_desk session pool held is gives writes =
+      subst (λ p. IsDesk shape told p writes → MatchOption (state_of told faults p writes) ⊤ (HoldsPool held)) (sym is) (holds_pool session writes held gives)
+
+  -- a run whose words aren't those of a session
+  pub run_refused : (words : List (List ℕ)) (status : Status) (input old new : Option (List ℕ)) (held : Option Told) → (IsSession words → ⊥) → EndsWithLine Usage status old new → RunIs words status input old new held
+  run_refused words status input old new held wrong ended = elim ended.is [
+    | inl same ↦ record { last = None; session = record {
+        lines = []; replies = []; shown = []; ended = Usage; usage = (λ _. wrong, λ _. refl); runs = refl; ends = ends_nothing input; shows = refl;
+        prints = subst (λ m. Prints status m (last_text m) old new) same ended.prints }; shelf = tt }
+    | inr none ↦ absurd none.1
+  ] where
+    ends_nothing : (known : Option (List ℕ)) → MatchOption known ⊤ (Ends Usage None [])
+    ends_nothing None = tt
+    ends_nothing (Some bytes) = refl
+
+  -- a run of a session: what was served, the last line, and the pool on the shelf
+  pub run_served : (words : List (List ℕ)) (status ended : Status) (input start mid new : Option (List ℕ)) (pool : Option (Session R)) (held : Option Told)
+      → IsSession words → (ended ≡ Usage → ⊥) → Served shape told faults ended input start mid pool → EndsWithLine ended status mid new
+      → ((writes : List Write) → IsDesk shape told pool writes → MatchOption (state_of told faults pool writes) ⊤ (HoldsPool held))
+      → RunIs words status input start new held
+  run_served words status ended input start mid new pool held session other is line shelf = elim line.is [
+    | inl same ↦
+        let prints = subst (λ m. Prints status m (last_text m) mid new) same line.prints in
+        record { last = state_of told faults pool is.writes; session = run_of words status ended input start mid new pool other session is prints; shelf = shelf is.writes is.desk }
+    | inr none ↦
+        let prints = subst (λ m. Prints status m (last_text m) mid new) none.0 line.prints in
+        let short = short_served ended input start mid pool none.1 is in
+        record { last = state_of told faults pool short.writes; session = run_of words status NoMemory input start mid new pool (λ e. absurd (not_usage e)) session short prints; shelf = shelf short.writes short.desk }
+  ] where
+    not_usage : NoMemory ≡ Usage → ⊥
+    not_usage e = cc e

@@ -1,0 +1,7 @@
+use Rattle.std.proofs.Common.{◌≡◌, ◌∙◌, ap}
+use Rattle.draid_run.proofs.Ended.{holds_desk}
+use Rattle.draid_run.proofs.top.give_back.Goals as goal
+
+pub returns-in-Some : goal.returns-in-Some
+returns-in-Some g c =
+    holds_desk g.H.R.Rack.shape g.H.R.Rack.told g.H.R.Rack.faults c.in-Some.session c.args.pool _ c.in-Some.is (c.give.ensures.told ∙ ap g.H.R.Rack.told c.into_rack.ensures)
