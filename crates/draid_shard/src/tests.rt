@@ -42,10 +42,9 @@ fn gives_a_block_back_until_no_room_is_left(rt: HostRuntime) -> Result<(), Fail>
     let group = Encoded::of(alloc, &[5; 8192])?;
     let pointer = write(&mut shard, &hello)??;
     assert_eq!(rt; (pointer.first, pointer.stripes), (0, 1));
-    for first in [8, 16, 24] {
-        let pointer = write(&mut shard, &group)??;
-        assert_eq!(rt; (pointer.first, pointer.stripes), (first, 8));
-    }
+    assert_eq!(rt; write(&mut shard, &group)??.first, 8);
+    assert_eq!(rt; write(&mut shard, &group)??.first, 16);
+    assert_eq!(rt; write(&mut shard, &group)??.first, 24);
     assert_eq!(rt; write(&mut shard, &group), Err(BeginFault::NoRoom { largest: 7 }));
     let fetched = shard.fetch(&pointer)?;
     assert_eq!(rt; solve_block(alloc, &fetched)?.as_slice(), b"hello".as_slice());
