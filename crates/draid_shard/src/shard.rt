@@ -92,13 +92,7 @@ fn read_columns<R: Rack>(
 {
     let mut columns = Vec::new(alloc);
     for leaf in 0..COLUMNS {
-        let column = read_column(
-            alloc,
-            rack,
-            leaf,
-            pointer.first,
-            u64::from(pointer.stripes),
-        )?;
+        let column = read_column(alloc, rack, leaf, pointer.first, u64::from(pointer.stripes))?;
         columns.push(column)?;
     }
     Ok(columns)

@@ -45,9 +45,15 @@ fn gives_a_block_back_until_no_room_is_left(rt: HostRuntime) -> Result<(), Fail>
     assert_eq!(rt; write(&mut shard, &group)??.first, 8);
     assert_eq!(rt; write(&mut shard, &group)??.first, 16);
     assert_eq!(rt; write(&mut shard, &group)??.first, 24);
-    assert_eq!(rt; write(&mut shard, &group), Err(BeginFault::NoRoom { largest: 7 }));
+    assert_eq!(rt;
+        write(&mut shard, &group),
+        Err(BeginFault::NoRoom { largest: 7 })
+    );
     let fetched = shard.fetch(&pointer)?;
-    assert_eq!(rt; solve_block(alloc, &fetched)?.as_slice(), b"hello".as_slice());
+    assert_eq!(rt;
+        solve_block(alloc, &fetched)?.as_slice(),
+        b"hello".as_slice()
+    );
     Ok(())
 }
 
@@ -62,10 +68,16 @@ fn tells_what_failed(rt: HostRuntime) -> Result<(), Fail> {
     let pointer = write(&mut shard, &hello)??;
     assert_eq!(rt; pointer.first, 0);
     let fetched = shard.fetch(&pointer)?;
-    let absent = SolveFault::Unreadable { absent: 1, tried: 0 };
+    let absent = SolveFault::Unreadable {
+        absent: 1,
+        tried: 0,
+    };
     assert_eq!(rt; solve_block(alloc, &fetched).err(), Some(absent));
     let fetched = shard.fetch(&pointer)?;
-    assert_eq!(rt; solve_block(alloc, &fetched)?.as_slice(), b"hello".as_slice());
+    assert_eq!(rt;
+        solve_block(alloc, &fetched)?.as_slice(),
+        b"hello".as_slice()
+    );
     let other = Pointer { seq: 2, ..pointer };
     assert_eq!(rt; shard.fetch(&other).err(), Some(FetchFault::NotLive));
     let mut rack = shard.into_rack();
