@@ -28,29 +28,44 @@ pub fn mul_into(to: &mut [u8], by: u8, from: &[u8])
 #[cfg(test)]
 mod tests {
     use super::*;
+    use std::alloc::{AllocError, Global};
     use std::test::Fail;
+
+    fn numbered(alloc: Global, len: usize) -> Result<Vec<u8>, AllocError> {
+        let mut bytes = Vec::new(alloc);
+        for i in 0..len {
+            bytes.push((i % 251) as u8)?;
+        }
+        Ok(bytes)
+    }
+
+    fn add_by_kernels(to: &mut [u8], from: &[u8])
+        requires { length to.old ≡ length from.now }
+    {
+        xor_into(to, from);
+        for by in 0..=255 {
+            mul_into(to, by, from);
+        }
+    }
+
+    fn add_by_bytes(to: &mut [u8], from: &[u8]) {
+        for (to, byte) in to.iter_mut().zip(from) {
+            *to ^= *byte;
+            for by in 0..=255 {
+                *to ^= mul(by, *byte);
+            }
+        }
+    }
 
     // Every factor, at lengths round those of lanes.
     #[test]
     fn sums_equal_a_loop(rt: HostRuntime) -> Result<(), Fail> {
-        let mut column = Vec::from_slice(rt.alloc(), &[0; 4096])?;
-        for (i, byte) in column.iter_mut().enumerate() {
-            *byte = (i % 251) as u8;
-        }
         for len in [0, 1, 31, 32, 33, 4096] {
-            let from = &column[..len];
-            let mut sum = Vec::from_slice(rt.alloc(), &[0x5a; 4096])?;
-            let mut plain = sum.clone()?;
-            xor_into(&mut sum[..len], from);
-            for (to, byte) in plain.iter_mut().zip(from) {
-                *to ^= *byte;
-            }
-            for by in 0..=255 {
-                mul_into(&mut sum[..len], by, from);
-                for (to, byte) in plain.iter_mut().zip(from) {
-                    *to ^= mul(by, *byte);
-                }
-            }
+            let from = numbered(rt.alloc(), len)?;
+            let mut sum = from.clone()?;
+            let mut plain = from.clone()?;
+            add_by_kernels(&mut sum, &from);
+            add_by_bytes(&mut plain, &from);
             assert_eq!(rt; sum, plain, "at length {len}");
         }
         Ok(())
