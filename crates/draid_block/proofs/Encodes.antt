@@ -9,8 +9,9 @@ use Rattle.draid_block.proofs.Halves.{column-left, column-right, column-parity, 
 
 drop_min : (n : ℕ) (w : List ℕ) → drop (min n (length w)) w ≡ drop n w
 drop_min n w = elim (cases_lt (length w) n) [
-    inl lt ↦ rw (drop_all (min n (length w)) w (omega arith), drop_all n w (omega arith)) refl
-  | inr ge ↦ let e : min n (length w) ≡ n = omega arith in rw e refl ]
+  | inl lt ↦ rw (drop_all (min n (length w)) w (omega arith), drop_all n w (omega arith)) refl
+  | inr ge ↦ let e : min n (length w) ≡ n = omega arith in rw e refl
+]
 
 -- the halves as the code cuts them
 pub record Halves (w left right : List ℕ) (half : ℕ) : Type 0 where

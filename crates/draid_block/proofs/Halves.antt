@@ -19,6 +19,7 @@ pub joined-filled : (n : ℕ) (w : List ℕ) → length w ≤ n + n → joined (
 joined-filled n w h = elim (cases_lt (length w) n) [ inl lt ↦ short lt | inr ge ↦ long ge ] where
   short : length w < n → joined (filled n (take n w)) (filled n (drop n w)) (length w) ≡ w
   short lt = rw (take_all n w (omega arith), append_assoc) (take_at w _ (length w) refl)
+
   long : n ≤ length w → joined (filled n (take n w)) (filled n (drop n w)) (length w) ≡ w
   long ge =
       let full : length (take n w) ≡ n = omega (arith, length-take n w) in
@@ -34,7 +35,7 @@ pub column-right : (w : List ℕ) → column_of first_cut w 2 ≡ filled (stripe
 unfolding column_of data_column
 column-right w =
     let rest : length (drop (stripes_of first_cut (length w) * 512) w) ≤ sectors_in first_cut (length w) 1 * 512 =
-        omega (arith, sectors_right (length w), length-drop (stripes_of first_cut (length w) * 512) w) in
+    omega (arith, sectors_right (length w), length-drop (stripes_of first_cut (length w) * 512) w) in
     rw (before_right (length w), take_all _ _ rest) refl
 
 -- the parity column is the exclusive or of both

@@ -16,6 +16,7 @@ joined_parts left right len = elim (cases_lt len (length left)) [ inl lt ↦ sho
       let m : min len (length left) ≡ len = omega arith in
       let n : len - length (take len left) ≡ 0 = omega (arith, length-take len left) in
       rw (m, n, take-append-le len left right (omega arith)) (append-nil (take len left))
+
   long : length left ≤ len → take (min len (length left)) left ++ take (len - length (take (min len (length left)) left)) right ≡ joined left right len
   long ge =
       let m : min len (length left) ≡ length left = omega arith in
@@ -27,6 +28,7 @@ front : (left right : List ℕ) (len room : ℕ) → len ≤ length left + room 
 front left right len room h = elim (cases_lt len (length left)) [ inl lt ↦ short lt | inr ge ↦ long ge ] where
   short : len < length left → take len (left ++ take room right) ≡ joined left right len
   short lt = rw (take-append-le len left (take room right) (omega arith), take-append-le len left right (omega arith)) refl
+
   long : length left ≤ len → take len (left ++ take room right) ≡ joined left right len
   long ge =
       let n : length left + (len - length left) ≡ len = omega arith in
@@ -39,4 +41,4 @@ pub restored_is : (len : ℕ) (columns : List (Option (Vec ℕ Global))) (left r
 unfolding restored
 restored_is len columns left right l r long =
     rw (l, r, sectors_left len, take_all (stripes_of first_cut len * 512) left (omega arith))
-       (front left right len (sectors_in first_cut len 1 * 512) (omega (arith, sectors_right len)))
+    (front left right len (sectors_in first_cut len 1 * 512) (omega (arith, sectors_right len)))

@@ -43,7 +43,7 @@ filled len bytes = bytes ++ replicate (len - length bytes) 0
 unfoldable pub data_column : Cut → List ℕ → ℕ → List ℕ
 data_column cut w i =
     filled (stripes_of cut (length w) * cut.sector)
-        (take (sectors_in cut (length w) i * cut.sector) (drop (sectors_before cut (length w) i * cut.sector) w))
+    (take (sectors_in cut (length w) i * cut.sector) (drop (sectors_before cut (length w) i * cut.sector) w))
 
 -- the exclusive or at each byte
 abbrev pub xor_bytes : List ℕ → List ℕ → List ℕ

@@ -55,11 +55,7 @@ fn filled_to(alloc: Global, bytes: &[u8], len: usize) -> Result<Vec<u8>, NoMemor
 fn parity_of(alloc: Global, left: &[u8], right: &[u8]) -> Result<Vec<u8>, NoMemory>
     ensures { IfOk result (λ v. v.items ≡ xor_bytes left.now right.now) }
 {
-    Ok(left
-        .iter()
-        .zip(right)
-        .map(|(x, y)| *x ^ *y)
-        .collect(alloc)?)
+    Ok(left.iter().zip(right).map(|(x, y)| *x ^ *y).collect(alloc)?)
 }
 
 impl Encoded {
@@ -124,5 +120,32 @@ impl Encoded {
             1 => &self.left,
             _ => &self.right,
         }
+    }
+}
+
+#[cfg(test)]
+mod tests {
+    use super::*;
+    use std::test::Fail;
+
+    // Three sectors take two stripes: the first data column has two of them, the second one the third and a zero sector.
+    #[test]
+    fn cuts_a_block(rt: HostRuntime) -> Result<(), Fail> {
+        let mut bytes = [1; 1536];
+        bytes[512..1024].fill(2);
+        bytes[1024..].fill(0x80);
+        let block = Encoded::of(rt.alloc(), &bytes)?;
+        assert_eq!(rt; (block.stripes(), block.len()), (2, 1536));
+        let parity = block.column(0);
+        assert_eq!(rt;
+            (parity[0], parity[511], parity[512], parity[1023]),
+            (0x81, 0x81, 2, 2)
+        );
+        let right = block.column(2);
+        assert_eq!(rt;
+            (right[0], right[511], right[512], right[1023]),
+            (0x80, 0x80, 0, 0)
+        );
+        Ok(())
     }
 }

@@ -1,5 +1,5 @@
 -- One more column was read.
-use Rattle.std.proofs.Common.{◌≡◌, ◌⊎◌, ◌+◌, ◌<◌, ◌≤◌, ◌++◌, [], ◌∷◌, ℕ, zero, suc, List, Option, Some, None, Vec, Global, arith, refl, ap, inl, inr, length, slice_get, subst}
+use Rattle.std.proofs.Common.{◌≡◌, ◌⊎◌, ◌<◌, ◌≤◌, ◌++◌, [], ◌∷◌, ℕ, zero, suc, List, Option, Some, None, Vec, Global, arith, refl, ap, inl, inr, length, slice_get, subst}
 use Rattle.std.specs.Option.{IfSome, IfNone}
 use Rattle.draid_names.specs.Faults.{Rose}
 use Rattle.draid_rack.specs.Rack.{Told, OnTold}
@@ -25,16 +25,18 @@ if_none (Some w) P e h = absurd (cc)
 
 pub pushed_long : (cs new : List Column) (x : Column) (len : ℕ) → new ≡ cs ++ x ∷ [] → AreLong cs len → IfSome x (λ c. length c.items ≡ len) → AreLong new len
 pushed_long cs new x len e before here i c at = elim (last_or_before cs x (Some c) i (rw e at at)) [
-    inl earlier ↦ before i c earlier
-  | inr last ↦ if_some x c (λ c. length c.items ≡ len) last.1 here ]
+  | inl earlier ↦ before i c earlier
+  | inr last ↦ if_some x c (λ c. length c.items ≡ len) last.1 here
+]
 
 pub pushed_read : (told : Option Told) (first rows leaf : ℕ) (cs new : List Column) (x : Column) → new ≡ cs ++ x ∷ [] → length cs ≡ leaf
     → OnTold told (λ t. AreRead t.reads first rows cs) → IfSome x (λ c. OnTold told (λ t. RowsStand t.reads leaf first c.items rows))
     → OnTold told (λ t. AreRead t.reads first rows new)
 pushed_read None first rows leaf cs new x e n before here = tt
 pushed_read (Some t) first rows leaf cs new x e n before here = λ i c at. elim (last_or_before cs x (Some c) i (rw e at at)) [
-    inl earlier ↦ before i c earlier
-  | inr last ↦ rw (last.0, n) (if_some x c (λ c. RowsStand t.reads leaf first c.items rows) last.1 here) ]
+  | inl earlier ↦ before i c earlier
+  | inr last ↦ rw (last.0, n) (if_some x c (λ c. RowsStand t.reads leaf first c.items rows) last.1 here)
+]
 
 rose_since : (a b c : ℕ) → a ≤ b → Rose b c → Rose a c
 rose_since a b c h r = omega arith
@@ -46,8 +48,9 @@ pub pushed_absent : (old mid now : Option ℕ → ℕ) (leaf : ℕ) (cs new : Li
     → ((who : Option ℕ) → old who ≤ mid who) → ((who : Option ℕ) → mid who ≤ now who)
     → AbsentRose cs old mid → IfNone x (Rose (mid (Some leaf)) (now (Some leaf))) → AbsentRose new old now
 pushed_absent old mid now leaf cs new x e n a b before here i at = elim (last_or_before cs x None i (rw e at at)) [
-    inl earlier ↦ rose_later (old (Some i)) (mid (Some i)) (now (Some i)) (b (Some i)) (before i earlier)
-  | inr last ↦ rw (last.0, n) (rose_since (old (Some leaf)) (mid (Some leaf)) (now (Some leaf)) (a (Some leaf)) (if_none x (Rose (mid (Some leaf)) (now (Some leaf))) last.1 here)) ]
+  | inl earlier ↦ rose_later (old (Some i)) (mid (Some i)) (now (Some i)) (b (Some i)) (before i earlier)
+  | inr last ↦ rw (last.0, n) (rose_since (old (Some leaf)) (mid (Some leaf)) (now (Some leaf)) (a (Some leaf)) (if_none x (Rose (mid (Some leaf)) (now (Some leaf))) last.1 here))
+]
 
 -- where a column is absent there is one
 first_absent : (cs : List Column) → 0 < absent_of cs → (i : ℕ) × (slice_get cs i ≡ Some None)

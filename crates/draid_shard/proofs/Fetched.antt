@@ -32,8 +32,8 @@ column_read : (reads : ℕ → ℕ → Option (List ℕ)) (leaf first n : ℕ) (
     → RowsStand reads leaf first c n → RowsStand reads leaf first column n → c ≡ column
 column_read reads leaf first n c column lc lk rc rk =
     same_sectors c column n lc lk (λ j lt. let a = rc j lt in let b = rk j lt in some_same _ _ (sym a ∙ b)) where
-  some_same : (x y : List ℕ) → ◌≡◌ {A = Option (List ℕ)} (Some x) (Some y) → x ≡ y
-  some_same x y e = cc
+      some_same : (x y : List ℕ) → ◌≡◌ {A = Option (List ℕ)} (Some x) (Some y) → x ≡ y
+      some_same x y e = cc
 
 pub is_whole : (taken : List Bool) (entries : List (Option Entry)) (fetched : Fetched) → Tables taken entries → entry_at entries fetched.pointer.first ≡ Some (live fetched.pointer)
     → length fetched.columns.items ≡ 3 → AreLong fetched.columns.items (fetched.pointer.stripes * 512) → IsWhole fetched
@@ -52,4 +52,5 @@ holds_bytes (Some x) fetched w of count long read stands = record {
       let lt : i < 3 = omega (arith, slice_get_within fetched.columns.items i (Some c) at) in
       let n : fetched.pointer.stripes ≡ stripes_of first_cut (length w) = of.stripes in
       column_read x.reads i fetched.pointer.first fetched.pointer.stripes c.items (column_of first_cut w i) (long i c at)
-        (length-column w i lt ∙ ap (λ k. k * 512) (sym n)) (read i c at) (rw n (stands i lt)) }
+      (length-column w i lt ∙ ap (λ k. k * 512) (sym n)) (read i c at) (rw n (stands i lt));
+}

@@ -20,6 +20,7 @@ found_none taken need largest next (Some first) e h before n = absurd (cc)
 found_none taken need largest next None e h before n = record {
   some = rw n before.some;
   most = λ f m lt fits. elim (cases_lt m need) [
-    inl lower ↦ rw n (before.most f m lower fits)
-  | inr same ↦ absurd (h f (let P : ℕ → Type 0 = λ k. FitsRun taken f k in subst P (omega arith) fits)) ];
+    | inl lower ↦ rw n (before.most f m lower fits)
+    | inr same ↦ absurd (h f (let P : ℕ → Type 0 = λ k. FitsRun taken f k in subst P (omega arith) fits))
+  ];
 }

@@ -28,8 +28,9 @@ sector_here row k items into fits long =
 rows_stand : (reads : ℕ → ℕ → Option (List ℕ)) (leaf first row k : ℕ) (items into : List ℕ) → row * 512 ≤ length items → length into ≡ 512
     → RowsStand reads leaf first items row → reads leaf (first + row) ≡ Some into → RowsStand reads leaf first (put_mid (row * 512) k items into) (row + 1)
 rows_stand reads leaf first row k items into fits long before read j lt = elim (cases_lt j row) [
-    inl lower ↦ before j lower ∙ ap Some (sym (sector_below (row * 512) j k items into (omega arith) fits))
-  | inr same ↦ (let e : j ≡ row = omega arith in rw e (read ∙ ap Some (sym (sector_here row k items into fits long)))) ]
+  | inl lower ↦ before j lower ∙ ap Some (sym (sector_below (row * 512) j k items into (omega arith) fits))
+  | inr same ↦ (let e : j ≡ row = omega arith in rw e (read ∙ ap Some (sym (sector_here row k items into fits long))))
+]
 
 -- the part of a column that a row takes up
 abbrev pub row_len : ℕ → ℕ

@@ -13,8 +13,9 @@ wrote_none leaf first column (Some x) = record { stand = λ j lt. absurd (omega 
 row_stands : (leaf first row : ℕ) (column bytes : List ℕ) (x y : Told) → WritesRows leaf first column row x y → bytes ≡ sector_of column row
     → RowsStand (lands leaf (first + row) bytes y).reads leaf first column (row + 1)
 row_stands leaf first row column bytes x y h e j lt = elim (cases_lt j row) [
-    inl lower ↦ (let was = h.stand j lower in grind (arith, nat_tests, was))
-  | inr same ↦ (let i : j ≡ row = omega arith in grind (arith, nat_tests, e, i)) ]
+  | inl lower ↦ (let was = h.stand j lower in grind (arith, nat_tests, was))
+  | inr same ↦ (let i : j ≡ row = omega arith in grind (arith, nat_tests, e, i))
+]
 
 row_spares : (leaf first row rows : ℕ) (column bytes : List ℕ) (x y : Told) → WritesRows leaf first column row x y → row < rows
     → SparesOthers leaf first rows x (lands leaf (first + row) bytes y)

@@ -61,6 +61,14 @@ pub record Carries {R : Type 0} (told : R → Option Told) (shard : Shard R) (ti
   pub few : ticket.missed ≤ ticket.next
   pub stand : ticket.missed ≡ 0 → OnTold (told shard.rack) (λ x. ColumnsStand x.reads ticket.pointer.first w ticket.next)
 
+-- each write that was under way goes on as it was
+abbrev pub KeepsTickets : {R : Type 0} → (R → Option Told) → Shard R → Shard R → Type 0
+KeepsTickets told old new = (t : Ticket) (w : List ℕ) → Carries told old t w → Carries told new t w
+
+-- each write under way but for the one at a stripe goes on as it was
+abbrev pub KeepsOtherTickets : {R : Type 0} → (R → Option Told) → ℕ → Shard R → Shard R → Type 0
+KeepsOtherTickets told at old new = (t : Ticket) (w : List ℕ) → (t.pointer.first ≡ at → ⊥) → Carries told old t w → Carries told new t w
+
 -- no count of faults falls
 abbrev pub NoneFalls : (Option ℕ → ℕ) → (Option ℕ → ℕ) → Type 0
 NoneFalls old new = (who : Option ℕ) → old who ≤ new who

@@ -6,6 +6,8 @@ mod column;
 mod entry;
 mod shard;
 mod space;
+#[cfg(test)]
+mod tests;
 mod ticket;
 
 pub use shard::{BeginFault, FetchFault, Missed, Shard, ShardRefused};

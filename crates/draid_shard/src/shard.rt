@@ -92,20 +92,14 @@ fn read_columns<R: Rack>(
 {
     let mut columns = Vec::new(alloc);
     for leaf in 0..COLUMNS {
-        let column = read_column(
-            alloc,
-            rack,
-            leaf,
-            pointer.first,
-            u64::from(pointer.stripes),
-        )?;
+        let column = read_column(alloc, rack, leaf, pointer.first, u64::from(pointer.stripes))?;
         columns.push(column)?;
     }
     Ok(columns)
 }
 
 impl<R: Rack> Shard<R> {
-    ghost use Rattle.draid_shard.specs.Shard.{AddsLive, Carries, CountsMiss, HoldsBlock, IsLive, IsOf, IsOpen, KeepsBlocks, NoneFalls, SameLive, Valid, taken_of};
+    ghost use Rattle.draid_shard.specs.Shard.{AddsLive, Carries, CountsMiss, HoldsBlock, IsLive, IsOf, IsOpen, KeepsBlocks, KeepsOtherTickets, KeepsTickets, NoneFalls, SameLive, Valid, taken_of};
 
     /// An empty metaslab over a rack of leaves 0 to 2, each of 32 sectors of 512 bytes.
     pub fn create(alloc: Global, rack: R) -> Result<Shard<R>, ShardRefused<R>>
@@ -147,6 +141,7 @@ impl<R: Rack> Shard<R> {
         ensures err { OnErr result (self.new ≡ self.old) }
         ensures same { SameLive self.old self.new }
         ensures kept { KeepsBlocks R.told self.old self.new }
+        ensures tickets { KeepsTickets R.told self.old self.new }
     {
         let stripes = block.stripes();
         let Some(first) = lowest_run(&self.taken, stripes as usize) else {
@@ -188,6 +183,7 @@ impl<R: Rack> Shard<R> {
         ensures shape { R.shape self.new.rack ≡ R.shape self.old.rack }
         ensures same { SameLive self.old self.new }
         ensures kept { KeepsBlocks R.told self.old self.new }
+        ensures others { KeepsOtherTickets R.told ticket.old.pointer.first self.old self.new }
     {
         let column = ticket.next;
         let pointer = ticket.pointer;
@@ -221,6 +217,7 @@ impl<R: Rack> Shard<R> {
         ensures undone { OnErr result ((before : List Bool) → TakesLowest before (taken_of self.old) ticket.pointer.first ticket.pointer.stripes → taken_of self.new ≡ before) }
         ensures same { OnErr result (SameLive self.old self.new) }
         ensures kept { KeepsBlocks R.told self.old self.new }
+        ensures others { KeepsOtherTickets R.told ticket.pointer.first self.old self.new }
     {
         let pointer = ticket.pointer;
         if ticket.missed > 0 {
@@ -262,6 +259,7 @@ impl<R: Rack> Shard<R> {
         ensures taken { taken_of self.new ≡ taken_of self.old }
         ensures same { SameLive self.old self.new }
         ensures kept { KeepsBlocks R.told self.old self.new }
+        ensures tickets { KeepsTickets R.told self.old self.new }
     {
         if !self.is_live(pointer) {
             return Err(FetchFault::NotLive);

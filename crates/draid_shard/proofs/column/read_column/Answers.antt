@@ -23,4 +23,5 @@ loop-row-preserved g c = record {
   told = c.read.ensures.told ∙ c.loop-row.invariant.told;
   later = λ who. let a = c.loop-row.invariant.later who in let b = c.read.ensures.cause.later who in omega arith;
   long = length-after_row _ _ _ _ _ _ _ _ _ (reads_row g c);
-  stand = rows-after_row _ _ _ _ _ _ _ _ _ (reads_row g c) }
+  stand = rows-after_row _ _ _ _ _ _ _ _ _ (reads_row g c);
+}

@@ -11,4 +11,5 @@ invariant-loop-leaf g l = let rack = g.R.Rack in record {
   count : length l.columns.items ≡ l.leaf;
   long : AreLong l.columns.items (l.pointer.stripes * 512);
   stand : OnTold (rack.told l.initial.rack) (λ x. AreRead x.reads l.pointer.first l.pointer.stripes l.columns.items);
-  absent : AbsentRose l.columns.items (rack.faults l.initial.rack) (rack.faults l.rack) }
+  absent : AbsentRose l.columns.items (rack.faults l.initial.rack) (rack.faults l.rack);
+}

@@ -7,7 +7,7 @@ use Rattle.draid_block.proofs.encoded.Encoded.of.Goals as goal
 parts : (c : goal.After-digest) → Halves c.args.bytes.now c.in_ok-left.left.items c.in_ok-right.right.items (stripes_of first_cut (length c.args.bytes.now) * 512)
 parts c =
     halves c.args.bytes.now c.split_at.result.0.now c.split_at.result.1.now _ _ c.stripes_for-stripes.result c.min.result
-        c.stripes_for-stripes.ensures c.min.ensures c.split_at.ensures.front c.split_at.ensures.back c.in_ok-left.ensures c.in_ok-right.ensures
+    c.stripes_for-stripes.ensures c.min.ensures c.split_at.ensures.front c.split_at.ensures.back c.in_ok-left.ensures c.in_ok-right.ensures
 
 pub returns : goal.returns
 returns c = joined_is c.args.bytes.now c.in_ok-left.left.items c.in_ok-right.right.items (parts c)
@@ -21,4 +21,4 @@ parity_is c = c.in_ok-parity.ensures ∙ rw (c.deref.ensures.value, c.deref-2.en
 pub invariant_of-result : goal.invariant_of-result
 invariant_of-result c =
     rw c.stripes_for-stripes.ensures
-      (encodes c.args.bytes.now c.in_ok-parity.parity.items _ _ c.digest.result c.requires.some c.requires.short (parts c) (parity_is c) c.digest.ensures)
+    (encodes c.args.bytes.now c.in_ok-parity.parity.items _ _ c.digest.result c.requires.some c.requires.short (parts c) (parity_is c) c.digest.ensures)

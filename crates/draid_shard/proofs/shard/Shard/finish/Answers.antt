@@ -1,4 +1,3 @@
-use Rattle.std.proofs.Common.{◌≡◌}
 use Rattle.draid_shard.proofs.Tables.{published_tables, entry_within}
 use Rattle.draid_shard.proofs.Undone.{undone}
 use Rattle.draid_shard.proofs.shard.Shard.finish.Goals as goal
@@ -12,4 +11,5 @@ publish-requires g c = entry_within c.args.self.now.taken.items c.args.self.now.
 pub returns-clause-valid : goal.returns-clause-valid
 returns-clause-valid g c = record {
   rack = c.requires.valid.rack;
-  tables = published_tables c.args.self.now.taken.items c.args.self.now.entries.items c.publish.new.entries.items c.args.ticket.pointer c.requires.valid.tables c.requires.is_open c.publish.ensures }
+  tables = published_tables c.args.self.now.taken.items c.args.self.now.entries.items c.publish.new.entries.items c.args.ticket.pointer c.requires.valid.tables c.requires.is_open c.publish.ensures;
+}

@@ -1,0 +1,6 @@
+pub mod Computed
+pub mod Linear
+pub mod Product
+pub mod Laws
+pub mod Powers
+pub mod Kernels

@@ -1,0 +1,73 @@
+//! Sums over whole columns of bytes.
+ghost use Rattle.std.specs.Prelude.{◌≡◌, bit_xor, length};
+ghost use Rattle.std.specs.Simd.Lanes.{zip2};
+ghost use Rattle.draid_gf.specs.Field.{field_product};
+
+use crate::element::mul;
+
+/// Adds `from` to `to`, byte by byte. The two are equally long.
+pub fn xor_into(to: &mut [u8], from: &[u8])
+    requires { length to.old ≡ length from.now }
+    ensures { to.new ≡ zip2 bit_xor to.old from.now }
+{
+    for i in 0..to.len() {
+        to[i] ^= from[i];
+    }
+}
+
+/// Adds `by` times `from` to `to`, byte by byte. The two are equally long.
+pub fn mul_into(to: &mut [u8], by: u8, from: &[u8])
+    requires { length to.old ≡ length from.now }
+    ensures { to.new ≡ zip2 (λ t f. bit_xor t (field_product by f)) to.old from.now }
+{
+    for i in 0..to.len() {
+        to[i] ^= mul(by, from[i]);
+    }
+}
+
+#[cfg(test)]
+mod tests {
+    use super::*;
+    use std::alloc::{AllocError, Global};
+    use std::test::Fail;
+
+    fn numbered(alloc: Global, len: usize) -> Result<Vec<u8>, AllocError> {
+        let mut bytes = Vec::new(alloc);
+        for i in 0..len {
+            bytes.push((i % 251) as u8)?;
+        }
+        Ok(bytes)
+    }
+
+    fn add_by_kernels(to: &mut [u8], from: &[u8])
+        requires { length to.old ≡ length from.now }
+    {
+        xor_into(to, from);
+        for by in 0..=255 {
+            mul_into(to, by, from);
+        }
+    }
+
+    fn add_by_bytes(to: &mut [u8], from: &[u8]) {
+        for (to, byte) in to.iter_mut().zip(from) {
+            *to ^= *byte;
+            for by in 0..=255 {
+                *to ^= mul(by, *byte);
+            }
+        }
+    }
+
+    // Every factor, at lengths round those of lanes.
+    #[test]
+    fn sums_equal_a_loop(rt: HostRuntime) -> Result<(), Fail> {
+        for len in [0, 1, 31, 32, 33, 4096] {
+            let from = numbered(rt.alloc(), len)?;
+            let mut sum = from.clone()?;
+            let mut plain = from.clone()?;
+            add_by_kernels(&mut sum, &from);
+            add_by_bytes(&mut plain, &from);
+            assert_eq!(rt; sum, plain, "at length {len}");
+        }
+        Ok(())
+    }
+}

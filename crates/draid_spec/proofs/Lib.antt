@@ -1,0 +1,9 @@
+pub mod Layouts
+pub mod Multiples
+pub mod NamesRead
+pub mod Readings
+pub mod TextLaws
+pub mod TextLeft
+pub mod TextOnly
+pub mod TextRead
+pub mod Sizes
