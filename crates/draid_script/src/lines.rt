@@ -171,12 +171,7 @@ fn find_end<S: Source>(
 }
 
 /// The line at the front of what is held, which ends behind `len` bytes, unless there is none or it is too long.
-fn line_of(
-    alloc: Global,
-    held: &[u8],
-    len: usize,
-    given: u64,
-) -> Result<Option<Vec<u8>>, ReadFault>
+fn line_of(alloc: Global, held: &[u8], len: usize, given: u64) -> Result<Option<Vec<u8>>, ReadFault>
     requires len { len ≡ position_or_len is_end held.now }
     requires given { given ≤ most_lines }
     ensures { Cuts given held.now result }
@@ -210,11 +205,7 @@ fn longest(given: u64) -> usize
 
 /// Takes bytes until a line's end is held, or more than `longest` bytes, or the source ends. Answers how many bytes
 /// stand before the first end.
-fn fill<S: Source>(
-    held: &mut Vec<u8>,
-    longest: usize,
-    source: &mut S,
-) -> Result<usize, ReadFault>
+fn fill<S: Source>(held: &mut Vec<u8>, longest: usize, source: &mut S) -> Result<usize, ReadFault>
     requires { position_or_len is_end held.old.items ≡ length held.old.items }
     ensures takes { Takes held.old.items held.new.items (S.left source.old) (S.left source.new) }
     ensures found { IfOk result (λ len. Finds longest held.new.items (S.left source.new) len) }
