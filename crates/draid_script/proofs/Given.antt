@@ -106,7 +106,8 @@ ended_known given old held None left' keeps none ended = tt
 ended_known given old held (Some xs) None keeps none ended = absurd keeps
 ended_known given old held (Some xs) (Some ys) keeps none ended =
     let after : held ++ ys ≡ [] = rw (none, ended) refl in
-    (sym keeps ∙ after, after)
+    let before : old ++ xs ≡ [] = sym keeps ∙ after in
+    (before, after, ap lines_of before ∙ lines_none)
 
 pub given_none : (given longest len : ℕ) (old held : List ℕ) (left left' : Option (List ℕ)) → Takes old held left left' → Finds longest held left' len → held ≡ [] → (old ≡ []) × IsAtEnd left' × WhereKnown (prepend_known old left) (prepend_known held left') (λ before after. Answers given before after (Ok None))
 given_none given longest len old held left left' takes finds none =

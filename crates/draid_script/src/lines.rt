@@ -1,4 +1,4 @@
-ghost use Rattle.std.specs.Prelude.{◌≡◌, ◌≢◌, ◌+◌, ◌<◌, ◌≤◌, ◌⊎◌, ℕ, Some, None, Ok, Err, [], All, Contains, IfOk, IfSome, MatchResult, length, drop, position, vec_len};
+ghost use Rattle.std.specs.Prelude.{◌≡◌, ◌≢◌, ◌+◌, ◌<◌, ◌≤◌, ◌⊎◌, ℕ, Some, None, Ok, Err, [], All, Contains, IfOk, IfSome, MatchResult, OnErr, length, drop, position, vec_len};
 ghost use Rattle.std.specs.List.{position_or_len};
 ghost use Rattle.std.specs.Io.KnownBytes.{IsAtEnd, prepend_known};
 ghost use Rattle.draid_names.specs.Faults.{Rose};
@@ -82,6 +82,7 @@ impl Lines {
             × (self.new.given ≡ self.old.given + 1) × (self.new.given ≤ most_lines))) }
         ensures end { result ≡ Ok None → (self.old.held ≡ []) × (self.new.held ≡ [])
             × (self.new.given ≡ self.old.given) × IsAtEnd (S.left source.new) }
+        ensures count { OnErr result (self.new.given ≡ self.old.given) }
         ensures too_long { (line : ℕ) → self.old.fault ≡ None → result ≡ Err (TooLong line)
             → (line ≡ self.old.given + 1) × IsTooLong self.old.given self.new.held }
         ensures waits { Contains self.old.held 10 → source.new ≡ source.old }

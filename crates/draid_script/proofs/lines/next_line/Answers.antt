@@ -22,6 +22,13 @@ returns-in-Ok-Some-clause-line g c =
     let cut = rw c.in-Ok-Some.field-0-is at c.in-Ok-Some.ensures in
     line_parts c.args.given c.split_at.result.1.now c.in-Ok-Some.line cut
 
+pub returns-in-Ok-None-clause-answer : goal.returns-in-Ok-None-clause-answer
+returns-in-Ok-None-clause-answer g c =
+    let part : c.split_at.result.1.now ≡ drop c.find_end.new.start c.find_end.new.held.items =
+    c.split_at.ensures.back ∙ ap (drop c.find_end.new.start) c.deref.ensures.value in
+    let empty : drop c.find_end.new.start c.find_end.new.held.items ≡ [] = sym part ∙ rw c.in-Ok-None.field-0-is at c.in-Ok-None.ensures in
+    (given_none c.args.given c.longest.result c.in_ok-len.len _ _ _ _ c.in_ok-len.ensures.takes c.in_ok-len.ensures.found empty).2
+
 pub returns-in-Ok-None-clause-end : goal.returns-in-Ok-None-clause-end
 returns-in-Ok-None-clause-end g c _ =
     let part : c.split_at.result.1.now ≡ drop c.find_end.new.start c.find_end.new.held.items =
