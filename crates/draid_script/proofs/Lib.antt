@@ -2,3 +2,4 @@ pub mod Copies
 pub mod Ends
 pub mod Given
 pub mod Numbers
+pub mod Pairs

@@ -1,4 +1,4 @@
-use Rattle.std.specs.Prelude.{ℕ, ◌^◌, nat_le, List, [], ◌∷◌, length, codes, Option, None, Some, if◌then◌else◌}
+use Rattle.std.specs.Prelude.{ℕ, ⊤, ◌<◌, ◌≤◌, ◌^◌, nat_le, List, [], ◌∷◌, length, codes, Option, None, Some, if◌then◌else◌}
 use Rattle.std.specs.Str.{bytes_eq}
 use Rattle.draid_script.specs.Word.{words_of, number_of, bytes_of, below}
 use Rattle.draid_script.specs.declared.line.Line.{Line}
@@ -40,6 +40,12 @@ write_of (Some object) (Some bytes) = Some (WriteObject object bytes)
 abbrev pub read_of : Option ℕ → Option Command
 read_of None = None
 read_of (Some object) = Some (ReadObject object)
+
+-- the ranges of a command's numbers: objects are below 2^32, and a block has 1 to 131,072 bytes
+abbrev pub IsInRange : Command → Type 0
+IsInRange CreatePool = ⊤
+IsInRange (WriteObject object bytes) = (object < 2 ^ 32) × (1 ≤ length bytes) × (length bytes ≤ longest_block)
+IsInRange (ReadObject object) = object < 2 ^ 32
 
 -- `read O` and `write O HEX`
 abbrev pub command_of_words : List (List ℕ) → Option Command

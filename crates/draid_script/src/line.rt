@@ -1,5 +1,5 @@
-ghost use Rattle.std.specs.Prelude.{◌≡◌, ◌^◌, Some, None, Err, IfOk, option_map};
-ghost use Rattle.draid_script.specs.Line.{command_in, command_of, command_of_words, block_of, object_of, read_of, write_of};
+ghost use Rattle.std.specs.Prelude.{◌≡◌, ◌^◌, Some, None, Err, IfOk, IfSome, ◌<◌, ◌≤◌, length, option_map};
+ghost use Rattle.draid_script.specs.Line.{IsInRange, longest_block, command_in, command_of, command_of_words, block_of, object_of, read_of, write_of};
 ghost use Rattle.draid_script.specs.Word.{texts};
 ghost use Rattle.draid_script.specs.declared.line.ParseFault.TheVariants.{Unbuilt, NoMemory as no_memory};
 
@@ -83,6 +83,7 @@ const CREATE: &[u8] = b"create draid1:2d:3c:0s 3 sector=512 height=8 metaslabs=1
 #[tactic(auto, unfolding(crate::specs::Line::command_of))]
 pub fn parse_line(alloc: Global, text: &[u8]) -> Result<Line, ParseFault>
     ensures found { IfOk result (λ line. command_of text.now ≡ Some (command_in line)) }
+    ensures range { IfOk result (λ line. IsInRange (command_in line)) }
     ensures unbuilt { result ≡ Err Unbuilt → command_of text.now ≡ None }
 {
     if text == CREATE {
@@ -94,6 +95,7 @@ pub fn parse_line(alloc: Global, text: &[u8]) -> Result<Line, ParseFault>
 
 fn parse_words(alloc: Global, words: &[&[u8]]) -> Result<Line, ParseFault>
     ensures found { IfOk result (λ line. command_of_words (texts words.now) ≡ Some (command_in line)) }
+    ensures range { IfOk result (λ line. IsInRange (command_in line)) }
     ensures unbuilt { result ≡ Err Unbuilt → command_of_words (texts words.now) ≡ None }
 {
     match words {
@@ -105,6 +107,7 @@ fn parse_words(alloc: Global, words: &[&[u8]]) -> Result<Line, ParseFault>
 
 fn read_line(object: &[u8]) -> Result<Line, ParseFault>
     ensures found { IfOk result (λ line. read_of (object_of object.now) ≡ Some (command_in line)) }
+    ensures range { IfOk result (λ line. IsInRange (command_in line)) }
     ensures unbuilt { result ≡ Err Unbuilt → read_of (object_of object.now) ≡ None }
 {
     match object_number(object) {
@@ -115,6 +118,7 @@ fn read_line(object: &[u8]) -> Result<Line, ParseFault>
 
 fn write_line(alloc: Global, object: &[u8], hex: &[u8]) -> Result<Line, ParseFault>
     ensures found { IfOk result (λ line. write_of (object_of object.now) (block_of hex.now) ≡ Some (command_in line)) }
+    ensures range { IfOk result (λ line. IsInRange (command_in line)) }
     ensures unbuilt { result ≡ Err Unbuilt → write_of (object_of object.now) (block_of hex.now) ≡ None }
 {
     match (object_number(object), block(alloc, hex)?) {
@@ -125,14 +129,16 @@ fn write_line(alloc: Global, object: &[u8], hex: &[u8]) -> Result<Line, ParseFau
 
 /// The number of an object.
 fn object_number(word: &[u8]) -> Option<u64>
-    ensures { result ≡ object_of word.now }
+    ensures value { result ≡ object_of word.now }
+    ensures range { IfSome result (λ object. object < 2 ^ 32) }
 {
     number(word).filter(|object| *object < OBJECTS)
 }
 
 /// The bytes of a block.
 fn block(alloc: Global, word: &[u8]) -> Result<Option<Vec<u8>>, NoMemory>
-    ensures { IfOk result (λ found. option_map (λ bytes. bytes.items) found ≡ block_of word.now) }
+    ensures value { IfOk result (λ found. option_map (λ bytes. bytes.items) found ≡ block_of word.now) }
+    ensures range { IfOk result (λ found. IfSome found (λ bytes. (1 ≤ length bytes.items) × (length bytes.items ≤ longest_block))) }
 {
     Ok(bytes(alloc, word)?.filter(|bytes| bytes.len() <= LONGEST_BLOCK))
 }

@@ -1,4 +1,4 @@
-ghost use Rattle.std.specs.Prelude.{◌≡◌, IfOk, option_map};
+ghost use Rattle.std.specs.Prelude.{◌≡◌, ◌≤◌, IfOk, IfSome, length, option_map};
 ghost use Rattle.draid_script.specs.Word as spec;
 ghost use Rattle.draid_script.specs.Word.{words_of, number_of, bytes_of, texts};
 
@@ -40,9 +40,10 @@ fn begins_number(word: &[u8]) -> bool
 }
 
 /// The bytes that the word is in pairs of hex digits of either case, at least one pair.
-#[tactic(auto, unfolding(crate::specs::Word::bytes_of))]
+#[tactic(auto, unfolding(crate::specs::Word::bytes_of), using(crate::proofs::Pairs::decodes_some))]
 pub fn bytes(alloc: Global, word: &[u8]) -> Result<Option<Vec<u8>>, NoMemory>
-    ensures { IfOk result (λ found. option_map (λ bytes. bytes.items) found ≡ bytes_of word.now) }
+    ensures value { IfOk result (λ found. option_map (λ bytes. bytes.items) found ≡ bytes_of word.now) }
+    ensures some { IfOk result (λ found. IfSome found (λ bytes. 1 ≤ length bytes.items)) }
 {
     if word.is_empty() {
         return Ok(None);
