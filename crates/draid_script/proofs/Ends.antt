@@ -1,5 +1,5 @@
 -- Where the first end of a line stands in bytes that are put together, and what lines they have.
-use Rattle.std.proofs.Common.{◌≡◌, ◌≢◌, ℕ, ◌+◌, ◌<◌, ◌≤◌, ◌⊎◌, ◌==◌, Bool, true, false, cond, not, List, [], ◌∷◌, ◌++◌, length, drop, get_or, Option, Some, None, refl, sym, ap, ◌∙◌, subst, inl, inr, arith, length-append, length-take, get_or-take, drop_at, All, Contains, position}
+use Rattle.std.proofs.Common.{◌≡◌, ◌≢◌, ℕ, ◌+◌, ◌<◌, ◌≤◌, ◌==◌, Bool, true, false, cond, not, List, [], ◌∷◌, ◌++◌, length, drop, get_or, Some, None, refl, sym, ap, ◌∙◌, inl, inr, arith, length-append, length-take, get_or-take, drop_at, All, Contains, position}
 use Rattle.std.specs.List.{slice_split, before_first, after_first, position_or_len}
 use Rattle.std.proofs.lemmas.Bool.{cond_both, lt-ltb, le-ltb, cases_lt, eq-eqb, ne_eqb, cond-false, both_ways}
 use Rattle.std.proofs.lemmas.List.Sums.{fails_before_first}
@@ -33,20 +33,20 @@ position-append_some (byte ∷ front) bytes some =
 pub position_none : (bytes : List ℕ) → position is_end bytes ≡ None → position_or_len is_end bytes ≡ length bytes
 position_none bytes none =
     elim (cases_lt (position_or_len is_end bytes) (length bytes)) [
-      inl h ↦ let some : position is_end bytes ≡ Some (position_or_len is_end bytes) = rw (lt-ltb (position_or_len is_end bytes) (length bytes) h) refl in cc
-    | inr h ↦ omega (arith, position-le bytes)
+      | inl h ↦ let some : position is_end bytes ≡ Some (position_or_len is_end bytes) = rw (lt-ltb (position_or_len is_end bytes) (length bytes) h) refl in cc
+      | inr h ↦ omega (arith, position-le bytes)
     ]
 
 pub position_some : (bytes : List ℕ) (len : ℕ) → position is_end bytes ≡ Some len → (len ≡ position_or_len is_end bytes) × (len < length bytes)
 position_some bytes len some =
     elim (cases_lt (position_or_len is_end bytes) (length bytes)) [
-      inl h ↦
-        let found : position is_end bytes ≡ Some (position_or_len is_end bytes) = rw (lt-ltb (position_or_len is_end bytes) (length bytes) h) refl in
-        let same : len ≡ position_or_len is_end bytes = cc in
-        (same, omega arith)
-    | inr h ↦
-        let none : position is_end bytes ≡ None = rw (le-ltb (position_or_len is_end bytes) (length bytes) h) refl in
-        cc
+      | inl h ↦
+          let found : position is_end bytes ≡ Some (position_or_len is_end bytes) = rw (lt-ltb (position_or_len is_end bytes) (length bytes) h) refl in
+          let same : len ≡ position_or_len is_end bytes = cc in
+          (same, omega arith)
+      | inr h ↦
+          let none : position is_end bytes ≡ None = rw (le-ltb (position_or_len is_end bytes) (length bytes) h) refl in
+          cc
     ]
 
 -- what was searched has no end, and behind it some bytes were added

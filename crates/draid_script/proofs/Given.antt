@@ -1,5 +1,5 @@
 -- What is answered where the source tells, from what the held bytes have.
-use Rattle.std.proofs.Common.{◌≡◌, ◌≢◌, ℕ, ◌+◌, ◌<◌, ◌≤◌, ◌==◌, ◌⊎◌, List, [], ◌∷◌, ◌++◌, length, take, drop, min, All, Option, Some, None, Result, Ok, Err, refl, sym, ap, ◌∙◌, subst, inl, inr, arith, append_assoc, length-append, length-take, append-nil}
+use Rattle.std.proofs.Common.{◌≡◌, ◌≢◌, ℕ, ◌+◌, ◌<◌, ◌≤◌, ◌==◌, ◌⊎◌, List, [], ◌∷◌, ◌++◌, length, take, drop, min, All, Option, Some, None, Ok, Err, refl, sym, ap, ◌∙◌, subst, inl, inr, arith, append_assoc, length-append, length-take, append-nil}
 use Rattle.std.proofs.lemmas.List.{drop-append-le, drop-drop, take-append-le, take_all, drop_all, drop_min, nil_from_length}
 use Rattle.std.proofs.lemmas.List.Elements.{All-same}
 use Rattle.std.specs.Io.KnownBytes.{IsAtEnd, Keeps, prepend_known}
@@ -39,40 +39,40 @@ line_with_end : (given : ℕ) (held left : List ℕ) (line : Vec ℕ Global) →
 line_with_end given held left line cut some =
     let first : position_or_len is_end (held ++ left) ≡ position_or_len is_end held = position-append_some held left some in
     let before : before_first is_end (held ++ left) ≡ line.items =
-        ap (λ n. take n (held ++ left)) first ∙ take-append-le (position_or_len is_end held) held left (omega arith) ∙ sym cut.0 in
+    ap (λ n. take n (held ++ left)) first ∙ take-append-le (position_or_len is_end held) held left (omega arith) ∙ sym cut.0 in
     let after : after_first is_end (held ++ left) ≡ after_first is_end held ++ left =
-        ap (λ n. drop (n + 1) (held ++ left)) first ∙ drop-append-le (position_or_len is_end held + 1) held left (omega arith) in
+    ap (λ n. drop (n + 1) (held ++ left)) first ∙ drop-append-le (position_or_len is_end held + 1) held left (omega arith) in
     let more : position_or_len is_end (held ++ left) < length (held ++ left) = omega (arith, length-append held left) in
     let lines : lines_of (held ++ left) ≡ line.items ∷ lines_of (after_first is_end held ++ left) =
-        lines_first (held ++ left) more ∙ ap (λ (part : List ℕ). part ∷ lines_of (after_first is_end (held ++ left))) before
-        ∙ ap (λ (rest : List ℕ). line.items ∷ lines_of rest) after in
+    lines_first (held ++ left) more ∙ ap (λ (part : List ℕ). part ∷ lines_of (after_first is_end (held ++ left))) before
+    ∙ ap (λ (rest : List ℕ). line.items ∷ lines_of rest) after in
     (lines, not_too_long given (held ++ left) line.items before cut.2 cut.3)
 
 -- where nothing is left, the held bytes may lack it
 line_without_end : (given : ℕ) (held : List ℕ) (line : Vec ℕ Global) → Cuts given held (Ok (Some line)) → Answers given held (after_first is_end held) (Ok (Some line))
 line_without_end given held line cut =
     elim (cases_lt (position_or_len is_end held) (length held)) [
-      inl some ↦ (lines_first held some ∙ ap (λ (part : List ℕ). part ∷ lines_of (after_first is_end held)) (sym cut.0), not_too_long given held line.items (sym cut.0) cut.2 cut.3)
-    | inr h ↦
-        let none : position_or_len is_end held ≡ length held = omega (arith, position-le held) in
-        let whole : line.items ≡ held = cut.0 ∙ take_all (position_or_len is_end held) held (omega arith) in
-        let rest : after_first is_end held ≡ [] = drop_all (position_or_len is_end held + 1) held (omega arith) in
-        let lines : lines_of held ≡ line.items ∷ lines_of (after_first is_end held) =
-            lines_last held none cut.1 ∙ ap (λ (part : List ℕ). part ∷ []) (sym whole) ∙ ap (λ (more : List (List ℕ)). line.items ∷ more) (sym (ap lines_of rest ∙ lines_none)) in
-        (lines, not_too_long given held line.items (sym cut.0) cut.2 cut.3)
+      | inl some ↦ (lines_first held some ∙ ap (λ (part : List ℕ). part ∷ lines_of (after_first is_end held)) (sym cut.0), not_too_long given held line.items (sym cut.0) cut.2 cut.3)
+      | inr h ↦
+          let none : position_or_len is_end held ≡ length held = omega (arith, position-le held) in
+          let whole : line.items ≡ held = cut.0 ∙ take_all (position_or_len is_end held) held (omega arith) in
+          let rest : after_first is_end held ≡ [] = drop_all (position_or_len is_end held + 1) held (omega arith) in
+          let lines : lines_of held ≡ line.items ∷ lines_of (after_first is_end held) =
+          lines_last held none cut.1 ∙ ap (λ (part : List ℕ). part ∷ []) (sym whole) ∙ ap (λ (more : List (List ℕ)). line.items ∷ more) (sym (ap lines_of rest ∙ lines_none)) in
+          (lines, not_too_long given held line.items (sym cut.0) cut.2 cut.3)
     ]
 
 -- the end of a line is held, or nothing is left
 held_or_at_end : (given len : ℕ) (held left : List ℕ) (line : Vec ℕ Global) → Finds (longest_after given) held (Some left) len → Cuts given held (Ok (Some line)) → (position_or_len is_end held < length held) ⊎ (left ≡ [])
 held_or_at_end given len held left line finds cut = elim finds.enough [
-    inl some ↦ inl (omega (arith, finds.first))
+  | inl some ↦ inl (omega (arith, finds.first))
   | inr more ↦ elim more [
-      inl long ↦
+    | inl long ↦
         let limit : longest_after given ≡ longest_line = cond-false (given == most_lines) 0 longest_line (ne_eqb given most_lines (omega (arith, cut.2))) in
         inl (omega (arith, cut.3, ap length cut.0, length-before_first held, position-le held))
     | inr ended ↦ inr ended
-    ]
   ]
+]
 
 -- what stands behind a line and its end
 pub behind_line : (items : List ℕ) (start len count next : ℕ) → count ≡ length items → len ≡ position_or_len is_end (drop start items) → next ≡ min count (start + len + 1) → drop next items ≡ after_first is_end (drop start items)
@@ -90,8 +90,8 @@ given_line given len old held rest (Some xs) (Some ys) line takes finds cut behi
     let R : List ℕ → List ℕ → Type 0 = λ before after. Answers given before after (Ok (Some line)) in
     let all : R (held ++ []) (after_first is_end held ++ []) = rw (append-nil held, append-nil (after_first is_end held)) (line_without_end given held line cut) in
     let answers : R (old ++ xs) (after_first is_end held ++ ys) = subst P takes.keeps (elim (held_or_at_end given len held ys line finds cut) [
-      inl some ↦ line_with_end given held ys line cut some
-    | inr ended ↦ subst Q (sym ended) all
+      | inl some ↦ line_with_end given held ys line cut some
+      | inr ended ↦ subst Q (sym ended) all
     ]) in
     let S : List ℕ → Type 0 = λ rest. Answers given (old ++ xs) (rest ++ ys) (Ok (Some line)) in
     subst S (sym behind) answers
@@ -106,24 +106,25 @@ ended_known given old held None left' keeps none ended = tt
 ended_known given old held (Some xs) None keeps none ended = absurd keeps
 ended_known given old held (Some xs) (Some ys) keeps none ended =
     let after : held ++ ys ≡ [] = rw (none, ended) refl in
-    (sym keeps ∙ after, after)
+    let before : old ++ xs ≡ [] = sym keeps ∙ after in
+    (before, after, ap lines_of before ∙ lines_none)
 
 pub given_none : (given longest len : ℕ) (old held : List ℕ) (left left' : Option (List ℕ)) → Takes old held left left' → Finds longest held left' len → held ≡ [] → (old ≡ []) × IsAtEnd left' × WhereKnown (prepend_known old left) (prepend_known held left') (λ before after. Answers given before after (Ok None))
 given_none given longest len old held left left' takes finds none =
     let empty : length held ≡ 0 = ap length none in
     let begun : old ≡ [] = nil_from_length old (omega (arith, ap length takes.more.1, length-append old takes.more.0)) in
     let ended : IsAtEnd left' = elim finds.enough [
-        inl some ↦ let no : ⊥ = omega arith in absurd no
+      | inl some ↦ let no : ⊥ = omega arith in absurd no
       | inr more ↦ elim more [ inl long ↦ let no : ⊥ = omega arith in absurd no | inr ended ↦ ended ]
-      ] in
+    ] in
     (begun, ended, ended_known given old held left left' takes.keeps none ended)
 
 -- more bytes don't make a line shorter
 too_long_more : (given : ℕ) (held left : List ℕ) → IsTooLong given held → IsTooLong given (held ++ left)
 too_long_more given held left (inl long) =
     elim (cases_lt (position_or_len is_end held) (length held)) [
-      inl some ↦ inl (omega (arith, length-before_first held, length-before_first (held ++ left), position-append_some held left some))
-    | inr h ↦ inl (omega (arith, length-before_first held, length-before_first (held ++ left), position-append_none held left (omega (arith, position-le held)), position-le held))
+      | inl some ↦ inl (omega (arith, length-before_first held, length-before_first (held ++ left), position-append_some held left some))
+      | inr h ↦ inl (omega (arith, length-before_first held, length-before_first (held ++ left), position-append_none held left (omega (arith, position-le held)), position-le held))
     ]
 too_long_more given held left (inr more) =
     inr (more.0, λ none. more.1 (nil_from_length held (omega (arith, ap length none, length-append held left))))

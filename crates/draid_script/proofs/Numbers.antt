@@ -1,6 +1,6 @@
 -- What the parse of a word says of the number that it is.
-use Rattle.std.proofs.Common.{◌≡◌, ◌≢◌, ℕ, ◌+◌, ◌^◌, ◌<◌, ◌==◌, ◌&&◌, ◌⊎◌, Bool, true, false, List, [], ◌∷◌, length, get_or, Option, Some, None, Result, Ok, Err, refl, sym, ap, ◌∙◌, inl, inr, arith, nat_lt, nat_le}
-use Rattle.std.specs.Str.{IsAscii, IsUtf8, all_ascii_digits}
+use Rattle.std.proofs.Common.{◌≡◌, ◌≢◌, ℕ, ◌^◌, ◌<◌, ◌==◌, ◌&&◌, true, false, List, [], ◌∷◌, length, get_or, Some, None, Result, Ok, Err, sym, ap, ◌∙◌, inl, inr, arith, nat_le}
+use Rattle.std.specs.Str.{IsUtf8, all_ascii_digits}
 use Rattle.std.specs.Str.Parse.{ParsesUnsigned, digits_value}
 use Rattle.std.specs.Result.{OkIff, result_ok}
 use Rattle.std.proofs.lemmas.Bool.{and_from, and_parts, cond-true, cond-false, eqb-true, false_from_ne_true, leb-true, lt-ltb, ltb-true, or_cases}
@@ -18,8 +18,8 @@ begins_plain : (word : List ℕ) → begins_number word ≡ true → (get_or wor
 begins_plain [] begins = cc
 begins_plain (digit ∷ digits) begins =
     elim (or_cases (digit == 48 && length digits == 0) (nat_le 49 digit && nat_le digit 57) begins) [
-      inl zero ↦ (λ same. omega (arith, eqb-true digit 48 (and_parts (digit == 48) (length digits == 0) zero).0), omega arith)
-    | inr more ↦ (λ same. omega (arith, leb-true 49 digit (and_parts (nat_le 49 digit) (nat_le digit 57) more).0), omega arith)
+      | inl zero ↦ (λ same. omega (arith, eqb-true digit 48 (and_parts (digit == 48) (length digits == 0) zero).0), omega arith)
+      | inr more ↦ (λ same. omega (arith, leb-true 49 digit (and_parts (nat_le 49 digit) (nat_le digit 57) more).0), omega arith)
     ]
 
 -- the number is found where the three tests pass
@@ -27,15 +27,15 @@ number_is : (word : List ℕ) → begins_number word ≡ true → all_ascii_digi
 unfolding number_of
 number_is word begins digits small =
     cond-true _ (Some (digits_value 10 word)) None
-      (and_from _ _ (and_from _ _ begins digits) (lt-ltb (digits_value 10 word) (2 ^ 64) small))
+    (and_from _ _ (and_from _ _ begins digits) (lt-ltb (digits_value 10 word) (2 ^ 64) small))
 
 number_isnt : (word : List ℕ) → (begins_number word ≡ true → all_ascii_digits word ≡ true → digits_value 10 word < 2 ^ 64 → ⊥) → number_of word ≡ None
 unfolding number_of
 number_isnt word fails =
     cond-false _ (Some (digits_value 10 word)) None (false_from_ne_true _ (λ all.
-      let parts = and_parts _ _ all in
-      let front = and_parts _ _ parts.0 in
-      fails front.0 front.1 (ltb-true (digits_value 10 word) (2 ^ 64) parts.1)))
+    let parts = and_parts _ _ all in
+    let front = and_parts _ _ parts.0 in
+    fails front.0 front.1 (ltb-true (digits_value 10 word) (2 ^ 64) parts.1)))
 
 read_plain : {E : Type 0} (word : List ℕ) (r : Result ℕ E) → begins_number word ≡ true → OkIff r ((all_ascii_digits word ≡ true) × (0 < length word) × (digits_value 10 word < 2 ^ 64)) (digits_value 10 word) → result_ok r ≡ number_of word
 read_plain word (Ok n) begins read = ap (λ (n : ℕ). Some n) read.1 ∙ sym (number_is word begins read.0.0 read.0.2)

@@ -43,7 +43,7 @@ pub record Rest : Type 0 where
 
 -- What is answered after so many lines, where the bytes to come before and after the call are known.
 abbrev pub Answers : ℕ → List ℕ → List ℕ → Result (Option (Vec ℕ Global)) ReadFault → Type 0
-Answers given old new (Ok None) = (old ≡ []) × (new ≡ [])
+Answers given old new (Ok None) = (old ≡ []) × (new ≡ []) × (lines_of old ≡ [])
 Answers given old new (Ok (Some line)) = (lines_of old ≡ line.items ∷ lines_of new) × (IsTooLong given old → ⊥)
 Answers given old new (Err (TooLong line)) = IsTooLong given old × (new ≡ old)
 Answers given old new (Err SourceFault) = new ≡ old

@@ -7,6 +7,8 @@ mod lines;
 mod reply;
 mod sink;
 mod source;
+#[cfg(test)]
+mod tests;
 mod word;
 
 pub use line::{CommandName, Line, ParseFault, parse_line};

@@ -1,4 +1,4 @@
-ghost use Rattle.std.specs.Prelude.{◌≡◌, ◌≢◌, ◌+◌, ◌<◌, ◌≤◌, ◌⊎◌, ℕ, Some, None, Ok, Err, [], All, Contains, IfOk, IfSome, MatchResult, length, drop, position, vec_len};
+ghost use Rattle.std.specs.Prelude.{◌≡◌, ◌≢◌, ◌+◌, ◌<◌, ◌≤◌, ◌⊎◌, ℕ, Some, None, Ok, Err, [], All, Contains, IfOk, IfSome, MatchResult, OnErr, length, drop, position, vec_len};
 ghost use Rattle.std.specs.List.{position_or_len};
 ghost use Rattle.std.specs.Io.KnownBytes.{IsAtEnd, prepend_known};
 ghost use Rattle.draid_names.specs.Faults.{Rose};
@@ -82,6 +82,7 @@ impl Lines {
             × (self.new.given ≡ self.old.given + 1) × (self.new.given ≤ most_lines))) }
         ensures end { result ≡ Ok None → (self.old.held ≡ []) × (self.new.held ≡ [])
             × (self.new.given ≡ self.old.given) × IsAtEnd (S.left source.new) }
+        ensures count { OnErr result (self.new.given ≡ self.old.given) }
         ensures too_long { (line : ℕ) → self.old.fault ≡ None → result ≡ Err (TooLong line)
             → (line ≡ self.old.given + 1) × IsTooLong self.old.given self.new.held }
         ensures waits { Contains self.old.held 10 → source.new ≡ source.old }
@@ -171,12 +172,7 @@ fn find_end<S: Source>(
 }
 
 /// The line at the front of what is held, which ends behind `len` bytes, unless there is none or it is too long.
-fn line_of(
-    alloc: Global,
-    held: &[u8],
-    len: usize,
-    given: u64,
-) -> Result<Option<Vec<u8>>, ReadFault>
+fn line_of(alloc: Global, held: &[u8], len: usize, given: u64) -> Result<Option<Vec<u8>>, ReadFault>
     requires len { len ≡ position_or_len is_end held.now }
     requires given { given ≤ most_lines }
     ensures { Cuts given held.now result }
@@ -210,11 +206,7 @@ fn longest(given: u64) -> usize
 
 /// Takes bytes until a line's end is held, or more than `longest` bytes, or the source ends. Answers how many bytes
 /// stand before the first end.
-fn fill<S: Source>(
-    held: &mut Vec<u8>,
-    longest: usize,
-    source: &mut S,
-) -> Result<usize, ReadFault>
+fn fill<S: Source>(held: &mut Vec<u8>, longest: usize, source: &mut S) -> Result<usize, ReadFault>
     requires { position_or_len is_end held.old.items ≡ length held.old.items }
     ensures takes { Takes held.old.items held.new.items (S.left source.old) (S.left source.new) }
     ensures found { IfOk result (λ len. Finds longest held.new.items (S.left source.new) len) }

@@ -9,9 +9,13 @@ use std::alloc::{AllocError, Global};
 #[derive(Debug, Drop)]
 pub enum Reply {
     /// The pool `draid1:2d:3c:0s-0` was created, with so many stripes.
-    Created { stripes: u64 },
+    Created {
+        stripes: u64,
+    },
     /// The object has the bytes of the `write`.
-    Written { object: u64 },
+    Written {
+        object: u64,
+    },
     /// No metaslab has room for the block of a `write`. `run` is the longest run of free stripes in the metaslabs
     /// that could take a block; the others are disabled, full or worn.
     NoSpace {
@@ -22,11 +26,19 @@ pub enum Reply {
         worn: u32,
     },
     /// So many columns of the block of a `write` landed nowhere, and the object has its earlier bytes.
-    Missed { object: u64, columns: u32 },
+    Missed {
+        object: u64,
+        columns: u32,
+    },
     /// The object's bytes.
-    Contents { object: u64, bytes: Vec<u8> },
+    Contents {
+        object: u64,
+        bytes: Vec<u8>,
+    },
     /// The object of a `read` was never written.
-    NoObject { object: u64 },
+    NoObject {
+        object: u64,
+    },
     /// The bytes of the object can't be found again: so many columns are absent, and so many sets of columns
     /// were tried.
     Unreadable {
@@ -35,7 +47,9 @@ pub enum Reply {
         tried: u64,
     },
     /// The command was refused for want of memory.
-    NoMemory { command: CommandName },
+    NoMemory {
+        command: CommandName,
+    },
 }
 
 /// The line that the reply is printed as, its end included.
@@ -60,8 +74,8 @@ fn text(alloc: Global, reply: &Reply) -> Result<String, AllocError>
             disabled,
             full,
             worn,
-        } => format!(
-            in alloc; "write {object} no space run={run} disabled={disabled} full={full} worn={worn}\n"
+        } => format!(in alloc;
+            "write {object} no space run={run} disabled={disabled} full={full} worn={worn}\n"
         ),
         Reply::Missed { object, columns } => {
             format!(in alloc; "write {object} missed columns={columns}\n")
@@ -72,9 +86,7 @@ fn text(alloc: Global, reply: &Reply) -> Result<String, AllocError>
             object,
             absent,
             tried,
-        } => {
-            format!(in alloc; "read {object} unreadable absent={absent} tried={tried}\n")
-        }
+        } => { format!(in alloc; "read {object} unreadable absent={absent} tried={tried}\n") }
         Reply::NoMemory { command } => {
             let name = command.text();
             format!(in alloc; "{name} no memory\n")

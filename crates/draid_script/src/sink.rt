@@ -1,4 +1,4 @@
-ghost use Rattle.std.specs.Prelude.{◌≡◌, ◌+◌, ◌-◌, ◌^◌, ◌<◌, ◌⊎◌, ℕ, List, Option, Some, Contains, IsErr, OnErr, length, min, []};
+ghost use Rattle.std.specs.Prelude.{◌≡◌, ◌+◌, ◌-◌, ◌^◌, ◌<◌, ◌⊎◌, ℕ, List, Option, Some, Contains, IsErr, MatchResult, OnErr, length, min, []};
 ghost use Rattle.draid_names.specs.Faults.{HasCause};
 ghost use Rattle.draid_script.specs.Sink.{PutAppends};
 
@@ -36,11 +36,11 @@ impl Model for MemorySink {
     ghost Value = { SinkState };
 
     ghost view = { λ s. record {
-        held = s.bytes.items;
-        room = vec_capacity s.bytes;
-        calls = s.calls;
-        failing = s.failing.items;
-        faults = s.faults;
+      held = s.bytes.items;
+      room = vec_capacity s.bytes;
+      calls = s.calls;
+      failing = s.failing.items;
+      faults = s.faults;
     } };
 }
 
@@ -82,6 +82,8 @@ impl Sink for MemorySink {
         ensures full { OnErr result (Contains self.old.failing self.old.calls
             ⊎ (self.old.room < length self.old.held + length bytes.now)) }
         ensures err { OnErr result (self.new.held ≡ self.old.held) }
+        ensures counted { MatchResult result (λ _. self.new.faults ≡ self.old.faults)
+            (λ _. self.new.faults ≡ min (self.old.faults + 1) (2 ^ 64 - 1)) }
         ensures calls { self.new.calls ≡ min (self.old.calls + 1) (2 ^ 64 - 1) }
         ensures failing { self.new.failing ≡ self.old.failing }
     {

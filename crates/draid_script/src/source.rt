@@ -1,4 +1,4 @@
-ghost use Rattle.std.specs.Prelude.{◌≡◌, ◌+◌, ◌-◌, ◌^◌, ◌↔◌, ℕ, List, Option, Some, Contains, IsErr, min, length, take, drop, ◌++◌};
+ghost use Rattle.std.specs.Prelude.{◌≡◌, ◌+◌, ◌-◌, ◌^◌, ◌↔◌, ℕ, List, Option, Some, Contains, IfOk, IsErr, MatchResult, min, length, take, drop, ◌++◌};
 ghost use Rattle.std.specs.Io.{ReadsAtMost};
 ghost use Rattle.std.specs.Io.KnownBytes.{ReadConsumes};
 ghost use Rattle.draid_names.specs.Faults.{HasCause};
@@ -39,10 +39,10 @@ impl Model for MemorySource {
     ghost Value = { SourceState };
 
     ghost view = { λ s. record {
-        left = drop s.start s.bytes.items;
-        calls = s.calls;
-        failing = s.failing.items;
-        faults = s.faults;
+      left = drop s.start s.bytes.items;
+      calls = s.calls;
+      failing = s.failing.items;
+      faults = s.faults;
     } };
 
     ghost invariant = { λ s. s.start ≤ vec_len s.bytes };
@@ -76,8 +76,13 @@ impl Source for MemorySource {
         ensures bytes { ReadConsumes (Some self.old.left) (Some self.new.left) result into.new }
         ensures cause { HasCause self.old.faults self.new.faults result }
 
+        // It gives as many bytes as are left and fit.
+        ensures count { IfOk result (λ taken. taken ≡ min (length self.old.left) (length into.old)) }
+
         // It fails exactly where the list names the call.
         ensures listed { IsErr result ↔ Contains self.old.failing self.old.calls }
+        ensures counted { MatchResult result (λ _. self.new.faults ≡ self.old.faults)
+            (λ _. self.new.faults ≡ min (self.old.faults + 1) (2 ^ 64 - 1)) }
         ensures calls { self.new.calls ≡ min (self.old.calls + 1) (2 ^ 64 - 1) }
         ensures failing { self.new.failing ≡ self.old.failing }
     {

@@ -1,5 +1,4 @@
-use Rattle.std.proofs.Common.{rules, arith, length, position, drop, ◌≡◌, Some, None, inl}
-use Rattle.draid_script.specs.Lines.{is_end}
+use Rattle.std.proofs.Common.{rules, arith, inl}
 use Rattle.draid_script.proofs.Ends.{found_behind, none_behind}
 use Rattle.draid_script.proofs.Given.{takes_more}
 use Rattle.draid_script.proofs.lines.fill.Goals as goal
