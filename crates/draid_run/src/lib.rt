@@ -6,6 +6,8 @@ mod serve;
 mod session;
 mod status;
 mod store;
+#[cfg(test)]
+mod tests;
 mod top;
 
 pub use status::Status;
