@@ -7,9 +7,8 @@ mod adapters;
 use adapters::{Input, Output};
 use draid_run::{Status, run};
 use draid_shelf::MemoryShelf;
-use std::env;
-use std::io;
 use std::process::ExitCode;
+use std::{env, io};
 
 /// The words behind the program's name.
 fn words(rt: &HostRuntime) -> io::Result<Vec<String>> {

@@ -1,6 +1,6 @@
 -- A run that has ended: what was served, and then the last line.
-use Rattle.std.proofs.Common.{arith, refl, sym, ap, subst, ◌≡◌, ◌∙◌, ◌↔◌, ◌⊎◌, inl, inr, ℕ, List, [], ◌∷◌, ◌++◌, length, Option, Some, None, MatchOption, is_some}
-use Rattle.std.specs.Prelude.{⊤, flat_map}
+use Rattle.std.proofs.Common.{arith, refl, sym, ap, subst, ◌≡◌, ◌∙◌, inl, inr, ℕ, List, [], ◌∷◌, ◌++◌, length, Option, Some, None, MatchOption, is_some}
+use Rattle.std.specs.Prelude.{⊤}
 use Rattle.std.specs.Io.KnownBytes.{Appends}
 use Rattle.std.proofs.lemmas.List.{append-nil}
 use Rattle.draid_names.specs.declared.pointer.Pointer.{Pointer}
@@ -8,18 +8,17 @@ use Rattle.draid_rack.specs.Rack.{Shape, Told, OnTold}
 use Rattle.draid_shard.specs.declared.shard.Shard.{Shard}
 use Rattle.draid_shard.specs.Columns.{Stands}
 use Rattle.draid_script.specs.Lines.{lines_of}
-use Rattle.draid_script.specs.Reply.{text_of}
 use Rattle.draid_script.specs.Sink.{AppendsFront}
 use Rattle.draid_script.specs.declared.reply.Reply.{Reply}
-use Rattle.draid_run.specs.State.{Pool, Runs, Write}
-use Rattle.draid_run.specs.Script.{AllStand, Ends, EndsWithLine, HasRun, HoldsPool, IsSession, Prints, RunIs, Shows, printed_text}
+use Rattle.draid_run.specs.State.{Pool, Write}
+use Rattle.draid_run.specs.Script.{AllStand, Ends, EndsWithLine, HasRun, HoldsPool, IsSession, Prints, RunIs, Shows}
 use Rattle.draid_run.specs.Session.{IsDesk, KeepsAll, Represents, pool_of, state_of}
 use Rattle.draid_run.specs.Serve.{PrintsReplies, Served}
 use Rattle.draid_run.specs.Status.{HasNumber, last_text}
 use Rattle.draid_run.specs.declared.session.Session.{Session}
 use Rattle.draid_run.specs.declared.status.Status.{Status}
 use Rattle.draid_run.specs.declared.status.Status.TheVariants.{Done, Usage, Line, SourceFault, SinkFault, NoMemory, TooLong}
-use Rattle.draid_run.proofs.Known.{appends_none, appends_more, front_more}
+use Rattle.draid_run.proofs.Known.{appends_more, front_more}
 
 no_front : (front back : List ℕ) → [] ≡ front ++ back → front ≡ []
 no_front [] back is = refl
@@ -87,19 +86,31 @@ module _ {R : Type 0} (shape : R → Shape) (told : R → Option Told) (faults :
   -- want of memory for the last line is as good an end as that line
   short_served : (ended : Status) (input start held : Option (List ℕ)) (pool : Option (Session R)) → HasNumber ended → Served shape told faults ended input start held pool → Served shape told faults NoMemory input start held pool
   short_served ended input start held pool number is = record {
-    lines = is.lines; replies = is.replies; shown = is.shown; writes = is.writes; desk = is.desk; runs = is.runs;
+    lines = is.lines;
+    replies = is.replies;
+    shown = is.shown;
+    writes = is.writes;
+    desk = is.desk;
+    runs = is.runs;
     ends = ends_known ended _ is.lines input number is.ends;
     shows = shows_short ended is.replies is.shown number is.shows;
-    prints = prints_short ended _ start held number is.prints }
+    prints = prints_short ended _ start held number is.prints;
+  }
 
   -- what was served, as the run of these words
   run_of : (words : List (List ℕ)) (status ended : Status) (input start mid new : Option (List ℕ)) (pool : Option (Session R)) → (ended ≡ Usage → ⊥) → IsSession words
       → (is : Served shape told faults ended input start mid pool) → Prints status ended (last_text ended) mid new → HasRun words status input start new (state_of told faults pool is.writes)
   run_of words status ended input start mid new pool other session is last = record {
-    lines = is.lines; replies = is.replies; shown = is.shown; ended = ended;
+    lines = is.lines;
+    replies = is.replies;
+    shown = is.shown;
+    ended = ended;
     usage = (λ e. absurd (other e), λ wrong. absurd (wrong session));
-    runs = is.runs; ends = is.ends; shows = is.shows;
-    prints = prints_all status ended _ start mid new is.prints last }
+    runs = is.runs;
+    ends = is.ends;
+    shows = is.shows;
+    prints = prints_all status ended _ start mid new is.prints last;
+  }
 
   all_stand : (shard : Shard R) (pointers : List Pointer) (writes : List Write) (x : Told) → told shard.rack ≡ Some x → KeepsAll told shard pointers writes → AllStand x.reads writes
   all_stand shard [] [] x is keeps = tt
@@ -116,7 +127,8 @@ module _ {R : Type 0} (shape : R → Shape) (told : R → Option Told) (faults :
   pub holds_pool : (session : Session R) (writes : List Write) (held : Option Told) → held ≡ told session.shard.rack → Represents shape told session writes → HoldsPool held (pool_of told faults session writes)
   holds_pool session writes held is represents = record {
     tells = ap is_some (sym is);
-    stand = stand_told session.shard session.objects.items writes held (sym is) represents.keeps }
+    stand = stand_told session.shard session.objects.items writes held (sym is) represents.keeps;
+  }
 
   pub holds_desk : (session : Session R) (pool : Option (Session R)) (held : Option Told) → pool ≡ Some session → held ≡ told session.shard.rack
       → (writes : List Write) → IsDesk shape told pool writes → MatchOption (state_of told faults pool writes) ⊤ (HoldsPool held)
@@ -126,9 +138,21 @@ module _ {R : Type 0} (shape : R → Shape) (told : R → Option Told) (faults :
   -- a run whose words aren't those of a session
   pub run_refused : (words : List (List ℕ)) (status : Status) (input old new : Option (List ℕ)) (held : Option Told) → (IsSession words → ⊥) → EndsWithLine Usage status old new → RunIs words status input old new held
   run_refused words status input old new held wrong ended = elim ended.is [
-    | inl same ↦ record { last = None; session = record {
-        lines = []; replies = []; shown = []; ended = Usage; usage = (λ _. wrong, λ _. refl); runs = refl; ends = ends_nothing input; shows = refl;
-        prints = subst (λ m. Prints status m (last_text m) old new) same ended.prints }; shelf = tt }
+    | inl same ↦ record {
+      last = None;
+      session = record {
+        lines = [];
+        replies = [];
+        shown = [];
+        ended = Usage;
+        usage = (λ _. wrong, λ _. refl);
+        runs = refl;
+        ends = ends_nothing input;
+        shows = refl;
+        prints = subst (λ m. Prints status m (last_text m) old new) same ended.prints;
+      };
+      shelf = tt;
+    }
     | inr none ↦ absurd none.1
   ] where
     ends_nothing : (known : Option (List ℕ)) → MatchOption known ⊤ (Ends Usage None [])

@@ -1,4 +1,4 @@
-use Rattle.std.proofs.Common.{arith, rules, refl, sym, ◌≡◌, ◌==◌, ◌⊎◌, inl, inr, ℕ, List, [], ◌∷◌, Option, Some, None, find}
+use Rattle.std.proofs.Common.{arith, rules, refl, sym, ◌≡◌, ◌==◌, inl, inr, ℕ, List, [], ◌∷◌, Option, Some, None, find}
 use Rattle.std.proofs.lemmas.Bool.{cases_eq}
 use Rattle.std.proofs.lemmas.Bool.Decides.{nat_tests}
 use Rattle.draid_names.specs.declared.pointer.Pointer.{Pointer}
@@ -6,7 +6,7 @@ use Rattle.draid_rack.specs.Rack.{Told}
 use Rattle.draid_shard.specs.declared.shard.Shard.{Shard}
 use Rattle.draid_shard.specs.Shard.{HoldsBlock, KeepsBlocks}
 use Rattle.draid_run.specs.State.{Write, bytes_of}
-use Rattle.draid_run.specs.Session.{Keeps, KeepsAll}
+use Rattle.draid_run.specs.Session.{KeepsAll}
 
 module _ {R : Type 0} (told : R → Option Told) where
   -- blocks that are kept are kept for all writes

@@ -1,5 +1,5 @@
 -- Known bytes of sources and sinks.
-use Rattle.std.proofs.Common.{refl, sym, ap, ◌≡◌, ◌∙◌, ℕ, List, [], ◌∷◌, ◌++◌, Option, Some, None, MatchOption, append_assoc}
+use Rattle.std.proofs.Common.{sym, ap, ◌∙◌, ℕ, List, [], ◌++◌, Option, Some, None, MatchOption, append_assoc}
 use Rattle.std.specs.Prelude.{⊤}
 use Rattle.std.specs.Io.KnownBytes.{Appends}
 use Rattle.std.proofs.lemmas.List.{append-nil}

@@ -9,7 +9,7 @@ use Rattle.draid_shard.specs.declared.shard.Missed.{Missed}
 use Rattle.draid_shard.specs.declared.shard.Shard.{Shard}
 use Rattle.draid_shard.specs.declared.ticket.Ticket.{Ticket}
 use Rattle.draid_run.specs.Store.{StoreMisses}
-use Rattle.draid_run.specs.Words.{failed_leaves, stripes_for}
+use Rattle.draid_run.specs.Words.{failed_leaves}
 
 -- a count that rose between rose over a longer time
 longer : (before mid now after : ℕ) → before ≤ mid → now ≤ after → Rose mid now → Rose before after
@@ -28,11 +28,11 @@ missed_at_most f0 f1 f2 f3 m0 m1 m2 m3 none a b c x y z =
     let later : (leaf : ℕ) → f1 (Some leaf) ≤ f3 (Some leaf) = λ leaf. omega (arith, b (Some leaf), c (Some leaf)) in
     let before : (leaf : ℕ) → f0 (Some leaf) ≤ f2 (Some leaf) = λ leaf. omega (arith, a (Some leaf), b (Some leaf)) in
     let first = counts_one m0 m1 0 (f0 (Some 0)) (f3 (Some 0)) (omega arith) x.one
-        (λ more. longer _ _ _ _ (omega arith) (later 0) (x.cause more)) in
+    (λ more. longer _ _ _ _ (omega arith) (later 0) (x.cause more)) in
     let second = counts_one m1 m2 _ (f0 (Some 1)) (f3 (Some 1)) first y.one
-        (λ more. longer _ _ _ _ (a (Some 1)) (c (Some 1)) (y.cause more)) in
+    (λ more. longer _ _ _ _ (a (Some 1)) (c (Some 1)) (y.cause more)) in
     counts_one m2 m3 _ (f0 (Some 2)) (f3 (Some 2)) second z.one
-        (λ more. longer _ _ _ _ (before 2) (omega arith) (z.cause more))
+    (λ more. longer _ _ _ _ (before 2) (omega arith) (z.cause more))
 
 -- a put, in numbers
 pub record Puts {R : Type 0} (faults : R → Option ℕ → ℕ) (old : Shard R) (before : Ticket) (new : Shard R) (after : Ticket) : Type 0 where
@@ -68,12 +68,13 @@ store_misses faults w old begun one two three new t0 t1 t2 t3 e rack takes strip
     let some = missed.0 in
     let columns = missed.1 in
     let few = missed_at_most (faults begun.rack) (faults one.rack) (faults two.rack) (faults three.rack) t0.missed t1.missed t2.missed t3.missed fresh.1 a.later b.later c.later
-        (counts_at (faults begun.rack) (faults one.rack) t0.next 0 _ _ fresh-next a.missed)
-        (counts_at (faults one.rack) (faults two.rack) t1.next 1 _ _ (omega arith) b.missed)
-        (counts_at (faults two.rack) (faults three.rack) t2.next 2 _ _ (omega arith) c.missed) in
+    (counts_at (faults begun.rack) (faults one.rack) t0.next 0 _ _ fresh-next a.missed)
+    (counts_at (faults one.rack) (faults two.rack) t1.next 1 _ _ (omega arith) b.missed)
+    (counts_at (faults two.rack) (faults three.rack) t2.next 2 _ _ (omega arith) c.missed) in
     record {
       some = omega arith;
       failed = rw columns (failed_since faults begun.rack three.rack old.rack new.rack t3.missed rack end few);
       place = t0.pointer.first;
       fitted = takes.fits;
-      taken = undone (taken_of old) (takes_by _ _ _ t0.pointer t3.pointer _ takes (c.taken ∙ b.taken ∙ a.taken) (c.pointer ∙ b.pointer ∙ a.pointer) stripes) }
+      taken = undone (taken_of old) (takes_by _ _ _ t0.pointer t3.pointer _ takes (c.taken ∙ b.taken ∙ a.taken) (c.pointer ∙ b.pointer ∙ a.pointer) stripes);
+    }

@@ -1,4 +1,4 @@
-use Rattle.std.proofs.Common.{◌≡◌, ◌∙◌, refl, sym, ap, ℕ, List, [], ◌∷◌, ◌++◌, Option, Some, None}
+use Rattle.std.proofs.Common.{refl, sym, ℕ, List, [], ◌∷◌, ◌++◌, Option}
 use Rattle.draid_script.specs.Line.{command_of}
 use Rattle.draid_script.specs.declared.reply.Reply.{Reply}
 use Rattle.draid_run.specs.State.{Pool, Runs, TurnsBy}

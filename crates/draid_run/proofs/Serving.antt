@@ -1,24 +1,24 @@
 -- What the loop over the lines keeps, and what its ends come to.
-use Rattle.std.proofs.Common.{arith, refl, sym, ap, ◌≡◌, ◌∙◌, ◌+◌, ◌⊎◌, inl, inr, ℕ, List, [], ◌∷◌, ◌++◌, length, Option, Some, None, Result, Ok, Err, Vec, Global, subst, append_assoc, length-append}
-use Rattle.std.specs.Prelude.{⊤, flat_map}
+use Rattle.std.proofs.Common.{arith, refl, sym, ap, ◌≡◌, ◌∙◌, ◌+◌, inl, inr, ℕ, List, [], ◌∷◌, ◌++◌, Option, Some, None, Result, Ok, Err, Vec, Global, subst, append_assoc, length-append}
+use Rattle.std.specs.Prelude.{flat_map}
 use Rattle.std.specs.Io.KnownBytes.{Appends, prepend_known}
 use Rattle.std.proofs.lemmas.Grind.{flat_map-append}
 use Rattle.std.proofs.lemmas.List.{append-nil}
 use Rattle.draid_rack.specs.Rack.{Shape, Told}
 use Rattle.draid_script.proofs.Ends.{lines_none}
 use Rattle.draid_script.specs.Line.{command_of}
-use Rattle.draid_script.specs.Lines.{Rest, WhereKnown, IsTooLong, lines_of}
+use Rattle.draid_script.specs.Lines.{Rest, WhereKnown, lines_of}
 use Rattle.draid_script.specs.Reply.{text_of}
 use Rattle.draid_script.specs.Sink.{AppendsFront}
 use Rattle.draid_script.specs.declared.reply.Reply.{Reply}
-use Rattle.draid_run.specs.State.{CannotRun, Pool, Runs, TurnsBy, Write}
-use Rattle.draid_run.specs.Script.{Ends, Shows}
-use Rattle.draid_run.specs.Session.{IsDesk, state_of}
-use Rattle.draid_run.specs.Serve.{LineIs, PrintsReplies, Printed, Served, Serving, TextIs, Turned}
+use Rattle.draid_run.specs.State.{CannotRun, Write}
+use Rattle.draid_run.specs.Script.{Ends}
+use Rattle.draid_run.specs.Session.{state_of}
+use Rattle.draid_run.specs.Serve.{LineIs, Printed, Served, Serving, TextIs, Turned}
 use Rattle.draid_run.specs.declared.session.Session.{Session}
 use Rattle.draid_run.specs.declared.status.Status.{Status}
 use Rattle.draid_run.specs.declared.status.Status.TheVariants.{Done, Usage, Line, SourceFault, SinkFault, NoMemory, TooLong}
-use Rattle.draid_run.proofs.Known.{appends_none, appends_more, front_more, known_input, known_on, known_same}
+use Rattle.draid_run.proofs.Known.{appends_none, appends_more, front_more, known_input, known_on}
 use Rattle.draid_run.proofs.Runs.{runs_more}
 
 -- the texts of one more reply
@@ -46,9 +46,15 @@ module _ {R : Type 0} (shape : R → Shape) (told : R → Option Told) (faults :
 
   pub serving_none : (input start : Option (List ℕ)) → Serving shape told faults input (prepend_known [] input) start start None 0
   serving_none input start = record {
-    lines = []; replies = []; writes = []; count_is = refl; desk = refl; runs = refl;
+    lines = [];
+    replies = [];
+    writes = [];
+    count_is = refl;
+    desk = refl;
+    runs = refl;
     known = starts input;
-    printed = appends_none start } where
+    printed = appends_none start;
+  } where
     starts : (a : Option (List ℕ)) → WhereKnown a (prepend_known [] a) (λ all behind. lines_of all ≡ [] ++ lines_of behind)
     starts None = tt
     starts (Some x) = refl
@@ -63,49 +69,79 @@ module _ {R : Type 0} (shape : R → Shape) (told : R → Option Told) (faults :
       → Printed shape told faults line pool is.writes pool' (Appends held held')
       → Serving shape told faults input rest' start held' pool' (count + 1)
   serving_more input rest rest' start held held' pool pool' count line is behind printed =
-    let counted = is.count_is in
-    let longer = length-append is.lines (line ∷ []) in
-    record {
-      lines = is.lines ++ line ∷ [];
-      replies = is.replies ++ printed.reply ∷ [];
-      writes = printed.turned.writes;
-      count_is = omega (arith, counted, longer);
-      desk = printed.turned.desk;
-      runs = runs_more None is.lines is.replies _ line printed.reply _ is.runs printed.turned.turns;
-      known = known_on input rest rest' _ _ _ (λ x y z a b. lines_more x y z is.lines line a b) is.known behind;
-      printed = rw (texts_more is.replies printed.reply) (appends_more start held held' _ _ is.printed printed.prints) }
+      let counted = is.count_is in
+      let longer = length-append is.lines (line ∷ []) in
+      record {
+        lines = is.lines ++ line ∷ [];
+        replies = is.replies ++ printed.reply ∷ [];
+        writes = printed.turned.writes;
+        count_is = omega (arith, counted, longer);
+        desk = printed.turned.desk;
+        runs = runs_more None is.lines is.replies _ line printed.reply _ is.runs printed.turned.turns;
+        known = known_on input rest rest' _ _ _ (λ x y z a b. lines_more x y z is.lines line a b) is.known behind;
+        printed = rw (texts_more is.replies printed.reply) (appends_more start held held' _ _ is.printed printed.prints);
+      }
 
   -- the input ended
   pub served_done : (input rest rest' start held : Option (List ℕ)) (pool : Option (Session R)) (count : ℕ)
       → Serving shape told faults input rest start held pool count → WhereKnown rest rest' (λ old new. old ≡ [])
       → Served shape told faults Done input start held pool
   served_done input rest rest' start held pool count is end = record {
-    lines = is.lines; replies = is.replies; shown = is.replies; writes = is.writes; desk = is.desk; runs = is.runs;
+    lines = is.lines;
+    replies = is.replies;
+    shown = is.replies;
+    writes = is.writes;
+    desk = is.desk;
+    runs = is.runs;
     ends = known_input input rest' _ _ (λ x z e. e)
-      (known_on input rest rest' _ _ (λ all behind. lines_of all ≡ is.lines)
+        (known_on input rest rest' _ _ (λ all behind. lines_of all ≡ is.lines)
         (λ x y z a b. a ∙ ap (λ bytes. is.lines ++ lines_of bytes) b ∙ ap (λ xs. is.lines ++ xs) lines_none ∙ append-nil is.lines) is.known end);
     shows = refl;
-    prints = is.printed }
+    prints = is.printed;
+  }
 
   -- the next line could not be read
   pub served_unread : (input start held left left' : Option (List ℕ)) (pool : Option (Session R)) (lines lines' : Rest) (status : Status)
       → Serving shape told faults input (prepend_known lines.held left) start held pool lines.given → TextIs lines lines' left left' (Err status)
       → Served shape told faults status input start held pool
   served_unread input start held left left' pool lines lines' SourceFault is text = record {
-    lines = is.lines; replies = is.replies; shown = is.replies; writes = is.writes; desk = is.desk; runs = is.runs;
-    ends = known_input input _ _ _ (λ x y e. (lines_of y, e)) is.known; shows = refl; prints = is.printed }
+    lines = is.lines;
+    replies = is.replies;
+    shown = is.replies;
+    writes = is.writes;
+    desk = is.desk;
+    runs = is.runs;
+    ends = known_input input _ _ _ (λ x y e. (lines_of y, e)) is.known;
+    shows = refl;
+    prints = is.printed;
+  }
   served_unread input start held left left' pool lines lines' NoMemory is text = record {
-    lines = is.lines; replies = is.replies; shown = is.replies; writes = is.writes; desk = is.desk; runs = is.runs;
-    ends = known_input input _ _ _ (λ x y e. (lines_of y, e)) is.known; shows = inl refl; prints = is.printed }
+    lines = is.lines;
+    replies = is.replies;
+    shown = is.replies;
+    writes = is.writes;
+    desk = is.desk;
+    runs = is.runs;
+    ends = known_input input _ _ _ (λ x y e. (lines_of y, e)) is.known;
+    shows = inl refl;
+    prints = is.printed;
+  }
   served_unread input start held left left' pool lines lines' (TooLong line) is text =
-    let counted = is.count_is in
-    let number = text.0 in
-    record {
-      lines = is.lines; replies = is.replies; shown = is.replies; writes = is.writes; desk = is.desk; runs = is.runs;
-      ends = known_input input _ _ _ (λ x z e. e)
-        (known_on input (prepend_known lines.held left) (prepend_known lines'.held left') _ _ (λ all behind. Ends (TooLong line) (state_of told faults pool is.writes) is.lines all)
-          (λ x y z a b. (y, a, rw counted b, omega (arith, counted, number))) is.known text.1);
-      shows = refl; prints = is.printed }
+      let counted = is.count_is in
+      let number = text.0 in
+      record {
+        lines = is.lines;
+        replies = is.replies;
+        shown = is.replies;
+        writes = is.writes;
+        desk = is.desk;
+        runs = is.runs;
+        ends = known_input input _ _ _ (λ x z e. e)
+            (known_on input (prepend_known lines.held left) (prepend_known lines'.held left') _ _ (λ all behind. Ends (TooLong line) (state_of told faults pool is.writes) is.lines all)
+            (λ x y z a b. (y, a, rw counted b, omega (arith, counted, number))) is.known text.1);
+        shows = refl;
+        prints = is.printed;
+      }
   served_unread input start held left left' pool lines lines' Done is text = absurd text
   served_unread input start held left left' pool lines lines' Usage is text = absurd text
   served_unread input start held left left' pool lines lines' (Line line kind at) is text = absurd text
@@ -118,13 +154,20 @@ module _ {R : Type 0} (shape : R → Shape) (told : R → Option Told) (faults :
         → CannotRun (command_of line) (state_of told faults pool is.writes) → number ≡ count + 1 → kind ≡ 7 → at ≡ 0
         → Served shape told faults (Line number kind at) input start held pool
     unrun pool number kind at is cannot n k a =
-      let counted = is.count_is in
-      record {
-        lines = is.lines; replies = is.replies; shown = is.replies; writes = is.writes; desk = is.desk; runs = is.runs;
-        ends = known_input input rest' _ _ (λ x z e. e)
-          (known_on input rest rest' _ _ (λ all _. Ends (Line number kind at) (state_of told faults pool is.writes) is.lines all)
-            (λ x y z a b. (line, lines_of z, a ∙ ap (λ xs. is.lines ++ xs) b, cannot, omega (arith, counted, n), k, a')) is.known behind);
-        shows = refl; prints = is.printed }
+        let counted = is.count_is in
+        record {
+          lines = is.lines;
+          replies = is.replies;
+          shown = is.replies;
+          writes = is.writes;
+          desk = is.desk;
+          runs = is.runs;
+          ends = known_input input rest' _ _ (λ x z e. e)
+              (known_on input rest rest' _ _ (λ all _. Ends (Line number kind at) (state_of told faults pool is.writes) is.lines all)
+              (λ x y z a b. (line, lines_of z, a ∙ ap (λ xs. is.lines ++ xs) b, cannot, omega (arith, counted, n), k, a')) is.known behind);
+          shows = refl;
+          prints = is.printed;
+        }
       where
         a' : at ≡ 0
         a' = a
@@ -133,31 +176,48 @@ module _ {R : Type 0} (shape : R → Shape) (told : R → Option Told) (faults :
     unput : (held' : Option (List ℕ)) (pool pool' : Option (Session R)) (is : Serving shape told faults input rest start held pool count)
         → Printed shape told faults line pool is.writes pool' (AppendsFront held held') → Served shape told faults SinkFault input start held' pool'
     unput held' pool pool' is printed = record {
-      lines = is.lines ++ line ∷ []; replies = is.replies ++ printed.reply ∷ []; shown = is.replies ++ printed.reply ∷ [];
-      writes = printed.turned.writes; desk = printed.turned.desk;
+      lines = is.lines ++ line ∷ [];
+      replies = is.replies ++ printed.reply ∷ [];
+      shown = is.replies ++ printed.reply ∷ [];
+      writes = printed.turned.writes;
+      desk = printed.turned.desk;
       runs = runs_more None is.lines is.replies _ line printed.reply _ is.runs printed.turned.turns;
       ends = known_input input rest' _ _ (λ x z e. (lines_of z, e))
-        (known_on input rest rest' _ _ _ (λ x y z a b. lines_more x y z is.lines line a b) is.known behind);
+          (known_on input rest rest' _ _ _ (λ x y z a b. lines_more x y z is.lines line a b) is.known behind);
       shows = refl;
-      prints = rw (texts_more is.replies printed.reply) (front_more start held held' _ _ is.printed printed.prints) }
+      prints = rw (texts_more is.replies printed.reply) (front_more start held held' _ _ is.printed printed.prints);
+    }
 
     -- memory was wanting before it was done
     undone : (pool : Option (Session R)) → Serving shape told faults input rest start held pool count → Served shape told faults NoMemory input start held pool
     undone pool is = record {
-      lines = is.lines; replies = is.replies; shown = is.replies; writes = is.writes; desk = is.desk; runs = is.runs;
+      lines = is.lines;
+      replies = is.replies;
+      shown = is.replies;
+      writes = is.writes;
+      desk = is.desk;
+      runs = is.runs;
       ends = known_input input rest' _ _ (λ x z e. (line ∷ lines_of z, e))
-        (known_on input rest rest' _ _ (λ all z. lines_of all ≡ is.lines ++ (line ∷ lines_of z)) (λ x y z a b. a ∙ ap (λ xs. is.lines ++ xs) b) is.known behind);
-      shows = inl refl; prints = is.printed }
+          (known_on input rest rest' _ _ (λ all z. lines_of all ≡ is.lines ++ (line ∷ lines_of z)) (λ x y z a b. a ∙ ap (λ xs. is.lines ++ xs) b) is.known behind);
+      shows = inl refl;
+      prints = is.printed;
+    }
 
     -- memory was wanting for the text of its reply
     untold : (pool pool' : Option (Session R)) (is : Serving shape told faults input rest start held pool count) (reply : Reply)
         → Turned shape told faults (command_of line) (state_of told faults pool is.writes) reply pool' → Served shape told faults NoMemory input start held pool'
     untold pool pool' is reply turned = record {
-      lines = is.lines ++ line ∷ []; replies = is.replies ++ reply ∷ []; shown = is.replies; writes = turned.writes; desk = turned.desk;
+      lines = is.lines ++ line ∷ [];
+      replies = is.replies ++ reply ∷ [];
+      shown = is.replies;
+      writes = turned.writes;
+      desk = turned.desk;
       runs = runs_more None is.lines is.replies _ line reply _ is.runs turned.turns;
       ends = known_input input rest' _ _ (λ x z e. (lines_of z, e))
-        (known_on input rest rest' _ _ _ (λ x y z a b. lines_more x y z is.lines line a b) is.known behind);
-      shows = inr (reply, refl); prints = is.printed }
+          (known_on input rest rest' _ _ _ (λ x y z a b. lines_more x y z is.lines line a b) is.known behind);
+      shows = inr (reply, refl);
+      prints = is.printed;
+    }
 
     pub served_line : (held' : Option (List ℕ)) (pool pool' : Option (Session R)) (status : Status) (is : Serving shape told faults input rest start held pool count)
         → LineIs shape told faults (count + 1) line pool is.writes pool' held held' (Err status) → Served shape told faults status input start held' pool'

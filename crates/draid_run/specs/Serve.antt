@@ -1,4 +1,4 @@
-use Rattle.std.specs.Prelude.{◌≡◌, ◌<◌, ◌≤◌, ◌+◌, ◌^◌, ◌⊎◌, ⊤, ℕ, List, [], ◌∷◌, ◌++◌, Option, Some, None, Result, Ok, Err, MatchOption, length, flat_map}
+use Rattle.std.specs.Prelude.{◌≡◌, ◌≤◌, ◌+◌, ◌⊎◌, ⊤, ℕ, List, [], ◌∷◌, ◌++◌, Option, Some, None, Result, Ok, Err, MatchOption, length, flat_map}
 use Rattle.std.specs.Io.KnownBytes.{Appends, prepend_known}
 use Rattle.std.specs.declared.vec.Vec.{Vec}
 use Rattle.std.specs.declared.alloc.Global.{Global}
@@ -8,14 +8,14 @@ use Rattle.draid_script.specs.Lines.{Rest, WhereKnown, IsTooLong, lines_of, most
 use Rattle.draid_script.specs.Reply.{text_of}
 use Rattle.draid_script.specs.Sink.{AppendsFront}
 use Rattle.draid_script.specs.declared.reply.Reply.{Reply}
-use Rattle.draid_run.specs.State.{CannotRun, Pool, Runs, Turns, TurnsBy, Write}
+use Rattle.draid_run.specs.State.{CannotRun, Pool, Runs, TurnsBy, Write}
 use Rattle.draid_run.specs.Script.{Ends, Shows}
 use Rattle.draid_run.specs.Session.{IsDesk, state_of}
 use Rattle.draid_run.specs.declared.session.Session.{Session}
 use Rattle.draid_run.specs.declared.serve.Unanswered.{Unanswered}
 use Rattle.draid_run.specs.declared.serve.Unanswered.TheVariants as unanswered
 use Rattle.draid_run.specs.declared.status.Status.{Status}
-use Rattle.draid_run.specs.declared.status.Status.TheVariants.{Done, Usage, Line, SourceFault, SinkFault, NoMemory, TooLong}
+use Rattle.draid_run.specs.declared.status.Status.TheVariants.{Line, SourceFault, SinkFault, NoMemory, TooLong}
 
 -- What became of the next line, where the bytes to come before and after the call are known.
 abbrev pub TextIs : Rest → Rest → Option (List ℕ) → Option (List ℕ) → Result (Option (Vec ℕ Global)) Status → Type 0

@@ -1,4 +1,4 @@
-use Rattle.std.specs.Prelude.{◌≡◌, ⊤, ℕ, Bool, List, [], ◌∷◌, Option, Some, None, is_some}
+use Rattle.std.specs.Prelude.{◌≡◌, ⊤, ℕ, List, [], ◌∷◌, Option, Some, None, is_some}
 use Rattle.draid_names.specs.declared.pointer.Pointer.{Pointer}
 use Rattle.draid_rack.specs.Rack.{Shape, Told}
 use Rattle.draid_shard.specs.declared.shard.Shard.{Shard}
@@ -25,7 +25,8 @@ pool_of told faults session writes = record {
   taken = taken_of session.shard;
   seq = session.seq;
   faults = faults session.shard.rack;
-  tells = is_some (told session.shard.rack) }
+  tells = is_some (told session.shard.rack);
+}
 
 -- the session keeps these writes
 pub record Represents {R : Type 0} (shape : R → Shape) (told : R → Option Told) (session : Session R) (writes : List Write) : Type 0 where

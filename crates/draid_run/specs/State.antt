@@ -1,4 +1,4 @@
-use Rattle.std.specs.Prelude.{◌≡◌, ◌<◌, ◌≤◌, ◌+◌, ◌-◌, ◌^◌, ◌==◌, ⊤, min, ℕ, zero, suc, Bool, true, false, List, [], ◌∷◌, length, replicate, Option, Some, None, IsTrue, IsSome, nat_le, if◌then◌else◌}
+use Rattle.std.specs.Prelude.{◌≡◌, ◌≤◌, ◌+◌, ◌==◌, ⊤, ℕ, Bool, false, List, [], ◌∷◌, replicate, Option, Some, None, IsSome, if◌then◌else◌}
 use Rattle.draid_shard.specs.Shard.{NoneFalls}
 use Rattle.draid_shard.specs.Space.{FitsRun, NoneFits, TakesLowest, IsLargest}
 use Rattle.draid_run.specs.Words.{AreBytesOf, IsUnread, failed_leaves, stripes_for}

@@ -1,4 +1,4 @@
-use Rattle.std.specs.Prelude.{◌≡◌, ◌<◌, ◌≤◌, ◌+◌, ◌-◌, ◌^◌, min, ℕ, zero, suc, Bool, IsTrue, List, length, Option, Some, nat_le, if◌then◌else◌}
+use Rattle.std.specs.Prelude.{◌≡◌, ◌<◌, ◌+◌, ◌-◌, ◌^◌, min, ℕ, zero, suc, Bool, IsTrue, List, length, Option, Some, nat_le, if◌then◌else◌}
 use Rattle.sha2.specs.Sha256.{sha256}
 use Rattle.draid_block.specs.Columns.{first_cut, stripes_of}
 use Rattle.draid_shard.specs.Columns.{SomeRose}

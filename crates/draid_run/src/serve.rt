@@ -10,7 +10,9 @@ use crate::session::Session;
 use crate::status::Status;
 use draid_names::NoMemory;
 use draid_rack::Rack;
-use draid_script::{Line, Lines, ParseFault, ReadFault, Reply, Sink, Source, parse_line, reply_text};
+use draid_script::{
+    Line, Lines, ParseFault, ReadFault, Reply, Sink, Source, parse_line, reply_text,
+};
 use draid_shard::Shard;
 use draid_shelf::{Extent, Shelf};
 use std::alloc::Global;

@@ -49,9 +49,9 @@ pub(crate) fn numbered_line(alloc: Global, status: Status) -> Result<Option<Stri
     ensures err { OnErr result (HasNumber status) }
 {
     match status {
-        Status::Line { line, kind, at } => Ok(Some(
-            format!(in alloc; "line {line} fault={kind} at={at}\n")?,
-        )),
+        Status::Line { line, kind, at } => Ok(Some(format!(in alloc;
+            "line {line} fault={kind} at={at}\n"
+        )?)),
         Status::TooLong { line } => Ok(Some(format!(in alloc; "line {line} too long\n")?)),
         _ => Ok(None),
     }

@@ -99,9 +99,9 @@ fn room_ends(rt: HostRuntime) -> Result<(), Fail> {
     full.extend_from_slice(b"write 5 aa\n")?;
     let (ended, printed) = run_words(&rt, "session", full, &NONE)?;
     assert_eq!(rt; ended, Status::Done);
-    assert!(rt; printed.ends_with(
-        b"write 4 ok\nwrite 5 no space run=0 disabled=0 full=0 worn=0\n"
-    ));
+    assert!(rt;
+        printed.ends_with(b"write 4 ok\nwrite 5 no space run=0 disabled=0 full=0 worn=0\n")
+    );
 
     let mut wide = created(alloc, "")?;
     add_write(&mut wide, 1, 8_193)?;
@@ -158,7 +158,10 @@ fn devices_fail(rt: HostRuntime) -> Result<(), Fail> {
 fn nothing_runs(rt: HostRuntime) -> Result<(), Fail> {
     let alloc = rt.alloc();
     let empty = Vec::new(alloc);
-    assert_eq!(rt; run_words(&rt, "session", empty, &NONE)?, (Status::Done, Vec::new(alloc)));
+    assert_eq!(rt;
+        run_words(&rt, "session", empty, &NONE)?,
+        (Status::Done, Vec::new(alloc))
+    );
 
     let unread = Failing {
         rack: &[],
@@ -171,7 +174,10 @@ fn nothing_runs(rt: HostRuntime) -> Result<(), Fail> {
 
     let (ended, printed) = run_words(&rt, "frob", created(alloc, "")?, &NONE)?;
     assert_eq!(rt; ended, Status::Usage);
-    assert_eq!(rt; printed.as_slice(), b"usage: dzpool session [--dir DIR] or dzpool workload NUMBER\n".as_slice());
+    assert_eq!(rt;
+        printed.as_slice(),
+        b"usage: dzpool session [--dir DIR] or dzpool workload NUMBER\n".as_slice()
+    );
 
     let long = vec![in alloc; b'a'; 300_001]?;
     let (ended, printed) = run_words(&rt, "session", long, &NONE)?;

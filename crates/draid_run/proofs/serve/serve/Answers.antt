@@ -1,4 +1,4 @@
-use Rattle.std.proofs.Common.{arith, Ok, Err, ◌≡◌, ◌∙◌, ◌+◌, ap, sym, refl, ℕ}
+use Rattle.std.proofs.Common.{arith, Ok, Err, ap, sym, refl, ℕ}
 use Rattle.draid_script.specs.Lines.{Rest}
 use Rattle.draid_run.specs.Session.{seq_of}
 use Rattle.draid_run.proofs.Serving.{line_by, served_done, served_line, serving_more, serving_start, text_by}
@@ -16,7 +16,8 @@ lines-init g c =
       few = omega (arith, given);
       seq = omega (arith, given, seq);
       source_later = omega arith;
-      sink_later = omega arith }
+      sink_later = omega arith;
+    }
 
 pub returns-in-Ok-None-clause-served : goal.returns-in-Ok-None-clause-served
 returns-in-Ok-None-clause-served g c =
@@ -27,7 +28,7 @@ returns-in-Err-serve_line-clause-served g c =
     let serving = c.lines.invariant.serving in
     let text = text_by c.lines.lines c.next_text.new.lines _ _ _ _ c.in-Ok-Some.field-0-is c.in-Ok-Some.ensures.text in
     served_line _ _ _ _ _ _ _ _ _ _ text.3 _ c.lines.pool _ _ serving
-        (line_by g.H.R.Rack.shape g.H.R.Rack.told g.H.R.Rack.faults c.lines.number _ _ c.in-Ok-Some.text.items c.lines.pool serving.writes c.serve_line.new.pool (g.K.Sink.held c.lines.sink) (g.K.Sink.held c.serve_line.new.sink) (Err c.in-Err-serve_line.status) (sym c.lines.invariant.given) c.deref.ensures.value (c.in-Err-serve_line.ensures.line serving.writes serving.desk))
+    (line_by g.H.R.Rack.shape g.H.R.Rack.told g.H.R.Rack.faults c.lines.number _ _ c.in-Ok-Some.text.items c.lines.pool serving.writes c.serve_line.new.pool (g.K.Sink.held c.lines.sink) (g.K.Sink.held c.serve_line.new.sink) (Err c.in-Err-serve_line.status) (sym c.lines.invariant.given) c.deref.ensures.value (c.in-Err-serve_line.ensures.line serving.writes serving.desk))
 
 pub lines-preserved : goal.lines-preserved
 lines-preserved g c =
@@ -48,4 +49,5 @@ lines-preserved g c =
       few = text.1;
       seq = omega (arith, one, seq, drawn);
       source_later = omega (arith, source, source');
-      sink_later = omega (arith, sink, sink') }
+      sink_later = omega (arith, sink, sink');
+    }

@@ -1,6 +1,6 @@
 use Rattle.std.proofs.Common.{◌≡◌, ◌≤◌, ◌+◌, None}
 use Rattle.std.specs.Io.KnownBytes.{prepend_known}
-use Rattle.draid_script.specs.Lines.{Rest, most_lines}
+use Rattle.draid_script.specs.Lines.{most_lines}
 use Rattle.draid_run.specs.Serve.{Serving}
 use Rattle.draid_run.specs.Session.{seq_of}
 use Rattle.draid_run.proofs.serve.serve.Given as goal
@@ -14,4 +14,5 @@ invariant-lines g l = let rack = g.H.R.Rack in let source = g.S.Source in let si
   few : l.lines.given ≤ most_lines;
   seq : seq_of l.pool ≤ l.lines.given;
   source_later : source.faults l.initial.source ≤ source.faults l.source;
-  sink_later : sink.faults l.initial.sink ≤ sink.faults l.sink }
+  sink_later : sink.faults l.initial.sink ≤ sink.faults l.sink;
+}

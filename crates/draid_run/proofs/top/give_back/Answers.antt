@@ -1,4 +1,4 @@
-use Rattle.std.proofs.Common.{◌≡◌, ◌∙◌, ap}
+use Rattle.std.proofs.Common.{◌∙◌, ap}
 use Rattle.draid_run.proofs.Ended.{holds_desk}
 use Rattle.draid_run.proofs.top.give_back.Goals as goal
 

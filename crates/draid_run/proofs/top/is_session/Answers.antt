@@ -1,4 +1,4 @@
-use Rattle.std.proofs.Common.{arith, refl, sym, ap, ◌≡◌, ◌∙◌, ◌<◌, ◌≤◌, ◌↔◌, IsTrue, List, [], ◌∷◌, length, get_or, map, String, Global, string_bytes, ℕ, Bool}
+use Rattle.std.proofs.Common.{arith, sym, ap, ◌≡◌, ◌∙◌, ◌<◌, ◌≤◌, ◌↔◌, IsTrue, List, [], ◌∷◌, length, get_or, map, String, Global, string_bytes, ℕ, Bool}
 use Rattle.std.specs.Prelude.{codes}
 use Rattle.std.specs.Str.{bytes_eq}
 use Rattle.std.proofs.lemmas.Slice.Eq.{bytes_eq-Decides}
@@ -18,4 +18,4 @@ session_word text same is =
 pub returns-in-len1 : goal.returns-in-len1
 returns-in-len1 c =
     rw (one_word c.args.words.now c.word-item.result c.in-len1.len_at_least c.in-len1.len_below c.word-item.is)
-        (session_word (string_bytes c.word-item.result) c.eq.result (c.eq.ensures ∙ ap (λ t. bytes_eq t (codes "session")) c.as_str.ensures.value))
+    (session_word (string_bytes c.word-item.result) c.eq.result (c.eq.ensures ∙ ap (λ t. bytes_eq t (codes "session")) c.as_str.ensures.value))

@@ -1,4 +1,4 @@
-use Rattle.std.proofs.Common.{◌≡◌, ◌∙◌, sym}
+use Rattle.std.proofs.Common.{◌∙◌, sym}
 use Rattle.std.proofs.lemmas.Bool.{false≢true}
 use Rattle.draid_run.proofs.Ended.{run_refused, run_served}
 use Rattle.draid_run.proofs.top.run.Goals as goal
@@ -10,4 +10,4 @@ returns-then-not-is_session-clause-run g c =
 pub returns-clause-run : goal.returns-clause-run
 returns-clause-run g c =
     run_served g.H.R.Rack.shape g.H.R.Rack.told g.H.R.Rack.faults _ _ c.serve-ended.result _ _ _ _ c.serve-ended.new.pool _
-        (c.is_session.ensures.0 c.if-not-is_session.false) c.serve-ended.ensures.no_usage c.serve-ended.ensures.served c.end_run-2.ensures.line c.give_back.ensures
+    (c.is_session.ensures.0 c.if-not-is_session.false) c.serve-ended.ensures.no_usage c.serve-ended.ensures.served c.end_run-2.ensures.line c.give_back.ensures
