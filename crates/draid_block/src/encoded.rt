@@ -1,4 +1,4 @@
-ghost use Rattle.std.specs.Prelude.{◌≡◌, ◌<◌, ◌≤◌, ◌*◌, IfOk, length, drop, take};
+ghost use Rattle.std.specs.Prelude.{◌≡◌, ◌<◌, ◌≤◌, ◌*◌, IfOk, length};
 ghost use Rattle.draid_block.specs.Columns.{filled, first_cut, stripes_of, column_of, xor_bytes};
 ghost use Rattle.sha2.specs.Sha256.{sha256};
 

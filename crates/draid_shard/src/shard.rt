@@ -1,11 +1,10 @@
-ghost use Rattle.std.specs.Prelude.{is_some, ◌≡◌, ◌<◌, ◌≤◌, ◌+◌, ◌^◌, ℕ, List, Bool, true, false, Option, Some, None, IfOk, OnOk, OnErr, IfErr, IsTrue, ◌↔◌, ◌*◌, length, replicate};
+ghost use Rattle.std.specs.Prelude.{is_some, ◌≡◌, ◌<◌, ◌≤◌, ◌+◌, ◌^◌, ℕ, List, Bool, false, Option, Some, None, IfOk, OnOk, OnErr, IfErr, IsTrue, ◌↔◌, ◌*◌, length, replicate};
 ghost use Rattle.draid_names.specs.declared.pointer.Pointer.{Pointer};
-ghost use Rattle.draid_names.specs.Faults.{Rose};
 ghost use Rattle.draid_block.specs.Columns.{first_cut, stripes_of};
 ghost use Rattle.draid_block.specs.Solve.{IsWhole, HoldsBytes, absent_of};
 ghost use Rattle.draid_rack.specs.Rack.{HasJust, OnTold};
 ghost use Rattle.draid_shard.specs.Columns.{AbsentRose, AreLong, AreRead, SomeRose};
-ghost use Rattle.draid_shard.specs.Space.{FitsRun, NoneFits, SetsRun, TakesLowest, IsLargest};
+ghost use Rattle.draid_shard.specs.Space.{NoneFits, SetsRun, TakesLowest, IsLargest};
 
 use crate::Ticket;
 use crate::column::{read_column, write_column};
@@ -14,7 +13,7 @@ use crate::space::{largest_run, lowest_run};
 use draid_block::{Encoded, Fetched};
 use draid_names::{NoMemory, Pointer};
 use draid_rack::Rack;
-use std::alloc::{AllocError, Global};
+use std::alloc::Global;
 
 /// How many stripes a metaslab has, and how many sectors each of its leaves.
 const STRIPES: usize = 32;
@@ -99,7 +98,7 @@ fn read_columns<R: Rack>(
 }
 
 impl<R: Rack> Shard<R> {
-    ghost use Rattle.draid_shard.specs.Shard.{AddsLive, Carries, CountsMiss, HoldsBlock, IsLive, IsOf, IsOpen, KeepsBlocks, KeepsOtherTickets, KeepsTickets, NoneFalls, SameLive, Valid, taken_of};
+    ghost use Rattle.draid_shard.specs.Shard.{AddsLive, Carries, CountsMiss, HoldsBlock, IsLive, IsOpen, KeepsBlocks, KeepsOtherTickets, KeepsTickets, NoneFalls, SameLive, Valid, taken_of};
 
     /// An empty metaslab over a rack of leaves 0 to 2, each of 32 sectors of 512 bytes.
     pub fn create(alloc: Global, rack: R) -> Result<Shard<R>, ShardRefused<R>>
