@@ -1,0 +1,4 @@
+pub mod Lists
+pub mod Algebra
+pub mod WeightedSums
+pub mod Restored

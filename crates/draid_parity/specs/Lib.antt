@@ -1,0 +1,3 @@
+pub mod Codeword
+pub mod Columns
+pub mod Equations
