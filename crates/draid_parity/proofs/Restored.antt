@@ -32,6 +32,9 @@ nodes_differ (suc (suc zero)) e f low high e_below f_below apart same =
     apart (omega (arith, turned))
 nodes_differ (suc (suc (suc s))) e f low high e_below f_below apart same = absurd (omega arith)
 
+pub one_node : (e f : ℕ) → e < 255 → f < 255 → e ≢ f → field_power 2 e ≢ field_power 2 f
+one_node e f e_below f_below apart same = apart (powers_differ.distinct e f e_below f_below same)
+
 -- ---- one column
 pub restored_one : (parity : ℕ) (base : List (List ℕ)) (k x power inverse : ℕ) (rest column : List ℕ)
     → k < 3 → k < parity → parity ≤ x → x < length base → column_at base x ≡ []
@@ -102,3 +105,82 @@ restored_two parity base k l x y v0 v1 t0 t1 y0 y1 first second order kind prese
   where
     exponents : (e : ℕ) → (l - k) * e + k * e ≡ l * e
     exponents e = let turn : (l - k) + k ≡ l = omega arith in sym (add-mul (l - k) k e) ∙ ap (λ m. m * e) turn
+
+-- ---- three columns
+rest_of_three : (base : List (List ℕ)) (k j x y z : ℕ) (first second third : List ℕ)
+    → k < 3 → 3 ≤ x → x < y → y < z → z < length base → column_at base x ≡ [] → column_at base y ≡ [] → column_at base z ≡ []
+    → rest_of 3 (set (set (set base x first) y second) z third) k j
+      ≡ bit_xor (rest_of 3 base k j)
+          (bit_xor (field_product (field_power 2 (k * (length base - 1 - x))) (slice_index first j))
+            (bit_xor (field_product (field_power 2 (k * (length base - 1 - y))) (slice_index second j))
+              (field_product (field_power 2 (k * (length base - 1 - z))) (slice_index third j))))
+rest_of_three base k j x y z first second third kind missing x_y y_z below x_out y_out z_out =
+    let n = length-set base x first in
+    let m = length-set (set base x first) y second in
+    let z_x : z ≢ x = omega arith in
+    let z_y : z ≢ y = omega arith in
+    let a = field_product (field_power 2 (k * (length base - 1 - x))) (slice_index first j) in
+    let b = field_product (field_power 2 (k * (length base - 1 - y))) (slice_index second j) in
+    let c = field_product (field_power 2 (k * (length base - 1 - z))) (slice_index third j) in
+    rest_of-set 3 (set (set base x first) y second) k j z third kind kind (omega arith) (omega (arith, n, m))
+      (get_or-set_other (set base x first) y z second [] z_y ∙ get_or-set_other base x z first [] z_x ∙ z_out)
+    ∙ ap₂ bit_xor
+        (rest_of_two 3 base k j x y first second kind kind missing x_y (omega arith) x_out y_out)
+        (ap (λ i. field_product (field_power 2 (k * (i - 1 - z))) (slice_index third j)) (m ∙ n))
+    ∙ xor_assoc (rest_of 3 base k j) (bit_xor a b) c
+    ∙ ap (bit_xor (rest_of 3 base k j)) (xor_assoc a b c)
+
+-- the weights of a column in P, Q and R
+weigh0 : (e x : ℕ) → IsByte x → field_product (field_power 2 (0 * e)) x ≡ x
+unfolding field_power
+weigh0 e x byte =
+    (let none : 0 * e ≡ 0 = omega arith in ap (λ n. field_product (field_power 2 n) x) none) ∙ one-field_product x byte
+
+weigh1 : (e v x : ℕ) → v ≡ field_power 2 e → field_product (field_power 2 (1 * e)) x ≡ field_product v x
+weigh1 e v x is =
+    (let same : 1 * e ≡ e = omega arith in ap (λ n. field_product (field_power 2 n) x) same) ∙ ap (λ p. field_product p x) (sym is)
+
+weigh2 : (e v x : ℕ) → v ≡ field_power 2 e → IsByte x → field_product (field_power 2 (2 * e)) x ≡ field_product v (field_product v x)
+weigh2 e v x is byte =
+    split_power e e (2 * e) x (omega arith) byte
+    ∙ ap₂ field_product (sym is) (ap (λ p. field_product p x) (sym is))
+
+pub restored_three : (base : List (List ℕ)) (x y z v0 v1 v2 : ℕ) (t0 t1 t2 first second third : List ℕ)
+    → 3 ≤ x → x < y → y < z → z < length base → column_at base x ≡ [] → column_at base y ≡ [] → column_at base z ≡ []
+    → ((j : ℕ) → slice_index t0 j ≡ rest_of 3 base 0 j) → ((j : ℕ) → slice_index t1 j ≡ rest_of 3 base 1 j) → ((j : ℕ) → slice_index t2 j ≡ rest_of 3 base 2 j)
+    → v0 ≡ field_power 2 (length base - 1 - x) → v1 ≡ field_power 2 (length base - 1 - y) → v2 ≡ field_power 2 (length base - 1 - z)
+    → ((j : ℕ) → SolvesThree v0 v1 v2 (slice_index t0 j) (slice_index t1 j) (slice_index t2 j) (slice_index first j) (slice_index second j) (slice_index third j))
+    → ((j : ℕ) → IsByte (slice_index first j)) → ((j : ℕ) → IsByte (slice_index second j)) → ((j : ℕ) → IsByte (slice_index third j))
+    → (k : ℕ) → k < 3 → HasSum 3 (set (set (set base x first) y second) z third) k
+restored_three base x y z v0 v1 v2 t0 t1 t2 first second third missing x_y y_z below x_out y_out z_out left0 left1 left2 v0_is v1_is v2_is solved bytes0 bytes1 bytes2 k kind =
+    cases k kind
+  where
+    e : ℕ
+    e = length base - 1 - x
+    f : ℕ
+    f = length base - 1 - y
+    g : ℕ
+    g = length base - 1 - z
+    all : List (List ℕ)
+    all = set (set (set base x first) y second) z third
+    from_sum : (k : ℕ) → k < 3
+        → ((j : ℕ) → rest_of 3 base k j
+            ≡ bit_xor (field_product (field_power 2 (k * e)) (slice_index first j))
+                (bit_xor (field_product (field_power 2 (k * f)) (slice_index second j)) (field_product (field_power 2 (k * g)) (slice_index third j))))
+        → HasSum 3 all k
+    from_sum k kind sum = HasSum-from-rest 3 all k
+      (λ j. rest_of_three base k j x y z first second third kind missing x_y y_z below x_out y_out z_out ∙ xor_none (rest_of 3 base k j) _ (sum j))
+    cases : (k : ℕ) → k < 3 → HasSum 3 all k
+    cases zero kind = from_sum 0 kind
+      (λ j. sym (left0 j) ∙ sym (solved j).sum0
+        ∙ sym (ap₂ bit_xor (weigh0 e (slice_index first j) (bytes0 j))
+            (ap₂ bit_xor (weigh0 f (slice_index second j) (bytes1 j)) (weigh0 g (slice_index third j) (bytes2 j)))))
+    cases (suc zero) kind = from_sum 1 kind
+      (λ j. sym (left1 j) ∙ sym (solved j).sum1
+        ∙ sym (ap₂ bit_xor (weigh1 e v0 (slice_index first j) v0_is)
+            (ap₂ bit_xor (weigh1 f v1 (slice_index second j) v1_is) (weigh1 g v2 (slice_index third j) v2_is))))
+    cases (suc (suc zero)) kind = from_sum 2 kind
+      (λ j. sym (left2 j) ∙ sym (solved j).sum2
+        ∙ sym (ap₂ bit_xor (weigh2 e v0 (slice_index first j) v0_is (bytes0 j))
+            (ap₂ bit_xor (weigh2 f v1 (slice_index second j) v1_is (bytes1 j)) (weigh2 g v2 (slice_index third j) v2_is (bytes2 j)))))
+    cases (suc (suc (suc k))) kind = absurd (omega arith)
