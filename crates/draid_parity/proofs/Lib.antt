@@ -2,3 +2,4 @@ pub mod Lists
 pub mod Algebra
 pub mod WeightedSums
 pub mod Restored
+pub mod Missing

@@ -9,7 +9,8 @@ use Rattle.draid_gf.specs.Field.{field_product, field_power, IsByte}
 use Rattle.draid_gf.proofs.Product.{field_product-zero}
 use Rattle.draid_gf.proofs.Laws.{same_from_xor}
 use Rattle.draid_parity.specs.Codeword.{weighted_sum, parity_sum}
-use Rattle.draid_parity.specs.Columns.{byte_row, column_at, rest_of, HasSum}
+use Rattle.std.proofs.lemmas.Bool.{cases_order}
+use Rattle.draid_parity.specs.Columns.{byte_row, column_at, rest_of, HasSum, AreColumns, IsColumn}
 use Rattle.draid_parity.proofs.Algebra.{generator_power}
 
 -- ---- one byte more, from the last to the first
@@ -128,3 +129,25 @@ rest_of-set parity columns k j x column kind present missing below none =
 pub HasSum-from-rest : (parity : ℕ) (columns : List (List ℕ)) (k : ℕ) → ((j : ℕ) → rest_of parity columns k j ≡ 0) → HasSum parity columns k
 HasSum-from-rest parity columns k none = λ j.
     same_from_xor (slice_index (column_at columns k) j) (parity_sum k (byte_row j (drop parity columns))) (none j)
+
+-- the other sums stay as a parity column is set
+pub HasSum-set : (parity : ℕ) (columns new : List (List ℕ)) (k l : ℕ) (column : List ℕ) → new ≡ set columns k column → k < parity → l ≢ k
+    → HasSum parity columns l → HasSum parity new l
+HasSum-set parity columns new k l column is below apart sum = λ j.
+    ap (λ cs. slice_index (column_at cs l) j) is
+    ∙ ap (λ c. slice_index c j) (get_or-set_other columns k l column [] apart)
+    ∙ sum j
+    ∙ ap (λ cs. parity_sum l (byte_row j cs)) (sym (ap (drop parity) is ∙ drop-set-lt parity columns k column below))
+
+pub AreColumns-set : (len : ℕ) (columns new : List (List ℕ)) (k size : ℕ) (column : List ℕ) → new ≡ set columns k column → k < length columns → size ≡ len
+    → AreColumns len columns → IsColumn size (column_at new k) → AreColumns len new
+AreColumns-set len columns new k size column is below same all one = λ i i_below. cases i i_below (cases_order i k)
+  where
+    other : (i : ℕ) → i < length new → i ≢ k → IsColumn len (column_at new i)
+    other i i_below apart =
+        let long = ap length is ∙ length-set columns k column in
+        subst (IsColumn len) (sym (ap (λ cs. column_at cs i) is ∙ get_or-set_other columns k i column [] apart)) (all i (omega (arith, long)))
+    cases : (i : ℕ) → i < length new → (i ≡ k) ⊎ ((i < k) ⊎ (k < i)) → IsColumn len (column_at new i)
+    cases i i_below (inl e) = subst (λ x. IsColumn len (column_at new x)) (sym e) (subst (λ n. IsColumn n (column_at new k)) same one)
+    cases i i_below (inr (inl l)) = other i i_below (omega arith)
+    cases i i_below (inr (inr g)) = other i i_below (omega arith)

@@ -1,5 +1,5 @@
 -- Stripes as columns of bytes: the parity columns P, Q and R first, then the data columns.
-use Rattle.std.specs.Prelude.{◌≡◌, ◌≢◌, ℕ, Bool, zero, suc, ◌+◌, ◌^◌, ◌<◌, ◌≤◌, ◌⊎◌, List, [], ◌∷◌, length, drop, map, slice_index, slice_index_or, slice_set, bit_xor, Contains, count_by, if◌then◌else◌, nat_le, ◌==◌}
+use Rattle.std.specs.Prelude.{◌≡◌, ◌≢◌, ℕ, Bool, zero, suc, ◌+◌, ◌*◌, ◌^◌, ◌<◌, ◌≤◌, ◌⊎◌, List, [], ◌∷◌, length, drop, map, slice_index, slice_index_or, slice_set, bit_xor, Contains, count_by, if◌then◌else◌, nat_le, ◌==◌}
 use Rattle.std.specs.List.{list_any}
 use Rattle.draid_gf.specs.Field.{field_product, field_power, IsByte}
 use Rattle.draid_parity.specs.Codeword.{IsCodeword, parity_sum}
@@ -71,9 +71,16 @@ pub record IsChosen (parity : ℕ) (missing : List ℕ) (k : ℕ) : Type 0 where
   pub present : Contains missing k → ⊥
   pub lowest : present_below missing k < count_by (λ i. nat_le parity i) missing
 
+-- The chosen sums hold. They are those of columns in equal steps: first, first + step and so on, one for each missing data column.
+pub record ChosenSums (parity : ℕ) (missing : List ℕ) (columns : List (List ℕ)) : Type 0 where
+  pub sums : (k : ℕ) → IsChosen parity missing k → HasSum parity columns k
+  pub first : ℕ
+  pub step : ℕ
+  pub steps : (1 ≤ step) × (step ≤ 2)
+  pub chosen : (t : ℕ) → t < count_by (λ i. nat_le parity i) missing → IsChosen parity missing (first + step * t)
+
 -- what isn't missing stays; the missing data columns solve the chosen sums, and the missing parity columns are encoded
-pub record Solves (missing : List ℕ) (old new : StripeValue) : Type 0 where
-  pub stays : (i : ℕ) → (Contains missing i → ⊥) → column_at new.columns i ≡ column_at old.columns i
-  pub shape : new ≡ record old { columns = new.columns }
-  pub solved : (k : ℕ) → IsChosen old.parity missing k → HasSum old.parity new.columns k
-  pub encoded : (k : ℕ) → k < old.parity → Contains missing k → HasSum old.parity new.columns k
+pub record SolvesColumns (parity : ℕ) (missing : List ℕ) (old new : List (List ℕ)) : Type 0 where
+  pub stays : (i : ℕ) → (Contains missing i → ⊥) → column_at new i ≡ column_at old i
+  pub solved : (k : ℕ) → IsChosen parity missing k → HasSum parity new k
+  pub encoded : (k : ℕ) → k < parity → Contains missing k → HasSum parity new k

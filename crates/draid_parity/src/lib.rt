@@ -3,6 +3,7 @@
 
 mod column;
 mod restore;
+mod solve;
 mod stripe;
 mod sums;
 

@@ -1,7 +1,6 @@
 //! A stripe: its parity columns and its data columns.
 use crate::column::Column;
-use crate::restore::{restore_one, restore_three, restore_two};
-use crate::sums::encode_sum;
+use crate::solve::{encode_columns, solve_columns};
 use std::alloc::{AllocError, Global};
 
 #[derive(Drop)]
@@ -30,53 +29,11 @@ impl Stripe {
     }
 
     pub fn encode(&mut self) {
-        for k in 0..self.parity {
-            encode_sum(&mut self.columns, self.alloc, self.parity as usize, k as usize);
-        }
+        encode_columns(&mut self.columns, self.alloc, self.parity as usize);
     }
 
     pub fn solve(&mut self, missing: &[u32]) {
-        let split = first_data(missing, self.parity);
-        restore_data(&mut self.columns, self.alloc, self.parity, missing, &missing[split..]);
-        for k in &missing[..split] {
-            encode_sum(&mut self.columns, self.alloc, self.parity as usize, *k as usize);
-        }
-    }
-}
-
-fn first_data(missing: &[u32], parity: u32) -> usize {
-    for (n, i) in missing.iter().enumerate() {
-        if *i >= parity {
-            return n;
-        }
-    }
-    missing.len()
-}
-
-fn next_present(missing: &[u32], from: u32, parity: u32) -> u32 {
-    for k in from..parity {
-        if !missing.contains(&k) {
-            return k;
-        }
-    }
-    parity
-}
-
-fn restore_data(columns: &mut Vec<Column>, alloc: Global, parity: u32, missing: &[u32], data: &[u32]) {
-    let p = parity as usize;
-    match data {
-        [] => {}
-        [x] => {
-            let k = next_present(missing, 0, parity);
-            restore_one(columns, alloc, p, k as usize, *x as usize);
-        }
-        [x, y] => {
-            let k = next_present(missing, 0, parity);
-            let l = next_present(missing, k + 1, parity);
-            restore_two(columns, alloc, p, k as usize, l as usize, *x as usize, *y as usize);
-        }
-        [x, y, z] => restore_three(columns, alloc, *x as usize, *y as usize, *z as usize),
-        _ => {}
+        solve_columns(&mut self.columns, self.alloc, self.parity as usize, missing);
     }
 }
 
