@@ -112,7 +112,7 @@ field_power-add a (suc m) n byte =
     ∙ ap (field_product a) (field_power-add a m n byte)
     ∙ (let turn : suc (m + n) ≡ suc m + n = omega arith in ap (field_power a) turn)
 
-power_of_power : (k n : ℕ) → field_power (field_power 2 k) n ≡ field_power 2 (k * n)
+pub power_of_power : (k n : ℕ) → field_power (field_power 2 k) n ≡ field_power 2 (k * n)
 unfolding field_power
 power_of_power k zero = let none : 0 ≡ k * 0 = omega arith in ap (field_power 2) none
 power_of_power k (suc n) =
@@ -121,7 +121,7 @@ power_of_power k (suc n) =
     ∙ (let turn : k + k * n ≡ k * suc n = omega arith in ap (field_power 2) turn)
 
 -- the powers of 1, 2 and 4 are powers of 2
-generators : (k : ℕ) → k < 3 → 2 ^ k ≡ field_power 2 k
+pub generators : (k : ℕ) → k < 3 → 2 ^ k ≡ field_power 2 k
 unfolding field_power field_product polynomial_product polynomial_sum remainder
 generators = same_at (λ k. 2 ^ k) (field_power 2) 3 refl
 

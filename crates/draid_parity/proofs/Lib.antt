@@ -3,3 +3,5 @@ pub mod Algebra
 pub mod WeightedSums
 pub mod Restored
 pub mod Missing
+pub mod Vandermonde
+pub mod OneSolution
