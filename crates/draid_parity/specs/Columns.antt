@@ -1,5 +1,5 @@
 -- Stripes as columns of bytes: the parity columns P, Q and R first, then the data columns.
-use Rattle.std.specs.Prelude.{◌≡◌, ◌≢◌, ℕ, Bool, zero, suc, ◌+◌, ◌*◌, ◌^◌, ◌<◌, ◌≤◌, ◌⊎◌, List, [], ◌∷◌, length, drop, map, slice_index, slice_index_or, slice_set, bit_xor, Contains, count_by, if◌then◌else◌, nat_le, ◌==◌}
+use Rattle.std.specs.Prelude.{◌≡◌, ◌≢◌, ℕ, Bool, zero, suc, ◌+◌, ◌*◌, ◌^◌, ◌<◌, ◌≤◌, ◌⊎◌, List, [], ◌∷◌, ◌++◌, length, take, drop, replicate, map, slice_index, slice_index_or, slice_set, bit_xor, Contains, count_by, if◌then◌else◌, nat_le, ◌==◌}
 use Rattle.std.specs.List.{list_any}
 use Rattle.draid_gf.specs.Field.{field_product, field_power, IsByte}
 use Rattle.draid_parity.specs.Codeword.{IsCodeword, parity_sum}
@@ -27,6 +27,10 @@ pub record IsColumn (len : ℕ) (column : List ℕ) : Type 0 where
 pub record IsPart (len : ℕ) (column : List ℕ) : Type 0 where
   pub out : length column ≢ len → column ≡ []
   pub bytes : (j : ℕ) → IsByte (slice_index column j)
+
+-- what a column becomes that is written as a slice, which has as many bytes at the end
+abbrev pub written : List ℕ → List ℕ → List ℕ
+written column bytes = take (length column) (bytes ++ drop (length bytes) column)
 
 -- every column has len bytes
 abbrev pub AreColumns : ℕ → List (List ℕ) → Type 0
@@ -84,3 +88,17 @@ pub record SolvesColumns (parity : ℕ) (missing : List ℕ) (old new : List (Li
   pub stays : (i : ℕ) → (Contains missing i → ⊥) → column_at new i ≡ column_at old i
   pub solved : (k : ℕ) → IsChosen parity missing k → HasSum parity new k
   pub encoded : (k : ℕ) → k < parity → Contains missing k → HasSum parity new k
+
+-- the columns of a stripe of codewords that has the columns that aren't missing
+pub record Completes (missing : List ℕ) (old : StripeValue) (whole : List (List ℕ)) : Type 0 where
+  pub stripe : IsStripe (record old { columns = whole })
+  pub encoded : IsEncoded (record old { columns = whole })
+  pub stays : (i : ℕ) → (Contains missing i → ⊥) → column_at whole i ≡ column_at old.columns i
+
+-- a stripe of zero bytes
+abbrev pub zero_stripe : ℕ → ℕ → ℕ → StripeValue
+zero_stripe parity ndata len = record { parity = parity; ndata = ndata; len = len; columns = replicate (parity + ndata) (replicate len 0) }
+
+-- the stripe with what was written to its column i, which keeps its length
+abbrev pub with_column : StripeValue → ℕ → List ℕ → StripeValue
+with_column s i bytes = record s { columns = slice_set s.columns i (written (column_at s.columns i) bytes) }

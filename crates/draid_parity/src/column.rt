@@ -1,5 +1,7 @@
 //! One column of a stripe.
 ghost use Rattle.std.specs.Prelude.{◌≡◌, ℕ, ◌<◌, ◌^◌, List, [], bit_xor, length, slice_index, replicate, IfOk};
+ghost use Rattle.std.specs.Borrow.{sem};
+ghost use Rattle.draid_parity.specs.Lending.{LendsBytes};
 ghost use Rattle.draid_gf.specs.Field.{field_product, IsByte};
 
 use draid_gf::{mul, mul_into, xor_into};
@@ -13,6 +15,8 @@ pub struct Column {
 }
 
 impl Model for Column {
+    ghost use Rattle.std.specs.Prelude.{ℕ, List};
+
     ghost Value = { List ℕ };
 
     ghost view = { λ c. c.bytes.items };
@@ -44,6 +48,8 @@ impl Column {
     }
 
     pub fn as_mut_slice(&mut self) -> &mut [u8]
+        ensures* writes_back { sem 𝓛 (LendsBytes self.entry result) }
+        ensures value { result.now ≡ self.old }
     {
         self.bytes.as_mut_slice()
     }

@@ -1,38 +1,101 @@
 //! A stripe: its parity columns and its data columns.
+ghost use Rattle.std.specs.Prelude.{◌≡◌, ℕ, ◌+◌, ◌<◌, ◌≤◌, All, IfOk, List, length};
+ghost use Rattle.std.specs.Borrow.{sem};
+ghost use Rattle.std.specs.List.Sorted.{IsStrictlyIncreasing};
+ghost use Rattle.draid_parity.specs.Columns.{Completes, IsEncoded, IsStripe, SolvesColumns, StripeValue, column_at, zero_stripe};
+ghost use Rattle.draid_parity.specs.Lending.{LendsColumn};
+
 use crate::column::Column;
 use crate::solve::{encode_columns, solve_columns};
 use std::alloc::{AllocError, Global};
+use std::marker::Model;
 
+/// The columns of a stripe: parity columns P, Q and R first, as many as its parity, and then the data columns.
 #[derive(Drop)]
 pub struct Stripe {
     parity: u32,
+    ndata: u32,
+    len: u32,
     columns: Vec<Column>,
     alloc: Global,
 }
 
+impl Model for Stripe {
+    ghost use Rattle.draid_parity.specs.Columns.{IsStripe, StripeValue};
+
+    ghost Value = { StripeValue };
+
+    ghost view = { λ s. record { parity = s.parity; ndata = s.ndata; len = s.len; columns = s.columns.items } };
+
+    ghost invariant = { λ s. IsStripe (record { parity = s.parity; ndata = s.ndata; len = s.len; columns = s.columns.items }) };
+}
+
 impl Stripe {
-    pub fn new(alloc: Global, parity: u32, ndata: u32, len: u32) -> Result<Stripe, AllocError> {
+    /// A stripe of zero bytes, with `len` bytes in each column. The parity is 1 to 3, and there are 1 to 255 data columns.
+    pub fn new(alloc: Global, parity: u32, ndata: u32, len: u32) -> Result<Stripe, AllocError>
+        requires some_parity { 1 ≤ parity }
+        requires parity { parity ≤ 3 }
+        requires some_data { 1 ≤ ndata }
+        requires ndata { ndata ≤ 255 }
+        ensures { IfOk result (λ stripe. stripe ≡ zero_stripe parity ndata len) }
+    {
         let mut columns = Vec::new(alloc);
         for _ in 0..parity + ndata {
             columns.push(Column::zeroed(alloc, len as usize)?)?;
         }
-        Ok(Stripe { parity, columns, alloc })
+        Ok(Stripe {
+            parity,
+            ndata,
+            len,
+            columns,
+            alloc,
+        })
     }
 
-    pub fn column(&self, i: u32) -> &[u8] {
+    /// Column `i`.
+    pub fn column(&self, i: u32) -> &[u8]
+        requires { i < self.now.parity + self.now.ndata }
+        ensures value { result.now ≡ column_at self.now.columns i }
+        ensures len { length result.now ≡ self.now.len }
+        ensures stripe { IsStripe self.now }
+    {
         self.columns[i as usize].as_slice()
     }
 
-    pub fn column_mut(&mut self, i: u32) -> &mut [u8] {
+    /// Column `i`, to be written.
+    pub fn column_mut(&mut self, i: u32) -> &mut [u8]
+        requires { i < self.old.parity + self.old.ndata }
+        ensures* writes_back { sem 𝓛 (LendsColumn self.entry i result) }
+        ensures value { result.now ≡ column_at self.old.columns i }
+        ensures len { length result.now ≡ self.old.len }
+    {
         let column = &mut self.columns[i as usize];
         column.as_mut_slice()
     }
 
-    pub fn encode(&mut self) {
+    /// Sets the parity columns, so that each row of bytes is a codeword.
+    pub fn encode(&mut self)
+        ensures encoded { IsEncoded self.new }
+        ensures stays { (i : ℕ) → self.old.parity ≤ i → column_at self.new.columns i ≡ column_at self.old.columns i }
+        ensures shape { self.new ≡ record self.old { columns = self.new.columns } }
+        ensures stripe { IsStripe self.new }
+    {
         encode_columns(&mut self.columns, self.alloc, self.parity as usize);
     }
 
-    pub fn solve(&mut self, missing: &[u32]) {
+    /// Sets the missing columns, whose numbers ascend and are at most as many as the parity, from the others: to those of the codewords
+    /// that have the others. Where the others are of no codewords, missing data columns are solved from the lowest present parity columns, and missing
+    /// parity columns are encoded then. Takes no memory.
+    pub fn solve(&mut self, missing: &[u32])
+        requires few { length missing.now ≤ self.old.parity }
+        requires ascending { IsStrictlyIncreasing missing.now }
+        requires in_range { All (λ i. i < self.old.parity + self.old.ndata) missing.now }
+
+        ensures restores { (whole : List (List ℕ)) → Completes missing.now self.old whole → self.new.columns ≡ whole }
+        ensures solves { SolvesColumns self.old.parity missing.now self.old.columns self.new.columns }
+        ensures shape { self.new ≡ record self.old { columns = self.new.columns } }
+        ensures stripe { IsStripe self.new }
+    {
         solve_columns(&mut self.columns, self.alloc, self.parity as usize, missing);
     }
 }
