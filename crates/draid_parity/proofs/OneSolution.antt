@@ -114,6 +114,8 @@ pub record AreBoth (parity len : ℕ) (missing : List ℕ) (old new whole : List
   pub whole_count : length whole ≡ length old
   pub new_columns : AreColumns len new
   pub whole_columns : AreColumns len whole
+  pub new_bytes : (i j : ℕ) → Contains missing i → parity ≤ i → IsByte (slice_index (column_at new i) j)
+  pub whole_bytes : (i j : ℕ) → IsByte (slice_index (column_at whole i) j)
   pub ascending : IsStrictlyIncreasing missing
   pub in_range : (n : ℕ) → n < length missing → slice_index missing n < length old
   pub solves : SolvesColumns parity missing old new
@@ -121,18 +123,11 @@ pub record AreBoth (parity len : ℕ) (missing : List ℕ) (old new whole : List
   pub encoded : (j : ℕ) → j < len → IsCodeword parity (byte_row j whole)
   pub stays : (i : ℕ) → (Contains missing i → ⊥) → column_at whole i ≡ column_at old i
 
-byte_at : (len : ℕ) (columns : List (List ℕ)) → AreColumns len columns → (i j : ℕ) → IsByte (slice_index (column_at columns i) j)
-byte_at len columns all i j = cases (cases_lt i (length columns))
-  where
-    cases : (i < length columns) ⊎ (length columns ≤ i) → IsByte (slice_index (column_at columns i) j)
-    cases (inl below) = (all i below).bytes j
-    cases (inr past) = subst (λ c. IsByte (slice_index c j)) (sym (get_or_past columns i [] past)) (omega arith)
-
 -- the sums of a codeword
 whole_sum : (parity len : ℕ) (missing : List ℕ) (old new whole : List (List ℕ)) → AreBoth parity len missing old new whole → (j : ℕ) → j < len
     → (k : ℕ) → k < parity → slice_index (column_at whole k) j ≡ parity_sum k (byte_row j (drop parity whole))
 whole_sum parity len missing old new whole b j j_below k below =
-    sym (byte_row-at j whole k) ∙ (b.encoded j j_below).sums k below
+    sym (byte_row-at j whole k) ∙ b.encoded j j_below k below
     ∙ ap (parity_sum k) (drop-map (λ c. slice_index c j) parity whole)
 
 -- the data bytes of a row are those of the codeword
@@ -154,19 +149,26 @@ data_same parity len missing old new whole b j j_below i =
     at i = zip2_at bit_xor refl news wholes same i
     long : length ds ≡ length old - parity
     long = length-zip2 bit_xor news wholes same ∙ data_row-length j parity new ∙ ap (λ n. n - parity) b.new_count
-    byte : (i : ℕ) → IsByte (get_or ds i 0)
-    byte i =
-        subst IsByte (sym (at i))
-          (xor_of_8 (get_or news i 0) (get_or wholes i 0)
-            (subst IsByte (sym (data_row-at j parity new i)) (byte_at len new b.new_columns (parity + i) j))
-            (subst IsByte (sym (data_row-at j parity whole i)) (byte_at len whole b.whole_columns (parity + i) j)))
-    elsewhere : (i : ℕ) → Differs i (lost parity missing) → get_or ds i 0 ≡ 0
-    elsewhere i apart =
+    other : (i : ℕ) → (Contains missing (parity + i) → ⊥) → get_or ds i 0 ≡ 0
+    other i absent =
         at i
         ∙ xor_none (get_or news i 0) (get_or wholes i 0)
             (data_row-at j parity new i
               ∙ ap (λ c. slice_index c j) (b.solves.stays (parity + i) absent ∙ sym (b.stays (parity + i) absent))
               ∙ sym (data_row-at j parity whole i))
+    byte : (i : ℕ) → IsByte (get_or ds i 0)
+    byte i = cases (is_missing missing (parity + i)) refl
+      where
+        cases : (t : Bool) → is_missing missing (parity + i) ≡ t → IsByte (get_or ds i 0)
+        cases true is =
+            subst IsByte (sym (at i))
+              (xor_of_8 (get_or news i 0) (get_or wholes i 0)
+                (subst IsByte (sym (data_row-at j parity new i)) (b.new_bytes (parity + i) j (contains-from_test missing (parity + i) is) (omega arith)))
+                (subst IsByte (sym (data_row-at j parity whole i)) (b.whole_bytes (parity + i) j)))
+        cases false is =
+            subst IsByte (sym (other i (λ there. (let yes = test-from_contains missing (parity + i) there in cc)))) (omega arith)
+    elsewhere : (i : ℕ) → Differs i (lost parity missing) → get_or ds i 0 ≡ 0
+    elsewhere i apart = other i absent
       where
         absent : Contains missing (parity + i) → ⊥
         absent there = let yes = test-from_contains missing (parity + i) there in let no = lost-absent parity i missing apart in cc
@@ -227,5 +229,5 @@ one_solution parity len missing old new whole b =
           let counted = b.new_count in
           let whole_counted = b.whole_count in
           let second = b.whole_columns i (omega (arith, below, counted, whole_counted)) in
-          same_number_lists (column_at new i) (column_at whole i) (first.whole ∙ sym second.whole)
-            (λ j j_below. (let short = first.whole in column_same parity len missing old new whole b j (omega (arith, j_below, short)) i))))
+          same_number_lists (column_at new i) (column_at whole i) (first ∙ sym second)
+            (λ j j_below. (let short = first in column_same parity len missing old new whole b j (omega (arith, j_below, short)) i))))

@@ -140,14 +140,14 @@ HasSum-set parity columns new k l column is below apart sum = λ j.
     ∙ ap (λ cs. parity_sum l (byte_row j cs)) (sym (ap (drop parity) is ∙ drop-set-lt parity columns k column below))
 
 pub AreColumns-set : (len : ℕ) (columns new : List (List ℕ)) (k size : ℕ) (column : List ℕ) → new ≡ set columns k column → k < length columns → size ≡ len
-    → AreColumns len columns → IsColumn size (column_at new k) → AreColumns len new
+    → AreColumns len columns → length (column_at new k) ≡ size → AreColumns len new
 AreColumns-set len columns new k size column is below same all one = λ i i_below. cases i i_below (cases_order i k)
   where
-    other : (i : ℕ) → i < length new → i ≢ k → IsColumn len (column_at new i)
+    other : (i : ℕ) → i < length new → i ≢ k → length (column_at new i) ≡ len
     other i i_below apart =
         let long = ap length is ∙ length-set columns k column in
-        subst (IsColumn len) (sym (ap (λ cs. column_at cs i) is ∙ get_or-set_other columns k i column [] apart)) (all i (omega (arith, long)))
-    cases : (i : ℕ) → i < length new → (i ≡ k) ⊎ ((i < k) ⊎ (k < i)) → IsColumn len (column_at new i)
-    cases i i_below (inl e) = subst (λ x. IsColumn len (column_at new x)) (sym e) (subst (λ n. IsColumn n (column_at new k)) same one)
+        ap length (ap (λ cs. column_at cs i) is ∙ get_or-set_other columns k i column [] apart) ∙ all i (omega (arith, long))
+    cases : (i : ℕ) → i < length new → (i ≡ k) ⊎ ((i < k) ⊎ (k < i)) → length (column_at new i) ≡ len
+    cases i i_below (inl e) = ap (λ x. length (column_at new x)) e ∙ one ∙ same
     cases i i_below (inr (inl l)) = other i i_below (omega arith)
     cases i i_below (inr (inr g)) = other i i_below (omega arith)

@@ -12,6 +12,5 @@ abbrev pub parity_sum : ℕ → List ℕ → ℕ
 parity_sum k bytes = weighted_sum (2 ^ k) bytes
 
 -- the bytes P, Q and R, as many as the parity says, and then the data bytes
-pub record IsCodeword (parity : ℕ) (row : List ℕ) : Type 0 where
-  pub bytes : (i : ℕ) → IsByte (slice_index row i)
-  pub sums : (k : ℕ) → k < parity → slice_index row k ≡ parity_sum k (drop parity row)
+abbrev pub IsCodeword : ℕ → List ℕ → Type 0
+IsCodeword parity row = (k : ℕ) → k < parity → slice_index row k ≡ parity_sum k (drop parity row)

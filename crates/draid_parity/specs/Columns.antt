@@ -24,9 +24,8 @@ pub record IsColumn (len : ℕ) (column : List ℕ) : Type 0 where
   pub bytes : (j : ℕ) → IsByte (slice_index column j)
 
 -- len bytes, or nothing where the column is taken out while it is solved
-pub record IsPart (len : ℕ) (column : List ℕ) : Type 0 where
-  pub out : length column ≢ len → column ≡ []
-  pub bytes : (j : ℕ) → IsByte (slice_index column j)
+abbrev pub IsPart : ℕ → List ℕ → Type 0
+IsPart len column = length column ≢ len → column ≡ []
 
 -- what a column becomes that is written as a slice, which has as many bytes at the end
 abbrev pub written : List ℕ → List ℕ → List ℕ
@@ -34,7 +33,7 @@ written column bytes = take (length column) (bytes ++ drop (length bytes) column
 
 -- every column has len bytes
 abbrev pub AreColumns : ℕ → List (List ℕ) → Type 0
-AreColumns len columns = (i : ℕ) → i < length columns → IsColumn len (column_at columns i)
+AreColumns len columns = (i : ℕ) → i < length columns → length (column_at columns i) ≡ len
 
 abbrev pub AreParts : ℕ → List (List ℕ) → Type 0
 AreParts len columns = (i : ℕ) → i < length columns → IsPart len (column_at columns i)
@@ -51,7 +50,7 @@ pub record IsStripe (s : StripeValue) : Type 0 where
   pub some_data : 1 ≤ s.ndata
   pub data_range : s.ndata ≤ 255
   pub count : length s.columns ≡ s.parity + s.ndata
-  pub columns : (i : ℕ) → i < s.parity + s.ndata → IsColumn s.len (column_at s.columns i)
+  pub columns : (i : ℕ) → i < s.parity + s.ndata → length (column_at s.columns i) ≡ s.len
 
 -- each row of bytes is a codeword
 abbrev pub IsEncoded : StripeValue → Type 0
@@ -92,6 +91,7 @@ pub record SolvesColumns (parity : ℕ) (missing : List ℕ) (old new : List (Li
 -- the columns of a stripe of codewords that has the columns that aren't missing
 pub record Completes (missing : List ℕ) (old : StripeValue) (whole : List (List ℕ)) : Type 0 where
   pub stripe : IsStripe (record old { columns = whole })
+  pub bytes : (i j : ℕ) → IsByte (slice_index (column_at whole i) j)
   pub encoded : IsEncoded (record old { columns = whole })
   pub stays : (i : ℕ) → (Contains missing i → ⊥) → column_at whole i ≡ column_at old.columns i
 

@@ -70,9 +70,10 @@ impl Column {
 
     pub fn copy_from(&mut self, from: &Column)
         requires { length self.old ≡ length from.now }
-        ensures { self.new ≡ from.now }
+        ensures value { self.new ≡ from.now }
+        ensures bytes { (j : ℕ) → IsByte (slice_index self.new j) }
     {
-        self.bytes.copy_from_slice(from.as_slice());
+        copy_bytes(&mut self.bytes, from.as_slice());
     }
 
     /// Adds `by` times `from`.
@@ -93,6 +94,14 @@ impl Column {
     {
         scale_bytes(&mut self.bytes, by);
     }
+}
+
+fn copy_bytes(to: &mut [u8], from: &[u8])
+    requires { length to.old ≡ length from.now }
+    ensures value { to.new ≡ from.now }
+    ensures bytes { (j : ℕ) → IsByte (slice_index to.new j) }
+{
+    to.copy_from_slice(from);
 }
 
 fn clear_bytes(bytes: &mut [u8])

@@ -1,6 +1,7 @@
 //! Which parity columns missing data columns are solved from.
 ghost use Rattle.std.specs.Prelude.{◌≡◌, ◌≢◌, ℕ, ◌+◌, ◌<◌, ◌≤◌, Contains, count_by, length, nat_le, slice_index, vec_len};
 ghost use Rattle.std.specs.List.Sorted.{IsStrictlyIncreasing};
+ghost use Rattle.draid_gf.specs.Field.{IsByte};
 ghost use Rattle.draid_parity.specs.Columns.{AreColumns, ChosenSums, HasSum, IsChosen, IsColumn, SolvesColumns, column_at, present_below};
 
 use crate::column::Column;
@@ -37,6 +38,7 @@ pub fn solve_columns(columns: &mut Vec<Column>, alloc: Global, parity: usize, mi
 
     ensures count { vec_len columns.new ≡ vec_len columns.old }
     ensures columns { AreColumns (length (column_at columns.old.items 0)) columns.new.items }
+    ensures bytes { (i j : ℕ) → Contains missing.now i → parity ≤ i → IsByte (slice_index (column_at columns.new.items i) j) }
     ensures solved { SolvesColumns parity missing.now columns.old.items columns.new.items }
     ensures chosen { ChosenSums parity missing.now columns.new.items }
 {
@@ -94,6 +96,7 @@ fn solve_data(columns: &mut Vec<Column>, alloc: Global, parity: usize, missing: 
     ensures stays { (i : ℕ) → (Contains lost.now i → ⊥) → column_at columns.new.items i ≡ column_at columns.old.items i }
     ensures count { vec_len columns.new ≡ vec_len columns.old }
     ensures columns { AreColumns (length (column_at columns.old.items 0)) columns.new.items }
+    ensures bytes { (i j : ℕ) → Contains lost.now i → IsByte (slice_index (column_at columns.new.items i) j) }
     ensures chosen { ChosenSums parity missing.now columns.new.items }
 {
     match lost {

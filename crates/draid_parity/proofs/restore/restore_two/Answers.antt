@@ -32,7 +32,7 @@ solve_two-requires-clause-second c =
           ∙ get_or-set_other old c.args.x c.args.y c.replace-first.new.dest [] apart in
     record {
       whole =
-        c.set_rest-2.ensures.column.whole ∙ ap length y_value ∙ (c.requires.columns c.args.y (omega arith)).whole
+        c.set_rest-2.ensures.column.whole ∙ ap length y_value ∙ (c.requires.columns c.args.y (omega arith))
         ∙ sym (c.set_rest.ensures.column.whole ∙ ap length x_value);
       bytes = c.set_rest-2.ensures.column.bytes
     }

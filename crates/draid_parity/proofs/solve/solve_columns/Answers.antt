@@ -1,7 +1,8 @@
-use Rattle.std.proofs.Common.{◌≡◌, ◌≢◌, ℕ, ◌+◌, ◌<◌, ◌≤◌, ◌∙◌, ◌⊎◌, inl, inr, List, [], set, length, get_or, take, drop, refl, ap, sym, subst, arith, length-set, get_or-set_other}
-use Rattle.std.specs.Prelude.{Contains}
+use Rattle.std.proofs.Common.{◌≡◌, ◌≢◌, ℕ, ◌+◌, ◌<◌, ◌≤◌, ◌∙◌, ◌⊎◌, inl, inr, List, [], set, length, get_or, take, drop, ◌++◌, refl, ap, ap₂, sym, subst, arith, length-set, get_or-set_other}
+use Rattle.std.specs.Prelude.{Contains, slice_index}
+use Rattle.std.proofs.lemmas.List.Elements.{Contains-append_cases}
 use Rattle.std.proofs.lemmas.Bool.{cases_order, cases_lt}
-use Rattle.std.proofs.lemmas.List.{get_or-take, get_or_default}
+use Rattle.std.proofs.lemmas.List.{get_or-take, get_or_default, take-append-drop}
 use Rattle.draid_parity.specs.Columns.{HasSum, column_at}
 use Rattle.draid_parity.proofs.Missing.{count_split, contains-take, contains-drop}
 use Rattle.draid_parity.proofs.WeightedSums.{HasSum-set, AreColumns-set}
@@ -49,7 +50,7 @@ loop-k-preserved c =
       count = long ∙ c.loop-k.invariant.count;
       columns =
         AreColumns-set (length (column_at c.args.columns.now.items 0)) old new k (length (column_at old k)) (column_at new k) is in_range
-          (c.loop-k.invariant.columns k in_range).whole c.loop-k.invariant.columns c.encode_sum.ensures.column;
+          (c.loop-k.invariant.columns k in_range) c.loop-k.invariant.columns c.encode_sum.ensures.column.whole;
       stays = λ i absent.
         (let apart : i ≢ k = λ e. absent (subst (Contains ks) (sym e) there) in
           ap (λ cs. column_at cs i) is ∙ get_or-set_other old k i (column_at new k) [] apart ∙ c.loop-k.invariant.stays i absent);
@@ -90,3 +91,30 @@ returns-clause-solved c =
         cases : (n < s) ⊎ (s ≤ n) → n < s
         cases (inl early) = early
         cases (inr late) = let high = rest n late below in let same = get_or_default missing n k 0 below in absurd (omega (arith, high, same, is))
+
+-- a data column is among the columns that aren't encoded
+pub returns-clause-bytes : goal.returns-clause-bytes
+returns-clause-bytes c = λ i j found above.
+    let missing = c.args.missing.now in
+    let s = c.first_data.result in
+    let ks = c.split_at.result.0.now in
+    let low : Contains ks i → ⊥ = λ lost.
+          (let n = lost.0 in
+            let short = c.split_at.ensures.front_len in
+            let n_below = lost.1 in
+            let early : n < s = omega (arith, short, n_below) in
+            let at = ap (λ xs. get_or xs n 0) c.split_at.ensures.front ∙ get_or-take s missing n 0 early in
+            let same = get_or_default ks n i 0 n_below in
+            let is = lost.2 in
+            let small = c.first_data.ensures.parity n early in
+            omega (arith, at, same, is, small, above)) in
+    let among : Contains c.split_at.result.1.now i =
+          last _ _ i low
+            (Contains-append_cases ks c.split_at.result.1.now i
+              (subst (λ xs. Contains xs i)
+                (sym (ap₂ (λ xs ys. xs ++ ys) c.split_at.ensures.front c.split_at.ensures.back ∙ take-append-drop s missing)) found)) in
+    subst (λ column. slice_index column j < 256) (sym (c.loop-k.invariant.stays i low)) (c.solve_data.ensures.bytes i j among)
+  where
+    last : (xs ys : List ℕ) (i : ℕ) → (Contains xs i → ⊥) → Contains xs i ⊎ Contains ys i → Contains ys i
+    last xs ys i low (inl found) = absurd (low found)
+    last xs ys i low (inr found) = found

@@ -43,7 +43,7 @@ loop-i-preserved c =
         passed_column c.args.k j c.args.summands.now i (slice_index c.args.sum.now j) (slice_index c.loop-i.sum j) c.requires.kind below
           (c.loop-i.invariant.sum j
             ∙ ap (λ n. bit_xor (slice_index c.args.sum.now j) (weighted_sum (2 ^ c.args.k) (drop n (byte_row j c.args.summands.now)))) turn)
-          ((c.requires.parts i below).out
+          ((c.requires.parts i below)
             (λ whole. c.if-len.false
               (c.len.ensures ∙ ap length at ∙ whole ∙ sym (c.len-in-loop-i.ensures ∙ c.loop-i.invariant.column.whole))))
     }
