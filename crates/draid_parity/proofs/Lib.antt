@@ -5,3 +5,4 @@ pub mod Restored
 pub mod Missing
 pub mod Vandermonde
 pub mod OneSolution
+pub mod StripeLemmas
