@@ -1,7 +1,6 @@
 -- Missing columns: how many are missing, and which parity columns the data columns among them are solved from.
-use Rattle.std.proofs.Common.{◌≡◌, ◌≢◌, ℕ, zero, suc, ◌+◌, ◌-◌, ◌*◌, ◌<◌, ◌≤◌, ◌∙◌, ◌⊎◌, inl, inr, Bool, true, false, ◌||◌, ◌==◌, cond, List, [], ◌∷◌, length, get_or, take, drop, refl, sym, ap, ap₂, subst, arith}
-use Rattle.std.specs.Prelude.{slice_index, nat_le, count_by, Contains}
-use Rattle.std.specs.List.{list_any}
+use Rattle.std.proofs.Common.{◌≡◌, ℕ, zero, suc, ◌+◌, ◌-◌, ◌*◌, ◌<◌, ◌≤◌, ◌∙◌, ◌⊎◌, inl, inr, Bool, true, false, ◌||◌, ◌==◌, cond, List, [], ◌∷◌, length, get_or, take, drop, refl, sym, ap, subst, arith}
+use Rattle.std.specs.Prelude.{nat_le, count_by, Contains}
 use Rattle.std.specs.List.Sorted.{IsStrictlyIncreasing}
 use Rattle.std.proofs.lemmas.Bool.{cases_order, cases_lt, eqb-true, eq-eqb, le-leb, lt-leb}
 use Rattle.std.proofs.lemmas.Bool.Decides.{nat_tests}
@@ -19,6 +18,7 @@ ascending_le xs ascending n (suc k) above below = cases (λ lower. ascending_le 
     next =
         let turn : k + 1 ≡ suc k = omega arith in
         subst (λ i. get_or xs k 0 < get_or xs i 0) turn (ascending k (omega arith))
+
     cases : (n ≤ k → get_or xs n 0 ≤ get_or xs k 0) → (k < n) ⊎ (n ≤ k) → get_or xs n 0 ≤ get_or xs (suc k) 0
     cases before (inl past) = let same : n ≡ suc k = omega arith in subst (λ i. get_or xs i 0 ≤ get_or xs (suc k) 0) (sym same) (omega arith)
     cases before (inr lower) = let rest = before lower in omega (arith, rest, next)
@@ -68,7 +68,7 @@ present_grows xs a (suc b) above = cases (present_grows xs a b) (cases_lt b a)
     cases before (inl past) =
         let same : a ≡ suc b = omega arith in
         subst (λ i. (present_below xs i ≤ present_below xs (suc b)) × (present_below xs (suc b) ≤ present_below xs i + (suc b - i))) (sym same)
-          (omega arith, omega arith)
+        (omega arith, omega arith)
     cases before (inr lower) =
         let rest = before lower in
         let step = present_step xs b in
@@ -108,9 +108,9 @@ count_step : (n : ℕ) (xs : List ℕ) → count_by (λ i. nat_le (suc n) i) xs 
 count_step n [] = omega arith
 count_step n (x ∷ xs) =
     weave (cond (nat_le (suc n) x) 1 0) (cond (x == n) 1 0) (cond (nat_le n x) 1 0) (count_by (λ i. nat_le (suc n) i) xs)
-      (count_by (λ i. nat_le n i) xs) (cond (is_missing xs n) 1 0) (cond ((x == n) || is_missing xs n) 1 0) _ _
-      (sum_by-cons (λ i. cond (nat_le (suc n) i) 1 0) x xs) (sum_by-cons (λ i. cond (nat_le n i) 1 0) x xs)
-      (one_place n x) (count_step n xs) (joined (x == n) (is_missing xs n))
+    (count_by (λ i. nat_le n i) xs) (cond (is_missing xs n) 1 0) (cond ((x == n) || is_missing xs n) 1 0) _ _
+    (sum_by-cons (λ i. cond (nat_le (suc n) i) 1 0) x xs) (sum_by-cons (λ i. cond (nat_le n i) 1 0) x xs)
+    (one_place n x) (count_step n xs) (joined (x == n) (is_missing xs n))
 
 pub enough_present : (xs : List ℕ) (n : ℕ) → n + count_by (λ i. nat_le n i) xs ≤ present_below xs n + length xs
 enough_present xs zero = let few = count_by-le-length (λ i. nat_le 0 i) xs in omega (arith, few)
@@ -134,13 +134,13 @@ count_split p (x ∷ xs) zero bound low high =
     let rest = count_split p xs zero (omega arith) (λ n below. absurd (omega arith)) (λ n above below. high (suc n) (omega arith) (omega arith)) in
     let own : cond (nat_le p x) 1 0 ≡ 1 = ap {B = ℕ} (λ b. cond b 1 0) (le-leb p x (high 0 (omega arith) (omega arith))) in
     let more : count_by (λ i. nat_le p i) (x ∷ xs) ≡ cond (nat_le p x) 1 0 + count_by (λ i. nat_le p i) xs =
-          sum_by-cons (λ i. cond (nat_le p i) 1 0) x xs in
+    sum_by-cons (λ i. cond (nat_le p i) 1 0) x xs in
     omega (arith, rest, own, more)
 count_split p (x ∷ xs) (suc s) bound low high =
     let rest = count_split p xs s (omega arith) (λ n below. low (suc n) (omega arith)) (λ n above below. high (suc n) (omega arith) (omega arith)) in
     let own : cond (nat_le p x) 1 0 ≡ 0 = ap {B = ℕ} (λ b. cond b 1 0) (lt-leb p x (low 0 (omega arith))) in
     let more : count_by (λ i. nat_le p i) (x ∷ xs) ≡ cond (nat_le p x) 1 0 + count_by (λ i. nat_le p i) xs =
-          sum_by-cons (λ i. cond (nat_le p i) 1 0) x xs in
+    sum_by-cons (λ i. cond (nat_le p i) 1 0) x xs in
     omega (arith, rest, own, more)
 
 -- ---- one, two and three missing data columns
@@ -150,15 +150,15 @@ chosen_one parity xs columns k many below there lowest sum =
     let none = present_zero xs in
     record {
       sums = λ i chosen.
-        let first = chosen.lowest in
-        let same = present_one xs k i there chosen.present (omega (arith, lowest, first, many, none)) in
-        subst (HasSum parity columns) same sum;
+          let first = chosen.lowest in
+          let same = present_one xs k i there chosen.present (omega (arith, lowest, first, many, none)) in
+          subst (HasSum parity columns) same sum;
       first = k;
       step = 1;
       steps = (omega arith, omega arith);
       chosen = λ t t_below.
-        let same : k ≡ k + 1 * t = omega (arith, t_below, many) in
-        subst (IsChosen parity xs) same (record { in_range = below; present = there; lowest = omega (arith, lowest, many, none) })
+          let same : k ≡ k + 1 * t = omega (arith, t_below, many) in
+          subst (IsChosen parity xs) same (record { in_range = below; present = there; lowest = omega (arith, lowest, many, none) });
     }
 
 pub chosen_two : (parity : ℕ) (xs : List ℕ) (columns : List (List ℕ)) (k l : ℕ) → parity ≤ 3 → count_by (λ i. nat_le parity i) xs ≡ 2
@@ -166,21 +166,23 @@ pub chosen_two : (parity : ℕ) (xs : List ℕ) (columns : List (List ℕ)) (k l
     → present_below xs k ≡ present_below xs 0 → present_below xs l ≡ present_below xs (k + 1)
     → HasSum parity columns k × HasSum parity columns l → ChosenSums parity xs columns
 chosen_two parity xs columns k l kind many order below k_there l_there lowest second both = record {
-    sums = λ i chosen. cases i chosen (cases_order (present_below xs i) 0);
-    first = k;
-    step = l - k;
-    steps = (omega arith, omega arith);
-    chosen = λ t t_below. places t (omega (arith, t_below, many))
-  }
+  sums = λ i chosen. cases i chosen (cases_order (present_below xs i) 0);
+  first = k;
+  step = l - k;
+  steps = (omega arith, omega arith);
+  chosen = λ t t_below. places t (omega (arith, t_below, many));
+}
   where
     none : present_below xs 0 ≡ 0
     none = present_zero xs
+
     one : present_below xs l ≡ 1
     one =
         let more = present-there xs k (test-from_absent xs k k_there) in
         let turn : k + 1 ≡ suc k = omega arith in
         let moved = ap (present_below xs) turn in
         omega (arith, more, moved, second, lowest, none)
+
     cases : (i : ℕ) → IsChosen parity xs i → (present_below xs i ≡ 0) ⊎ ((present_below xs i < 0) ⊎ (0 < present_below xs i)) → HasSum parity columns i
     cases i chosen (inl e) =
         subst (HasSum parity columns) (present_one xs k i k_there chosen.present (omega (arith, lowest, none, e))) both.0
@@ -188,6 +190,7 @@ chosen_two parity xs columns k l kind many order below k_there l_there lowest se
     cases i chosen (inr (inr g)) =
         let lower = chosen.lowest in
         subst (HasSum parity columns) (present_one xs l i l_there chosen.present (omega (arith, one, g, lower, many))) both.1
+
     places : (t : ℕ) → t < 2 → IsChosen parity xs (k + (l - k) * t)
     places zero t_below =
         let same : k ≡ k + (l - k) * 0 = omega arith in
@@ -200,35 +203,36 @@ chosen_two parity xs columns k l kind many order below k_there l_there lowest se
 three_chosen : (xs : List ℕ) (columns : List (List ℕ)) → count_by (λ i. nat_le 3 i) xs ≡ 3 → length xs ≤ 3
     → ((k : ℕ) → k < 3 → HasSum 3 columns k) → ChosenSums 3 xs columns
 three_chosen xs columns many few sums = record {
-    sums = λ k chosen. sums k chosen.in_range;
-    first = 0;
-    step = 1;
-    steps = (omega arith, omega arith);
-    chosen = λ t t_below. (let same : t ≡ 0 + 1 * t = omega arith in subst (IsChosen 3 xs) same (each t (omega (arith, t_below, many))))
-  }
+  sums = λ k chosen. sums k chosen.in_range;
+  first = 0;
+  step = 1;
+  steps = (omega arith, omega arith);
+  chosen = λ t t_below. (let same : t ≡ 0 + 1 * t = omega arith in subst (IsChosen 3 xs) same (each t (omega (arith, t_below, many))));
+}
   where
     all : 3 ≤ present_below xs 3
     all = let enough = enough_present xs 3 in omega (arith, enough, many, few)
+
     each : (k : ℕ) → k < 3 → IsChosen 3 xs k
     each k below = record {
       in_range = below;
       present = λ lost.
-        let same = present-missing xs k (test-from_contains xs k lost) in
-        let upto = present_grows xs 0 k (omega arith) in
-        let after = present_grows xs (suc k) 3 (omega arith) in
-        let none = present_zero xs in
-        omega (arith, same, upto.1, after.1, all, none);
+          let same = present-missing xs k (test-from_contains xs k lost) in
+          let upto = present_grows xs 0 k (omega arith) in
+          let after = present_grows xs (suc k) 3 (omega arith) in
+          let none = present_zero xs in
+          omega (arith, same, upto.1, after.1, all, none);
       lowest =
-        let upto = present_grows xs 0 k (omega arith) in
-        let none = present_zero xs in
-        omega (arith, upto.1, none, many)
+          let upto = present_grows xs 0 k (omega arith) in
+          let none = present_zero xs in
+          omega (arith, upto.1, none, many);
     }
 
 pub chosen_three : (parity : ℕ) (xs : List ℕ) (columns : List (List ℕ)) → parity ≡ 3 → count_by (λ i. nat_le parity i) xs ≡ 3 → length xs ≤ 3
     → ((k : ℕ) → k < 3 → HasSum 3 columns k) → ChosenSums parity xs columns
 chosen_three parity xs columns triple many few sums =
     subst (λ p. ChosenSums p xs columns) (sym triple)
-      (three_chosen xs columns (sym (ap (λ p. count_by (λ i. nat_le p i) xs) triple) ∙ many) few sums)
+    (three_chosen xs columns (sym (ap (λ p. count_by (λ i. nat_le p i) xs) triple) ∙ many) few sums)
 
 -- ---- parts of the list
 pub contains-take : (xs : List ℕ) (s k : ℕ) → Contains (take s xs) k → Contains xs k

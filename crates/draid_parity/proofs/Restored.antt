@@ -1,7 +1,7 @@
 -- Data columns that were taken out, solved from what the sums leave for them, and put back.
-use Rattle.std.proofs.Common.{◌≡◌, ◌≢◌, ℕ, zero, suc, ◌+◌, ◌-◌, ◌*◌, ◌%◌, ◌^◌, ◌<◌, ◌≤◌, ◌∙◌, ◌⊎◌, inl, inr, List, [], ◌∷◌, length, get_or, set, bit_xor, refl, sym, ap, ap₂, subst, arith, length-set, get_or-set_other, get_or-set_same}
+use Rattle.std.proofs.Common.{◌≡◌, ◌≢◌, ℕ, zero, suc, ◌+◌, ◌-◌, ◌*◌, ◌%◌, ◌<◌, ◌≤◌, ◌∙◌, List, [], length, get_or, set, bit_xor, sym, ap, ap₂, subst, arith, length-set, get_or-set_other}
 use Rattle.std.specs.Prelude.{slice_index}
-use Rattle.std.specs.Int.Bits.{xor_assoc, xor_self, xor_zero_r}
+use Rattle.std.specs.Int.Bits.{xor_assoc}
 use Rattle.draid_gf.specs.Field.{field_product, field_power, IsByte}
 use Rattle.draid_gf.proofs.Product.{field_product-associative, one-field_product}
 use Rattle.draid_gf.proofs.Powers.{field_power-byte, powers_differ, table_power}
@@ -44,29 +44,29 @@ pub restored_one : (parity : ℕ) (base : List (List ℕ)) (k x power inverse : 
     → HasSum parity (set base x column) k
 restored_one parity base k x power inverse rest column kind present missing below out left bytes is inverse_byte one scaled =
     HasSum-from-rest parity (set base x column) k
-      (λ j.
-        rest_of-set parity base k j x column kind present missing below out
-        ∙ xor_none (rest_of parity base k j) (field_product (field_power 2 (k * (length base - 1 - x))) (slice_index column j))
-            (sym (left j)
-              ∙ sym (ap₂ field_product (sym is) (scaled j)
-                ∙ divided power inverse (slice_index rest j) (subst IsByte (sym is) (power_byte (k * (length base - 1 - x)))) inverse_byte (bytes j) one)))
+    (λ j.
+    rest_of-set parity base k j x column kind present missing below out
+    ∙ xor_none (rest_of parity base k j) (field_product (field_power 2 (k * (length base - 1 - x))) (slice_index column j))
+    (sym (left j)
+    ∙ sym (ap₂ field_product (sym is) (scaled j)
+    ∙ divided power inverse (slice_index rest j) (subst IsByte (sym is) (power_byte (k * (length base - 1 - x)))) inverse_byte (bytes j) one)))
 
 -- ---- two columns
 rest_of_two : (parity : ℕ) (base : List (List ℕ)) (k j x y : ℕ) (first second : List ℕ)
     → k < 3 → k < parity → parity ≤ x → x < y → y < length base → column_at base x ≡ [] → column_at base y ≡ []
     → rest_of parity (set (set base x first) y second) k j
-      ≡ bit_xor (rest_of parity base k j)
-          (bit_xor (field_product (field_power 2 (k * (length base - 1 - x))) (slice_index first j))
-            (field_product (field_power 2 (k * (length base - 1 - y))) (slice_index second j)))
+    ≡ bit_xor (rest_of parity base k j)
+    (bit_xor (field_product (field_power 2 (k * (length base - 1 - x))) (slice_index first j))
+    (field_product (field_power 2 (k * (length base - 1 - y))) (slice_index second j)))
 rest_of_two parity base k j x y first second kind present missing order below x_out y_out =
     let n = length-set base x first in
     let apart : y ≢ x = omega arith in
     rest_of-set parity (set base x first) k j y second kind present (omega arith) (omega (arith, n)) (get_or-set_other base x y first [] apart ∙ y_out)
     ∙ ap₂ bit_xor
-        (rest_of-set parity base k j x first kind present missing (omega arith) x_out)
-        (ap (λ m. field_product (field_power 2 (k * (m - 1 - y))) (slice_index second j)) n)
+    (rest_of-set parity base k j x first kind present missing (omega arith) x_out)
+    (ap (λ m. field_product (field_power 2 (k * (m - 1 - y))) (slice_index second j)) n)
     ∙ xor_assoc (rest_of parity base k j) (field_product (field_power 2 (k * (length base - 1 - x))) (slice_index first j))
-        (field_product (field_power 2 (k * (length base - 1 - y))) (slice_index second j))
+    (field_product (field_power 2 (k * (length base - 1 - y))) (slice_index second j))
 
 -- a product with a power that is a node times another power
 pub split_power : (a b n x : ℕ) → a + b ≡ n → IsByte x → field_product (field_power 2 n) x ≡ field_product (field_power 2 a) (field_product (field_power 2 b) x)
@@ -86,22 +86,23 @@ pub restored_two : (parity : ℕ) (base : List (List ℕ)) (k l x y v0 v1 : ℕ)
     → HasSum parity (set (set base x first) y second) k × HasSum parity (set (set base x first) y second) l
 restored_two parity base k l x y v0 v1 t0 t1 y0 y1 first second order kind present missing x_y below x_out y_out left0 left1 v0_is v1_is solved scaled0 scaled1 bytes0 bytes1 =
     let e = length base - 1 - x in
-    let f = length base - 1 - y in
-    (HasSum-from-rest parity (set (set base x first) y second) k
-        (λ j.
+    let f = length base - 1 - y in (
+      HasSum-from-rest parity (set (set base x first) y second) k
+          (λ j.
           rest_of_two parity base k j x y first second (omega arith) (omega arith) missing x_y below x_out y_out
           ∙ xor_none (rest_of parity base k j) _
-              (sym (left0 j) ∙ sym (solved j).sum0 ∙ sym (ap₂ bit_xor (scaled0 j) (scaled1 j)))),
+          (sym (left0 j) ∙ sym (solved j).sum0 ∙ sym (ap₂ bit_xor (scaled0 j) (scaled1 j)))),
       HasSum-from-rest parity (set (set base x first) y second) l
-        (λ j.
+          (λ j.
           rest_of_two parity base l j x y first second kind present missing x_y below x_out y_out
           ∙ xor_none (rest_of parity base l j) _
-              (sym (left1 j) ∙ sym (solved j).sum1
-                ∙ sym (ap₂ bit_xor
-                    (split_power ((l - k) * e) (k * e) (l * e) (slice_index first j) (exponents e) (bytes0 j)
-                      ∙ ap₂ field_product (sym v0_is) (scaled0 j))
-                    (split_power ((l - k) * f) (k * f) (l * f) (slice_index second j) (exponents f) (bytes1 j)
-                      ∙ ap₂ field_product (sym v1_is) (scaled1 j))))))
+          (sym (left1 j) ∙ sym (solved j).sum1
+          ∙ sym (ap₂ bit_xor
+          (split_power ((l - k) * e) (k * e) (l * e) (slice_index first j) (exponents e) (bytes0 j)
+          ∙ ap₂ field_product (sym v0_is) (scaled0 j))
+          (split_power ((l - k) * f) (k * f) (l * f) (slice_index second j) (exponents f) (bytes1 j)
+          ∙ ap₂ field_product (sym v1_is) (scaled1 j))))),
+    )
   where
     exponents : (e : ℕ) → (l - k) * e + k * e ≡ l * e
     exponents e = let turn : (l - k) + k ≡ l = omega arith in sym (add-mul (l - k) k e) ∙ ap (λ m. m * e) turn
@@ -110,10 +111,10 @@ restored_two parity base k l x y v0 v1 t0 t1 y0 y1 first second order kind prese
 rest_of_three : (base : List (List ℕ)) (k j x y z : ℕ) (first second third : List ℕ)
     → k < 3 → 3 ≤ x → x < y → y < z → z < length base → column_at base x ≡ [] → column_at base y ≡ [] → column_at base z ≡ []
     → rest_of 3 (set (set (set base x first) y second) z third) k j
-      ≡ bit_xor (rest_of 3 base k j)
-          (bit_xor (field_product (field_power 2 (k * (length base - 1 - x))) (slice_index first j))
-            (bit_xor (field_product (field_power 2 (k * (length base - 1 - y))) (slice_index second j))
-              (field_product (field_power 2 (k * (length base - 1 - z))) (slice_index third j))))
+    ≡ bit_xor (rest_of 3 base k j)
+    (bit_xor (field_product (field_power 2 (k * (length base - 1 - x))) (slice_index first j))
+    (bit_xor (field_product (field_power 2 (k * (length base - 1 - y))) (slice_index second j))
+    (field_product (field_power 2 (k * (length base - 1 - z))) (slice_index third j))))
 rest_of_three base k j x y z first second third kind missing x_y y_z below x_out y_out z_out =
     let n = length-set base x first in
     let m = length-set (set base x first) y second in
@@ -123,10 +124,10 @@ rest_of_three base k j x y z first second third kind missing x_y y_z below x_out
     let b = field_product (field_power 2 (k * (length base - 1 - y))) (slice_index second j) in
     let c = field_product (field_power 2 (k * (length base - 1 - z))) (slice_index third j) in
     rest_of-set 3 (set (set base x first) y second) k j z third kind kind (omega arith) (omega (arith, n, m))
-      (get_or-set_other (set base x first) y z second [] z_y ∙ get_or-set_other base x z first [] z_x ∙ z_out)
+    (get_or-set_other (set base x first) y z second [] z_y ∙ get_or-set_other base x z first [] z_x ∙ z_out)
     ∙ ap₂ bit_xor
-        (rest_of_two 3 base k j x y first second kind kind missing x_y (omega arith) x_out y_out)
-        (ap (λ i. field_product (field_power 2 (k * (i - 1 - z))) (slice_index third j)) (m ∙ n))
+    (rest_of_two 3 base k j x y first second kind kind missing x_y (omega arith) x_out y_out)
+    (ap (λ i. field_product (field_power 2 (k * (i - 1 - z))) (slice_index third j)) (m ∙ n))
     ∙ xor_assoc (rest_of 3 base k j) (bit_xor a b) c
     ∙ ap (bit_xor (rest_of 3 base k j)) (xor_assoc a b c)
 
@@ -157,30 +158,35 @@ restored_three base x y z v0 v1 v2 t0 t1 t2 first second third missing x_y y_z b
   where
     e : ℕ
     e = length base - 1 - x
+
     f : ℕ
     f = length base - 1 - y
+
     g : ℕ
     g = length base - 1 - z
+
     all : List (List ℕ)
     all = set (set (set base x first) y second) z third
+
     from_sum : (k : ℕ) → k < 3
         → ((j : ℕ) → rest_of 3 base k j
-            ≡ bit_xor (field_product (field_power 2 (k * e)) (slice_index first j))
-                (bit_xor (field_product (field_power 2 (k * f)) (slice_index second j)) (field_product (field_power 2 (k * g)) (slice_index third j))))
+        ≡ bit_xor (field_product (field_power 2 (k * e)) (slice_index first j))
+        (bit_xor (field_product (field_power 2 (k * f)) (slice_index second j)) (field_product (field_power 2 (k * g)) (slice_index third j))))
         → HasSum 3 all k
     from_sum k kind sum = HasSum-from-rest 3 all k
-      (λ j. rest_of_three base k j x y z first second third kind missing x_y y_z below x_out y_out z_out ∙ xor_none (rest_of 3 base k j) _ (sum j))
+        (λ j. rest_of_three base k j x y z first second third kind missing x_y y_z below x_out y_out z_out ∙ xor_none (rest_of 3 base k j) _ (sum j))
+
     cases : (k : ℕ) → k < 3 → HasSum 3 all k
     cases zero kind = from_sum 0 kind
-      (λ j. sym (left0 j) ∙ sym (solved j).sum0
+        (λ j. sym (left0 j) ∙ sym (solved j).sum0
         ∙ sym (ap₂ bit_xor (weigh0 e (slice_index first j) (bytes0 j))
-            (ap₂ bit_xor (weigh0 f (slice_index second j) (bytes1 j)) (weigh0 g (slice_index third j) (bytes2 j)))))
+        (ap₂ bit_xor (weigh0 f (slice_index second j) (bytes1 j)) (weigh0 g (slice_index third j) (bytes2 j)))))
     cases (suc zero) kind = from_sum 1 kind
-      (λ j. sym (left1 j) ∙ sym (solved j).sum1
+        (λ j. sym (left1 j) ∙ sym (solved j).sum1
         ∙ sym (ap₂ bit_xor (weigh1 e v0 (slice_index first j) v0_is)
-            (ap₂ bit_xor (weigh1 f v1 (slice_index second j) v1_is) (weigh1 g v2 (slice_index third j) v2_is))))
+        (ap₂ bit_xor (weigh1 f v1 (slice_index second j) v1_is) (weigh1 g v2 (slice_index third j) v2_is))))
     cases (suc (suc zero)) kind = from_sum 2 kind
-      (λ j. sym (left2 j) ∙ sym (solved j).sum2
+        (λ j. sym (left2 j) ∙ sym (solved j).sum2
         ∙ sym (ap₂ bit_xor (weigh2 e v0 (slice_index first j) v0_is (bytes0 j))
-            (ap₂ bit_xor (weigh2 f v1 (slice_index second j) v1_is (bytes1 j)) (weigh2 g v2 (slice_index third j) v2_is (bytes2 j)))))
+        (ap₂ bit_xor (weigh2 f v1 (slice_index second j) v1_is (bytes1 j)) (weigh2 g v2 (slice_index third j) v2_is (bytes2 j)))))
     cases (suc (suc (suc k))) kind = absurd (omega arith)

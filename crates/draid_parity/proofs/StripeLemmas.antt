@@ -1,9 +1,9 @@
 -- Stripes as wholes.
-use Rattle.std.proofs.Common.{◌≡◌, ℕ, ◌+◌, ◌<◌, ◌≤◌, ◌∙◌, List, length, drop, replicate, sym, ap, arith}
+use Rattle.std.proofs.Common.{ℕ, ◌<◌, ◌∙◌, List, sym, ap}
 use Rattle.std.specs.Prelude.{slice_index}
-use Rattle.std.proofs.lemmas.List.{drop-map, get_or-replicate, length-replicate}
+use Rattle.std.proofs.lemmas.List.{drop-map}
 use Rattle.draid_parity.specs.Codeword.{IsCodeword, parity_sum}
-use Rattle.draid_parity.specs.Columns.{HasSum, IsStripe, byte_row, column_at, zero_stripe}
+use Rattle.draid_parity.specs.Columns.{HasSum, byte_row}
 use Rattle.draid_parity.proofs.WeightedSums.{byte_row-at}
 
 -- a row of bytes whose parity bytes are the sums

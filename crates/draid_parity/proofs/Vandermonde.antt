@@ -1,8 +1,8 @@
 -- Equations in missing bytes have one solution: a list of bytes that is 0 but in m places, with m of its weighted sums 0, is 0 throughout.
 -- The weights of place i in the sums are u^k, u^(k + s), .. with one node u for each place, and the nodes differ (the Vandermonde form). One place
 -- after the other is taken out: the sum with k + s, and u^s times the sum with k for the node u of a place, add up to a sum without that place.
-use Rattle.std.proofs.Common.{◌≡◌, ◌≢◌, ℕ, zero, suc, ◌+◌, ◌-◌, ◌*◌, ◌^◌, ◌<◌, ◌≤◌, ◌∙◌, ◌⊎◌, inl, inr, List, [], ◌∷◌, length, get_or, bit_xor, refl, sym, ap, ap₂, subst, arith}
-use Rattle.std.specs.Int.Bits.{xor_assoc, xor_self, xor_zero_r}
+use Rattle.std.proofs.Common.{◌≡◌, ◌≢◌, ℕ, zero, suc, ◌+◌, ◌-◌, ◌*◌, ◌<◌, ◌≤◌, ◌∙◌, ◌⊎◌, inl, inr, List, [], ◌∷◌, length, get_or, bit_xor, refl, sym, ap, ap₂, subst, arith}
+use Rattle.std.specs.Int.Bits.{xor_self, xor_zero_r}
 use Rattle.std.proofs.lemmas.Bool.{cases_order, cases_lt}
 use Rattle.std.proofs.lemmas.List.{get_or_past}
 use Rattle.std.proofs.lemmas.Nat.{xor_of_8}
@@ -29,7 +29,7 @@ unfolding weighted_sum
 nothing c [] none = refl
 nothing c (d ∷ ds) none =
     ap₂ bit_xor (ap (field_product (field_power c (length ds))) (none 0) ∙ field_product-zero (field_power c (length ds)))
-      (nothing c ds (λ i. none (suc i)))
+    (nothing c ds (λ i. none (suc i)))
 
 single : (c : ℕ) (ds : List ℕ) (x : ℕ) → x < length ds → ((i : ℕ) → i ≢ x → get_or ds i 0 ≡ 0)
     → weighted_sum c ds ≡ field_product (field_power c (length ds - 1 - x)) (get_or ds x 0)
@@ -41,7 +41,7 @@ single c (d ∷ ds) zero below none =
     ∙ (let same : length ds ≡ length (d ∷ ds) - 1 - 0 = omega arith in ap (λ n. field_product (field_power c n) d) same)
 single c (d ∷ ds) (suc x) below none =
     let first : field_product (field_power c (length ds)) d ≡ 0 =
-          ap (field_product (field_power c (length ds))) (none 0 (omega arith)) ∙ field_product-zero (field_power c (length ds)) in
+    ap (field_product (field_power c (length ds))) (none 0 (omega arith)) ∙ field_product-zero (field_power c (length ds)) in
     ap (λ y. bit_xor y (weighted_sum c ds)) first
     ∙ single c ds x (omega arith) (λ i apart. none (suc i) (omega arith))
     ∙ (let same : length ds - 1 - x ≡ length (d ∷ ds) - 1 - suc x = omega arith in ap (λ n. field_product (field_power c n) (get_or ds x 0)) same)
@@ -67,14 +67,14 @@ scaled-at s w (d ∷ ds) zero below =
 scaled-at s w (d ∷ ds) (suc i) below =
     scaled-at s w ds i (omega arith)
     ∙ (let same : length ds - 1 - i ≡ length (d ∷ ds) - 1 - suc i = omega arith in
-        ap (λ n. field_product (bit_xor (field_power 2 (s * n)) w) (get_or ds i 0)) same)
+    ap (λ n. field_product (bit_xor (field_power 2 (s * n)) w) (get_or ds i 0)) same)
 
 scaled-past : (s w : ℕ) (ds : List ℕ) (i : ℕ) → length ds ≤ i → get_or (scaled s w ds) i 0 ≡ 0
 scaled-past s w ds i past = let same = scaled-length s w ds in get_or_past (scaled s w ds) i 0 (omega (arith, same))
 
 scaled-sum : (s w k : ℕ) (ds : List ℕ) → IsByte w → ((i : ℕ) → IsByte (get_or ds i 0))
     → weighted_sum (field_power 2 k) (scaled s w ds)
-      ≡ bit_xor (weighted_sum (field_power 2 (k + s)) ds) (field_product w (weighted_sum (field_power 2 k) ds))
+    ≡ bit_xor (weighted_sum (field_power 2 (k + s)) ds) (field_product w (weighted_sum (field_power 2 k) ds))
 unfolding scaled weighted_sum
 scaled-sum s w k [] w_byte bytes = sym (field_product-zero w)
 scaled-sum s w k (d ∷ ds) w_byte bytes =
@@ -87,16 +87,16 @@ scaled-sum s w k (d ∷ ds) w_byte bytes =
     let node = field_power 2 (s * n) in
     let exponents : k * n + s * n ≡ (k + s) * n = omega arith in
     let first : field_product p (field_product node d) ≡ field_product (field_power (field_power 2 (k + s)) n) d =
-          sym (field_product-associative p node d p_byte (power_byte (s * n)) d_byte)
-          ∙ ap (λ q. field_product q d)
-              (ap (λ q. field_product q node) (power_of_power k n) ∙ field_power-add 2 (k * n) (s * n) (omega arith)
-                ∙ ap (field_power 2) exponents ∙ sym (power_of_power (k + s) n)) in
+    sym (field_product-associative p node d p_byte (power_byte (s * n)) d_byte)
+    ∙ ap (λ q. field_product q d)
+    (ap (λ q. field_product q node) (power_of_power k n) ∙ field_power-add 2 (k * n) (s * n) (omega arith)
+    ∙ ap (field_power 2) exponents ∙ sym (power_of_power (k + s) n)) in
     ap₂ bit_xor
-      (ap (λ m. field_product (field_power (field_power 2 k) m) (field_product (bit_xor node w) d)) (scaled-length s w ds)
-        ∙ ap (field_product p) ((field_product-left d).sum node w)
-        ∙ (field_product-right p).sum (field_product node d) (field_product w d)
-        ∙ ap₂ bit_xor first (product_left_commutative p w d p_byte w_byte d_byte))
-      (scaled-sum s w k ds w_byte (λ i. bytes (suc i)))
+    (ap (λ m. field_product (field_power (field_power 2 k) m) (field_product (bit_xor node w) d)) (scaled-length s w ds)
+    ∙ ap (field_product p) ((field_product-left d).sum node w)
+    ∙ (field_product-right p).sum (field_product node d) (field_product w d)
+    ∙ ap₂ bit_xor first (product_left_commutative p w d p_byte w_byte d_byte))
+    (scaled-sum s w k ds w_byte (λ i. bytes (suc i)))
     ∙ xor_swap (field_product (field_power (field_power 2 (k + s)) n) d) (field_product w (field_product p d)) a (field_product w b)
     ∙ ap (bit_xor (bit_xor (field_product (field_power (field_power 2 (k + s)) n) d) a)) (sym ((field_product-right w).sum (field_product p d) b))
 
@@ -120,31 +120,35 @@ pub record Vanishes (k s : ℕ) (xs ds : List ℕ) : Type 0 where
 
 take_out : (k s x : ℕ) (xs ds : List ℕ) → Vanishes k s (x ∷ xs) ds → Vanishes k s xs (scaled s (field_power 2 (s * (length ds - 1 - x))) ds)
 take_out k s x xs ds v = record {
-    few = omega (arith, same, v.few);
-    bytes = λ i. byte i (cases_lt i (length ds));
-    places = subst (λ n. ArePlaces n xs) (sym same) v.places.2;
-    elsewhere = λ i apart. none i apart (cases_lt i (length ds)) (cases_order i x);
-    sums = λ t below.
+  few = omega (arith, same, v.few);
+  bytes = λ i. byte i (cases_lt i (length ds));
+  places = subst (λ n. ArePlaces n xs) (sym same) v.places.2;
+  elsewhere = λ i apart. none i apart (cases_lt i (length ds)) (cases_order i x);
+  sums = λ t below.
       scaled-sum s w (k + s * t) ds (power_byte (s * (length ds - 1 - x))) v.bytes
       ∙ ap₂ bit_xor
-          ((let next : k + s * t + s ≡ k + s * suc t = omega arith in ap (λ e. weighted_sum (field_power 2 e) ds) next) ∙ v.sums (suc t) (omega arith))
-          (ap (field_product w) (v.sums t (omega arith)) ∙ field_product-zero w)
-  }
+      ((let next : k + s * t + s ≡ k + s * suc t = omega arith in ap (λ e. weighted_sum (field_power 2 e) ds) next) ∙ v.sums (suc t) (omega arith))
+      (ap (field_product w) (v.sums t (omega arith)) ∙ field_product-zero w);
+}
   where
     w : ℕ
     w = field_power 2 (s * (length ds - 1 - x))
+
     same : length (scaled s w ds) ≡ length ds
     same = scaled-length s w ds
+
     byte : (i : ℕ) → (i < length ds) ⊎ (length ds ≤ i) → IsByte (get_or (scaled s w ds) i 0)
     byte i (inl below) =
         subst IsByte (sym (scaled-at s w ds i below))
-          (field_product-byte (bit_xor (field_power 2 (s * (length ds - 1 - i))) w) (get_or ds i 0)
-            (xor_of_8 (field_power 2 (s * (length ds - 1 - i))) w (power_byte (s * (length ds - 1 - i))) (power_byte (s * (length ds - 1 - x)))) (v.bytes i))
+        (field_product-byte (bit_xor (field_power 2 (s * (length ds - 1 - i))) w) (get_or ds i 0)
+        (xor_of_8 (field_power 2 (s * (length ds - 1 - i))) w (power_byte (s * (length ds - 1 - i))) (power_byte (s * (length ds - 1 - x)))) (v.bytes i))
     byte i (inr past) = let none = scaled-past s w ds i past in omega (arith, none)
+
     zero_at : (i : ℕ) → get_or ds i 0 ≡ 0 → i < length ds → get_or (scaled s w ds) i 0 ≡ 0
     zero_at i none below =
         scaled-at s w ds i below ∙ ap (field_product (bit_xor (field_power 2 (s * (length ds - 1 - i))) w)) none
         ∙ field_product-zero (bit_xor (field_power 2 (s * (length ds - 1 - i))) w)
+
     none : (i : ℕ) → Differs i xs → (i < length ds) ⊎ (length ds ≤ i) → (i ≡ x) ⊎ ((i < x) ⊎ (x < i)) → get_or (scaled s w ds) i 0 ≡ 0
     none i apart (inr past) order = scaled-past s w ds i past
     none i apart (inl below) (inl e) =
@@ -161,8 +165,10 @@ vanish k s (x ∷ xs) ds low high v i =
   where
     e : ℕ
     e = length ds - 1 - x
+
     w : ℕ
     w = field_power 2 (s * e)
+
     others : ((i : ℕ) → get_or (scaled s w ds) i 0 ≡ 0) → (i : ℕ) → i ≢ x → get_or ds i 0 ≡ 0
     others inner i apart = cases (cases_lt i (length ds))
       where
@@ -173,16 +179,18 @@ vanish k s (x ∷ xs) ds low high v i =
             let differ : f ≢ e = (let x_below = v.places.0 in omega (arith, x_below)) in
             let few = v.few in
             factor_none (bit_xor (field_power 2 (s * f)) w) (get_or ds i 0)
-              (xor_of_8 (field_power 2 (s * f)) w (power_byte (s * f)) (power_byte (s * e))) (v.bytes i)
-              (λ none. nodes_differ s f e low high (omega (arith, few)) (omega (arith, few)) differ (same_from_xor (field_power 2 (s * f)) w none))
-              (sym (scaled-at s w ds i below) ∙ inner i)
+            (xor_of_8 (field_power 2 (s * f)) w (power_byte (s * f)) (power_byte (s * e))) (v.bytes i)
+            (λ none. nodes_differ s f e low high (omega (arith, few)) (omega (arith, few)) differ (same_from_xor (field_power 2 (s * f)) w none))
+            (sym (scaled-at s w ds i below) ∙ inner i)
+
     own : ((i : ℕ) → get_or (scaled s w ds) i 0 ≡ 0) → get_or ds x 0 ≡ 0
     own inner =
         factor_none (field_power 2 (k * e)) (get_or ds x 0) (power_byte (k * e)) (v.bytes x) (powers_differ.nonzero (k * e))
-          (ap (λ p. field_product p (get_or ds x 0)) (sym (power_of_power k e))
-            ∙ sym (single (field_power 2 k) ds x v.places.0 (others inner))
-            ∙ (let start : k ≡ k + s * 0 = omega arith in ap (λ n. weighted_sum (field_power 2 n) ds) start)
-            ∙ v.sums 0 (omega arith))
+        (ap (λ p. field_product p (get_or ds x 0)) (sym (power_of_power k e))
+        ∙ sym (single (field_power 2 k) ds x v.places.0 (others inner))
+        ∙ (let start : k ≡ k + s * 0 = omega arith in ap (λ n. weighted_sum (field_power 2 n) ds) start)
+        ∙ v.sums 0 (omega arith))
+
     last : ((i : ℕ) → get_or (scaled s w ds) i 0 ≡ 0) → (i ≡ x) ⊎ ((i < x) ⊎ (x < i)) → get_or ds i 0 ≡ 0
     last inner (inl same) = ap (λ n. get_or ds n 0) same ∙ own inner
     last inner (inr (inl l)) = others inner i (omega arith)

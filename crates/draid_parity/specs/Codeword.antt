@@ -1,6 +1,6 @@
 -- Codewords of single, double and triple parity (OpenZFS, `vdev_raidz.c`), byte by byte.
-use Rattle.std.specs.Prelude.{◌≡◌, ℕ, zero, suc, ◌+◌, ◌^◌, ◌<◌, List, [], ◌∷◌, length, drop, map, slice_index, bit_xor}
-use Rattle.draid_gf.specs.Field.{field_product, field_power, IsByte}
+use Rattle.std.specs.Prelude.{◌≡◌, ℕ, ◌^◌, ◌<◌, List, [], ◌∷◌, length, drop, slice_index, bit_xor}
+use Rattle.draid_gf.specs.Field.{field_product, field_power}
 
 -- the sum of d data bytes with the coefficients c^(d-1), .., c, 1
 unfoldable pub weighted_sum : ℕ → List ℕ → ℕ

@@ -1,7 +1,7 @@
 -- Stripes as columns of bytes: the parity columns P, Q and R first, then the data columns.
-use Rattle.std.specs.Prelude.{◌≡◌, ◌≢◌, ℕ, Bool, zero, suc, ◌+◌, ◌*◌, ◌^◌, ◌<◌, ◌≤◌, ◌⊎◌, List, [], ◌∷◌, ◌++◌, length, take, drop, replicate, map, slice_index, slice_index_or, slice_set, bit_xor, Contains, count_by, if◌then◌else◌, nat_le, ◌==◌}
+use Rattle.std.specs.Prelude.{◌≡◌, ◌≢◌, ℕ, Bool, zero, suc, ◌+◌, ◌*◌, ◌<◌, ◌≤◌, List, [], ◌++◌, length, take, drop, replicate, map, slice_index, slice_index_or, slice_set, bit_xor, Contains, count_by, if◌then◌else◌, nat_le, ◌==◌}
 use Rattle.std.specs.List.{list_any}
-use Rattle.draid_gf.specs.Field.{field_product, field_power, IsByte}
+use Rattle.draid_gf.specs.Field.{IsByte}
 use Rattle.draid_parity.specs.Codeword.{IsCodeword, parity_sum}
 
 -- what contracts see of a stripe

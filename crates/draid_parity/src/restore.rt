@@ -17,7 +17,7 @@ fn solve_two(first: &mut Column, second: &mut Column, v0: u8, v1: u8)
     requires second { IsColumn (length first.old) second.old }
 
     ensures solved { (j : ℕ) → SolvesTwo v0 v1 (slice_index first.old j) (slice_index second.old j)
-                 (slice_index first.new j) (slice_index second.new j) }
+        (slice_index first.new j) (slice_index second.new j) }
     ensures first { IsColumn (length first.old) first.new }
     ensures second { IsColumn (length first.old) second.new }
 {
@@ -36,7 +36,7 @@ fn solve_three(first: &mut Column, second: &mut Column, third: &mut Column, v0: 
     requires third { IsColumn (length first.old) third.old }
 
     ensures solved { (j : ℕ) → SolvesThree v0 v1 v2 (slice_index first.old j) (slice_index second.old j) (slice_index third.old j)
-                 (slice_index first.new j) (slice_index second.new j) (slice_index third.new j) }
+        (slice_index first.new j) (slice_index second.new j) (slice_index third.new j) }
     ensures first { IsColumn (length first.old) first.new }
     ensures second { IsColumn (length first.old) second.new }
     ensures third { IsColumn (length first.old) third.new }
@@ -72,7 +72,15 @@ pub fn restore_one(columns: &mut Vec<Column>, alloc: Global, parity: usize, k: u
 }
 
 /// Solves data columns `x` and `y` from parity columns `k` and `l`.
-pub fn restore_two(columns: &mut Vec<Column>, alloc: Global, parity: usize, k: usize, l: usize, x: usize, y: usize)
+pub fn restore_two(
+    columns: &mut Vec<Column>,
+    alloc: Global,
+    parity: usize,
+    k: usize,
+    l: usize,
+    x: usize,
+    y: usize,
+)
     requires kind { parity ≤ 3 }
     requires present { k < l }
     requires both_present { l < parity }
@@ -127,7 +135,14 @@ pub fn restore_three(columns: &mut Vec<Column>, alloc: Global, x: usize, y: usiz
     set_rest(&mut first, columns, 3, 0);
     set_rest(&mut second, columns, 3, 1);
     set_rest(&mut third, columns, 3, 2);
-    solve_three(&mut first, &mut second, &mut third, pow2(e), pow2(f), pow2(g));
+    solve_three(
+        &mut first,
+        &mut second,
+        &mut third,
+        pow2(e),
+        pow2(f),
+        pow2(g),
+    );
     columns[x] = first;
     columns[y] = second;
     columns[z] = third;

@@ -82,7 +82,13 @@ fn next_present(missing: &[u32], from: u32, parity: u32) -> u32
 }
 
 // Solves the missing data columns, of which there are at most three, from the lowest present parity columns.
-fn solve_data(columns: &mut Vec<Column>, alloc: Global, parity: usize, missing: &[u32], lost: &[u32])
+fn solve_data(
+    columns: &mut Vec<Column>,
+    alloc: Global,
+    parity: usize,
+    missing: &[u32],
+    lost: &[u32],
+)
     requires kind { parity ≤ 3 }
     requires some { parity ≤ vec_len columns.old }
     requires few { vec_len columns.old ≤ parity + 255 }
@@ -108,7 +114,15 @@ fn solve_data(columns: &mut Vec<Column>, alloc: Global, parity: usize, missing: 
         [x, y] => {
             let k = next_present(missing, 0, parity as u32);
             let l = next_present(missing, k + 1, parity as u32);
-            restore_two(columns, alloc, parity, k as usize, l as usize, *x as usize, *y as usize);
+            restore_two(
+                columns,
+                alloc,
+                parity,
+                k as usize,
+                l as usize,
+                *x as usize,
+                *y as usize,
+            );
         }
         [x, y, z] => restore_three(columns, alloc, *x as usize, *y as usize, *z as usize),
         _ => unreachable!(),

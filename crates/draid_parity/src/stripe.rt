@@ -129,11 +129,21 @@ mod tests {
         ensures ndata { IfOk result (λ stripe. stripe.ndata ≡ 5) }
     {
         let mut stripe = Stripe::new(alloc, 3, 5, 4)?;
-        stripe.column_mut(3).copy_from_slice(&[0x8a, 0x00, 0x5d, 0xf1]);
-        stripe.column_mut(4).copy_from_slice(&[0x13, 0xff, 0x5d, 0x02]);
-        stripe.column_mut(5).copy_from_slice(&[0xc7, 0x80, 0x5d, 0x9e]);
-        stripe.column_mut(6).copy_from_slice(&[0x44, 0x01, 0x5d, 0x6b]);
-        stripe.column_mut(7).copy_from_slice(&[0xe0, 0x7f, 0x5d, 0x35]);
+        stripe
+            .column_mut(3)
+            .copy_from_slice(&[0x8a, 0x00, 0x5d, 0xf1]);
+        stripe
+            .column_mut(4)
+            .copy_from_slice(&[0x13, 0xff, 0x5d, 0x02]);
+        stripe
+            .column_mut(5)
+            .copy_from_slice(&[0xc7, 0x80, 0x5d, 0x9e]);
+        stripe
+            .column_mut(6)
+            .copy_from_slice(&[0x44, 0x01, 0x5d, 0x6b]);
+        stripe
+            .column_mut(7)
+            .copy_from_slice(&[0xe0, 0x7f, 0x5d, 0x35]);
         stripe.encode();
         Ok(stripe)
     }

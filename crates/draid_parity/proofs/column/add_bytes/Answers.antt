@@ -1,4 +1,4 @@
-use Rattle.std.proofs.Common.{◌≡◌, ℕ, ◌<◌, ◌∙◌, bit_xor, ap, sym, refl, get_or, arith}
+use Rattle.std.proofs.Common.{◌∙◌, bit_xor, ap, sym, refl, get_or}
 use Rattle.draid_gf.specs.Field.{field_product, IsByte}
 use Rattle.draid_gf.proofs.Product.{field_product-zero, one-field_product}
 use Rattle.draid_parity.proofs.Lists.{zip2_at}

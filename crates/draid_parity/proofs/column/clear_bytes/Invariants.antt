@@ -1,4 +1,4 @@
-use Rattle.std.proofs.Common.{◌≡◌, ℕ, ◌<◌, ◌≤◌, get_or}
+use Rattle.std.proofs.Common.{◌≡◌, ℕ, ◌<◌, get_or}
 use Rattle.draid_parity.proofs.column.clear_bytes.Given as goal
 
 abbrev pub invariant-loop-i : goal.invariant-loop-i

@@ -1,4 +1,4 @@
-use Rattle.std.proofs.Common.{◌≡◌, ℕ, ◌<◌, ◌≤◌, length, get_or, arith}
+use Rattle.std.proofs.Common.{arith}
 use Rattle.draid_parity.proofs.Missing.{ascending_le}
 use Rattle.draid_parity.proofs.solve.first_data.Goals as goal
 

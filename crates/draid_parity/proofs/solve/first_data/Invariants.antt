@@ -1,4 +1,4 @@
-use Rattle.std.proofs.Common.{◌≡◌, ℕ, ◌<◌, ◌≤◌, get_or}
+use Rattle.std.proofs.Common.{ℕ, ◌<◌, get_or}
 use Rattle.draid_parity.proofs.solve.first_data.Given as goal
 
 abbrev pub invariant-loop-n : goal.invariant-loop-n

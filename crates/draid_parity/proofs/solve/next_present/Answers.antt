@@ -1,4 +1,4 @@
-use Rattle.std.proofs.Common.{◌≡◌, ℕ, suc, ◌+◌, ◌∙◌, ap, sym, arith}
+use Rattle.std.proofs.Common.{◌≡◌, suc, ◌+◌, ◌∙◌, ap, sym, arith}
 use Rattle.draid_parity.specs.Columns.{present_below}
 use Rattle.draid_parity.proofs.Missing.{present-missing}
 use Rattle.draid_parity.proofs.solve.next_present.Goals as goal

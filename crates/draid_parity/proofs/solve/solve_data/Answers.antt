@@ -1,7 +1,7 @@
-use Rattle.std.proofs.Common.{◌≡◌, ◌≢◌, ℕ, suc, ◌+◌, ◌<◌, ◌≤◌, ◌∙◌, length, ap, sym, subst, arith}
-use Rattle.std.specs.Prelude.{nat_le, count_by}
+use Rattle.std.proofs.Common.{◌≡◌, suc, ◌+◌, ap, arith}
+use Rattle.std.specs.Prelude.{nat_le}
 use Rattle.std.proofs.lemmas.List.Sums.{count_by-le-length}
-use Rattle.draid_parity.specs.Columns.{ChosenSums, present_below}
+use Rattle.draid_parity.specs.Columns.{present_below}
 use Rattle.draid_parity.proofs.Missing.{enough_present, present_zero, present-there, test-from_absent, chosen_one, chosen_two, chosen_three}
 use Rattle.draid_parity.proofs.solve.solve_data.Goals as goal
 
@@ -31,17 +31,17 @@ next_present-l-requires-clause-some c =
 pub returns-in-len1-clause-chosen : goal.returns-in-len1-clause-chosen
 returns-in-len1-clause-chosen c =
     chosen_one c.args.parity c.args.missing.now c.restore_one.new.columns.items c.next_present-k.result (omega (arith, c.requires.all))
-      c.next_present-k.ensures.below c.next_present-k.ensures.present c.next_present-k.ensures.lowest c.restore_one.ensures.sum
+    c.next_present-k.ensures.below c.next_present-k.ensures.present c.next_present-k.ensures.lowest c.restore_one.ensures.sum
 
 pub returns-in-len2-clause-chosen : goal.returns-in-len2-clause-chosen
 returns-in-len2-clause-chosen c =
     chosen_two c.args.parity c.args.missing.now c.restore_two.new.columns.items c.next_present-k-in-len2.result c.next_present-l.result
-      c.requires.kind (omega (arith, c.requires.all)) (let above = c.next_present-l.ensures.above in omega (arith, above))
-      c.next_present-l.ensures.below c.next_present-k-in-len2.ensures.present c.next_present-l.ensures.present
-      c.next_present-k-in-len2.ensures.lowest c.next_present-l.ensures.lowest c.restore_two.ensures.sums
+    c.requires.kind (omega (arith, c.requires.all)) (let above = c.next_present-l.ensures.above in omega (arith, above))
+    c.next_present-l.ensures.below c.next_present-k-in-len2.ensures.present c.next_present-l.ensures.present
+    c.next_present-k-in-len2.ensures.lowest c.next_present-l.ensures.lowest c.restore_two.ensures.sums
 
 pub returns-in-len3-clause-chosen : goal.returns-in-len3-clause-chosen
 returns-in-len3-clause-chosen c =
     let few = count_by-le-length (λ i. nat_le c.args.parity i) c.args.missing.now in
     chosen_three c.args.parity c.args.missing.now c.restore_three.new.columns.items (omega (arith, few, c.requires.all)) (omega (arith, c.requires.all))
-      (omega arith) c.restore_three.ensures.sums
+    (omega arith) c.restore_three.ensures.sums

@@ -7,5 +7,5 @@ use Rattle.draid_parity.proofs.sums.add_sum.Given as goal
 abbrev pub invariant-loop-i : goal.invariant-loop-i
 invariant-loop-i l = record {
   column : IsColumn (length l.initial.sum) l.sum;
-  sum : (j : ℕ) → slice_index l.sum j ≡ bit_xor (slice_index l.initial.sum j) (weighted_sum (2 ^ l.k) (drop l.i (byte_row j l.summands)))
+  sum : (j : ℕ) → slice_index l.sum j ≡ bit_xor (slice_index l.initial.sum j) (weighted_sum (2 ^ l.k) (drop l.i (byte_row j l.summands)));
 }

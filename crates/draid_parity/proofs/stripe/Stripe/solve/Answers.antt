@@ -1,4 +1,4 @@
-use Rattle.std.proofs.Common.{◌≡◌, ℕ, ◌+◌, ◌<◌, ◌∙◌, List, length, ap, sym, subst, arith}
+use Rattle.std.proofs.Common.{◌≡◌, ◌∙◌, length, ap, sym, subst, arith}
 use Rattle.draid_parity.specs.Columns.{Completes, StripeValue, column_at}
 use Rattle.draid_parity.proofs.OneSolution.{one_solution}
 use Rattle.draid_parity.proofs.stripe.Stripe.solve.Goals as goal
@@ -17,20 +17,20 @@ returns-clause-restores c = λ whole given.
     let count = s.count in
     let whole_count = completes.stripe.count in
     one_solution c.self.inside.parity c.self.inside.len missing old new whole
-      (record {
-        kind = s.parity_range;
-        some = omega (arith, count);
-        few = (let range = s.data_range in omega (arith, count, range));
-        new_count = (let kept = c.solve_columns.ensures.count in omega (arith, kept));
-        whole_count = omega (arith, count, whole_count);
-        new_columns = λ i below. c.solve_columns.ensures.columns i below ∙ first;
-        whole_columns = λ i below. completes.stripe.columns i (omega (arith, below, whole_count));
-        new_bytes = c.solve_columns.ensures.bytes;
-        whole_bytes = completes.bytes;
-        ascending = c.requires.ascending;
-        in_range = λ n below. (let range = c.requires.in_range n 0 below in omega (arith, range, parity, ndata, count));
-        solves = c.solve_columns.ensures.solved;
-        chosen = c.solve_columns.ensures.chosen;
-        encoded = completes.encoded;
-        stays = completes.stays
-      })
+    (record {
+      kind = s.parity_range;
+      some = omega (arith, count);
+      few = (let range = s.data_range in omega (arith, count, range));
+      new_count = (let kept = c.solve_columns.ensures.count in omega (arith, kept));
+      whole_count = omega (arith, count, whole_count);
+      new_columns = λ i below. c.solve_columns.ensures.columns i below ∙ first;
+      whole_columns = λ i below. completes.stripe.columns i (omega (arith, below, whole_count));
+      new_bytes = c.solve_columns.ensures.bytes;
+      whole_bytes = completes.bytes;
+      ascending = c.requires.ascending;
+      in_range = λ n below. (let range = c.requires.in_range n 0 below in omega (arith, range, parity, ndata, count));
+      solves = c.solve_columns.ensures.solved;
+      chosen = c.solve_columns.ensures.chosen;
+      encoded = completes.encoded;
+      stays = completes.stays;
+    })
