@@ -68,13 +68,15 @@ unfoldable pub present_below : List ℕ → ℕ → ℕ
 present_below missing zero = 0
 present_below missing (suc k) = present_below missing k + (if is_missing missing k then 0 else 1)
 
--- The parity columns from which missing data columns are solved: of those that are there the lowest, one for each missing data column.
+-- The parity columns from which missing data columns are solved: of those that are there the lowest,
+-- one for each missing data column.
 pub record IsChosen (parity : ℕ) (missing : List ℕ) (k : ℕ) : Type 0 where
   pub in_range : k < parity
   pub present : Contains missing k → ⊥
   pub lowest : present_below missing k < count_by (λ i. nat_le parity i) missing
 
--- The chosen sums hold. They are those of columns in equal steps: first, first + step and so on, one for each missing data column.
+-- The chosen sums hold. They are those of columns in equal steps: first, first + step and so on, one
+-- for each missing data column.
 pub record ChosenSums (parity : ℕ) (missing : List ℕ) (columns : List (List ℕ)) : Type 0 where
   pub sums : (k : ℕ) → IsChosen parity missing k → HasSum parity columns k
   pub first : ℕ
@@ -82,7 +84,8 @@ pub record ChosenSums (parity : ℕ) (missing : List ℕ) (columns : List (List 
   pub steps : (1 ≤ step) × (step ≤ 2)
   pub chosen : (t : ℕ) → t < count_by (λ i. nat_le parity i) missing → IsChosen parity missing (first + step * t)
 
--- what isn't missing stays; the missing data columns solve the chosen sums, and the missing parity columns are encoded
+-- what isn't missing stays; the missing data columns solve the chosen sums, and the missing parity
+-- columns are encoded
 pub record SolvesColumns (parity : ℕ) (missing : List ℕ) (old new : List (List ℕ)) : Type 0 where
   pub stays : (i : ℕ) → (Contains missing i → ⊥) → column_at new i ≡ column_at old i
   pub solved : (k : ℕ) → IsChosen parity missing k → HasSum parity new k

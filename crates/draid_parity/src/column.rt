@@ -79,7 +79,8 @@ impl Column {
     /// Adds `by` times `from`.
     pub fn add(&mut self, by: u8, from: &Column)
         requires { length self.old ≡ length from.now }
-        ensures sums { (j : ℕ) → slice_index self.new j ≡ bit_xor (slice_index self.old j) (field_product by (slice_index from.now j)) }
+        ensures sums { (j : ℕ) → slice_index self.new j
+            ≡ bit_xor (slice_index self.old j) (field_product by (slice_index from.now j)) }
         ensures len { length self.new ≡ length self.old }
         ensures bytes { (j : ℕ) → IsByte (slice_index self.new j) }
     {
@@ -123,7 +124,8 @@ fn scale_bytes(bytes: &mut [u8], by: u8)
 
 fn add_bytes(to: &mut [u8], by: u8, from: &[u8])
     requires { length to.old ≡ length from.now }
-    ensures sums { (j : ℕ) → slice_index to.new j ≡ bit_xor (slice_index to.old j) (field_product by (slice_index from.now j)) }
+    ensures sums { (j : ℕ) → slice_index to.new j
+        ≡ bit_xor (slice_index to.old j) (field_product by (slice_index from.now j)) }
     ensures bytes { (j : ℕ) → IsByte (slice_index to.new j) }
 {
     if by == 1 {

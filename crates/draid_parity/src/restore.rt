@@ -119,7 +119,8 @@ pub fn restore_three(columns: &mut Vec<Column>, alloc: Global, x: usize, y: usiz
     requires few { vec_len columns.old ≤ 3 + 255 }
     requires columns { AreColumns (length (column_at columns.old.items x)) columns.old.items }
 
-    ensures stays { (i : ℕ) → i ≢ x → i ≢ y → i ≢ z → column_at columns.new.items i ≡ column_at columns.old.items i }
+    ensures stays { (i : ℕ) → i ≢ x → i ≢ y → i ≢ z → column_at columns.new.items i
+        ≡ column_at columns.old.items i }
     ensures count { vec_len columns.new ≡ vec_len columns.old }
     ensures first { IsColumn (length (column_at columns.old.items x)) (column_at columns.new.items x) }
     ensures second { IsColumn (length (column_at columns.old.items x)) (column_at columns.new.items y) }

@@ -38,7 +38,8 @@ pub fn solve_columns(columns: &mut Vec<Column>, alloc: Global, parity: usize, mi
 
     ensures count { vec_len columns.new ≡ vec_len columns.old }
     ensures columns { AreColumns (length (column_at columns.old.items 0)) columns.new.items }
-    ensures bytes { (i j : ℕ) → Contains missing.now i → parity ≤ i → IsByte (slice_index (column_at columns.new.items i) j) }
+    ensures bytes { (i j : ℕ) → Contains missing.now i → parity ≤ i
+        → IsByte (slice_index (column_at columns.new.items i) j) }
     ensures solved { SolvesColumns parity missing.now columns.old.items columns.new.items }
     ensures chosen { ChosenSums parity missing.now columns.new.items }
 {
@@ -81,7 +82,8 @@ fn next_present(missing: &[u32], from: u32, parity: u32) -> u32
     unreachable!()
 }
 
-// Solves the missing data columns, of which there are at most three, from the lowest present parity columns.
+// Solves the missing data columns, of which there are at most three, from the lowest present parity
+// columns.
 fn solve_data(
     columns: &mut Vec<Column>,
     alloc: Global,
@@ -99,7 +101,8 @@ fn solve_data(
     requires lost { (n : ℕ) → n < length lost.now → parity ≤ slice_index lost.now n }
     requires in_range { (n : ℕ) → n < length lost.now → slice_index lost.now n < vec_len columns.old }
 
-    ensures stays { (i : ℕ) → (Contains lost.now i → ⊥) → column_at columns.new.items i ≡ column_at columns.old.items i }
+    ensures stays { (i : ℕ) → (Contains lost.now i → ⊥) → column_at columns.new.items i
+        ≡ column_at columns.old.items i }
     ensures count { vec_len columns.new ≡ vec_len columns.old }
     ensures columns { AreColumns (length (column_at columns.old.items 0)) columns.new.items }
     ensures bytes { (i j : ℕ) → Contains lost.now i → IsByte (slice_index (column_at columns.new.items i) j) }

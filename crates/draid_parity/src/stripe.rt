@@ -10,7 +10,8 @@ use crate::solve::{encode_columns, solve_columns};
 use std::alloc::{AllocError, Global};
 use std::marker::Model;
 
-/// The columns of a stripe: parity columns P, Q and R first, as many as its parity, and then the data columns.
+/// The columns of a stripe: parity columns P, Q and R first, as many as its parity, and then the
+/// data columns.
 #[derive(Drop)]
 pub struct Stripe {
     parity: u32,
@@ -31,7 +32,8 @@ impl Model for Stripe {
 }
 
 impl Stripe {
-    /// A stripe of zero bytes, with `len` bytes in each column. The parity is 1 to 3, and there are 1 to 255 data columns.
+    /// A stripe of zero bytes, with `len` bytes in each column. The parity is 1 to 3, and there are 1
+    /// to 255 data columns.
     pub fn new(alloc: Global, parity: u32, ndata: u32, len: u32) -> Result<Stripe, AllocError>
         requires some_parity { 1 ≤ parity }
         requires parity { parity ≤ 3 }
@@ -76,22 +78,25 @@ impl Stripe {
     /// Sets the parity columns, so that each row of bytes is a codeword.
     pub fn encode(&mut self)
         ensures encoded { IsEncoded self.new }
-        ensures stays { (i : ℕ) → self.old.parity ≤ i → column_at self.new.columns i ≡ column_at self.old.columns i }
+        ensures stays { (i : ℕ) → self.old.parity ≤ i → column_at self.new.columns i
+            ≡ column_at self.old.columns i }
         ensures shape { self.new ≡ record self.old { columns = self.new.columns } }
         ensures stripe { IsStripe self.new }
     {
         encode_columns(&mut self.columns, self.alloc, self.parity as usize);
     }
 
-    /// Sets the missing columns, whose numbers ascend and are at most as many as the parity, from the others: to those of the codewords
-    /// that have the others. Where the others are of no codewords, missing data columns are solved from the lowest present parity columns, and missing
-    /// parity columns are encoded then. Takes no memory.
+    /// Sets the missing columns, whose numbers ascend and are at most as many as the parity, to those
+    /// of the codewords that have the other columns. Where there are no such codewords, missing data
+    /// columns are solved from the lowest present parity columns, and missing parity columns are
+    /// encoded then. Takes no memory.
     pub fn solve(&mut self, missing: &[u32])
         requires few { length missing.now ≤ self.old.parity }
         requires ascending { IsStrictlyIncreasing missing.now }
         requires in_range { All (λ i. i < self.old.parity + self.old.ndata) missing.now }
 
-        ensures restores { (whole : List (List ℕ)) → Completes missing.now self.old whole → self.new.columns ≡ whole }
+        ensures restores { (whole : List (List ℕ)) → Completes missing.now self.old whole → self.new.columns
+            ≡ whole }
         ensures solves { SolvesColumns self.old.parity missing.now self.old.columns self.new.columns }
         ensures shape { self.new ≡ record self.old { columns = self.new.columns } }
         ensures stripe { IsStripe self.new }

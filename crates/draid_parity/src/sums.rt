@@ -16,7 +16,8 @@ pub fn add_sum(sum: &mut Column, k: u32, summands: &[Column])
     requires parts { AreParts (length sum.old) summands.now }
     requires bytes { (j : ℕ) → IsByte (slice_index sum.old j) }
 
-    ensures sum { (j : ℕ) → slice_index sum.new j ≡ bit_xor (slice_index sum.old j) (parity_sum k (byte_row j summands.now)) }
+    ensures sum { (j : ℕ) → slice_index sum.new j
+        ≡ bit_xor (slice_index sum.old j) (parity_sum k (byte_row j summands.now)) }
     ensures column { IsColumn (length sum.old) sum.new }
 {
     for i in (0..summands.len()).rev() {
