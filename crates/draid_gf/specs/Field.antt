@@ -1,5 +1,5 @@
--- The field of 256 elements. A byte is a polynomial over two elements, bit e being its coefficient of x^e. The sum of two polynomials is
--- their exclusive or, since 1 + 1 is 0, and x^e times a is a * 2 ^ e.
+-- The field of 256 elements. A byte is a polynomial over two elements, bit e being its coefficient of
+-- x^e. The sum of two polynomials is their exclusive or, since 1 + 1 is 0, and x^e times a is a * 2 ^ e.
 use Rattle.std.specs.Prelude.{◌≡◌, ◌≢◌, ℕ, zero, suc, ◌+◌, ◌*◌, ◌^◌, ◌<◌, ◌==◌, List, [], ◌∷◌, find, unwrap_or, bit_xor}
 use Rattle.std.specs.Int.{bit_at}
 
@@ -21,8 +21,8 @@ pub record IsRemainder (n r : ℕ) : Type 0 where
   pub degree : r < 2 ^ 8
   pub quotient : (q : ℕ) × (q < 2 ^ 8) × (n ≡ bit_xor (polynomial_product modulus q) r)
 
--- a polynomial of degree below 8 + n has one remainder, which long division finds, the highest term first (`field_laws` says that it
--- is the remainder)
+-- the remainder of a polynomial of degree below 8 + n, by long division, the highest term first
+-- (`field_laws` says that it is the remainder of a product, and the only one)
 unfoldable pub remainder : ℕ → ℕ → ℕ
 remainder zero a = a
 remainder (suc n) a = remainder n (bit_xor a (bit_at a (8 + n) * (modulus * 2 ^ n)))

@@ -1,0 +1,4 @@
+pub mod Codeword
+pub mod Columns
+pub mod Equations
+pub mod Lending

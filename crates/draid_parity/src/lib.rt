@@ -1,0 +1,11 @@
+//! Single, double and triple parity over the columns of a stripe, as RAID-Z computes it (OpenZFS,
+//! `vdev_raidz.c`): P, Q and R are sums of the data bytes in the field of 256 elements.
+#![tactic(auto)]
+
+mod column;
+mod restore;
+mod solve;
+mod stripe;
+mod sums;
+
+pub use stripe::Stripe;

@@ -1,0 +1,189 @@
+//! A stripe: its parity columns and its data columns.
+ghost use Rattle.std.specs.Prelude.{◌≡◌, ℕ, ◌+◌, ◌<◌, ◌≤◌, All, IfOk, List, length};
+ghost use Rattle.std.specs.Borrow.{sem};
+ghost use Rattle.std.specs.List.Sorted.{IsStrictlyIncreasing};
+ghost use Rattle.draid_parity.specs.Columns.{Completes, IsEncoded, IsStripe, SolvesColumns, StripeValue, column_at, zero_stripe};
+ghost use Rattle.draid_parity.specs.Lending.{LendsColumn};
+
+use crate::column::Column;
+use crate::solve::{encode_columns, solve_columns};
+use std::alloc::{AllocError, Global};
+use std::marker::Model;
+
+/// The columns of a stripe: parity columns P, Q and R first, as many as its parity, and then the
+/// data columns.
+#[derive(Drop)]
+pub struct Stripe {
+    parity: u32,
+    ndata: u32,
+    len: u32,
+    columns: Vec<Column>,
+    alloc: Global,
+}
+
+impl Model for Stripe {
+    ghost use Rattle.draid_parity.specs.Columns.{IsStripe, StripeValue};
+
+    ghost Value = { StripeValue };
+
+    ghost view = { λ s. record { parity = s.parity; ndata = s.ndata; len = s.len; columns = s.columns.items } };
+
+    ghost invariant = { λ s. IsStripe (record { parity = s.parity; ndata = s.ndata; len = s.len; columns = s.columns.items }) };
+}
+
+impl Stripe {
+    /// A stripe of zero bytes, with `len` bytes in each column. The parity is 1 to 3, and there are 1
+    /// to 255 data columns.
+    pub fn new(alloc: Global, parity: u32, ndata: u32, len: u32) -> Result<Stripe, AllocError>
+        requires some_parity { 1 ≤ parity }
+        requires parity { parity ≤ 3 }
+        requires some_data { 1 ≤ ndata }
+        requires ndata { ndata ≤ 255 }
+        ensures { IfOk result (λ stripe. stripe ≡ zero_stripe parity ndata len) }
+    {
+        let mut columns = Vec::new(alloc);
+        for _ in 0..parity + ndata {
+            columns.push(Column::zeroed(alloc, len as usize)?)?;
+        }
+        Ok(Stripe {
+            parity,
+            ndata,
+            len,
+            columns,
+            alloc,
+        })
+    }
+
+    /// Column `i`.
+    pub fn column(&self, i: u32) -> &[u8]
+        requires { i < self.now.parity + self.now.ndata }
+        ensures value { result.now ≡ column_at self.now.columns i }
+        ensures len { length result.now ≡ self.now.len }
+        ensures stripe { IsStripe self.now }
+    {
+        self.columns[i as usize].as_slice()
+    }
+
+    /// Column `i`, to be written.
+    pub fn column_mut(&mut self, i: u32) -> &mut [u8]
+        requires { i < self.old.parity + self.old.ndata }
+        ensures* writes_back { sem 𝓛 (LendsColumn self.entry i result) }
+        ensures value { result.now ≡ column_at self.old.columns i }
+        ensures len { length result.now ≡ self.old.len }
+    {
+        let column = &mut self.columns[i as usize];
+        column.as_mut_slice()
+    }
+
+    /// Sets the parity columns, so that each row of bytes is a codeword.
+    pub fn encode(&mut self)
+        ensures encoded { IsEncoded self.new }
+        ensures stays { (i : ℕ) → self.old.parity ≤ i → column_at self.new.columns i
+            ≡ column_at self.old.columns i }
+        ensures shape { self.new ≡ record self.old { columns = self.new.columns } }
+        ensures stripe { IsStripe self.new }
+    {
+        encode_columns(&mut self.columns, self.alloc, self.parity as usize);
+    }
+
+    /// Sets the missing columns, whose numbers ascend and are at most as many as the parity, to those
+    /// of the codewords that have the other columns. Where there are no such codewords, missing data
+    /// columns are solved from the lowest present parity columns, and missing parity columns are
+    /// encoded then. Takes no memory.
+    pub fn solve(&mut self, missing: &[u32])
+        requires few { length missing.now ≤ self.old.parity }
+        requires ascending { IsStrictlyIncreasing missing.now }
+        requires in_range { All (λ i. i < self.old.parity + self.old.ndata) missing.now }
+
+        ensures restores { (whole : List (List ℕ)) → Completes missing.now self.old whole → self.new.columns
+            ≡ whole }
+        ensures solves { SolvesColumns self.old.parity missing.now self.old.columns self.new.columns }
+        ensures shape { self.new ≡ record self.old { columns = self.new.columns } }
+        ensures stripe { IsStripe self.new }
+    {
+        solve_columns(&mut self.columns, self.alloc, self.parity as usize, missing);
+    }
+}
+
+#[cfg(test)]
+mod tests {
+    use super::*;
+    use std::test::Fail;
+
+    #[test]
+    fn worked_rows(rt: HostRuntime) -> Result<(), Fail> {
+        let mut stripe = Stripe::new(rt.alloc(), 3, 2, 1)?;
+        stripe.column_mut(3)[0] = 0x80;
+        stripe.encode();
+        assert_eq!(rt; stripe.column(0)[0], 0x80);
+        assert_eq!(rt; stripe.column(1)[0], 0x1d);
+        assert_eq!(rt; stripe.column(2)[0], 0x3a);
+
+        let mut stripe = Stripe::new(rt.alloc(), 3, 2, 1)?;
+        stripe.column_mut(1)[0] = 0x00;
+        stripe.column_mut(2)[0] = 0x06;
+        stripe.solve(&[0, 3, 4]);
+        assert_eq!(rt; stripe.column(0)[0], 0x03);
+        assert_eq!(rt; stripe.column(3)[0], 0x01);
+        assert_eq!(rt; stripe.column(4)[0], 0x02);
+        Ok(())
+    }
+
+    fn example(alloc: Global) -> Result<Stripe, AllocError>
+        ensures parity { IfOk result (λ stripe. stripe.parity ≡ 3) }
+        ensures ndata { IfOk result (λ stripe. stripe.ndata ≡ 5) }
+    {
+        let mut stripe = Stripe::new(alloc, 3, 5, 4)?;
+        stripe
+            .column_mut(3)
+            .copy_from_slice(&[0x8a, 0x00, 0x5d, 0xf1]);
+        stripe
+            .column_mut(4)
+            .copy_from_slice(&[0x13, 0xff, 0x5d, 0x02]);
+        stripe
+            .column_mut(5)
+            .copy_from_slice(&[0xc7, 0x80, 0x5d, 0x9e]);
+        stripe
+            .column_mut(6)
+            .copy_from_slice(&[0x44, 0x01, 0x5d, 0x6b]);
+        stripe
+            .column_mut(7)
+            .copy_from_slice(&[0xe0, 0x7f, 0x5d, 0x35]);
+        stripe.encode();
+        Ok(stripe)
+    }
+
+    // Whether the missing columns come back after other bytes were written to them.
+    fn comes_back(alloc: Global, missing: &[u32]) -> Result<bool, AllocError>
+        requires few { length missing.now ≤ 3 }
+        requires ascending { IsStrictlyIncreasing missing.now }
+        requires in_range { All (λ i. i < 8) missing.now }
+    {
+        let whole = example(alloc)?;
+        let mut stripe = example(alloc)?;
+        for i in missing {
+            stripe.column_mut(*i).fill(0xa5);
+        }
+        stripe.solve(missing);
+        for i in 0..8 {
+            if stripe.column(i) != whole.column(i) {
+                return Ok(false);
+            }
+        }
+        Ok(true)
+    }
+
+    #[test]
+    fn any_three_come_back(rt: HostRuntime) -> Result<(), Fail> {
+        for x in 0..8 {
+            assert!(rt; comes_back(rt.alloc(), &[x])?, "{x}");
+            for y in x + 1..8 {
+                assert!(rt; comes_back(rt.alloc(), &[x, y])?, "{x} {y}");
+                for z in y + 1..8 {
+                    assert!(rt; comes_back(rt.alloc(), &[x, y, z])?, "{x} {y} {z}");
+                }
+            }
+        }
+        Ok(())
+    }
+}
