@@ -1,0 +1,6 @@
+pub mod BaseRows
+pub mod Children
+pub mod FillLemmas
+pub mod Permuted
+pub mod Shuffles
+pub mod Turns

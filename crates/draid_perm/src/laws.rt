@@ -1,0 +1,10 @@
+ghost use Rattle.std.specs.Prelude.{◌≡◌, ◌<◌, ℕ};
+ghost use Rattle.draid_perm.specs.Perms.{child_of, children_of};
+ghost use Rattle.draid_perm.specs.declared.perms.Perms.{Perms};
+
+/// Law: in each slice the positions stand on children, no two of them on the same.
+#[tactic(auto, using(crate::proofs::Children::child_apart, crate::proofs::Children::child_below))]
+pub fn positions_stand_apart()
+    ensures below { (perms : Perms) (slice position : ℕ) → child_of perms slice position < children_of perms }
+    ensures apart { (perms : Perms) (slice a b : ℕ) → a < children_of perms → b < children_of perms → child_of perms slice a ≡ child_of perms slice b → a ≡ b }
+{}
