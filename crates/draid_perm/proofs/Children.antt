@@ -2,8 +2,8 @@ use Rattle.std.proofs.Common.{◌≡◌, ◌+◌, ◌*◌, ◌-◌, ◌/◌, ◌
 use Rattle.std.proofs.Math.Nat.{mod-lt}
 use Rattle.std.proofs.lemmas.List.{get_or-take, length-take}
 use Rattle.draid_perm.specs.declared.perms.Perms.{Perms}
-use Rattle.draid_perm.specs.Perms.{child_of}
-use Rattle.draid_perm.specs.Rows.{IsPermuted}
+use Rattle.draid_perm.specs.Perms.{AreSeeded, child_of, seeded_child}
+use Rattle.draid_perm.specs.Rows.{IsPermuted, base_row}
 use Rattle.draid_perm.proofs.Turns.{turn_row, turned_back, turned_apart}
 
 -- two positions of a slice stand on two children
@@ -38,3 +38,16 @@ child_at perms slice child row turn index below row_is turn_is within item =
     ap (λ r. turned r (slice % (16 * perms.n) % perms.n)) (sym row_is)
     ∙ (ap (turned row) (sym turn_is)
     ∙ (ap (λ x. (x + turn) % perms.n) base ∙ turned_back child turn perms.n below less))
+
+-- the children of a seed's permutations are those of its base rows
+pub child_seeded : (perms : Perms) (n seed slice position : ℕ) → AreSeeded perms n seed → position < n → child_of perms slice position ≡ seeded_child n seed slice position
+child_seeded perms n seed slice position are short =
+    let same : perms.n ≡ n = are.children in
+    let some : 0 < n = let h : 2 ≤ perms.n = perms.least in omega arith in
+    let row : ℕ = slice % (16 * n) / n in
+    let base : take n (slice_index_or perms.rows (slice % (16 * n) / n) []) ≡ base_row n seed (slice % (16 * n) / n)
+    = are.rows (slice % (16 * n) / n) (turn_row slice n some) in
+    let item : slice_index (slice_index_or perms.rows (slice % (16 * n) / n) []) position ≡ slice_index (base_row n seed (slice % (16 * n) / n)) position
+    = sym (get_or-take n (slice_index_or perms.rows (slice % (16 * n) / n) []) position 0 short) ∙ ap (λ r. slice_index r position) base in
+    ap (λ k. (slice_index (slice_index_or perms.rows (slice % (16 * k) / k) []) position + slice % (16 * k) % k) % k) same
+    ∙ ap (λ x. (x + slice % (16 * n) % n) % n) item

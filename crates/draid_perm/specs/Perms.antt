@@ -16,3 +16,9 @@ abbrev pub child_of : Perms → ℕ → ℕ → ℕ
 child_of perms slice position =
     let turn = slice % (16 * perms.n) in
     (slice_index (slice_index_or perms.rows (turn / perms.n) []) position + turn % perms.n) % perms.n
+
+-- the child at a position of a slice, by the seed
+abbrev pub seeded_child : ℕ → ℕ → ℕ → ℕ → ℕ
+seeded_child n seed slice position =
+    let turn = slice % (16 * n) in
+    (slice_index (base_row n seed (turn / n)) position + turn % n) % n
