@@ -10,7 +10,6 @@ use Rattle.draid_perm.proofs.Turns.{turn_row, turned_back, turned_apart}
 pub child_apart : (perms : Perms) (slice a b : ℕ) → a < perms.n → b < perms.n → child_of perms slice a ≡ child_of perms slice b → a ≡ b
 child_apart perms slice a b left right same =
     let some : 0 < perms.n = let h : 2 ≤ perms.n = perms.least in omega arith in
-    let row : List ℕ = slice_index_or perms.rows (slice % (16 * perms.n) / perms.n) [] in
     let p : IsPermuted perms.n (slice_index_or perms.rows (slice % (16 * perms.n) / perms.n) []) = perms.permuted (slice % (16 * perms.n) / perms.n) (turn_row slice perms.n some) in
     let less : slice % (16 * perms.n) % perms.n < perms.n = mod-lt (slice % (16 * perms.n)) some in
     p.apart a b left right (turned_apart _ _ (slice % (16 * perms.n) % perms.n) perms.n (p.below a left) (p.below b right) less same)
@@ -44,7 +43,6 @@ pub child_seeded : (perms : Perms) (n seed slice position : ℕ) → AreSeeded p
 child_seeded perms n seed slice position are short =
     let same : perms.n ≡ n = are.children in
     let some : 0 < n = let h : 2 ≤ perms.n = perms.least in omega arith in
-    let row : ℕ = slice % (16 * n) / n in
     let base : take n (slice_index_or perms.rows (slice % (16 * n) / n) []) ≡ base_row n seed (slice % (16 * n) / n)
     = are.rows (slice % (16 * n) / n) (turn_row slice n some) in
     let item : slice_index (slice_index_or perms.rows (slice % (16 * n) / n) []) position ≡ slice_index (base_row n seed (slice % (16 * n) / n)) position

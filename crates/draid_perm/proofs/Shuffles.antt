@@ -6,8 +6,6 @@ use Rattle.draid_perm.specs.Shuffle.{shuffled}
 pub shuffled-drop : (words row next : List ℕ) (i last : ℕ) → i < length words → last + i ≡ length words
     → next ≡ swap row last (get_or words i 0 % (last + 1)) → shuffled (drop (i + 1) words) next ≡ shuffled (drop i words) row
 shuffled-drop words row next i last within place is =
-    let word : ℕ = get_or words i 0 in
-    let rest : List ℕ = drop (i + 1) words in
     let split : drop i words ≡ get_or words i 0 ∷ drop (i + 1) words = rw add-one (drop-cons words i 0 within) in
     let left : length (drop (i + 1) words) + 1 ≡ last = omega (arith, length-drop (i + 1) words) in
     let step : ℕ → List ℕ = λ n. swap row n (get_or words i 0 % (n + 1)) in
