@@ -9,5 +9,5 @@ mod tests;
 mod words;
 
 pub use exchange::shuffle;
-pub use laws::{children_are_seeded, positions_stand_apart};
+pub use laws::{children_are_seeded, positions_stand_apart, rows_are_orders};
 pub use perms::Perms;
