@@ -9,13 +9,15 @@ ghost use Rattle.draid_perm.specs.declared.perms.Perms.{Perms};
 #[tactic(auto, using(crate::proofs::Children::child_apart, crate::proofs::Children::child_below))]
 pub fn positions_stand_apart()
     ensures below { (perms : Perms) (slice position : ℕ) → child_of perms slice position < children_of perms }
-    ensures apart { (perms : Perms) (slice a b : ℕ) → a < children_of perms → b < children_of perms → child_of perms slice a ≡ child_of perms slice b → a ≡ b }
+    ensures apart { (perms : Perms) (slice a b : ℕ) → a < children_of perms → b < children_of perms
+        → child_of perms slice a ≡ child_of perms slice b → a ≡ b }
 {}
 
 /// Law: the children of a seed's permutations are those of its base rows.
 #[tactic(auto, using(crate::proofs::Children::child_seeded))]
 pub fn children_are_seeded()
-    ensures { (perms : Perms) (n seed slice position : ℕ) → AreSeeded perms n seed → position < n → child_of perms slice position ≡ seeded_child n seed slice position }
+    ensures { (perms : Perms) (n seed slice position : ℕ) → AreSeeded perms n seed → position < n
+        → child_of perms slice position ≡ seeded_child n seed slice position }
 {}
 
 /// Law: each base row has the children in another order.

@@ -45,7 +45,8 @@ impl Perms {
         requires { child < children_of self.now }
         ensures below { result < children_of self.now }
         ensures inverse { child_of self.now slice result ≡ child }
-        ensures only { (position : ℕ) → position < children_of self.now → child_of self.now slice position ≡ child → position ≡ result }
+        ensures only { (position : ℕ) → position < children_of self.now
+            → child_of self.now slice position ≡ child → position ≡ result }
     {
         let (row, turn) = self.turn(slice);
         let item = (child + self.n - turn) % self.n;
