@@ -55,7 +55,6 @@ Stands said (Some digits) text outcome = Rest said digits.count digits.value tex
 -- an argument begins
 begins : (said : Said) (rest : List ℕ) (outcome : Result Said SpecFault) → Rest said 0 0 rest outcome → Whole said (58 ∷ rest) outcome
 begins said rest outcome r =
-    let one : Argument = record { digits = r.digits; letter = r.letter } in
     record {
       arguments = record { digits = r.digits; letter = r.letter } ∷ r.others;
       tail = r.tail;

@@ -55,9 +55,6 @@ pub read_argument : (said : Said) (a : Argument) (rest : List ℕ) (at : ℕ) (g
     → ((next : Said) (end : ℕ) → arguments (between next) end rest ≡ g next)
     → arguments (between said) at (58 ∷ (a.digits ++ (a.letter ∷ rest))) ≡ said_then (adding said a.letter (digits_value 10 a.digits)) g
 read_argument said a rest at g is same =
-    let n : ℕ = length a.digits in
-    let end : ℕ = at + 1 + length a.digits in
-    let value : ℕ = digits_value 10 a.digits in
     let digits = read_digits said a.digits (a.letter ∷ rest) 0 0 (at + 1) (length a.digits) (at + 1 + length a.digits) is.digits is.most (omega arith) refl in
     let letter : read_byte said (Some (record { count = length a.digits; value = digits_value 10 a.digits })) (at + 1 + length a.digits) a.letter ≡ ended (adding said a.letter (digits_value 10 a.digits))
     = letter_read said (length a.digits) (digits_value 10 a.digits) (at + 1 + length a.digits) a.letter is.letter (omega (arith, is.some)) in

@@ -9,7 +9,8 @@ use std::alloc::{AllocError, Global};
 /// A spec in full, as `draid2:4d:11c:1s`. It is read again as that spec.
 pub fn spec_name(alloc: Global, spec: Spec) -> Result<String, AllocError>
     ensures text { IfOk result (λ name. string_bytes name ≡ spec_name_of spec) }
-    ensures again { IfOk result (λ name. IsSpec spec → need_of spec ≤ have_of spec → spec_by (string_bytes name) spec.children ≡ Ok spec) }
+    ensures again { IfOk result (λ name. IsSpec spec → need_of spec ≤ have_of spec
+        → spec_by (string_bytes name) spec.children ≡ Ok spec) }
 {
     let Spec {
         parity,

@@ -1,0 +1,4 @@
+pub mod Perms
+pub mod Rows
+pub mod Shuffle
+pub mod Words

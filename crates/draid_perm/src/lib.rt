@@ -1,0 +1,13 @@
+//! The permutations that spread the groups of a pool over its children.
+#![tactic(auto)]
+
+mod exchange;
+mod laws;
+mod perms;
+#[cfg(test)]
+mod tests;
+mod words;
+
+pub use exchange::shuffle;
+pub use laws::{children_are_seeded, positions_stand_apart, rows_are_orders};
+pub use perms::Perms;
