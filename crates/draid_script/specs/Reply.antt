@@ -1,16 +1,9 @@
 use Rattle.std.specs.Prelude.{ℕ, List, ◌++◌, length, codes}
 use Rattle.std.specs.Fmt.{decimal}
 use Rattle.hex.specs.Hex.{encode_lower}
-use Rattle.draid_script.specs.declared.line.CommandName.{CommandName}
-use Rattle.draid_script.specs.declared.line.CommandName.TheVariants as name
+use Rattle.draid_script.specs.Name.{name_text}
 use Rattle.draid_script.specs.declared.reply.Reply.{Reply}
 use Rattle.draid_script.specs.declared.reply.Reply.TheVariants.{Created, Written, NoSpace, Missed, Contents, NoObject, Unreadable, NoMemory}
-
--- the first word of a command
-abbrev pub name_text : CommandName → List ℕ
-name_text name.Create = codes "create"
-name_text name.Write = codes "write"
-name_text name.Read = codes "read"
 
 -- the line of an object's bytes
 abbrev pub contents_of : ℕ → List ℕ → List ℕ
