@@ -19,6 +19,6 @@ position_none p xs none = rw (le-ltb (position_or_len p xs) (length xs) none) re
 pub unwrap_or_position : (p : ℕ → Bool) (xs : List ℕ) → unwrap_or (position p xs) (length xs) ≡ position_or_len p xs
 unwrap_or_position p xs =
     elim (cases_lt (position_or_len p xs) (length xs)) [
-      inl some ↦ rw (position_some p xs some) refl
-    | inr none ↦ rw (position_none p xs none) (omega (arith, position_or_len_le p xs))
+      | inl some ↦ rw (position_some p xs some) refl
+      | inr none ↦ rw (position_none p xs none) (omega (arith, position_or_len_le p xs))
     ]

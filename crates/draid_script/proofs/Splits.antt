@@ -32,10 +32,10 @@ word_more line text start len sofar all same whole bound more here =
     let some : position_or_len is_space (drop start line) < length (drop start line) = omega (arith, length-drop start line) in
     let word = λ (t : List ℕ). let w : Placed = record { text = t; at = start } in w in
     let parts : placed_from start (slice_split is_space (drop start line)) ≡ word text ∷ placed_from (start + len + 1) (slice_split is_space (drop (start + len + 1) line)) =
-        placed_first start (drop start line) some
-        ∙ ap (λ (t : List ℕ). word t ∷ placed_from (start + length t + 1) (slice_split is_space (after_first is_space (drop start line)))) (sym same)
-        ∙ ap (λ (n : ℕ). word text ∷ placed_from (start + n + 1) (slice_split is_space (after_first is_space (drop start line)))) (sym whole)
-        ∙ ap (λ (rest : List ℕ). word text ∷ placed_from (start + len + 1) (slice_split is_space rest)) (drop-drop (position_or_len is_space (drop start line) + 1) start line ∙ ap (λ (n : ℕ). drop n line) (omega arith)) in
+    placed_first start (drop start line) some
+    ∙ ap (λ (t : List ℕ). word t ∷ placed_from (start + length t + 1) (slice_split is_space (after_first is_space (drop start line)))) (sym same)
+    ∙ ap (λ (n : ℕ). word text ∷ placed_from (start + n + 1) (slice_split is_space (after_first is_space (drop start line)))) (sym whole)
+    ∙ ap (λ (rest : List ℕ). word text ∷ placed_from (start + len + 1) (slice_split is_space rest)) (drop-drop (position_or_len is_space (drop start line) + 1) start line ∙ ap (λ (n : ℕ). drop n line) (omega arith)) in
     append_assoc sofar (word text ∷ []) (placed_from (start + len + 1) (slice_split is_space (drop (start + len + 1) line)))
     ∙ ap (λ (rest : List Placed). sofar ++ rest) (sym parts) ∙ here
 

@@ -10,7 +10,7 @@ use Rattle.draid_script.specs.declared.line.StatusFormat.{StatusFormat}
 use Rattle.draid_script.specs.declared.line.StatusFormat.TheVariants.{Json}
 use Rattle.draid_script.specs.Fault.{fault, ◌>>=◌}
 use Rattle.draid_script.specs.Word.{Placed, number_of, bytes_of}
-use Rattle.draid_script.specs.Command.{longest_block, most_objects}
+use Rattle.draid_script.specs.Line.{longest_block, most_objects}
 use Rattle.std.specs.Str.{bytes_eq}
 
 -- a number, of kind 3 where the word is none

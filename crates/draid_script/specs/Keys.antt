@@ -48,12 +48,12 @@ nothing_given = record { sector = None; height = None; metaslabs = None; slices 
 -- the values, with the default where a key isn't given
 abbrev pub keys_in : Given → PoolKeys
 keys_in given = record {
-    sector = unwrap_or given.sector 4096;
-    height = unwrap_or given.height 8;
-    metaslabs = unwrap_or given.metaslabs 4;
-    slices = unwrap_or given.slices 16;
-    seed = unwrap_or given.seed 1;
-  }
+  sector = unwrap_or given.sector 4096;
+  height = unwrap_or given.height 8;
+  metaslabs = unwrap_or given.metaslabs 4;
+  slices = unwrap_or given.slices 16;
+  seed = unwrap_or given.seed 1;
+}
 
 abbrev pub keys_at : List Placed → Result PoolKeys LineFault
 keys_at words = given_by nothing_given words >>= λ given. Ok (keys_in given)

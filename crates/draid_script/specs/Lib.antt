@@ -1,8 +1,8 @@
-pub mod Command
 pub mod Fault
 pub mod Field
 pub mod Grammar
 pub mod Keys
+pub mod Line
 pub mod Lines
 pub mod Name
 pub mod Reply

@@ -1,5 +1,5 @@
 ghost use Rattle.std.specs.Prelude.{◌<◌, IfOk, map};
-ghost use Rattle.draid_script.specs.Command.{IsInRange, IsLimit, command_in};
+ghost use Rattle.draid_script.specs.Line.{IsInRange, IsLimit, command_in};
 ghost use Rattle.draid_script.specs.Fault.{Gives};
 ghost use Rattle.draid_script.specs.Grammar as spec;
 ghost use Rattle.draid_script.specs.Grammar.{command_of, limit_at, one_number, two_numbers};
@@ -303,7 +303,9 @@ fn lanes(end: u64, words: &[Word]) -> Result<Line, ParseFault>
     match words {
         [word] => {
             let count = number_in(word, 1, MOST_LANES + 1)?;
-            Ok(Line::Lanes { count: count as u32 })
+            Ok(Line::Lanes {
+                count: count as u32,
+            })
         }
         _ => Err(ParseFault::line(LineFault::COUNT, end)),
     }
@@ -331,12 +333,7 @@ fn one_number(limit: u64, end: u64, words: &[Word]) -> Result<u64, ParseFault>
 }
 
 /// Two numbers, each below a limit.
-fn two_numbers(
-    limit: u64,
-    limit_2: u64,
-    end: u64,
-    words: &[Word],
-) -> Result<(u64, u64), ParseFault>
+fn two_numbers(limit: u64, limit_2: u64, end: u64, words: &[Word]) -> Result<(u64, u64), ParseFault>
     ensures value { Gives (λ p. p) result (two_numbers limit limit_2 end (map placed words.now)) }
     ensures range { IfOk result (λ p. (p.0 < limit) × (p.1 < limit_2)) }
 {

@@ -17,10 +17,15 @@ pub struct LineFault {
 
 impl LineFault {
     pub const UNKNOWN: u8 = 1;
+
     pub const COUNT: u8 = 2;
+
     pub const NUMBER: u8 = 3;
+
     pub const HEX: u8 = 4;
+
     pub const RANGE: u8 = 5;
+
     pub const LANE: u8 = 6;
 }
 

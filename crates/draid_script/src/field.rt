@@ -1,5 +1,5 @@
 ghost use Rattle.std.specs.Prelude.{◌≡◌, ◌+◌, ◌<◌, ◌≤◌, ◌^◌, IfOk, length};
-ghost use Rattle.draid_script.specs.Command.{IsArmName, longest_block, most_objects};
+ghost use Rattle.draid_script.specs.Line.{IsArmName, longest_block, most_objects};
 ghost use Rattle.draid_script.specs.Fault.{Gives};
 ghost use Rattle.draid_script.specs.Field as spec;
 ghost use Rattle.draid_script.specs.Word.{placed};

@@ -20,7 +20,10 @@ pub enum Line {
     /// `crash`: the pool is closed as it stands.
     Crash,
     /// `write O HEX`: the object, below 2^32, gets these bytes, 1 to 131,072.
-    Write { object: u64, bytes: Vec<u8> },
+    Write {
+        object: u64,
+        bytes: Vec<u8>,
+    },
     /// `fill F C L X`: `count` objects from the first on, 1 to 65,536 and all below 2^32, get `len` bytes each, 1 to
     /// 131,072, by this seed.
     Fill {
@@ -30,34 +33,66 @@ pub enum Line {
         seed: u64,
     },
     /// `read O`: what are the bytes of the object, below 2^32?
-    Read { object: u64 },
+    Read {
+        object: u64,
+    },
     /// `free O`: the object, below 2^32, has no bytes any more.
-    Free { object: u64 },
+    Free {
+        object: u64,
+    },
     /// `sum F C`: what is the digest of the bytes of so many objects from the first on?
-    Sum { first: u64, count: u64 },
+    Sum {
+        first: u64,
+        count: u64,
+    },
     /// `offline L`: the leaf, below 2^48, answers no more.
-    Offline { leaf: u64 },
+    Offline {
+        leaf: u64,
+    },
     /// `online L`: the leaf, below 2^48, answers again.
-    Online { leaf: u64 },
+    Online {
+        leaf: u64,
+    },
     /// `damage L X`: the bytes of a sector of the leaf change. It is counted through the metaslabs, below 2^26.
-    Damage { leaf: u64, sector: u64 },
+    Damage {
+        leaf: u64,
+        sector: u64,
+    },
     /// `spare S T`: the slot gets a distributed spare. Both are below 2^32.
-    Spare { slot: u32, spare: u32 },
+    Spare {
+        slot: u32,
+        spare: u32,
+    },
     /// `replace S [X]`: the slot, below 2^32, gets a disk of so many sectors, below 2^48, or of just as many as are
     /// needed.
-    Replace { slot: u32, sectors: Option<u64> },
+    Replace {
+        slot: u32,
+        sectors: Option<u64>,
+    },
     /// `detach A`: an arm leaves its slot.
-    Detach { arm: ArmName },
+    Detach {
+        arm: ArmName,
+    },
     /// `rebuild [N]`: at most so many stripes are rebuilt, 1 to 2^48 - 1.
-    Rebuild { limit: Option<u64> },
+    Rebuild {
+        limit: Option<u64>,
+    },
     /// `scrub [N]`: at most so many blocks are scrubbed, 1 to 2^48 - 1.
-    Scrub { limit: Option<u64> },
+    Scrub {
+        limit: Option<u64>,
+    },
     /// `rebalance S`: the slot, below 2^32, goes back to its last leaf alone.
-    Rebalance { slot: u32 },
+    Rebalance {
+        slot: u32,
+    },
     /// `status` and `status json`.
-    Status { format: StatusFormat },
+    Status {
+        format: StatusFormat,
+    },
     /// `lanes K`: a section of so many lanes follows, 1 to 16.
-    Lanes { count: u32 },
+    Lanes {
+        count: u32,
+    },
 }
 
 /// The values of the keys of `create`, with the default where the line has none.

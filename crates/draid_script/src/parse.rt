@@ -1,5 +1,5 @@
 ghost use Rattle.std.specs.Prelude.{◌≡◌, ◌<◌, ◌≤◌, ◌^◌, IfOk, map};
-ghost use Rattle.draid_script.specs.Command.{IsInRange, IsLaneLine, command_in, lane_command_in};
+ghost use Rattle.draid_script.specs.Line.{IsInRange, IsLaneLine, command_in, lane_command_in};
 ghost use Rattle.draid_script.specs.Fault.{Gives};
 ghost use Rattle.draid_script.specs.Grammar as spec;
 ghost use Rattle.draid_script.specs.Grammar.{lane_of, line_of};
@@ -69,12 +69,7 @@ fn outside(alloc: Global, end: u64, words: &[Word]) -> Result<Line, ParseFault>
 }
 
 /// Reads the words of a line that ends at `end`, inside a section.
-fn inside(
-    alloc: Global,
-    lanes: u64,
-    end: u64,
-    words: &[Word],
-) -> Result<LaneLine, ParseFault>
+fn inside(alloc: Global, lanes: u64, end: u64, words: &[Word]) -> Result<LaneLine, ParseFault>
     requires { lanes < 2 ^ 32 }
     ensures value { Gives lane_command_in result (spec.inside lanes end (map placed words.now)) }
     ensures range { IfOk result (λ line. IsLaneLine lanes (lane_command_in line)) }
