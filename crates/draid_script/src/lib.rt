@@ -14,6 +14,8 @@ mod refusal;
 mod reply;
 mod sink;
 mod source;
+#[cfg(test)]
+mod tests;
 mod text;
 mod texts;
 mod word;
