@@ -1,5 +1,10 @@
+pub mod Fault
+pub mod Field
+pub mod Grammar
+pub mod Keys
 pub mod Line
 pub mod Lines
+pub mod Name
 pub mod Reply
 pub mod Sink
 pub mod Source

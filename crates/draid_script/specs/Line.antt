@@ -1,65 +1,135 @@
-use Rattle.std.specs.Prelude.{ℕ, ⊤, ◌<◌, ◌≤◌, ◌^◌, nat_le, List, [], ◌∷◌, length, codes, Option, None, Some, if◌then◌else◌}
-use Rattle.std.specs.Str.{bytes_eq}
-use Rattle.draid_script.specs.Word.{words_of, number_of, bytes_of, below}
+use Rattle.std.specs.Prelude.{◌≡◌, ◌+◌, ◌-◌, ◌<◌, ◌≤◌, ◌^◌, ⊤, ℕ, Bool, true, false, List, [], ◌∷◌, length, codes, Option, IfSome}
 use Rattle.draid_script.specs.declared.line.Line.{Line}
-use Rattle.draid_script.specs.declared.line.Line.TheVariants.{Create, Write, Read}
+use Rattle.draid_script.specs.declared.line.Line.TheVariants as line
+use Rattle.draid_script.specs.declared.line.PoolKeys.{PoolKeys}
+use Rattle.draid_script.specs.declared.line.ArmName.{ArmName}
+use Rattle.draid_script.specs.declared.line.ArmName.TheVariants.{Leaf, Spare}
+use Rattle.draid_script.specs.declared.line.StatusFormat.{StatusFormat}
+use Rattle.draid_script.specs.declared.line.LaneLine.{LaneLine}
+use Rattle.draid_script.specs.declared.line.LaneLine.TheVariants as lane
 
 -- What a line asks for.
 pub data Command : Type 0 where
-  CreatePool : Command
+  Silent : Command
+  CreatePool : List ℕ → ℕ → PoolKeys → Command
+  ImportPool : Command
+  ExportPool : Command
+  SyncPool : Command
+  CancelPasses : Command
+  CrashPool : Command
   WriteObject : ℕ → List ℕ → Command
+  FillObjects : ℕ → ℕ → ℕ → ℕ → Command
   ReadObject : ℕ → Command
+  FreeObject : ℕ → Command
+  SumObjects : ℕ → ℕ → Command
+  TakeOffline : ℕ → Command
+  TakeOnline : ℕ → Command
+  DamageSector : ℕ → ℕ → Command
+  AttachSpare : ℕ → ℕ → Command
+  ReplaceDisk : ℕ → Option ℕ → Command
+  DetachArm : ArmName → Command
+  RebuildPool : Option ℕ → Command
+  ScrubPool : Option ℕ → Command
+  RebalanceSlot : ℕ → Command
+  ShowStatus : StatusFormat → Command
+  OpenLanes : ℕ → Command
 
 -- what the line asks for, without where its bytes lie in memory
 abbrev pub command_in : Line → Command
-command_in Create = CreatePool
-command_in (Write object bytes) = WriteObject object bytes.items
-command_in (Read object) = ReadObject object
+command_in line.Nothing = Silent
+command_in (line.Create spec children keys) = CreatePool spec.items children keys
+command_in line.Import = ImportPool
+command_in line.Export = ExportPool
+command_in line.Sync = SyncPool
+command_in line.Cancel = CancelPasses
+command_in line.Crash = CrashPool
+command_in (line.Write object bytes) = WriteObject object bytes.items
+command_in (line.Fill first count len seed) = FillObjects first count len seed
+command_in (line.Read object) = ReadObject object
+command_in (line.Free object) = FreeObject object
+command_in (line.Sum first count) = SumObjects first count
+command_in (line.Offline leaf) = TakeOffline leaf
+command_in (line.Online leaf) = TakeOnline leaf
+command_in (line.Damage leaf sector) = DamageSector leaf sector
+command_in (line.Spare slot spare) = AttachSpare slot spare
+command_in (line.Replace slot sectors) = ReplaceDisk slot sectors
+command_in (line.Detach arm) = DetachArm arm
+command_in (line.Rebuild limit) = RebuildPool limit
+command_in (line.Scrub limit) = ScrubPool limit
+command_in (line.Rebalance slot) = RebalanceSlot slot
+command_in (line.Status format) = ShowStatus format
+command_in (line.Lanes count) = OpenLanes count
 
--- the number of an object
-abbrev pub object_of : List ℕ → Option ℕ
-object_of word = below (2 ^ 32) (number_of word)
+-- What a line of a section asks for.
+pub data LaneCommand : Type 0 where
+  SectionEnd : LaneCommand
+  SilentLane : LaneCommand
+  InLane : ℕ → Command → LaneCommand
 
--- how many bytes a block may have
+abbrev pub lane_command_in : LaneLine → LaneCommand
+lane_command_in lane.End = SectionEnd
+lane_command_in lane.Nothing = SilentLane
+lane_command_in (lane.Lane number line) = InLane number (command_in line)
+
+-- how many bytes a block may have, how many objects one command may name, and how many lanes a section has
 abbrev pub longest_block : ℕ
 longest_block = 131_072
 
--- the bytes of a block
-abbrev pub block_in : Option (List ℕ) → Option (List ℕ)
-block_in None = None
-block_in (Some bytes) = if nat_le (length bytes) longest_block then Some bytes else None
+abbrev pub most_objects : ℕ
+most_objects = 65_536
 
-abbrev pub block_of : List ℕ → Option (List ℕ)
-block_of word = block_in (bytes_of word)
+abbrev pub most_lanes : ℕ
+most_lanes = 16
 
-abbrev pub write_of : Option ℕ → Option (List ℕ) → Option Command
-write_of None block = None
-write_of (Some object) None = None
-write_of (Some object) (Some bytes) = Some (WriteObject object bytes)
+-- Objects are below 2^32, and a block has 1 to 131,072 bytes.
+abbrev pub IsObject : ℕ → Type 0
+IsObject object = object < 2 ^ 32
 
-abbrev pub read_of : Option ℕ → Option Command
-read_of None = None
-read_of (Some object) = Some (ReadObject object)
+-- 1 to 65,536 objects from the first on
+abbrev pub AreObjects : ℕ → ℕ → Type 0
+AreObjects first count = (1 ≤ count) × (count ≤ most_objects) × (first + count ≤ 2 ^ 32)
 
--- the ranges of a command's numbers: objects are below 2^32, and a block has 1 to 131,072 bytes
+abbrev pub IsBlockLength : ℕ → Type 0
+IsBlockLength len = (1 ≤ len) × (len ≤ longest_block)
+
+-- the values of the keys of `create`
+pub record AreKeys (keys : PoolKeys) : Type 0 where
+  pub sector : keys.sector < 2 ^ 32
+  pub height : keys.height < 2 ^ 32
+  pub metaslabs : keys.metaslabs < 2 ^ 32
+  pub slices : keys.slices < 2 ^ 32
+  pub seed : keys.seed < 2 ^ 64
+
+-- a leaf below 2^48, or a spare below 2^32 of a parity from 1 to 3
+abbrev pub IsArmName : ArmName → Type 0
+IsArmName (Leaf leaf) = leaf < 2 ^ 48
+IsArmName (Spare parity spare) = (1 ≤ parity) × (parity ≤ 3) × (spare < 2 ^ 32)
+
+-- at most so many units, 1 to 2^48 - 1
+abbrev pub IsLimit : Option ℕ → Type 0
+IsLimit limit = IfSome limit (λ n. (1 ≤ n) × (n < 2 ^ 48))
+
+-- the ranges of a command's numbers
 abbrev pub IsInRange : Command → Type 0
-IsInRange CreatePool = ⊤
-IsInRange (WriteObject object bytes) = (object < 2 ^ 32) × (1 ≤ length bytes) × (length bytes ≤ longest_block)
-IsInRange (ReadObject object) = object < 2 ^ 32
+IsInRange (CreatePool spec children keys) = (children < 2 ^ 32) × AreKeys keys
+IsInRange (WriteObject object bytes) = IsObject object × (1 ≤ length bytes) × (length bytes ≤ longest_block)
+IsInRange (FillObjects first count len seed) = AreObjects first count × IsBlockLength len × (seed < 2 ^ 64)
+IsInRange (ReadObject object) = IsObject object
+IsInRange (FreeObject object) = IsObject object
+IsInRange (SumObjects first count) = AreObjects first count
+IsInRange (TakeOffline leaf) = leaf < 2 ^ 48
+IsInRange (TakeOnline leaf) = leaf < 2 ^ 48
+IsInRange (DamageSector leaf sector) = (leaf < 2 ^ 48) × (sector < 2 ^ 26)
+IsInRange (AttachSpare slot spare) = (slot < 2 ^ 32) × (spare < 2 ^ 32)
+IsInRange (ReplaceDisk slot sectors) = (slot < 2 ^ 32) × IfSome sectors (λ n. n < 2 ^ 48)
+IsInRange (DetachArm arm) = IsArmName arm
+IsInRange (RebuildPool limit) = IsLimit limit
+IsInRange (ScrubPool limit) = IsLimit limit
+IsInRange (RebalanceSlot slot) = slot < 2 ^ 32
+IsInRange (OpenLanes count) = (1 ≤ count) × (count ≤ most_lanes)
+IsInRange _ = ⊤
 
--- `read O` and `write O HEX`
-abbrev pub command_of_words : List (List ℕ) → Option Command
-command_of_words (name ∷ object ∷ []) =
-    if bytes_eq name (codes "read") then read_of (object_of object) else None
-command_of_words (name ∷ object ∷ hex ∷ []) =
-    if bytes_eq name (codes "write") then write_of (object_of object) (block_of hex) else None
-command_of_words words = None
-
--- the one pool that can be created
-abbrev pub create_text : List ℕ
-create_text = codes "create draid1:2d:3c:0s 3 sector=512 height=8 metaslabs=1 slices=4"
-
--- what a line asks for, where it is in the grammar
-unfoldable pub command_of : List ℕ → Option Command
-command_of line =
-    if bytes_eq line create_text then Some CreatePool else command_of_words (words_of line)
+-- a line of a section of so many lanes
+abbrev pub IsLaneLine : ℕ → LaneCommand → Type 0
+IsLaneLine lanes (InLane lane command) = (lane < lanes) × IsInRange command
+IsLaneLine lanes _ = ⊤

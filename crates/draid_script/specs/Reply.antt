@@ -1,16 +1,66 @@
-use Rattle.std.specs.Prelude.{ℕ, List, ◌++◌, length, codes}
+use Rattle.std.specs.Prelude.{ℕ, Bool, true, false, List, [], ◌∷◌, ◌++◌, length, codes, Option, None, Some, string_bytes, encode_utf8}
 use Rattle.std.specs.Fmt.{decimal}
 use Rattle.hex.specs.Hex.{encode_lower}
-use Rattle.draid_script.specs.declared.line.CommandName.{CommandName}
-use Rattle.draid_script.specs.declared.line.CommandName.TheVariants as name
+use Rattle.draid_script.specs.declared.line.ArmName.{ArmName}
+use Rattle.draid_script.specs.declared.line.ArmName.TheVariants.{Leaf, Spare}
+use Rattle.draid_script.specs.declared.name.CommandName.{CommandName}
+use Rattle.draid_script.specs.declared.name.CommandName.TheVariants as name
+use Rattle.draid_script.specs.declared.refusal.SpecRefusal.{SpecRefusal}
+use Rattle.draid_script.specs.declared.refusal.SpecRefusal.TheVariants as spec
+use Rattle.draid_script.specs.declared.refusal.SlotRefusal.{SlotRefusal}
+use Rattle.draid_script.specs.declared.refusal.SlotRefusal.TheVariants as slot
+use Rattle.draid_script.specs.declared.refusal.FillRefusal.{FillRefusal}
+use Rattle.draid_script.specs.declared.refusal.FillRefusal.TheVariants as fill
+use Rattle.draid_script.specs.declared.refusal.SumRefusal.{SumRefusal}
+use Rattle.draid_script.specs.declared.refusal.SumRefusal.TheVariants as sum
 use Rattle.draid_script.specs.declared.reply.Reply.{Reply}
-use Rattle.draid_script.specs.declared.reply.Reply.TheVariants.{Created, Written, NoSpace, Missed, Contents, NoObject, Unreadable, NoMemory}
+use Rattle.draid_script.specs.declared.reply.Reply.TheVariants.{NoPool, PoolOpen, NoMemory, Created, CreateRefused, Imported, Exported, ExportWorn, ExportLast, Written, NoSpace, Missed, WriteLast, Filled, FillRefused, Contents, NoObject, Unreadable, ReadWorn, Summed, SumRefused, Freed, FreeNoObject, Synced, SyncWorn, SyncLast, OfflineDone, OfflineRefused, OfflineWorn, OnlineDone, OnlineRefused, OnlineWorn, Damaged, DamageRefused, DamageFailed, DamageWorn, Spared, SpareRefused, SpareWorn, Replaced, ReplaceRefused, ReplaceWorn, Detached, DetachRefused, DetachWorn, DetachLast, Rebuilt, RebuildNothing, RebuildRefused, RebuildWorn, RebuildLast, Scrubbed, ScrubRefused, ScrubWorn, ScrubLast, Rebalanced, RebalanceRefused, RebalanceWorn, RebalanceLast, Cancelled, Crashed, LanesClash, LanesClashMend}
+use Rattle.draid_script.specs.Name.{name_text}
 
--- the first word of a command
-abbrev pub name_text : CommandName → List ℕ
-name_text name.Create = codes "create"
-name_text name.Write = codes "write"
-name_text name.Read = codes "read"
+-- the first word of a command, and what is said of it
+abbrev pub said_of : CommandName → List ℕ → List ℕ
+said_of command words = name_text command ++ words
+
+-- the number of a refusal, and its values
+abbrev pub spec_refusal_of : SpecRefusal → List ℕ
+spec_refusal_of spec.NotDraid = codes "1"
+spec_refusal_of spec.Parity = codes "2"
+spec_refusal_of (spec.Number at) = codes "3 at=" ++ decimal at
+spec_refusal_of (spec.Repeated letter) = codes "4 letter=" ++ encode_utf8 letter
+spec_refusal_of (spec.Children said given) = codes "5 said=" ++ (decimal said ++ (codes " given=" ++ decimal given))
+spec_refusal_of (spec.Width need have) = codes "6 need=" ++ (decimal need ++ (codes " have=" ++ decimal have))
+spec_refusal_of (spec.Limit which value) = codes "7 which=" ++ (encode_utf8 which ++ (codes " value=" ++ decimal value))
+
+abbrev pub slot_refusal_of : SlotRefusal → List ℕ
+slot_refusal_of slot.NoSuch = codes "1"
+slot_refusal_of (slot.SpareBusy by) = codes "2 by=" ++ decimal by
+slot_refusal_of (slot.SpareInUse spare) = codes "3 spare=" ++ decimal spare
+slot_refusal_of (slot.LogNotEmpty groups) = codes "4 groups=" ++ decimal groups
+slot_refusal_of slot.LastArm = codes "5"
+slot_refusal_of (slot.PassRunning metaslab number) = codes "6 metaslab=" ++ (decimal metaslab ++ (codes " number=" ++ decimal number))
+slot_refusal_of (slot.TooSmall need have) = codes "7 need=" ++ (decimal need ++ (codes " have=" ++ decimal have))
+slot_refusal_of (slot.Full arms) = codes "8 arms=" ++ decimal arms
+slot_refusal_of slot.Last = codes "9"
+
+abbrev pub create_refused_of : SpecRefusal → List ℕ
+create_refused_of why = codes "create refused " ++ (spec_refusal_of why ++ codes "\n")
+
+abbrev pub slot_refused_of : CommandName → ℕ → SlotRefusal → List ℕ
+slot_refused_of command number why =
+    name_text command ++ (codes " " ++ (decimal number ++ (codes " refused " ++ (slot_refusal_of why ++ codes "\n"))))
+
+-- why a `fill` stopped, in the words of a `write`
+abbrev pub fill_refusal_of : FillRefusal → List ℕ
+fill_refusal_of (fill.NoSpace run disabled full worn) =
+    codes "no space run=" ++ (decimal run ++ (codes " disabled=" ++ (decimal disabled
+    ++ (codes " full=" ++ (decimal full ++ (codes " worn=" ++ decimal worn))))))
+fill_refusal_of (fill.Missed columns) = codes "missed columns=" ++ decimal columns
+fill_refusal_of fill.Last = codes "last"
+fill_refusal_of fill.NoMemory = codes "no memory"
+
+abbrev pub fill_refused_of : ℕ → ℕ → FillRefusal → List ℕ
+fill_refused_of first written why =
+    codes "fill " ++ (decimal first ++ (codes " written=" ++ (decimal written ++ (codes " " ++ (fill_refusal_of why ++ codes "\n")))))
 
 -- the line of an object's bytes
 abbrev pub contents_of : ℕ → List ℕ → List ℕ
@@ -18,18 +68,120 @@ contents_of object bytes =
     codes "read " ++ (decimal object ++ (codes " " ++ (decimal (length bytes) ++ (codes " "
     ++ (encode_lower bytes ++ codes "\n")))))
 
+abbrev pub summed_of : ℕ → ℕ → List ℕ → List ℕ
+summed_of first count digest =
+    codes "sum " ++ (decimal first ++ (codes " " ++ (decimal count ++ (codes " " ++ (encode_lower digest ++ codes "\n")))))
+
+-- why an object of a `sum` gives no bytes, in the words of a `read`
+abbrev pub sum_refusal_of : SumRefusal → List ℕ
+sum_refusal_of sum.NoObject = codes "no object"
+sum_refusal_of (sum.Unreadable absent tried) = codes "unreadable absent=" ++ (decimal absent ++ (codes " tried=" ++ decimal tried))
+sum_refusal_of sum.Worn = codes "worn"
+
+abbrev pub sum_refused_of : ℕ → SumRefusal → List ℕ
+sum_refused_of object why = codes "sum " ++ (decimal object ++ (codes " " ++ (sum_refusal_of why ++ codes "\n")))
+
+-- an arm as `detach` names it
+abbrev pub arm_of : ArmName → List ℕ
+arm_of (Leaf leaf) = decimal leaf
+arm_of (Spare parity spare) = codes "draid" ++ (decimal parity ++ (codes "-0-" ++ decimal spare))
+
+abbrev pub detached_of : ArmName → ℕ → List ℕ
+detached_of arm group = codes "detach " ++ (arm_of arm ++ (codes " ok group=" ++ (decimal group ++ codes "\n")))
+
+abbrev pub detach_refused_of : ArmName → SlotRefusal → List ℕ
+detach_refused_of arm why = codes "detach " ++ (arm_of arm ++ (codes " refused " ++ (slot_refusal_of why ++ codes "\n")))
+
+abbrev pub detach_stopped_of : ArmName → List ℕ → List ℕ
+detach_stopped_of arm words = codes "detach " ++ (arm_of arm ++ (codes " " ++ (words ++ codes "\n")))
+
+-- how a pass stands
+abbrev pub pause_of : Bool → List ℕ
+pause_of true = codes "paused"
+pause_of false = codes "done"
+
+abbrev pub rebuilt_of : ℕ → ℕ → ℕ → Bool → List ℕ
+rebuilt_of from stripes errors paused =
+    codes "rebuild from=" ++ (decimal from ++ (codes " stripes=" ++ (decimal stripes ++ (codes " errors=" ++ (decimal errors
+    ++ (codes " " ++ (pause_of paused ++ codes "\n")))))))
+
+abbrev pub scrubbed_of : ℕ → ℕ → ℕ → ℕ → Bool → List ℕ
+scrubbed_of from blocks repaired errors paused =
+    codes "scrub from=" ++ (decimal from ++ (codes " blocks=" ++ (decimal blocks ++ (codes " repaired=" ++ (decimal repaired
+    ++ (codes " errors=" ++ (decimal errors ++ (codes " " ++ (pause_of paused ++ codes "\n")))))))))
+
+-- what became of the other arms of a slot
+abbrev pub others_of : Option ℕ → List ℕ
+others_of None = codes "kept"
+others_of (Some group) = codes "detached group=" ++ decimal group
+
+abbrev pub rebalanced_of : ℕ → ℕ → ℕ → ℕ → Option ℕ → List ℕ
+rebalanced_of number blocks repaired errors group =
+    codes "rebalance " ++ (decimal number ++ (codes " blocks=" ++ (decimal blocks ++ (codes " repaired=" ++ (decimal repaired
+    ++ (codes " errors=" ++ (decimal errors ++ (codes " " ++ (others_of group ++ codes "\n")))))))))
+
 -- the line that a reply is printed as, its end included
 unfoldable pub text_of : Reply → List ℕ
-text_of (Created stripes) = codes "create draid1:2d:3c:0s-0 stripes=" ++ (decimal stripes ++ codes "\n")
+text_of (NoPool command) = said_of command (codes " no pool\n")
+text_of (PoolOpen command) = said_of command (codes " pool open\n")
+text_of (NoMemory command) = said_of command (codes " no memory\n")
+text_of (Created name stripes) = codes "create " ++ (string_bytes name ++ (codes " stripes=" ++ (decimal stripes ++ codes "\n")))
+text_of (CreateRefused why) = create_refused_of why
+text_of (Imported name group objects) = codes "import " ++ (string_bytes name ++ (codes " group=" ++ (decimal group ++ (codes " objects=" ++ (decimal objects ++ codes "\n")))))
+text_of (Exported group) = codes "export group=" ++ (decimal group ++ codes "\n")
+text_of ExportWorn = codes "export worn\n"
+text_of ExportLast = codes "export last\n"
 text_of (Written object) = codes "write " ++ (decimal object ++ codes " ok\n")
-text_of (NoSpace object run disabled full worn) =
-    codes "write " ++ (decimal object ++ (codes " no space run=" ++ (decimal run ++ (codes " disabled="
-    ++ (decimal disabled ++ (codes " full=" ++ (decimal full ++ (codes " worn=" ++ (decimal worn ++ codes "\n")))))))))
-text_of (Missed object columns) =
-    codes "write " ++ (decimal object ++ (codes " missed columns=" ++ (decimal columns ++ codes "\n")))
+text_of (NoSpace object run disabled full worn) = codes "write " ++ (decimal object ++ (codes " no space run=" ++ (decimal run ++ (codes " disabled=" ++ (decimal disabled ++ (codes " full=" ++ (decimal full ++ (codes " worn=" ++ (decimal worn ++ codes "\n")))))))))
+text_of (Missed object columns) = codes "write " ++ (decimal object ++ (codes " missed columns=" ++ (decimal columns ++ codes "\n")))
+text_of (WriteLast object) = codes "write " ++ (decimal object ++ codes " last\n")
+text_of (Filled first written) = codes "fill " ++ (decimal first ++ (codes " written=" ++ (decimal written ++ codes "\n")))
+text_of (FillRefused first written why) = fill_refused_of first written why
 text_of (Contents object bytes) = contents_of object bytes.items
 text_of (NoObject object) = codes "read " ++ (decimal object ++ codes " no object\n")
-text_of (Unreadable object absent tried) =
-    codes "read " ++ (decimal object ++ (codes " unreadable absent=" ++ (decimal absent ++ (codes " tried="
-    ++ (decimal tried ++ codes "\n")))))
-text_of (NoMemory command) = name_text command ++ codes " no memory\n"
+text_of (Unreadable object absent tried) = codes "read " ++ (decimal object ++ (codes " unreadable absent=" ++ (decimal absent ++ (codes " tried=" ++ (decimal tried ++ codes "\n")))))
+text_of (ReadWorn object) = codes "read " ++ (decimal object ++ codes " worn\n")
+text_of (Summed first count digest) = summed_of first count digest
+text_of (SumRefused object why) = sum_refused_of object why
+text_of (Freed object) = codes "free " ++ (decimal object ++ codes " ok\n")
+text_of (FreeNoObject object) = codes "free " ++ (decimal object ++ codes " no object\n")
+text_of (Synced group thin) = codes "sync group=" ++ (decimal group ++ (codes " thin=" ++ (decimal thin ++ codes "\n")))
+text_of SyncWorn = codes "sync worn\n"
+text_of SyncLast = codes "sync last\n"
+text_of (OfflineDone leaf) = codes "offline " ++ (decimal leaf ++ codes " ok\n")
+text_of (OfflineRefused leaf) = codes "offline " ++ (decimal leaf ++ codes " refused 1\n")
+text_of (OfflineWorn leaf) = codes "offline " ++ (decimal leaf ++ codes " worn\n")
+text_of (OnlineDone leaf) = codes "online " ++ (decimal leaf ++ codes " ok\n")
+text_of (OnlineRefused leaf) = codes "online " ++ (decimal leaf ++ codes " refused 1\n")
+text_of (OnlineWorn leaf) = codes "online " ++ (decimal leaf ++ codes " worn\n")
+text_of (Damaged leaf sector) = codes "damage " ++ (decimal leaf ++ (codes " " ++ (decimal sector ++ codes " ok\n")))
+text_of (DamageRefused leaf sector) = codes "damage " ++ (decimal leaf ++ (codes " " ++ (decimal sector ++ codes " refused 1\n")))
+text_of (DamageFailed leaf sector) = codes "damage " ++ (decimal leaf ++ (codes " " ++ (decimal sector ++ codes " failed\n")))
+text_of (DamageWorn leaf sector) = codes "damage " ++ (decimal leaf ++ (codes " " ++ (decimal sector ++ codes " worn\n")))
+text_of (Spared slot name) = codes "spare " ++ (decimal slot ++ (codes " " ++ (string_bytes name ++ codes " ok\n")))
+text_of (SpareRefused slot why) = slot_refused_of name.Spare slot why
+text_of (SpareWorn slot) = codes "spare " ++ (decimal slot ++ codes " worn\n")
+text_of (Replaced slot leaf) = codes "replace " ++ (decimal slot ++ (codes " leaf=" ++ (decimal leaf ++ codes " ok\n")))
+text_of (ReplaceRefused slot why) = slot_refused_of name.Replace slot why
+text_of (ReplaceWorn slot) = codes "replace " ++ (decimal slot ++ codes " worn\n")
+text_of (Detached arm group) = detached_of arm group
+text_of (DetachRefused arm why) = detach_refused_of arm why
+text_of (DetachWorn arm) = detach_stopped_of arm (codes "worn")
+text_of (DetachLast arm) = detach_stopped_of arm (codes "last")
+text_of (Rebuilt from stripes errors paused) = rebuilt_of from stripes errors paused
+text_of RebuildNothing = codes "rebuild nothing\n"
+text_of (RebuildRefused metaslab number) = codes "rebuild refused 6 metaslab=" ++ (decimal metaslab ++ (codes " number=" ++ (decimal number ++ codes "\n")))
+text_of RebuildWorn = codes "rebuild worn\n"
+text_of RebuildLast = codes "rebuild last\n"
+text_of (Scrubbed from blocks repaired errors paused) = scrubbed_of from blocks repaired errors paused
+text_of (ScrubRefused metaslab number) = codes "scrub refused 6 metaslab=" ++ (decimal metaslab ++ (codes " number=" ++ (decimal number ++ codes "\n")))
+text_of ScrubWorn = codes "scrub worn\n"
+text_of ScrubLast = codes "scrub last\n"
+text_of (Rebalanced slot blocks repaired errors group) = rebalanced_of slot blocks repaired errors group
+text_of (RebalanceRefused slot why) = slot_refused_of name.Rebalance slot why
+text_of (RebalanceWorn slot) = codes "rebalance " ++ (decimal slot ++ codes " worn\n")
+text_of (RebalanceLast slot) = codes "rebalance " ++ (decimal slot ++ codes " last\n")
+text_of (Cancelled passes) = codes "cancel " ++ (decimal passes ++ codes "\n")
+text_of Crashed = codes "crash\n"
+text_of (LanesClash object) = codes "lanes clash object=" ++ (decimal object ++ codes "\n")
+text_of LanesClashMend = codes "lanes clash mend\n"

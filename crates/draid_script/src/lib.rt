@@ -2,17 +2,31 @@
 
 #![tactic(auto)]
 
+mod commands;
+mod fault;
+mod field;
+mod keys;
 mod line;
 mod lines;
+mod name;
+mod parse;
+mod refusal;
 mod reply;
 mod sink;
 mod source;
 #[cfg(test)]
 mod tests;
+mod text;
+mod texts;
 mod word;
+mod words;
 
-pub use line::{CommandName, Line, ParseFault, parse_line};
+pub use fault::{LineFault, ParseFault};
+pub use line::{ArmName, LaneLine, Line, PoolKeys, StatusFormat};
 pub use lines::{Lines, ReadFault};
+pub use name::CommandName;
+pub use parse::{parse_lane, parse_line};
+pub use refusal::{FillRefusal, SlotRefusal, SpecRefusal, SumRefusal};
 pub use reply::{Reply, reply_text};
 pub use sink::{MemorySink, Sink};
 pub use source::{MemorySource, Source};

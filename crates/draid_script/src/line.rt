@@ -1,144 +1,138 @@
-ghost use Rattle.std.specs.Prelude.{◌≡◌, ◌^◌, Some, None, Err, IfOk, IfSome, ◌<◌, ◌≤◌, length, option_map};
-ghost use Rattle.draid_script.specs.Line.{IsInRange, longest_block, command_in, command_of, command_of_words, block_of, object_of, read_of, write_of};
-ghost use Rattle.draid_script.specs.Word.{texts};
-ghost use Rattle.draid_script.specs.declared.line.ParseFault.TheVariants.{Unbuilt, NoMemory as no_memory};
-
-use crate::word::{bytes, number, words};
-use draid_names::NoMemory;
-use std::alloc::{AllocError, Global};
-
-/// A line of a script.
+/// A line of a script: a command with its words, or a line that asks for nothing.
 #[derive(Debug, Drop)]
 pub enum Line {
-    /// `create draid1:2d:3c:0s 3 sector=512 height=8 metaslabs=1 slices=4`, the one pool that can be created.
-    Create,
+    /// An empty line, or a comment.
+    Nothing,
+    /// `create SPEC N [key=value ..]`: a pool of this spec over so many children.
+    Create {
+        spec: Vec<u8>,
+        children: u32,
+        keys: PoolKeys,
+    },
+    /// `import`: the pool that the shelf has.
+    Import,
+    /// `export`: what was written is made safe, and the pool is closed.
+    Export,
+    /// `sync`: what was written is made safe.
+    Sync,
+    /// `cancel`: all passes are ended.
+    Cancel,
+    /// `crash`: the pool is closed as it stands.
+    Crash,
     /// `write O HEX`: the object, below 2^32, gets these bytes, 1 to 131,072.
-    Write { object: u64, bytes: Vec<u8> },
+    Write {
+        object: u64,
+        bytes: Vec<u8>,
+    },
+    /// `fill F C L X`: `count` objects from the first on, 1 to 65,536 and all below 2^32, get `len` bytes each, 1 to
+    /// 131,072, by this seed.
+    Fill {
+        first: u64,
+        count: u64,
+        len: u32,
+        seed: u64,
+    },
     /// `read O`: what are the bytes of the object, below 2^32?
-    Read { object: u64 },
+    Read {
+        object: u64,
+    },
+    /// `free O`: the object, below 2^32, has no bytes any more.
+    Free {
+        object: u64,
+    },
+    /// `sum F C`: what is the digest of the bytes of so many objects from the first on?
+    Sum {
+        first: u64,
+        count: u64,
+    },
+    /// `offline L`: the leaf, below 2^48, answers no more.
+    Offline {
+        leaf: u64,
+    },
+    /// `online L`: the leaf, below 2^48, answers again.
+    Online {
+        leaf: u64,
+    },
+    /// `damage L X`: the bytes of a sector of the leaf change. It is counted through the metaslabs, below 2^26.
+    Damage {
+        leaf: u64,
+        sector: u64,
+    },
+    /// `spare S T`: the slot gets a distributed spare. Both are below 2^32.
+    Spare {
+        slot: u32,
+        spare: u32,
+    },
+    /// `replace S [X]`: the slot, below 2^32, gets a disk of so many sectors, below 2^48, or of just as many as are
+    /// needed.
+    Replace {
+        slot: u32,
+        sectors: Option<u64>,
+    },
+    /// `detach A`: an arm leaves its slot.
+    Detach {
+        arm: ArmName,
+    },
+    /// `rebuild [N]`: at most so many stripes are rebuilt, 1 to 2^48 - 1.
+    Rebuild {
+        limit: Option<u64>,
+    },
+    /// `scrub [N]`: at most so many blocks are scrubbed, 1 to 2^48 - 1.
+    Scrub {
+        limit: Option<u64>,
+    },
+    /// `rebalance S`: the slot, below 2^32, goes back to its last leaf alone.
+    Rebalance {
+        slot: u32,
+    },
+    /// `status` and `status json`.
+    Status {
+        format: StatusFormat,
+    },
+    /// `lanes K`: a section of so many lanes follows, 1 to 16.
+    Lanes {
+        count: u32,
+    },
 }
 
-/// The first word of a command.
+/// The values of the keys of `create`, with the default where the line has none.
 #[derive(Clone, Copy, Debug, PartialEq, Eq)]
-pub enum CommandName {
-    Create,
-    Write,
-    Read,
+pub struct PoolKeys {
+    /// `sector`, the bytes of a sector; 4,096 by default.
+    pub sector: u32,
+    /// `height`, the sectors of a row on each child; 8 by default.
+    pub height: u32,
+    /// `metaslabs`; 4 by default.
+    pub metaslabs: u32,
+    /// `slices`, of each metaslab; 16 by default.
+    pub slices: u32,
+    /// `seed` of the base rows; 1 by default.
+    pub seed: u64,
 }
 
-impl CommandName {
-    ghost use Rattle.draid_script.specs.Reply.{name_text};
-
-    /// The word as it is written.
-    pub fn text(&self) -> &'static str
-        ensures { result.now ≡ name_text self.now }
-    {
-        match self {
-            CommandName::Create => "create",
-            CommandName::Write => "write",
-            CommandName::Read => "read",
-        }
-    }
-}
-
-/// Why a text is no line.
+/// An arm as `detach` names it.
 #[derive(Clone, Copy, Debug, PartialEq, Eq)]
-pub enum ParseFault {
-    /// It is none of the lines that can be run.
-    Unbuilt,
-    /// Want of memory.
-    NoMemory,
+pub enum ArmName {
+    /// A leaf's number, below 2^48.
+    Leaf { leaf: u64 },
+    /// A distributed spare, as `draid2-0-0`: the parity, 1 to 3, and the spare, below 2^32.
+    Spare { parity: u32, spare: u32 },
 }
 
-impl From<NoMemory> for ParseFault {
-    ghost from_gives = { λ _ fault. fault ≡ no_memory };
-
-    fn from(_error: NoMemory) -> ParseFault {
-        ParseFault::NoMemory
-    }
+/// How `status` is printed.
+#[derive(Clone, Copy, Debug, PartialEq, Eq)]
+pub enum StatusFormat {
+    Text,
+    Json,
 }
 
-impl From<AllocError> for ParseFault {
-    ghost from_gives = { λ _ fault. fault ≡ no_memory };
-
-    fn from(_error: AllocError) -> ParseFault {
-        ParseFault::NoMemory
-    }
-}
-
-/// Objects have numbers below this.
-const OBJECTS: u64 = 1 << 32;
-
-/// The most bytes of a block.
-const LONGEST_BLOCK: usize = 131_072;
-
-const READ: &[u8] = b"read";
-
-const WRITE: &[u8] = b"write";
-
-/// The one pool that can be created.
-const CREATE: &[u8] = b"create draid1:2d:3c:0s 3 sector=512 height=8 metaslabs=1 slices=4";
-
-/// Reads a line, without its end.
-#[tactic(auto, unfolding(crate::specs::Line::command_of))]
-pub fn parse_line(alloc: Global, text: &[u8]) -> Result<Line, ParseFault>
-    ensures found { IfOk result (λ line. command_of text.now ≡ Some (command_in line)) }
-    ensures range { IfOk result (λ line. IsInRange (command_in line)) }
-    ensures unbuilt { result ≡ Err Unbuilt → command_of text.now ≡ None }
-{
-    if text == CREATE {
-        return Ok(Line::Create);
-    }
-    let words = words(alloc, text)?;
-    parse_words(alloc, &words)
-}
-
-fn parse_words(alloc: Global, words: &[&[u8]]) -> Result<Line, ParseFault>
-    ensures found { IfOk result (λ line. command_of_words (texts words.now) ≡ Some (command_in line)) }
-    ensures range { IfOk result (λ line. IsInRange (command_in line)) }
-    ensures unbuilt { result ≡ Err Unbuilt → command_of_words (texts words.now) ≡ None }
-{
-    match words {
-        [name, object] if *name == READ => read_line(object),
-        [name, object, hex] if *name == WRITE => write_line(alloc, object, hex),
-        _ => Err(ParseFault::Unbuilt),
-    }
-}
-
-fn read_line(object: &[u8]) -> Result<Line, ParseFault>
-    ensures found { IfOk result (λ line. read_of (object_of object.now) ≡ Some (command_in line)) }
-    ensures range { IfOk result (λ line. IsInRange (command_in line)) }
-    ensures unbuilt { result ≡ Err Unbuilt → read_of (object_of object.now) ≡ None }
-{
-    match object_number(object) {
-        Some(object) => Ok(Line::Read { object }),
-        None => Err(ParseFault::Unbuilt),
-    }
-}
-
-fn write_line(alloc: Global, object: &[u8], hex: &[u8]) -> Result<Line, ParseFault>
-    ensures found { IfOk result (λ line. write_of (object_of object.now) (block_of hex.now) ≡ Some (command_in line)) }
-    ensures range { IfOk result (λ line. IsInRange (command_in line)) }
-    ensures unbuilt { result ≡ Err Unbuilt → write_of (object_of object.now) (block_of hex.now) ≡ None }
-{
-    match (object_number(object), block(alloc, hex)?) {
-        (Some(object), Some(bytes)) => Ok(Line::Write { object, bytes }),
-        _ => Err(ParseFault::Unbuilt),
-    }
-}
-
-/// The number of an object.
-fn object_number(word: &[u8]) -> Option<u64>
-    ensures value { result ≡ object_of word.now }
-    ensures range { IfSome result (λ object. object < 2 ^ 32) }
-{
-    number(word).filter(|object| *object < OBJECTS)
-}
-
-/// The bytes of a block.
-fn block(alloc: Global, word: &[u8]) -> Result<Option<Vec<u8>>, NoMemory>
-    ensures value { IfOk result (λ found. option_map (λ bytes. bytes.items) found ≡ block_of word.now) }
-    ensures range { IfOk result (λ found. IfSome found (λ bytes. (1 ≤ length bytes.items) × (length bytes.items ≤ longest_block))) }
-{
-    Ok(bytes(alloc, word)?.filter(|bytes| bytes.len() <= LONGEST_BLOCK))
+/// A line of a section.
+#[derive(Debug, Drop)]
+pub enum LaneLine {
+    /// `end`, behind which the section runs.
+    End,
+    /// An empty line, or a comment.
+    Nothing,
+    /// A command of a lane.
+    Lane { lane: u32, line: Line },
 }

@@ -1,17 +1,53 @@
 ghost use Rattle.std.specs.Prelude.{◌≡◌, IfOk, string_bytes};
-ghost use Rattle.draid_script.specs.Reply.{contents_of, text_of};
+ghost use Rattle.draid_script.specs.Reply.{text_of};
 
-use crate::CommandName;
+use crate::refusal::{FillRefusal, SlotRefusal, SpecRefusal, SumRefusal};
+use crate::texts::{
+    contents, create_refused, detach_refused, detach_stopped, detached, fill_refused, name_said,
+    rebalanced, rebuilt, scrubbed, slot_refused, sum_refused, summed,
+};
+use crate::{ArmName, CommandName};
 use draid_names::NoMemory;
 use std::alloc::{AllocError, Global};
 
 /// The reply to a command.
 #[derive(Debug, Drop)]
 pub enum Reply {
-    /// The pool `draid1:2d:3c:0s-0` was created, with so many stripes.
+    /// The command needs an open pool, and none is open. Of `import`: there is none.
+    NoPool {
+        command: CommandName,
+    },
+    /// The command asks for a pool while one is open.
+    PoolOpen {
+        command: CommandName,
+    },
+    /// The command was refused for want of memory.
+    NoMemory {
+        command: CommandName,
+    },
+    /// A pool of this name was created, with so many stripes.
     Created {
+        name: String,
         stripes: u64,
     },
+    /// The spec or its keys are refused.
+    CreateRefused {
+        why: SpecRefusal,
+    },
+    /// A pool of this name and committed group was opened, with so many objects.
+    Imported {
+        name: String,
+        group: u64,
+        objects: u64,
+    },
+    /// The pool was closed; this is its committed group.
+    Exported {
+        group: u64,
+    },
+    /// A metaslab has too many events, and the pool stays open.
+    ExportWorn,
+    /// No further group can be numbered, and the pool stays open.
+    ExportLast,
     /// The object has the bytes of the `write`.
     Written {
         object: u64,
@@ -30,12 +66,27 @@ pub enum Reply {
         object: u64,
         columns: u32,
     },
+    /// No further block can be numbered.
+    WriteLast {
+        object: u64,
+    },
+    /// All objects of a `fill` have their bytes.
+    Filled {
+        first: u64,
+        written: u64,
+    },
+    /// A `fill` stopped behind so many objects.
+    FillRefused {
+        first: u64,
+        written: u64,
+        why: FillRefusal,
+    },
     /// The object's bytes.
     Contents {
         object: u64,
         bytes: Vec<u8>,
     },
-    /// The object of a `read` was never written.
+    /// The object of a `read` has no bytes.
     NoObject {
         object: u64,
     },
@@ -46,27 +97,222 @@ pub enum Reply {
         absent: u32,
         tried: u64,
     },
-    /// The command was refused for want of memory.
-    NoMemory {
-        command: CommandName,
+    /// The metaslab of the object has too many events.
+    ReadWorn {
+        object: u64,
     },
+    /// The SHA-256 digest (FIPS 180-4) of the objects' bytes, one after another.
+    Summed {
+        first: u64,
+        count: u64,
+        digest: [u8; 32],
+    },
+    /// The first object of a `sum` that gives no bytes.
+    SumRefused {
+        object: u64,
+        why: SumRefusal,
+    },
+    /// The object has no bytes any more.
+    Freed {
+        object: u64,
+    },
+    /// The object of a `free` has no bytes.
+    FreeNoObject {
+        object: u64,
+    },
+    /// This group was committed; so many of its blocks lack redundancy.
+    Synced {
+        group: u64,
+        thin: u64,
+    },
+    /// A metaslab has too many events for a `sync`.
+    SyncWorn,
+    /// No further group can be numbered.
+    SyncLast,
+    /// The leaf answers no more.
+    OfflineDone {
+        leaf: u64,
+    },
+    /// There is no such leaf.
+    OfflineRefused {
+        leaf: u64,
+    },
+    /// A metaslab has too many events.
+    OfflineWorn {
+        leaf: u64,
+    },
+    /// The leaf answers again.
+    OnlineDone {
+        leaf: u64,
+    },
+    /// There is no such leaf.
+    OnlineRefused {
+        leaf: u64,
+    },
+    /// A metaslab has too many events.
+    OnlineWorn {
+        leaf: u64,
+    },
+    /// The bytes of the sector have changed.
+    Damaged {
+        leaf: u64,
+        sector: u64,
+    },
+    /// There is no such leaf or sector.
+    DamageRefused {
+        leaf: u64,
+        sector: u64,
+    },
+    /// The leaf failed.
+    DamageFailed {
+        leaf: u64,
+        sector: u64,
+    },
+    /// The metaslab of the sector has too many events.
+    DamageWorn {
+        leaf: u64,
+        sector: u64,
+    },
+    /// The slot has got the spare of this name.
+    Spared {
+        slot: u32,
+        name: String,
+    },
+    /// The slot gets no spare.
+    SpareRefused {
+        slot: u32,
+        why: SlotRefusal,
+    },
+    /// A metaslab has too many events.
+    SpareWorn {
+        slot: u32,
+    },
+    /// The slot has got a new leaf of this number.
+    Replaced {
+        slot: u32,
+        leaf: u64,
+    },
+    /// The slot gets no new leaf.
+    ReplaceRefused {
+        slot: u32,
+        why: SlotRefusal,
+    },
+    /// A metaslab has too many events.
+    ReplaceWorn {
+        slot: u32,
+    },
+    /// The arm has left its slot, committed with this group.
+    Detached {
+        arm: ArmName,
+        group: u64,
+    },
+    /// The arm stays in its slot.
+    DetachRefused {
+        arm: ArmName,
+        why: SlotRefusal,
+    },
+    /// A metaslab has too many events.
+    DetachWorn {
+        arm: ArmName,
+    },
+    /// No further group can be numbered.
+    DetachLast {
+        arm: ArmName,
+    },
+    /// So many stripes were rebuilt, from this one of the pool on.
+    Rebuilt {
+        from: u64,
+        stripes: u64,
+        errors: u64,
+        paused: bool,
+    },
+    /// There is nothing to rebuild.
+    RebuildNothing,
+    /// A metaslab has a pass of the other kind.
+    RebuildRefused {
+        metaslab: u32,
+        number: u64,
+    },
+    /// A metaslab has too many events.
+    RebuildWorn,
+    /// No further group or pass can be numbered.
+    RebuildLast,
+    /// So many blocks were scrubbed, from this stripe of the pool on, and so many columns rewritten.
+    Scrubbed {
+        from: u64,
+        blocks: u64,
+        repaired: u64,
+        errors: u64,
+        paused: bool,
+    },
+    /// A metaslab has a pass of the other kind.
+    ScrubRefused {
+        metaslab: u32,
+        number: u64,
+    },
+    /// A metaslab has too many events.
+    ScrubWorn,
+    /// No further group or pass can be numbered.
+    ScrubLast,
+    /// So many blocks were scrubbed. The other arms of the slot have left it, committed with this group, or are kept.
+    Rebalanced {
+        slot: u32,
+        blocks: u64,
+        repaired: u64,
+        errors: u64,
+        group: Option<u64>,
+    },
+    /// The slot stays as it is.
+    RebalanceRefused {
+        slot: u32,
+        why: SlotRefusal,
+    },
+    /// A metaslab has too many events.
+    RebalanceWorn {
+        slot: u32,
+    },
+    /// No further group or pass can be numbered.
+    RebalanceLast {
+        slot: u32,
+    },
+    /// So many passes were ended.
+    Cancelled {
+        passes: u32,
+    },
+    /// The pool was closed as it stood.
+    Crashed,
+    /// Two lanes name this object, the least such.
+    LanesClash {
+        object: u64,
+    },
+    /// Two lanes have a `rebuild` or a `scrub`.
+    LanesClashMend,
 }
 
-/// The line that the reply is printed as, its end included.
+/// The line that the reply is printed as, its end included; a status may have several.
 pub fn reply_text(alloc: Global, reply: &Reply) -> Result<Vec<u8>, NoMemory>
     ensures { IfOk result (λ text. text.items ≡ text_of reply.now) }
 {
     Ok(text(alloc, reply)?.into_bytes())
 }
 
-#[tactic(auto, unfolding(crate::specs::Reply::text_of))]
 fn text(alloc: Global, reply: &Reply) -> Result<String, AllocError>
     ensures { IfOk result (λ text. string_bytes text ≡ text_of reply.now) }
 {
     match reply {
-        Reply::Created { stripes } => {
-            format!(in alloc; "create draid1:2d:3c:0s-0 stripes={stripes}\n")
-        }
+        Reply::NoPool { command } => name_said(alloc, *command, " no pool"),
+        Reply::PoolOpen { command } => name_said(alloc, *command, " pool open"),
+        Reply::NoMemory { command } => name_said(alloc, *command, " no memory"),
+        Reply::Created { name, stripes } => format!(in alloc; "create {name} stripes={stripes}\n"),
+        Reply::CreateRefused { why } => create_refused(alloc, *why),
+        Reply::Imported {
+            name,
+            group,
+            objects,
+        } => format!(in alloc; "import {name} group={group} objects={objects}\n"),
+        Reply::Exported { group } => format!(in alloc; "export group={group}\n"),
+        Reply::ExportWorn => format!(in alloc; "export worn\n"),
+        Reply::ExportLast => format!(in alloc; "export last\n"),
         Reply::Written { object } => format!(in alloc; "write {object} ok\n"),
         Reply::NoSpace {
             object,
@@ -77,27 +323,106 @@ fn text(alloc: Global, reply: &Reply) -> Result<String, AllocError>
         } => format!(in alloc;
             "write {object} no space run={run} disabled={disabled} full={full} worn={worn}\n"
         ),
-        Reply::Missed { object, columns } => {
-            format!(in alloc; "write {object} missed columns={columns}\n")
-        }
-        Reply::Contents { object, bytes } => contents_text(alloc, *object, bytes),
+        Reply::Missed { object, columns } => format!(in alloc;
+            "write {object} missed columns={columns}\n"
+        ),
+        Reply::WriteLast { object } => format!(in alloc; "write {object} last\n"),
+        Reply::Filled { first, written } => format!(in alloc; "fill {first} written={written}\n"),
+        Reply::FillRefused {
+            first,
+            written,
+            why,
+        } => fill_refused(alloc, *first, *written, *why),
+        Reply::Contents { object, bytes } => contents(alloc, *object, bytes),
         Reply::NoObject { object } => format!(in alloc; "read {object} no object\n"),
         Reply::Unreadable {
             object,
             absent,
             tried,
-        } => { format!(in alloc; "read {object} unreadable absent={absent} tried={tried}\n") }
-        Reply::NoMemory { command } => {
-            let name = command.text();
-            format!(in alloc; "{name} no memory\n")
-        }
+        } => format!(in alloc; "read {object} unreadable absent={absent} tried={tried}\n"),
+        Reply::ReadWorn { object } => format!(in alloc; "read {object} worn\n"),
+        Reply::Summed {
+            first,
+            count,
+            digest,
+        } => summed(alloc, *first, *count, digest),
+        Reply::SumRefused { object, why } => sum_refused(alloc, *object, *why),
+        Reply::Freed { object } => format!(in alloc; "free {object} ok\n"),
+        Reply::FreeNoObject { object } => format!(in alloc; "free {object} no object\n"),
+        Reply::Synced { group, thin } => format!(in alloc; "sync group={group} thin={thin}\n"),
+        Reply::SyncWorn => format!(in alloc; "sync worn\n"),
+        Reply::SyncLast => format!(in alloc; "sync last\n"),
+        Reply::OfflineDone { leaf } => format!(in alloc; "offline {leaf} ok\n"),
+        Reply::OfflineRefused { leaf } => format!(in alloc; "offline {leaf} refused 1\n"),
+        Reply::OfflineWorn { leaf } => format!(in alloc; "offline {leaf} worn\n"),
+        Reply::OnlineDone { leaf } => format!(in alloc; "online {leaf} ok\n"),
+        Reply::OnlineRefused { leaf } => format!(in alloc; "online {leaf} refused 1\n"),
+        Reply::OnlineWorn { leaf } => format!(in alloc; "online {leaf} worn\n"),
+        Reply::Damaged { leaf, sector } => format!(in alloc; "damage {leaf} {sector} ok\n"),
+        Reply::DamageRefused { leaf, sector } => format!(in alloc;
+            "damage {leaf} {sector} refused 1\n"
+        ),
+        Reply::DamageFailed { leaf, sector } => format!(in alloc;
+            "damage {leaf} {sector} failed\n"
+        ),
+        Reply::DamageWorn { leaf, sector } => format!(in alloc; "damage {leaf} {sector} worn\n"),
+        Reply::Spared { slot, name } => format!(in alloc; "spare {slot} {name} ok\n"),
+        Reply::SpareRefused { slot, why } => slot_refused(alloc, CommandName::Spare, *slot, *why),
+        Reply::SpareWorn { slot } => format!(in alloc; "spare {slot} worn\n"),
+        Reply::Replaced { slot, leaf } => format!(in alloc; "replace {slot} leaf={leaf} ok\n"),
+        Reply::ReplaceRefused { slot, why } => slot_refused(
+            alloc,
+            CommandName::Replace,
+            *slot,
+            *why,
+        ),
+        Reply::ReplaceWorn { slot } => format!(in alloc; "replace {slot} worn\n"),
+        Reply::Detached { arm, group } => detached(alloc, *arm, *group),
+        Reply::DetachRefused { arm, why } => detach_refused(alloc, *arm, *why),
+        Reply::DetachWorn { arm } => detach_stopped(alloc, *arm, "worn"),
+        Reply::DetachLast { arm } => detach_stopped(alloc, *arm, "last"),
+        Reply::Rebuilt {
+            from,
+            stripes,
+            errors,
+            paused,
+        } => rebuilt(alloc, *from, *stripes, *errors, *paused),
+        Reply::RebuildNothing => format!(in alloc; "rebuild nothing\n"),
+        Reply::RebuildRefused { metaslab, number } => format!(in alloc;
+            "rebuild refused 6 metaslab={metaslab} number={number}\n"
+        ),
+        Reply::RebuildWorn => format!(in alloc; "rebuild worn\n"),
+        Reply::RebuildLast => format!(in alloc; "rebuild last\n"),
+        Reply::Scrubbed {
+            from,
+            blocks,
+            repaired,
+            errors,
+            paused,
+        } => scrubbed(alloc, *from, *blocks, *repaired, *errors, *paused),
+        Reply::ScrubRefused { metaslab, number } => format!(in alloc;
+            "scrub refused 6 metaslab={metaslab} number={number}\n"
+        ),
+        Reply::ScrubWorn => format!(in alloc; "scrub worn\n"),
+        Reply::ScrubLast => format!(in alloc; "scrub last\n"),
+        Reply::Rebalanced {
+            slot,
+            blocks,
+            repaired,
+            errors,
+            group,
+        } => rebalanced(alloc, *slot, *blocks, *repaired, *errors, *group),
+        Reply::RebalanceRefused { slot, why } => slot_refused(
+            alloc,
+            CommandName::Rebalance,
+            *slot,
+            *why,
+        ),
+        Reply::RebalanceWorn { slot } => format!(in alloc; "rebalance {slot} worn\n"),
+        Reply::RebalanceLast { slot } => format!(in alloc; "rebalance {slot} last\n"),
+        Reply::Cancelled { passes } => format!(in alloc; "cancel {passes}\n"),
+        Reply::Crashed => format!(in alloc; "crash\n"),
+        Reply::LanesClash { object } => format!(in alloc; "lanes clash object={object}\n"),
+        Reply::LanesClashMend => format!(in alloc; "lanes clash mend\n"),
     }
-}
-
-fn contents_text(alloc: Global, object: u64, bytes: &[u8]) -> Result<String, AllocError>
-    ensures { IfOk result (λ text. string_bytes text ≡ contents_of object bytes.now) }
-{
-    let len = bytes.len();
-    let digits = hex::encode(alloc, bytes)?;
-    format!(in alloc; "read {object} {len} {digits}\n")
 }

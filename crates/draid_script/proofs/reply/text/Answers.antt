@@ -1,10 +1,256 @@
 use Rattle.draid_script.specs.Reply.{text_of}
 use Rattle.draid_script.proofs.reply.text.Goals as goal
 
+-- Each arm prints the text of its reply.
+
+pub returns-in-NoPool : goal.returns-in-NoPool
+unfolding text_of
+returns-in-NoPool c = rw c.in-NoPool.is c.name_said.ensures
+
+pub returns-in-PoolOpen : goal.returns-in-PoolOpen
+unfolding text_of
+returns-in-PoolOpen c = rw c.in-PoolOpen.is c.name_said-in-PoolOpen.ensures
+
+pub returns-in-NoMemory : goal.returns-in-NoMemory
+unfolding text_of
+returns-in-NoMemory c = rw c.in-NoMemory.is c.name_said-in-NoMemory.ensures
+
+pub returns-in-Created : goal.returns-in-Created
+unfolding text_of
+returns-in-Created c = rw c.in-Created.is c.format.ensures.ok
+
+pub returns-in-CreateRefused : goal.returns-in-CreateRefused
+unfolding text_of
+returns-in-CreateRefused c = rw c.in-CreateRefused.is c.create_refused.ensures
+
+pub returns-in-Imported : goal.returns-in-Imported
+unfolding text_of
+returns-in-Imported c = rw c.in-Imported.is c.format-in-Imported.ensures.ok
+
+pub returns-in-Exported : goal.returns-in-Exported
+unfolding text_of
+returns-in-Exported c = rw c.in-Exported.is c.format-in-Exported.ensures.ok
+
+pub returns-in-ExportWorn : goal.returns-in-ExportWorn
+unfolding text_of
+returns-in-ExportWorn c = rw c.in-ExportWorn.is c.format-in-ExportWorn.ensures.ok
+
+pub returns-in-ExportLast : goal.returns-in-ExportLast
+unfolding text_of
+returns-in-ExportLast c = rw c.in-ExportLast.is c.format-in-ExportLast.ensures.ok
+
+pub returns-in-Written : goal.returns-in-Written
+unfolding text_of
+returns-in-Written c = rw c.in-Written.is c.format-in-Written.ensures.ok
+
+pub returns-in-NoSpace : goal.returns-in-NoSpace
+unfolding text_of
+returns-in-NoSpace c = rw c.in-NoSpace.is c.format-in-NoSpace.ensures.ok
+
 pub returns-in-Missed : goal.returns-in-Missed
 unfolding text_of
 returns-in-Missed c = rw c.in-Missed.is c.format-in-Missed.ensures.ok
 
+pub returns-in-WriteLast : goal.returns-in-WriteLast
+unfolding text_of
+returns-in-WriteLast c = rw c.in-WriteLast.is c.format-in-WriteLast.ensures.ok
+
+pub returns-in-Filled : goal.returns-in-Filled
+unfolding text_of
+returns-in-Filled c = rw c.in-Filled.is c.format-in-Filled.ensures.ok
+
+pub returns-in-FillRefused : goal.returns-in-FillRefused
+unfolding text_of
+returns-in-FillRefused c = rw c.in-FillRefused.is c.fill_refused.ensures
+
+pub returns-in-Contents : goal.returns-in-Contents
+unfolding text_of
+returns-in-Contents c = rw (c.in-Contents.is, ← c.deref.ensures.value) c.contents.ensures
+
 pub returns-in-NoObject : goal.returns-in-NoObject
 unfolding text_of
 returns-in-NoObject c = rw c.in-NoObject.is c.format-in-NoObject.ensures.ok
+
+pub returns-in-Unreadable : goal.returns-in-Unreadable
+unfolding text_of
+returns-in-Unreadable c = rw c.in-Unreadable.is c.format-in-Unreadable.ensures.ok
+
+pub returns-in-ReadWorn : goal.returns-in-ReadWorn
+unfolding text_of
+returns-in-ReadWorn c = rw c.in-ReadWorn.is c.format-in-ReadWorn.ensures.ok
+
+pub returns-in-Summed : goal.returns-in-Summed
+unfolding text_of
+returns-in-Summed c = rw c.in-Summed.is c.summed.ensures
+
+pub returns-in-SumRefused : goal.returns-in-SumRefused
+unfolding text_of
+returns-in-SumRefused c = rw c.in-SumRefused.is c.sum_refused.ensures
+
+pub returns-in-Freed : goal.returns-in-Freed
+unfolding text_of
+returns-in-Freed c = rw c.in-Freed.is c.format-in-Freed.ensures.ok
+
+pub returns-in-FreeNoObject : goal.returns-in-FreeNoObject
+unfolding text_of
+returns-in-FreeNoObject c = rw c.in-FreeNoObject.is c.format-in-FreeNoObject.ensures.ok
+
+pub returns-in-Synced : goal.returns-in-Synced
+unfolding text_of
+returns-in-Synced c = rw c.in-Synced.is c.format-in-Synced.ensures.ok
+
+pub returns-in-SyncWorn : goal.returns-in-SyncWorn
+unfolding text_of
+returns-in-SyncWorn c = rw c.in-SyncWorn.is c.format-in-SyncWorn.ensures.ok
+
+pub returns-in-SyncLast : goal.returns-in-SyncLast
+unfolding text_of
+returns-in-SyncLast c = rw c.in-SyncLast.is c.format-in-SyncLast.ensures.ok
+
+pub returns-in-OfflineDone : goal.returns-in-OfflineDone
+unfolding text_of
+returns-in-OfflineDone c = rw c.in-OfflineDone.is c.format-in-OfflineDone.ensures.ok
+
+pub returns-in-OfflineRefused : goal.returns-in-OfflineRefused
+unfolding text_of
+returns-in-OfflineRefused c = rw c.in-OfflineRefused.is c.format-in-OfflineRefused.ensures.ok
+
+pub returns-in-OfflineWorn : goal.returns-in-OfflineWorn
+unfolding text_of
+returns-in-OfflineWorn c = rw c.in-OfflineWorn.is c.format-in-OfflineWorn.ensures.ok
+
+pub returns-in-OnlineDone : goal.returns-in-OnlineDone
+unfolding text_of
+returns-in-OnlineDone c = rw c.in-OnlineDone.is c.format-in-OnlineDone.ensures.ok
+
+pub returns-in-OnlineRefused : goal.returns-in-OnlineRefused
+unfolding text_of
+returns-in-OnlineRefused c = rw c.in-OnlineRefused.is c.format-in-OnlineRefused.ensures.ok
+
+pub returns-in-OnlineWorn : goal.returns-in-OnlineWorn
+unfolding text_of
+returns-in-OnlineWorn c = rw c.in-OnlineWorn.is c.format-in-OnlineWorn.ensures.ok
+
+pub returns-in-Damaged : goal.returns-in-Damaged
+unfolding text_of
+returns-in-Damaged c = rw c.in-Damaged.is c.format-in-Damaged.ensures.ok
+
+pub returns-in-DamageRefused : goal.returns-in-DamageRefused
+unfolding text_of
+returns-in-DamageRefused c = rw c.in-DamageRefused.is c.format-in-DamageRefused.ensures.ok
+
+pub returns-in-DamageFailed : goal.returns-in-DamageFailed
+unfolding text_of
+returns-in-DamageFailed c = rw c.in-DamageFailed.is c.format-in-DamageFailed.ensures.ok
+
+pub returns-in-DamageWorn : goal.returns-in-DamageWorn
+unfolding text_of
+returns-in-DamageWorn c = rw c.in-DamageWorn.is c.format-in-DamageWorn.ensures.ok
+
+pub returns-in-Spared : goal.returns-in-Spared
+unfolding text_of
+returns-in-Spared c = rw c.in-Spared.is c.format-in-Spared.ensures.ok
+
+pub returns-in-SpareRefused : goal.returns-in-SpareRefused
+unfolding text_of
+returns-in-SpareRefused c = rw c.in-SpareRefused.is c.slot_refused.ensures
+
+pub returns-in-SpareWorn : goal.returns-in-SpareWorn
+unfolding text_of
+returns-in-SpareWorn c = rw c.in-SpareWorn.is c.format-in-SpareWorn.ensures.ok
+
+pub returns-in-Replaced : goal.returns-in-Replaced
+unfolding text_of
+returns-in-Replaced c = rw c.in-Replaced.is c.format-in-Replaced.ensures.ok
+
+pub returns-in-ReplaceRefused : goal.returns-in-ReplaceRefused
+unfolding text_of
+returns-in-ReplaceRefused c = rw c.in-ReplaceRefused.is c.slot_refused-in-ReplaceRefused.ensures
+
+pub returns-in-ReplaceWorn : goal.returns-in-ReplaceWorn
+unfolding text_of
+returns-in-ReplaceWorn c = rw c.in-ReplaceWorn.is c.format-in-ReplaceWorn.ensures.ok
+
+pub returns-in-Detached : goal.returns-in-Detached
+unfolding text_of
+returns-in-Detached c = rw c.in-Detached.is c.detached.ensures
+
+pub returns-in-DetachRefused : goal.returns-in-DetachRefused
+unfolding text_of
+returns-in-DetachRefused c = rw c.in-DetachRefused.is c.detach_refused.ensures
+
+pub returns-in-DetachWorn : goal.returns-in-DetachWorn
+unfolding text_of
+returns-in-DetachWorn c = rw c.in-DetachWorn.is c.detach_stopped.ensures
+
+pub returns-in-DetachLast : goal.returns-in-DetachLast
+unfolding text_of
+returns-in-DetachLast c = rw c.in-DetachLast.is c.detach_stopped-in-DetachLast.ensures
+
+pub returns-in-Rebuilt : goal.returns-in-Rebuilt
+unfolding text_of
+returns-in-Rebuilt c = rw c.in-Rebuilt.is c.rebuilt.ensures
+
+pub returns-in-RebuildNothing : goal.returns-in-RebuildNothing
+unfolding text_of
+returns-in-RebuildNothing c = rw c.in-RebuildNothing.is c.format-in-RebuildNothing.ensures.ok
+
+pub returns-in-RebuildRefused : goal.returns-in-RebuildRefused
+unfolding text_of
+returns-in-RebuildRefused c = rw c.in-RebuildRefused.is c.format-in-RebuildRefused.ensures.ok
+
+pub returns-in-RebuildWorn : goal.returns-in-RebuildWorn
+unfolding text_of
+returns-in-RebuildWorn c = rw c.in-RebuildWorn.is c.format-in-RebuildWorn.ensures.ok
+
+pub returns-in-RebuildLast : goal.returns-in-RebuildLast
+unfolding text_of
+returns-in-RebuildLast c = rw c.in-RebuildLast.is c.format-in-RebuildLast.ensures.ok
+
+pub returns-in-Scrubbed : goal.returns-in-Scrubbed
+unfolding text_of
+returns-in-Scrubbed c = rw c.in-Scrubbed.is c.scrubbed.ensures
+
+pub returns-in-ScrubRefused : goal.returns-in-ScrubRefused
+unfolding text_of
+returns-in-ScrubRefused c = rw c.in-ScrubRefused.is c.format-in-ScrubRefused.ensures.ok
+
+pub returns-in-ScrubWorn : goal.returns-in-ScrubWorn
+unfolding text_of
+returns-in-ScrubWorn c = rw c.in-ScrubWorn.is c.format-in-ScrubWorn.ensures.ok
+
+pub returns-in-ScrubLast : goal.returns-in-ScrubLast
+unfolding text_of
+returns-in-ScrubLast c = rw c.in-ScrubLast.is c.format-in-ScrubLast.ensures.ok
+
+pub returns-in-Rebalanced : goal.returns-in-Rebalanced
+unfolding text_of
+returns-in-Rebalanced c = rw c.in-Rebalanced.is c.rebalanced.ensures
+
+pub returns-in-RebalanceRefused : goal.returns-in-RebalanceRefused
+unfolding text_of
+returns-in-RebalanceRefused c = rw c.in-RebalanceRefused.is c.slot_refused-in-RebalanceRefused.ensures
+
+pub returns-in-RebalanceWorn : goal.returns-in-RebalanceWorn
+unfolding text_of
+returns-in-RebalanceWorn c = rw c.in-RebalanceWorn.is c.format-in-RebalanceWorn.ensures.ok
+
+pub returns-in-RebalanceLast : goal.returns-in-RebalanceLast
+unfolding text_of
+returns-in-RebalanceLast c = rw c.in-RebalanceLast.is c.format-in-RebalanceLast.ensures.ok
+
+pub returns-in-Cancelled : goal.returns-in-Cancelled
+unfolding text_of
+returns-in-Cancelled c = rw c.in-Cancelled.is c.format-in-Cancelled.ensures.ok
+
+pub returns-in-Crashed : goal.returns-in-Crashed
+unfolding text_of
+returns-in-Crashed c = rw c.in-Crashed.is c.format-in-Crashed.ensures.ok
+
+pub returns-in-LanesClash : goal.returns-in-LanesClash
+unfolding text_of
+returns-in-LanesClash c = rw c.in-LanesClash.is c.format-in-LanesClash.ensures.ok
+
+pub returns-in-LanesClashMend : goal.returns-in-LanesClashMend
+unfolding text_of
+returns-in-LanesClashMend c = rw c.in-LanesClashMend.is c.format-in-LanesClashMend.ensures.ok

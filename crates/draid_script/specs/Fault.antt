@@ -1,0 +1,24 @@
+use Rattle.std.specs.Prelude.{◌≡◌, ℕ, Result, Ok, Err}
+use Rattle.draid_script.specs.declared.fault.LineFault.{LineFault}
+use Rattle.draid_script.specs.declared.fault.ParseFault.{ParseFault}
+use Rattle.draid_script.specs.declared.fault.ParseFault.TheVariants as refused
+
+-- a fault of a kind, at a place of the line
+abbrev pub fault : ℕ → ℕ → LineFault
+fault kind at = record { kind = kind; at = at }
+
+-- the second step, where the first gave a value
+infixl 10 ◌>>=◌
+abbrev pub ◌>>=◌ : {A B : Type 0} → Result A LineFault → (A → Result B LineFault) → Result B LineFault
+(Ok x) >>= f = f x
+(Err e) >>= f = Err e
+
+-- What a function refused is the fault that reading gives, unless memory ran out.
+abbrev pub Refuses : {Y : Type 0} → ParseFault → Result Y LineFault → Type 0
+Refuses refused.NoMemory read = Unit {0}
+Refuses (refused.Line line_fault) read = read ≡ Err line_fault
+
+-- What a function returned, seen by view, is what reading gives, unless memory ran out.
+abbrev pub Gives : {X Y : Type 0} → (X → Y) → Result X ParseFault → Result Y LineFault → Type 0
+Gives view (Ok x) read = read ≡ Ok (view x)
+Gives view (Err e) read = Refuses e read

@@ -1,0 +1,59 @@
+use Rattle.std.specs.Prelude.{ℕ, ◌^◌, ◌==◌, Bool, List, [], ◌∷◌, codes, Option, None, Some, unwrap_or, Result, Ok, Err, if◌then◌else◌}
+use Rattle.std.specs.List.{before_first, after_first}
+use Rattle.std.specs.Str.{bytes_eq}
+use Rattle.draid_script.specs.declared.fault.LineFault.{LineFault}
+use Rattle.draid_script.specs.declared.keys.Given.{Given}
+use Rattle.draid_script.specs.declared.line.PoolKeys.{PoolKeys}
+use Rattle.draid_script.specs.Fault.{fault, ◌>>=◌}
+use Rattle.draid_script.specs.Word.{Placed}
+use Rattle.draid_script.specs.Field.{number_at, short_at}
+
+abbrev pub is_equals : ℕ → Bool
+is_equals byte = byte == 61
+
+-- what stands before the first `=` of a word, and what behind it
+abbrev pub key_in : Placed → List ℕ
+key_in word = before_first is_equals word.text
+
+abbrev pub value_in : Placed → Placed
+value_in word = record { text = after_first is_equals word.text; at = word.at }
+
+-- the value of a key, read so, where none was given before
+abbrev pub new_value : (Placed → Result ℕ LineFault) → Option ℕ → Placed → Result (Option ℕ) LineFault
+new_value read (Some earlier) value = Err (fault 3 value.at)
+new_value read None value = read value >>= λ n. Ok (Some n)
+
+-- what is given with one more word `key=value`, of kind 3 where the word has another form or a key that is unknown or was given before
+unfoldable pub given_with : Given → Placed → Result Given LineFault
+given_with given word =
+    if bytes_eq (key_in word) (codes "sector")
+    then (new_value short_at given.sector (value_in word) >>= λ value. Ok (record given { sector = value }))
+    else if bytes_eq (key_in word) (codes "height")
+    then (new_value short_at given.height (value_in word) >>= λ value. Ok (record given { height = value }))
+    else if bytes_eq (key_in word) (codes "metaslabs")
+    then (new_value short_at given.metaslabs (value_in word) >>= λ value. Ok (record given { metaslabs = value }))
+    else if bytes_eq (key_in word) (codes "slices")
+    then (new_value short_at given.slices (value_in word) >>= λ value. Ok (record given { slices = value }))
+    else if bytes_eq (key_in word) (codes "seed")
+    then (new_value number_at given.seed (value_in word) >>= λ value. Ok (record given { seed = value }))
+    else Err (fault 3 word.at)
+
+abbrev pub given_by : Given → List Placed → Result Given LineFault
+given_by given [] = Ok given
+given_by given (word ∷ words) = given_with given word >>= λ more. given_by more words
+
+abbrev pub nothing_given : Given
+nothing_given = record { sector = None; height = None; metaslabs = None; slices = None; seed = None }
+
+-- the values, with the default where a key isn't given
+abbrev pub keys_in : Given → PoolKeys
+keys_in given = record {
+  sector = unwrap_or given.sector 4096;
+  height = unwrap_or given.height 8;
+  metaslabs = unwrap_or given.metaslabs 4;
+  slices = unwrap_or given.slices 16;
+  seed = unwrap_or given.seed 1;
+}
+
+abbrev pub keys_at : List Placed → Result PoolKeys LineFault
+keys_at words = given_by nothing_given words >>= λ given. Ok (keys_in given)

@@ -1,0 +1,122 @@
+ghost use Rattle.std.specs.Prelude.{◌≡◌, map};
+ghost use Rattle.draid_script.specs.Fault.{Gives};
+ghost use Rattle.draid_script.specs.Field.{number_at, short_at};
+ghost use Rattle.draid_script.specs.Keys as spec;
+ghost use Rattle.draid_script.specs.Keys.{key_in, keys_at, new_value, value_in};
+ghost use Rattle.draid_script.specs.Word.{placed};
+
+use crate::field::{number, short_number};
+use crate::text::{first, without_first};
+use crate::word::Word;
+use crate::{LineFault, ParseFault, PoolKeys};
+
+const SECTOR: &[u8] = b"sector";
+
+const HEIGHT: &[u8] = b"height";
+
+const METASLABS: &[u8] = b"metaslabs";
+
+const SLICES: &[u8] = b"slices";
+
+const SEED: &[u8] = b"seed";
+
+/// The values of the keys that were given so far.
+#[derive(Clone, Copy, Debug, Default)]
+pub struct Given {
+    pub sector: Option<u32>,
+    pub height: Option<u32>,
+    pub metaslabs: Option<u32>,
+    pub slices: Option<u32>,
+    pub seed: Option<u64>,
+}
+
+impl Given {
+    /// What is given with one more word `key=value`.
+    #[tactic(auto, unfolding(crate::specs::Keys::given_with))]
+    fn with(self, word: &Word) -> Result<Given, ParseFault>
+        ensures { Gives (λ given. given) result (spec.given_with self (placed word.now)) }
+    {
+        let (key, value) = halves(word);
+        if key == SECTOR {
+            let sector = new_short(self.sector, &value)?;
+            return Ok(Given { sector, ..self });
+        }
+        if key == HEIGHT {
+            let height = new_short(self.height, &value)?;
+            return Ok(Given { height, ..self });
+        }
+        if key == METASLABS {
+            let metaslabs = new_short(self.metaslabs, &value)?;
+            return Ok(Given { metaslabs, ..self });
+        }
+        if key == SLICES {
+            let slices = new_short(self.slices, &value)?;
+            return Ok(Given { slices, ..self });
+        }
+        if key == SEED {
+            let seed = new_number(self.seed, &value)?;
+            return Ok(Given { seed, ..self });
+        }
+        Err(ParseFault::line(LineFault::NUMBER, word.at))
+    }
+
+    /// The values, with the default where a key isn't given.
+    fn keys(self) -> PoolKeys
+        ensures { result ≡ spec.keys_in self }
+    {
+        PoolKeys {
+            sector: self.sector.unwrap_or(4096),
+            height: self.height.unwrap_or(8),
+            metaslabs: self.metaslabs.unwrap_or(4),
+            slices: self.slices.unwrap_or(16),
+            seed: self.seed.unwrap_or(1),
+        }
+    }
+}
+
+/// The values of the keys in these words, each `key=value`.
+pub fn keys(words: &[Word]) -> Result<PoolKeys, ParseFault>
+    ensures { Gives (λ keys. keys) result (keys_at (map placed words.now)) }
+{
+    let mut given = Given::default();
+    for word in words {
+        given = given.with(word)?;
+    }
+    Ok(given.keys())
+}
+
+/// What stands before the first `=` of a word, and what behind it.
+fn halves<'a>(word: &Word<'a>) -> (&'a [u8], Word<'a>)
+    ensures key { result.0.now ≡ key_in (placed word.now) }
+    ensures value { placed result.1 ≡ value_in (placed word.now) }
+{
+    let (key, rest) = word.text.split_at(first(word.text, b'='));
+    let text = without_first(rest);
+    (key, Word { text, at: word.at })
+}
+
+/// The value of a key below 2^32, where none was given before.
+fn new_short(earlier: Option<u32>, value: &Word) -> Result<Option<u32>, ParseFault>
+    ensures { Gives (λ new. new) result (new_value short_at earlier (placed value.now)) }
+{
+    match earlier {
+        Some(_) => Err(ParseFault::line(LineFault::NUMBER, value.at)),
+        None => {
+            let number = short_number(value)?;
+            Ok(Some(number))
+        }
+    }
+}
+
+/// The value of a key, where none was given before.
+fn new_number(earlier: Option<u64>, value: &Word) -> Result<Option<u64>, ParseFault>
+    ensures { Gives (λ new. new) result (new_value number_at earlier (placed value.now)) }
+{
+    match earlier {
+        Some(_) => Err(ParseFault::line(LineFault::NUMBER, value.at)),
+        None => {
+            let number = number(value)?;
+            Ok(Some(number))
+        }
+    }
+}

@@ -1,0 +1,237 @@
+ghost use Rattle.std.specs.Prelude.{◌≡◌, ◌++◌, IfOk, codes, string_bytes};
+ghost use Rattle.draid_script.specs.Reply.{arm_of, contents_of, create_refused_of, detach_refused_of, detach_stopped_of, detached_of, fill_refusal_of, fill_refused_of, others_of, pause_of, rebalanced_of, rebuilt_of, said_of, scrubbed_of, slot_refusal_of, slot_refused_of, spec_refusal_of, sum_refusal_of, sum_refused_of, summed_of};
+
+use crate::refusal::{FillRefusal, SlotRefusal, SpecRefusal, SumRefusal};
+use crate::{ArmName, CommandName};
+use std::alloc::{AllocError, Global};
+
+/// The first word of a command, and what is said of it.
+pub fn name_said(alloc: Global, command: CommandName, words: &str) -> Result<String, AllocError>
+    ensures { IfOk result (λ text. string_bytes text ≡ said_of command (words.now ++ codes "\n")) }
+{
+    let name = command.text();
+    format!(in alloc; "{name}{words}\n")
+}
+
+pub fn create_refused(alloc: Global, why: SpecRefusal) -> Result<String, AllocError>
+    ensures { IfOk result (λ text. string_bytes text ≡ create_refused_of why) }
+{
+    let why = spec_refusal(alloc, why)?;
+    format!(in alloc; "create refused {why}\n")
+}
+
+/// The number of a refusal, and its values.
+fn spec_refusal(alloc: Global, why: SpecRefusal) -> Result<String, AllocError>
+    ensures { IfOk result (λ text. string_bytes text ≡ spec_refusal_of why) }
+{
+    match why {
+        SpecRefusal::NotDraid => String::from_str(alloc, "1"),
+        SpecRefusal::Parity => String::from_str(alloc, "2"),
+        SpecRefusal::Number { at } => format!(in alloc; "3 at={at}"),
+        SpecRefusal::Repeated { letter } => {
+            let letter = char::from(letter);
+            format!(in alloc; "4 letter={letter}")
+        }
+        SpecRefusal::Children { said, given } => format!(in alloc; "5 said={said} given={given}"),
+        SpecRefusal::Width { need, have } => format!(in alloc; "6 need={need} have={have}"),
+        SpecRefusal::Limit { which, value } => {
+            let which = char::from(which);
+            format!(in alloc; "7 which={which} value={value}")
+        }
+    }
+}
+
+pub fn slot_refused(
+    alloc: Global,
+    command: CommandName,
+    slot: u32,
+    why: SlotRefusal,
+) -> Result<String, AllocError>
+    ensures { IfOk result (λ text. string_bytes text ≡ slot_refused_of command slot why) }
+{
+    let name = command.text();
+    let why = slot_refusal(alloc, why)?;
+    format!(in alloc; "{name} {slot} refused {why}\n")
+}
+
+/// The number of a refusal, and its values.
+fn slot_refusal(alloc: Global, why: SlotRefusal) -> Result<String, AllocError>
+    ensures { IfOk result (λ text. string_bytes text ≡ slot_refusal_of why) }
+{
+    match why {
+        SlotRefusal::NoSuch => String::from_str(alloc, "1"),
+        SlotRefusal::SpareBusy { by } => format!(in alloc; "2 by={by}"),
+        SlotRefusal::SpareInUse { spare } => format!(in alloc; "3 spare={spare}"),
+        SlotRefusal::LogNotEmpty { groups } => format!(in alloc; "4 groups={groups}"),
+        SlotRefusal::LastArm => String::from_str(alloc, "5"),
+        SlotRefusal::PassRunning { metaslab, number } => {
+            format!(in alloc; "6 metaslab={metaslab} number={number}")
+        }
+        SlotRefusal::TooSmall { need, have } => format!(in alloc; "7 need={need} have={have}"),
+        SlotRefusal::Full { arms } => format!(in alloc; "8 arms={arms}"),
+        SlotRefusal::Last => String::from_str(alloc, "9"),
+    }
+}
+
+pub fn fill_refused(
+    alloc: Global,
+    first: u64,
+    written: u64,
+    why: FillRefusal,
+) -> Result<String, AllocError>
+    ensures { IfOk result (λ text. string_bytes text ≡ fill_refused_of first written why) }
+{
+    let why = fill_refusal(alloc, why)?;
+    format!(in alloc; "fill {first} written={written} {why}\n")
+}
+
+/// Why a `fill` stopped, in the words of a `write`.
+fn fill_refusal(alloc: Global, why: FillRefusal) -> Result<String, AllocError>
+    ensures { IfOk result (λ text. string_bytes text ≡ fill_refusal_of why) }
+{
+    match why {
+        FillRefusal::NoSpace {
+            run,
+            disabled,
+            full,
+            worn,
+        } => { format!(in alloc; "no space run={run} disabled={disabled} full={full} worn={worn}") }
+        FillRefusal::Missed { columns } => format!(in alloc; "missed columns={columns}"),
+        FillRefusal::Last => String::from_str(alloc, "last"),
+        FillRefusal::NoMemory => String::from_str(alloc, "no memory"),
+    }
+}
+
+pub fn contents(alloc: Global, object: u64, bytes: &[u8]) -> Result<String, AllocError>
+    ensures { IfOk result (λ text. string_bytes text ≡ contents_of object bytes.now) }
+{
+    let len = bytes.len();
+    let digits = hex::encode(alloc, bytes)?;
+    format!(in alloc; "read {object} {len} {digits}\n")
+}
+
+pub fn summed(
+    alloc: Global,
+    first: u64,
+    count: u64,
+    digest: &[u8; 32],
+) -> Result<String, AllocError>
+    ensures { IfOk result (λ text. string_bytes text ≡ summed_of first count digest.now) }
+{
+    let digits = hex::encode(alloc, digest.as_slice())?;
+    format!(in alloc; "sum {first} {count} {digits}\n")
+}
+
+pub fn sum_refused(alloc: Global, object: u64, why: SumRefusal) -> Result<String, AllocError>
+    ensures { IfOk result (λ text. string_bytes text ≡ sum_refused_of object why) }
+{
+    let why = sum_refusal(alloc, why)?;
+    format!(in alloc; "sum {object} {why}\n")
+}
+
+/// Why an object of a `sum` gives no bytes, in the words of a `read`.
+fn sum_refusal(alloc: Global, why: SumRefusal) -> Result<String, AllocError>
+    ensures { IfOk result (λ text. string_bytes text ≡ sum_refusal_of why) }
+{
+    match why {
+        SumRefusal::NoObject => String::from_str(alloc, "no object"),
+        SumRefusal::Unreadable { absent, tried } => {
+            format!(in alloc; "unreadable absent={absent} tried={tried}")
+        }
+        SumRefusal::Worn => String::from_str(alloc, "worn"),
+    }
+}
+
+pub fn detached(alloc: Global, arm: ArmName, group: u64) -> Result<String, AllocError>
+    ensures { IfOk result (λ text. string_bytes text ≡ detached_of arm group) }
+{
+    let arm = arm_text(alloc, arm)?;
+    format!(in alloc; "detach {arm} ok group={group}\n")
+}
+
+pub fn detach_refused(alloc: Global, arm: ArmName, why: SlotRefusal) -> Result<String, AllocError>
+    ensures { IfOk result (λ text. string_bytes text ≡ detach_refused_of arm why) }
+{
+    let arm = arm_text(alloc, arm)?;
+    let why = slot_refusal(alloc, why)?;
+    format!(in alloc; "detach {arm} refused {why}\n")
+}
+
+pub fn detach_stopped(alloc: Global, arm: ArmName, words: &str) -> Result<String, AllocError>
+    ensures { IfOk result (λ text. string_bytes text ≡ detach_stopped_of arm words.now) }
+{
+    let arm = arm_text(alloc, arm)?;
+    format!(in alloc; "detach {arm} {words}\n")
+}
+
+/// An arm as `detach` names it.
+fn arm_text(alloc: Global, arm: ArmName) -> Result<String, AllocError>
+    ensures { IfOk result (λ text. string_bytes text ≡ arm_of arm) }
+{
+    match arm {
+        ArmName::Leaf { leaf } => format!(in alloc; "{leaf}"),
+        ArmName::Spare { parity, spare } => format!(in alloc; "draid{parity}-0-{spare}"),
+    }
+}
+
+/// How a pass stands.
+fn pause(paused: bool) -> &'static str
+    ensures { result.now ≡ pause_of paused }
+{
+    if paused { "paused" } else { "done" }
+}
+
+pub fn rebuilt(
+    alloc: Global,
+    from: u64,
+    stripes: u64,
+    errors: u64,
+    paused: bool,
+) -> Result<String, AllocError>
+    ensures { IfOk result (λ text. string_bytes text ≡ rebuilt_of from stripes errors paused) }
+{
+    let pause = pause(paused);
+    format!(in alloc; "rebuild from={from} stripes={stripes} errors={errors} {pause}\n")
+}
+
+pub fn scrubbed(
+    alloc: Global,
+    from: u64,
+    blocks: u64,
+    repaired: u64,
+    errors: u64,
+    paused: bool,
+) -> Result<String, AllocError>
+    ensures { IfOk result (λ text. string_bytes text ≡ scrubbed_of from blocks repaired errors paused) }
+{
+    let pause = pause(paused);
+    format!(in alloc;
+        "scrub from={from} blocks={blocks} repaired={repaired} errors={errors} {pause}\n"
+    )
+}
+
+pub fn rebalanced(
+    alloc: Global,
+    slot: u32,
+    blocks: u64,
+    repaired: u64,
+    errors: u64,
+    group: Option<u64>,
+) -> Result<String, AllocError>
+    ensures { IfOk result (λ text. string_bytes text ≡ rebalanced_of slot blocks repaired errors group) }
+{
+    let others = others(alloc, group)?;
+    format!(in alloc;
+        "rebalance {slot} blocks={blocks} repaired={repaired} errors={errors} {others}\n"
+    )
+}
+
+/// What became of the other arms of a slot.
+fn others(alloc: Global, group: Option<u64>) -> Result<String, AllocError>
+    ensures { IfOk result (λ text. string_bytes text ≡ others_of group) }
+{
+    match group {
+        None => String::from_str(alloc, "kept"),
+        Some(group) => format!(in alloc; "detached group={group}"),
+    }
+}
