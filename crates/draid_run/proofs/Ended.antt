@@ -64,7 +64,7 @@ ends_known : (ended : Status) (last : Option Pool) (lines : List (List ℕ)) (in
 ends_known ended last lines None number ends = tt
 ends_known ended last lines (Some bytes) number ends = ends_short ended last lines bytes number ends
 
-shows_short : (ended : Status) (replies shown : List Reply) → HasNumber ended → Shows ended replies shown → Shows NoMemory replies shown
+shows_short : (ended : Status) (replies shown : List (Option Reply)) → HasNumber ended → Shows ended replies shown → Shows NoMemory replies shown
 shows_short (Line line kind at) replies shown number shows = inl shows
 shows_short (TooLong line) replies shown number shows = inl shows
 shows_short Done replies shown number shows = absurd number

@@ -6,13 +6,12 @@ use Rattle.std.proofs.lemmas.Grind.{flat_map-append}
 use Rattle.std.proofs.lemmas.List.{append-nil}
 use Rattle.draid_rack.specs.Rack.{Shape, Told}
 use Rattle.draid_script.proofs.Ends.{lines_none}
-use Rattle.draid_script.specs.Line.{command_of}
+use Rattle.draid_script.specs.Grammar.{line_of}
 use Rattle.draid_script.specs.Lines.{Rest, WhereKnown, lines_of}
-use Rattle.draid_script.specs.Reply.{text_of}
 use Rattle.draid_script.specs.Sink.{AppendsFront}
 use Rattle.draid_script.specs.declared.reply.Reply.{Reply}
-use Rattle.draid_run.specs.State.{CannotRun, Write}
-use Rattle.draid_run.specs.Script.{Ends}
+use Rattle.draid_run.specs.State.{LineFaultIs, Write}
+use Rattle.draid_run.specs.Script.{Ends, said_text}
 use Rattle.draid_run.specs.Session.{state_of}
 use Rattle.draid_run.specs.Serve.{LineIs, Printed, Served, Serving, TextIs, Turned}
 use Rattle.draid_run.specs.declared.session.Session.{Session}
@@ -22,8 +21,8 @@ use Rattle.draid_run.proofs.Known.{appends_none, appends_more, front_more, known
 use Rattle.draid_run.proofs.Runs.{runs_more}
 
 -- the texts of one more reply
-texts_more : (replies : List Reply) (reply : Reply) → flat_map text_of (replies ++ reply ∷ []) ≡ flat_map text_of replies ++ text_of reply
-texts_more replies reply = flat_map-append text_of replies (reply ∷ []) ∙ ap (λ t. flat_map text_of replies ++ t) (append-nil (text_of reply))
+texts_more : (replies : List (Option Reply)) (reply : Option Reply) → flat_map said_text (replies ++ reply ∷ []) ≡ flat_map said_text replies ++ said_text reply
+texts_more replies reply = flat_map-append said_text replies (reply ∷ []) ∙ ap (λ t. flat_map said_text replies ++ t) (append-nil (said_text reply))
 
 -- the lines so far, one more, and the rest
 lines_more : (all behind rest : List ℕ) (lines : List (List ℕ)) (line : List ℕ) → lines_of all ≡ lines ++ lines_of behind → lines_of behind ≡ line ∷ lines_of rest
@@ -150,27 +149,17 @@ module _ {R : Type 0} (shape : R → Shape) (told : R → Option Told) (faults :
   -- a line was taken, and the run ended with it
   module _ (input rest rest' start held : Option (List ℕ)) (count : ℕ) (line : List ℕ) (behind : WhereKnown rest rest' (λ old new. lines_of old ≡ line ∷ lines_of new)) where
     -- it can't be run
-    unrun : (pool : Option (Session R)) (number kind at : ℕ) (is : Serving shape told faults input rest start held pool count)
-        → CannotRun (command_of line) (state_of told faults pool is.writes) → number ≡ count + 1 → kind ≡ 7 → at ≡ 0
+    unrun : (pool : Option (Session R)) (number kind at : ℕ) → Serving shape told faults input rest start held pool count
+        → LineFaultIs (line_of line) kind at → number ≡ count + 1
         → Served shape told faults (Line number kind at) input start held pool
-    unrun pool number kind at is cannot n k a =
-        let counted = is.count_is in
-        record {
-          lines = is.lines;
-          replies = is.replies;
-          shown = is.replies;
-          writes = is.writes;
-          desk = is.desk;
-          runs = is.runs;
-          ends = known_input input rest' _ _ (λ x z e. e)
-              (known_on input rest rest' _ _ (λ all _. Ends (Line number kind at) (state_of told faults pool is.writes) is.lines all)
-              (λ x y z a b. (line, lines_of z, a ∙ ap (λ xs. is.lines ++ xs) b, cannot, omega (arith, counted, n), k, a')) is.known behind);
-          shows = refl;
-          prints = is.printed;
-        }
-      where
-        a' : at ≡ 0
-        a' = a
+    unrun pool number kind at is fault n =
+      let counted = is.count_is in
+      record {
+        lines = is.lines; replies = is.replies; shown = is.replies; writes = is.writes; desk = is.desk; runs = is.runs;
+        ends = known_input input rest' _ _ (λ x z e. e)
+          (known_on input rest rest' _ _ (λ all _. Ends (Line number kind at) (state_of told faults pool is.writes) is.lines all)
+            (λ x y z a b. (line, lines_of z, a ∙ ap (λ xs. is.lines ++ xs) b, fault, omega (arith, counted, n))) is.known behind);
+        shows = refl; prints = is.printed }
 
     -- its reply could not be put
     unput : (held' : Option (List ℕ)) (pool pool' : Option (Session R)) (is : Serving shape told faults input rest start held pool count)
@@ -205,14 +194,14 @@ module _ {R : Type 0} (shape : R → Shape) (told : R → Option Told) (faults :
 
     -- memory was wanting for the text of its reply
     untold : (pool pool' : Option (Session R)) (is : Serving shape told faults input rest start held pool count) (reply : Reply)
-        → Turned shape told faults (command_of line) (state_of told faults pool is.writes) reply pool' → Served shape told faults NoMemory input start held pool'
+        → Turned shape told faults (line_of line) (state_of told faults pool is.writes) (Some reply) pool' → Served shape told faults NoMemory input start held pool'
     untold pool pool' is reply turned = record {
       lines = is.lines ++ line ∷ [];
-      replies = is.replies ++ reply ∷ [];
+      replies = is.replies ++ Some reply ∷ [];
       shown = is.replies;
       writes = turned.writes;
       desk = turned.desk;
-      runs = runs_more None is.lines is.replies _ line reply _ is.runs turned.turns;
+      runs = runs_more None is.lines is.replies _ line (Some reply) _ is.runs turned.turns;
       ends = known_input input rest' _ _ (λ x z e. (lines_of z, e))
           (known_on input rest rest' _ _ _ (λ x y z a b. lines_more x y z is.lines line a b) is.known behind);
       shows = inr (reply, refl);
@@ -223,7 +212,7 @@ module _ {R : Type 0} (shape : R → Shape) (told : R → Option Told) (faults :
         → LineIs shape told faults (count + 1) line pool is.writes pool' held held' (Err status) → Served shape told faults status input start held' pool'
     served_line held' pool pool' SinkFault is became = unput held' pool pool' is became
     served_line held' pool pool' (Line number kind at) is became =
-        rw became.1 (rw became.2 (unrun pool number kind at is became.0 became.3 became.4 became.5))
+        rw became.1 (rw became.2 (unrun pool number kind at is became.0 became.3))
     served_line held' pool pool' NoMemory is became = elim became.1 [
       | inl same ↦ rw same (rw became.0 (undone pool is))
       | inr made ↦ rw became.0 (untold pool pool' is made.0 made.1)

@@ -1,13 +1,13 @@
-use Rattle.std.specs.Prelude.{◌≡◌, ◌+◌, ◌⊎◌, ◌↔◌, ⊤, ℕ, List, [], ◌∷◌, ◌++◌, Option, None, MatchOption, is_some, length, codes, flat_map}
+use Rattle.std.specs.Prelude.{◌≡◌, ◌+◌, ◌⊎◌, ◌↔◌, ⊤, ℕ, List, [], ◌∷◌, ◌++◌, Option, Some, None, MatchOption, is_some, length, codes, flat_map}
 use Rattle.std.specs.Io.KnownBytes.{Appends}
 use Rattle.draid_rack.specs.Rack.{Told, OnTold}
 use Rattle.draid_shard.specs.Columns.{Stands}
-use Rattle.draid_script.specs.Line.{command_of}
+use Rattle.draid_script.specs.Grammar.{line_of}
 use Rattle.draid_script.specs.Lines.{IsTooLong, lines_of}
 use Rattle.draid_script.specs.Reply.{text_of}
 use Rattle.draid_script.specs.Sink.{AppendsFront}
 use Rattle.draid_script.specs.declared.reply.Reply.{Reply}
-use Rattle.draid_run.specs.State.{CannotRun, Pool, Runs, Write}
+use Rattle.draid_run.specs.State.{LineFaultIs, Pool, Runs, Write}
 use Rattle.draid_run.specs.Status.{HasNumber, last_text}
 use Rattle.draid_run.specs.declared.status.Status.{Status}
 use Rattle.draid_run.specs.declared.status.Status.TheVariants.{Done, Usage, Line, SourceFault, SinkFault, NoMemory, TooLong}
@@ -17,8 +17,8 @@ abbrev pub Ends : Status → Option Pool → List (List ℕ) → List ℕ → Ty
 Ends Done last lines input = lines_of input ≡ lines
 Ends Usage last lines input = lines ≡ []
 Ends (Line line kind at) last lines input =
-    (bad : List ℕ) × (rest : List (List ℕ)) × (lines_of input ≡ lines ++ (bad ∷ rest)) × CannotRun (command_of bad) last
-    × (line ≡ length lines + 1) × (kind ≡ 7) × (at ≡ 0)
+    (bad : List ℕ) × (rest : List (List ℕ)) × (lines_of input ≡ lines ++ (bad ∷ rest)) × LineFaultIs (line_of bad) kind at
+    × (line ≡ length lines + 1)
 Ends (TooLong line) last lines input =
     (rest : List ℕ) × (lines_of input ≡ lines ++ lines_of rest) × IsTooLong (length lines) rest × (line ≡ length lines + 1)
 Ends SourceFault last lines input = (rest : List (List ℕ)) × (lines_of input ≡ lines ++ rest)
@@ -26,13 +26,18 @@ Ends SinkFault last lines input = (rest : List (List ℕ)) × (lines_of input �
 Ends NoMemory last lines input = (rest : List (List ℕ)) × (lines_of input ≡ lines ++ rest)
 
 -- the replies that were printed: all, but for one whose text could not be made for want of memory
-abbrev pub Shows : Status → List Reply → List Reply → Type 0
-Shows NoMemory replies shown = (replies ≡ shown) ⊎ ((reply : Reply) × (replies ≡ shown ++ reply ∷ []))
+abbrev pub Shows : Status → List (Option Reply) → List (Option Reply) → Type 0
+Shows NoMemory replies shown = (replies ≡ shown) ⊎ ((reply : Reply) × (replies ≡ shown ++ Some reply ∷ []))
 Shows ended replies shown = replies ≡ shown
 
+-- what is printed for a line
+abbrev pub said_text : Option Reply → List ℕ
+said_text None = []
+said_text (Some reply) = text_of reply
+
 -- the texts of these replies, and then the last line
-abbrev pub printed_text : List Reply → Status → List ℕ
-printed_text shown ended = flat_map text_of shown ++ last_text ended
+abbrev pub printed_text : List (Option Reply) → Status → List ℕ
+printed_text shown ended = flat_map said_text shown ++ last_text ended
 
 -- What the sink holds: all of the text, or where it failed some front of it.
 abbrev pub Prints : Status → Status → List ℕ → Option (List ℕ) → Option (List ℕ) → Type 0
@@ -52,8 +57,8 @@ IsSession words = words ≡ codes "session" ∷ []
 -- A run: some lines were answered by replies, one after another; it ended for a cause; and the sink got the replies' texts and the last line.
 pub record HasRun (words : List (List ℕ)) (status : Status) (input : Option (List ℕ)) (old new : Option (List ℕ)) (last : Option Pool) : Type 0 where
   pub lines : List (List ℕ)
-  pub replies : List Reply
-  pub shown : List Reply
+  pub replies : List (Option Reply)
+  pub shown : List (Option Reply)
   pub ended : Status
   pub usage : (ended ≡ Usage) ↔ (IsSession words → ⊥)
   pub runs : Runs None lines replies last

@@ -1,11 +1,14 @@
-use Rattle.std.specs.Prelude.{◌≡◌, ◌≤◌, ◌+◌, ◌==◌, ⊤, ℕ, Bool, false, List, [], ◌∷◌, replicate, Option, Some, None, IsSome, if◌then◌else◌}
+use Rattle.std.specs.Prelude.{◌≡◌, ◌≤◌, ◌+◌, ◌==◌, ⊤, ℕ, Bool, false, List, [], ◌∷◌, codes, string_bytes, replicate, Option, Some, None, Result, Ok, Err, IsSome, if◌then◌else◌}
 use Rattle.draid_shard.specs.Shard.{NoneFalls}
 use Rattle.draid_shard.specs.Space.{FitsRun, NoneFits, TakesLowest, IsLargest}
 use Rattle.draid_run.specs.Words.{AreBytesOf, IsUnread, failed_leaves, stripes_for}
-use Rattle.draid_script.specs.Line.{Command, CreatePool, WriteObject, ReadObject, command_of}
-use Rattle.draid_script.specs.declared.line.CommandName.TheVariants as name
+use Rattle.draid_script.specs.Grammar.{line_of}
+use Rattle.draid_script.specs.Line.{Command, Silent, CreatePool, WriteObject, ReadObject}
+use Rattle.draid_script.specs.declared.fault.LineFault.{LineFault}
+use Rattle.draid_script.specs.declared.line.PoolKeys.{PoolKeys}
+use Rattle.draid_script.specs.declared.name.CommandName.TheVariants as name
 use Rattle.draid_script.specs.declared.reply.Reply.{Reply}
-use Rattle.draid_script.specs.declared.reply.Reply.TheVariants.{Created, Written, NoSpace, Missed, Contents, NoObject, Unreadable, NoMemory}
+use Rattle.draid_script.specs.declared.reply.Reply.TheVariants.{NoPool, PoolOpen, Created, Written, NoSpace, Missed, Contents, NoObject, Unreadable, NoMemory}
 
 -- an accepted write: the object, the bytes, and the first stripe of their block
 pub record Write : Type 0 where
@@ -99,27 +102,49 @@ pub record Moves (stands : List Write → Type 0) (old : Pool) (command : Comman
   pub represents : stands writes
   pub step : Step old command reply (pool writes)
 
--- What a command does where a pool is open, or none is.
-abbrev pub Turns : Option Pool → Command → Reply → Option Pool → Type 0
-Turns None CreatePool (Created stripes) (Some new) = (stripes ≡ 32) × IsFresh new
-Turns (Some old) command reply (Some new) = Step old command reply new
+-- the one pool that can be created
+pub record IsFirstPool (spec : List ℕ) (children : ℕ) (keys : PoolKeys) : Type 0 where
+  pub spec_is : spec ≡ codes "draid1:2d:3c:0s"
+  pub children_is : children ≡ 3
+  pub keys_are : keys ≡ record { sector = 512; height = 8; metaslabs = 1; slices = 4; seed = 1 }
+
+-- a pool was created, and this is the reply
+pub record Creates (name : List ℕ) (stripes : ℕ) (new : Pool) : Type 0 where
+  pub name_is : name ≡ codes "draid1:2d:3c:0s-0"
+  pub stripes_are : stripes ≡ 32
+  pub fresh : IsFresh new
+
+-- What a command does where a pool is open, or none is, and its reply, if it has one.
+abbrev pub Turns : Option Pool → Command → Option Reply → Option Pool → Type 0
+Turns old Silent None new = new ≡ old
+Turns None (CreatePool spec children keys) (Some (Created name stripes)) (Some new) = IsFirstPool spec children keys × Creates (string_bytes name) stripes new
+Turns (Some old) (CreatePool spec children keys) (Some (PoolOpen name.Create)) new = IsFirstPool spec children keys × (new ≡ Some old)
+Turns None (WriteObject object bytes) (Some (NoPool name.Write)) new = new ≡ None
+Turns None (ReadObject object) (Some (NoPool name.Read)) new = new ≡ None
+Turns (Some old) command (Some reply) (Some new) = Step old command reply new
 Turns old command reply new = ⊥
 
 -- what a line of the script does
-abbrev pub TurnsBy : Option Command → Option Pool → Reply → Option Pool → Type 0
-TurnsBy None old reply new = ⊥
-TurnsBy (Some command) old reply new = Turns old command reply new
+abbrev pub TurnsBy : Result Command LineFault → Option Pool → Option Reply → Option Pool → Type 0
+TurnsBy (Err fault) old reply new = ⊥
+TurnsBy (Ok command) old reply new = Turns old command reply new
 
 -- The lines were answered by the replies, one after another.
-abbrev pub Runs : Option Pool → List (List ℕ) → List Reply → Option Pool → Type 0
+abbrev pub Runs : Option Pool → List (List ℕ) → List (Option Reply) → Option Pool → Type 0
 Runs old [] [] new = new ≡ old
 Runs old (line ∷ lines) (reply ∷ replies) new =
-    (mid : Option Pool) × TurnsBy (command_of line) old reply mid × Runs mid lines replies new
+    (mid : Option Pool) × TurnsBy (line_of line) old reply mid × Runs mid lines replies new
 Runs old lines replies new = ⊥
 
--- the line can't be run here: without a pool it isn't the one `create`, with a pool it is neither `write` nor `read`
-abbrev pub CannotRun : Option Command → Option Pool → Type 0
-CannotRun (Some CreatePool) None = ⊥
-CannotRun (Some (WriteObject object bytes)) (Some pool) = ⊥
-CannotRun (Some (ReadObject object)) (Some pool) = ⊥
-CannotRun command pool = ⊤
+-- the command is beyond what is built
+abbrev pub IsUnbuilt : Command → Type 0
+IsUnbuilt Silent = ⊥
+IsUnbuilt (CreatePool spec children keys) = IsFirstPool spec children keys → ⊥
+IsUnbuilt (WriteObject object bytes) = ⊥
+IsUnbuilt (ReadObject object) = ⊥
+IsUnbuilt command = ⊤
+
+-- Why a line can't be run: its first fault by the grammar, or 7 at 0 where its command is beyond what is built.
+abbrev pub LineFaultIs : Result Command LineFault → ℕ → ℕ → Type 0
+LineFaultIs (Err fault) kind at = (kind ≡ fault.kind) × (at ≡ fault.at)
+LineFaultIs (Ok command) kind at = IsUnbuilt command × (kind ≡ 7) × (at ≡ 0)
