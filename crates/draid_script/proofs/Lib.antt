@@ -5,3 +5,5 @@ pub mod Numbers
 pub mod Pairs
 pub mod Positions
 pub mod Splits
+pub mod Joined
+pub mod Written

@@ -23,7 +23,7 @@ begins_plain (digit ∷ digits) begins =
     ]
 
 -- the number is found where the three tests pass
-number_is : (word : List ℕ) → begins_number word ≡ true → all_ascii_digits word ≡ true → digits_value 10 word < 2 ^ 64 → number_of word ≡ Some (digits_value 10 word)
+pub number_is : (word : List ℕ) → begins_number word ≡ true → all_ascii_digits word ≡ true → digits_value 10 word < 2 ^ 64 → number_of word ≡ Some (digits_value 10 word)
 unfolding number_of
 number_is word begins digits small =
     cond-true _ (Some (digits_value 10 word)) None
