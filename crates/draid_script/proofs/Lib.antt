@@ -7,3 +7,4 @@ pub mod Positions
 pub mod Splits
 pub mod Joined
 pub mod Written
+pub mod WrittenLanes

@@ -28,11 +28,11 @@ use Rattle.draid_script.specs.Writing.{IsWritable, optional, setting, settings, 
 use Rattle.draid_script.proofs.Joined.{IsWord, bytes_again, decimal_word, hex_word, literal_word, number_again, split_joined}
 
 -- a first step that gives a value
-then_ok : {A B : Type 0} (r : Result A LineFault) (x : A) (f : A → Result B LineFault) → r ≡ Ok x → (r >>= f) ≡ f x
+pub then_ok : {A B : Type 0} (r : Result A LineFault) (x : A) (f : A → Result B LineFault) → r ≡ Ok x → (r >>= f) ≡ f x
 then_ok {A = A} {B = B} r x f gives = ap (λ (r : Result A LineFault). r >>= f) gives
 
 -- the first words
-name_word : (n : CommandName) → IsWord (name_text n)
+pub name_word : (n : CommandName) → IsWord (name_text n)
 name_word name.Create = literal_word (name_text name.Create) refl
 name_word name.Import = literal_word (name_text name.Import) refl
 name_word name.Export = literal_word (name_text name.Export) refl
@@ -122,7 +122,7 @@ line_by_name n texts are =
     ∙ outside_named n (length text) 0 (placed_from (0 + length (name_text n) + 1) texts)
 
 -- a number in its range
-number_in_again : (low limit n at : ℕ) → low ≤ n → n < limit → n < 2 ^ 64 → number_in low limit (record { text = decimal n; at = at }) ≡ Ok n
+pub number_in_again : (low limit n at : ℕ) → low ≤ n → n < limit → n < 2 ^ 64 → number_in low limit (record { text = decimal n; at = at }) ≡ Ok n
 number_in_again low limit n at above below small =
     ap (λ (o : Option ℕ). ok_or o (fault 3 at) >>= within low limit at) (number_again n small)
     ∙ cond-true (nat_le low n && nat_lt n limit) (Ok n) (Err (fault 5 at)) (and_from (nat_le low n) (nat_lt n limit) (le-leb low n above) (lt-ltb n limit below))
@@ -144,7 +144,7 @@ block_again end at bytes are some short =
       (ap (λ (o : Option (List ℕ)). ok_or o (fault 4 (hex_place end word))) (bytes_again bytes are (omega arith)))
     ∙ cond-true (nat_le (length bytes) longest_block) (Ok bytes) (Err (fault 5 at)) (le-leb (length bytes) longest_block short)
 
-one_again : (limit end at n : ℕ) → n < limit → limit ≤ 2 ^ 64 → one_number limit end (placed_from at (decimal n ∷ [])) ≡ Ok n
+pub one_again : (limit end at n : ℕ) → n < limit → limit ≤ 2 ^ 64 → one_number limit end (placed_from at (decimal n ∷ [])) ≡ Ok n
 one_again limit end at n below small = number_in_again 0 limit n at (omega arith) below (omega arith)
 
 two_again : (limit limit' end at m n : ℕ) → m < limit → limit ≤ 2 ^ 64 → n < limit' → limit' ≤ 2 ^ 64 → two_numbers limit limit' end (placed_from at (decimal m ∷ decimal n ∷ [])) ≡ Ok (m, n)
@@ -152,27 +152,27 @@ two_again limit limit' end at m n below small below' small' =
     then_ok _ m _ (number_in_again 0 limit m _ (omega arith) below (omega arith))
     ∙ then_ok _ n _ (number_in_again 0 limit' n _ (omega arith) below' (omega arith))
 
-limit_again : (end at : ℕ) (limit : Option ℕ) → IsLimit limit → limit_at end (placed_from at (optional limit)) ≡ Ok limit
+pub limit_again : (end at : ℕ) (limit : Option ℕ) → IsLimit limit → limit_at end (placed_from at (optional limit)) ≡ Ok limit
 limit_again end at None is = refl
 limit_again end at (Some n) is = then_ok _ n _ (number_in_again 1 (2 ^ 48) n _ is.0 is.1 (omega (arith, is.1)))
 
-limit_words : (limit : Option ℕ) → IsLimit limit → AllByRecursion IsWord (optional limit)
+pub limit_words : (limit : Option ℕ) → IsLimit limit → AllByRecursion IsWord (optional limit)
 limit_words None is = tt
 limit_words (Some n) is = (decimal_word n (omega (arith, is.1)), tt)
 
-sum_again : (end at first count : ℕ) → AreObjects first count → sum_of end (placed_from at (decimal first ∷ decimal count ∷ [])) ≡ Ok (SumObjects first count)
+pub sum_again : (end at first count : ℕ) → AreObjects first count → sum_of end (placed_from at (decimal first ∷ decimal count ∷ [])) ≡ Ok (SumObjects first count)
 sum_again end at first count are =
     then_ok _ first _ (number_in_again 0 (2 ^ 32) first _ (omega arith) (omega (arith, are.0, are.2)) (omega (arith, are.0, are.2)))
     ∙ then_ok _ count _ (count_again first count _ are)
 
-fill_again : (end at first count len seed : ℕ) → AreObjects first count → (1 ≤ len) × (len ≤ longest_block) → seed < 2 ^ 64 → fill_of end (placed_from at (decimal first ∷ decimal count ∷ decimal len ∷ decimal seed ∷ [])) ≡ Ok (FillObjects first count len seed)
+pub fill_again : (end at first count len seed : ℕ) → AreObjects first count → (1 ≤ len) × (len ≤ longest_block) → seed < 2 ^ 64 → fill_of end (placed_from at (decimal first ∷ decimal count ∷ decimal len ∷ decimal seed ∷ [])) ≡ Ok (FillObjects first count len seed)
 fill_again end at first count len seed are is small =
     then_ok _ first _ (number_in_again 0 (2 ^ 32) first _ (omega arith) (omega (arith, are.0, are.2)) (omega (arith, are.0, are.2)))
     ∙ then_ok _ count _ (count_again first count _ are)
     ∙ then_ok _ len _ (number_in_again 1 (longest_block + 1) len _ is.0 (omega (arith, is.1)) (omega (arith, is.1)))
     ∙ then_ok _ seed _ (number_at_again seed _ small)
 
-write_again : (end at object : ℕ) (bytes : List ℕ) → object < 2 ^ 32 → 1 ≤ length bytes → length bytes ≤ longest_block → IsBytes bytes → write_of end (placed_from at (decimal object ∷ encode_lower bytes ∷ [])) ≡ Ok (WriteObject object bytes)
+pub write_again : (end at object : ℕ) (bytes : List ℕ) → object < 2 ^ 32 → 1 ≤ length bytes → length bytes ≤ longest_block → IsBytes bytes → write_of end (placed_from at (decimal object ∷ encode_lower bytes ∷ [])) ≡ Ok (WriteObject object bytes)
 write_again end at object bytes below some short are =
     then_ok _ object _ (number_in_again 0 (2 ^ 32) object _ (omega arith) below (omega arith))
     ∙ then_ok _ bytes _ (block_again end _ bytes are some short)

@@ -1,4 +1,4 @@
-use Rattle.std.specs.Prelude.{◌≢◌, ℕ, All, List, [], ◌∷◌, ◌++◌, codes, Option, None, Some}
+use Rattle.std.specs.Prelude.{◌≢◌, ⊤, ℕ, All, List, [], ◌∷◌, ◌++◌, codes, Option, None, Some}
 use Rattle.std.specs.List.{join_with_byte}
 use Rattle.std.specs.Fmt.{decimal}
 use Rattle.hex.specs.Hex.{encode_lower, IsBytes}
@@ -57,3 +57,21 @@ abbrev pub IsWritable : Command → Type 0
 IsWritable (CreatePool spec children keys) = IsInRange (CreatePool spec children keys) × All (λ byte. byte ≢ 32) spec
 IsWritable (WriteObject object bytes) = IsInRange (WriteObject object bytes) × IsBytes bytes
 IsWritable command = IsInRange command
+
+-- the commands that may stand in a section
+abbrev pub IsForLanes : Command → Type 0
+IsForLanes SyncPool = ⊤
+IsForLanes (WriteObject object bytes) = ⊤
+IsForLanes (FillObjects first count len seed) = ⊤
+IsForLanes (ReadObject object) = ⊤
+IsForLanes (FreeObject object) = ⊤
+IsForLanes (SumObjects first count) = ⊤
+IsForLanes (TakeOffline leaf) = ⊤
+IsForLanes (TakeOnline leaf) = ⊤
+IsForLanes (RebuildPool limit) = ⊤
+IsForLanes (ScrubPool limit) = ⊤
+IsForLanes _ = ⊥
+
+-- the line of a section that a writer would write: the lane's number, a space, and the command
+abbrev pub written_lane_line : ℕ → Command → List ℕ
+written_lane_line lane command = decimal lane ++ (32 ∷ written_line command)
