@@ -5,3 +5,6 @@ pub mod Numbers
 pub mod Pairs
 pub mod Positions
 pub mod Splits
+pub mod Joined
+pub mod Written
+pub mod WrittenLanes

@@ -6,7 +6,9 @@ use Rattle.std.specs.Result.{OkIff, result_ok}
 use Rattle.std.proofs.lemmas.Bool.{and_from, and_parts, cond-true, cond-false, eqb-true, false_from_ne_true, leb-true, lt-ltb, ltb-true, or_cases}
 use Rattle.std.proofs.lemmas.Str.{IsUtf8-from_ascii}
 use Rattle.std.proofs.lemmas.Str.Parse.{IsNumeralModel, numerals_by_value, parse_plain, tells_all_ascii_digits}
-use Rattle.std.proofs.lemmas.Fmt.{IsAscii-from_digits}
+use Rattle.std.specs.Fmt.{decimal}
+use Rattle.std.proofs.lemmas.Fmt.{IsAscii-from_digits, decimal-digits_value}
+use Rattle.std.proofs.lemmas.Option.{cond_some}
 use Rattle.draid_script.specs.Word.{begins_number, number_of}
 
 -- texts of digits, and their value
@@ -23,7 +25,7 @@ begins_plain (digit ∷ digits) begins =
     ]
 
 -- the number is found where the three tests pass
-number_is : (word : List ℕ) → begins_number word ≡ true → all_ascii_digits word ≡ true → digits_value 10 word < 2 ^ 64 → number_of word ≡ Some (digits_value 10 word)
+pub number_is : (word : List ℕ) → begins_number word ≡ true → all_ascii_digits word ≡ true → digits_value 10 word < 2 ^ 64 → number_of word ≡ Some (digits_value 10 word)
 unfolding number_of
 number_is word begins digits small =
     cond-true _ (Some (digits_value 10 word)) None
@@ -53,3 +55,24 @@ not_text word fails = number_isnt word (λ _ digits _. fails (IsUtf8-from_ascii 
 
 pub not_begun : (word : List ℕ) → begins_number word ≡ false → number_of word ≡ None
 not_begun word begins = number_isnt word (λ b _ _. cc)
+
+-- a zero at the front stands alone
+begins_zero : (word : List ℕ) → begins_number word ≡ true → get_or word 0 0 ≡ 48 → length word ≡ 1
+begins_zero [] begins same = cc
+begins_zero (digit ∷ digits) begins same =
+    elim (or_cases (digit == 48 && length digits == 0) (nat_le 49 digit && nat_le digit 57) begins) [
+      inl zero ↦ omega (arith, eqb-true (length digits) 0 (and_parts (digit == 48) (length digits == 0) zero).1)
+    | inr more ↦ omega (arith, leb-true 49 digit (and_parts (nat_le 49 digit) (nat_le digit 57) more).0)
+    ]
+
+-- the word is what is written for its number
+pub decimal_of_number : (word : List ℕ) (n : ℕ) → number_of word ≡ Some n → (n < 2 ^ 64) × (word ≡ decimal n)
+unfolding number_of
+decimal_of_number word n read =
+    let found = cond_some _ (digits_value 10 word) n read in
+    let tests = and_parts _ _ found.0 in
+    let front = and_parts _ _ tests.0 in
+    let small : digits_value 10 word < 2 ^ 64 = ltb-true (digits_value 10 word) (2 ^ 64) tests.1 in
+    let written : decimal (digits_value 10 word) ≡ word =
+        decimal-digits_value digits_model word front.1 (begins_plain word front.0).1 (begins_zero word front.0) small in
+    (omega (arith, found.1), sym written ∙ ap decimal found.1)

@@ -1,12 +1,12 @@
 -- How a text is cut, and what stands where.
 use Rattle.std.proofs.Common.{◌≡◌, ℕ, ◌+◌, ◌<◌, ◌≤◌, List, [], ◌∷◌, ◌++◌, length, take, drop, map, refl, sym, ap, ◌∙◌, arith, append_assoc, length-drop, length-take}
-use Rattle.std.specs.List.{after_first, before_first, position_or_len, slice_split}
+use Rattle.std.specs.List.{after_first, before_first, join_with_byte, position_or_len, slice_split}
 use Rattle.std.proofs.lemmas.List.{drop-drop, map-append, take_all}
-use Rattle.std.proofs.lemmas.List.Splits.{slice_split_first, slice_split_none}
+use Rattle.std.proofs.lemmas.List.Splits.{join_with_byte-slice_split, slice_split_first, slice_split_none}
 use Rattle.std.proofs.lemmas.List.Sums.{fails_before_first}
 use Rattle.draid_script.specs.Keys.{is_equals}
 use Rattle.draid_script.specs.declared.word.Word.{Word}
-use Rattle.draid_script.specs.Word.{Placed, is_space, placed, placed_from}
+use Rattle.draid_script.specs.Word.{Placed, is_space, placed, placed_from, words_of}
 use Rattle.draid_script.proofs.Positions.{position_or_len_le}
 
 -- what stands behind the first `=`
@@ -53,3 +53,13 @@ pub placed-push : (words new : List Word) (word : Word) (start : ℕ) → new �
 placed-push words new word start pushed at =
     let here = λ (n : ℕ). let w : Placed = record { text = word.text.now; at = n } in w in
     ap (map placed) pushed ∙ map-append placed words (word ∷ []) ∙ ap (λ (n : ℕ). map placed words ++ here n ∷ []) at
+
+-- the texts of words are what they were
+text-placed_from : (at : ℕ) (texts : List (List ℕ)) → map (λ (word : Placed). word.text) (placed_from at texts) ≡ texts
+text-placed_from at [] = refl
+text-placed_from at (text ∷ texts) = ap (λ (rest : List (List ℕ)). text ∷ rest) (text-placed_from (at + length text + 1) texts)
+
+-- a line is its words, joined by single spaces
+pub joined_again : (line : List ℕ) → join_with_byte 32 (map (λ (word : Placed). word.text) (words_of line)) ≡ line
+unfolding words_of
+joined_again line = ap (join_with_byte 32) (text-placed_from 0 (slice_split is_space line)) ∙ join_with_byte-slice_split 32 line

@@ -9,3 +9,4 @@ pub mod Reply
 pub mod Sink
 pub mod Source
 pub mod Word
+pub mod Writing

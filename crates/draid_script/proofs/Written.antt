@@ -1,0 +1,308 @@
+-- What a writer writes is read again.
+use Rattle.std.proofs.Common.{◌≡◌, ◌≢◌, ℕ, ◌+◌, ◌-◌, ◌^◌, ◌<◌, ◌≤◌, ◌==◌, ◌&&◌, All, Bool, true, false, cond, nat_eq, nat_le, nat_lt, List, [], ◌∷◌, ◌++◌, length, get_or, codes, Option, None, Some, IfSome, Result, Ok, Err, refl, sym, ap, ◌∙◌, subst, arith, append-nil}
+use Rattle.std.specs.Fmt.{decimal}
+use Rattle.std.specs.List.{AllByRecursion, join_with_byte, slice_split, starts_with}
+use Rattle.std.specs.Option.{ok_or}
+use Rattle.hex.specs.Hex.{IsBytes, encode_lower}
+use Rattle.std.proofs.lemmas.Bool.{and_from, and_left, cond-false, cond-true, le-leb, lt-ltb, ne_eqb}
+use Rattle.std.proofs.lemmas.Fmt.{decimal_digit, decimal_is_IsNumeral}
+use Rattle.std.proofs.lemmas.List.Elements.{All-append, All-cons, All-weaker}
+use Rattle.std.proofs.lemmas.Str.Parse.{digit_at}
+use Rattle.draid_script.specs.declared.fault.LineFault.{LineFault}
+use Rattle.draid_script.specs.declared.keys.Given.{Given}
+use Rattle.draid_script.specs.declared.line.ArmName.{ArmName}
+use Rattle.draid_script.specs.declared.line.ArmName.TheVariants.{Leaf, Spare}
+use Rattle.draid_script.specs.declared.line.PoolKeys.{PoolKeys}
+use Rattle.draid_script.specs.declared.line.StatusFormat.TheVariants.{Text, Json}
+use Rattle.draid_script.specs.declared.name.CommandName.{CommandName}
+use Rattle.draid_script.specs.declared.name.CommandName.TheVariants as name
+use Rattle.draid_script.specs.Fault.{fault, ◌>>=◌}
+use Rattle.draid_script.specs.Field.{arm_at, block_at, count_at, hex_place, number_at, number_in, object_at, short_at, spare_behind, within}
+use Rattle.draid_script.specs.Grammar.{command_of, create_of, fill_of, is_silent, limit_at, line_of, one_number, outside, replace_of, sum_of, two_numbers, write_of}
+use Rattle.draid_script.specs.Keys.{given_by, given_with, keys_at, keys_in}
+use Rattle.draid_script.specs.Line.{Command, Silent, CreatePool, ImportPool, ExportPool, SyncPool, CancelPasses, CrashPool, WriteObject, FillObjects, ReadObject, FreeObject, SumObjects, TakeOffline, TakeOnline, DamageSector, AttachSpare, ReplaceDisk, DetachArm, RebuildPool, ScrubPool, RebalanceSlot, ShowStatus, OpenLanes, AreKeys, AreObjects, IsArmName, IsLimit, longest_block, most_lanes, most_objects}
+use Rattle.draid_script.specs.Name.{name_of, name_text}
+use Rattle.draid_script.specs.Reply.{arm_of}
+use Rattle.draid_script.specs.Word.{Placed, bytes_of, begins_number, is_space, number_of, placed_from, words_of}
+use Rattle.draid_script.specs.Writing.{IsWritable, optional, setting, settings, written_line, written_words}
+use Rattle.draid_script.proofs.Joined.{IsWord, bytes_again, decimal_word, hex_word, literal_word, number_again, split_joined}
+
+-- a first step that gives a value
+pub then_ok : {A B : Type 0} (r : Result A LineFault) (x : A) (f : A → Result B LineFault) → r ≡ Ok x → (r >>= f) ≡ f x
+then_ok {A = A} {B = B} r x f gives = ap (λ (r : Result A LineFault). r >>= f) gives
+
+-- the first words
+pub name_word : (n : CommandName) → IsWord (name_text n)
+name_word name.Create = literal_word (name_text name.Create) refl
+name_word name.Import = literal_word (name_text name.Import) refl
+name_word name.Export = literal_word (name_text name.Export) refl
+name_word name.Sync = literal_word (name_text name.Sync) refl
+name_word name.Cancel = literal_word (name_text name.Cancel) refl
+name_word name.Crash = literal_word (name_text name.Crash) refl
+name_word name.Write = literal_word (name_text name.Write) refl
+name_word name.Fill = literal_word (name_text name.Fill) refl
+name_word name.Read = literal_word (name_text name.Read) refl
+name_word name.Free = literal_word (name_text name.Free) refl
+name_word name.Sum = literal_word (name_text name.Sum) refl
+name_word name.Offline = literal_word (name_text name.Offline) refl
+name_word name.Online = literal_word (name_text name.Online) refl
+name_word name.Damage = literal_word (name_text name.Damage) refl
+name_word name.Spare = literal_word (name_text name.Spare) refl
+name_word name.Replace = literal_word (name_text name.Replace) refl
+name_word name.Detach = literal_word (name_text name.Detach) refl
+name_word name.Rebuild = literal_word (name_text name.Rebuild) refl
+name_word name.Scrub = literal_word (name_text name.Scrub) refl
+name_word name.Rebalance = literal_word (name_text name.Rebalance) refl
+name_word name.Status = literal_word (name_text name.Status) refl
+name_word name.Lanes = literal_word (name_text name.Lanes) refl
+
+not_silent : (n : CommandName) (rest : List ℕ) → is_silent (name_text n ++ rest) ≡ false
+not_silent name.Create rest = refl
+not_silent name.Import rest = refl
+not_silent name.Export rest = refl
+not_silent name.Sync rest = refl
+not_silent name.Cancel rest = refl
+not_silent name.Crash rest = refl
+not_silent name.Write rest = refl
+not_silent name.Fill rest = refl
+not_silent name.Read rest = refl
+not_silent name.Free rest = refl
+not_silent name.Sum rest = refl
+not_silent name.Offline rest = refl
+not_silent name.Online rest = refl
+not_silent name.Damage rest = refl
+not_silent name.Spare rest = refl
+not_silent name.Replace rest = refl
+not_silent name.Detach rest = refl
+not_silent name.Rebuild rest = refl
+not_silent name.Scrub rest = refl
+not_silent name.Rebalance rest = refl
+not_silent name.Status rest = refl
+not_silent name.Lanes rest = refl
+
+outside_named : (n : CommandName) (end at : ℕ) (words : List Placed) → outside end (record { text = name_text n; at = at } ∷ words) ≡ command_of n end words
+unfolding name_of
+outside_named name.Create end at words = refl
+outside_named name.Import end at words = refl
+outside_named name.Export end at words = refl
+outside_named name.Sync end at words = refl
+outside_named name.Cancel end at words = refl
+outside_named name.Crash end at words = refl
+outside_named name.Write end at words = refl
+outside_named name.Fill end at words = refl
+outside_named name.Read end at words = refl
+outside_named name.Free end at words = refl
+outside_named name.Sum end at words = refl
+outside_named name.Offline end at words = refl
+outside_named name.Online end at words = refl
+outside_named name.Damage end at words = refl
+outside_named name.Spare end at words = refl
+outside_named name.Replace end at words = refl
+outside_named name.Detach end at words = refl
+outside_named name.Rebuild end at words = refl
+outside_named name.Scrub end at words = refl
+outside_named name.Rebalance end at words = refl
+outside_named name.Status end at words = refl
+outside_named name.Lanes end at words = refl
+
+joined_front : (text : List ℕ) (texts : List (List ℕ)) → (rest : List ℕ) × (join_with_byte 32 (text ∷ texts) ≡ text ++ rest)
+joined_front text [] = ([], sym (append-nil text))
+joined_front text (next ∷ texts) = (32 ∷ join_with_byte 32 (next ∷ texts), refl)
+
+-- a line of words is read by its first word
+pub line_by_name : (n : CommandName) (texts : List (List ℕ)) → AllByRecursion IsWord texts → line_of (join_with_byte 32 (name_text n ∷ texts)) ≡ command_of n (length (join_with_byte 32 (name_text n ∷ texts))) (placed_from (0 + length (name_text n) + 1) texts)
+unfolding line_of words_of
+line_by_name n texts are =
+    let text = join_with_byte 32 (name_text n ∷ texts) in
+    let front = joined_front (name_text n) texts in
+    let loud : is_silent (join_with_byte 32 (name_text n ∷ texts)) ≡ false = ap is_silent front.1 ∙ not_silent n front.0 in
+    let split : slice_split is_space (join_with_byte 32 (name_text n ∷ texts)) ≡ name_text n ∷ texts = split_joined (name_text n) texts (name_word n) are in
+    cond-false (is_silent text) (Ok Silent) (outside (length text) (placed_from 0 (slice_split is_space text))) loud
+    ∙ ap (λ (parts : List (List ℕ)). outside (length text) (placed_from 0 parts)) split
+    ∙ outside_named n (length text) 0 (placed_from (0 + length (name_text n) + 1) texts)
+
+-- a number in its range
+pub number_in_again : (low limit n at : ℕ) → low ≤ n → n < limit → n < 2 ^ 64 → number_in low limit (record { text = decimal n; at = at }) ≡ Ok n
+number_in_again low limit n at above below small =
+    ap (λ (o : Option ℕ). ok_or o (fault 3 at) >>= within low limit at) (number_again n small)
+    ∙ cond-true (nat_le low n && nat_lt n limit) (Ok n) (Err (fault 5 at)) (and_from (nat_le low n) (nat_lt n limit) (le-leb low n above) (lt-ltb n limit below))
+
+number_at_again : (n at : ℕ) → n < 2 ^ 64 → number_at (record { text = decimal n; at = at }) ≡ Ok n
+number_at_again n at small = ap (λ (o : Option ℕ). ok_or o (fault 3 at)) (number_again n small)
+
+count_again : (first n at : ℕ) → AreObjects first n → count_at first (record { text = decimal n; at = at }) ≡ Ok n
+count_again first n at are =
+    then_ok _ n _ (number_in_again 1 (most_objects + 1) n at are.0 (omega (arith, are.1)) (omega (arith, are.1)))
+    ∙ cond-true (nat_le (first + n) (2 ^ 32)) (Ok n) (Err (fault 5 at)) (le-leb (first + n) (2 ^ 32) are.2)
+
+block_again : (end at : ℕ) (bytes : List ℕ) → IsBytes bytes → 1 ≤ length bytes → length bytes ≤ longest_block → block_at end (record { text = encode_lower bytes; at = at }) ≡ Ok bytes
+block_again end at bytes are some short =
+    let word : Placed = record { text = encode_lower bytes; at = at } in
+    let place = hex_place end word in
+    let bounded = λ (bs : List ℕ). cond (nat_le (length bs) longest_block) (Ok bs) (Err (fault 5 at)) in
+    then_ok (ok_or (bytes_of (encode_lower bytes)) (fault 4 (hex_place end word))) bytes bounded
+      (ap (λ (o : Option (List ℕ)). ok_or o (fault 4 (hex_place end word))) (bytes_again bytes are (omega arith)))
+    ∙ cond-true (nat_le (length bytes) longest_block) (Ok bytes) (Err (fault 5 at)) (le-leb (length bytes) longest_block short)
+
+pub one_again : (limit end at n : ℕ) → n < limit → limit ≤ 2 ^ 64 → one_number limit end (placed_from at (decimal n ∷ [])) ≡ Ok n
+one_again limit end at n below small = number_in_again 0 limit n at (omega arith) below (omega arith)
+
+two_again : (limit limit' end at m n : ℕ) → m < limit → limit ≤ 2 ^ 64 → n < limit' → limit' ≤ 2 ^ 64 → two_numbers limit limit' end (placed_from at (decimal m ∷ decimal n ∷ [])) ≡ Ok (m, n)
+two_again limit limit' end at m n below small below' small' =
+    then_ok _ m _ (number_in_again 0 limit m _ (omega arith) below (omega arith))
+    ∙ then_ok _ n _ (number_in_again 0 limit' n _ (omega arith) below' (omega arith))
+
+pub limit_again : (end at : ℕ) (limit : Option ℕ) → IsLimit limit → limit_at end (placed_from at (optional limit)) ≡ Ok limit
+limit_again end at None is = refl
+limit_again end at (Some n) is = then_ok _ n _ (number_in_again 1 (2 ^ 48) n _ is.0 is.1 (omega (arith, is.1)))
+
+pub limit_words : (limit : Option ℕ) → IsLimit limit → AllByRecursion IsWord (optional limit)
+limit_words None is = tt
+limit_words (Some n) is = (decimal_word n (omega (arith, is.1)), tt)
+
+pub sum_again : (end at first count : ℕ) → AreObjects first count → sum_of end (placed_from at (decimal first ∷ decimal count ∷ [])) ≡ Ok (SumObjects first count)
+sum_again end at first count are =
+    then_ok _ first _ (number_in_again 0 (2 ^ 32) first _ (omega arith) (omega (arith, are.0, are.2)) (omega (arith, are.0, are.2)))
+    ∙ then_ok _ count _ (count_again first count _ are)
+
+pub fill_again : (end at first count len seed : ℕ) → AreObjects first count → (1 ≤ len) × (len ≤ longest_block) → seed < 2 ^ 64 → fill_of end (placed_from at (decimal first ∷ decimal count ∷ decimal len ∷ decimal seed ∷ [])) ≡ Ok (FillObjects first count len seed)
+fill_again end at first count len seed are is small =
+    then_ok _ first _ (number_in_again 0 (2 ^ 32) first _ (omega arith) (omega (arith, are.0, are.2)) (omega (arith, are.0, are.2)))
+    ∙ then_ok _ count _ (count_again first count _ are)
+    ∙ then_ok _ len _ (number_in_again 1 (longest_block + 1) len _ is.0 (omega (arith, is.1)) (omega (arith, is.1)))
+    ∙ then_ok _ seed _ (number_at_again seed _ small)
+
+pub write_again : (end at object : ℕ) (bytes : List ℕ) → object < 2 ^ 32 → 1 ≤ length bytes → length bytes ≤ longest_block → IsBytes bytes → write_of end (placed_from at (decimal object ∷ encode_lower bytes ∷ [])) ≡ Ok (WriteObject object bytes)
+write_again end at object bytes below some short are =
+    then_ok _ object _ (number_in_again 0 (2 ^ 32) object _ (omega arith) below (omega arith))
+    ∙ then_ok _ bytes _ (block_again end _ bytes are some short)
+
+replace_again : (end at slot : ℕ) (sectors : Option ℕ) → slot < 2 ^ 32 → IfSome sectors (λ n. n < 2 ^ 48) → replace_of end (placed_from at (decimal slot ∷ optional sectors)) ≡ Ok (ReplaceDisk slot sectors)
+replace_again end at slot None below is = then_ok _ slot _ (number_in_again 0 (2 ^ 32) slot _ (omega arith) below (omega arith))
+replace_again end at slot (Some n) below is =
+    then_ok _ slot _ (number_in_again 0 (2 ^ 32) slot _ (omega arith) below (omega arith))
+    ∙ then_ok _ n _ (number_in_again 0 (2 ^ 48) n _ (omega arith) is (omega (arith, is)))
+
+sectors_words : (sectors : Option ℕ) → IfSome sectors (λ n. n < 2 ^ 48) → AllByRecursion IsWord (optional sectors)
+sectors_words None is = tt
+sectors_words (Some n) is = (decimal_word n (omega (arith, is)), tt)
+
+-- digits don't begin as the name of a spare does
+starts_not : (text : List ℕ) → get_or text 0 0 ≢ 100 → starts_with nat_eq text (codes "draid") ≡ false
+starts_not [] other = refl
+starts_not (byte ∷ bytes) other = and_left (100 == byte) _ (ne_eqb 100 byte (λ same. other (sym same)))
+
+arm_again : (at : ℕ) (arm : ArmName) → IsArmName arm → arm_at (record { text = arm_of arm; at = at }) ≡ Ok arm
+arm_again at (Leaf leaf) below =
+    let numeral = (decimal_is_IsNumeral leaf (omega (arith, below))).0 in
+    let digit = digit_at (decimal leaf) 0 numeral.1 numeral.0 in
+    let plain : starts_with nat_eq (decimal leaf) (codes "draid") ≡ false = starts_not (decimal leaf) (λ same. omega (arith, digit.1)) in
+    cond-false _ _ _ plain ∙ then_ok _ leaf _ (number_in_again 0 (2 ^ 48) leaf at (omega arith) below (omega (arith, below)))
+arm_again at (Spare parity spare) is =
+    let digit : decimal parity ≡ (48 + parity) ∷ [] = decimal_digit parity (omega (arith, is.1)) in
+    ap (λ (ds : List ℕ). spare_behind at (ds ++ (codes "-0-" ++ decimal spare))) digit
+    ∙ cond-true _ _ _ (and_from _ _ (and_from _ _ (and_from _ _ (and_from (nat_le 49 (48 + parity)) (nat_le (48 + parity) 51) (le-leb 49 (48 + parity) (omega (arith, is.0))) (le-leb (48 + parity) 51 (omega (arith, is.1)))) refl) refl) refl)
+    ∙ then_ok _ spare _ (number_in_again 0 (2 ^ 32) spare at (omega arith) is.2 (omega (arith, is.2)))
+    ∙ ap (λ (p : ℕ). Ok (Spare p spare)) (omega arith)
+
+arm_word : (arm : ArmName) → IsArmName arm → IsWord (arm_of arm)
+arm_word (Leaf leaf) below = decimal_word leaf (omega (arith, below))
+arm_word (Spare parity spare) is =
+    All-append (λ byte. is_space byte ≡ false) (codes "draid") _ (literal_word (codes "draid") refl)
+      (All-append (λ byte. is_space byte ≡ false) (decimal parity) _ (decimal_word parity (omega (arith, is.1)))
+        (All-append (λ byte. is_space byte ≡ false) (codes "-0-") (decimal spare) (literal_word (codes "-0-") refl) (decimal_word spare (omega (arith, is.2)))))
+
+-- one more key
+key_given : (read : Result ℕ LineFault) (n : ℕ) (set : Option ℕ → Given) → read ≡ Ok n → ((read >>= λ n. Ok (Some n)) >>= λ value. Ok (set value)) ≡ Ok (set (Some n))
+key_given read n set gives = ap (λ (r : Result ℕ LineFault). (r >>= λ n. Ok (Some n)) >>= λ value. Ok (set value)) gives
+
+-- the keys of `create`
+keys_again : (at : ℕ) (keys : PoolKeys) → AreKeys keys → keys_at (placed_from at (settings keys)) ≡ Ok keys
+unfolding given_with
+keys_again at keys are =
+    let sector = λ (v : Option ℕ). let g : Given = record { sector = v; height = None; metaslabs = None; slices = None; seed = None } in g in
+    let height = λ (v : Option ℕ). let g : Given = record { sector = Some keys.sector; height = v; metaslabs = None; slices = None; seed = None } in g in
+    let metaslabs = λ (v : Option ℕ). let g : Given = record { sector = Some keys.sector; height = Some keys.height; metaslabs = v; slices = None; seed = None } in g in
+    let slices = λ (v : Option ℕ). let g : Given = record { sector = Some keys.sector; height = Some keys.height; metaslabs = Some keys.metaslabs; slices = v; seed = None } in g in
+    let seed = λ (v : Option ℕ). let g : Given = record { sector = Some keys.sector; height = Some keys.height; metaslabs = Some keys.metaslabs; slices = Some keys.slices; seed = v } in g in
+    then_ok _ (seed (Some keys.seed)) _ (
+      then_ok _ (sector (Some keys.sector)) _ (key_given _ keys.sector sector (number_in_again 0 (2 ^ 32) keys.sector _ (omega arith) are.sector (omega (arith, are.sector))))
+      ∙ then_ok _ (height (Some keys.height)) _ (key_given _ keys.height height (number_in_again 0 (2 ^ 32) keys.height _ (omega arith) are.height (omega (arith, are.height))))
+      ∙ then_ok _ (metaslabs (Some keys.metaslabs)) _ (key_given _ keys.metaslabs metaslabs (number_in_again 0 (2 ^ 32) keys.metaslabs _ (omega arith) are.metaslabs (omega (arith, are.metaslabs))))
+      ∙ then_ok _ (slices (Some keys.slices)) _ (key_given _ keys.slices slices (number_in_again 0 (2 ^ 32) keys.slices _ (omega arith) are.slices (omega (arith, are.slices))))
+      ∙ then_ok _ (seed (Some keys.seed)) _ (key_given _ keys.seed seed (number_at_again keys.seed _ are.seed)))
+
+setting_word : (key : List ℕ) (value : ℕ) → IsWord key → value < 2 ^ 64 → IsWord (setting key value)
+setting_word key value word small =
+    All-append (λ byte. is_space byte ≡ false) key (61 ∷ decimal value) word
+      (All-cons (λ byte. is_space byte ≡ false) 61 (decimal value) refl (decimal_word value small))
+
+settings_words : (keys : PoolKeys) → AreKeys keys → AllByRecursion IsWord (settings keys)
+settings_words keys are =
+    (setting_word (codes "sector") keys.sector (literal_word (codes "sector") refl) (omega (arith, are.sector)),
+      (setting_word (codes "height") keys.height (literal_word (codes "height") refl) (omega (arith, are.height)),
+        (setting_word (codes "metaslabs") keys.metaslabs (literal_word (codes "metaslabs") refl) (omega (arith, are.metaslabs)),
+          (setting_word (codes "slices") keys.slices (literal_word (codes "slices") refl) (omega (arith, are.slices)),
+            (setting_word (codes "seed") keys.seed (literal_word (codes "seed") refl) are.seed, tt)))))
+
+pub line_again : (command : Command) → IsWritable command → line_of (written_line command) ≡ Ok command
+unfolding line_of command_of
+line_again Silent is = refl
+line_again (CreatePool spec children keys) is =
+    let word = All-weaker (λ byte. byte ≢ 32) (λ byte. is_space byte ≡ false) (λ byte other. ne_eqb byte 32 other) spec is.1 in
+    line_by_name name.Create (spec ∷ decimal children ∷ settings keys) (word, (decimal_word children (omega (arith, is.0.0)), settings_words keys is.0.1))
+    ∙ then_ok _ children _ (number_in_again 0 (2 ^ 32) children _ (omega arith) is.0.0 (omega (arith, is.0.0)))
+    ∙ then_ok _ keys _ (keys_again _ keys is.0.1)
+line_again ImportPool is = line_by_name name.Import [] tt
+line_again ExportPool is = line_by_name name.Export [] tt
+line_again SyncPool is = line_by_name name.Sync [] tt
+line_again CancelPasses is = line_by_name name.Cancel [] tt
+line_again CrashPool is = line_by_name name.Crash [] tt
+line_again (WriteObject object bytes) is =
+    line_by_name name.Write (decimal object ∷ encode_lower bytes ∷ []) (decimal_word object (omega (arith, is.0.0)), (hex_word bytes is.1, tt))
+    ∙ write_again _ _ object bytes is.0.0 is.0.1 is.0.2 is.1
+line_again (FillObjects first count len seed) is =
+    line_by_name name.Fill (decimal first ∷ decimal count ∷ decimal len ∷ decimal seed ∷ [])
+      (decimal_word first (omega (arith, is.0.2)), (decimal_word count (omega (arith, is.0.1)), (decimal_word len (omega (arith, is.1.1)), (decimal_word seed is.2, tt))))
+    ∙ fill_again 0 _ first count len seed is.0 is.1 is.2
+line_again (ReadObject object) is =
+    line_by_name name.Read (decimal object ∷ []) (decimal_word object (omega (arith, is)), tt)
+    ∙ then_ok _ object _ (one_again (2 ^ 32) 0 _ object is (omega arith))
+line_again (FreeObject object) is =
+    line_by_name name.Free (decimal object ∷ []) (decimal_word object (omega (arith, is)), tt)
+    ∙ then_ok _ object _ (one_again (2 ^ 32) 0 _ object is (omega arith))
+line_again (SumObjects first count) is =
+    line_by_name name.Sum (decimal first ∷ decimal count ∷ []) (decimal_word first (omega (arith, is.2)), (decimal_word count (omega (arith, is.1)), tt))
+    ∙ sum_again 0 _ first count is
+line_again (TakeOffline leaf) is =
+    line_by_name name.Offline (decimal leaf ∷ []) (decimal_word leaf (omega (arith, is)), tt)
+    ∙ then_ok _ leaf _ (one_again (2 ^ 48) 0 _ leaf is (omega arith))
+line_again (TakeOnline leaf) is =
+    line_by_name name.Online (decimal leaf ∷ []) (decimal_word leaf (omega (arith, is)), tt)
+    ∙ then_ok _ leaf _ (one_again (2 ^ 48) 0 _ leaf is (omega arith))
+line_again (DamageSector leaf sector) is =
+    line_by_name name.Damage (decimal leaf ∷ decimal sector ∷ []) (decimal_word leaf (omega (arith, is.0)), (decimal_word sector (omega (arith, is.1)), tt))
+    ∙ then_ok _ (leaf, sector) _ (two_again (2 ^ 48) (2 ^ 26) 0 _ leaf sector is.0 (omega arith) is.1 (omega arith))
+line_again (AttachSpare slot spare) is =
+    line_by_name name.Spare (decimal slot ∷ decimal spare ∷ []) (decimal_word slot (omega (arith, is.0)), (decimal_word spare (omega (arith, is.1)), tt))
+    ∙ then_ok _ (slot, spare) _ (two_again (2 ^ 32) (2 ^ 32) 0 _ slot spare is.0 (omega arith) is.1 (omega arith))
+line_again (ReplaceDisk slot sectors) is =
+    line_by_name name.Replace (decimal slot ∷ optional sectors) (decimal_word slot (omega (arith, is.0)), sectors_words sectors is.1)
+    ∙ replace_again _ _ slot sectors is.0 is.1
+line_again (DetachArm arm) is =
+    line_by_name name.Detach (arm_of arm ∷ []) (arm_word arm is, tt)
+    ∙ then_ok _ arm _ (arm_again _ arm is)
+line_again (RebuildPool limit) is =
+    line_by_name name.Rebuild (optional limit) (limit_words limit is)
+    ∙ then_ok _ limit _ (limit_again _ _ limit is)
+line_again (ScrubPool limit) is =
+    line_by_name name.Scrub (optional limit) (limit_words limit is)
+    ∙ then_ok _ limit _ (limit_again _ _ limit is)
+line_again (RebalanceSlot slot) is =
+    line_by_name name.Rebalance (decimal slot ∷ []) (decimal_word slot (omega (arith, is)), tt)
+    ∙ then_ok _ slot _ (one_again (2 ^ 32) 0 _ slot is (omega arith))
+line_again (ShowStatus Text) is = line_by_name name.Status [] tt
+line_again (ShowStatus Json) is = line_by_name name.Status (codes "json" ∷ []) (literal_word (codes "json") refl, tt)
+line_again (OpenLanes count) is =
+    line_by_name name.Lanes (decimal count ∷ []) (decimal_word count (omega (arith, is.1)), tt)
+    ∙ then_ok _ count _ (number_in_again 1 (most_lanes + 1) count _ is.0 (omega (arith, is.1)) (omega (arith, is.1)))
