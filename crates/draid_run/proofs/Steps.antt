@@ -7,7 +7,7 @@ use Rattle.draid_shard.specs.Shard.{HoldsBlock, IsLive, KeepsBlocks, NoneFalls, 
 use Rattle.draid_block.specs.declared.solve.SolveFault.{SolveFault}
 use Rattle.draid_block.specs.declared.solve.SolveFault.TheVariants as solve
 use Rattle.draid_script.specs.Line.{WriteObject, ReadObject}
-use Rattle.draid_script.specs.declared.line.CommandName.TheVariants as name
+use Rattle.draid_script.specs.declared.name.CommandName.TheVariants as name
 use Rattle.draid_script.specs.declared.reply.Reply.TheVariants.{Written, Missed, Contents, NoObject, Unreadable, NoMemory}
 use Rattle.draid_run.specs.declared.store.StoreFault.{StoreFault}
 use Rattle.draid_run.specs.declared.store.StoreFault.TheVariants as fault

@@ -31,6 +31,13 @@ TextIs lines lines' left left' (Err (TooLong line)) =
     (line ≡ lines.given + 1) × WhereKnown (prepend_known lines.held left) (prepend_known lines'.held left') (λ old new. IsTooLong lines.given old)
 TextIs lines lines' left left' (Err status) = ⊥
 
+-- what became of the text of a reply
+abbrev pub PrintIs : List ℕ → Option (List ℕ) → Option (List ℕ) → Result Unit Status → Type 0
+PrintIs text old new (Ok done) = Appends old new text
+PrintIs text old new (Err SinkFault) = AppendsFront old new text
+PrintIs text old new (Err NoMemory) = new ≡ old
+PrintIs text old new (Err status) = ⊥
+
 -- what the sink got but for the last line
 abbrev pub PrintsReplies : Status → List ℕ → Option (List ℕ) → Option (List ℕ) → Type 0
 PrintsReplies SinkFault text old new = AppendsFront old new text

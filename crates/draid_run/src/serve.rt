@@ -1,14 +1,15 @@
-ghost use Rattle.std.specs.Prelude.{◌≡◌, ◌<◌, ◌≤◌, ◌+◌, ◌^◌, ℕ, List, Some, None, Ok, Err, IfOk, []};
+ghost use Rattle.std.specs.Prelude.{◌≡◌, ◌<◌, ◌≤◌, ◌+◌, ◌^◌, ℕ, List, Some, None, Ok, Err, IfOk, IsTrue, OnErr, ◌↔◌, []};
 ghost use Rattle.std.specs.Io.KnownBytes.{prepend_known};
 ghost use Rattle.draid_names.specs.Faults.{Rose};
 ghost use Rattle.draid_script.specs.Line.{IsInRange, ReadObject, WriteObject, command_in};
+ghost use Rattle.draid_script.specs.Reply.{text_of};
 ghost use Rattle.draid_run.specs.State.{IsFirstPool, IsFresh, Write};
 ghost use Rattle.draid_run.specs.Session.{IsDesk, Represents, pool_of, seq_of, state_of};
-ghost use Rattle.draid_run.specs.Serve.{AnswerIs, LineIs, Opens, Served, TextIs, Turned};
+ghost use Rattle.draid_run.specs.Serve.{AnswerIs, LineIs, Opens, PrintIs, Served, TextIs, Turned};
 
 use crate::session::Session;
 use crate::status::Status;
-use draid_names::NoMemory;
+use draid_names::{Failed, NoMemory};
 use draid_rack::Rack;
 use draid_script::{
     CommandName, Line, LineFault, Lines, ParseFault, PoolKeys, ReadFault, Reply, Sink, Source, parse_line,
@@ -209,13 +210,22 @@ fn serve_line<H: Shelf, K: Sink>(
         }
         Err(Unanswered::NoMemory) => return Err(Status::NoMemory),
     };
-    let Ok(bytes) = reply_text(alloc, &reply) else {
+    print_reply(alloc, sink, &reply)
+}
+
+/// Prints a reply, as one `put`.
+fn print_reply<K: Sink>(alloc: Global, sink: &mut K, reply: &Reply) -> Result<(), Status>
+    ensures prints { PrintIs (text_of reply.now) (K.held sink.old) (K.held sink.new) result }
+    ensures later { K.faults sink.old ≤ K.faults sink.new }
+    ensures cause { result ≡ Err Status.SinkFault → Rose (K.faults sink.old) (K.faults sink.new) }
+{
+    let Ok(bytes) = reply_text(alloc, reply) else {
         return Err(Status::NoMemory);
     };
-    if sink.put(&bytes).is_err() {
-        return Err(Status::SinkFault);
+    match sink.put(&bytes) {
+        Ok(()) => Ok(()),
+        Err(Failed) => Err(Status::SinkFault),
     }
-    Ok(())
 }
 
 /// The next line of the source, or the status of a run that can't read it.
