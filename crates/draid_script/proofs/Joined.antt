@@ -1,17 +1,16 @@
 -- Words that are joined by single spaces are the words of the line.
-use Rattle.std.proofs.Common.{◌≡◌, ◌≢◌, ℕ, ◌+◌, ◌^◌, ◌<◌, ◌≤◌, ◌==◌, ◌&&◌, ◌⊎◌, nat_le, All, Bool, true, false, not, List, [], ◌∷◌, ◌++◌, length, get_or, codes, Option, Some, refl, sym, ap, ◌∙◌, subst, inl, inr, arith, Result, Ok}
+use Rattle.std.proofs.Common.{◌≡◌, ℕ, ◌^◌, ◌<◌, ◌≤◌, ◌==◌, ◌&&◌, nat_le, All, true, false, not, List, [], ◌∷◌, length, get_or, Some, refl, sym, ap, ◌∙◌, subst, inl, inr, arith, Result, Ok}
 use Rattle.std.proofs.lemmas.List.{get_or_default}
 use Rattle.std.specs.Fmt.{decimal}
-use Rattle.std.specs.List.{AllByRecursion, AllPass, join_with_byte, list_all, slice_split}
-use Rattle.std.specs.Str.{all_ascii_digits}
-use Rattle.std.specs.Str.Parse.{AllDigits, IsNumeral, digits_value}
+use Rattle.std.specs.List.{AllByRecursion, join_with_byte, list_all, slice_split}
+use Rattle.std.specs.Str.Parse.{digits_value}
 use Rattle.hex.specs.Hex.{IsBytes, decode_of, encode_lower, is_hex_digit, lower_digits}
 use Rattle.hex.specs.declared.error.FromHexError.{FromHexError}
 use Rattle.std.specs.Result.{result_ok}
 use Rattle.hex.proofs.HexLemmas.{decode_of-encode_lower, decode_of-ok, length-encode_with}
 use Rattle.std.proofs.lemmas.Bool.{and_from, cases_eq, cases_lt, le-leb, ne_eqb, not-true, or_right}
-use Rattle.std.proofs.lemmas.Fmt.{decimal_digit, decimal_is_IsNumeral, decimal_nonempty, first_decimal}
-use Rattle.std.proofs.lemmas.List.Elements.{All-append, All-cons, All-weaker}
+use Rattle.std.proofs.lemmas.Fmt.{decimal_digit, decimal_is_IsNumeral, first_decimal}
+use Rattle.std.proofs.lemmas.List.Elements.{All-weaker}
 use Rattle.std.proofs.lemmas.List.Splits.{slice_split_at, slice_split_none}
 use Rattle.std.proofs.lemmas.List.Sums.{AllPass-from_list_all}
 use Rattle.std.proofs.lemmas.Str.Parse.{digit_at}
@@ -47,8 +46,8 @@ decimal_word n small k d h =
 hex_no_space : (byte : ℕ) → is_hex_digit byte ≡ true → is_space byte ≡ false
 hex_no_space byte digit =
     elim (cases_eq byte 32) [
-      inl same ↦ let P : ℕ → Type 0 = λ b. is_hex_digit b ≡ true in let space : is_hex_digit 32 ≡ true = subst P same digit in cc
-    | inr other ↦ ne_eqb byte 32 other
+      | inl same ↦ let P : ℕ → Type 0 = λ b. is_hex_digit b ≡ true in let space : is_hex_digit 32 ≡ true = subst P same digit in cc
+      | inr other ↦ ne_eqb byte 32 other
     ]
 
 pub hex_word : (bytes : List ℕ) → IsBytes bytes → IsWord (encode_lower bytes)
@@ -65,14 +64,14 @@ begins_from (digit ∷ digits) some low high =
 begins_decimal : (n : ℕ) → n < 2 ^ 64 → begins_number (decimal n) ≡ true
 begins_decimal n small =
     elim (cases_lt 0 n) [
-      inl some ↦
-        let numeral = (decimal_is_IsNumeral n small).0 in
-        begins_from (decimal n) numeral.0 (omega (arith, first_decimal n some small)) (digit_at (decimal n) 0 numeral.1 numeral.0).1
-    | inr none ↦
-        let zero_is : n ≡ 0 = omega arith in
-        let P : ℕ → Type 0 = λ m. begins_number (decimal m) ≡ true in
-        let Q : List ℕ → Type 0 = λ ds. begins_number ds ≡ true in
-        subst P (sym zero_is) (subst Q (sym (decimal_digit 0 (omega arith))) refl)
+      | inl some ↦
+          let numeral = (decimal_is_IsNumeral n small).0 in
+          begins_from (decimal n) numeral.0 (omega (arith, first_decimal n some small)) (digit_at (decimal n) 0 numeral.1 numeral.0).1
+      | inr none ↦
+          let zero_is : n ≡ 0 = omega arith in
+          let P : ℕ → Type 0 = λ m. begins_number (decimal m) ≡ true in
+          let Q : List ℕ → Type 0 = λ ds. begins_number ds ≡ true in
+          subst P (sym zero_is) (subst Q (sym (decimal_digit 0 (omega arith))) refl)
     ]
 
 -- a number in decimal digits is read again

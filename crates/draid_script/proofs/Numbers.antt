@@ -61,8 +61,8 @@ begins_zero : (word : List ℕ) → begins_number word ≡ true → get_or word 
 begins_zero [] begins same = cc
 begins_zero (digit ∷ digits) begins same =
     elim (or_cases (digit == 48 && length digits == 0) (nat_le 49 digit && nat_le digit 57) begins) [
-      inl zero ↦ omega (arith, eqb-true (length digits) 0 (and_parts (digit == 48) (length digits == 0) zero).1)
-    | inr more ↦ omega (arith, leb-true 49 digit (and_parts (nat_le 49 digit) (nat_le digit 57) more).0)
+      | inl zero ↦ omega (arith, eqb-true (length digits) 0 (and_parts (digit == 48) (length digits == 0) zero).1)
+      | inr more ↦ omega (arith, leb-true 49 digit (and_parts (nat_le 49 digit) (nat_le digit 57) more).0)
     ]
 
 -- the word is what is written for its number
@@ -74,5 +74,5 @@ decimal_of_number word n read =
     let front = and_parts _ _ tests.0 in
     let small : digits_value 10 word < 2 ^ 64 = ltb-true (digits_value 10 word) (2 ^ 64) tests.1 in
     let written : decimal (digits_value 10 word) ≡ word =
-        decimal-digits_value digits_model word front.1 (begins_plain word front.0).1 (begins_zero word front.0) small in
+    decimal-digits_value digits_model word front.1 (begins_plain word front.0).1 (begins_zero word front.0) small in
     (omega (arith, found.1), sym written ∙ ap decimal found.1)

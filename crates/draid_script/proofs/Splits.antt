@@ -1,5 +1,5 @@
 -- How a text is cut, and what stands where.
-use Rattle.std.proofs.Common.{◌≡◌, ℕ, ◌+◌, ◌<◌, ◌≤◌, List, [], ◌∷◌, ◌++◌, length, take, drop, map, refl, sym, ap, ◌∙◌, arith, append_assoc, length-drop, length-take}
+use Rattle.std.proofs.Common.{◌≡◌, ℕ, ◌+◌, ◌<◌, ◌≤◌, List, [], ◌∷◌, ◌++◌, length, drop, map, refl, sym, ap, ◌∙◌, arith, append_assoc, length-drop, length-take}
 use Rattle.std.specs.List.{after_first, before_first, join_with_byte, position_or_len, slice_split}
 use Rattle.std.proofs.lemmas.List.{drop-drop, map-append, take_all}
 use Rattle.std.proofs.lemmas.List.Splits.{join_with_byte-slice_split, slice_split_first, slice_split_none}

@@ -1,5 +1,5 @@
 -- What a writer writes is read again.
-use Rattle.std.proofs.Common.{◌≡◌, ◌≢◌, ℕ, ◌+◌, ◌-◌, ◌^◌, ◌<◌, ◌≤◌, ◌==◌, ◌&&◌, All, Bool, true, false, cond, nat_eq, nat_le, nat_lt, List, [], ◌∷◌, ◌++◌, length, get_or, codes, Option, None, Some, IfSome, Result, Ok, Err, refl, sym, ap, ◌∙◌, subst, arith, append-nil}
+use Rattle.std.proofs.Common.{◌≡◌, ◌≢◌, ℕ, ◌+◌, ◌^◌, ◌<◌, ◌≤◌, ◌==◌, ◌&&◌, false, cond, nat_eq, nat_le, nat_lt, List, [], ◌∷◌, ◌++◌, length, get_or, codes, Option, None, Some, IfSome, Result, Ok, Err, refl, sym, ap, ◌∙◌, arith, append-nil}
 use Rattle.std.specs.Fmt.{decimal}
 use Rattle.std.specs.List.{AllByRecursion, join_with_byte, slice_split, starts_with}
 use Rattle.std.specs.Option.{ok_or}
@@ -17,14 +17,14 @@ use Rattle.draid_script.specs.declared.line.StatusFormat.TheVariants.{Text, Json
 use Rattle.draid_script.specs.declared.name.CommandName.{CommandName}
 use Rattle.draid_script.specs.declared.name.CommandName.TheVariants as name
 use Rattle.draid_script.specs.Fault.{fault, ◌>>=◌}
-use Rattle.draid_script.specs.Field.{arm_at, block_at, count_at, hex_place, number_at, number_in, object_at, short_at, spare_behind, within}
-use Rattle.draid_script.specs.Grammar.{command_of, create_of, fill_of, is_silent, limit_at, line_of, one_number, outside, replace_of, sum_of, two_numbers, write_of}
-use Rattle.draid_script.specs.Keys.{given_by, given_with, keys_at, keys_in}
+use Rattle.draid_script.specs.Field.{arm_at, block_at, count_at, hex_place, number_at, number_in, spare_behind, within}
+use Rattle.draid_script.specs.Grammar.{command_of, fill_of, is_silent, limit_at, line_of, one_number, outside, replace_of, sum_of, two_numbers, write_of}
+use Rattle.draid_script.specs.Keys.{given_with, keys_at}
 use Rattle.draid_script.specs.Line.{Command, Silent, CreatePool, ImportPool, ExportPool, SyncPool, CancelPasses, CrashPool, WriteObject, FillObjects, ReadObject, FreeObject, SumObjects, TakeOffline, TakeOnline, DamageSector, AttachSpare, ReplaceDisk, DetachArm, RebuildPool, ScrubPool, RebalanceSlot, ShowStatus, OpenLanes, AreKeys, AreObjects, IsArmName, IsLimit, longest_block, most_lanes, most_objects}
 use Rattle.draid_script.specs.Name.{name_of, name_text}
 use Rattle.draid_script.specs.Reply.{arm_of}
-use Rattle.draid_script.specs.Word.{Placed, bytes_of, begins_number, is_space, number_of, placed_from, words_of}
-use Rattle.draid_script.specs.Writing.{IsWritable, optional, setting, settings, written_line, written_words}
+use Rattle.draid_script.specs.Word.{Placed, bytes_of, is_space, placed_from, words_of}
+use Rattle.draid_script.specs.Writing.{IsWritable, optional, setting, settings, written_line}
 use Rattle.draid_script.proofs.Joined.{IsWord, bytes_again, decimal_word, hex_word, literal_word, number_again, split_joined}
 
 -- a first step that gives a value
@@ -141,7 +141,7 @@ block_again end at bytes are some short =
     let place = hex_place end word in
     let bounded = λ (bs : List ℕ). cond (nat_le (length bs) longest_block) (Ok bs) (Err (fault 5 at)) in
     then_ok (ok_or (bytes_of (encode_lower bytes)) (fault 4 (hex_place end word))) bytes bounded
-      (ap (λ (o : Option (List ℕ)). ok_or o (fault 4 (hex_place end word))) (bytes_again bytes are (omega arith)))
+    (ap (λ (o : Option (List ℕ)). ok_or o (fault 4 (hex_place end word))) (bytes_again bytes are (omega arith)))
     ∙ cond-true (nat_le (length bytes) longest_block) (Ok bytes) (Err (fault 5 at)) (le-leb (length bytes) longest_block short)
 
 pub one_again : (limit end at n : ℕ) → n < limit → limit ≤ 2 ^ 64 → one_number limit end (placed_from at (decimal n ∷ [])) ≡ Ok n
@@ -209,8 +209,8 @@ arm_word : (arm : ArmName) → IsArmName arm → IsWord (arm_of arm)
 arm_word (Leaf leaf) below = decimal_word leaf (omega (arith, below))
 arm_word (Spare parity spare) is =
     All-append (λ byte. is_space byte ≡ false) (codes "draid") _ (literal_word (codes "draid") refl)
-      (All-append (λ byte. is_space byte ≡ false) (decimal parity) _ (decimal_word parity (omega (arith, is.1)))
-        (All-append (λ byte. is_space byte ≡ false) (codes "-0-") (decimal spare) (literal_word (codes "-0-") refl) (decimal_word spare (omega (arith, is.2)))))
+    (All-append (λ byte. is_space byte ≡ false) (decimal parity) _ (decimal_word parity (omega (arith, is.1)))
+    (All-append (λ byte. is_space byte ≡ false) (codes "-0-") (decimal spare) (literal_word (codes "-0-") refl) (decimal_word spare (omega (arith, is.2)))))
 
 -- one more key
 key_given : (read : Result ℕ LineFault) (n : ℕ) (set : Option ℕ → Given) → read ≡ Ok n → ((read >>= λ n. Ok (Some n)) >>= λ value. Ok (set value)) ≡ Ok (set (Some n))
@@ -226,24 +226,31 @@ keys_again at keys are =
     let slices = λ (v : Option ℕ). let g : Given = record { sector = Some keys.sector; height = Some keys.height; metaslabs = Some keys.metaslabs; slices = v; seed = None } in g in
     let seed = λ (v : Option ℕ). let g : Given = record { sector = Some keys.sector; height = Some keys.height; metaslabs = Some keys.metaslabs; slices = Some keys.slices; seed = v } in g in
     then_ok _ (seed (Some keys.seed)) _ (
-      then_ok _ (sector (Some keys.sector)) _ (key_given _ keys.sector sector (number_in_again 0 (2 ^ 32) keys.sector _ (omega arith) are.sector (omega (arith, are.sector))))
-      ∙ then_ok _ (height (Some keys.height)) _ (key_given _ keys.height height (number_in_again 0 (2 ^ 32) keys.height _ (omega arith) are.height (omega (arith, are.height))))
-      ∙ then_ok _ (metaslabs (Some keys.metaslabs)) _ (key_given _ keys.metaslabs metaslabs (number_in_again 0 (2 ^ 32) keys.metaslabs _ (omega arith) are.metaslabs (omega (arith, are.metaslabs))))
-      ∙ then_ok _ (slices (Some keys.slices)) _ (key_given _ keys.slices slices (number_in_again 0 (2 ^ 32) keys.slices _ (omega arith) are.slices (omega (arith, are.slices))))
-      ∙ then_ok _ (seed (Some keys.seed)) _ (key_given _ keys.seed seed (number_at_again keys.seed _ are.seed)))
+    then_ok _ (sector (Some keys.sector)) _ (key_given _ keys.sector sector (number_in_again 0 (2 ^ 32) keys.sector _ (omega arith) are.sector (omega (arith, are.sector))))
+    ∙ then_ok _ (height (Some keys.height)) _ (key_given _ keys.height height (number_in_again 0 (2 ^ 32) keys.height _ (omega arith) are.height (omega (arith, are.height))))
+    ∙ then_ok _ (metaslabs (Some keys.metaslabs)) _ (key_given _ keys.metaslabs metaslabs (number_in_again 0 (2 ^ 32) keys.metaslabs _ (omega arith) are.metaslabs (omega (arith, are.metaslabs))))
+    ∙ then_ok _ (slices (Some keys.slices)) _ (key_given _ keys.slices slices (number_in_again 0 (2 ^ 32) keys.slices _ (omega arith) are.slices (omega (arith, are.slices))))
+    ∙ then_ok _ (seed (Some keys.seed)) _ (key_given _ keys.seed seed (number_at_again keys.seed _ are.seed)))
 
 setting_word : (key : List ℕ) (value : ℕ) → IsWord key → value < 2 ^ 64 → IsWord (setting key value)
 setting_word key value word small =
     All-append (λ byte. is_space byte ≡ false) key (61 ∷ decimal value) word
-      (All-cons (λ byte. is_space byte ≡ false) 61 (decimal value) refl (decimal_word value small))
+    (All-cons (λ byte. is_space byte ≡ false) 61 (decimal value) refl (decimal_word value small))
 
 settings_words : (keys : PoolKeys) → AreKeys keys → AllByRecursion IsWord (settings keys)
-settings_words keys are =
-    (setting_word (codes "sector") keys.sector (literal_word (codes "sector") refl) (omega (arith, are.sector)),
-      (setting_word (codes "height") keys.height (literal_word (codes "height") refl) (omega (arith, are.height)),
-        (setting_word (codes "metaslabs") keys.metaslabs (literal_word (codes "metaslabs") refl) (omega (arith, are.metaslabs)),
-          (setting_word (codes "slices") keys.slices (literal_word (codes "slices") refl) (omega (arith, are.slices)),
-            (setting_word (codes "seed") keys.seed (literal_word (codes "seed") refl) are.seed, tt)))))
+settings_words keys are = (
+  setting_word (codes "sector") keys.sector (literal_word (codes "sector") refl) (omega (arith, are.sector)),
+  (
+    setting_word (codes "height") keys.height (literal_word (codes "height") refl) (omega (arith, are.height)),
+    (
+      setting_word (codes "metaslabs") keys.metaslabs (literal_word (codes "metaslabs") refl) (omega (arith, are.metaslabs)),
+      (
+        setting_word (codes "slices") keys.slices (literal_word (codes "slices") refl) (omega (arith, are.slices)),
+        (setting_word (codes "seed") keys.seed (literal_word (codes "seed") refl) are.seed, tt),
+      ),
+    ),
+  ),
+)
 
 pub line_again : (command : Command) → IsWritable command → line_of (written_line command) ≡ Ok command
 unfolding line_of command_of
@@ -263,7 +270,7 @@ line_again (WriteObject object bytes) is =
     ∙ write_again _ _ object bytes is.0.0 is.0.1 is.0.2 is.1
 line_again (FillObjects first count len seed) is =
     line_by_name name.Fill (decimal first ∷ decimal count ∷ decimal len ∷ decimal seed ∷ [])
-      (decimal_word first (omega (arith, is.0.2)), (decimal_word count (omega (arith, is.0.1)), (decimal_word len (omega (arith, is.1.1)), (decimal_word seed is.2, tt))))
+    (decimal_word first (omega (arith, is.0.2)), (decimal_word count (omega (arith, is.0.1)), (decimal_word len (omega (arith, is.1.1)), (decimal_word seed is.2, tt))))
     ∙ fill_again 0 _ first count len seed is.0 is.1 is.2
 line_again (ReadObject object) is =
     line_by_name name.Read (decimal object ∷ []) (decimal_word object (omega (arith, is)), tt)

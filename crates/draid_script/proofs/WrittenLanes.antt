@@ -1,5 +1,5 @@
 -- What a writer writes in a section is read again.
-use Rattle.std.proofs.Common.{◌≡◌, ◌≢◌, ℕ, ◌+◌, ◌^◌, ◌<◌, ◌≤◌, ◌==◌, Bool, true, false, List, [], ◌∷◌, ◌++◌, length, get_or, codes, Result, Ok, Err, refl, sym, ap, ◌∙◌, arith}
+use Rattle.std.proofs.Common.{◌≡◌, ℕ, ◌+◌, ◌^◌, ◌<◌, ◌≤◌, ◌==◌, true, false, List, [], ◌∷◌, ◌++◌, length, get_or, codes, Ok, refl, ap, ◌∙◌, arith}
 use Rattle.std.specs.Fmt.{decimal}
 use Rattle.std.specs.List.{AllByRecursion, join_with_byte, slice_split}
 use Rattle.std.specs.Str.{bytes_eq}
@@ -11,7 +11,7 @@ use Rattle.draid_script.specs.declared.name.CommandName.{CommandName}
 use Rattle.draid_script.specs.declared.name.CommandName.TheVariants as name
 use Rattle.draid_script.specs.Fault.{◌>>=◌}
 use Rattle.draid_script.specs.Grammar.{command_of, inside, is_silent, lane_name_at, lane_of}
-use Rattle.draid_script.specs.Line.{Command, CreatePool, ImportPool, SyncPool, WriteObject, FillObjects, ReadObject, FreeObject, SumObjects, TakeOffline, TakeOnline, RebuildPool, ScrubPool, LaneCommand, InLane, SilentLane, SectionEnd}
+use Rattle.draid_script.specs.Line.{Command, SyncPool, WriteObject, FillObjects, ReadObject, FreeObject, SumObjects, TakeOffline, TakeOnline, RebuildPool, ScrubPool, InLane}
 use Rattle.draid_script.specs.Name.{is_for_lanes, name_of, name_text}
 use Rattle.draid_script.specs.Word.{is_space, placed_from, words_of}
 use Rattle.draid_script.specs.Writing.{IsForLanes, IsWritable, optional, written_lane_line}
@@ -61,7 +61,7 @@ lane_by_name lanes lane n texts below few may are =
     let numeral = (decimal_is_IsNumeral lane (omega arith)).0 in
     let digit = digit_at (decimal lane) 0 numeral.1 numeral.0 in
     let split : slice_split is_space (join_with_byte 32 (decimal lane ∷ name_text n ∷ texts)) ≡ decimal lane ∷ name_text n ∷ texts =
-        split_joined (decimal lane) (name_text n ∷ texts) (decimal_word lane (omega arith)) (name_word n, are) in
+    split_joined (decimal lane) (name_text n ∷ texts) (decimal_word lane (omega arith)) (name_word n, are) in
     cond-false _ _ _ (loud (decimal lane) rest numeral.0 digit.0)
     ∙ cond-false _ _ _ (no_end (decimal lane) rest numeral.0 digit.1)
     ∙ ap (λ (parts : List (List ℕ)). inside lanes (length text) (placed_from 0 parts)) split
@@ -76,7 +76,7 @@ lane_line_again lanes lane (WriteObject object bytes) below few may is =
     ∙ then_ok _ (WriteObject object bytes) _ (write_again _ _ object bytes is.0.0 is.0.1 is.0.2 is.1)
 lane_line_again lanes lane (FillObjects first count len seed) below few may is =
     lane_by_name lanes lane name.Fill (decimal first ∷ decimal count ∷ decimal len ∷ decimal seed ∷ []) below few refl
-      (decimal_word first (omega (arith, is.0.2)), (decimal_word count (omega (arith, is.0.1)), (decimal_word len (omega (arith, is.1.1)), (decimal_word seed is.2, tt))))
+    (decimal_word first (omega (arith, is.0.2)), (decimal_word count (omega (arith, is.0.1)), (decimal_word len (omega (arith, is.1.1)), (decimal_word seed is.2, tt))))
     ∙ then_ok _ (FillObjects first count len seed) _ (fill_again 0 _ first count len seed is.0 is.1 is.2)
 lane_line_again lanes lane (ReadObject object) below few may is =
     lane_by_name lanes lane name.Read (decimal object ∷ []) below few refl (decimal_word object (omega (arith, is)), tt)

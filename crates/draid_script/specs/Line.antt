@@ -1,4 +1,4 @@
-use Rattle.std.specs.Prelude.{◌≡◌, ◌+◌, ◌-◌, ◌<◌, ◌≤◌, ◌^◌, ⊤, ℕ, Bool, true, false, List, [], ◌∷◌, length, codes, Option, IfSome}
+use Rattle.std.specs.Prelude.{◌+◌, ◌<◌, ◌≤◌, ◌^◌, ⊤, ℕ, List, length, Option, IfSome}
 use Rattle.draid_script.specs.declared.line.Line.{Line}
 use Rattle.draid_script.specs.declared.line.Line.TheVariants as line
 use Rattle.draid_script.specs.declared.line.PoolKeys.{PoolKeys}

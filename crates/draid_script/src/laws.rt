@@ -9,24 +9,20 @@ ghost use Rattle.draid_script.specs.Writing.{IsForLanes, IsWritable, written_lan
 /// A line is its words, joined by single spaces.
 pub fn words_are_joined()
     ensures { (line : List ℕ) → join_with_byte 32 (map (λ word. word.text) (words_of line)) ≡ line }
-{
-}
+{}
 
 /// A number's word is what is written for it, without a sign or a leading zero.
 pub fn numbers_are_decimal()
     ensures { (word : List ℕ) (n : ℕ) → (number_of word ≡ Some n) ↔ ((n < 2 ^ 64) × (word ≡ decimal n)) }
-{
-}
+{}
 
 /// What a writer of lines would write is read again as what was asked for.
 pub fn lines_are_read_again()
     ensures { (command : Command) → IsWritable command → line_of (written_line command) ≡ Ok command }
-{
-}
+{}
 
 /// The same of the lines of a section.
 pub fn lane_lines_are_read_again()
     ensures { (lanes lane : ℕ) (command : Command) → lane < lanes → lanes ≤ 2 ^ 32 → IsForLanes command → IsWritable command
         → lane_of lanes (written_lane_line lane command) ≡ Ok (InLane lane command) }
-{
-}
+{}

@@ -1,6 +1,6 @@
 use Rattle.std.proofs.Common.{◌≡◌, ◌-◌, ◌+◌, ◌≤◌, ◌++◌, length, drop, map}
 use Rattle.std.specs.List.{slice_split}
-use Rattle.draid_script.specs.Word.{is_space, placed, placed_from, words_of}
+use Rattle.draid_script.specs.Word.{is_space, placed, placed_from}
 use Rattle.draid_script.proofs.words.words.Given as goal
 
 -- the words so far, and those from here on, are all of them
