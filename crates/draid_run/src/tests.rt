@@ -59,31 +59,37 @@ fn add_write(script: &mut Vec<u8>, object: u64, len: usize) -> Result<(), AllocE
 #[test]
 fn replies_and_statuses(rt: HostRuntime) -> Result<(), Fail> {
     let alloc = rt.alloc();
-    let fault = Status::Line {
-        line: 2,
-        kind: 7,
-        at: 0,
-    };
-    for (lines, replies, status) in [
+    for (lines, replies, kind, at) in [
+        ("write 7 68656c6c6f\nread 7", "write 7 ok\nread 7 5 68656c6c6f\n", 0, 0),
         (
-            "write 7 68656c6c6f\nread 7",
-            "write 7 ok\nread 7 5 68656c6c6f\n",
-            Status::Done,
-        ),
-        (
-            "write 7 AA\nwrite 7 bb\nread 7\nread 8\n",
+            "write 7 AA\nwrite 7 bb\n\n# the newest\nread 7\nread 8\n",
             "write 7 ok\nwrite 7 ok\nread 7 1 bb\nread 8 no object\n",
-            Status::Done,
+            0,
+            0,
         ),
-        ("frob\n", "line 2 fault=7 at=0\n", fault),
-        ("write 07 aa\n", "line 2 fault=7 at=0\n", fault),
-        ("\n", "line 2 fault=7 at=0\n", fault),
+        (
+            "create draid1:2d:3c:0s 3 slices=4 metaslabs=1 height=8 sector=512 seed=1\n",
+            "create pool open\n",
+            0,
+            0,
+        ),
+        ("frob\n", "", 1, 0),
+        ("write 7 6g\n", "", 4, 9),
+        ("write 07 aa\n", "", 3, 6),
+        ("end\n", "", 6, 0),
+        ("sync\n", "", 7, 0),
+        ("create draid2:4d:11c:1s 11\n", "", 7, 0),
     ] {
-        let script = created(alloc, lines)?;
-        let (ended, printed) = run_words(&rt, "session", script, &NONE)?;
-        assert_eq!(rt; ended, status);
+        let (ended, printed) = run_words(&rt, "session", created(alloc, lines)?, &NONE)?;
         let mut wanted = Vec::from_slice(alloc, CREATED.as_bytes())?;
         wanted.extend_from_slice(replies.as_bytes())?;
+        if kind == 0 {
+            assert_eq!(rt; ended, Status::Done);
+        } else {
+            assert_eq!(rt; ended, Status::Line { line: 2, kind, at });
+            let fault = format!(in alloc; "line 2 fault={kind} at={at}\n")?;
+            wanted.extend_from_slice(fault.as_bytes())?;
+        }
         assert_eq!(rt; printed, wanted);
     }
     Ok(())
@@ -178,6 +184,11 @@ fn nothing_runs(rt: HostRuntime) -> Result<(), Fail> {
         printed.as_slice(),
         b"usage: dzpool session [--dir DIR] or dzpool workload NUMBER\n".as_slice()
     );
+
+    let early = Vec::from_slice(alloc, b"# none is open\nwrite 7 aa\nread 7\n")?;
+    let (ended, printed) = run_words(&rt, "session", early, &NONE)?;
+    assert_eq!(rt; ended, Status::Done);
+    assert_eq!(rt; printed.as_slice(), b"write no pool\nread no pool\n".as_slice());
 
     let long = vec![in alloc; b'a'; 300_001]?;
     let (ended, printed) = run_words(&rt, "session", long, &NONE)?;
