@@ -153,13 +153,20 @@ module _ {R : Type 0} (shape : R → Shape) (told : R → Option Told) (faults :
         → LineFaultIs (line_of line) kind at → number ≡ count + 1
         → Served shape told faults (Line number kind at) input start held pool
     unrun pool number kind at is fault n =
-      let counted = is.count_is in
-      record {
-        lines = is.lines; replies = is.replies; shown = is.replies; writes = is.writes; desk = is.desk; runs = is.runs;
-        ends = known_input input rest' _ _ (λ x z e. e)
-          (known_on input rest rest' _ _ (λ all _. Ends (Line number kind at) (state_of told faults pool is.writes) is.lines all)
-            (λ x y z a b. (line, lines_of z, a ∙ ap (λ xs. is.lines ++ xs) b, fault, omega (arith, counted, n))) is.known behind);
-        shows = refl; prints = is.printed }
+        let counted = is.count_is in
+        record {
+          lines = is.lines;
+          replies = is.replies;
+          shown = is.replies;
+          writes = is.writes;
+          desk = is.desk;
+          runs = is.runs;
+          ends = known_input input rest' _ _ (λ x z e. e)
+              (known_on input rest rest' _ _ (λ all _. Ends (Line number kind at) (state_of told faults pool is.writes) is.lines all)
+              (λ x y z a b. (line, lines_of z, a ∙ ap (λ xs. is.lines ++ xs) b, fault, omega (arith, counted, n))) is.known behind);
+          shows = refl;
+          prints = is.printed;
+        }
 
     -- its reply could not be put
     unput : (held' : Option (List ℕ)) (pool pool' : Option (Session R)) (is : Serving shape told faults input rest start held pool count)

@@ -12,8 +12,8 @@ use crate::status::Status;
 use draid_names::{Failed, NoMemory};
 use draid_rack::Rack;
 use draid_script::{
-    CommandName, Line, LineFault, Lines, ParseFault, PoolKeys, ReadFault, Reply, Sink, Source, parse_line,
-    reply_text,
+    CommandName, Line, LineFault, Lines, ParseFault, PoolKeys, ReadFault, Reply, Sink, Source,
+    parse_line, reply_text,
 };
 use draid_shard::Shard;
 use draid_shelf::{Extent, Shelf};
@@ -134,12 +134,7 @@ fn answer<H: Shelf>(
 }
 
 /// Writes to the pool that is open, if one is.
-fn write<R: Rack>(
-    alloc: Global,
-    pool: &mut Option<Session<R>>,
-    object: u64,
-    bytes: &[u8],
-) -> Reply
+fn write<R: Rack>(alloc: Global, pool: &mut Option<Session<R>>, object: u64, bytes: &[u8]) -> Reply
     requires range { IsInRange (WriteObject object bytes.now) }
     requires desk { (writes : List Write) × IsDesk R.shape R.told pool.old writes }
     requires seq { seq_of pool.old + 1 < 2 ^ 48 }

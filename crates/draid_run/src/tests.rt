@@ -60,7 +60,12 @@ fn add_write(script: &mut Vec<u8>, object: u64, len: usize) -> Result<(), AllocE
 fn replies_and_statuses(rt: HostRuntime) -> Result<(), Fail> {
     let alloc = rt.alloc();
     for (lines, replies, kind, at) in [
-        ("write 7 68656c6c6f\nread 7", "write 7 ok\nread 7 5 68656c6c6f\n", 0, 0),
+        (
+            "write 7 68656c6c6f\nread 7",
+            "write 7 ok\nread 7 5 68656c6c6f\n",
+            0,
+            0,
+        ),
         (
             "write 7 AA\nwrite 7 bb\n\n# the newest\nread 7\nread 8\n",
             "write 7 ok\nwrite 7 ok\nread 7 1 bb\nread 8 no object\n",
@@ -188,7 +193,10 @@ fn nothing_runs(rt: HostRuntime) -> Result<(), Fail> {
     let early = Vec::from_slice(alloc, b"# none is open\nwrite 7 aa\nread 7\n")?;
     let (ended, printed) = run_words(&rt, "session", early, &NONE)?;
     assert_eq!(rt; ended, Status::Done);
-    assert_eq!(rt; printed.as_slice(), b"write no pool\nread no pool\n".as_slice());
+    assert_eq!(rt;
+        printed.as_slice(),
+        b"write no pool\nread no pool\n".as_slice()
+    );
 
     let long = vec![in alloc; b'a'; 300_001]?;
     let (ended, printed) = run_words(&rt, "session", long, &NONE)?;
