@@ -1,25 +1,23 @@
 -- What is read says how the words were spelled.
-use Rattle.std.proofs.Common.{◌≡◌, ◌≢◌, ℕ, ◌+◌, ◌-◌, ◌^◌, ◌<◌, ◌≤◌, ◌==◌, ◌&&◌, ◌⊎◌, Bool, true, false, cond, find, nat_eq, nat_le, nat_lt, List, [], ◌∷◌, ◌++◌, length, get_or, drop, take, map, codes, Option, None, Some, IfSome, Result, Ok, Err, refl, sym, ap, ◌∙◌, subst, inl, inr, arith}
+use Rattle.std.proofs.Common.{◌≡◌, ℕ, ◌+◌, ◌-◌, ◌^◌, ◌<◌, ◌≤◌, ◌==◌, ◌&&◌, Bool, true, false, cond, find, nat_eq, nat_le, nat_lt, List, [], ◌∷◌, ◌++◌, length, drop, map, codes, Option, None, Some, Result, Ok, Err, refl, sym, ap, ◌∙◌, subst, inl, inr, arith}
 use Rattle.std.specs.Fmt.{decimal}
-use Rattle.std.specs.List.{after_first, before_first, position_or_len, slice_split, starts_with}
+use Rattle.std.specs.List.{starts_with}
 use Rattle.std.specs.Option.{ok_or}
 use Rattle.std.specs.Str.{bytes_eq}
-use Rattle.std.proofs.lemmas.Bool.{and_parts, cases_Bool, cases_lt, cond-false, cond-true, eqb-true, leb-true, ltb-true}
-use Rattle.std.proofs.lemmas.Fmt.{decimal_digit, decimal_nonempty}
+use Rattle.std.proofs.lemmas.Bool.{and_parts, cases_Bool, cond-false, cond-true, eqb-true, leb-true, ltb-true}
+use Rattle.std.proofs.lemmas.Fmt.{decimal_digit}
 use Rattle.std.proofs.lemmas.Slice.Eq.{bytes_eq-Decides, starts_is}
 use Rattle.std.proofs.lemmas.Bool.Decides.{Decides-eqb}
 use Rattle.draid_script.specs.declared.fault.LineFault.{LineFault}
 use Rattle.draid_script.specs.declared.line.ArmName.{ArmName}
 use Rattle.draid_script.specs.declared.line.ArmName.TheVariants.{Leaf, Spare}
 use Rattle.draid_script.specs.declared.name.CommandName.{CommandName}
-use Rattle.draid_script.specs.declared.name.CommandName.TheVariants as name
 use Rattle.draid_script.specs.Fault.{fault, ◌>>=◌}
-use Rattle.draid_script.specs.Field.{arm_at, block_at, count_at, number_at, number_in, object_at, spare_behind, within}
-use Rattle.draid_script.specs.Grammar.{command_of, limit_at, one_number, two_numbers}
-use Rattle.draid_script.specs.Line.{Command, IsArmName, IsInRange, IsLimit, longest_block, most_objects}
+use Rattle.draid_script.specs.Field.{arm_at, block_at, count_at, number_at, number_in, spare_behind, within}
+use Rattle.draid_script.specs.Grammar.{limit_at, one_number, two_numbers}
+use Rattle.draid_script.specs.Line.{IsArmName, IsLimit, longest_block, most_objects}
 use Rattle.draid_script.specs.Name.{all_names, name_of, name_text}
 use Rattle.draid_script.specs.Reply.{arm_of}
-use Rattle.draid_script.specs.Shape.{AreWordsOf}
 use Rattle.draid_script.specs.Word.{Placed, bytes_of, number_of}
 use Rattle.draid_script.specs.Writing.{optional}
 use Rattle.draid_script.proofs.Numbers.{decimal_of_number}
@@ -107,12 +105,12 @@ find_passes : {A : Type 0} (p : A → Bool) (xs : List A) (x : A) → find p xs 
 find_passes p [] x found = cc
 find_passes {A = A} p (y ∷ ys) x found =
     elim (cases_Bool (p y)) [
-      inl passes ↦
-        let same : Some y ≡ Some x = sym (cond-true (p y) (Some y) (find p ys) passes) ∙ found in
-        let here : y ≡ x = cc in
-        let P : A → Type 0 = λ z. p z ≡ true in
-        subst P here passes
-    | inr fails ↦ find_passes p ys x (sym (cond-false (p y) (Some y) (find p ys) fails) ∙ found)
+      | inl passes ↦
+          let same : Some y ≡ Some x = sym (cond-true (p y) (Some y) (find p ys) passes) ∙ found in
+          let here : y ≡ x = cc in
+          let P : A → Type 0 = λ z. p z ≡ true in
+          subst P here passes
+      | inr fails ↦ find_passes p ys x (sym (cond-false (p y) (Some y) (find p ys) fails) ∙ found)
     ]
 
 pub name_inv : (text : List ℕ) (n : CommandName) → name_of text ≡ Some n → text ≡ name_text n
@@ -152,20 +150,21 @@ spare_inv at (parity ∷ dash ∷ vdev ∷ dash' ∷ number) arm gives =
     let P : ArmName → Type 0 = λ a. (codes "draid" ++ (parity ∷ dash ∷ vdev ∷ dash' ∷ number) ≡ arm_of a) × IsArmName a in
     subst P same (
       ap (λ (ws : List ℕ). codes "draid" ++ ws) (words ∙ ap (λ (p : ℕ). p ∷ 45 ∷ 48 ∷ 45 ∷ decimal read.0) (sym back)) ∙ ap (λ (ds : List ℕ). codes "draid" ++ (ds ++ (codes "-0-" ++ decimal read.0))) (sym digit),
-      (omega arith, omega arith, spelled.2))
+      (omega arith, omega arith, spelled.2),
+    )
 
 pub arm_inv : (word : Placed) (arm : ArmName) → arm_at word ≡ Ok arm → (word.text ≡ arm_of arm) × IsArmName arm
 arm_inv word arm gives =
     let starts = starts_with nat_eq word.text (codes "draid") in
     elim (cases_Bool (starts_with nat_eq word.text (codes "draid"))) [
-      inl passes ↦
-        let whole : word.text ≡ codes "draid" ++ drop 5 word.text = (starts_is Decides-eqb word.text (codes "draid") starts refl).0 passes in
-        let spare = spare_inv word.at (drop 5 word.text) arm (sym (cond-true starts _ _ passes) ∙ gives) in
-        (whole ∙ spare.0, spare.1)
-    | inr fails ↦
-        let read = then_inv (number_in 0 (2 ^ 48) word) (λ leaf. Ok (Leaf leaf)) arm (sym (cond-false starts (spare_behind word.at (drop 5 word.text)) _ fails) ∙ gives) in
-        let spelled = in_inv 0 (2 ^ 48) word read.0 read.1 in
-        let same : Leaf read.0 ≡ arm = cc in
-        let P : ArmName → Type 0 = λ a. (word.text ≡ arm_of a) × IsArmName a in
-        subst P same (spelled.0, spelled.2)
+      | inl passes ↦
+          let whole : word.text ≡ codes "draid" ++ drop 5 word.text = (starts_is Decides-eqb word.text (codes "draid") starts refl).0 passes in
+          let spare = spare_inv word.at (drop 5 word.text) arm (sym (cond-true starts _ _ passes) ∙ gives) in
+          (whole ∙ spare.0, spare.1)
+      | inr fails ↦
+          let read = then_inv (number_in 0 (2 ^ 48) word) (λ leaf. Ok (Leaf leaf)) arm (sym (cond-false starts (spare_behind word.at (drop 5 word.text)) _ fails) ∙ gives) in
+          let spelled = in_inv 0 (2 ^ 48) word read.0 read.1 in
+          let same : Leaf read.0 ≡ arm = cc in
+          let P : ArmName → Type 0 = λ a. (word.text ≡ arm_of a) × IsArmName a in
+          subst P same (spelled.0, spelled.2)
     ]

@@ -1,5 +1,5 @@
 -- A line that is taken is spelled as its command.
-use Rattle.std.proofs.Common.{◌≡◌, ℕ, ◌+◌, ◌-◌, ◌^◌, ◌<◌, ◌≤◌, ◌⊎◌, Bool, true, false, cond, List, [], ◌∷◌, ◌++◌, length, get_or, drop, codes, Option, None, Some, IfSome, unwrap_or, Result, Ok, Err, refl, sym, ap, ◌∙◌, subst, inl, inr, arith}
+use Rattle.std.proofs.Common.{◌≡◌, ℕ, ◌+◌, ◌^◌, ◌<◌, ◌≤◌, ◌⊎◌, true, cond, List, [], ◌∷◌, ◌++◌, length, get_or, codes, Option, None, Some, IfSome, unwrap_or, Result, Ok, Err, refl, sym, ap, ◌∙◌, subst, inl, inr, arith}
 use Rattle.std.specs.Fmt.{decimal}
 use Rattle.std.specs.List.{after_first, before_first, position_or_len, slice_split}
 use Rattle.std.specs.Result.{result_ok}
@@ -13,7 +13,6 @@ use Rattle.std.proofs.lemmas.List.Sums.{passes_at_first, split_at_first}
 use Rattle.std.proofs.lemmas.Slice.Eq.{bytes_eq-Decides}
 use Rattle.draid_script.specs.declared.fault.LineFault.{LineFault}
 use Rattle.draid_script.specs.declared.keys.Given.{Given}
-use Rattle.draid_script.specs.declared.line.ArmName.{ArmName}
 use Rattle.draid_script.specs.declared.line.PoolKeys.{PoolKeys}
 use Rattle.draid_script.specs.declared.line.StatusFormat.{StatusFormat}
 use Rattle.draid_script.specs.declared.line.StatusFormat.TheVariants.{Text, Json}
@@ -30,23 +29,22 @@ use Rattle.draid_script.specs.Word.{Placed, bytes_of, is_space, placed_from, wor
 use Rattle.draid_script.specs.Writing.{IsForLanes, setting}
 use Rattle.draid_script.proofs.Inverse.{arm_inv, block_inv, count_inv, guard_inv, in_inv, limit_inv, name_inv, number_inv, one_inv, or_inv, texts, then_inv, two_inv}
 use Rattle.draid_script.proofs.Pairs.{decodes_some}
-use Rattle.draid_script.proofs.Positions.{position_or_len_le}
 use Rattle.draid_script.proofs.Splits.{text-placed_from}
 
 -- a word with a key before its first `=` and a number behind it
 spelled_setting : (text key : List ℕ) (n : ℕ) → before_first is_equals text ≡ key → after_first is_equals text ≡ decimal n → n < 2 ^ 64 → text ≡ setting key n
 spelled_setting text key n before after small =
     elim (cases_lt (position_or_len is_equals text) (length text)) [
-      inl some ↦
-        let sign : get_or text (position_or_len is_equals text) 0 ≡ 61 = eqb-true _ 61 (passes_at_first is_equals text 0 some) in
-        split_at_first is_equals text 0 some
-        ∙ ap (λ (k : List ℕ). k ++ (get_or text (position_or_len is_equals text) 0 ∷ after_first is_equals text)) before
-        ∙ ap (λ (b : ℕ). key ++ (b ∷ after_first is_equals text)) sign
-        ∙ ap (λ (rest : List ℕ). key ++ (61 ∷ rest)) after
-    | inr none ↦
-        let empty : after_first is_equals text ≡ [] = drop_all (position_or_len is_equals text + 1) text (omega arith) in
-        let no : ⊥ = omega (arith, decimal_nonempty n small, ap length (sym after ∙ empty)) in
-        absurd no
+      | inl some ↦
+          let sign : get_or text (position_or_len is_equals text) 0 ≡ 61 = eqb-true _ 61 (passes_at_first is_equals text 0 some) in
+          split_at_first is_equals text 0 some
+          ∙ ap (λ (k : List ℕ). k ++ (get_or text (position_or_len is_equals text) 0 ∷ after_first is_equals text)) before
+          ∙ ap (λ (b : ℕ). key ++ (b ∷ after_first is_equals text)) sign
+          ∙ ap (λ (rest : List ℕ). key ++ (61 ∷ rest)) after
+      | inr none ↦
+          let empty : after_first is_equals text ≡ [] = drop_all (position_or_len is_equals text + 1) text (omega arith) in
+          let no : ⊥ = omega (arith, decimal_nonempty n small, ap length (sym after ∙ empty)) in
+          absurd no
     ]
 
 -- one more key is spelled so, or the word has another
@@ -56,19 +54,19 @@ key_inv : (key : List ℕ) (word : Placed) (next : Given) (earlier : Option ℕ)
     → ((n : ℕ) × (word.text ≡ setting key n) × (n < limit) × (earlier ≡ None) × (next ≡ set (Some n))) ⊎ (other ≡ Ok next)
 key_inv key word next (Some n) set read limit other fits spelled gives =
     elim (cases_Bool (bytes_eq (key_in word) key)) [
-      inl yes' ↦ let refused : Err (fault 3 word.at) ≡ Ok next = sym (cond-true (bytes_eq (key_in word) key) _ other yes') ∙ gives in cc
-    | inr no' ↦ inr (sym (cond-false (bytes_eq (key_in word) key) _ other no') ∙ gives)
+      | inl yes' ↦ let refused : Err (fault 3 word.at) ≡ Ok next = sym (cond-true (bytes_eq (key_in word) key) _ other yes') ∙ gives in cc
+      | inr no' ↦ inr (sym (cond-false (bytes_eq (key_in word) key) _ other no') ∙ gives)
     ]
 key_inv key word next None set read limit other fits spelled gives =
     elim (cases_Bool (bytes_eq (key_in word) key)) [
-      inl yes' ↦
-        let taken = then_inv (read (value_in word) >>= λ n. Ok (Some n)) (λ v. Ok (set v)) next (sym (cond-true (bytes_eq (key_in word) key) _ other yes') ∙ gives) in
-        let value = then_inv (read (value_in word)) (λ n. Ok (Some n)) taken.0 taken.1 in
-        let is = spelled value.0 value.1 in
-        let same : Some value.0 ≡ taken.0 = cc in
-        let new : set taken.0 ≡ next = cc in
-        inl (value.0, spelled_setting word.text key value.0 ((bytes_eq-Decides (key_in word) key).0 yes') is.0 (omega (arith, is.1)), is.1, refl, sym new ∙ ap set (sym same))
-    | inr no' ↦ inr (sym (cond-false (bytes_eq (key_in word) key) _ other no') ∙ gives)
+      | inl yes' ↦
+          let taken = then_inv (read (value_in word) >>= λ n. Ok (Some n)) (λ v. Ok (set v)) next (sym (cond-true (bytes_eq (key_in word) key) _ other yes') ∙ gives) in
+          let value = then_inv (read (value_in word)) (λ n. Ok (Some n)) taken.0 taken.1 in
+          let is = spelled value.0 value.1 in
+          let same : Some value.0 ≡ taken.0 = cc in
+          let new : set taken.0 ≡ next = cc in
+          inl (value.0, spelled_setting word.text key value.0 ((bytes_eq-Decides (key_in word) key).0 yes') is.0 (omega (arith, is.1)), is.1, refl, sym new ∙ ap set (sym same))
+      | inr no' ↦ inr (sym (cond-false (bytes_eq (key_in word) key) _ other no') ∙ gives)
     ]
 
 short_inv : (word : Placed) (n : ℕ) → short_at word ≡ Ok n → (word.text ≡ decimal n) × (n < 2 ^ 32)
@@ -83,17 +81,21 @@ given_inv given word next gives =
     let slices : Option ℕ → Given = λ v. record given { slices = v } in
     let seed : Option ℕ → Given = λ v. record given { seed = v } in
     elim (key_inv (codes "sector") word next given.sector sector short_at (2 ^ 32) _ (omega arith) (short_inv (value_in word)) gives) [
-      inl is ↦ (is.0, inl (is.1, is.2, is.3, is.4))
-    | inr gives ↦ elim (key_inv (codes "height") word next given.height height short_at (2 ^ 32) _ (omega arith) (short_inv (value_in word)) gives) [
-      inl is ↦ (is.0, inr (inl (is.1, is.2, is.3, is.4)))
-    | inr gives ↦ elim (key_inv (codes "metaslabs") word next given.metaslabs metaslabs short_at (2 ^ 32) _ (omega arith) (short_inv (value_in word)) gives) [
-      inl is ↦ (is.0, inr (inr (inl (is.1, is.2, is.3, is.4))))
-    | inr gives ↦ elim (key_inv (codes "slices") word next given.slices slices short_at (2 ^ 32) _ (omega arith) (short_inv (value_in word)) gives) [
-      inl is ↦ (is.0, inr (inr (inr (inl (is.1, is.2, is.3, is.4)))))
-    | inr gives ↦ elim (key_inv (codes "seed") word next given.seed seed number_at (2 ^ 64) _ (omega arith) (number_inv (value_in word)) gives) [
-      inl is ↦ (is.0, inr (inr (inr (inr (is.1, is.2, is.3, is.4)))))
-    | inr gives ↦ cc
-    ] ] ] ] ]
+      | inl is ↦ (is.0, inl (is.1, is.2, is.3, is.4))
+      | inr gives ↦ elim (key_inv (codes "height") word next given.height height short_at (2 ^ 32) _ (omega arith) (short_inv (value_in word)) gives) [
+        | inl is ↦ (is.0, inr (inl (is.1, is.2, is.3, is.4)))
+        | inr gives ↦ elim (key_inv (codes "metaslabs") word next given.metaslabs metaslabs short_at (2 ^ 32) _ (omega arith) (short_inv (value_in word)) gives) [
+          | inl is ↦ (is.0, inr (inr (inl (is.1, is.2, is.3, is.4))))
+          | inr gives ↦ elim (key_inv (codes "slices") word next given.slices slices short_at (2 ^ 32) _ (omega arith) (short_inv (value_in word)) gives) [
+            | inl is ↦ (is.0, inr (inr (inr (inl (is.1, is.2, is.3, is.4)))))
+            | inr gives ↦ elim (key_inv (codes "seed") word next given.seed seed number_at (2 ^ 64) _ (omega arith) (number_inv (value_in word)) gives) [
+              | inl is ↦ (is.0, inr (inr (inr (inr (is.1, is.2, is.3, is.4)))))
+              | inr gives ↦ cc
+            ]
+          ]
+        ]
+      ]
+    ]
 
 all_inv : (given : Given) (words : List Placed) (new : Given) → given_by given words ≡ Ok new → GivesKeys (texts words) given new
 all_inv given [] new gives = cc
@@ -129,15 +131,18 @@ GivenRange given = IfSome given.sector (λ n. n < 2 ^ 32) × IfSome given.height
 one_range : (word : List ℕ) (old new : Given) → GivenRange old → GivesKey word old new → GivenRange new
 one_range word old new range gives =
     elim gives.1 [
-      inl is ↦ subst GivenRange (sym is.3) (is.1, range.1, range.2, range.3, range.4)
-    | inr gives ↦ elim gives [
-      inl is ↦ subst GivenRange (sym is.3) (range.0, is.1, range.2, range.3, range.4)
-    | inr gives ↦ elim gives [
-      inl is ↦ subst GivenRange (sym is.3) (range.0, range.1, is.1, range.3, range.4)
-    | inr gives ↦ elim gives [
-      inl is ↦ subst GivenRange (sym is.3) (range.0, range.1, range.2, is.1, range.4)
-    | inr is ↦ subst GivenRange (sym is.3) (range.0, range.1, range.2, range.3, is.1)
-    ] ] ] ]
+      | inl is ↦ subst GivenRange (sym is.3) (is.1, range.1, range.2, range.3, range.4)
+      | inr gives ↦ elim gives [
+        | inl is ↦ subst GivenRange (sym is.3) (range.0, is.1, range.2, range.3, range.4)
+        | inr gives ↦ elim gives [
+          | inl is ↦ subst GivenRange (sym is.3) (range.0, range.1, is.1, range.3, range.4)
+          | inr gives ↦ elim gives [
+            | inl is ↦ subst GivenRange (sym is.3) (range.0, range.1, range.2, is.1, range.4)
+            | inr is ↦ subst GivenRange (sym is.3) (range.0, range.1, range.2, range.3, is.1)
+          ]
+        ]
+      ]
+    ]
 
 all_range : (words : List (List ℕ)) (old new : Given) → GivenRange old → GivesKeys words old new → GivenRange new
 all_range [] old new range gives = subst GivenRange (sym gives) range
@@ -190,7 +195,7 @@ named_inv name.Create end (spec ∷ children ∷ words) command gives =
     let spelled = in_inv 0 (2 ^ 32) children number.0 number.1 in
     let settings = keys_inv words keys.0 keys.1 in
     same_command name.Create (CreatePool spec.text number.0 keys.0) command _ (λ may. cc) keys.2
-      ((texts words, ap (λ (t : List ℕ). codes "create" ∷ spec.text ∷ t ∷ texts words) spelled.0, settings), (spelled.2, keys_range (texts words) keys.0 settings))
+    ((texts words, ap (λ (t : List ℕ). codes "create" ∷ spec.text ∷ t ∷ texts words) spelled.0, settings), (spelled.2, keys_range (texts words) keys.0 settings))
 named_inv name.Import end words command gives = alone_inv name.Import ImportPool command end words (codes "import") (λ may. cc) gives (refl, tt)
 named_inv name.Export end words command gives = alone_inv name.Export ExportPool command end words (codes "export") (λ may. cc) gives (refl, tt)
 named_inv name.Sync end words command gives = alone_inv name.Sync SyncPool command end words (codes "sync") (λ _. tt) gives (refl, tt)
@@ -204,7 +209,7 @@ named_inv name.Write end (object ∷ hex ∷ []) command gives =
     let spelled = in_inv 0 (2 ^ 32) object number.0 number.1 in
     let block = block_inv end hex bytes.0 bytes.1 in
     same_command name.Write (WriteObject number.0 bytes.0) command _ (λ _. tt) bytes.2
-      ((hex.text, ap (λ (t : List ℕ). codes "write" ∷ t ∷ hex.text ∷ []) spelled.0, block.0), (spelled.2, some_bytes hex.text bytes.0 block.0, block.1))
+    ((hex.text, ap (λ (t : List ℕ). codes "write" ∷ t ∷ hex.text ∷ []) spelled.0, block.0), (spelled.2, some_bytes hex.text bytes.0 block.0, block.1))
 named_inv name.Write end (object ∷ hex ∷ more ∷ words) command gives = cc
 named_inv name.Fill end [] command gives = cc
 named_inv name.Fill end (a ∷ []) command gives = cc
@@ -316,26 +321,26 @@ outside_inv : (end : ℕ) (words : List Placed) (command : Command) → outside 
 outside_inv end [] command gives = cc
 outside_inv end (first ∷ words) command gives =
     elim (cases_Bool (is_end_word first)) [
-      inl ends ↦ let refused : Err (fault 6 first.at) ≡ Ok command = sym (cond-true (is_end_word first) _ _ ends) ∙ gives in cc
-    | inr no' ↦
-        let named = then_inv (name_at first) (λ n. command_of n end words) command (sym (cond-false (is_end_word first) (Err (fault 6 first.at)) _ no') ∙ gives) in
-        let text : first.text ≡ name_text named.0 = name_inv first.text named.0 (or_inv (name_of first.text) (fault 1 first.at) named.0 named.1) in
-        let P : List ℕ → Type 0 = λ t. AreWordsOf command (t ∷ texts words) × IsInRange command in
-        let is = named_inv named.0 end words command named.2 in
-        subst P (sym text) (is.0, is.1)
+      | inl ends ↦ let refused : Err (fault 6 first.at) ≡ Ok command = sym (cond-true (is_end_word first) _ _ ends) ∙ gives in cc
+      | inr no' ↦
+          let named = then_inv (name_at first) (λ n. command_of n end words) command (sym (cond-false (is_end_word first) (Err (fault 6 first.at)) _ no') ∙ gives) in
+          let text : first.text ≡ name_text named.0 = name_inv first.text named.0 (or_inv (name_of first.text) (fault 1 first.at) named.0 named.1) in
+          let P : List ℕ → Type 0 = λ t. AreWordsOf command (t ∷ texts words) × IsInRange command in
+          let is = named_inv named.0 end words command named.2 in
+          subst P (sym text) (is.0, is.1)
     ]
 
 pub line_inv : (text : List ℕ) (command : Command) → line_of text ≡ Ok command → IsLine text command
 unfolding line_of words_of
 line_inv text command gives =
     elim (cases_Bool (is_silent text)) [
-      inl silent ↦
-        let nothing : ◌≡◌ {A = Result Command LineFault} (Ok Silent) (Ok command) = sym (cond-true (is_silent text) (Ok Silent) _ silent) ∙ gives in
-        inl (silent, cc)
-    | inr loud ↦
-        let taken = outside_inv (length text) (placed_from 0 (slice_split is_space text)) command (sym (cond-false (is_silent text) (Ok Silent) _ loud) ∙ gives) in
-        let P : List (List ℕ) → Type 0 = λ words. AreWordsOf command words × IsInRange command in
-        inr (subst P (text-placed_from 0 (slice_split is_space text)) taken)
+      | inl silent ↦
+          let nothing : ◌≡◌ {A = Result Command LineFault} (Ok Silent) (Ok command) = sym (cond-true (is_silent text) (Ok Silent) _ silent) ∙ gives in
+          inl (silent, cc)
+      | inr loud ↦
+          let taken = outside_inv (length text) (placed_from 0 (slice_split is_space text)) command (sym (cond-false (is_silent text) (Ok Silent) _ loud) ∙ gives) in
+          let P : List (List ℕ) → Type 0 = λ words. AreWordsOf command words × IsInRange command in
+          inr (subst P (text-placed_from 0 (slice_split is_space text)) taken)
     ]
 
 -- a line that is taken inside a section
@@ -353,13 +358,13 @@ pub record InSection (lanes : ℕ) (words : List (List ℕ)) (line : LaneCommand
 lane_name_inv : (word : Placed) (n : CommandName) → lane_name_at word ≡ Ok n → (word.text ≡ name_text n) × (is_for_lanes n ≡ true)
 lane_name_inv word n gives =
     elim (cases_Bool (is_end_word word)) [
-      inl ends ↦ let refused : Err (fault 6 word.at) ≡ Ok n = sym (cond-true (is_end_word word) _ _ ends) ∙ gives in cc
-    | inr no' ↦
-        let named = then_inv (name_at word) (λ m. cond (is_for_lanes m) (Ok m) (Err (fault 6 word.at))) n (sym (cond-false (is_end_word word) (Err (fault 6 word.at)) _ no') ∙ gives) in
-        let text : word.text ≡ name_text named.0 = name_inv word.text named.0 (or_inv (name_of word.text) (fault 1 word.at) named.0 named.1) in
-        let test = guard_inv (is_for_lanes named.0) named.0 n (fault 6 word.at) named.2 in
-        let P : CommandName → Type 0 = λ m. (word.text ≡ name_text m) × (is_for_lanes m ≡ true) in
-        subst P test.1 (text, test.0)
+      | inl ends ↦ let refused : Err (fault 6 word.at) ≡ Ok n = sym (cond-true (is_end_word word) _ _ ends) ∙ gives in cc
+      | inr no' ↦
+          let named = then_inv (name_at word) (λ m. cond (is_for_lanes m) (Ok m) (Err (fault 6 word.at))) n (sym (cond-false (is_end_word word) (Err (fault 6 word.at)) _ no') ∙ gives) in
+          let text : word.text ≡ name_text named.0 = name_inv word.text named.0 (or_inv (name_of word.text) (fault 1 word.at) named.0 named.1) in
+          let test = guard_inv (is_for_lanes named.0) named.0 n (fault 6 word.at) named.2 in
+          let P : CommandName → Type 0 = λ m. (word.text ≡ name_text m) × (is_for_lanes m ≡ true) in
+          subst P test.1 (text, test.0)
     ]
 
 inside_inv : (lanes end : ℕ) (words : List Placed) (line : LaneCommand) → inside lanes end words ≡ Ok line → InSection lanes (texts words) line
@@ -393,19 +398,19 @@ unfolding lane_of words_of
 lane_inv lanes text line gives =
     let P : LaneCommand → Type 0 = λ l. IsLaneText lanes text l in
     elim (cases_Bool (is_silent text)) [
-      inl silent ↦
-        let nothing : ◌≡◌ {A = Result LaneCommand LineFault} (Ok SilentLane) (Ok line) = sym (cond-true (is_silent text) (Ok SilentLane) _ silent) ∙ gives in
-        let same : SilentLane ≡ line = cc in
-        subst P same silent
-    | inr loud ↦
-        let more = sym (cond-false (is_silent text) (Ok SilentLane) (cond (bytes_eq text (codes "end")) (Ok SectionEnd) (inside lanes (length text) (placed_from 0 (slice_split is_space text)))) loud) ∙ gives in
-        elim (cases_Bool (bytes_eq text (codes "end"))) [
-          inl ends ↦
-            let end : ◌≡◌ {A = Result LaneCommand LineFault} (Ok SectionEnd) (Ok line) = sym (cond-true (bytes_eq text (codes "end")) (Ok SectionEnd) (inside lanes (length text) (placed_from 0 (slice_split is_space text))) ends) ∙ more in
-            let same : SectionEnd ≡ line = cc in
-            subst P same ((bytes_eq-Decides text (codes "end")).0 ends)
-        | inr goes ↦
-            let taken = inside_inv lanes (length text) (placed_from 0 (slice_split is_space text)) line (sym (cond-false (bytes_eq text (codes "end")) (Ok SectionEnd) (inside lanes (length text) (placed_from 0 (slice_split is_space text))) goes) ∙ more) in
-            subst P (sym taken.is) (taken.rest, sym (text-placed_from 0 (slice_split is_space text)) ∙ taken.spelled, taken.below, taken.words_are, taken.range, taken.may)
-        ]
+      | inl silent ↦
+          let nothing : ◌≡◌ {A = Result LaneCommand LineFault} (Ok SilentLane) (Ok line) = sym (cond-true (is_silent text) (Ok SilentLane) _ silent) ∙ gives in
+          let same : SilentLane ≡ line = cc in
+          subst P same silent
+      | inr loud ↦
+          let more = sym (cond-false (is_silent text) (Ok SilentLane) (cond (bytes_eq text (codes "end")) (Ok SectionEnd) (inside lanes (length text) (placed_from 0 (slice_split is_space text)))) loud) ∙ gives in
+          elim (cases_Bool (bytes_eq text (codes "end"))) [
+            | inl ends ↦
+                let end : ◌≡◌ {A = Result LaneCommand LineFault} (Ok SectionEnd) (Ok line) = sym (cond-true (bytes_eq text (codes "end")) (Ok SectionEnd) (inside lanes (length text) (placed_from 0 (slice_split is_space text))) ends) ∙ more in
+                let same : SectionEnd ≡ line = cc in
+                subst P same ((bytes_eq-Decides text (codes "end")).0 ends)
+            | inr goes ↦
+                let taken = inside_inv lanes (length text) (placed_from 0 (slice_split is_space text)) line (sym (cond-false (bytes_eq text (codes "end")) (Ok SectionEnd) (inside lanes (length text) (placed_from 0 (slice_split is_space text))) goes) ∙ more) in
+                subst P (sym taken.is) (taken.rest, sym (text-placed_from 0 (slice_split is_space text)) ∙ taken.spelled, taken.below, taken.words_are, taken.range, taken.may)
+          ]
     ]

@@ -3,7 +3,7 @@ use Rattle.std.proofs.Common.{true, ◌≡◌, ◌≢◌, ℕ, ◌+◌, ◌^◌,
 use Rattle.std.specs.Fmt.{decimal}
 use Rattle.std.specs.List.{AllByRecursion, join_with_byte, slice_split, starts_with}
 use Rattle.std.specs.Option.{ok_or}
-use Rattle.hex.specs.Hex.{IsBytes, encode_lower}
+use Rattle.hex.specs.Hex.{encode_lower}
 use Rattle.std.proofs.lemmas.Bool.{and_from, and_left, cond-false, cond-true, le-leb, lt-ltb, ne_eqb}
 use Rattle.std.proofs.lemmas.Fmt.{decimal_digit, decimal_is_IsNumeral}
 use Rattle.std.proofs.lemmas.List.Elements.{All-append, All-cons, All-weaker}
@@ -20,7 +20,7 @@ use Rattle.draid_script.specs.declared.name.CommandName.TheVariants as name
 use Rattle.draid_script.specs.Fault.{fault, ◌>>=◌}
 use Rattle.draid_script.specs.Field.{short_at, arm_at, block_at, count_at, hex_place, number_at, number_in, spare_behind, within}
 use Rattle.draid_script.specs.Grammar.{command_of, fill_of, is_silent, limit_at, line_of, one_number, outside, replace_of, sum_of, two_numbers, write_of}
-use Rattle.draid_script.specs.Keys.{given_by, given_with, keys_at, keys_in, new_value, nothing_given}
+use Rattle.draid_script.specs.Keys.{given_by, given_with, keys_at, new_value, nothing_given}
 use Rattle.draid_script.specs.Line.{Command, Silent, CreatePool, ImportPool, ExportPool, SyncPool, CancelPasses, CrashPool, WriteObject, FillObjects, ReadObject, FreeObject, SumObjects, TakeOffline, TakeOnline, DamageSector, AttachSpare, ReplaceDisk, DetachArm, RebuildPool, ScrubPool, RebalanceSlot, ShowStatus, OpenLanes, AreKeys, AreObjects, IsArmName, IsInRange, IsLimit, longest_block, most_lanes, most_objects}
 use Rattle.draid_script.specs.Name.{name_of, name_text}
 use Rattle.draid_script.specs.Reply.{arm_of}
@@ -230,15 +230,18 @@ given_again word old new at gives =
     let seed : Option ℕ → Given = λ o. record old { seed = o } in
     let short = λ (below : gives.0 < 2 ^ 32). number_in_again 0 (2 ^ 32) gives.0 at (omega arith) below (omega (arith, below)) in
     elim gives.1 [
-      inl is ↦ ap read is.0 ∙ ap (λ (o : Option ℕ). new_value short_at o value >>= λ x. Ok (sector x)) is.2 ∙ key_given _ v sector (short is.1) ∙ ap (λ (g : Given). Ok g) (sym is.3)
-    | inr more ↦ elim more [
-      inl is ↦ ap read is.0 ∙ ap (λ (o : Option ℕ). new_value short_at o value >>= λ x. Ok (height x)) is.2 ∙ key_given _ v height (short is.1) ∙ ap (λ (g : Given). Ok g) (sym is.3)
-    | inr more ↦ elim more [
-      inl is ↦ ap read is.0 ∙ ap (λ (o : Option ℕ). new_value short_at o value >>= λ x. Ok (metaslabs x)) is.2 ∙ key_given _ v metaslabs (short is.1) ∙ ap (λ (g : Given). Ok g) (sym is.3)
-    | inr more ↦ elim more [
-      inl is ↦ ap read is.0 ∙ ap (λ (o : Option ℕ). new_value short_at o value >>= λ x. Ok (slices x)) is.2 ∙ key_given _ v slices (short is.1) ∙ ap (λ (g : Given). Ok g) (sym is.3)
-    | inr is ↦ ap read is.0 ∙ ap (λ (o : Option ℕ). new_value number_at o value >>= λ x. Ok (seed x)) is.2 ∙ key_given _ v seed (number_at_again gives.0 at is.1) ∙ ap (λ (g : Given). Ok g) (sym is.3)
-    ] ] ] ]
+      | inl is ↦ ap read is.0 ∙ ap (λ (o : Option ℕ). new_value short_at o value >>= λ x. Ok (sector x)) is.2 ∙ key_given _ v sector (short is.1) ∙ ap (λ (g : Given). Ok g) (sym is.3)
+      | inr more ↦ elim more [
+        | inl is ↦ ap read is.0 ∙ ap (λ (o : Option ℕ). new_value short_at o value >>= λ x. Ok (height x)) is.2 ∙ key_given _ v height (short is.1) ∙ ap (λ (g : Given). Ok g) (sym is.3)
+        | inr more ↦ elim more [
+          | inl is ↦ ap read is.0 ∙ ap (λ (o : Option ℕ). new_value short_at o value >>= λ x. Ok (metaslabs x)) is.2 ∙ key_given _ v metaslabs (short is.1) ∙ ap (λ (g : Given). Ok g) (sym is.3)
+          | inr more ↦ elim more [
+            | inl is ↦ ap read is.0 ∙ ap (λ (o : Option ℕ). new_value short_at o value >>= λ x. Ok (slices x)) is.2 ∙ key_given _ v slices (short is.1) ∙ ap (λ (g : Given). Ok g) (sym is.3)
+            | inr is ↦ ap read is.0 ∙ ap (λ (o : Option ℕ). new_value number_at o value >>= λ x. Ok (seed x)) is.2 ∙ key_given _ v seed (number_at_again gives.0 at is.1) ∙ ap (λ (g : Given). Ok g) (sym is.3)
+          ]
+        ]
+      ]
+    ]
 
 all_again : (words : List (List ℕ)) (old new : Given) (at : ℕ) → GivesKeys words old new → given_by old (placed_from at words) ≡ Ok new
 all_again [] old new at gives = ap (λ (g : Given). Ok g) (sym gives)
@@ -254,11 +257,23 @@ keys_again at words keys are =
 settings_are : (keys : PoolKeys) → AreKeys keys → AreSettings (settings keys) keys
 settings_are keys are = (
   record { sector = Some keys.sector; height = Some keys.height; metaslabs = Some keys.metaslabs; slices = Some keys.slices; seed = Some keys.seed },
-  (record { sector = Some keys.sector; height = None; metaslabs = None; slices = None; seed = None }, (keys.sector, inl (refl, are.sector, refl, refl)),
-    (record { sector = Some keys.sector; height = Some keys.height; metaslabs = None; slices = None; seed = None }, (keys.height, inr (inl (refl, are.height, refl, refl))),
-      (record { sector = Some keys.sector; height = Some keys.height; metaslabs = Some keys.metaslabs; slices = None; seed = None }, (keys.metaslabs, inr (inr (inl (refl, are.metaslabs, refl, refl)))),
-        (record { sector = Some keys.sector; height = Some keys.height; metaslabs = Some keys.metaslabs; slices = Some keys.slices; seed = None }, (keys.slices, inr (inr (inr (inl (refl, are.slices, refl, refl))))),
-          (record { sector = Some keys.sector; height = Some keys.height; metaslabs = Some keys.metaslabs; slices = Some keys.slices; seed = Some keys.seed }, (keys.seed, inr (inr (inr (inr (refl, are.seed, refl, refl))))), refl))))),
+  (
+    record { sector = Some keys.sector; height = None; metaslabs = None; slices = None; seed = None },
+    (keys.sector, inl (refl, are.sector, refl, refl)),
+    (
+      record { sector = Some keys.sector; height = Some keys.height; metaslabs = None; slices = None; seed = None },
+      (keys.height, inr (inl (refl, are.height, refl, refl))),
+      (
+        record { sector = Some keys.sector; height = Some keys.height; metaslabs = Some keys.metaslabs; slices = None; seed = None },
+        (keys.metaslabs, inr (inr (inl (refl, are.metaslabs, refl, refl)))),
+        (
+          record { sector = Some keys.sector; height = Some keys.height; metaslabs = Some keys.metaslabs; slices = Some keys.slices; seed = None },
+          (keys.slices, inr (inr (inr (inl (refl, are.slices, refl, refl))))),
+          (record { sector = Some keys.sector; height = Some keys.height; metaslabs = Some keys.metaslabs; slices = Some keys.slices; seed = Some keys.seed }, (keys.seed, inr (inr (inr (inr (refl, are.seed, refl, refl))))), refl),
+        ),
+      ),
+    ),
+  ),
   refl,
 )
 

@@ -1,9 +1,8 @@
 -- What a writer writes in a section is read again.
 use Rattle.std.proofs.Common.{sym, subst, ◌≡◌, ℕ, ◌+◌, ◌^◌, ◌<◌, ◌≤◌, ◌==◌, true, false, List, [], ◌∷◌, ◌++◌, length, get_or, codes, Ok, refl, ap, ◌∙◌, arith}
 use Rattle.std.specs.Fmt.{decimal}
-use Rattle.std.specs.List.{AllByRecursion, join_with_byte, slice_split}
+use Rattle.std.specs.List.{AllByRecursion, join_with_byte}
 use Rattle.std.specs.Str.{bytes_eq}
-use Rattle.hex.specs.Hex.{encode_lower}
 use Rattle.std.proofs.lemmas.Bool.{and_left, cond-false, cond-true, ne_eqb}
 use Rattle.std.proofs.lemmas.List.Splits.{join_with_byte-slice_split}
 use Rattle.std.proofs.lemmas.Fmt.{decimal_is_IsNumeral}
@@ -14,10 +13,10 @@ use Rattle.draid_script.specs.Fault.{◌>>=◌}
 use Rattle.draid_script.specs.Grammar.{command_of, inside, is_silent, lane_name_at, lane_of}
 use Rattle.draid_script.specs.Line.{Command, SyncPool, WriteObject, FillObjects, ReadObject, FreeObject, SumObjects, TakeOffline, TakeOnline, RebuildPool, ScrubPool, IsInRange, LaneCommand, InLane, SilentLane, SectionEnd}
 use Rattle.draid_script.specs.Name.{is_for_lanes, name_of, name_text}
-use Rattle.draid_script.specs.Word.{is_space, placed_from, words_of}
+use Rattle.draid_script.specs.Word.{placed_from, words_of}
 use Rattle.draid_script.specs.Writing.{IsForLanes, IsWritable, optional, written_lane_line, written_words}
 use Rattle.draid_script.specs.Shape.{AreWordsOf, IsLaneText, texts_of}
-use Rattle.draid_script.proofs.Joined.{IsWord, bytes_again, decimal_word, hex_word, split_joined}
+use Rattle.draid_script.proofs.Joined.{IsWord, decimal_word, split_joined}
 use Rattle.draid_script.proofs.Written.{fill_again, in_range, limit_again, number_in_again, one_again, spelled_so, sum_again, then_ok, write_again, written_words_are}
 
 lane_named : (n : CommandName) (at : ℕ) → is_for_lanes n ≡ true → lane_name_at (record { text = name_text n; at = at }) ≡ Ok n
@@ -120,7 +119,7 @@ lane_from : (lanes lane : ℕ) (command : Command) (words : List (List ℕ)) →
 lane_from lanes lane command words below few may is same line =
     let P : List (List ℕ) → Type 0 = λ ws. AllByRecursion IsWord ws in
     let split : texts_of (written_lane_line lane command) ≡ decimal lane ∷ words =
-        ap texts_of line ∙ split_joined (decimal lane) words (decimal_word lane (omega arith)) (subst P (sym same) (written_words_are command is)) in
+    ap texts_of line ∙ split_joined (decimal lane) words (decimal_word lane (omega arith)) (subst P (sym same) (written_words_are command is)) in
     lane_words lanes lane (written_lane_line lane command) command words split below few may (spelled_so command words is same) (in_range command is)
 
 pub lane_line_again : (lanes lane : ℕ) (command : Command) → lane < lanes → lanes ≤ 2 ^ 32 → IsForLanes command → IsWritable command → lane_of lanes (written_lane_line lane command) ≡ Ok (InLane lane command)

@@ -31,12 +31,10 @@ pub fn lane_lines_are_read_again()
 /// The lines that are taken are just those that are spelled as a command.
 pub fn lines_are_exact()
     ensures { (text : List ℕ) (command : Command) → (line_of text ≡ Ok command) ↔ IsLine text command }
-{
-}
+{}
 
 /// The same of the lines of a section.
 pub fn lane_lines_are_exact()
     ensures { (lanes : ℕ) (text : List ℕ) (line : LaneCommand) → lanes ≤ 2 ^ 32
         → (lane_of lanes text ≡ Ok line) ↔ IsLaneText lanes text line }
-{
-}
+{}

@@ -1,6 +1,3 @@
-use Rattle.std.proofs.Common.{◌∙◌, ap, inl, inr, Ok}
-use Rattle.std.proofs.lemmas.Bool.{cond-true}
-use Rattle.draid_script.specs.Grammar.{is_silent, line_of}
 use Rattle.draid_script.proofs.Read.{line_inv}
 use Rattle.draid_script.proofs.Written.{line_spelled}
 use Rattle.draid_script.proofs.laws.lines_are_exact.Goals as goal
