@@ -8,3 +8,5 @@ pub mod Splits
 pub mod Joined
 pub mod Written
 pub mod WrittenLanes
+pub mod Inverse
+pub mod Read

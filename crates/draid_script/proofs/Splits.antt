@@ -55,7 +55,7 @@ placed-push words new word start pushed at =
     ap (map placed) pushed ∙ map-append placed words (word ∷ []) ∙ ap (λ (n : ℕ). map placed words ++ here n ∷ []) at
 
 -- the texts of words are what they were
-text-placed_from : (at : ℕ) (texts : List (List ℕ)) → map (λ (word : Placed). word.text) (placed_from at texts) ≡ texts
+pub text-placed_from : (at : ℕ) (texts : List (List ℕ)) → map (λ (word : Placed). word.text) (placed_from at texts) ≡ texts
 text-placed_from at [] = refl
 text-placed_from at (text ∷ texts) = ap (λ (rest : List (List ℕ)). text ∷ rest) (text-placed_from (at + length text + 1) texts)
 

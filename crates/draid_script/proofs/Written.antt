@@ -1,12 +1,13 @@
 -- What a writer writes is read again.
-use Rattle.std.proofs.Common.{◌≡◌, ◌≢◌, ℕ, ◌+◌, ◌^◌, ◌<◌, ◌≤◌, ◌==◌, ◌&&◌, false, cond, nat_eq, nat_le, nat_lt, List, [], ◌∷◌, ◌++◌, length, get_or, codes, Option, None, Some, IfSome, Result, Ok, Err, refl, sym, ap, ◌∙◌, arith, append-nil}
+use Rattle.std.proofs.Common.{true, ◌≡◌, ◌≢◌, ℕ, ◌+◌, ◌^◌, ◌<◌, ◌≤◌, ◌==◌, ◌&&◌, false, cond, nat_eq, nat_le, nat_lt, List, [], ◌∷◌, ◌++◌, length, get_or, codes, Option, None, Some, IfSome, Result, Ok, Err, refl, sym, ap, ◌∙◌, inl, inr, arith, append-nil}
 use Rattle.std.specs.Fmt.{decimal}
 use Rattle.std.specs.List.{AllByRecursion, join_with_byte, slice_split, starts_with}
 use Rattle.std.specs.Option.{ok_or}
-use Rattle.hex.specs.Hex.{IsBytes, encode_lower}
+use Rattle.hex.specs.Hex.{encode_lower}
 use Rattle.std.proofs.lemmas.Bool.{and_from, and_left, cond-false, cond-true, le-leb, lt-ltb, ne_eqb}
 use Rattle.std.proofs.lemmas.Fmt.{decimal_digit, decimal_is_IsNumeral}
 use Rattle.std.proofs.lemmas.List.Elements.{All-append, All-cons, All-weaker}
+use Rattle.std.proofs.lemmas.List.Splits.{join_with_byte-slice_split, length-slice_split}
 use Rattle.std.proofs.lemmas.Str.Parse.{digit_at}
 use Rattle.draid_script.specs.declared.fault.LineFault.{LineFault}
 use Rattle.draid_script.specs.declared.keys.Given.{Given}
@@ -17,14 +18,15 @@ use Rattle.draid_script.specs.declared.line.StatusFormat.TheVariants.{Text, Json
 use Rattle.draid_script.specs.declared.name.CommandName.{CommandName}
 use Rattle.draid_script.specs.declared.name.CommandName.TheVariants as name
 use Rattle.draid_script.specs.Fault.{fault, ◌>>=◌}
-use Rattle.draid_script.specs.Field.{arm_at, block_at, count_at, hex_place, number_at, number_in, spare_behind, within}
+use Rattle.draid_script.specs.Field.{short_at, arm_at, block_at, count_at, hex_place, number_at, number_in, spare_behind, within}
 use Rattle.draid_script.specs.Grammar.{command_of, fill_of, is_silent, limit_at, line_of, one_number, outside, replace_of, sum_of, two_numbers, write_of}
-use Rattle.draid_script.specs.Keys.{given_with, keys_at}
-use Rattle.draid_script.specs.Line.{Command, Silent, CreatePool, ImportPool, ExportPool, SyncPool, CancelPasses, CrashPool, WriteObject, FillObjects, ReadObject, FreeObject, SumObjects, TakeOffline, TakeOnline, DamageSector, AttachSpare, ReplaceDisk, DetachArm, RebuildPool, ScrubPool, RebalanceSlot, ShowStatus, OpenLanes, AreKeys, AreObjects, IsArmName, IsLimit, longest_block, most_lanes, most_objects}
+use Rattle.draid_script.specs.Keys.{given_by, given_with, keys_at, new_value, nothing_given}
+use Rattle.draid_script.specs.Line.{Command, Silent, CreatePool, ImportPool, ExportPool, SyncPool, CancelPasses, CrashPool, WriteObject, FillObjects, ReadObject, FreeObject, SumObjects, TakeOffline, TakeOnline, DamageSector, AttachSpare, ReplaceDisk, DetachArm, RebuildPool, ScrubPool, RebalanceSlot, ShowStatus, OpenLanes, AreKeys, AreObjects, IsArmName, IsInRange, IsLimit, longest_block, most_lanes, most_objects}
 use Rattle.draid_script.specs.Name.{name_of, name_text}
 use Rattle.draid_script.specs.Reply.{arm_of}
+use Rattle.draid_script.specs.Shape.{AreSettings, AreWordsOf, GivesKey, GivesKeys, IsLine, texts_of}
 use Rattle.draid_script.specs.Word.{Placed, bytes_of, is_space, placed_from, words_of}
-use Rattle.draid_script.specs.Writing.{IsWritable, optional, setting, settings, written_line}
+use Rattle.draid_script.specs.Writing.{IsWritable, optional, setting, settings, written_line, written_words}
 use Rattle.draid_script.proofs.Joined.{IsWord, bytes_again, decimal_word, hex_word, literal_word, number_again, split_joined}
 
 -- a first step that gives a value
@@ -105,18 +107,17 @@ outside_named name.Rebalance end at words = refl
 outside_named name.Status end at words = refl
 outside_named name.Lanes end at words = refl
 
-joined_front : (text : List ℕ) (texts : List (List ℕ)) → (rest : List ℕ) × (join_with_byte 32 (text ∷ texts) ≡ text ++ rest)
+pub joined_front : (text : List ℕ) (texts : List (List ℕ)) → (rest : List ℕ) × (join_with_byte 32 (text ∷ texts) ≡ text ++ rest)
 joined_front text [] = ([], sym (append-nil text))
 joined_front text (next ∷ texts) = (32 ∷ join_with_byte 32 (next ∷ texts), refl)
 
 -- a line of words is read by its first word
-pub line_by_name : (n : CommandName) (texts : List (List ℕ)) → AllByRecursion IsWord texts → line_of (join_with_byte 32 (name_text n ∷ texts)) ≡ command_of n (length (join_with_byte 32 (name_text n ∷ texts))) (placed_from (0 + length (name_text n) + 1) texts)
+line_by_words : (text : List ℕ) (n : CommandName) (texts : List (List ℕ)) → texts_of text ≡ name_text n ∷ texts → line_of text ≡ command_of n (length text) (placed_from (0 + length (name_text n) + 1) texts)
 unfolding line_of words_of
-line_by_name n texts are =
-    let text = join_with_byte 32 (name_text n ∷ texts) in
+line_by_words text n texts split =
     let front = joined_front (name_text n) texts in
-    let loud : is_silent (join_with_byte 32 (name_text n ∷ texts)) ≡ false = ap is_silent front.1 ∙ not_silent n front.0 in
-    let split : slice_split is_space (join_with_byte 32 (name_text n ∷ texts)) ≡ name_text n ∷ texts = split_joined (name_text n) texts (name_word n) are in
+    let whole : text ≡ name_text n ++ front.0 = sym (join_with_byte-slice_split 32 text) ∙ ap (join_with_byte 32) split ∙ front.1 in
+    let loud : is_silent text ≡ false = ap is_silent whole ∙ not_silent n front.0 in
     cond-false (is_silent text) (Ok Silent) (outside (length text) (placed_from 0 (slice_split is_space text))) loud
     ∙ ap (λ (parts : List (List ℕ)). outside (length text) (placed_from 0 parts)) split
     ∙ outside_named n (length text) 0 (placed_from (0 + length (name_text n) + 1) texts)
@@ -135,13 +136,12 @@ count_again first n at are =
     then_ok _ n _ (number_in_again 1 (most_objects + 1) n at are.0 (omega (arith, are.1)) (omega (arith, are.1)))
     ∙ cond-true (nat_le (first + n) (2 ^ 32)) (Ok n) (Err (fault 5 at)) (le-leb (first + n) (2 ^ 32) are.2)
 
-block_again : (end at : ℕ) (bytes : List ℕ) → IsBytes bytes → 1 ≤ length bytes → length bytes ≤ longest_block → block_at end (record { text = encode_lower bytes; at = at }) ≡ Ok bytes
-block_again end at bytes are some short =
-    let word : Placed = record { text = encode_lower bytes; at = at } in
-    let place = hex_place end word in
+block_again : (end at : ℕ) (hex bytes : List ℕ) → bytes_of hex ≡ Some bytes → length bytes ≤ longest_block → block_at end (record { text = hex; at = at }) ≡ Ok bytes
+block_again end at hex bytes spelled short =
+    let word : Placed = record { text = hex; at = at } in
     let bounded = λ (bs : List ℕ). cond (nat_le (length bs) longest_block) (Ok bs) (Err (fault 5 at)) in
-    then_ok (ok_or (bytes_of (encode_lower bytes)) (fault 4 (hex_place end word))) bytes bounded
-    (ap (λ (o : Option (List ℕ)). ok_or o (fault 4 (hex_place end word))) (bytes_again bytes are (omega arith)))
+    then_ok (ok_or (bytes_of hex) (fault 4 (hex_place end word))) bytes bounded
+    (ap (λ (o : Option (List ℕ)). ok_or o (fault 4 (hex_place end word))) spelled)
     ∙ cond-true (nat_le (length bytes) longest_block) (Ok bytes) (Err (fault 5 at)) (le-leb (length bytes) longest_block short)
 
 pub one_again : (limit end at n : ℕ) → n < limit → limit ≤ 2 ^ 64 → one_number limit end (placed_from at (decimal n ∷ [])) ≡ Ok n
@@ -172,10 +172,10 @@ fill_again end at first count len seed are is small =
     ∙ then_ok _ len _ (number_in_again 1 (longest_block + 1) len _ is.0 (omega (arith, is.1)) (omega (arith, is.1)))
     ∙ then_ok _ seed _ (number_at_again seed _ small)
 
-pub write_again : (end at object : ℕ) (bytes : List ℕ) → object < 2 ^ 32 → 1 ≤ length bytes → length bytes ≤ longest_block → IsBytes bytes → write_of end (placed_from at (decimal object ∷ encode_lower bytes ∷ [])) ≡ Ok (WriteObject object bytes)
-write_again end at object bytes below some short are =
+pub write_again : (end at object : ℕ) (hex bytes : List ℕ) → object < 2 ^ 32 → bytes_of hex ≡ Some bytes → length bytes ≤ longest_block → write_of end (placed_from at (decimal object ∷ hex ∷ [])) ≡ Ok (WriteObject object bytes)
+write_again end at object hex bytes below spelled short =
     then_ok _ object _ (number_in_again 0 (2 ^ 32) object _ (omega arith) below (omega arith))
-    ∙ then_ok _ bytes _ (block_again end _ bytes are some short)
+    ∙ then_ok _ bytes _ (block_again end _ hex bytes spelled short)
 
 replace_again : (end at slot : ℕ) (sectors : Option ℕ) → slot < 2 ^ 32 → IfSome sectors (λ n. n < 2 ^ 48) → replace_of end (placed_from at (decimal slot ∷ optional sectors)) ≡ Ok (ReplaceDisk slot sectors)
 replace_again end at slot None below is = then_ok _ slot _ (number_in_again 0 (2 ^ 32) slot _ (omega arith) below (omega arith))
@@ -213,24 +213,69 @@ arm_word (Spare parity spare) is =
     (All-append (λ byte. is_space byte ≡ false) (codes "-0-") (decimal spare) (literal_word (codes "-0-") refl) (decimal_word spare (omega (arith, is.2)))))
 
 -- one more key
-key_given : (read : Result ℕ LineFault) (n : ℕ) (set : Option ℕ → Given) → read ≡ Ok n → ((read >>= λ n. Ok (Some n)) >>= λ value. Ok (set value)) ≡ Ok (set (Some n))
+pub key_given : (read : Result ℕ LineFault) (n : ℕ) (set : Option ℕ → Given) → read ≡ Ok n → ((read >>= λ n. Ok (Some n)) >>= λ value. Ok (set value)) ≡ Ok (set (Some n))
 key_given read n set gives = ap (λ (r : Result ℕ LineFault). (r >>= λ n. Ok (Some n)) >>= λ value. Ok (set value)) gives
 
--- the keys of `create`
-keys_again : (at : ℕ) (keys : PoolKeys) → AreKeys keys → keys_at (placed_from at (settings keys)) ≡ Ok keys
+-- a word `key=value` is read again
+given_again : (word : List ℕ) (old new : Given) (at : ℕ) → GivesKey word old new → given_with old (record { text = word; at = at }) ≡ Ok new
 unfolding given_with
-keys_again at keys are =
-    let sector = λ (v : Option ℕ). let g : Given = record { sector = v; height = None; metaslabs = None; slices = None; seed = None } in g in
-    let height = λ (v : Option ℕ). let g : Given = record { sector = Some keys.sector; height = v; metaslabs = None; slices = None; seed = None } in g in
-    let metaslabs = λ (v : Option ℕ). let g : Given = record { sector = Some keys.sector; height = Some keys.height; metaslabs = v; slices = None; seed = None } in g in
-    let slices = λ (v : Option ℕ). let g : Given = record { sector = Some keys.sector; height = Some keys.height; metaslabs = Some keys.metaslabs; slices = v; seed = None } in g in
-    let seed = λ (v : Option ℕ). let g : Given = record { sector = Some keys.sector; height = Some keys.height; metaslabs = Some keys.metaslabs; slices = Some keys.slices; seed = v } in g in
-    then_ok _ (seed (Some keys.seed)) _ (
-    then_ok _ (sector (Some keys.sector)) _ (key_given _ keys.sector sector (number_in_again 0 (2 ^ 32) keys.sector _ (omega arith) are.sector (omega (arith, are.sector))))
-    ∙ then_ok _ (height (Some keys.height)) _ (key_given _ keys.height height (number_in_again 0 (2 ^ 32) keys.height _ (omega arith) are.height (omega (arith, are.height))))
-    ∙ then_ok _ (metaslabs (Some keys.metaslabs)) _ (key_given _ keys.metaslabs metaslabs (number_in_again 0 (2 ^ 32) keys.metaslabs _ (omega arith) are.metaslabs (omega (arith, are.metaslabs))))
-    ∙ then_ok _ (slices (Some keys.slices)) _ (key_given _ keys.slices slices (number_in_again 0 (2 ^ 32) keys.slices _ (omega arith) are.slices (omega (arith, are.slices))))
-    ∙ then_ok _ (seed (Some keys.seed)) _ (key_given _ keys.seed seed (number_at_again keys.seed _ are.seed)))
+given_again word old new at gives =
+    let v = gives.0 in
+    let read = λ (text : List ℕ). let placed_word : Placed = record { text = text; at = at } in given_with old placed_word in
+    let value : Placed = record { text = decimal gives.0; at = at } in
+    let sector : Option ℕ → Given = λ o. record old { sector = o } in
+    let height : Option ℕ → Given = λ o. record old { height = o } in
+    let metaslabs : Option ℕ → Given = λ o. record old { metaslabs = o } in
+    let slices : Option ℕ → Given = λ o. record old { slices = o } in
+    let seed : Option ℕ → Given = λ o. record old { seed = o } in
+    let short = λ (below : gives.0 < 2 ^ 32). number_in_again 0 (2 ^ 32) gives.0 at (omega arith) below (omega (arith, below)) in
+    elim gives.1 [
+      | inl is ↦ ap read is.0 ∙ ap (λ (o : Option ℕ). new_value short_at o value >>= λ x. Ok (sector x)) is.2 ∙ key_given _ v sector (short is.1) ∙ ap (λ (g : Given). Ok g) (sym is.3)
+      | inr more ↦ elim more [
+        | inl is ↦ ap read is.0 ∙ ap (λ (o : Option ℕ). new_value short_at o value >>= λ x. Ok (height x)) is.2 ∙ key_given _ v height (short is.1) ∙ ap (λ (g : Given). Ok g) (sym is.3)
+        | inr more ↦ elim more [
+          | inl is ↦ ap read is.0 ∙ ap (λ (o : Option ℕ). new_value short_at o value >>= λ x. Ok (metaslabs x)) is.2 ∙ key_given _ v metaslabs (short is.1) ∙ ap (λ (g : Given). Ok g) (sym is.3)
+          | inr more ↦ elim more [
+            | inl is ↦ ap read is.0 ∙ ap (λ (o : Option ℕ). new_value short_at o value >>= λ x. Ok (slices x)) is.2 ∙ key_given _ v slices (short is.1) ∙ ap (λ (g : Given). Ok g) (sym is.3)
+            | inr is ↦ ap read is.0 ∙ ap (λ (o : Option ℕ). new_value number_at o value >>= λ x. Ok (seed x)) is.2 ∙ key_given _ v seed (number_at_again gives.0 at is.1) ∙ ap (λ (g : Given). Ok g) (sym is.3)
+          ]
+        ]
+      ]
+    ]
+
+all_again : (words : List (List ℕ)) (old new : Given) (at : ℕ) → GivesKeys words old new → given_by old (placed_from at words) ≡ Ok new
+all_again [] old new at gives = ap (λ (g : Given). Ok g) (sym gives)
+all_again (word ∷ words) old new at gives =
+    then_ok _ gives.0 _ (given_again word old gives.0 at gives.1) ∙ all_again words gives.0 new _ gives.2
+
+-- the keys of `create`
+keys_again : (at : ℕ) (words : List (List ℕ)) (keys : PoolKeys) → AreSettings words keys → keys_at (placed_from at words) ≡ Ok keys
+keys_again at words keys are =
+    then_ok _ are.0 _ (all_again words nothing_given are.0 at are.1) ∙ ap (λ (k : PoolKeys). Ok k) (sym are.2)
+
+-- all keys, in their order
+settings_are : (keys : PoolKeys) → AreKeys keys → AreSettings (settings keys) keys
+settings_are keys are = (
+  record { sector = Some keys.sector; height = Some keys.height; metaslabs = Some keys.metaslabs; slices = Some keys.slices; seed = Some keys.seed },
+  (
+    record { sector = Some keys.sector; height = None; metaslabs = None; slices = None; seed = None },
+    (keys.sector, inl (refl, are.sector, refl, refl)),
+    (
+      record { sector = Some keys.sector; height = Some keys.height; metaslabs = None; slices = None; seed = None },
+      (keys.height, inr (inl (refl, are.height, refl, refl))),
+      (
+        record { sector = Some keys.sector; height = Some keys.height; metaslabs = Some keys.metaslabs; slices = None; seed = None },
+        (keys.metaslabs, inr (inr (inl (refl, are.metaslabs, refl, refl)))),
+        (
+          record { sector = Some keys.sector; height = Some keys.height; metaslabs = Some keys.metaslabs; slices = Some keys.slices; seed = None },
+          (keys.slices, inr (inr (inr (inl (refl, are.slices, refl, refl))))),
+          (record { sector = Some keys.sector; height = Some keys.height; metaslabs = Some keys.metaslabs; slices = Some keys.slices; seed = Some keys.seed }, (keys.seed, inr (inr (inr (inr (refl, are.seed, refl, refl))))), refl),
+        ),
+      ),
+    ),
+  ),
+  refl,
+)
 
 setting_word : (key : List ℕ) (value : ℕ) → IsWord key → value < 2 ^ 64 → IsWord (setting key value)
 setting_word key value word small =
@@ -252,64 +297,194 @@ settings_words keys are = (
   ),
 )
 
-pub line_again : (command : Command) → IsWritable command → line_of (written_line command) ≡ Ok command
-unfolding line_of command_of
-line_again Silent is = refl
-line_again (CreatePool spec children keys) is =
-    let word = All-weaker (λ byte. byte ≢ 32) (λ byte. is_space byte ≡ false) (λ byte other. ne_eqb byte 32 other) spec is.1 in
-    line_by_name name.Create (spec ∷ decimal children ∷ settings keys) (word, (decimal_word children (omega (arith, is.0.0)), settings_words keys is.0.1))
-    ∙ then_ok _ children _ (number_in_again 0 (2 ^ 32) children _ (omega arith) is.0.0 (omega (arith, is.0.0)))
-    ∙ then_ok _ keys _ (keys_again _ keys is.0.1)
-line_again ImportPool is = line_by_name name.Import [] tt
-line_again ExportPool is = line_by_name name.Export [] tt
-line_again SyncPool is = line_by_name name.Sync [] tt
-line_again CancelPasses is = line_by_name name.Cancel [] tt
-line_again CrashPool is = line_by_name name.Crash [] tt
-line_again (WriteObject object bytes) is =
-    line_by_name name.Write (decimal object ∷ encode_lower bytes ∷ []) (decimal_word object (omega (arith, is.0.0)), (hex_word bytes is.1, tt))
-    ∙ write_again _ _ object bytes is.0.0 is.0.1 is.0.2 is.1
-line_again (FillObjects first count len seed) is =
-    line_by_name name.Fill (decimal first ∷ decimal count ∷ decimal len ∷ decimal seed ∷ [])
-    (decimal_word first (omega (arith, is.0.2)), (decimal_word count (omega (arith, is.0.1)), (decimal_word len (omega (arith, is.1.1)), (decimal_word seed is.2, tt))))
+-- words that are spelled so are read as their command
+pub words_line : (text : List ℕ) (command : Command) → AreWordsOf command (texts_of text) → IsInRange command → line_of text ≡ Ok command
+unfolding command_of
+words_line text Silent spelled is = let no : ⊥ = omega (arith, length-slice_split is_space text, ap length spelled) in absurd no
+words_line text (CreatePool spec children keys) spelled is =
+    line_by_words text name.Create (spec ∷ decimal children ∷ spelled.0) spelled.1
+    ∙ then_ok _ children _ (number_in_again 0 (2 ^ 32) children _ (omega arith) is.0 (omega (arith, is.0)))
+    ∙ then_ok _ keys _ (keys_again _ spelled.0 keys spelled.2)
+words_line text (WriteObject object bytes) spelled is =
+    line_by_words text name.Write (decimal object ∷ spelled.0 ∷ []) spelled.1
+    ∙ write_again _ _ object spelled.0 bytes is.0 spelled.2 is.2
+words_line text ImportPool spelled is =
+    line_by_words text name.Import [] spelled
+words_line text ExportPool spelled is =
+    line_by_words text name.Export [] spelled
+words_line text SyncPool spelled is =
+    line_by_words text name.Sync [] spelled
+words_line text CancelPasses spelled is =
+    line_by_words text name.Cancel [] spelled
+words_line text CrashPool spelled is =
+    line_by_words text name.Crash [] spelled
+words_line text (FillObjects first count len seed) spelled is =
+    line_by_words text name.Fill (decimal first ∷ decimal count ∷ decimal len ∷ decimal seed ∷ []) spelled
     ∙ fill_again 0 _ first count len seed is.0 is.1 is.2
-line_again (ReadObject object) is =
-    line_by_name name.Read (decimal object ∷ []) (decimal_word object (omega (arith, is)), tt)
+words_line text (ReadObject object) spelled is =
+    line_by_words text name.Read (decimal object ∷ []) spelled
     ∙ then_ok _ object _ (one_again (2 ^ 32) 0 _ object is (omega arith))
-line_again (FreeObject object) is =
-    line_by_name name.Free (decimal object ∷ []) (decimal_word object (omega (arith, is)), tt)
+words_line text (FreeObject object) spelled is =
+    line_by_words text name.Free (decimal object ∷ []) spelled
     ∙ then_ok _ object _ (one_again (2 ^ 32) 0 _ object is (omega arith))
-line_again (SumObjects first count) is =
-    line_by_name name.Sum (decimal first ∷ decimal count ∷ []) (decimal_word first (omega (arith, is.2)), (decimal_word count (omega (arith, is.1)), tt))
+words_line text (SumObjects first count) spelled is =
+    line_by_words text name.Sum (decimal first ∷ decimal count ∷ []) spelled
     ∙ sum_again 0 _ first count is
-line_again (TakeOffline leaf) is =
-    line_by_name name.Offline (decimal leaf ∷ []) (decimal_word leaf (omega (arith, is)), tt)
+words_line text (TakeOffline leaf) spelled is =
+    line_by_words text name.Offline (decimal leaf ∷ []) spelled
     ∙ then_ok _ leaf _ (one_again (2 ^ 48) 0 _ leaf is (omega arith))
-line_again (TakeOnline leaf) is =
-    line_by_name name.Online (decimal leaf ∷ []) (decimal_word leaf (omega (arith, is)), tt)
+words_line text (TakeOnline leaf) spelled is =
+    line_by_words text name.Online (decimal leaf ∷ []) spelled
     ∙ then_ok _ leaf _ (one_again (2 ^ 48) 0 _ leaf is (omega arith))
-line_again (DamageSector leaf sector) is =
-    line_by_name name.Damage (decimal leaf ∷ decimal sector ∷ []) (decimal_word leaf (omega (arith, is.0)), (decimal_word sector (omega (arith, is.1)), tt))
+words_line text (DamageSector leaf sector) spelled is =
+    line_by_words text name.Damage (decimal leaf ∷ decimal sector ∷ []) spelled
     ∙ then_ok _ (leaf, sector) _ (two_again (2 ^ 48) (2 ^ 26) 0 _ leaf sector is.0 (omega arith) is.1 (omega arith))
-line_again (AttachSpare slot spare) is =
-    line_by_name name.Spare (decimal slot ∷ decimal spare ∷ []) (decimal_word slot (omega (arith, is.0)), (decimal_word spare (omega (arith, is.1)), tt))
+words_line text (AttachSpare slot spare) spelled is =
+    line_by_words text name.Spare (decimal slot ∷ decimal spare ∷ []) spelled
     ∙ then_ok _ (slot, spare) _ (two_again (2 ^ 32) (2 ^ 32) 0 _ slot spare is.0 (omega arith) is.1 (omega arith))
-line_again (ReplaceDisk slot sectors) is =
-    line_by_name name.Replace (decimal slot ∷ optional sectors) (decimal_word slot (omega (arith, is.0)), sectors_words sectors is.1)
+words_line text (ReplaceDisk slot sectors) spelled is =
+    line_by_words text name.Replace (decimal slot ∷ optional sectors) spelled
     ∙ replace_again _ _ slot sectors is.0 is.1
-line_again (DetachArm arm) is =
-    line_by_name name.Detach (arm_of arm ∷ []) (arm_word arm is, tt)
+words_line text (DetachArm arm) spelled is =
+    line_by_words text name.Detach (arm_of arm ∷ []) spelled
     ∙ then_ok _ arm _ (arm_again _ arm is)
-line_again (RebuildPool limit) is =
-    line_by_name name.Rebuild (optional limit) (limit_words limit is)
+words_line text (RebuildPool limit) spelled is =
+    line_by_words text name.Rebuild (optional limit) spelled
     ∙ then_ok _ limit _ (limit_again _ _ limit is)
-line_again (ScrubPool limit) is =
-    line_by_name name.Scrub (optional limit) (limit_words limit is)
+words_line text (ScrubPool limit) spelled is =
+    line_by_words text name.Scrub (optional limit) spelled
     ∙ then_ok _ limit _ (limit_again _ _ limit is)
-line_again (RebalanceSlot slot) is =
-    line_by_name name.Rebalance (decimal slot ∷ []) (decimal_word slot (omega (arith, is)), tt)
+words_line text (RebalanceSlot slot) spelled is =
+    line_by_words text name.Rebalance (decimal slot ∷ []) spelled
     ∙ then_ok _ slot _ (one_again (2 ^ 32) 0 _ slot is (omega arith))
-line_again (ShowStatus Text) is = line_by_name name.Status [] tt
-line_again (ShowStatus Json) is = line_by_name name.Status (codes "json" ∷ []) (literal_word (codes "json") refl, tt)
-line_again (OpenLanes count) is =
-    line_by_name name.Lanes (decimal count ∷ []) (decimal_word count (omega (arith, is.1)), tt)
+words_line text (ShowStatus Text) spelled is =
+    line_by_words text name.Status [] spelled
+words_line text (ShowStatus Json) spelled is =
+    line_by_words text name.Status (codes "json" ∷ []) spelled
+words_line text (OpenLanes count) spelled is =
+    line_by_words text name.Lanes (decimal count ∷ []) spelled
     ∙ then_ok _ count _ (number_in_again 1 (most_lanes + 1) count _ is.0 (omega (arith, is.1)) (omega (arith, is.1)))
+
+silent_line : (text : List ℕ) → is_silent text ≡ true → line_of text ≡ Ok Silent
+unfolding line_of
+silent_line text silent = cond-true (is_silent text) (Ok Silent) (outside (length text) (words_of text)) silent
+
+-- a line that is spelled as a command is read as it
+pub line_spelled : (text : List ℕ) (command : Command) → IsLine text command → line_of text ≡ Ok command
+line_spelled text command (inl silent) = silent_line text silent.0 ∙ ap (λ (c : Command). Ok c) (sym silent.1)
+line_spelled text command (inr spelled) = words_line text command spelled.0 spelled.1
+
+-- what is written is spelled so
+pub written_words_are : (command : Command) → IsWritable command → AllByRecursion IsWord (written_words command)
+written_words_are Silent is = tt
+written_words_are (CreatePool spec children keys) is =
+    let word = All-weaker (λ byte. byte ≢ 32) (λ byte. is_space byte ≡ false) (λ byte other. ne_eqb byte 32 other) spec is.1 in
+    (name_word name.Create, (word, (decimal_word children (omega (arith, is.0.0)), settings_words keys is.0.1)))
+written_words_are ImportPool is = (name_word name.Import, tt)
+written_words_are ExportPool is = (name_word name.Export, tt)
+written_words_are SyncPool is = (name_word name.Sync, tt)
+written_words_are CancelPasses is = (name_word name.Cancel, tt)
+written_words_are CrashPool is = (name_word name.Crash, tt)
+written_words_are (WriteObject object bytes) is = (name_word name.Write, (decimal_word object (omega (arith, is.0.0)), (hex_word bytes is.1, tt)))
+written_words_are (FillObjects first count len seed) is = (name_word name.Fill, (decimal_word first (omega (arith, is.0.2)), (decimal_word count (omega (arith, is.0.1)), (decimal_word len (omega (arith, is.1.1)), (decimal_word seed is.2, tt)))))
+written_words_are (ReadObject object) is = (name_word name.Read, (decimal_word object (omega (arith, is)), tt))
+written_words_are (FreeObject object) is = (name_word name.Free, (decimal_word object (omega (arith, is)), tt))
+written_words_are (SumObjects first count) is = (name_word name.Sum, (decimal_word first (omega (arith, is.2)), (decimal_word count (omega (arith, is.1)), tt)))
+written_words_are (TakeOffline leaf) is = (name_word name.Offline, (decimal_word leaf (omega (arith, is)), tt))
+written_words_are (TakeOnline leaf) is = (name_word name.Online, (decimal_word leaf (omega (arith, is)), tt))
+written_words_are (DamageSector leaf sector) is = (name_word name.Damage, (decimal_word leaf (omega (arith, is.0)), (decimal_word sector (omega (arith, is.1)), tt)))
+written_words_are (AttachSpare slot spare) is = (name_word name.Spare, (decimal_word slot (omega (arith, is.0)), (decimal_word spare (omega (arith, is.1)), tt)))
+written_words_are (ReplaceDisk slot sectors) is = (name_word name.Replace, (decimal_word slot (omega (arith, is.0)), sectors_words sectors is.1))
+written_words_are (DetachArm arm) is = (name_word name.Detach, (arm_word arm is, tt))
+written_words_are (RebuildPool limit) is = (name_word name.Rebuild, (limit_words limit is))
+written_words_are (ScrubPool limit) is = (name_word name.Scrub, (limit_words limit is))
+written_words_are (RebalanceSlot slot) is = (name_word name.Rebalance, (decimal_word slot (omega (arith, is)), tt))
+written_words_are (ShowStatus Text) is = (name_word name.Status, tt)
+written_words_are (ShowStatus Json) is = (name_word name.Status, (literal_word (codes "json") refl, tt))
+written_words_are (OpenLanes count) is = (name_word name.Lanes, (decimal_word count (omega (arith, is.1)), tt))
+
+-- what is written is spelled so, where the words of a line are those that are written
+pub spelled_so : (command : Command) (words : List (List ℕ)) → IsWritable command → words ≡ written_words command → AreWordsOf command words
+spelled_so (CreatePool spec children keys) words is same = (settings keys, same, settings_are keys is.0.1)
+spelled_so (WriteObject object bytes) words is same = (encode_lower bytes, same, bytes_again bytes is.1 (omega (arith, is.0.1)))
+spelled_so Silent words is same = same
+spelled_so ImportPool words is same = same
+spelled_so ExportPool words is same = same
+spelled_so SyncPool words is same = same
+spelled_so CancelPasses words is same = same
+spelled_so CrashPool words is same = same
+spelled_so (FillObjects first count len seed) words is same = same
+spelled_so (ReadObject object) words is same = same
+spelled_so (FreeObject object) words is same = same
+spelled_so (SumObjects first count) words is same = same
+spelled_so (TakeOffline leaf) words is same = same
+spelled_so (TakeOnline leaf) words is same = same
+spelled_so (DamageSector leaf sector) words is same = same
+spelled_so (AttachSpare slot spare) words is same = same
+spelled_so (ReplaceDisk slot sectors) words is same = same
+spelled_so (DetachArm arm) words is same = same
+spelled_so (RebuildPool limit) words is same = same
+spelled_so (ScrubPool limit) words is same = same
+spelled_so (RebalanceSlot slot) words is same = same
+spelled_so (ShowStatus format) words is same = same
+spelled_so (OpenLanes count) words is same = same
+
+pub in_range : (command : Command) → IsWritable command → IsInRange command
+in_range (CreatePool spec children keys) is = is.0
+in_range (WriteObject object bytes) is = is.0
+in_range Silent is = is
+in_range ImportPool is = is
+in_range ExportPool is = is
+in_range SyncPool is = is
+in_range CancelPasses is = is
+in_range CrashPool is = is
+in_range (FillObjects first count len seed) is = is
+in_range (ReadObject object) is = is
+in_range (FreeObject object) is = is
+in_range (SumObjects first count) is = is
+in_range (TakeOffline leaf) is = is
+in_range (TakeOnline leaf) is = is
+in_range (DamageSector leaf sector) is = is
+in_range (AttachSpare slot spare) is = is
+in_range (ReplaceDisk slot sectors) is = is
+in_range (DetachArm arm) is = is
+in_range (RebuildPool limit) is = is
+in_range (ScrubPool limit) is = is
+in_range (RebalanceSlot slot) is = is
+in_range (ShowStatus format) is = is
+in_range (OpenLanes count) is = is
+
+pub split_written : (texts : List (List ℕ)) → AllByRecursion IsWord texts → 0 < length texts → texts_of (join_with_byte 32 texts) ≡ texts
+split_written [] are some = let no : ⊥ = omega arith in absurd no
+split_written (text ∷ texts) are some = split_joined text texts are.0 are.1
+
+line_from : (command : Command) → IsWritable command → 0 < length (written_words command) → line_of (written_line command) ≡ Ok command
+line_from command is some =
+    words_line (written_line command) command (spelled_so command _ is (split_written (written_words command) (written_words_are command is) some)) (in_range command is)
+
+pub line_again : (command : Command) → IsWritable command → line_of (written_line command) ≡ Ok command
+unfolding line_of
+line_again Silent is = refl
+line_again (CreatePool spec children keys) is = line_from (CreatePool spec children keys) is (omega arith)
+line_again (WriteObject object bytes) is = line_from (WriteObject object bytes) is (omega arith)
+line_again ImportPool is = line_from ImportPool is (omega arith)
+line_again ExportPool is = line_from ExportPool is (omega arith)
+line_again SyncPool is = line_from SyncPool is (omega arith)
+line_again CancelPasses is = line_from CancelPasses is (omega arith)
+line_again CrashPool is = line_from CrashPool is (omega arith)
+line_again (FillObjects first count len seed) is = line_from (FillObjects first count len seed) is (omega arith)
+line_again (ReadObject object) is = line_from (ReadObject object) is (omega arith)
+line_again (FreeObject object) is = line_from (FreeObject object) is (omega arith)
+line_again (SumObjects first count) is = line_from (SumObjects first count) is (omega arith)
+line_again (TakeOffline leaf) is = line_from (TakeOffline leaf) is (omega arith)
+line_again (TakeOnline leaf) is = line_from (TakeOnline leaf) is (omega arith)
+line_again (DamageSector leaf sector) is = line_from (DamageSector leaf sector) is (omega arith)
+line_again (AttachSpare slot spare) is = line_from (AttachSpare slot spare) is (omega arith)
+line_again (ReplaceDisk slot sectors) is = line_from (ReplaceDisk slot sectors) is (omega arith)
+line_again (DetachArm arm) is = line_from (DetachArm arm) is (omega arith)
+line_again (RebuildPool limit) is = line_from (RebuildPool limit) is (omega arith)
+line_again (ScrubPool limit) is = line_from (ScrubPool limit) is (omega arith)
+line_again (RebalanceSlot slot) is = line_from (RebalanceSlot slot) is (omega arith)
+line_again (ShowStatus Text) is = line_from (ShowStatus Text) is (omega arith)
+line_again (ShowStatus Json) is = line_from (ShowStatus Json) is (omega arith)
+line_again (OpenLanes count) is = line_from (OpenLanes count) is (omega arith)

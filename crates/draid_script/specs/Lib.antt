@@ -6,6 +6,7 @@ pub mod Line
 pub mod Lines
 pub mod Name
 pub mod Reply
+pub mod Shape
 pub mod Sink
 pub mod Source
 pub mod Word

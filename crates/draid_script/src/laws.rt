@@ -2,7 +2,8 @@ ghost use Rattle.std.specs.Prelude.{◌≡◌, ◌↔◌, ◌<◌, ◌≤◌, �
 ghost use Rattle.std.specs.Fmt.{decimal};
 ghost use Rattle.std.specs.List.{join_with_byte};
 ghost use Rattle.draid_script.specs.Grammar.{lane_of, line_of};
-ghost use Rattle.draid_script.specs.Line.{Command, InLane};
+ghost use Rattle.draid_script.specs.Line.{Command, InLane, LaneCommand};
+ghost use Rattle.draid_script.specs.Shape.{IsLaneText, IsLine};
 ghost use Rattle.draid_script.specs.Word.{number_of, words_of};
 ghost use Rattle.draid_script.specs.Writing.{IsForLanes, IsWritable, written_lane_line, written_line};
 
@@ -25,4 +26,15 @@ pub fn lines_are_read_again()
 pub fn lane_lines_are_read_again()
     ensures { (lanes lane : ℕ) (command : Command) → lane < lanes → lanes ≤ 2 ^ 32 → IsForLanes command → IsWritable command
         → lane_of lanes (written_lane_line lane command) ≡ Ok (InLane lane command) }
+{}
+
+/// The lines that are taken are just those that are spelled as a command.
+pub fn lines_are_exact()
+    ensures { (text : List ℕ) (command : Command) → (line_of text ≡ Ok command) ↔ IsLine text command }
+{}
+
+/// The same of the lines of a section.
+pub fn lane_lines_are_exact()
+    ensures { (lanes : ℕ) (text : List ℕ) (line : LaneCommand) → lanes ≤ 2 ^ 32
+        → (lane_of lanes text ≡ Ok line) ↔ IsLaneText lanes text line }
 {}

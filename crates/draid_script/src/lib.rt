@@ -24,7 +24,8 @@ mod words;
 
 pub use fault::{LineFault, ParseFault};
 pub use laws::{
-    lane_lines_are_read_again, lines_are_read_again, numbers_are_decimal, words_are_joined,
+    lane_lines_are_exact, lane_lines_are_read_again, lines_are_exact, lines_are_read_again,
+    numbers_are_decimal, words_are_joined,
 };
 pub use line::{ArmName, LaneLine, Line, PoolKeys, StatusFormat};
 pub use lines::{Lines, ReadFault};

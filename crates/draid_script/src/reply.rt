@@ -289,7 +289,7 @@ pub enum Reply {
     LanesClashMend,
 }
 
-/// The line that the reply is printed as, its end included; a status may have several.
+/// The line that the reply is printed as, its end included.
 pub fn reply_text(alloc: Global, reply: &Reply) -> Result<Vec<u8>, NoMemory>
     ensures { IfOk result (λ text. text.items ≡ text_of reply.now) }
 {
