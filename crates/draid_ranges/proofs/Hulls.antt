@@ -1,4 +1,4 @@
-use Rattle.std.proofs.Common.{◌≡◌, ◌+◌, ◌<◌, ◌≤◌, ◌∷◌, ◌++◌, ◌^◌, ℕ, Bool, true, false, ◌||◌, ◌&&◌, not, List, length, take, drop, get_or, min, max, refl, ap, ap₂, arith, sym, subst, ◌∙◌}
+use Rattle.std.proofs.Common.{◌≡◌, ◌+◌, ◌<◌, ◌≤◌, ◌∷◌, ◌++◌, ◌^◌, ℕ, Bool, true, false, ◌||◌, ◌&&◌, not, List, length, take, drop, get_or, min, max, ap, ap₂, arith, sym, subst, ◌∙◌}
 use Rattle.std.proofs.lemmas.List.{drop_more}
 use Rattle.std.proofs.lemmas.Bool.Decides.{nat_tests}
 use Rattle.draid_ranges.specs.declared.run.Run.{Run}
@@ -28,7 +28,7 @@ hull_more xs from to run whole joined d h apart l members first last =
       inside = omega arith;
       front = subst F (sym first) (within_min (take from xs) 0 whole.first r.first h.front (before_at xs from to 0 (2 ^ 48 + 1) d apart order l));
       members = λ x. joins (in_run whole x) (in_run r x) (has_in (drop (to + 1) xs) x) (in_run run x || has_in (drop from xs) x) (in_run joined x) (members x)
-        (ap (λ ys. in_run whole x || has_in ys x) (sym (drop_more xs to d l)) ∙ h.members x);
+          (ap (λ ys. in_run whole x || has_in ys x) (sym (drop_more xs to d l)) ∙ h.members x);
       first = omega arith;
       end = omega arith;
       below = omega arith;
@@ -74,8 +74,8 @@ sides_has whole first end x a b c =
 sides_within : (whole : Run) (first end : ℕ) → whole.first ≤ first → first < end → end ≤ whole.first + whole.len → AreWithin whole.first (sides_of whole first end) (whole.first + whole.len + 1)
 sides_within whole first end a b c =
     within_append (runs_of whole.first first) (runs_of end (whole.first + whole.len)) whole.first (first + 1) (whole.first + whole.len + 1)
-      (runs_of_within whole.first first whole.first (first + 1) (omega arith) (omega arith) (omega arith))
-      (runs_of_within end (whole.first + whole.len) (first + 1) (whole.first + whole.len + 1) (omega arith) (omega arith) (omega arith))
+    (runs_of_within whole.first first whole.first (first + 1) (omega arith) (omega arith) (omega arith))
+    (runs_of_within end (whole.first + whole.len) (first + 1) (whole.first + whole.len + 1) (omega arith) (omega arith) (omega arith))
 
 -- without b, where what lies outside of w isn't in b
 without : (t d e w b : Bool) → (w || e) ≡ (b || d) → (b ≡ true → t ≡ false) → (b ≡ true → e ≡ false) → (t || ((w && not b) || e)) ≡ ((t || d) && not b)
@@ -111,5 +111,5 @@ sides_apart xs new from to run whole first last h behind is begins ends order =
     let most = h.end in
     let sides = sides_within whole first (last + 1) (omega arith) (omega arith) (omega arith) in
     subst AreApart (sym is)
-      (within_append (take from xs ++ sides_of whole first (last + 1)) (drop to xs) 0 (end_of whole + 1) (2 ^ 48 + 1)
-        (within_append (take from xs) (sides_of whole first (last + 1)) 0 whole.first (end_of whole + 1) h.front sides) behind)
+    (within_append (take from xs ++ sides_of whole first (last + 1)) (drop to xs) 0 (end_of whole + 1) (2 ^ 48 + 1)
+    (within_append (take from xs) (sides_of whole first (last + 1)) 0 whole.first (end_of whole + 1) h.front sides) behind)

@@ -2,6 +2,8 @@ pub mod Answered
 pub mod Cuts
 pub mod Hulls
 pub mod Maximal
+pub mod Meets
 pub mod Parts
 pub mod Rooms
+pub mod Unions
 pub mod Within

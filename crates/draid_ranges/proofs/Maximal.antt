@@ -1,8 +1,8 @@
-use Rattle.std.proofs.Common.{◌≡◌, ◌+◌, ◌<◌, ◌≤◌, ◌^◌, ℕ, Bool, true, false, ◌||◌, List, All, length, take, drop, get_or, arith, sym, ◌∙◌}
+use Rattle.std.proofs.Common.{◌≡◌, ◌+◌, ◌<◌, ◌≤◌, ◌^◌, ℕ, Bool, true, false, ◌||◌, List, All, length, take, drop, get_or, arith, ◌∙◌}
 use Rattle.std.proofs.lemmas.Bool.Decides.{nat_tests}
 use Rattle.draid_ranges.specs.declared.run.Run.{Run}
 use Rattle.draid_ranges.specs.Numbers.{IsMaximal}
-use Rattle.draid_ranges.specs.Runs.{AreWithin, AreApart, end_of, in_run, has_in}
+use Rattle.draid_ranges.specs.Runs.{AreApart, end_of, in_run, has_in}
 use Rattle.draid_ranges.proofs.Within.{parted, out_low, out_high}
 
 one_has : (t d : Bool) (run : Run) (x : ℕ) → run.first ≤ x → x < run.first + run.len → (t || (in_run run x || d)) ≡ true

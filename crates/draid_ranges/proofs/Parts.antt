@@ -1,4 +1,4 @@
-use Rattle.std.proofs.Common.{◌≡◌, ◌+◌, ◌<◌, ◌≤◌, ◌∷◌, [], ◌++◌, ℕ, Bool, true, false, ◌||◌, List, length, take, drop, get_or, set, refl, ap, arith, sym, ◌∙◌, ap₂}
+use Rattle.std.proofs.Common.{◌≡◌, ◌+◌, ◌<◌, ◌∷◌, [], ◌++◌, ℕ, List, length, take, drop, get_or, set, ap, arith, sym, ◌∙◌, ap₂}
 use Rattle.std.proofs.lemmas.List.{take_more, set_at, length-take-le, append_assoc}
 use Rattle.std.proofs.lemmas.Bool.Decides.{nat_tests}
 use Rattle.draid_ranges.specs.declared.run.Run.{Run}
@@ -14,7 +14,7 @@ pub both_sides : (xs new : List Run) (n to first end : ℕ) (whole left right : 
 both_sides xs new n to first end whole left right l is lf le rf re low high =
     let d = get_or xs n right in
     let front : new ≡ take n xs ++ d ∷ right ∷ drop to xs =
-        is ∙ ap (λ ys. ys ++ right ∷ drop to xs) (take_more xs n right l) ∙ append_assoc (take n xs) (d ∷ []) (right ∷ drop to xs) in
+    is ∙ ap (λ ys. ys ++ right ∷ drop to xs) (take_more xs n right l) ∙ append_assoc (take n xs) (d ∷ []) (right ∷ drop to xs) in
     let sides : sides_of whole first end ≡ left ∷ right ∷ [] = ap₂ (λ x y. x ++ y) (one_run whole.first first left lf le low) (one_run end (whole.first + whole.len) right rf re high) in
     ap (λ ys. set ys n left) front
     ∙ set_at (take n xs) d (right ∷ drop to xs) left n (length-take-le n xs (omega arith))

@@ -4,7 +4,7 @@ use Rattle.std.proofs.lemmas.List.{take_more, drop_more, take-append-drop, get_o
 use Rattle.std.specs.List.{AllWithin}
 use Rattle.std.proofs.lemmas.Bool.Decides.{nat_tests}
 use Rattle.draid_ranges.specs.declared.run.Run.{Run}
-use Rattle.draid_ranges.specs.Runs.{AreWithin, AreApart, end_of, in_run, has_in}
+use Rattle.draid_ranges.specs.Runs.{AreWithin, end_of, in_run, has_in}
 
 out_run : (r : Run) (x : ℕ) → x < r.first → (in_run r x || false) ≡ false
 out_run r x h = grind (arith, nat_tests)
@@ -80,8 +80,8 @@ more_before xs n low high bound d h l k =
 pub ends_from : (xs : List Run) (n low high bound : ℕ) (d : Run) → AreWithin low xs high → n < length xs → bound ≤ (get_or xs n d).first + (get_or xs n d).len → AllWithin (λ r. bound ≤ end_of r) xs n (length xs)
 ends_from xs n low high bound d h l b = λ k e from to.
     elim (cases_eq k n) [
-      inl same ↦ subst (λ m. bound ≤ end_of (get_or xs m e)) (sym same) (subst (λ (r : Run). bound ≤ end_of r) (get_or_default xs n d e l) b)
-    | inr other ↦ let o = in_order xs n k low high d e h (omega arith) to in omega arith
+      | inl same ↦ subst (λ m. bound ≤ end_of (get_or xs m e)) (sym same) (subst (λ (r : Run). bound ≤ end_of r) (get_or_default xs n d e l) b)
+      | inr other ↦ let o = in_order xs n k low high d e h (omega arith) to in omega arith
     ]
 
 -- no number below the low bound is in them, nor one that isn't below the one before the high bound

@@ -1,4 +1,4 @@
-use Rattle.std.specs.Prelude.{◌≡◌, ◌+◌, ◌-◌, ◌^◌, ◌<◌, ◌≤◌, ◌++◌, ◌||◌, ℕ, nat_lt, List, [], ◌∷◌, length, take, drop, if◌then◌else◌}
+use Rattle.std.specs.Prelude.{◌≡◌, ◌+◌, ◌-◌, ◌^◌, ◌≤◌, ◌++◌, ◌||◌, ℕ, nat_lt, List, [], ◌∷◌, length, take, drop, if◌then◌else◌}
 use Rattle.draid_ranges.specs.declared.run.Run.{Run}
 use Rattle.draid_ranges.specs.Runs.{AreWithin, in_run, has_in}
 

@@ -1,5 +1,4 @@
 ghost use Rattle.std.specs.Prelude.{◌≡◌, ◌^◌, ◌+◌, ◌-◌, ◌<◌, ◌≤◌, ◌∷◌, ◌++◌, take, drop, length, IsOk, OnOk, OnErr, vec_len, vec_capacity};
-
 ghost use Rattle.std.specs.List.{AllWithin};
 ghost use Rattle.draid_ranges.specs.Edits.{IsHull, front_of, sides_of};
 ghost use Rattle.draid_ranges.specs.Runs.{AreApart, AreWithin, end_of};

@@ -3,9 +3,12 @@
 #![tactic(auto)]
 
 mod edit;
+mod merge;
 mod room;
 mod run;
 mod set;
+#[cfg(test)]
+mod tests;
 
 pub use run::Run;
 pub use set::RangeSet;

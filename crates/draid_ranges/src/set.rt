@@ -4,6 +4,7 @@ ghost use Rattle.draid_ranges.specs.Runs.{AreApart, has_in, is_between};
 
 use crate::Run;
 use crate::edit::{absorb, ending_before, keep_sides, put, shorten};
+use crate::merge::{met, united};
 use crate::room::lowest_room;
 use std::alloc::{AllocError, Global};
 use std::marker::Model;
@@ -83,6 +84,24 @@ impl RangeSet {
         ensures { result ≡ has self.now x }
     {
         self.runs.iter().any(|run| run.contains(x))
+    }
+
+    /// What either set has.
+    pub fn union(&self, alloc: Global, other: &RangeSet) -> Result<RangeSet, AllocError>
+        ensures { IfOk result (λ set. Has set (λ x. has self.now x || has other.now x)) }
+    {
+        Ok(RangeSet {
+            runs: united(alloc, &self.runs, &other.runs)?,
+        })
+    }
+
+    /// What both sets have.
+    pub fn meet(&self, alloc: Global, other: &RangeSet) -> Result<RangeSet, AllocError>
+        ensures { IfOk result (λ set. Has set (λ x. has self.now x && has other.now x)) }
+    {
+        Ok(RangeSet {
+            runs: met(alloc, &self.runs, &other.runs)?,
+        })
     }
 
     /// The lowest place within `from..to` from which on `len` numbers in a row are members, if any.

@@ -16,4 +16,4 @@ joined-whole-requires-clause-below c =
 pub loop-to-preserved : goal.loop-to-preserved
 loop-to-preserved c =
     hull_more c.args.runs.now c.args.from c.loop-to.to c.args.run c.loop-to.whole c.joined-whole.result no_run c.loop-to.invariant c.requires.apart c.loop-to-test.true
-      c.joined-whole.ensures.members c.joined-whole.ensures.first c.joined-whole.ensures.end
+    c.joined-whole.ensures.members c.joined-whole.ensures.first c.joined-whole.ensures.end

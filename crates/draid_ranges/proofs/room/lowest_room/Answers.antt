@@ -1,4 +1,4 @@
-use Rattle.std.proofs.Common.{arith, subst, sym, ◌≤◌}
+use Rattle.std.proofs.Common.{arith}
 use Rattle.draid_ranges.proofs.Rooms.{room_from, room_more}
 use Rattle.draid_ranges.proofs.Within.{end_below, no_run}
 use Rattle.draid_ranges.proofs.room.lowest_room.Goals as goal

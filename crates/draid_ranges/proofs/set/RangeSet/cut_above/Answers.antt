@@ -15,14 +15,14 @@ shorten-requires-clause-below c = λ l.
 pub invariant_of-self : goal.invariant_of-self
 invariant_of-self c =
     cut_apart c.self.inside.runs.items c.shorten.new.runs.items c.ending_before-at.result c.args.last c.self.invariant
-      (reaches_past c.self.inside.runs.items c.ending_before-at.result c.saturating_add.result c.args.last c.self.invariant (omega arith) (rw c.deref.ensures.value at c.ending_before-at.ensures.behind))
-      c.shorten.ensures.items
+    (reaches_past c.self.inside.runs.items c.ending_before-at.result c.saturating_add.result c.args.last c.self.invariant (omega arith) (rw c.deref.ensures.value at c.ending_before-at.ensures.behind))
+    c.shorten.ensures.items
 
 pub returns-clause-members : goal.returns-clause-members
 returns-clause-members c =
     let P : Numbers → Type 0 = λ s. (x : ℕ) → has_in c.shorten.new.runs.items x ≡ (has s x && nat_le x c.args.last) in
     subst P c.self.view_is
-      (cut_has c.self.inside.runs.items c.shorten.new.runs.items c.ending_before-at.result c.saturating_add.result c.args.last c.self.invariant
-        (rw c.deref.ensures.value at c.ending_before-at.ensures.front) (omega arith)
-        (reaches_past c.self.inside.runs.items c.ending_before-at.result c.saturating_add.result c.args.last c.self.invariant (omega arith) (rw c.deref.ensures.value at c.ending_before-at.ensures.behind))
-        c.shorten.ensures.items)
+    (cut_has c.self.inside.runs.items c.shorten.new.runs.items c.ending_before-at.result c.saturating_add.result c.args.last c.self.invariant
+    (rw c.deref.ensures.value at c.ending_before-at.ensures.front) (omega arith)
+    (reaches_past c.self.inside.runs.items c.ending_before-at.result c.saturating_add.result c.args.last c.self.invariant (omega arith) (rw c.deref.ensures.value at c.ending_before-at.ensures.behind))
+    c.shorten.ensures.items)
