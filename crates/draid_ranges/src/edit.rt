@@ -84,6 +84,7 @@ pub(crate) fn keep_sides(
     ensures ok { OnOk result (runs.new.items ≡ take from runs.old.items ++ sides_of whole first end ++ drop to runs.old.items) }
     ensures err { OnErr result (runs.new.items ≡ runs.old.items) }
     ensures room { vec_len runs.old < vec_capacity runs.old → IsOk result }
+    ensures no_left { whole.first ≡ first → IsOk result }
     ensures spare { vec_capacity runs.old + vec_len runs.new ≤ vec_capacity runs.new + vec_len runs.old + 1 }
 {
     match (whole.first < first, end < whole.end()) {

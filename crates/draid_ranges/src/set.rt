@@ -56,13 +56,14 @@ impl RangeSet {
         put(&mut self.runs, at, end, whole)
     }
 
-    /// Takes the numbers from `first` to `last` out.
+    /// Takes the numbers from `first` to `last` out. Memory is asked for only where a run falls in two.
     pub fn remove(&mut self, first: u64, last: u64) -> Result<(), AllocError>
         requires order { first ≤ last }
         requires range { last < 2 ^ 48 }
         ensures ok { OnOk result (Has self.new (λ x. has self.old x && not (is_between first (last + 1) x))) }
         ensures err { OnErr result (Has self.new (has self.old)) }
         ensures room { 0 < self.old.spare → IsOk result }
+        ensures from_zero { first ≡ 0 → IsOk result }
         ensures spare { self.old.spare ≤ self.new.spare + 1 }
     {
         let at = ending_before(&self.runs, first);
