@@ -1,4 +1,5 @@
 pub mod Answered
+pub mod Counts
 pub mod Cuts
 pub mod Hulls
 pub mod Maximal

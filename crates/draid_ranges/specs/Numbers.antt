@@ -1,4 +1,4 @@
-use Rattle.std.specs.Prelude.{◌≡◌, ◌+◌, ◌≤◌, ◌<◌, ℕ, Bool, true, false, List, All}
+use Rattle.std.specs.Prelude.{if◌then◌else◌, zero, suc, ◌≡◌, ◌+◌, ◌≤◌, ◌<◌, ℕ, Bool, true, false, List, All}
 use Rattle.draid_ranges.specs.declared.run.Run.{Run}
 use Rattle.draid_ranges.specs.Runs.{AreApart, end_of, has_in}
 
@@ -34,3 +34,8 @@ pub record AreRuns (set : Numbers) (runs : List Run) : Type 0 where
   pub members : Has set (has_in runs)
   pub apart : AreApart runs
   pub maximal : All (IsMaximal (has set)) runs
+
+-- how many numbers below a bound pass the test
+unfoldable pub count_below : (ℕ → Bool) → ℕ → ℕ
+count_below test zero = 0
+count_below test (suc n) = count_below test n + (if test n then 1 else 0)

@@ -1,4 +1,4 @@
-ghost use Rattle.std.specs.Prelude.{◌≡◌, ◌<◌, ◌≤◌, ℕ, IfSome, IfNone};
+ghost use Rattle.std.specs.Prelude.{◌≡◌, ◌<◌, ◌≤◌, ℕ, IfSome, IfNone, sum_by};
 ghost use Rattle.draid_ranges.specs.Numbers.{IsRoom};
 ghost use Rattle.draid_ranges.specs.Runs.{AreApart, has_in};
 
@@ -19,4 +19,16 @@ pub(crate) fn lowest_room(runs: &[Run], len: u64, from: u64, to: u64) -> Option<
         }
     }
     None
+}
+
+/// How many numbers the runs have.
+pub(crate) fn total(runs: &[Run]) -> u64
+    requires { AreApart runs.now }
+    ensures { result ≡ sum_by (λ (run : Run). run.len) runs.now }
+{
+    let mut total = 0;
+    for run in runs {
+        total += run.len;
+    }
+    total
 }

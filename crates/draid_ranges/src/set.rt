@@ -1,11 +1,11 @@
 ghost use Rattle.std.specs.Prelude.{◌≡◌, ◌+◌, ◌-◌, ◌<◌, ◌≤◌, ◌^◌, ◌||◌, ◌&&◌, not, ℕ, false, vec_len, vec_capacity, OnOk, OnErr, IfOk, IsOk, nat_le, IfSome, IfNone};
-ghost use Rattle.draid_ranges.specs.Numbers.{AreRuns, Has, IsRoom, Numbers, has};
+ghost use Rattle.draid_ranges.specs.Numbers.{AreRuns, Has, IsRoom, Numbers, count_below, has};
 ghost use Rattle.draid_ranges.specs.Runs.{AreApart, has_in, is_between};
 
 use crate::Run;
 use crate::edit::{absorb, ending_before, keep_sides, put, shorten};
 use crate::merge::{met, united};
-use crate::room::lowest_room;
+use crate::room::{lowest_room, total};
 use std::alloc::{AllocError, Global};
 use std::marker::Model;
 
@@ -103,6 +103,13 @@ impl RangeSet {
         Ok(RangeSet {
             runs: met(alloc, &self.runs, &other.runs)?,
         })
+    }
+
+    /// How many members there are.
+    pub fn count(&self) -> u64
+        ensures { result ≡ count_below (has self.now) (2 ^ 48) }
+    {
+        total(&self.runs)
     }
 
     /// The lowest place within `from..to` from which on `len` numbers in a row are members, if any.

@@ -14,6 +14,7 @@ fn sets_have_what_was_put(rt: HostRuntime) -> Result<(), Fail> {
     assert_eq!(rt; set.runs(), [run(0, 1), run(2, 2)].as_slice());
     assert_eq!(rt; set.first_run(2, 0, 4), Some(2));
     assert_eq!(rt; set.first_run(2, 0, 3), None);
+    assert_eq!(rt; set.count(), 3);
 
     let mut other = RangeSet::new(rt.alloc());
     other.insert(2, 2)?;

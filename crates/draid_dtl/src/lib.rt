@@ -1,0 +1,9 @@
+//! Dirty time logs: the transaction groups that an arm may have missed (OpenZFS, `vdev.c`).
+
+#![tactic(auto)]
+
+mod log;
+#[cfg(test)]
+mod tests;
+
+pub use log::Log;
