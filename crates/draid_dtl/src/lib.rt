@@ -3,7 +3,9 @@
 #![tactic(auto)]
 
 mod log;
+mod missed;
 #[cfg(test)]
 mod tests;
 
 pub use log::Log;
+pub use missed::{group, mirror};

@@ -9,7 +9,7 @@ use std::marker::Model;
 /// A set of transaction groups below 2^48.
 #[derive(Drop)]
 pub struct Log {
-    groups: RangeSet,
+    pub(crate) groups: RangeSet,
 }
 
 impl Model for Log {
@@ -91,5 +91,23 @@ impl Log {
         ensures { result ≡ count_below (has self.now) (2 ^ 48) }
     {
         self.groups.count()
+    }
+
+    pub(crate) fn copy(&self, alloc: Global) -> Result<Log, AllocError>
+        ensures { IfOk result (λ log. Has log (has self.now)) }
+    {
+        let nothing = RangeSet::new(alloc);
+        Ok(Log {
+            groups: self.groups.union(alloc, &nothing)?,
+        })
+    }
+
+    /// The groups that both logs have.
+    pub(crate) fn meet(&self, alloc: Global, other: &Log) -> Result<Log, AllocError>
+        ensures { IfOk result (λ log. Has log (λ x. has self.now x && has other.now x)) }
+    {
+        Ok(Log {
+            groups: self.groups.meet(alloc, &other.groups)?,
+        })
     }
 }
