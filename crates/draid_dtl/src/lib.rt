@@ -1,0 +1,11 @@
+//! Dirty time logs: the transaction groups that an arm may have missed (OpenZFS, `vdev.c`).
+
+#![tactic(auto)]
+
+mod log;
+mod missed;
+#[cfg(test)]
+mod tests;
+
+pub use log::Log;
+pub use missed::{group, mirror};

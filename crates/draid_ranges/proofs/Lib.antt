@@ -1,0 +1,10 @@
+pub mod Answered
+pub mod Counts
+pub mod Cuts
+pub mod Hulls
+pub mod Maximal
+pub mod Meets
+pub mod Parts
+pub mod Rooms
+pub mod Unions
+pub mod Within

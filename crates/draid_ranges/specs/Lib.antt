@@ -1,0 +1,4 @@
+pub mod Edits
+pub mod Merges
+pub mod Numbers
+pub mod Runs

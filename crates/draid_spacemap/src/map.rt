@@ -1,0 +1,157 @@
+ghost use Rattle.std.specs.Prelude.{◌≡◌, ◌+◌, ◌-◌, ◌<◌, ◌≤◌, ◌^◌, ◌||◌, ◌&&◌, not, ℕ, true, false, All, IfOk, IsOk, OnOk, OnErr, map, if◌then◌else◌, vec_len, vec_capacity};
+ghost use Rattle.draid_ranges.specs.Numbers.{Has, has};
+ghost use Rattle.draid_ranges.specs.Runs.{in_run};
+ghost use Rattle.draid_spacemap.specs.declared.map.Record.{Record};
+ghost use Rattle.draid_spacemap.specs.Records.{Allocates, IsCondensed, IsSpan, Records, allocation, is_allocated, is_allocated_by};
+
+use draid_ranges::{RangeSet, Run};
+use std::alloc::{AllocError, Global};
+use std::marker::Model;
+
+/// A run of stripes that was allocated or freed.
+#[derive(Clone, Copy, Debug, PartialEq, Eq)]
+pub struct Record {
+    pub run: Run,
+    pub allocates: bool,
+}
+
+/// What is allocated of a metaslab, as the records of what was allocated and freed.
+#[derive(Drop)]
+pub struct SpaceMap {
+    records: Vec<Record>,
+}
+
+impl Model for SpaceMap {
+    ghost Value = { Records };
+
+    ghost view = { λ map. record { records = map.records.items; spare = vec_capacity map.records - vec_len map.records } };
+
+    ghost invariant = { λ map. All (λ (entry : Record). IsSpan entry.run) map.records.items };
+}
+
+impl SpaceMap {
+    /// A map of which nothing is allocated.
+    pub fn new(alloc: Global) -> SpaceMap
+        ensures { Allocates result (λ x. false) }
+    {
+        SpaceMap {
+            records: Vec::new(alloc),
+        }
+    }
+
+    /// Makes room for so many records.
+    pub fn reserve(&mut self, changes: u32) -> Result<(), AllocError>
+        ensures same { Allocates self.new (is_allocated self.old) }
+        ensures room { OnOk result (changes ≤ self.new.spare) }
+        ensures kept { self.old.spare ≤ self.new.spare }
+    {
+        self.records.reserve(changes as usize)
+    }
+
+    /// Allocates a run that is wholly free.
+    pub fn alloc(&mut self, run: Run) -> Result<(), AllocError>
+        requires span { IsSpan run }
+        requires free { (x : ℕ) → in_run run x ≡ true → is_allocated self.old x ≡ false }
+        ensures ok { OnOk result (Allocates self.new (λ x. is_allocated self.old x || in_run run x)) }
+        ensures err { OnErr result (Allocates self.new (is_allocated self.old)) }
+        ensures room { 0 < self.old.spare → IsOk result }
+        ensures spare { self.old.spare ≤ self.new.spare + 1 }
+    {
+        self.records.push(Record {
+            run,
+            allocates: true,
+        })?;
+        Ok(())
+    }
+
+    /// Frees a run that is wholly allocated.
+    pub fn free(&mut self, run: Run) -> Result<(), AllocError>
+        requires span { IsSpan run }
+        requires allocated { (x : ℕ) → in_run run x ≡ true → is_allocated self.old x ≡ true }
+        ensures ok { OnOk result (Allocates self.new (λ x. is_allocated self.old x && not (in_run run x))) }
+        ensures err { OnErr result (Allocates self.new (is_allocated self.old)) }
+        ensures room { 0 < self.old.spare → IsOk result }
+        ensures spare { self.old.spare ≤ self.new.spare + 1 }
+    {
+        self.records.push(Record {
+            run,
+            allocates: false,
+        })?;
+        Ok(())
+    }
+
+    /// The stripes whose last record is an allocation.
+    pub fn replay(&self, alloc: Global) -> Result<RangeSet, AllocError>
+        ensures { IfOk result (λ set. Has set (is_allocated self.now)) }
+    {
+        replayed(alloc, &self.records)
+    }
+
+    /// Leaves one allocation for each maximal run of what is allocated.
+    pub fn condense(&mut self, alloc: Global) -> Result<(), AllocError>
+        ensures same { Allocates self.new (is_allocated self.old) }
+        ensures condensed { OnOk result (IsCondensed self.old self.new) }
+    {
+        let set = replayed(alloc, &self.records)?;
+        self.records = allocations(alloc, set.runs())?;
+        Ok(())
+    }
+}
+
+fn replayed(alloc: Global, records: &[Record]) -> Result<RangeSet, AllocError>
+    requires { All (λ (entry : Record). IsSpan entry.run) records.now }
+    ensures { IfOk result (λ set. Has set (is_allocated_by false records.now)) }
+{
+    let mut set = RangeSet::new(alloc);
+    for entry in records {
+        apply(&mut set, *entry)?;
+    }
+    Ok(set)
+}
+
+fn apply(set: &mut RangeSet, entry: Record) -> Result<(), AllocError>
+    requires { IsSpan entry.run }
+    ensures { OnOk result (Has set.new (λ x. if in_run entry.run x then entry.allocates else has set.old x)) }
+{
+    let first = entry.run.first;
+    let last = first + entry.run.len - 1;
+    if entry.allocates {
+        set.insert(first, last)
+    } else {
+        set.remove(first, last)
+    }
+}
+
+/// An allocation for each run.
+fn allocations(alloc: Global, runs: &[Run]) -> Result<Vec<Record>, AllocError>
+    ensures { IfOk result (λ records. records.items ≡ map allocation runs.now) }
+{
+    let mut records = Vec::with_capacity(alloc, runs.len())?;
+    for run in runs {
+        records.push(Record {
+            run: *run,
+            allocates: true,
+        })?;
+    }
+    Ok(records)
+}
+
+#[cfg(test)]
+mod tests {
+    use super::*;
+    use std::test::Fail;
+
+    #[test]
+    fn a_map_is_replayed_and_condensed(rt: HostRuntime) -> Result<(), Fail> {
+        let mut map = SpaceMap::new(rt.alloc());
+        map.reserve(3)?;
+        map.alloc(Run { first: 0, len: 4 })?;
+        map.free(Run { first: 1, len: 1 })?;
+        let runs = [Run { first: 0, len: 1 }, Run { first: 2, len: 2 }];
+        assert_eq!(rt; map.replay(rt.alloc())?.runs(), runs.as_slice());
+        map.condense(rt.alloc())?;
+        assert_eq!(rt; map.replay(rt.alloc())?.runs(), runs.as_slice());
+        assert_eq!(rt; map.records.len(), 2);
+        Ok(())
+    }
+}
