@@ -1,0 +1,139 @@
+use Rattle.std.proofs.Common.{arith, refl, ◌≡◌, ◌≤◌, ◌<◌, ◌+◌, ◌∙◌, sym, ap, ℕ, Bool, true, false, List, Option, Some, None, Result, Ok, Err, OnOk, OnErr, IsTrue, option_map, length, slice_index_or}
+use Rattle.std.proofs.lemmas.Bool.Decides.{nat_tests}
+use Rattle.std.proofs.lemmas.List.{ext_get_or}
+use Rattle.std.specs.List.{splice}
+use Rattle.draid_area.specs.Area.{Content, Writes, OnTold, IsOrderly, MayLeave, last_clock, tick, within, writes, flushes}
+use Rattle.draid_area.specs.Moments.{Stays, Goes, Between, CrashKeeps, LeavesWritten, Spares, SparesTold, OnBoth}
+use Rattle.draid_area.proofs.Splices.{length-splice, splice_outside}
+
+pub goes_self : (x : Content) → Goes x x
+goes_self x = record { later = omega arith; firm = omega arith; grown = omega arith; same = λ i early low. record { byte = λ d. refl; soft = λ h. h; since = refl } }
+
+pub goes_on : (x y z : Content) → Goes x y → Goes y z → Goes x z
+goes_on x y z a b = record {
+  later = omega (arith, a.later, b.later);
+  firm = omega (arith, a.firm, b.firm);
+  grown = omega (arith, a.grown, b.grown);
+  same = λ i early low.
+      let q = b.same i (omega (arith, a.later)) low in
+      let p = a.same i (rw q.since early) (rw q.since low) in
+      record { byte = λ d. p.byte d ∙ q.byte d; soft = λ h. p.soft (q.soft h); since = p.since ∙ q.since };
+}
+
+-- what a written offset's clock says
+late : (c : ℕ) → tick c ≤ c → tick c < last_clock → ⊥
+late c early low = grind (arith, nat_tests)
+
+writes_stays : (at : ℕ) (bytes : List ℕ) (x : Content) (i : ℕ) (b : Bool) → at ≤ length x.bytes → within at (length bytes) i ≡ b → (writes at bytes x).since i ≤ x.clock → (writes at bytes x).since i < last_clock → Stays x (writes at bytes x) i
+writes_stays at bytes x i true inside is early low = absurd (grind (arith, nat_tests))
+writes_stays at bytes x i false inside is early low = record {
+  byte = λ d. sym (splice_outside x.bytes bytes at (length bytes) i d inside refl is);
+  soft = rw is (λ h. h);
+  since = rw is refl;
+}
+
+pub goes_writes : (at : ℕ) (bytes : List ℕ) (x : Content) → at ≤ length x.bytes → Goes x (writes at bytes x)
+goes_writes at bytes x inside = record {
+  later = grind (arith, nat_tests);
+  firm = omega arith;
+  grown = length-splice x.bytes bytes at (length bytes) refl;
+  same = λ i early low. writes_stays at bytes x i (within at (length bytes) i) inside refl early low;
+}
+
+pub goes_flushes : (x : Content) → x.firm ≤ length x.bytes → Goes x (flushes x)
+goes_flushes x kept = record {
+  later = grind (arith, nat_tests);
+  firm = kept;
+  grown = omega arith;
+  same = λ i early low. record { byte = λ d. refl; soft = λ h. absurd (cc); since = refl };
+}
+
+-- where nothing is soft and all bytes were flushed, a crash leaves just what is read
+pub leaves_all : (x : Content) (left : List ℕ) → ((i : ℕ) → x.soft i ≡ false) → x.firm ≡ length x.bytes → MayLeave x left → left ≡ x.bytes
+leaves_all x left firm all may = ext_get_or 0 left x.bytes (omega (arith, all, may.least, may.most)) (λ k h. may.same k 0 (firm k))
+
+-- a test is false where what it implies is
+stays_false : (a b : Bool) → (IsTrue b → IsTrue a) → a ≡ false → b ≡ false
+stays_false a b so is = grind arith
+
+pub spares_self : (named : ℕ → Bool) (x : Content) → Spares named x x
+spares_self named x = record { later = omega arith; bytes = λ i d out. refl; since = λ i out. refl; soft = λ i out h. h }
+
+pub spares_on : (named : ℕ → Bool) (x y z : Content) → Spares named x y → Spares named y z → Spares named x z
+spares_on named x y z a b = record {
+  later = omega (arith, a.later, b.later);
+  bytes = λ i d out. b.bytes i d out ∙ a.bytes i d out;
+  since = λ i out. b.since i out ∙ a.since i out;
+  soft = λ i out h. a.soft i out (b.soft i out h);
+}
+
+-- with more offsets named
+pub spares_more : (few more : ℕ → Bool) (x y : Content) → ((i : ℕ) → more i ≡ false → few i ≡ false) → Spares few x y → Spares more x y
+spares_more few more x y fewer a = record {
+  later = a.later;
+  bytes = λ i d out. a.bytes i d (fewer i out);
+  since = λ i out. a.since i (fewer i out);
+  soft = λ i out. a.soft i (fewer i out);
+}
+
+pub spares_writes : (named : ℕ → Bool) (at : ℕ) (bytes : List ℕ) (x : Content) → at ≤ length x.bytes → ((i : ℕ) → named i ≡ false → within at (length bytes) i ≡ false) → Spares named x (writes at bytes x)
+spares_writes named at bytes x inside apart = record {
+  later = grind (arith, nat_tests);
+  bytes = λ i d out. splice_outside x.bytes bytes at (length bytes) i d inside refl (apart i out);
+  since = λ i out. rw (apart i out) refl;
+  soft = λ i out. rw (apart i out) (λ h. h);
+}
+
+pub spares_flushes : (named : ℕ → Bool) (x : Content) → Spares named x (flushes x)
+spares_flushes named x = record { later = grind (arith, nat_tests); bytes = λ i d out. refl; since = λ i out. refl; soft = λ i out h. absurd (cc) }
+
+pub told_on : (named : ℕ → Bool) (o p q : Option Content) → SparesTold named o p → SparesTold named p q → SparesTold named o q
+told_on named None None q a b = b
+told_on named None (Some y) q a b = absurd (cc)
+told_on named (Some x) None q a b = absurd a
+told_on named (Some x) (Some y) None a b = absurd b
+told_on named (Some x) (Some y) (Some z) a b = spares_on named x y z a b
+
+pub told_same : (named : ℕ → Bool) (o p : Option Content) → p ≡ o → SparesTold named o p
+told_same named None p is = is
+told_same named (Some x) p is = rw is (spares_self named x)
+
+whole_of : {E : Type 0} {P : Type 0} {u : Unit} (r : Result Unit E) → r ≡ Ok u → OnOk r P → P
+whole_of (Ok v) is whole = whole
+whole_of (Err e) is whole = absurd (cc)
+
+shorter : (at n m i : ℕ) → n ≤ m → within at m i ≡ false → within at n i ≡ false
+shorter at n m i le out = grind (arith, nat_tests)
+
+pub told_writes : {E : Type 0} (named : ℕ → Bool) (at : ℕ) (bytes : List ℕ) (r : Result Unit E) (o p : Option Content) → ((i : ℕ) → named i ≡ false → within at (length bytes) i ≡ false) → Writes at bytes r o p → SparesTold named o p
+told_writes named at bytes r None p apart w = w.told
+told_writes named at bytes r (Some x) p apart w = rw w.told (spares_writes named at w.stands x w.inside (λ i out. shorter at (length w.stands) (length bytes) i w.no_more (apart i out)))
+
+pub told_flushed : {E : Type 0} (named : ℕ → Bool) (r : Result Unit E) (o p : Option Content) → OnOk r (p ≡ option_map flushes o) → OnErr r (p ≡ o) → SparesTold named o p
+told_flushed named (Ok u) None p ok err = ok
+told_flushed named (Ok u) (Some x) p ok err = rw ok (spares_flushes named x)
+told_flushed named (Err e) o p ok err = told_same named o p err
+
+moment : (named : ℕ → Bool) (x m y : Content) (left : List ℕ) (i d : ℕ) → x.since i ≤ x.clock → y.since i ≡ x.since i → x.clock < last_clock → Between x m y → MayLeave m left → x.soft i ≡ false → slice_index_or left i d ≡ slice_index_or x.bytes i d
+moment named x m y left i d early same low between may firm =
+    let q = between.before.same i (omega (arith, early, same, between.after.later)) (omega (arith, early, same)) in
+    let p = between.after.same i (omega (arith, early, same, q.since)) (omega (arith, early, same, q.since)) in
+    may.same i d (stays_false (x.soft i) (m.soft i) p.soft firm) ∙ sym (p.byte d)
+
+pub moments : (named : ℕ → Bool) (x y : Content) → IsOrderly x → Spares named x y → CrashKeeps named x y
+moments named x y orderly spares low m between left may = record {
+  same = λ i d out firm. moment named x m y left i d (orderly i) (spares.since i out) low between may firm;
+  least = omega (arith, between.after.firm, may.least);
+  most = omega (arith, may.most, between.before.grown);
+}
+
+pub kept : (named : ℕ → Bool) (o p : Option Content) → OnTold o IsOrderly → SparesTold named o p → OnBoth o p (CrashKeeps named)
+kept named None p orderly spares = tt
+kept named (Some x) None orderly spares = absurd spares
+kept named (Some x) (Some y) orderly spares = moments named x y orderly spares
+
+-- what a crash leaves once a write was flushed
+pub leaves_written : {E F : Type 0} (at : ℕ) (bytes : List ℕ) (u : Unit) (r : Result Unit E) (s : Result Unit F) (o p q : Option Content) → Writes at bytes r o p → r ≡ Ok u → OnOk s (q ≡ option_map flushes p) → OnOk s (OnBoth o q (LeavesWritten at bytes))
+leaves_written at bytes u r (Err e) o p q w is flushed = tt
+leaves_written at bytes u r (Ok v) None p q w is flushed = tt
+leaves_written at bytes u r (Ok v) (Some x) p q w is flushed = rw (flushed, w.told) (λ left may. leaves_all _ left (λ i. refl) refl may ∙ ap (λ b. splice x.bytes at (at + length b) b) (whole_of r is w.whole))

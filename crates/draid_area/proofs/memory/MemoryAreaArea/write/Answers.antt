@@ -1,0 +1,25 @@
+use Rattle.std.proofs.Common.{rules, refl, ap, ◌∙◌, ◌∷◌, []}
+use Rattle.std.proofs.lemmas.Slice.{pushed}
+use Rattle.draid_area.specs.Cells.{covers}
+use Rattle.draid_area.specs.declared.area.AreaFault.TheVariants.{NoMemory}
+use Rattle.draid_area.proofs.Clocks.{bytes_written, clocks_written, covers_more, writes_all, writes_none}
+use Rattle.draid_area.proofs.memory.MemoryAreaArea.write.Goals as goal
+
+pub returns-then-fails-clause-told : goal.returns-then-fails-clause-told
+returns-then-fails-clause-told c = writes_none _ _ _ _ _ _ _ _ _ _ _ _ _ refl c.requires.place refl refl (λ i. refl) c.later-self.ensures
+
+pub returns-in_err-reserve-clause-told : goal.returns-in_err-reserve-clause-told
+returns-in_err-reserve-clause-told c = writes_none _ _ _ _ _ _ _ _ _ _ _ NoMemory _ (search rules) c.requires.place refl c.reserve.ensures.items (λ i. refl) c.later-self.ensures
+
+pub returns-in_err-reach-clause-told : goal.returns-in_err-reach-clause-told
+returns-in_err-reach-clause-told c = writes_none _ _ _ _ _ _ _ _ _ _ _ NoMemory _ (search rules) c.requires.place refl c.reserve.ensures.items c.reach.ensures.same c.later-self.ensures
+
+pub returns-in_err-grow-clause-told : goal.returns-in_err-grow-clause-told
+returns-in_err-grow-clause-told c = writes_none _ _ _ _ _ _ _ _ _ _ _ NoMemory _ (search rules) c.requires.place c.in_err-grow.ensures.err c.reserve.ensures.items c.reach.ensures.same c.later-self.ensures
+
+pub returns-clause-told : goal.returns-clause-told
+returns-clause-told c = writes_all _ _ _ _ _ _ _ _ _ _ _ c.requires.place
+    (bytes_written _ _ _ _ _ c.requires.place c.in_ok-grow.ensures.ok c.overwrite.ensures)
+    (λ i. ap (λ s. covers s i) (pushed (_ ∷ []) c.reserve.ensures.items c.unwrap.ensures c.push.ensures.items) ∙ covers_more _ _ i)
+    (clocks_written _ _ _ _ _ c.args.self.now.clock _ c.reach.ensures.same c.mark.ensures c.later-self.ensures)
+    c.later-self.ensures

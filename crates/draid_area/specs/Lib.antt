@@ -1,0 +1,4 @@
+pub mod Area
+pub mod Cells
+pub mod Memory
+pub mod Moments

@@ -1,0 +1,14 @@
+//! A list of bytes on a device: what it reads, what a write leaves, what a crash may leave, and when it may
+//! fail.
+
+#![tactic(auto)]
+
+mod area;
+mod calls;
+mod cells;
+mod memory;
+#[cfg(test)]
+mod tests;
+
+pub use area::{Area, AreaFault};
+pub use memory::MemoryArea;
