@@ -28,8 +28,8 @@ due_inside : (deferred : List Deferred) (total group x : ℕ) → ((k : ℕ) (d 
 due_inside [] total group x spans h = absurd (cc)
 due_inside (entry ∷ deferred) total group x spans h =
     either (x < total) (nat_le entry.group group && in_run entry.run x) (is_due group deferred x) h
-      (λ t. in_span entry total group x (spans 0 entry (omega arith)) t)
-      (λ t. due_inside deferred total group x (λ k d l. spans (suc k) d (omega arith)) t)
+    (λ t. in_span entry total group x (spans 0 entry (omega arith)) t)
+    (λ t. due_inside deferred total group x (λ k d l. spans (suc k) d (omega arith)) t)
 
 pub committed : (height total held capacity group more : ℕ) (free new : Numbers) (deferred kept : List Deferred) → IsSound height total held capacity free deferred
     → ((x : ℕ) → has new x ≡ (has free x || is_due group deferred x)) → free.spare ≤ new.spare + count_by (λ (entry : Deferred). nat_le entry.group group) deferred
@@ -45,7 +45,7 @@ committed height total held capacity group more free new deferred kept s members
       most = s.most;
       inside = λ x h. either (x < total) (has free x) (is_due group deferred x) (sym (members x) ∙ h) (s.inside x) (due_inside deferred total group x s.spans);
       spans = let P : List Deferred → Type 0 = λ ys. All (λ (entry : Deferred). IsSpan total entry.run.first entry.run.len) ys in subst P (sym is)
-        (All-filter (is_later group) (λ (entry : Deferred). IsSpan total entry.run.first entry.run.len) deferred s.spans);
+          (All-filter (is_later group) (λ (entry : Deferred). IsSpan total entry.run.first entry.run.len) deferred s.spans);
       room = omega arith;
       places = omega arith;
     }

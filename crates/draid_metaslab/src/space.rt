@@ -171,11 +171,7 @@ impl Space {
 }
 
 /// Makes the room for one more run to be out and to come back.
-fn make_room(
-    free: &mut RangeSet,
-    deferred: &mut Vec<Deferred>,
-    held: u32,
-) -> Result<(), AllocError>
+fn make_room(free: &mut RangeSet, deferred: &mut Vec<Deferred>, held: u32) -> Result<(), AllocError>
     ensures free { Has free.new (has free.old) }
     ensures spare { free.old.spare ≤ free.new.spare }
     ensures room { OnOk result (held + length deferred.old.items + 2 ≤ free.new.spare) }
@@ -214,4 +210,34 @@ fn untaken(alloc: Global, total: u64, taken: &[Run]) -> Result<RangeSet, AllocEr
         set.remove(run.first, run.first + run.len - 1)?;
     }
     Ok(set)
+}
+
+#[cfg(test)]
+mod tests {
+    use super::*;
+    use draid_spec::{Props, geometry, parse_spec};
+
+    fn out_and_back(alloc: Global, layout: &Geometry) -> Result<(u64, u64), SpaceFault>
+        requires { IsGeometry layout.now }
+    {
+        let mut space = Space::new(alloc, layout, &[])?;
+        let first = space.allocate(3)?;
+        space.defer(first, 3, 2);
+        space.commit(2);
+        Ok((first, space.free_stripes()))
+    }
+
+    #[test]
+    fn stripes_go_out_and_come_back(rt: HostRuntime) {
+        let props = Props {
+            sector: 512,
+            height: 8,
+            metaslabs: 1,
+            slices: 2,
+            seed: 1,
+        };
+        let spec = parse_spec(b"draid1:2d:3c", 3).expect(&rt, "a spec");
+        let layout = geometry(spec, props).expect(&rt, "a layout");
+        assert_eq!(rt; out_and_back(rt.alloc(), &layout), Ok((0, 16)));
+    }
 }

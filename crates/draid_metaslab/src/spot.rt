@@ -46,5 +46,9 @@ fn place_in(run: Run, height: u64, len: u64) -> u64
     ensures next { height - run.first % height < len → result ≡ run.first + (height - run.first % height) }
 {
     let head = height - run.first % height;
-    if len <= head { run.first } else { run.first + head }
+    if len <= head {
+        run.first
+    } else {
+        run.first + head
+    }
 }

@@ -10,16 +10,16 @@ place_in-requires-clause-below c = let b = end_below c.args.runs.now c.loop-run.
 pub returns-then-most-len-clause-found : goal.returns-then-most-len-clause-found
 returns-then-most-len-clause-found c =
     lowest_found c.args.runs.now c.loop-run.run-index c.args.height c.args.len c.loop-run.largest c.most_of-most.result c.place_in.result no_run
-      c.requires.apart c.loop-run-test.true c.requires.height.0 c.requires.some c.loop-run.invariant
-      (record { short = c.most_of-most.ensures.short; long = c.most_of-most.ensures.long }) (record { first = c.place_in.ensures.first; next = c.place_in.ensures.next }) (omega arith)
+    c.requires.apart c.loop-run-test.true c.requires.height.0 c.requires.some c.loop-run.invariant
+    (record { short = c.most_of-most.ensures.short; long = c.most_of-most.ensures.long }) (record { first = c.place_in.ensures.first; next = c.place_in.ensures.next }) (omega arith)
 
 pub loop-run-preserved : goal.loop-run-preserved
 loop-run-preserved c =
     let S : ℕ → Type 0 = λ n. IsSearched c.args.runs.now c.args.height c.args.len (c.loop-run.run-index + 1) n in
     subst S (sym c.max-largest.ensures)
-      (searched_more c.args.runs.now c.loop-run.run-index c.args.height c.args.len c.loop-run.largest c.most_of-most.result no_run
-        c.requires.apart c.loop-run-test.true c.requires.height.0 c.loop-run.invariant
-        (record { short = c.most_of-most.ensures.short; long = c.most_of-most.ensures.long }) (omega arith))
+    (searched_more c.args.runs.now c.loop-run.run-index c.args.height c.args.len c.loop-run.largest c.most_of-most.result no_run
+    c.requires.apart c.loop-run-test.true c.requires.height.0 c.loop-run.invariant
+    (record { short = c.most_of-most.ensures.short; long = c.most_of-most.ensures.long }) (omega arith))
 
 pub returns-clause-none : goal.returns-clause-none
 returns-clause-none c = largest_known c.args.runs.now c.args.height c.args.len c.loop-run.largest c.loop-run.run-index (omega arith) c.loop-run.invariant
