@@ -1,0 +1,4 @@
+pub mod Kept
+pub mod Searches
+pub mod Untaken
+pub mod Views

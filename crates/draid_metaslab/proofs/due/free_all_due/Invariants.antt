@@ -1,0 +1,10 @@
+use Rattle.std.proofs.Common.{◌≤◌, ◌+◌, ◌||◌, nat_le, count_by, take}
+use Rattle.draid_metaslab.specs.declared.space.Deferred.{Deferred}
+use Rattle.draid_metaslab.specs.Spaces.{is_due}
+use Rattle.draid_ranges.specs.Numbers.{Has, has}
+use Rattle.draid_metaslab.proofs.due.free_all_due.Given as goal
+
+abbrev pub invariant-loop-entry : goal.invariant-loop-entry
+invariant-loop-entry l =
+    Has l.free (λ x. has l.initial.free x || is_due l.group (take l.entry-index l.deferred) x)
+    × (l.initial.free.spare ≤ l.free.spare + count_by (λ (entry : Deferred). nat_le entry.group l.group) (take l.entry-index l.deferred))
