@@ -2,7 +2,9 @@
 
 #![tactic(auto)]
 
+mod block;
 mod encoded;
+mod shape;
 mod solve;
 
 pub use encoded::Encoded;

@@ -1,0 +1,39 @@
+use Rattle.std.proofs.Common.{◌≡◌, ℕ, ◌<◌, ◌≤◌, ◌+◌, ◌∙◌, List, length, arith, refl, ap, sym, subst, inl, inr}
+use Rattle.draid_parity.specs.Columns.{StripeValue, IsStripe, IsEncoded, column_at, zero_stripe}
+use Rattle.draid_block.specs.Columns.{Cut, data_column}
+use Rattle.draid_block.specs.Blocks.{IsBlock, block_value, bytes_of, cut_of, stripe_of, column_len}
+use Rattle.draid_block.proofs.Filling.{is_block, bytes_are}
+use Rattle.draid_block.proofs.Parts.{some_sector}
+use Rattle.draid_block.proofs.block.Encoded.of.Goals as goal
+
+shape : (c : goal.After-digest) → c.encode.new.self ≡ stripe_of (cut_of c.args.geometry.now) (length c.args.bytes.now) c.encode.new.self.columns
+shape c =
+    let columns : List (List ℕ) = c.encode.new.self.columns in
+    let filled : List (List ℕ) = c.fill_columns.new.stripe.columns in
+    c.encode.ensures.shape
+    ∙ ap (λ (s : StripeValue). record s { columns = columns }) (c.fill_columns.ensures.shape ∙ ap (λ (s : StripeValue). record s { columns = filled }) c.in_ok-stripe.ensures)
+    ∙ ap (λ (n : ℕ). record (zero_stripe c.args.geometry.now.spec.parity c.args.geometry.now.spec.ndata n) { columns = columns }) c.column_bytes.ensures
+
+columns_are : (c : goal.After-digest) (k : ℕ) → k < c.args.geometry.now.spec.ndata
+    → column_at c.encode.new.self.columns (c.args.geometry.now.spec.parity + k) ≡ data_column (cut_of c.args.geometry.now) c.args.bytes.now k
+columns_are c k below =
+    let parity : c.fill_columns.new.stripe.parity ≡ c.args.geometry.now.spec.parity =
+    ap (λ (s : StripeValue). s.parity) (c.fill_columns.ensures.shape) ∙ ap (λ (s : StripeValue). s.parity) c.in_ok-stripe.ensures in
+    c.encode.ensures.stays (c.args.geometry.now.spec.parity + k) (omega arith) ∙ c.fill_columns.ensures.sectors k below
+
+pub invariant_of-result : goal.invariant_of-result
+invariant_of-result c =
+    let g = c.requires.geometry in
+    let P = λ (s : StripeValue). IsBlock (block_value c.args.geometry.now.props.sector (length c.args.bytes.now) s) (length c.args.bytes.now) c.stripes_for.result c.digest.result in
+    subst P (sym (shape c))
+    (is_block (cut_of c.args.geometry.now) c.args.bytes.now c.encode.new.self.columns c.stripes_for.result c.digest.result
+    g.spec.some_data (some_sector c.args.geometry.now g) c.requires.some c.requires.short
+    (subst IsStripe (shape c) c.encode.ensures.stripe) (subst IsEncoded (shape c) c.encode.ensures.encoded)
+    (columns_are c) c.stripes_for.ensures c.digest.ensures)
+
+pub returns-clause-bytes : goal.returns-clause-bytes
+returns-clause-bytes c =
+    let g = c.requires.geometry in
+    let P = λ (s : StripeValue). (block_value c.args.geometry.now.props.sector (length c.args.bytes.now) s).bytes ≡ c.args.bytes.now in
+    subst P (sym (shape c))
+    (bytes_are (cut_of c.args.geometry.now) c.args.bytes.now c.encode.new.self.columns g.spec.some_data (some_sector c.args.geometry.now g) (columns_are c))

@@ -1,0 +1,126 @@
+//! A block over the stripes of any geometry.
+ghost use Rattle.std.specs.Prelude.{◌≡◌, ◌<◌, ◌≤◌, ◌+◌, ◌++◌, ℕ, IfOk, length, drop};
+ghost use Rattle.sha2.specs.Sha256.{sha256};
+ghost use Rattle.draid_spec.specs.Geometry.{IsGeometry};
+ghost use Rattle.draid_parity.specs.Columns.{column_at, zero_stripe};
+ghost use Rattle.draid_block.specs.Columns.{stripes_of, data_column};
+ghost use Rattle.draid_block.specs.Blocks.{cut_of, column_len, AreColumns};
+
+use crate::shape::{column_bytes, part_bytes, stripes_for};
+use draid_names::NoMemory;
+use draid_parity::Stripe;
+use draid_spec::Geometry;
+use sha2::{Digest, Sha256};
+use std::alloc::Global;
+use std::marker::Model;
+
+/// A block's bytes as the columns of its stripes: the parity columns first, and then the data.
+#[derive(Drop)]
+pub struct Encoded {
+    stripe: Stripe,
+    sector: u32,
+    stripes: u32,
+    len: u32,
+    digest: [u8; 32],
+}
+
+impl Model for Encoded {
+    ghost use Rattle.draid_block.specs.Blocks.{BlockValue, IsBlock, block_value};
+
+    ghost Value = { BlockValue };
+
+    ghost view = { λ e. block_value e.sector e.len e.stripe };
+
+    ghost invariant = { λ e. IsBlock (block_value e.sector e.len e.stripe) e.len e.stripes e.digest };
+}
+
+/// Writes the bytes over the front of a column.
+fn write_front(column: &mut [u8], bytes: &[u8])
+    requires { length bytes.now ≤ length column.old }
+    ensures after { column.new ≡ bytes.now ++ drop (length bytes.now) column.old }
+    ensures len { length column.new ≡ length column.old }
+{
+    column[..bytes.len()].copy_from_slice(bytes);
+}
+
+/// Writes the sectors of a block to the data columns of a stripe of zero bytes.
+fn fill_columns(stripe: &mut Stripe, geometry: &Geometry, bytes: &[u8])
+    requires geometry { IsGeometry geometry.now }
+    requires short { length bytes.now ≤ 131072 }
+    requires zero { stripe.old ≡ zero_stripe geometry.now.spec.parity geometry.now.spec.ndata
+        (column_len (cut_of geometry.now) (length bytes.now)) }
+    ensures shape { stripe.new ≡ record stripe.old { columns = stripe.new.columns } }
+    ensures sectors { (i : ℕ) → i < geometry.now.spec.ndata
+        → column_at stripe.new.columns (geometry.now.spec.parity + i)
+            ≡ data_column (cut_of geometry.now) bytes.now i }
+{
+    let len = bytes.len() as u32;
+    let mut rest = bytes;
+    for i in 0..geometry.spec.ndata {
+        let end = part_bytes(geometry, len, i).min(rest.len());
+        let (part, after) = rest.split_at(end);
+        write_front(stripe.column_mut(geometry.spec.parity + i), part);
+        rest = after;
+    }
+}
+
+impl Encoded {
+    /// Cuts a block of 1 to 131,072 bytes into the columns of its stripes.
+    pub fn of(alloc: Global, geometry: &Geometry, bytes: &[u8]) -> Result<Encoded, NoMemory>
+        requires geometry { IsGeometry geometry.now }
+        requires some { 1 ≤ length bytes.now }
+        requires short { length bytes.now ≤ 131072 }
+        ensures bytes { IfOk result (λ e. e.bytes ≡ bytes.now) }
+        ensures cut { IfOk result (λ e. e.cut ≡ cut_of geometry.now) }
+    {
+        let len = bytes.len() as u32;
+        let mut stripe = Stripe::new(
+            alloc,
+            geometry.spec.parity,
+            geometry.spec.ndata,
+            column_bytes(geometry, len),
+        )?;
+        fill_columns(&mut stripe, geometry, bytes);
+        stripe.encode();
+        Ok(Encoded {
+            stripe,
+            sector: geometry.props.sector,
+            stripes: stripes_for(geometry, len),
+            len,
+            digest: Sha256::digest(bytes),
+        })
+    }
+
+    /// The length of the block in bytes, 1 to 131,072.
+    pub fn len(&self) -> u32
+        ensures len { result ≡ length self.now.bytes }
+        ensures some { 1 ≤ result }
+        ensures short { result ≤ 131072 }
+    {
+        self.len
+    }
+
+    /// How many consecutive stripes the block takes.
+    pub fn stripes(&self) -> u32
+        ensures { result ≡ stripes_of self.now.cut (length self.now.bytes) }
+    {
+        self.stripes
+    }
+
+    /// The SHA-256 digest (FIPS 180-4) of the block's bytes.
+    pub fn digest(&self) -> [u8; 32]
+        ensures { result ≡ sha256 self.now.bytes }
+    {
+        self.digest
+    }
+
+    /// A column: parity columns P, Q and R first, as many as the parity says, and then the data.
+    pub fn column(&self, i: u32) -> &[u8]
+        requires { i < self.now.cut.parity + self.now.cut.ndata }
+        ensures column { result.now ≡ column_at self.now.columns i }
+        ensures columns { AreColumns self.now.cut self.now.bytes self.now.columns }
+        ensures len { length result.now ≡ column_len self.now.cut (length self.now.bytes) }
+    {
+        self.stripe.column(i)
+    }
+}
