@@ -5,4 +5,5 @@ pub mod Halves
 pub mod Parts
 pub mod Restores
 pub mod Solved
+pub mod Upto
 pub mod Worked

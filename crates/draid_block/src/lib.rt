@@ -5,6 +5,7 @@
 mod block;
 mod encoded;
 mod shape;
+mod hashing;
 mod solve;
 
 pub use encoded::Encoded;
