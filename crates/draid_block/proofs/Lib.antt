@@ -2,8 +2,10 @@ pub mod Cut
 pub mod Encodes
 pub mod Filling
 pub mod Halves
+pub mod Held
 pub mod Parts
 pub mod Restores
+pub mod Sets
 pub mod Solved
 pub mod Upto
 pub mod Worked

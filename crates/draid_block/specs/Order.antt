@@ -22,3 +22,11 @@ covers absent set = list_all (λ i. is_missing set i) absent
 -- of the sets of n columns that have all absent ones and at most as many members as there are parity columns: by size, then lexicographic
 abbrev pub solve_order : ℕ → ℕ → List ℕ → List (List ℕ)
 solve_order parity n absent = filter (λ set. covers absent set) (sets_below (suc parity) n)
+
+-- those of these sets that have all absent columns
+abbrev pub covering : List ℕ → List (List ℕ) → List (List ℕ)
+covering absent sets = filter (λ set. covers absent set) sets
+
+-- the sets that begin so, and have so many more of the n columns from this one on
+abbrev pub sets_after : List ℕ → ℕ → ℕ → ℕ → List (List ℕ)
+sets_after begun size first n = map (λ more. begun ++ more) (sets_from size first n)

@@ -4,6 +4,7 @@
 
 mod block;
 mod encoded;
+mod search;
 mod shape;
 mod hashing;
 mod solve;
