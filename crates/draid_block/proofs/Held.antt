@@ -39,7 +39,7 @@ present_more columns i x below at is =
     let e : get_or columns i None ≡ x = get_or_from_slice_get columns i x None (slice_get-get_or columns i x below ∙ ap Some (sym at)) in
     rw (add-one, e, is) (append-nil (absent_below columns i))
 
-absent_contains : (columns : Columns) (n i : ℕ) → i < n → get_or columns i None ≡ None → Contains (absent_below columns n) i
+pub absent_contains : (columns : Columns) (n i : ℕ) → i < n → get_or columns i None ≡ None → Contains (absent_below columns n) i
 unfolding absent_below
 absent_contains columns zero i below is = absurd (omega arith)
 absent_contains columns (suc n) i below is = elim (cases_lt i n) [
@@ -97,7 +97,7 @@ held_all cut fetched set n s past h = record {
 }
 
 -- ---- what a set restores
-read_at : (columns : Columns) (i : ℕ) (c : Vec ℕ Global) → slice_get columns i ≡ Some (Some c) → column_at (read_of columns) i ≡ c.items
+pub read_at : (columns : Columns) (i : ℕ) (c : Vec ℕ Global) → slice_get columns i ≡ Some (Some c) → column_at (read_of columns) i ≡ c.items
 read_at columns i c there =
     let below : i < length columns = slice_get_within columns i (Some c) there in
     get_or-map (λ (column : Option (Vec ℕ Global)). unwrap_or (option_map (λ (v : Vec ℕ Global). v.items) column) []) columns i None [] below

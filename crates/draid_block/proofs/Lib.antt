@@ -6,6 +6,9 @@ pub mod Held
 pub mod Parts
 pub mod Restores
 pub mod Sets
+pub mod Sizes
 pub mod Solved
+pub mod Solves
 pub mod Upto
+pub mod Whole
 pub mod Worked

@@ -8,7 +8,7 @@ use Rattle.sha2.specs.Sha256.{sha256}
 use Rattle.draid_parity.specs.Columns.{StripeValue, Completes, IsStripe, SolvesColumns, column_at}
 use Rattle.draid_block.specs.Columns.{Cut, stripes_of}
 use Rattle.draid_block.specs.Blocks.{AreColumns, IsContent, bytes_of, column_len, stripe_of}
-use Rattle.draid_block.specs.Order.{solve_order}
+use Rattle.draid_block.specs.Order.{solve_order, covering, sets_below}
 use Rattle.draid_block.specs.Solve.{bytes_at}
 use Rattle.draid_block.specs.declared.solve.Fetched.{Fetched}
 use Rattle.draid_block.specs.declared.solve.SolveFault.{SolveFault}
@@ -150,3 +150,13 @@ pub record IsBegun (cut : Cut) (begun : List ℕ) (size first : ℕ) : Type 0 wh
   pub ascending : IsStrictlyIncreasing begun
   pub below : All (λ i. i < first) begun
   pub in_range : first ≤ cut.parity + cut.ndata
+
+-- the sets of size 0 that are tried: the empty one, where no column is absent
+abbrev pub first_sets : Cut → Fetched → List (List ℕ)
+first_sets cut fetched = covering (absent_columns fetched.columns.items) (sets_below 1 (cut.parity + cut.ndata))
+
+-- what trying the columns as they were read answers
+abbrev pub TriesRead : Cut → Fetched → Result (Option (Vec ℕ Global)) AllocError → Type 0
+TriesRead cut fetched (Ok (Some bytes)) = IsFirst (GivesOf cut fetched bytes.items) (FailsOf cut fetched) (first_sets cut fetched)
+TriesRead cut fetched (Ok None) = All (FailsOf cut fetched) (first_sets cut fetched)
+TriesRead cut fetched (Err e) = Unit {0}

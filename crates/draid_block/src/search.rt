@@ -1,16 +1,16 @@
 //! The search for the columns of a block that are missing or wrong.
-ghost use Rattle.std.specs.Prelude.{◌≡◌, ◌≢◌, ◌≤◌, ◌<◌, ◌+◌, ◌-◌, ◌^◌, ℕ, [], ◌∷◌, Some, IfOk, OnOk, length, slice_get};
+ghost use Rattle.std.specs.Prelude.{◌≡◌, ◌≢◌, ◌≤◌, ◌<◌, ◌+◌, ◌-◌, ◌^◌, ℕ, [], ◌∷◌, All, Some, IfOk, OnOk, length, slice_get};
 ghost use Rattle.std.specs.declared.vec.Vec.{Vec};
 ghost use Rattle.std.specs.declared.alloc.Global.{Global};
 ghost use Rattle.draid_spec.specs.Geometry.{IsGeometry};
 ghost use Rattle.draid_parity.specs.Columns.{column_at};
 ghost use Rattle.draid_block.specs.Blocks.{cut_of};
 ghost use Rattle.draid_block.specs.Order.{covers, covering, sets_after};
-ghost use Rattle.draid_block.specs.Solving.{IsFetched, HoldsAll, IsCandidate, TriesSet, TriesSets, IsBegun, absent_columns};
+ghost use Rattle.draid_block.specs.Solving.{IsFetched, HoldsAll, IsCandidate, TriesSet, TriesSets, TriesRead, NoneOf, FailsOf, IsBegun, SolvesBlock, absent_columns, first_sets, sets_of};
 
-use crate::hashing::{stripe_bytes, stripe_digest};
+use crate::hashing::{read_bytes, read_digest, stripe_bytes, stripe_digest};
 use crate::shape::column_bytes;
-use crate::solve::Fetched;
+use crate::solve::{Fetched, SolveFault};
 use draid_parity::Stripe;
 use draid_spec::Geometry;
 use std::alloc::{AllocError, Global};
@@ -159,5 +159,96 @@ fn try_sets(
     match found {
         Some(bytes) => Ok(Some(bytes)),
         None => try_sets(alloc, geometry, fetched, absent, attempts, begun, size, first + 1),
+    }
+}
+
+/// Tries the columns as they were read, where none is absent.
+fn try_read(
+    alloc: Global,
+    geometry: &Geometry,
+    fetched: &Fetched,
+    absent: &[u32],
+) -> Result<Option<Vec<u8>>, AllocError>
+    requires geometry { IsGeometry geometry.now }
+    requires fetched { IsFetched (cut_of geometry.now) fetched.now }
+    requires absent { absent.now ≡ absent_columns fetched.now.columns.items }
+    ensures { TriesRead (cut_of geometry.now) fetched.now result }
+{
+    if !absent.is_empty() {
+        return Ok(None);
+    }
+    let len = fetched.pointer.len;
+    if read_digest(geometry, len, &fetched.columns) == fetched.pointer.digest {
+        return Ok(Some(read_bytes(alloc, geometry, len, &fetched.columns)?));
+    }
+    Ok(None)
+}
+
+/// The stripe before sets with members are tried.
+fn begin(
+    alloc: Global,
+    geometry: &Geometry,
+    fetched: &Fetched,
+    absent: &[u32],
+) -> Result<Attempts, AllocError>
+    requires geometry { IsGeometry geometry.now }
+    requires fetched { IsFetched (cut_of geometry.now) fetched.now }
+    requires absent { absent.now ≡ absent_columns fetched.now.columns.items }
+    requires failed { All (FailsOf (cut_of geometry.now) fetched.now) (first_sets (cut_of geometry.now) fetched.now) }
+    ensures { IfOk result (λ a. NoneOf (cut_of geometry.now) fetched.now (first_sets (cut_of geometry.now) fetched.now) a.stripe 0 a.tried) }
+{
+    let stripe = held_stripe(alloc, geometry, fetched)?;
+    Ok(Attempts {
+        stripe,
+        tried: if absent.is_empty() { 1 } else { 0 },
+    })
+}
+
+/// Tries the sets with members, by size, and those of one size in lexicographic order.
+fn search(
+    alloc: Global,
+    geometry: &Geometry,
+    fetched: &Fetched,
+    absent: &[u32],
+    attempts: &mut Attempts,
+) -> Result<Option<Vec<u8>>, AllocError>
+    requires geometry { IsGeometry geometry.now }
+    requires fetched { IsFetched (cut_of geometry.now) fetched.now }
+    requires absent { absent.now ≡ absent_columns fetched.now.columns.items }
+    requires none { NoneOf (cut_of geometry.now) fetched.now (first_sets (cut_of geometry.now) fetched.now) attempts.old.stripe 0 attempts.old.tried }
+    ensures { TriesSets (cut_of geometry.now) fetched.now (sets_of (cut_of geometry.now) fetched.now) attempts.new.stripe 0 attempts.new.tried result }
+{
+    let mut begun = Vec::with_capacity(alloc, geometry.spec.parity as usize)?;
+    for size in 1..geometry.spec.parity + 1 {
+        match try_sets(alloc, geometry, fetched, absent, attempts, &mut begun, size, 0)? {
+            Some(bytes) => return Ok(Some(bytes)),
+            None => {}
+        }
+    }
+    Ok(None)
+}
+
+/// The bytes of a block, known by the digest of its pointer: those that the first set of missing
+/// columns restores that has this digest, the sets taken by size and then in lexicographic order.
+pub fn solve_block(
+    alloc: Global,
+    geometry: &Geometry,
+    fetched: &Fetched,
+) -> Result<Vec<u8>, SolveFault>
+    requires geometry { IsGeometry geometry.now }
+    requires fetched { IsFetched (cut_of geometry.now) fetched.now }
+    ensures solves { SolvesBlock (cut_of geometry.now) fetched.now result }
+{
+    let absent = absent_of(alloc, &fetched.columns)?;
+    if let Some(bytes) = try_read(alloc, geometry, fetched, &absent)? {
+        return Ok(bytes);
+    }
+    let mut attempts = begin(alloc, geometry, fetched, &absent)?;
+    match search(alloc, geometry, fetched, &absent, &mut attempts)? {
+        Some(bytes) => Ok(bytes),
+        None => Err(SolveFault::Unreadable {
+            absent: absent.len() as u32,
+            tried: attempts.tried,
+        }),
     }
 }
