@@ -37,7 +37,7 @@ few_from (suc size) first (suc n) =
     let left = few_from size (first + 1) n in
     let right = few_from (suc size) (first + 1) n in
     let sum = length-append (map (λ (set : List ℕ). first ∷ set) (sets_from size (first + 1) n)) (sets_from (suc size) (first + 1) n) in
-    let same = length-map {A = List ℕ} {B = List ℕ} (λ (set : List ℕ). first ∷ set) (sets_from size (first + 1) n) in
+    let same = length-map (sets_from size (first + 1) n) (λ (set : List ℕ). first ∷ set) in
     omega (arith, left, right, sum, same, pow-suc 2 n)
 
 few_below : (k n : ℕ) → length (sets_below k n) ≤ k * 2 ^ n

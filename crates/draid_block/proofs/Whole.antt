@@ -59,7 +59,7 @@ same_columns (x ∷ xs) [] same each = absurd (omega arith)
 same_columns (x ∷ xs) (y ∷ ys) same each = ap₂ (λ c cs. c ∷ cs) (each 0) (same_columns xs ys (omega arith) (λ i. each (suc i)))
 
 length-read : (columns : Columns) → length (read_of columns) ≡ length columns
-length-read columns = length-map (λ (column : Option (Vec ℕ Global)). unwrap_or (option_map (λ (v : Vec ℕ Global). v.items) column) []) columns
+length-read columns = length-map columns (λ (column : Option (Vec ℕ Global)). unwrap_or (option_map (λ (v : Vec ℕ Global). v.items) column) [])
 
 pub read_stripe : (geometry : Geometry) (fetched : Fetched) → IsGeometry geometry → IsFetched (cut_of geometry) fetched → absent_columns fetched.columns.items ≡ []
     → IsStripe (stripe_of (cut_of geometry) fetched.pointer.len (read_of fetched.columns.items))

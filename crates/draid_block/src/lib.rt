@@ -4,6 +4,7 @@
 
 mod block;
 mod encoded;
+pub mod raid;
 mod search;
 mod shape;
 mod hashing;

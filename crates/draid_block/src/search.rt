@@ -6,7 +6,7 @@ ghost use Rattle.draid_spec.specs.Geometry.{IsGeometry};
 ghost use Rattle.draid_parity.specs.Columns.{column_at};
 ghost use Rattle.draid_block.specs.Blocks.{cut_of};
 ghost use Rattle.draid_block.specs.Order.{covers, covering, sets_after};
-ghost use Rattle.draid_block.specs.Solving.{IsFetched, HoldsAll, IsCandidate, TriesSet, TriesSets, TriesRead, NoneOf, FailsOf, IsBegun, SolvesBlock, absent_columns, first_sets, sets_of};
+ghost use Rattle.draid_block.specs.Solving.{IsFetched, HoldsAll, IsCandidate, TriesSet, TriesSets, TriesRead, NoneOf, FailsOf, IsBegun, SolvesBlock, AnswersDigest, absent_columns, first_sets, sets_of};
 
 use crate::hashing::{read_bytes, read_digest, stripe_bytes, stripe_digest};
 use crate::shape::column_bytes;
@@ -228,8 +228,35 @@ fn search(
     Ok(None)
 }
 
+/// Solves a block, of which these columns are absent.
+fn solve_absent(
+    alloc: Global,
+    geometry: &Geometry,
+    fetched: &Fetched,
+    absent: &[u32],
+) -> Result<Vec<u8>, SolveFault>
+    requires geometry { IsGeometry geometry.now }
+    requires fetched { IsFetched (cut_of geometry.now) fetched.now }
+    requires absent { absent.now ≡ absent_columns fetched.now.columns.items }
+    requires few { length absent.now ≤ 1000 }
+    ensures { SolvesBlock (cut_of geometry.now) fetched.now result }
+{
+    if let Some(bytes) = try_read(alloc, geometry, fetched, absent)? {
+        return Ok(bytes);
+    }
+    let mut attempts = begin(alloc, geometry, fetched, absent)?;
+    match search(alloc, geometry, fetched, absent, &mut attempts)? {
+        Some(bytes) => Ok(bytes),
+        None => Err(SolveFault::Unreadable {
+            absent: absent.len() as u32,
+            tried: attempts.tried,
+        }),
+    }
+}
+
 /// The bytes of a block, known by the digest of its pointer: those that the first set of missing
 /// columns restores that has this digest, the sets taken by size and then in lexicographic order.
+#[tactic(auto, using(crate::proofs::Solves::few_columns, crate::proofs::Solves::has_digest))]
 pub fn solve_block(
     alloc: Global,
     geometry: &Geometry,
@@ -238,17 +265,8 @@ pub fn solve_block(
     requires geometry { IsGeometry geometry.now }
     requires fetched { IsFetched (cut_of geometry.now) fetched.now }
     ensures solves { SolvesBlock (cut_of geometry.now) fetched.now result }
+    ensures digest { AnswersDigest fetched.now result }
 {
     let absent = absent_of(alloc, &fetched.columns)?;
-    if let Some(bytes) = try_read(alloc, geometry, fetched, &absent)? {
-        return Ok(bytes);
-    }
-    let mut attempts = begin(alloc, geometry, fetched, &absent)?;
-    match search(alloc, geometry, fetched, &absent, &mut attempts)? {
-        Some(bytes) => Ok(bytes),
-        None => Err(SolveFault::Unreadable {
-            absent: absent.len() as u32,
-            tried: attempts.tried,
-        }),
-    }
+    solve_absent(alloc, geometry, fetched, &absent)
 }

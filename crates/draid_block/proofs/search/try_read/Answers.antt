@@ -19,14 +19,14 @@ read_digest-requires-clause-long c =
 pub read_bytes-requires-clause-long : goal.read_bytes-requires-clause-long
 read_bytes-requires-clause-long c =
     let full : c.is_empty.result ≡ true = cc (c.if-not-is_empty.false) in
-    rw c.deref-2.ensures.value
+    rw c.deref-then-eq.ensures.value
     (read_long (cut_of c.args.geometry.now) c.args.fetched.now c.requires.fetched (sym c.requires.absent ∙ empty_is c.args.absent.now c.is_empty.result c.is_empty.ensures full))
 
 pub returns-then-eq : goal.returns-then-eq
 returns-then-eq c =
     let full : c.is_empty.result ≡ true = cc (c.if-not-is_empty.false) in
     let digest = rw c.deref.ensures.value at c.read_digest.ensures in
-    let bytes = rw c.deref-2.ensures.value at c.in_ok-read_bytes.ensures in
+    let bytes = rw c.deref-then-eq.ensures.value at c.in_ok-read_bytes.ensures in
     read_gives c.args.geometry.now c.args.fetched.now c.args.absent.now c.in_ok-read_bytes.field-0.items c.requires.geometry c.requires.fetched c.requires.absent
     (empty_is c.args.absent.now c.is_empty.result c.is_empty.ensures full) bytes (ap sha256 bytes ∙ sym digest ∙ same_text _ _ c.if-eq.ensures)
 
