@@ -1,0 +1,48 @@
+use Rattle.std.proofs.Common.{arith, refl, ◌∙◌, ◌≡◌, ◌≤◌, ◌<◌, sym, ap, ◌==◌, ◌&&◌, ℕ, Bool, true, false, List, Option, Some, None, Result, Ok, Err, MatchOption, OnOk, OnErr, IsTrue, option_map, nat_lt, replicate, if◌then◌else◌}
+use Rattle.std.proofs.lemmas.Bool.Decides.{nat_tests}
+use Rattle.draid_rack.specs.Rack.{Told, Lands, OnTold, IsOrderly, adds, damages, drops, flushes, lands, last_clock, put, put_leaf, settles, tick}
+use Rattle.draid_rack.specs.Moments.{Stays, Goes, Between, Keeps, KeptOthers, Spares, SparesTold, OnBoth}
+
+pub goes_on : (x y z : Told) → Goes x y → Goes y z → Goes x z
+goes_on x y z a b = record {
+  later = omega (arith, a.later, b.later);
+  same = λ l s bytes reads early low.
+    let q = b.same l s bytes reads (omega (arith, early, a.later)) low in
+    let p = a.same l s bytes q.reads (rw q.since early) (rw q.since low) in
+    record { reads = p.reads; soft = λ h. p.soft (q.soft h); harmed = λ h. p.harmed (q.harmed h); since = p.since ∙ q.since } }
+
+pub spares_self : (named : ℕ → ℕ → Bool) (x : Told) → Spares named x x
+spares_self named x = record { later = omega arith; reads = λ l s out. refl; since = λ l s out. refl; soft = λ l s out h. h; harmed = λ l s out h. h }
+
+pub spares_on : (named : ℕ → ℕ → Bool) (x y z : Told) → Spares named x y → Spares named y z → Spares named x z
+spares_on named x y z a b = record {
+  later = omega (arith, a.later, b.later);
+  reads = λ l s out. b.reads l s out ∙ a.reads l s out;
+  since = λ l s out. b.since l s out ∙ a.since l s out;
+  soft = λ l s out h. a.soft l s out (b.soft l s out h);
+  harmed = λ l s out h. a.harmed l s out (b.harmed l s out h) }
+
+moment : (x m y : Told) (l s : ℕ) (bytes : List ℕ) → x.since l s ≤ x.clock → y.since l s ≡ x.since l s → y.reads l s ≡ Some bytes → x.clock < last_clock → Between x m y → Keeps x m l s bytes
+moment x m y l s bytes early same reads low between =
+  let q = between.before.same l s bytes reads (omega (arith, early, same, between.after.later)) (omega (arith, early, same)) in
+  let p = between.after.same l s bytes q.reads (omega (arith, early, same, q.since)) (omega (arith, early, same, q.since)) in
+  record { reads = q.reads; soft = p.soft; harmed = p.harmed }
+
+pub moments : (named : ℕ → ℕ → Bool) (x y : Told) → IsOrderly x → Spares named x y → KeptOthers named x y
+moments named x y orderly spares low m between l s bytes out reads = moment x m y l s bytes (orderly l s) (spares.since l s out) (spares.reads l s out ∙ reads) low between
+
+pub told_on : (named : ℕ → ℕ → Bool) (o p q : Option Told) → SparesTold named o p → SparesTold named p q → SparesTold named o q
+told_on named None None q a b = b
+told_on named None (Some y) q a b = absurd (cc)
+told_on named (Some x) None q a b = absurd a
+told_on named (Some x) (Some y) None a b = absurd b
+told_on named (Some x) (Some y) (Some z) a b = spares_on named x y z a b
+
+pub told_same : (named : ℕ → ℕ → Bool) (o p : Option Told) → p ≡ o → SparesTold named o p
+told_same named None p is = is
+told_same named (Some x) p is = rw is (spares_self named x)
+
+pub kept : (named : ℕ → ℕ → Bool) (o p : Option Told) → OnTold o IsOrderly → SparesTold named o p → OnBoth o p (KeptOthers named)
+kept named None p orderly spares = tt
+kept named (Some x) None orderly spares = absurd spares
+kept named (Some x) (Some y) orderly spares = moments named x y orderly spares

@@ -1,0 +1,7 @@
+use Rattle.draid_rack.proofs.Blanks.{blank_more, blanks_up_to, blanks_whole, none_more}
+use Rattle.draid_rack.proofs.memory.MemoryRack.new.Goals as goal
+
+pub loop-leaf-preserved : goal.loop-leaf-preserved
+loop-leaf-preserved c = record {
+  there = blank_more _ _ _ _ _ _ c.loop-leaf.invariant.there c.in_ok-new.ensures c.in_ok-insert_leaf.ensures.ok;
+  no_other = none_more _ _ _ _ c.loop-leaf.invariant.no_other c.in_ok-insert_leaf.ensures.ok }
