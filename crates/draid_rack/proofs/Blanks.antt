@@ -1,4 +1,4 @@
-use Rattle.std.proofs.Common.{arith, refl, ◌∙◌, ◌≡◌, ◌<◌, ◌≤◌, ◌+◌, ap, sym, ◌==◌, ℕ, Bool, true, false, List, Option, Some, None, length, nat_lt, replicate, unwrap_or, if◌then◌else◌}
+use Rattle.std.proofs.Common.{inl, inr, arith, refl, ◌∙◌, ◌≡◌, ◌<◌, ◌≤◌, ◌+◌, ap, sym, ◌==◌, ℕ, Bool, true, false, List, Option, Some, None, length, nat_lt, replicate, unwrap_or, if◌then◌else◌}
 use Rattle.std.proofs.lemmas.Bool.Decides.{nat_tests}
 use Rattle.std.proofs.lemmas.Bool.{cases_lt}
 use Rattle.std.proofs.lemmas.List.{length-replicate}
@@ -34,7 +34,7 @@ zero_if : (b : Bool) → (if b then 0 else 0) ≤ 0
 zero_if true = omega arith
 zero_if false = omega arith
 
-module {rows : BTreeMap ℕ Leaf} {leaves n k : ℕ} (there : (m : ℕ) → m < leaves → IsBlank n k 0 (leaf_at rows m)) (none : (m : ℕ) → leaves ≤ m → leaf_at rows m ≡ None) where
+module _ (rows : BTreeMap ℕ Leaf) (leaves n k : ℕ) (there : (m : ℕ) → m < leaves → IsBlank n k 0 (leaf_at rows m)) (none : (m : ℕ) → leaves ≤ m → leaf_at rows m ≡ None) where
   pub blanks_whole : AreWhole k rows
   blanks_whole l s y is = elim (cases_lt l leaves) [
     | inl low ↦ rw (sym (some_of (nat_lt s n) (replicate k 0) y (sym ((there l low).reads s) ∙ is))) (length-replicate k 0)

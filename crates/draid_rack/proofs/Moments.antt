@@ -46,3 +46,41 @@ pub kept : (named : ℕ → ℕ → Bool) (o p : Option Told) → OnTold o IsOrd
 kept named None p orderly spares = tt
 kept named (Some x) None orderly spares = absurd spares
 kept named (Some x) (Some y) orderly spares = moments named x y orderly spares
+
+pub spares_lands : (named : ℕ → ℕ → Bool) (l s : ℕ) (bytes : List ℕ) (harm : Bool) (x : Told) → named l s ≡ true → Spares named x (lands l s bytes harm x)
+spares_lands named l s bytes harm x is = record {
+  later = grind (arith, nat_tests);
+  reads = λ m q out. grind (arith, nat_tests);
+  since = λ m q out. grind (arith, nat_tests);
+  soft = λ m q out. grind (arith, nat_tests);
+  harmed = λ m q out. grind (arith, nat_tests) }
+
+pub spares_flushes : (named : ℕ → ℕ → Bool) (l : ℕ) (x : Told) → Spares named x (flushes l x)
+spares_flushes named l x = record {
+  later = grind (arith, nat_tests);
+  reads = λ m q out. refl;
+  since = λ m q out. refl;
+  soft = λ m q out. grind (arith, nat_tests);
+  harmed = λ m q out h. h }
+
+pub told_lands : {E : Type 0} (named : ℕ → ℕ → Bool) (l s : ℕ) (bytes : List ℕ) (harm : Told → Bool) (r : Result Unit E) (o p : Option Told) → named l s ≡ true → Lands l s bytes harm r o p → SparesTold named o p
+told_lands named l s bytes harm r None p is w = w.told
+told_lands named l s bytes harm r (Some x) p is w = rw w.told (spares_lands named l s w.stands (harm x) x is)
+
+pub told_flushed : {E : Type 0} (named : ℕ → ℕ → Bool) (l : ℕ) (r : Result Unit E) (o p : Option Told) → OnOk r (p ≡ option_map (flushes l) o) → OnErr r (p ≡ o) → SparesTold named o p
+told_flushed named l (Ok u) None p ok err = ok
+told_flushed named l (Ok u) (Some x) p ok err = rw ok (spares_flushes named l x)
+told_flushed named l (Err e) o p ok err = told_same named o p err
+
+goes_later : (c : ℕ) → c ≤ tick c
+goes_later c = grind (arith, nat_tests)
+
+lands_stays : (l s : ℕ) (bytes : List ℕ) (harm : Bool) (x : Told) (m q : ℕ) (b : Bool) (now : List ℕ) → (m == l && q == s) ≡ b → (lands l s bytes harm x).reads m q ≡ Some now → (lands l s bytes harm x).since m q ≤ x.clock → (lands l s bytes harm x).since m q < last_clock → Stays x (lands l s bytes harm x) m q now
+lands_stays l s bytes harm x m q true now is reads early low = absurd (grind (arith, nat_tests))
+lands_stays l s bytes harm x m q false now is reads early low = record { reads = rw is reads; soft = rw is (λ h. h); harmed = rw is (λ h. h); since = rw is refl }
+
+-- a write is a change that time may bring
+pub goes_lands : (l s : ℕ) (bytes : List ℕ) (harm : Bool) (x : Told) → Goes x (lands l s bytes harm x)
+goes_lands l s bytes harm x = record {
+  later = goes_later x.clock;
+  same = λ m q now reads early low. lands_stays l s bytes harm x m q (m == l && q == s) now refl reads early low }

@@ -25,7 +25,7 @@ shape_same bytes old new same = λ j. record { bytes = bytes; leaves = λ l. sam
 put_same : {A : Type 0} (l s : ℕ) (v : A) (f : ℕ → ℕ → A) → f l s ≡ v → (m q : ℕ) → f m q ≡ put l s v f m q
 put_same l s v f here m q = grind (arith, nat_tests)
 
-module {l s clock t : ℕ} {harm : Bool} {old new : BTreeMap ℕ Leaf} (soft : (m q : ℕ) → soft_in (leaf_at new m) q ≡ put l s true (λ a b. soft_in (leaf_at old a) b) m q) (harmed : (m q : ℕ) → harmed_in (leaf_at new m) q ≡ put l s harm (λ a b. harmed_in (leaf_at old a) b) m q) (since : (m q : ℕ) → since_in (leaf_at new m) q ≡ put l s t (λ a b. since_in (leaf_at old a) b) m q) (ticks : t ≡ tick clock) where
+module _ (l s clock t : ℕ) (harm : Bool) (old new : BTreeMap ℕ Leaf) (soft : (m q : ℕ) → soft_in (leaf_at new m) q ≡ put l s true (λ a b. soft_in (leaf_at old a) b) m q) (harmed : (m q : ℕ) → harmed_in (leaf_at new m) q ≡ put l s harm (λ a b. harmed_in (leaf_at old a) b) m q) (since : (m q : ℕ) → since_in (leaf_at new m) q ≡ put l s t (λ a b. since_in (leaf_at old a) b) m q) (ticks : t ≡ tick clock) where
   pub landed : {E : Type 0} (bytes : List ℕ) → ((m q : ℕ) → reads_in (leaf_at new m) q ≡ put l s (Some bytes) (λ a b. reads_in (leaf_at old a) b) m q) → Lands {E = E} l s bytes (λ _. harm) (Ok tt) (Some (told_by old clock)) (Some (told_by new t))
   landed bytes reads = record {
     stands = bytes;
@@ -71,7 +71,7 @@ chosen : {A : Type 0} (view : Option Leaf → A) (b : Bool) (f o : Option Leaf) 
 chosen view true f o v is = is
 chosen view false f o v is = refl
 
-module {bytes l n clock t : ℕ} {f : Leaf} {old new : BTreeMap ℕ Leaf} (blank : IsBlank n bytes t (Some f)) (put_in : (m : ℕ) → leaf_at new m ≡ (if m == l then Some f else leaf_at old m)) where
+module _ (bytes l n clock t : ℕ) (f : Leaf) (old new : BTreeMap ℕ Leaf) (blank : IsBlank n bytes t (Some f)) (put_in : (m : ℕ) → leaf_at new m ≡ (if m == l then Some f else leaf_at old m)) where
   view_of : {A : Type 0} (view : Option Leaf → A) (v : A) → view (Some f) ≡ v → (m : ℕ) → view (leaf_at new m) ≡ (if m == l then v else view (leaf_at old m))
   view_of view v is m = ap view (put_in m) ∙ chosen view (m == l) (Some f) (leaf_at old m) v is
 

@@ -7,6 +7,8 @@ mod calls;
 mod leaves;
 mod memory;
 mod rack;
+#[cfg(test)]
+mod tests;
 
 pub use memory::MemoryRack;
 pub use rack::{AddFault, At, Rack};
