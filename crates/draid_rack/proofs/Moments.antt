@@ -77,7 +77,7 @@ goes_later c = grind (arith, nat_tests)
 
 lands_stays : (l s : ℕ) (bytes : List ℕ) (harm : Bool) (x : Told) (m q : ℕ) (b : Bool) (now : List ℕ) → (m == l && q == s) ≡ b → (lands l s bytes harm x).reads m q ≡ Some now → (lands l s bytes harm x).since m q ≤ x.clock → (lands l s bytes harm x).since m q < last_clock → Stays x (lands l s bytes harm x) m q now
 lands_stays l s bytes harm x m q true now is reads early low = absurd (grind (arith, nat_tests))
-lands_stays l s bytes harm x m q false now is reads early low = record { reads = rw is reads; soft = rw is (λ h. h); harmed = rw is (λ h. h); since = rw is refl }
+lands_stays l s bytes harm x m q false now is reads early low = record { reads = grind (arith, nat_tests); soft = rw is (λ h. h); harmed = rw is (λ h. h); since = rw is refl }
 
 -- a write is a change that time may bring
 pub goes_lands : (l s : ℕ) (bytes : List ℕ) (harm : Bool) (x : Told) → Goes x (lands l s bytes harm x)

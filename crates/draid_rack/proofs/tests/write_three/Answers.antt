@@ -3,7 +3,7 @@ use Rattle.std.proofs.lemmas.Bool.Decides.{nat_tests}
 use Rattle.draid_rack.proofs.Moments.{kept, told_flushed, told_lands, told_on}
 use Rattle.draid_rack.proofs.tests.write_three.Goals as goal
 
-named : ℕ → ℕ → ℕ → Bool
+abbrev named : ℕ → ℕ → ℕ → Bool
 named leaf l s = l == leaf && nat_lt s 3
 
 is_named : (leaf s : ℕ) → s < 3 → named leaf leaf s ≡ true
