@@ -16,8 +16,8 @@ blank_more rows new leaf n k f there first put_in m low = rw (put_in m) (blank_i
 
 pub none_more : (rows new : BTreeMap ℕ Leaf) (leaf : ℕ) (f : Leaf) → ((m : ℕ) → leaf ≤ m → leaf_at rows m ≡ None) → ((m : ℕ) → leaf_at new m ≡ (if m == leaf then Some f else leaf_at rows m)) → (m : ℕ) → leaf + 1 ≤ m → leaf_at new m ≡ None
 none_more rows new leaf f none put_in m high =
-  let e : (m == leaf) ≡ false = grind (arith, nat_tests) in
-  put_in m ∙ rw e (none m (omega arith))
+    let e : (m == leaf) ≡ false = grind (arith, nat_tests) in
+    put_in m ∙ rw e (none m (omega arith))
 
 some_of : (b : Bool) (x y : List ℕ) → (if b then Some x else None) ≡ Some y → x ≡ y
 some_of true x y is = ap (λ o. unwrap_or o x) is
@@ -38,9 +38,11 @@ module _ (rows : BTreeMap ℕ Leaf) (leaves n k : ℕ) (there : (m : ℕ) → m 
   pub blanks_whole : AreWhole k rows
   blanks_whole l s y is = elim (cases_lt l leaves) [
     | inl low ↦ rw (sym (some_of (nat_lt s n) (replicate k 0) y (sym ((there l low).reads s) ∙ is))) (length-replicate k 0)
-    | inr high ↦ none_whole y (leaf_at rows l) s k (none l high) is ]
+    | inr high ↦ none_whole y (leaf_at rows l) s k (none l high) is
+  ]
 
   pub blanks_up_to : AreUpTo 0 rows
   blanks_up_to l s = elim (cases_lt l leaves) [
     | inl low ↦ rw ((there l low).since s) (zero_if (nat_lt s n))
-    | inr high ↦ none_since (leaf_at rows l) s (none l high) ]
+    | inr high ↦ none_since (leaf_at rows l) s (none l high)
+  ]

@@ -7,9 +7,10 @@ pub goes_on : (x y z : Told) → Goes x y → Goes y z → Goes x z
 goes_on x y z a b = record {
   later = omega (arith, a.later, b.later);
   same = λ l s bytes reads early low.
-    let q = b.same l s bytes reads (omega (arith, early, a.later)) low in
-    let p = a.same l s bytes q.reads (rw q.since early) (rw q.since low) in
-    record { reads = p.reads; soft = λ h. p.soft (q.soft h); harmed = λ h. p.harmed (q.harmed h); since = p.since ∙ q.since } }
+      let q = b.same l s bytes reads (omega (arith, early, a.later)) low in
+      let p = a.same l s bytes q.reads (rw q.since early) (rw q.since low) in
+      record { reads = p.reads; soft = λ h. p.soft (q.soft h); harmed = λ h. p.harmed (q.harmed h); since = p.since ∙ q.since };
+}
 
 pub spares_self : (named : ℕ → ℕ → Bool) (x : Told) → Spares named x x
 spares_self named x = record { later = omega arith; reads = λ l s out. refl; since = λ l s out. refl; soft = λ l s out h. h; harmed = λ l s out h. h }
@@ -20,13 +21,14 @@ spares_on named x y z a b = record {
   reads = λ l s out. b.reads l s out ∙ a.reads l s out;
   since = λ l s out. b.since l s out ∙ a.since l s out;
   soft = λ l s out h. a.soft l s out (b.soft l s out h);
-  harmed = λ l s out h. a.harmed l s out (b.harmed l s out h) }
+  harmed = λ l s out h. a.harmed l s out (b.harmed l s out h);
+}
 
 moment : (x m y : Told) (l s : ℕ) (bytes : List ℕ) → x.since l s ≤ x.clock → y.since l s ≡ x.since l s → y.reads l s ≡ Some bytes → x.clock < last_clock → Between x m y → Keeps x m l s bytes
 moment x m y l s bytes early same reads low between =
-  let q = between.before.same l s bytes reads (omega (arith, early, same, between.after.later)) (omega (arith, early, same)) in
-  let p = between.after.same l s bytes q.reads (omega (arith, early, same, q.since)) (omega (arith, early, same, q.since)) in
-  record { reads = q.reads; soft = p.soft; harmed = p.harmed }
+    let q = between.before.same l s bytes reads (omega (arith, early, same, between.after.later)) (omega (arith, early, same)) in
+    let p = between.after.same l s bytes q.reads (omega (arith, early, same, q.since)) (omega (arith, early, same, q.since)) in
+    record { reads = q.reads; soft = p.soft; harmed = p.harmed }
 
 pub moments : (named : ℕ → ℕ → Bool) (x y : Told) → IsOrderly x → Spares named x y → KeptOthers named x y
 moments named x y orderly spares low m between l s bytes out reads = moment x m y l s bytes (orderly l s) (spares.since l s out) (spares.reads l s out ∙ reads) low between
@@ -53,7 +55,8 @@ spares_lands named l s bytes harm x is = record {
   reads = λ m q out. grind (arith, nat_tests);
   since = λ m q out. grind (arith, nat_tests);
   soft = λ m q out. grind (arith, nat_tests);
-  harmed = λ m q out. grind (arith, nat_tests) }
+  harmed = λ m q out. grind (arith, nat_tests);
+}
 
 pub spares_flushes : (named : ℕ → ℕ → Bool) (l : ℕ) (x : Told) → Spares named x (flushes l x)
 spares_flushes named l x = record {
@@ -61,7 +64,8 @@ spares_flushes named l x = record {
   reads = λ m q out. refl;
   since = λ m q out. refl;
   soft = λ m q out. grind (arith, nat_tests);
-  harmed = λ m q out h. h }
+  harmed = λ m q out h. h;
+}
 
 pub told_lands : {E : Type 0} (named : ℕ → ℕ → Bool) (l s : ℕ) (bytes : List ℕ) (harm : Told → Bool) (r : Result Unit E) (o p : Option Told) → named l s ≡ true → Lands l s bytes harm r o p → SparesTold named o p
 told_lands named l s bytes harm r None p is w = w.told
@@ -83,4 +87,5 @@ lands_stays l s bytes harm x m q false now is reads early low = record { reads =
 pub goes_lands : (l s : ℕ) (bytes : List ℕ) (harm : Bool) (x : Told) → Goes x (lands l s bytes harm x)
 goes_lands l s bytes harm x = record {
   later = goes_later x.clock;
-  same = λ m q now reads early low. lands_stays l s bytes harm x m q (m == l && q == s) now refl reads early low }
+  same = λ m q now reads early low. lands_stays l s bytes harm x m q (m == l && q == s) now refl reads early low;
+}

@@ -35,21 +35,25 @@ module _ (l s clock t : ℕ) (harm : Bool) (old new : BTreeMap ℕ Leaf) (soft :
       soft = λ m q. soft m q j;
       harmed = λ m q. harmed m q j;
       since = λ m q. (since m q ∙ ap (λ v. put l s v (λ a b. since_in (leaf_at old a) b) m q) ticks) j;
-      clock = ticks j }) }
+      clock = ticks j;
+    });
+  }
 
   -- a sector that is left as it was reads as if it were written with what it read
   pub failed : {E : Type 0} (e : E) (bytes : List ℕ) → ((m q : ℕ) → reads_in (leaf_at new m) q ≡ reads_in (leaf_at old m) q) → MatchOption (sectors_in (leaf_at old l)) ⊥ (λ k. s < k) → Lands l s bytes (λ _. harm) (Err e) (Some (told_by old clock)) (Some (told_by new t))
   failed e bytes reads there =
-    let was = has_in (leaf_at old l) s there in
-    record {
-      stands = was.0;
-      whole = tt;
-      told = λ j. Some (record {
-        reads = λ m q. (reads m q ∙ put_same l s (Some was.0) (λ a b. reads_in (leaf_at old a) b) was.1 m q) j;
-        soft = λ m q. soft m q j;
-        harmed = λ m q. harmed m q j;
-        since = λ m q. (since m q ∙ ap (λ v. put l s v (λ a b. since_in (leaf_at old a) b) m q) ticks) j;
-        clock = ticks j }) }
+      let was = has_in (leaf_at old l) s there in
+      record {
+        stands = was.0;
+        whole = tt;
+        told = λ j. Some (record {
+          reads = λ m q. (reads m q ∙ put_same l s (Some was.0) (λ a b. reads_in (leaf_at old a) b) was.1 m q) j;
+          soft = λ m q. soft m q j;
+          harmed = λ m q. harmed m q j;
+          since = λ m q. (since m q ∙ ap (λ v. put l s v (λ a b. since_in (leaf_at old a) b) m q) ticks) j;
+          clock = ticks j;
+        });
+      }
 
 pub damaged : (l s clock t : ℕ) (old new : BTreeMap ℕ Leaf) → ((m q : ℕ) → reads_in (leaf_at new m) q ≡ put l s (complement (reads_in (leaf_at old l) s)) (λ a b. reads_in (leaf_at old a) b) m q) → ((m q : ℕ) → soft_in (leaf_at new m) q ≡ soft_in (leaf_at old m) q) → ((m q : ℕ) → harmed_in (leaf_at new m) q ≡ put l s true (λ a b. harmed_in (leaf_at old a) b) m q) → ((m q : ℕ) → since_in (leaf_at new m) q ≡ put l s t (λ a b. since_in (leaf_at old a) b) m q) → t ≡ tick clock → Some (told_by new t) ≡ Some (damages l s (told_by old clock))
 damaged l s clock t old new reads soft harmed since ticks = λ j. Some (record {
@@ -57,7 +61,8 @@ damaged l s clock t old new reads soft harmed since ticks = λ j. Some (record {
   soft = λ m q. soft m q j;
   harmed = λ m q. harmed m q j;
   since = λ m q. (since m q ∙ ap (λ v. put l s v (λ a b. since_in (leaf_at old a) b) m q) ticks) j;
-  clock = ticks j })
+  clock = ticks j;
+})
 
 pub flushed : (l clock t : ℕ) (old new : BTreeMap ℕ Leaf) → ((m q : ℕ) → reads_in (leaf_at new m) q ≡ reads_in (leaf_at old m) q) → ((m q : ℕ) → soft_in (leaf_at new m) q ≡ put_leaf l false (λ a b. soft_in (leaf_at old a) b) m q) → ((m q : ℕ) → harmed_in (leaf_at new m) q ≡ harmed_in (leaf_at old m) q) → ((m q : ℕ) → since_in (leaf_at new m) q ≡ since_in (leaf_at old m) q) → t ≡ tick clock → Some (told_by new t) ≡ Some (flushes l (told_by old clock))
 flushed l clock t old new reads soft harmed since ticks = λ j. Some (record {
@@ -65,7 +70,8 @@ flushed l clock t old new reads soft harmed since ticks = λ j. Some (record {
   soft = λ m q. soft m q j;
   harmed = λ m q. harmed m q j;
   since = λ m q. since m q j;
-  clock = ticks j })
+  clock = ticks j;
+})
 
 chosen : {A : Type 0} (view : Option Leaf → A) (b : Bool) (f o : Option Leaf) (v : A) → view f ≡ v → view (if b then f else o) ≡ (if b then v else view o)
 chosen view true f o v is = is
@@ -81,7 +87,8 @@ module _ (bytes l n clock t : ℕ) (f : Leaf) (old new : BTreeMap ℕ Leaf) (bla
     soft = λ m q. view_of (λ o. soft_in o q) _ (blank.soft q) m j;
     harmed = λ m q. view_of (λ o. harmed_in o q) _ (blank.harmed q) m j;
     since = λ m q. view_of (λ o. since_in o q) _ (blank.since q ∙ ap (λ v. if nat_lt q n then v else 0) ticks) m j;
-    clock = ticks j })
+    clock = ticks j;
+  })
 
   pub shape_added : shape_by bytes new ≡ with_leaf l (Some n) (shape_by bytes old)
   shape_added = λ j. record { bytes = bytes; leaves = λ m. view_of (λ o. sectors_in o) _ blank.count m j }

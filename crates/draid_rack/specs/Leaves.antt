@@ -52,7 +52,8 @@ told_by leaves clock = record {
   soft = λ l s. soft_in (leaf_at leaves l) s;
   harmed = λ l s. harmed_in (leaf_at leaves l) s;
   since = λ l s. since_in (leaf_at leaves l) s;
-  clock = clock }
+  clock = clock;
+}
 
 pub record IsBlankSector (bytes clock : ℕ) (sector : Sector) : Type 0 where
   pub zeros : sector.bytes.items ≡ replicate bytes 0

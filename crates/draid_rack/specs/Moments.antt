@@ -13,7 +13,7 @@ pub record Stays (x y : Told) (l s : ℕ) (bytes : List ℕ) : Type 0 where
 pub record Goes (x y : Told) : Type 0 where
   pub later : x.clock ≤ y.clock
   pub same : (l s : ℕ) (bytes : List ℕ) → y.reads l s ≡ Some bytes
-    → y.since l s ≤ x.clock → y.since l s < last_clock → Stays x y l s bytes
+      → y.since l s ≤ x.clock → y.since l s < last_clock → Stays x y l s bytes
 
 -- what the rack may have told at a moment between two
 pub record Between (x m y : Told) : Type 0 where

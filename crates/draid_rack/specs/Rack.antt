@@ -23,7 +23,8 @@ pub record HasJust (shape : Shape) (leaves sectors bytes : ℕ) : Type 0 where
 abbrev pub with_leaf : ℕ → Option ℕ → Shape → Shape
 with_leaf l n shape = record {
   bytes = shape.bytes;
-  leaves = λ m. if m == l then n else shape.leaves m }
+  leaves = λ m. if m == l then n else shape.leaves m;
+}
 
 -- What a rack tells, by leaf and sector: what is read there (None: the sector isn't there), what is soft
 -- (written since the last flush), what is harmed, and the clock at the sector's last change; and the
@@ -57,7 +58,8 @@ lands l s bytes harm x = record {
   soft = put l s true x.soft;
   harmed = put l s harm x.harmed;
   since = put l s (tick x.clock) x.since;
-  clock = tick x.clock }
+  clock = tick x.clock;
+}
 
 abbrev pub flushes : ℕ → Told → Told
 flushes l x = record {
@@ -65,7 +67,8 @@ flushes l x = record {
   soft = put_leaf l false x.soft;
   harmed = x.harmed;
   since = x.since;
-  clock = tick x.clock }
+  clock = tick x.clock;
+}
 
 -- the harm of a sector ended
 abbrev pub settles : ℕ → ℕ → Told → Told
@@ -74,7 +77,8 @@ settles l s x = record {
   soft = x.soft;
   harmed = put l s false x.harmed;
   since = x.since;
-  clock = tick x.clock }
+  clock = tick x.clock;
+}
 
 -- each byte is the complement of what it was
 abbrev pub complement : Option (List ℕ) → Option (List ℕ)
@@ -87,7 +91,8 @@ damages l s x = record {
   soft = x.soft;
   harmed = put l s true x.harmed;
   since = put l s (tick x.clock) x.since;
-  clock = tick x.clock }
+  clock = tick x.clock;
+}
 
 -- a leaf came, of so many sectors of zeros
 abbrev pub adds : ℕ → ℕ → ℕ → Told → Told
@@ -96,7 +101,8 @@ adds bytes l sectors x = record {
   soft = put_leaf l false x.soft;
   harmed = put_leaf l false x.harmed;
   since = λ m q. if m == l then (if nat_lt q sectors then tick x.clock else 0) else x.since m q;
-  clock = tick x.clock }
+  clock = tick x.clock;
+}
 
 -- a leaf went
 abbrev pub drops : ℕ → Told → Told
@@ -105,7 +111,8 @@ drops l x = record {
   soft = put_leaf l false x.soft;
   harmed = put_leaf l false x.harmed;
   since = put_leaf l 0 x.since;
-  clock = tick x.clock }
+  clock = tick x.clock;
+}
 
 -- some source is harmed
 abbrev pub taints : List At → Told → Bool

@@ -55,7 +55,12 @@ impl Sector {
 }
 
 impl Leaf {
-    pub(crate) fn zeros(alloc: Global, sectors: u64, bytes: u32, clock: u64) -> Result<Leaf, NoMemory>
+    pub(crate) fn zeros(
+        alloc: Global,
+        sectors: u64,
+        bytes: u32,
+        clock: u64,
+    ) -> Result<Leaf, NoMemory>
         ensures { IfOk result (λ leaf. IsBlank sectors bytes clock (Some leaf)) }
     {
         let mut rows = Vec::new(alloc);
@@ -166,7 +171,13 @@ pub(crate) fn read_sector(leaves: &BTreeMap<u64, Leaf>, leaf: u64, sector: u64, 
 }
 
 /// A write of a sector that leaves its bytes as they were, and counts a fault.
-pub(crate) fn fail_sector(leaves: &mut BTreeMap<u64, Leaf>, leaf: u64, sector: u64, harmed: bool, clock: u64)
+pub(crate) fn fail_sector(
+    leaves: &mut BTreeMap<u64, Leaf>,
+    leaf: u64,
+    sector: u64,
+    harmed: bool,
+    clock: u64,
+)
     requires there { IsSome (reads_in (leaf_at leaves.old leaf) sector) }
     ensures reads { (l s : ℕ) → reads_in (leaf_at leaves.new l) s ≡ reads_in (leaf_at leaves.old l) s }
     ensures soft { (l s : ℕ) → soft_in (leaf_at leaves.new l) s ≡ put leaf sector true (λ m q. soft_in (leaf_at leaves.old m) q) l s }
@@ -287,7 +298,11 @@ pub(crate) fn first_from(leaves: &BTreeMap<u64, Leaf>, from: u64) -> Option<u64>
 }
 
 /// Puts a leaf in, in place of one of that number.
-pub(crate) fn insert_leaf(leaves: &mut BTreeMap<u64, Leaf>, leaf: u64, new: Leaf) -> Result<(), NoMemory>
+pub(crate) fn insert_leaf(
+    leaves: &mut BTreeMap<u64, Leaf>,
+    leaf: u64,
+    new: Leaf,
+) -> Result<(), NoMemory>
     ensures ok { OnOk result ((l : ℕ) → leaf_at leaves.new l ≡ (if l == leaf then Some new else leaf_at leaves.old l)) }
     ensures err { OnErr result ((l : ℕ) → leaf_at leaves.new l ≡ leaf_at leaves.old l) }
 {

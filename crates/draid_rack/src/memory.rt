@@ -5,8 +5,8 @@ ghost use Rattle.draid_rack.specs.Rack.{Fits, HasJust, Lands, Reads, Counts, Cou
 
 use crate::calls::Calls;
 use crate::leaves::{
-    Leaf, count_fault, damage_sector, fail_sector, first_from, flush_leaf, insert_leaf, is_any_harmed, is_harmed,
-    land_sector, later, read_sector, remove_leaf, settle_sector,
+    Leaf, count_fault, damage_sector, fail_sector, first_from, flush_leaf, insert_leaf,
+    is_any_harmed, is_harmed, land_sector, later, read_sector, remove_leaf, settle_sector,
 };
 use crate::rack::{AddFault, At, Rack};
 use draid_names::{Failed, NoMemory};
@@ -222,7 +222,9 @@ impl Rack for MemoryRack {
     fn sectors(&self, leaf: u64) -> Option<u64>
         ensures { result ≡ (shape_of_memory self.now).leaves leaf }
     {
-        self.leaves.get(&leaf).map(|place| place.sectors.len() as u64)
+        self.leaves
+            .get(&leaf)
+            .map(|place| place.sectors.len() as u64)
     }
 
     fn leaf_from(&self, from: u64) -> Option<u64>

@@ -9,4 +9,5 @@ invariant-loop-i l = record {
   harmed : (s : ℕ) → harmed_in (Some l.self) s ≡ harmed_in (Some l.fn.self) s;
   since : (s : ℕ) → since_in (Some l.self) s ≡ since_in (Some l.fn.self) s;
   sectors : length l.self.sectors.items ≡ length l.fn.self.sectors.items;
-  faults : l.self.faults ≡ l.fn.self.faults }
+  faults : l.self.faults ≡ l.fn.self.faults;
+}

@@ -5,4 +5,5 @@ use Rattle.draid_rack.proofs.leaves.Sector.damage.Goals as goal
 pub loop-i-preserved : goal.loop-i-preserved
 loop-i-preserved c = record {
   bytes = map_over_more (λ b. 255 - b) _ _ _ _ (search rules) c.loop-i.invariant.bytes c.index.ensures;
-  soft = c.loop-i.invariant.soft }
+  soft = c.loop-i.invariant.soft;
+}

@@ -5,4 +5,5 @@ use Rattle.draid_rack.proofs.memory.MemoryRack.new.Given as goal
 abbrev pub invariant-loop-leaf : goal.invariant-loop-leaf
 invariant-loop-leaf l = record {
   there : (m : ℕ) → m < l.leaf → IsBlank l.sectors l.bytes 0 (leaf_at l.rows m);
-  no_other : (m : ℕ) → l.leaf ≤ m → leaf_at l.rows m ≡ None }
+  no_other : (m : ℕ) → l.leaf ≤ m → leaf_at l.rows m ≡ None;
+}
