@@ -124,20 +124,24 @@ module _ {R : Type 0} (shape : R → Shape) (told : R → Option Told) (faults :
   stand_told shard pointers writes None is keeps = tt
   stand_told shard pointers writes (Some x) is keeps = all_stand shard pointers writes x is keeps
 
-  pub holds_pool : (session : Session R) (writes : List Write) (held : Option Told) → held ≡ told session.shard.rack → Represents shape told session writes → HoldsPool held (pool_of told faults session writes)
-  holds_pool session writes held is represents = record {
+  pub holds_pool : (session : Session R) (writes : List Write) (held : Option Told) (counts : Option ℕ → ℕ) → held ≡ told session.shard.rack → ((who : Option ℕ) → counts who ≡ faults session.shard.rack who)
+      → Represents shape told session writes → HoldsPool held counts (pool_of told faults session writes)
+  holds_pool session writes held counts is counted represents = record {
+    faults = λ who. sym (counted who);
     tells = ap is_some (sym is);
     stand = stand_told session.shard session.objects.items writes held (sym is) represents.keeps;
   }
 
-  pub holds_desk : (session : Session R) (pool : Option (Session R)) (held : Option Told) → pool ≡ Some session → held ≡ told session.shard.rack
-      → (writes : List Write) → IsDesk shape told pool writes → MatchOption (state_of told faults pool writes) ⊤ (HoldsPool held)
-  holds_desk session pool held is gives writes =
-      subst (λ p. IsDesk shape told p writes → MatchOption (state_of told faults p writes) ⊤ (HoldsPool held)) (sym is) (holds_pool session writes held gives)
+  pub holds_desk : (session : Session R) (pool : Option (Session R)) (held : Option Told) (counts : Option ℕ → ℕ) → pool ≡ Some session → held ≡ told session.shard.rack
+      → ((who : Option ℕ) → counts who ≡ faults session.shard.rack who)
+      → (writes : List Write) → IsDesk shape told pool writes → MatchOption (state_of told faults pool writes) ⊤ (HoldsPool held counts)
+  holds_desk session pool held counts is gives counted writes =
+      subst (λ p. IsDesk shape told p writes → MatchOption (state_of told faults p writes) ⊤ (HoldsPool held counts)) (sym is) (holds_pool session writes held counts gives counted)
 
   -- a run whose words aren't those of a session
-  pub run_refused : (words : List (List ℕ)) (status : Status) (input old new : Option (List ℕ)) (held : Option Told) → (IsSession words → ⊥) → EndsWithLine Usage status old new → RunIs words status input old new held
-  run_refused words status input old new held wrong ended = elim ended.is [
+  pub run_refused : (words : List (List ℕ)) (status : Status) (input old new : Option (List ℕ)) (held : Option Told) (counts : Option ℕ → ℕ) → (IsSession words → ⊥) → EndsWithLine Usage status old new
+      → RunIs words status input old new held counts
+  run_refused words status input old new held counts wrong ended = elim ended.is [
     | inl same ↦ record {
       last = None;
       session = record {
@@ -160,11 +164,11 @@ module _ {R : Type 0} (shape : R → Shape) (told : R → Option Told) (faults :
     ends_nothing (Some bytes) = refl
 
   -- a run of a session: what was served, the last line, and the pool on the shelf
-  pub run_served : (words : List (List ℕ)) (status ended : Status) (input start mid new : Option (List ℕ)) (pool : Option (Session R)) (held : Option Told)
+  pub run_served : (words : List (List ℕ)) (status ended : Status) (input start mid new : Option (List ℕ)) (pool : Option (Session R)) (held : Option Told) (counts : Option ℕ → ℕ)
       → IsSession words → (ended ≡ Usage → ⊥) → Served shape told faults ended input start mid pool → EndsWithLine ended status mid new
-      → ((writes : List Write) → IsDesk shape told pool writes → MatchOption (state_of told faults pool writes) ⊤ (HoldsPool held))
-      → RunIs words status input start new held
-  run_served words status ended input start mid new pool held session other is line shelf = elim line.is [
+      → ((writes : List Write) → IsDesk shape told pool writes → MatchOption (state_of told faults pool writes) ⊤ (HoldsPool held counts))
+      → RunIs words status input start new held counts
+  run_served words status ended input start mid new pool held counts session other is line shelf = elim line.is [
     | inl same ↦
         let prints = subst (λ m. Prints status m (last_text m) mid new) same line.prints in
         record { last = state_of told faults pool is.writes; session = run_of words status ended input start mid new pool other session is prints; shelf = shelf is.writes is.desk }

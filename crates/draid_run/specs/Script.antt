@@ -71,13 +71,14 @@ abbrev pub AllStand : (ℕ → ℕ → Option (List ℕ)) → List Write → Typ
 AllStand reads [] = ⊤
 AllStand reads (write ∷ writes) = Stands reads write.first write.bytes × AllStand reads writes
 
--- the shelf holds the pool's rack: where it tells, so did the pool, and each block's columns stand there
-pub record HoldsPool (told : Option Told) (pool : Pool) : Type 0 where
+-- The shelf holds the pool's rack, with the counts of faults that the pool came to. Where it tells, so did the pool, and each block's columns stand there.
+pub record HoldsPool (told : Option Told) (counts : Option ℕ → ℕ) (pool : Pool) : Type 0 where
+  pub faults : (who : Option ℕ) → pool.faults who ≡ counts who
   pub tells : pool.tells ≡ is_some told
   pub stand : OnTold told (λ x. AllStand x.reads pool.writes)
 
 -- What a run of the program is: a session of lines, states and replies, whose pool is given back to the shelf.
-pub record RunIs (words : List (List ℕ)) (status : Status) (input old new : Option (List ℕ)) (held : Option Told) : Type 0 where
+pub record RunIs (words : List (List ℕ)) (status : Status) (input old new : Option (List ℕ)) (held : Option Told) (counts : Option ℕ → ℕ) : Type 0 where
   pub last : Option Pool
   pub session : HasRun words status input old new last
-  pub shelf : MatchOption last ⊤ (HoldsPool held)
+  pub shelf : MatchOption last ⊤ (HoldsPool held counts)

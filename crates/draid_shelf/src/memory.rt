@@ -1,5 +1,5 @@
 ghost use Rattle.std.specs.Prelude.{◌≡◌, None};
-ghost use Rattle.draid_shelf.specs.Memory.{AgreesWith, held_by};
+ghost use Rattle.draid_shelf.specs.Memory.{AgreesWith, counts_by, held_by};
 
 use crate::{Extent, Shelf};
 use draid_names::NoMemory;
@@ -37,6 +37,8 @@ impl Shelf for MemoryShelf {
     ghost made = { λ shelf. shelf.made };
 
     ghost holds = { λ shelf. held_by shelf.rack };
+
+    ghost counts = { λ shelf. counts_by shelf.rack };
 
     fn make(&mut self, alloc: Global, extent: Extent) -> Result<(), NoMemory> {
         let failing = self.failing.clone()?;

@@ -1,4 +1,4 @@
-ghost use Rattle.std.specs.Prelude.{◌≡◌, Option, Some, None, IfOk, OnOk, OnErr};
+ghost use Rattle.std.specs.Prelude.{◌≡◌, ℕ, Option, Some, None, IfOk, OnOk, OnErr};
 ghost use Rattle.draid_rack.specs.Rack.{Told};
 ghost use Rattle.draid_shelf.specs.Shelf.{IsAsMade, TellsZeros};
 ghost use Rattle.draid_shelf.specs.declared.extent.Extent.{Extent};
@@ -18,6 +18,9 @@ pub trait Shelf {
     /// What the rack that is held reads, where it is told.
     ghost holds: { Self → Option Told };
 
+    /// How often calls on the rack that is held have failed, by leaf.
+    ghost counts: { Self → Option ℕ → ℕ };
+
     /// Makes leaves of zero bytes, numbered from 0. An earlier pool is given up.
     fn make(&mut self, alloc: Global, extent: Extent) -> Result<(), NoMemory>
         ensures made { OnOk result (made self.new ≡ Some extent) }
@@ -27,10 +30,12 @@ pub trait Shelf {
     /// Takes the rack. Want of memory is the one refusal.
     fn take(&mut self) -> Result<Self::R, NoMemory>
         ensures leaves { IfOk result (λ rack. IsAsMade (made self.old) (Self.R.shape rack)) }
-        ensures told { IfOk result (λ rack. Self.R.told rack ≡ holds self.old) };
+        ensures told { IfOk result (λ rack. Self.R.told rack ≡ holds self.old) }
+        ensures counts { IfOk result (λ rack. (who : Option ℕ) → Self.R.faults rack who ≡ counts self.old who) };
 
     /// Puts the rack back.
     fn give(&mut self, rack: Self::R)
         ensures made { made self.new ≡ None }
-        ensures told { holds self.new ≡ Self.R.told rack };
+        ensures told { holds self.new ≡ Self.R.told rack }
+        ensures counts { (who : Option ℕ) → counts self.new who ≡ Self.R.faults rack who };
 }
