@@ -65,7 +65,7 @@ group_of_position geometry row position is in_slice in_row =
     first_below geometry.g (row * geometry.ndisks + position) geometry.ngroups some.columns (omega arith)
 
 -- the place of a column of a stripe that is given by its slice, its group and its offset
-spot_place : (geometry : Geometry) (perms : Perms) (slice group offset column : ℕ) → group < geometry.ngroups → offset < geometry.props.height
+pub spot_place : (geometry : Geometry) (perms : Perms) (slice group offset column : ℕ) → group < geometry.ngroups → offset < geometry.props.height
     → place_of geometry perms ((slice * geometry.ngroups + group) * geometry.props.height + offset) column
     ≡ record {
       child = child_of perms slice ((group * geometry.g + column) % geometry.ndisks);

@@ -25,7 +25,7 @@ abbrev pub index_in : Geometry → ℕ → ℕ → ℕ
 index_in geometry stripe column = group_in geometry stripe * geometry.g + column
 
 -- a disk's position is one of a child
-disk_is_child : (geometry : Geometry) (perms : Perms) (index : ℕ) → IsLayout geometry perms
+pub disk_is_child : (geometry : Geometry) (perms : Perms) (index : ℕ) → IsLayout geometry perms
     → index % geometry.ndisks < children_of perms
 disk_is_child geometry perms index lay =
     let is : IsGeometry geometry = lay.geometry_is in

@@ -1,3 +1,4 @@
 pub mod Apart
 pub mod Distinct
 pub mod Radix
+pub mod Runs

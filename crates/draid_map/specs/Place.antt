@@ -18,6 +18,13 @@ stripes_of geometry = geometry.props.metaslabs * geometry.props.slices * geometr
 abbrev pub end_of : Geometry → ℕ
 end_of geometry = total_of geometry.props geometry.rows
 
+-- the stripes of one metaslab, and the sectors that it has of each child
+abbrev pub part_stripes : Geometry → ℕ
+part_stripes geometry = geometry.props.slices * geometry.ngroups * geometry.props.height
+
+abbrev pub part_sectors : Geometry → ℕ
+part_sectors geometry = geometry.props.slices * geometry.rows * geometry.props.height
+
 -- the place of a column: stripe k is stripe k mod height of a group of a slice, the columns of a slice's groups
 -- stand one after another in the rows of the disks, and each slice has a permutation of its own
 abbrev pub place_of : Geometry → Perms → ℕ → ℕ → Place

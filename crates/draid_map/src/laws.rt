@@ -1,9 +1,9 @@
-ghost use Rattle.std.specs.Prelude.{◌≡◌, ◌≢◌, ◌<◌, ℕ};
+ghost use Rattle.std.specs.Prelude.{◌≡◌, ◌≢◌, ◌+◌, ◌*◌, ◌%◌, ◌<◌, ◌≤◌, ℕ};
 ghost use Rattle.draid_spec.specs.declared.layout.Geometry.{Geometry};
 ghost use Rattle.draid_perm.specs.declared.perms.Perms.{Perms};
 ghost use Rattle.draid_map.specs.declared.sectors.Owner.{Owner};
 ghost use Rattle.draid_map.specs.Owner.{Owns};
-ghost use Rattle.draid_map.specs.Place.{IsLayout, end_of, place_of, spare_child_of, stripes_of};
+ghost use Rattle.draid_map.specs.Place.{IsLayout, end_of, part_sectors, part_stripes, place_of, spare_child_of, stripes_of};
 
 /// Law: each column of a pool has a place of its own, before the end of the last slice.
 #[tactic(auto, using(crate::proofs::Distinct::place_apart, crate::proofs::Distinct::place_within))]
@@ -42,4 +42,25 @@ pub fn sectors_have_one_owner()
     ensures { (geometry : Geometry) (perms : Perms) (child sector : ℕ) (x y : Owner)
         → IsLayout geometry perms
         → Owns geometry perms child sector x → Owns geometry perms child sector y → x ≡ y }
+{}
+
+/// Law: the stripes of a group that follow one another have each column at sectors that follow one another, on one child.
+#[tactic(auto, using(crate::proofs::Runs::run_follows, crate::proofs::Runs::place_child))]
+pub fn runs_lie_in_order()
+    ensures order { (geometry : Geometry) (perms : Perms) (k j a : ℕ) → IsLayout geometry perms
+        → k % geometry.props.height + j < geometry.props.height
+        → place_of geometry perms (k + j) a
+        ≡ record { child = (place_of geometry perms k a).child; sector = (place_of geometry perms k a).sector + j } }
+    ensures child { (geometry : Geometry) (perms : Perms) (k a : ℕ) → IsLayout geometry perms
+        → (place_of geometry perms k a).child < geometry.spec.children }
+{}
+
+/// Law: the stripes of a metaslab have their places in its part of each child.
+pub fn metaslabs_lie_apart()
+    ensures from { (geometry : Geometry) (perms : Perms) (m k a : ℕ) → IsLayout geometry perms
+        → a < geometry.g → m * part_stripes geometry ≤ k
+        → m * part_sectors geometry ≤ (place_of geometry perms k a).sector }
+    ensures to { (geometry : Geometry) (perms : Perms) (m k a : ℕ) → IsLayout geometry perms
+        → a < geometry.g → k < (m + 1) * part_stripes geometry
+        → (place_of geometry perms k a).sector < (m + 1) * part_sectors geometry }
 {}
