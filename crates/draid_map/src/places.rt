@@ -1,7 +1,7 @@
-ghost use Rattle.std.specs.Prelude.{◌≡◌, ◌+◌, ◌<◌, ◌≤◌, ◌*◌};
+ghost use Rattle.std.specs.Prelude.{◌≡◌, ◌+◌, ◌<◌, ◌≤◌, ◌*◌, ◌^◌};
 ghost use Rattle.draid_spec.specs.Geometry.{IsGeometry};
 ghost use Rattle.draid_map.specs.Owner.{Owns};
-ghost use Rattle.draid_map.specs.Place.{IsLayout, end_of, place_of, spare_child_of, stripes_of};
+ghost use Rattle.draid_map.specs.Place.{IsLayout, end_of, part_sectors, part_stripes, place_of, spare_child_of, stripes_of};
 
 use crate::sectors::{Owner, Place};
 use crate::spot::Spot;
@@ -68,6 +68,26 @@ pub fn owner(geometry: &Geometry, perms: &Perms, child: u32, sector: u64) -> Own
         stripe: held.number(u64::from(geometry.ngroups), height),
         column: (index % g) as u32,
     }
+}
+
+/// The stripes of one metaslab, at most 2^27.
+pub fn metaslab_stripes(geometry: &Geometry) -> u64
+    requires { IsGeometry geometry.now }
+    ensures value { result ≡ part_stripes geometry.now }
+    ensures most { result ≤ 2 ^ 27 }
+{
+    let slices = u64::from(geometry.props.slices);
+    slices * u64::from(geometry.ngroups) * u64::from(geometry.props.height)
+}
+
+/// The sectors that one metaslab has of each child, at most 2^27.
+pub fn metaslab_sectors(geometry: &Geometry) -> u64
+    requires { IsGeometry geometry.now }
+    ensures value { result ≡ part_sectors geometry.now }
+    ensures most { result ≤ 2 ^ 27 }
+{
+    let slices = u64::from(geometry.props.slices);
+    slices * u64::from(geometry.rows) * u64::from(geometry.props.height)
 }
 
 /// The sectors of a child up to the end of the last slice.

@@ -1,7 +1,6 @@
 pub mod Ended
-pub mod Keeps
 pub mod Known
-pub mod Misses
+pub mod Opened
 pub mod Runs
 pub mod Serving
 pub mod Steps

@@ -10,11 +10,12 @@ use Rattle.draid_script.specs.Grammar.{line_of}
 use Rattle.draid_script.specs.Lines.{Rest, WhereKnown, lines_of}
 use Rattle.draid_script.specs.Sink.{AppendsFront}
 use Rattle.draid_script.specs.declared.reply.Reply.{Reply}
-use Rattle.draid_run.specs.State.{LineFaultIs, Write}
+use Rattle.draid_pool.specs.State.{Write}
+use Rattle.draid_run.specs.State.{LineFaultIs}
 use Rattle.draid_run.specs.Script.{Ends, said_text}
-use Rattle.draid_run.specs.Session.{state_of}
+use Rattle.draid_run.specs.Session.{state_in}
 use Rattle.draid_run.specs.Serve.{LineIs, Printed, Served, Serving, TextIs, Turned}
-use Rattle.draid_run.specs.declared.session.Session.{Session}
+use Rattle.draid_pool.specs.declared.pool.Pool.{Pool}
 use Rattle.draid_run.specs.declared.status.Status.{Status}
 use Rattle.draid_run.specs.declared.status.Status.TheVariants.{Done, Usage, Line, SourceFault, SinkFault, NoMemory, TooLong}
 use Rattle.draid_run.proofs.Known.{appends_none, appends_more, front_more, known_input, known_on}
@@ -36,7 +37,7 @@ text_by lines lines' left left' next next' is text =
 
 module _ {R : Type 0} (shape : R → Shape) (told : R → Option Told) (faults : R → Option ℕ → ℕ) where
   -- the line under another name of its number and its text
-  pub line_by : (number number' : ℕ) (text text' : List ℕ) (pool : Option (Session R)) (writes : List Write) (pool' : Option (Session R)) (held held' : Option (List ℕ)) (result : Result Unit Status)
+  pub line_by : (number number' : ℕ) (text text' : List ℕ) (pool : Option (Pool R)) (writes : List Write) (pool' : Option (Pool R)) (held held' : Option (List ℕ)) (result : Result Unit Status)
       → number ≡ number' → text ≡ text' → LineIs shape told faults number text pool writes pool' held held' result → LineIs shape told faults number' text' pool writes pool' held held' result
   line_by number number' text text' pool writes pool' held held' result numbers texts line =
       let P : ℕ → Type 0 = λ n. LineIs shape told faults n text pool writes pool' held held' result in
@@ -58,11 +59,11 @@ module _ {R : Type 0} (shape : R → Shape) (told : R → Option Told) (faults :
     starts None = tt
     starts (Some x) = refl
 
-  pub serving_start : (input start : Option (List ℕ)) (lines : Rest) (pool : Option (Session R)) → lines ≡ record { held = []; given = 0; fault = None } → pool ≡ None
+  pub serving_start : (input start : Option (List ℕ)) (lines : Rest) (pool : Option (Pool R)) → lines ≡ record { held = []; given = 0; fault = None } → pool ≡ None
       → Serving shape told faults input (prepend_known lines.held input) start start pool lines.given
   serving_start input start lines pool is none = rw is (rw none (serving_none input start))
 
-  pub serving_more : (input rest rest' start held held' : Option (List ℕ)) (pool pool' : Option (Session R)) (count : ℕ) (line : List ℕ)
+  pub serving_more : (input rest rest' start held held' : Option (List ℕ)) (pool pool' : Option (Pool R)) (count : ℕ) (line : List ℕ)
       → (is : Serving shape told faults input rest start held pool count)
       → WhereKnown rest rest' (λ old new. lines_of old ≡ line ∷ lines_of new)
       → Printed shape told faults line pool is.writes pool' (Appends held held')
@@ -82,7 +83,7 @@ module _ {R : Type 0} (shape : R → Shape) (told : R → Option Told) (faults :
       }
 
   -- the input ended
-  pub served_done : (input rest rest' start held : Option (List ℕ)) (pool : Option (Session R)) (count : ℕ)
+  pub served_done : (input rest rest' start held : Option (List ℕ)) (pool : Option (Pool R)) (count : ℕ)
       → Serving shape told faults input rest start held pool count → WhereKnown rest rest' (λ old new. old ≡ [])
       → Served shape told faults Done input start held pool
   served_done input rest rest' start held pool count is end = record {
@@ -100,7 +101,7 @@ module _ {R : Type 0} (shape : R → Shape) (told : R → Option Told) (faults :
   }
 
   -- the next line could not be read
-  pub served_unread : (input start held left left' : Option (List ℕ)) (pool : Option (Session R)) (lines lines' : Rest) (status : Status)
+  pub served_unread : (input start held left left' : Option (List ℕ)) (pool : Option (Pool R)) (lines lines' : Rest) (status : Status)
       → Serving shape told faults input (prepend_known lines.held left) start held pool lines.given → TextIs lines lines' left left' (Err status)
       → Served shape told faults status input start held pool
   served_unread input start held left left' pool lines lines' SourceFault is text = record {
@@ -136,7 +137,7 @@ module _ {R : Type 0} (shape : R → Shape) (told : R → Option Told) (faults :
         desk = is.desk;
         runs = is.runs;
         ends = known_input input _ _ _ (λ x z e. e)
-            (known_on input (prepend_known lines.held left) (prepend_known lines'.held left') _ _ (λ all behind. Ends (TooLong line) (state_of told faults pool is.writes) is.lines all)
+            (known_on input (prepend_known lines.held left) (prepend_known lines'.held left') _ _ (λ all behind. Ends (TooLong line) (state_in told faults pool is.writes) is.lines all)
             (λ x y z a b. (y, a, rw counted b, omega (arith, counted, number))) is.known text.1);
         shows = refl;
         prints = is.printed;
@@ -149,7 +150,7 @@ module _ {R : Type 0} (shape : R → Shape) (told : R → Option Told) (faults :
   -- a line was taken, and the run ended with it
   module _ (input rest rest' start held : Option (List ℕ)) (count : ℕ) (line : List ℕ) (behind : WhereKnown rest rest' (λ old new. lines_of old ≡ line ∷ lines_of new)) where
     -- it can't be run
-    unrun : (pool : Option (Session R)) (number kind at : ℕ) → Serving shape told faults input rest start held pool count
+    unrun : (pool : Option (Pool R)) (number kind at : ℕ) → Serving shape told faults input rest start held pool count
         → LineFaultIs (line_of line) kind at → number ≡ count + 1
         → Served shape told faults (Line number kind at) input start held pool
     unrun pool number kind at is fault n =
@@ -162,14 +163,14 @@ module _ {R : Type 0} (shape : R → Shape) (told : R → Option Told) (faults :
           desk = is.desk;
           runs = is.runs;
           ends = known_input input rest' _ _ (λ x z e. e)
-              (known_on input rest rest' _ _ (λ all _. Ends (Line number kind at) (state_of told faults pool is.writes) is.lines all)
+              (known_on input rest rest' _ _ (λ all _. Ends (Line number kind at) (state_in told faults pool is.writes) is.lines all)
               (λ x y z a b. (line, lines_of z, a ∙ ap (λ xs. is.lines ++ xs) b, fault, omega (arith, counted, n))) is.known behind);
           shows = refl;
           prints = is.printed;
         }
 
     -- its reply could not be put
-    unput : (held' : Option (List ℕ)) (pool pool' : Option (Session R)) (is : Serving shape told faults input rest start held pool count)
+    unput : (held' : Option (List ℕ)) (pool pool' : Option (Pool R)) (is : Serving shape told faults input rest start held pool count)
         → Printed shape told faults line pool is.writes pool' (AppendsFront held held') → Served shape told faults SinkFault input start held' pool'
     unput held' pool pool' is printed = record {
       lines = is.lines ++ line ∷ [];
@@ -185,7 +186,7 @@ module _ {R : Type 0} (shape : R → Shape) (told : R → Option Told) (faults :
     }
 
     -- memory was wanting before it was done
-    undone : (pool : Option (Session R)) → Serving shape told faults input rest start held pool count → Served shape told faults NoMemory input start held pool
+    undone : (pool : Option (Pool R)) → Serving shape told faults input rest start held pool count → Served shape told faults NoMemory input start held pool
     undone pool is = record {
       lines = is.lines;
       replies = is.replies;
@@ -200,8 +201,8 @@ module _ {R : Type 0} (shape : R → Shape) (told : R → Option Told) (faults :
     }
 
     -- memory was wanting for the text of its reply
-    untold : (pool pool' : Option (Session R)) (is : Serving shape told faults input rest start held pool count) (reply : Reply)
-        → Turned shape told faults (line_of line) (state_of told faults pool is.writes) (Some reply) pool' → Served shape told faults NoMemory input start held pool'
+    untold : (pool pool' : Option (Pool R)) (is : Serving shape told faults input rest start held pool count) (reply : Reply)
+        → Turned shape told faults (line_of line) (state_in told faults pool is.writes) (Some reply) pool' → Served shape told faults NoMemory input start held pool'
     untold pool pool' is reply turned = record {
       lines = is.lines ++ line ∷ [];
       replies = is.replies ++ Some reply ∷ [];
@@ -215,7 +216,7 @@ module _ {R : Type 0} (shape : R → Shape) (told : R → Option Told) (faults :
       prints = is.printed;
     }
 
-    pub served_line : (held' : Option (List ℕ)) (pool pool' : Option (Session R)) (status : Status) (is : Serving shape told faults input rest start held pool count)
+    pub served_line : (held' : Option (List ℕ)) (pool pool' : Option (Pool R)) (status : Status) (is : Serving shape told faults input rest start held pool count)
         → LineIs shape told faults (count + 1) line pool is.writes pool' held held' (Err status) → Served shape told faults status input start held' pool'
     served_line held' pool pool' SinkFault is became = unput held' pool pool' is became
     served_line held' pool pool' (Line number kind at) is became =

@@ -1,49 +1,42 @@
-use Rattle.std.specs.Prelude.{◌≡◌, ⊤, ℕ, List, [], ◌∷◌, Option, Some, None, is_some}
-use Rattle.draid_names.specs.declared.pointer.Pointer.{Pointer}
+use Rattle.std.specs.Prelude.{◌≡◌, ◌++◌, ℕ, List, [], codes, string_bytes, Option, Some, None, Result, Ok, Err}
+use Rattle.draid_spec.specs.declared.layout.Props.{Props}
+use Rattle.draid_spec.specs.declared.spec.Spec.{Spec}
+use Rattle.draid_spec.specs.Geometry.{geometry_of}
+use Rattle.draid_spec.specs.Name.{spec_name_of}
+use Rattle.draid_map.specs.Place.{stripes_of}
 use Rattle.draid_rack.specs.Rack.{Shape, Told}
-use Rattle.draid_shard.specs.declared.shard.Shard.{Shard}
-use Rattle.draid_shard.specs.Shard.{HoldsBlock, Valid, taken_of}
-use Rattle.draid_run.specs.State.{Pool, Write}
-use Rattle.draid_run.specs.declared.session.Session.{Session}
+use Rattle.draid_pool.specs.State.{State, Write}
+use Rattle.draid_pool.specs.Pool.{Represents, state_of}
+use Rattle.draid_pool.specs.Create.{HasLayout, Opens}
+use Rattle.draid_pool.specs.declared.pool.Pool.{Pool}
+use Rattle.draid_pool.specs.declared.fault.PoolFault.{PoolFault}
+use Rattle.draid_pool.specs.declared.fault.PoolFault.TheVariants as fault
+use Rattle.draid_run.specs.declared.answer.Made.{Made}
 
--- the block of an accepted write is live, and its columns stand where the rack tells
-pub record Keeps {R : Type 0} (told : R → Option Told) (shard : Shard R) (pointer : Pointer) (write : Write) : Type 0 where
-  pub object : pointer.object ≡ write.object
-  pub first : pointer.first ≡ write.first
-  pub holds : HoldsBlock told shard pointer write.bytes
-
--- the pointers are those of the accepted writes, in the same order
-abbrev pub KeepsAll : {R : Type 0} → (R → Option Told) → Shard R → List Pointer → List Write → Type 0
-KeepsAll told shard [] [] = ⊤
-KeepsAll told shard (pointer ∷ pointers) (write ∷ writes) = Keeps told shard pointer write × KeepsAll told shard pointers writes
-KeepsAll told shard pointers writes = ⊥
-
--- the pool that a session stands for
-abbrev pub pool_of : {R : Type 0} → (R → Option Told) → (R → Option ℕ → ℕ) → Session R → List Write → Pool
-pool_of told faults session writes = record {
-  writes = writes;
-  taken = taken_of session.shard;
-  seq = session.seq;
-  faults = faults session.shard.rack;
-  tells = is_some (told session.shard.rack);
-}
-
--- the session keeps these writes
-pub record Represents {R : Type 0} (shape : R → Shape) (told : R → Option Told) (session : Session R) (writes : List Write) : Type 0 where
-  pub valid : Valid shape session.shard
-  pub keeps : KeepsAll told session.shard session.objects.items writes
-
--- where a pool is open, its session keeps these writes; else there are none
-abbrev pub IsDesk : {R : Type 0} → (R → Shape) → (R → Option Told) → Option (Session R) → List Write → Type 0
+-- where a pool is open, it stands for these writes; else there are none
+abbrev pub IsDesk : {R : Type 0} → (R → Shape) → (R → Option Told) → Option (Pool R) → List Write → Type 0
 IsDesk shape told None writes = writes ≡ []
-IsDesk shape told (Some session) writes = Represents shape told session writes
+IsDesk shape told (Some pool) writes = Represents shape told pool writes
 
--- the pool that is open, if one is
-abbrev pub state_of : {R : Type 0} → (R → Option Told) → (R → Option ℕ → ℕ) → Option (Session R) → List Write → Option Pool
-state_of told faults None writes = None
-state_of told faults (Some session) writes = Some (pool_of told faults session writes)
+-- the state of the pool that is open, if one is
+abbrev pub state_in : {R : Type 0} → (R → Option Told) → (R → Option ℕ → ℕ) → Option (Pool R) → List Write → Option State
+state_in told faults None writes = None
+state_in told faults (Some pool) writes = Some (state_of told faults pool writes)
 
 -- the number of the last write that was begun
-abbrev pub seq_of : {R : Type 0} → Option (Session R) → ℕ
+abbrev pub seq_of : {R : Type 0} → Option (Pool R) → ℕ
 seq_of None = 0
-seq_of (Some session) = session.seq
+seq_of (Some pool) = pool.seq
+
+-- a pool was opened, which has this name and so many stripes
+pub record OpensAs {R : Type 0} (shape : R → Shape) (told : R → Option Told) (faults : R → Option ℕ → ℕ) (spec : Spec) (props : Props) (made : Made) (pool : Pool R) : Type 0 where
+  pub opens : Opens shape told faults spec props pool
+  pub name_is : string_bytes made.name ≡ spec_name_of spec ++ codes "-0"
+  pub stripes_are : made.stripes ≡ stripes_of opens.layout.geometry
+
+-- what became of a pool that was to be opened
+abbrev pub OpensBy : {R : Type 0} → (R → Shape) → (R → Option Told) → (R → Option ℕ → ℕ) → Spec → Props → Result Made PoolFault → Option (Pool R) → Type 0
+OpensBy shape told faults spec props (Ok made) None = ⊥
+OpensBy shape told faults spec props (Ok made) (Some pool) = OpensAs shape told faults spec props made pool
+OpensBy shape told faults spec props (Err (fault.Spec cause)) pool = (geometry_of spec props ≡ Err cause) × (pool ≡ None)
+OpensBy shape told faults spec props (Err fault.NoMemory) pool = HasLayout spec props × (pool ≡ None)

@@ -1,147 +1,134 @@
-use Rattle.std.specs.Prelude.{◌≡◌, ◌≤◌, ◌+◌, ◌==◌, ⊤, ℕ, Bool, false, List, [], ◌∷◌, codes, string_bytes, replicate, Option, Some, None, Result, Ok, Err, IsSome, if◌then◌else◌}
-use Rattle.draid_shard.specs.Shard.{NoneFalls}
-use Rattle.draid_shard.specs.Space.{FitsRun, NoneFits, TakesLowest, IsLargest}
-use Rattle.draid_run.specs.Words.{AreBytesOf, IsUnread, failed_leaves, stripes_for}
+-- The session of a script: what each command does to the pool that is open, and its reply.
+use Rattle.std.specs.Prelude.{◌≡◌, ◌++◌, ⊤, ℕ, List, [], ◌∷◌, codes, string_bytes, Option, Some, None, Result, Ok, Err}
+use Rattle.draid_spec.specs.declared.layout.Geometry.{Geometry}
+use Rattle.draid_spec.specs.declared.layout.Props.{Props}
+use Rattle.draid_spec.specs.declared.spec.Spec.{Spec}
+use Rattle.draid_spec.specs.declared.spec.SpecFault.{SpecFault}
+use Rattle.draid_spec.specs.declared.spec.SpecFault.TheVariants as fault
+use Rattle.draid_spec.specs.Geometry.{geometry_of}
+use Rattle.draid_spec.specs.Name.{spec_name_of}
+use Rattle.draid_spec.specs.Text.{spec_by}
+use Rattle.draid_map.specs.Place.{stripes_of}
+use Rattle.draid_pool.specs.State.{Damages, FailsToDamage, HasNoSpace, IsFresh, IsLost, IsThere, Looks, Misses, ReadsLast, State, Stays, StopsAt, Sums, Writes, bytes_of}
 use Rattle.draid_script.specs.Grammar.{line_of}
-use Rattle.draid_script.specs.Line.{Command, Silent, CreatePool, WriteObject, ReadObject}
+use Rattle.draid_script.specs.Line.{Command, Silent, CreatePool, WriteObject, ReadObject, SumObjects, DamageSector}
 use Rattle.draid_script.specs.declared.fault.LineFault.{LineFault}
 use Rattle.draid_script.specs.declared.line.PoolKeys.{PoolKeys}
 use Rattle.draid_script.specs.declared.name.CommandName.TheVariants as name
+use Rattle.draid_script.specs.declared.refusal.SpecRefusal.{SpecRefusal}
+use Rattle.draid_script.specs.declared.refusal.SpecRefusal.TheVariants as refusal
+use Rattle.draid_script.specs.declared.refusal.SumRefusal.{SumRefusal}
+use Rattle.draid_script.specs.declared.refusal.SumRefusal.TheVariants as stop
 use Rattle.draid_script.specs.declared.reply.Reply.{Reply}
-use Rattle.draid_script.specs.declared.reply.Reply.TheVariants.{NoPool, PoolOpen, Created, Written, NoSpace, Missed, Contents, NoObject, Unreadable, NoMemory}
+use Rattle.draid_script.specs.declared.reply.Reply.TheVariants.{NoPool, PoolOpen, NoMemory, Created, CreateRefused, Written, NoSpace, Missed, Contents, NoObject, Unreadable, Summed, SumRefused, Damaged, DamageRefused, DamageFailed}
 
--- an accepted write: the object, the bytes, and the first stripe of their block
-pub record Write : Type 0 where
-  pub object : ℕ
-  pub bytes : List ℕ
-  pub first : ℕ
+-- why `create` is refused, in the words of its reply
+abbrev pub refusal_of : SpecFault → SpecRefusal
+refusal_of fault.NotDraid = refusal.NotDraid
+refusal_of fault.Parity = refusal.Parity
+refusal_of (fault.Number at) = refusal.Number at
+refusal_of (fault.Repeated letter) = refusal.Repeated letter
+refusal_of (fault.Children said given) = refusal.Children said given
+refusal_of (fault.Width need have) = refusal.Width need have
+refusal_of (fault.Limit which value) = refusal.Limit which value
 
--- An open pool: the accepted writes, the newest first; which stripes are taken; the number of the last write that was begun; how often calls on each leaf have
--- failed; and whether the rack tells its contents.
-pub record Pool : Type 0 where
-  pub writes : List Write
-  pub taken : List Bool
-  pub seq : ℕ
-  pub faults : Option ℕ → ℕ
-  pub tells : Bool
+-- the properties that the keys of `create` name
+abbrev pub props_of : PoolKeys → Props
+props_of keys = record { sector = keys.sector; height = keys.height; metaslabs = keys.metaslabs; slices = keys.slices; seed = keys.seed }
 
--- the bytes last written to an object
-abbrev pub bytes_of : List Write → ℕ → Option (List ℕ)
-bytes_of [] object = None
-bytes_of (write ∷ writes) object = if write.object == object then Some write.bytes else bytes_of writes object
+-- the layout of a spec with these keys, if the spec was read
+abbrev pub layout_from : PoolKeys → Result Spec SpecFault → Result Geometry SpecFault
+layout_from keys (Ok spec) = geometry_of spec (props_of keys)
+layout_from keys (Err why) = Err why
 
--- a pool that was just created
-pub record IsFresh (new : Pool) : Type 0 where
-  pub writes : new.writes ≡ []
-  pub free : new.taken ≡ replicate 32 false
-  pub seq : new.seq ≡ 0
+-- the layout that `create` asks for
+abbrev pub layout_by : List ℕ → ℕ → PoolKeys → Result Geometry SpecFault
+layout_by text children keys = layout_from keys (spec_by text children)
 
--- nothing changed but the counts of faults, which don't fall
-pub record OnlyCounts (old new : Pool) : Type 0 where
-  pub writes : new.writes ≡ old.writes
-  pub taken : new.taken ≡ old.taken
-  pub later : NoneFalls old.faults new.faults
-  pub tells : new.tells ≡ old.tells
+-- there is such a layout
+pub record HasLayout (text : List ℕ) (children : ℕ) (keys : PoolKeys) : Type 0 where
+  pub geometry : Geometry
+  pub layout : layout_by text children keys ≡ Ok geometry
 
--- A block of these bytes was written to the object, on the lowest run of stripes that fits.
-pub record Writes (object : ℕ) (bytes : List ℕ) (old new : Pool) : Type 0 where
-  pub first : ℕ
-  pub takes : TakesLowest old.taken new.taken first (stripes_for bytes)
-  pub writes : new.writes ≡ record { object = object; bytes = bytes; first = first } ∷ old.writes
-  pub seq : new.seq ≡ old.seq + 1
-  pub later : NoneFalls old.faults new.faults
-  pub tells : new.tells ≡ old.tells
+-- there is no such layout, for this cause
+pub record HasNoLayout (text : List ℕ) (children : ℕ) (keys : PoolKeys) (why : SpecRefusal) : Type 0 where
+  pub cause : SpecFault
+  pub none : layout_by text children keys ≡ Err cause
+  pub is : why ≡ refusal_of cause
 
--- No run of stripes fits, and the longest free one has this length. Nothing changed.
-pub record HasNoSpace (bytes : List ℕ) (run : ℕ) (old new : Pool) : Type 0 where
-  pub none : NoneFits old.taken (stripes_for bytes)
-  pub largest : IsLargest old.taken run
-  pub same : new ≡ old
+-- A pool of the layout that was asked for was created, of this name and with so many stripes.
+pub record Creates (text : List ℕ) (children : ℕ) (keys : PoolKeys) (called : List ℕ) (stripes : ℕ) (new : State) : Type 0 where
+  pub layout : HasLayout text children keys
+  pub name_is : called ≡ spec_name_of layout.geometry.spec ++ codes "-0"
+  pub stripes_are : stripes ≡ stripes_of layout.geometry
+  pub fresh : IsFresh layout.geometry new
 
--- Some run fitted, but columns landed on no leaf: not more than leaves have had failures in this write. The pool keeps its blocks and free stripes.
-pub record Misses (bytes : List ℕ) (columns : ℕ) (old new : Pool) : Type 0 where
-  pub some : 1 ≤ columns
-  pub failed : columns ≤ failed_leaves old.faults new.faults 3
-  pub place : ℕ
-  pub fitted : FitsRun old.taken place (stripes_for bytes)
-  pub seq : new.seq ≡ old.seq + 1
-  pub same : OnlyCounts old new
+-- why an object of a `sum` gave no bytes
+abbrev pub StopIs : ℕ → SumRefusal → State → State → Type 0
+StopIs object stop.NoObject old new = bytes_of old.writes object ≡ None
+StopIs object (stop.Unreadable absent tried) old new = IsLost object absent tried old new
+StopIs object stop.Worn old new = ⊥
 
--- the bytes are those last written to the object
-pub record ReadsLast (object : ℕ) (bytes : List ℕ) (old : Pool) : Type 0 where
-  pub last : List ℕ
-  pub written : bytes_of old.writes object ≡ Some last
-  pub same : AreBytesOf old.tells last bytes
-
--- the object was written, and its block can't be read
-pub record IsLost (object columns sets : ℕ) (old new : Pool) : Type 0 where
-  pub written : IsSome (bytes_of old.writes object)
-  pub unread : IsUnread old.tells columns sets old.faults new.faults
-
--- a read changes nothing but counts
-pub record Looks (old new : Pool) : Type 0 where
-  pub seq : new.seq ≡ old.seq
-  pub same : OnlyCounts old new
+-- The first object that gave no bytes, and why. Those before it gave theirs.
+pub record SumStops (first count object : ℕ) (why : SumRefusal) (old new : State) : Type 0 where
+  pub mid : State
+  pub stops : StopsAt first count object old mid
+  pub cause : StopIs object why mid new
+  pub looks : Looks mid new
 
 -- What a command does to an open pool, and its reply.
-abbrev pub Step : Pool → Command → Reply → Pool → Type 0
-Step old (WriteObject object bytes) (Written o) new = (o ≡ object) × Writes object bytes old new
-Step old (WriteObject object bytes) (NoSpace o run disabled full worn) new =
+abbrev pub Step : Command → Reply → State → State → Type 0
+Step (WriteObject object bytes) (Written o) old new = (o ≡ object) × Writes object bytes old new
+Step (WriteObject object bytes) (NoSpace o run disabled full worn) old new =
     (o ≡ object) × HasNoSpace bytes run old new × (disabled ≡ 0) × (full ≡ 0) × (worn ≡ 0)
-Step old (WriteObject object bytes) (Missed o columns) new = (o ≡ object) × Misses bytes columns old new
-Step old (WriteObject object bytes) (NoMemory name.Write) new = new ≡ old
-Step old (ReadObject object) (Contents o bytes) new = (o ≡ object) × ReadsLast object bytes.items old × Looks old new
-Step old (ReadObject object) (NoObject o) new = (o ≡ object) × (bytes_of old.writes object ≡ None) × (new ≡ old)
-Step old (ReadObject object) (Unreadable o absent tried) new = (o ≡ object) × IsLost object absent tried old new × Looks old new
-Step old (ReadObject object) (NoMemory name.Read) new = Looks old new
-Step old command reply new = ⊥
-
--- A session stands for some list of writes, and this is what the command did to the pool.
-pub record Moves (stands : List Write → Type 0) (old : Pool) (command : Command) (reply : Reply) (pool : List Write → Pool) : Type 0 where
-  pub writes : List Write
-  pub represents : stands writes
-  pub step : Step old command reply (pool writes)
-
--- the one pool that can be created
-pub record IsFirstPool (spec : List ℕ) (children : ℕ) (keys : PoolKeys) : Type 0 where
-  pub spec_is : spec ≡ codes "draid1:2d:3c:0s"
-  pub children_is : children ≡ 3
-  pub keys_are : keys ≡ record { sector = 512; height = 8; metaslabs = 1; slices = 4; seed = 1 }
-
--- a pool was created, and this is the reply
-pub record Creates (name : List ℕ) (stripes : ℕ) (new : Pool) : Type 0 where
-  pub name_is : name ≡ codes "draid1:2d:3c:0s-0"
-  pub stripes_are : stripes ≡ 32
-  pub fresh : IsFresh new
+Step (WriteObject object bytes) (Missed o columns) old new = (o ≡ object) × Misses bytes columns old new
+Step (WriteObject object bytes) (NoMemory name.Write) old new = Stays old new
+Step (ReadObject object) (Contents o bytes) old new = (o ≡ object) × ReadsLast old.writes object bytes.items × Looks old new
+Step (ReadObject object) (NoObject o) old new = (o ≡ object) × (bytes_of old.writes object ≡ None) × Looks old new
+Step (ReadObject object) (Unreadable o absent tried) old new = (o ≡ object) × IsLost object absent tried old new × Looks old new
+Step (ReadObject object) (NoMemory name.Read) old new = Looks old new
+Step (SumObjects first count) (Summed f c digest) old new = (f ≡ first) × (c ≡ count) × Sums old.writes first count digest × Looks old new
+Step (SumObjects first count) (SumRefused object why) old new = SumStops first count object why old new
+Step (SumObjects first count) (NoMemory name.Sum) old new = Looks old new
+Step (DamageSector leaf sector) (Damaged l s) old new = (l ≡ leaf) × (s ≡ sector) × Damages leaf sector old new
+Step (DamageSector leaf sector) (DamageRefused l s) old new = (l ≡ leaf) × (s ≡ sector) × (IsThere old leaf sector → ⊥) × Stays old new
+Step (DamageSector leaf sector) (DamageFailed l s) old new = (l ≡ leaf) × (s ≡ sector) × FailsToDamage leaf sector old new
+Step command reply old new = ⊥
 
 -- What a command does where a pool is open, or none is, and its reply, if it has one.
-abbrev pub Turns : Option Pool → Command → Option Reply → Option Pool → Type 0
+abbrev pub Turns : Option State → Command → Option Reply → Option State → Type 0
 Turns old Silent None new = new ≡ old
-Turns None (CreatePool spec children keys) (Some (Created name stripes)) (Some new) = IsFirstPool spec children keys × Creates (string_bytes name) stripes new
-Turns (Some old) (CreatePool spec children keys) (Some (PoolOpen name.Create)) new = IsFirstPool spec children keys × (new ≡ Some old)
+Turns None (CreatePool text children keys) (Some (Created called stripes)) (Some new) = (keys.metaslabs ≡ 1) × Creates text children keys (string_bytes called) stripes new
+Turns None (CreatePool text children keys) (Some (CreateRefused why)) new = (keys.metaslabs ≡ 1) × HasNoLayout text children keys why × (new ≡ None)
+Turns None (CreatePool text children keys) (Some (NoMemory name.Create)) new = (keys.metaslabs ≡ 1) × HasLayout text children keys × (new ≡ None)
+Turns (Some old) (CreatePool text children keys) (Some (PoolOpen name.Create)) new = (keys.metaslabs ≡ 1) × (new ≡ Some old)
 Turns None (WriteObject object bytes) (Some (NoPool name.Write)) new = new ≡ None
 Turns None (ReadObject object) (Some (NoPool name.Read)) new = new ≡ None
-Turns (Some old) command (Some reply) (Some new) = Step old command reply new
+Turns None (SumObjects first count) (Some (NoPool name.Sum)) new = new ≡ None
+Turns None (DamageSector leaf sector) (Some (NoPool name.Damage)) new = new ≡ None
+Turns (Some old) command (Some reply) (Some new) = Step command reply old new
 Turns old command reply new = ⊥
 
 -- what a line of the script does
-abbrev pub TurnsBy : Result Command LineFault → Option Pool → Option Reply → Option Pool → Type 0
+abbrev pub TurnsBy : Result Command LineFault → Option State → Option Reply → Option State → Type 0
 TurnsBy (Err fault) old reply new = ⊥
 TurnsBy (Ok command) old reply new = Turns old command reply new
 
 -- The lines were answered by the replies, one after another.
-abbrev pub Runs : Option Pool → List (List ℕ) → List (Option Reply) → Option Pool → Type 0
+abbrev pub Runs : Option State → List (List ℕ) → List (Option Reply) → Option State → Type 0
 Runs old [] [] new = new ≡ old
 Runs old (line ∷ lines) (reply ∷ replies) new =
-    (mid : Option Pool) × TurnsBy (line_of line) old reply mid × Runs mid lines replies new
+    (mid : Option State) × TurnsBy (line_of line) old reply mid × Runs mid lines replies new
 Runs old lines replies new = ⊥
 
 -- the command is beyond what is built
 abbrev pub IsUnbuilt : Command → Type 0
 IsUnbuilt Silent = ⊥
-IsUnbuilt (CreatePool spec children keys) = IsFirstPool spec children keys → ⊥
+IsUnbuilt (CreatePool text children keys) = keys.metaslabs ≡ 1 → ⊥
 IsUnbuilt (WriteObject object bytes) = ⊥
 IsUnbuilt (ReadObject object) = ⊥
+IsUnbuilt (SumObjects first count) = ⊥
+IsUnbuilt (DamageSector leaf sector) = ⊥
 IsUnbuilt command = ⊤
 
 -- Why a line can't be run: its first fault by the grammar, or 7 at 0 where its command is beyond what is built.

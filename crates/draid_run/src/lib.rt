@@ -2,12 +2,10 @@
 
 #![tactic(auto)]
 
+mod answer;
+mod replies;
 mod serve;
-mod session;
 mod status;
-mod store;
-#[cfg(test)]
-mod tests;
 mod top;
 
 pub use status::Status;

@@ -1,175 +1,29 @@
 ghost use Rattle.std.specs.Prelude.{◌≡◌, ◌<◌, ◌≤◌, ◌+◌, ◌^◌, ℕ, List, Some, None, Ok, Err, IfOk, IsTrue, OnErr, ◌↔◌, []};
 ghost use Rattle.std.specs.Io.KnownBytes.{prepend_known};
 ghost use Rattle.draid_names.specs.Faults.{Rose};
-ghost use Rattle.draid_script.specs.Line.{IsInRange, ReadObject, WriteObject, command_in};
 ghost use Rattle.draid_script.specs.Reply.{text_of};
-ghost use Rattle.draid_run.specs.State.{IsFirstPool, IsFresh, Write};
-ghost use Rattle.draid_run.specs.Session.{IsDesk, Represents, pool_of, seq_of, state_of};
-ghost use Rattle.draid_run.specs.Serve.{AnswerIs, LineIs, Opens, PrintIs, Served, TextIs, Turned};
+ghost use Rattle.draid_pool.specs.State.{Write};
+ghost use Rattle.draid_run.specs.Session.{IsDesk, seq_of};
+ghost use Rattle.draid_run.specs.Serve.{LineIs, PrintIs, Served, TextIs};
 
-use crate::session::Session;
+use crate::answer::{Unbuilt, answer};
 use crate::status::Status;
-use draid_names::{Failed, NoMemory};
-use draid_rack::Rack;
+use draid_names::Failed;
+use draid_pool::Pool;
 use draid_script::{
-    CommandName, Line, LineFault, Lines, ParseFault, PoolKeys, ReadFault, Reply, Sink, Source,
-    parse_line, reply_text,
+    LineFault, Lines, ParseFault, ReadFault, Reply, Sink, Source, parse_line, reply_text,
 };
-use draid_shard::Shard;
-use draid_shelf::{Extent, Shelf};
+use draid_shelf::Shelf;
 use std::alloc::Global;
 
 /// One line more than a script may have.
 const LINES: u64 = 1_048_577;
 
-/// The leaves of the one pool that can be created.
-const EXTENT: Extent = Extent {
-    leaves: 3,
-    sectors: 32,
-};
-
-/// Why a line was not answered.
-#[derive(Clone, Copy, Debug, PartialEq, Eq)]
-pub(crate) enum Unanswered {
-    /// It is beyond what is built.
-    Unbuilt,
-    NoMemory,
-}
-
-/// The spec, the children and the keys of the one pool that can be created, and its name.
-const SPEC: &[u8] = b"draid1:2d:3c:0s";
-
-const CHILDREN: u32 = 3;
-
-const KEYS: PoolKeys = PoolKeys {
-    sector: 512,
-    height: 8,
-    metaslabs: 1,
-    slices: 4,
-    seed: 1,
-};
-
-const NAME: &str = "draid1:2d:3c:0s-0";
-
-/// Makes the pool on the shelf, and opens it.
-fn create<H: Shelf>(alloc: Global, shelf: &mut H) -> Result<Session<H::R>, NoMemory>
-    ensures { IfOk result (λ session. Represents H.R.shape H.R.told session [] × IsFresh (pool_of H.R.told H.R.faults session [])) }
-{
-    shelf.make(alloc, EXTENT)?;
-    let rack = shelf.take()?;
-    match Shard::create(alloc, rack) {
-        Ok(shard) => Ok(Session {
-            shard,
-            objects: Vec::new(alloc),
-            seq: 0,
-        }),
-        Err(refused) => {
-            shelf.give(refused.rack);
-            Err(NoMemory)
-        }
-    }
-}
-
-/// Whether this is the one pool that can be created.
-fn is_first_pool(spec: &[u8], children: u32, keys: PoolKeys) -> bool
-    ensures { IsTrue result ↔ IsFirstPool spec.now children keys }
-{
-    spec == SPEC && children == CHILDREN && keys == KEYS
-}
-
-/// Opens a new pool, where none is open.
-fn open_new<H: Shelf>(
-    alloc: Global,
-    shelf: &mut H,
-    pool: &mut Option<Session<H::R>>,
-) -> Result<Reply, NoMemory>
-    ensures opened { (writes : List Write) → IsDesk H.R.shape H.R.told pool.old writes
-        → IfOk result (Opens H.R.shape H.R.told H.R.faults pool.old writes pool.new) }
-    ensures err { OnErr result (pool.new ≡ pool.old) }
-    ensures seq { seq_of pool.new ≤ seq_of pool.old }
-{
-    if pool.is_some() {
-        return Ok(Reply::PoolOpen {
-            command: CommandName::Create,
-        });
-    }
-    let name = String::from_str(alloc, NAME)?;
-    *pool = Some(create(alloc, shelf)?);
-    Ok(Reply::Created { name, stripes: 32 })
-}
-
-/// Does what a line asks for. An empty line and a comment have no reply.
-fn answer<H: Shelf>(
-    alloc: Global,
-    shelf: &mut H,
-    pool: &mut Option<Session<H::R>>,
-    line: Line,
-) -> Result<Option<Reply>, Unanswered>
-    requires range { IsInRange (command_in line) }
-    requires desk { (writes : List Write) × IsDesk H.R.shape H.R.told pool.old writes }
-    requires seq { seq_of pool.old + 1 < 2 ^ 48 }
-    ensures answer { (writes : List Write) → IsDesk H.R.shape H.R.told pool.old writes
-        → AnswerIs H.R.shape H.R.told H.R.faults (command_in line) pool.old writes pool.new result }
-    ensures seq { seq_of pool.new ≤ seq_of pool.old + 1 }
-{
-    match line {
-        Line::Nothing => Ok(None),
-        Line::Create {
-            spec,
-            children,
-            keys,
-        } => {
-            if !is_first_pool(&spec, children, keys) {
-                return Err(Unanswered::Unbuilt);
-            }
-            match open_new(alloc, shelf, pool) {
-                Ok(reply) => Ok(Some(reply)),
-                Err(NoMemory) => Err(Unanswered::NoMemory),
-            }
-        }
-        Line::Write { object, bytes } => Ok(Some(write(alloc, pool, object, &bytes))),
-        Line::Read { object } => Ok(Some(read(alloc, pool, object))),
-        _ => Err(Unanswered::Unbuilt),
-    }
-}
-
-/// Writes to the pool that is open, if one is.
-fn write<R: Rack>(alloc: Global, pool: &mut Option<Session<R>>, object: u64, bytes: &[u8]) -> Reply
-    requires range { IsInRange (WriteObject object bytes.now) }
-    requires desk { (writes : List Write) × IsDesk R.shape R.told pool.old writes }
-    requires seq { seq_of pool.old + 1 < 2 ^ 48 }
-    ensures turned { (writes : List Write) → IsDesk R.shape R.told pool.old writes
-        → Turned R.shape R.told R.faults (Ok (WriteObject object bytes.now)) (state_of R.told R.faults pool.old writes) (Some result) pool.new }
-    ensures seq { seq_of pool.new ≤ seq_of pool.old + 1 }
-{
-    match pool {
-        Some(session) => session.write(alloc, object, bytes),
-        None => Reply::NoPool {
-            command: CommandName::Write,
-        },
-    }
-}
-
-/// Reads from the pool that is open, if one is.
-fn read<R: Rack>(alloc: Global, pool: &mut Option<Session<R>>, object: u64) -> Reply
-    requires desk { (writes : List Write) × IsDesk R.shape R.told pool.old writes }
-    ensures turned { (writes : List Write) → IsDesk R.shape R.told pool.old writes
-        → Turned R.shape R.told R.faults (Ok (ReadObject object)) (state_of R.told R.faults pool.old writes) (Some result) pool.new }
-    ensures seq { seq_of pool.new ≡ seq_of pool.old }
-{
-    match pool {
-        Some(session) => session.read(alloc, object),
-        None => Reply::NoPool {
-            command: CommandName::Read,
-        },
-    }
-}
-
 /// Runs one line, with this number, and prints its reply.
 fn serve_line<H: Shelf, K: Sink>(
     alloc: Global,
     shelf: &mut H,
-    pool: &mut Option<Session<H::R>>,
+    pool: &mut Option<Pool<H::R>>,
     sink: &mut K,
     number: u64,
     text: &[u8],
@@ -196,14 +50,13 @@ fn serve_line<H: Shelf, K: Sink>(
     let reply = match answer(alloc, shelf, pool, line) {
         Ok(Some(reply)) => reply,
         Ok(None) => return Ok(()),
-        Err(Unanswered::Unbuilt) => {
+        Err(Unbuilt) => {
             return Err(Status::Line {
                 line: number,
                 kind: 7,
                 at: 0,
             });
         }
-        Err(Unanswered::NoMemory) => return Err(Status::NoMemory),
     };
     print_reply(alloc, sink, &reply)
 }
@@ -246,7 +99,7 @@ fn next_text<S: Source>(
 pub(crate) fn serve<H: Shelf, S: Source, K: Sink>(
     alloc: Global,
     shelf: &mut H,
-    pool: &mut Option<Session<H::R>>,
+    pool: &mut Option<Pool<H::R>>,
     source: &mut S,
     sink: &mut K,
 ) -> Status

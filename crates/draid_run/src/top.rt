@@ -1,12 +1,12 @@
 ghost use Rattle.std.specs.Prelude.{◌≡◌, ◌↔◌, ◌≤◌, ◌⊎◌, ⊤, List, MatchOption, IsTrue, map, string_bytes};
 ghost use Rattle.draid_names.specs.Faults.{Rose};
-ghost use Rattle.draid_run.specs.Session.{IsDesk, state_of};
-ghost use Rattle.draid_run.specs.State.{Write};
+ghost use Rattle.draid_run.specs.Session.{IsDesk, state_in};
+ghost use Rattle.draid_pool.specs.State.{Write};
 ghost use Rattle.draid_run.specs.Script.{EndsWithLine, HoldsPool, IsSession, Prints, RunIs};
 
 use crate::serve::serve;
-use crate::session::Session;
 use crate::status::{Status, fixed_line, numbered_line};
+use draid_pool::Pool;
 use draid_script::{Sink, Source};
 use draid_shelf::Shelf;
 use std::alloc::Global;
@@ -55,11 +55,11 @@ fn is_session(words: &[String]) -> bool
 }
 
 /// Gives the rack of an open pool back to the shelf.
-fn give_back<H: Shelf>(shelf: &mut H, pool: Option<Session<H::R>>)
-    ensures { (writes : List Write) → IsDesk H.R.shape H.R.told pool writes → MatchOption (state_of H.R.told H.R.faults pool writes) ⊤ (HoldsPool (H.holds shelf.new) (H.counts shelf.new)) }
+fn give_back<H: Shelf>(shelf: &mut H, pool: Option<Pool<H::R>>)
+    ensures { (writes : List Write) → IsDesk H.R.shape H.R.told pool writes → MatchOption (state_in H.R.told H.R.faults pool writes) ⊤ (HoldsPool (H.holds shelf.new 0) (H.counts shelf.new 0)) }
 {
-    if let Some(session) = pool {
-        shelf.give(session.into_rack());
+    if let Some(pool) = pool {
+        shelf.give(0, pool.into_rack());
     }
 }
 
@@ -72,7 +72,7 @@ pub fn run<H: Shelf, S: Source, K: Sink, A: AllocGlobal>(
     source: &mut S,
     sink: &mut K,
 ) -> Status
-    ensures run { RunIs (map string_bytes words.now) result (S.left source.old) (K.held sink.old) (K.held sink.new) (H.holds shelf.new) (H.counts shelf.new) }
+    ensures run { RunIs (map string_bytes words.now) result (S.left source.old) (K.held sink.old) (K.held sink.new) (H.holds shelf.new 0) (H.counts shelf.new 0) }
 
     // The devices are to blame only where they failed in this run.
     ensures source_fault { result ≡ Status.SourceFault → Rose (S.faults source.old) (S.faults source.new) }

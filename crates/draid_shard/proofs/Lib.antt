@@ -1,7 +1,8 @@
 pub mod Columns
 pub mod Fetched
-pub mod Largest
+pub mod Places
+pub mod Put
 pub mod Read
+pub mod Stand
 pub mod Tables
-pub mod Undone
 pub mod Written

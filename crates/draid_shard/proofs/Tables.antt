@@ -1,186 +1,291 @@
 -- The tables fit together after each change of one entry.
-use Rattle.std.proofs.Common.{◌≡◌, ◌⊎◌, ◌+◌, ◌<◌, ◌≤◌, ◌%◌, ℕ, List, Bool, true, false, Option, Some, None, arith, refl, sym, ap, inl, inr, ◌∙◌, length, get_or, set, length-set, get_or-set_same, get_or-set_other, subst}
+use Rattle.std.proofs.Common.{rules, if◌then◌else◌, ◌≡◌, ◌⊎◌, ◌+◌, ◌*◌, ◌<◌, ◌≤◌, ◌%◌, ◌/◌, ◌&&◌, ◌||◌, not, ℕ, List, Bool, true, false, Option, Some, None, arith, refl, sym, ap, inl, inr, ◌∙◌, subst, [], ◌∷◌, length}
+use Rattle.std.proofs.Math.Nat.{mod-lt, mul-le-mul_right}
 use Rattle.std.proofs.lemmas.Bool.{cases_lt, cases_eq}
 use Rattle.std.proofs.lemmas.Bool.Decides.{nat_tests}
+use Rattle.std.specs.Ordering.{is_eq, nat_cmp}
+use Rattle.std.specs.BTreeMap.{BTreeMap, btree_map_len, is_at, Updates}
+use Rattle.std.specs.Map.{lookup}
+use Rattle.std.specs.Prelude.{is_some}
 use Rattle.draid_names.specs.declared.pointer.Pointer.{Pointer}
+use Rattle.draid_spec.specs.declared.layout.Geometry.{Geometry}
+use Rattle.draid_map.specs.Place.{part_stripes}
+use Rattle.draid_map.proofs.Radix.{its_digits}
+use Rattle.draid_ranges.specs.Runs.{is_between}
+use Rattle.draid_metaslab.specs.Spaces.{Frees, IsKept, Stripes, is_free}
+use Rattle.draid_metaslab.specs.Spots.{IsLowest, IsSpot}
 use Rattle.draid_shard.specs.declared.entry.Entry.{Entry}
-use Rattle.draid_shard.specs.Space.{FitsRun, SetsRun}
+use Rattle.draid_shard.specs.Part.{IsRun}
 use Rattle.draid_shard.specs.Entry.{IsSized, IsPlaced, SetsEntry, Tables, entry_at, live, opened}
 
 -- an entry is the one that was set, or one that was there elsewhere
-pub entry_cases : (old new : List (Option Entry)) (at k : ℕ) (entry : Option Entry) (e : Entry) → SetsEntry old new at entry → entry_at new k ≡ Some e
+pub entry_cases : (old new : BTreeMap ℕ Entry) (at k : ℕ) (entry : Option Entry) (e : Entry) → SetsEntry old new at entry → entry_at new k ≡ Some e
     → ((k ≡ at) × (entry ≡ Some e)) ⊎ ((k ≡ at → ⊥) × (entry_at old k ≡ Some e))
 entry_cases old new at k entry e sets h = elim (cases_eq k at) [
-  | inl same ↦ inr_or same
+  | inl same ↦ here same
   | inr other ↦ inr (other, sym (sets.others k other) ∙ h)
 ] where
-  inr_or : k ≡ at → ((k ≡ at) × (entry ≡ Some e)) ⊎ ((k ≡ at → ⊥) × (entry_at old k ≡ Some e))
-  inr_or same = inl (same, sym sets.here ∙ ap (entry_at new) (sym same) ∙ h)
+  here : k ≡ at → ((k ≡ at) × (entry ≡ Some e)) ⊎ ((k ≡ at → ⊥) × (entry_at old k ≡ Some e))
+  here same = inl (same, sym sets.here ∙ ap (entry_at new) (sym same) ∙ h)
 
--- a stripe is free, and so not one of an entry's
-free_apart : (taken : List Bool) (entries : List (Option Entry)) (pointer : Pointer) → Tables taken entries → FitsRun taken pointer.first pointer.stripes
-    → (k : ℕ) (e : Entry) → entry_at entries k ≡ Some e → (k + e.pointer.stripes ≤ pointer.first) ⊎ (pointer.first + pointer.stripes ≤ k)
-free_apart taken entries pointer t fits k e h = elim (cases_lt k pointer.first) [ inl before ↦ inl (lower before) | inr after ↦ inr (upper after) ] where
-  p : IsPlaced taken k e.pointer
+-- an entry's stripes are a run
+pub entry_run : (geometry : Geometry) (space : Stripes) (blocks : BTreeMap ℕ Entry) (k : ℕ) (e : Entry) → Tables geometry space blocks → entry_at blocks k ≡ Some e
+    → IsRun geometry e.pointer.first e.pointer.stripes
+entry_run geometry space blocks k e t h =
+    let p = t.placed k e h in
+    let f : e.pointer.first ≡ k = p.first in
+    record { some = p.some; inside = rw f p.inside; group = rw f p.group }
+
+-- a spot of free stripes within one group lies so in the group that its first stripe has
+spot_group : (height first need group : ℕ) → 0 < height → 0 < need → group * height ≤ first → first + need ≤ group * height + height → first % height + need ≤ height
+spot_group height first need group some more low high =
+    let digits : first / height * height + first % height ≡ first = its_digits height first in
+    let less : first % height < height = mod-lt first some in
+    let q : first / height ≡ group = elim (cases_lt (first / height) group) [
+      | inl below ↦
+          let up : (first / height + 1) * height ≤ group * height = mul-le-mul_right height (omega arith) in
+          let next : (first / height + 1) * height ≡ first / height * height + height = grind arith in
+          absurd (omega (arith, digits, less, up, next))
+      | inr above ↦ elim (cases_lt group (first / height)) [
+        | inl more_than ↦
+            let up : (group + 1) * height ≤ first / height * height = mul-le-mul_right height (omega arith) in
+            let next : (group + 1) * height ≡ group * height + height = grind arith in
+            absurd (omega (arith, digits, up, next))
+        | inr not_more ↦ omega arith
+      ]
+    ] in
+    let at : group * height + first % height ≡ first = subst (λ g. g * height + first % height ≡ first) q digits in
+    omega (arith, at)
+
+-- what the run that was taken is: free before
+pub record IsTaken (geometry : Geometry) (free : ℕ → Bool) (first need : ℕ) : Type 0 where
+  pub run : IsRun geometry first need
+  pub was_free : (x : ℕ) → first ≤ x → x < first + need → free x ≡ true
+
+pub spot_taken : (geometry : Geometry) (space : Stripes) (blocks : BTreeMap ℕ Entry) (first need : ℕ) → Tables geometry space blocks → 0 < need
+    → IsSpot (is_free space) space.height need first → first + need ≤ space.total → IsTaken geometry (is_free space) first need
+spot_taken geometry space blocks first need t more spot inside =
+    let height = t.height in
+    let total = t.total in
+    let low = spot.from in
+    let high = spot.to in
+    let some : 0 < space.height = omega (arith, low, high) in
+    let group : first % space.height + need ≤ space.height = spot_group space.height first need spot.group some more low high in
+    record {
+      run = record { some = omega arith; inside = omega (arith, total); group = rw (sym height) group };
+      was_free = spot.all;
+    }
+
+-- stripes that were taken and freed again are free as before
+pub back_again : (old mid new : ℕ → Bool) (first need : ℕ) → ((x : ℕ) → first ≤ x → x < first + need → old x ≡ true)
+    → ((x : ℕ) → mid x ≡ (old x && not (is_between first (first + need) x))) → ((x : ℕ) → new x ≡ (mid x || is_between first (first + need) x))
+    → (x : ℕ) → new x ≡ old x
+back_again old mid new first need were takes frees x =
+    let a = takes x in let b = frees x in let f = were x in grind (arith, nat_tests, a, b, f)
+
+-- stripes are free, and so none of an entry's
+free_apart : (geometry : Geometry) (space : Stripes) (blocks : BTreeMap ℕ Entry) (first need : ℕ) → Tables geometry space blocks → IsTaken geometry (is_free space) first need
+    → (k : ℕ) (e : Entry) → entry_at blocks k ≡ Some e → (k + e.pointer.stripes ≤ first) ⊎ (first + need ≤ k)
+free_apart geometry space blocks first need t fits k e h = elim (cases_lt k first) [ inl before ↦ inl (lower before) | inr after ↦ inr (upper after) ] where
+  p : IsPlaced geometry (is_free space) k e.pointer
   p = t.placed k e h
 
-  lower : k < pointer.first → k + e.pointer.stripes ≤ pointer.first
-  lower before = elim (cases_lt pointer.first (k + e.pointer.stripes)) [
+  lower : k < first → k + e.pointer.stripes ≤ first
+  lower before = elim (cases_lt first (k + e.pointer.stripes)) [
     | inr apart ↦ apart
-    | inl meets ↦ (let a = p.held pointer.first (omega arith) meets in let s = fits.some in let b = fits.free pointer.first (omega arith) (omega arith) in absurd (cc))
+    | inl meets ↦ (let a = p.held first (omega arith) meets in let s = fits.run.some in let b = fits.was_free first (omega arith) (omega arith) in absurd (cc))
   ]
 
-  upper : pointer.first ≤ k → pointer.first + pointer.stripes ≤ k
-  upper after = elim (cases_lt k (pointer.first + pointer.stripes)) [
+  upper : first ≤ k → first + need ≤ k
+  upper after = elim (cases_lt k (first + need)) [
     | inr apart ↦ apart
-    | inl meets ↦ (let s = p.some in let a = p.held k (omega arith) (omega arith) in let b = fits.free k after meets in absurd (cc))
+    | inl meets ↦ (let s = p.some in let a = p.held k (omega arith) (omega arith) in let b = fits.was_free k after meets in absurd (cc))
   ]
 
-pub none_at : (taken : List Bool) (entries : List (Option Entry)) (pointer : Pointer) → Tables taken entries → FitsRun taken pointer.first pointer.stripes
-    → entry_at entries pointer.first ≡ None
-none_at taken entries pointer t fits = by_cases (entry_at entries pointer.first) refl where
-  by_cases : (o : Option Entry) → entry_at entries pointer.first ≡ o → entry_at entries pointer.first ≡ None
+pub none_at : (geometry : Geometry) (space : Stripes) (blocks : BTreeMap ℕ Entry) (first need : ℕ) → Tables geometry space blocks → IsTaken geometry (is_free space) first need
+    → entry_at blocks first ≡ None
+none_at geometry space blocks first need t fits = by_cases (entry_at blocks first) refl where
+  by_cases : (o : Option Entry) → entry_at blocks first ≡ o → entry_at blocks first ≡ None
   by_cases None e = e
   by_cases (Some entry) e =
-      let p = t.placed pointer.first entry e in
+      let p = t.placed first entry e in
       let s = p.some in
-      let a = p.held pointer.first (omega arith) (omega arith) in
-      let f = fits.some in
-      let b = fits.free pointer.first (omega arith) (omega arith) in
+      let a = p.held first (omega arith) (omega arith) in
+      let f = fits.run.some in
+      let b = fits.was_free first (omega arith) (omega arith) in
       absurd (cc)
 
--- a stripe of a set run, and one of the others
-set_here : (old new : List Bool) (first need : ℕ) (value : Bool) → SetsRun old new first need value → (i : ℕ) → first ≤ i → i < first + need → get_or new i true ≡ value
-set_here old new first need value sets i low high = let s = sets.stripes i in grind (arith, nat_tests, s)
-
-set_other : (old new : List Bool) (first need : ℕ) (value : Bool) → SetsRun old new first need value → (i : ℕ) → (i < first) ⊎ (first + need ≤ i)
-    → get_or new i true ≡ get_or old i true
-set_other old new first need value sets i out = let s = sets.stripes i in grind (arith, nat_tests, s)
-
--- a stripe that was taken is taken once a run has been taken
-keeps_taken : (old new : List Bool) (first need : ℕ) → SetsRun old new first need true → (i : ℕ) → get_or old i true ≡ true → get_or new i true ≡ true
-keeps_taken old new first need sets i h = let s = sets.stripes i in grind (arith, nat_tests, s, h)
-
 -- an entry whose stripes are still taken
-moved : (old new : List Bool) (k : ℕ) (pointer : Pointer) → IsPlaced old k pointer → ((i : ℕ) → k ≤ i → i < k + pointer.stripes → get_or new i true ≡ true)
-    → IsPlaced new k pointer
-moved old new k pointer p held = record { first = p.first; some = p.some; inside = p.inside; group = p.group; held = held; sized = p.sized }
+moved : (geometry : Geometry) (old new : ℕ → Bool) (k : ℕ) (pointer : Pointer) → IsPlaced geometry old k pointer
+    → ((x : ℕ) → k ≤ x → x < k + pointer.stripes → new x ≡ false) → IsPlaced geometry new k pointer
+moved geometry old new k pointer p held = record { first = p.first; some = p.some; inside = p.inside; group = p.group; held = held; sized = p.sized }
 
--- a write to the table sets one entry
-pub set_entry : (entries : List (Option Entry)) (at : ℕ) (entry : Option Entry) → at < length entries → SetsEntry entries (set entries at entry) at entry
-set_entry entries at entry lt = record {
-  len = length-set entries at entry;
-  here = get_or-set_same entries at entry None lt;
-  others = λ k other. get_or-set_other entries at k entry None other;
+-- the space as it was, or with another number of runs that are out
+pub record IsSpaceOf (geometry : Geometry) (space : Stripes) (runs : ℕ) : Type 0 where
+  pub height : space.height ≡ geometry.props.height
+  pub total : space.total ≡ part_stripes geometry
+  pub enabled : space.disabled ≡ false
+  pub count : space.held ≡ runs
+
+pub space_of : (geometry : Geometry) (old new : Stripes) (blocks : BTreeMap ℕ Entry) (runs : ℕ) → Tables geometry old blocks → IsKept old new → new.held ≡ runs → IsSpaceOf geometry new runs
+space_of geometry old new blocks runs t kept count =
+    record { height = kept.height ∙ t.height; total = kept.total ∙ t.total; enabled = kept.disabled ∙ t.enabled; count = count }
+
+-- no entry changed, and just the same stripes are free
+pub kept_tables : (geometry : Geometry) (old new : Stripes) (blocks new_blocks : BTreeMap ℕ Entry) → Tables geometry old blocks
+    → ((k : ℕ) → entry_at new_blocks k ≡ entry_at blocks k) → ((x : ℕ) → is_free new x ≡ is_free old x)
+    → IsSpaceOf geometry new (btree_map_len new_blocks) → Tables geometry new new_blocks
+kept_tables geometry old new blocks new_blocks t same free is = record {
+  height = is.height;
+  total = is.total;
+  enabled = is.enabled;
+  count = is.count;
+  placed = λ k e h. let p = t.placed k e (sym (same k) ∙ h) in moved geometry (is_free old) (is_free new) k e.pointer p (λ x low high. free x ∙ p.held x low high);
+  apart = λ j k a b ha hb lt. t.apart j k a b (sym (same j) ∙ ha) (sym (same k) ∙ hb) lt;
 }
 
--- an entry stands within the table
-pub entry_within : (taken : List Bool) (entries : List (Option Entry)) (k : ℕ) (e : Entry) → Tables taken entries → entry_at entries k ≡ Some e → k < length entries
-entry_within taken entries k e t h = let p = t.placed k e h in omega (arith, p.inside, p.some, t.places)
-
-pub held_tables : (taken new_taken : List Bool) (entries new_entries : List (Option Entry)) (pointer : Pointer) → Tables taken entries
-    → FitsRun taken pointer.first pointer.stripes → IsSized pointer → SetsRun taken new_taken pointer.first pointer.stripes true
-    → SetsEntry entries new_entries pointer.first (Some (opened pointer)) → Tables new_taken new_entries
-held_tables taken new_taken entries new_entries pointer t fits sized takes sets = record {
-  stripes = takes.len ∙ t.stripes;
-  places = sets.len ∙ t.places;
-  placed = λ k e h. elim (entry_cases entries new_entries pointer.first k (Some (opened pointer)) e sets h) [
+pub held_tables : (geometry : Geometry) (old new : Stripes) (blocks new_blocks : BTreeMap ℕ Entry) (pointer : Pointer) → Tables geometry old blocks
+    → IsTaken geometry (is_free old) pointer.first pointer.stripes → IsSized geometry pointer
+    → ((x : ℕ) → is_free new x ≡ (is_free old x && not (is_between pointer.first (pointer.first + pointer.stripes) x)))
+    → SetsEntry blocks new_blocks pointer.first (Some (opened pointer)) → IsSpaceOf geometry new (btree_map_len new_blocks) → Tables geometry new new_blocks
+held_tables geometry old new blocks new_blocks pointer t fits sized takes sets is = record {
+  height = is.height;
+  total = is.total;
+  enabled = is.enabled;
+  count = is.count;
+  placed = λ k e h. elim (entry_cases blocks new_blocks pointer.first k (Some (opened pointer)) e sets h) [
     | inl own ↦ own_placed k e own.0 own.1
     | inr other ↦ old_placed k e other.1
   ];
-  apart = λ j k a b ha hb lt. elim (entry_cases entries new_entries pointer.first j (Some (opened pointer)) a sets ha) [
-    | inl own ↦ elim (entry_cases entries new_entries pointer.first k (Some (opened pointer)) b sets hb) [
+  apart = λ j k a b ha hb lt. elim (entry_cases blocks new_blocks pointer.first j (Some (opened pointer)) a sets ha) [
+    | inl own ↦ elim (entry_cases blocks new_blocks pointer.first k (Some (opened pointer)) b sets hb) [
       | inl both ↦ absurd (omega (arith, own.0, both.0))
       | inr other ↦ first_own j k a b own.0 own.1 other.1 lt
     ]
-    | inr other ↦ elim (entry_cases entries new_entries pointer.first k (Some (opened pointer)) b sets hb) [
+    | inr other ↦ elim (entry_cases blocks new_blocks pointer.first k (Some (opened pointer)) b sets hb) [
       | inl own ↦ second_own j k a b own.0 own.1 other.1 lt
       | inr both ↦ t.apart j k a b other.1 both.1 lt
     ]
   ];
 } where
-  own_placed : (k : ℕ) (e : Entry) → k ≡ pointer.first → Some (opened pointer) ≡ Some e → IsPlaced new_taken k e.pointer
+  own_placed : (k : ℕ) (e : Entry) → k ≡ pointer.first → Some (opened pointer) ≡ Some e → IsPlaced geometry (is_free new) k e.pointer
   own_placed k e same is =
-      let P : Pointer → Type 0 = λ p. IsPlaced new_taken k p in
+      let P : Pointer → Type 0 = λ p. IsPlaced geometry (is_free new) k p in
       let eq : pointer ≡ e.pointer = cc in
-      let len : length taken ≡ 32 = t.stripes in
-      let inside : pointer.first + pointer.stripes ≤ length taken = fits.inside in
-      let group : pointer.first % 8 + pointer.stripes ≤ 8 = fits.group in
       subst P eq (record {
         first = sym same;
-        some = fits.some;
-        inside = omega (arith, same);
-        group = rw same group;
-        held = λ i low high. set_here taken new_taken pointer.first pointer.stripes true takes i (omega (arith, same)) (omega (arith, same));
+        some = fits.run.some;
+        inside = (let i = fits.run.inside in omega (arith, same, i));
+        group = rw same fits.run.group;
+        held = λ x low high. (let was = takes x in let f = fits.was_free x (omega (arith, same)) (omega (arith, same)) in grind (arith, nat_tests, was, f, same));
         sized = sized;
       })
 
-  old_placed : (k : ℕ) (e : Entry) → entry_at entries k ≡ Some e → IsPlaced new_taken k e.pointer
+  old_placed : (k : ℕ) (e : Entry) → entry_at blocks k ≡ Some e → IsPlaced geometry (is_free new) k e.pointer
   old_placed k e h =
       let p = t.placed k e h in
-      moved taken new_taken k e.pointer p (λ i low high. keeps_taken taken new_taken pointer.first pointer.stripes takes i (p.held i low high))
+      moved geometry (is_free old) (is_free new) k e.pointer p (λ x low high. (let was = takes x in let f = p.held x low high in grind (arith, nat_tests, was, f)))
 
-  first_own : (j k : ℕ) (a b : Entry) → j ≡ pointer.first → Some (opened pointer) ≡ Some a → entry_at entries k ≡ Some b → j < k → j + a.pointer.stripes ≤ k
+  first_own : (j k : ℕ) (a b : Entry) → j ≡ pointer.first → Some (opened pointer) ≡ Some a → entry_at blocks k ≡ Some b → j < k → j + a.pointer.stripes ≤ k
   first_own j k a b same is hb lt =
       let eq : pointer.stripes ≡ a.pointer.stripes = cc in
-      elim (free_apart taken entries pointer t fits k b hb) [
+      elim (free_apart geometry old blocks pointer.first pointer.stripes t fits k b hb) [
         | inl before ↦ absurd (omega (arith, same))
         | inr after ↦ omega (arith, same, eq)
       ]
 
-  second_own : (j k : ℕ) (a b : Entry) → k ≡ pointer.first → Some (opened pointer) ≡ Some b → entry_at entries j ≡ Some a → j < k → j + a.pointer.stripes ≤ k
+  second_own : (j k : ℕ) (a b : Entry) → k ≡ pointer.first → Some (opened pointer) ≡ Some b → entry_at blocks j ≡ Some a → j < k → j + a.pointer.stripes ≤ k
   second_own j k a b same is ha lt =
-      elim (free_apart taken entries pointer t fits j a ha) [
+      elim (free_apart geometry old blocks pointer.first pointer.stripes t fits j a ha) [
         | inl before ↦ omega (arith, same)
-        | inr after ↦ (let s = fits.some in absurd (omega (arith, same)))
+        | inr after ↦ (let s = fits.run.some in absurd (omega (arith, same)))
       ]
 
 -- the entry of a pointer and another one are apart
-entries_apart : (taken : List Bool) (entries : List (Option Entry)) (at k : ℕ) (own e : Entry) → Tables taken entries → entry_at entries at ≡ Some own
-    → entry_at entries k ≡ Some e → (k ≡ at → ⊥) → (k + e.pointer.stripes ≤ at) ⊎ (at + own.pointer.stripes ≤ k)
-entries_apart taken entries at k own e t ho he other = elim (cases_lt k at) [
+pub entries_apart : (geometry : Geometry) (space : Stripes) (blocks : BTreeMap ℕ Entry) (at k : ℕ) (own e : Entry) → Tables geometry space blocks → entry_at blocks at ≡ Some own
+    → entry_at blocks k ≡ Some e → (k ≡ at → ⊥) → (k + e.pointer.stripes ≤ at) ⊎ (at + own.pointer.stripes ≤ k)
+entries_apart geometry space blocks at k own e t ho he other = elim (cases_lt k at) [
   | inl before ↦ inl (t.apart k at e own he ho before)
   | inr after ↦ inr (t.apart at k own e ho he (omega (arith, other)))
 ]
 
-pub released_tables : (taken new_taken : List Bool) (entries new_entries : List (Option Entry)) (pointer : Pointer) → Tables taken entries
-    → entry_at entries pointer.first ≡ Some (opened pointer) → SetsRun taken new_taken pointer.first pointer.stripes false
-    → SetsEntry entries new_entries pointer.first None → Tables new_taken new_entries
-released_tables taken new_taken entries new_entries pointer t own frees sets = record {
-  stripes = frees.len ∙ t.stripes;
-  places = sets.len ∙ t.places;
-  placed = λ k e h. elim (entry_cases entries new_entries pointer.first k None e sets h) [
+pub released_tables : (geometry : Geometry) (old new : Stripes) (blocks new_blocks : BTreeMap ℕ Entry) (pointer : Pointer) → Tables geometry old blocks
+    → entry_at blocks pointer.first ≡ Some (opened pointer)
+    → ((x : ℕ) → is_free new x ≡ (is_free old x || is_between pointer.first (pointer.first + pointer.stripes) x))
+    → SetsEntry blocks new_blocks pointer.first None → IsSpaceOf geometry new (btree_map_len new_blocks) → Tables geometry new new_blocks
+released_tables geometry old new blocks new_blocks pointer t own frees sets is = record {
+  height = is.height;
+  total = is.total;
+  enabled = is.enabled;
+  count = is.count;
+  placed = λ k e h. elim (entry_cases blocks new_blocks pointer.first k None e sets h) [
     | inl none ↦ absurd (let n = none.1 in cc)
     | inr other ↦ old_placed k e other.0 other.1
   ];
-  apart = λ j k a b ha hb lt. elim (entry_cases entries new_entries pointer.first j None a sets ha) [
+  apart = λ j k a b ha hb lt. elim (entry_cases blocks new_blocks pointer.first j None a sets ha) [
     | inl none ↦ absurd (let n = none.1 in cc)
-    | inr first ↦ elim (entry_cases entries new_entries pointer.first k None b sets hb) [
+    | inr first ↦ elim (entry_cases blocks new_blocks pointer.first k None b sets hb) [
       | inl none ↦ absurd (let n = none.1 in cc)
       | inr second ↦ t.apart j k a b first.1 second.1 lt
     ]
   ];
 } where
-  old_placed : (k : ℕ) (e : Entry) → (k ≡ pointer.first → ⊥) → entry_at entries k ≡ Some e → IsPlaced new_taken k e.pointer
+  old_placed : (k : ℕ) (e : Entry) → (k ≡ pointer.first → ⊥) → entry_at blocks k ≡ Some e → IsPlaced geometry (is_free new) k e.pointer
   old_placed k e other h =
       let p = t.placed k e h in
-      moved taken new_taken k e.pointer p (λ i low high. set_other taken new_taken pointer.first pointer.stripes false frees i (out i low high) ∙ p.held i low high) where
-        out : (i : ℕ) → k ≤ i → i < k + e.pointer.stripes → (i < pointer.first) ⊎ (pointer.first + pointer.stripes ≤ i)
-        out i low high = elim (entries_apart taken entries pointer.first k (opened pointer) e t own h other) [
+      moved geometry (is_free old) (is_free new) k e.pointer p (λ x low high. held x (out x low high) (p.held x low high)) where
+        out : (x : ℕ) → k ≤ x → x < k + e.pointer.stripes → (x < pointer.first) ⊎ (pointer.first + pointer.stripes ≤ x)
+        out x low high = elim (entries_apart geometry old blocks pointer.first k (opened pointer) e t own h other) [
           | inl before ↦ inl (omega arith)
           | inr after ↦ inr (omega arith)
         ]
 
-pub published_tables : (taken : List Bool) (entries new_entries : List (Option Entry)) (pointer : Pointer) → Tables taken entries
-    → entry_at entries pointer.first ≡ Some (opened pointer) → SetsEntry entries new_entries pointer.first (Some (live pointer)) → Tables taken new_entries
-published_tables taken entries new_entries pointer t own sets = record {
-  stripes = t.stripes;
-  places = sets.len ∙ t.places;
-  placed = λ k e h. let was = before k e h in let P : Pointer → Type 0 = λ p. IsPlaced taken k p in subst P was.2 (t.placed k was.0 was.1);
+        held : (x : ℕ) → (x < pointer.first) ⊎ (pointer.first + pointer.stripes ≤ x) → is_free old x ≡ false → is_free new x ≡ false
+        held x (inl before) f = let was = frees x in grind (arith, nat_tests, was, f)
+        held x (inr after) f = let was = frees x in grind (arith, nat_tests, was, f)
+
+pub published_tables : (geometry : Geometry) (space : Stripes) (blocks new_blocks : BTreeMap ℕ Entry) (pointer : Pointer) → Tables geometry space blocks
+    → entry_at blocks pointer.first ≡ Some (opened pointer) → SetsEntry blocks new_blocks pointer.first (Some (live pointer))
+    → btree_map_len new_blocks ≡ btree_map_len blocks → Tables geometry space new_blocks
+published_tables geometry space blocks new_blocks pointer t own sets len = record {
+  height = t.height;
+  total = t.total;
+  enabled = t.enabled;
+  count = t.count ∙ sym len;
+  placed = λ k e h. let was = before k e h in let P : Pointer → Type 0 = λ p. IsPlaced geometry (is_free space) k p in subst P was.2 (t.placed k was.0 was.1);
   apart = λ j k a b ha hb lt. let x = before j a ha in let y = before k b hb in let n = t.apart j k x.0 y.0 x.1 y.1 lt in rw (← x.2) n;
 } where
-  before : (k : ℕ) (e : Entry) → entry_at new_entries k ≡ Some e → (was : Entry) × (entry_at entries k ≡ Some was) × (was.pointer ≡ e.pointer)
-  before k e h = elim (entry_cases entries new_entries pointer.first k (Some (live pointer)) e sets h) [
-    | inl same ↦ (let eq : pointer ≡ e.pointer = (let s = same.1 in cc) in (opened pointer, (ap (entry_at entries) same.0 ∙ own), eq))
+  before : (k : ℕ) (e : Entry) → entry_at new_blocks k ≡ Some e → (was : Entry) × (entry_at blocks k ≡ Some was) × (was.pointer ≡ e.pointer)
+  before k e h = elim (entry_cases blocks new_blocks pointer.first k (Some (live pointer)) e sets h) [
+    | inl same ↦ (let eq : pointer ≡ e.pointer = (let s = same.1 in cc) in (opened pointer, (ap (entry_at blocks) same.0 ∙ own), eq))
     | inr other ↦ (e, other.1, refl)
   ]
+
+-- where an entry is there, there are some
+pub some_entries : (blocks : BTreeMap ℕ Entry) (k : ℕ) (e : Entry) → entry_at blocks k ≡ Some e → 0 < btree_map_len blocks
+some_entries blocks k e h = at blocks.entries h where
+  at : (es : List (ℕ × Entry)) → lookup (is_at (nat_cmp k)) es ≡ Some e → 0 < length es
+  at [] found = absurd (cc)
+  at (x ∷ xs) found = omega arith
+
+-- an update of the table sets one entry
+pub sets_entry : (old new : BTreeMap ℕ Entry) (at : ℕ) (entry : Option Entry) → Updates nat_cmp old new at entry → SetsEntry old new at entry
+sets_entry old new at entry u = record { here = u.1; others = λ k other. u.2 k (apart k other) } where
+  apart : (k : ℕ) → (k ≡ at → ⊥) → is_eq (nat_cmp at k) ≡ false
+  apart k other = search rules
+
+-- a new entry is one more
+pub one_more : (was : Option Entry) (now before : ℕ) → was ≡ None → now ≡ before + (if is_some was then 0 else 1) → now ≡ before + 1
+one_more was now before none len = len ∙ ap (λ (o : Option Entry). before + (if is_some o then 0 else 1)) none
+
+-- the run that was allocated
+pub allocated : (geometry : Geometry) (space : Stripes) (blocks : BTreeMap ℕ Entry) (first need asked : ℕ) → Tables geometry space blocks → asked ≡ need → 0 < need
+    → IsLowest (is_free space) space.height asked first → first + asked ≤ space.total → IsTaken geometry (is_free space) first need
+allocated geometry space blocks first need asked t same more lowest inside =
+    subst (λ n. IsTaken geometry (is_free space) first n) same (spot_taken geometry space blocks first asked t (omega arith) lowest.spot inside)
+
+-- an entry that goes is one less
+pub one_less : (was : Option Entry) (e : Entry) (now before runs held : ℕ) → was ≡ Some e → now + (if is_some was then 1 else 0) ≡ before → held ≡ before → runs + 1 ≡ held → runs ≡ now
+one_less was e now before runs held some len count down =
+    let n : now + 1 ≡ before = ap (λ (o : Option Entry). now + (if is_some o then 1 else 0)) (sym some) ∙ len in
+    omega arith

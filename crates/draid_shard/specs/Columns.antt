@@ -1,52 +1,101 @@
-use Rattle.std.specs.Prelude.{◌≡◌, ◌<◌, ◌+◌, ◌*◌, ◌==◌, ◌&&◌, ℕ, List, false, Option, Some, None, MatchOption, length, take, drop, slice_get}
+use Rattle.std.specs.Prelude.{◌≡◌, ◌<◌, ◌≤◌, ◌+◌, ◌*◌, ◌^◌, ◌==◌, ◌&&◌, ◌⊎◌, ℕ, List, Bool, true, false, Option, Some, None, MatchOption, All, length, take, drop, slice_get, nat_le, nat_lt}
+use Rattle.std.specs.List.Sorted.{IsStrictlyIncreasing}
 use Rattle.std.specs.declared.vec.Vec.{Vec}
 use Rattle.std.specs.declared.alloc.Global.{Global}
 use Rattle.draid_names.specs.Faults.{Rose}
-use Rattle.draid_block.specs.Columns.{first_cut, stripes_of, column_of}
-use Rattle.draid_rack.specs.Rack.{Told}
-use Rattle.draid_shard.specs.Space.{in_run}
+use Rattle.draid_parity.specs.Columns.{column_at}
+use Rattle.draid_rack.specs.Rack.{Shape, Told}
+use Rattle.draid_shard.specs.Part.{Part, at_place, leaf_of, place_in}
 
--- the sector of a column that stands in the block's stripe j
-abbrev pub sector_of : List ℕ → ℕ → List ℕ
-sector_of column j = take 512 (drop (j * 512) column)
+-- a number of a run
+abbrev pub in_run : ℕ → ℕ → ℕ → Bool
+in_run first need k = nat_le first k && nat_lt k (first + need)
+
+-- the sector of a column that stands in the block's stripe j, where sectors have this many bytes
+abbrev pub sector_of : ℕ → List ℕ → ℕ → List ℕ
+sector_of size column j = take size (drop (j * size) column)
+
+-- a leaf has the sectors of a run, each of this many bytes
+pub record HasRun (shape : Shape) (leaf first rows size : ℕ) : Type 0 where
+  pub there : MatchOption (shape.leaves leaf) ⊥ (λ n. first + rows ≤ n)
+  pub whole : shape.bytes ≡ size
+  pub some : 0 < size
+  pub low : first + rows < 2 ^ 48
+  pub small : rows * size < 2 ^ 30
 
 -- the first rows of a column stand on a leaf, from this sector on
-abbrev pub RowsStand : (ℕ → ℕ → Option (List ℕ)) → ℕ → ℕ → List ℕ → ℕ → Type 0
-RowsStand reads leaf first column rows = (j : ℕ) → j < rows → reads leaf (first + j) ≡ Some (sector_of column j)
+abbrev pub RowsStand : ℕ → (ℕ → ℕ → Option (List ℕ)) → ℕ → ℕ → List ℕ → ℕ → Type 0
+RowsStand size reads leaf first column rows = (j : ℕ) → j < rows → reads leaf (first + j) ≡ Some (sector_of size column j)
 
--- The columns of the block w below `count` stand: column i on leaf i, at the sectors of the block's stripes.
-abbrev pub ColumnsStand : (ℕ → ℕ → Option (List ℕ)) → ℕ → List ℕ → ℕ → Type 0
-ColumnsStand reads first w count = (i : ℕ) → i < count → RowsStand reads i first (column_of first_cut w i) (stripes_of first_cut (length w))
-
--- all columns of the block w stand
-abbrev pub Stands : (ℕ → ℕ → Option (List ℕ)) → ℕ → List ℕ → Type 0
-Stands reads first w = ColumnsStand reads first w 3
-
--- only these sectors of this leaf may read otherwise
+-- Only these sectors of this leaf may read otherwise, and no sector is newly harmed.
 pub record SparesOthers (leaf first rows : ℕ) (x y : Told) : Type 0 where
   pub reads : (l s : ℕ) → (l == leaf && in_run first rows s) ≡ false → y.reads l s ≡ x.reads l s
+  pub harmed : (l s : ℕ) → (l == leaf && in_run first rows s) ≡ false → y.harmed l s ≡ x.harmed l s
+  pub fewer : (l s : ℕ) → x.harmed l s ≡ false → y.harmed l s ≡ false
 
--- rows of a column were written, where the rack tells
-pub record WritesRows (leaf first : ℕ) (column : List ℕ) (rows : ℕ) (x y : Told) : Type 0 where
-  pub stand : RowsStand y.reads leaf first column rows
+-- rows of a column were written, and their harm has ended
+pub record WritesRows (size leaf first : ℕ) (column : List ℕ) (rows : ℕ) (x y : Told) : Type 0 where
+  pub stand : RowsStand size y.reads leaf first column rows
+  pub whole : (j : ℕ) → j < rows → y.harmed leaf (first + j) ≡ false
   pub others : SparesOthers leaf first rows x y
 
 -- before and after: what is told stays told, and the two states meet P
 abbrev pub TellsBoth : Option Told → Option Told → (Told → Told → Type 0) → Type 0
 TellsBoth old new P = MatchOption old (new ≡ None) (λ x. MatchOption new ⊥ (λ y. P x y))
 
--- the count of faults of some leaf rose
-abbrev pub SomeRose : (Option ℕ → ℕ) → (Option ℕ → ℕ) → Type 0
-SomeRose old new = (leaf : ℕ) × Rose (old (Some leaf)) (new (Some leaf))
+-- A column stands in the stripes of a block: each of its sectors reads so, or is harmed.
+abbrev pub ColumnStands : Part → Told → ℕ → ℕ → ℕ → List ℕ → Type 0
+ColumnStands part x first stripes i column =
+    (j : ℕ) → j < stripes → at_place part x.harmed (first + j) i ≡ false
+    → at_place part x.reads (first + j) i ≡ Some (sector_of part.geometry.props.sector column j)
+
+-- the columns of a block below `count` stand
+abbrev pub ColumnsStand : Part → Told → ℕ → ℕ → List (List ℕ) → ℕ → Type 0
+ColumnsStand part x first stripes columns count =
+    (i : ℕ) → i < count → ColumnStands part x first stripes i (column_at columns i)
+
+-- none of the sectors of a column of a block is harmed
+abbrev pub IsWhole : Part → (ℕ → ℕ → Bool) → ℕ → ℕ → ℕ → Type 0
+IsWhole part harmed first stripes i = (j : ℕ) → j < stripes → at_place part harmed (first + j) i ≡ false
+
+-- this sector isn't one of these columns of a block
+abbrev pub IsElsewhere : Part → ℕ → ℕ → (ℕ → Type 0) → ℕ → ℕ → Type 0
+IsElsewhere part first stripes columns l s =
+    (j i : ℕ) → j < stripes → columns i → (place_in part (first + j) i).child ≡ l → (place_in part (first + j) i).sector ≡ s → ⊥
+
+-- Harm as some columns of a block are written: it ends where they were written whole, and begins nowhere.
+pub record EndsHarm (part : Part) (first stripes : ℕ) (columns : ℕ → Type 0) (whole : Type 0) (old new : ℕ → ℕ → Bool) : Type 0 where
+  pub ended : whole → (i : ℕ) → columns i → IsWhole part new first stripes i
+  pub fewer : (l s : ℕ) → old l s ≡ false → new l s ≡ false
+  pub others : (l s : ℕ) → IsElsewhere part first stripes columns l s → new l s ≡ old l s
+
+-- each column that is there is what its places read
+abbrev pub AreRead : Part → Told → ℕ → ℕ → List (Option (Vec ℕ Global)) → Type 0
+AreRead part x first stripes columns =
+    (i : ℕ) (c : Vec ℕ Global) → slice_get columns i ≡ Some (Some c) → (j : ℕ) → j < stripes
+    → at_place part x.reads (first + j) i ≡ Some (sector_of part.geometry.props.sector c.items j)
 
 -- each column that is there has this length
 abbrev pub AreLong : List (Option (Vec ℕ Global)) → ℕ → Type 0
 AreLong columns len = (i : ℕ) (c : Vec ℕ Global) → slice_get columns i ≡ Some (Some c) → length c.items ≡ len
 
--- each column that is there is what its leaf reads
-abbrev pub AreRead : (ℕ → ℕ → Option (List ℕ)) → ℕ → ℕ → List (Option (Vec ℕ Global)) → Type 0
-AreRead reads first rows columns = (i : ℕ) (c : Vec ℕ Global) → slice_get columns i ≡ Some (Some c) → RowsStand reads i first c.items rows
+-- the count of faults of the leaf of a column rose
+abbrev pub LeafRose : Part → ℕ → (Option ℕ → ℕ) → (Option ℕ → ℕ) → ℕ → Type 0
+LeafRose part first old new i = Rose (old (Some (leaf_of part first i))) (new (Some (leaf_of part first i)))
 
--- Where a column is absent, the count of faults of its leaf rose.
-abbrev pub AbsentRose : List (Option (Vec ℕ Global)) → (Option ℕ → ℕ) → (Option ℕ → ℕ) → Type 0
-AbsentRose columns old new = (i : ℕ) → slice_get columns i ≡ Some None → Rose (old (Some i)) (new (Some i))
+-- where a column is absent, the count of faults of its leaf rose
+abbrev pub AbsentRose : Part → ℕ → List (Option (Vec ℕ Global)) → (Option ℕ → ℕ) → (Option ℕ → ℕ) → Type 0
+AbsentRose part first columns old new = (i : ℕ) → slice_get columns i ≡ Some None → LeafRose part first old new i
+
+-- A column of a block is bad: the count of faults of its leaf rose, or one of its sectors is harmed.
+abbrev pub IsBad : Part → (ℕ → ℕ → Bool) → ℕ → ℕ → (Option ℕ → ℕ) → (Option ℕ → ℕ) → ℕ → Type 0
+IsBad part harmed first stripes old new i =
+    LeafRose part first old new i ⊎ ((j : ℕ) × (j < stripes) × (at_place part harmed (first + j) i ≡ true))
+
+-- more columns of a block are bad than there are parity columns
+pub record MoreBad (part : Part) (harmed : ℕ → ℕ → Bool) (first stripes : ℕ) (old new : Option ℕ → ℕ) : Type 0 where
+  pub bad : List ℕ
+  pub ascending : IsStrictlyIncreasing bad
+  pub in_range : All (λ i. i < part.geometry.g) bad
+  pub each : All (IsBad part harmed first stripes old new) bad
+  pub many : part.geometry.spec.parity < length bad

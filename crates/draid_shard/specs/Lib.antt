@@ -1,4 +1,4 @@
 pub mod Columns
 pub mod Entry
+pub mod Part
 pub mod Shard
-pub mod Space

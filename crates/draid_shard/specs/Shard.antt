@@ -1,42 +1,52 @@
-use Rattle.std.specs.Prelude.{◌≡◌, ◌<◌, ◌≤◌, ◌+◌, ◌⊎◌, ℕ, List, Bool, Option, Some, length}
-use Rattle.sha2.specs.Sha256.{sha256}
+use Rattle.std.specs.Prelude.{◌≡◌, ◌<◌, ◌≤◌, ◌+◌, ◌&&◌, ◌⊎◌, not, ℕ, List, Bool, Option, Some, length}
 use Rattle.draid_names.specs.Faults.{Rose}
 use Rattle.draid_names.specs.declared.pointer.Pointer.{Pointer}
-use Rattle.draid_block.specs.Columns.{first_cut, stripes_of}
 use Rattle.draid_rack.specs.Rack.{Shape, Told, HasJust, OnTold}
+use Rattle.draid_map.specs.Place.{part_sectors}
+use Rattle.draid_ranges.specs.Runs.{is_between}
+use Rattle.draid_metaslab.specs.Spaces.{is_free}
+use Rattle.draid_metaslab.specs.Spots.{IsLowest}
+use Rattle.draid_block.specs.Blocks.{AreColumns, BlockValue, IsContent, cut_of}
 use Rattle.draid_shard.specs.declared.shard.Shard.{Shard}
 use Rattle.draid_shard.specs.declared.ticket.Ticket.{Ticket}
-use Rattle.draid_shard.specs.Columns.{Stands, ColumnsStand}
+use Rattle.draid_shard.specs.Part.{IsPart, Part}
+use Rattle.draid_shard.specs.Columns.{ColumnsStand}
 use Rattle.draid_shard.specs.Entry.{Tables, entry_at, live, opened}
 
--- what each call needs and keeps: the rack has the three leaves of 32 sectors of 512 bytes, and the tables fit together
-pub record Valid {R : Type 0} (shape : R → Shape) (shard : Shard R) : Type 0 where
-  pub rack : HasJust (shape shard.rack) 3 32 512
-  pub tables : Tables shard.taken.items shard.entries.items
+-- the metaslab that the shard is
+abbrev pub part_of : {R : Type 0} → Shard R → Part
+part_of shard = record { geometry = shard.geometry; perms = shard.perms; number = shard.number }
 
--- which stripes are taken
-abbrev pub taken_of : {R : Type 0} → Shard R → List Bool
-taken_of shard = shard.taken.items
+-- what each call needs and keeps: the rack has just the layout's leaves of a metaslab, and the tables fit together
+pub record Valid {R : Type 0} (shape : R → Shape) (shard : Shard R) : Type 0 where
+  pub part : IsPart (part_of shard)
+  pub rack : HasJust (shape shard.rack) shard.geometry.spec.children (part_sectors shard.geometry) shard.geometry.props.sector
+  pub tables : Tables shard.geometry shard.space shard.blocks
+
+-- which stripes are free
+abbrev pub free_of : {R : Type 0} → Shard R → ℕ → Bool
+free_of shard = is_free shard.space
+
+-- The lowest run of free stripes within one group, and nothing else, became taken.
+pub record TakesLowest (height : ℕ) (old new : ℕ → Bool) (first need : ℕ) : Type 0 where
+  pub lowest : IsLowest old height need first
+  pub takes : (x : ℕ) → new x ≡ (old x && not (is_between first (first + need) x))
 
 -- the pointer is that of a block here
 abbrev pub IsLive : {R : Type 0} → Shard R → Pointer → Type 0
-IsLive shard pointer = entry_at shard.entries.items pointer.first ≡ Some (live pointer)
+IsLive shard pointer = entry_at shard.blocks pointer.first ≡ Some (live pointer)
 
 -- the ticket's write is under way here
 abbrev pub IsOpen : {R : Type 0} → Shard R → Ticket → Type 0
-IsOpen shard ticket = entry_at shard.entries.items ticket.pointer.first ≡ Some (opened ticket.pointer)
+IsOpen shard ticket = entry_at shard.blocks ticket.pointer.first ≡ Some (opened ticket.pointer)
 
--- the pointer's length, stripes and digest are those of w
-pub record IsOf (pointer : Pointer) (w : List ℕ) : Type 0 where
-  pub len : pointer.len ≡ length w
-  pub stripes : pointer.stripes ≡ stripes_of first_cut (length w)
-  pub digest : pointer.digest ≡ sha256 w
-
--- The pointer is that of a live block w, whose columns stand on the rack where it tells.
+-- The pointer is that of a live block w. Its columns stand on the rack where it tells, but for the sectors that are harmed.
 pub record HoldsBlock {R : Type 0} (told : R → Option Told) (shard : Shard R) (pointer : Pointer) (w : List ℕ) : Type 0 where
   pub is_live : IsLive shard pointer
-  pub is_of : IsOf pointer w
-  pub stands : OnTold (told shard.rack) (λ x. Stands x.reads pointer.first w)
+  pub content : IsContent pointer w
+  pub columns : List (List ℕ)
+  pub are : AreColumns (cut_of shard.geometry) w columns
+  pub stand : OnTold (told shard.rack) (λ x. ColumnsStand (part_of shard) x pointer.first pointer.stripes columns shard.geometry.g)
 
 -- each block that was held is held
 abbrev pub KeepsBlocks : {R : Type 0} → (R → Option Told) → Shard R → Shard R → Type 0
@@ -53,21 +63,23 @@ pub record AddsLive {R : Type 0} (old new : Shard R) (pointer : Pointer) : Type 
   pub kept : (p : Pointer) → IsLive old p → IsLive new p
   pub only : (p : Pointer) → IsLive new p → IsLive old p ⊎ (p ≡ pointer)
 
--- The open ticket is that of the block w. While no column was missed, those put so far stand.
-pub record Carries {R : Type 0} (told : R → Option Told) (shard : Shard R) (ticket : Ticket) (w : List ℕ) : Type 0 where
+-- The open ticket is that of the block. While no column was missed, those put so far stand, but for the sectors that are harmed.
+pub record Carries {R : Type 0} (told : R → Option Told) (shard : Shard R) (ticket : Ticket) (block : BlockValue) : Type 0 where
   pub is_open : IsOpen shard ticket
-  pub is_of : IsOf ticket.pointer w
-  pub count : ticket.next ≤ 3
+  pub cut : block.cut ≡ cut_of shard.geometry
+  pub content : IsContent ticket.pointer block.bytes
+  pub are : AreColumns block.cut block.bytes block.columns
+  pub count : ticket.next ≤ shard.geometry.g
   pub few : ticket.missed ≤ ticket.next
-  pub stand : ticket.missed ≡ 0 → OnTold (told shard.rack) (λ x. ColumnsStand x.reads ticket.pointer.first w ticket.next)
+  pub stand : ticket.missed ≡ 0 → OnTold (told shard.rack) (λ x. ColumnsStand (part_of shard) x ticket.pointer.first ticket.pointer.stripes block.columns ticket.next)
 
 -- each write that was under way goes on as it was
 abbrev pub KeepsTickets : {R : Type 0} → (R → Option Told) → Shard R → Shard R → Type 0
-KeepsTickets told old new = (t : Ticket) (w : List ℕ) → Carries told old t w → Carries told new t w
+KeepsTickets told old new = (t : Ticket) (b : BlockValue) → Carries told old t b → Carries told new t b
 
 -- each write under way but for the one at a stripe goes on as it was
 abbrev pub KeepsOtherTickets : {R : Type 0} → (R → Option Told) → ℕ → Shard R → Shard R → Type 0
-KeepsOtherTickets told at old new = (t : Ticket) (w : List ℕ) → (t.pointer.first ≡ at → ⊥) → Carries told old t w → Carries told new t w
+KeepsOtherTickets told at old new = (t : Ticket) (b : BlockValue) → (t.pointer.first ≡ at → ⊥) → Carries told old t b → Carries told new t b
 
 -- no count of faults falls
 abbrev pub NoneFalls : (Option ℕ → ℕ) → (Option ℕ → ℕ) → Type 0

@@ -1,8 +1,14 @@
-ghost use Rattle.std.specs.Prelude.{◌≡◌, ◌<◌, Some, None, true, false, length};
-ghost use Rattle.draid_shard.specs.Space.{FitsRun, SetsRun};
+ghost use Rattle.std.specs.Prelude.{◌≡◌, ◌<◌, ◌≤◌, ◌+◌, ◌||◌, ℕ, Some, None, IfOk, IfErr, OnErr, false};
+ghost use Rattle.std.specs.BTreeMap.{btree_map_len};
+ghost use Rattle.draid_spec.specs.declared.layout.Geometry.{Geometry};
+ghost use Rattle.draid_metaslab.specs.Spaces.{Frees, is_free};
+ghost use Rattle.draid_ranges.specs.Runs.{is_between};
+ghost use Rattle.draid_shard.specs.Shard.{TakesLowest};
 
-use crate::space::set_run;
+use crate::fault::BeginFault;
+use draid_metaslab::{Space, SpaceFault};
 use draid_names::Pointer;
+use std::collections::BTreeMap;
 
 /// A block that has its stripes: live, or still being written.
 #[derive(Clone, Copy, Debug, PartialEq, Eq)]
@@ -12,46 +18,66 @@ pub(crate) struct Entry {
     pub is_open: bool,
 }
 
-ghost use Rattle.draid_shard.specs.Entry.{IsSized, SetsEntry, Tables, entry_at, live, opened};
+ghost use Rattle.draid_shard.specs.Entry.{IsRefused, IsSized, SetsEntry, Tables, entry_at, live, opened};
 
-/// Gives a free run of stripes to the pointer, whose write is then open.
-pub(crate) fn hold(taken: &mut Vec<bool>, entries: &mut Vec<Option<Entry>>, pointer: Pointer)
-    requires tables { Tables taken.old.items entries.old.items }
-    requires fits { FitsRun taken.old.items pointer.first pointer.stripes }
-    requires sized { IsSized pointer }
-    ensures tables { Tables taken.new.items entries.new.items }
-    ensures takes { SetsRun taken.old.items taken.new.items pointer.first pointer.stripes true }
-    ensures was { entry_at entries.old.items pointer.first ≡ None }
-    ensures entry { SetsEntry entries.old.items entries.new.items pointer.first (Some (opened pointer)) }
+/// Gives the lowest run of free stripes that fits to the pointer's block, whose write is then open. The answer
+/// is the pointer with its first stripe.
+pub(crate) fn hold(
+    space: &mut Space,
+    blocks: &mut BTreeMap<u64, Entry>,
+    pointer: Pointer,
+) -> Result<Pointer, BeginFault>
+    requires enabled { space.old.disabled ≡ false }
+    requires some { 0 < pointer.stripes }
+    ensures placed { IfOk result (λ placed. placed ≡ record pointer { first = placed.first }) }
+    ensures takes { IfOk result (λ placed. TakesLowest space.old.height (is_free space.old) (is_free space.new) placed.first pointer.stripes) }
+    ensures entry { IfOk result (λ placed. SetsEntry blocks.old blocks.new placed.first (Some (opened placed))) }
+    ensures tables { (geometry : Geometry) → Tables geometry space.old blocks.old → IsSized geometry pointer
+        → Tables geometry space.new blocks.new }
+    ensures was { (geometry : Geometry) → Tables geometry space.old blocks.old
+        → IfOk result (λ placed. entry_at blocks.old placed.first ≡ None) }
+    ensures refused { IfErr result (IsRefused (is_free space.old) space.old.height pointer.stripes) }
+    ensures free { OnErr result (Frees space.new (is_free space.old)) }
+    ensures same { OnErr result ((k : ℕ) → entry_at blocks.new k ≡ entry_at blocks.old k) }
 {
-    let first = pointer.first as usize;
-    set_run(taken, first, pointer.stripes as usize, true);
-    entries[first] = Some(Entry {
-        pointer,
+    let first = match space.allocate(u64::from(pointer.stripes)) {
+        Ok(first) => first,
+        Err(SpaceFault::NoRoom { largest }) => return Err(BeginFault::NoRoom { largest }),
+        Err(SpaceFault::NoMemory) => return Err(BeginFault::NoMemory),
+    };
+    let placed = Pointer { first, ..pointer };
+    let entry = Entry {
+        pointer: placed,
         is_open: true,
-    });
+    };
+    match blocks.insert(first, entry) {
+        Ok(_) => Ok(placed),
+        Err(_) => {
+            space.release(first, u64::from(pointer.stripes));
+            Err(BeginFault::NoMemory)
+        }
+    }
 }
 
 /// Ends an open write without a block: its stripes are free again.
-pub(crate) fn release(taken: &mut Vec<bool>, entries: &mut Vec<Option<Entry>>, pointer: &Pointer)
-    requires tables { Tables taken.old.items entries.old.items }
-    requires is_open { entry_at entries.old.items pointer.now.first ≡ Some (opened pointer.now) }
-    ensures tables { Tables taken.new.items entries.new.items }
-    ensures frees { SetsRun taken.old.items taken.new.items pointer.now.first pointer.now.stripes false }
-    ensures entry { SetsEntry entries.old.items entries.new.items pointer.now.first None }
+pub(crate) fn release(space: &mut Space, blocks: &mut BTreeMap<u64, Entry>, pointer: &Pointer)
+    requires tables { (geometry : Geometry) × Tables geometry space.old blocks.old }
+    requires is_open { entry_at blocks.old pointer.now.first ≡ Some (opened pointer.now) }
+    ensures tables { (geometry : Geometry) → Tables geometry space.old blocks.old → Tables geometry space.new blocks.new }
+    ensures frees { Frees space.new (λ x. is_free space.old x || is_between pointer.now.first (pointer.now.first + pointer.now.stripes) x) }
+    ensures entry { SetsEntry blocks.old blocks.new pointer.now.first None }
 {
-    let first = pointer.first as usize;
-    set_run(taken, first, pointer.stripes as usize, false);
-    entries[first] = None;
+    space.release(pointer.first, u64::from(pointer.stripes));
+    blocks.remove(&pointer.first);
 }
 
 /// Ends an open write with a live block.
-pub(crate) fn publish(entries: &mut Vec<Option<Entry>>, pointer: Pointer)
-    requires { pointer.first < length entries.old.items }
-    ensures { SetsEntry entries.old.items entries.new.items pointer.first (Some (live pointer)) }
+pub(crate) fn publish(blocks: &mut BTreeMap<u64, Entry>, pointer: &Pointer)
+    requires is_open { entry_at blocks.old pointer.now.first ≡ Some (opened pointer.now) }
+    ensures entry { SetsEntry blocks.old blocks.new pointer.now.first (Some (live pointer.now)) }
+    ensures len { btree_map_len blocks.new ≡ btree_map_len blocks.old }
 {
-    entries[pointer.first as usize] = Some(Entry {
-        pointer,
-        is_open: false,
-    });
+    if let Some(entry) = blocks.get_mut(&pointer.first) {
+        entry.is_open = false;
+    }
 }

@@ -1,14 +1,19 @@
-//! One metaslab: which stripes are taken, where its blocks stand, and the writing and fetching of blocks.
+//! One metaslab: which stripes are free, where its blocks stand, and the writing and fetching of blocks.
 
 #![tactic(auto)]
 
 mod column;
 mod entry;
+mod fault;
+mod fetch;
+mod layout;
 mod shard;
-mod space;
+
+
 #[cfg(test)]
 mod tests;
 mod ticket;
 
-pub use shard::{BeginFault, FetchFault, Missed, Shard, ShardRefused};
+pub use fault::{BeginFault, FetchFault, Missed};
+pub use shard::{Shard, ShardRefused};
 pub use ticket::Ticket;

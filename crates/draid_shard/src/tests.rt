@@ -1,57 +1,105 @@
-ghost use Rattle.std.specs.Prelude.{IfOk};
+ghost use Rattle.std.specs.Prelude.{◌≡◌, ◌<◌, ◌≤◌, IfOk, length};
+ghost use Rattle.draid_map.specs.Place.{part_sectors};
+ghost use Rattle.draid_spec.specs.Geometry.{IsGeometry};
 ghost use Rattle.draid_shard.specs.Shard.{Valid};
 
 use crate::{BeginFault, FetchFault, Missed, Shard};
 use draid_block::{Encoded, SolveFault, solve_block};
+use draid_map::metaslab_sectors;
 use draid_names::{NoMemory, Pointer};
+use draid_perm::Perms;
 use draid_rack::{MemoryRack, Rack};
+use draid_spec::{Geometry, Props, geometry, parse_spec};
 use std::alloc::Global;
+use std::process::Abort;
 use std::test::Fail;
 
-/// An empty shard over a memory rack whose calls with these numbers fail.
-fn shard(alloc: Global, failing: &[u64]) -> Result<Shard<MemoryRack>, NoMemory>
-    ensures { IfOk result (Valid ⟦<MemoryRack as Rack>⟧.shape) }
+/// An empty shard of one metaslab of 4 slices of 8 rows, over a memory rack whose calls with these numbers fail.
+fn shard(alloc: Global, layout: Geometry, failing: &[u64]) -> Result<Shard<MemoryRack>, NoMemory>
+    requires layout { IsGeometry layout }
+    ensures valid { IfOk result (Valid ⟦<MemoryRack as Rack>⟧.shape) }
+    ensures layout { IfOk result (λ shard. shard.geometry ≡ layout) }
 {
+    let perms = Perms::new(layout.spec.children, layout.props.seed);
     let failing = Vec::from_slice(alloc, failing)?;
-    let rack = MemoryRack::new(alloc, 3, 32, 512, failing)?;
-    match Shard::create(alloc, rack) {
+    let rack = MemoryRack::new(
+        alloc,
+        layout.spec.children,
+        metaslab_sectors(&layout),
+        layout.props.sector,
+        failing,
+    )?;
+    match Shard::create(alloc, 0, layout, perms, rack) {
         Ok(shard) => Ok(shard),
         Err(_) => Err(NoMemory),
     }
 }
 
+/// Writes a block, column by column.
 fn write<R: Rack>(
+    alloc: Global,
     shard: &mut Shard<R>,
-    block: &Encoded,
+    bytes: &[u8],
 ) -> Result<Result<Pointer, Missed>, BeginFault>
-    requires { Valid R.shape shard.old }
-    ensures { Valid R.shape shard.new }
+    requires valid { Valid R.shape shard.old }
+    requires some { 1 ≤ length bytes.now }
+    requires short { length bytes.now ≤ 131072 }
+    ensures valid { Valid R.shape shard.new }
+    ensures layout { shard.new.geometry ≡ shard.old.geometry }
 {
-    let mut ticket = shard.begin(7, 1, block)?;
-    shard.put(&mut ticket, block);
-    shard.put(&mut ticket, block);
-    shard.put(&mut ticket, block);
+    let block = Encoded::of(alloc, &shard.geometry, bytes)?;
+    let mut ticket = shard.begin(7, 1, &block)?;
+    for _ in 0..shard.geometry.g {
+        shard.put(&mut ticket, &block);
+    }
     Ok(shard.finish(ticket))
+}
+
+/// What is read of a block.
+fn read<R: Rack>(
+    alloc: Global,
+    shard: &mut Shard<R>,
+    pointer: &Pointer,
+) -> Result<Result<Vec<u8>, SolveFault>, FetchFault>
+    requires valid { Valid R.shape shard.old }
+    ensures valid { Valid R.shape shard.new }
+    ensures layout { shard.new.geometry ≡ shard.old.geometry }
+{
+    let fetched = shard.fetch(pointer)?;
+    Ok(solve_block(alloc, &shard.geometry, &fetched))
+}
+
+/// The first path's layout: two data columns and their parity on three children.
+fn first_layout(rt: &impl Abort) -> Geometry
+    ensures { IsGeometry result }
+{
+    let props = Props {
+        sector: 512,
+        height: 8,
+        metaslabs: 1,
+        slices: 4,
+        seed: 1,
+    };
+    let spec = parse_spec(b"draid1:2d:3c", 3).expect(rt, "a spec");
+    geometry(spec, props).expect(rt, "a layout")
 }
 
 #[test]
 fn gives_a_block_back_until_no_room_is_left(rt: HostRuntime) -> Result<(), Fail> {
     let alloc = rt.alloc();
-    let mut shard = shard(alloc, &[])?;
-    let hello = Encoded::of(alloc, b"hello")?;
-    let group = Encoded::of(alloc, &[5; 8192])?;
-    let pointer = write(&mut shard, &hello)??;
+    let mut shard = shard(alloc, first_layout(&rt), &[])?;
+    let pointer = write(alloc, &mut shard, b"hello")??;
     assert_eq!(rt; (pointer.first, pointer.stripes), (0, 1));
-    assert_eq!(rt; write(&mut shard, &group)??.first, 8);
-    assert_eq!(rt; write(&mut shard, &group)??.first, 16);
-    assert_eq!(rt; write(&mut shard, &group)??.first, 24);
+    let group = [5; 8192];
+    assert_eq!(rt; write(alloc, &mut shard, &group)??.first, 8);
+    assert_eq!(rt; write(alloc, &mut shard, &group)??.first, 16);
+    assert_eq!(rt; write(alloc, &mut shard, &group)??.first, 24);
     assert_eq!(rt;
-        write(&mut shard, &group),
+        write(alloc, &mut shard, &group),
         Err(BeginFault::NoRoom { largest: 7 })
     );
-    let fetched = shard.fetch(&pointer)?;
     assert_eq!(rt;
-        solve_block(alloc, &fetched)?.as_slice(),
+        read(alloc, &mut shard, &pointer)??.as_slice(),
         b"hello".as_slice()
     );
     Ok(())
@@ -62,27 +110,39 @@ fn gives_a_block_back_until_no_room_is_left(rt: HostRuntime) -> Result<(), Fail>
 #[test]
 fn tells_what_failed(rt: HostRuntime) -> Result<(), Fail> {
     let alloc = rt.alloc();
-    let mut shard = shard(alloc, &[1, 7])?;
-    let hello = Encoded::of(alloc, b"hello")?;
-    assert_eq!(rt; write(&mut shard, &hello), Ok(Err(Missed { columns: 1 })));
-    let pointer = write(&mut shard, &hello)??;
+    let mut shard = shard(alloc, first_layout(&rt), &[1, 7])?;
+    assert_eq!(rt; write(alloc, &mut shard, b"hello"), Ok(Err(Missed { columns: 1 })));
+    let pointer = write(alloc, &mut shard, b"hello")??;
     assert_eq!(rt; pointer.first, 0);
     let fetched = shard.fetch(&pointer)?;
-    let absent = SolveFault::Unreadable {
-        absent: 1,
-        tried: 0,
-    };
-    assert_eq!(rt; solve_block(alloc, &fetched).err(), Some(absent));
-    let fetched = shard.fetch(&pointer)?;
+    assert_eq!(rt; fetched.columns[1].is_none(), true);
     assert_eq!(rt;
-        solve_block(alloc, &fetched)?.as_slice(),
+        solve_block(alloc, &shard.geometry, &fetched)?.as_slice(),
         b"hello".as_slice()
     );
     let other = Pointer { seq: 2, ..pointer };
-    assert_eq!(rt; shard.fetch(&other).err(), Some(FetchFault::NotLive));
+    assert_eq!(rt; read(alloc, &mut shard, &other).err(), Some(FetchFault::NotLive));
+    Ok(())
+}
+
+// With one sector damaged a block of one parity column is read, with two it isn't.
+#[test]
+fn reads_around_damage(rt: HostRuntime) -> Result<(), Fail> {
+    let alloc = rt.alloc();
+    let mut shard = shard(alloc, first_layout(&rt), &[])?;
+    let pointer = write(alloc, &mut shard, b"hello")??;
+    assert_eq!(rt; shard.damage(0, 0), Ok(()));
+    assert_eq!(rt;
+        read(alloc, &mut shard, &pointer)??.as_slice(),
+        b"hello".as_slice()
+    );
+    assert_eq!(rt; shard.damage(1, 0), Ok(()));
+    let lost = SolveFault::Unreadable {
+        absent: 0,
+        tried: 4,
+    };
+    assert_eq!(rt; read(alloc, &mut shard, &pointer)?.err(), Some(lost));
     let mut rack = shard.into_rack();
-    let mut sector = [9; 512];
-    assert_eq!(rt; rack.read(2, 0, &mut sector), Ok(()));
-    assert_eq!(rt; sector[0], 0);
+    assert_eq!(rt; rack.damage(0, 0), Ok(()));
     Ok(())
 }

@@ -5,7 +5,7 @@ use draid_names::Pointer;
 pub struct Ticket {
     /// The pointer that the block will have.
     pub pointer: Pointer,
-    /// The column that is put next, 0 to 3; 3 means that all are put.
+    /// The column that is put next, 0 to the number of columns; the number of columns means that all are put.
     pub next: u32,
     /// How many of the columns put so far landed on no leaf.
     pub missed: u32,

@@ -4,7 +4,7 @@ use Rattle.draid_shard.proofs.Read.{ReadsRow, length-after_row, rows-after_row, 
 use Rattle.draid_shard.proofs.column.read_column.Goals as goal
 
 reads_row : (g : _) (c : goal.Else-is_err g)
-    → ReadsRow (g.R.Rack.told c.args.rack.now) c.args.leaf c.args.first c.loop-row.row c.args.rows c.loop-row.column.len c.loop-row.column.items c.deref_mut.result.now c.read.new.into
+    → ReadsRow c.args.size (g.R.Rack.told c.args.rack.now) c.args.leaf c.args.first c.loop-row.row c.args.rows c.loop-row.column.len c.loop-row.column.items c.deref_mut.result.now c.read.new.into
 reads_row g c = record {
   same = c.deref_mut.ensures.value;
   long = c.loop-row.invariant.long;
@@ -22,6 +22,6 @@ loop-row-preserved g c = record {
   shape = c.read.ensures.shape ∙ c.loop-row.invariant.shape;
   told = c.read.ensures.told ∙ c.loop-row.invariant.told;
   later = λ who. let a = c.loop-row.invariant.later who in let b = c.read.ensures.cause.later who in omega arith;
-  long = length-after_row _ _ _ _ _ _ _ _ _ (reads_row g c);
-  stand = rows-after_row _ _ _ _ _ _ _ _ _ (reads_row g c);
+  long = length-after_row _ _ _ _ _ _ _ _ _ _ (reads_row g c);
+  stand = rows-after_row _ _ _ _ _ _ _ _ _ _ (reads_row g c);
 }

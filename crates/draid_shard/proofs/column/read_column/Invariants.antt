@@ -8,6 +8,6 @@ invariant-loop-row g l = let rack = g.R.Rack in record {
   shape : rack.shape l.rack ≡ rack.shape l.initial.rack;
   told : rack.told l.rack ≡ rack.told l.initial.rack;
   later : (who : Option ℕ) → rack.faults l.initial.rack who ≤ rack.faults l.rack who;
-  long : length l.column.items ≡ l.rows * 512;
-  stand : OnTold (rack.told l.initial.rack) (λ x. RowsStand x.reads l.leaf l.first l.column.items l.row);
+  long : length l.column.items ≡ l.rows * l.size;
+  stand : OnTold (rack.told l.initial.rack) (λ x. RowsStand l.size x.reads l.leaf l.first l.column.items l.row);
 }

@@ -6,5 +6,5 @@ abbrev pub invariant-loop-row : goal.invariant-loop-row
 invariant-loop-row g l = let rack = g.R.Rack in record {
   shape : rack.shape l.rack ≡ rack.shape l.initial.rack;
   later : (who : Option ℕ) → rack.faults l.initial.rack who ≤ rack.faults l.rack who;
-  told : TellsBoth (rack.told l.initial.rack) (rack.told l.rack) (WritesRows l.leaf l.first l.column l.row);
+  told : TellsBoth (rack.told l.initial.rack) (rack.told l.rack) (WritesRows l.size l.leaf l.first l.column l.row);
 }

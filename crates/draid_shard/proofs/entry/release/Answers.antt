@@ -1,13 +1,24 @@
-use Rattle.std.proofs.Common.{None, arith}
-use Rattle.draid_shard.proofs.Tables.{released_tables, set_entry, entry_within}
+use Rattle.std.proofs.Common.{◌∙◌, arith}
+use Rattle.draid_shard.proofs.Tables.{entry_run, one_less, released_tables, sets_entry, space_of}
 use Rattle.draid_shard.proofs.entry.release.Goals as goal
 
-pub returns-clause-tables : goal.returns-clause-tables
-returns-clause-tables c =
-    released_tables c.args.taken.now.items c.set_run.new.taken.items c.args.entries.now.items _ c.args.pointer.now c.requires.tables c.requires.is_open c.set_run.ensures
-    (set_entry c.args.entries.now.items c.args.pointer.now.first None (entry_within _ _ c.args.pointer.now.first _ c.requires.tables c.requires.is_open))
+pub release-requires-clause-span : goal.release-requires-clause-span
+release-requires-clause-span c =
+    let t = c.requires.tables.1 in
+    let run = entry_run c.requires.tables.0 c.args.space.now c.args.blocks.now c.args.pointer.now.first _ t c.requires.is_open in
+    let some = run.some in
+    let inside = run.inside in
+    let total = t.total in
+    let n = c.from.ensures in
+    record { some = omega (arith, n, some); below = omega (arith, n, inside, total) }
 
-pub set_run-requires : goal.set_run-requires
-set_run-requires c =
-    let p = c.requires.tables.placed c.args.pointer.now.first _ c.requires.is_open in
-    omega (arith, p.inside, c.requires.tables.stripes)
+pub returns-clause-tables : goal.returns-clause-tables
+returns-clause-tables c geometry t =
+    let e = c.remove.ensures in
+    let was = e.value ∙ c.requires.is_open in
+    let down = c.release.ensures.held in
+    let held = t.count in
+    let len = e.len in
+    released_tables geometry c.args.space.now c.release.new.self c.args.blocks.now c.remove.new.self c.args.pointer.now t c.requires.is_open
+    (rw c.from.ensures at c.release.ensures.freed) (sets_entry c.args.blocks.now c.remove.new.self c.args.pointer.now.first _ e.updates)
+    (space_of geometry c.args.space.now c.release.new.self c.args.blocks.now _ t c.release.ensures.kept (one_less c.remove.result _ _ _ _ _ was len held down))

@@ -1,20 +1,25 @@
 use Rattle.std.proofs.Common.{refl}
-use Rattle.draid_shard.proofs.Fetched.{entry_inside, is_whole, holds_bytes}
-use Rattle.draid_shard.proofs.Columns.{some_rose}
+use Rattle.draid_shard.specs.Shard.{part_of}
+use Rattle.draid_shard.proofs.Fetched.{all_absent, is_fetched, told_readable}
+use Rattle.draid_shard.proofs.Tables.{entry_run}
 use Rattle.draid_shard.proofs.shard.Shard.fetch.Goals as goal
 
-pub read_columns-requires-clause-inside : goal.read_columns-requires-clause-inside
-read_columns-requires-clause-inside g c =
-    entry_inside c.args.self.now.taken.items c.args.self.now.entries.items c.args.pointer.now.first _ c.requires.valid.tables (c.if-not-is_live.ensures.0 refl)
+pub read_columns-requires-clause-run : goal.read_columns-requires-clause-run
+read_columns-requires-clause-run g c =
+    entry_run c.args.self.now.geometry c.args.self.now.space c.args.self.now.blocks c.args.pointer.now.first _ c.requires.valid.tables (c.if-not-is_live.ensures.0 refl)
 
-pub returns-clause-whole : goal.returns-clause-whole
-returns-clause-whole g c =
-    is_whole c.args.self.now.taken.items c.args.self.now.entries.items _ c.requires.valid.tables (c.if-not-is_live.ensures.0 refl) c.in_ok-columns.ensures.count c.in_ok-columns.ensures.long
+pub returns-clause-fetched : goal.returns-clause-fetched
+returns-clause-fetched g c =
+    let sized = (c.requires.valid.tables.placed c.args.pointer.now.first _ (c.if-not-is_live.ensures.0 refl)).sized in
+    is_fetched c.args.self.now.geometry _ c.requires.valid.part.layout.geometry_is sized c.in_ok-columns.ensures.count c.in_ok-columns.ensures.long
 
-pub returns-clause-holds : goal.returns-clause-holds
-returns-clause-holds g c w holds =
-    holds_bytes (g.R.Rack.told c.args.self.now.rack) _ w holds.is_of c.in_ok-columns.ensures.count c.in_ok-columns.ensures.long c.in_ok-columns.ensures.stand holds.stands
+pub returns-clause-absent : goal.returns-clause-absent
+returns-clause-absent g c =
+    all_absent (part_of c.args.self.now) c.args.pointer.now.first c.in_ok-columns.columns.items (g.R.Rack.faults c.args.self.now.rack) (g.R.Rack.faults c.read_columns.new.rack) c.in_ok-columns.ensures.absent
 
-pub returns-clause-some_rose : goal.returns-clause-some_rose
-returns-clause-some_rose g c some =
-    some_rose c.in_ok-columns.columns.items (g.R.Rack.faults c.args.self.now.rack) (g.R.Rack.faults c.read_columns.new.rack) c.in_ok-columns.ensures.absent some
+pub returns-clause-readable : goal.returns-clause-readable
+returns-clause-readable g c w holds =
+    let sized = (c.requires.valid.tables.placed c.args.pointer.now.first _ (c.if-not-is_live.ensures.0 refl)).sized in
+    told_readable (g.R.Rack.told c.args.self.now.rack) (part_of c.args.self.now) _ w holds.columns (g.R.Rack.faults c.args.self.now.rack) (g.R.Rack.faults c.read_columns.new.rack)
+    c.requires.valid.part.layout.geometry_is sized c.in_ok-columns.ensures.count c.in_ok-columns.ensures.long c.in_ok-columns.ensures.stand c.in_ok-columns.ensures.absent
+    holds.content holds.are holds.stand

@@ -1,0 +1,52 @@
+use Rattle.std.proofs.Common.{◌≡◌, ◌<◌, ◌∙◌, ℕ, ap, arith, refl, sym}
+use Rattle.std.specs.Prelude.{⊤}
+use Rattle.draid_names.specs.declared.pointer.Pointer.{Pointer}
+use Rattle.draid_shard.specs.Part.{Part}
+use Rattle.draid_shard.specs.Shard.{free_of, part_of}
+use Rattle.draid_pool.specs.State.{stripes_for}
+use Rattle.draid_pool.proofs.Stored.{harm_as_whole, missed_as, takes_as, ticket_stripes}
+use Rattle.draid_pool.proofs.store.store.Goals as goal
+
+pub returns-in-Ok-finish-clause-kept : goal.returns-in-Ok-finish-clause-kept
+returns-in-Ok-finish-clause-kept g c p w holds = c.in-Ok-finish.ensures.kept p w (c.put_all.ensures.kept p w (c.in-Ok.ensures.kept p w holds))
+
+pub returns-in-Ok-finish-clause-answer : goal.returns-in-Ok-finish-clause-answer
+returns-in-Ok-finish-clause-answer g c =
+    let begun = c.in-Ok.ensures in
+    let all = c.put_all.ensures in
+    let ended = c.in-Ok-finish.ensures in
+    let old = c.args.shard.now in
+    let geometry = ap (λ (p : Part). stripes_for p c.args.block.now.bytes) begun.part in
+    let stripes = ticket_stripes g.R.Rack.shape g.R.Rack.told c.begin.new.self c.in-Ok.ticket c.args.block.now begun.valid begun.carries ∙ geometry in
+    let pointer = ended.ok.1 ∙ all.pointer in
+    record {
+      named = ap (λ (p : Pointer). p.object) pointer ∙ begun.named.0;
+      takes = takes_as old.geometry.props.height old.geometry.props.height (free_of old) (free_of c.begin.new.self) (free_of c.finish.new.self) c.in-Ok.ticket.pointer c.in-Ok-finish.pointer
+          _ _ refl (ended.taken ∙ all.free) pointer refl begun.takes;
+      holds = ended.holds c.args.block.now all.carries;
+      harm = harm_as_whole (part_of c.begin.new.self) (part_of old) c.in-Ok.ticket.pointer c.in-Ok-finish.pointer (stripes_for (part_of old) c.args.block.now.bytes) (c.put_all.new.ticket.missed ≡ 0) ⊤
+          (g.R.Rack.told old.rack) (g.R.Rack.told c.begin.new.self.rack) (g.R.Rack.told c.put_all.new.shard.rack) (g.R.Rack.told c.finish.new.self.rack)
+          begun.part pointer stripes (ap g.R.Rack.told begun.rack) (ap g.R.Rack.told ended.rack) (λ _. ended.ok.0) all.harm;
+    }
+
+pub returns-in-Err-clause-answer : goal.returns-in-Err-clause-answer
+returns-in-Err-clause-answer g c =
+    let begun = c.in-Ok.ensures in
+    let all = c.put_all.ensures in
+    let ended = c.in-Err.ensures in
+    let old = c.args.shard.now in
+    let geometry = ap (λ (p : Part). stripes_for p c.args.block.now.bytes) begun.part in
+    let stripes = ticket_stripes g.R.Rack.shape g.R.Rack.told c.begin.new.self c.in-Ok.ticket c.args.block.now begun.valid begun.carries ∙ geometry in
+    let height = ap (λ (p : Part). p.geometry.props.height) (sym begun.part ∙ sym all.part) in
+    record {
+      first = c.in-Ok.ticket.pointer.first;
+      some = (let some = ended.missed.0 in let columns = ended.missed.1 in omega (arith, some, columns));
+      missed = missed_as (part_of c.begin.new.self) (part_of old) c.in-Ok.ticket.pointer (g.R.Rack.faults old.rack) (g.R.Rack.faults c.begin.new.self.rack) (g.R.Rack.faults c.put_all.new.shard.rack)
+          (g.R.Rack.faults c.finish.new.self.rack) c.put_all.new.ticket.missed c.in-Err.field-0.columns begun.part (ap g.R.Rack.faults begun.rack) (ap g.R.Rack.faults ended.rack) ended.missed.1 all.missed;
+      fitted = begun.takes.lowest;
+      free = ended.undone (free_of old) (takes_as old.geometry.props.height c.put_all.new.shard.geometry.props.height (free_of old) (free_of c.begin.new.self) (free_of c.put_all.new.shard) c.in-Ok.ticket.pointer
+          c.put_all.new.ticket.pointer _ _ height all.free all.pointer (sym stripes ∙ ap (λ (p : Pointer). p.stripes) (sym all.pointer)) begun.takes);
+      harm = harm_as_whole (part_of c.begin.new.self) (part_of old) c.in-Ok.ticket.pointer c.in-Ok.ticket.pointer (stripes_for (part_of old) c.args.block.now.bytes) (c.put_all.new.ticket.missed ≡ 0) ⊥
+          (g.R.Rack.told old.rack) (g.R.Rack.told c.begin.new.self.rack) (g.R.Rack.told c.put_all.new.shard.rack) (g.R.Rack.told c.finish.new.self.rack)
+          begun.part refl stripes (ap g.R.Rack.told begun.rack) (ap g.R.Rack.told ended.rack) (λ none. absurd none) all.harm;
+    }

@@ -1,0 +1,44 @@
+-- What the answers of a pool's calls say.
+use Rattle.std.specs.Prelude.{◌≡◌, ◌+◌, ℕ, List, Option, Some, None, Result, Ok, Err}
+use Rattle.std.specs.declared.vec.Vec.{Vec}
+use Rattle.std.specs.declared.alloc.Global.{Global}
+use Rattle.draid_pool.specs.State.{Damages, FailsToDamage, HasNoSpace, IsLost, IsThere, Looks, Misses, ReadsLast, State, Stays, StopsAt, Sums, Writes, bytes_of}
+use Rattle.draid_pool.specs.declared.fault.WriteFault.{WriteFault}
+use Rattle.draid_pool.specs.declared.fault.WriteFault.TheVariants as write
+use Rattle.draid_pool.specs.declared.fault.ObjectFault.{ObjectFault}
+use Rattle.draid_pool.specs.declared.fault.ObjectFault.TheVariants as object
+use Rattle.draid_pool.specs.declared.fault.SumFault.{SumFault}
+use Rattle.draid_pool.specs.declared.fault.DamageFault.{DamageFault}
+use Rattle.draid_pool.specs.declared.fault.DamageFault.TheVariants as damage
+
+abbrev pub WriteIs : ℕ → List ℕ → Result Unit WriteFault → State → State → Type 0
+WriteIs object bytes (Ok done) old new = Writes object bytes old new
+WriteIs object bytes (Err (write.NoSpace run)) old new = HasNoSpace bytes run old new
+WriteIs object bytes (Err (write.Missed columns)) old new = Misses bytes columns old new
+WriteIs object bytes (Err write.NoMemory) old new = Stays old new
+
+-- why an object gave no bytes
+abbrev pub ObjectFaultIs : ℕ → ObjectFault → State → State → Type 0
+ObjectFaultIs o object.NoObject old new = bytes_of old.writes o ≡ None
+ObjectFaultIs o (object.Unreadable absent tried) old new = IsLost o absent tried old new
+ObjectFaultIs o object.NoMemory old new = Unit {0}
+
+abbrev pub ReadIs : ℕ → Result (Vec ℕ Global) ObjectFault → State → State → Type 0
+ReadIs o (Ok bytes) old new = ReadsLast old.writes o bytes.items × Looks old new
+ReadIs o (Err why) old new = ObjectFaultIs o why old new × Looks old new
+
+-- the first object that gave no bytes, and why
+pub record SumStops (first count : ℕ) (fault : SumFault) (old new : State) : Type 0 where
+  pub mid : State
+  pub stops : StopsAt first count fault.object old mid
+  pub why : ObjectFaultIs fault.object fault.why mid new
+  pub looks : Looks mid new
+
+abbrev pub SumIs : ℕ → ℕ → Result (List ℕ) SumFault → State → State → Type 0
+SumIs first count (Ok digest) old new = Sums old.writes first count digest × Looks old new
+SumIs first count (Err fault) old new = SumStops first count fault old new
+
+abbrev pub DamageIs : ℕ → ℕ → Result Unit DamageFault → State → State → Type 0
+DamageIs leaf sector (Ok done) old new = Damages leaf sector old new
+DamageIs leaf sector (Err damage.NoSuch) old new = (IsThere old leaf sector → ⊥) × Stays old new
+DamageIs leaf sector (Err damage.Failed) old new = FailsToDamage leaf sector old new

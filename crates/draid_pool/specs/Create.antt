@@ -1,0 +1,28 @@
+use Rattle.std.specs.Prelude.{◌≡◌, ℕ, [], Option, Result, Ok, Err}
+use Rattle.draid_spec.specs.declared.layout.Geometry.{Geometry}
+use Rattle.draid_spec.specs.declared.layout.Props.{Props}
+use Rattle.draid_spec.specs.declared.spec.Spec.{Spec}
+use Rattle.draid_spec.specs.declared.spec.SpecFault.{SpecFault}
+use Rattle.draid_spec.specs.Geometry.{geometry_of}
+use Rattle.draid_rack.specs.Rack.{Shape, Told}
+use Rattle.draid_pool.specs.Pool.{Represents, state_of}
+use Rattle.draid_pool.specs.State.{IsFresh}
+use Rattle.draid_pool.specs.declared.fault.PoolFault.{PoolFault}
+use Rattle.draid_pool.specs.declared.fault.PoolFault.TheVariants as fault
+use Rattle.draid_pool.specs.declared.pool.Pool.{Pool}
+
+-- the spec and the properties have a layout
+pub record HasLayout (spec : Spec) (props : Props) : Type 0 where
+  pub geometry : Geometry
+  pub is : geometry_of spec props ≡ Ok geometry
+
+-- a fresh pool of the layout
+pub record Opens {R : Type 0} (shape : R → Shape) (told : R → Option Told) (faults : R → Option ℕ → ℕ) (spec : Spec) (props : Props) (pool : Pool R) : Type 0 where
+  pub layout : HasLayout spec props
+  pub represents : Represents shape told pool []
+  pub fresh : IsFresh layout.geometry (state_of told faults pool [])
+
+abbrev pub CreateIs : {R : Type 0} → (R → Shape) → (R → Option Told) → (R → Option ℕ → ℕ) → Spec → Props → Result (Pool R) PoolFault → Type 0
+CreateIs shape told faults spec props (Ok pool) = Opens shape told faults spec props pool
+CreateIs shape told faults spec props (Err (fault.Spec why)) = geometry_of spec props ≡ Err why
+CreateIs shape told faults spec props (Err fault.NoMemory) = HasLayout spec props

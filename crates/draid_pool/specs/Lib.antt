@@ -1,0 +1,5 @@
+pub mod Answers
+pub mod Create
+pub mod Pool
+pub mod State
+pub mod Store

@@ -1,0 +1,83 @@
+-- What becomes of a block that is written to a shard, and of one that is read.
+use Rattle.std.specs.Prelude.{◌≡◌, ◌≤◌, ◌<◌, ⊤, ℕ, List, Option, MatchOption, Result, Ok, Err, All, length}
+use Rattle.std.specs.List.Sorted.{IsStrictlyIncreasing}
+use Rattle.std.specs.declared.vec.Vec.{Vec}
+use Rattle.std.specs.declared.alloc.Global.{Global}
+use Rattle.sha2.specs.Sha256.{sha256}
+use Rattle.draid_names.specs.declared.pointer.Pointer.{Pointer}
+use Rattle.draid_rack.specs.Rack.{OnTold, Told}
+use Rattle.draid_block.specs.Order.{solve_order}
+use Rattle.draid_metaslab.specs.Spots.{IsLargest, IsLowest}
+use Rattle.draid_shard.specs.declared.shard.Shard.{Shard}
+use Rattle.draid_shard.specs.Part.{Part}
+use Rattle.draid_shard.specs.Columns.{EndsHarm, LeafRose, MoreBad, TellsBoth}
+use Rattle.draid_shard.specs.Shard.{HoldsBlock, TakesLowest, free_of, part_of}
+use Rattle.draid_pool.specs.State.{stripes_for}
+use Rattle.draid_pool.specs.declared.fault.ObjectFault.{ObjectFault}
+use Rattle.draid_pool.specs.declared.fault.ObjectFault.TheVariants as object
+use Rattle.draid_pool.specs.declared.fault.WriteFault.{WriteFault}
+use Rattle.draid_pool.specs.declared.fault.WriteFault.TheVariants as write
+
+-- so many of the columns below `next` landed nowhere, each on a leaf whose count of faults rose
+pub record MissedSome (part : Part) (first : ℕ) (old new : Option ℕ → ℕ) (next count : ℕ) : Type 0 where
+  pub missed : List ℕ
+  pub many : count ≡ length missed
+  pub ascending : IsStrictlyIncreasing missed
+  pub in_range : All (λ i. i < next) missed
+  pub each : All (LeafRose part first old new) missed
+
+-- The block w was stored for this object, on the lowest run that fits, and none of its sectors is harmed.
+pub record Stores {R : Type 0} (told : R → Option Told) (object : ℕ) (w : List ℕ) (old new : Shard R) (pointer : Pointer) : Type 0 where
+  pub named : pointer.object ≡ object
+  pub takes : TakesLowest old.geometry.props.height (free_of old) (free_of new) pointer.first (stripes_for (part_of old) w)
+  pub holds : HoldsBlock told new pointer w
+  pub harm : TellsBoth (told old.rack) (told new.rack) (λ x y.
+      EndsHarm (part_of old) pointer.first (stripes_for (part_of old) w) (λ i. i < old.geometry.g) ⊤ x.harmed y.harmed)
+
+-- Columns were missed. The free stripes are as before.
+pub record StoreMisses {R : Type 0} (told : R → Option Told) (faults : R → Option ℕ → ℕ) (w : List ℕ) (old new : Shard R) (columns : ℕ) : Type 0 where
+  pub first : ℕ
+  pub some : 1 ≤ columns
+  pub missed : MissedSome (part_of old) first (faults old.rack) (faults new.rack) old.geometry.g columns
+  pub fitted : IsLowest (free_of old) old.geometry.props.height (stripes_for (part_of old) w) first
+  pub free : (x : ℕ) → free_of new x ≡ free_of old x
+  pub harm : TellsBoth (told old.rack) (told new.rack) (λ x y.
+      EndsHarm (part_of old) first (stripes_for (part_of old) w) (λ i. i < old.geometry.g) ⊥ x.harmed y.harmed)
+
+-- nothing changed
+pub record StoreStays {R : Type 0} (old new : Shard R) : Type 0 where
+  pub rack : new.rack ≡ old.rack
+  pub free : (x : ℕ) → free_of new x ≡ free_of old x
+
+-- no run fits, and nothing changed
+pub record StoreFull {R : Type 0} (w : List ℕ) (old new : Shard R) (run : ℕ) : Type 0 where
+  pub largest : IsLargest (free_of old) old.geometry.props.height run
+  pub short : run < stripes_for (part_of old) w
+  pub same : StoreStays old new
+
+abbrev pub StoreAnswers : {R : Type 0} → (R → Option Told) → (R → Option ℕ → ℕ) → ℕ → List ℕ → Shard R → Shard R → Result Pointer WriteFault → Type 0
+StoreAnswers told faults o w old new (Ok pointer) = Stores told o w old new pointer
+StoreAnswers told faults o w old new (Err (write.NoSpace run)) = StoreFull w old new run
+StoreAnswers told faults o w old new (Err (write.Missed columns)) = StoreMisses told faults w old new columns
+StoreAnswers told faults o w old new (Err write.NoMemory) = StoreStays old new
+
+-- the bytes are as many as those of the block w, and have their digest
+pub record AreBytesOf (w bytes : List ℕ) : Type 0 where
+  pub len : length bytes ≡ length w
+  pub digest : sha256 bytes ≡ sha256 w
+
+-- No set of columns restores the block: these are absent, and their leaves have had failures; and where the rack tells, more columns are bad than there are
+-- parity columns.
+pub record IsUnread (part : Part) (first stripes : ℕ) (told : Option Told) (old new : Option ℕ → ℕ) (absent tried : ℕ) : Type 0 where
+  pub missing : List ℕ
+  pub count : absent ≡ length missing
+  pub each : All (LeafRose part first old new) missing
+  pub sets : tried ≡ length (solve_order part.geometry.spec.parity part.geometry.g missing)
+  pub bad : OnTold told (λ x. MoreBad part x.harmed first stripes old new)
+
+-- the answer to a read of the block w
+abbrev pub BlockAnswers : Part → Pointer → List ℕ → Option Told → (Option ℕ → ℕ) → (Option ℕ → ℕ) → Result (Vec ℕ Global) ObjectFault → Type 0
+BlockAnswers part pointer w told old new (Ok bytes) = AreBytesOf w bytes.items
+BlockAnswers part pointer w told old new (Err (object.Unreadable absent tried)) = IsUnread part pointer.first pointer.stripes told old new absent tried
+BlockAnswers part pointer w told old new (Err object.NoMemory) = ⊤
+BlockAnswers part pointer w told old new (Err object.NoObject) = ⊥

@@ -1,0 +1,97 @@
+ghost use Rattle.std.specs.Prelude.{◌≡◌, ◌<◌, ◌≤◌, ◌^◌, ℕ, List};
+ghost use Rattle.draid_block.specs.Blocks.{cut_of};
+ghost use Rattle.draid_pool.specs.Store.{BlockAnswers, MissedSome, StoreAnswers};
+ghost use Rattle.draid_shard.specs.Columns.{EndsHarm, TellsBoth};
+ghost use Rattle.draid_shard.specs.Shard.{Carries, HoldsBlock, IsLive, KeepsBlocks, NoneFalls, Valid, free_of, part_of};
+
+use crate::fault::{ObjectFault, WriteFault};
+use draid_block::{Encoded, SolveFault, solve_block};
+use draid_names::Pointer;
+use draid_rack::Rack;
+use draid_shard::{BeginFault, FetchFault, Missed, Shard, Ticket};
+use std::alloc::Global;
+
+/// Writes all columns of a block whose write has begun.
+fn put_all<R: Rack>(shard: &mut Shard<R>, ticket: &mut Ticket, block: &Encoded)
+    requires valid { Valid R.shape shard.old }
+    requires carries { Carries R.told shard.old ticket.old block.now }
+    requires fresh { (ticket.old.next ≡ 0) × (ticket.old.missed ≡ 0) }
+    ensures valid { Valid R.shape shard.new }
+    ensures part { part_of shard.new ≡ part_of shard.old }
+    ensures carries { Carries R.told shard.new ticket.new block.now }
+    ensures all { ticket.new.next ≡ shard.old.geometry.g }
+    ensures pointer { ticket.new.pointer ≡ ticket.old.pointer }
+    ensures missed { MissedSome (part_of shard.old) ticket.old.pointer.first (R.faults shard.old.rack) (R.faults shard.new.rack)
+        shard.old.geometry.g ticket.new.missed }
+    ensures harm { TellsBoth (R.told shard.old.rack) (R.told shard.new.rack) (λ x y.
+        EndsHarm (part_of shard.old) ticket.old.pointer.first ticket.old.pointer.stripes (λ i. i < shard.old.geometry.g)
+            (ticket.new.missed ≡ 0) x.harmed y.harmed) }
+    ensures later { NoneFalls (R.faults shard.old.rack) (R.faults shard.new.rack) }
+    ensures free { free_of shard.new ≡ free_of shard.old }
+    ensures kept { KeepsBlocks R.told shard.old shard.new }
+{
+    for _column in 0..shard.geometry.g {
+        shard.put(ticket, block);
+    }
+}
+
+/// Writes a block of `object` to the shard.
+pub(crate) fn store<R: Rack>(
+    shard: &mut Shard<R>,
+    object: u64,
+    seq: u64,
+    block: &Encoded,
+) -> Result<Pointer, WriteFault>
+    requires valid { Valid R.shape shard.old }
+    requires object { object < 2 ^ 32 }
+    requires first { 1 ≤ seq }
+    requires last { seq < 2 ^ 48 }
+    requires cut { block.now.cut ≡ cut_of shard.old.geometry }
+    ensures valid { Valid R.shape shard.new }
+    ensures part { part_of shard.new ≡ part_of shard.old }
+    ensures answer { StoreAnswers R.told R.faults object block.now.bytes shard.old shard.new result }
+    ensures later { NoneFalls (R.faults shard.old.rack) (R.faults shard.new.rack) }
+    ensures kept { KeepsBlocks R.told shard.old shard.new }
+{
+    let mut ticket = match shard.begin(object, seq, block) {
+        Ok(ticket) => ticket,
+        Err(BeginFault::NoRoom { largest }) => return Err(WriteFault::NoSpace { run: largest }),
+        Err(BeginFault::NoMemory) => return Err(WriteFault::NoMemory),
+    };
+    put_all(shard, &mut ticket, block);
+    match shard.finish(ticket) {
+        Ok(pointer) => Ok(pointer),
+        Err(Missed { columns }) => Err(WriteFault::Missed { columns }),
+    }
+}
+
+/// Reads the bytes of a live block.
+pub(crate) fn read_block<R: Rack>(
+    alloc: Global,
+    shard: &mut Shard<R>,
+    pointer: &Pointer,
+) -> Result<Vec<u8>, ObjectFault>
+    requires valid { Valid R.shape shard.old }
+    requires is_live { IsLive shard.old pointer.now }
+    ensures valid { Valid R.shape shard.new }
+    ensures part { part_of shard.new ≡ part_of shard.old }
+    ensures answer { (w : List ℕ) → HoldsBlock R.told shard.old pointer.now w
+        → BlockAnswers (part_of shard.old) pointer.now w (R.told shard.old.rack) (R.faults shard.old.rack) (R.faults shard.new.rack) result }
+    ensures told { R.told shard.new.rack ≡ R.told shard.old.rack }
+    ensures free { free_of shard.new ≡ free_of shard.old }
+    ensures later { NoneFalls (R.faults shard.old.rack) (R.faults shard.new.rack) }
+    ensures kept { KeepsBlocks R.told shard.old shard.new }
+{
+    let fetched = match shard.fetch(pointer) {
+        Ok(fetched) => fetched,
+        Err(FetchFault::NotLive) => unreachable!(),
+        Err(FetchFault::NoMemory) => return Err(ObjectFault::NoMemory),
+    };
+    match solve_block(alloc, &shard.geometry, &fetched) {
+        Ok(bytes) => Ok(bytes),
+        Err(SolveFault::Unreadable { absent, tried }) => {
+            Err(ObjectFault::Unreadable { absent, tried })
+        }
+        Err(SolveFault::NoMemory) => Err(ObjectFault::NoMemory),
+    }
+}
