@@ -1,4 +1,4 @@
--- A solved stripe is the stripe of codewords that has the columns that aren't missing, if there is one.
+-- The columns that solve for missing ones are the only ones.
 use Rattle.std.proofs.Common.{◌≡◌, ℕ, suc, ◌+◌, ◌-◌, ◌*◌, ◌^◌, ◌<◌, ◌≤◌, ◌∙◌, ◌⊎◌, inl, inr, Bool, true, false, ◌||◌, ◌==◌, cond, List, [], ◌∷◌, length, get_or, drop, bit_xor, refl, sym, ap, ap₂, subst, arith}
 use Rattle.std.specs.Prelude.{slice_index, nat_le, count_by, Contains}
 use Rattle.std.specs.List.Sorted.{IsStrictlyIncreasing}
@@ -12,14 +12,13 @@ use Rattle.draid_gf.proofs.Linear.{xor_swap}
 use Rattle.draid_gf.proofs.Product.{field_product-right}
 use Rattle.draid_gf.proofs.Laws.{same_from_xor}
 use Rattle.std.proofs.lemmas.Nat.{xor_of_8}
-use Rattle.draid_parity.specs.Codeword.{weighted_sum, parity_sum, IsCodeword}
+use Rattle.draid_parity.specs.Codeword.{weighted_sum, parity_sum}
 use Rattle.draid_parity.specs.Columns.{AreColumns, ChosenSums, IsChosen, SolvesColumns, byte_row, column_at, is_missing}
 use Rattle.draid_parity.proofs.Algebra.{generators, xor_none}
 use Rattle.draid_parity.proofs.Lists.{zip2_at}
 use Rattle.draid_parity.proofs.Missing.{ascending_le, contains-from_test, test-from_contains}
 use Rattle.draid_parity.proofs.Vandermonde.{ArePlaces, Differs, Vanishes, vanish}
-use Rattle.draid_parity.proofs.WeightedSums.{byte_row-at, data_row-at, data_row-length}
-use Rattle.std.proofs.lemmas.List.{drop-map}
+use Rattle.draid_parity.proofs.WeightedSums.{data_row-at, data_row-length}
 
 -- ---- the missing data columns, counted from the first data column
 unfoldable lost : ℕ → List ℕ → List ℕ
@@ -106,7 +105,7 @@ same_columns (x ∷ xs) [] same each = absurd (omega arith)
 same_columns (x ∷ xs) (y ∷ ys) same each =
     ap₂ (λ c cs. c ∷ cs) (each 0 (omega arith)) (same_columns xs ys (omega arith) (λ i below. each (suc i) (omega arith)))
 
--- ---- a solved stripe, and the codewords that complete the columns that aren't missing
+-- ---- a solved stripe, and other columns that solve for the missing ones
 pub record AreBoth (parity len : ℕ) (missing : List ℕ) (old new whole : List (List ℕ)) : Type 0 where
   pub kind : parity ≤ 3
   pub some : parity ≤ length old
@@ -116,22 +115,14 @@ pub record AreBoth (parity len : ℕ) (missing : List ℕ) (old new whole : List
   pub new_columns : AreColumns len new
   pub whole_columns : AreColumns len whole
   pub new_bytes : (i j : ℕ) → Contains missing i → parity ≤ i → IsByte (slice_index (column_at new i) j)
-  pub whole_bytes : (i j : ℕ) → IsByte (slice_index (column_at whole i) j)
+  pub whole_bytes : (i j : ℕ) → Contains missing i → parity ≤ i → IsByte (slice_index (column_at whole i) j)
   pub ascending : IsStrictlyIncreasing missing
   pub in_range : (n : ℕ) → n < length missing → slice_index missing n < length old
   pub solves : SolvesColumns parity missing old new
   pub chosen : ChosenSums parity missing new
-  pub encoded : (j : ℕ) → j < len → IsCodeword parity (byte_row j whole)
-  pub stays : (i : ℕ) → (Contains missing i → ⊥) → column_at whole i ≡ column_at old i
+  pub whole_solves : SolvesColumns parity missing old whole
 
--- the sums of a codeword
-whole_sum : (parity len : ℕ) (missing : List ℕ) (old new whole : List (List ℕ)) → AreBoth parity len missing old new whole → (j : ℕ) → j < len
-    → (k : ℕ) → k < parity → slice_index (column_at whole k) j ≡ parity_sum k (byte_row j (drop parity whole))
-whole_sum parity len missing old new whole b j j_below k below =
-    sym (byte_row-at j whole k) ∙ b.encoded j j_below k below
-    ∙ ap (parity_sum k) (drop-map (λ c. slice_index c j) parity whole)
-
--- the data bytes of a row are those of the codeword
+-- the data bytes of a row are the same
 data_same : (parity len : ℕ) (missing : List ℕ) (old new whole : List (List ℕ)) → AreBoth parity len missing old new whole → (j : ℕ) → j < len
     → (i : ℕ) → get_or (byte_row j (drop parity new)) i 0 ≡ get_or (byte_row j (drop parity whole)) i 0
 data_same parity len missing old new whole b j j_below i =
@@ -161,7 +152,7 @@ data_same parity len missing old new whole b j j_below i =
         at i
         ∙ xor_none (get_or news i 0) (get_or wholes i 0)
         (data_row-at j parity new i
-        ∙ ap (λ c. slice_index c j) (b.solves.stays (parity + i) absent ∙ sym (b.stays (parity + i) absent))
+        ∙ ap (λ c. slice_index c j) (b.solves.stays (parity + i) absent ∙ sym (b.whole_solves.stays (parity + i) absent))
         ∙ sym (data_row-at j parity whole i))
 
     byte : (i : ℕ) → IsByte (get_or ds i 0)
@@ -172,7 +163,7 @@ data_same parity len missing old new whole b j j_below i =
             subst IsByte (sym (at i))
             (xor_of_8 (get_or news i 0) (get_or wholes i 0)
             (subst IsByte (sym (data_row-at j parity new i)) (b.new_bytes (parity + i) j (contains-from_test missing (parity + i) is) (omega arith)))
-            (subst IsByte (sym (data_row-at j parity whole i)) (b.whole_bytes (parity + i) j)))
+            (subst IsByte (sym (data_row-at j parity whole i)) (b.whole_bytes (parity + i) j (contains-from_test missing (parity + i) is) (omega arith))))
         cases false is =
             subst IsByte (sym (other i (λ there. (let yes = test-from_contains missing (parity + i) there in cc)))) (omega arith)
 
@@ -189,8 +180,8 @@ data_same parity len missing old new whole b j j_below i =
         ∙ weighted_sum-xor (2 ^ k) news wholes same
         ∙ xor_none (weighted_sum (2 ^ k) news) (weighted_sum (2 ^ k) wholes)
         (sym (b.chosen.sums k is j)
-        ∙ ap (λ c. slice_index c j) (b.solves.stays k is.present ∙ sym (b.stays k is.present))
-        ∙ whole_sum parity len missing old new whole b j j_below k is.in_range)
+        ∙ ap (λ c. slice_index c j) (b.solves.stays k is.present ∙ sym (b.whole_solves.stays k is.present))
+        ∙ b.whole_solves.solved k is j)
 
     vanishes : Vanishes b.chosen.first b.chosen.step (lost parity missing) ds
     vanishes = record {
@@ -221,10 +212,10 @@ column_same parity len missing old new whole b j j_below i = cases (cases_lt i p
     parity_column below true is =
         b.solves.encoded i below (contains-from_test missing i is) j
         ∙ ap (parity_sum i) rows
-        ∙ sym (whole_sum parity len missing old new whole b j j_below i below)
+        ∙ sym (b.whole_solves.encoded i below (contains-from_test missing i is) j)
     parity_column below false is =
         let absent : Contains missing i → ⊥ = λ there. (let yes = test-from_contains missing i there in cc) in
-        ap (λ c. slice_index c j) (b.solves.stays i absent ∙ sym (b.stays i absent))
+        ap (λ c. slice_index c j) (b.solves.stays i absent ∙ sym (b.whole_solves.stays i absent))
 
     cases : (i < parity) ⊎ (parity ≤ i) → slice_index (column_at new i) j ≡ slice_index (column_at whole i) j
     cases (inl below) = parity_column below (is_missing missing i) refl

@@ -94,9 +94,15 @@ pub record SolvesColumns (parity : ℕ) (missing : List ℕ) (old new : List (Li
 -- the columns of a stripe of codewords that has the columns that aren't missing
 pub record Completes (missing : List ℕ) (old : StripeValue) (whole : List (List ℕ)) : Type 0 where
   pub stripe : IsStripe (record old { columns = whole })
-  pub bytes : (i j : ℕ) → IsByte (slice_index (column_at whole i) j)
+  pub bytes : (i j : ℕ) → Contains missing i → old.parity ≤ i → IsByte (slice_index (column_at whole i) j)
   pub encoded : IsEncoded (record old { columns = whole })
   pub stays : (i : ℕ) → (Contains missing i → ⊥) → column_at whole i ≡ column_at old.columns i
+
+-- the columns of a stripe that solve for those that are missing, whatever the others are
+pub record IsSolution (missing : List ℕ) (old : StripeValue) (new : List (List ℕ)) : Type 0 where
+  pub stripe : IsStripe (record old { columns = new })
+  pub bytes : (i j : ℕ) → Contains missing i → old.parity ≤ i → IsByte (slice_index (column_at new i) j)
+  pub solves : SolvesColumns old.parity missing old.columns new
 
 -- a stripe of zero bytes
 abbrev pub zero_stripe : ℕ → ℕ → ℕ → StripeValue

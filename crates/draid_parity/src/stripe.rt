@@ -2,7 +2,7 @@
 ghost use Rattle.std.specs.Prelude.{◌≡◌, ℕ, ◌+◌, ◌<◌, ◌≤◌, All, IfOk, List, length};
 ghost use Rattle.std.specs.Borrow.{sem};
 ghost use Rattle.std.specs.List.Sorted.{IsStrictlyIncreasing};
-ghost use Rattle.draid_parity.specs.Columns.{Completes, IsEncoded, IsStripe, SolvesColumns, StripeValue, column_at, zero_stripe};
+ghost use Rattle.draid_parity.specs.Columns.{Completes, IsEncoded, IsSolution, IsStripe, SolvesColumns, StripeValue, column_at, zero_stripe};
 ghost use Rattle.draid_parity.specs.Lending.{LendsColumn};
 
 use crate::column::Column;
@@ -89,7 +89,7 @@ impl Stripe {
     /// Sets the missing columns, whose numbers ascend and are at most as many as the parity, to those
     /// of the codewords that have the other columns. Where there are no such codewords, missing data
     /// columns are solved from the lowest present parity columns, and missing parity columns are
-    /// encoded then. Takes no memory.
+    /// encoded then. One solution is all that there is. Takes no memory.
     pub fn solve(&mut self, missing: &[u32])
         requires few { length missing.now ≤ self.old.parity }
         requires ascending { IsStrictlyIncreasing missing.now }
@@ -98,6 +98,9 @@ impl Stripe {
         ensures restores { (whole : List (List ℕ)) → Completes missing.now self.old whole → self.new.columns
             ≡ whole }
         ensures solves { SolvesColumns self.old.parity missing.now self.old.columns self.new.columns }
+        ensures solution { IsSolution missing.now self.old self.new.columns }
+        ensures only { (other : List (List ℕ)) → IsSolution missing.now self.old other → self.new.columns
+            ≡ other }
         ensures shape { self.new ≡ record self.old { columns = self.new.columns } }
         ensures stripe { IsStripe self.new }
     {
