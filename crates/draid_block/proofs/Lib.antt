@@ -1,6 +1,9 @@
-pub mod Cut
-pub mod Encodes
-pub mod Halves
-pub mod Restores
-pub mod Solved
-pub mod Worked
+pub mod Complete
+pub mod Filling
+pub mod Held
+pub mod Parts
+pub mod Sets
+pub mod Sizes
+pub mod Solves
+pub mod Upto
+pub mod Whole

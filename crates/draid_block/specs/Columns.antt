@@ -1,15 +1,12 @@
+-- How a block's sectors are cut over the data columns of its stripes.
 use Rattle.std.specs.Int.{div_ceil}
-use Rattle.std.specs.Prelude.{ℕ, zero, suc, ◌+◌, ◌-◌, ◌*◌, ◌%◌, ◌==◌, List, [], ◌++◌, length, take, drop, map, zip, replicate, bit_xor, nat_lt, if◌then◌else◌}
+use Rattle.std.specs.Prelude.{ℕ, zero, suc, ◌+◌, ◌-◌, ◌*◌, ◌%◌, ◌==◌, List, ◌++◌, length, take, drop, replicate, nat_lt, if◌then◌else◌}
 
 -- how blocks are cut: the bytes of a sector, and how many data and parity columns a stripe has
 pub record Cut : Type 0 where
   pub sector : ℕ
   pub ndata : ℕ
   pub parity : ℕ
-
--- the one cut that this pool has
-abbrev pub first_cut : Cut
-first_cut = record { sector = 512; ndata = 2; parity = 1 }
 
 -- how many sectors a block of so many bytes fills, the last one perhaps in part
 unfoldable pub sectors_of : Cut → ℕ → ℕ
@@ -44,21 +41,3 @@ unfoldable pub data_column : Cut → List ℕ → ℕ → List ℕ
 data_column cut w i =
     filled (stripes_of cut (length w) * cut.sector)
     (take (sectors_in cut (length w) i * cut.sector) (drop (sectors_before cut (length w) i * cut.sector) w))
-
--- the exclusive or at each byte
-abbrev pub xor_bytes : List ℕ → List ℕ → List ℕ
-xor_bytes a b = map (λ p. bit_xor p.0 p.1) (zip a b)
-
--- the exclusive or at each byte of the data columns 0 to i
-abbrev pub xor_upto : Cut → List ℕ → ℕ → List ℕ
-xor_upto cut w zero = data_column cut w 0
-xor_upto cut w (suc i) = xor_bytes (xor_upto cut w i) (data_column cut w (suc i))
-
--- A parity column: the first one is P, the exclusive or of all data columns. No cut here has another.
-unfoldable pub parity_column : Cut → List ℕ → ℕ → List ℕ
-parity_column cut w zero = xor_upto cut w (cut.ndata - 1)
-parity_column cut w (suc i) = []
-
--- The columns of a block: the parity columns, and then the data columns.
-unfoldable pub column_of : Cut → List ℕ → ℕ → List ℕ
-column_of cut w i = if nat_lt i cut.parity then parity_column cut w i else data_column cut w (i - cut.parity)

@@ -1,3 +1,5 @@
+pub mod Blocks
 pub mod Columns
-pub mod Encoded
-pub mod Solve
+pub mod Order
+pub mod Search
+pub mod Solving

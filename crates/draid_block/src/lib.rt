@@ -1,12 +1,13 @@
-//! A block cut into columns with their parity, and the columns put together again.
+//! Blocks over the stripes of a geometry: a block cut into columns with their parity, and columns
+//! that were read put together again, known by the digest of the block's pointer.
 
 #![tactic(auto)]
 
 mod encoded;
+mod hashing;
+mod search;
+mod shape;
 mod solve;
 
 pub use encoded::Encoded;
 pub use solve::{Fetched, SolveFault, solve_block};
-
-/// The bytes of a sector.
-pub const SECTOR: usize = 512;

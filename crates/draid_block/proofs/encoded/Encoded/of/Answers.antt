@@ -1,24 +1,39 @@
-use Rattle.std.proofs.Common.{◌≡◌, ◌*◌, length, arith, ◌∙◌, refl}
-use Rattle.draid_block.specs.Columns.{first_cut, stripes_of, xor_bytes}
-use Rattle.draid_block.proofs.Cut.{stripes_room}
-use Rattle.draid_block.proofs.Encodes.{Halves, halves, joined_is, encodes}
+use Rattle.std.proofs.Common.{◌≡◌, ℕ, ◌<◌, ◌+◌, ◌∙◌, List, length, arith, ap, sym, subst}
+use Rattle.draid_parity.specs.Columns.{StripeValue, IsStripe, IsEncoded, column_at, zero_stripe}
+use Rattle.draid_block.specs.Columns.{data_column}
+use Rattle.draid_block.specs.Blocks.{IsBlock, block_value, cut_of, stripe_of}
+use Rattle.draid_block.proofs.Filling.{is_block, bytes_are}
+use Rattle.draid_block.proofs.Parts.{some_sector}
 use Rattle.draid_block.proofs.encoded.Encoded.of.Goals as goal
 
-parts : (c : goal.After-digest) → Halves c.args.bytes.now c.in_ok-left.left.items c.in_ok-right.right.items (stripes_of first_cut (length c.args.bytes.now) * 512)
-parts c =
-    halves c.args.bytes.now c.split_at.result.0.now c.split_at.result.1.now _ _ c.stripes_for-stripes.result c.min.result
-    c.stripes_for-stripes.ensures c.min.ensures c.split_at.ensures.front c.split_at.ensures.back c.in_ok-left.ensures c.in_ok-right.ensures
+shape : (c : goal.After-digest) → c.encode.new.self ≡ stripe_of (cut_of c.args.geometry.now) (length c.args.bytes.now) c.encode.new.self.columns
+shape c =
+    let columns : List (List ℕ) = c.encode.new.self.columns in
+    let filled : List (List ℕ) = c.fill_columns.new.stripe.columns in
+    c.encode.ensures.shape
+    ∙ ap (λ (s : StripeValue). record s { columns = columns }) (c.fill_columns.ensures.shape ∙ ap (λ (s : StripeValue). record s { columns = filled }) c.in_ok-stripe.ensures)
+    ∙ ap (λ (n : ℕ). record (zero_stripe c.args.geometry.now.spec.parity c.args.geometry.now.spec.ndata n) { columns = columns }) c.column_bytes.ensures
 
-pub returns : goal.returns
-returns c = joined_is c.args.bytes.now c.in_ok-left.left.items c.in_ok-right.right.items (parts c)
-
-pub filled_to-requires-2 : goal.filled_to-requires-2
-filled_to-requires-2 c = omega (arith, stripes_room (length c.args.bytes.now))
-
-parity_is : (c : goal.After-digest) → c.in_ok-parity.parity.items ≡ xor_bytes c.in_ok-left.left.items c.in_ok-right.right.items
-parity_is c = c.in_ok-parity.ensures ∙ rw (c.deref.ensures.value, c.deref-2.ensures.value) refl
+columns_are : (c : goal.After-digest) (k : ℕ) → k < c.args.geometry.now.spec.ndata
+    → column_at c.encode.new.self.columns (c.args.geometry.now.spec.parity + k) ≡ data_column (cut_of c.args.geometry.now) c.args.bytes.now k
+columns_are c k below =
+    let parity : c.fill_columns.new.stripe.parity ≡ c.args.geometry.now.spec.parity =
+    ap (λ (s : StripeValue). s.parity) (c.fill_columns.ensures.shape) ∙ ap (λ (s : StripeValue). s.parity) c.in_ok-stripe.ensures in
+    c.encode.ensures.stays (c.args.geometry.now.spec.parity + k) (omega arith) ∙ c.fill_columns.ensures.sectors k below
 
 pub invariant_of-result : goal.invariant_of-result
 invariant_of-result c =
-    rw c.stripes_for-stripes.ensures
-    (encodes c.args.bytes.now c.in_ok-parity.parity.items _ _ c.digest.result c.requires.some c.requires.short (parts c) (parity_is c) c.digest.ensures)
+    let g = c.requires.geometry in
+    let P = λ (s : StripeValue). IsBlock (block_value c.args.geometry.now.props.sector (length c.args.bytes.now) s) (length c.args.bytes.now) c.stripes_for.result c.digest.result in
+    subst P (sym (shape c))
+    (is_block (cut_of c.args.geometry.now) c.args.bytes.now c.encode.new.self.columns c.stripes_for.result c.digest.result
+    g.spec.some_data g.props.sector c.requires.some c.requires.short
+    (subst IsStripe (shape c) c.encode.ensures.stripe) (subst IsEncoded (shape c) c.encode.ensures.encoded)
+    (columns_are c) c.stripes_for.ensures c.digest.ensures)
+
+pub returns-clause-bytes : goal.returns-clause-bytes
+returns-clause-bytes c =
+    let g = c.requires.geometry in
+    let P = λ (s : StripeValue). (block_value c.args.geometry.now.props.sector (length c.args.bytes.now) s).bytes ≡ c.args.bytes.now in
+    subst P (sym (shape c))
+    (bytes_are (cut_of c.args.geometry.now) c.args.bytes.now c.encode.new.self.columns g.spec.some_data (some_sector c.args.geometry.now g) (columns_are c))

@@ -1,0 +1,5 @@
+use Rattle.std.proofs.Common.{◌+◌, ◌-◌}
+use Rattle.draid_block.proofs.search.+try_sets.Given as goal
+
+abbrev pub decreases-try_sets : goal.decreases-try_sets
+decreases-try_sets l = l.geometry.now.spec.parity + l.geometry.now.spec.ndata - l.first

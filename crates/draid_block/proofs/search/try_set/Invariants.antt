@@ -1,0 +1,8 @@
+use Rattle.std.proofs.Common.{drop}
+use Rattle.std.specs.Prelude.{Contains}
+use Rattle.draid_block.specs.Blocks.{cut_of}
+use Rattle.draid_block.specs.Search.{IsHeld}
+use Rattle.draid_block.proofs.search.try_set.Given as goal
+
+abbrev pub invariant-loop-i : goal.invariant-loop-i
+invariant-loop-i l = IsHeld (cut_of l.geometry) l.fetched.pointer.len l.fetched.columns.items (λ k. Contains (drop l.i-index l.set) k) l.stripe

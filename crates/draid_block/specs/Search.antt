@@ -1,0 +1,64 @@
+-- The search for the set of missing columns, step by step.
+use Rattle.std.specs.Prelude.{◌≡◌, ◌≤◌, ◌<◌, ◌+◌, ℕ, List, All, Contains, length, Option, Some, None, Result, Ok, Err, slice_get}
+use Rattle.std.specs.List.Sorted.{IsStrictlyIncreasing}
+use Rattle.std.specs.declared.vec.Vec.{Vec}
+use Rattle.std.specs.declared.alloc.AllocError.{AllocError}
+use Rattle.std.specs.declared.alloc.Global.{Global}
+use Rattle.draid_parity.specs.Columns.{StripeValue, column_at}
+use Rattle.draid_block.specs.Columns.{Cut}
+use Rattle.draid_block.specs.Blocks.{stripe_of}
+use Rattle.draid_block.specs.Order.{covering, sets_below}
+use Rattle.draid_block.specs.Solving.{FailsOf, GivesOf, IsFirst, absent_columns}
+use Rattle.draid_block.specs.declared.solve.Fetched.{Fetched}
+
+-- A stripe has what was read of each column but of these, whose bytes may be others.
+pub record IsHeld (cut : Cut) (len : ℕ) (columns : List (Option (Vec ℕ Global))) (except : ℕ → Type 0) (s : StripeValue) : Type 0 where
+  pub shape : s ≡ stripe_of cut len s.columns
+  pub count : length s.columns ≡ cut.parity + cut.ndata
+  pub held : (i : ℕ) (c : Vec ℕ Global) → slice_get columns i ≡ Some (Some c) → (except i → ⊥) → column_at s.columns i ≡ c.items
+
+-- each column that was read stands in the stripe
+abbrev pub HoldsAll : Cut → Fetched → StripeValue → Type 0
+HoldsAll cut fetched s = IsHeld cut fetched.pointer.len fetched.columns.items (λ i. ⊥) s
+
+-- what trying one set answers: bytes, or nothing where it fails, and the stripe is then as it was
+abbrev pub TriesSet : Cut → Fetched → List ℕ → StripeValue → Result (Option (Vec ℕ Global)) AllocError → Type 0
+TriesSet cut fetched set s (Ok (Some bytes)) = GivesOf cut fetched bytes.items set
+TriesSet cut fetched set s (Ok None) = HoldsAll cut fetched s × FailsOf cut fetched set
+TriesSet cut fetched set s (Err e) = Unit {0}
+
+-- a set of missing columns that may be tried
+pub record IsCandidate (cut : Cut) (fetched : Fetched) (set : List ℕ) : Type 0 where
+  pub few : length set ≤ cut.parity
+  pub ascending : IsStrictlyIncreasing set
+  pub in_range : All (λ i. i < cut.parity + cut.ndata) set
+  pub absent : (i : ℕ) → Contains (absent_columns fetched.columns.items) i → Contains set i
+
+-- none of these sets has an answer, and they are counted; the stripe is as it was
+pub record NoneOf (cut : Cut) (fetched : Fetched) (sets : List (List ℕ)) (s : StripeValue) (before after : ℕ) : Type 0 where
+  pub held : HoldsAll cut fetched s
+  pub failed : All (FailsOf cut fetched) sets
+  pub counted : after ≡ before + length sets
+
+-- what trying these sets in order answers: the bytes of the first that has the digest, or nothing
+abbrev pub TriesSets : Cut → Fetched → List (List ℕ) → StripeValue → ℕ → ℕ → Result (Option (Vec ℕ Global)) AllocError → Type 0
+TriesSets cut fetched sets s before after (Ok (Some bytes)) = IsFirst (GivesOf cut fetched bytes.items) (FailsOf cut fetched) sets
+TriesSets cut fetched sets s before after (Ok None) = NoneOf cut fetched sets s before after
+TriesSets cut fetched sets s before after (Err e) = Unit {0}
+
+-- the first members of a set of which so many more follow, from this column on
+pub record IsBegun (cut : Cut) (begun : List ℕ) (size first : ℕ) : Type 0 where
+  pub few : length begun + size ≤ cut.parity
+  pub ascending : IsStrictlyIncreasing begun
+  pub below : All (λ i. i < first) begun
+  pub in_range : first ≤ cut.parity + cut.ndata
+
+-- the sets of size 0 that are tried: the empty one, where no column is absent
+abbrev pub first_sets : Cut → Fetched → List (List ℕ)
+first_sets cut fetched = covering (absent_columns fetched.columns.items) (sets_below 1 (cut.parity + cut.ndata))
+
+-- what trying the columns as they were read answers
+abbrev pub TriesRead : Cut → Fetched → Result (Option (Vec ℕ Global)) AllocError → Type 0
+TriesRead cut fetched (Ok (Some bytes)) = IsFirst (GivesOf cut fetched bytes.items) (FailsOf cut fetched) (first_sets cut fetched)
+TriesRead cut fetched (Ok None) = All (FailsOf cut fetched) (first_sets cut fetched)
+TriesRead cut fetched (Err e) = Unit {0}

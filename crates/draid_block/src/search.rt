@@ -1,0 +1,282 @@
+//! The search for the columns of a block that are missing or wrong.
+ghost use Rattle.std.specs.Prelude.{◌≡◌, ◌≢◌, ◌≤◌, ◌<◌, ◌+◌, ◌-◌, ◌^◌, ℕ, [], ◌∷◌, All, Some, IfOk, OnOk, length, slice_get};
+ghost use Rattle.std.specs.declared.vec.Vec.{Vec};
+ghost use Rattle.std.specs.declared.alloc.Global.{Global};
+ghost use Rattle.draid_spec.specs.Geometry.{IsGeometry};
+ghost use Rattle.draid_parity.specs.Columns.{column_at};
+ghost use Rattle.draid_block.specs.Blocks.{cut_of};
+ghost use Rattle.draid_block.specs.Order.{covers, covering, sets_after};
+ghost use Rattle.draid_block.specs.Solving.{FailsOf, IsFetched, SolvesBlock, absent_columns, sets_of};
+ghost use Rattle.draid_block.specs.Search.{HoldsAll, IsBegun, IsCandidate, NoneOf, TriesRead, TriesSet, TriesSets, first_sets};
+
+use crate::hashing::{read_bytes, read_digest, stripe_bytes, stripe_digest};
+use crate::shape::column_bytes;
+use crate::solve::{Fetched, SolveFault};
+use draid_parity::Stripe;
+use draid_spec::Geometry;
+use std::alloc::{AllocError, Global};
+
+/// The columns that are absent, in order.
+pub fn absent_of(alloc: Global, columns: &[Option<Vec<u8>>]) -> Result<Vec<u32>, AllocError>
+    requires { length columns.now ≤ 1000 }
+    ensures { IfOk result (λ v. v.items ≡ absent_columns columns.now) }
+{
+    let mut absent = Vec::new(alloc);
+    for (i, column) in columns.iter().enumerate() {
+        if column.is_none() {
+            absent.push(i as u32)?;
+        }
+    }
+    Ok(absent)
+}
+
+/// Whether a set of columns has all that are absent.
+fn has_all(set: &[u32], absent: &[u32]) -> bool
+    ensures { result ≡ covers absent.now set.now }
+{
+    for i in absent {
+        if !set.contains(i) {
+            return false;
+        }
+    }
+    true
+}
+
+/// Writes what was read of column `i` to the stripe, if anything was.
+fn put_column(stripe: &mut Stripe, columns: &[Option<Vec<u8>>], i: u32)
+    requires there { i < length columns.now }
+    requires in_range { i < stripe.old.parity + stripe.old.ndata }
+    requires count { length stripe.old.columns ≡ stripe.old.parity + stripe.old.ndata }
+    requires long { (c : Vec ℕ Global) → slice_get columns.now i ≡ Some (Some c)
+        → length c.items ≡ stripe.old.len }
+    ensures shape { stripe.new ≡ record stripe.old { columns = stripe.new.columns } }
+    ensures count { length stripe.new.columns ≡ length stripe.old.columns }
+    ensures held { (c : Vec ℕ Global) → slice_get columns.now i ≡ Some (Some c)
+        → column_at stripe.new.columns i ≡ c.items }
+    ensures others { (k : ℕ) → k ≢ i → column_at stripe.new.columns k
+        ≡ column_at stripe.old.columns k }
+{
+    if let Some(column) = &columns[i as usize] {
+        stripe.column_mut(i).copy_from_slice(column);
+    }
+}
+
+/// A stripe that has the columns that were read.
+fn held_stripe(alloc: Global, geometry: &Geometry, fetched: &Fetched) -> Result<Stripe, AllocError>
+    requires geometry { IsGeometry geometry.now }
+    requires fetched { IsFetched (cut_of geometry.now) fetched.now }
+    ensures { IfOk result (λ stripe. HoldsAll (cut_of geometry.now) fetched.now stripe) }
+{
+    let mut stripe = Stripe::new(
+        alloc,
+        geometry.spec.parity,
+        geometry.spec.ndata,
+        column_bytes(geometry, fetched.pointer.len),
+    )?;
+    for i in 0..geometry.spec.parity + geometry.spec.ndata {
+        put_column(&mut stripe, &fetched.columns, i);
+    }
+    Ok(stripe)
+}
+
+/// Tries one set of missing columns.
+fn try_set(
+    alloc: Global,
+    geometry: &Geometry,
+    fetched: &Fetched,
+    stripe: &mut Stripe,
+    set: &[u32],
+) -> Result<Option<Vec<u8>>, AllocError>
+    requires geometry { IsGeometry geometry.now }
+    requires fetched { IsFetched (cut_of geometry.now) fetched.now }
+    requires held { HoldsAll (cut_of geometry.now) fetched.now stripe.old }
+    requires set { IsCandidate (cut_of geometry.now) fetched.now set.now }
+    ensures { TriesSet (cut_of geometry.now) fetched.now set.now stripe.new result }
+{
+    stripe.solve(set);
+    if stripe_digest(geometry, fetched.pointer.len, stripe) == fetched.pointer.digest {
+        return Ok(Some(stripe_bytes(alloc, geometry, fetched.pointer.len, stripe)?));
+    }
+    for i in set {
+        put_column(stripe, &fetched.columns, *i);
+    }
+    Ok(None)
+}
+
+/// The stripe in which sets are tried, and how many were.
+#[derive(Drop)]
+struct Attempts {
+    stripe: Stripe,
+    tried: u64,
+}
+
+/// Tries a set if it has all columns that are absent.
+fn try_candidate(
+    alloc: Global,
+    geometry: &Geometry,
+    fetched: &Fetched,
+    absent: &[u32],
+    attempts: &mut Attempts,
+    set: &[u32],
+) -> Result<Option<Vec<u8>>, AllocError>
+    requires geometry { IsGeometry geometry.now }
+    requires fetched { IsFetched (cut_of geometry.now) fetched.now }
+    requires absent { absent.now ≡ absent_columns fetched.now.columns.items }
+    requires held { HoldsAll (cut_of geometry.now) fetched.now attempts.old.stripe }
+    requires set { IsBegun (cut_of geometry.now) set.now 0 (geometry.now.spec.parity + geometry.now.spec.ndata) }
+    requires room { attempts.old.tried + length (covering absent.now (set.now ∷ [])) < 2 ^ 64 }
+    ensures { TriesSets (cut_of geometry.now) fetched.now (covering absent.now (set.now ∷ [])) attempts.new.stripe attempts.old.tried attempts.new.tried result }
+{
+    if !has_all(set, absent) {
+        return Ok(None);
+    }
+    attempts.tried += 1;
+    try_set(alloc, geometry, fetched, &mut attempts.stripe, set)
+}
+
+/// Tries the sets that begin so, and have `size` more columns from `first` on.
+fn try_sets(
+    alloc: Global,
+    geometry: &Geometry,
+    fetched: &Fetched,
+    absent: &[u32],
+    attempts: &mut Attempts,
+    begun: &mut Vec<u32>,
+    size: u32,
+    first: u32,
+) -> Result<Option<Vec<u8>>, AllocError>
+    requires geometry { IsGeometry geometry.now }
+    requires fetched { IsFetched (cut_of geometry.now) fetched.now }
+    requires absent { absent.now ≡ absent_columns fetched.now.columns.items }
+    requires held { HoldsAll (cut_of geometry.now) fetched.now attempts.old.stripe }
+    requires begun { IsBegun (cut_of geometry.now) begun.old.items size first }
+    requires room { attempts.old.tried + length (covering absent.now (sets_after begun.old.items size first (geometry.now.spec.parity + geometry.now.spec.ndata - first))) < 2 ^ 64 }
+    ensures tries { TriesSets (cut_of geometry.now) fetched.now (covering absent.now (sets_after begun.old.items size first (geometry.now.spec.parity + geometry.now.spec.ndata - first))) attempts.new.stripe attempts.old.tried attempts.new.tried result }
+    ensures begun { OnOk result (begun.new.items ≡ begun.old.items) }
+{
+    if size == 0 {
+        return try_candidate(alloc, geometry, fetched, absent, attempts, begun);
+    }
+    if first == geometry.spec.parity + geometry.spec.ndata {
+        return Ok(None);
+    }
+    begun.push(first)?;
+    let found = try_sets(
+        alloc,
+        geometry,
+        fetched,
+        absent,
+        attempts,
+        begun,
+        size - 1,
+        first + 1,
+    )?;
+    begun.pop();
+    match found {
+        Some(bytes) => Ok(Some(bytes)),
+        None => try_sets(
+            alloc,
+            geometry,
+            fetched,
+            absent,
+            attempts,
+            begun,
+            size,
+            first + 1,
+        ),
+    }
+}
+
+/// Tries the columns as they were read, where none is absent.
+fn try_read(
+    alloc: Global,
+    geometry: &Geometry,
+    fetched: &Fetched,
+    absent: &[u32],
+) -> Result<Option<Vec<u8>>, AllocError>
+    requires geometry { IsGeometry geometry.now }
+    requires fetched { IsFetched (cut_of geometry.now) fetched.now }
+    requires absent { absent.now ≡ absent_columns fetched.now.columns.items }
+    ensures { TriesRead (cut_of geometry.now) fetched.now result }
+{
+    if !absent.is_empty() {
+        return Ok(None);
+    }
+    let len = fetched.pointer.len;
+    if read_digest(geometry, len, &fetched.columns) == fetched.pointer.digest {
+        return Ok(Some(read_bytes(alloc, geometry, len, &fetched.columns)?));
+    }
+    Ok(None)
+}
+
+/// The stripe before sets with members are tried.
+fn begin(
+    alloc: Global,
+    geometry: &Geometry,
+    fetched: &Fetched,
+    absent: &[u32],
+) -> Result<Attempts, AllocError>
+    requires geometry { IsGeometry geometry.now }
+    requires fetched { IsFetched (cut_of geometry.now) fetched.now }
+    requires absent { absent.now ≡ absent_columns fetched.now.columns.items }
+    requires failed { All (FailsOf (cut_of geometry.now) fetched.now) (first_sets (cut_of geometry.now) fetched.now) }
+    ensures { IfOk result (λ a. NoneOf (cut_of geometry.now) fetched.now (first_sets (cut_of geometry.now) fetched.now) a.stripe 0 a.tried) }
+{
+    let stripe = held_stripe(alloc, geometry, fetched)?;
+    Ok(Attempts {
+        stripe,
+        tried: if absent.is_empty() { 1 } else { 0 },
+    })
+}
+
+/// Tries the sets with members, by size, and those of one size in lexicographic order.
+fn search(
+    alloc: Global,
+    geometry: &Geometry,
+    fetched: &Fetched,
+    absent: &[u32],
+    attempts: &mut Attempts,
+) -> Result<Option<Vec<u8>>, AllocError>
+    requires geometry { IsGeometry geometry.now }
+    requires fetched { IsFetched (cut_of geometry.now) fetched.now }
+    requires absent { absent.now ≡ absent_columns fetched.now.columns.items }
+    requires none { NoneOf (cut_of geometry.now) fetched.now (first_sets (cut_of geometry.now) fetched.now) attempts.old.stripe 0 attempts.old.tried }
+    ensures { TriesSets (cut_of geometry.now) fetched.now (sets_of (cut_of geometry.now) fetched.now) attempts.new.stripe 0 attempts.new.tried result }
+{
+    let mut begun = Vec::with_capacity(alloc, geometry.spec.parity as usize)?;
+    for size in 1..geometry.spec.parity + 1 {
+        match try_sets(
+            alloc, geometry, fetched, absent, attempts, &mut begun, size, 0,
+        )? {
+            Some(bytes) => return Ok(Some(bytes)),
+            None => {}
+        }
+    }
+    Ok(None)
+}
+
+/// Solves a block, of which these columns are absent.
+pub fn solve_absent(
+    alloc: Global,
+    geometry: &Geometry,
+    fetched: &Fetched,
+    absent: &[u32],
+) -> Result<Vec<u8>, SolveFault>
+    requires geometry { IsGeometry geometry.now }
+    requires fetched { IsFetched (cut_of geometry.now) fetched.now }
+    requires absent { absent.now ≡ absent_columns fetched.now.columns.items }
+    requires few { length absent.now ≤ 1000 }
+    ensures { SolvesBlock (cut_of geometry.now) fetched.now result }
+{
+    if let Some(bytes) = try_read(alloc, geometry, fetched, absent)? {
+        return Ok(bytes);
+    }
+    let mut attempts = begin(alloc, geometry, fetched, absent)?;
+    match search(alloc, geometry, fetched, absent, &mut attempts)? {
+        Some(bytes) => Ok(bytes),
+        None => Err(SolveFault::Unreadable {
+            absent: absent.len() as u32,
+            tried: attempts.tried,
+        }),
+    }
+}
