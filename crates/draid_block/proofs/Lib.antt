@@ -1,6 +1,7 @@
 pub mod Complete
 pub mod Filling
 pub mod Held
+pub mod Order
 pub mod Parts
 pub mod Sets
 pub mod Sizes

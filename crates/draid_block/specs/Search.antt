@@ -1,5 +1,5 @@
 -- The search for the set of missing columns, step by step.
-use Rattle.std.specs.Prelude.{◌≡◌, ◌≤◌, ◌<◌, ◌+◌, ℕ, List, All, Contains, length, Option, Some, None, Result, Ok, Err, slice_get}
+use Rattle.std.specs.Prelude.{◌≡◌, ◌≤◌, ◌<◌, ◌+◌, ℕ, List, All, length, Option, Some, None, Result, Ok, Err, slice_get}
 use Rattle.std.specs.List.Sorted.{IsStrictlyIncreasing}
 use Rattle.std.specs.declared.vec.Vec.{Vec}
 use Rattle.std.specs.declared.alloc.AllocError.{AllocError}
@@ -7,7 +7,7 @@ use Rattle.std.specs.declared.alloc.Global.{Global}
 use Rattle.draid_parity.specs.Columns.{StripeValue, column_at}
 use Rattle.draid_block.specs.Columns.{Cut}
 use Rattle.draid_block.specs.Blocks.{stripe_of}
-use Rattle.draid_block.specs.Order.{covering, sets_below}
+use Rattle.draid_block.specs.Order.{IsTried, covering, sets_below}
 use Rattle.draid_block.specs.Solving.{FailsOf, GivesOf, IsFirst, absent_columns}
 use Rattle.draid_block.specs.declared.solve.Fetched.{Fetched}
 
@@ -28,11 +28,8 @@ TriesSet cut fetched set s (Ok None) = HoldsAll cut fetched s × FailsOf cut fet
 TriesSet cut fetched set s (Err e) = Unit {0}
 
 -- a set of missing columns that may be tried
-pub record IsCandidate (cut : Cut) (fetched : Fetched) (set : List ℕ) : Type 0 where
-  pub few : length set ≤ cut.parity
-  pub ascending : IsStrictlyIncreasing set
-  pub in_range : All (λ i. i < cut.parity + cut.ndata) set
-  pub absent : (i : ℕ) → Contains (absent_columns fetched.columns.items) i → Contains set i
+abbrev pub IsCandidate : Cut → Fetched → List ℕ → Type 0
+IsCandidate cut fetched set = IsTried cut.parity (cut.parity + cut.ndata) (absent_columns fetched.columns.items) set
 
 -- none of these sets has an answer, and they are counted; the stripe is as it was
 pub record NoneOf (cut : Cut) (fetched : Fetched) (sets : List (List ℕ)) (s : StripeValue) (before after : ℕ) : Type 0 where

@@ -5,9 +5,11 @@
 
 mod encoded;
 mod hashing;
+mod laws;
 mod search;
 mod shape;
 mod solve;
 
 pub use encoded::Encoded;
+pub use laws::sets_are_in_order;
 pub use solve::{Fetched, SolveFault, solve_block};
