@@ -1,5 +1,6 @@
 pub mod Complete
 pub mod Filling
+pub mod Fronts
 pub mod Held
 pub mod Order
 pub mod Parts

@@ -4,6 +4,7 @@
 #![tactic(auto)]
 
 mod encoded;
+mod front;
 mod hashing;
 mod laws;
 mod search;

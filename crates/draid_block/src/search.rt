@@ -7,9 +7,10 @@ ghost use Rattle.draid_parity.specs.Columns.{column_at};
 ghost use Rattle.draid_block.specs.Blocks.{cut_of};
 ghost use Rattle.draid_block.specs.Order.{covers, covering, sets_after};
 ghost use Rattle.draid_block.specs.Solving.{FailsOf, IsFetched, SolvesBlock, absent_columns, sets_of};
-ghost use Rattle.draid_block.specs.Search.{HoldsAll, IsBegun, IsCandidate, NoneOf, TriesRead, TriesSet, TriesSets, first_sets};
+ghost use Rattle.draid_block.specs.Search.{HoldsAll, IsBegun, IsCandidate, IsReady, NoneOf, TriesRead, TriesSet, TriesSets, first_sets};
 
-use crate::hashing::{read_bytes, read_digest, stripe_bytes, stripe_digest};
+use crate::front::Front;
+use crate::hashing::{read_bytes, read_digest, set_digest, stripe_bytes};
 use crate::shape::column_bytes;
 use crate::solve::{Fetched, SolveFault};
 use draid_parity::Stripe;
@@ -79,35 +80,39 @@ fn held_stripe(alloc: Global, geometry: &Geometry, fetched: &Fetched) -> Result<
     Ok(stripe)
 }
 
+/// The stripe in which sets are tried, the hasher of its first columns, and how many were tried.
+#[derive(Drop)]
+pub struct Attempts {
+    stripe: Stripe,
+    front: Front,
+    tried: u64,
+}
+
 /// Tries one set of missing columns.
 fn try_set(
     alloc: Global,
     geometry: &Geometry,
     fetched: &Fetched,
-    stripe: &mut Stripe,
+    attempts: &mut Attempts,
     set: &[u32],
 ) -> Result<Option<Vec<u8>>, AllocError>
     requires geometry { IsGeometry geometry.now }
     requires fetched { IsFetched (cut_of geometry.now) fetched.now }
-    requires held { HoldsAll (cut_of geometry.now) fetched.now stripe.old }
+    requires ready { IsReady (cut_of geometry.now) fetched.now attempts.old }
     requires set { IsCandidate (cut_of geometry.now) fetched.now set.now }
-    ensures { TriesSet (cut_of geometry.now) fetched.now set.now stripe.new result }
+    ensures tries { TriesSet (cut_of geometry.now) fetched.now set.now attempts.new result }
+    ensures tried { attempts.new.tried ≡ attempts.old.tried }
 {
-    stripe.solve(set);
-    if stripe_digest(geometry, fetched.pointer.len, stripe) == fetched.pointer.digest {
-        return Ok(Some(stripe_bytes(alloc, geometry, fetched.pointer.len, stripe)?));
+    attempts.stripe.solve(set);
+    let stripe = &attempts.stripe;
+    if set_digest(geometry, fetched, stripe, &mut attempts.front, set)? == fetched.pointer.digest {
+        let bytes = stripe_bytes(alloc, geometry, fetched.pointer.len, stripe)?;
+        return Ok(Some(bytes));
     }
     for i in set {
-        put_column(stripe, &fetched.columns, *i);
+        put_column(&mut attempts.stripe, &fetched.columns, *i);
     }
     Ok(None)
-}
-
-/// The stripe in which sets are tried, and how many were.
-#[derive(Drop)]
-struct Attempts {
-    stripe: Stripe,
-    tried: u64,
 }
 
 /// Tries a set if it has all columns that are absent.
@@ -122,16 +127,16 @@ fn try_candidate(
     requires geometry { IsGeometry geometry.now }
     requires fetched { IsFetched (cut_of geometry.now) fetched.now }
     requires absent { absent.now ≡ absent_columns fetched.now.columns.items }
-    requires held { HoldsAll (cut_of geometry.now) fetched.now attempts.old.stripe }
+    requires ready { IsReady (cut_of geometry.now) fetched.now attempts.old }
     requires set { IsBegun (cut_of geometry.now) set.now 0 (geometry.now.spec.parity + geometry.now.spec.ndata) }
     requires room { attempts.old.tried + length (covering absent.now (set.now ∷ [])) < 2 ^ 64 }
-    ensures { TriesSets (cut_of geometry.now) fetched.now (covering absent.now (set.now ∷ [])) attempts.new.stripe attempts.old.tried attempts.new.tried result }
+    ensures { TriesSets (cut_of geometry.now) fetched.now (covering absent.now (set.now ∷ [])) attempts.new attempts.old.tried attempts.new.tried result }
 {
     if !has_all(set, absent) {
         return Ok(None);
     }
     attempts.tried += 1;
-    try_set(alloc, geometry, fetched, &mut attempts.stripe, set)
+    try_set(alloc, geometry, fetched, attempts, set)
 }
 
 /// Tries the sets that begin so, and have `size` more columns from `first` on.
@@ -148,10 +153,10 @@ fn try_sets(
     requires geometry { IsGeometry geometry.now }
     requires fetched { IsFetched (cut_of geometry.now) fetched.now }
     requires absent { absent.now ≡ absent_columns fetched.now.columns.items }
-    requires held { HoldsAll (cut_of geometry.now) fetched.now attempts.old.stripe }
+    requires ready { IsReady (cut_of geometry.now) fetched.now attempts.old }
     requires begun { IsBegun (cut_of geometry.now) begun.old.items size first }
     requires room { attempts.old.tried + length (covering absent.now (sets_after begun.old.items size first (geometry.now.spec.parity + geometry.now.spec.ndata - first))) < 2 ^ 64 }
-    ensures tries { TriesSets (cut_of geometry.now) fetched.now (covering absent.now (sets_after begun.old.items size first (geometry.now.spec.parity + geometry.now.spec.ndata - first))) attempts.new.stripe attempts.old.tried attempts.new.tried result }
+    ensures tries { TriesSets (cut_of geometry.now) fetched.now (covering absent.now (sets_after begun.old.items size first (geometry.now.spec.parity + geometry.now.spec.ndata - first))) attempts.new attempts.old.tried attempts.new.tried result }
     ensures begun { OnOk result (begun.new.items ≡ begun.old.items) }
 {
     if size == 0 {
@@ -220,11 +225,12 @@ fn begin(
     requires fetched { IsFetched (cut_of geometry.now) fetched.now }
     requires absent { absent.now ≡ absent_columns fetched.now.columns.items }
     requires failed { All (FailsOf (cut_of geometry.now) fetched.now) (first_sets (cut_of geometry.now) fetched.now) }
-    ensures { IfOk result (λ a. NoneOf (cut_of geometry.now) fetched.now (first_sets (cut_of geometry.now) fetched.now) a.stripe 0 a.tried) }
+    ensures { IfOk result (λ a. NoneOf (cut_of geometry.now) fetched.now (first_sets (cut_of geometry.now) fetched.now) a 0 a.tried) }
 {
     let stripe = held_stripe(alloc, geometry, fetched)?;
     Ok(Attempts {
         stripe,
+        front: Front::new(fetched.pointer.len),
         tried: if absent.is_empty() { 1 } else { 0 },
     })
 }
@@ -240,8 +246,8 @@ fn search(
     requires geometry { IsGeometry geometry.now }
     requires fetched { IsFetched (cut_of geometry.now) fetched.now }
     requires absent { absent.now ≡ absent_columns fetched.now.columns.items }
-    requires none { NoneOf (cut_of geometry.now) fetched.now (first_sets (cut_of geometry.now) fetched.now) attempts.old.stripe 0 attempts.old.tried }
-    ensures { TriesSets (cut_of geometry.now) fetched.now (sets_of (cut_of geometry.now) fetched.now) attempts.new.stripe 0 attempts.new.tried result }
+    requires none { NoneOf (cut_of geometry.now) fetched.now (first_sets (cut_of geometry.now) fetched.now) attempts.old 0 attempts.old.tried }
+    ensures { TriesSets (cut_of geometry.now) fetched.now (sets_of (cut_of geometry.now) fetched.now) attempts.new 0 attempts.new.tried result }
 {
     let mut begun = Vec::with_capacity(alloc, geometry.spec.parity as usize)?;
     for size in 1..geometry.spec.parity + 1 {

@@ -21,7 +21,7 @@ pub returns-in-Some : goal.returns-in-Some
 returns-in-Some c =
     let cut : Cut = cut_of c.args.geometry.now in
     let n : ℕ = c.args.geometry.now.spec.parity + c.args.geometry.now.spec.ndata in
-    let found = tries_some cut c.args.fetched.now (covering c.args.absent.now (sets_after c.loop-size.begun.items c.loop-size.size 0 (n - 0))) c.try_sets.new.attempts.stripe
+    let found = tries_some cut c.args.fetched.now (covering c.args.absent.now (sets_after c.loop-size.begun.items c.loop-size.size 0 (n - 0))) c.try_sets.new.attempts
     c.loop-size.attempts.tried c.try_sets.new.attempts.tried c.in_ok-bytes.field-0 c.in-Some.bytes c.in-Some.is c.in_ok-bytes.ensures.tries in
     let none = c.loop-size.invariant.none in
     first_all cut c.args.fetched.now c.in-Some.bytes.items c.args.absent.now (c.loop-size.size + 1) n (omega arith) refl c.requires.absent
@@ -31,11 +31,11 @@ pub loop-size-preserved : goal.loop-size-preserved
 loop-size-preserved c =
     let cut : Cut = cut_of c.args.geometry.now in
     let n : ℕ = c.args.geometry.now.spec.parity + c.args.geometry.now.spec.ndata in
-    let none = tries_none cut c.args.fetched.now (covering c.args.absent.now (sets_after c.loop-size.begun.items c.loop-size.size 0 (n - 0))) c.try_sets.new.attempts.stripe
+    let none = tries_none cut c.args.fetched.now (covering c.args.absent.now (sets_after c.loop-size.begun.items c.loop-size.size 0 (n - 0))) c.try_sets.new.attempts
     c.loop-size.attempts.tried c.try_sets.new.attempts.tried c.in_ok-bytes.field-0 c.in-None.is c.in_ok-bytes.ensures.tries in
     record {
       none = rw (size_sets c.args.absent.now c.loop-size.begun.items c.loop-size.size n c.loop-size.invariant.begun)
-          (tries_more cut c.args.fetched.now _ _ c.loop-size.attempts.stripe c.try_sets.new.attempts.stripe 0 c.loop-size.attempts.tried c.try_sets.new.attempts.tried (Ok None)
+          (tries_more cut c.args.fetched.now _ _ c.loop-size.attempts c.try_sets.new.attempts 0 c.loop-size.attempts.tried c.try_sets.new.attempts.tried (Ok None)
           c.loop-size.invariant.none none);
       begun = c.in_ok-bytes.ensures.begun ∙ c.loop-size.invariant.begun;
     }
@@ -44,4 +44,4 @@ pub returns : goal.returns
 returns c =
     let cut : Cut = cut_of c.args.geometry.now in
     let n : ℕ = c.args.geometry.now.spec.parity + c.args.geometry.now.spec.ndata in
-    none_all cut c.args.fetched.now c.args.absent.now c.loop-size.size n c.loop-size.attempts.stripe 0 c.loop-size.attempts.tried (omega arith) refl c.requires.absent c.loop-size.invariant.none
+    none_all cut c.args.fetched.now c.args.absent.now c.loop-size.size n c.loop-size.attempts 0 c.loop-size.attempts.tried (omega arith) refl c.requires.absent c.loop-size.invariant.none

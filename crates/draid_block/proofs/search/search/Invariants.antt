@@ -6,6 +6,6 @@ use Rattle.draid_block.proofs.search.search.Given as goal
 
 abbrev pub invariant-loop-size : goal.invariant-loop-size
 invariant-loop-size l = record {
-  none : NoneOf (cut_of l.geometry) l.fetched (covering l.absent (sets_below l.size (l.geometry.spec.parity + l.geometry.spec.ndata))) l.attempts.stripe 0 l.attempts.tried;
+  none : NoneOf (cut_of l.geometry) l.fetched (covering l.absent (sets_below l.size (l.geometry.spec.parity + l.geometry.spec.ndata))) l.attempts 0 l.attempts.tried;
   begun : l.begun.items ≡ [];
 }

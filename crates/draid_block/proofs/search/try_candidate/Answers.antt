@@ -18,4 +18,5 @@ try_set-requires-clause-set c =
 pub returns : goal.returns
 returns c =
     let all : covers c.args.absent.now c.args.set.now ≡ true = cc (c.has_all.ensures, c.if-not-has_all.false) in
-    tries_one (cut_of c.args.geometry.now) c.args.fetched.now c.args.set.now c.args.absent.now c.try_set.new.stripe c.args.attempts.now.tried c.try_set.result all c.try_set.ensures
+    tries_one (cut_of c.args.geometry.now) c.args.fetched.now c.args.set.now c.args.absent.now c.try_set.new.attempts c.args.attempts.now.tried c.try_set.new.attempts.tried c.try_set.result all
+    c.try_set.ensures.tried c.try_set.ensures.tries
