@@ -1,3 +1,4 @@
+pub mod Answered
 pub mod Complete
 pub mod Filling
 pub mod Fronts

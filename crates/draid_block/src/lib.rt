@@ -7,10 +7,12 @@ mod encoded;
 mod front;
 mod hashing;
 mod laws;
+mod many;
 mod search;
 mod shape;
 mod solve;
 
 pub use encoded::Encoded;
 pub use laws::sets_are_in_order;
+pub use many::{Solve, solve_many};
 pub use solve::{Fetched, SolveFault, solve_block};
