@@ -5,6 +5,7 @@ pub mod Fronts
 pub mod Held
 pub mod Order
 pub mod Parts
+pub mod Rows
 pub mod Sets
 pub mod Sizes
 pub mod Solves

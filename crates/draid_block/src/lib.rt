@@ -11,6 +11,8 @@ mod many;
 mod search;
 mod shape;
 mod solve;
+#[cfg(test)]
+mod tests;
 
 pub use encoded::Encoded;
 pub use laws::sets_are_in_order;
