@@ -1,5 +1,5 @@
 -- The search for the set of missing columns, step by step.
-use Rattle.std.specs.Prelude.{◌≡◌, ◌≤◌, ◌<◌, ◌+◌, ℕ, List, All, length, take, Option, Some, None, Result, Ok, Err, slice_get}
+use Rattle.std.specs.Prelude.{◌≡◌, ◌≤◌, ◌<◌, ◌+◌, ◌-◌, ℕ, List, All, length, take, Option, Some, None, Result, Ok, Err, slice_get}
 use Rattle.std.specs.List.Sorted.{IsStrictlyIncreasing}
 use Rattle.std.specs.declared.vec.Vec.{Vec}
 use Rattle.std.specs.declared.alloc.AllocError.{AllocError}
@@ -8,8 +8,8 @@ use Rattle.sha2.specs.Hashers.{Holds256}
 use Rattle.draid_parity.specs.Columns.{StripeValue, column_at}
 use Rattle.draid_block.specs.Columns.{Cut}
 use Rattle.draid_block.specs.Blocks.{sectors_upto, stripe_of}
-use Rattle.draid_block.specs.Order.{IsTried, covering, sets_below}
-use Rattle.draid_block.specs.Solving.{FailsOf, GivesOf, IsFirst, absent_columns, read_of}
+use Rattle.draid_block.specs.Order.{IsTried, covering, sets_after, sets_below}
+use Rattle.draid_block.specs.Solving.{FailsOf, GivesOf, IsFirst, IsRestored, absent_columns, read_of}
 use Rattle.draid_block.specs.declared.front.Front.{Front}
 use Rattle.draid_block.specs.declared.search.Attempts.{Attempts}
 use Rattle.draid_block.specs.declared.solve.Fetched.{Fetched}
@@ -30,10 +30,19 @@ pub record IsFront (cut : Cut) (len : ℕ) (columns : List (List ℕ)) (front : 
   pub holds : Holds256 front.hasher (take len (sectors_upto cut len columns front.count))
   pub rest : front.left + length (take len (sectors_upto cut len columns front.count)) ≡ len
 
+-- the hasher has what was read of the first data columns
+abbrev pub HasRead : Cut → Fetched → Front → Type 0
+HasRead cut fetched front = IsFront cut fetched.pointer.len (read_of fetched.columns.items) front
+
+-- the stripe has columns of the block's length, and these are what the set restores
+pub record HasRestored (cut : Cut) (fetched : Fetched) (set : List ℕ) (s : StripeValue) : Type 0 where
+  pub shape : s ≡ stripe_of cut fetched.pointer.len s.columns
+  pub restored : IsRestored cut fetched.pointer.len (read_of fetched.columns.items) set s.columns
+
 -- sets may be tried: the stripe has what was read, and so has the hasher
 pub record IsReady (cut : Cut) (fetched : Fetched) (attempts : Attempts) : Type 0 where
   pub holds : HoldsAll cut fetched attempts.stripe
-  pub has : IsFront cut fetched.pointer.len (read_of fetched.columns.items) attempts.front
+  pub has : HasRead cut fetched attempts.front
 
 -- what trying one set answers: bytes, or nothing where it fails, and further sets may then be tried
 abbrev pub TriesSet : Cut → Fetched → List ℕ → Attempts → Result (Option (Vec ℕ Global)) AllocError → Type 0
@@ -56,6 +65,14 @@ abbrev pub TriesSets : Cut → Fetched → List (List ℕ) → Attempts → ℕ 
 TriesSets cut fetched sets attempts before after (Ok (Some bytes)) = IsFirst (GivesOf cut fetched bytes.items) (FailsOf cut fetched) sets
 TriesSets cut fetched sets attempts before after (Ok None) = NoneOf cut fetched sets attempts before after
 TriesSets cut fetched sets attempts before after (Err e) = Unit {0}
+
+-- none of the sets that were tried so far, counted from the first one, has an answer
+abbrev pub NoneYet : Cut → Fetched → List (List ℕ) → Attempts → Type 0
+NoneYet cut fetched sets attempts = NoneOf cut fetched sets attempts 0 attempts.tried
+
+-- the sets that begin so and have so many more columns from this one on, of those that have all absent ones
+abbrev pub sets_on : Cut → List ℕ → List ℕ → ℕ → ℕ → List (List ℕ)
+sets_on cut absent begun size first = covering absent (sets_after begun size first (cut.parity + cut.ndata - first))
 
 -- the first members of a set of which so many more follow, from this column on
 pub record IsBegun (cut : Cut) (begun : List ℕ) (size first : ℕ) : Type 0 where

@@ -5,8 +5,8 @@ ghost use Rattle.sha2.specs.Sha256.{sha256};
 ghost use Rattle.draid_spec.specs.Geometry.{IsGeometry};
 ghost use Rattle.draid_parity.specs.Columns.{column_at};
 ghost use Rattle.draid_block.specs.Blocks.{bytes_of, column_len, cut_of, stripe_of};
-ghost use Rattle.draid_block.specs.Search.{IsCandidate, IsFront};
-ghost use Rattle.draid_block.specs.Solving.{IsFetched, IsRestored, read_of};
+ghost use Rattle.draid_block.specs.Search.{HasRead, HasRestored, IsCandidate, IsFront};
+ghost use Rattle.draid_block.specs.Solving.{IsFetched, read_of};
 
 use crate::front::Front;
 use crate::shape::part_bytes;
@@ -43,12 +43,11 @@ fn bring_front(
     requires geometry { IsGeometry geometry.now }
     requires fetched { IsFetched (cut_of geometry.now) fetched.now }
     requires set { IsCandidate (cut_of geometry.now) fetched.now set.now }
-    requires restored { IsRestored (cut_of geometry.now) fetched.now.pointer.len (read_of fetched.now.columns.items)
-        set.now stripe.now.columns }
-    requires shape { stripe.now ≡ stripe_of (cut_of geometry.now) fetched.now.pointer.len stripe.now.columns }
-    requires front { IsFront (cut_of geometry.now) fetched.now.pointer.len (read_of fetched.now.columns.items) front.old }
-    ensures read { IsFront (cut_of geometry.now) fetched.now.pointer.len (read_of fetched.now.columns.items) front.new }
-    ensures stripe { IsFront (cut_of geometry.now) fetched.now.pointer.len stripe.now.columns front.new }
+    requires stripe { HasRestored (cut_of geometry.now) fetched.now set.now stripe.now }
+    requires front { HasRead (cut_of geometry.now) fetched.now front.old }
+    ensures read { HasRead (cut_of geometry.now) fetched.now front.new }
+    ensures stripe { IsFront (cut_of geometry.now) fetched.now.pointer.len stripe.now.columns
+        front.new }
 {
     let first = first_restored(geometry, set);
     if front.count > first {
@@ -68,12 +67,11 @@ pub fn set_digest(
     requires geometry { IsGeometry geometry.now }
     requires fetched { IsFetched (cut_of geometry.now) fetched.now }
     requires set { IsCandidate (cut_of geometry.now) fetched.now set.now }
-    requires restored { IsRestored (cut_of geometry.now) fetched.now.pointer.len (read_of fetched.now.columns.items)
-        set.now stripe.now.columns }
-    requires shape { stripe.now ≡ stripe_of (cut_of geometry.now) fetched.now.pointer.len stripe.now.columns }
-    requires front { IsFront (cut_of geometry.now) fetched.now.pointer.len (read_of fetched.now.columns.items) front.old }
-    ensures digest { IfOk result (λ d. d ≡ sha256 (bytes_of (cut_of geometry.now) fetched.now.pointer.len stripe.now.columns)) }
-    ensures front { IsFront (cut_of geometry.now) fetched.now.pointer.len (read_of fetched.now.columns.items) front.new }
+    requires stripe { HasRestored (cut_of geometry.now) fetched.now set.now stripe.now }
+    requires front { HasRead (cut_of geometry.now) fetched.now front.old }
+    ensures digest { IfOk result (λ d. d ≡ sha256
+        (bytes_of (cut_of geometry.now) fetched.now.pointer.len stripe.now.columns)) }
+    ensures front { HasRead (cut_of geometry.now) fetched.now front.new }
 {
     bring_front(geometry, fetched, stripe, front, set);
     let mut whole = front.clone()?;

@@ -49,7 +49,8 @@ pub fn solve_many(
 ) -> Result<Vec<Solve>, NoMemory>
     requires geometry { IsGeometry geometry.now }
     requires fetched { All (IsFetched (cut_of geometry.now)) fetched.now }
-    ensures answers { IfOk result (λ v. AllZip (IsSolved (cut_of geometry.now)) fetched.now v.items) }
+    ensures answers { IfOk result (λ v. AllZip (IsSolved (cut_of geometry.now))
+        fetched.now v.items) }
 {
     // A block is worth a thread of its own.
     fetched

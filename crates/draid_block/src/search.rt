@@ -1,13 +1,14 @@
 //! The search for the columns of a block that are missing or wrong.
-ghost use Rattle.std.specs.Prelude.{◌≡◌, ◌≢◌, ◌≤◌, ◌<◌, ◌+◌, ◌-◌, ◌^◌, ℕ, [], ◌∷◌, All, Some, IfOk, OnOk, length, slice_get};
+ghost use Rattle.std.specs.Prelude.{◌≡◌, ◌≢◌, ◌≤◌, ◌<◌, ◌+◌, ◌^◌, ℕ, [], ◌∷◌, All, Some, IfOk, OnOk, length, slice_get};
 ghost use Rattle.std.specs.declared.vec.Vec.{Vec};
 ghost use Rattle.std.specs.declared.alloc.Global.{Global};
 ghost use Rattle.draid_spec.specs.Geometry.{IsGeometry};
 ghost use Rattle.draid_parity.specs.Columns.{column_at};
 ghost use Rattle.draid_block.specs.Blocks.{cut_of};
-ghost use Rattle.draid_block.specs.Order.{covers, covering, sets_after};
+ghost use Rattle.draid_block.specs.Order.{covering, covers};
 ghost use Rattle.draid_block.specs.Solving.{FailsOf, IsFetched, SolvesBlock, absent_columns, sets_of};
-ghost use Rattle.draid_block.specs.Search.{HoldsAll, IsBegun, IsCandidate, IsReady, NoneOf, TriesRead, TriesSet, TriesSets, first_sets};
+ghost use Rattle.draid_block.specs.Search.{HoldsAll, IsBegun, IsCandidate, IsReady, NoneYet};
+ghost use Rattle.draid_block.specs.Search.{TriesRead, TriesSet, TriesSets, first_sets, sets_on};
 
 use crate::front::Front;
 use crate::hashing::{read_bytes, read_digest, set_digest, stripe_bytes};
@@ -128,9 +129,11 @@ fn try_candidate(
     requires fetched { IsFetched (cut_of geometry.now) fetched.now }
     requires absent { absent.now ≡ absent_columns fetched.now.columns.items }
     requires ready { IsReady (cut_of geometry.now) fetched.now attempts.old }
-    requires set { IsBegun (cut_of geometry.now) set.now 0 (geometry.now.spec.parity + geometry.now.spec.ndata) }
+    requires set { IsBegun (cut_of geometry.now) set.now 0
+        (geometry.now.spec.parity + geometry.now.spec.ndata) }
     requires room { attempts.old.tried + length (covering absent.now (set.now ∷ [])) < 2 ^ 64 }
-    ensures { TriesSets (cut_of geometry.now) fetched.now (covering absent.now (set.now ∷ [])) attempts.new attempts.old.tried attempts.new.tried result }
+    ensures { TriesSets (cut_of geometry.now) fetched.now (covering absent.now (set.now ∷ []))
+        attempts.new attempts.old.tried attempts.new.tried result }
 {
     if !has_all(set, absent) {
         return Ok(None);
@@ -155,8 +158,11 @@ fn try_sets(
     requires absent { absent.now ≡ absent_columns fetched.now.columns.items }
     requires ready { IsReady (cut_of geometry.now) fetched.now attempts.old }
     requires begun { IsBegun (cut_of geometry.now) begun.old.items size first }
-    requires room { attempts.old.tried + length (covering absent.now (sets_after begun.old.items size first (geometry.now.spec.parity + geometry.now.spec.ndata - first))) < 2 ^ 64 }
-    ensures tries { TriesSets (cut_of geometry.now) fetched.now (covering absent.now (sets_after begun.old.items size first (geometry.now.spec.parity + geometry.now.spec.ndata - first))) attempts.new attempts.old.tried attempts.new.tried result }
+    requires room { attempts.old.tried
+        + length (sets_on (cut_of geometry.now) absent.now begun.old.items size first) < 2 ^ 64 }
+    ensures tries { TriesSets (cut_of geometry.now) fetched.now
+        (sets_on (cut_of geometry.now) absent.now begun.old.items size first)
+        attempts.new attempts.old.tried attempts.new.tried result }
     ensures begun { OnOk result (begun.new.items ≡ begun.old.items) }
 {
     if size == 0 {
@@ -224,8 +230,10 @@ fn begin(
     requires geometry { IsGeometry geometry.now }
     requires fetched { IsFetched (cut_of geometry.now) fetched.now }
     requires absent { absent.now ≡ absent_columns fetched.now.columns.items }
-    requires failed { All (FailsOf (cut_of geometry.now) fetched.now) (first_sets (cut_of geometry.now) fetched.now) }
-    ensures { IfOk result (λ a. NoneOf (cut_of geometry.now) fetched.now (first_sets (cut_of geometry.now) fetched.now) a 0 a.tried) }
+    requires failed { All (FailsOf (cut_of geometry.now) fetched.now)
+        (first_sets (cut_of geometry.now) fetched.now) }
+    ensures { IfOk result (NoneYet (cut_of geometry.now) fetched.now
+        (first_sets (cut_of geometry.now) fetched.now)) }
 {
     let stripe = held_stripe(alloc, geometry, fetched)?;
     Ok(Attempts {
@@ -246,8 +254,10 @@ fn search(
     requires geometry { IsGeometry geometry.now }
     requires fetched { IsFetched (cut_of geometry.now) fetched.now }
     requires absent { absent.now ≡ absent_columns fetched.now.columns.items }
-    requires none { NoneOf (cut_of geometry.now) fetched.now (first_sets (cut_of geometry.now) fetched.now) attempts.old 0 attempts.old.tried }
-    ensures { TriesSets (cut_of geometry.now) fetched.now (sets_of (cut_of geometry.now) fetched.now) attempts.new 0 attempts.new.tried result }
+    requires none { NoneYet (cut_of geometry.now) fetched.now
+        (first_sets (cut_of geometry.now) fetched.now) attempts.old }
+    ensures { TriesSets (cut_of geometry.now) fetched.now (sets_of (cut_of geometry.now) fetched.now)
+        attempts.new 0 attempts.new.tried result }
 {
     let mut begun = Vec::with_capacity(alloc, geometry.spec.parity as usize)?;
     for size in 1..geometry.spec.parity + 1 {

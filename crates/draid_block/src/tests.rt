@@ -135,10 +135,13 @@ fn is_solved(
     let readable = (absent | wrong).count_ones() <= geometry.spec.parity;
     Ok(match solve_block(alloc, geometry, &fetched) {
         Ok(found) => readable && found.as_slice() == bytes,
-        Err(SolveFault::Unreadable { absent: many, tried }) => {
-            !readable
-                && many == absent.count_ones()
-                && tried == sets(geometry.spec.parity, many)
+        Err(
+            SolveFault::Unreadable {
+                absent: many,
+                tried,
+            },
+        ) => {
+            !readable && many == absent.count_ones() && tried == sets(geometry.spec.parity, many)
         }
         Err(SolveFault::NoMemory) => false,
     })
@@ -189,15 +192,24 @@ fn cuts_a_block(rt: HostRuntime) -> Result<(), Fail> {
 fn any_columns_come_back(rt: HostRuntime) -> Result<(), Fail> {
     for absent in 0..16 {
         let geometry = layout(b"draid1:3d", 4)?;
-        assert!(rt; is_solved_with(rt.alloc(), &geometry, 4, absent)?, "{absent}");
+        assert!(rt;
+            is_solved_with(rt.alloc(), &geometry, 4, absent)?,
+            "{absent}"
+        );
     }
     for absent in 0..32 {
         let geometry = layout(b"draid2:3d", 5)?;
-        assert!(rt; is_solved_with(rt.alloc(), &geometry, 5, absent)?, "{absent}");
+        assert!(rt;
+            is_solved_with(rt.alloc(), &geometry, 5, absent)?,
+            "{absent}"
+        );
     }
     for absent in 0..64 {
         let geometry = layout(b"draid3:3d", 6)?;
-        assert!(rt; is_solved_with(rt.alloc(), &geometry, 6, absent)?, "{absent}");
+        assert!(rt;
+            is_solved_with(rt.alloc(), &geometry, 6, absent)?,
+            "{absent}"
+        );
     }
     Ok(())
 }
@@ -208,7 +220,10 @@ fn blocks_of_any_size_come_back(rt: HostRuntime) -> Result<(), Fail> {
     for len in [1, 511, 512, 513, 131_071, 131_072] {
         let bytes = pattern(rt.alloc(), len)?;
         assert!(rt; is_solved(rt.alloc(), &geometry, &bytes, 0, 0)?, "{len}");
-        assert!(rt; is_solved(rt.alloc(), &geometry, &bytes, 0b01100, 0)?, "{len}");
+        assert!(rt;
+            is_solved(rt.alloc(), &geometry, &bytes, 0b01100, 0)?,
+            "{len}"
+        );
     }
     Ok(())
 }
@@ -225,7 +240,10 @@ fn many_blocks_are_solved_in_order(rt: HostRuntime) -> Result<(), Fail> {
     blocks.push(read(alloc, &geometry, &block, 0b0100, 0)?)?;
     let mut expected = Vec::new(alloc);
     expected.push(Solve::Bytes(Vec::from_slice(alloc, &bytes)?))?;
-    expected.push(Solve::Unreadable { absent: 2, tried: 0 })?;
+    expected.push(Solve::Unreadable {
+        absent: 2,
+        tried: 0,
+    })?;
     expected.push(Solve::Bytes(bytes))?;
     let answers = solve_many(&rt, alloc, &geometry, &blocks)?;
     assert!(rt; answers.as_slice() == expected.as_slice());

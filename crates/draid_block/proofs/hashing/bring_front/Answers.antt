@@ -18,7 +18,7 @@ take_before-requires-clause-front c =
       | else-front-first w ↦
           subst (λ (f : Front). IsFront cut len stripe f) (sym w.front-is)
           (front_same cut len (read_of c.args.fetched.now.columns.items) stripe c.args.front.now
-          (λ i below. sym (c.requires.restored.solution.solves.stays (cut.parity + i)
+          (λ i below. sym (c.requires.stripe.restored.solution.solves.stays (cut.parity + i)
           (c.first_restored-first.ensures.before i (let within = w.if-front-first.false in omega (arith, below, within)))))
           c.requires.front)
     ]
@@ -26,6 +26,6 @@ take_before-requires-clause-front c =
 pub returns-clause-read : goal.returns-clause-read
 returns-clause-read c =
     front_same (cut_of c.args.geometry.now) c.args.fetched.now.pointer.len c.args.stripe.now.columns (read_of c.args.fetched.now.columns.items) c.take_before.new.self
-    (λ i below. c.requires.restored.solution.solves.stays (c.args.geometry.now.spec.parity + i)
+    (λ i below. c.requires.stripe.restored.solution.solves.stays (c.args.geometry.now.spec.parity + i)
     (c.first_restored-first.ensures.before i (let count = c.take_before.ensures.count in omega (arith, below, count))))
     c.take_before.ensures.front

@@ -2,13 +2,15 @@ use Rattle.std.proofs.Common.{◌∙◌, sym, ap, refl}
 use Rattle.std.specs.Cmp.Lexicographic.{same_text, other_text}
 use Rattle.sha2.specs.Sha256.{sha256}
 use Rattle.draid_block.specs.Blocks.{cut_of}
-use Rattle.draid_block.proofs.Held.{restored, held_more, held_all}
+use Rattle.draid_block.proofs.Held.{restored, held_more, held_all, shape_kept}
 use Rattle.draid_block.proofs.search.try_set.Goals as goal
 
-pub set_digest-requires-clause-restored : goal.set_digest-requires-clause-restored
-set_digest-requires-clause-restored c =
-    restored (cut_of c.args.geometry.now) c.args.fetched.now c.args.set.now c.args.attempts.now.stripe c.solve.new.self c.requires.fetched c.requires.ready.holds c.requires.set
-    c.solve.ensures.solution c.solve.ensures.only
+pub set_digest-requires-clause-stripe : goal.set_digest-requires-clause-stripe
+set_digest-requires-clause-stripe c = record {
+  shape = shape_kept (cut_of c.args.geometry.now) c.args.fetched.now.pointer.len c.args.attempts.now.stripe c.solve.new.self c.requires.ready.holds.shape c.solve.ensures.shape;
+  restored = restored (cut_of c.args.geometry.now) c.args.fetched.now c.args.set.now c.args.attempts.now.stripe c.solve.new.self c.requires.fetched c.requires.ready.holds c.requires.set
+      c.solve.ensures.solution c.solve.ensures.only;
+}
 
 pub returns-then-eq-clause-tries : goal.returns-then-eq-clause-tries
 returns-then-eq-clause-tries c =
