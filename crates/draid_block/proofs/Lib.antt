@@ -3,6 +3,7 @@ pub mod Complete
 pub mod Filling
 pub mod Fronts
 pub mod Held
+pub mod One
 pub mod Order
 pub mod Parts
 pub mod Rows
