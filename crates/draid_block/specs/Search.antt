@@ -7,12 +7,24 @@ use Rattle.std.specs.declared.alloc.Global.{Global}
 use Rattle.sha2.specs.Hashers.{Holds256}
 use Rattle.draid_parity.specs.Columns.{StripeValue, column_at}
 use Rattle.draid_block.specs.Columns.{Cut}
-use Rattle.draid_block.specs.Blocks.{sectors_upto, stripe_of}
+use Rattle.draid_spec.specs.Geometry.{IsGeometry}
+use Rattle.draid_block.specs.Blocks.{cut_of, sectors_upto, stripe_of}
 use Rattle.draid_block.specs.Order.{IsTried, covering, sets_after, sets_below}
-use Rattle.draid_block.specs.Solving.{FailsOf, GivesOf, IsFirst, IsRestored, absent_columns, read_of}
+use Rattle.draid_block.specs.Solving.{FailsOf, GivesOf, IsFetched, IsFirst, IsRestored, absent_columns, read_of}
 use Rattle.draid_block.specs.declared.front.Front.{Front}
 use Rattle.draid_block.specs.declared.search.Attempts.{Attempts}
+use Rattle.draid_block.specs.declared.search.Search.{Search}
 use Rattle.draid_block.specs.declared.solve.Fetched.{Fetched}
+
+-- how the block that is searched is cut
+abbrev pub cut_in : Search → Cut
+cut_in search = cut_of search.geometry.now
+
+-- what was read is of a block over this geometry, and these columns of it are absent
+pub record IsSearch (search : Search) : Type 0 where
+  pub layout : IsGeometry search.geometry.now
+  pub read : IsFetched (cut_in search) search.fetched.now
+  pub absent_is : search.absent.now ≡ absent_columns search.fetched.now.columns.items
 
 -- A stripe has what was read of each column but of these, whose bytes may be others.
 pub record IsHeld (cut : Cut) (len : ℕ) (columns : List (Option (Vec ℕ Global))) (except : ℕ → Type 0) (s : StripeValue) : Type 0 where

@@ -7,7 +7,7 @@ use Rattle.draid_block.proofs.search.try_set.Given as goal
 
 abbrev pub invariant-loop-i : goal.invariant-loop-i
 invariant-loop-i l = record {
-  held : IsHeld (cut_of l.geometry) l.fetched.pointer.len l.fetched.columns.items (λ k. Contains (drop l.i-index l.set) k) l.attempts.stripe;
-  has : IsFront (cut_of l.geometry) l.fetched.pointer.len (read_of l.fetched.columns.items) l.attempts.front;
+  held : IsHeld (cut_of l.search.geometry.now) l.search.fetched.now.pointer.len l.search.fetched.now.columns.items (λ k. Contains (drop l.i-index l.set) k) l.attempts.stripe;
+  has : IsFront (cut_of l.search.geometry.now) l.search.fetched.now.pointer.len (read_of l.search.fetched.now.columns.items) l.attempts.front;
   tried : l.attempts.tried ≡ l.fn.attempts.tried;
 }
