@@ -1,14 +1,21 @@
--- There is one answer.
-use Rattle.std.proofs.Common.{◌≡◌, ℕ, List, [], ◌∷◌, ◌++◌, get_or, drop, arith, refl, sym, ◌∙◌, ap, subst, Result, Ok, Err, Vec, Global}
-use Rattle.std.specs.Prelude.{All, Contains}
+-- There is one answer, and a block has one list of columns.
+use Rattle.std.proofs.Common.{◌≡◌, ◌⊎◌, ℕ, ◌+◌, ◌-◌, ◌<◌, ◌≤◌, List, [], ◌∷◌, ◌++◌, length, get_or, drop, inl, inr, length-drop, arith, refl, sym, ◌∙◌, ap, subst, Result, Ok, Err, Vec, Global}
+use Rattle.std.specs.Prelude.{All, Contains, slice_index}
+use Rattle.std.proofs.lemmas.Bool.{cases_lt}
+use Rattle.std.proofs.lemmas.Grind.{same_number_lists}
+use Rattle.std.proofs.lemmas.List.{drop-map, get_or-drop, get_or_past}
 use Rattle.std.proofs.lemmas.List.Elements.{All-contains, All-head, All-tail, Contains-append_right}
 use Rattle.sha2.specs.Sha256.{sha256}
+use Rattle.draid_parity.specs.Codeword.{parity_sum}
+use Rattle.draid_parity.specs.Columns.{byte_row, column_at}
+use Rattle.draid_parity.proofs.WeightedSums.{byte_row-at}
 use Rattle.draid_block.specs.Columns.{Cut}
-use Rattle.draid_block.specs.Blocks.{bytes_of}
+use Rattle.draid_block.specs.Blocks.{AreColumns, bytes_of, column_len}
 use Rattle.draid_block.specs.Solving.{FailsOf, GivesOf, IsFirst, IsSameAnswer, SolvesBlock, sets_of}
 use Rattle.draid_block.specs.declared.solve.Fetched.{Fetched}
 use Rattle.draid_block.specs.declared.solve.SolveFault.{SolveFault}
 use Rattle.draid_block.specs.declared.solve.SolveFault.TheVariants.{Unreadable, NoMemory}
+use Rattle.draid_block.proofs.Whole.{same_columns}
 
 -- what a set restores has the digest or doesn't
 never_both : (cut : Cut) (fetched : Fetched) (bytes set : List ℕ) → GivesOf cut fetched bytes set → FailsOf cut fetched set → ⊥
@@ -54,3 +61,50 @@ answers_same cut fetched (Err (Unreadable absent tried)) (Err (Unreadable absent
     (none.absent_is ∙ sym also.absent_is, none.tried_is ∙ sym also.tried_is)
 answers_same cut fetched (Err (Unreadable absent tried)) (Err NoMemory) none also = tt
 answers_same cut fetched (Err NoMemory) other none also = tt
+
+-- ---- the columns of a block
+row_sum : (cut : Cut) (w : List ℕ) (columns : List (List ℕ)) → AreColumns cut w columns → (k : ℕ) → k < cut.parity → (j : ℕ) → j < column_len cut (length w)
+    → slice_index (column_at columns k) j ≡ parity_sum k (byte_row j (drop cut.parity columns))
+row_sum cut w columns are k below j j_below =
+    sym (byte_row-at j columns k) ∙ are.codewords j j_below k below ∙ ap (parity_sum k) (drop-map (λ (c : List ℕ). slice_index c j) cut.parity columns)
+
+pub columns_same : (cut : Cut) (w : List ℕ) (columns others : List (List ℕ)) → AreColumns cut w columns → AreColumns cut w others → columns ≡ others
+columns_same cut w columns others are also = same_columns columns others (are.stripe.count ∙ sym also.stripe.count) each
+  where
+    count : length columns ≡ cut.parity + cut.ndata
+    count = are.stripe.count
+
+    other_count : length others ≡ cut.parity + cut.ndata
+    other_count = also.stripe.count
+
+    data_same : (i : ℕ) → column_at (drop cut.parity columns) i ≡ column_at (drop cut.parity others) i
+    data_same i = get_or-drop cut.parity columns i [] ∙ at (cases_lt i cut.ndata) ∙ sym (get_or-drop cut.parity others i [])
+      where
+        at : (i < cut.ndata) ⊎ (cut.ndata ≤ i) → column_at columns (cut.parity + i) ≡ column_at others (cut.parity + i)
+        at (inl lt) = are.sectors i lt ∙ sym (also.sectors i lt)
+        at (inr ge) = get_or_past columns (cut.parity + i) [] (omega (arith, count)) ∙ sym (get_or_past others (cut.parity + i) [] (omega (arith, other_count)))
+
+    all_data : drop cut.parity columns ≡ drop cut.parity others
+    all_data =
+        same_columns (drop cut.parity columns) (drop cut.parity others)
+        (length-drop cut.parity columns ∙ ap (λ n. n - cut.parity) (count ∙ sym other_count) ∙ sym (length-drop cut.parity others)) data_same
+
+    parity_same : (k : ℕ) → k < cut.parity → column_at columns k ≡ column_at others k
+    parity_same k below =
+        let first = are.stripe.columns k (omega (arith, below)) in
+        let second = also.stripe.columns k (omega (arith, below)) in
+        same_number_lists (column_at columns k) (column_at others k) (first ∙ sym second)
+        (λ j j_below.
+        (let long = first in
+        let short : j < column_len cut (length w) = omega (arith, j_below, long) in
+        row_sum cut w columns are k below j short ∙ ap (λ (l : List (List ℕ)). parity_sum k (byte_row j l)) all_data ∙ sym (row_sum cut w others also k below j short)))
+
+    each : (i : ℕ) → column_at columns i ≡ column_at others i
+    each i = at (cases_lt i cut.parity)
+      where
+        at : (i < cut.parity) ⊎ (cut.parity ≤ i) → column_at columns i ≡ column_at others i
+        at (inl lt) = parity_same i lt
+        at (inr ge) =
+            let e : cut.parity + (i - cut.parity) ≡ i = omega arith in
+            subst (λ (k : ℕ). column_at columns k ≡ column_at others k) e
+            (sym (get_or-drop cut.parity columns (i - cut.parity) []) ∙ data_same (i - cut.parity) ∙ get_or-drop cut.parity others (i - cut.parity) [])

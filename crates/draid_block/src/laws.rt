@@ -1,7 +1,8 @@
-ghost use Rattle.std.specs.Prelude.{Contains, List, Result, ℕ};
+ghost use Rattle.std.specs.Prelude.{Contains, List, Result, ℕ, ◌≡◌};
 ghost use Rattle.std.specs.List.{AllPairs};
 ghost use Rattle.std.specs.declared.vec.Vec.{Vec};
 ghost use Rattle.std.specs.declared.alloc.Global.{Global};
+ghost use Rattle.draid_block.specs.Blocks.{AreColumns};
 ghost use Rattle.draid_block.specs.Columns.{Cut};
 ghost use Rattle.draid_block.specs.Order.{IsTried, Precedes, solve_order};
 ghost use Rattle.draid_block.specs.Solving.{IsSameAnswer, SolvesBlock};
@@ -26,4 +27,10 @@ pub fn answers_are_one()
     ensures { (cut : Cut) (fetched : Fetched) (answer other : Result (Vec ℕ Global) SolveFault)
         → SolvesBlock cut fetched answer → SolvesBlock cut fetched other
         → IsSameAnswer answer other }
+{}
+
+/// Law: a block has one list of columns.
+pub fn columns_are_one()
+    ensures { (cut : Cut) (w : List ℕ) (columns others : List (List ℕ)) → AreColumns cut w columns
+        → AreColumns cut w others → columns ≡ others }
 {}

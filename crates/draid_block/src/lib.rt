@@ -15,6 +15,6 @@ mod solve;
 mod tests;
 
 pub use encoded::Encoded;
-pub use laws::{answers_are_one, sets_are_in_order};
+pub use laws::{answers_are_one, columns_are_one, sets_are_in_order};
 pub use many::{Solve, solve_many};
 pub use solve::{Fetched, SolveFault, solve_block};
