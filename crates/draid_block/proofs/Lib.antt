@@ -10,5 +10,6 @@ pub mod Rows
 pub mod Sets
 pub mod Sizes
 pub mod Solves
+pub mod Spread
 pub mod Upto
 pub mod Whole

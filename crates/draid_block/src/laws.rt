@@ -2,7 +2,9 @@ ghost use Rattle.std.specs.Prelude.{Contains, List, Result, ℕ, ◌≡◌};
 ghost use Rattle.std.specs.List.{AllPairs};
 ghost use Rattle.std.specs.declared.vec.Vec.{Vec};
 ghost use Rattle.std.specs.declared.alloc.Global.{Global};
-ghost use Rattle.draid_block.specs.Blocks.{AreColumns};
+ghost use Rattle.draid_spec.specs.Geometry.{IsGeometry};
+ghost use Rattle.draid_spec.specs.declared.layout.Geometry.{Geometry};
+ghost use Rattle.draid_block.specs.Blocks.{AreColumns, columns_of, cut_of};
 ghost use Rattle.draid_block.specs.Columns.{Cut};
 ghost use Rattle.draid_block.specs.Order.{IsTried, Precedes, solve_order};
 ghost use Rattle.draid_block.specs.Solving.{IsSameAnswer, SolvesBlock};
@@ -29,8 +31,10 @@ pub fn answers_are_one()
         → IsSameAnswer answer other }
 {}
 
-/// Law: a block has one list of columns.
+/// Law: the columns of a block are columns of it, over any geometry, and there are no others.
 pub fn columns_are_one()
-    ensures { (cut : Cut) (w : List ℕ) (columns others : List (List ℕ)) → AreColumns cut w columns
-        → AreColumns cut w others → columns ≡ others }
+    ensures are { (geometry : Geometry) (w : List ℕ) → IsGeometry geometry
+        → AreColumns (cut_of geometry) w (columns_of (cut_of geometry) w) }
+    ensures only { (cut : Cut) (w : List ℕ) (columns : List (List ℕ)) → AreColumns cut w columns
+        → columns ≡ columns_of cut w }
 {}
