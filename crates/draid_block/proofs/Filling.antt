@@ -24,7 +24,7 @@ rest_is m rest = elim (cases_lt (length rest) m) [
   | inr ge ↦ let e : min m (length rest) ≡ m = omega arith in rw e refl
 ]
 
-length-filled : (n : ℕ) (bytes : List ℕ) → length bytes ≤ n → length (filled n bytes) ≡ n
+pub length-filled : (n : ℕ) (bytes : List ℕ) → length bytes ≤ n → length (filled n bytes) ≡ n
 length-filled n bytes h = omega (arith, length-append bytes (replicate (n - length bytes) 0), length-replicate {A = ℕ} (n - length bytes) 0)
 
 pub written_is : (n m : ℕ) (rest part column new : List ℕ) → part ≡ take (min m (length rest)) rest → column ≡ replicate n 0

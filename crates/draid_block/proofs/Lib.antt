@@ -1,10 +1,15 @@
+pub mod Answered
 pub mod Complete
 pub mod Filling
+pub mod Fronts
 pub mod Held
+pub mod One
 pub mod Order
 pub mod Parts
+pub mod Rows
 pub mod Sets
 pub mod Sizes
 pub mod Solves
+pub mod Spread
 pub mod Upto
 pub mod Whole

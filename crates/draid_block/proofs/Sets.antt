@@ -15,7 +15,7 @@ use Rattle.draid_block.specs.Order.{covers, covering, sets_after, sets_from}
 use Rattle.draid_block.specs.Solving.{IsFirst, FailsOf, GivesOf}
 use Rattle.draid_block.specs.Search.{IsBegun, NoneOf, TriesSet, TriesSets}
 use Rattle.draid_block.specs.declared.solve.Fetched.{Fetched}
-use Rattle.draid_parity.specs.Columns.{StripeValue}
+use Rattle.draid_block.specs.declared.search.Attempts.{Attempts}
 
 -- ---- the sets that begin so, by their next member
 map-after : (begun : List ℕ) (first : ℕ) (sets : List (List ℕ)) → map (λ more. begun ++ more) (map (λ set. first ∷ set) sets) ≡ map (λ more. (begun ++ first ∷ []) ++ more) sets
@@ -111,32 +111,32 @@ first_right {fails = fails} xs ys none f = record {
 }
 
 -- ---- what trying sets answers
-pub tries_one : (cut : Cut) (fetched : Fetched) (set absent : List ℕ) (s : StripeValue) (before : ℕ) (result : Result (Option (Vec ℕ Global)) AllocError)
-    → covers absent set ≡ true → TriesSet cut fetched set s result → TriesSets cut fetched (covering absent (set ∷ [])) s before (before + 1) result
-tries_one cut fetched set absent s before (Ok (Some bytes)) all gives =
+pub tries_one : (cut : Cut) (fetched : Fetched) (set absent : List ℕ) (s : Attempts) (before after : ℕ) (result : Result (Option (Vec ℕ Global)) AllocError)
+    → covers absent set ≡ true → after ≡ before + 1 → TriesSet cut fetched set s result → TriesSets cut fetched (covering absent (set ∷ [])) s before after result
+tries_one cut fetched set absent s before after (Ok (Some bytes)) all counted gives =
     rw all (record { before = []; set = set; after = []; order = refl; failed = All-nil (FailsOf cut fetched); given = gives })
-tries_one cut fetched set absent s before (Ok None) all none =
-    rw all (record { held = none.0; failed = All-cons (FailsOf cut fetched) set [] none.1 (All-nil (FailsOf cut fetched)); counted = refl })
-tries_one cut fetched set absent s before (Err e) all none = tt
+tries_one cut fetched set absent s before after (Ok None) all counted none =
+    rw all (record { ready = none.0; failed = All-cons (FailsOf cut fetched) set [] none.1 (All-nil (FailsOf cut fetched)); counted = counted })
+tries_one cut fetched set absent s before after (Err e) all counted none = tt
 
-pub tries_some : (cut : Cut) (fetched : Fetched) (sets : List (List ℕ)) (s : StripeValue) (before after : ℕ) (found : Option (Vec ℕ Global)) (bytes : Vec ℕ Global)
+pub tries_some : (cut : Cut) (fetched : Fetched) (sets : List (List ℕ)) (s : Attempts) (before after : ℕ) (found : Option (Vec ℕ Global)) (bytes : Vec ℕ Global)
     → found ≡ Some bytes → TriesSets cut fetched sets s before after (Ok found) → IsFirst (GivesOf cut fetched bytes.items) (FailsOf cut fetched) sets
 tries_some cut fetched sets s before after found bytes is tries = subst (λ (f : Option (Vec ℕ Global)). TriesSets cut fetched sets s before after (Ok f)) is tries
 
-pub tries_none : (cut : Cut) (fetched : Fetched) (sets : List (List ℕ)) (s : StripeValue) (before after : ℕ) (found : Option (Vec ℕ Global))
+pub tries_none : (cut : Cut) (fetched : Fetched) (sets : List (List ℕ)) (s : Attempts) (before after : ℕ) (found : Option (Vec ℕ Global))
     → found ≡ None → TriesSets cut fetched sets s before after (Ok found) → NoneOf cut fetched sets s before after
 tries_none cut fetched sets s before after found is tries = subst (λ (f : Option (Vec ℕ Global)). TriesSets cut fetched sets s before after (Ok f)) is tries
 
-pub tries_more : (cut : Cut) (fetched : Fetched) (xs ys : List (List ℕ)) (s t : StripeValue) (before mid after : ℕ) (result : Result (Option (Vec ℕ Global)) AllocError)
+pub tries_more : (cut : Cut) (fetched : Fetched) (xs ys : List (List ℕ)) (s t : Attempts) (before mid after : ℕ) (result : Result (Option (Vec ℕ Global)) AllocError)
     → NoneOf cut fetched xs s before mid → TriesSets cut fetched ys t mid after result → TriesSets cut fetched (xs ++ ys) t before after result
 tries_more cut fetched xs ys s t before mid after (Ok (Some bytes)) none gives = first_right xs ys none.failed gives
 tries_more cut fetched xs ys s t before mid after (Ok None) none more = record {
-  held = more.held;
+  ready = more.ready;
   failed = All-append (FailsOf cut fetched) xs ys none.failed more.failed;
   counted = (let first = none.counted in let second = more.counted in omega (arith, first, second, length-append xs ys));
 }
 tries_more cut fetched xs ys s t before mid after (Err e) none more = tt
 
-pub tries_same : (cut : Cut) (fetched : Fetched) (xs ys : List (List ℕ)) (s : StripeValue) (before after : ℕ) (result : Result (Option (Vec ℕ Global)) AllocError)
+pub tries_same : (cut : Cut) (fetched : Fetched) (xs ys : List (List ℕ)) (s : Attempts) (before after : ℕ) (result : Result (Option (Vec ℕ Global)) AllocError)
     → xs ≡ ys → TriesSets cut fetched ys s before after result → TriesSets cut fetched xs s before after result
 tries_same cut fetched xs ys s before after result same tries = subst (λ (l : List (List ℕ)). TriesSets cut fetched l s before after result) (sym same) tries

@@ -8,7 +8,7 @@ use Rattle.draid_block.specs.Order.{covers, covering, sets_after, sets_below, se
 use Rattle.draid_block.specs.Solving.{IsFirst, GivesOf, FailsOf, absent_columns, sets_of}
 use Rattle.draid_block.specs.Search.{NoneOf}
 use Rattle.draid_block.specs.declared.solve.Fetched.{Fetched}
-use Rattle.draid_parity.specs.Columns.{StripeValue}
+use Rattle.draid_block.specs.declared.search.Attempts.{Attempts}
 use Rattle.draid_block.proofs.Sets.{first_left}
 
 pub after_nothing : (size first n : ℕ) → sets_after [] size first n ≡ sets_from size first n
@@ -76,7 +76,7 @@ size_sets absent begun size n nothing =
     let e : n - 0 ≡ n = omega arith in
     rw (nothing, e, after_nothing size 0 n) (size_more absent size n)
 
-pub none_all : (cut : Cut) (fetched : Fetched) (absent : List ℕ) (size n : ℕ) (s : StripeValue) (before after : ℕ) → size ≡ cut.parity + 1 → n ≡ cut.parity + cut.ndata
+pub none_all : (cut : Cut) (fetched : Fetched) (absent : List ℕ) (size n : ℕ) (s : Attempts) (before after : ℕ) → size ≡ cut.parity + 1 → n ≡ cut.parity + cut.ndata
     → absent ≡ absent_columns fetched.columns.items → NoneOf cut fetched (covering absent (sets_below size n)) s before after
     → NoneOf cut fetched (sets_of cut fetched) s before after
 none_all cut fetched absent size n s before after is wide a none =

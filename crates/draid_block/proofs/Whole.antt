@@ -53,7 +53,7 @@ read_long cut fetched f none i below =
     let at = there fetched.columns.items i none below in
     ap length (read_at fetched.columns.items i at.0 at.1) ∙ f.long i at.0 at.1
 
-same_columns : (xs ys : List (List ℕ)) → length xs ≡ length ys → ((i : ℕ) → column_at xs i ≡ column_at ys i) → xs ≡ ys
+pub same_columns : (xs ys : List (List ℕ)) → length xs ≡ length ys → ((i : ℕ) → column_at xs i ≡ column_at ys i) → xs ≡ ys
 same_columns [] [] same each = refl
 same_columns [] (y ∷ ys) same each = absurd (omega arith)
 same_columns (x ∷ xs) [] same each = absurd (omega arith)

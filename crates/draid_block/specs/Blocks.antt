@@ -1,10 +1,12 @@
 -- The columns of a block over the stripes of any geometry.
-use Rattle.std.specs.Prelude.{◌≡◌, ◌⊎◌, ◌≤◌, ◌<◌, ◌+◌, ◌*◌, ℕ, zero, suc, List, [], ◌++◌, length, take, slice_index}
+use Rattle.std.specs.Prelude.{◌≡◌, ◌⊎◌, ◌≤◌, ◌<◌, ◌+◌, ◌*◌, ℕ, zero, suc, List, [], ◌++◌, length, map, take, slice_index}
+use Rattle.std.specs.List.{range_with_len}
 use Rattle.sha2.specs.Sha256.{sha256}
 use Rattle.draid_gf.specs.Field.{IsByte}
 use Rattle.draid_names.specs.declared.pointer.Pointer.{Pointer}
 use Rattle.draid_spec.specs.declared.layout.Geometry.{Geometry}
-use Rattle.draid_parity.specs.Columns.{StripeValue, IsStripe, IsEncoded, column_at}
+use Rattle.draid_parity.specs.Codeword.{parity_sum}
+use Rattle.draid_parity.specs.Columns.{StripeValue, IsStripe, IsEncoded, byte_row, column_at}
 use Rattle.draid_block.specs.Columns.{Cut, stripes_of, sectors_in, data_column}
 
 -- how the pools of a geometry cut their blocks
@@ -24,6 +26,18 @@ pub record AreColumns (cut : Cut) (w : List ℕ) (columns : List (List ℕ)) : T
   pub stripe : IsStripe (stripe_of cut (length w) columns)
   pub sectors : (i : ℕ) → i < cut.ndata → column_at columns (cut.parity + i) ≡ data_column cut w i
   pub codewords : IsEncoded (stripe_of cut (length w) columns)
+
+-- the data columns of the block w
+abbrev pub data_columns : Cut → List ℕ → List (List ℕ)
+data_columns cut w = map (λ i. data_column cut w i) (range_with_len 0 cut.ndata)
+
+-- parity column k of the block w: sum k of its data columns at each byte
+abbrev pub parity_column : Cut → List ℕ → ℕ → List ℕ
+parity_column cut w k = map (λ j. parity_sum k (byte_row j (data_columns cut w))) (range_with_len 0 (column_len cut (length w)))
+
+-- the columns of the block w
+unfoldable pub columns_of : Cut → List ℕ → List (List ℕ)
+columns_of cut w = map (λ k. parity_column cut w k) (range_with_len 0 cut.parity) ++ data_columns cut w
 
 -- the sectors of a block of this length that its first data columns hold, in order
 unfoldable pub sectors_upto : Cut → ℕ → List (List ℕ) → ℕ → List ℕ

@@ -105,3 +105,13 @@ abbrev pub IsAnswered : Result (Vec ℕ Global) SolveFault → Type 0
 IsAnswered (Ok bytes) = Unit {0}
 IsAnswered (Err (Unreadable absent tried)) = ⊥
 IsAnswered (Err NoMemory) = Unit {0}
+
+-- Two answers are the same: the same bytes, or unreadable with the same numbers. Want of memory says nothing.
+abbrev pub IsSameAnswer : Result (Vec ℕ Global) SolveFault → Result (Vec ℕ Global) SolveFault → Type 0
+IsSameAnswer (Ok bytes) (Ok others) = bytes.items ≡ others.items
+IsSameAnswer (Ok bytes) (Err (Unreadable absent tried)) = ⊥
+IsSameAnswer (Ok bytes) (Err NoMemory) = Unit {0}
+IsSameAnswer (Err (Unreadable absent tried)) (Ok bytes) = ⊥
+IsSameAnswer (Err (Unreadable absent tried)) (Err (Unreadable absents tries)) = (absent ≡ absents) × (tried ≡ tries)
+IsSameAnswer (Err (Unreadable absent tried)) (Err NoMemory) = Unit {0}
+IsSameAnswer (Err NoMemory) result = Unit {0}

@@ -5,7 +5,7 @@ ghost use Rattle.sha2.specs.Sha256.{sha256};
 ghost use Rattle.draid_spec.specs.Geometry.{IsGeometry};
 ghost use Rattle.draid_parity.specs.Columns.{column_at, zero_stripe};
 ghost use Rattle.draid_block.specs.Columns.{stripes_of, data_column};
-ghost use Rattle.draid_block.specs.Blocks.{cut_of, column_len, AreColumns};
+ghost use Rattle.draid_block.specs.Blocks.{AreColumns, column_len, columns_of, cut_of};
 
 use crate::shape::{column_bytes, part_bytes, stripes_for};
 use draid_names::NoMemory;
@@ -124,6 +124,7 @@ impl Encoded {
     pub fn column(&self, i: u32) -> &[u8]
         requires { i < self.now.cut.parity + self.now.cut.ndata }
         ensures column { result.now ≡ column_at self.now.columns i }
+        ensures block { result.now ≡ column_at (columns_of self.now.cut self.now.bytes) i }
         ensures columns { AreColumns self.now.cut self.now.bytes self.now.columns }
         ensures len { length result.now ≡ column_len self.now.cut (length self.now.bytes) }
     {

@@ -4,12 +4,17 @@
 #![tactic(auto)]
 
 mod encoded;
+mod front;
 mod hashing;
 mod laws;
+mod many;
 mod search;
 mod shape;
 mod solve;
+#[cfg(test)]
+mod tests;
 
 pub use encoded::Encoded;
-pub use laws::sets_are_in_order;
+pub use laws::{answers_are_one, columns_are_one, sets_are_in_order};
+pub use many::{Solve, solve_many};
 pub use solve::{Fetched, SolveFault, solve_block};

@@ -1,15 +1,18 @@
 //! The search for the columns of a block that are missing or wrong.
-ghost use Rattle.std.specs.Prelude.{◌≡◌, ◌≢◌, ◌≤◌, ◌<◌, ◌+◌, ◌-◌, ◌^◌, ℕ, [], ◌∷◌, All, Some, IfOk, OnOk, length, slice_get};
+ghost use Rattle.std.specs.Prelude.{◌≡◌, ◌≢◌, ◌≤◌, ◌<◌, ◌+◌, ◌^◌, [], ◌∷◌, ℕ, All, Some};
+ghost use Rattle.std.specs.Prelude.{IfOk, OnOk, length, slice_get};
 ghost use Rattle.std.specs.declared.vec.Vec.{Vec};
 ghost use Rattle.std.specs.declared.alloc.Global.{Global};
 ghost use Rattle.draid_spec.specs.Geometry.{IsGeometry};
 ghost use Rattle.draid_parity.specs.Columns.{column_at};
 ghost use Rattle.draid_block.specs.Blocks.{cut_of};
-ghost use Rattle.draid_block.specs.Order.{covers, covering, sets_after};
+ghost use Rattle.draid_block.specs.Order.{covering, covers};
 ghost use Rattle.draid_block.specs.Solving.{FailsOf, IsFetched, SolvesBlock, absent_columns, sets_of};
-ghost use Rattle.draid_block.specs.Search.{HoldsAll, IsBegun, IsCandidate, NoneOf, TriesRead, TriesSet, TriesSets, first_sets};
+ghost use Rattle.draid_block.specs.Search.{HoldsAll, IsBegun, IsCandidate, IsReady, IsSearch, NoneYet};
+ghost use Rattle.draid_block.specs.Search.{TriesRead, TriesSet, TriesSets, cut_in, first_sets, sets_on};
 
-use crate::hashing::{read_bytes, read_digest, stripe_bytes, stripe_digest};
+use crate::front::Front;
+use crate::hashing::{read_bytes, read_digest, set_digest, stripe_bytes};
 use crate::shape::column_bytes;
 use crate::solve::{Fetched, SolveFault};
 use draid_parity::Stripe;
@@ -79,126 +82,122 @@ fn held_stripe(alloc: Global, geometry: &Geometry, fetched: &Fetched) -> Result<
     Ok(stripe)
 }
 
+/// A block that was read, whose missing columns are searched.
+#[derive(Clone, Copy)]
+pub struct Search<'a> {
+    geometry: &'a Geometry,
+    fetched: &'a Fetched,
+    /// The columns that are absent, in order.
+    absent: &'a [u32],
+}
+
+/// The stripe in which sets are tried, the hasher of its first columns, and how many were tried.
+#[derive(Drop)]
+pub struct Attempts {
+    stripe: Stripe,
+    front: Front,
+    tried: u64,
+}
+
 /// Tries one set of missing columns.
 fn try_set(
     alloc: Global,
-    geometry: &Geometry,
-    fetched: &Fetched,
-    stripe: &mut Stripe,
+    search: &Search,
+    attempts: &mut Attempts,
     set: &[u32],
 ) -> Result<Option<Vec<u8>>, AllocError>
-    requires geometry { IsGeometry geometry.now }
-    requires fetched { IsFetched (cut_of geometry.now) fetched.now }
-    requires held { HoldsAll (cut_of geometry.now) fetched.now stripe.old }
-    requires set { IsCandidate (cut_of geometry.now) fetched.now set.now }
-    ensures { TriesSet (cut_of geometry.now) fetched.now set.now stripe.new result }
+    requires search { IsSearch search.now }
+    requires ready { IsReady (cut_in search.now) search.now.fetched.now attempts.old }
+    requires set { IsCandidate (cut_in search.now) search.now.fetched.now set.now }
+    ensures tries { TriesSet (cut_in search.now) search.now.fetched.now set.now attempts.new result }
+    ensures tried { attempts.new.tried ≡ attempts.old.tried }
 {
-    stripe.solve(set);
-    if stripe_digest(geometry, fetched.pointer.len, stripe) == fetched.pointer.digest {
-        return Ok(Some(stripe_bytes(alloc, geometry, fetched.pointer.len, stripe)?));
+    let Search {
+        geometry,
+        fetched,
+        ..
+    } = *search;
+    attempts.stripe.solve(set);
+    let stripe = &attempts.stripe;
+    if set_digest(geometry, fetched, stripe, &mut attempts.front, set)? == fetched.pointer.digest {
+        let bytes = stripe_bytes(alloc, geometry, fetched.pointer.len, stripe)?;
+        return Ok(Some(bytes));
     }
     for i in set {
-        put_column(stripe, &fetched.columns, *i);
+        put_column(&mut attempts.stripe, &fetched.columns, *i);
     }
     Ok(None)
-}
-
-/// The stripe in which sets are tried, and how many were.
-#[derive(Drop)]
-struct Attempts {
-    stripe: Stripe,
-    tried: u64,
 }
 
 /// Tries a set if it has all columns that are absent.
 fn try_candidate(
     alloc: Global,
-    geometry: &Geometry,
-    fetched: &Fetched,
-    absent: &[u32],
+    search: &Search,
     attempts: &mut Attempts,
     set: &[u32],
 ) -> Result<Option<Vec<u8>>, AllocError>
-    requires geometry { IsGeometry geometry.now }
-    requires fetched { IsFetched (cut_of geometry.now) fetched.now }
-    requires absent { absent.now ≡ absent_columns fetched.now.columns.items }
-    requires held { HoldsAll (cut_of geometry.now) fetched.now attempts.old.stripe }
-    requires set { IsBegun (cut_of geometry.now) set.now 0 (geometry.now.spec.parity + geometry.now.spec.ndata) }
-    requires room { attempts.old.tried + length (covering absent.now (set.now ∷ [])) < 2 ^ 64 }
-    ensures { TriesSets (cut_of geometry.now) fetched.now (covering absent.now (set.now ∷ [])) attempts.new.stripe attempts.old.tried attempts.new.tried result }
+    requires search { IsSearch search.now }
+    requires ready { IsReady (cut_in search.now) search.now.fetched.now attempts.old }
+    requires set { IsBegun (cut_in search.now) set.now 0
+        (search.now.geometry.now.spec.parity + search.now.geometry.now.spec.ndata) }
+    requires room { attempts.old.tried
+        + length (covering search.now.absent.now (set.now ∷ [])) < 2 ^ 64 }
+    ensures { TriesSets (cut_in search.now) search.now.fetched.now
+        (covering search.now.absent.now (set.now ∷ []))
+        attempts.new attempts.old.tried attempts.new.tried result }
 {
-    if !has_all(set, absent) {
+    if !has_all(set, search.absent) {
         return Ok(None);
     }
     attempts.tried += 1;
-    try_set(alloc, geometry, fetched, &mut attempts.stripe, set)
+    try_set(alloc, search, attempts, set)
 }
 
 /// Tries the sets that begin so, and have `size` more columns from `first` on.
 fn try_sets(
     alloc: Global,
-    geometry: &Geometry,
-    fetched: &Fetched,
-    absent: &[u32],
+    search: &Search,
     attempts: &mut Attempts,
     begun: &mut Vec<u32>,
     size: u32,
     first: u32,
 ) -> Result<Option<Vec<u8>>, AllocError>
-    requires geometry { IsGeometry geometry.now }
-    requires fetched { IsFetched (cut_of geometry.now) fetched.now }
-    requires absent { absent.now ≡ absent_columns fetched.now.columns.items }
-    requires held { HoldsAll (cut_of geometry.now) fetched.now attempts.old.stripe }
-    requires begun { IsBegun (cut_of geometry.now) begun.old.items size first }
-    requires room { attempts.old.tried + length (covering absent.now (sets_after begun.old.items size first (geometry.now.spec.parity + geometry.now.spec.ndata - first))) < 2 ^ 64 }
-    ensures tries { TriesSets (cut_of geometry.now) fetched.now (covering absent.now (sets_after begun.old.items size first (geometry.now.spec.parity + geometry.now.spec.ndata - first))) attempts.new.stripe attempts.old.tried attempts.new.tried result }
+    requires search { IsSearch search.now }
+    requires ready { IsReady (cut_in search.now) search.now.fetched.now attempts.old }
+    requires begun { IsBegun (cut_in search.now) begun.old.items size first }
+    requires room { attempts.old.tried
+        + length (sets_on (cut_in search.now) search.now.absent.now begun.old.items size first)
+        < 2 ^ 64 }
+    ensures tries { TriesSets (cut_in search.now) search.now.fetched.now
+        (sets_on (cut_in search.now) search.now.absent.now begun.old.items size first)
+        attempts.new attempts.old.tried attempts.new.tried result }
     ensures begun { OnOk result (begun.new.items ≡ begun.old.items) }
 {
     if size == 0 {
-        return try_candidate(alloc, geometry, fetched, absent, attempts, begun);
+        return try_candidate(alloc, search, attempts, begun);
     }
-    if first == geometry.spec.parity + geometry.spec.ndata {
+    if first == search.geometry.spec.parity + search.geometry.spec.ndata {
         return Ok(None);
     }
     begun.push(first)?;
-    let found = try_sets(
-        alloc,
-        geometry,
-        fetched,
-        absent,
-        attempts,
-        begun,
-        size - 1,
-        first + 1,
-    )?;
+    let found = try_sets(alloc, search, attempts, begun, size - 1, first + 1)?;
     begun.pop();
     match found {
         Some(bytes) => Ok(Some(bytes)),
-        None => try_sets(
-            alloc,
-            geometry,
-            fetched,
-            absent,
-            attempts,
-            begun,
-            size,
-            first + 1,
-        ),
+        None => try_sets(alloc, search, attempts, begun, size, first + 1),
     }
 }
 
 /// Tries the columns as they were read, where none is absent.
-fn try_read(
-    alloc: Global,
-    geometry: &Geometry,
-    fetched: &Fetched,
-    absent: &[u32],
-) -> Result<Option<Vec<u8>>, AllocError>
-    requires geometry { IsGeometry geometry.now }
-    requires fetched { IsFetched (cut_of geometry.now) fetched.now }
-    requires absent { absent.now ≡ absent_columns fetched.now.columns.items }
-    ensures { TriesRead (cut_of geometry.now) fetched.now result }
+fn try_read(alloc: Global, search: &Search) -> Result<Option<Vec<u8>>, AllocError>
+    requires search { IsSearch search.now }
+    ensures { TriesRead (cut_in search.now) search.now.fetched.now result }
 {
+    let Search {
+        geometry,
+        fetched,
+        absent,
+    } = *search;
     if !absent.is_empty() {
         return Ok(None);
     }
@@ -210,44 +209,37 @@ fn try_read(
 }
 
 /// The stripe before sets with members are tried.
-fn begin(
-    alloc: Global,
-    geometry: &Geometry,
-    fetched: &Fetched,
-    absent: &[u32],
-) -> Result<Attempts, AllocError>
-    requires geometry { IsGeometry geometry.now }
-    requires fetched { IsFetched (cut_of geometry.now) fetched.now }
-    requires absent { absent.now ≡ absent_columns fetched.now.columns.items }
-    requires failed { All (FailsOf (cut_of geometry.now) fetched.now) (first_sets (cut_of geometry.now) fetched.now) }
-    ensures { IfOk result (λ a. NoneOf (cut_of geometry.now) fetched.now (first_sets (cut_of geometry.now) fetched.now) a.stripe 0 a.tried) }
+fn begin(alloc: Global, search: &Search) -> Result<Attempts, AllocError>
+    requires search { IsSearch search.now }
+    requires failed { All (FailsOf (cut_in search.now) search.now.fetched.now)
+        (first_sets (cut_in search.now) search.now.fetched.now) }
+    ensures { IfOk result (NoneYet (cut_in search.now) search.now.fetched.now
+        (first_sets (cut_in search.now) search.now.fetched.now)) }
 {
-    let stripe = held_stripe(alloc, geometry, fetched)?;
+    let stripe = held_stripe(alloc, search.geometry, search.fetched)?;
     Ok(Attempts {
         stripe,
-        tried: if absent.is_empty() { 1 } else { 0 },
+        front: Front::new(search.fetched.pointer.len),
+        tried: if search.absent.is_empty() { 1 } else { 0 },
     })
 }
 
 /// Tries the sets with members, by size, and those of one size in lexicographic order.
-fn search(
+fn try_all(
     alloc: Global,
-    geometry: &Geometry,
-    fetched: &Fetched,
-    absent: &[u32],
+    search: &Search,
     attempts: &mut Attempts,
 ) -> Result<Option<Vec<u8>>, AllocError>
-    requires geometry { IsGeometry geometry.now }
-    requires fetched { IsFetched (cut_of geometry.now) fetched.now }
-    requires absent { absent.now ≡ absent_columns fetched.now.columns.items }
-    requires none { NoneOf (cut_of geometry.now) fetched.now (first_sets (cut_of geometry.now) fetched.now) attempts.old.stripe 0 attempts.old.tried }
-    ensures { TriesSets (cut_of geometry.now) fetched.now (sets_of (cut_of geometry.now) fetched.now) attempts.new.stripe 0 attempts.new.tried result }
+    requires search { IsSearch search.now }
+    requires none { NoneYet (cut_in search.now) search.now.fetched.now
+        (first_sets (cut_in search.now) search.now.fetched.now) attempts.old }
+    ensures { TriesSets (cut_in search.now) search.now.fetched.now
+        (sets_of (cut_in search.now) search.now.fetched.now)
+        attempts.new 0 attempts.new.tried result }
 {
-    let mut begun = Vec::with_capacity(alloc, geometry.spec.parity as usize)?;
-    for size in 1..geometry.spec.parity + 1 {
-        match try_sets(
-            alloc, geometry, fetched, absent, attempts, &mut begun, size, 0,
-        )? {
+    let mut begun = Vec::with_capacity(alloc, search.geometry.spec.parity as usize)?;
+    for size in 1..search.geometry.spec.parity + 1 {
+        match try_sets(alloc, search, attempts, &mut begun, size, 0)? {
             Some(bytes) => return Ok(Some(bytes)),
             None => {}
         }
@@ -268,11 +260,16 @@ pub fn solve_absent(
     requires few { length absent.now ≤ 1000 }
     ensures { SolvesBlock (cut_of geometry.now) fetched.now result }
 {
-    if let Some(bytes) = try_read(alloc, geometry, fetched, absent)? {
+    let search = Search {
+        geometry,
+        fetched,
+        absent,
+    };
+    if let Some(bytes) = try_read(alloc, &search)? {
         return Ok(bytes);
     }
-    let mut attempts = begin(alloc, geometry, fetched, absent)?;
-    match search(alloc, geometry, fetched, absent, &mut attempts)? {
+    let mut attempts = begin(alloc, &search)?;
+    match try_all(alloc, &search, &mut attempts)? {
         Some(bytes) => Ok(bytes),
         None => Err(SolveFault::Unreadable {
             absent: absent.len() as u32,

@@ -10,115 +10,85 @@ use Rattle.draid_block.proofs.search.+try_sets.Goals as goal
 
 pub try_candidate-requires-clause-room : goal.try_candidate-requires-clause-room
 try_candidate-requires-clause-room t c =
-    let n : ℕ = c.args.geometry.now.spec.parity + c.args.geometry.now.spec.ndata - c.args.first in
-    let e = whole_sets c.args.absent.now c.args.begun.now.items c.args.size c.args.first n c.if-size-eq0.true in
+    let n : ℕ = c.args.search.now.geometry.now.spec.parity + c.args.search.now.geometry.now.spec.ndata - c.args.first in
+    let e = whole_sets c.args.search.now.absent.now c.args.begun.now.items c.args.size c.args.first n c.if-size-eq0.true in
     rw c.deref.ensures.value (rw e at c.requires.room)
 
 pub returns-then-size-eq0-clause-tries : goal.returns-then-size-eq0-clause-tries
 returns-then-size-eq0-clause-tries t c =
-    let n : ℕ = c.args.geometry.now.spec.parity + c.args.geometry.now.spec.ndata - c.args.first in
-    let e = whole_sets c.args.absent.now c.args.begun.now.items c.args.size c.args.first n c.if-size-eq0.true in
-    let same = e ∙ ap (λ (set : List ℕ). covering c.args.absent.now (set ∷ [])) (sym c.deref.ensures.value) in
-    tries_same (cut_of c.args.geometry.now) c.args.fetched.now _ _ c.try_candidate.new.attempts.stripe c.args.attempts.now.tried c.try_candidate.new.attempts.tried c.try_candidate.result
+    let n : ℕ = c.args.search.now.geometry.now.spec.parity + c.args.search.now.geometry.now.spec.ndata - c.args.first in
+    let e = whole_sets c.args.search.now.absent.now c.args.begun.now.items c.args.size c.args.first n c.if-size-eq0.true in
+    let same = e ∙ ap (λ (set : List ℕ). covering c.args.search.now.absent.now (set ∷ [])) (sym c.deref.ensures.value) in
+    tries_same (cut_of c.args.search.now.geometry.now) c.args.search.now.fetched.now _ _ c.try_candidate.new.attempts c.args.attempts.now.tried c.try_candidate.new.attempts.tried c.try_candidate.result
     same c.try_candidate.ensures
 
-pub returns-then-first-geometry-clause-tries : goal.returns-then-first-geometry-clause-tries
-returns-then-first-geometry-clause-tries t c =
-    let n : ℕ = c.args.geometry.now.spec.parity + c.args.geometry.now.spec.ndata - c.args.first in
-    let none = past_sets c.args.absent.now c.args.begun.now.items c.args.size c.args.first n (omega arith) (omega arith) in
-    rw none (record { held = c.requires.held; failed = All-nil (FailsOf (cut_of c.args.geometry.now) c.args.fetched.now); counted = omega arith })
+pub returns-then-first-search-clause-tries : goal.returns-then-first-search-clause-tries
+returns-then-first-search-clause-tries t c =
+    let n : ℕ = c.args.search.now.geometry.now.spec.parity + c.args.search.now.geometry.now.spec.ndata - c.args.first in
+    let none = past_sets c.args.search.now.absent.now c.args.begun.now.items c.args.size c.args.first n (omega arith) (omega arith) in
+    rw none (record { ready = c.requires.ready; failed = All-nil (FailsOf (cut_of c.args.search.now.geometry.now) c.args.search.now.fetched.now); counted = omega arith })
 
 pub try_sets-requires : goal.try_sets-requires
 try_sets-requires t c =
     let within = c.requires.begun.in_range in
-    let cut : Cut = cut_of c.args.geometry.now in
-    let g : ℕ = c.args.geometry.now.spec.parity + c.args.geometry.now.spec.ndata in
+    let cut : Cut = cut_of c.args.search.now.geometry.now in
+    let g : ℕ = c.args.search.now.geometry.now.spec.parity + c.args.search.now.geometry.now.spec.ndata in
     let pushed = c.in_ok-push.ensures.items in
     let begun = begun_more cut c.args.begun.now.items c.args.size (c.args.size - 1) c.args.first (omega arith) (omega arith) c.requires.begun in
-    let room = rw (both_sets c.args.absent.now c.args.begun.now.items c.args.size c.args.first g (omega arith) (omega arith)) at c.requires.room in
-    let left : List (List ℕ) = covering c.args.absent.now (sets_after (c.args.begun.now.items ++ c.args.first ∷ []) (c.args.size - 1) (c.args.first + 1) (g - (c.args.first + 1))) in
-    let right : List (List ℕ) = covering c.args.absent.now (sets_after c.args.begun.now.items c.args.size (c.args.first + 1) (g - (c.args.first + 1))) in (
+    let room = rw (both_sets c.args.search.now.absent.now c.args.begun.now.items c.args.size c.args.first g (omega arith) (omega arith)) at c.requires.room in
+    let left : List (List ℕ) = covering c.args.search.now.absent.now (sets_after (c.args.begun.now.items ++ c.args.first ∷ []) (c.args.size - 1) (c.args.first + 1) (g - (c.args.first + 1))) in
+    let right : List (List ℕ) = covering c.args.search.now.absent.now (sets_after c.args.begun.now.items c.args.size (c.args.first + 1) (g - (c.args.first + 1))) in (
       omega arith,
-      (
-        c.requires.geometry,
-        (
-          c.requires.fetched,
-          (
-            c.requires.absent,
-            (
-              c.requires.held,
-              (
-                rw pushed begun,
-                rw pushed (omega (arith, room, length-append left right)),
-              ),
-            ),
-          ),
-        ),
-      ),
+      (c.requires.search, (c.requires.ready, (rw pushed begun, rw pushed (omega (arith, room, length-append left right))))),
     )
 
 pub returns-in-Some-clause-tries : goal.returns-in-Some-clause-tries
 returns-in-Some-clause-tries t c =
     let within = c.requires.begun.in_range in
-    let cut : Cut = cut_of c.args.geometry.now in
-    let g : ℕ = c.args.geometry.now.spec.parity + c.args.geometry.now.spec.ndata in
+    let cut : Cut = cut_of c.args.search.now.geometry.now in
+    let g : ℕ = c.args.search.now.geometry.now.spec.parity + c.args.search.now.geometry.now.spec.ndata in
     let pushed = c.in_ok-push.ensures.items in
-    let left_sets = λ (l : List ℕ). covering c.args.absent.now (sets_after l (c.args.size - 1) (c.args.first + 1) (g - (c.args.first + 1))) in
-    let tries = tries_same cut c.args.fetched.now (left_sets (c.args.begun.now.items ++ c.args.first ∷ [])) (left_sets c.push.new.self.items) c.try_sets.new.attempts.stripe
-    c.args.attempts.now.tried c.try_sets.new.attempts.tried (Ok c.in_ok-found.found) (ap left_sets (sym pushed)) c.in_ok-found.ensures.tries in
-    let found = tries_some cut c.args.fetched.now _ c.try_sets.new.attempts.stripe c.args.attempts.now.tried c.try_sets.new.attempts.tried c.in_ok-found.found c.in-Some.bytes c.in-Some.is tries in
-    rw (both_sets c.args.absent.now c.args.begun.now.items c.args.size c.args.first g (omega arith) (omega arith)) (first_left _ _ found)
+    let left_sets = λ (l : List ℕ). covering c.args.search.now.absent.now (sets_after l (c.args.size - 1) (c.args.first + 1) (g - (c.args.first + 1))) in
+    let tries = tries_same cut c.args.search.now.fetched.now (left_sets (c.args.begun.now.items ++ c.args.first ∷ [])) (left_sets c.push.new.self.items) c.try_sets.new.attempts
+    c.args.attempts.now.tried c.try_sets.new.attempts.tried (Ok c.in_ok-found.found) (ap left_sets (sym {A = List ℕ} pushed)) c.in_ok-found.ensures.tries in
+    let found = tries_some cut c.args.search.now.fetched.now _ c.try_sets.new.attempts c.args.attempts.now.tried c.try_sets.new.attempts.tried c.in_ok-found.found c.in-Some.bytes c.in-Some.is tries in
+    rw (both_sets c.args.search.now.absent.now c.args.begun.now.items c.args.size c.args.first g (omega arith) (omega arith)) (first_left _ _ found)
 
 pub try_sets-requires-in-None : goal.try_sets-requires-in-None
 try_sets-requires-in-None t c =
     let within = c.requires.begun.in_range in
-    let cut : Cut = cut_of c.args.geometry.now in
-    let g : ℕ = c.args.geometry.now.spec.parity + c.args.geometry.now.spec.ndata in
+    let cut : Cut = cut_of c.args.search.now.geometry.now in
+    let g : ℕ = c.args.search.now.geometry.now.spec.parity + c.args.search.now.geometry.now.spec.ndata in
     let pushed = c.in_ok-push.ensures.items in
     let popped : c.pop.new.self.items ≡ c.args.begun.now.items = grind (arith, common_steps) in
-    let left_sets = λ (l : List ℕ). covering c.args.absent.now (sets_after l (c.args.size - 1) (c.args.first + 1) (g - (c.args.first + 1))) in
-    let tries = tries_same cut c.args.fetched.now (left_sets (c.args.begun.now.items ++ c.args.first ∷ [])) (left_sets c.push.new.self.items) c.try_sets.new.attempts.stripe
-    c.args.attempts.now.tried c.try_sets.new.attempts.tried (Ok c.in_ok-found.found) (ap left_sets (sym pushed)) c.in_ok-found.ensures.tries in
-    let none = tries_none cut c.args.fetched.now _ c.try_sets.new.attempts.stripe c.args.attempts.now.tried c.try_sets.new.attempts.tried c.in_ok-found.found c.in-None.is tries in
+    let left_sets = λ (l : List ℕ). covering c.args.search.now.absent.now (sets_after l (c.args.size - 1) (c.args.first + 1) (g - (c.args.first + 1))) in
+    let tries = tries_same cut c.args.search.now.fetched.now (left_sets (c.args.begun.now.items ++ c.args.first ∷ [])) (left_sets c.push.new.self.items) c.try_sets.new.attempts
+    c.args.attempts.now.tried c.try_sets.new.attempts.tried (Ok c.in_ok-found.found) (ap left_sets (sym {A = List ℕ} pushed)) c.in_ok-found.ensures.tries in
+    let none = tries_none cut c.args.search.now.fetched.now _ c.try_sets.new.attempts c.args.attempts.now.tried c.try_sets.new.attempts.tried c.in_ok-found.found c.in-None.is tries in
     let counted = none.counted in
     let begun = begun_later cut c.args.begun.now.items c.args.size c.args.first (omega arith) c.requires.begun in
-    let room = rw (both_sets c.args.absent.now c.args.begun.now.items c.args.size c.args.first g (omega arith) (omega arith)) at c.requires.room in
-    let left : List (List ℕ) = covering c.args.absent.now (sets_after (c.args.begun.now.items ++ c.args.first ∷ []) (c.args.size - 1) (c.args.first + 1) (g - (c.args.first + 1))) in
-    let right : List (List ℕ) = covering c.args.absent.now (sets_after c.args.begun.now.items c.args.size (c.args.first + 1) (g - (c.args.first + 1))) in (
+    let room = rw (both_sets c.args.search.now.absent.now c.args.begun.now.items c.args.size c.args.first g (omega arith) (omega arith)) at c.requires.room in
+    let left : List (List ℕ) = covering c.args.search.now.absent.now (sets_after (c.args.begun.now.items ++ c.args.first ∷ []) (c.args.size - 1) (c.args.first + 1) (g - (c.args.first + 1))) in
+    let right : List (List ℕ) = covering c.args.search.now.absent.now (sets_after c.args.begun.now.items c.args.size (c.args.first + 1) (g - (c.args.first + 1))) in (
       omega arith,
-      (
-        c.requires.geometry,
-        (
-          c.requires.fetched,
-          (
-            c.requires.absent,
-            (
-              none.held,
-              (
-                rw popped begun,
-                rw popped (omega (arith, room, counted, length-append left right)),
-              ),
-            ),
-          ),
-        ),
-      ),
+      (c.requires.search, (none.ready, (rw popped begun, rw popped (omega (arith, room, counted, length-append left right))))),
     )
 
 pub returns-in-None-clause-tries : goal.returns-in-None-clause-tries
 returns-in-None-clause-tries t c =
     let within = c.requires.begun.in_range in
-    let cut : Cut = cut_of c.args.geometry.now in
-    let g : ℕ = c.args.geometry.now.spec.parity + c.args.geometry.now.spec.ndata in
+    let cut : Cut = cut_of c.args.search.now.geometry.now in
+    let g : ℕ = c.args.search.now.geometry.now.spec.parity + c.args.search.now.geometry.now.spec.ndata in
     let pushed = c.in_ok-push.ensures.items in
     let popped : c.pop.new.self.items ≡ c.args.begun.now.items = grind (arith, common_steps) in
-    let left_sets = λ (l : List ℕ). covering c.args.absent.now (sets_after l (c.args.size - 1) (c.args.first + 1) (g - (c.args.first + 1))) in
-    let tries = tries_same cut c.args.fetched.now (left_sets (c.args.begun.now.items ++ c.args.first ∷ [])) (left_sets c.push.new.self.items) c.try_sets.new.attempts.stripe
-    c.args.attempts.now.tried c.try_sets.new.attempts.tried (Ok c.in_ok-found.found) (ap left_sets (sym pushed)) c.in_ok-found.ensures.tries in
-    let none = tries_none cut c.args.fetched.now _ c.try_sets.new.attempts.stripe c.args.attempts.now.tried c.try_sets.new.attempts.tried c.in_ok-found.found c.in-None.is tries in
-    let right_sets = λ (l : List ℕ). covering c.args.absent.now (sets_after l c.args.size (c.args.first + 1) (g - (c.args.first + 1))) in
-    let more = tries_same cut c.args.fetched.now (right_sets c.args.begun.now.items) (right_sets c.pop.new.self.items) c.try_sets-in-None.new.attempts.stripe
+    let left_sets = λ (l : List ℕ). covering c.args.search.now.absent.now (sets_after l (c.args.size - 1) (c.args.first + 1) (g - (c.args.first + 1))) in
+    let tries = tries_same cut c.args.search.now.fetched.now (left_sets (c.args.begun.now.items ++ c.args.first ∷ [])) (left_sets c.push.new.self.items) c.try_sets.new.attempts
+    c.args.attempts.now.tried c.try_sets.new.attempts.tried (Ok c.in_ok-found.found) (ap left_sets (sym {A = List ℕ} pushed)) c.in_ok-found.ensures.tries in
+    let none = tries_none cut c.args.search.now.fetched.now _ c.try_sets.new.attempts c.args.attempts.now.tried c.try_sets.new.attempts.tried c.in_ok-found.found c.in-None.is tries in
+    let right_sets = λ (l : List ℕ). covering c.args.search.now.absent.now (sets_after l c.args.size (c.args.first + 1) (g - (c.args.first + 1))) in
+    let more = tries_same cut c.args.search.now.fetched.now (right_sets c.args.begun.now.items) (right_sets c.pop.new.self.items) c.try_sets-in-None.new.attempts
     c.try_sets.new.attempts.tried c.try_sets-in-None.new.attempts.tried c.try_sets-in-None.result (ap right_sets (sym popped)) c.try_sets-in-None.ensures.tries in
-    tries_same cut c.args.fetched.now _ _ c.try_sets-in-None.new.attempts.stripe c.args.attempts.now.tried c.try_sets-in-None.new.attempts.tried c.try_sets-in-None.result
-    (both_sets c.args.absent.now c.args.begun.now.items c.args.size c.args.first g (omega arith) (omega arith))
-    (tries_more cut c.args.fetched.now _ _ c.try_sets.new.attempts.stripe c.try_sets-in-None.new.attempts.stripe c.args.attempts.now.tried c.try_sets.new.attempts.tried
+    tries_same cut c.args.search.now.fetched.now _ _ c.try_sets-in-None.new.attempts c.args.attempts.now.tried c.try_sets-in-None.new.attempts.tried c.try_sets-in-None.result
+    (both_sets c.args.search.now.absent.now c.args.begun.now.items c.args.size c.args.first g (omega arith) (omega arith))
+    (tries_more cut c.args.search.now.fetched.now _ _ c.try_sets.new.attempts c.try_sets-in-None.new.attempts c.args.attempts.now.tried c.try_sets.new.attempts.tried
     c.try_sets-in-None.new.attempts.tried c.try_sets-in-None.result none more)
