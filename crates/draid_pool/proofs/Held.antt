@@ -1,13 +1,13 @@
 -- The blocks that a pool holds, and the table of its objects.
-use Rattle.std.proofs.Common.{arith, rules, refl, sym, ◌≡◌, ◌==◌, ◌∙◌, inl, inr, ℕ, List, [], ◌∷◌, Bool, Option, Some, None, find, cond, ap, subst}
-use Rattle.std.specs.Prelude.{nat_eq, option_map, MatchOption}
+use Rattle.std.proofs.Common.{arith, rules, refl, ◌≡◌, ◌==◌, inl, inr, ℕ, List, [], ◌∷◌, Bool, Option, Some, None, find, cond, ap, subst}
+use Rattle.std.specs.Prelude.{nat_eq, MatchOption}
 use Rattle.std.proofs.lemmas.Bool.{cases_eq}
 use Rattle.std.proofs.lemmas.Bool.Decides.{nat_tests}
 use Rattle.draid_names.specs.declared.pointer.Pointer.{Pointer}
 use Rattle.draid_rack.specs.Rack.{OnTold, Told}
 use Rattle.draid_shard.specs.declared.shard.Shard.{Shard}
 use Rattle.draid_shard.specs.Columns.{TellsBoth}
-use Rattle.draid_shard.specs.Shard.{HoldsBlock, KeepsBlocks}
+use Rattle.draid_shard.specs.Shard.{KeepsBlocks}
 use Rattle.draid_pool.specs.State.{HarmBoth, Write, bytes_of, write_of}
 use Rattle.draid_pool.specs.Pool.{HoldsAll, HoldsWrite, harm_of}
 

@@ -1,5 +1,5 @@
 -- What the calls of a pool do to the state that it stands for.
-use Rattle.std.proofs.Common.{◌≡◌, ◌==◌, ◌+◌, ◌*◌, ◌<◌, ◌∙◌, ℕ, Bool, true, List, [], ◌∷◌, Vec, Global, Option, Some, None, Result, Ok, Err, find, cond, arith, refl, sym, ap, subst, length}
+use Rattle.std.proofs.Common.{◌≡◌, ◌+◌, ◌*◌, ◌<◌, ◌∙◌, ℕ, Bool, true, List, ◌∷◌, Vec, Global, Option, Some, None, Result, Ok, Err, cond, arith, refl, sym, ap, subst}
 use Rattle.std.specs.Prelude.{⊤, nat_eq}
 use Rattle.std.specs.HashMap.{get}
 use Rattle.draid_names.specs.declared.pointer.Pointer.{Pointer}
@@ -9,13 +9,12 @@ use Rattle.draid_spec.specs.declared.layout.Geometry.{Geometry}
 use Rattle.draid_map.specs.Place.{end_of, part_sectors}
 use Rattle.draid_block.specs.Blocks.{cut_of}
 use Rattle.draid_block.specs.Columns.{stripes_of}
-use Rattle.draid_shard.specs.declared.shard.Shard.{Shard}
 use Rattle.draid_shard.specs.Part.{Part}
 use Rattle.draid_shard.specs.Columns.{EndsHarm, MoreBad, TellsBoth}
 use Rattle.draid_shard.specs.Shard.{HoldsBlock, IsLive, KeepsBlocks, NoneFalls, Valid, free_of, part_of}
 use Rattle.draid_pool.specs.Answers.{DamageIs, ReadIs, WriteIs}
 use Rattle.draid_pool.specs.Pool.{Moves, Represents, harm_of, state_of}
-use Rattle.draid_pool.specs.State.{HasNoSpace, IsLost, IsThere, Keeps, Looks, Stays, State, Write, stripes_for}
+use Rattle.draid_pool.specs.State.{IsThere, Keeps, Looks, Stays, State, Write, stripes_for}
 use Rattle.draid_pool.specs.Store.{AreBytesOf, BlockAnswers, IsUnread, StoreAnswers, StoreFull, StoreMisses, StoreStays, Stores}
 use Rattle.draid_pool.specs.declared.fault.DamageFault.TheVariants as damage_fault
 use Rattle.draid_pool.specs.declared.fault.ObjectFault.{ObjectFault}
@@ -192,8 +191,7 @@ module _ {R : Type 0} (shape : R → Shape) (told : R → Option Told) (faults :
       let a : IsUnread (part_of old.shard) pointer.first pointer.stripes (told old.shard.rack) (faults old.shard.rack) new absent tried = answer it.write.bytes it.held.holds in
       let sized = (is.valid.tables.placed pointer.first _ it.held.holds.is_live).sized in
       let stripes : pointer.stripes ≡ stripes_for (part_of old.shard) it.write.bytes = sized.stripes ∙ ap (stripes_of (cut_of old.shard.geometry)) (sym it.held.holds.content.len) in
-      let first = it.held.first in
-      (
+      let first = it.held.first in (
         rw same (record {
           write = it.write;
           written = it.last;

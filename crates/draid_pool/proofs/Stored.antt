@@ -1,5 +1,5 @@
 -- A block was written from the begin of its write to the end.
-use Rattle.std.proofs.Common.{◌≡◌, ◌<◌, ◌∙◌, ℕ, List, Bool, Option, sym, ap, length}
+use Rattle.std.proofs.Common.{◌≡◌, ◌<◌, ◌∙◌, ℕ, Bool, Option, sym, ap, length}
 use Rattle.draid_names.specs.declared.pointer.Pointer.{Pointer}
 use Rattle.draid_rack.specs.Rack.{Shape, Told}
 use Rattle.draid_block.specs.Blocks.{BlockValue, cut_of}

@@ -1,7 +1,5 @@
 -- The columns of a block are put one after another.
-use Rattle.std.proofs.Common.{◌≡◌, ◌⊎◌, ◌+◌, ◌<◌, ◌≤◌, ◌∙◌, ◌++◌, [], ◌∷◌, ℕ, List, Bool, true, false, Option, Some, None, arith, refl, sym, ap, inl, inr, length, length-append, subst}
-use Rattle.std.specs.Prelude.{All, MatchOption}
-use Rattle.std.specs.List.Sorted.{IsStrictlyIncreasing}
+use Rattle.std.proofs.Common.{◌≡◌, ◌+◌, ◌<◌, ◌≤◌, ◌∙◌, ◌++◌, [], ◌∷◌, ℕ, Bool, Option, Some, None, arith, refl, sym, inl, inr, length-append, subst}
 use Rattle.std.proofs.lemmas.Bool.{cases_lt}
 use Rattle.std.proofs.lemmas.List.Elements.{All-nil, All-push}
 use Rattle.draid_names.specs.Faults.{Rose}
@@ -9,7 +7,7 @@ use Rattle.draid_names.specs.declared.pointer.Pointer.{Pointer}
 use Rattle.draid_rack.specs.Rack.{Told}
 use Rattle.draid_block.proofs.Sets.{ascending-push}
 use Rattle.draid_shard.specs.Part.{Part, leaf_of}
-use Rattle.draid_shard.specs.Columns.{EndsHarm, IsElsewhere, LeafRose, TellsBoth}
+use Rattle.draid_shard.specs.Columns.{EndsHarm, LeafRose, TellsBoth}
 use Rattle.draid_shard.specs.Shard.{CountsMiss, NoneFalls}
 use Rattle.draid_pool.specs.Store.{MissedSome}
 

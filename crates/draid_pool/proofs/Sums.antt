@@ -1,5 +1,5 @@
 -- The bytes of one object after another.
-use Rattle.std.proofs.Common.{◌≡◌, ◌+◌, ◌<◌, ◌≤◌, ◌∙◌, ◌++◌, ℕ, Bool, List, [], ◌∷◌, Vec, Global, Option, Some, None, Result, Ok, Err, arith, refl, sym, ap, subst, length, length-append}
+use Rattle.std.proofs.Common.{◌≡◌, ◌+◌, ◌<◌, ◌∙◌, ◌++◌, ℕ, List, [], ◌∷◌, Vec, Global, Option, Result, Ok, Err, arith, refl, sym, ap, subst, length, length-append}
 use Rattle.std.specs.Prelude.{flat_map}
 use Rattle.std.proofs.lemmas.List.{append-nil, append_assoc}
 use Rattle.sha2.specs.Sha256.{sha256}
@@ -8,9 +8,8 @@ use Rattle.sha2.specs.declared.Sha256.{Sha256}
 use Rattle.draid_rack.specs.Rack.{Shape, Told}
 use Rattle.draid_pool.specs.Answers.{ReadIs, SumIs}
 use Rattle.draid_pool.specs.Pool.{Moves, Represents, state_of}
-use Rattle.draid_pool.specs.State.{AreLast, Keeps, Looks, ReadsLast, State, Write}
+use Rattle.draid_pool.specs.State.{AreLast, Looks, ReadsLast, State, Write}
 use Rattle.draid_pool.specs.declared.fault.ObjectFault.{ObjectFault}
-use Rattle.draid_pool.specs.declared.fault.SumFault.{SumFault}
 use Rattle.draid_pool.specs.declared.pool.Pool.{Pool}
 
 -- all the bytes

@@ -1,6 +1,6 @@
 -- No set of columns restores a block.
-use Rattle.std.proofs.Common.{◌≡◌, ◌⊎◌, ◌+◌, ◌∙◌, ℕ, List, Option, Some, None, Vec, Global, refl, sym, ap, inl, inr, length, subst}
-use Rattle.std.specs.Prelude.{All, Result, Ok, Err}
+use Rattle.std.proofs.Common.{◌≡◌, ◌⊎◌, ◌+◌, ◌∙◌, ℕ, List, Option, Some, None, Vec, Global, sym, ap, inl, inr, length, subst}
+use Rattle.std.specs.Prelude.{All, Result, Err}
 use Rattle.draid_rack.specs.Rack.{OnTold, Told}
 use Rattle.draid_names.specs.declared.pointer.Pointer.{Pointer}
 use Rattle.draid_spec.specs.declared.layout.Geometry.{Geometry}

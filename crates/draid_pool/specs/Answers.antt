@@ -1,5 +1,5 @@
 -- What the answers of a pool's calls say.
-use Rattle.std.specs.Prelude.{◌≡◌, ◌+◌, ℕ, List, Option, Some, None, Result, Ok, Err}
+use Rattle.std.specs.Prelude.{◌≡◌, ℕ, List, None, Result, Ok, Err}
 use Rattle.std.specs.declared.vec.Vec.{Vec}
 use Rattle.std.specs.declared.alloc.Global.{Global}
 use Rattle.draid_pool.specs.State.{Damages, FailsToDamage, HasNoSpace, IsLost, IsThere, Looks, Misses, ReadsLast, State, Stays, StopsAt, Sums, Writes, bytes_of}

@@ -2,7 +2,6 @@ use Rattle.std.specs.Prelude.{◌≡◌, ℕ, [], Option, Result, Ok, Err}
 use Rattle.draid_spec.specs.declared.layout.Geometry.{Geometry}
 use Rattle.draid_spec.specs.declared.layout.Props.{Props}
 use Rattle.draid_spec.specs.declared.spec.Spec.{Spec}
-use Rattle.draid_spec.specs.declared.spec.SpecFault.{SpecFault}
 use Rattle.draid_spec.specs.Geometry.{geometry_of}
 use Rattle.draid_rack.specs.Rack.{Shape, Told}
 use Rattle.draid_pool.specs.Pool.{Represents, state_of}

@@ -25,7 +25,7 @@ fn put_all<R: Rack>(shard: &mut Shard<R>, ticket: &mut Ticket, block: &Encoded)
         shard.old.geometry.g ticket.new.missed }
     ensures harm { TellsBoth (R.told shard.old.rack) (R.told shard.new.rack) (λ x y.
         EndsHarm (part_of shard.old) ticket.old.pointer.first ticket.old.pointer.stripes (λ i. i < shard.old.geometry.g)
-            (ticket.new.missed ≡ 0) x.harmed y.harmed) }
+        (ticket.new.missed ≡ 0) x.harmed y.harmed) }
     ensures later { NoneFalls (R.faults shard.old.rack) (R.faults shard.new.rack) }
     ensures free { free_of shard.new ≡ free_of shard.old }
     ensures kept { KeepsBlocks R.told shard.old shard.new }

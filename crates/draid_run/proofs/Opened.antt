@@ -1,12 +1,11 @@
 -- A pool was opened, or not, in the words of a session.
-use Rattle.std.proofs.Common.{◌≡◌, ◌∙◌, ◌++◌, ℕ, List, [], Option, Some, None, Result, Ok, Err, Bool, false, refl, sym, ap, subst, if◌then◌else◌}
-use Rattle.std.specs.Prelude.{codes, is_some, string_bytes, nat_lt}
-use Rattle.std.specs.Result.{result_and}
+use Rattle.std.proofs.Common.{◌≡◌, ◌∙◌, ◌++◌, ℕ, List, [], Option, Some, None, Result, Ok, Err, false, refl, sym, ap, subst}
+use Rattle.std.specs.Prelude.{codes, is_some, nat_lt}
 use Rattle.draid_spec.specs.declared.layout.Geometry.{Geometry}
 use Rattle.draid_spec.specs.declared.layout.Props.{Props}
 use Rattle.draid_spec.specs.declared.spec.Spec.{Spec}
 use Rattle.draid_spec.specs.declared.spec.SpecFault.{SpecFault}
-use Rattle.draid_spec.specs.Geometry.{checked_layout, checked_props, geometry_of, layout_of, total_of}
+use Rattle.draid_spec.specs.Geometry.{checked_props, geometry_of, layout_of, total_of}
 use Rattle.draid_spec.specs.Name.{spec_name_of}
 use Rattle.draid_spec.specs.Spec.{checked_width}
 use Rattle.draid_spec.specs.Text.{spec_by}
@@ -24,8 +23,8 @@ use Rattle.draid_pool.specs.declared.fault.PoolFault.TheVariants as fault
 use Rattle.draid_pool.specs.declared.pool.Pool.{Pool}
 use Rattle.draid_pool.proofs.Opened.{by_checks}
 use Rattle.draid_run.specs.Serve.{Turned}
-use Rattle.draid_run.specs.Session.{OpensAs, OpensBy, state_in}
-use Rattle.draid_run.specs.State.{layout_by, layout_from, props_of, refusal_of}
+use Rattle.draid_run.specs.Session.{OpensBy, state_in}
+use Rattle.draid_run.specs.State.{layout_from, props_of, refusal_of}
 use Rattle.draid_run.specs.declared.answer.Made.{Made}
 
 same_spec : (spec : Spec) (props : Props) (layout : Geometry) → geometry_of spec props ≡ Ok layout → layout.spec ≡ spec

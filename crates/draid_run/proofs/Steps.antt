@@ -1,26 +1,12 @@
 -- What the calls of a pool did, in the words of a session.
-use Rattle.std.proofs.Common.{◌≡◌, ◌*◌, ◌∙◌, ◌++◌, ℕ, List, [], Option, Some, None, Result, Ok, Err, refl, sym, ap, subst, arith}
-use Rattle.std.specs.Prelude.{codes}
-use Rattle.draid_spec.specs.declared.layout.Geometry.{Geometry}
-use Rattle.draid_spec.specs.declared.layout.Props.{Props}
-use Rattle.draid_spec.specs.declared.spec.Spec.{Spec}
-use Rattle.draid_spec.specs.declared.spec.SpecFault.{SpecFault}
-use Rattle.draid_spec.specs.Geometry.{checked_props, checked_layout, geometry_of, layout_of, total_of}
-use Rattle.draid_spec.specs.Name.{spec_name_of}
-use Rattle.draid_spec.specs.Spec.{checked_width}
-use Rattle.draid_spec.specs.Text.{spec_by}
+use Rattle.std.proofs.Common.{◌≡◌, ℕ, Option, subst}
 use Rattle.draid_rack.specs.Rack.{Shape, Told}
-use Rattle.draid_script.specs.Line.{CreatePool, SumObjects}
-use Rattle.draid_script.specs.declared.line.PoolKeys.{PoolKeys}
-use Rattle.draid_script.specs.declared.name.CommandName.TheVariants as name
-use Rattle.draid_script.specs.declared.reply.Reply.{Reply}
-use Rattle.draid_script.specs.declared.reply.Reply.TheVariants as reply
-use Rattle.draid_pool.specs.Answers.{SumIs, SumStops}
+use Rattle.draid_script.specs.Line.{SumObjects}
+use Rattle.draid_pool.specs.Answers.{SumStops}
 use Rattle.draid_pool.specs.Pool.{Moves}
-use Rattle.draid_pool.specs.State.{Looks, State}
+use Rattle.draid_pool.specs.State.{State}
 use Rattle.draid_pool.specs.declared.fault.ObjectFault.{ObjectFault}
 use Rattle.draid_pool.specs.declared.fault.ObjectFault.TheVariants as object
-use Rattle.draid_pool.specs.declared.fault.SumFault.{SumFault}
 use Rattle.draid_pool.specs.declared.pool.Pool.{Pool}
 use Rattle.draid_pool.proofs.Sums.{looks_on}
 use Rattle.draid_run.specs.Replies.{sum_refused}

@@ -6,6 +6,8 @@ mod answer;
 mod replies;
 mod serve;
 mod status;
+#[cfg(test)]
+mod tests;
 mod top;
 
 pub use status::Status;

@@ -1,5 +1,5 @@
 -- One more column was read.
-use Rattle.std.proofs.Common.{◌≡◌, ◌⊎◌, ◌+◌, ◌*◌, ◌<◌, ◌≤◌, ◌∙◌, ◌++◌, [], ◌∷◌, ℕ, zero, suc, List, Option, Some, None, Vec, Global, arith, refl, sym, ap, ap₂, inl, inr, length, slice_get, subst}
+use Rattle.std.proofs.Common.{◌≡◌, ◌⊎◌, ◌+◌, ◌<◌, ◌≤◌, ◌∙◌, ◌++◌, [], ◌∷◌, ℕ, zero, suc, List, Option, Some, None, Vec, Global, arith, refl, sym, ap, ap₂, inl, inr, length, slice_get, subst}
 use Rattle.std.specs.Option.{IfSome, IfNone}
 use Rattle.draid_names.specs.Faults.{Rose}
 use Rattle.draid_rack.specs.Rack.{Told, OnTold}

@@ -1,20 +1,19 @@
 -- What was fetched of a live block is that block's, or more columns are bad than there are parity columns.
-use Rattle.std.proofs.Common.{◌≡◌, ◌⊎◌, ◌+◌, ◌-◌, ◌*◌, ◌<◌, ◌≤◌, ◌||◌, ◌∙◌, ◌++◌, [], ◌∷◌, ℕ, zero, suc, List, Bool, true, false, cond, Option, Some, None, Vec, Global, arith, refl, sym, ap, inl, inr, length, take, drop, slice_get, get_or, subst}
+use Rattle.std.proofs.Common.{◌≡◌, ◌⊎◌, ◌+◌, ◌*◌, ◌<◌, ◌||◌, ◌∙◌, ◌++◌, [], ◌∷◌, ℕ, zero, suc, List, Bool, true, false, cond, Option, Some, None, Vec, Global, arith, refl, sym, ap, inl, inr, length, take, slice_get, get_or}
 use Rattle.std.specs.Prelude.{All, Contains, is_none}
 use Rattle.std.specs.List.Sorted.{IsStrictlyIncreasing}
 use Rattle.std.proofs.lemmas.Bool.{cases_lt}
 use Rattle.std.proofs.lemmas.List.{append-nil, take_all}
-use Rattle.std.proofs.lemmas.List.Elements.{All-nil, All-push, All-contains, Contains-push, Contains-push_cases, Contains-append_left, Contains-get_or}
-use Rattle.std.proofs.lemmas.Option.{slice_get_within, slice_get-get_or, get_or_from_slice_get}
+use Rattle.std.proofs.lemmas.List.Elements.{All-nil, All-push, Contains-push, Contains-append_left, Contains-get_or}
+use Rattle.std.proofs.lemmas.Option.{slice_get-get_or}
 use Rattle.std.proofs.Math.Seq.{take-add}
-use Rattle.draid_names.specs.declared.pointer.Pointer.{Pointer}
 use Rattle.draid_spec.specs.declared.layout.Geometry.{Geometry}
 use Rattle.draid_spec.specs.Geometry.{IsGeometry}
 use Rattle.draid_rack.specs.Rack.{Told, OnTold}
 use Rattle.draid_parity.specs.Columns.{column_at}
-use Rattle.draid_block.specs.Columns.{Cut, stripes_of}
+use Rattle.draid_block.specs.Columns.{stripes_of}
 use Rattle.draid_block.specs.Blocks.{AreColumns, IsContent, column_len, cut_of}
-use Rattle.draid_block.specs.Solving.{IsFetched, IsReadable, absent_below, absent_columns}
+use Rattle.draid_block.specs.Solving.{IsFetched, IsReadable, absent_columns}
 use Rattle.draid_block.specs.declared.solve.Fetched.{Fetched}
 use Rattle.draid_block.proofs.Complete.{absent_is, absent_within}
 use Rattle.draid_block.proofs.Sets.{ascending-push}
@@ -172,15 +171,18 @@ readable part x fetched w whole old new is sized count long read absent content 
             (λ i lt passes. bad_cause part x fetched.pointer.first fetched.pointer.stripes fetched.columns.items old new absent i (omega (arith, lt, count)) passes);
         many = many;
       })
-      | inr few ↦ inl (bad, record {
-        content = content;
-        whole = whole;
-        columns = are;
-        few = few;
-        ascending = passing_increasing test part.geometry.g;
-        in_range = all_passing test (λ i. i < part.geometry.spec.parity + part.geometry.spec.ndata) part.geometry.g (λ i lt passes. (let g = is.columns in omega (arith, lt, g)));
-        good = λ i lt out. at_good i (let g = is.columns in omega (arith, lt, g)) out;
-      })
+      | inr few ↦ inl (
+        bad,
+        record {
+          content = content;
+          whole = whole;
+          columns = are;
+          few = few;
+          ascending = passing_increasing test part.geometry.g;
+          in_range = all_passing test (λ i. i < part.geometry.spec.parity + part.geometry.spec.ndata) part.geometry.g (λ i lt passes. (let g = is.columns in omega (arith, lt, g)));
+          good = λ i lt out. at_good i (let g = is.columns in omega (arith, lt, g)) out;
+        },
+      )
     ]
   where
     test : ℕ → Bool
@@ -200,9 +202,12 @@ readable part x fetched w whole old new is sized count long read absent content 
       by_test : (b : Bool) → test i ≡ b → (c : Vec ℕ Global) × (slice_get fetched.columns.items i ≡ Some (Some c)) × (c.items ≡ column_at whole i)
       by_test true passes = absurd (out (has_passing test part.geometry.g i lt passes))
       by_test false fails =
-          let it = good part x fetched.pointer.first fetched.pointer.stripes fetched.columns.items i (omega (arith, lt, count)) fails in
-          (it.column, it.there, column_read part x fetched.pointer.first fetched.pointer.stripes i it.column.items (column_at whole i) (long i it.column it.there) (length_is i lt)
-          (read i it.column it.there) it.whole (stand i lt))
+          let it = good part x fetched.pointer.first fetched.pointer.stripes fetched.columns.items i (omega (arith, lt, count)) fails in (
+            it.column,
+            it.there,
+            column_read part x fetched.pointer.first fetched.pointer.stripes i it.column.items (column_at whole i) (long i it.column it.there) (length_is i lt)
+                (read i it.column it.there) it.whole (stand i lt),
+          )
 
 pub told_readable : (told : Option Told) (part : Part) (fetched : Fetched) (w : List ℕ) (whole : List (List ℕ)) (old new : Option ℕ → ℕ) → IsGeometry part.geometry → IsSized part.geometry fetched.pointer
     → length fetched.columns.items ≡ part.geometry.g → AreLong fetched.columns.items (fetched.pointer.stripes * part.geometry.props.sector)

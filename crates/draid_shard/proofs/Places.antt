@@ -1,15 +1,13 @@
 -- Where the columns of a metaslab have their places.
-use Rattle.std.proofs.Common.{◌≡◌, ◌+◌, ◌-◌, ◌*◌, ◌/◌, ◌%◌, ◌<◌, ◌≤◌, ℕ, refl, sym, ap, ap₂, ◌∙◌, arith, add_assoc}
+use Rattle.std.proofs.Common.{◌≡◌, ◌+◌, ◌-◌, ◌*◌, ◌/◌, ◌%◌, ◌<◌, ◌≤◌, ℕ, refl, ap, ap₂, ◌∙◌, arith}
 use Rattle.std.proofs.Math.Nat.{mod-lt, mul-le-mul_right}
 use Rattle.std.proofs.lemmas.Nat.{mod-mul-add}
-use Rattle.draid_spec.specs.declared.layout.Geometry.{Geometry}
-use Rattle.draid_spec.specs.Geometry.{IsGeometry}
 use Rattle.draid_map.specs.declared.sectors.Place.{Place}
-use Rattle.draid_map.specs.Place.{IsLayout, part_sectors, part_stripes, place_of, stripes_of}
+use Rattle.draid_map.specs.Place.{part_sectors, part_stripes, place_of, stripes_of}
 use Rattle.draid_map.proofs.Distinct.{place_apart, columns_apart}
 use Rattle.draid_map.proofs.Radix.{its_digits}
 use Rattle.draid_map.proofs.Runs.{run_follows, place_child, part_from, part_to}
-use Rattle.draid_shard.specs.Part.{IsPart, IsRun, Part, place_in}
+use Rattle.draid_shard.specs.Part.{IsPart, Part, place_in}
 
 -- a stripe of the metaslab, counted through the pool
 abbrev pub in_pool : Part → ℕ → ℕ
@@ -89,8 +87,7 @@ follows part k j i is in_group within =
     let next = run_follows part.geometry part.perms (in_pool part k) j i is.layout.geometry_is (omega (arith, same, within)) in
     let sum : in_pool part (k + j) ≡ in_pool part k + j = omega arith in
     let place : ℕ → Place = λ n. place_of part.geometry part.perms n i in
-    let lies : place (in_pool part (k + j)) ≡ record { child = (place (in_pool part k)).child; sector = (place (in_pool part k)).sector + j } = ap place sum ∙ next in
-    (
+    let lies : place (in_pool part (k + j)) ≡ record { child = (place (in_pool part k)).child; sector = (place (in_pool part k)).sector + j } = ap place sum ∙ next in (
       ap (λ (p : Place). p.child) lies,
       (let s : (place (in_pool part (k + j))).sector ≡ (place (in_pool part k)).sector + j = ap (λ (p : Place). p.sector) lies in omega (arith, low, s)),
     )

@@ -1,8 +1,7 @@
 -- The next column of an open write was put.
-use Rattle.std.proofs.Common.{◌≡◌, ◌⊎◌, ◌+◌, ◌*◌, ◌<◌, ◌≤◌, ◌∙◌, ℕ, List, Bool, true, false, Option, Some, None, arith, refl, sym, ap, inl, inr, subst, length}
-use Rattle.std.specs.Prelude.{Result, Ok, Err, OnOk, OnErr, is_some}
+use Rattle.std.proofs.Common.{◌≡◌, ◌⊎◌, ◌+◌, ◌*◌, ◌<◌, ◌≤◌, ◌∙◌, ℕ, List, Bool, true, false, Option, Some, None, arith, refl, sym, ap, inl, inr}
+use Rattle.std.specs.Prelude.{Result, OnOk, OnErr}
 use Rattle.std.specs.Result.{is_ok}
-use Rattle.std.proofs.lemmas.Bool.{cases_eq}
 use Rattle.std.specs.BTreeMap.{BTreeMap}
 use Rattle.draid_names.specs.declared.fault.Failed.{Failed}
 use Rattle.draid_names.specs.declared.pointer.Pointer.{Pointer}
@@ -18,7 +17,7 @@ use Rattle.draid_shard.specs.Part.{IsPart, IsRun, Part, place_in}
 use Rattle.draid_shard.specs.Columns.{ColumnsStand, SparesOthers, TellsBoth, WritesRows}
 use Rattle.draid_shard.specs.Entry.{Tables, entry_at, live, opened}
 use Rattle.draid_shard.proofs.Stand.{SparesColumn, Writes, stand_more, stand_on, told_on, told_puts, told_spares}
-use Rattle.draid_shard.proofs.Tables.{entries_apart, entry_run}
+use Rattle.draid_shard.proofs.Tables.{entries_apart}
 
 -- the length of the column that is put
 pub column_long : (geometry : Geometry) (cut : Cut) (pointer : Pointer) (bytes long rows : ℕ) → cut ≡ cut_of geometry → pointer.stripes ≡ stripes_of (cut_of geometry) pointer.len

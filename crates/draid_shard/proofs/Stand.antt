@@ -1,9 +1,9 @@
 -- What stands where a column of a block is written, and everywhere else.
-use Rattle.std.proofs.Common.{◌≡◌, ◌⊎◌, ◌+◌, ◌-◌, ◌*◌, ◌%◌, ◌<◌, ◌≤◌, ◌^◌, ◌==◌, ◌&&◌, ◌∙◌, ℕ, List, Bool, true, false, Option, Some, None, arith, refl, sym, ap, ap₂, inl, inr, subst, length}
-use Rattle.std.specs.Prelude.{MatchOption, Result, Ok, Err, OnOk, OnErr, is_some}
+use Rattle.std.proofs.Common.{◌≡◌, ◌+◌, ◌-◌, ◌*◌, ◌<◌, ◌≤◌, ◌^◌, ◌==◌, ◌&&◌, ◌∙◌, ℕ, List, Bool, true, false, Option, Some, None, arith, refl, sym, ap₂, inl, inr, subst}
+use Rattle.std.specs.Prelude.{Result, Ok, Err, OnOk, OnErr}
 use Rattle.std.specs.Result.{is_ok}
-use Rattle.std.proofs.Math.Nat.{mul-le-mul, mul-le-mul_right}
-use Rattle.std.proofs.lemmas.Bool.{cases_lt, cases_eq}
+use Rattle.std.proofs.Math.Nat.{mul-le-mul}
+use Rattle.std.proofs.lemmas.Bool.{cases_lt}
 use Rattle.std.proofs.lemmas.Bool.Decides.{nat_tests}
 use Rattle.draid_names.specs.declared.fault.Failed.{Failed}
 use Rattle.draid_spec.specs.declared.layout.Geometry.{Geometry}
@@ -12,7 +12,7 @@ use Rattle.draid_map.specs.declared.sectors.Place.{Place}
 use Rattle.draid_map.specs.Place.{part_sectors, part_stripes}
 use Rattle.draid_rack.specs.Rack.{HasJust, OnTold, Shape, Told}
 use Rattle.draid_parity.specs.Columns.{column_at}
-use Rattle.draid_shard.specs.Part.{IsPart, IsRun, Part, at_place, leaf_of, place_in}
+use Rattle.draid_shard.specs.Part.{IsPart, IsRun, Part, at_place, place_in}
 use Rattle.draid_shard.specs.Columns.{ColumnStands, ColumnsStand, EndsHarm, HasRun, IsElsewhere, IsWhole, SparesOthers, TellsBoth, WritesRows, in_run, sector_of}
 use Rattle.draid_shard.proofs.Places.{apart, child_there, follows, sector_below}
 

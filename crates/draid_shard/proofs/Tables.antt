@@ -12,7 +12,7 @@ use Rattle.draid_spec.specs.declared.layout.Geometry.{Geometry}
 use Rattle.draid_map.specs.Place.{part_stripes}
 use Rattle.draid_map.proofs.Radix.{its_digits}
 use Rattle.draid_ranges.specs.Runs.{is_between}
-use Rattle.draid_metaslab.specs.Spaces.{Frees, IsKept, Stripes, is_free}
+use Rattle.draid_metaslab.specs.Spaces.{IsKept, Stripes, is_free}
 use Rattle.draid_metaslab.specs.Spots.{IsLowest, IsSpot}
 use Rattle.draid_shard.specs.declared.entry.Entry.{Entry}
 use Rattle.draid_shard.specs.Part.{IsRun}

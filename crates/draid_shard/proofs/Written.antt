@@ -1,6 +1,6 @@
 -- Rows of a column are written one after another.
-use Rattle.std.proofs.Common.{◌≡◌, ◌+◌, ◌<◌, ◌≤◌, ◌-◌, ◌*◌, ◌∙◌, ℕ, List, Bool, true, false, Option, Some, None, arith, refl, ap, inl, inr, take, drop}
-use Rattle.std.specs.Prelude.{option_map, is_some, MatchOption, Result, Ok, Err, OnOk, OnErr}
+use Rattle.std.proofs.Common.{◌≡◌, ◌+◌, ◌<◌, ◌≤◌, ◌-◌, ◌*◌, ◌∙◌, ℕ, List, false, Option, Some, None, arith, refl, ap, inl, inr, take, drop}
+use Rattle.std.specs.Prelude.{option_map, MatchOption}
 use Rattle.std.proofs.lemmas.Bool.{cases_lt}
 use Rattle.std.proofs.lemmas.Bool.Decides.{nat_tests}
 use Rattle.draid_rack.specs.Rack.{Fits, Shape, Told, lands}

@@ -8,8 +8,6 @@ mod fault;
 mod fetch;
 mod layout;
 mod shard;
-
-
 #[cfg(test)]
 mod tests;
 mod ticket;

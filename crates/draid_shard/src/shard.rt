@@ -142,7 +142,7 @@ impl<R: Rack> Shard<R> {
             (R.faults self.new.rack (Some (leaf_of (part_of self.old) ticket.old.pointer.first ticket.old.next))) }
         ensures harm { TellsBoth (R.told self.old.rack) (R.told self.new.rack) (λ x y.
             EndsHarm (part_of self.old) ticket.old.pointer.first ticket.old.pointer.stripes (λ i. i ≡ ticket.old.next)
-                (ticket.new.missed ≡ ticket.old.missed) x.harmed y.harmed) }
+            (ticket.new.missed ≡ ticket.old.missed) x.harmed y.harmed) }
         ensures later { NoneFalls (R.faults self.old.rack) (R.faults self.new.rack) }
         ensures free { free_of self.new ≡ free_of self.old }
         ensures shape { R.shape self.new.rack ≡ R.shape self.old.rack }

@@ -1,12 +1,12 @@
 ghost use Rattle.std.specs.Prelude.{◌≡◌, ◌<◌, ◌≤◌, IfOk, length};
 ghost use Rattle.draid_map.specs.Place.{part_sectors};
 ghost use Rattle.draid_spec.specs.Geometry.{IsGeometry};
-ghost use Rattle.draid_shard.specs.Shard.{Valid};
+ghost use Rattle.draid_shard.specs.Shard.{Carries, Valid};
 
-use crate::{BeginFault, FetchFault, Missed, Shard};
+use crate::{BeginFault, FetchFault, Missed, Shard, Ticket};
 use draid_block::{Encoded, SolveFault, solve_block};
 use draid_map::metaslab_sectors;
-use draid_names::{NoMemory, Pointer};
+use draid_names::{Failed, NoMemory, Pointer};
 use draid_perm::Perms;
 use draid_rack::{MemoryRack, Rack};
 use draid_spec::{Geometry, Props, geometry, parse_spec};
@@ -35,7 +35,25 @@ fn shard(alloc: Global, layout: Geometry, failing: &[u64]) -> Result<Shard<Memor
     }
 }
 
-/// Writes a block, column by column.
+/// Writes all columns of a block, and ends its write.
+fn write_columns<R: Rack>(
+    shard: &mut Shard<R>,
+    mut ticket: Ticket,
+    block: &Encoded,
+) -> Result<Pointer, Missed>
+    requires valid { Valid R.shape shard.old }
+    requires carries { Carries R.told shard.old ticket block.now }
+    requires fresh { ticket.next ≡ 0 }
+    ensures valid { Valid R.shape shard.new }
+    ensures layout { shard.new.geometry ≡ shard.old.geometry }
+{
+    for _column in 0..shard.geometry.g {
+        shard.put(&mut ticket, block);
+    }
+    shard.finish(ticket)
+}
+
+/// Writes a block.
 fn write<R: Rack>(
     alloc: Global,
     shard: &mut Shard<R>,
@@ -48,11 +66,21 @@ fn write<R: Rack>(
     ensures layout { shard.new.geometry ≡ shard.old.geometry }
 {
     let block = Encoded::of(alloc, &shard.geometry, bytes)?;
-    let mut ticket = shard.begin(7, 1, &block)?;
-    for _ in 0..shard.geometry.g {
-        shard.put(&mut ticket, &block);
+    let ticket = shard.begin(7, 1, &block)?;
+    Ok(write_columns(shard, ticket, &block))
+}
+
+/// Damages the first sector of a leaf.
+fn damage<R: Rack>(shard: &mut Shard<R>, leaf: u64) -> Result<(), Failed>
+    requires valid { Valid R.shape shard.old }
+    ensures valid { Valid R.shape shard.new }
+    ensures layout { shard.new.geometry ≡ shard.old.geometry }
+{
+    if leaf < u64::from(shard.geometry.spec.children) && metaslab_sectors(&shard.geometry) > 0 {
+        shard.damage(leaf, 0)
+    } else {
+        Err(Failed)
     }
-    Ok(shard.finish(ticket))
 }
 
 /// What is read of a block.
@@ -111,7 +139,10 @@ fn gives_a_block_back_until_no_room_is_left(rt: HostRuntime) -> Result<(), Fail>
 fn tells_what_failed(rt: HostRuntime) -> Result<(), Fail> {
     let alloc = rt.alloc();
     let mut shard = shard(alloc, first_layout(&rt), &[1, 7])?;
-    assert_eq!(rt; write(alloc, &mut shard, b"hello"), Ok(Err(Missed { columns: 1 })));
+    assert_eq!(rt;
+        write(alloc, &mut shard, b"hello"),
+        Ok(Err(Missed { columns: 1 }))
+    );
     let pointer = write(alloc, &mut shard, b"hello")??;
     assert_eq!(rt; pointer.first, 0);
     let fetched = shard.fetch(&pointer)?;
@@ -121,7 +152,10 @@ fn tells_what_failed(rt: HostRuntime) -> Result<(), Fail> {
         b"hello".as_slice()
     );
     let other = Pointer { seq: 2, ..pointer };
-    assert_eq!(rt; read(alloc, &mut shard, &other).err(), Some(FetchFault::NotLive));
+    assert_eq!(rt;
+        read(alloc, &mut shard, &other).err(),
+        Some(FetchFault::NotLive)
+    );
     Ok(())
 }
 
@@ -131,18 +165,17 @@ fn reads_around_damage(rt: HostRuntime) -> Result<(), Fail> {
     let alloc = rt.alloc();
     let mut shard = shard(alloc, first_layout(&rt), &[])?;
     let pointer = write(alloc, &mut shard, b"hello")??;
-    assert_eq!(rt; shard.damage(0, 0), Ok(()));
+    assert_eq!(rt; damage(&mut shard, 0), Ok(()));
     assert_eq!(rt;
         read(alloc, &mut shard, &pointer)??.as_slice(),
         b"hello".as_slice()
     );
-    assert_eq!(rt; shard.damage(1, 0), Ok(()));
+    assert_eq!(rt; damage(&mut shard, 1), Ok(()));
     let lost = SolveFault::Unreadable {
         absent: 0,
         tried: 4,
     };
     assert_eq!(rt; read(alloc, &mut shard, &pointer)?.err(), Some(lost));
-    let mut rack = shard.into_rack();
-    assert_eq!(rt; rack.damage(0, 0), Ok(()));
+    assert_eq!(rt; shard.into_rack().sectors(2), Some(32));
     Ok(())
 }

@@ -1,4 +1,4 @@
-use Rattle.std.proofs.Common.{rules, ◌≡◌, ◌<◌, ◌∙◌, arith, ap, refl, sym, subst, Option, ℕ}
+use Rattle.std.proofs.Common.{rules, ◌≡◌, ◌<◌, ◌∙◌, arith, ap, refl, sym, subst, Option}
 use Rattle.draid_spec.specs.declared.layout.Props.{Props}
 use Rattle.draid_rack.specs.Rack.{IsCalm, OnTold, Told}
 use Rattle.draid_pool.proofs.Opened.{opens, same_props}

@@ -1,5 +1,4 @@
-use Rattle.std.proofs.Common.{◌≡◌, ◌∙◌, ℕ, arith, sym, ap}
-use Rattle.draid_spec.specs.declared.layout.Geometry.{Geometry}
+use Rattle.std.proofs.Common.{◌≡◌, ◌∙◌, arith, ap}
 use Rattle.draid_shard.specs.Part.{Part}
 use Rattle.draid_shard.specs.Shard.{part_of}
 use Rattle.draid_pool.proofs.Storing.{counts_as, harm_all, harm_as, missed_more, told_ends_more}

@@ -1,4 +1,4 @@
-use Rattle.std.proofs.Common.{◌≡◌, ◌<◌, ◌≤◌, ℕ, Option}
+use Rattle.std.proofs.Common.{◌≡◌, ◌<◌}
 use Rattle.draid_shard.specs.Columns.{EndsHarm, TellsBoth}
 use Rattle.draid_shard.specs.Shard.{Carries, KeepsBlocks, NoneFalls, Valid, free_of, part_of}
 use Rattle.draid_pool.specs.Store.{MissedSome}

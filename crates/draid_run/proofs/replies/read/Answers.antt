@@ -1,4 +1,4 @@
-use Rattle.std.proofs.Common.{◌∙◌, Ok, Err, ap, refl}
+use Rattle.std.proofs.Common.{◌∙◌, Err, ap, refl}
 use Rattle.draid_pool.specs.Answers.{ReadIs}
 use Rattle.draid_run.proofs.Steps.{by_answer}
 use Rattle.draid_run.proofs.replies.read.Goals as goal

@@ -1,8 +1,6 @@
-use Rattle.std.proofs.Common.{◌∙◌, Ok, Err, ap, refl, subst, ℕ}
+use Rattle.std.proofs.Common.{Err, refl}
 use Rattle.draid_script.specs.Line.{SumObjects}
-use Rattle.draid_script.specs.declared.reply.Reply.{Reply}
 use Rattle.draid_pool.specs.Answers.{SumIs}
-use Rattle.draid_pool.specs.Pool.{Moves, state_of}
 use Rattle.draid_run.specs.Replies.{sum_refused}
 use Rattle.draid_run.specs.State.{Step}
 use Rattle.draid_run.proofs.Steps.{by_answer, stops}

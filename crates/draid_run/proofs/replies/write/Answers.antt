@@ -1,5 +1,4 @@
 use Rattle.std.proofs.Common.{◌∙◌, Ok, Err, ap, refl}
-use Rattle.draid_script.specs.Line.{WriteObject}
 use Rattle.draid_pool.specs.Answers.{WriteIs}
 use Rattle.draid_run.proofs.Steps.{by_answer}
 use Rattle.draid_run.proofs.replies.write.Goals as goal

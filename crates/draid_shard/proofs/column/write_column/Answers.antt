@@ -1,5 +1,5 @@
 use Rattle.std.proofs.Common.{◌*◌, ◌∙◌, refl, arith}
-use Rattle.draid_shard.proofs.Written.{run_fits, wrote_more, sector_is}
+use Rattle.draid_shard.proofs.Written.{wrote_more, sector_is}
 use Rattle.draid_shard.proofs.column.write_column.Goals as goal
 
 pub loop-row-preserved : goal.loop-row-preserved

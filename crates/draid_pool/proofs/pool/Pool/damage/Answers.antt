@@ -1,4 +1,4 @@
-use Rattle.std.proofs.Common.{◌≡◌, ◌<◌, ◌∙◌, arith, refl}
+use Rattle.std.proofs.Common.{arith, refl}
 use Rattle.draid_pool.proofs.Steps.{damage_step, fails_step, is_there}
 use Rattle.draid_pool.proofs.pool.Pool.damage.Goals as goal
 

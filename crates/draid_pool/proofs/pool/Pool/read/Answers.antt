@@ -1,4 +1,4 @@
-use Rattle.std.proofs.Common.{◌∙◌, ap, refl, sym}
+use Rattle.std.proofs.Common.{◌∙◌, refl, sym}
 use Rattle.draid_pool.proofs.Steps.{finds_live, no_object_step, read_step}
 use Rattle.draid_pool.proofs.pool.Pool.read.Goals as goal
 

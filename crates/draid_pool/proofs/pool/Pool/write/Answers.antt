@@ -1,7 +1,5 @@
-use Rattle.std.proofs.Common.{◌≡◌, ◌∙◌, Err, Some, cond, ap, refl, sym, length}
+use Rattle.std.proofs.Common.{◌∙◌, Err, Some, cond, ap, refl}
 use Rattle.std.specs.Prelude.{nat_eq}
-use Rattle.std.specs.HashMap.{get}
-use Rattle.std.specs.Map.{lookup}
 use Rattle.draid_pool.proofs.Steps.{full_step, misses_step, no_memory_step, writes_step}
 use Rattle.draid_pool.proofs.pool.Pool.write.Goals as goal
 

@@ -1,4 +1,4 @@
-use Rattle.std.proofs.Common.{◌≡◌, ◌∙◌, ℕ, arith, refl, ap, inl, inr}
+use Rattle.std.proofs.Common.{◌≡◌, ◌∙◌, arith, refl, ap, inl, inr}
 use Rattle.draid_map.specs.declared.sectors.Place.{Place}
 use Rattle.draid_parity.specs.Columns.{column_at}
 use Rattle.draid_shard.specs.declared.ticket.Ticket.{Ticket}
