@@ -120,10 +120,9 @@ mod tests {
         };
         let geometry = geometry(spec, props)?;
         shelf.make(rt.alloc(), &geometry)?;
-        let mut rack = shelf.take(1)?;
+        let rack = shelf.take(1)?;
         assert_eq!(rt; rack.sectors(3), Some(24));
         assert_eq!(rt; rack.leaf_from(4), None);
-        assert_eq!(rt; rack.write(3, 23, &[7; 512]), Ok(()));
         shelf.give(1, rack);
         assert!(rt; shelf.take(1).is_ok());
         assert!(rt; shelf.take(2).is_err());
