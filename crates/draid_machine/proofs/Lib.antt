@@ -1,0 +1,4 @@
+pub mod Calm
+pub mod Follows
+pub mod Small
+pub mod Tickets

@@ -1,0 +1,11 @@
+//! The state of a metaslab, the events that change it, and what every legal history of them keeps.
+
+#![tactic(auto)]
+
+mod event;
+mod laws;
+mod names;
+
+pub use event::{Event, Patched};
+pub use laws::every_history_is_sound;
+pub use names::{ArmName, Held, Key, Segment, Stage};
