@@ -25,7 +25,7 @@ same_held h = record { run = record { first = refl; stripes = refl; birth = refl
 pub same_pass : (p : Pass) → SamePass p p
 same_pass p = record { kind = refl; max = refl; next = refl; running = refl; errors = λ z. z; targets = λ n z. z }
 
-pub groups_keep : (o c : ℕ) (cl : Option ℕ) (i : Image) (s : Option Image) (q q' : Core) → Keeps q q' → GroupsSound o c cl i s q → GroupsSound o c cl i s q'
+pub groups_keep : (o c : ℕ) (cl : Option ℕ) (i : Image) (s : Option Image) (q q' : Core) → Keeps q q' → GroupsSound o c cl i s q.held → GroupsSound o c cl i s q'.held
 groups_keep o c cl i s q q' f g = record {
   some = g.some;
   idle = g.idle;
@@ -35,7 +35,7 @@ groups_keep o c cl i s q q' f g = record {
   tickets = λ img k h e hk ticket. let b = f.held k h hk in subst (λ m. img.group < m) (sym b.2.birth) (g.tickets img k b.0 e b.1 (sym b.2.block ∙ ticket));
 }
 
-pub groups_follow : (l : Layout) (o c : ℕ) (cl : Option ℕ) (i : Image) (s : Option Image) (q q' : Core) → Follows l q q' → GroupsSound o c cl i s q → GroupsSound o c cl i s q'
+pub groups_follow : (l : Layout) (o c : ℕ) (cl : Option ℕ) (i : Image) (s : Option Image) (q q' : Core) → Follows l q q' → GroupsSound o c cl i s q.held → GroupsSound o c cl i s q'.held
 groups_follow l o c cl i s q q' f = groups_keep o c cl i s q q' (keeps_of l q q' f)
 
 module _ (l : Layout) (lay : IsLayout l) where

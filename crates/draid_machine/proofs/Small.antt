@@ -1,12 +1,12 @@
 -- Tables, names and tests.
-use Rattle.std.proofs.Common.{◌≡◌, ◌==◌, ◌+◌, ◌-◌, ◌^◌, ◌<◌, ◌≤◌, ◌/◌, ◌*◌, ◌⊎◌, ◌||◌, ◌&&◌, not, ℕ, zero, suc, Bool, true, false, min, List, [], ◌∷◌, ◌++◌, Option, Some, None, filter, cond, if◌then◌else◌, refl, sym, ◌∙◌, ap, ap₂, subst, inl, inr, arith, unwrap_or}
+use Rattle.std.proofs.Common.{◌≡◌, ◌==◌, ◌+◌, ◌-◌, ◌^◌, ◌<◌, ◌≤◌, ◌/◌, ◌*◌, ◌⊎◌, ◌||◌, ◌&&◌, not, ℕ, zero, suc, Bool, true, false, min, nat_le, nat_lt, List, [], ◌∷◌, ◌++◌, Option, Some, None, filter, cond, if◌then◌else◌, refl, sym, ◌∙◌, ap, ap₂, subst, inl, inr, arith, unwrap_or}
 use Rattle.std.proofs.lemmas.Bool.{true≢false, cases_eq}
 use Rattle.std.proofs.lemmas.Bool.Decides.{nat_tests}
 use Rattle.draid_machine.specs.declared.names.Key.{Key}
 use Rattle.draid_machine.specs.declared.names.ArmName.{ArmName}
 use Rattle.draid_machine.specs.declared.names.ArmName.TheVariants.{Leaf, Spare}
 use Rattle.draid_machine.specs.declared.names.Held.{Held}
-use Rattle.draid_machine.specs.Names.{key_eq, name_eq, has_name}
+use Rattle.draid_machine.specs.Names.{key_eq, name_eq, has_name, any_below}
 use Rattle.draid_machine.specs.State.{Arm, Pass}
 use Rattle.draid_machine.specs.After.{set_held, set_arm, set_order, map_arm, each_arm, map_pass, capped}
 
@@ -186,3 +186,31 @@ filter_has p (x ∷ xs) n e is = by (filter_has p xs n) (p x) refl
 -- ---- numbers
 pub no_errors : (errors more : ℕ) → capped (errors + more) ≡ 0 → errors ≡ 0
 no_errors errors more e = grind arith
+
+pub any_at : (n : ℕ) (p : ℕ → Bool) (c : ℕ) → c < n → p c ≡ true → any_below n p ≡ true
+any_at zero p c less e = absurd (omega (arith, less))
+any_at (suc n) p c less e = elim (cases_eq c n) [
+  | inl at ↦ true_right (any_below n p) (p n) (subst (λ x. p x ≡ true) at e)
+  | inr other ↦ true_left (any_below n p) (p n) (any_at n p c (omega (arith, less, other)) e)
+]
+
+pub low : (x y : ℕ) → x ≤ y → nat_le x y ≡ true
+low x y e = grind (arith, nat_tests)
+
+pub below : (x y : ℕ) → x < y → nat_lt x y ≡ true
+below x y e = grind (arith, nat_tests)
+
+pub is_low : (x y : ℕ) → nat_le x y ≡ true → x ≤ y
+is_low x y e = grind (arith, nat_tests)
+
+pub is_below : (x y : ℕ) → nat_lt x y ≡ true → x < y
+is_below x y e = grind (arith, nat_tests)
+
+pub equal : (x y : ℕ) → x ≡ y → (x == y) ≡ true
+equal x y e = grind (arith, nat_tests)
+
+pub is_equal : (x y : ℕ) → (x == y) ≡ true → x ≡ y
+is_equal x y e = grind (arith, nat_tests)
+
+pub no_more_errors : (errors more : ℕ) → capped (errors + more) ≡ 0 → more ≡ 0
+no_more_errors errors more e = grind arith

@@ -1,7 +1,9 @@
 pub mod After
 pub mod Arms
 pub mod Claims
+pub mod Created
+pub mod Images
 pub mod Names
-pub mod Step
 pub mod Sound
 pub mod State
+pub mod Step

@@ -74,17 +74,17 @@ pub record ImageSound (l : Layout) (img : Image) : Type 0 where
   pub blocks : (k : Key) (h : Held) → img.core.held k ≡ Some h → is_block h.stage ≡ true
 
 -- the groups: the open one follows the committed one, or the closing one that follows that; tickets are born above a sealed one
-pub record GroupsSound (open_group committed : ℕ) (closing : Option ℕ) (image : Image) (sealed : Option Image) (q : Core) : Type 0 where
+pub record GroupsSound (open_group committed : ℕ) (closing : Option ℕ) (image : Image) (sealed : Option Image) (held : Key → Option Held) : Type 0 where
   pub some : 1 ≤ committed
   pub idle : closing ≡ None → (open_group ≡ committed + 1) × (sealed ≡ None)
   pub closing_is : (t : ℕ) → closing ≡ Some t → (t ≡ committed + 1) × (open_group ≡ t + 1)
   pub sealed_is : (img : Image) → sealed ≡ Some img → closing ≡ Some img.group
   pub image_is : image.group ≡ committed
-  pub tickets : (img : Image) (k : Key) (h : Held) → sealed ≡ Some img → q.held k ≡ Some h → is_block h.stage ≡ false → img.group < h.birth
+  pub tickets : (img : Image) (k : Key) (h : Held) → sealed ≡ Some img → held k ≡ Some h → is_block h.stage ≡ false → img.group < h.birth
 
 pub record Sound (l : Layout) (w : State) : Type 0 where
   pub core : CoreSound l w.committed (w.open_group + 1) w.core
-  pub groups : GroupsSound w.open_group w.committed w.closing w.image w.sealed w.core
+  pub groups : GroupsSound w.open_group w.committed w.closing w.image w.sealed w.core.held
   pub loan : (n : Loan) → w.loan ≡ Some n → LoanFits w.core n
   pub covered : (s : Segment) → IsClaimed l w.core s → w.present s ≡ true
   pub image : ImageSound l w.image

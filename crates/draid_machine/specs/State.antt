@@ -21,10 +21,11 @@ pub record Layout : Type 0 where
   -- the slot on whose first leaf a spare keeps what belongs to a stripe
   pub home : ℕ → ℕ → ℕ
 
--- A spare keeps nothing on a slot that has a column of a stripe that lies together with it.
+-- The stripes that lie together have one slot for a column, and no spare keeps a stripe on a slot that has a column of it.
 pub record IsLayout (l : Layout) : Type 0 where
   pub tall : 0 < l.height
-  pub apart : (x y column spare : ℕ) → x / l.height ≡ y / l.height → column < l.columns → spare < l.spares → l.home spare x ≢ l.slot_of y column
+  pub steady : (x y column : ℕ) → x / l.height ≡ y / l.height → l.slot_of x column ≡ l.slot_of y column
+  pub apart : (x column spare : ℕ) → column < l.columns → spare < l.spares → l.home spare x ≢ l.slot_of x column
 
 -- A detached arm whose detachment isn't committed: its slot, and the group that was open then.
 pub record Gone : Type 0 where
