@@ -5,4 +5,5 @@ pub mod Passes
 pub mod Rows
 pub mod Seals
 pub mod Small
+pub mod Standing
 pub mod Tickets

@@ -30,6 +30,7 @@ pub record ImageStands (l : Layout) (w : State) (img : Image) : Type 0 where
   pub blocks : (k : Key) → img.core.held k ≡ seal_held img.group (w.core.held k)
   -- its arms are there, or detached in a later group
   pub arms : (n : ArmName) (a : Arm) → img.core.arm n ≡ Some a → (b : Arm) × (w.core.arm n ≡ Some b) × (is_gone_by img.group b.gone ≡ false)
+  pub here : (n : ArmName) (a : Arm) → img.core.arm n ≡ Some a → a.gone ≡ None
   -- a rebuild that its group lets run is its own, and no other runs
   pub rebuild : (p : Pass) → w.core.pass ≡ Some p → p.kind ≡ Rebuild → p.max ≤ img.group + 1 → IsOwnPass img p
   pub runs : (p : Pass) → img.core.pass ≡ Some p → p.kind ≡ Rebuild → p.running ≡ true → p.max ≤ img.group + 1
