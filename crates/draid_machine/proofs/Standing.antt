@@ -431,7 +431,7 @@ module _ (l : Layout) (lay : IsLayout l) where
   here_alone : (t : ℕ) (g : Option Gone) → g ≡ None → is_gone_by t g ≡ false
   here_alone t g e = subst (λ x. is_gone_by t x ≡ false) (sym e) refl
 
-  sealed_here : (o : Option Arm) (a : Arm) → seal_arm o ≡ Some a → a.gone ≡ None
+  pub sealed_here : (o : Option Arm) (a : Arm) → seal_arm o ≡ Some a → a.gone ≡ None
   sealed_here None a e = absurd (none_some None a refl e)
   sealed_here (Some b) a e = let z = kept_if (is_here (Some b)) b a e in subst (λ (x : Arm). x.gone ≡ None) z.1 (of b.gone z.0)
     where
@@ -614,7 +614,7 @@ module _ (l : Layout) (lay : IsLayout l) where
       by true = gone_stands w k h found ticket s
       by false = live_stands w k h found ticket sound s
 
-  is_image : (w : State) (img : Image) (t : ℕ) → ((w.image ≡ img) × (w.committed ≡ t)) ⊎ ((w.sealed ≡ Some img) × (w.closing ≡ Some t)) → IsImage w img
+  pub is_image : (w : State) (img : Image) (t : ℕ) → ((w.image ≡ img) × (w.committed ≡ t)) ⊎ ((w.sealed ≡ Some img) × (w.closing ≡ Some t)) → IsImage w img
   is_image w img t (inl z) = inl z.0
   is_image w img t (inr z) = inr z.0
 
@@ -650,7 +650,7 @@ module _ (l : Layout) (lay : IsLayout l) where
   run_stands w [] new is sound s = subst (λ v. ImagesStand l v) (sym is) s
   run_stands w (e ∷ es) new r sound s = run_stands r.0 es new r.2 (step_sound l lay w e r.0 r.1 sound) (step_stands w e r.0 r.1 sound s)
 
-  created_here : (n : ArmName) (a : Arm) → created_arm l n ≡ Some a → a.gone ≡ None
+  pub created_here : (n : ArmName) (a : Arm) → created_arm l n ≡ Some a → a.gone ≡ None
   created_here (Leaf m) a e = subst (λ (x : Arm). x.gone ≡ None) (kept_if (nat_lt m l.slots) new_arm a e).1 refl
   created_here (Spare t) a e = absurd (none_some None a refl e)
 
