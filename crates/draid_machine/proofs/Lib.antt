@@ -8,3 +8,4 @@ pub mod Seals
 pub mod Small
 pub mod Standing
 pub mod Tickets
+pub mod Unique

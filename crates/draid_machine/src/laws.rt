@@ -1,4 +1,7 @@
-ghost use Rattle.draid_machine.specs.Created.{IsReached};
+ghost use Rattle.std.specs.Prelude.{◌≡◌, List};
+ghost use Rattle.draid_machine.specs.Created.{IsReached, created};
+ghost use Rattle.draid_machine.specs.Step.{Run, Step};
+ghost use Rattle.draid_machine.specs.declared.event.Event.{Event};
 ghost use Rattle.draid_machine.specs.Images.{ImagesStand, Owned};
 ghost use Rattle.draid_machine.specs.Sound.{LogSound, Sound};
 ghost use Rattle.draid_machine.specs.State.{IsLayout, Layout, State};
@@ -22,4 +25,13 @@ pub fn images_stand()
         → ImagesStand layout state }
     ensures segments { (layout : Layout) (state : State) → IsLayout layout → IsReached layout state
         → Owned layout state }
+{}
+
+/// Law: in each state that a legal history gives, a legal event has one result, and so has the history.
+#[tactic(auto)]
+pub fn events_have_one_result()
+    ensures step { (layout : Layout) (state new other : State) (event : Event) → IsLayout layout
+        → IsReached layout state → Step layout state event new → Step layout state event other → new ≡ other }
+    ensures history { (layout : Layout) (new other : State) (events : List Event) → IsLayout layout
+        → Run layout (created layout) events new → Run layout (created layout) events other → new ≡ other }
 {}
