@@ -1,6 +1,7 @@
 pub mod Calm
 pub mod Follows
 pub mod Landings
+pub mod Layouts
 pub mod Owning
 pub mod Passes
 pub mod Rows

@@ -3,6 +3,7 @@ pub mod Arms
 pub mod Claims
 pub mod Created
 pub mod Images
+pub mod Layout
 pub mod Names
 pub mod Sound
 pub mod State

@@ -1,4 +1,8 @@
-ghost use Rattle.std.specs.Prelude.{◌≡◌, List};
+ghost use Rattle.std.specs.Prelude.{◌≡◌, List, ℕ};
+ghost use Rattle.draid_spec.specs.declared.layout.Geometry.{Geometry};
+ghost use Rattle.draid_perm.specs.declared.perms.Perms.{Perms};
+ghost use Rattle.draid_map.specs.Place as places;
+ghost use Rattle.draid_machine.specs.Layout.{layout_of};
 ghost use Rattle.draid_machine.specs.Created.{IsReached, created};
 ghost use Rattle.draid_machine.specs.Step.{Run, Step};
 ghost use Rattle.draid_machine.specs.declared.event.Event.{Event};
@@ -34,4 +38,11 @@ pub fn events_have_one_result()
         → IsReached layout state → Step layout state event new → Step layout state event other → new ≡ other }
     ensures history { (layout : Layout) (new other : State) (events : List Event) → IsLayout layout
         → Run layout (created layout) events new → Run layout (created layout) events other → new ≡ other }
+{}
+
+/// Law: each metaslab of a pool has a layout of which the laws on histories speak.
+#[tactic(auto)]
+pub fn metaslabs_have_layouts()
+    ensures { (geometry : Geometry) (perms : Perms) (metaslab : ℕ) → places.IsLayout geometry perms
+        → IsLayout (layout_of geometry perms metaslab) }
 {}
