@@ -1,23 +1,21 @@
 -- The events that add nothing: they follow from the state before them.
-use Rattle.std.proofs.Common.{◌≡◌, ◌+◌, ◌-◌, ◌^◌, ◌/◌, ◌<◌, ◌≤◌, ◌⊎◌, ◌&&◌, ◌||◌, ◌==◌, ◌≢◌, not, ℕ, Bool, true, false, nat_le, nat_lt, List, [], ◌∷◌, ◌++◌, Option, Some, None, filter, find, refl, sym, ◌∙◌, ap, ap₂, subst, inl, inr, arith, if◌then◌else◌}
-use Rattle.std.proofs.lemmas.Bool.{true≢false, cases_eq}
+use Rattle.std.proofs.Common.{◌≡◌, ◌+◌, ◌<◌, ◌≤◌, ◌⊎◌, ◌==◌, not, ℕ, Bool, true, false, nat_lt, List, [], ◌∷◌, Option, Some, None, filter, refl, sym, ◌∙◌, ap, subst, inl, inr, arith, if◌then◌else◌}
+use Rattle.std.proofs.lemmas.Bool.{true≢false}
 use Rattle.std.proofs.lemmas.Bool.Decides.{nat_tests}
-use Rattle.draid_names.specs.declared.pass_kind.PassKind.TheVariants.{Rebuild, Heal}
 use Rattle.draid_machine.specs.declared.names.Key.{Key}
 use Rattle.draid_machine.specs.declared.names.ArmName.{ArmName}
 use Rattle.draid_machine.specs.declared.names.ArmName.TheVariants.{Leaf, Spare}
-use Rattle.draid_machine.specs.declared.names.Stage.TheVariants.{Writing, Live, Freed}
+use Rattle.draid_machine.specs.declared.names.Stage.TheVariants.{Live, Freed}
 use Rattle.draid_machine.specs.declared.names.Held.{Held}
 use Rattle.draid_machine.specs.declared.names.Segment.{Segment}
-use Rattle.draid_machine.specs.Names.{key_eq, name_eq, has_name, is_leaf, is_block, is_put, takes}
-use Rattle.draid_machine.specs.State.{Layout, IsLayout, Gone, Arm, Pass, Core, Loan, Image, State}
-use Rattle.draid_machine.specs.Arms.{lies, leaf_at, passes, first_leaf}
-use Rattle.draid_machine.specs.Claims.{IsOn}
+use Rattle.draid_machine.specs.Names.{key_eq, name_eq, has_name, is_leaf, is_block, is_put}
+use Rattle.draid_machine.specs.State.{Layout, IsLayout, Arm, Pass, Core, Loan, Image, State}
+use Rattle.draid_machine.specs.Arms.{lies, passes, first_leaf}
 use Rattle.draid_machine.specs.After.{set_held, set_arm, set_order, without_key, gone_state, free_state, switch_state, detach_state, close_state, commit_state, cancel_state, is_freed_block, is_gone_arm, keep_loan, stays}
-use Rattle.draid_machine.specs.Sound.{IsClaimed, CoreSound, LoanFits, ImageSound, GroupsSound, Sound}
-use Rattle.draid_machine.specs.Step.{AbortStep, FreeStep, SwitchStep, NoSpareElsewhere, DetachStep, CloseStep, CommitStep, CancelStep}
-use Rattle.draid_machine.proofs.Small.{some_injective, some_same, none_some, both_true, true_both, bool_cases, absurd_test, not_true, not_false, name_true, name_refl, name_other, key_true, key_other, key_refl, held_at, held_other, held_cases, arm_at, arm_other, arm_cases, kept_some, kept_if, has_filter}
-use Rattle.draid_machine.proofs.Follows.{SameRun, SameHeld, SamePass, IsAway, Keeps, Follows, keeps_of, claimed_before, core_follows, loan_follows}
+use Rattle.draid_machine.specs.Sound.{IsClaimed, CoreSound, LoanFits, GroupsSound, Sound}
+use Rattle.draid_machine.specs.Step.{NoSpareElsewhere}
+use Rattle.draid_machine.proofs.Small.{some_injective, some_same, none_some, true_both, bool_cases, absurd_test, not_true, not_false, key_true, held_at, held_other, held_cases, arm_cases, kept_some, kept_if, has_filter}
+use Rattle.draid_machine.proofs.Follows.{SameHeld, SamePass, IsAway, Keeps, Follows, keeps_of, claimed_before, core_follows, loan_follows}
 
 pub same_held : (h : Held) → SameHeld h h
 same_held h = record { run = record { first = refl; stripes = refl; birth = refl; block = refl }; put = λ c z. z }
@@ -285,7 +283,7 @@ module _ (l : Layout) (lay : IsLayout l) where
         pass = λ p e. (p, e, same_pass p);
       } in
       let tickets : (k : Key) (h : Held) → q'.held k ≡ Some h → is_block h.stage ≡ false → t < h.birth =
-          λ k h e ticket. subst (λ m. m < h.birth) group (g.tickets img k h sealed (kept_block t w.core k h e).1 ticket) in
+      λ k h e ticket. subst (λ m. m < h.birth) group (g.tickets img k h sealed (kept_block t w.core k h e).1 ticket) in
       let c = core_follows l w.core q' f w.committed (w.open_group + 1) s.core in
       record {
         core = record {

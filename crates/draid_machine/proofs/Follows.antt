@@ -1,18 +1,17 @@
 -- What came from another state with nothing new: the same runs and births, logs no shorter, fewer blocks, arms and targets.
-use Rattle.std.proofs.Common.{◌≡◌, ◌+◌, ◌/◌, ◌<◌, ◌≤◌, ◌⊎◌, ◌&&◌, ◌==◌, ◌≢◌, ℕ, Bool, true, false, nat_le, nat_lt, List, Option, Some, None, refl, sym, ◌∙◌, ap, ap₂, subst, inl, inr, arith}
+use Rattle.std.proofs.Common.{◌≡◌, ◌+◌, ◌/◌, ◌<◌, ◌≤◌, ◌&&◌, ◌==◌, ◌≢◌, ℕ, Bool, true, false, nat_le, nat_lt, Option, Some, None, refl, sym, ◌∙◌, ap, subst, inl, inr, arith}
 use Rattle.std.proofs.lemmas.Bool.{true≢false}
 use Rattle.std.proofs.lemmas.Bool.Decides.{nat_tests}
-use Rattle.draid_names.specs.declared.pass_kind.PassKind.TheVariants.{Rebuild, Heal}
 use Rattle.draid_machine.specs.declared.names.Key.{Key}
 use Rattle.draid_machine.specs.declared.names.ArmName.{ArmName}
 use Rattle.draid_machine.specs.declared.names.Held.{Held}
 use Rattle.draid_machine.specs.declared.names.Segment.{Segment}
 use Rattle.draid_machine.specs.Names.{has_name, is_block, is_put, takes}
-use Rattle.draid_machine.specs.State.{Layout, IsLayout, Arm, Pass, Core, Loan, State}
+use Rattle.draid_machine.specs.State.{Layout, IsLayout, Arm, Pass, Core, Loan}
 use Rattle.draid_machine.specs.Arms.{lies}
-use Rattle.draid_machine.specs.Claims.{IsOn, passed}
+use Rattle.draid_machine.specs.Claims.{passed}
 use Rattle.draid_machine.specs.Sound.{IsClaimed, CoreSound, LoanFits}
-use Rattle.draid_machine.proofs.Small.{some_same, both_true, true_both, bool_cases, absurd_test, not_true}
+use Rattle.draid_machine.proofs.Small.{some_same, true_both, bool_cases, absurd_test}
 
 -- the same block or ticket
 pub record SameRun (h h' : Held) : Type 0 where

@@ -1,28 +1,24 @@
 -- The landings of a rebuild's stripe and of a scrub's block.
-use Rattle.std.proofs.Common.{◌≡◌, ◌+◌, ◌-◌, ◌^◌, ◌/◌, ◌*◌, ◌<◌, ◌≤◌, ◌⊎◌, ◌&&◌, ◌||◌, ◌==◌, ◌≢◌, not, ℕ, zero, suc, Bool, true, false, nat_le, nat_lt, List, [], ◌∷◌, ◌++◌, Option, Some, None, filter, find, length, is_none, count_by, refl, sym, ◌∙◌, ap, ap₂, subst, inl, inr, arith, if◌then◌else◌, div-mul-le_self}
-use Rattle.std.proofs.lemmas.Nat.{le-div}
-use Rattle.std.proofs.lemmas.Bool.{true≢false, cases_eq, cases_lt, or_parts, and_cases}
+use Rattle.std.proofs.Common.{◌≡◌, ◌+◌, ◌/◌, ◌<◌, ◌≤◌, ◌⊎◌, ◌&&◌, ◌||◌, ◌==◌, not, ℕ, Bool, true, false, nat_le, nat_lt, List, Some, None, filter, length, count_by, refl, sym, ◌∙◌, ap, subst, inl, inr, arith, if◌then◌else◌}
+use Rattle.std.proofs.lemmas.Bool.{true≢false, cases_eq, cases_lt}
 use Rattle.std.proofs.lemmas.Bool.Decides.{nat_tests}
-use Rattle.draid_names.specs.declared.pass_kind.PassKind.{PassKind}
-use Rattle.draid_names.specs.declared.pass_kind.PassKind.TheVariants.{Rebuild, Heal}
+use Rattle.draid_names.specs.declared.pass_kind.PassKind.TheVariants.{Rebuild}
 use Rattle.draid_machine.specs.declared.names.Key.{Key}
 use Rattle.draid_machine.specs.declared.names.ArmName.{ArmName}
-use Rattle.draid_machine.specs.declared.names.ArmName.TheVariants.{Leaf, Spare}
 use Rattle.draid_machine.specs.declared.names.Stage.{Stage}
 use Rattle.draid_machine.specs.declared.names.Stage.TheVariants.{Writing, Live, Freed}
 use Rattle.draid_machine.specs.declared.names.Held.{Held}
 use Rattle.draid_machine.specs.declared.names.Segment.{Segment}
 use Rattle.draid_machine.specs.declared.event.Patched.{Patched}
-use Rattle.draid_machine.specs.Names.{key_eq, name_eq, has_name, has_number, any_below, is_leaf, is_block, is_put, takes, is_heal}
-use Rattle.draid_machine.specs.State.{Layout, IsLayout, Gone, Arm, Pass, Core, Loan, Image, State}
-use Rattle.draid_machine.specs.Arms.{lies, leaf_at, passes, answers, fails, has_column, is_clean, logged}
-use Rattle.draid_machine.specs.Claims.{IsOn, is_on, passed}
-use Rattle.draid_machine.specs.After.{lose_targets, capped, unsourced, misses_stripe, is_mended, pass_over, mend_state, land_stripe_state, was_written, has_landed, has_healed, misses_block, aside_after, heal_state, land_block_state}
-use Rattle.draid_machine.specs.Sound.{IsClaimed, CoreSound, LoanFits, ImageSound, GroupsSound, Sound}
+use Rattle.draid_machine.specs.Names.{key_eq, has_name, is_block, is_put, takes}
+use Rattle.draid_machine.specs.State.{Layout, IsLayout, Arm, Pass, Core, Loan, State}
+use Rattle.draid_machine.specs.Arms.{lies, answers, fails, has_column, is_clean}
+use Rattle.draid_machine.specs.Claims.{IsOn, is_on}
+use Rattle.draid_machine.specs.After.{lose_targets, capped, unsourced, misses_stripe, is_mended, pass_over, mend_state, land_stripe_state, has_landed, has_healed, misses_block, aside_after, heal_state, land_block_state}
+use Rattle.draid_machine.specs.Sound.{IsClaimed, CoreSound, LoanFits, Sound}
 use Rattle.draid_machine.specs.Step.{Patches, LandsBlock}
-use Rattle.draid_machine.proofs.Small.{some_injective, some_same, none_some, both_true, true_both, true_four, four_true, either_true, bool_cases, absurd_test, not_true, not_false, true_left, true_right, key_true, key_refl, has_filter, no_errors, no_more_errors, any_at, low, below, is_low, is_below, equal, is_equal}
-use Rattle.draid_machine.proofs.Follows.{HasPassed, from_passed, to_passed}
-use Rattle.draid_machine.proofs.Tickets.{rebuild_heal}
+use Rattle.draid_machine.proofs.Small.{some_injective, some_same, none_some, both_true, true_both, true_four, four_true, bool_cases, absurd_test, not_true, true_left, true_right, key_true, key_refl, has_filter, no_errors, no_more_errors, any_at, below, is_low, equal, is_equal}
+use Rattle.draid_machine.proofs.Follows.{from_passed, to_passed}
 
 -- what a pass keeps as it goes on
 pub record GoesOn (p p' : Pass) : Type 0 where

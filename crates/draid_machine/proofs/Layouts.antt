@@ -1,5 +1,5 @@
 -- The layout of a metaslab of a pool.
-use Rattle.std.proofs.Common.{◌≡◌, ◌≢◌, ◌+◌, ◌-◌, ◌*◌, ◌/◌, ◌%◌, ◌<◌, ◌≤◌, ℕ, refl, sym, ap, ◌∙◌, arith, add_comm, mul_comm}
+use Rattle.std.proofs.Common.{◌≡◌, ◌≢◌, ◌+◌, ◌-◌, ◌*◌, ◌/◌, ◌%◌, ◌<◌, ℕ, sym, ap, ◌∙◌, arith, add_comm}
 use Rattle.std.proofs.Math.Nat.{div-div-eq-div-mul, add-mul-div_left}
 use Rattle.draid_spec.specs.declared.layout.Geometry.{Geometry}
 use Rattle.draid_spec.specs.Geometry.{IsGeometry}
@@ -7,9 +7,9 @@ use Rattle.draid_perm.specs.declared.perms.Perms.{Perms}
 use Rattle.draid_perm.specs.Perms.{child_of}
 use Rattle.draid_map.specs.Place as place
 use Rattle.draid_map.specs.Place.{place_of, spare_child_of}
-use Rattle.draid_map.proofs.Distinct.{spare_apart, place_slice, slice_in, group_in}
-use Rattle.draid_machine.specs.State.{Layout, IsLayout}
-use Rattle.draid_machine.specs.Layout.{stripes_in, pool_stripe, slice_of, layout_of}
+use Rattle.draid_map.proofs.Distinct.{spare_apart, place_slice}
+use Rattle.draid_machine.specs.State.{IsLayout}
+use Rattle.draid_machine.specs.Layout.{pool_stripe, layout_of}
 
 module _ (geometry : Geometry) (perms : Perms) (metaslab : ℕ) (lay : place.IsLayout geometry perms) where
   is : IsGeometry geometry

@@ -1,6 +1,6 @@
 -- Every legal event keeps that nothing is present but segments of what is held, on arms of their slots.
-use Rattle.std.proofs.Common.{◌≡◌, ◌+◌, ◌-◌, ◌^◌, ◌/◌, ◌<◌, ◌≤◌, ◌⊎◌, ◌&&◌, ◌||◌, ◌==◌, ◌≢◌, not, ℕ, zero, suc, Bool, true, false, nat_le, nat_lt, List, [], ◌∷◌, ◌++◌, Option, Some, None, filter, length, count_by, refl, sym, ◌∙◌, ap, ap₂, subst, inl, inr, arith, if◌then◌else◌}
-use Rattle.std.proofs.lemmas.Bool.{true≢false, cases_eq, cases_lt}
+use Rattle.std.proofs.Common.{◌≡◌, ◌+◌, ◌<◌, ◌⊎◌, ◌&&◌, ◌==◌, not, ℕ, zero, suc, Bool, true, false, nat_lt, List, [], ◌∷◌, ◌++◌, Option, Some, None, filter, refl, sym, ◌∙◌, ap, subst, inl, inr, arith, if◌then◌else◌}
+use Rattle.std.proofs.lemmas.Bool.{true≢false}
 use Rattle.std.proofs.lemmas.Bool.Decides.{nat_tests}
 use Rattle.draid_names.specs.declared.pass_kind.PassKind.{PassKind}
 use Rattle.draid_names.specs.declared.pass_kind.PassKind.TheVariants.{Rebuild, Heal}
@@ -14,19 +14,18 @@ use Rattle.draid_machine.specs.declared.names.Segment.{Segment}
 use Rattle.draid_machine.specs.declared.event.Patched.{Patched}
 use Rattle.draid_machine.specs.declared.event.Event.{Event}
 use Rattle.draid_machine.specs.declared.event.Event.TheVariants.{Begin, Put, Finish, Abort, Free, Fetch, Damage, Offline, Online, Attach, Detach, Close, Seal, Commit, Plan, Ready, Lend, LandStripe, LandBlock, Done, Cancel, Reopen}
-use Rattle.draid_machine.specs.Names.{key_eq, name_eq, is_nil, has_name, is_block, is_freed_by, is_put, takes, is_heal}
+use Rattle.draid_machine.specs.Names.{key_eq, name_eq, is_nil, has_name, is_heal}
 use Rattle.draid_machine.specs.State.{Layout, IsLayout, Gone, Arm, Pass, Core, Loan, Image, State}
 use Rattle.draid_machine.specs.Arms.{lies, answers, fails, lies_on, is_silent, targets_of, is_target, arms_below, is_here}
-use Rattle.draid_machine.specs.Claims.{IsOn, is_on, passed, claims}
-use Rattle.draid_machine.specs.After.{set_held, set_arm, set_order, each_arm, map_arm, map_pass, log_if, fill_if, excise_if, cut_above, lose_targets, lose_some, without_key, begin_state, put_state, gone_state, live_state, finish_state, free_state, switch_state, attach_state, detach_state, close_state, keep_if, seal_held, seal_arm, image_of, sealed_core, seal_state, is_freed_block, is_gone_by, is_gone_arm, stays, commit_state, planned_pass, plan_state, ready_state, lend_state, unsourced, misses_stripe, is_mended, pass_over, mend_state, land_stripe_state, has_healed, misses_block, heal_state, land_block_state, ended_pass, done_state, cancel_state, reopen_state}
+use Rattle.draid_machine.specs.Claims.{is_on}
+use Rattle.draid_machine.specs.After.{set_held, set_arm, set_order, each_arm, map_arm, map_pass, log_if, fill_if, excise_if, cut_above, lose_some, without_key, begin_state, put_state, gone_state, live_state, finish_state, switch_state, detach_state, close_state, keep_if, seal_held, seal_arm, image_of, sealed_core, seal_state, is_freed_block, is_gone_by, is_gone_arm, stays, commit_state, planned_pass, plan_state, unsourced, misses_stripe, is_mended, pass_over, mend_state, land_stripe_state, has_healed, misses_block, heal_state, land_block_state, ended_pass, done_state, cancel_state, reopen_state}
 use Rattle.draid_machine.specs.Created.{created, created_core, created_arm, new_arm, IsReached}
-use Rattle.draid_machine.specs.Sound.{IsClaimed, CoreSound, LoanFits, ImageSound, GroupsSound, Sound}
 use Rattle.draid_machine.specs.Images.{IsImage, AreListed, WasArm, IsOwned, Owned}
 use Rattle.draid_machine.specs.Step.{Step, Run}
-use Rattle.draid_machine.proofs.Small.{some_injective, some_same, none_some, both_true, true_both, either_true, bool_cases, absurd_test, not_true, not_false, true_left, true_right, key_true, held_at, held_other, arm_at, arm_other, arm_cases, mapped_arm, mapped_pass, kept_some, kept_if, has_append, has_filter, filter_has, name_true, name_refl, name_other, four_true, equal, is_equal, is_below, below}
+use Rattle.draid_machine.proofs.Small.{some_injective, some_same, none_some, both_true, either_true, bool_cases, absurd_test, not_true, not_false, true_left, true_right, key_true, held_at, held_other, arm_at, arm_other, arm_cases, mapped_arm, mapped_pass, kept_some, kept_if, has_append, has_filter, filter_has, name_true, name_refl, four_true, equal, is_equal, is_below, below}
 use Rattle.draid_machine.proofs.Calm.{order_cases}
 use Rattle.draid_machine.proofs.Seals.{sealed_arm, from_claims}
-use Rattle.draid_machine.proofs.Standing.{sealed_here, is_image, created_here}
+use Rattle.draid_machine.proofs.Standing.{is_image}
 
 -- an arm that is there is there afterwards, and the other way round
 abbrev Stays : (ArmName → Option Arm) → (ArmName → Option Arm) → Type 0
@@ -471,7 +470,7 @@ module _ (l : Layout) (lay : IsLayout l) where
       let q' = sealed_core l w.core t failed wrote in
       let f : ArmName → Arm → Arm = λ n. log_if (wrote && lies_on l w.core (is_silent w.core failed) n) t in
       let gone = arms_owned w (each_arm f w.core.arm) q'.pass w.core.last w.serial w.loan (mapped_stays f w.core.arm (λ n a. refl)) (mapped_back f w.core.arm (λ n a. refl)) (mapped_keeps f w.core.arm (λ n a. refl))
-          (lost_fewer w.core (lies_on l w.core (is_silent w.core failed))) s in
+      (lost_fewer w.core (lies_on l w.core (is_silent w.core failed))) s in
       record {
         listed = gone.listed;
         images = λ img is. elim is [

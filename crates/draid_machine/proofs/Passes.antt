@@ -1,27 +1,23 @@
 -- The events of a pass but its landings, and the arm that joins a slot.
-use Rattle.std.proofs.Common.{◌≡◌, ◌+◌, ◌-◌, ◌^◌, ◌/◌, ◌*◌, ◌<◌, ◌≤◌, ◌⊎◌, ◌&&◌, ◌||◌, ◌==◌, ◌≢◌, not, ℕ, zero, suc, Bool, true, false, nat_le, nat_lt, List, [], ◌∷◌, ◌++◌, Option, Some, None, filter, find, refl, sym, ◌∙◌, ap, ap₂, subst, inl, inr, arith, if◌then◌else◌, div-mul-le_self}
-use Rattle.std.proofs.lemmas.Nat.{le-div}
-use Rattle.std.proofs.lemmas.Bool.{true≢false, cases_eq, cases_lt, or_parts, and_cases}
+use Rattle.std.proofs.Common.{◌≡◌, ◌+◌, ◌<◌, ◌≤◌, ◌⊎◌, ◌&&◌, ◌||◌, ◌==◌, not, ℕ, Bool, true, false, nat_le, List, [], ◌∷◌, ◌++◌, Option, Some, None, refl, sym, ◌∙◌, ap, subst, inl, inr, arith, if◌then◌else◌}
+use Rattle.std.proofs.lemmas.Bool.{true≢false}
 use Rattle.std.proofs.lemmas.Bool.Decides.{nat_tests}
 use Rattle.draid_names.specs.declared.pass_kind.PassKind.{PassKind}
 use Rattle.draid_names.specs.declared.pass_kind.PassKind.TheVariants.{Rebuild, Heal}
 use Rattle.draid_machine.specs.declared.names.Key.{Key}
 use Rattle.draid_machine.specs.declared.names.ArmName.{ArmName}
 use Rattle.draid_machine.specs.declared.names.ArmName.TheVariants.{Leaf, Spare}
-use Rattle.draid_machine.specs.declared.names.Stage.{Stage}
-use Rattle.draid_machine.specs.declared.names.Stage.TheVariants.{Writing, Live, Freed}
 use Rattle.draid_machine.specs.declared.names.Held.{Held}
-use Rattle.draid_machine.specs.declared.names.Segment.{Segment}
-use Rattle.draid_machine.specs.Names.{key_eq, name_eq, has_name, is_leaf, is_block, is_put, takes, is_heal, up_to}
-use Rattle.draid_machine.specs.State.{Layout, IsLayout, Gone, Arm, Pass, Core, Loan, Image, State}
-use Rattle.draid_machine.specs.Arms.{lies, leaf_at, passes, first_leaf, lies_on, is_silent, targets_of}
-use Rattle.draid_machine.specs.Claims.{IsOn, is_on, passed}
-use Rattle.draid_machine.specs.After.{set_held, set_arm, set_order, each_arm, map_arm, fill_if, excise_if, lose_targets, lose_some, lost_errors, capped, attach_state, planned_pass, plan_state, ready_state, lend_errors, lend_state, ended_pass, done_state}
-use Rattle.draid_machine.specs.Sound.{IsClaimed, CoreSound, LoanFits, ImageSound, GroupsSound, Sound}
+use Rattle.draid_machine.specs.Names.{name_eq, has_name, is_leaf, is_block, takes, is_heal, up_to}
+use Rattle.draid_machine.specs.State.{Layout, IsLayout, Arm, Pass, Core, Loan, State}
+use Rattle.draid_machine.specs.Arms.{first_leaf, lies_on, is_silent}
+use Rattle.draid_machine.specs.Claims.{passed}
+use Rattle.draid_machine.specs.After.{set_order, fill_if, excise_if, lose_targets, lose_some, lost_errors, capped, attach_state, planned_pass, plan_state, ready_state, lend_errors, lend_state, ended_pass, done_state}
+use Rattle.draid_machine.specs.Sound.{CoreSound, LoanFits, Sound}
 use Rattle.draid_machine.specs.Step.{NoSpareElsewhere, IsLast, is_lent, IsNext}
-use Rattle.draid_machine.proofs.Small.{some_injective, some_same, none_some, both_true, true_both, true_four, four_true, either_true, bool_cases, absurd_test, not_true, not_false, true_left, true_right, name_true, name_refl, name_other, arm_cases, mapped_arm, has_append, has_filter, no_errors}
-use Rattle.draid_machine.proofs.Follows.{away_from, SameRun, SameHeld, SamePass, IsAway, Keeps, Follows, keeps_of, claimed_before, core_keeps, loan_keeps, core_follows, loan_follows, HasPassed, from_passed, to_passed}
-use Rattle.draid_machine.proofs.Calm.{calm, groups_keep, same_held, same_pass, follows_arms, still_lies, order_cases}
+use Rattle.draid_machine.proofs.Small.{some_injective, some_same, none_some, both_true, true_both, either_true, bool_cases, absurd_test, true_right, arm_cases, mapped_arm, has_append, has_filter, no_errors}
+use Rattle.draid_machine.proofs.Follows.{away_from, SamePass, Follows, from_passed, to_passed}
+use Rattle.draid_machine.proofs.Calm.{calm, same_held, same_pass, still_lies, order_cases}
 use Rattle.draid_machine.proofs.Tickets.{rebuild_heal, no_ticket}
 
 filled : (last birth : ℕ) → 1 ≤ birth → birth ≤ last → up_to last birth ≡ true
@@ -335,15 +331,18 @@ module _ (l : Layout) (lay : IsLayout l) where
                       let both = both_true (r.errors == 0) (has_name r.targets g.arm) out.0 in
                       let max : c.h.birth ≤ p.max = subst (λ m. c.h.birth ≤ m) same.max out.1 in
                       let block = is_done g.key c.h max c.on.held in
-                      inr (block, to_passed w.core.pass g.arm c.h g.row (record {
-                        p = p;
-                        pass = pass;
-                        running = running;
-                        errors = same.errors (zero_of r.errors both.0);
-                        target = same.targets g.arm both.1;
-                        max = max;
-                        next = finished g.key c.h (c.h.first + g.row) c.on.held (is_lent_block p c.h block max) (takes_row c.h g.row c.on.row);
-                      }))
+                      inr (
+                        block,
+                        to_passed w.core.pass g.arm c.h g.row (record {
+                          p = p;
+                          pass = pass;
+                          running = running;
+                          errors = same.errors (zero_of r.errors both.0);
+                          target = same.targets g.arm both.1;
+                          max = max;
+                          next = finished g.key c.h (c.h.first + g.row) c.on.held (is_lent_block p c.h block max) (takes_row c.h g.row c.on.row);
+                        }),
+                      )
                 ]
                 | inr y ↦ absurd (no_pass l None g.arm c.h g.row refl y.1)
               ];

@@ -1,22 +1,18 @@
 -- Every legal event keeps what makes log soundness; so does every legal history.
-use Rattle.std.proofs.Common.{◌≡◌, ◌+◌, ◌-◌, ◌^◌, ◌/◌, ◌<◌, ◌≤◌, ◌⊎◌, ◌&&◌, ◌||◌, ◌==◌, ◌≢◌, not, ℕ, Bool, true, false, nat_le, nat_lt, List, [], ◌∷◌, Option, Some, None, refl, sym, ◌∙◌, ap, subst, inl, inr, arith, if◌then◌else◌}
+use Rattle.std.proofs.Common.{◌≡◌, ◌≤◌, ◌⊎◌, ℕ, Bool, true, false, nat_lt, List, [], ◌∷◌, Option, Some, None, refl, sym, ◌∙◌, ap, subst, inl, inr, arith, if◌then◌else◌}
 use Rattle.std.proofs.lemmas.Bool.{true≢false}
-use Rattle.draid_names.specs.declared.pass_kind.PassKind.{PassKind}
-use Rattle.draid_names.specs.declared.pass_kind.PassKind.TheVariants.{Rebuild, Heal}
 use Rattle.draid_machine.specs.declared.names.Key.{Key}
 use Rattle.draid_machine.specs.declared.names.ArmName.TheVariants.{Leaf}
 use Rattle.draid_machine.specs.declared.names.Stage.{Stage}
 use Rattle.draid_machine.specs.declared.names.Stage.TheVariants.{Writing, Live, Freed}
 use Rattle.draid_machine.specs.declared.names.Held.{Held}
-use Rattle.draid_machine.specs.declared.names.Segment.{Segment}
 use Rattle.draid_machine.specs.declared.event.Event.{Event}
 use Rattle.draid_machine.specs.declared.event.Event.TheVariants.{Begin, Put, Finish, Abort, Free, Fetch, Damage, Offline, Online, Attach, Detach, Close, Seal, Commit, Plan, Ready, Lend, LandStripe, LandBlock, Done, Cancel, Reopen}
-use Rattle.draid_machine.specs.Names.{has_name, is_block, is_put, takes}
-use Rattle.draid_machine.specs.State.{Layout, IsLayout, Arm, Pass, Core, Loan, Image, State}
+use Rattle.draid_machine.specs.Names.{is_block, is_put}
+use Rattle.draid_machine.specs.State.{Layout, IsLayout, Pass, Loan, Image, State}
 use Rattle.draid_machine.specs.Arms.{targets_of}
-use Rattle.draid_machine.specs.Claims.{IsOn, passed}
 use Rattle.draid_machine.specs.After.{gone_state, live_state, finish_state}
-use Rattle.draid_machine.specs.Sound.{LogSound, IsClaimed, CoreSound, LoanFits, ImageSound, GroupsSound, Sound}
+use Rattle.draid_machine.specs.Sound.{LogSound, CoreSound, ImageSound, Sound}
 use Rattle.draid_machine.specs.Step.{Step, Run}
 use Rattle.draid_machine.specs.Created.{created, IsReached}
 use Rattle.draid_machine.proofs.Small.{some_injective, bool_cases, absurd_test, below, none_some}

@@ -1,27 +1,20 @@
 -- A group is sealed, and a metaslab is opened from the record of a group.
-use Rattle.std.proofs.Common.{◌≡◌, ◌+◌, ◌-◌, ◌^◌, ◌/◌, ◌*◌, ◌<◌, ◌≤◌, ◌⊎◌, ◌&&◌, ◌||◌, ◌==◌, ◌≢◌, not, ℕ, zero, suc, Bool, true, false, nat_le, nat_lt, List, [], ◌∷◌, ◌++◌, Option, Some, None, filter, find, refl, sym, ◌∙◌, ap, ap₂, subst, inl, inr, arith, if◌then◌else◌, div-mul-le_self}
-use Rattle.std.proofs.lemmas.Nat.{le-div}
-use Rattle.std.proofs.lemmas.Bool.{true≢false, cases_eq, cases_lt, or_parts, and_cases}
-use Rattle.std.proofs.lemmas.Bool.Decides.{nat_tests}
-use Rattle.draid_names.specs.declared.pass_kind.PassKind.{PassKind}
-use Rattle.draid_names.specs.declared.pass_kind.PassKind.TheVariants.{Rebuild, Heal}
+use Rattle.std.proofs.Common.{◌≡◌, ◌+◌, ◌/◌, ◌<◌, ◌≤◌, ◌⊎◌, ◌&&◌, ◌||◌, not, ℕ, Bool, true, false, nat_le, nat_lt, List, Option, Some, None, refl, sym, ◌∙◌, ap, subst, inl, inr, arith}
+use Rattle.std.proofs.lemmas.Bool.{true≢false}
 use Rattle.draid_machine.specs.declared.names.Key.{Key}
-use Rattle.draid_machine.specs.declared.names.ArmName.{ArmName}
-use Rattle.draid_machine.specs.declared.names.ArmName.TheVariants.{Leaf, Spare}
-use Rattle.draid_machine.specs.declared.names.Stage.{Stage}
-use Rattle.draid_machine.specs.declared.names.Stage.TheVariants.{Writing, Live, Freed}
+use Rattle.draid_machine.specs.declared.names.Stage.TheVariants.{Live}
 use Rattle.draid_machine.specs.declared.names.Held.{Held}
 use Rattle.draid_machine.specs.declared.names.Segment.{Segment}
-use Rattle.draid_machine.specs.Names.{key_eq, name_eq, has_name, is_leaf, is_block, is_freed_by, is_put, takes, is_heal, up_to}
-use Rattle.draid_machine.specs.State.{Layout, IsLayout, Gone, Arm, Pass, Core, Loan, Image, State}
-use Rattle.draid_machine.specs.Arms.{lies, leaf_at, passes, first_leaf, lies_on, is_silent, is_here}
-use Rattle.draid_machine.specs.Claims.{IsOn, is_on, passed, claimed, claims}
-use Rattle.draid_machine.specs.After.{each_arm, map_arm, map_pass, log_if, cut_above, lose_some, keep_if, seal_held, seal_arm, image_of, sealed_core, seal_state, reopen_state}
-use Rattle.draid_machine.specs.Sound.{IsClaimed, CoreSound, LoanFits, ImageSound, GroupsSound, Sound}
-use Rattle.draid_machine.proofs.Small.{some_injective, some_same, none_some, both_true, true_both, true_four, four_true, either_true, bool_cases, absurd_test, not_true, not_false, true_left, true_right, mapped_arm, mapped_pass, kept_if, low, below, is_low, is_below}
-use Rattle.draid_machine.proofs.Follows.{SameRun, SameHeld, SamePass, IsAway, Keeps, Follows, keeps_of, claimed_before, core_follows, loan_follows, HasPassed, from_passed, to_passed}
-use Rattle.draid_machine.proofs.Calm.{groups_follow, same_held, same_pass}
-use Rattle.draid_machine.proofs.Tickets.{rebuild_heal, logs_more}
+use Rattle.draid_machine.specs.Names.{has_name, is_block, is_freed_by, is_put, takes}
+use Rattle.draid_machine.specs.State.{Layout, IsLayout, Arm, Core, Image, State}
+use Rattle.draid_machine.specs.Arms.{lies, lies_on, is_silent, is_here}
+use Rattle.draid_machine.specs.Claims.{is_on, passed, claimed, claims}
+use Rattle.draid_machine.specs.After.{map_pass, cut_above, lose_some, seal_held, seal_arm, image_of, sealed_core, seal_state, reopen_state}
+use Rattle.draid_machine.specs.Sound.{IsClaimed, CoreSound, ImageSound, Sound}
+use Rattle.draid_machine.proofs.Small.{some_injective, none_some, both_true, true_both, true_four, four_true, either_true, bool_cases, absurd_test, not_true, not_false, true_left, true_right, mapped_arm, mapped_pass, kept_if, low, below, is_low, is_below}
+use Rattle.draid_machine.proofs.Follows.{SamePass, Follows, claimed_before, core_follows, loan_follows}
+use Rattle.draid_machine.proofs.Calm.{same_held}
+use Rattle.draid_machine.proofs.Tickets.{logs_more}
 use Rattle.draid_machine.proofs.Passes.{lost_same}
 
 -- ---- what an image is of

@@ -1,6 +1,6 @@
 -- Every legal event keeps what the committed and a sealed image stand on.
-use Rattle.std.proofs.Common.{◌≡◌, ◌+◌, ◌-◌, ◌^◌, ◌/◌, ◌<◌, ◌≤◌, ◌⊎◌, ◌&&◌, ◌||◌, ◌==◌, ◌≢◌, not, ℕ, Bool, true, false, nat_le, nat_lt, List, [], ◌∷◌, ◌++◌, Option, Some, None, filter, length, count_by, refl, sym, ◌∙◌, ap, ap₂, subst, inl, inr, arith, if◌then◌else◌}
-use Rattle.std.proofs.lemmas.Bool.{true≢false, cases_eq, cases_lt}
+use Rattle.std.proofs.Common.{◌≡◌, ◌+◌, ◌<◌, ◌≤◌, ◌⊎◌, ◌&&◌, ◌==◌, not, ℕ, Bool, true, false, nat_le, nat_lt, List, [], ◌∷◌, Option, Some, None, refl, sym, ◌∙◌, ap, subst, inl, inr, arith, if◌then◌else◌}
+use Rattle.std.proofs.lemmas.Bool.{true≢false}
 use Rattle.std.proofs.lemmas.Bool.Decides.{nat_tests}
 use Rattle.draid_names.specs.declared.pass_kind.PassKind.{PassKind}
 use Rattle.draid_names.specs.declared.pass_kind.PassKind.TheVariants.{Rebuild, Heal}
@@ -17,16 +17,16 @@ use Rattle.draid_machine.specs.declared.event.Event.TheVariants.{Begin, Put, Fin
 use Rattle.draid_machine.specs.Names.{key_eq, name_eq, is_nil, has_name, is_block, is_freed_by, is_put, takes, is_heal}
 use Rattle.draid_machine.specs.State.{Layout, IsLayout, Gone, Arm, Pass, Core, Loan, Image, State}
 use Rattle.draid_machine.specs.Arms.{lies, answers, fails, lies_on, is_silent, targets_of, is_here}
-use Rattle.draid_machine.specs.Claims.{IsOn, is_on, passed, claims}
-use Rattle.draid_machine.specs.After.{set_held, set_arm, each_arm, map_arm, map_pass, log_if, fill_if, excise_if, cut_above, lose_targets, lose_some, without_key, begin_state, put_state, gone_state, live_state, finish_state, free_state, switch_state, attach_state, detach_state, close_state, keep_if, seal_held, seal_arm, image_of, sealed_core, seal_state, is_freed_block, is_gone_by, is_gone_arm, stays, commit_state, planned_pass, plan_state, ready_state, lend_state, unsourced, misses_stripe, is_mended, pass_over, mend_state, land_stripe_state, has_healed, misses_block, heal_state, land_block_state, ended_pass, done_state, cancel_state, reopen_state}
+use Rattle.draid_machine.specs.Claims.{is_on, passed, claims}
+use Rattle.draid_machine.specs.After.{set_held, set_arm, each_arm, map_arm, log_if, fill_if, excise_if, cut_above, lose_some, without_key, begin_state, put_state, gone_state, live_state, finish_state, free_state, switch_state, attach_state, detach_state, close_state, keep_if, seal_held, seal_arm, image_of, sealed_core, seal_state, is_freed_block, is_gone_by, is_gone_arm, stays, commit_state, planned_pass, plan_state, ready_state, lend_state, unsourced, misses_stripe, is_mended, pass_over, mend_state, land_stripe_state, has_healed, misses_block, heal_state, land_block_state, ended_pass, done_state, cancel_state, reopen_state}
 use Rattle.draid_machine.specs.Created.{created, created_core, created_arm, new_arm, IsReached}
-use Rattle.draid_machine.specs.Sound.{IsClaimed, CoreSound, LoanFits, ImageSound, GroupsSound, Sound}
+use Rattle.draid_machine.specs.Sound.{IsClaimed, ImageSound, Sound}
 use Rattle.draid_machine.specs.Images.{IsImage, IsOwnPass, ImageStands, ImagesStand}
 use Rattle.draid_machine.specs.Step.{Step, Run}
-use Rattle.draid_machine.proofs.Small.{some_injective, some_same, none_some, both_true, true_both, bool_cases, absurd_test, not_true, not_false, true_left, true_right, key_true, arm_at, arm_other, arm_cases, mapped_arm, mapped_pass, kept_some, kept_if, has_filter, name_true, four_true, is_equal}
-use Rattle.draid_machine.proofs.Follows.{HasPassed, from_passed}
+use Rattle.draid_machine.proofs.Small.{some_injective, some_same, none_some, both_true, true_both, bool_cases, absurd_test, not_false, true_left, key_true, arm_at, arm_other, mapped_pass, kept_if, has_filter, name_true, four_true, is_equal}
+use Rattle.draid_machine.proofs.Follows.{from_passed}
 use Rattle.draid_machine.proofs.Tickets.{rebuild_heal}
-use Rattle.draid_machine.proofs.Seals.{IsSealed, sealed_held, sealed_arm, from_claims, to_claims}
+use Rattle.draid_machine.proofs.Seals.{sealed_held, sealed_arm, from_claims}
 use Rattle.draid_machine.proofs.Rows.{step_sound, created_sound}
 
 -- a pass that goes on
@@ -474,14 +474,18 @@ module _ (l : Layout) (lay : IsLayout l) where
   lost_onward : (w : State) (t : ℕ) (failed : List ℕ) (wrote : Bool) (p' : Pass) → (sealed_core l w.core t failed wrote).pass ≡ Some p' → p'.kind ≡ Rebuild → (p : Pass) × (w.core.pass ≡ Some p) × Onward p p' × (p'.running ≡ p.running)
   lost_onward w t failed wrote p' e kind =
       let bad = lies_on l w.core (is_silent w.core failed) in
-      let z = mapped_pass (lose_some bad) w.core.pass p' e in
-      (z.0, z.1, subst (λ x. Onward z.0 x) (sym z.2) (record {
-        rebuild = ap (λ (x : Pass). x.kind) (sym z.2) ∙ kind;
-        number = refl;
-        max = refl;
-        next = omega arith;
-        targets = λ n t. (has_filter (λ m. not (bad m)) z.0.targets n t).0;
-      }), ap (λ (x : Pass). x.running) z.2)
+      let z = mapped_pass (lose_some bad) w.core.pass p' e in (
+        z.0,
+        z.1,
+        subst (λ x. Onward z.0 x) (sym z.2) (record {
+          rebuild = ap (λ (x : Pass). x.kind) (sym z.2) ∙ kind;
+          number = refl;
+          max = refl;
+          next = omega arith;
+          targets = λ n t. (has_filter (λ m. not (bad m)) z.0.targets n t).0;
+        }),
+        ap (λ (x : Pass). x.running) z.2,
+      )
 
   seal_stands : (w : State) (t : ℕ) (failed : List ℕ) (wrote : Bool) → w.closing ≡ Some t → Sound l w → Sound l (seal_state l w t failed wrote) → ImagesStand l w → ImagesStand l (seal_state l w t failed wrote)
   seal_stands w t failed wrote closing sound new s = record {

@@ -1,26 +1,25 @@
 -- The events of a ticket: it begins, its columns are put, it becomes a block.
-use Rattle.std.proofs.Common.{◌≡◌, ◌+◌, ◌-◌, ◌^◌, ◌/◌, ◌*◌, ◌<◌, ◌≤◌, ◌⊎◌, ◌&&◌, ◌||◌, ◌==◌, ◌≢◌, not, ℕ, zero, suc, Bool, true, false, nat_le, nat_lt, List, [], ◌∷◌, ◌++◌, Option, Some, None, filter, find, refl, sym, ◌∙◌, ap, ap₂, subst, inl, inr, arith, if◌then◌else◌, div-mul-le_self}
+use Rattle.std.proofs.Common.{◌≡◌, ◌+◌, ◌-◌, ◌/◌, ◌<◌, ◌≤◌, ◌⊎◌, ◌&&◌, ◌||◌, ◌==◌, not, ℕ, Bool, true, false, nat_le, nat_lt, List, Option, Some, None, refl, sym, ◌∙◌, ap, subst, inl, inr, arith, if◌then◌else◌, div-mul-le_self}
 use Rattle.std.proofs.lemmas.Nat.{le-div}
-use Rattle.std.proofs.lemmas.Bool.{true≢false, cases_eq, cases_lt, or_parts, and_cases}
+use Rattle.std.proofs.lemmas.Bool.{true≢false, cases_eq, or_parts}
 use Rattle.std.proofs.lemmas.Bool.Decides.{nat_tests}
 use Rattle.draid_names.specs.declared.pass_kind.PassKind.{PassKind}
 use Rattle.draid_names.specs.declared.pass_kind.PassKind.TheVariants.{Rebuild, Heal}
 use Rattle.draid_machine.specs.declared.names.Key.{Key}
 use Rattle.draid_machine.specs.declared.names.ArmName.{ArmName}
-use Rattle.draid_machine.specs.declared.names.Stage.{Stage}
-use Rattle.draid_machine.specs.declared.names.Stage.TheVariants.{Writing, Live, Freed}
+use Rattle.draid_machine.specs.declared.names.Stage.TheVariants.{Writing, Live}
 use Rattle.draid_machine.specs.declared.names.Held.{Held}
 use Rattle.draid_machine.specs.declared.names.Segment.{Segment}
-use Rattle.draid_machine.specs.Names.{key_eq, name_eq, has_name, is_leaf, is_block, is_put, takes, is_heal, is_nil}
-use Rattle.draid_machine.specs.State.{Layout, IsLayout, Gone, Arm, Pass, Core, Loan, Image, State}
-use Rattle.draid_machine.specs.Arms.{lies, leaf_at, passes, first_leaf}
-use Rattle.draid_machine.specs.Claims.{IsOn, is_on, passed}
-use Rattle.draid_machine.specs.After.{set_held, each_arm, map_arm, log_if, begin_state, put_state, live_state, is_landed}
-use Rattle.draid_machine.specs.Sound.{IsClaimed, CoreSound, LoanFits, ImageSound, GroupsSound, Sound}
-use Rattle.draid_machine.specs.Step.{IsTaken, Fits, IsEnabled, IsDue}
-use Rattle.draid_machine.proofs.Small.{some_injective, some_same, none_some, both_true, true_both, true_four, four_true, bool_cases, absurd_test, not_true, not_false, true_left, true_right, name_true, name_refl, name_other, key_true, key_other, key_refl, held_at, held_other, held_cases, mapped_arm}
-use Rattle.draid_machine.proofs.Follows.{SameRun, SameHeld, SamePass, IsAway, Keeps, Follows, keeps_of, claimed_before, core_keeps, loan_keeps, core_follows, loan_follows, HasPassed, from_passed}
-use Rattle.draid_machine.proofs.Calm.{groups_keep, same_held, same_pass, follows_arms, replaced, still_held}
+use Rattle.draid_machine.specs.Names.{key_eq, has_name, is_block, is_put, takes, is_heal, is_nil}
+use Rattle.draid_machine.specs.State.{Layout, IsLayout, Arm, Pass, Core, Loan, Image, State}
+use Rattle.draid_machine.specs.Arms.{lies}
+use Rattle.draid_machine.specs.Claims.{is_on}
+use Rattle.draid_machine.specs.After.{set_held, each_arm, log_if, begin_state, put_state, live_state, is_landed}
+use Rattle.draid_machine.specs.Sound.{IsClaimed, CoreSound, LoanFits, Sound}
+use Rattle.draid_machine.specs.Step.{Fits, IsEnabled, IsDue}
+use Rattle.draid_machine.proofs.Small.{some_injective, some_same, none_some, both_true, true_both, true_four, bool_cases, absurd_test, not_false, true_left, true_right, key_true, key_refl, held_at, held_other, held_cases, mapped_arm}
+use Rattle.draid_machine.proofs.Follows.{SameRun, Keeps, Follows, keeps_of, claimed_before, core_keeps, loan_keeps, core_follows, loan_follows, from_passed}
+use Rattle.draid_machine.proofs.Calm.{groups_keep, same_pass, follows_arms}
 
 pub rebuild_heal : {A : Type 0} (k : PassKind) → k ≡ Rebuild → k ≡ Heal → A
 rebuild_heal k a b = absurd (true≢false (ap is_heal (sym b ∙ a)))
@@ -210,7 +209,7 @@ module _ (l : Layout) (lay : IsLayout l) where
         let stripes : h'.stripes ≡ h.stripes = ap (λ (y : Held). y.stripes) (sym same ∙ is) in
         let birth : h'.birth ≡ h.birth = ap (λ (y : Held). y.birth) (sym same ∙ is) in
         let logs : (z.0.log h.birth || ((has_name (w.core.order (l.slot_of h.first c)) g.arm && not (has_name landed g.arm)) && (h.birth == h.birth))) ≡ false =
-            subst (λ (x : Arm). x.log h.birth ≡ false) z.2 (subst (λ b. a'.log b ≡ false) birth clean) in
+        subst (λ (x : Arm). x.log h.birth ≡ false) z.2 (subst (λ b. a'.log b ≡ false) birth clean) in
         let parts = or_parts (z.0.log h.birth) ((has_name (w.core.order (l.slot_of h.first c)) g.arm && not (has_name landed g.arm)) && (h.birth == h.birth)) logs in
         let listed_h : has_name (w.core.order (l.slot_of h.first g.column)) g.arm ≡ true = subst (λ x. has_name (w.core.order (l.slot_of x g.column)) g.arm ≡ true) first listed in
         let row_h : g.row < h.stripes = subst (λ x. g.row < x) stripes row in

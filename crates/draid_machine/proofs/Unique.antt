@@ -1,6 +1,6 @@
 -- A legal event has one result.
-use Rattle.std.proofs.Common.{◌≡◌, ◌+◌, ◌-◌, ◌^◌, ◌<◌, ◌≤◌, ◌⊎◌, ◌&&◌, ◌||◌, ◌==◌, ◌≢◌, not, ℕ, zero, suc, Bool, true, false, nat_le, nat_lt, List, [], ◌∷◌, ◌++◌, Option, Some, None, filter, refl, sym, ◌∙◌, ap, ap₂, subst, inl, inr, arith, if◌then◌else◌}
-use Rattle.std.proofs.lemmas.Bool.{true≢false, cases_eq, cases_lt}
+use Rattle.std.proofs.Common.{◌≡◌, ◌+◌, ◌<◌, ◌≤◌, ◌⊎◌, ℕ, Bool, true, false, List, [], ◌∷◌, Option, Some, None, refl, sym, ◌∙◌, ap, subst, inl, inr, arith}
+use Rattle.std.proofs.lemmas.Bool.{cases_lt}
 use Rattle.draid_machine.specs.declared.names.Key.{Key}
 use Rattle.draid_machine.specs.declared.names.ArmName.{ArmName}
 use Rattle.draid_machine.specs.declared.names.ArmName.TheVariants.{Leaf}
@@ -9,14 +9,14 @@ use Rattle.draid_machine.specs.declared.names.Stage.TheVariants.{Writing, Live, 
 use Rattle.draid_machine.specs.declared.names.Held.{Held}
 use Rattle.draid_machine.specs.declared.event.Event.{Event}
 use Rattle.draid_machine.specs.declared.event.Event.TheVariants.{Begin, Put, Finish, Abort, Free, Fetch, Damage, Offline, Online, Attach, Detach, Close, Seal, Commit, Plan, Ready, Lend, LandStripe, LandBlock, Done, Cancel, Reopen}
-use Rattle.draid_machine.specs.Names.{has_name, is_heal, takes}
-use Rattle.draid_machine.specs.State.{Layout, IsLayout, Arm, Pass, Core, Loan, Image, State}
-use Rattle.draid_machine.specs.Arms.{reading, IsFirst, IsSource}
+use Rattle.draid_machine.specs.Names.{is_heal, takes}
+use Rattle.draid_machine.specs.State.{Layout, IsLayout, Pass, Core, Loan, Image, State}
+use Rattle.draid_machine.specs.Arms.{IsFirst}
 use Rattle.draid_machine.specs.After.{put_state, finish_state, free_state, switch_state, attach_state, detach_state, seal_state, commit_state, ready_state, lend_state, land_stripe_state, land_block_state, ended_pass, done_state, reopen_state}
-use Rattle.draid_machine.specs.Sound.{CoreSound, GroupsSound, Sound}
-use Rattle.draid_machine.specs.Step.{IsLast, IsWhole, IsNext, IsChosen, unless_failed, arms_read, Counts, SealStep, LendStep, LandStripeStep, LandBlockStep, ReopenStep, AttachStep, Step, Run}
+use Rattle.draid_machine.specs.Sound.{CoreSound, Sound}
+use Rattle.draid_machine.specs.Step.{IsLast, IsWhole, IsNext, IsChosen, unless_failed, arms_read, Counts, LendStep, Step, Run}
 use Rattle.draid_machine.specs.Created.{created, IsReached}
-use Rattle.draid_machine.proofs.Small.{some_injective, some_same, none_some, bool_cases, absurd_test}
+use Rattle.draid_machine.proofs.Small.{some_same}
 use Rattle.draid_machine.proofs.Rows.{step_sound, created_sound, reached_sound}
 
 -- ---- parts
@@ -139,9 +139,11 @@ module _ (l : Layout) where
 
   one_counts : (w : State) (pass serial : ℕ) (p r : Pass) (n m : Loan) (h i : Held) → Counts w pass serial p n h → Counts w pass serial r m i → (p ≡ r) × (n ≡ m) × (h ≡ i)
   one_counts w pass serial p r n m h i x y =
-      let same = some_same w.loan n m x.loan y.loan in
-      (some_same w.core.pass p r x.pass_is y.pass_is, same,
-      some_same (w.core.held n.key) h i x.found (subst (λ (v : Loan). w.core.held v.key ≡ Some i) (sym same) y.found))
+      let same = some_same w.loan n m x.loan y.loan in (
+        some_same w.core.pass p r x.pass_is y.pass_is,
+        same,
+        some_same (w.core.held n.key) h i x.found (subst (λ (v : Loan). w.core.held v.key ≡ Some i) (sym same) y.found),
+      )
 
   one_image : (w : State) (t : ℕ) (a b : Image) → Sound l w
       → ((w.image ≡ a) × (w.committed ≡ t)) ⊎ ((w.sealed ≡ Some a) × (w.closing ≡ Some t))
@@ -192,12 +194,11 @@ module _ (l : Layout) where
       let n = z.1 in
       let h = z.2 in
       let whole : x.whole ≡ y.whole =
-          same_test x.whole y.whole x.is_whole x.not_whole (λ e. subst (λ v. IsWhole l w.core v failed.items) (sym h) (y.is_whole e)) (λ e v. y.not_whole e (subst (λ v. IsWhole l w.core v failed.items) h v)) in
+      same_test x.whole y.whole x.is_whole x.not_whole (λ e. subst (λ v. IsWhole l w.core v failed.items) (sym h) (y.is_whole e)) (λ e v. y.not_whole e (subst (λ v. IsWhole l w.core v failed.items) h v)) in
       x.made ∙ (λ i. land_block_state l w (p i) (n i) (h i) failed.items patched.items unreadable (whole i)) ∙ sym y.made
   one_result w (Done failed) new other s x y = x.made ∙ ap (λ p. done_state w (ended_pass l w.core p failed.items)) (some_same w.core.pass x.p y.p x.pass y.pass) ∙ sym y.made
   one_result w Cancel new other s x y = x.made ∙ sym y.made
   one_result w (Reopen group doubtful) new other s x y = x.made ∙ ap (λ i. reopen_state l w i doubtful.items) (one_image w group x.image y.image s x.one y.one) ∙ sym y.made
-
 
 one_run : (l : Layout) (lay : IsLayout l) (w : State) (es : List Event) (new other : State) → Sound l w → Run l w es new → Run l w es other → new ≡ other
 one_run l lay w [] new other s x y = x ∙ sym y

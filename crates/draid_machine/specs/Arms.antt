@@ -1,11 +1,11 @@
-use Rattle.std.specs.Prelude.{◌≡◌, ◌==◌, ◌++◌, ◌<◌, ◌≤◌, ◌||◌, ◌&&◌, not, ℕ, zero, suc, Bool, true, false, nat_le, nat_lt, List, [], ◌∷◌, Option, Some, None, find, filter, ◌⊎◌, if◌then◌else◌}
+use Rattle.std.specs.Prelude.{◌≡◌, ◌==◌, ◌++◌, ◌||◌, ◌&&◌, not, ℕ, zero, suc, Bool, true, false, nat_lt, List, [], ◌∷◌, Option, Some, None, find, filter, ◌⊎◌, if◌then◌else◌}
 use Rattle.draid_names.specs.declared.pass_kind.PassKind.{PassKind}
 use Rattle.draid_names.specs.declared.pass_kind.PassKind.TheVariants.{Rebuild, Heal}
 use Rattle.draid_machine.specs.declared.names.ArmName.{ArmName}
 use Rattle.draid_machine.specs.declared.names.ArmName.TheVariants.{Leaf, Spare}
 use Rattle.draid_machine.specs.declared.names.Held.{Held}
-use Rattle.draid_machine.specs.Names.{name_eq, has_name, has_number, any_below, is_leaf}
-use Rattle.draid_machine.specs.State.{Layout, Arm, Core, Gone}
+use Rattle.draid_machine.specs.Names.{has_name, has_number, any_below, is_leaf}
+use Rattle.draid_machine.specs.State.{Layout, Arm, Core}
 
 -- the first leaf of a slot
 abbrev pub first_leaf : List ArmName → Option ℕ
@@ -105,7 +105,6 @@ is_fresh (Some a) = a.fresh
 abbrev pub is_target : Layout → Core → PassKind → ArmName → Bool
 is_target l q Rebuild n = is_fresh (q.arm n) && (not (is_leaf n) || passes (leaf_at l q.order n 0) (leaf_answers q))
 is_target l q Heal n = not (lies_on l q (is_silent q []) n)
-
 
 abbrev pub targets_of : Layout → Core → PassKind → List ArmName
 targets_of l q kind = filter (is_target l q kind) (arms_below q.order l.slots)

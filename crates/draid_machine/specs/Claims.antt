@@ -1,9 +1,9 @@
-use Rattle.std.specs.Prelude.{◌≡◌, ◌==◌, ◌+◌, ◌<◌, ◌≤◌, ◌||◌, ◌&&◌, not, ℕ, Bool, true, false, nat_le, nat_lt, List, Option, Some, None}
+use Rattle.std.specs.Prelude.{◌≡◌, ◌==◌, ◌+◌, ◌<◌, ◌||◌, ◌&&◌, not, ℕ, Bool, true, false, nat_le, nat_lt, List, Option, Some, None}
 use Rattle.draid_machine.specs.declared.names.ArmName.{ArmName}
 use Rattle.draid_machine.specs.declared.names.Held.{Held}
 use Rattle.draid_machine.specs.declared.names.Segment.{Segment}
 use Rattle.draid_machine.specs.Names.{has_name, is_block, is_put}
-use Rattle.draid_machine.specs.State.{Layout, Arm, Pass, Core, State}
+use Rattle.draid_machine.specs.State.{Layout, Arm, Pass, Core}
 use Rattle.draid_machine.specs.Arms.{lies}
 
 -- a segment of a block or a ticket on an arm of its column's slot, where that arm keeps it now

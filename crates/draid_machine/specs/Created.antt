@@ -1,4 +1,4 @@
-use Rattle.std.specs.Prelude.{◌≡◌, ℕ, Bool, false, nat_lt, List, [], ◌∷◌, Option, Some, None, if◌then◌else◌}
+use Rattle.std.specs.Prelude.{false, nat_lt, List, [], ◌∷◌, Option, Some, None, if◌then◌else◌}
 use Rattle.draid_machine.specs.declared.names.ArmName.{ArmName}
 use Rattle.draid_machine.specs.declared.names.ArmName.TheVariants.{Leaf, Spare}
 use Rattle.draid_machine.specs.declared.event.Event.{Event}

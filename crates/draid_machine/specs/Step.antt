@@ -1,20 +1,18 @@
-use Rattle.std.specs.Prelude.{◌≡◌, ◌==◌, ◌≢◌, ◌+◌, ◌-◌, ◌/◌, ◌^◌, ◌<◌, ◌≤◌, ◌⊎◌, ◌||◌, ◌&&◌, not, ℕ, Bool, true, false, nat_le, nat_lt, List, [], ◌∷◌, Option, Some, None, length, is_none, filter, Contains, if◌then◌else◌}
+use Rattle.std.specs.Prelude.{◌≡◌, ◌==◌, ◌≢◌, ◌+◌, ◌-◌, ◌/◌, ◌^◌, ◌<◌, ◌≤◌, ◌⊎◌, ◌||◌, ◌&&◌, not, ℕ, Bool, true, false, nat_le, List, [], ◌∷◌, Option, Some, None, length, filter, Contains, if◌then◌else◌}
 use Rattle.draid_names.specs.declared.pass_kind.PassKind.{PassKind}
 use Rattle.draid_names.specs.declared.pass_kind.PassKind.TheVariants.{Rebuild, Heal}
 use Rattle.draid_machine.specs.declared.names.Key.{Key}
 use Rattle.draid_machine.specs.declared.names.ArmName.{ArmName}
 use Rattle.draid_machine.specs.declared.names.ArmName.TheVariants.{Leaf, Spare}
-use Rattle.draid_machine.specs.declared.names.Stage.{Stage}
-use Rattle.draid_machine.specs.declared.names.Stage.TheVariants.{Writing, Live, Freed}
+use Rattle.draid_machine.specs.declared.names.Stage.TheVariants.{Writing, Live}
 use Rattle.draid_machine.specs.declared.names.Held.{Held}
 use Rattle.draid_machine.specs.declared.names.Segment.{Segment}
 use Rattle.draid_machine.specs.declared.event.Patched.{Patched}
 use Rattle.draid_machine.specs.declared.event.Event.{Event}
 use Rattle.draid_machine.specs.declared.event.Event.TheVariants.{Begin, Put, Finish, Abort, Free, Fetch, Damage, Offline, Online, Attach, Detach, Close, Seal, Commit, Plan, Ready, Lend, LandStripe, LandBlock, Done, Cancel, Reopen}
 use Rattle.draid_machine.specs.Names.{name_eq, has_name, has_number, is_leaf, is_heal, is_block, is_freed_by, takes}
-use Rattle.draid_machine.specs.State.{Layout, Gone, Arm, Pass, Core, Loan, Image, State}
-use Rattle.draid_machine.specs.Arms.{answers, fails, leaf_at, lies_on, leaf_answers, is_clean, is_silent, has_column, reading, IsFirst, IsSource, HasEmptyLog, targets_of}
-use Rattle.draid_machine.specs.Claims.{is_on}
+use Rattle.draid_machine.specs.State.{Layout, Arm, Pass, Core, Loan, Image, State}
+use Rattle.draid_machine.specs.Arms.{answers, fails, leaf_at, lies_on, leaf_answers, is_clean, has_column, reading, IsSource, HasEmptyLog, targets_of}
 use Rattle.draid_machine.specs.After.{begin_state, put_state, gone_state, finish_state, free_state, switch_state, attach_state, detach_state, close_state, seal_state, commit_state, plan_state, ready_state, lend_state, unsourced, land_stripe_state, was_written, has_landed, land_block_state, ended_pass, done_state, cancel_state, reopen_state}
 
 -- ---- room

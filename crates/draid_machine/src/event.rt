@@ -31,36 +31,67 @@ pub enum Event {
         failed: Vec<u64>,
     },
     /// A ticket becomes a block, or ends as missed.
-    Finish { key: Key },
+    Finish {
+        key: Key,
+    },
     /// A ticket is given up.
-    Abort { key: Key },
+    Abort {
+        key: Key,
+    },
     /// A block is freed in a transaction group.
-    Free { key: Key, group: u64 },
+    Free {
+        key: Key,
+        group: u64,
+    },
     /// A block is read.
-    Fetch { key: Key, failed: Vec<u64> },
+    Fetch {
+        key: Key,
+        failed: Vec<u64>,
+    },
     /// A sector of a leaf changes by itself, or fails to.
     Damage {
         leaf: u64,
         sector: u64,
         failed: bool,
     },
-    Offline { leaf: u64 },
-    Online { leaf: u64 },
+    Offline {
+        leaf: u64,
+    },
+    Online {
+        leaf: u64,
+    },
     /// An arm joins a slot as its last.
-    Attach { slot: u32, arm: ArmName },
+    Attach {
+        slot: u32,
+        arm: ArmName,
+    },
     /// An arm leaves its slot.
-    Detach { slot: u32, arm: ArmName },
+    Detach {
+        slot: u32,
+        arm: ArmName,
+    },
     /// The open transaction group is closed.
-    Close { group: u64 },
+    Close {
+        group: u64,
+    },
     /// The closing group's record is made; these leaves couldn't be flushed.
-    Seal { group: u64, failed: Vec<u64> },
+    Seal {
+        group: u64,
+        failed: Vec<u64>,
+    },
     /// The sealed group is committed.
-    Commit { group: u64 },
-    Plan { kind: PassKind },
+    Commit {
+        group: u64,
+    },
+    Plan {
+        kind: PassKind,
+    },
     /// A planned rebuild begins to run.
     Ready,
     /// The pass's next stripe or block is lent.
-    Lend { failed: Vec<u64> },
+    Lend {
+        failed: Vec<u64>,
+    },
     /// A rebuild's loan comes back.
     LandStripe {
         pass: u64,
@@ -76,7 +107,9 @@ pub enum Event {
         unreadable: bool,
     },
     /// The pass ends with nothing left to lend.
-    Done { failed: Vec<u64> },
+    Done {
+        failed: Vec<u64>,
+    },
     /// The pass is ended before that.
     Cancel,
     /// The metaslab is opened from a record; a call cut off by a crash may have left some segments doubtful.

@@ -7,5 +7,7 @@ mod laws;
 mod names;
 
 pub use event::{Event, Patched};
-pub use laws::{events_have_one_result, every_history_is_sound, images_stand, metaslabs_have_layouts};
+pub use laws::{
+    events_have_one_result, every_history_is_sound, images_stand, metaslabs_have_layouts,
+};
 pub use names::{ArmName, Held, Key, Segment, Stage};
