@@ -5,6 +5,7 @@ pub mod Layouts
 pub mod Owning
 pub mod Passes
 pub mod Rows
+pub mod Sample
 pub mod Seals
 pub mod Small
 pub mod Standing
