@@ -60,7 +60,7 @@ pub takes_on : (h h' : Held) (x : ℕ) → SameRun h h' → takes h x ≡ true �
 takes_on h h' x s t = rw (s.first, s.stripes) t
 
 pub away_from : (l : Layout) (x y c : ℕ) → IsLayout l → x / l.height ≡ y / l.height → c < l.columns → IsAway l (l.slot_of y c) x
-away_from l x y c lay same column = λ t spare e. lay.apart x c t column spare (e ∙ sym (lay.steady x y c same))
+away_from l x y c lay same column = λ t spare e. lay.apart x x c c t column column spare refl (e ∙ sym (lay.steady x y c same))
 
 pub away : (l : Layout) (committed top : ℕ) (q : Core) (k : Key) (h : Held) (c r : ℕ) → IsLayout l → CoreSound l committed top q → q.held k ≡ Some h → c < l.columns → r < h.stripes
     → IsAway l (l.slot_of h.first c) (h.first + r)

@@ -33,6 +33,7 @@ sample = record {
   height = 8;
   sectors = 8;
   slot_of = λ x c. c + 1;
+  sector_of = λ x c. x;
   home = λ t x. 0;
 }
 
@@ -40,7 +41,10 @@ sample_is : IsLayout sample
 sample_is = record {
   tall = omega arith;
   steady = λ x y c e. refl;
-  apart = λ x c t column spare e. omega (arith, e);
+  inside = λ x c less column. less;
+  one_column = λ x y c d column column' slot sector. (sector, omega (arith, slot));
+  apart = λ x y c d t column column' spare sector e. omega (arith, e);
+  one_spare = λ x y c d t u column column' spare spare' sector e. omega (arith, spare, spare');
 }
 
 abbrev key : Key

@@ -31,5 +31,6 @@ layout_of geometry perms metaslab = record {
   height = geometry.props.height;
   sectors = sectors_in geometry;
   slot_of = λ x column. (place_of geometry perms (pool_stripe geometry metaslab x) column).child;
+  sector_of = λ x column. (place_of geometry perms (pool_stripe geometry metaslab x) column).sector - metaslab * sectors_in geometry;
   home = λ spare x. child_of perms (slice_of geometry (pool_stripe geometry metaslab x)) (geometry.spec.children - 1 - spare);
 }

@@ -18,14 +18,21 @@ pub record Layout : Type 0 where
   pub sectors : ℕ
   -- the slot that has a column of a stripe
   pub slot_of : ℕ → ℕ → ℕ
+  -- the sector of the metaslab at which that column lies on each arm of the slot
+  pub sector_of : ℕ → ℕ → ℕ
   -- the slot on whose first leaf a spare keeps what belongs to a stripe
   pub home : ℕ → ℕ → ℕ
 
--- The stripes that lie together have one slot for a column, and no spare keeps a stripe on a slot that has a column of it.
+-- The stripes that lie together have one slot for a column. Each column has a sector of its own on its slot; no spare keeps a sector on a slot
+-- that has a column there, and no two spares keep it on one slot.
 pub record IsLayout (l : Layout) : Type 0 where
   pub tall : 0 < l.height
   pub steady : (x y column : ℕ) → x / l.height ≡ y / l.height → l.slot_of x column ≡ l.slot_of y column
-  pub apart : (x column spare : ℕ) → column < l.columns → spare < l.spares → l.home spare x ≢ l.slot_of x column
+  pub inside : (x column : ℕ) → x < l.stripes → column < l.columns → l.sector_of x column < l.sectors
+  pub one_column : (x y c d : ℕ) → c < l.columns → d < l.columns → l.slot_of x c ≡ l.slot_of y d → l.sector_of x c ≡ l.sector_of y d → (x ≡ y) × (c ≡ d)
+  pub apart : (x y c d spare : ℕ) → c < l.columns → d < l.columns → spare < l.spares → l.sector_of x c ≡ l.sector_of y d → l.home spare x ≢ l.slot_of y d
+  pub one_spare : (x y c d spare other : ℕ) → c < l.columns → d < l.columns → spare < l.spares → other < l.spares → l.sector_of x c ≡ l.sector_of y d
+      → l.home spare x ≡ l.home other y → spare ≡ other
 
 -- A detached arm whose detachment isn't committed: its slot, and the group that was open then.
 pub record Gone : Type 0 where
