@@ -1,5 +1,5 @@
 -- The layout of a metaslab of a pool.
-use Rattle.std.proofs.Common.{◌≡◌, ◌≢◌, ◌+◌, ◌-◌, ◌*◌, ◌/◌, ◌%◌, ◌<◌, ◌≤◌, ℕ, subst, sym, ap, ◌∙◌, arith, add_comm}
+use Rattle.std.proofs.Common.{◌≡◌, ◌≢◌, ◌+◌, ◌-◌, ◌*◌, ◌/◌, ◌%◌, ◌<◌, ℕ, subst, sym, ap, ◌∙◌, arith, add_comm}
 use Rattle.std.proofs.Math.Nat.{div-div-eq-div-mul, add-mul-div_left, mod-lt}
 use Rattle.draid_spec.specs.declared.layout.Geometry.{Geometry}
 use Rattle.draid_spec.specs.Geometry.{IsGeometry}
@@ -85,9 +85,9 @@ module _ (geometry : Geometry) (perms : Perms) (metaslab : ℕ) (lay : place.IsL
       let k = pool_stripe geometry metaslab x in
       let group : group_in geometry k < geometry.ngroups = mod-lt (k / geometry.props.height) some.groups in
       let z : local x c < geometry.props.slices * geometry.rows * geometry.props.height =
-          three_below geometry.props.height geometry.rows (x / (geometry.props.height * geometry.ngroups)) (index_in geometry k c / geometry.ndisks) (k % geometry.props.height) geometry.props.slices
-          (high_below geometry.props.height geometry.ngroups x geometry.props.slices some.height some.groups less)
-          (row_of_column geometry (group_in geometry k) c is group column) (mod-lt k some.height) in
+      three_below geometry.props.height geometry.rows (x / (geometry.props.height * geometry.ngroups)) (index_in geometry k c / geometry.ndisks) (k % geometry.props.height) geometry.props.slices
+      (high_below geometry.props.height geometry.ngroups x geometry.props.slices some.height some.groups less)
+      (row_of_column geometry (group_in geometry k) c is group column) (mod-lt k some.height) in
       subst (λ n. n < sectors_in geometry) (sym (sector_is x c)) z
 
   one_column : (x y c d : ℕ) → c < geometry.g → d < geometry.g → (layout_of geometry perms metaslab).slot_of x c ≡ (layout_of geometry perms metaslab).slot_of y d

@@ -4,6 +4,7 @@ pub mod Landings
 pub mod Layouts
 pub mod Owning
 pub mod Passes
+pub mod Places
 pub mod Rows
 pub mod Sample
 pub mod Seals

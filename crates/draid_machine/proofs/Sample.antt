@@ -1,26 +1,23 @@
 -- A legal history with every kind of event: a block is written and committed, its leaf goes offline, a spare takes its place and is rebuilt,
 -- is detached again, and the metaslab is opened from its record; then a scrub, a second write that is given up, and the freeing.
-use Rattle.std.proofs.Common.{◌≡◌, ◌≢◌, ◌+◌, ◌-◌, ◌*◌, ◌/◌, ◌^◌, ◌<◌, ◌≤◌, ◌⊎◌, ◌&&◌, ◌||◌, ◌==◌, not, ℕ, zero, suc, Bool, true, false, nat_le, nat_lt, List, [], ◌∷◌, ◌++◌, Option, Some, None, Contains, Vec, Global, refl, sym, ◌∙◌, ap, subst, inl, inr, arith, if◌then◌else◌}
-use Rattle.std.proofs.lemmas.Bool.{true≢false, cases_lt, cases_eq}
+use Rattle.std.proofs.Common.{◌≡◌, ◌+◌, ◌<◌, ◌≤◌, ◌&&◌, ◌||◌, ◌==◌, not, ℕ, zero, suc, Bool, true, false, List, [], ◌∷◌, Option, Some, None, Contains, refl, sym, ◌∙◌, ap, subst, inl, inr, arith}
+use Rattle.std.proofs.lemmas.Bool.{true≢false}
 use Rattle.std.proofs.lemmas.Bool.Decides.{nat_tests}
 use Rattle.draid_names.specs.declared.pass_kind.PassKind.TheVariants.{Rebuild, Heal}
 use Rattle.draid_machine.specs.declared.names.Key.{Key}
 use Rattle.draid_machine.specs.declared.names.ArmName.{ArmName}
 use Rattle.draid_machine.specs.declared.names.ArmName.TheVariants.{Leaf, Spare}
 use Rattle.draid_machine.specs.declared.names.Stage.{Stage}
-use Rattle.draid_machine.specs.declared.names.Stage.TheVariants.{Writing, Live, Freed}
+use Rattle.draid_machine.specs.declared.names.Stage.TheVariants.{Writing, Live}
 use Rattle.draid_machine.specs.declared.names.Held.{Held}
-use Rattle.draid_machine.specs.declared.names.Segment.{Segment}
-use Rattle.draid_machine.specs.declared.event.Event.{Event}
-use Rattle.draid_machine.specs.Names.{key_eq, name_eq, has_name, has_number, is_block, takes}
-use Rattle.draid_machine.specs.State.{Layout, IsLayout, Gone, Arm, Pass, Core, Loan, Image, State}
-use Rattle.draid_machine.specs.Arms.{answers, fails, is_clean, logged, is_fresh, HasEmptyLog, reading, targets_of, IsSource}
-use Rattle.draid_machine.specs.After.{set_held, is_freed_block, begin_state, put_state, live_state, finish_state, gone_state, free_state, switch_state, attach_state, detach_state, close_state, image_of, sealed_core, seal_state, commit_state, plan_state, ready_state, lend_state, land_stripe_state, land_block_state, ended_pass, done_state, cancel_state, reopen_state}
+use Rattle.draid_machine.specs.Names.{key_eq, has_name, is_block, takes}
+use Rattle.draid_machine.specs.State.{Layout, IsLayout, Arm, Pass, Loan, Image, State}
+use Rattle.draid_machine.specs.Arms.{answers, fails, is_clean, logged, is_fresh, HasEmptyLog, targets_of}
+use Rattle.draid_machine.specs.After.{is_freed_block, begin_state, put_state, finish_state, gone_state, free_state, switch_state, attach_state, detach_state, close_state, image_of, sealed_core, seal_state, commit_state, plan_state, ready_state, lend_state, land_stripe_state, land_block_state, ended_pass, done_state, cancel_state, reopen_state}
 use Rattle.draid_machine.specs.Created.{created, new_arm}
-use Rattle.draid_machine.specs.Step.{IsChosen, to_list, arms_read, HasWritten, IsTaken, Fits, HoldsFewer, BeginStep, PutStep, FinishStep, AbortStep, FreeStep, FetchStep, DamageStep, SwitchStep, AttachStep, DetachStep, CloseStep, SealStep, CommitStep, PlanStep, ReadyStep, LendStep, LandStripeStep, LandBlockStep, DoneStep, CancelStep, ReopenStep}
-use Rattle.draid_machine.proofs.Small.{some_injective, some_same, none_some, bool_cases, kept_some, key_true}
+use Rattle.draid_machine.specs.Step.{IsChosen, to_list, arms_read, HasWritten, IsTaken, BeginStep, PutStep, FinishStep, AbortStep, FreeStep, FetchStep, DamageStep, SwitchStep, AttachStep, DetachStep, CloseStep, SealStep, CommitStep, PlanStep, ReadyStep, LendStep, LandStripeStep, LandBlockStep, DoneStep, CancelStep, ReopenStep}
+use Rattle.draid_machine.proofs.Small.{some_same, none_some, bool_cases, kept_some, key_true}
 use Rattle.draid_machine.proofs.Seals.{sealed_held}
-use Rattle.draid_machine.proofs.Tickets.{entry_cases}
 
 -- four slots, and one spare whose place is slot 0; the columns of each stripe stand on slots 1 to 3
 abbrev pub sample : Layout

@@ -2,6 +2,7 @@ use Rattle.std.specs.Prelude.{◌≡◌, ◌+◌, ◌<◌, ◌≤◌, ◌⊎◌,
 use Rattle.draid_names.specs.declared.pass_kind.PassKind.TheVariants.{Rebuild}
 use Rattle.draid_machine.specs.declared.names.Key.{Key}
 use Rattle.draid_machine.specs.declared.names.ArmName.{ArmName}
+use Rattle.draid_machine.specs.declared.names.ArmName.TheVariants.{Leaf, Spare}
 use Rattle.draid_machine.specs.declared.names.Held.{Held}
 use Rattle.draid_machine.specs.declared.names.Segment.{Segment}
 use Rattle.draid_machine.specs.Names.{has_name}
@@ -57,15 +58,42 @@ pub record WasArm (q : Core) (slot : ℕ) (n : ArmName) : Type 0 where
   pub gone : a.gone ≡ Some g
   pub slot_is : g.slot ≡ slot
 
+-- an arm of a slot, still or until a commit
+abbrev pub HasSlot : Core → ℕ → ArmName → Type 0
+HasSlot q slot n = (has_name (q.order slot) n ≡ true) ⊎ WasArm q slot n
+
+-- a leaf left a slot no earlier than a spare was detached
+pub record LeftAfter (q : Core) (slot leaf spare : ℕ) : Type 0 where
+  pub was : WasArm q slot (Leaf leaf)
+  pub a : Arm
+  pub g : Gone
+  pub found : q.arm (Spare spare) ≡ Some a
+  pub gone : a.gone ≡ Some g
+  pub before : g.group ≤ was.g.group
+
+-- a leaf arm keeps its segments on itself, a spare on a leaf of the slot on whose first leaf it keeps that stripe
+abbrev pub KeepsOn : Layout → Core → ArmName → ℕ → ℕ → Type 0
+KeepsOn l q (Leaf m) x leaf = leaf ≡ m
+KeepsOn l q (Spare t) x leaf = (t < l.spares) × ((has_name (q.order (l.home t x)) (Leaf leaf) ≡ true) ⊎ LeftAfter q (l.home t x) leaf t)
+
 -- a segment of a block or a ticket on an arm of its column's slot
 pub record IsOwned (l : Layout) (q : Core) (s : Segment) : Type 0 where
   pub h : Held
   pub held : q.held s.key ≡ Some h
   pub column : s.column < l.columns
   pub row : s.row < h.stripes
-  pub arm : (has_name (q.order (l.slot_of h.first s.column)) s.arm ≡ true) ⊎ WasArm q (l.slot_of h.first s.column) s.arm
+  pub arm : HasSlot q (l.slot_of h.first s.column) s.arm
+  pub keeps : KeepsOn l q s.arm (h.first + s.row) s.leaf
 
 pub record Owned (l : Layout) (w : State) : Type 0 where
   pub listed : AreListed w.core
+  pub gone : (n : ArmName) (a : Arm) (g : Gone) → w.core.arm n ≡ Some a → a.gone ≡ Some g → g.group ≤ w.open_group
   pub images : (img : Image) → IsImage w img → AreListed img.core
   pub present : (s : Segment) → w.present s ≡ true → IsOwned l w.core s
+
+-- where a segment of a block or a ticket lies: on a leaf, at a sector of the metaslab
+pub record LiesAt (l : Layout) (q : Core) (s : Segment) (leaf sector : ℕ) : Type 0 where
+  pub h : Held
+  pub held : q.held s.key ≡ Some h
+  pub leaf_is : s.leaf ≡ leaf
+  pub sector_is : l.sector_of (h.first + s.row) s.column ≡ sector

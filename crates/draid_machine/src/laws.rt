@@ -1,4 +1,4 @@
-ghost use Rattle.std.specs.Prelude.{◌≡◌, List, ℕ};
+ghost use Rattle.std.specs.Prelude.{◌≡◌, List, ℕ, true};
 ghost use Rattle.draid_spec.specs.declared.layout.Geometry.{Geometry};
 ghost use Rattle.draid_perm.specs.declared.perms.Perms.{Perms};
 ghost use Rattle.draid_map.specs.Place as places;
@@ -6,7 +6,8 @@ ghost use Rattle.draid_machine.specs.Layout.{layout_of};
 ghost use Rattle.draid_machine.specs.Created.{IsReached, created};
 ghost use Rattle.draid_machine.specs.Step.{Run, Step};
 ghost use Rattle.draid_machine.specs.declared.event.Event.{Event};
-ghost use Rattle.draid_machine.specs.Images.{ImagesStand, Owned};
+ghost use Rattle.draid_machine.specs.declared.names.Segment.{Segment};
+ghost use Rattle.draid_machine.specs.Images.{ImagesStand, LiesAt, Owned};
 ghost use Rattle.draid_machine.specs.Sound.{LogSound, Sound};
 ghost use Rattle.draid_machine.specs.State.{IsLayout, Layout, State};
 
@@ -29,6 +30,16 @@ pub fn images_stand()
         → ImagesStand layout state }
     ensures segments { (layout : Layout) (state : State) → IsLayout layout → IsReached layout state
         → Owned layout state }
+{}
+
+/// Law: after every legal history of a new metaslab, no two segments that are present lie on one sector
+/// of a leaf.
+#[tactic(auto)]
+pub fn segments_lie_apart()
+    ensures { (layout : Layout) (state : State) (one other : Segment) (leaf sector : ℕ)
+        → IsLayout layout → IsReached layout state
+        → state.present one ≡ true → state.present other ≡ true
+        → LiesAt layout state.core one leaf sector → LiesAt layout state.core other leaf sector → one ≡ other }
 {}
 
 /// Law: in each state that a legal history gives, a legal event has one result, and so has the history.
