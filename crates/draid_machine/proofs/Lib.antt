@@ -1,3 +1,4 @@
+pub mod Bounds
 pub mod Calm
 pub mod Follows
 pub mod Landings

@@ -88,3 +88,10 @@ pub record Sound (l : Layout) (w : State) : Type 0 where
   pub covered : (s : Segment) → IsClaimed l w.core s → w.present s ≡ true
   pub image : ImageSound l w.image
   pub sealed : (img : Image) → w.sealed ≡ Some img → ImageSound l img
+
+-- ---- what else every legal history keeps: logs have groups from 1 to the one after the open one
+pub record LogsWithin (w : State) : Type 0 where
+  pub low : (n : ArmName) (a : Arm) (g : ℕ) → w.core.arm n ≡ Some a → a.log g ≡ true → 1 ≤ g
+  pub high : (n : ArmName) (a : Arm) (g : ℕ) → w.core.arm n ≡ Some a → a.log g ≡ true → g ≤ w.open_group + 1
+  pub image : (n : ArmName) (a : Arm) (g : ℕ) → w.image.core.arm n ≡ Some a → a.log g ≡ true → 1 ≤ g
+  pub sealed : (img : Image) (n : ArmName) (a : Arm) (g : ℕ) → w.sealed ≡ Some img → img.core.arm n ≡ Some a → a.log g ≡ true → 1 ≤ g

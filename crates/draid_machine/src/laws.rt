@@ -8,7 +8,7 @@ ghost use Rattle.draid_machine.specs.Step.{Run, Step};
 ghost use Rattle.draid_machine.specs.declared.event.Event.{Event};
 ghost use Rattle.draid_machine.specs.declared.names.Segment.{Segment};
 ghost use Rattle.draid_machine.specs.Images.{ImagesStand, LiesAt, Owned};
-ghost use Rattle.draid_machine.specs.Sound.{LogSound, Sound};
+ghost use Rattle.draid_machine.specs.Sound.{LogSound, LogsWithin, Sound};
 ghost use Rattle.draid_machine.specs.State.{IsLayout, Layout, State};
 
 /// Law: after every legal history of a new metaslab, with failures, passes, loans that are out, crashes
@@ -19,6 +19,8 @@ pub fn every_history_is_sound()
         → LogSound layout state }
     ensures kept { (layout : Layout) (state : State) → IsLayout layout → IsReached layout state
         → Sound layout state }
+    ensures groups { (layout : Layout) (state : State) → IsLayout layout → IsReached layout state
+        → LogsWithin state }
 {}
 
 /// Law: after every legal history of a new metaslab, what the committed image claims, and a sealed one, is
