@@ -35,13 +35,24 @@ pub(crate) fn is_among(names: &[ArmName], name: ArmName) -> bool
     false
 }
 
+/// The arms of a slot.
+pub(crate) fn names_of(order: &[Vec<ArmName>], slot: usize) -> &[ArmName]
+    ensures { result.now ≡ names_at order.now slot }
+{
+    if slot < order.len() {
+        &order[slot]
+    } else {
+        &[]
+    }
+}
+
 /// The slot that has an arm.
 pub(crate) fn slot_with(order: &[Vec<ArmName>], name: ArmName) -> Option<usize>
     ensures some { IfSome result (λ c. has_name (names_at order.now c) name ≡ true) }
     ensures none { IfNone result ((c : ℕ) → has_name (names_at order.now c) name ≡ false) }
 {
     for slot in 0..order.len() {
-        if is_among(&order[slot], name) {
+        if is_among(names_of(order, slot), name) {
             return Some(slot);
         }
     }

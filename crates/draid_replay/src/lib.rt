@@ -6,6 +6,7 @@ mod arms;
 mod blocks;
 mod groups;
 mod leaves;
+mod places;
 mod tables;
 mod world;
 

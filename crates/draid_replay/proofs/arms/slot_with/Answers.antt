@@ -1,20 +1,13 @@
-use Rattle.std.proofs.Common.{◌≡◌, ◌+◌, ◌<◌, ◌≤◌, ◌∙◌, rules, true, false, ℕ, [], inl, inr, arith, ap, sym, subst, length}
+use Rattle.std.proofs.Common.{◌≡◌, ◌+◌, ◌<◌, ◌≤◌, ◌∙◌, rules, false, ℕ, inl, inr, arith, ap, sym, subst, length}
 use Rattle.std.proofs.lemmas.Bool.{cases_lt, cases_eq}
 use Rattle.draid_machine.specs.Names.{has_name}
 use Rattle.draid_replay.specs.World.{names_at}
-use Rattle.draid_replay.proofs.Maps.{names_here, names_past}
+use Rattle.draid_replay.proofs.Maps.{names_past}
 use Rattle.draid_replay.proofs.arms.slot_with.Goals as goal
-
-pub returns-then-is_among-clause-some : goal.returns-then-is_among-clause-some
-returns-then-is_among-clause-some c =
-    ap (λ ns. has_name ns c.args.name) (names_here c.args.order.now c.loop-slot.slot c.index-order-slot.result c.deref.result.now (search rules) c.index-order-slot.is c.deref.ensures.value)
-    ∙ sym c.is_among.ensures ∙ c.if-is_among.true
 
 pub loop-slot-preserved : goal.loop-slot-preserved
 loop-slot-preserved c =
-    let here : has_name (names_at c.args.order.now c.loop-slot.slot) c.args.name ≡ false =
-        ap (λ ns. has_name ns c.args.name) (names_here c.args.order.now c.loop-slot.slot c.index-order-slot.result c.deref.result.now (search rules) c.index-order-slot.is c.deref.ensures.value)
-        ∙ sym c.is_among.ensures ∙ c.if-is_among.false in
+    let here : has_name (names_at c.args.order.now c.loop-slot.slot) c.args.name ≡ false = search rules in
     λ k less. elim (cases_eq k c.loop-slot.slot) [
       | inl at ↦ subst (λ x. has_name (names_at c.args.order.now x) c.args.name ≡ false) (sym at) here
       | inr other ↦ c.loop-slot.invariant k (omega (arith, less, other))
