@@ -80,3 +80,7 @@ offline_arm a offline = record a { offline = offline }
 
 abbrev pub switched : state.Arm → Bool → state.Arm
 switched a offline = record a { offline = offline }
+
+-- the slot that has a column of a stripe
+abbrev pub slot_at : state.Layout → ℕ → ℕ → ℕ
+slot_at l x c = l.slot_of x c

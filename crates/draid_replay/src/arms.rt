@@ -105,3 +105,13 @@ pub(crate) fn leaf_answers(tables: &Tables, leaf: u64) -> bool
         None => false,
     }
 }
+
+/// Whether a group is in an arm's log.
+pub(crate) fn is_logged(tables: &Tables, name: ArmName, group: u64) -> bool
+    ensures { result ≡ arms.logged (arm_in tables.now.arms.entries name) group }
+{
+    match tables.arms.get(&name) {
+        Some(arm) => arm.log.contains(group),
+        None => false,
+    }
+}

@@ -7,6 +7,7 @@ mod blocks;
 mod groups;
 mod leaves;
 mod places;
+mod reads;
 mod tables;
 mod world;
 
