@@ -1,5 +1,5 @@
 -- What ordered maps and sets of the tables hold.
-use Rattle.std.proofs.Common.{◌≡◌, ◌+◌, ◌<◌, ◌≤◌, ◌==◌, ◌&&◌, ◌||◌, ℕ, Bool, true, false, List, [], ◌∷◌, zero, suc, get_or, length, is_some, is_none, unwrap_or, option_map, Vec, Global, Option, Some, None, Result, Ok, Err, OnOk, IsSome, cond, not, filter, if◌then◌else◌, refl, sym, ◌∙◌, ap, ap₂, subst, arith, is_eq, nat_cmp, Ordering}
+use Rattle.std.proofs.Common.{◌≡◌, ◌<◌, ◌≤◌, ◌&&◌, ◌||◌, ℕ, Bool, true, false, List, [], ◌∷◌, zero, suc, get_or, length, is_some, is_none, unwrap_or, option_map, Vec, Global, Option, Some, None, Result, Ok, Err, OnOk, IsSome, cond, not, filter, if◌then◌else◌, refl, sym, ◌∙◌, ap, ap₂, subst, arith, nat_cmp, Ordering}
 use Rattle.std.specs.Ordering.{ordering_then}
 use Rattle.draid_machine.specs.contracts.names as contracts
 use Rattle.std.specs.List.{list_any}

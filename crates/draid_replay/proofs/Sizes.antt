@@ -1,14 +1,13 @@
 -- Stripes of a pool are few.
-use Rattle.std.proofs.Common.{◌≡◌, ◌+◌, ◌*◌, ◌<◌, ◌≤◌, ◌^◌, ℕ, Bool, true, false, List, [], ◌∷◌, Option, Some, None, Vec, Global, nat_lt, length, get_or, if◌then◌else◌, refl, sym, ◌∙◌, ap, subst, inl, inr, arith}
+use Rattle.std.proofs.Common.{◌≡◌, ◌*◌, ◌<◌, ◌≤◌, ℕ, Bool, true, false, List, None, nat_lt, if◌then◌else◌, sym, ◌∙◌, ap, arith}
 use Rattle.std.proofs.Math.Nat.{mul-le-mul}
 use Rattle.std.proofs.lemmas.Bool.Decides.{nat_tests}
 use Rattle.draid_spec.specs.declared.layout.Geometry.{Geometry}
 use Rattle.draid_spec.specs.Geometry.{IsGeometry}
 use Rattle.draid_machine.specs.declared.names.ArmName.{ArmName}
-use Rattle.draid_machine.specs.declared.names.ArmName.TheVariants.{Leaf, Spare}
+use Rattle.draid_machine.specs.declared.names.ArmName.TheVariants.{Spare}
 use Rattle.draid_machine.specs.State.{Layout}
 use Rattle.draid_machine.specs.Arms.{leaf_at, first_leaf}
-use Rattle.draid_replay.specs.World.{names_at}
 
 pub few_stripes : (geometry : Geometry) (metaslab : ℕ) → IsGeometry geometry → metaslab < geometry.props.metaslabs
     → metaslab * (geometry.props.slices * geometry.ngroups * geometry.props.height) ≤ 64 * (1024 * 32 * 4096)

@@ -1,11 +1,10 @@
-use Rattle.std.specs.Prelude.{◌≡◌, ℕ, Bool, List, [], Option, Some, None, Vec, zero, suc, option_map, get_or, slice_index_or, ◌∷◌, if◌then◌else◌}
+use Rattle.std.specs.Prelude.{ℕ, Bool, List, [], Option, Some, None, Vec, zero, suc, option_map, ◌∷◌, if◌then◌else◌}
 use Rattle.draid_machine.specs.Names.{key_eq, name_eq, has_segment}
 use Rattle.std.specs.Global.{Global}
 use Rattle.draid_ranges.specs.Numbers.{has}
 use Rattle.draid_machine.specs.declared.names.Key.{Key}
 use Rattle.draid_machine.specs.declared.names.ArmName.{ArmName}
 use Rattle.draid_machine.specs.declared.names.Held.{Held}
-use Rattle.draid_machine.specs.declared.names.Segment.{Segment}
 use Rattle.draid_machine.specs.State as state
 use Rattle.draid_machine.specs.Layout.{layout_of}
 use Rattle.draid_replay.specs.declared.world.Site.{Site}

@@ -1,4 +1,5 @@
-//! The state of a metaslab as plain data, and the replay of its events.
+//! The state of a metaslab as plain data over ordered maps, and the first kinds of event on it: each is done
+//! exactly where it is legal.
 
 #![tactic(auto)]
 

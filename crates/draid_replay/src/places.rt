@@ -23,11 +23,17 @@ pub(crate) fn home(site: &Site, spare: u32, stripe: u64) -> u32
     let groups = u64::from(site.geometry.ngroups);
     let stripes = u64::from(props.slices) * groups * height;
     let slice = (u64::from(site.metaslab) * stripes + stripe) / (height * groups);
-    site.perms.child(slice, site.geometry.spec.children - 1 - spare)
+    site.perms
+        .child(slice, site.geometry.spec.children - 1 - spare)
 }
 
 /// The leaf on which an arm keeps what belongs to a stripe.
-pub(crate) fn leaf_at(site: &Site, order: &[Vec<ArmName>], name: ArmName, stripe: u64) -> Option<u64>
+pub(crate) fn leaf_at(
+    site: &Site,
+    order: &[Vec<ArmName>],
+    name: ArmName,
+    stripe: u64,
+) -> Option<u64>
     requires layout { IsLayout site.now.geometry site.now.perms }
     requires metaslab { site.now.metaslab < site.now.geometry.props.metaslabs }
     requires stripe { stripe < 2 ^ 48 }
@@ -70,7 +76,13 @@ pub(crate) fn has_number(numbers: &[u64], number: u64) -> bool
 }
 
 /// Whether a call failed on the leaf on which an arm keeps what belongs to a stripe.
-pub(crate) fn fails(site: &Site, tables: &Tables, failed: &[u64], name: ArmName, stripe: u64) -> bool
+pub(crate) fn fails(
+    site: &Site,
+    tables: &Tables,
+    failed: &[u64],
+    name: ArmName,
+    stripe: u64,
+) -> bool
     requires layout { IsLayout site.now.geometry site.now.perms }
     requires metaslab { site.now.metaslab < site.now.geometry.props.metaslabs }
     requires stripe { stripe < 2 ^ 48 }

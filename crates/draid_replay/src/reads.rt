@@ -30,7 +30,13 @@ fn first_answering(site: &Site, tables: &Tables, names: &[ArmName], stripe: u64)
 }
 
 /// The first arm of a list that answers at a stripe and is clean for a birth.
-fn first_clean(site: &Site, tables: &Tables, names: &[ArmName], stripe: u64, birth: u64) -> Option<ArmName>
+fn first_clean(
+    site: &Site,
+    tables: &Tables,
+    names: &[ArmName],
+    stripe: u64,
+    birth: u64,
+) -> Option<ArmName>
     requires layout { IsLayout site.now.geometry site.now.perms }
     requires metaslab { site.now.metaslab < site.now.geometry.props.metaslabs }
     requires stripe { stripe < 2 ^ 48 }

@@ -1,4 +1,4 @@
-use Rattle.std.proofs.Common.{◌≡◌, ◌∙◌, ap, sym, Some, None, option_copied}
+use Rattle.std.proofs.Common.{◌∙◌, ap, sym, Some, None, option_copied}
 use Rattle.draid_machine.specs.Arms.{logged}
 use Rattle.draid_replay.proofs.Maps.{arm_found}
 use Rattle.draid_replay.proofs.arms.is_logged.Goals as goal

@@ -1,6 +1,6 @@
 use Rattle.std.proofs.Common.{◌≡◌, ◌∙◌, ◌&&◌, ap, sym, not, true, false, Some, None, is_none, option_copied, rules}
 use Rattle.draid_machine.specs.declared.names.ArmName.TheVariants.{Leaf}
-use Rattle.draid_replay.specs.World.{core_of, arm_of}
+use Rattle.draid_replay.specs.World.{core_of}
 use Rattle.draid_replay.proofs.Maps.{answers_some, answers_none, arm_found}
 use Rattle.draid_replay.proofs.arms.leaf_answers.Goals as goal
 

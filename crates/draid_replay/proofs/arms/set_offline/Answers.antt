@@ -1,4 +1,4 @@
-use Rattle.std.proofs.Common.{◌≡◌, ◌∙◌, ap, Some, ℕ, subst, option_map}
+use Rattle.std.proofs.Common.{◌∙◌, ap, Some}
 use Rattle.draid_machine.specs.State as state
 use Rattle.draid_machine.specs.After.{set_arm}
 use Rattle.draid_replay.specs.World.{arm_in, arm_of, offline_arm, switched}

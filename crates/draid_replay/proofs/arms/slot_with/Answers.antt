@@ -1,4 +1,4 @@
-use Rattle.std.proofs.Common.{◌≡◌, ◌+◌, ◌<◌, ◌≤◌, ◌∙◌, rules, false, ℕ, inl, inr, arith, ap, sym, subst, length}
+use Rattle.std.proofs.Common.{◌≡◌, ◌≤◌, rules, false, inl, inr, arith, ap, sym, subst, length}
 use Rattle.std.proofs.lemmas.Bool.{cases_lt, cases_eq}
 use Rattle.draid_machine.specs.Names.{has_name}
 use Rattle.draid_replay.specs.World.{names_at}

@@ -1,4 +1,4 @@
-use Rattle.std.proofs.Common.{◌+◌, ◌*◌, ◌<◌, ◌≤◌, ◌^◌, ℕ, Fits, w64, arith, rules}
+use Rattle.std.proofs.Common.{rules}
 use Rattle.draid_replay.proofs.Sizes.{few_stripes}
 use Rattle.draid_replay.proofs.places.home.Goals as goal
 

@@ -1,4 +1,4 @@
-use Rattle.std.proofs.Common.{◌≡◌, ◌+◌, ◌<◌, ◌∙◌, ℕ, inl, inr, arith, subst}
+use Rattle.std.proofs.Common.{inl, inr, arith, subst}
 use Rattle.std.proofs.lemmas.Bool.{cases_eq}
 use Rattle.draid_replay.specs.Reads.{ReadsFrom}
 use Rattle.draid_replay.specs.World.{core_of, site_layout}

@@ -1,4 +1,4 @@
-use Rattle.std.proofs.Common.{◌≡◌, ◌∙◌, ap, sym, rules}
+use Rattle.std.proofs.Common.{◌∙◌, ap, sym}
 use Rattle.draid_replay.specs.World.{core_of, names_at, site_layout}
 use Rattle.draid_replay.proofs.Readings.{reading_else}
 use Rattle.draid_replay.proofs.reads.reading.Goals as goal

@@ -1,4 +1,4 @@
-use Rattle.std.proofs.Common.{Some, None}
+use Rattle.std.proofs.Common.{Some}
 use Rattle.draid_replay.proofs.Maps.{held_updated, on_ok}
 use Rattle.draid_replay.proofs.tables.enter.Goals as goal
 

@@ -1,4 +1,4 @@
-use Rattle.std.proofs.Common.{Some, None}
+use Rattle.std.proofs.Common.{None}
 use Rattle.draid_replay.proofs.Maps.{held_updated}
 use Rattle.draid_replay.proofs.tables.forget.Goals as goal
 
