@@ -93,7 +93,7 @@ place_within geometry perms stripe column is within in_group =
     three_below geometry.props.height geometry.rows (slice_in geometry stripe) (index_in geometry stripe column / geometry.ndisks) (stripe % geometry.props.height)
     (geometry.props.metaslabs * geometry.props.slices) (stripe_slice geometry stripe is within) (row_of_column geometry (group_in geometry stripe) column is group in_group) (mod-lt stripe some.height)
 
-place_slice : (geometry : Geometry) (perms : Perms) (stripe column : ℕ) → IsGeometry geometry → column < geometry.g
+pub place_slice : (geometry : Geometry) (perms : Perms) (stripe column : ℕ) → IsGeometry geometry → column < geometry.g
     → (place_of geometry perms stripe column).sector / (geometry.rows * geometry.props.height) ≡ slice_in geometry stripe
 place_slice geometry perms stripe column is in_group =
     let some : HasSome geometry = has_some geometry is in

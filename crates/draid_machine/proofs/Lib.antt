@@ -1,0 +1,15 @@
+pub mod Bounds
+pub mod Calm
+pub mod Follows
+pub mod Landings
+pub mod Layouts
+pub mod Owning
+pub mod Passes
+pub mod Places
+pub mod Rows
+pub mod Sample
+pub mod Seals
+pub mod Small
+pub mod Standing
+pub mod Tickets
+pub mod Unique

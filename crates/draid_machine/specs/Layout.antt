@@ -1,0 +1,36 @@
+use Rattle.std.specs.Prelude.{◌+◌, ◌-◌, ◌*◌, ◌/◌, ℕ}
+use Rattle.draid_spec.specs.declared.layout.Geometry.{Geometry}
+use Rattle.draid_perm.specs.declared.perms.Perms.{Perms}
+use Rattle.draid_perm.specs.Perms.{child_of}
+use Rattle.draid_map.specs.Place.{place_of}
+use Rattle.draid_machine.specs.State.{Layout}
+
+-- the stripes of a metaslab, and its sectors on each child
+abbrev pub stripes_in : Geometry → ℕ
+stripes_in geometry = geometry.props.slices * geometry.ngroups * geometry.props.height
+
+abbrev pub sectors_in : Geometry → ℕ
+sectors_in geometry = geometry.props.slices * geometry.rows * geometry.props.height
+
+-- a stripe of a metaslab in the pool, and its slice there
+abbrev pub pool_stripe : Geometry → ℕ → ℕ → ℕ
+pool_stripe geometry metaslab x = metaslab * stripes_in geometry + x
+
+abbrev pub slice_of : Geometry → ℕ → ℕ
+slice_of geometry stripe = stripe / (geometry.props.height * geometry.ngroups)
+
+-- the layout of a metaslab: a column's slot is the child of its place, and a spare keeps a stripe's sectors on the child at the spare's
+-- position of that slice
+abbrev pub layout_of : Geometry → Perms → ℕ → Layout
+layout_of geometry perms metaslab = record {
+  columns = geometry.g;
+  parity = geometry.spec.parity;
+  slots = geometry.spec.children;
+  spares = geometry.spec.spares;
+  stripes = stripes_in geometry;
+  height = geometry.props.height;
+  sectors = sectors_in geometry;
+  slot_of = λ x column. (place_of geometry perms (pool_stripe geometry metaslab x) column).child;
+  sector_of = λ x column. (place_of geometry perms (pool_stripe geometry metaslab x) column).sector - metaslab * sectors_in geometry;
+  home = λ spare x. child_of perms (slice_of geometry (pool_stripe geometry metaslab x)) (geometry.spec.children - 1 - spare);
+}

@@ -1,0 +1,10 @@
+pub mod After
+pub mod Arms
+pub mod Claims
+pub mod Created
+pub mod Images
+pub mod Layout
+pub mod Names
+pub mod Sound
+pub mod State
+pub mod Step
