@@ -2,8 +2,10 @@
 
 #![tactic(auto)]
 
+mod arm;
 mod fault;
 mod pointer;
 
+pub use arm::{Arm, ArmAt, ArmKind, At};
 pub use fault::{Failed, NoMemory};
 pub use pointer::Pointer;
