@@ -119,10 +119,11 @@ fn read(
     requires { IsLayout layout perms }
 {
     let mut slots = Slots::new(alloc, layout, perms, 0)?;
-    if layout.spec.children < 2 || attach(&mut slots, alloc, 1, arm(ArmKind::Leaf, 4))?.is_err() {
+    let _ = attach(&mut slots, alloc, 1, arm(ArmKind::Leaf, 4))?;
+    slots.reserve(alloc, 2)?;
+    if layout.spec.children < 2 || slots.arms(1).len() < 2 {
         return Ok(None);
     }
-    slots.reserve(alloc, 2)?;
     let first = slots.reading_arm(1, 0, 3);
     slots.dirty(at(1, 0), 3);
     let doubtful = slots.reading_arm(1, 0, 3);
