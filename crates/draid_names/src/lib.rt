@@ -4,8 +4,10 @@
 
 mod arm;
 mod fault;
+mod pass_kind;
 mod pointer;
 
 pub use arm::{Arm, ArmAt, ArmKind, At};
 pub use fault::{Failed, NoMemory};
+pub use pass_kind::PassKind;
 pub use pointer::Pointer;

@@ -1,0 +1,8 @@
+/// What a pass over a metaslab does.
+#[derive(Clone, Copy, Debug, PartialEq, Eq)]
+pub enum PassKind {
+    /// Restores stripe by stripe onto its targets, without checksums (a sequential rebuild).
+    Rebuild,
+    /// Verifies block by block and writes what differs (a scrub).
+    Heal,
+}
