@@ -1,0 +1,5 @@
+pub mod Digits
+pub mod Laws
+pub mod Loop
+pub mod Read
+pub mod Within
