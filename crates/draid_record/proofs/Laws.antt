@@ -1,13 +1,13 @@
 -- What a grammar spells is what is read by it.
 use Rattle.std.proofs.Common.{◌≡◌, ℕ, zero, suc, ◌+◌, ◌-◌, ◌^◌, ◌<◌, ◌≤◌, Bool, true, false, cond, ltb, leb, List, [], ◌∷◌, ◌++◌, length, get_or, take, drop, Result, Ok, Err, refl, sym, ap, ap₂, subst, ◌∙◌, append_assoc, arith, inl, inr}
 use Rattle.std.specs.Prelude.{◌&&◌, nat_le, nat_lt}
-use Rattle.std.proofs.lemmas.Bool.{cases_lt, ltb-false, le-ltb}
+use Rattle.std.proofs.lemmas.Bool.{cases_lt, false≢true, ltb-false, le-ltb}
 use Rattle.std.proofs.lemmas.Bool.Decides.{nat_tests}
 use Rattle.std.proofs.lemmas.List.{take_at, drop_at, take-append-drop, length-append, length-take, get_or-drop, get_or-take, get_or_past}
 use Rattle.byteorder.specs.Endian.{big_bytes, big_number}
 use Rattle.byteorder.specs.Numbers.{big_from-lt, big_number-reads_back, length-bytes_high_first}
 use Rattle.draid_record.specs.declared.fault.Fault.{Fault}
-use Rattle.draid_record.specs.Grammar.{Grammar, Done, Number, Bytes, Check, Spells, ◌>>=◌}
+use Rattle.draid_record.specs.Grammar.{Grammar, Done, Number, Bytes, Check, Spells, ◌>>=◌, check}
 use Rattle.draid_record.specs.declared.fault.ReadError.{ReadError}
 use Rattle.draid_record.specs.declared.fault.ReadError.TheVariants as errors
 use Rattle.draid_record.specs.Reading.{Fails, bytes_at, cut, number_at, range, read, then_read}
@@ -172,3 +172,17 @@ after_ok g f bytes rest x is = read_then g f bytes ∙ ap (λ r. then_read r (λ
 pub after_err : {A B : Type 0} (g : Grammar A) (f : A → Grammar B) (bytes : List ℕ) (e : ReadError) → Fails e (read g bytes) → Fails e (read (g >>= f) bytes)
 after_err g f bytes errors.NoMemory fails = tt
 after_err g f bytes (errors.Field fault) fails = read_then g f bytes ∙ ap (λ r. then_read r (λ x. read (f x.0) x.1)) fails
+
+pub read_done : {A : Type 0} (x : A) (bytes : List ℕ) → read (Done x) bytes ≡ Ok (x, bytes)
+unfolding read
+read_done x bytes = refl
+
+pub check_passes : {A : Type 0} (holds : Bool) (back : ℕ) (x : A) (bytes : List ℕ) → holds ≡ true → read (check holds back >>= λ u. Done x) bytes ≡ Ok (x, bytes)
+unfolding read
+check_passes true back x bytes is = refl
+check_passes false back x bytes is = absurd (false≢true is)
+
+pub check_fails : {A : Type 0} (holds : Bool) (back : ℕ) (x : A) (bytes : List ℕ) → holds ≡ false → read (check holds back >>= λ u. Done x) bytes ≡ Err (range (length bytes + back))
+unfolding read
+check_fails true back x bytes is = absurd (false≢true (sym is))
+check_fails false back x bytes is = refl

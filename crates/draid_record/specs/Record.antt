@@ -1,6 +1,7 @@
 -- The record of a metaslab.
 use Rattle.std.specs.Prelude.{◌≡◌, ◌==◌, ◌<◌, ◌≤◌, ◌+◌, ◌-◌, ◌*◌, ◌/◌, ◌%◌, ◌^◌, ◌||◌, ◌&&◌, not, ℕ, zero, suc, Bool, true, false, nat_le, nat_lt, List, [], ◌∷◌, ◌++◌, map, length, slice_index_or, Option, Some, None, Result, Ok, Err, if◌then◌else◌}
 use Rattle.std.specs.List.{list_any}
+use Rattle.std.specs.Option.{option_map}
 use Rattle.std.specs.declared.alloc.Global.{Global}
 use Rattle.std.specs.declared.vec.Vec.{Vec}
 use Rattle.draid_names.specs.declared.arm.Arm.{Arm}
@@ -14,6 +15,7 @@ use Rattle.draid_pass.specs.declared.pass.Pass.{Pass}
 use Rattle.draid_ranges.specs.Numbers.{Numbers}
 use Rattle.draid_ranges.specs.declared.run.Run.{Run}
 use Rattle.draid_spec.specs.declared.layout.Geometry.{Geometry}
+use Rattle.draid_record.specs.declared.record.Record.{Record}
 use Rattle.draid_record.specs.declared.limits.Limits.{Limits}
 use Rattle.draid_record.specs.Grammar.{Grammar, Done, ◌>>=◌, check, many, number, text}
 
@@ -135,9 +137,12 @@ abbrev pub arm_count : List (List ArmTold) → ℕ
 arm_count [] = 0
 arm_count (here ∷ all) = length here + arm_count all
 
+abbrev pub targets_of : List (List ArmTold) → ℕ → Grammar (List ArmAt)
+targets_of all count = many count (target all) some_target None
+
 -- the targets behind their number
 abbrev pub targets : List (List ArmTold) → Grammar (List ArmAt)
-targets all = number 2 0 (arm_count all) >>= λ count. many count (target all) some_target None
+targets all = number 2 0 (arm_count all) >>= λ count. targets_of all count
 
 -- the fields of a pass of this kind before its targets; `least` is the least value of the running field
 abbrev pub pass_head : Limits → PassKind → ℕ → Grammar PassTold
@@ -168,9 +173,15 @@ space_run state = do
   len ← number 8 0 (2 ^ 64 - 1)
   Done (record { first = first; len = len })
 
+abbrev pub same_state : ℕ → Run → ℕ
+same_state state r = state
+
+abbrev pub space_runs : ℕ → Grammar (List Run)
+space_runs count = many count space_run same_state 0
+
 -- the runs behind their number
 abbrev pub spaces : Grammar (List Run)
-spaces = number 4 0 (2 ^ 32 - 1) >>= λ count. many count space_run (λ state r. state) 0
+spaces = number 4 0 (2 ^ 32 - 1) >>= λ count. space_runs count
 
 -- the stripes of a block of so many bytes: its sectors over the data columns, both rounded up
 abbrev pub stripes_of : Limits → ℕ → ℕ
@@ -193,9 +204,12 @@ block limits low = do
 abbrev pub end_of : ℕ → Pointer → ℕ
 end_of low b = b.first + b.stripes
 
+abbrev pub blocks_of : Limits → ℕ → Grammar (List Pointer)
+blocks_of limits count = many count (block limits) end_of 0
+
 -- the blocks behind their number
 abbrev pub blocks : Limits → Grammar (List Pointer)
-blocks limits = number 4 0 4096 >>= λ count. many count (block limits) end_of 0
+blocks limits = number 4 0 4096 >>= λ count. blocks_of limits count
 
 -- the runs of blocks of which the first begin at `first` and lie one behind the other up to a stripe
 abbrev pub spaces_from : ℕ → ℕ → List Pointer → List Run
@@ -234,12 +248,33 @@ head limits = do
   children ← number 2 limits.children limits.children
   Done children
 
--- the fields behind the length; the space runs are those of the blocks
-abbrev pub body : Limits → Grammar RecordTold
-body limits =
-    head limits >>= λ children. slots limits >>= λ all. number 8 0 (2 ^ 48 - 1) >>= λ last. pass limits all >>= λ running. spaces >>= λ runs. blocks limits >>= λ list.
-    check (same_runs runs (spaces_of list)) (4 + 16 * length runs + 4 + 72 * length list) >>= λ kept.
+abbrev pub last_pass : Grammar ℕ
+last_pass = number 8 0 (2 ^ 48 - 1) >>= λ last. Done last
+
+-- what stands behind the blocks, nothing: the space runs are those of the blocks
+abbrev pub behind_blocks : Limits → List (List ArmTold) → ℕ → Option PassTold → List Run → List Pointer → Grammar RecordTold
+behind_blocks limits all last running runs list =
+    check (same_runs runs (spaces_of list)) (8 + 16 * length runs + 72 * length list) >>= λ kept.
     Done (record { metaslab = limits.metaslab; group = limits.group; slots = all; last_pass = last; pass = running; blocks = list })
+
+abbrev pub behind_spaces : Limits → List (List ArmTold) → ℕ → Option PassTold → List Run → Grammar RecordTold
+behind_spaces limits all last running runs = blocks limits >>= λ list. behind_blocks limits all last running runs list
+
+abbrev pub behind_pass : Limits → List (List ArmTold) → ℕ → Option PassTold → Grammar RecordTold
+behind_pass limits all last running = spaces >>= λ runs. behind_spaces limits all last running runs
+
+abbrev pub behind_last : Limits → List (List ArmTold) → ℕ → Grammar RecordTold
+behind_last limits all last = pass limits all >>= λ running. behind_pass limits all last running
+
+abbrev pub behind_slots : Limits → List (List ArmTold) → Grammar RecordTold
+behind_slots limits all = last_pass >>= λ last. behind_last limits all last
+
+abbrev pub behind_head : Limits → Grammar RecordTold
+behind_head limits = slots limits >>= λ all. behind_slots limits all
+
+-- the fields behind the length
+abbrev pub body : Limits → Grammar RecordTold
+body limits = head limits >>= λ children. behind_head limits
 
 -- what stands before the length
 abbrev pub front : ℕ → Grammar ℕ
@@ -258,3 +293,15 @@ told_slots lists = map (λ (list : Vec (Arm × Numbers) Global). told_slot list.
 
 abbrev pub told_pass : Pass → PassTold
 told_pass pass = record { kind = pass.kind; targets = pass.targets.items; max = pass.max; «at» = pass.«at»; errors = pass.errors; running = pass.running }
+
+abbrev pub told_record : Record → RecordTold
+told_record it = record { metaslab = it.metaslab; group = it.group; slots = told_slots it.slots.items; last_pass = it.last_pass; pass = option_map told_pass it.pass; blocks = it.blocks.items }
+
+-- limits that a layout gives
+pub record AreLimits (limits : Limits) : Type 0 where
+  pub some_sector : 1 ≤ limits.sector
+  pub most_sector : limits.sector ≤ 4096
+  pub some_data : 1 ≤ limits.ndata
+  pub most_data : limits.ndata ≤ 2 ^ 32
+  pub some_height : 1 ≤ limits.height
+  pub most_stripes : limits.stripes ≤ 2 ^ 48

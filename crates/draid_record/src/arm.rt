@@ -1,4 +1,4 @@
-ghost use Rattle.std.specs.Prelude.{◌≡◌, ◌<◌, ◌^◌, length};
+ghost use Rattle.std.specs.Prelude.{◌≡◌, ◌≤◌, All, IfOk, length};
 ghost use Rattle.draid_record.specs.Reading.{Gives, read};
 ghost use Rattle.draid_record.specs.Record as spec;
 ghost use Rattle.draid_record.specs.Record.{told_arm, told_slot, told_slots};
@@ -126,7 +126,8 @@ fn arms<'a>(
     before: &[Vec<(Arm, Log)>],
     count: u64,
 ) -> Result<(Vec<(Arm, Log)>, &'a [u8]), ReadError>
-    ensures { Gives (λ x. (told_slot x.0.items, x.1.now)) result (read (spec.slot_arms limits.now (told_slots before.now) count) bytes.now) }
+    ensures arms { Gives (λ x. (told_slot x.0.items, x.1.now)) result (read (spec.slot_arms limits.now (told_slots before.now) count) bytes.now) }
+    ensures few { IfOk result (λ x. length x.0.items ≤ count) }
 {
     let mut arms = Vec::new(alloc);
     let mut rest = bytes;
@@ -146,7 +147,8 @@ fn slot<'a>(
     limits: &Limits,
     before: &[Vec<(Arm, Log)>],
 ) -> Result<(Vec<(Arm, Log)>, &'a [u8]), ReadError>
-    ensures { Gives (λ x. (told_slot x.0.items, x.1.now)) result (read (spec.slot limits.now (told_slots before.now)) bytes.now) }
+    ensures slot { Gives (λ x. (told_slot x.0.items, x.1.now)) result (read (spec.slot limits.now (told_slots before.now)) bytes.now) }
+    ensures few { IfOk result (λ x. length x.0.items ≤ 3) }
 {
     let (count, bytes) = number(bytes, 1, 1, 3)?;
     arms(alloc, bytes, limits, before, count)
@@ -158,7 +160,8 @@ pub(crate) fn slots<'a>(
     bytes: &'a [u8],
     limits: &Limits,
 ) -> Result<(Vec<Vec<(Arm, Log)>>, &'a [u8]), ReadError>
-    ensures { Gives (λ x. (told_slots x.0.items, x.1.now)) result (read (spec.slots limits.now) bytes.now) }
+    ensures slots { Gives (λ x. (told_slots x.0.items, x.1.now)) result (read (spec.slots limits.now) bytes.now) }
+    ensures few { IfOk result (λ x. All (λ list. length list ≤ 3) (told_slots x.0.items)) }
 {
     let mut slots = Vec::new(alloc);
     let mut rest = bytes;

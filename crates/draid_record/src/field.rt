@@ -1,4 +1,4 @@
-ghost use Rattle.std.specs.Prelude.{◌≡◌, ◌+◌, ◌≤◌, IfErr, IfOk, OnErr, OnOk, true, false, length};
+ghost use Rattle.std.specs.Prelude.{◌≡◌, ◌+◌, ◌<◌, ◌≤◌, ◌^◌, IfErr, IfOk, OnErr, OnOk, true, false, length};
 ghost use Rattle.draid_record.specs.Reading.{Tells, bytes_at, number_at, range};
 
 use crate::fault::Fault;
@@ -9,6 +9,7 @@ pub(crate) fn number(bytes: &[u8], width: usize, low: u64, high: u64) -> Result<
     requires { (1 ≤ width) × (width ≤ 8) }
     ensures number { Tells (λ x. (x.0, x.1.now)) result (number_at width low high bytes.now) }
     ensures range { IfOk result (λ x. (low ≤ x.0) × (x.0 ≤ high)) }
+    ensures small { IfOk result (λ x. x.0 < 256 ^ width) }
     ensures rest { IfOk result (λ x. length x.1.now + width ≡ length bytes.now) }
 {
     let left = bytes.len();

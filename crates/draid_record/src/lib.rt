@@ -3,11 +3,15 @@
 #![tactic(auto)]
 
 mod arm;
+mod block;
 mod fault;
 mod field;
 mod limits;
 mod log;
+mod pass;
+mod record;
 mod uber;
 
 pub use fault::RecordFault;
+pub use record::Record;
 pub use uber::{UberBody, read_uber};

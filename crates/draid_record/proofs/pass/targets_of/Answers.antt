@@ -1,0 +1,35 @@
+use Rattle.std.proofs.Common.{◌≡◌, ◌≤◌, ◌<◌, ◌+◌, ◌-◌, ◌*◌, ◌^◌, ◌∷◌, ◌++◌, [], ℕ, true, List, Option, None, Some, length, map, ap, subst, sym, ◌∙◌, arith, Ok, Err, Result}
+use Rattle.std.proofs.lemmas.Result.{err_from_is_err_and}
+use Rattle.std.proofs.lemmas.List.{map_push}
+use Rattle.draid_names.specs.declared.arm.Arm.{Arm}
+use Rattle.draid_names.specs.declared.arm.ArmAt.{ArmAt}
+use Rattle.draid_names.specs.declared.pass_kind.PassKind.{PassKind}
+use Rattle.draid_names.specs.declared.pass_kind.PassKind.TheVariants.{Rebuild, Heal}
+use Rattle.draid_names.specs.declared.pointer.Pointer.{Pointer}
+use Rattle.draid_ranges.specs.declared.run.Run.{Run}
+use Rattle.std.specs.Prelude.{All}
+use Rattle.std.proofs.lemmas.List.{length-map}
+use Rattle.std.proofs.lemmas.List.Elements.{All-append}
+use Rattle.draid_record.proofs.Within.{one}
+use Rattle.draid_record.specs.declared.fault.Fault.{Fault}
+use Rattle.draid_record.specs.Grammar.{◌>>=◌, Grammar, Done, check, many, number}
+use Rattle.draid_record.specs.Reading.{Fails, Gives, read}
+use Rattle.draid_record.specs.Record as spec
+use Rattle.draid_record.specs.Record.{told_arm, told_slot, told_slots, told_pass, ArmTold, PassTold, RecordTold}
+use Rattle.draid_record.proofs.Laws.{after_err, after_ok, read_done}
+use Rattle.draid_record.proofs.Loop.{ends, goes_on, is_done, with_front}
+use Rattle.draid_record.proofs.pass.targets_of.Goals as goal
+
+pub returns-in_err-found : goal.returns-in_err-found
+returns-in_err-found c =
+    let p = err_from_is_err_and c.from_residual.result c.from_residual.ensures.1 in
+    rw (p.1, p.2) (ends (spec.target (told_slots c.args.all.now)) spec.some_target c.loop.before c.loop.targets.items c.in_err-found.field-0.0 c.args.count c.loop.counter c.loop.rest.now (read (spec.targets_of (told_slots c.args.all.now) c.args.count) c.args.bytes.now) c.loop-test.true c.in_err-found.ensures c.loop.invariant)
+
+pub loop-preserved : goal.loop-preserved
+loop-preserved c =
+    let S : List ArmAt → Type 0 = λ ts. with_front ts (read (many (c.args.count - (c.loop.counter + 1)) (spec.target (told_slots c.args.all.now)) spec.some_target (Some c.in_ok-found.found)) c.in_ok-found.after.now) ≡ read (spec.targets_of (told_slots c.args.all.now) c.args.count) c.args.bytes.now in
+    subst S (sym c.in_ok-push.ensures.items)
+    (goes_on (spec.target (told_slots c.args.all.now)) spec.some_target c.loop.before c.loop.targets.items c.args.count c.loop.counter c.loop.rest.now c.in_ok-found.found c.in_ok-found.after.now (read (spec.targets_of (told_slots c.args.all.now) c.args.count) c.args.bytes.now) c.loop-test.true c.in_ok-found.ensures c.loop.invariant)
+
+pub returns : goal.returns
+returns c = is_done (spec.target (told_slots c.args.all.now)) spec.some_target c.loop.before c.loop.targets.items c.args.count c.loop.counter c.loop.rest.now (read (spec.targets_of (told_slots c.args.all.now) c.args.count) c.args.bytes.now) c.loop-test.false c.loop.invariant

@@ -1,0 +1,83 @@
+ghost use Rattle.std.specs.Prelude.{◌≡◌, ◌≤◌, ◌<◌, ◌^◌, Ok, All, IfOk, IfSome, length};
+ghost use Rattle.std.specs.Option.{option_map};
+ghost use Rattle.draid_spec.specs.Geometry.{IsGeometry};
+ghost use Rattle.draid_record.specs.Reading.{Gives, read};
+ghost use Rattle.draid_record.specs.Record as spec;
+ghost use Rattle.draid_record.specs.Record.{AreLimits, RecordTold, told_record};
+
+use crate::arm::slots;
+use crate::block::{are_spaces, blocks, spaces};
+use crate::fault::{Fault, ReadError, RecordFault};
+use crate::field::{check, number};
+use crate::limits::Limits;
+use crate::pass::pass;
+use draid_dtl::Log;
+use draid_names::{Arm, Pointer};
+use draid_pass::Pass;
+use draid_spec::Geometry;
+use std::alloc::Global;
+
+const MAGIC: u64 = 0x445a_5243;
+const LAST: u64 = (1 << 48) - 1;
+
+/// What a metaslab's record of a group tells.
+#[derive(Drop)]
+pub struct Record {
+    pub metaslab: u32,
+    pub group: u64,
+    /// For each child slot its arms in the order of attachment, with their logs.
+    pub slots: Vec<Vec<(Arm, Log)>>,
+    /// The last pass number used, below 2^48.
+    pub last_pass: u64,
+    /// The pass, whose number is the last one used.
+    pub pass: Option<Pass>,
+    /// The blocks, ascending by their stripes.
+    pub blocks: Vec<Pointer>,
+}
+
+/// The metaslab, the group and the number of slots.
+#[tactic(auto, unfolding(crate::specs::Reading::read))]
+fn head<'a>(bytes: &'a [u8], limits: &Limits) -> Result<&'a [u8], ReadError>
+    ensures { Gives (λ x. (limits.now.children, x.now)) result (read (spec.head limits.now) bytes.now) }
+{
+    let metaslab = u64::from(limits.metaslab);
+    let (_, bytes) = number(bytes, 2, metaslab, metaslab)?;
+    let (_, bytes) = number(bytes, 8, limits.group, limits.group)?;
+    let children = u64::from(limits.children);
+    let (_, bytes) = number(bytes, 2, children, children)?;
+    Ok(bytes)
+}
+
+/// The last pass number used.
+#[tactic(auto, unfolding(crate::specs::Reading::read))]
+fn last_pass(bytes: &[u8]) -> Result<(u64, &[u8]), ReadError>
+    ensures { Gives (λ x. (x.0, x.1.now)) result (read spec.last_pass bytes.now) }
+{
+    let (last, bytes) = number(bytes, 8, 0, LAST)?;
+    Ok((last, bytes))
+}
+
+/// The fields behind the length.
+fn body<'a>(alloc: Global, bytes: &'a [u8], limits: &Limits) -> Result<(Record, &'a [u8]), ReadError>
+    requires { AreLimits limits.now }
+    ensures body { Gives (λ x. (told_record x.0, x.1.now)) result (read (spec.body limits.now) bytes.now) }
+    ensures number { IfOk result (λ x. IfSome x.0.pass (λ pass. pass.number ≡ x.0.last_pass)) }
+{
+    let bytes = head(bytes, limits)?;
+    let (slots, bytes) = slots(alloc, bytes, limits)?;
+    let (last_pass, bytes) = last_pass(bytes)?;
+    let (pass, bytes) = pass(alloc, bytes, limits, &slots, last_pass)?;
+    let (runs, bytes) = spaces(alloc, bytes)?;
+    let (list, bytes) = blocks(alloc, bytes, limits)?;
+    let back = 8 + 16 * runs.len() + 72 * list.len();
+    check(are_spaces(&runs, &list), bytes.len() + back)?;
+    let record = Record {
+        metaslab: limits.metaslab,
+        group: limits.group,
+        slots,
+        last_pass,
+        pass,
+        blocks: list,
+    };
+    Ok((record, bytes))
+}
