@@ -1,5 +1,5 @@
 -- The record of a metaslab.
-use Rattle.std.specs.Prelude.{◌≡◌, ◌==◌, ◌<◌, ◌≤◌, ◌+◌, ◌-◌, ◌*◌, ◌/◌, ◌%◌, ◌^◌, ◌||◌, ◌&&◌, not, ℕ, zero, suc, Bool, true, false, nat_le, nat_lt, List, [], ◌∷◌, ◌++◌, map, length, slice_index_or, Option, Some, None, Result, Ok, Err, if◌then◌else◌}
+use Rattle.std.specs.Prelude.{◌≡◌, ◌==◌, ◌<◌, ◌≤◌, ◌+◌, ◌-◌, ◌*◌, ◌/◌, ◌%◌, ◌^◌, ◌||◌, ◌&&◌, not, ℕ, zero, suc, Bool, true, false, nat_le, nat_lt, List, [], ◌∷◌, ◌++◌, map, length, take, slice_index_or, ⊤, Option, Some, None, Result, Ok, Err, if◌then◌else◌}
 use Rattle.std.specs.List.{list_any}
 use Rattle.std.specs.Option.{option_map}
 use Rattle.std.specs.declared.alloc.Global.{Global}
@@ -17,7 +17,11 @@ use Rattle.draid_ranges.specs.declared.run.Run.{Run}
 use Rattle.draid_spec.specs.declared.layout.Geometry.{Geometry}
 use Rattle.draid_record.specs.declared.record.Record.{Record}
 use Rattle.draid_record.specs.declared.limits.Limits.{Limits}
-use Rattle.draid_record.specs.Grammar.{Grammar, Done, ◌>>=◌, check, many, number, text}
+use Rattle.draid_record.specs.declared.fault.Fault.{Fault}
+use Rattle.draid_record.specs.declared.fault.RecordFault.{RecordFault}
+use Rattle.draid_record.specs.declared.fault.RecordFault.TheVariants as faults
+use Rattle.draid_record.specs.Grammar.{Grammar, Done, ◌>>=◌, Spells, check, many, number, text}
+use Rattle.draid_record.specs.Reading.{placed, read}
 
 -- ---- logs
 
@@ -305,3 +309,56 @@ pub record AreLimits (limits : Limits) : Type 0 where
   pub most_data : limits.ndata ≤ 2 ^ 32
   pub some_height : 1 ≤ limits.height
   pub most_stripes : limits.stripes ≤ 2 ^ 48
+
+-- what the ranges of a metaslab's record go by
+abbrev pub limits_of : Geometry → ℕ → ℕ → ℕ → Limits
+limits_of geometry metaslab group next_leaf =
+    record {
+      children = geometry.spec.children;
+      spares = geometry.spec.spares;
+      next_leaf = next_leaf;
+      metaslab = metaslab;
+      group = group;
+      stripes = geometry.props.slices * geometry.ngroups * geometry.props.height;
+      height = geometry.props.height;
+      sector = geometry.props.sector;
+      ndata = geometry.spec.ndata;
+    }
+
+-- ---- the whole record, at the front of its area
+
+-- the bytes behind the length are the record's fields and end with them; more is kind 3
+abbrev pub ended : ℕ → Result (RecordTold × List ℕ) Fault → Result RecordTold RecordFault
+ended len (Err f) = Err (placed len f)
+ended len (Ok (value, [])) = Ok value
+ended len (Ok (value, byte ∷ left)) = Err (placed len (record { left = suc (length left); kind = 3 }))
+
+-- behind its front a record has as many bytes as its length says
+abbrev pub fronted : Limits → ℕ → Result (ℕ × List ℕ) Fault → Result RecordTold RecordFault
+fronted limits area (Err f) = Err (placed area f)
+fronted limits area (Ok (len, rest)) = ended len (read (body limits) (take (len - 10) rest))
+
+-- what an area tells: the record, or its first fault
+abbrev pub record_of : Limits → List ℕ → Result RecordTold RecordFault
+record_of limits area = fronted limits (length area) (read (front (length area)) area)
+
+-- An area begins with the bytes of a record: its front, which says the length, and the fields behind. Bytes behind
+-- the length may follow.
+pub record Spelled (limits : Limits) (area : List ℕ) (value : RecordTold) : Type 0 where
+  pub len : ℕ
+  pub head_bytes : List ℕ
+  pub text_bytes : List ℕ
+  pub more : List ℕ
+  pub parts : area ≡ head_bytes ++ (text_bytes ++ more)
+  pub front_is : Spells (front (length area)) head_bytes len
+  pub whole : length head_bytes + length text_bytes ≡ len
+  pub fields_are : Spells (body limits) text_bytes value
+
+-- What a reader answered is what is found, unless memory ran out.
+abbrev pub Fits : RecordFault → Result RecordTold RecordFault → Type 0
+Fits faults.NoMemory found = ⊤
+Fits (faults.Bad place kind) found = found ≡ Err (faults.Bad place kind)
+
+abbrev pub Answers : Result Record RecordFault → Result RecordTold RecordFault → Type 0
+Answers (Ok it) found = found ≡ Ok (told_record it)
+Answers (Err e) found = Fits e found

@@ -1,7 +1,7 @@
-ghost use Rattle.std.specs.Prelude.{◌≡◌, ◌≤◌, ◌<◌, ◌^◌, Ok, All, IfOk, IfSome, length};
+ghost use Rattle.std.specs.Prelude.{◌≡◌, ◌+◌, ◌≤◌, IfOk, IfSome, length};
 ghost use Rattle.std.specs.Option.{option_map};
 ghost use Rattle.draid_spec.specs.Geometry.{IsGeometry};
-ghost use Rattle.draid_record.specs.Reading.{Gives, read};
+ghost use Rattle.draid_record.specs.Reading.{Gives, Tells, read};
 ghost use Rattle.draid_record.specs.Record as spec;
 ghost use Rattle.draid_record.specs.Record.{AreLimits, RecordTold, told_record};
 
@@ -80,4 +80,68 @@ fn body<'a>(alloc: Global, bytes: &'a [u8], limits: &Limits) -> Result<(Record, 
         blocks: list,
     };
     Ok((record, bytes))
+}
+
+/// What the ranges of a record's fields go by.
+fn limits(geometry: &Geometry, metaslab: u32, group: u64, next_leaf: u64) -> Limits
+    requires { IsGeometry geometry.now }
+    ensures value { result ≡ spec.limits_of geometry.now metaslab group next_leaf }
+    ensures sound { AreLimits result }
+{
+    let slices = u64::from(geometry.props.slices);
+    let height = u64::from(geometry.props.height);
+    Limits {
+        children: geometry.spec.children,
+        spares: u64::from(geometry.spec.spares),
+        next_leaf,
+        metaslab,
+        group,
+        stripes: slices * u64::from(geometry.ngroups) * height,
+        height,
+        sector: u64::from(geometry.props.sector),
+        ndata: u64::from(geometry.spec.ndata),
+    }
+}
+
+/// The length of the whole record, and the bytes behind it.
+#[tactic(auto, unfolding(crate::specs::Reading::read))]
+fn front(bytes: &[u8]) -> Result<(u64, &[u8]), Fault>
+    ensures front { Tells (λ x. (x.0, x.1.now)) result (read (spec.front (length bytes.now)) bytes.now) }
+    ensures range { IfOk result (λ x. (10 ≤ x.0) × (x.0 ≤ length bytes.now)) }
+    ensures rest { IfOk result (λ x. length x.1.now + 10 ≡ length bytes.now) }
+{
+    let area = bytes.len() as u64;
+    let (_, bytes) = number(bytes, 4, MAGIC, MAGIC)?;
+    let (_, bytes) = number(bytes, 2, 1, 1)?;
+    number(bytes, 4, 10, area)
+}
+
+/// The fields of a record of this length, which end with it.
+fn fields(alloc: Global, bytes: &[u8], len: usize, limits: &Limits) -> Result<Record, RecordFault>
+    requires { AreLimits limits.now }
+    ensures fields { spec.Answers result (spec.ended len (read (spec.body limits.now) bytes.now)) }
+    ensures number { IfOk result (λ it. IfSome it.pass (λ pass. pass.number ≡ it.last_pass)) }
+{
+    match body(alloc, bytes, limits) {
+        Ok((record, [])) => Ok(record),
+        Ok((_, left)) => Err(Fault {
+            left: left.len(),
+            kind: 3,
+        }
+        .within(len)),
+        Err(ReadError::NoMemory) => Err(RecordFault::NoMemory),
+        Err(ReadError::Field(fault)) => Err(fault.within(len)),
+    }
+}
+
+/// The record at the front of an area.
+fn told(alloc: Global, area: &[u8], limits: &Limits) -> Result<Record, RecordFault>
+    requires { AreLimits limits.now }
+    ensures record { spec.Answers result (spec.record_of limits.now area.now) }
+    ensures number { IfOk result (λ it. IfSome it.pass (λ pass. pass.number ≡ it.last_pass)) }
+{
+    match front(area) {
+        Ok((len, rest)) => fields(alloc, &rest[..len as usize - 10], len as usize, limits),
+        Err(fault) => Err(fault.within(area.len())),
+    }
 }
