@@ -2,4 +2,5 @@ pub mod Digits
 pub mod Laws
 pub mod Loop
 pub mod Read
+pub mod Whole
 pub mod Within

@@ -13,5 +13,5 @@ mod record;
 mod uber;
 
 pub use fault::RecordFault;
-pub use record::Record;
+pub use record::{Record, read_record};
 pub use uber::{UberBody, read_uber};

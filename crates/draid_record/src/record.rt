@@ -1,4 +1,4 @@
-ghost use Rattle.std.specs.Prelude.{◌≡◌, ◌+◌, ◌≤◌, IfOk, IfSome, length};
+ghost use Rattle.std.specs.Prelude.{◌≡◌, ◌+◌, ◌≤◌, Ok, IfOk, IfSome, length};
 ghost use Rattle.std.specs.Option.{option_map};
 ghost use Rattle.draid_spec.specs.Geometry.{IsGeometry};
 ghost use Rattle.draid_record.specs.Reading.{Gives, Tells, read};
@@ -33,6 +33,30 @@ pub struct Record {
     pub pass: Option<Pass>,
     /// The blocks, ascending by their stripes.
     pub blocks: Vec<Pointer>,
+}
+
+/// The record of a metaslab and a group at the front of an area, where leaves have numbers below
+/// `next_leaf`. Bytes behind its length aren't read.
+pub fn read_record(
+    alloc: Global,
+    bytes: &[u8],
+    geometry: &Geometry,
+    metaslab: u32,
+    group: u64,
+    next_leaf: u64,
+) -> Result<Record, RecordFault>
+    requires { IsGeometry geometry.now }
+    // What is read is spelled so, byte for byte.
+    ensures found { IfOk result (λ it. spec.Spelled (spec.limits_of geometry.now metaslab group next_leaf) bytes.now (told_record it)) }
+    // What is spelled so is read, unless memory runs out.
+    ensures only { (value : RecordTold) → spec.Spelled (spec.limits_of geometry.now metaslab group next_leaf) bytes.now value
+        → spec.Answers result (Ok value) }
+    // Which fault it is.
+    ensures exact { spec.Answers result (spec.record_of (spec.limits_of geometry.now metaslab group next_leaf) bytes.now) }
+    ensures number { IfOk result (λ it. IfSome it.pass (λ pass. pass.number ≡ it.last_pass)) }
+{
+    let limits = limits(geometry, metaslab, group, next_leaf);
+    told(alloc, bytes, &limits)
 }
 
 /// The metaslab, the group and the number of slots.
@@ -137,7 +161,7 @@ fn fields(alloc: Global, bytes: &[u8], len: usize, limits: &Limits) -> Result<Re
 /// The record at the front of an area.
 fn told(alloc: Global, area: &[u8], limits: &Limits) -> Result<Record, RecordFault>
     requires { AreLimits limits.now }
-    ensures record { spec.Answers result (spec.record_of limits.now area.now) }
+    ensures told { spec.Answers result (spec.record_of limits.now area.now) }
     ensures number { IfOk result (λ it. IfSome it.pass (λ pass. pass.number ≡ it.last_pass)) }
 {
     match front(area) {
