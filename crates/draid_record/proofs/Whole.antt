@@ -43,8 +43,18 @@ front_is area len bytes is =
     let low = is.6.6.4 in
     let high = is.6.6.5 in
     record {
-      ten = omega (arith, ap length a, ap length b, ap length c, length-append (big_bytes 4 is.0) is.1, length-append (big_bytes 2 is.6.0) is.6.1, length-append (big_bytes 4 is.6.6.0) is.6.6.1,
-          length-bytes_high_first 4 is.0, length-bytes_high_first 2 is.6.0, length-bytes_high_first 4 is.6.6.0);
+      ten = omega (
+        arith,
+        ap length a,
+        ap length b,
+        ap length c,
+        length-append (big_bytes 4 is.0) is.1,
+        length-append (big_bytes 2 is.6.0) is.6.1,
+        length-append (big_bytes 4 is.6.6.0) is.6.6.1,
+        length-bytes_high_first 4 is.0,
+        length-bytes_high_first 2 is.6.0,
+        length-bytes_high_first 4 is.6.6.0,
+      );
       least = omega arith;
       most = omega arith;
     }

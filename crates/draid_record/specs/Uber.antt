@@ -1,7 +1,6 @@
 -- The slots of the uberblock area.
 use Rattle.std.specs.Prelude.{◌≡◌, ◌==◌, ◌<◌, ◌≤◌, ◌+◌, ◌-◌, ◌%◌, ◌^◌, ◌||◌, ℕ, Bool, true, nat_le, List, ◌++◌, Result, Ok, Err, is_ok, length}
 use Rattle.std.specs.Int.{is_power_of_two}
-use Rattle.byteorder.specs.Endian.{big_bytes}
 use Rattle.draid_spec.specs.Geometry.{IsProps, geometry_of}
 use Rattle.draid_spec.specs.Spec.{IsSpec, have_of, need_of}
 use Rattle.draid_spec.specs.declared.layout.Props.{Props}
@@ -22,14 +21,6 @@ gives_layout spec props = is_ok (geometry_of spec props)
 
 abbrev pub is_wide : Spec → Bool
 is_wide spec = nat_le (need_of spec) (have_of spec)
-
--- the bytes of an open slot that tells a value, one field behind the other
-abbrev pub uber_bytes : UberBody → List ℕ
-uber_bytes body =
-    big_bytes 1 90 ++ big_bytes 4 1146770754 ++ big_bytes 2 1 ++ big_bytes 8 body.group
-    ++ big_bytes 1 body.spec.parity ++ big_bytes 1 body.spec.ndata ++ big_bytes 1 body.spec.children ++ big_bytes 1 body.spec.spares
-    ++ big_bytes 4 body.props.sector ++ big_bytes 4 body.props.height ++ big_bytes 4 body.props.metaslabs ++ big_bytes 4 body.props.slices
-    ++ big_bytes 8 body.props.seed ++ big_bytes 8 body.next_leaf
 
 -- The bytes of an open slot: the gate, `DZUB`, the version, the group, the spec, the properties and the next leaf.
 -- The group's parity is the number of the slot.
@@ -58,7 +49,8 @@ uber slot = do
     group = group;
     spec = record { parity = parity; ndata = ndata; children = children; spares = spares };
     props = record { sector = sector; height = height; metaslabs = metaslabs; slices = slices; seed = seed };
-    next_leaf = next_leaf })
+    next_leaf = next_leaf;
+  })
 
 -- a value that a slot can spell
 pub record IsUber (body : UberBody) : Type 0 where
@@ -68,6 +60,7 @@ pub record IsUber (body : UberBody) : Type 0 where
   pub wide : need_of body.spec ≤ have_of body.spec
   pub props_are : IsProps body.props
   pub layout : gives_layout body.spec (seedless body.props.sector body.props.height body.props.metaslabs body.props.slices) ≡ true
+  pub seed_below : body.props.seed < 2 ^ 64
   pub leaf_above : body.spec.children ≤ body.next_leaf
   pub leaf_below : body.next_leaf ≤ 2 ^ 48 - 1
 

@@ -1,5 +1,4 @@
 ghost use Rattle.std.specs.Prelude.{◌≡◌};
-
 ghost use Rattle.draid_record.specs.Reading.{placed};
 
 use std::alloc::{AllocError, AllocFailed};

@@ -10,8 +10,10 @@ mod limits;
 mod log;
 mod pass;
 mod record;
+#[cfg(test)]
+mod tests;
 mod uber;
 
 pub use fault::RecordFault;
 pub use record::{Record, read_record};
-pub use uber::{UberBody, read_uber};
+pub use uber::{UberBody, read_uber, write_uber};

@@ -18,6 +18,7 @@ use draid_spec::Geometry;
 use std::alloc::Global;
 
 const MAGIC: u64 = 0x445a_5243;
+
 const LAST: u64 = (1 << 48) - 1;
 
 /// What a metaslab's record of a group tells.
@@ -82,7 +83,11 @@ fn last_pass(bytes: &[u8]) -> Result<(u64, &[u8]), ReadError>
 }
 
 /// The fields behind the length.
-fn body<'a>(alloc: Global, bytes: &'a [u8], limits: &Limits) -> Result<(Record, &'a [u8]), ReadError>
+fn body<'a>(
+    alloc: Global,
+    bytes: &'a [u8],
+    limits: &Limits,
+) -> Result<(Record, &'a [u8]), ReadError>
     requires { AreLimits limits.now }
     ensures body { Gives (λ x. (told_record x.0, x.1.now)) result (read (spec.body limits.now) bytes.now) }
     ensures number { IfOk result (λ x. IfSome x.0.pass (λ pass. pass.number ≡ x.0.last_pass)) }

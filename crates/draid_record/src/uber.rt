@@ -1,9 +1,10 @@
 ghost use Rattle.std.specs.Prelude.{◌≡◌, ◌%◌, Ok, IfOk, length};
+ghost use Rattle.draid_record.specs.Grammar.{Spells};
 ghost use Rattle.draid_record.specs.Reading.{Tells, read};
 ghost use Rattle.draid_record.specs.Uber as spec;
 
 use crate::fault::{Fault, RecordFault};
-use crate::field::{check, number};
+use crate::field::{check, number, put};
 use draid_spec::{Props, Spec, geometry};
 
 /// What a slot of the uberblock area tells.
@@ -18,6 +19,7 @@ pub struct UberBody {
 }
 
 const GATE: u64 = 0x5a;
+
 const MAGIC: u64 = 0x445a_5542;
 
 /// What the open slot of this number, 0 or 1, tells; bytes behind it aren't read.
@@ -89,4 +91,27 @@ fn uber(bytes: &[u8], slot: u64) -> Result<(UberBody, &[u8]), Fault>
         },
         bytes,
     ))
+}
+
+/// The 51 bytes of an open slot that tells this. They are read again as the same value.
+pub fn write_uber(body: &UberBody) -> [u8; 51]
+    requires { spec.IsUber body.now }
+    ensures spelled { Spells (spec.uber (body.now.group % 2)) result body.now }
+{
+    let mut bytes = [0u8; 51];
+    put(&mut bytes, 0, 1, GATE);
+    put(&mut bytes, 1, 4, MAGIC);
+    put(&mut bytes, 5, 2, 1);
+    put(&mut bytes, 7, 8, body.group);
+    put(&mut bytes, 15, 1, u64::from(body.spec.parity));
+    put(&mut bytes, 16, 1, u64::from(body.spec.ndata));
+    put(&mut bytes, 17, 1, u64::from(body.spec.children));
+    put(&mut bytes, 18, 1, u64::from(body.spec.spares));
+    put(&mut bytes, 19, 4, u64::from(body.props.sector));
+    put(&mut bytes, 23, 4, u64::from(body.props.height));
+    put(&mut bytes, 27, 4, u64::from(body.props.metaslabs));
+    put(&mut bytes, 31, 4, u64::from(body.props.slices));
+    put(&mut bytes, 35, 8, body.props.seed);
+    put(&mut bytes, 43, 8, body.next_leaf);
+    bytes
 }

@@ -34,8 +34,11 @@ loop-preserved c =
     let x : ArmTold = told_arm c.in_ok-arm.arm in
     let e : told_slot c.push.new.self.items ≡ front ++ x ∷ [] = rw c.in_ok-push.ensures.items (map_push told_arm c.loop.arms.items c.in_ok-arm.arm) in
     let A : List ArmTold → Type 0 = λ here. read (spec.arm c.args.limits.now (told_slots c.args.before.now) c.args.count here) c.loop.rest.now ≡ Ok (x, c.in_ok-arm.after.now) in
-    record { few = (let few = c.loop.invariant.few in let one = c.in_ok-push.ensures.len in omega arith); still = rw e (goes_on (spec.arm c.args.limits.now (told_slots c.args.before.now) c.args.count) spec.with_last front front c.args.count c.loop.counter c.loop.rest.now x c.in_ok-arm.after.now (read (spec.slot_arms c.args.limits.now (told_slots c.args.before.now) c.args.count) c.args.bytes.now) c.loop-test.true
-    (subst A (ap told_slot c.deref.ensures.value) c.in_ok-arm.ensures) c.loop.invariant.still) }
+    record {
+      few = (let few = c.loop.invariant.few in let one = c.in_ok-push.ensures.len in omega arith);
+      still = rw e (goes_on (spec.arm c.args.limits.now (told_slots c.args.before.now) c.args.count) spec.with_last front front c.args.count c.loop.counter c.loop.rest.now x c.in_ok-arm.after.now (read (spec.slot_arms c.args.limits.now (told_slots c.args.before.now) c.args.count) c.args.bytes.now) c.loop-test.true
+          (subst A (ap told_slot c.deref.ensures.value) c.in_ok-arm.ensures) c.loop.invariant.still);
+    }
 
 pub returns-clause-arms : goal.returns-clause-arms
 returns-clause-arms c = is_done (spec.arm c.args.limits.now (told_slots c.args.before.now) c.args.count) spec.with_last (told_slot c.loop.arms.items) (told_slot c.loop.arms.items) c.args.count c.loop.counter c.loop.rest.now (read (spec.slot_arms c.args.limits.now (told_slots c.args.before.now) c.args.count) c.args.bytes.now) c.loop-test.false c.loop.invariant.still

@@ -35,8 +35,11 @@ loop-preserved c =
     let e : told_slots c.push.new.self.items ≡ front ++ x ∷ [] = rw c.in_ok-push.ensures.items (map_push _ c.loop.slots.items c.in_ok-slot.slot) in
     let A : List (List ArmTold) → Type 0 = λ before. read (spec.slot c.args.limits.now before) c.loop.rest.now ≡ Ok (x, c.in_ok-slot.after.now) in
     let P : List ArmTold → Type 0 = λ list. length list ≤ 3 in
-    record { few = rw e (All-append P front (x ∷ []) c.loop.invariant.few (one P x (let few = c.in_ok-slot.ensures.few in omega (arith, few, length-map c.in_ok-slot.slot.items told_arm)))); still = rw e (goes_on (spec.slot c.args.limits.now) spec.with_last front front c.args.limits.now.children c.loop.counter c.loop.rest.now x c.in_ok-slot.after.now (read (spec.slots c.args.limits.now) c.args.bytes.now) c.loop-test.true
-    (subst A (ap told_slots c.deref.ensures.value) c.in_ok-slot.ensures.slot) c.loop.invariant.still) }
+    record {
+      few = rw e (All-append P front (x ∷ []) c.loop.invariant.few (one P x (let few = c.in_ok-slot.ensures.few in omega (arith, few, length-map c.in_ok-slot.slot.items told_arm))));
+      still = rw e (goes_on (spec.slot c.args.limits.now) spec.with_last front front c.args.limits.now.children c.loop.counter c.loop.rest.now x c.in_ok-slot.after.now (read (spec.slots c.args.limits.now) c.args.bytes.now) c.loop-test.true
+          (subst A (ap told_slots c.deref.ensures.value) c.in_ok-slot.ensures.slot) c.loop.invariant.still);
+    }
 
 pub returns-clause-slots : goal.returns-clause-slots
 returns-clause-slots c = is_done (spec.slot c.args.limits.now) spec.with_last (told_slots c.loop.slots.items) (told_slots c.loop.slots.items) c.args.limits.now.children c.loop.counter c.loop.rest.now (read (spec.slots c.args.limits.now) c.args.bytes.now) c.loop-test.false c.loop.invariant.still

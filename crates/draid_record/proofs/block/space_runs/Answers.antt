@@ -33,8 +33,11 @@ returns-in_err-run-clause-runs c =
 pub loop-preserved : goal.loop-preserved
 loop-preserved c =
     let S : List Run → Type 0 = λ rs. with_front rs (read (many (c.args.count - (c.loop.counter + 1)) spec.space_run spec.same_state 0) c.in_ok-run.after.now) ≡ read (spec.space_runs c.args.count) c.args.bytes.now in
-    record { few = (let few = c.loop.invariant.few in let one = c.in_ok-push.ensures.len in omega arith); still = subst S (sym c.in_ok-push.ensures.items)
-    (goes_on spec.space_run spec.same_state 0 c.loop.runs.items c.args.count c.loop.counter c.loop.rest.now c.in_ok-run.run' c.in_ok-run.after.now (read (spec.space_runs c.args.count) c.args.bytes.now) c.loop-test.true c.in_ok-run.ensures c.loop.invariant.still) }
+    record {
+      few = (let few = c.loop.invariant.few in let one = c.in_ok-push.ensures.len in omega arith);
+      still = subst S (sym c.in_ok-push.ensures.items)
+          (goes_on spec.space_run spec.same_state 0 c.loop.runs.items c.args.count c.loop.counter c.loop.rest.now c.in_ok-run.run' c.in_ok-run.after.now (read (spec.space_runs c.args.count) c.args.bytes.now) c.loop-test.true c.in_ok-run.ensures c.loop.invariant.still);
+    }
 
 pub returns-clause-runs : goal.returns-clause-runs
 returns-clause-runs c = is_done spec.space_run spec.same_state 0 c.loop.runs.items c.args.count c.loop.counter c.loop.rest.now (read (spec.space_runs c.args.count) c.args.bytes.now) c.loop-test.false c.loop.invariant.still
