@@ -1,5 +1,5 @@
 -- The laws of a grammar, said of what was told.
-use Rattle.std.proofs.Common.{◌≡◌, ℕ, ◌++◌, List, length, Result, Ok, Err, refl, sym, ap, subst, ◌∙◌}
+use Rattle.std.proofs.Common.{◌≡◌, ℕ, List, length, Result, Ok, Err, refl, sym, ap, subst, ◌∙◌}
 use Rattle.std.specs.Prelude.{IfOk}
 use Rattle.draid_record.specs.declared.fault.Fault.{Fault}
 use Rattle.draid_record.specs.declared.fault.RecordFault.{RecordFault}
@@ -7,7 +7,7 @@ use Rattle.draid_record.specs.Grammar.{Grammar}
 use Rattle.draid_record.specs.Reading.{read}
 use Rattle.draid_record.specs.Uber.{Begins, told}
 use Rattle.draid_record.proofs.Digits.{IsBytes}
-use Rattle.draid_record.proofs.Laws.{Takes, read_again, read_takes}
+use Rattle.draid_record.proofs.Laws.{read_again, read_takes}
 
 pub is_found : {A : Type 0} (g : Grammar A) (bytes : List ℕ) (result : Result A RecordFault) → IsBytes bytes → result ≡ told (length bytes) (read g bytes) → IfOk result (Begins bytes g)
 is_found {A = A} g bytes result fits is = at (read g bytes) refl

@@ -1,6 +1,6 @@
 -- A slot of the uberblock, one field behind the other.
-use Rattle.std.proofs.Common.{◌≡◌, ℕ, ◌+◌, ◌-◌, ◌%◌, ◌^◌, ◌<◌, ◌≤◌, Bool, true, List, [], ◌∷◌, ◌++◌, length, refl, sym, ap, ◌∙◌, subst, arith, inl, inr}
-use Rattle.std.specs.Prelude.{◌==◌, ◌||◌, nat_le}
+use Rattle.std.proofs.Common.{◌≡◌, ℕ, ◌%◌, ◌≤◌, true, List, [], ◌∷◌, ◌++◌, refl, arith, inl, inr}
+use Rattle.std.specs.Prelude.{◌==◌, ◌||◌}
 use Rattle.std.proofs.lemmas.Bool.Decides.{nat_tests}
 use Rattle.byteorder.specs.Endian.{big_bytes}
 use Rattle.draid_record.specs.declared.uber.UberBody.{UberBody}
@@ -40,24 +40,131 @@ uber_spelled body is =
     ] in
     let seed = is.seed_below in
     let leaf_above = is.leaf_above in
-    let leaf_below = is.leaf_below in
-    (90, fields_bytes ((4, 1146770754) ∷ (2, 1) ∷ (8, body.group) ∷ (1, body.spec.parity) ∷ (1, body.spec.ndata) ∷ (1, body.spec.children) ∷ (1, body.spec.spares) ∷ (4, body.props.sector) ∷ (4, body.props.height) ∷ (4, body.props.metaslabs) ∷ (4, body.props.slices) ∷ (8, body.props.seed) ∷ (8, body.next_leaf) ∷ []), refl, omega arith, omega arith, omega arith,
-    (1146770754, fields_bytes ((2, 1) ∷ (8, body.group) ∷ (1, body.spec.parity) ∷ (1, body.spec.ndata) ∷ (1, body.spec.children) ∷ (1, body.spec.spares) ∷ (4, body.props.sector) ∷ (4, body.props.height) ∷ (4, body.props.metaslabs) ∷ (4, body.props.slices) ∷ (8, body.props.seed) ∷ (8, body.next_leaf) ∷ []), refl, omega arith, omega arith, omega arith,
-    (1, fields_bytes ((8, body.group) ∷ (1, body.spec.parity) ∷ (1, body.spec.ndata) ∷ (1, body.spec.children) ∷ (1, body.spec.spares) ∷ (4, body.props.sector) ∷ (4, body.props.height) ∷ (4, body.props.metaslabs) ∷ (4, body.props.slices) ∷ (8, body.props.seed) ∷ (8, body.next_leaf) ∷ []), refl, omega arith, omega arith, omega arith,
-    (body.group, fields_bytes ((1, body.spec.parity) ∷ (1, body.spec.ndata) ∷ (1, body.spec.children) ∷ (1, body.spec.spares) ∷ (4, body.props.sector) ∷ (4, body.props.height) ∷ (4, body.props.metaslabs) ∷ (4, body.props.slices) ∷ (8, body.props.seed) ∷ (8, body.next_leaf) ∷ []), refl, omega arith, omega arith, omega arith,
-    (even,
-    (body.spec.parity, fields_bytes ((1, body.spec.ndata) ∷ (1, body.spec.children) ∷ (1, body.spec.spares) ∷ (4, body.props.sector) ∷ (4, body.props.height) ∷ (4, body.props.metaslabs) ∷ (4, body.props.slices) ∷ (8, body.props.seed) ∷ (8, body.next_leaf) ∷ []), refl, omega arith, omega arith, omega arith,
-    (body.spec.ndata, fields_bytes ((1, body.spec.children) ∷ (1, body.spec.spares) ∷ (4, body.props.sector) ∷ (4, body.props.height) ∷ (4, body.props.metaslabs) ∷ (4, body.props.slices) ∷ (8, body.props.seed) ∷ (8, body.next_leaf) ∷ []), refl, omega arith, omega arith, omega arith,
-    (body.spec.children, fields_bytes ((1, body.spec.spares) ∷ (4, body.props.sector) ∷ (4, body.props.height) ∷ (4, body.props.metaslabs) ∷ (4, body.props.slices) ∷ (8, body.props.seed) ∷ (8, body.next_leaf) ∷ []), refl, omega arith, omega arith, omega arith,
-    (body.spec.spares, fields_bytes ((4, body.props.sector) ∷ (4, body.props.height) ∷ (4, body.props.metaslabs) ∷ (4, body.props.slices) ∷ (8, body.props.seed) ∷ (8, body.next_leaf) ∷ []), refl, omega arith, omega arith, omega arith,
-    (fits,
-    (body.props.sector, fields_bytes ((4, body.props.height) ∷ (4, body.props.metaslabs) ∷ (4, body.props.slices) ∷ (8, body.props.seed) ∷ (8, body.next_leaf) ∷ []), refl, omega arith, sector.0, sector.1,
-    (sector.2,
-    (body.props.height, fields_bytes ((4, body.props.metaslabs) ∷ (4, body.props.slices) ∷ (8, body.props.seed) ∷ (8, body.next_leaf) ∷ []), refl, omega arith, omega arith, omega arith,
-    (p.power,
-    (body.props.metaslabs, fields_bytes ((4, body.props.slices) ∷ (8, body.props.seed) ∷ (8, body.next_leaf) ∷ []), refl, omega arith, omega arith, omega arith,
-    (body.props.slices, fields_bytes ((8, body.props.seed) ∷ (8, body.next_leaf) ∷ []), refl, omega arith, omega arith, omega arith,
-    (is.layout,
-    (body.props.seed, fields_bytes ((8, body.next_leaf) ∷ []), refl, omega arith, omega arith, omega arith,
-    (body.next_leaf, [], refl, omega arith, leaf_above, leaf_below,
-    (refl, refl))))))))))))))))))))
+    let leaf_below = is.leaf_below in (
+      90,
+      fields_bytes ((4, 1146770754) ∷ (2, 1) ∷ (8, body.group) ∷ (1, body.spec.parity) ∷ (1, body.spec.ndata) ∷ (1, body.spec.children) ∷ (1, body.spec.spares) ∷ (4, body.props.sector) ∷ (4, body.props.height) ∷ (4, body.props.metaslabs) ∷ (4, body.props.slices) ∷ (8, body.props.seed) ∷ (8, body.next_leaf) ∷ []),
+      refl,
+      omega arith,
+      omega arith,
+      omega arith,
+      (
+        1146770754,
+        fields_bytes ((2, 1) ∷ (8, body.group) ∷ (1, body.spec.parity) ∷ (1, body.spec.ndata) ∷ (1, body.spec.children) ∷ (1, body.spec.spares) ∷ (4, body.props.sector) ∷ (4, body.props.height) ∷ (4, body.props.metaslabs) ∷ (4, body.props.slices) ∷ (8, body.props.seed) ∷ (8, body.next_leaf) ∷ []),
+        refl,
+        omega arith,
+        omega arith,
+        omega arith,
+        (
+          1,
+          fields_bytes ((8, body.group) ∷ (1, body.spec.parity) ∷ (1, body.spec.ndata) ∷ (1, body.spec.children) ∷ (1, body.spec.spares) ∷ (4, body.props.sector) ∷ (4, body.props.height) ∷ (4, body.props.metaslabs) ∷ (4, body.props.slices) ∷ (8, body.props.seed) ∷ (8, body.next_leaf) ∷ []),
+          refl,
+          omega arith,
+          omega arith,
+          omega arith,
+          (
+            body.group,
+            fields_bytes ((1, body.spec.parity) ∷ (1, body.spec.ndata) ∷ (1, body.spec.children) ∷ (1, body.spec.spares) ∷ (4, body.props.sector) ∷ (4, body.props.height) ∷ (4, body.props.metaslabs) ∷ (4, body.props.slices) ∷ (8, body.props.seed) ∷ (8, body.next_leaf) ∷ []),
+            refl,
+            omega arith,
+            omega arith,
+            omega arith,
+            (
+              even,
+              (
+                body.spec.parity,
+                fields_bytes ((1, body.spec.ndata) ∷ (1, body.spec.children) ∷ (1, body.spec.spares) ∷ (4, body.props.sector) ∷ (4, body.props.height) ∷ (4, body.props.metaslabs) ∷ (4, body.props.slices) ∷ (8, body.props.seed) ∷ (8, body.next_leaf) ∷ []),
+                refl,
+                omega arith,
+                omega arith,
+                omega arith,
+                (
+                  body.spec.ndata,
+                  fields_bytes ((1, body.spec.children) ∷ (1, body.spec.spares) ∷ (4, body.props.sector) ∷ (4, body.props.height) ∷ (4, body.props.metaslabs) ∷ (4, body.props.slices) ∷ (8, body.props.seed) ∷ (8, body.next_leaf) ∷ []),
+                  refl,
+                  omega arith,
+                  omega arith,
+                  omega arith,
+                  (
+                    body.spec.children,
+                    fields_bytes ((1, body.spec.spares) ∷ (4, body.props.sector) ∷ (4, body.props.height) ∷ (4, body.props.metaslabs) ∷ (4, body.props.slices) ∷ (8, body.props.seed) ∷ (8, body.next_leaf) ∷ []),
+                    refl,
+                    omega arith,
+                    omega arith,
+                    omega arith,
+                    (
+                      body.spec.spares,
+                      fields_bytes ((4, body.props.sector) ∷ (4, body.props.height) ∷ (4, body.props.metaslabs) ∷ (4, body.props.slices) ∷ (8, body.props.seed) ∷ (8, body.next_leaf) ∷ []),
+                      refl,
+                      omega arith,
+                      omega arith,
+                      omega arith,
+                      (
+                        fits,
+                        (
+                          body.props.sector,
+                          fields_bytes ((4, body.props.height) ∷ (4, body.props.metaslabs) ∷ (4, body.props.slices) ∷ (8, body.props.seed) ∷ (8, body.next_leaf) ∷ []),
+                          refl,
+                          omega arith,
+                          sector.0,
+                          sector.1,
+                          (
+                            sector.2,
+                            (
+                              body.props.height,
+                              fields_bytes ((4, body.props.metaslabs) ∷ (4, body.props.slices) ∷ (8, body.props.seed) ∷ (8, body.next_leaf) ∷ []),
+                              refl,
+                              omega arith,
+                              omega arith,
+                              omega arith,
+                              (
+                                p.power,
+                                (
+                                  body.props.metaslabs,
+                                  fields_bytes ((4, body.props.slices) ∷ (8, body.props.seed) ∷ (8, body.next_leaf) ∷ []),
+                                  refl,
+                                  omega arith,
+                                  omega arith,
+                                  omega arith,
+                                  (
+                                    body.props.slices,
+                                    fields_bytes ((8, body.props.seed) ∷ (8, body.next_leaf) ∷ []),
+                                    refl,
+                                    omega arith,
+                                    omega arith,
+                                    omega arith,
+                                    (
+                                      is.layout,
+                                      (
+                                        body.props.seed,
+                                        fields_bytes ((8, body.next_leaf) ∷ []),
+                                        refl,
+                                        omega arith,
+                                        omega arith,
+                                        omega arith,
+                                        (
+                                          body.next_leaf,
+                                          [],
+                                          refl,
+                                          omega arith,
+                                          leaf_above,
+                                          leaf_below,
+                                          (refl, refl),
+                                        ),
+                                      ),
+                                    ),
+                                  ),
+                                ),
+                              ),
+                            ),
+                          ),
+                        ),
+                      ),
+                    ),
+                  ),
+                ),
+              ),
+            ),
+          ),
+        ),
+      ),
+    )

@@ -1,5 +1,5 @@
 -- Runs that lie apart, one more behind them.
-use Rattle.std.proofs.Common.{◌≡◌, ℕ, zero, suc, ◌+◌, ◌≤◌, ◌<◌, List, [], ◌∷◌, ◌++◌, arith}
+use Rattle.std.proofs.Common.{ℕ, zero, suc, ◌+◌, ◌≤◌, ◌<◌, List, [], ◌∷◌, ◌++◌, arith}
 use Rattle.std.specs.Prelude.{All}
 use Rattle.draid_ranges.specs.declared.run.Run.{Run}
 use Rattle.draid_ranges.specs.Runs.{AreWithin}

@@ -1,5 +1,5 @@
 -- Grammars of bytes. A field is a width and a range, a record is fields one after another, counts and lists.
-use Rattle.std.specs.Prelude.{◌≡◌, ◌<◌, ◌≤◌, ◌+◌, ◌^◌, ◌++◌, ℕ, zero, suc, Bool, true, List, [], ◌∷◌, length}
+use Rattle.std.specs.Prelude.{◌≡◌, ◌<◌, ◌≤◌, ◌^◌, ◌++◌, ℕ, zero, suc, Bool, true, List, [], ◌∷◌, length}
 use Rattle.byteorder.specs.Endian.{big_bytes}
 
 -- What is spelled by fields one after another: numbers of so many bytes, the highest byte first, from `low` to

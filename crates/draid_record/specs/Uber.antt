@@ -1,5 +1,5 @@
 -- The slots of the uberblock area.
-use Rattle.std.specs.Prelude.{◌≡◌, ◌==◌, ◌<◌, ◌≤◌, ◌+◌, ◌-◌, ◌%◌, ◌^◌, ◌||◌, ℕ, Bool, true, nat_le, List, ◌++◌, Result, Ok, Err, is_ok, length}
+use Rattle.std.specs.Prelude.{◌≡◌, ◌==◌, ◌<◌, ◌≤◌, ◌-◌, ◌%◌, ◌^◌, ◌||◌, ℕ, Bool, true, nat_le, List, ◌++◌, Result, Ok, Err, is_ok}
 use Rattle.std.specs.Int.{is_power_of_two}
 use Rattle.draid_spec.specs.Geometry.{IsProps, geometry_of}
 use Rattle.draid_spec.specs.Spec.{IsSpec, have_of, need_of}

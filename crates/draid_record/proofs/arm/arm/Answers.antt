@@ -1,23 +1,13 @@
-use Rattle.std.proofs.Common.{◌≡◌, ◌≤◌, ◌<◌, ◌+◌, ◌-◌, ◌*◌, ◌^◌, ◌∷◌, ◌++◌, [], ℕ, true, List, Option, None, Some, length, map, ap, subst, sym, ◌∙◌, arith, Ok, Err, Result}
+use Rattle.std.proofs.Common.{ℕ, List, subst, sym, ◌∙◌, Result}
 use Rattle.std.proofs.lemmas.Result.{err_from_is_err_and}
-use Rattle.std.proofs.lemmas.List.{map_push}
 use Rattle.draid_names.specs.declared.arm.Arm.{Arm}
-use Rattle.draid_names.specs.declared.arm.ArmAt.{ArmAt}
-use Rattle.draid_names.specs.declared.pass_kind.PassKind.{PassKind}
-use Rattle.draid_names.specs.declared.pass_kind.PassKind.TheVariants.{Rebuild, Heal}
-use Rattle.draid_names.specs.declared.pointer.Pointer.{Pointer}
 use Rattle.draid_ranges.specs.declared.run.Run.{Run}
-use Rattle.std.specs.Prelude.{All}
-use Rattle.std.proofs.lemmas.List.{length-map}
-use Rattle.std.proofs.lemmas.List.Elements.{All-append}
-use Rattle.draid_record.proofs.Within.{one}
 use Rattle.draid_record.specs.declared.fault.Fault.{Fault}
-use Rattle.draid_record.specs.Grammar.{◌>>=◌, Grammar, Done, check, many, number}
-use Rattle.draid_record.specs.Reading.{Fails, Gives, read}
+use Rattle.draid_record.specs.Grammar.{◌>>=◌, Done}
+use Rattle.draid_record.specs.Reading.{Fails}
 use Rattle.draid_record.specs.Record as spec
 use Rattle.draid_record.specs.Record.{told_arm, told_slot, told_slots, told_pass, ArmTold, PassTold, RecordTold}
 use Rattle.draid_record.proofs.Laws.{after_err, after_ok, read_done}
-use Rattle.draid_record.proofs.Loop.{ends, goes_on, is_done, with_front}
 use Rattle.draid_record.proofs.arm.arm.Goals as goal
 
 pub returns-in_err-arm : goal.returns-in_err-arm

@@ -1,5 +1,4 @@
 use Rattle.std.proofs.Common.{◌≡◌, ◌≤◌, ◌-◌, length}
-use Rattle.std.specs.Prelude.{All}
 use Rattle.draid_record.specs.Grammar.{many}
 use Rattle.draid_record.specs.Reading.{read}
 use Rattle.draid_record.specs.Record.{arm, slot_arms, told_slot, told_slots, with_last}

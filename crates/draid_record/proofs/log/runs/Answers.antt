@@ -1,9 +1,9 @@
-use Rattle.std.proofs.Common.{◌≡◌, ◌≤◌, ◌<◌, ◌+◌, ◌-◌, ◌∷◌, ◌++◌, [], List, ap, subst, sym, ◌∙◌, arith}
+use Rattle.std.proofs.Common.{◌≡◌, ◌+◌, ◌-◌, List, subst, sym, arith}
 use Rattle.std.proofs.lemmas.Result.{err_from_is_err_and}
 use Rattle.draid_ranges.specs.declared.run.Run.{Run}
-use Rattle.draid_ranges.specs.Runs.{AreApart, AreWithin}
+use Rattle.draid_ranges.specs.Runs.{AreWithin}
 use Rattle.draid_record.specs.Grammar.{many}
-use Rattle.draid_record.specs.Reading.{Gives, read}
+use Rattle.draid_record.specs.Reading.{read}
 use Rattle.draid_record.specs.Record.{behind, run, runs}
 use Rattle.draid_record.proofs.Loop.{ends, goes_on, is_done, with_front}
 use Rattle.draid_record.proofs.Within.{within_more, within_wide}

@@ -1,4 +1,4 @@
-use Rattle.std.proofs.Common.{◌≡◌, ◌≤◌, ◌<◌, ◌+◌, ◌*◌, [], ℕ, List, length, map, drop, get_or, ap, subst, sym, ◌∙◌, arith, Vec, Global}
+use Rattle.std.proofs.Common.{◌≡◌, ◌≤◌, ◌<◌, ◌+◌, [], List, length, drop, ap, subst, sym, ◌∙◌, arith, Vec, Global}
 use Rattle.std.proofs.lemmas.List.{at_drop_more, get_or-map, length-map}
 use Rattle.draid_names.specs.declared.arm.Arm.{Arm}
 use Rattle.draid_ranges.specs.Numbers.{Numbers}

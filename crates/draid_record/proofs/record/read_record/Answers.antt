@@ -1,6 +1,6 @@
-use Rattle.std.proofs.Common.{List, ap, arith, subst, sym}
+use Rattle.std.proofs.Common.{arith, subst}
 use Rattle.draid_record.specs.declared.limits.Limits.{Limits}
-use Rattle.draid_record.specs.Record.{Answers, RecordTold, limits_of, record_of}
+use Rattle.draid_record.specs.Record.{Answers, limits_of, record_of}
 use Rattle.draid_record.proofs.Whole.{is_spelled, whole_only}
 use Rattle.draid_record.proofs.record.read_record.Goals as goal
 
