@@ -1,8 +1,8 @@
 ghost use Rattle.std.specs.Prelude.{◌≡◌, ◌==◌, ◌+◌, ◌-◌, ◌<◌, ◌≤◌, ◌^◌, ◌||◌, ◌&&◌, not, ℕ, false, nat_le, nat_lt, IfOk, IsOk, OnOk, OnErr};
-ghost use Rattle.draid_ranges.specs.Numbers.{Has, Numbers, count_below, has};
-ghost use Rattle.draid_ranges.specs.Runs.{is_between};
+ghost use Rattle.draid_ranges.specs.Numbers.{AreRuns, Has, Numbers, count_below, has};
+ghost use Rattle.draid_ranges.specs.Runs.{AreApart, is_between};
 
-use draid_ranges::RangeSet;
+use draid_ranges::{RangeSet, Run};
 use std::alloc::{AllocError, Global};
 use std::marker::Model;
 
@@ -40,6 +40,16 @@ impl Log {
         Ok(Log { groups })
     }
 
+    /// The log that has these maximal runs of groups.
+    pub fn of(runs: Vec<Run>) -> Log
+        requires { AreApart runs.items }
+        ensures { result.runs ≡ runs.items }
+    {
+        Log {
+            groups: RangeSet::of(runs),
+        }
+    }
+
     /// Makes room for so many changes.
     pub fn reserve(&mut self, changes: u32) -> Result<(), AllocError>
         ensures same { Has self.new (has self.old) }
@@ -58,6 +68,21 @@ impl Log {
         ensures spare { self.old.spare ≤ self.new.spare + 1 }
     {
         self.groups.insert(group, group)
+    }
+
+    /// Makes it the log of the groups from 1 to `group`.
+    pub fn fill(&mut self, group: u64)
+        requires range { group < 2 ^ 48 }
+        requires room { 0 < self.old.spare }
+        ensures members { Has self.new (is_between 1 (group + 1)) }
+        ensures spare { self.old.spare ≤ self.new.spare + 1 }
+    {
+        self.groups.clear();
+        if group > 0 {
+            let Ok(()) = self.groups.insert(1, group) else {
+                unreachable!()
+            };
+        }
     }
 
     /// Takes the groups up to `upto` out.
@@ -91,6 +116,14 @@ impl Log {
         ensures { result ≡ count_below (has self.now) (2 ^ 48) }
     {
         self.groups.count()
+    }
+
+    /// The maximal runs of its groups, in ascending order.
+    pub fn runs(&self) -> &[Run]
+        ensures maximal { AreRuns self.now result.now }
+        ensures same { result.now ≡ self.now.runs }
+    {
+        self.groups.runs()
     }
 
     pub(crate) fn copy(&self, alloc: Global) -> Result<Log, AllocError>

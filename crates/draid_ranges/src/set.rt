@@ -33,6 +33,14 @@ impl RangeSet {
         }
     }
 
+    /// The set that has these maximal runs.
+    pub fn of(runs: Vec<Run>) -> RangeSet
+        requires { AreApart runs.items }
+        ensures { result.runs ≡ runs.items }
+    {
+        RangeSet { runs }
+    }
+
     /// Makes room for so many changes.
     pub fn reserve(&mut self, changes: u32) -> Result<(), AllocError>
         ensures same { Has self.new (has self.old) }
@@ -69,6 +77,14 @@ impl RangeSet {
         let at = ending_before(&self.runs, first);
         let (whole, end) = absorb(&self.runs, at, Run::between(first, last + 1));
         keep_sides(&mut self.runs, at, end, whole, first, last + 1)
+    }
+
+    /// Takes all members out.
+    pub fn clear(&mut self)
+        ensures members { Has self.new (λ x. false) }
+        ensures spare { self.old.spare ≤ self.new.spare }
+    {
+        self.runs.clear();
     }
 
     /// Takes out what is above `last`.
@@ -124,7 +140,8 @@ impl RangeSet {
 
     /// The maximal runs of members, in ascending order.
     pub fn runs(&self) -> &[Run]
-        ensures { AreRuns self.now result.now }
+        ensures maximal { AreRuns self.now result.now }
+        ensures same { result.now ≡ self.now.runs }
     {
         self.runs.as_slice()
     }

@@ -8,4 +8,4 @@ pub returns : goal.returns
 returns c =
     let T : (ℕ → Bool) → Type 0 = λ t. IsLargest t c.self.inside.height c.in-Err.largest in
     let S : Stripes → Type 0 = λ s. IsLargest (is_free s) s.height c.in-Err.largest in
-    subst S c.self.view_is (of_set T c.runs.result.now c.self.inside.free c.runs.ensures.members c.in-Err.ensures.none)
+    subst S c.self.view_is (of_set T c.runs.result.now c.self.inside.free c.runs.ensures.maximal.members c.in-Err.ensures.none)

@@ -7,7 +7,7 @@ use Rattle.draid_spacemap.proofs.map.SpaceMap.condense.Goals as goal
 pub invariant_of-self : goal.invariant_of-self
 invariant_of-self c =
     let S : List Record → Type 0 = λ records. All (λ (entry : Record). IsSpan entry.run) records in
-    subst S (sym c.in_ok-self-inside.ensures) (all_spans c.runs.result.now c.in_ok-set.set c.runs.ensures)
+    subst S (sym c.in_ok-self-inside.ensures) (all_spans c.runs.result.now c.in_ok-set.set c.runs.ensures.maximal)
 
 pub returns-clause-same : goal.returns-clause-same
 returns-clause-same c =
@@ -15,6 +15,6 @@ returns-clause-same c =
     subst P c.self.view_is (λ x.
     ap (λ records. is_allocated_by false records x) c.in_ok-self-inside.ensures
     ∙ allocated_runs c.runs.result.now false x
-    ∙ sym (c.runs.ensures.members x)
+    ∙ sym (c.runs.ensures.maximal.members x)
     ∙ c.in_ok-set.ensures x
     ∙ ap (λ records. is_allocated_by false records x) c.deref.ensures.value)

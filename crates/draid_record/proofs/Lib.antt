@@ -1,0 +1,7 @@
+pub mod Digits
+pub mod Laws
+pub mod Loop
+pub mod Read
+pub mod UberWritten
+pub mod Whole
+pub mod Within

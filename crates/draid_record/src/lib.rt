@@ -1,0 +1,19 @@
+//! The records of metaslabs and the uberblock, byte for byte.
+
+#![tactic(auto)]
+
+mod arm;
+mod block;
+mod fault;
+mod field;
+mod limits;
+mod log;
+mod pass;
+mod record;
+#[cfg(test)]
+mod tests;
+mod uber;
+
+pub use fault::RecordFault;
+pub use record::{Record, read_record};
+pub use uber::{UberBody, read_uber, write_uber};

@@ -1,0 +1,64 @@
+use Rattle.std.proofs.Common.{◌≡◌, ◌<◌, ◌≤◌, ◌+◌, ◌-◌, ◌∷◌, ◌++◌, [], ℕ, true, List, length, map, set, get_or, arith, sym, ap, ◌∙◌, subst}
+use Rattle.std.specs.Prelude.{vec_len, vec_capacity}
+use Rattle.std.proofs.lemmas.List.{length-map, get_or-map, map-set}
+use Rattle.std.proofs.lemmas.List.Elements.{All-set}
+use Rattle.draid_names.specs.declared.arm.Arm.{Arm}
+use Rattle.draid_ranges.specs.Numbers.{Numbers}
+use Rattle.draid_slots.specs.declared.slot.Slot.{Slot}
+use Rattle.draid_slots.specs.Changes.{Attaches}
+use Rattle.draid_slots.specs.Faults.{MayAttach}
+use Rattle.draid_slots.specs.Table.{AreOf, IsPaired, SlotTable, arms_in, logs_in, next_room, table_of}
+use Rattle.draid_slots.proofs.Moves.{attached}
+use Rattle.draid_slots.proofs.Spares.{one_more}
+use Rattle.draid_slots.proofs.slots.Slots.attach.Goals as goal
+
+pub invariant_of-self : goal.invariant_of-self
+invariant_of-self c =
+    let s = c.self.inside in
+    let slots = s.slots.items in
+    let old : Slot = c.index_mut.result.now in
+    let new : Slot = c.add_arm.new.slot in
+    let arm : Arm = record c.args.arm { fresh = true } in
+    let t : SlotTable = table_of s.geometry s.perms s.metaslab slots s.detached.items (next_room s.next) (vec_capacity s.detached - vec_len s.detached) in
+    let M : SlotTable → Type 0 = λ t. MayAttach t c.args.slot c.args.arm in
+    let may : MayAttach t c.args.slot c.args.arm = subst M (sym c.self.view_is) c.in_ok-may_attach.ensures.allowed in
+    let within : c.args.slot < length (map arms_in slots) = (let there = may.known.slot_there in let many = c.self.invariant.sound.slots.children in omega arith) in
+    let below : c.args.slot < length slots = omega (arith, length-map slots arms_in) in
+    let arms_are : get_or (map arms_in slots) c.args.slot [] ≡ arms_in old = get_or-map arms_in slots c.args.slot old [] below ∙ ap arms_in (sym c.index_mut.ensures.value) in
+    let sound = c.self.invariant.sound in
+    let S : List (List Arm) → Type 0 = λ arms. AreOf s.geometry s.perms s.metaslab arms s.detached.items in
+    let same : map arms_in (set slots c.args.slot new) ≡ set (map arms_in slots) c.args.slot (get_or (map arms_in slots) c.args.slot [] ++ arm ∷ []) =
+    map-set arms_in slots c.args.slot new ∙ ap (λ xs. set (map arms_in slots) c.args.slot xs) (c.add_arm.ensures.arms ∙ ap (λ xs. xs ++ arm ∷ []) (sym arms_are)) in
+    record {
+      paired = All-set IsPaired slots c.args.slot new c.add_arm.ensures.paired c.self.invariant.paired;
+      sound = subst S (sym same) (record {
+        layout = sound.layout;
+        low = sound.low;
+        slots = one_more s.geometry (map arms_in slots) s.detached.items c.args.slot arm within may.some_room may.known.spare_there may.idle sound.slots;
+      });
+    }
+
+pub returns-clause-attached : goal.returns-clause-attached
+returns-clause-attached c =
+    let s = c.self.inside in
+    let slots = s.slots.items in
+    let old : Slot = c.index_mut.result.now in
+    let new : Slot = c.add_arm.new.slot in
+    let log : Numbers = c.fill.new.self in
+    let t : SlotTable = table_of s.geometry s.perms s.metaslab slots s.detached.items (next_room s.next) (vec_capacity s.detached - vec_len s.detached) in
+    let now : SlotTable = table_of s.geometry s.perms s.metaslab (set slots c.args.slot new) s.detached.items 0 (vec_capacity s.detached - vec_len s.detached) in
+    let M : SlotTable → Type 0 = λ t. MayAttach t c.args.slot c.args.arm in
+    let may : MayAttach t c.args.slot c.args.arm = subst M (sym c.self.view_is) c.in_ok-may_attach.ensures.allowed in
+    let within : c.args.slot < length (map arms_in slots) = (let there = may.known.slot_there in let many = c.self.invariant.sound.slots.children in omega arith) in
+    let below : c.args.slot < length slots = omega (arith, length-map slots arms_in) in
+    let arms_are : get_or (map arms_in slots) c.args.slot [] ≡ arms_in old = get_or-map arms_in slots c.args.slot old [] below ∙ ap arms_in (sym c.index_mut.ensures.value) in
+    let logs_are : get_or (map logs_in slots) c.args.slot [] ≡ logs_in old = get_or-map logs_in slots c.args.slot old [] below ∙ ap logs_in (sym c.index_mut.ensures.value) in
+    let paired : IsPaired old = subst IsPaired (sym c.index_mut.ensures.value) (c.self.invariant.paired c.args.slot old below) in
+    let spare = c.fill.ensures.spare in
+    let had : next_room s.next ≡ c.in-Some.log.spare = ap next_room (sym c.take.ensures.value ∙ c.in-Some.is) in
+    let room : next_room s.next ≤ log.spare + 1 = omega arith in
+    let done : Attaches t now c.args.slot c.args.arm c.args.upto = attached s.geometry s.perms s.metaslab slots s.detached.items (next_room s.next) (vec_capacity s.detached - vec_len s.detached) c.args.slot old new c.args.arm log c.args.upto
+    below arms_are logs_are paired.same c.add_arm.ensures.arms c.add_arm.ensures.logs c.fill.ensures.members room in
+    let A : SlotTable → Type 0 = λ t. Attaches t (table_of s.geometry s.perms s.metaslab (set slots c.args.slot new) s.detached.items (next_room c.take.new.self) (vec_capacity s.detached - vec_len s.detached)) c.args.slot c.args.arm c.args.upto in
+    let N : ℕ → Type 0 = λ n. Attaches t (table_of s.geometry s.perms s.metaslab (set slots c.args.slot new) s.detached.items n (vec_capacity s.detached - vec_len s.detached)) c.args.slot c.args.arm c.args.upto in
+    subst A c.self.view_is (subst N (sym (ap next_room c.take.ensures.after)) done)

@@ -1,0 +1,19 @@
+use Rattle.std.proofs.Common.{List, map, sym, ◌∙◌, subst}
+use Rattle.std.proofs.lemmas.List.{length-map}
+use Rattle.draid_slots.specs.declared.slot.Detached.{Detached}
+use Rattle.draid_slots.specs.Table.{AreKept, arms_in}
+use Rattle.draid_slots.proofs.Spares.{new_slots}
+use Rattle.draid_slots.proofs.slots.Slots.new.Goals as goal
+
+pub invariant_of-result : goal.invariant_of-result
+invariant_of-result c =
+    let slots = c.in_ok-slots.slots.items in
+    let D : List Detached → Type 0 = λ detached. AreKept c.args.geometry c.args.perms c.args.metaslab slots detached in
+    subst D (sym c.new.ensures.items) (record {
+      paired = c.in_ok-slots.ensures.paired;
+      sound = record {
+        layout = c.requires.layout;
+        low = c.requires.metaslab;
+        slots = new_slots c.args.geometry (map arms_in slots) (length-map slots arms_in ∙ c.in_ok-slots.ensures.count) c.in_ok-slots.ensures.arms;
+      };
+    })

@@ -1,0 +1,16 @@
+//! The arms of each child slot of a metaslab, and what each of them missed (OpenZFS, `vdev.c`).
+
+#![tactic(auto)]
+
+mod fault;
+mod laws;
+mod lists;
+mod slot;
+mod slots;
+#[cfg(test)]
+mod tests;
+
+pub use fault::SlotFault;
+pub use laws::spares_lie_by_the_layout;
+pub use slot::{Detached, ReadArm};
+pub use slots::Slots;

@@ -1,0 +1,189 @@
+ghost use Rattle.std.specs.Prelude.{◌≡◌, ◌<◌};
+ghost use Rattle.draid_map.specs.Place.{IsLayout};
+
+use super::*;
+use draid_names::{Arm, ArmAt, ArmKind, NoMemory};
+use draid_perm::Perms;
+use draid_spec::{Geometry, Props, geometry, parse_spec};
+use std::alloc::Global;
+
+const PROPS: Props = Props {
+    sector: 512,
+    height: 8,
+    metaslabs: 1,
+    slices: 1,
+    seed: 1,
+};
+
+fn at(slot: u32, arm: u32) -> ArmAt
+    ensures { (result.slot ≡ slot) × (result.arm ≡ arm) }
+{
+    ArmAt { slot, arm }
+}
+
+fn arm(kind: ArmKind, number: u64) -> Arm
+    ensures { (result.kind ≡ kind) × (result.number ≡ number) }
+{
+    Arm {
+        kind,
+        number,
+        offline: false,
+        fresh: false,
+    }
+}
+
+/// Attaches an arm in group 4, with room made for it.
+fn attach(
+    slots: &mut Slots,
+    alloc: Global,
+    slot: u32,
+    arm: Arm,
+) -> Result<Result<(), SlotFault>, NoMemory> {
+    slots.reserve(alloc, 2)?;
+    Ok(slots.attach(slot, arm, 4))
+}
+
+/// Detaches an arm in group 5, with room made for it.
+fn detach(slots: &mut Slots, alloc: Global, at: ArmAt) -> Result<Result<(), SlotFault>, NoMemory> {
+    slots.reserve(alloc, 2)?;
+    Ok(slots.detach(at, 5))
+}
+
+/// The answers to attachments, one after another: a spare, the spare again elsewhere, a leaf elsewhere, a
+/// leaf beside the spare, a fourth arm, and arms that aren't there.
+fn attached(
+    alloc: Global,
+    layout: Geometry,
+    perms: Perms,
+) -> Result<[Result<(), SlotFault>; 7], NoMemory>
+    requires { IsLayout layout perms }
+{
+    let mut slots = Slots::new(alloc, layout, perms, 0)?;
+    Ok([
+        attach(&mut slots, alloc, 1, arm(ArmKind::Spare, 0))?,
+        attach(&mut slots, alloc, 2, arm(ArmKind::Spare, 0))?,
+        attach(&mut slots, alloc, 2, arm(ArmKind::Leaf, 4))?,
+        attach(&mut slots, alloc, 1, arm(ArmKind::Leaf, 4))?,
+        attach(&mut slots, alloc, 1, arm(ArmKind::Leaf, 5))?,
+        attach(&mut slots, alloc, 1, arm(ArmKind::Spare, 1))?,
+        attach(&mut slots, alloc, 4, arm(ArmKind::Leaf, 5))?,
+    ])
+}
+
+/// The answers to detachments: of the only leaf, of no arm, of a spare, and of a leaf beside one whose log
+/// has four groups.
+fn detached(
+    alloc: Global,
+    layout: Geometry,
+    perms: Perms,
+) -> Result<[Result<(), SlotFault>; 4], NoMemory>
+    requires { IsLayout layout perms }
+{
+    let mut slots = Slots::new(alloc, layout, perms, 0)?;
+    let only = detach(&mut slots, alloc, at(0, 0))?;
+    let none = detach(&mut slots, alloc, at(0, 1))?;
+    let _ = attach(&mut slots, alloc, 1, arm(ArmKind::Spare, 0))?;
+    let spare = detach(&mut slots, alloc, at(1, 1))?;
+    let _ = attach(&mut slots, alloc, 2, arm(ArmKind::Leaf, 4))?;
+    let missed = detach(&mut slots, alloc, at(2, 0))?;
+    Ok([only, none, spare, missed])
+}
+
+/// Whether the spare is busy before the commit of its detachment and behind it, and whether a leaf is
+/// leaving.
+fn committed(
+    alloc: Global,
+    layout: Geometry,
+    perms: Perms,
+) -> Result<([Option<u32>; 4], bool), NoMemory>
+    requires { IsLayout layout perms }
+{
+    let mut slots = Slots::new(alloc, layout, perms, 0)?;
+    let idle = slots.busy(0);
+    let _ = attach(&mut slots, alloc, 1, arm(ArmKind::Spare, 0))?;
+    let arm = slots.busy(0);
+    let _ = detach(&mut slots, alloc, at(1, 1))?;
+    slots.commit(4);
+    let leaving = slots.busy(0);
+    slots.commit(5);
+    Ok(([idle, arm, leaving, slots.busy(0)], slots.leaving(0)))
+}
+
+/// The reading arms of slot 1 for a block born in group 3, with a second leaf there: as it comes, with the
+/// first leaf dirty, with the second leaf's log taken away, with that leaf offline, and with both.
+fn read(
+    alloc: Global,
+    layout: Geometry,
+    perms: Perms,
+) -> Result<Option<[Option<ReadArm>; 5]>, NoMemory>
+    requires { IsLayout layout perms }
+{
+    let mut slots = Slots::new(alloc, layout, perms, 0)?;
+    let _ = attach(&mut slots, alloc, 1, arm(ArmKind::Leaf, 4))?;
+    slots.reserve(alloc, 2)?;
+    if layout.spec.children < 2 || slots.arms(1).len() < 2 {
+        return Ok(None);
+    }
+    let first = slots.reading_arm(1, 0, 3);
+    slots.dirty(at(1, 0), 3);
+    let doubtful = slots.reading_arm(1, 0, 3);
+    slots.excise(at(1, 1), 3);
+    let second = slots.reading_arm(1, 0, 3);
+    slots.set_offline(4, true);
+    let offline = slots.reading_arm(1, 0, 3);
+    slots.set_offline(1, true);
+    Ok(Some([first, doubtful, second, offline, slots.reading_arm(1, 0, 3)]))
+}
+
+#[test]
+fn arms_come_and_go(rt: HostRuntime) {
+    let alloc = rt.alloc();
+    let spec = parse_spec(b"draid1:2d:1s", 4).expect(&rt, "a spec");
+    let layout = geometry(spec, PROPS).expect(&rt, "a layout");
+    let perms = Perms::new(layout.spec.children, layout.props.seed);
+    let in_use = SlotFault::SpareInUse { spare: 0 };
+    assert_eq!(rt;
+        attached(alloc, layout, perms),
+        Ok([
+            Ok(()),
+            Err(SlotFault::SpareBusy { by: 1 }),
+            Err(in_use),
+            Ok(()),
+            Err(SlotFault::Full { arms: 3 }),
+            Err(SlotFault::NoSuch),
+            Err(SlotFault::NoSuch)
+        ])
+    );
+    assert_eq!(rt;
+        detached(alloc, layout, perms),
+        Ok([
+            Err(SlotFault::LastArm),
+            Err(SlotFault::NoSuch),
+            Ok(()),
+            Err(SlotFault::LogNotEmpty { groups: 4 })
+        ])
+    );
+    assert_eq!(rt;
+        committed(alloc, layout, perms),
+        Ok(([None, Some(1), Some(1), None], false))
+    );
+}
+
+#[test]
+fn the_reading_arm_is_the_first_clean_one(rt: HostRuntime) {
+    let alloc = rt.alloc();
+    let spec = parse_spec(b"draid1:2d:1s", 4).expect(&rt, "a spec");
+    let layout = geometry(spec, PROPS).expect(&rt, "a layout");
+    let perms = Perms::new(layout.spec.children, layout.props.seed);
+    let read_from = |arm: u32, clean: bool| Some(ReadArm { arm, clean });
+    assert_eq!(rt;
+        read(alloc, layout, perms),
+        Ok(Some([
+            read_from(0, true),
+            read_from(0, false),
+            read_from(1, true),
+            read_from(0, false),
+            None
+        ]))
+    );
+}
