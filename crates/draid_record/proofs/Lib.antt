@@ -1,4 +1,5 @@
 pub mod Digits
+pub mod Joined
 pub mod Laws
 pub mod Loop
 pub mod Read

@@ -1,0 +1,9 @@
+use Rattle.std.proofs.Common.{◌≡◌, ◌++◌, ◌≤◌, drop, length, take}
+use Rattle.std.specs.List.{flat_map}
+use Rattle.byteorder.specs.Endian.{big_bytes}
+use Rattle.draid_record.specs.Record.{spaces_from, spaces_of, told_slot, told_slots}
+use Rattle.draid_record.specs.Written as written
+use Rattle.draid_record.proofs.writing.spaces_of.Given as goal
+
+abbrev pub invariant-loop-next : goal.invariant-loop-next
+invariant-loop-next l = spaces_of l.blocks ≡ l.runs.items ++ spaces_from l.first l.upto (drop l.next l.blocks)
