@@ -5,4 +5,5 @@ pub mod Loop
 pub mod Read
 pub mod UberWritten
 pub mod Whole
+pub mod WholeWritten
 pub mod Within

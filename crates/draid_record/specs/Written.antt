@@ -1,5 +1,5 @@
 -- The bytes of a record, part by part.
-use Rattle.std.specs.Prelude.{◌+◌, ◌-◌, ◌*◌, ℕ, List, [], ◌∷◌, ◌++◌, length, Bool, true, false, Option, None, Some}
+use Rattle.std.specs.Prelude.{◌≡◌, ◌+◌, ◌-◌, ◌*◌, ◌^◌, ◌<◌, ℕ, List, [], ◌∷◌, ◌++◌, length, Bool, true, false, Option, None, Some}
 use Rattle.std.specs.List.{flat_map}
 use Rattle.byteorder.specs.Endian.{big_bytes}
 use Rattle.draid_names.specs.declared.arm.Arm.{Arm}
@@ -75,6 +75,11 @@ front_bytes len = big_bytes 4 1146769987 ++ big_bytes 2 1 ++ big_bytes 4 len
 
 abbrev pub record_bytes : RecordTold → List ℕ
 record_bytes value = front_bytes (length (body_bytes value) + 10) ++ body_bytes value
+
+-- the bytes are those of the record, and their number fits the length
+pub record IsWhole (bytes : List ℕ) (value : RecordTold) : Type 0 where
+  pub bytes_are : bytes ≡ record_bytes value
+  pub short : length (body_bytes value) + 10 < 2 ^ 32
 
 -- the value is in the ranges of a record's fields: the grammar spells it by these bytes
 abbrev pub IsRecord : Limits → RecordTold → Type 0

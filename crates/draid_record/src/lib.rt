@@ -17,5 +17,5 @@ mod writing;
 
 pub use fault::RecordFault;
 pub use record::{Record, read_record};
-pub use writing::write_record;
 pub use uber::{UberBody, read_uber, write_uber};
+pub use writing::write_record;

@@ -221,6 +221,14 @@ pub fn write_record(alloc: Global, value: &Record) -> Result<Vec<u8>, NoMemory>
     ensures spelled { IfOk result (λ bytes. (limits : Limits) (more : List ℕ)
         → written.IsRecord limits (told_record value.now) → spec.Spelled limits (bytes.items ++ more) (told_record value.now)) }
 {
+    whole(alloc, value)
+}
+
+/// The front and the fields behind it.
+fn whole(alloc: Global, value: &Record) -> Result<Vec<u8>, NoMemory>
+    requires { All (λ (b : Pointer). b.first + b.stripes ≤ 2 ^ 49) value.now.blocks.items }
+    ensures { IfOk result (λ bytes. written.IsWhole bytes.items (told_record value.now)) }
+{
     let fields = body(alloc, value)?;
     if fields.len() + 10 > u32::MAX as usize {
         return Err(NoMemory);
