@@ -1,4 +1,4 @@
-use Rattle.std.proofs.Common.{◌≡◌, ◌++◌, List, ℕ, ap, ap₂, sym, ◌∙◌, subst, arith}
+use Rattle.std.proofs.Common.{◌++◌, ap, ap₂, ◌∙◌}
 use Rattle.byteorder.specs.Endian.{big_bytes}
 use Rattle.draid_names.specs.declared.pointer.Pointer.{Pointer}
 use Rattle.draid_record.proofs.Joined.{joined7}

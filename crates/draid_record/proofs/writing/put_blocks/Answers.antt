@@ -1,4 +1,3 @@
-use Rattle.std.proofs.Common.{◌≡◌, ◌++◌, List, ℕ, ap, sym, ◌∙◌, arith}
 use Rattle.draid_record.specs.Written.{block_bytes}
 use Rattle.draid_record.proofs.Joined.{one_written}
 use Rattle.draid_record.proofs.writing.put_blocks.Goals as goal

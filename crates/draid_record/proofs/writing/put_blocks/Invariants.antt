@@ -1,7 +1,5 @@
-use Rattle.std.proofs.Common.{◌≡◌, ◌++◌, ◌≤◌, drop, length, take}
+use Rattle.std.proofs.Common.{◌≡◌, ◌++◌, take}
 use Rattle.std.specs.List.{flat_map}
-use Rattle.byteorder.specs.Endian.{big_bytes}
-use Rattle.draid_record.specs.Record.{spaces_from, spaces_of, told_slot, told_slots}
 use Rattle.draid_record.specs.Written as written
 use Rattle.draid_record.proofs.writing.put_blocks.Given as goal
 

@@ -1,4 +1,3 @@
-use Rattle.std.proofs.Common.{arith}
 use Rattle.draid_record.proofs.Joined.{run_within}
 use Rattle.draid_record.proofs.writing.put_log.Goals as goal
 

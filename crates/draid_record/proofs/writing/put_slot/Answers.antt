@@ -1,4 +1,4 @@
-use Rattle.std.proofs.Common.{◌≡◌, ◌++◌, List, ℕ, ap, sym, ◌∙◌, arith}
+use Rattle.std.proofs.Common.{◌++◌, ap, ◌∙◌}
 use Rattle.draid_names.specs.declared.arm.Arm.{Arm}
 use Rattle.draid_ranges.specs.Numbers.{Numbers}
 use Rattle.draid_record.specs.Record.{told_arm}

@@ -1,7 +1,6 @@
-use Rattle.std.proofs.Common.{◌≡◌, ◌++◌, List, ℕ, length, ap, ap₂, sym, ◌∙◌, subst, arith}
+use Rattle.std.proofs.Common.{◌≡◌, ◌++◌, length, ap, ap₂, ◌∙◌, arith}
 use Rattle.std.specs.List.{flat_map}
 use Rattle.byteorder.specs.Endian.{big_bytes}
-use Rattle.draid_names.specs.declared.arm.ArmAt.{ArmAt}
 use Rattle.draid_pass.specs.declared.pass.Pass.{Pass}
 use Rattle.draid_record.specs.Written.{bit, pass_code, target_bytes}
 use Rattle.draid_record.proofs.Joined.{joined7}

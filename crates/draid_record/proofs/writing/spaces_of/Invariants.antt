@@ -1,8 +1,5 @@
-use Rattle.std.proofs.Common.{◌≡◌, ◌++◌, ◌≤◌, drop, length, take}
-use Rattle.std.specs.List.{flat_map}
-use Rattle.byteorder.specs.Endian.{big_bytes}
-use Rattle.draid_record.specs.Record.{spaces_from, spaces_of, told_slot, told_slots}
-use Rattle.draid_record.specs.Written as written
+use Rattle.std.proofs.Common.{◌≡◌, ◌++◌, drop}
+use Rattle.draid_record.specs.Record.{spaces_from, spaces_of}
 use Rattle.draid_record.proofs.writing.spaces_of.Given as goal
 
 abbrev pub invariant-loop-next : goal.invariant-loop-next
