@@ -2,3 +2,4 @@ pub mod Grammar
 pub mod Reading
 pub mod Record
 pub mod Uber
+pub mod Written

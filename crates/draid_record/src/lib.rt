@@ -13,7 +13,9 @@ mod record;
 #[cfg(test)]
 mod tests;
 mod uber;
+mod writing;
 
 pub use fault::RecordFault;
 pub use record::{Record, read_record};
 pub use uber::{UberBody, read_uber, write_uber};
+pub use writing::write_record;

@@ -17,7 +17,7 @@ use draid_pass::Pass;
 use draid_spec::Geometry;
 use std::alloc::Global;
 
-const MAGIC: u64 = 0x445a_5243;
+pub(crate) const MAGIC: u64 = 0x445a_5243;
 
 const LAST: u64 = (1 << 48) - 1;
 

@@ -1,6 +1,8 @@
 ghost use Rattle.draid_spec.specs.Geometry.{IsGeometry};
 
 use super::*;
+use draid_dtl::Log;
+use draid_names::{Arm, ArmKind, NoMemory};
 use draid_spec::{Geometry, Props, geometry, parse_spec};
 use std::alloc::Global;
 
@@ -151,4 +153,39 @@ fn an_uberblock_is_told(rt: HostRuntime) {
         read_uber(&other, 1),
         Err(RecordFault::Bad { at: 17, kind: 2 })
     );
+}
+
+/// A slot with the leaf of this number, which missed nothing.
+fn leaf(alloc: Global, number: u64) -> Result<Vec<(Arm, Log)>, NoMemory> {
+    let mut slot = Vec::new(alloc);
+    let arm = Arm {
+        kind: ArmKind::Leaf,
+        number,
+        offline: false,
+        fresh: false,
+    };
+    slot.push((arm, Log::new(alloc)))?;
+    Ok(slot)
+}
+
+fn written(alloc: Global) -> Result<Vec<u8>, NoMemory> {
+    let mut slots = Vec::new(alloc);
+    for number in 0..3 {
+        slots.push(leaf(alloc, number)?)?;
+    }
+    let record = Record {
+        metaslab: 0,
+        group: 1,
+        slots,
+        last_pass: 0,
+        pass: None,
+        blocks: Vec::new(alloc),
+    };
+    write_record(alloc, &record)
+}
+
+#[test]
+fn a_record_is_written(rt: HostRuntime) {
+    let bytes = written(rt.alloc()).expect(&rt, "the bytes");
+    assert_eq!(rt; bytes.as_slice(), RECORD.as_slice());
 }
