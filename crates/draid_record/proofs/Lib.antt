@@ -2,6 +2,7 @@ pub mod Digits
 pub mod Joined
 pub mod Laws
 pub mod Loop
+pub mod Ranged
 pub mod Read
 pub mod UberWritten
 pub mod Whole

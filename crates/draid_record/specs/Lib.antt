@@ -3,3 +3,4 @@ pub mod Reading
 pub mod Record
 pub mod Uber
 pub mod Written
+pub mod Ranges

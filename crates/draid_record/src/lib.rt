@@ -6,6 +6,7 @@ mod arm;
 mod block;
 mod fault;
 mod field;
+mod law;
 mod limits;
 mod log;
 mod pass;
@@ -16,6 +17,7 @@ mod uber;
 mod writing;
 
 pub use fault::RecordFault;
+pub use law::values_in_range_are_spelled;
 pub use record::{Record, read_record};
 pub use uber::{UberBody, read_uber, write_uber};
 pub use writing::write_record;
