@@ -1,1 +1,3 @@
-pub mod Sectors
+pub mod Blanks
+pub mod Moments
+pub mod Tells

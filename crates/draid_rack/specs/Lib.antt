@@ -1,3 +1,4 @@
 pub mod Leaves
 pub mod Memory
+pub mod Moments
 pub mod Rack

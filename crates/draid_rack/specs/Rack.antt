@@ -1,5 +1,7 @@
-use Rattle.std.specs.Prelude.{◌≡◌, ◌<◌, ◌≤◌, ⊤, ◌==◌, ◌&&◌, ℕ, List, Option, Some, None, Result, MatchOption, OnOk, OnErr, option_map, if◌then◌else◌}
+use Rattle.std.specs.Prelude.{◌≡◌, ◌<◌, ◌≤◌, ⊤, ◌==◌, ◌&&◌, ◌+◌, ◌-◌, ◌^◌, ℕ, Bool, true, false, List, Option, Some, None, Result, MatchOption, OnOk, OnErr, option_map, map, replicate, nat_lt, if◌then◌else◌}
+use Rattle.std.specs.List.{list_any}
 use Rattle.draid_names.specs.Faults.{Rose}
+use Rattle.draid_rack.specs.declared.rack.At.{At}
 
 -- the length of a sector in bytes, and how many sectors each leaf has that is there
 pub record Shape : Type 0 where
@@ -17,33 +19,129 @@ pub record HasJust (shape : Shape) (leaves sectors bytes : ℕ) : Type 0 where
   pub there : (l : ℕ) → l < leaves → shape.leaves l ≡ Some sectors
   pub no_other : (l : ℕ) → leaves ≤ l → shape.leaves l ≡ None
 
--- what a rack tells: by leaf and sector, what is read there (None: the sector isn't there)
+-- another number of sectors of a leaf, or none
+abbrev pub with_leaf : ℕ → Option ℕ → Shape → Shape
+with_leaf l n shape = record {
+  bytes = shape.bytes;
+  leaves = λ m. if m == l then n else shape.leaves m;
+}
+
+-- What a rack tells, by leaf and sector: what is read there (None: the sector isn't there), what is soft
+-- (written since the last flush), what is harmed, and the clock at the sector's last change; and the
+-- rack's clock.
 pub record Told : Type 0 where
   pub reads : ℕ → ℕ → Option (List ℕ)
+  pub soft : ℕ → ℕ → Bool
+  pub harmed : ℕ → ℕ → Bool
+  pub since : ℕ → ℕ → ℕ
+  pub clock : ℕ
+
+abbrev pub last_clock : ℕ
+last_clock = 2 ^ 64 - 1
+
+-- one change later. It stands still at the last clock
+abbrev pub tick : ℕ → ℕ
+tick c = if nat_lt c last_clock then c + 1 else c
 
 -- f with another answer at one sector
 abbrev pub put : {A : Type 0} → ℕ → ℕ → A → (ℕ → ℕ → A) → ℕ → ℕ → A
 put l s v f m q = if m == l && q == s then v else f m q
 
--- a sector was written with these bytes
-abbrev pub lands : ℕ → ℕ → List ℕ → Told → Told
-lands l s bytes x = record { reads = put l s (Some bytes) x.reads }
+-- f with one answer on a whole leaf
+abbrev pub put_leaf : {A : Type 0} → ℕ → A → (ℕ → ℕ → A) → ℕ → ℕ → A
+put_leaf l v f m q = if m == l then v else f m q
 
--- A write that answered so: at Ok of these bytes, else of any. Nothing else changes.
-pub record Lands {E : Type 0} (l s : ℕ) (bytes : List ℕ) (result : Result Unit E) (old new : Option Told) : Type 0 where
+-- a sector was written with these bytes, and is harmed or not afterwards
+abbrev pub lands : ℕ → ℕ → List ℕ → Bool → Told → Told
+lands l s bytes harm x = record {
+  reads = put l s (Some bytes) x.reads;
+  soft = put l s true x.soft;
+  harmed = put l s harm x.harmed;
+  since = put l s (tick x.clock) x.since;
+  clock = tick x.clock;
+}
+
+abbrev pub flushes : ℕ → Told → Told
+flushes l x = record {
+  reads = x.reads;
+  soft = put_leaf l false x.soft;
+  harmed = x.harmed;
+  since = x.since;
+  clock = tick x.clock;
+}
+
+-- the harm of a sector ended
+abbrev pub settles : ℕ → ℕ → Told → Told
+settles l s x = record {
+  reads = x.reads;
+  soft = x.soft;
+  harmed = put l s false x.harmed;
+  since = x.since;
+  clock = tick x.clock;
+}
+
+-- each byte is the complement of what it was
+abbrev pub complement : Option (List ℕ) → Option (List ℕ)
+complement bytes = option_map (λ bs. map (λ b. 255 - b) bs) bytes
+
+-- each byte of a sector became its complement
+abbrev pub damages : ℕ → ℕ → Told → Told
+damages l s x = record {
+  reads = put l s (complement (x.reads l s)) x.reads;
+  soft = x.soft;
+  harmed = put l s true x.harmed;
+  since = put l s (tick x.clock) x.since;
+  clock = tick x.clock;
+}
+
+-- a leaf came, of so many sectors of zeros
+abbrev pub adds : ℕ → ℕ → ℕ → Told → Told
+adds bytes l sectors x = record {
+  reads = λ m q. if m == l then (if nat_lt q sectors then Some (replicate bytes 0) else None) else x.reads m q;
+  soft = put_leaf l false x.soft;
+  harmed = put_leaf l false x.harmed;
+  since = λ m q. if m == l then (if nat_lt q sectors then tick x.clock else 0) else x.since m q;
+  clock = tick x.clock;
+}
+
+-- a leaf went
+abbrev pub drops : ℕ → Told → Told
+drops l x = record {
+  reads = put_leaf l None x.reads;
+  soft = put_leaf l false x.soft;
+  harmed = put_leaf l false x.harmed;
+  since = put_leaf l 0 x.since;
+  clock = tick x.clock;
+}
+
+-- some source is harmed
+abbrev pub taints : List At → Told → Bool
+taints sources x = list_any (λ (a : At). x.harmed a.leaf a.sector) sources
+
+-- A write that answered so: at Ok of these bytes, else of any. Harm doesn't depend on the answer.
+pub record Lands {E : Type 0} (l s : ℕ) (bytes : List ℕ) (harm : Told → Bool) (result : Result Unit E)
+    (old new : Option Told) : Type 0 where
   pub stands : List ℕ
   pub whole : OnOk result (stands ≡ bytes)
-  pub told : new ≡ option_map (λ x. lands l s stands x) old
+  pub told : new ≡ option_map (λ x. lands l s stands (harm x) x) old
 
 -- where it is told
 abbrev pub OnTold : Option Told → (Told → Type 0) → Type 0
 OnTold told P = MatchOption told ⊤ P
+
+-- where it is told, this sector reads so
+abbrev pub Reads : Option Told → ℕ → ℕ → List ℕ → Type 0
+Reads told l s bytes = OnTold told (λ x. x.reads l s ≡ Some bytes)
 
 -- No count of faults falls, and a failure has raised that of `who`.
 pub record Counts {E : Type 0} (who : Option ℕ) (result : Result Unit E) (old new : Option ℕ → ℕ) : Type 0 where
   pub later : (w : Option ℕ) → old w ≤ new w
   pub cause : OnErr result (Rose (old who) (new who))
 
--- where it is told, this sector reads so
-abbrev pub Reads : Option Told → ℕ → ℕ → List ℕ → Type 0
-Reads told l s bytes = OnTold told (λ x. x.reads l s ≡ Some bytes)
+-- No count but that of this leaf, which came or went, falls.
+abbrev pub CountsOthers : ℕ → (Option ℕ → ℕ) → (Option ℕ → ℕ) → Type 0
+CountsOthers leaf old new = (w : Option ℕ) → (w ≡ Some leaf → ⊥) → old w ≤ new w
+
+-- no sector's clock is later than the rack's
+abbrev pub IsOrderly : Told → Type 0
+IsOrderly x = (l s : ℕ) → x.since l s ≤ x.clock

@@ -1,10 +1,14 @@
-//! The leaves of one metaslab as a device: what it reads, what a write leaves, and when it may fail.
+//! The leaves of one metaslab as a device: what it reads, what a call changes, what stays at every moment of it,
+//! and when it may fail.
 
 #![tactic(auto)]
 
+mod calls;
 mod leaves;
 mod memory;
 mod rack;
+#[cfg(test)]
+mod tests;
 
 pub use memory::MemoryRack;
-pub use rack::Rack;
+pub use rack::{AddFault, At, Rack};

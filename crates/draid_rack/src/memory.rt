@@ -1,25 +1,34 @@
-ghost use Rattle.std.specs.Prelude.{◌≡◌, ◌+◌, ◌-◌, ◌^◌, ◌≤◌, ◌<◌, ◌↔◌, min, ℕ, Option, Some, IsTrue, IfOk, IsErr, OnOk, Contains, length, replicate};
+ghost use Rattle.std.specs.Prelude.{◌≡◌, ◌+◌, ◌-◌, ◌^◌, ◌≤◌, ◌<◌, ◌↔◌, min, ℕ, Option, Some, None, false, Bool, IsTrue, IfOk, IfSome, IfNone, IsErr, IsErrOf, IsSome, OnOk, OnErr, Contains, Result, length, replicate, option_map};
 ghost use Rattle.draid_names.specs.Faults.{Rose};
-ghost use Rattle.draid_rack.specs.Leaves.{AreWhole, faults_by, reads_by, sectors_by, shape_by, told_by};
-ghost use Rattle.draid_rack.specs.Rack.{Fits, HasJust, Lands, Reads, Counts};
+ghost use Rattle.draid_rack.specs.Leaves.{AreWhole, AreUpTo, faults_by, faults_in, harmed_in, leaf_at, reads_in, sectors_in, shape_by, since_in, soft_in, told_by};
+ghost use Rattle.draid_rack.specs.Rack.{Fits, HasJust, Lands, Reads, Counts, CountsOthers, OnTold, adds, damages, drops, flushes, settles, taints, with_leaf};
 
-use crate::Rack;
-use crate::leaves::{Leaf, count_fault, read_sector, write_sector};
+use crate::calls::Calls;
+use crate::leaves::{
+    Leaf, count_fault, damage_sector, fail_sector, first_from, flush_leaf, insert_leaf,
+    is_any_harmed, is_harmed, land_sector, later, read_sector, remove_leaf, settle_sector,
+};
+use crate::rack::{AddFault, At, Rack};
 use draid_names::{Failed, NoMemory};
 use std::alloc::Global;
+use std::collections::BTreeMap;
 
 /// A rack in memory. Its calls that can fail are numbered from 0, and those that its list names fail.
 #[derive(Drop)]
 pub struct MemoryRack {
+    alloc: Global,
     bytes: u32,
-    leaves: Vec<Leaf>,
-    calls: u64,
-    failing: Vec<u64>,
-    ghost whole: { AreWhole bytes leaves.items },
+    leaves: BTreeMap<u64, Leaf>,
+    clock: u64,
+    /// How often adding a leaf has failed.
+    own_faults: u64,
+    calls: Calls,
+    ghost whole: { AreWhole bytes leaves },
+    ghost orderly: { AreUpTo clock leaves },
 }
 
 impl MemoryRack {
-    ghost use Rattle.draid_rack.specs.Memory.{failing_calls, next_call, shape_of_memory, told_by_memory};
+    ghost use Rattle.draid_rack.specs.Memory.{CountsCall, failing_calls, faults_of_memory, next_call, shape_of_memory, told_by_memory};
 
     /// A rack of `leaves` leaves, each of `sectors` sectors of `bytes` zero bytes. Its calls that can
     /// fail are numbered from 0, and those that `failing` names fail.
@@ -32,41 +41,45 @@ impl MemoryRack {
     ) -> Result<MemoryRack, NoMemory>
         ensures just { IfOk result (λ rack. HasJust (shape_of_memory rack) leaves sectors bytes) }
         ensures zeros { IfOk result (λ rack. (l s : ℕ) → l < leaves → s < sectors → Reads (told_by_memory rack) l s (replicate bytes 0)) }
+        ensures counts { IfOk result (λ rack. (who : Option ℕ) → faults_of_memory rack who ≡ 0) }
         ensures list { IfOk result (λ rack. (failing_calls rack ≡ failing.items) × (next_call rack ≡ 0)) }
     {
-        let mut rows = Vec::new(alloc);
-        for _ in 0..leaves {
-            rows.push(Leaf::zeros(alloc, sectors, bytes)?)?;
+        let mut rows = BTreeMap::new(alloc);
+        for leaf in 0..leaves {
+            let new = Leaf::zeros(alloc, sectors, bytes, 0)?;
+            insert_leaf(&mut rows, leaf as u64, new)?;
         }
         Ok(MemoryRack {
+            alloc,
             bytes,
             leaves: rows,
-            calls: 0,
-            failing,
+            clock: 0,
+            own_faults: 0,
+            calls: Calls { made: 0, failing },
         })
     }
 
-    /// Counts this call, and whether the list names it; then a fault of the leaf is counted.
-    fn fails(&mut self, leaf: u64) -> bool
-        requires there { leaf < length self.old.leaves.items }
-        ensures exact { IsTrue result ↔ Contains (failing_calls self.old) (next_call self.old) }
-        ensures reads { (l s : ℕ) → reads_by self.new.leaves.items l s ≡ reads_by self.old.leaves.items l s }
-        ensures sectors { (l : ℕ) → sectors_by self.new.leaves.items l ≡ sectors_by self.old.leaves.items l }
-        ensures later { (w : Option ℕ) → faults_by self.old.leaves.items w ≤ faults_by self.new.leaves.items w }
-        ensures rose { IsTrue result → Rose (faults_by self.old.leaves.items (Some leaf)) (faults_by self.new.leaves.items (Some leaf)) }
-        ensures same { self.new.bytes ≡ self.old.bytes }
-        ensures list { (self.new.failing ≡ self.old.failing) × (self.new.calls ≡ min (self.old.calls + 1) (2 ^ 64 - 1)) }
+    /// Writes a sector, and says whether it is harmed then.
+    fn land(&mut self, leaf: u64, sector: u64, bytes: &[u8], harmed: bool) -> Result<(), Failed>
+        requires place { Fits (shape_of_memory self.old) leaf sector (length bytes.now) }
+        ensures told { Lands leaf sector bytes.now (λ _. harmed) result (told_by_memory self.old) (told_by_memory self.new) }
+        ensures shape { shape_of_memory self.new ≡ shape_of_memory self.old }
+        ensures cause { Counts (Some leaf) result (faults_of_memory self.old) (faults_of_memory self.new) }
+        ensures exact { IsErr result ↔ Contains (failing_calls self.old) (next_call self.old) }
+        ensures list { CountsCall self.old self.new }
     {
-        let named = self.failing.contains(&self.calls);
-        self.calls = self.calls.saturating_add(1);
-        if named {
-            count_fault(&mut self.leaves, leaf);
+        self.clock = later(self.clock);
+        if self.calls.fails() {
+            fail_sector(&mut self.leaves, leaf, sector, harmed, self.clock);
+            return Err(Failed);
         }
-        named
+        land_sector(&mut self.leaves, leaf, sector, bytes, harmed, self.clock);
+        Ok(())
     }
 }
 
 impl Rack for MemoryRack {
+    ghost use Rattle.draid_rack.specs.declared.rack.AddFault.{AddFault};
     ghost use Rattle.draid_rack.specs.Memory.{CountsCall, failing_calls, faults_of_memory, next_call, shape_of_memory, told_by_memory};
 
     ghost shape = { shape_of_memory };
@@ -75,6 +88,8 @@ impl Rack for MemoryRack {
 
     ghost told = { told_by_memory };
 
+    ghost orderly = { λ rack. rack.orderly };
+
     fn read(&mut self, leaf: u64, sector: u64, into: &mut [u8]) -> Result<(), Failed>
         requires place { Fits (shape_of_memory self.old) leaf sector (length into.old) }
         ensures whole { length into.new ≡ length into.old }
@@ -82,12 +97,11 @@ impl Rack for MemoryRack {
         ensures told { told_by_memory self.new ≡ told_by_memory self.old }
         ensures shape { shape_of_memory self.new ≡ shape_of_memory self.old }
         ensures cause { Counts (Some leaf) result (faults_of_memory self.old) (faults_of_memory self.new) }
-
-        // It fails just where the list names it.
         ensures exact { IsErr result ↔ Contains (failing_calls self.old) (next_call self.old) }
         ensures list { CountsCall self.old self.new }
     {
-        if self.fails(leaf) {
+        if self.calls.fails() {
+            count_fault(&mut self.leaves, leaf);
             return Err(Failed);
         }
         read_sector(&self.leaves, leaf, sector, into);
@@ -96,52 +110,129 @@ impl Rack for MemoryRack {
 
     fn write(&mut self, leaf: u64, sector: u64, bytes: &[u8]) -> Result<(), Failed>
         requires place { Fits (shape_of_memory self.old) leaf sector (length bytes.now) }
-        ensures told { Lands leaf sector bytes.now result (told_by_memory self.old) (told_by_memory self.new) }
+        ensures told { Lands leaf sector bytes.now (λ _. false) result (told_by_memory self.old) (told_by_memory self.new) }
         ensures shape { shape_of_memory self.new ≡ shape_of_memory self.old }
         ensures cause { Counts (Some leaf) result (faults_of_memory self.old) (faults_of_memory self.new) }
-
         ensures exact { IsErr result ↔ Contains (failing_calls self.old) (next_call self.old) }
         ensures list { CountsCall self.old self.new }
     {
-        if self.fails(leaf) {
+        self.land(leaf, sector, bytes, false)
+    }
+
+    fn mend(&mut self, leaf: u64, sector: u64, bytes: &[u8], sources: &[At]) -> Result<(), Failed>
+        requires place { Fits (shape_of_memory self.old) leaf sector (length bytes.now) }
+        ensures told { Lands leaf sector bytes.now (taints sources.now) result (told_by_memory self.old) (told_by_memory self.new) }
+        ensures shape { shape_of_memory self.new ≡ shape_of_memory self.old }
+        ensures cause { Counts (Some leaf) result (faults_of_memory self.old) (faults_of_memory self.new) }
+        ensures exact { IsErr result ↔ Contains (failing_calls self.old) (next_call self.old) }
+        ensures list { CountsCall self.old self.new }
+    {
+        let harmed = is_any_harmed(&self.leaves, sources);
+        self.land(leaf, sector, bytes, harmed)
+    }
+
+    fn patch(&mut self, leaf: u64, sector: u64, bytes: &[u8]) -> Result<(), Failed>
+        requires place { Fits (shape_of_memory self.old) leaf sector (length bytes.now) }
+        ensures told { Lands leaf sector bytes.now (λ x. x.harmed leaf sector) result (told_by_memory self.old) (told_by_memory self.new) }
+        ensures shape { shape_of_memory self.new ≡ shape_of_memory self.old }
+        ensures cause { Counts (Some leaf) result (faults_of_memory self.old) (faults_of_memory self.new) }
+        ensures exact { IsErr result ↔ Contains (failing_calls self.old) (next_call self.old) }
+        ensures list { CountsCall self.old self.new }
+    {
+        let harmed = is_harmed(&self.leaves, At { leaf, sector });
+        self.land(leaf, sector, bytes, harmed)
+    }
+
+    fn flush(&mut self, leaf: u64) -> Result<(), Failed>
+        requires place { IsSome ((shape_of_memory self.old).leaves leaf) }
+        ensures ok { OnOk result (told_by_memory self.new ≡ option_map (flushes leaf) (told_by_memory self.old)) }
+        ensures err { OnErr result (told_by_memory self.new ≡ told_by_memory self.old) }
+        ensures shape { shape_of_memory self.new ≡ shape_of_memory self.old }
+        ensures cause { Counts (Some leaf) result (faults_of_memory self.old) (faults_of_memory self.new) }
+        ensures exact { IsErr result ↔ Contains (failing_calls self.old) (next_call self.old) }
+        ensures list { CountsCall self.old self.new }
+    {
+        if self.calls.fails() {
+            count_fault(&mut self.leaves, leaf);
             return Err(Failed);
         }
-        write_sector(&mut self.leaves, leaf, sector, bytes);
+        self.clock = later(self.clock);
+        flush_leaf(&mut self.leaves, leaf);
         Ok(())
     }
-}
 
-#[cfg(test)]
-mod tests {
-    use super::*;
-    use std::test::Fail;
-
-    fn write<R: Rack>(rack: &mut R, byte: u8) -> Result<(), Failed>
-        requires { HasJust (R.shape rack.old) 2 3 4 }
-        ensures { HasJust (R.shape rack.new) 2 3 4 }
+    fn settle(&mut self, leaf: u64, sector: u64)
+        requires place { Fits (shape_of_memory self.old) leaf sector (shape_of_memory self.old).bytes }
+        requires firm { OnTold (told_by_memory self.old) (λ x. x.soft leaf sector ≡ false) }
+        ensures told { told_by_memory self.new ≡ option_map (settles leaf sector) (told_by_memory self.old) }
+        ensures shape { shape_of_memory self.new ≡ shape_of_memory self.old }
+        ensures later { (w : Option ℕ) → faults_of_memory self.old w ≤ faults_of_memory self.new w }
     {
-        rack.write(1, 2, &[byte; 4])
+        self.clock = later(self.clock);
+        settle_sector(&mut self.leaves, leaf, sector);
     }
 
-    fn read<R: Rack>(rack: &mut R, sector: u64) -> Result<[u8; 4], Failed>
-        requires just { HasJust (R.shape rack.old) 2 3 4 }
-        requires there { sector < 3 }
-        ensures { HasJust (R.shape rack.new) 2 3 4 }
+    fn damage(&mut self, leaf: u64, sector: u64) -> Result<(), Failed>
+        requires place { Fits (shape_of_memory self.old) leaf sector (shape_of_memory self.old).bytes }
+        ensures ok { OnOk result (told_by_memory self.new ≡ option_map (damages leaf sector) (told_by_memory self.old)) }
+        ensures err { OnErr result (told_by_memory self.new ≡ told_by_memory self.old) }
+        ensures shape { shape_of_memory self.new ≡ shape_of_memory self.old }
+        ensures cause { Counts (Some leaf) result (faults_of_memory self.old) (faults_of_memory self.new) }
+        ensures exact { IsErr result ↔ Contains (failing_calls self.old) (next_call self.old) }
+        ensures list { CountsCall self.old self.new }
     {
-        let mut bytes = [9; 4];
-        rack.read(1, sector, &mut bytes)?;
-        Ok(bytes)
-    }
-
-    #[test]
-    fn reads_what_was_written_and_fails_by_its_list(rt: HostRuntime) -> Result<(), Fail> {
-        let failing = vec![in rt.alloc(); 2, 3]?;
-        let mut rack = MemoryRack::new(rt.alloc(), 2, 3, 4, failing)?;
-        assert_eq!(rt; write(&mut rack, 1), Ok(()));
-        assert_eq!(rt; read(&mut rack, 1), Ok([0; 4]));
-        assert_eq!(rt; write(&mut rack, 5), Err(Failed));
-        assert_eq!(rt; read(&mut rack, 2), Err(Failed));
-        assert_eq!(rt; read(&mut rack, 2), Ok([1; 4]));
+        if self.calls.fails() {
+            count_fault(&mut self.leaves, leaf);
+            return Err(Failed);
+        }
+        self.clock = later(self.clock);
+        damage_sector(&mut self.leaves, leaf, sector, self.clock);
         Ok(())
+    }
+
+    fn add_leaf(&mut self, leaf: u64, sectors: u64) -> Result<(), AddFault>
+        ensures ok { OnOk result (told_by_memory self.new ≡ option_map (adds (shape_of_memory self.old).bytes leaf sectors) (told_by_memory self.old)) }
+        ensures err { OnErr result (told_by_memory self.new ≡ told_by_memory self.old) }
+        ensures shape { OnOk result (shape_of_memory self.new ≡ with_leaf leaf (Some sectors) (shape_of_memory self.old)) }
+        ensures same { OnErr result (shape_of_memory self.new ≡ shape_of_memory self.old) }
+        ensures later { CountsOthers leaf (faults_of_memory self.old) (faults_of_memory self.new) }
+        ensures cause { IsErrOf result AddFault.Failed → Rose (faults_of_memory self.old None) (faults_of_memory self.new None) }
+        ensures exact { IsErrOf result AddFault.Failed ↔ Contains (failing_calls self.old) (next_call self.old) }
+        ensures list { CountsCall self.old self.new }
+    {
+        if self.calls.fails() {
+            self.own_faults = self.own_faults.saturating_add(1);
+            return Err(AddFault::Failed);
+        }
+        let clock = later(self.clock);
+        let new = Leaf::zeros(self.alloc, sectors, self.bytes, clock)?;
+        insert_leaf(&mut self.leaves, leaf, new)?;
+        self.clock = clock;
+        Ok(())
+    }
+
+    fn drop_leaf(&mut self, leaf: u64)
+        ensures told { told_by_memory self.new ≡ option_map (drops leaf) (told_by_memory self.old) }
+        ensures shape { shape_of_memory self.new ≡ with_leaf leaf None (shape_of_memory self.old) }
+        ensures later { CountsOthers leaf (faults_of_memory self.old) (faults_of_memory self.new) }
+    {
+        self.clock = later(self.clock);
+        remove_leaf(&mut self.leaves, leaf);
+    }
+
+    fn sectors(&self, leaf: u64) -> Option<u64>
+        ensures { result ≡ (shape_of_memory self.now).leaves leaf }
+    {
+        self.leaves
+            .get(&leaf)
+            .map(|place| place.sectors.len() as u64)
+    }
+
+    fn leaf_from(&self, from: u64) -> Option<u64>
+        ensures some { IfSome result (λ l. (from ≤ l) × IsSome ((shape_of_memory self.now).leaves l)
+            × ((m : ℕ) → from ≤ m → m < l → (shape_of_memory self.now).leaves m ≡ None)) }
+        ensures none { IfNone result ((m : ℕ) → from ≤ m → (shape_of_memory self.now).leaves m ≡ None) }
+    {
+        first_from(&self.leaves, from)
     }
 }

@@ -1,4 +1,5 @@
 pub mod Ended
+pub mod FirstPool
 pub mod Keeps
 pub mod Known
 pub mod Misses

@@ -16,16 +16,32 @@ use draid_script::{
     parse_line, reply_text,
 };
 use draid_shard::Shard;
-use draid_shelf::{Extent, Shelf};
+use draid_shelf::Shelf;
+use draid_spec::{Geometry, Props, Spec};
 use std::alloc::Global;
 
 /// One line more than a script may have.
 const LINES: u64 = 1_048_577;
 
-/// The leaves of the one pool that can be created.
-const EXTENT: Extent = Extent {
-    leaves: 3,
-    sectors: 32,
+/// The layout of the one pool that can be created.
+const GEOMETRY: Geometry = Geometry {
+    spec: Spec {
+        parity: 1,
+        ndata: 2,
+        children: 3,
+        spares: 0,
+    },
+    props: Props {
+        sector: 512,
+        height: 8,
+        metaslabs: 1,
+        slices: 4,
+        seed: 1,
+    },
+    g: 3,
+    ndisks: 3,
+    ngroups: 1,
+    rows: 1,
 };
 
 /// Why a line was not answered.
@@ -55,8 +71,8 @@ const NAME: &str = "draid1:2d:3c:0s-0";
 fn create<H: Shelf>(alloc: Global, shelf: &mut H) -> Result<Session<H::R>, NoMemory>
     ensures { IfOk result (λ session. Represents H.R.shape H.R.told session [] × IsFresh (pool_of H.R.told H.R.faults session [])) }
 {
-    shelf.make(alloc, EXTENT)?;
-    let rack = shelf.take()?;
+    shelf.make(alloc, &GEOMETRY)?;
+    let rack = shelf.take(0)?;
     match Shard::create(alloc, rack) {
         Ok(shard) => Ok(Session {
             shard,
@@ -64,7 +80,7 @@ fn create<H: Shelf>(alloc: Global, shelf: &mut H) -> Result<Session<H::R>, NoMem
             seq: 0,
         }),
         Err(refused) => {
-            shelf.give(refused.rack);
+            shelf.give(0, refused.rack);
             Err(NoMemory)
         }
     }

@@ -56,10 +56,10 @@ fn is_session(words: &[String]) -> bool
 
 /// Gives the rack of an open pool back to the shelf.
 fn give_back<H: Shelf>(shelf: &mut H, pool: Option<Session<H::R>>)
-    ensures { (writes : List Write) → IsDesk H.R.shape H.R.told pool writes → MatchOption (state_of H.R.told H.R.faults pool writes) ⊤ (HoldsPool (H.holds shelf.new) (H.counts shelf.new)) }
+    ensures { (writes : List Write) → IsDesk H.R.shape H.R.told pool writes → MatchOption (state_of H.R.told H.R.faults pool writes) ⊤ (HoldsPool (H.holds shelf.new 0) (H.counts shelf.new 0)) }
 {
     if let Some(session) = pool {
-        shelf.give(session.into_rack());
+        shelf.give(0, session.into_rack());
     }
 }
 
@@ -72,7 +72,7 @@ pub fn run<H: Shelf, S: Source, K: Sink, A: AllocGlobal>(
     source: &mut S,
     sink: &mut K,
 ) -> Status
-    ensures run { RunIs (map string_bytes words.now) result (S.left source.old) (K.held sink.old) (K.held sink.new) (H.holds shelf.new) (H.counts shelf.new) }
+    ensures run { RunIs (map string_bytes words.now) result (S.left source.old) (K.held sink.old) (K.held sink.new) (H.holds shelf.new 0) (H.counts shelf.new 0) }
 
     // The devices are to blame only where they failed in this run.
     ensures source_fault { result ≡ Status.SourceFault → Rose (S.faults source.old) (S.faults source.new) }

@@ -1,5 +1,5 @@
 -- Rows of a column are written one after another.
-use Rattle.std.proofs.Common.{◌≡◌, ◌+◌, ◌<◌, ℕ, List, Option, Some, None, arith, refl, ap, inl, inr, ◌-◌, ◌*◌, ◌∙◌, take, drop}
+use Rattle.std.proofs.Common.{◌≡◌, ◌+◌, ◌<◌, ℕ, Bool, List, Option, Some, None, arith, refl, ap, inl, inr, ◌-◌, ◌*◌, ◌∙◌, take, drop}
 use Rattle.std.specs.Prelude.{option_map, is_some, Result, Ok, Err, OnOk, OnErr}
 use Rattle.std.proofs.lemmas.Bool.{cases_lt}
 use Rattle.std.proofs.lemmas.Bool.Decides.{nat_tests}
@@ -10,23 +10,27 @@ pub wrote_none : (leaf first : ℕ) (column : List ℕ) (o : Option Told) → Te
 wrote_none leaf first column None = refl
 wrote_none leaf first column (Some x) = record { stand = λ j lt. absurd (omega arith); others = record { reads = λ l s other. refl } }
 
-row_stands : (leaf first row : ℕ) (column bytes : List ℕ) (x y : Told) → WritesRows leaf first column row x y → bytes ≡ sector_of column row
-    → RowsStand (lands leaf (first + row) bytes y).reads leaf first column (row + 1)
-row_stands leaf first row column bytes x y h e j lt = elim (cases_lt j row) [
+row_stands : (leaf first row : ℕ) (column bytes : List ℕ) (harm : Bool) (x y : Told) → WritesRows leaf first column row x y
+    → bytes ≡ sector_of column row → RowsStand (lands leaf (first + row) bytes harm y).reads leaf first column (row + 1)
+row_stands leaf first row column bytes harm x y h e j lt = elim (cases_lt j row) [
   | inl lower ↦ (let was = h.stand j lower in grind (arith, nat_tests, was))
   | inr same ↦ (let i : j ≡ row = omega arith in grind (arith, nat_tests, e, i))
 ]
 
-row_spares : (leaf first row rows : ℕ) (column bytes : List ℕ) (x y : Told) → WritesRows leaf first column row x y → row < rows
-    → SparesOthers leaf first rows x (lands leaf (first + row) bytes y)
-row_spares leaf first row rows column bytes x y h lt = record { reads = λ l s other. (let was = h.others.reads l s in grind (arith, nat_tests, was)) }
+row_spares : (leaf first row rows : ℕ) (column bytes : List ℕ) (harm : Bool) (x y : Told) → WritesRows leaf first column row x y
+    → row < rows → SparesOthers leaf first rows x (lands leaf (first + row) bytes harm y)
+row_spares leaf first row rows column bytes harm x y h lt = record { reads = λ l s other. (let was = h.others.reads l s in grind (arith, nat_tests, was)) }
 
-pub wrote_more : (leaf first row : ℕ) (column bytes : List ℕ) (o p : Option Told) → TellsBoth o p (WritesRows leaf first column row) → bytes ≡ sector_of column row
-    → TellsBoth o (option_map (lands leaf (first + row) bytes) p) (WritesRows leaf first column (row + 1))
-wrote_more leaf first row column bytes None p h e = ap (option_map (lands leaf (first + row) bytes)) h
-wrote_more leaf first row column bytes (Some x) None h e = absurd h
-wrote_more leaf first row column bytes (Some x) (Some y) h e =
-    record { stand = row_stands leaf first row column bytes x y h e; others = row_spares leaf first row (row + 1) column bytes x y h (omega arith) }
+pub wrote_more : (leaf first row : ℕ) (column bytes : List ℕ) (harm : Told → Bool) (o p : Option Told) → TellsBoth o p (WritesRows leaf first column row)
+    → bytes ≡ sector_of column row
+    → TellsBoth o (option_map (λ x. lands leaf (first + row) bytes (harm x) x) p) (WritesRows leaf first column (row + 1))
+wrote_more leaf first row column bytes harm None p h e = ap (option_map (λ x. lands leaf (first + row) bytes (harm x) x)) h
+wrote_more leaf first row column bytes harm (Some x) None h e = absurd h
+wrote_more leaf first row column bytes harm (Some x) (Some y) h e =
+    record {
+      stand = row_stands leaf first row column bytes (harm y) x y h e;
+      others = row_spares leaf first row (row + 1) column bytes (harm y) x y h (omega arith);
+    }
 
 -- the part of a column that the code takes is its sector
 pub sector_is : (column bytes : List ℕ) (at row : ℕ) → at ≡ row * 512 → bytes ≡ take (at + 512 - at) (drop at column) → bytes ≡ sector_of column row

@@ -1,19 +1,28 @@
-use Rattle.std.specs.Prelude.{◌≡◌, ◌<◌, ⊤, ℕ, Option, Some, MatchOption, replicate}
+use Rattle.std.specs.Prelude.{◌≡◌, ◌<◌, ◌*◌, ⊤, ℕ, Option, Some, MatchOption, replicate}
+use Rattle.draid_spec.specs.declared.layout.Geometry.{Geometry}
 use Rattle.draid_rack.specs.Rack.{Shape, Told, HasJust, OnTold}
-use Rattle.draid_shelf.specs.declared.extent.Extent.{Extent}
 
--- the length of a sector in bytes
-abbrev pub sector_bytes : ℕ
-sector_bytes = 512
+abbrev pub most_metaslabs : ℕ
+most_metaslabs = 64
 
--- just these leaves are there
-abbrev pub HasExtent : Shape → Extent → Type 0
-HasExtent shape extent = HasJust shape extent.leaves extent.sectors sector_bytes
+-- the sectors of a leaf in one metaslab
+abbrev pub sectors_of : Geometry → ℕ
+sectors_of geometry = geometry.props.slices * geometry.rows * geometry.props.height
 
--- the leaves are those that were made, where none were given back since
-abbrev pub IsAsMade : Option Extent → Shape → Type 0
-IsAsMade made shape = MatchOption made ⊤ (HasExtent shape)
+-- just the children's leaves are there, each with one metaslab's sectors
+abbrev pub HasLeavesOf : Geometry → Shape → Type 0
+HasLeavesOf geometry shape = HasJust shape geometry.spec.children (sectors_of geometry) geometry.props.sector
+
+-- the leaves are those that are known
+abbrev pub IsKnown : Option Shape → Shape → Type 0
+IsKnown known shape = MatchOption known ⊤ (λ s. shape ≡ s)
 
 -- where it is told, each sector of these leaves reads zeros
-abbrev pub TellsZeros : Option Told → Extent → Type 0
-TellsZeros told extent = OnTold told (λ x. (l s : ℕ) → l < extent.leaves → s < extent.sectors → x.reads l s ≡ Some (replicate sector_bytes 0))
+abbrev pub TellsZeros : Option Told → Geometry → Type 0
+TellsZeros told geometry =
+    OnTold told (λ x. (l s : ℕ) → l < geometry.spec.children → s < sectors_of geometry
+    → x.reads l s ≡ Some (replicate geometry.props.sector 0))
+
+-- every other metaslab is as it was
+abbrev pub SameOthers : {A : Type 0} → ℕ → (ℕ → A) → (ℕ → A) → Type 0
+SameOthers metaslab old new = (m : ℕ) → (m ≡ metaslab → ⊥) → new m ≡ old m

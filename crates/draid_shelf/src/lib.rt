@@ -2,10 +2,8 @@
 
 #![tactic(auto)]
 
-mod extent;
 mod memory;
 mod shelf;
 
-pub use extent::Extent;
 pub use memory::MemoryShelf;
-pub use shelf::Shelf;
+pub use shelf::{METASLABS, Shelf};

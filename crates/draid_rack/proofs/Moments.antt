@@ -1,0 +1,213 @@
+use Rattle.std.proofs.Common.{arith, refl, ◌∙◌, ◌≡◌, ◌≤◌, ◌<◌, ◌==◌, ◌&&◌, ℕ, Bool, true, false, List, Option, Some, None, Result, Ok, Err, OnOk, OnErr, IsTrue, option_map, nat_lt}
+use Rattle.std.proofs.lemmas.Bool.Decides.{nat_tests}
+use Rattle.draid_rack.specs.Rack.{Told, Lands, OnTold, IsOrderly, adds, damages, drops, flushes, lands, last_clock, settles, tick}
+use Rattle.draid_rack.specs.Moments.{Stays, Goes, Between, Keeps, KeptOthers, Spares, SparesTold, OnBoth}
+
+pub goes_on : (x y z : Told) → Goes x y → Goes y z → Goes x z
+goes_on x y z a b = record {
+  later = omega (arith, a.later, b.later);
+  same = λ l s bytes reads early low.
+      let q = b.same l s bytes reads (omega (arith, early, a.later)) low in
+      let p = a.same l s bytes q.reads (rw q.since early) (rw q.since low) in
+      record { reads = p.reads; soft = λ h. p.soft (q.soft h); harmed = λ h. p.harmed (q.harmed h); since = p.since ∙ q.since };
+}
+
+pub spares_self : (named : ℕ → ℕ → Bool) (x : Told) → Spares named x x
+spares_self named x = record { later = omega arith; reads = λ l s out. refl; since = λ l s out. refl; soft = λ l s out h. h; harmed = λ l s out h. h }
+
+pub spares_on : (named : ℕ → ℕ → Bool) (x y z : Told) → Spares named x y → Spares named y z → Spares named x z
+spares_on named x y z a b = record {
+  later = omega (arith, a.later, b.later);
+  reads = λ l s out. b.reads l s out ∙ a.reads l s out;
+  since = λ l s out. b.since l s out ∙ a.since l s out;
+  soft = λ l s out h. a.soft l s out (b.soft l s out h);
+  harmed = λ l s out h. a.harmed l s out (b.harmed l s out h);
+}
+
+moment : (x m y : Told) (l s : ℕ) (bytes : List ℕ) → x.since l s ≤ x.clock → y.since l s ≡ x.since l s → y.reads l s ≡ Some bytes → x.clock < last_clock → Between x m y → Keeps x m l s bytes
+moment x m y l s bytes early same reads low between =
+    let q = between.before.same l s bytes reads (omega (arith, early, same, between.after.later)) (omega (arith, early, same)) in
+    let p = between.after.same l s bytes q.reads (omega (arith, early, same, q.since)) (omega (arith, early, same, q.since)) in
+    record { reads = q.reads; soft = p.soft; harmed = p.harmed }
+
+pub moments : (named : ℕ → ℕ → Bool) (x y : Told) → IsOrderly x → Spares named x y → KeptOthers named x y
+moments named x y orderly spares low m between l s bytes out reads = moment x m y l s bytes (orderly l s) (spares.since l s out) (spares.reads l s out ∙ reads) low between
+
+pub told_on : (named : ℕ → ℕ → Bool) (o p q : Option Told) → SparesTold named o p → SparesTold named p q → SparesTold named o q
+told_on named None None q a b = b
+told_on named None (Some y) q a b = absurd (cc)
+told_on named (Some x) None q a b = absurd a
+told_on named (Some x) (Some y) None a b = absurd b
+told_on named (Some x) (Some y) (Some z) a b = spares_on named x y z a b
+
+pub told_same : (named : ℕ → ℕ → Bool) (o p : Option Told) → p ≡ o → SparesTold named o p
+told_same named None p is = is
+told_same named (Some x) p is = rw is (spares_self named x)
+
+pub kept : (named : ℕ → ℕ → Bool) (o p : Option Told) → OnTold o IsOrderly → SparesTold named o p → OnBoth o p (KeptOthers named)
+kept named None p orderly spares = tt
+kept named (Some x) None orderly spares = absurd spares
+kept named (Some x) (Some y) orderly spares = moments named x y orderly spares
+
+pub spares_lands : (named : ℕ → ℕ → Bool) (l s : ℕ) (bytes : List ℕ) (harm : Bool) (x : Told) → named l s ≡ true → Spares named x (lands l s bytes harm x)
+spares_lands named l s bytes harm x is = record {
+  later = grind (arith, nat_tests);
+  reads = λ m q out. grind (arith, nat_tests);
+  since = λ m q out. grind (arith, nat_tests);
+  soft = λ m q out. grind (arith, nat_tests);
+  harmed = λ m q out. grind (arith, nat_tests);
+}
+
+pub spares_flushes : (named : ℕ → ℕ → Bool) (l : ℕ) (x : Told) → Spares named x (flushes l x)
+spares_flushes named l x = record {
+  later = grind (arith, nat_tests);
+  reads = λ m q out. refl;
+  since = λ m q out. refl;
+  soft = λ m q out. grind (arith, nat_tests);
+  harmed = λ m q out h. h;
+}
+
+pub told_lands : {E : Type 0} (named : ℕ → ℕ → Bool) (l s : ℕ) (bytes : List ℕ) (harm : Told → Bool) (r : Result Unit E) (o p : Option Told) → named l s ≡ true → Lands l s bytes harm r o p → SparesTold named o p
+told_lands named l s bytes harm r None p is w = w.told
+told_lands named l s bytes harm r (Some x) p is w = rw w.told (spares_lands named l s w.stands (harm x) x is)
+
+pub told_flushed : {E : Type 0} (named : ℕ → ℕ → Bool) (l : ℕ) (r : Result Unit E) (o p : Option Told) → OnOk r (p ≡ option_map (flushes l) o) → OnErr r (p ≡ o) → SparesTold named o p
+told_flushed named l (Ok u) None p ok err = ok
+told_flushed named l (Ok u) (Some x) p ok err = rw ok (spares_flushes named l x)
+told_flushed named l (Err e) o p ok err = told_same named o p err
+
+goes_later : (c : ℕ) → c ≤ tick c
+goes_later c = grind (arith, nat_tests)
+
+lands_stays : (l s : ℕ) (bytes : List ℕ) (harm : Bool) (x : Told) (m q : ℕ) (b : Bool) (now : List ℕ) → (m == l && q == s) ≡ b → (lands l s bytes harm x).reads m q ≡ Some now → (lands l s bytes harm x).since m q ≤ x.clock → (lands l s bytes harm x).since m q < last_clock → Stays x (lands l s bytes harm x) m q now
+lands_stays l s bytes harm x m q true now is reads early low = absurd (grind (arith, nat_tests))
+lands_stays l s bytes harm x m q false now is reads early low = record { reads = grind (arith, nat_tests); soft = rw is (λ h. h); harmed = rw is (λ h. h); since = rw is refl }
+
+-- a write is a change that time may bring
+pub goes_lands : (l s : ℕ) (bytes : List ℕ) (harm : Bool) (x : Told) → Goes x (lands l s bytes harm x)
+goes_lands l s bytes harm x = record {
+  later = goes_later x.clock;
+  same = λ m q now reads early low. lands_stays l s bytes harm x m q (m == l && q == s) now refl reads early low;
+}
+
+flushes_stays : (l : ℕ) (x : Told) (m q : ℕ) → IsTrue ((flushes l x).soft m q) → IsTrue (x.soft m q)
+flushes_stays l x m q h = grind (arith, nat_tests)
+
+pub goes_flushes : (l : ℕ) (x : Told) → Goes x (flushes l x)
+goes_flushes l x = record {
+  later = goes_later x.clock;
+  same = λ m q now reads early low. record { reads = reads; soft = flushes_stays l x m q; harmed = λ h. h; since = refl };
+}
+
+settles_stays : (l s : ℕ) (x : Told) (m q : ℕ) → IsTrue ((settles l s x).harmed m q) → IsTrue (x.harmed m q)
+settles_stays l s x m q h = grind (arith, nat_tests)
+
+pub goes_settles : (l s : ℕ) (x : Told) → Goes x (settles l s x)
+goes_settles l s x = record {
+  later = goes_later x.clock;
+  same = λ m q now reads early low. record { reads = reads; soft = λ h. h; harmed = settles_stays l s x m q; since = refl };
+}
+
+damages_stays : (l s : ℕ) (x : Told) (m q : ℕ) (b : Bool) (now : List ℕ) → (m == l && q == s) ≡ b → (damages l s x).reads m q ≡ Some now → (damages l s x).since m q ≤ x.clock → (damages l s x).since m q < last_clock → Stays x (damages l s x) m q now
+damages_stays l s x m q true now is reads early low = absurd (grind (arith, nat_tests))
+damages_stays l s x m q false now is reads early low = record { reads = grind (arith, nat_tests); soft = λ h. h; harmed = rw is (λ h. h); since = rw is refl }
+
+pub goes_damages : (l s : ℕ) (x : Told) → Goes x (damages l s x)
+goes_damages l s x = record {
+  later = goes_later x.clock;
+  same = λ m q now reads early low. damages_stays l s x m q (m == l && q == s) now refl reads early low;
+}
+
+adds_stays : (bytes l n : ℕ) (x : Told) (m q : ℕ) (b c : Bool) (now : List ℕ) → (m == l) ≡ b → nat_lt q n ≡ c → (adds bytes l n x).reads m q ≡ Some now → (adds bytes l n x).since m q ≤ x.clock → (adds bytes l n x).since m q < last_clock → Stays x (adds bytes l n x) m q now
+adds_stays bytes l n x m q true true now is there reads early low = absurd (grind (arith, nat_tests))
+adds_stays bytes l n x m q true false now is there reads early low = absurd (grind (arith, nat_tests))
+adds_stays bytes l n x m q false c now is there reads early low = record { reads = grind (arith, nat_tests); soft = rw is (λ h. h); harmed = rw is (λ h. h); since = rw is refl }
+
+pub goes_adds : (bytes l n : ℕ) (x : Told) → Goes x (adds bytes l n x)
+goes_adds bytes l n x = record {
+  later = goes_later x.clock;
+  same = λ m q now reads early low. adds_stays bytes l n x m q (m == l) (nat_lt q n) now refl refl reads early low;
+}
+
+drops_stays : (l : ℕ) (x : Told) (m q : ℕ) (b : Bool) (now : List ℕ) → (m == l) ≡ b → (drops l x).reads m q ≡ Some now → Stays x (drops l x) m q now
+drops_stays l x m q true now is reads = absurd (grind (arith, nat_tests))
+drops_stays l x m q false now is reads = record { reads = grind (arith, nat_tests); soft = rw is (λ h. h); harmed = rw is (λ h. h); since = rw is refl }
+
+pub goes_drops : (l : ℕ) (x : Told) → Goes x (drops l x)
+goes_drops l x = record {
+  later = goes_later x.clock;
+  same = λ m q now reads early low. drops_stays l x m q (m == l) now refl reads;
+}
+
+pub goes_self : (x : Told) → Goes x x
+goes_self x = record { later = omega arith; same = λ l s bytes reads early low. record { reads = reads; soft = λ h. h; harmed = λ h. h; since = refl } }
+
+pub spares_more : (few more : ℕ → ℕ → Bool) (x y : Told) → ((l s : ℕ) → more l s ≡ false → few l s ≡ false) → Spares few x y → Spares more x y
+spares_more few more x y fewer a = record {
+  later = a.later;
+  reads = λ l s out. a.reads l s (fewer l s out);
+  since = λ l s out. a.since l s (fewer l s out);
+  soft = λ l s out. a.soft l s (fewer l s out);
+  harmed = λ l s out. a.harmed l s (fewer l s out);
+}
+
+-- a leaf whose sectors are all named isn't the one of a sector that isn't
+other_leaf : (named : ℕ → ℕ → Bool) (l m q : ℕ) → ((s : ℕ) → named l s ≡ true) → named m q ≡ false → (m == l) ≡ false
+other_leaf named l m q all out = let is = all q in grind (arith, nat_tests)
+
+pub spares_settles : (named : ℕ → ℕ → Bool) (l s : ℕ) (x : Told) → Spares named x (settles l s x)
+spares_settles named l s x = record {
+  later = goes_later x.clock;
+  reads = λ m q out. refl;
+  since = λ m q out. refl;
+  soft = λ m q out h. h;
+  harmed = λ m q out. settles_stays l s x m q;
+}
+
+pub spares_damages : (named : ℕ → ℕ → Bool) (l s : ℕ) (x : Told) → named l s ≡ true → Spares named x (damages l s x)
+spares_damages named l s x is = record {
+  later = goes_later x.clock;
+  reads = λ m q out. grind (arith, nat_tests);
+  since = λ m q out. grind (arith, nat_tests);
+  soft = λ m q out h. h;
+  harmed = λ m q out. grind (arith, nat_tests);
+}
+
+pub spares_adds : (named : ℕ → ℕ → Bool) (bytes l n : ℕ) (x : Told) → ((s : ℕ) → named l s ≡ true) → Spares named x (adds bytes l n x)
+spares_adds named bytes l n x all = record {
+  later = goes_later x.clock;
+  reads = λ m q out. rw (other_leaf named l m q all out) refl;
+  since = λ m q out. rw (other_leaf named l m q all out) refl;
+  soft = λ m q out. rw (other_leaf named l m q all out) (λ h. h);
+  harmed = λ m q out. rw (other_leaf named l m q all out) (λ h. h);
+}
+
+pub spares_drops : (named : ℕ → ℕ → Bool) (l : ℕ) (x : Told) → ((s : ℕ) → named l s ≡ true) → Spares named x (drops l x)
+spares_drops named l x all = record {
+  later = goes_later x.clock;
+  reads = λ m q out. rw (other_leaf named l m q all out) refl;
+  since = λ m q out. rw (other_leaf named l m q all out) refl;
+  soft = λ m q out. rw (other_leaf named l m q all out) (λ h. h);
+  harmed = λ m q out. rw (other_leaf named l m q all out) (λ h. h);
+}
+
+-- what was told is told after a change that spares the others
+told_by_change : (named : ℕ → ℕ → Bool) (f : Told → Told) → ((x : Told) → Spares named x (f x)) → (o p : Option Told) → p ≡ option_map f o → SparesTold named o p
+told_by_change named f spares None p is = is
+told_by_change named f spares (Some x) p is = rw is (spares x)
+
+told_by_answer : {E : Type 0} (named : ℕ → ℕ → Bool) (f : Told → Told) → ((x : Told) → Spares named x (f x)) → (r : Result Unit E) (o p : Option Told) → OnOk r (p ≡ option_map f o) → OnErr r (p ≡ o) → SparesTold named o p
+told_by_answer named f spares (Ok u) o p ok err = told_by_change named f spares o p ok
+told_by_answer named f spares (Err e) o p ok err = told_same named o p err
+
+pub told_settled : (named : ℕ → ℕ → Bool) (l s : ℕ) (o p : Option Told) → p ≡ option_map (settles l s) o → SparesTold named o p
+told_settled named l s o p is = told_by_change named (settles l s) (spares_settles named l s) o p is
+
+pub told_damaged : {E : Type 0} (named : ℕ → ℕ → Bool) (l s : ℕ) (r : Result Unit E) (o p : Option Told) → named l s ≡ true → OnOk r (p ≡ option_map (damages l s) o) → OnErr r (p ≡ o) → SparesTold named o p
+told_damaged named l s r o p is ok err = told_by_answer named (damages l s) (λ x. spares_damages named l s x is) r o p ok err
+
+pub told_added : {E : Type 0} (named : ℕ → ℕ → Bool) (bytes l n : ℕ) (r : Result Unit E) (o p : Option Told) → ((s : ℕ) → named l s ≡ true) → OnOk r (p ≡ option_map (adds bytes l n) o) → OnErr r (p ≡ o) → SparesTold named o p
+told_added named bytes l n r o p all ok err = told_by_answer named (adds bytes l n) (λ x. spares_adds named bytes l n x all) r o p ok err
+
+pub told_dropped : (named : ℕ → ℕ → Bool) (l : ℕ) (o p : Option Told) → ((s : ℕ) → named l s ≡ true) → p ≡ option_map (drops l) o → SparesTold named o p
+told_dropped named l o p all is = told_by_change named (drops l) (λ x. spares_drops named l x all) o p is

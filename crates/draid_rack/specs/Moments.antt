@@ -1,0 +1,49 @@
+use Rattle.std.specs.Prelude.{◌≡◌, ◌<◌, ◌≤◌, ⊤, ℕ, Bool, false, List, Option, Some, None, MatchOption, IsTrue}
+use Rattle.draid_rack.specs.Rack.{Told, last_clock}
+
+-- a sector that wasn't changed between two states
+pub record Stays (x y : Told) (l s : ℕ) (bytes : List ℕ) : Type 0 where
+  pub reads : x.reads l s ≡ Some bytes
+  pub soft : IsTrue (y.soft l s) → IsTrue (x.soft l s)
+  pub harmed : IsTrue (y.harmed l s) → IsTrue (x.harmed l s)
+  pub since : x.since l s ≡ y.since l s
+
+-- What time does: x is at one moment, y at the same or a later one. A sector whose clock isn't later than
+-- x's has stayed as it was.
+pub record Goes (x y : Told) : Type 0 where
+  pub later : x.clock ≤ y.clock
+  pub same : (l s : ℕ) (bytes : List ℕ) → y.reads l s ≡ Some bytes
+      → y.since l s ≤ x.clock → y.since l s < last_clock → Stays x y l s bytes
+
+-- what the rack may have told at a moment between two
+pub record Between (x m y : Told) : Type 0 where
+  pub after : Goes x m
+  pub before : Goes m y
+
+pub record Keeps (x m : Told) (l s : ℕ) (bytes : List ℕ) : Type 0 where
+  pub reads : m.reads l s ≡ Some bytes
+  pub soft : IsTrue (m.soft l s) → IsTrue (x.soft l s)
+  pub harmed : IsTrue (m.harmed l s) → IsTrue (x.harmed l s)
+
+-- At each moment between two, each sector that isn't named read what it read before, and was soft or harmed
+-- only if it was so before.
+abbrev pub KeptOthers : (ℕ → ℕ → Bool) → Told → Told → Type 0
+KeptOthers named x y =
+    x.clock < last_clock → (m : Told) → Between x m y → (l s : ℕ) (bytes : List ℕ)
+    → named l s ≡ false → x.reads l s ≡ Some bytes → Keeps x m l s bytes
+
+-- Another state, in which only the sectors named were changed. Harm and softness may have ended elsewhere.
+pub record Spares (named : ℕ → ℕ → Bool) (x y : Told) : Type 0 where
+  pub later : x.clock ≤ y.clock
+  pub reads : (l s : ℕ) → named l s ≡ false → y.reads l s ≡ x.reads l s
+  pub since : (l s : ℕ) → named l s ≡ false → y.since l s ≡ x.since l s
+  pub soft : (l s : ℕ) → named l s ≡ false → IsTrue (y.soft l s) → IsTrue (x.soft l s)
+  pub harmed : (l s : ℕ) → named l s ≡ false → IsTrue (y.harmed l s) → IsTrue (x.harmed l s)
+
+-- before and after, where they are told
+abbrev pub OnBoth : Option Told → Option Told → (Told → Told → Type 0) → Type 0
+OnBoth old new P = MatchOption old ⊤ (λ x. MatchOption new ⊤ (λ y. P x y))
+
+-- what was told is told, and only the sectors named were changed
+abbrev pub SparesTold : (ℕ → ℕ → Bool) → Option Told → Option Told → Type 0
+SparesTold named old new = MatchOption old (new ≡ None) (λ x. MatchOption new ⊥ (λ y. Spares named x y))
