@@ -5,7 +5,7 @@ use Rattle.std.proofs.lemmas.Bool.{cases_lt}
 use Rattle.std.proofs.lemmas.List.{length-replicate}
 use Rattle.std.specs.BTreeMap.{BTreeMap}
 use Rattle.draid_rack.specs.declared.leaf.Leaf.{Leaf}
-use Rattle.draid_rack.specs.Leaves.{AreLong, AreUpTo, Changes, IsBlank, faults_by, faults_in, leaf_at, since_of, view_at, view_in}
+use Rattle.draid_rack.specs.Leaves.{AreLong, AreUpTo, Changes, IsBlank, faults_by, faults_in, leaf_at, since_of, view_at, view_in, soft_of, harmed_of}
 use Rattle.draid_rack.specs.Sectors.{View, IsLong, blank}
 use Rattle.draid_rack.specs.Rack.{tick}
 
@@ -116,6 +116,20 @@ module _ (rows : BTreeMap ℕ Leaf) (leaves n k : ℕ) (there : (m : ℕ) → m 
 
   pub blanks_up_to : AreUpTo 0 rows
   blanks_up_to l = of_leaf (IsEarlyLeaf 0) (λ s. omega arith) (λ leaf made. up_to_blank k n 0 leaf made) l
+
+  pub blanks_firm : (l s : ℕ) → soft_of (view_at rows l s) ≡ false
+  blanks_firm l = of_leaf (λ leaf. (s : ℕ) → soft_of (view_in leaf s) ≡ false) (λ s. refl) (λ leaf made s. ap soft_of (made.views s) ∙ soft_if (nat_lt s n)) l
+    where
+      soft_if : (b : Bool) → soft_of (if b then Some (blank k 0) else None) ≡ false
+      soft_if true = refl
+      soft_if false = refl
+
+  pub blanks_unharmed : (l s : ℕ) → harmed_of (view_at rows l s) ≡ false
+  blanks_unharmed l = of_leaf (λ leaf. (s : ℕ) → harmed_of (view_in leaf s) ≡ false) (λ s. refl) (λ leaf made s. ap harmed_of (made.views s) ∙ harmed_if (nat_lt s n)) l
+    where
+      harmed_if : (b : Bool) → harmed_of (if b then Some (blank k 0) else None) ≡ false
+      harmed_if true = refl
+      harmed_if false = refl
 
   pub blanks_count : (who : Option ℕ) → faults_by rows 0 who ≡ 0
   blanks_count None = refl

@@ -46,6 +46,8 @@ impl MemoryRack {
         ensures just { IfOk result (λ rack. HasJust (shape_of_memory rack) leaves sectors bytes) }
         ensures zeros { IfOk result (λ rack. (l s : ℕ) → l < leaves → s < sectors
             → Reads (told_by_memory rack) l s (replicate bytes 0)) }
+        ensures firm { IfOk result (λ rack. OnTold (told_by_memory rack) (λ x. (l s : ℕ) → x.soft l s ≡ false)) }
+        ensures unharmed { IfOk result (λ rack. OnTold (told_by_memory rack) (λ x. (l s : ℕ) → x.harmed l s ≡ false)) }
         ensures counts { IfOk result (λ rack. (who : Option ℕ) → faults_of_memory rack who ≡ 0) }
         ensures next { IfOk result (λ rack. next_call (calls_of rack) ≡ 0) }
         ensures failing { IfOk result (λ rack. failing_calls (calls_of rack) ≡ failing.items) }
@@ -64,6 +66,13 @@ impl MemoryRack {
             own_faults: 0,
             calls: Calls::new(failing),
         })
+    }
+
+    /// The length of a sector in bytes.
+    pub fn sector_bytes(&self) -> u32
+        ensures { result ≡ (shape_of_memory self.now).bytes }
+    {
+        self.bytes
     }
 
     /// Puts a fuse in, in place of an earlier one.

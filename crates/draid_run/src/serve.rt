@@ -16,7 +16,7 @@ use draid_script::{
     parse_line, reply_text,
 };
 use draid_shard::Shard;
-use draid_shelf::Shelf;
+use draid_shelf::RackShelf;
 use draid_spec::{Geometry, Props, Spec};
 use std::alloc::Global;
 
@@ -68,7 +68,7 @@ const KEYS: PoolKeys = PoolKeys {
 const NAME: &str = "draid1:2d:3c:0s-0";
 
 /// Makes the pool on the shelf, and opens it.
-fn create<H: Shelf>(alloc: Global, shelf: &mut H) -> Result<Session<H::R>, NoMemory>
+fn create<H: RackShelf>(alloc: Global, shelf: &mut H) -> Result<Session<H::R>, NoMemory>
     ensures { IfOk result (λ session. Represents H.R.shape H.R.told session [] × IsFresh (pool_of H.R.told H.R.faults session [])) }
 {
     shelf.make(alloc, &GEOMETRY)?;
@@ -94,7 +94,7 @@ fn is_first_pool(spec: &[u8], children: u32, keys: PoolKeys) -> bool
 }
 
 /// Opens a new pool, where none is open.
-fn open_new<H: Shelf>(
+fn open_new<H: RackShelf>(
     alloc: Global,
     shelf: &mut H,
     pool: &mut Option<Session<H::R>>,
@@ -115,7 +115,7 @@ fn open_new<H: Shelf>(
 }
 
 /// Does what a line asks for. An empty line and a comment have no reply.
-fn answer<H: Shelf>(
+fn answer<H: RackShelf>(
     alloc: Global,
     shelf: &mut H,
     pool: &mut Option<Session<H::R>>,
@@ -182,7 +182,7 @@ fn read<R: Rack>(alloc: Global, pool: &mut Option<Session<R>>, object: u64) -> R
 }
 
 /// Runs one line, with this number, and prints its reply.
-fn serve_line<H: Shelf, K: Sink>(
+fn serve_line<H: RackShelf, K: Sink>(
     alloc: Global,
     shelf: &mut H,
     pool: &mut Option<Session<H::R>>,
@@ -259,7 +259,7 @@ fn next_text<S: Source>(
 }
 
 /// Runs the lines of the source one after another, until one can't be run or none is left.
-pub(crate) fn serve<H: Shelf, S: Source, K: Sink>(
+pub(crate) fn serve<H: RackShelf, S: Source, K: Sink>(
     alloc: Global,
     shelf: &mut H,
     pool: &mut Option<Session<H::R>>,

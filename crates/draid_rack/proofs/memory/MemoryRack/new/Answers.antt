@@ -1,4 +1,4 @@
-use Rattle.draid_rack.proofs.Sound.{blank_more, blanks_count, blanks_long, blanks_up_to, none_more}
+use Rattle.draid_rack.proofs.Sound.{blank_more, blanks_count, blanks_firm, blanks_long, blanks_unharmed, blanks_up_to, none_more}
 use Rattle.draid_rack.proofs.memory.MemoryRack.new.Goals as goal
 
 pub loop-leaf-preserved : goal.loop-leaf-preserved
@@ -15,3 +15,9 @@ invariant_of-result c = record {
 
 pub returns-clause-counts : goal.returns-clause-counts
 returns-clause-counts c = blanks_count c.loop-leaf.rows _ _ _ c.loop-leaf.invariant.there c.loop-leaf.invariant.no_other
+
+pub returns-clause-firm : goal.returns-clause-firm
+returns-clause-firm c = blanks_firm c.loop-leaf.rows _ _ _ c.loop-leaf.invariant.there c.loop-leaf.invariant.no_other
+
+pub returns-clause-unharmed : goal.returns-clause-unharmed
+returns-clause-unharmed c = blanks_unharmed c.loop-leaf.rows _ _ _ c.loop-leaf.invariant.there c.loop-leaf.invariant.no_other
