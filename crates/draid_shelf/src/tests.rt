@@ -1,7 +1,7 @@
 ghost use Rattle.std.specs.Prelude.{◌≡◌, ◌<◌, IfOk};
 ghost use Rattle.draid_spec.specs.Geometry.{IsGeometry};
 
-use crate::{Kit, MemoryShelf, RackShelf, Shelf, ShelfFault};
+use crate::{MemoryShelf, RackShelf, Shelf};
 use draid_area::Area;
 use draid_faults::CrashRule;
 use draid_names::Failed;
@@ -66,67 +66,98 @@ fn racks_alone_are_given_and_taken(rt: HostRuntime) -> Result<(), Fail> {
     Ok(())
 }
 
+/// Flushes leaf 0, where it is there.
+fn flush<R: Rack>(rack: &mut R) -> Result<(), Failed>
+    ensures { R.shape rack.new ≡ R.shape rack.old }
+{
+    match rack.sectors(0) {
+        Some(_) => rack.flush(0),
+        None => Err(Failed),
+    }
+}
+
+/// Writes two sectors and a record of metaslab 1, of which the first sector is flushed, and gives its devices back.
+fn use_devices<H: Shelf>(shelf: &mut H, geometry: &Geometry) -> Result<(), Fail>
+    requires { geometry.now.props.sector ≡ 512 }
+{
+    let mut kit = shelf.take(1, geometry)?;
+    write(&mut kit.rack, 23, 7)?;
+    flush(&mut kit.rack)?;
+    write(&mut kit.rack, 22, 8)?;
+    kit.odd.write(0, &[1, 2, 3])?;
+    shelf.give(1, kit);
+    Ok(())
+}
+
+/// What the two sectors read, and how long the record is, where the shelf has them.
+fn found<H: Shelf>(shelf: &mut H, geometry: &Geometry) -> Option<(u8, u8, u64)>
+    requires { geometry.now.props.sector ≡ 512 }
+{
+    let mut kit = shelf.take(1, geometry).ok()?;
+    let flushed = read(&mut kit.rack, 23).ok()?;
+    let soft = read(&mut kit.rack, 22).ok()?;
+    Some((flushed, soft, kit.odd.length()))
+}
+
 #[test]
 fn a_crash_reaches_all_that_was_given_back(rt: HostRuntime) -> Result<(), Fail> {
     let geometry = small_geometry()?;
     if geometry.props.sector != 512 {
         return Ok(());
     }
-    for (rule, sector, record) in [(CrashRule::Old, 0, 0), (CrashRule::New, 8, 3)] {
+    for (rule, left) in [(CrashRule::Old, (7, 0, 0)), (CrashRule::New, (7, 8, 3))] {
         let mut shelf = MemoryShelf::new(rt.alloc(), Vec::new(rt.alloc()));
         assert!(rt; !shelf.has_pool());
         shelf.crash_by(rule);
         Shelf::make(&mut shelf, rt.alloc(), &geometry)?;
         assert!(rt; shelf.has_pool());
-        let Kit {
-            mut rack,
-            even,
-            mut odd,
-        } = Shelf::take(&mut shelf, 1, &geometry)?;
-        assert_eq!(rt; write(&mut rack, 23, 7), Ok(()));
-        assert_eq!(rt;
-            if rack.sectors(0).is_some() {
-                rack.flush(0)
-            } else {
-                Err(Failed)
-            },
-            Ok(())
-        );
-        assert_eq!(rt; write(&mut rack, 22, 8), Ok(()));
-        assert_eq!(rt; odd.write(0, &[1, 2, 3]), Ok(()));
-        Shelf::give(&mut shelf, 1, Kit { rack, even, odd });
-        Shelf::crash(&mut shelf);
-        let mut kit = Shelf::take(&mut shelf, 1, &geometry)?;
-        assert_eq!(rt; read(&mut kit.rack, 23), Ok(7));
-        assert_eq!(rt; read(&mut kit.rack, 22), Ok(sector));
-        assert_eq!(rt; kit.odd.length(), record);
-        assert_eq!(rt; Shelf::take(&mut shelf, 1, &geometry).is_err(), true);
+        use_devices(&mut shelf, &geometry)?;
+        shelf.crash();
+        assert_eq!(rt; found(&mut shelf, &geometry), Some(left));
+        assert_eq!(rt; found(&mut shelf, &geometry), None);
     }
     Ok(())
 }
 
+/// Takes the area of the uberblock, and flushes it and an area of metaslab 0 one after another; which of these calls failed.
+fn flush_both<H: Shelf>(shelf: &mut H, geometry: &Geometry) -> Result<[bool; 4], Fail> {
+    let mut uber = shelf.take_uber()?;
+    let mut kit = shelf.take(0, geometry)?;
+    let failed = [
+        uber.flush().is_err(),
+        kit.even.flush().is_err(),
+        uber.flush().is_err(),
+        kit.even.flush().is_err(),
+    ];
+    shelf.give_uber(uber);
+    shelf.give(0, kit);
+    Ok(failed)
+}
+
 #[test]
-fn the_devices_share_a_fuse_and_the_shelf_has_a_list(rt: HostRuntime) -> Result<(), Fail> {
+fn the_devices_share_a_fuse_that_a_crash_takes_out(rt: HostRuntime) -> Result<(), Fail> {
     let geometry = small_geometry()?;
     let mut shelf = MemoryShelf::new(rt.alloc(), Vec::new(rt.alloc()));
-    let own = vec![in rt.alloc(); 2, 3]?;
-    shelf.fail(own, Vec::new(rt.alloc()));
     Shelf::make(&mut shelf, rt.alloc(), &geometry)?;
-    shelf.put_fuse(rt.alloc(), 2)?;
-    let mut uber = shelf.take_uber()?;
-    assert!(rt; shelf.take_uber().is_err());
-    shelf.give_uber(uber);
-    assert!(rt; shelf.take_uber().is_err());
-    let mut uber = shelf.take_uber()?;
-    let mut kit = Shelf::take(&mut shelf, 0, &geometry)?;
-    assert_eq!(rt; uber.flush(), Ok(()));
-    assert_eq!(rt; kit.even.flush(), Ok(()));
-    assert!(rt; kit.odd.flush().is_err());
-    assert!(rt; uber.flush().is_err());
-    shelf.give_uber(uber);
+    shelf.put_fuse(rt.alloc(), 3)?;
+    assert_eq!(rt;
+        flush_both(&mut shelf, &geometry)?,
+        [false, false, false, true]
+    );
     shelf.crash();
-    let mut uber = shelf.take_uber()?;
-    assert_eq!(rt; uber.flush(), Ok(()));
-    assert!(rt; kit.even.flush().is_err());
+    assert_eq!(rt; flush_both(&mut shelf, &geometry)?, [false; 4]);
+    Ok(())
+}
+
+#[test]
+fn the_shelf_fails_by_its_list_and_for_what_it_does_not_hold(rt: HostRuntime) -> Result<(), Fail> {
+    let mut shelf = MemoryShelf::new(rt.alloc(), Vec::new(rt.alloc()));
+    shelf.fail(vec![in rt.alloc(); 0, 2]?, Vec::new(rt.alloc()));
+    let geometry = small_geometry()?;
+    assert!(rt; Shelf::make(&mut shelf, rt.alloc(), &geometry).is_err());
+    Shelf::make(&mut shelf, rt.alloc(), &geometry)?;
+    assert!(rt; shelf.take_uber().is_err());
+    assert!(rt; shelf.take_uber().is_ok());
+    assert!(rt; shelf.take_uber().is_err());
     Ok(())
 }
