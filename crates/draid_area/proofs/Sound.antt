@@ -9,7 +9,7 @@ use Rattle.draid_faults.specs.declared.crash.CrashRule.{CrashRule}
 use Rattle.draid_faults.specs.declared.crash.CrashRule.TheVariants.{Old, New, Torn, Half}
 use Rattle.draid_area.specs.declared.cells.Span.{Span}
 use Rattle.draid_area.specs.Area.{within}
-use Rattle.draid_area.specs.Cells.{AreInside, IsSound, byte_at, covers, length_by, told_by}
+use Rattle.draid_area.specs.Cells.{AreInside, IsSound, LeavesByte, byte_at, covers, length_by, told_by}
 use Rattle.draid_area.specs.Moments.{IsCrashOutcome}
 use Rattle.draid_area.proofs.Clocks.{clock_grown, covers_more}
 use Rattle.draid_area.proofs.Splices.{length-splice, splice_outside}
@@ -146,3 +146,22 @@ is_outcome rule bytes flushed left cut since firm kept clock spans none s long s
       | inl low ↦ absurd (differ (covers spans i) (s.grown i high low) out)
       | inr le ↦ le
     ]
+
+-- what it reads after a crash by this rule
+pub left_by_rule : (rule : CrashRule) (bytes flushed left cut : List ℕ) (firm kept : ℕ) (spans : List Span) → IsSound bytes flushed firm spans → length left ≡ length flushed
+    → ((i : ℕ) → covers spans i ≡ true → LeavesByte rule (byte_at flushed i) (byte_at bytes i) (byte_at left i)) → kept ≡ length_by rule firm (length bytes) → cut ≡ take kept left
+    → (length cut ≡ length_by rule firm (length bytes)) × ((i : ℕ) → i < length cut → covers spans i ≡ true → LeavesByte rule (byte_at flushed i) (byte_at bytes i) (byte_at cut i))
+left_by_rule rule bytes flushed left cut firm kept spans s long leaves by is =
+    let most = length_most rule firm (length bytes) s.kept in
+    let size = cut_long cut left kept (omega (arith, long, by, most, s.long)) is in
+    (size ∙ by, (λ i low there. subst (λ b. LeavesByte rule (byte_at flushed i) (byte_at bytes i) b) (sym (cut_byte cut left kept i (omega (arith, low, size)) (omega (arith, long, by, most, s.long)) is)) (leaves i there)))
+  where
+    cut_long : (xs ys : List ℕ) (n : ℕ) → n ≤ length ys → xs ≡ take n ys → length xs ≡ n
+    cut_long xs ys n low e = rw e (grind (arith, places))
+
+    cut_byte : (xs ys : List ℕ) (n i : ℕ) → i < n → n ≤ length ys → xs ≡ take n ys → byte_at xs i ≡ byte_at ys i
+    cut_byte xs ys n i low inside e = rw e (grind (arith, places))
+
+-- what was flushed with further zeros
+pub kept_longer : (flushed longer : List ℕ) (m i : ℕ) → longer ≡ flushed ++ replicate (m - length flushed) 0 → byte_at longer i ≡ byte_at flushed i
+kept_longer flushed longer m i is = ap (λ xs. byte_at xs i) is ∙ clock_grown flushed (m - length flushed) i

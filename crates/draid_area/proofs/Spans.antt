@@ -1,15 +1,16 @@
 -- Spans that are kept one after another.
-use Rattle.std.proofs.Common.{arith, refl, ◌≡◌, ◌≤◌, ◌<◌, ◌+◌, ◌-◌, ◌||◌, ◌∙◌, sym, ap, ℕ, zero, suc, Bool, true, false, List, [], ◌∷◌, length, take, slice_range, slice_index_or, if◌then◌else◌}
-use Rattle.std.proofs.lemmas.List.{places, length-map, take_more}
+use Rattle.std.proofs.Common.{arith, refl, inl, inr, ◌≡◌, ◌≤◌, ◌<◌, ◌+◌, ◌-◌, ◌/◌, ◌++◌, drop, ◌||◌, ◌∙◌, sym, ap, ℕ, zero, suc, Bool, true, false, List, [], ◌∷◌, length, take, slice_range, slice_index_or, if◌then◌else◌}
+use Rattle.std.proofs.lemmas.List.{places, get_or-map, length-map, take_more}
+use Rattle.std.proofs.lemmas.Bool.{cases_lt}
 use Rattle.std.specs.List.{splice}
 use Rattle.draid_faults.specs.Crash.{left_by}
 use Rattle.draid_faults.specs.declared.crash.CrashRule.{CrashRule}
 use Rattle.draid_faults.specs.declared.crash.CrashRule.TheVariants.{Old, New, Torn, Half}
 use Rattle.draid_area.specs.declared.cells.Span.{Span}
 use Rattle.draid_area.specs.Area.{within}
-use Rattle.draid_area.specs.Cells.{byte_at, covers}
+use Rattle.draid_area.specs.Cells.{LeavesByte, byte_at, covers}
 use Rattle.draid_area.proofs.Clocks.{covers_more}
-use Rattle.draid_area.proofs.Splices.{is_within, splice_outside}
+use Rattle.draid_area.proofs.Splices.{is_within, splice_inside, splice_outside}
 
 -- the spans up to one more
 covers_next : (spans : List Span) (k i : ℕ) (d : Span) → k < length spans → covers (take (k + 1) spans) i ≡ (if within (slice_index_or spans k d).start (slice_index_or spans k d).len i then true else covers (take k spans) i)
@@ -81,3 +82,75 @@ left_outside rule flushed bytes now at n i inside long is out =
     let w = length-left_by rule (slice_range flushed at (at + n)) (slice_range bytes at (at + n)) (sym (length-range flushed at n (omega (arith, inside, long))) ∙ length-range bytes at n inside) in
     let m = length-range bytes at n inside in
     ap (λ xs. byte_at xs i) is ∙ splice_outside flushed (left_by rule (slice_range flushed at (at + n)) (slice_range bytes at (at + n))) at n i 0 (omega (arith, inside, long)) (omega (arith, w, m)) out
+
+-- ---- what a crash leaves of each byte
+range_byte : (xs : List ℕ) (at n i : ℕ) → at + n ≤ length xs → at ≤ i → i < at + n → slice_index_or (slice_range xs at (at + n)) (i - at) 0 ≡ byte_at xs i
+range_byte xs at n i inside low high = grind (arith, places)
+
+first_half : (was written : List ℕ) (h j : ℕ) → h ≤ length written → j < h → slice_index_or (take h written ++ drop h was) j 0 ≡ slice_index_or written j 0
+first_half was written h j inside low = grind (arith, places)
+
+second_half : (was written : List ℕ) (h j : ℕ) → h ≤ length written → h ≤ j → slice_index_or (take h written ++ drop h was) j 0 ≡ slice_index_or was j 0
+second_half was written h j inside high = grind (arith, places)
+
+half_inside : (n : ℕ) → n / 2 ≤ n
+half_inside n = omega arith
+
+leaves_index : (rule : CrashRule) (was written : List ℕ) (j : ℕ) → length was ≡ length written → j < length written → LeavesByte rule (slice_index_or was j 0) (slice_index_or written j 0) (slice_index_or (left_by rule was written) j 0)
+leaves_index Old was written j same low = refl
+leaves_index New was written j same low = refl
+leaves_index Torn was written j same low = get_or-map (λ b. 255 - b) written j 0 0 low
+leaves_index Half was written j same low = elim (cases_lt j (length written / 2)) [
+  | inl first ↦ inr (first_half was written (length written / 2) j (half_inside (length written)) first)
+  | inr second ↦ inl (second_half was written (length written / 2) j (half_inside (length written)) second)
+]
+
+as_bytes : (rule : CrashRule) (a b c d e f : ℕ) → a ≡ d → b ≡ e → f ≡ c → LeavesByte rule a b c → LeavesByte rule d e f
+as_bytes Old a b c d e f p q r is = r ∙ (is ∙ p)
+as_bytes New a b c d e f p q r is = r ∙ (is ∙ q)
+as_bytes Torn a b c d e f p q r is = r ∙ (is ∙ ap (λ x. 255 - x) q)
+as_bytes Half a b c d e f p q r (inl is) = inl (r ∙ (is ∙ p))
+as_bytes Half a b c d e f p q r (inr is) = inr (r ∙ (is ∙ q))
+
+pub left_inside : (rule : CrashRule) (flushed bytes now : List ℕ) (at n i : ℕ) → at + n ≤ length bytes → length bytes ≤ length flushed → now ≡ splice flushed at (at + n) (left_by rule (slice_range flushed at (at + n)) (slice_range bytes at (at + n))) → within at n i ≡ true
+    → LeavesByte rule (byte_at flushed i) (byte_at bytes i) (byte_at now i)
+left_inside rule flushed bytes now at n i inside long is here =
+    let was = slice_range flushed at (at + n) in
+    let written = slice_range bytes at (at + n) in
+    let w = is_within at n i here in
+    let m = length-range bytes at n inside in
+    let f = length-range flushed at n (omega (arith, inside, long)) in
+    let k = length-left_by rule was written (sym f ∙ m) in
+    as_bytes rule (slice_index_or was (i - at) 0) (slice_index_or written (i - at) 0) (slice_index_or (left_by rule was written) (i - at) 0) (byte_at flushed i) (byte_at bytes i) (byte_at now i)
+    (range_byte flushed at n i (omega (arith, inside, long)) w.0 w.1) (range_byte bytes at n i inside w.0 w.1)
+    (ap (λ xs. byte_at xs i) is ∙ splice_inside flushed (left_by rule was written) at n i 0 (omega (arith, inside, long)) (omega (arith, k, m)) w.0 w.1)
+    (leaves_index rule was written (i - at) (sym f ∙ m) (omega (arith, w.0, w.1, m)))
+
+-- a byte that was left twice
+leaves_again : (rule : CrashRule) (was written mid left : ℕ) → LeavesByte rule was written mid → LeavesByte rule mid written left → LeavesByte rule was written left
+leaves_again Old was written mid left a b = b ∙ a
+leaves_again New was written mid left a b = b
+leaves_again Torn was written mid left a b = b
+leaves_again Half was written mid left (inl a) (inl b) = inl (b ∙ a)
+leaves_again Half was written mid left (inr a) (inl b) = inr (b ∙ a)
+leaves_again Half was written mid left a (inr b) = inr b
+
+-- the bytes left up to one more span
+pub left_more : (rule : CrashRule) (spans : List Span) (k i was written mid left : ℕ) (d : Span) → k < length spans → (covers (take k spans) i ≡ true → LeavesByte rule was written mid) → (covers (take k spans) i ≡ false → mid ≡ was)
+    → (within (slice_index_or spans k d).start (slice_index_or spans k d).len i ≡ true → LeavesByte rule mid written left) → (within (slice_index_or spans k d).start (slice_index_or spans k d).len i ≡ false → left ≡ mid)
+    → covers (take (k + 1) spans) i ≡ true → LeavesByte rule was written left
+left_more rule spans k i was written mid left d low done other here out there = at (within (slice_index_or spans k d).start (slice_index_or spans k d).len i) (covers (take k spans) i) refl refl (sym (covers_next spans k i d low) ∙ there)
+  where
+    at : (b c : Bool) → within (slice_index_or spans k d).start (slice_index_or spans k d).len i ≡ b → covers (take k spans) i ≡ c → (if b then true else c) ≡ true → LeavesByte rule was written left
+    at true true p q e = leaves_again rule was written mid left (done q) (here p)
+    at true false p q e = as_bytes rule mid written left was written left (other q) refl refl (here p)
+    at false true p q e = as_bytes rule was written mid was written left refl refl (out p) (done q)
+    at false false p q e = absurd (cc)
+
+pub other_left : (spans : List Span) (k i was mid left : ℕ) (d : Span) → k < length spans → (covers (take k spans) i ≡ false → mid ≡ was) → (within (slice_index_or spans k d).start (slice_index_or spans k d).len i ≡ false → left ≡ mid) → covers (take (k + 1) spans) i ≡ false → left ≡ was
+other_left spans k i was mid left d low other out there = at (within (slice_index_or spans k d).start (slice_index_or spans k d).len i) (covers (take k spans) i) refl refl (sym (covers_next spans k i d low) ∙ there)
+  where
+    at : (b c : Bool) → within (slice_index_or spans k d).start (slice_index_or spans k d).len i ≡ b → covers (take k spans) i ≡ c → (if b then true else c) ≡ false → left ≡ was
+    at true c p q e = absurd (cc)
+    at false true p q e = absurd (cc)
+    at false false p q e = out p ∙ other q

@@ -1,7 +1,7 @@
-use Rattle.std.specs.Prelude.{◌≡◌, ◌≤◌, ◌<◌, ◌+◌, ℕ, Bool, true, false, List, All, length, slice_index_or}
+use Rattle.std.specs.Prelude.{◌≡◌, ◌≤◌, ◌<◌, ◌+◌, ℕ, Bool, true, false, List, All, length, slice_index_or, ◌⊎◌, ◌-◌}
 use Rattle.std.specs.List.{list_any}
 use Rattle.draid_faults.specs.declared.crash.CrashRule.{CrashRule}
-use Rattle.draid_faults.specs.declared.crash.CrashRule.TheVariants.{Old}
+use Rattle.draid_faults.specs.declared.crash.CrashRule.TheVariants.{Old, New, Torn, Half}
 use Rattle.draid_area.specs.declared.cells.Span.{Span}
 use Rattle.draid_area.specs.Area.{Content, within}
 
@@ -47,3 +47,11 @@ pub record IsSound (bytes flushed : List ℕ) (firm : ℕ) (unflushed : List Spa
 abbrev pub length_by : CrashRule → ℕ → ℕ → ℕ
 length_by Old firm len = firm
 length_by rule firm len = len
+
+-- what a crash by this rule leaves of a byte that was written since the last flush, in place of the one that
+-- stood there
+abbrev pub LeavesByte : CrashRule → ℕ → ℕ → ℕ → Type 0
+LeavesByte Old was written left = left ≡ was
+LeavesByte New was written left = left ≡ written
+LeavesByte Torn was written left = left ≡ 255 - written
+LeavesByte Half was written left = (left ≡ was) ⊎ (left ≡ written)

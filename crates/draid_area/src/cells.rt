@@ -1,6 +1,6 @@
-ghost use Rattle.std.specs.Prelude.{◌≡◌, ◌+◌, ◌-◌, ◌≤◌, ◌++◌, ℕ, false, if◌then◌else◌, OnOk, OnErr, length, replicate, slice_range, take};
+ghost use Rattle.std.specs.Prelude.{◌≡◌, ◌+◌, ◌-◌, ◌≤◌, ◌++◌, ℕ, true, false, if◌then◌else◌, OnOk, OnErr, length, replicate, slice_range, take};
 ghost use Rattle.std.specs.List.{splice};
-ghost use Rattle.draid_area.specs.Cells.{AreInside, byte_at, clock_at, covers, length_by};
+ghost use Rattle.draid_area.specs.Cells.{AreInside, LeavesByte, byte_at, clock_at, covers, length_by};
 ghost use Rattle.draid_area.specs.Area.{tick, within};
 ghost use Rattle.draid_faults.specs.Crash.{left_by};
 
@@ -117,6 +117,8 @@ fn leave_span(flushed: &mut Vec<u8>, bytes: &[u8], span: Span, rule: CrashRule)
     requires long { length bytes.now ≤ length flushed.old.items }
     requires inside { span.start + span.len ≤ length bytes.now }
     ensures long { length flushed.new.items ≡ length flushed.old.items }
+    ensures here { (i : ℕ) → within span.start span.len i ≡ true
+        → LeavesByte rule (byte_at flushed.old.items i) (byte_at bytes.now i) (byte_at flushed.new.items i) }
     ensures same { (i : ℕ) → within span.start span.len i ≡ false
         → byte_at flushed.new.items i ≡ byte_at flushed.old.items i }
 {
@@ -130,6 +132,8 @@ pub(crate) fn leave_spans(flushed: &mut Vec<u8>, bytes: &[u8], spans: &[Span], r
     requires long { length bytes.now ≤ length flushed.old.items }
     requires inside { AreInside (length bytes.now) spans.now }
     ensures long { length flushed.new.items ≡ length flushed.old.items }
+    ensures left { (i : ℕ) → covers spans.now i ≡ true
+        → LeavesByte rule (byte_at flushed.old.items i) (byte_at bytes.now i) (byte_at flushed.new.items i) }
     ensures same { (i : ℕ) → covers spans.now i ≡ false
         → byte_at flushed.new.items i ≡ byte_at flushed.old.items i }
 {

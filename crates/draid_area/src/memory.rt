@@ -33,7 +33,7 @@ pub struct MemoryArea {
 }
 
 impl MemoryArea {
-    ghost use Rattle.draid_area.specs.Memory.{calls_of, faults_of_memory, size_of_memory, told_by_memory};
+    ghost use Rattle.draid_area.specs.Memory.{Flushes, KeepsFlushed, LeavesByRule, calls_of, faults_of_memory, size_of_memory, told_by_memory};
 
     /// An area of these bytes, of which none is soft, without a fuse. Its calls with the numbers in `failing` fail.
     pub fn new(alloc: Global, bytes: Vec<u8>, failing: Vec<u64>) -> Result<MemoryArea, AllocError>
@@ -71,6 +71,7 @@ impl MemoryArea {
     /// as it was then, else it stays as long as it is. The fuse is taken out.
     pub fn crash(&mut self, rule: CrashRule)
         ensures told { CrashesTold (told_by_memory self.old) (told_by_memory self.new) }
+        ensures exact { LeavesByRule rule self.old self.new }
         ensures faults { faults_of_memory self.new ≡ faults_of_memory self.old }
         ensures next { next_call (calls_of self.new) ≡ next_call (calls_of self.old) }
         ensures failing { failing_calls (calls_of self.new) ≡ failing_calls (calls_of self.old) }
@@ -87,7 +88,7 @@ impl MemoryArea {
 
 impl Area for MemoryArea {
     ghost use Rattle.draid_area.specs.declared.area.AreaFault.{AreaFault};
-    ghost use Rattle.draid_area.specs.Memory.{calls_of, faults_of_memory, size_of_memory, told_by_memory};
+    ghost use Rattle.draid_area.specs.Memory.{Flushes, KeepsFlushed, LeavesByRule, calls_of, faults_of_memory, size_of_memory, told_by_memory};
 
     ghost size = { size_of_memory };
 
@@ -130,6 +131,7 @@ impl Area for MemoryArea {
         ensures grown { size_of_memory self.old ≤ size_of_memory self.new }
         ensures bounded { size_of_memory self.new ≤ max (size_of_memory self.old) (at + length bytes.now) }
         ensures cause { Counts result (faults_of_memory self.old) (faults_of_memory self.new) }
+        ensures flushed { KeepsFlushed self.old self.new }
         ensures calls { CountsCall (IsErrOf result AreaFault.Failed) (calls_of self.old) (calls_of self.new) }
 
         // A write that failed changed no byte.
@@ -161,6 +163,8 @@ impl Area for MemoryArea {
         ensures err { OnErr result (told_by_memory self.new ≡ told_by_memory self.old) }
         ensures size { size_of_memory self.new ≡ size_of_memory self.old }
         ensures cause { Counts result (faults_of_memory self.old) (faults_of_memory self.new) }
+        ensures flushed { OnOk result (Flushes self.old self.new) }
+        ensures unflushed { OnErr result (KeepsFlushed self.old self.new) }
         ensures calls { CountsCall (IsErr result) (calls_of self.old) (calls_of self.new) }
         ensures device { IsErr result → IsErrOf result AreaFault.Failed }
     {

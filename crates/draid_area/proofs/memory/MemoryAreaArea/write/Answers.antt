@@ -3,7 +3,7 @@ use Rattle.std.proofs.lemmas.Slice.{pushed}
 use Rattle.draid_area.specs.Cells.{covers}
 use Rattle.draid_area.specs.declared.area.AreaFault.TheVariants.{NoMemory}
 use Rattle.draid_area.proofs.Clocks.{bytes_written, clocks_early, clocks_marked, clocks_written, covers_more, writes_all, writes_none}
-use Rattle.draid_area.proofs.Sound.{sound_unwritten, sound_written}
+use Rattle.draid_area.proofs.Sound.{kept_longer, sound_unwritten, sound_written}
 use Rattle.draid_area.proofs.memory.MemoryAreaArea.write.Goals as goal
 
 pub returns-then-fails-clause-told : goal.returns-then-fails-clause-told
@@ -42,3 +42,9 @@ returns-clause-told c = writes_all _ _ _ _ _ _ _ _ _ _ _ c.requires.place
     (λ i. ap (λ s. covers s i) (pushed (_ ∷ []) c.reserve.ensures.items c.unwrap.ensures c.push.ensures.items) ∙ covers_more _ _ i)
     (clocks_written _ _ _ _ _ c.args.self.now.clock _ c.reach.ensures.same c.mark.ensures c.later-self.ensures)
     c.later-self.ensures
+
+pub returns-in_err-grow-2-clause-flushed : goal.returns-in_err-grow-2-clause-flushed
+returns-in_err-grow-2-clause-flushed c = λ i. kept_longer c.args.self.now.flushed.items _ _ i c.in_ok-grow.ensures.ok
+
+pub returns-clause-flushed : goal.returns-clause-flushed
+returns-clause-flushed c = λ i. kept_longer c.args.self.now.flushed.items _ _ i c.in_ok-grow.ensures.ok
