@@ -1,23 +1,21 @@
 -- The landings of a rebuild's stripe and of a scrub's block.
 use Rattle.std.proofs.Common.{◌≡◌, ◌+◌, ◌/◌, ◌<◌, ◌≤◌, ◌⊎◌, ◌&&◌, ◌||◌, ◌==◌, not, ℕ, Bool, true, false, nat_le, nat_lt, List, Some, None, filter, length, count_by, refl, sym, ◌∙◌, ap, subst, inl, inr, arith, if◌then◌else◌}
-use Rattle.std.proofs.lemmas.Bool.{true≢false, cases_eq, cases_lt}
+use Rattle.std.proofs.lemmas.Bool.{cases_eq, cases_lt}
 use Rattle.std.proofs.lemmas.Bool.Decides.{nat_tests}
 use Rattle.draid_names.specs.declared.pass_kind.PassKind.TheVariants.{Rebuild}
 use Rattle.draid_machine.specs.declared.names.Key.{Key}
 use Rattle.draid_machine.specs.declared.names.ArmName.{ArmName}
-use Rattle.draid_machine.specs.declared.names.Stage.{Stage}
-use Rattle.draid_machine.specs.declared.names.Stage.TheVariants.{Writing, Live, Freed}
 use Rattle.draid_machine.specs.declared.names.Held.{Held}
 use Rattle.draid_machine.specs.declared.names.Segment.{Segment}
 use Rattle.draid_machine.specs.declared.event.Patched.{Patched}
-use Rattle.draid_machine.specs.Names.{key_eq, has_name, is_block, is_put, takes}
+use Rattle.draid_machine.specs.Names.{key_eq, has_name, is_block, takes}
 use Rattle.draid_machine.specs.State.{Layout, IsLayout, Arm, Pass, Core, Loan, State}
 use Rattle.draid_machine.specs.Arms.{lies, answers, fails, has_column, is_clean}
 use Rattle.draid_machine.specs.Claims.{IsOn, is_on}
 use Rattle.draid_machine.specs.After.{lose_targets, capped, unsourced, misses_stripe, is_mended, pass_over, mend_state, land_stripe_state, has_landed, has_healed, misses_block, aside_after, heal_state, land_block_state}
 use Rattle.draid_machine.specs.Sound.{IsClaimed, CoreSound, LoanFits, Sound}
 use Rattle.draid_machine.specs.Step.{Patches, LandsBlock}
-use Rattle.draid_machine.proofs.Small.{some_injective, some_same, none_some, both_true, true_both, true_four, four_true, bool_cases, absurd_test, not_true, true_left, true_right, key_true, key_refl, has_filter, no_errors, no_more_errors, any_at, below, is_low, equal, is_equal}
+use Rattle.draid_machine.proofs.Small.{some_injective, some_same, none_some, both_true, true_both, true_four, four_true, bool_cases, absurd_test, not_true, true_left, true_right, key_true, key_refl, has_filter, no_errors, no_more_errors, any_at, below, is_low, equal, is_equal, neither, unnot, put_block, takes_row}
 use Rattle.draid_machine.proofs.Follows.{from_passed, to_passed}
 
 -- what a pass keeps as it goes on
@@ -27,9 +25,6 @@ pub record GoesOn (p p' : Pass) : Type 0 where
   pub running : p'.running ≡ p.running
   pub errors : p'.errors ≡ 0 → p.errors ≡ 0
   pub targets : (n : ArmName) → has_name p'.targets n ≡ true → has_name p.targets n ≡ true
-
-takes_row : (h : Held) (r : ℕ) → r < h.stripes → takes h (h.first + r) ≡ true
-takes_row h r less = grind (arith, nat_tests)
 
 takes_low : (h : Held) (x : ℕ) → takes h x ≡ true → h.first ≤ x
 takes_low h x t = let z = both_true (nat_le h.first x) (nat_lt x (h.first + h.stripes)) t in is_low h.first x z.0
@@ -98,11 +93,6 @@ module _ (l : Layout) (lay : IsLayout l) where
     put = put_block r.h.stage g.column r.block;
     why = inr (r.block, to_passed w.core.pass g.arm r.h g.row (record { p = p; pass = pass; running = running; errors = on.errors r.errors; target = on.targets g.arm r.target; max = r.max; next = before }));
   }
-    where
-      put_block : (st : Stage) (c : ℕ) → is_block st ≡ true → is_put st c ≡ true
-      put_block (Writing a b) c e = absurd (true≢false (sym e))
-      put_block Live c e = refl
-      put_block (Freed x) c e = refl
 
   -- how a landing keeps log soundness
   pub landing : (w : State) (p p' : Pass) (n : Loan) (present' aside' : Segment → Bool) → w.core.pass ≡ Some p → p.running ≡ true → GoesOn p p'
@@ -187,7 +177,7 @@ module _ (l : Layout) (lay : IsLayout l) where
         let near : n.stripe / l.height ≡ i.first / l.height = subst (λ x. x / l.height ≡ i.first / l.height) at (s.core.runs g.key i g.row on.held on.row) in
         let listed : has_name (w.core.order (l.slot_of n.stripe g.column)) g.arm ≡ true = subst (λ c. has_name (w.core.order c) g.arm ≡ true) (sym (lay.steady n.stripe i.first g.column near)) on.listed in
         let column : has_column l w.core g.arm n.stripe ≡ true = any_at l.columns (λ c. has_name (w.core.order (l.slot_of n.stripe c)) g.arm) g.column on.column listed in
-        let fine = both_false (has_column l w.core g.arm n.stripe) (not (answers l w.core g.arm n.stripe)) (fails l w.core failed g.arm n.stripe) column good in
+        let fine = neither (has_column l w.core g.arm n.stripe) (not (answers l w.core g.arm n.stripe)) (fails l w.core failed g.arm n.stripe) column good in
         mended g
         (true_both (key_eq n.key g.key && (h.first + g.row == n.stripe) && has_name p.targets g.arm && is_on l w.core.order g h) (answers l w.core g.arm n.stripe)
         (true_four (key_eq n.key g.key) (h.first + g.row == n.stripe) (has_name p.targets g.arm) (is_on l w.core.order g h)
@@ -197,15 +187,6 @@ module _ (l : Layout) (lay : IsLayout l) where
         (subst (λ x. is_on l w.core.order g x ≡ true) same (on_test g i a on)))
         (unnot (answers l w.core g.arm n.stripe) fine.0))
         fine.1
-      where
-        both_false : (a b c : Bool) → a ≡ true → (a && (b || c)) ≡ false → (b ≡ false) × (c ≡ false)
-        both_false true true c x e = absurd (true≢false e)
-        both_false true false c x e = (refl, e)
-        both_false false b c x e = absurd (true≢false (sym x))
-
-        unnot : (a : Bool) → not a ≡ false → a ≡ true
-        unnot true e = refl
-        unnot false e = absurd (true≢false e)
 
     not_mended : (g : Segment) (i : Held) (a : Arm) → IsOn l w.core g i a → (i.first + g.row ≡ n.stripe → ⊥) → is_mended l w.core p n h g ≡ false
     not_mended g i a on far = elim (bool_cases (is_mended l w.core p n h g)) [
@@ -261,20 +242,6 @@ module _ (l : Layout) (lay : IsLayout l) where
         ])
         s
       where
-        both_false : (a b c : Bool) → a ≡ true → (a && (b || c)) ≡ false → (b ≡ false) × (c ≡ false)
-        both_false true true c x e = absurd (true≢false e)
-        both_false true false c x e = (refl, e)
-        both_false false b c x e = absurd (true≢false (sym x))
-
-        unnot : (a : Bool) → not a ≡ false → a ≡ true
-        unnot true e = refl
-        unnot false e = absurd (true≢false e)
-
-        put_block : (st : Stage) (c : ℕ) → is_block st ≡ true → is_put st c ≡ true
-        put_block (Writing a b) c e = absurd (true≢false (sym e))
-        put_block Live c e = refl
-        put_block (Freed x) c e = refl
-
         here : (g : Segment) (i : Held) (a : Arm) → IsOn l w.core g i a → is_block i.stage ≡ true → has_name (filter (λ x. not (misses_block l w.core h failed x)) p.targets) g.arm ≡ true
             → n.stripe ≤ i.first + g.row → i.first + g.row < h.first + h.stripes → (w.present g || has_healed l w.core n h patched g) ≡ true
         here g i a ison block target late less =
@@ -286,7 +253,7 @@ module _ (l : Layout) (lay : IsLayout l) where
             let row : g.row < h.stripes = subst (λ (y : Held). g.row < y.stripes) same ison.row in
             let good = not_true (misses_block l w.core h failed g.arm) (has_filter (λ y. not (misses_block l w.core h failed y)) p.targets g.arm target).1 in
             let column : has_column l w.core g.arm h.first ≡ true = any_at l.columns (λ c. has_name (w.core.order (l.slot_of h.first c)) g.arm) g.column ison.column listed in
-            let fine = both_false (has_column l w.core g.arm h.first) (not (answers l w.core g.arm h.first)) (fails l w.core failed g.arm h.first) column good in
+            let fine = neither (has_column l w.core g.arm h.first) (not (answers l w.core g.arm h.first)) (fails l w.core failed g.arm h.first) column good in
             elim (bool_cases (a.log i.birth)) [
               | inr clean ↦ true_left (w.present g) (has_healed l w.core n h patched g) (s.covered g (record { h = i; a = a; on = ison; put = put_block i.stage g.column block; why = inl clean }))
               | inl dirty ↦

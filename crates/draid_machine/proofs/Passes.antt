@@ -15,7 +15,7 @@ use Rattle.draid_machine.specs.Claims.{passed}
 use Rattle.draid_machine.specs.After.{set_order, fill_if, excise_if, lose_targets, lose_some, lost_errors, capped, attach_state, planned_pass, plan_state, ready_state, lend_errors, lend_state, ended_pass, done_state}
 use Rattle.draid_machine.specs.Sound.{CoreSound, LoanFits, Sound}
 use Rattle.draid_machine.specs.Step.{NoSpareElsewhere, IsLast, is_lent, IsNext}
-use Rattle.draid_machine.proofs.Small.{some_injective, some_same, none_some, both_true, true_both, either_true, bool_cases, absurd_test, true_right, arm_cases, mapped_arm, has_append, has_filter, no_errors}
+use Rattle.draid_machine.proofs.Small.{some_injective, some_same, none_some, both_true, true_both, either_true, bool_cases, absurd_test, true_right, arm_cases, mapped_arm, has_append, has_filter, no_errors, takes_row}
 use Rattle.draid_machine.proofs.Follows.{away_from, SamePass, Follows, from_passed, to_passed}
 use Rattle.draid_machine.proofs.Calm.{calm, same_held, same_pass, still_lies, order_cases}
 use Rattle.draid_machine.proofs.Tickets.{rebuild_heal, no_ticket}
@@ -353,9 +353,6 @@ module _ (l : Layout) (lay : IsLayout l) where
     where
       zero_of : (x : ℕ) → (x == 0) ≡ true → x ≡ 0
       zero_of x e = grind (arith, nat_tests)
-
-      takes_row : (h : Held) (r : ℕ) → r < h.stripes → takes h (h.first + r) ≡ true
-      takes_row h r less = grind (arith, nat_tests)
 
       is_done : (k : Key) (h : Held) → h.birth ≤ p.max → w.core.held k ≡ Some h → is_block h.stage ≡ true
       is_done k h max found = elim (bool_cases (is_block h.stage)) [

@@ -1,6 +1,5 @@
 -- Two segments that are present don't lie on one sector.
-use Rattle.std.proofs.Common.{◌≡◌, ◌+◌, ◌<◌, ◌⊎◌, ℕ, true, Some, refl, sym, ◌∙◌, ap, subst, inl, inr, arith}
-use Rattle.std.proofs.lemmas.Bool.Decides.{nat_tests}
+use Rattle.std.proofs.Common.{◌≡◌, ◌+◌, ◌⊎◌, ℕ, true, Some, refl, sym, ◌∙◌, ap, subst, inl, inr, arith}
 use Rattle.draid_machine.specs.declared.names.ArmName.{ArmName}
 use Rattle.draid_machine.specs.declared.names.ArmName.TheVariants.{Leaf, Spare}
 use Rattle.draid_machine.specs.declared.names.Held.{Held}
@@ -10,12 +9,9 @@ use Rattle.draid_machine.specs.State.{Layout, IsLayout, Gone, Arm, State}
 use Rattle.draid_machine.specs.Created.{IsReached}
 use Rattle.draid_machine.specs.Images.{HasSlot, LeftAfter, KeepsOn, IsOwned, Owned, LiesAt}
 use Rattle.draid_machine.specs.Sound.{Sound}
-use Rattle.draid_machine.proofs.Small.{some_injective, some_same, none_some}
+use Rattle.draid_machine.proofs.Small.{some_injective, some_same, none_some, takes_row}
 use Rattle.draid_machine.proofs.Rows.{reached_sound}
 use Rattle.draid_machine.proofs.Owning.{every_segment}
-
-takes_row : (h : Held) (r : ℕ) → r < h.stripes → takes h (h.first + r) ≡ true
-takes_row h r less = grind (arith, nat_tests)
 
 module _ (l : Layout) (lay : IsLayout l) (w : State) (sound : Sound l w) (owned : Owned l w) where
   -- an arm has one slot

@@ -1,10 +1,8 @@
 -- Every legal event keeps what makes log soundness; so does every legal history.
 use Rattle.std.proofs.Common.{◌≡◌, ◌≤◌, ◌⊎◌, ℕ, Bool, true, false, nat_lt, List, [], ◌∷◌, Option, Some, None, refl, sym, ◌∙◌, ap, subst, inl, inr, arith, if◌then◌else◌}
-use Rattle.std.proofs.lemmas.Bool.{true≢false}
 use Rattle.draid_machine.specs.declared.names.Key.{Key}
 use Rattle.draid_machine.specs.declared.names.ArmName.TheVariants.{Leaf}
-use Rattle.draid_machine.specs.declared.names.Stage.{Stage}
-use Rattle.draid_machine.specs.declared.names.Stage.TheVariants.{Writing, Live, Freed}
+use Rattle.draid_machine.specs.declared.names.Stage.TheVariants.{Writing}
 use Rattle.draid_machine.specs.declared.names.Held.{Held}
 use Rattle.draid_machine.specs.declared.event.Event.{Event}
 use Rattle.draid_machine.specs.declared.event.Event.TheVariants.{Begin, Put, Finish, Abort, Free, Fetch, Damage, Offline, Online, Attach, Detach, Close, Seal, Commit, Plan, Ready, Lend, LandStripe, LandBlock, Done, Cancel, Reopen}
@@ -15,7 +13,7 @@ use Rattle.draid_machine.specs.After.{gone_state, live_state, finish_state}
 use Rattle.draid_machine.specs.Sound.{LogSound, CoreSound, ImageSound, Sound}
 use Rattle.draid_machine.specs.Step.{Step, Run}
 use Rattle.draid_machine.specs.Created.{created, IsReached}
-use Rattle.draid_machine.proofs.Small.{some_injective, bool_cases, absurd_test, below, none_some}
+use Rattle.draid_machine.proofs.Small.{some_injective, bool_cases, absurd_test, below, none_some, put_block}
 use Rattle.draid_machine.proofs.Follows.{to_passed}
 use Rattle.draid_machine.proofs.Calm.{gone_sound, free_sound, switch_sound, detach_sound, close_sound, cancel_sound, commit_sound}
 use Rattle.draid_machine.proofs.Tickets.{begin_sound, put_sound, live_sound}
@@ -72,11 +70,6 @@ module _ (l : Layout) (lay : IsLayout l) where
   pub run_sound : (w : State) (es : List Event) (new : State) → Run l w es new → Sound l w → Sound l new
   run_sound w [] new is s = subst (λ v. Sound l v) (sym is) s
   run_sound w (e ∷ es) new r s = run_sound r.0 es new r.2 (step_sound w e r.0 r.1 s)
-
-  put_block : (st : Stage) (c : ℕ) → is_block st ≡ true → is_put st c ≡ true
-  put_block (Writing a b) c e = absurd (true≢false (sym e))
-  put_block Live c e = refl
-  put_block (Freed x) c e = refl
 
   -- log soundness follows
   pub is_log_sound : (w : State) → Sound l w → LogSound l w

@@ -14,7 +14,7 @@ use Rattle.draid_machine.specs.declared.names.Segment.{Segment}
 use Rattle.draid_machine.specs.declared.event.Patched.{Patched}
 use Rattle.draid_machine.specs.declared.event.Event.{Event}
 use Rattle.draid_machine.specs.declared.event.Event.TheVariants.{Begin, Put, Finish, Abort, Free, Fetch, Damage, Offline, Online, Attach, Detach, Close, Seal, Commit, Plan, Ready, Lend, LandStripe, LandBlock, Done, Cancel, Reopen}
-use Rattle.draid_machine.specs.Names.{key_eq, name_eq, is_nil, has_name, is_block, is_freed_by, is_put, takes, is_heal}
+use Rattle.draid_machine.specs.Names.{key_eq, name_eq, is_nil, has_name, is_block, is_freed_by, takes, is_heal}
 use Rattle.draid_machine.specs.State.{Layout, IsLayout, Gone, Arm, Pass, Core, Loan, Image, State}
 use Rattle.draid_machine.specs.Arms.{lies, answers, fails, lies_on, is_silent, targets_of, is_here}
 use Rattle.draid_machine.specs.Claims.{is_on, passed, claims}
@@ -23,7 +23,7 @@ use Rattle.draid_machine.specs.Created.{created, created_core, created_arm, new_
 use Rattle.draid_machine.specs.Sound.{IsClaimed, ImageSound, Sound}
 use Rattle.draid_machine.specs.Images.{IsImage, IsOwnPass, ImageStands, ImagesStand}
 use Rattle.draid_machine.specs.Step.{Step, Run}
-use Rattle.draid_machine.proofs.Small.{some_injective, some_same, none_some, both_true, true_both, bool_cases, absurd_test, not_false, true_left, key_true, arm_at, arm_other, mapped_pass, kept_if, has_filter, name_true, four_true, is_equal}
+use Rattle.draid_machine.proofs.Small.{some_injective, some_same, none_some, both_true, true_both, bool_cases, absurd_test, not_false, true_left, key_true, arm_at, arm_other, mapped_pass, kept_if, has_filter, name_true, four_true, is_equal, put_block}
 use Rattle.draid_machine.proofs.Follows.{from_passed}
 use Rattle.draid_machine.proofs.Tickets.{rebuild_heal}
 use Rattle.draid_machine.proofs.Seals.{sealed_held, sealed_arm, from_claims}
@@ -438,11 +438,6 @@ module _ (l : Layout) (lay : IsLayout l) where
       of : (g : Option Gone) → elim g as (λ g. Bool) [ None ↦ true | Some g ↦ false ] ≡ true → g ≡ None
       of None e = refl
       of (Some g) e = absurd (true≢false (sym e))
-
-  put_block : (st : Stage) (c : ℕ) → is_block st ≡ true → is_put st c ≡ true
-  put_block (Writing a b) c e = absurd (true≢false (sym e))
-  put_block Live c e = refl
-  put_block (Freed x) c e = refl
 
   passed_stage : (o : Option Pass) (n : ArmName) (h : Held) (st : Stage) (row : ℕ) → passed o n (record h { stage = st }) row ≡ true → passed o n h row ≡ true
   passed_stage None n h st row e = e
