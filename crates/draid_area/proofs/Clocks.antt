@@ -14,7 +14,7 @@ zeros (suc n) zero = refl
 zeros (suc n) (suc i) = zeros n i
 
 -- clocks of 0 for further offsets change none
-clock_grown : (since : List ℕ) (n i : ℕ) → clock_at (since ++ replicate n 0) i ≡ clock_at since i
+pub clock_grown : (since : List ℕ) (n i : ℕ) → clock_at (since ++ replicate n 0) i ≡ clock_at since i
 clock_grown [] n i = zeros n i
 clock_grown (x ∷ xs) n zero = refl
 clock_grown (x ∷ xs) n (suc i) = clock_grown xs n i
@@ -89,3 +89,15 @@ reach_same (Err e) since grown m ok err i = ap (λ s. clock_at s i) err
 pub reach_long : {E : Type 0} (r : Result Unit E) (since grown : List ℕ) (m : ℕ) → OnOk r (grown ≡ since ++ replicate (m - length since) 0) → OnOk r (m ≤ length grown)
 reach_long (Ok u) since grown m ok = long_enough since grown 0 m ok
 reach_long (Err e) since grown m ok = tt
+
+-- no clock is later than the area's after it was raised
+pub clocks_early : (since now : List ℕ) (clock later : ℕ) → later ≡ tick clock → ((i : ℕ) → clock_at now i ≡ clock_at since i) → ((i : ℕ) → clock_at since i ≤ clock) → (i : ℕ) → clock_at now i ≤ later
+clocks_early since now clock later ticks same early i = rw (same i) (let e = early i in grind (arith, nat_tests, e, ticks))
+
+marked_early : (at n t later clock c : ℕ) (b : Bool) → t ≤ later → c ≤ clock → clock ≤ later → (if b then t else c) ≤ later
+marked_early at n t later clock c true low early le = low
+marked_early at n t later clock c false low early le = omega (arith, early, le)
+
+pub clocks_marked : (since now : List ℕ) (at n clock later : ℕ) → later ≡ tick clock → ((i : ℕ) → clock_at now i ≡ (if within at n i then tick clock else clock_at since i)) → ((i : ℕ) → clock_at since i ≤ clock) → (i : ℕ) → clock_at now i ≤ later
+clocks_marked since now at n clock later ticks marks early i =
+    rw (marks i) (marked_early at n (tick clock) later clock (clock_at since i) (within at n i) (omega (arith, ticks)) (early i) (grind (arith, nat_tests, ticks)))

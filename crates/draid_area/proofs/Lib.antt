@@ -1,3 +1,5 @@
 pub mod Clocks
 pub mod Moments
+pub mod Sound
+pub mod Spans
 pub mod Splices

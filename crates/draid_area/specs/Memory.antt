@@ -1,26 +1,37 @@
-use Rattle.std.specs.Prelude.{◌≡◌, ◌+◌, ◌-◌, ◌^◌, min, ℕ, List, Option, Some, length}
+use Rattle.std.specs.Prelude.{ℕ, Option, Some, length, ◌≡◌, ◌<◌, true}
+use Rattle.draid_faults.specs.declared.calls.Calls.{Calls}
+use Rattle.draid_faults.specs.declared.crash.CrashRule.{CrashRule}
 use Rattle.draid_area.specs.Area.{Content}
-use Rattle.draid_area.specs.Cells.{told_by}
+use Rattle.draid_area.specs.Cells.{LeavesByte, byte_at, covers, length_by, told_by}
 use Rattle.draid_area.specs.declared.memory.MemoryArea.{MemoryArea}
 
--- the number of the next call that can fail
-abbrev pub next_call : MemoryArea → ℕ
-next_call area = area.calls.made
-
--- the numbers of the calls that fail
-abbrev pub failing_calls : MemoryArea → List ℕ
-failing_calls area = area.calls.failing.items
-
--- one call more was made. Their number stands still at the greatest number of 64 bits.
-pub record CountsCall (old new : MemoryArea) : Type 0 where
-  pub next : next_call new ≡ min (next_call old + 1) (2 ^ 64 - 1)
-  pub failing : failing_calls new ≡ failing_calls old
+-- its calls that can fail, and which of them do
+abbrev pub calls_of : MemoryArea → Calls
+calls_of area = area.calls
 
 abbrev pub size_of_memory : MemoryArea → ℕ
 size_of_memory area = length area.bytes.items
 
 abbrev pub faults_of_memory : MemoryArea → ℕ
-faults_of_memory area = area.calls.faults
+faults_of_memory area = area.faults
 
 abbrev pub told_by_memory : MemoryArea → Option Content
 told_by_memory area = Some (told_by area.bytes.items area.firm area.unflushed.items area.since.items area.clock)
+
+-- the byte that stood at an offset at the last flush
+abbrev pub kept_of : MemoryArea → ℕ → ℕ
+kept_of area i = byte_at area.flushed.items i
+
+-- what was flushed stays
+abbrev pub KeepsFlushed : MemoryArea → MemoryArea → Type 0
+KeepsFlushed old new = (i : ℕ) → kept_of new i ≡ kept_of old i
+
+-- all that it reads is flushed
+abbrev pub Flushes : MemoryArea → MemoryArea → Type 0
+Flushes old new = (i : ℕ) → kept_of new i ≡ byte_at old.bytes.items i
+
+-- what it reads after a crash by this rule
+pub record LeavesByRule (rule : CrashRule) (old new : MemoryArea) : Type 0 where
+  pub long : size_of_memory new ≡ length_by rule old.firm (size_of_memory old)
+  pub left : (i : ℕ) → i < size_of_memory new → covers old.unflushed.items i ≡ true
+      → LeavesByte rule (kept_of old i) (byte_at old.bytes.items i) (byte_at new.bytes.items i)

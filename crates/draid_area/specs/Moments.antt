@@ -53,3 +53,13 @@ OnBoth old new P = MatchOption old ⊤ (λ x. MatchOption new ⊤ (λ y. P x y))
 -- what was told is told, and only the offsets named were written
 abbrev pub SparesTold : (ℕ → Bool) → Option Content → Option Content → Type 0
 SparesTold named old new = MatchOption old (new ≡ None) (λ x. MatchOption new ⊥ (λ y. Spares named x y))
+
+-- an area after a crash: it reads what the crash left, and all of it outlasts a further one
+pub record IsCrashOutcome (x y : Content) : Type 0 where
+  pub left : MayLeave x y.bytes
+  pub firm : y.firm ≡ length y.bytes
+  pub soft : (i : ℕ) → y.soft i ≡ false
+
+-- what was told is told, after a crash
+abbrev pub CrashesTold : Option Content → Option Content → Type 0
+CrashesTold old new = MatchOption old (new ≡ None) (λ x. MatchOption new ⊥ (λ y. IsCrashOutcome x y))

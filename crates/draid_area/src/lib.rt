@@ -4,7 +4,6 @@
 #![tactic(auto)]
 
 mod area;
-mod calls;
 mod cells;
 mod memory;
 #[cfg(test)]

@@ -1,16 +1,23 @@
-ghost use Rattle.std.specs.Prelude.{◌≡◌, ◌+◌, ◌≤◌, ◌↔◌, max, ℕ, Some, Contains, IsErr, IsErrOf, OnOk, OnErr, length, option_map, refl};
+ghost use Rattle.std.specs.Prelude.{◌≡◌, ◌+◌, ◌≤◌, max, ℕ, Some, false, IfOk, IsErr, IsErrOf, OnOk, OnErr, length, option_map, refl};
+ghost use Rattle.draid_faults.specs.Calls.{CountsCall, failing_calls, is_fused, next_call};
 ghost use Rattle.draid_area.specs.Area.{Reads, Writes, Counts, begins, flushes};
-ghost use Rattle.draid_area.specs.Cells.{AreUpTo};
+ghost use Rattle.draid_area.specs.Cells.{AreUpTo, IsSound};
+ghost use Rattle.draid_area.specs.Moments.{CrashesTold};
 
 use crate::area::{Area, AreaFault};
-use crate::calls::Calls;
-use crate::cells::{Span, grow, later, mark, overwrite, reach};
-use std::alloc::Global;
+use crate::cells::{
+    Span, cut, grow, keep_spans, later, leave_spans, length_left, mark, overwrite, reach,
+};
+use draid_faults::{Calls, CrashRule, Fuse};
+use std::alloc::{AllocError, Global};
 
-/// An area in memory. Its calls that can fail are numbered from 0, and those that its list names fail.
+/// An area in memory. Its calls that can fail are numbered from 0; those that its list names fail, and each once
+/// its fuse has burnt.
 #[derive(Drop)]
 pub struct MemoryArea {
     bytes: Vec<u8>,
+    /// What the bytes were at the last flush; none stands for 0.
+    flushed: Vec<u8>,
     /// How many bytes there were at the last flush.
     firm: usize,
     /// What was written since the last flush.
@@ -18,41 +25,70 @@ pub struct MemoryArea {
     /// The clock at the last write of each offset; none stands for 0.
     since: Vec<u64>,
     clock: u64,
+    /// How often a call has failed.
+    faults: u64,
     calls: Calls,
     ghost orderly: { AreUpTo clock since.items },
-    ghost kept: { firm ≤ length bytes.items },
+    ghost sound: { IsSound bytes.items flushed.items firm unflushed.items },
 }
 
 impl MemoryArea {
-    ghost use Rattle.draid_area.specs.Memory.{failing_calls, faults_of_memory, next_call, size_of_memory, told_by_memory};
+    ghost use Rattle.draid_area.specs.Memory.{Flushes, KeepsFlushed, LeavesByRule, calls_of, faults_of_memory, size_of_memory, told_by_memory};
 
-    /// An area of these bytes, of which none is soft. Its calls that can fail are numbered from 0, and those
-    /// that `failing` names fail.
-    pub fn new(alloc: Global, bytes: Vec<u8>, failing: Vec<u64>) -> MemoryArea
-        ensures told { told_by_memory result ≡ Some (begins bytes.items) }
-        ensures size { size_of_memory result ≡ length bytes.items }
-        ensures faults { faults_of_memory result ≡ 0 }
-        ensures calls { next_call result ≡ 0 }
-        ensures failing { failing_calls result ≡ failing.items }
+    /// An area of these bytes, of which none is soft, without a fuse. Its calls with the numbers in `failing` fail.
+    pub fn new(alloc: Global, bytes: Vec<u8>, failing: Vec<u64>) -> Result<MemoryArea, AllocError>
+        ensures told { IfOk result (λ area. told_by_memory area ≡ Some (begins bytes.items)) }
+        ensures size { IfOk result (λ area. size_of_memory area ≡ length bytes.items) }
+        ensures faults { IfOk result (λ area. faults_of_memory area ≡ 0) }
+        ensures next { IfOk result (λ area. next_call (calls_of area) ≡ 0) }
+        ensures failing { IfOk result (λ area. failing_calls (calls_of area) ≡ failing.items) }
+        ensures fused { IfOk result (λ area. is_fused (calls_of area) ≡ false) }
     {
-        MemoryArea {
+        Ok(MemoryArea {
+            flushed: bytes.clone()?,
             firm: bytes.len(),
             bytes,
             unflushed: Vec::new(alloc),
             since: Vec::new(alloc),
             clock: 0,
-            calls: Calls {
-                made: 0,
-                failing,
-                faults: 0,
-            },
-        }
+            faults: 0,
+            calls: Calls::new(failing),
+        })
+    }
+
+    /// Puts a fuse in, in place of an earlier one.
+    pub fn put_fuse(&mut self, fuse: Fuse)
+        ensures told { told_by_memory self.new ≡ told_by_memory self.old }
+        ensures size { size_of_memory self.new ≡ size_of_memory self.old }
+        ensures faults { faults_of_memory self.new ≡ faults_of_memory self.old }
+        ensures next { next_call (calls_of self.new) ≡ next_call (calls_of self.old) }
+        ensures failing { failing_calls (calls_of self.new) ≡ failing_calls (calls_of self.old) }
+    {
+        self.calls.put_fuse(fuse);
+    }
+
+    /// Gives it a crash, which leaves what was written since the last flush by the rule: by `Old` the area is again as long
+    /// as it was then, else it stays as long as it is. The fuse is taken out.
+    pub fn crash(&mut self, rule: CrashRule)
+        ensures told { CrashesTold (told_by_memory self.old) (told_by_memory self.new) }
+        ensures exact { LeavesByRule rule self.old self.new }
+        ensures faults { faults_of_memory self.new ≡ faults_of_memory self.old }
+        ensures next { next_call (calls_of self.new) ≡ next_call (calls_of self.old) }
+        ensures failing { failing_calls (calls_of self.new) ≡ failing_calls (calls_of self.old) }
+        ensures fused { is_fused (calls_of self.new) ≡ false }
+    {
+        leave_spans(&mut self.flushed, &self.bytes, &self.unflushed, rule);
+        let kept = length_left(rule, self.firm, self.bytes.len());
+        cut(&mut self.bytes, &mut self.flushed, kept);
+        self.firm = kept;
+        self.unflushed.clear();
+        self.calls.take_fuse();
     }
 }
 
 impl Area for MemoryArea {
     ghost use Rattle.draid_area.specs.declared.area.AreaFault.{AreaFault};
-    ghost use Rattle.draid_area.specs.Memory.{CountsCall, failing_calls, faults_of_memory, next_call, size_of_memory, told_by_memory};
+    ghost use Rattle.draid_area.specs.Memory.{Flushes, KeepsFlushed, LeavesByRule, calls_of, faults_of_memory, size_of_memory, told_by_memory};
 
     ghost size = { size_of_memory };
 
@@ -62,7 +98,7 @@ impl Area for MemoryArea {
 
     ghost orderly = { λ area. area.orderly };
 
-    ghost counted = { λ area. record { bytes = refl; firm = area.kept } };
+    ghost counted = { λ area. record { bytes = refl; firm = area.sound.kept } };
 
     fn length(&self) -> u64 {
         self.bytes.len() as u64
@@ -75,13 +111,11 @@ impl Area for MemoryArea {
         ensures told { told_by_memory self.new ≡ told_by_memory self.old }
         ensures size { size_of_memory self.new ≡ size_of_memory self.old }
         ensures cause { Counts result (faults_of_memory self.old) (faults_of_memory self.new) }
-
-        // It fails just where the list names it.
-        ensures exact { IsErr result ↔ Contains (failing_calls self.old) (next_call self.old) }
+        ensures calls { CountsCall (IsErr result) (calls_of self.old) (calls_of self.new) }
         ensures device { IsErr result → IsErrOf result AreaFault.Failed }
-        ensures list { CountsCall self.old self.new }
     {
         if self.calls.fails() {
+            self.faults = self.faults.saturating_add(1);
             return Err(AreaFault::Failed);
         }
         let start = at as usize;
@@ -97,22 +131,22 @@ impl Area for MemoryArea {
         ensures grown { size_of_memory self.old ≤ size_of_memory self.new }
         ensures bounded { size_of_memory self.new ≤ max (size_of_memory self.old) (at + length bytes.now) }
         ensures cause { Counts result (faults_of_memory self.old) (faults_of_memory self.new) }
-
-        ensures exact { IsErrOf result AreaFault.Failed
-            ↔ Contains (failing_calls self.old) (next_call self.old) }
-        ensures list { CountsCall self.old self.new }
+        ensures flushed { KeepsFlushed self.old self.new }
+        ensures calls { CountsCall (IsErrOf result AreaFault.Failed) (calls_of self.old) (calls_of self.new) }
 
         // A write that failed changed no byte.
         ensures same { OnErr result (self.new.bytes.items ≡ self.old.bytes.items) }
     {
         self.clock = later(self.clock);
         if self.calls.fails() {
+            self.faults = self.faults.saturating_add(1);
             return Err(AreaFault::Failed);
         }
         let start = at as usize;
         let end = start + bytes.len();
         self.unflushed.reserve(1)?;
         reach(&mut self.since, end)?;
+        grow(&mut self.flushed, end, 0)?;
         grow(&mut self.bytes, end, 0)?;
         let span = Span {
             start: at,
@@ -129,15 +163,17 @@ impl Area for MemoryArea {
         ensures err { OnErr result (told_by_memory self.new ≡ told_by_memory self.old) }
         ensures size { size_of_memory self.new ≡ size_of_memory self.old }
         ensures cause { Counts result (faults_of_memory self.old) (faults_of_memory self.new) }
-
-        ensures exact { IsErr result ↔ Contains (failing_calls self.old) (next_call self.old) }
+        ensures flushed { OnOk result (Flushes self.old self.new) }
+        ensures unflushed { OnErr result (KeepsFlushed self.old self.new) }
+        ensures calls { CountsCall (IsErr result) (calls_of self.old) (calls_of self.new) }
         ensures device { IsErr result → IsErrOf result AreaFault.Failed }
-        ensures list { CountsCall self.old self.new }
     {
         if self.calls.fails() {
+            self.faults = self.faults.saturating_add(1);
             return Err(AreaFault::Failed);
         }
         self.clock = later(self.clock);
+        keep_spans(&mut self.flushed, &self.bytes, &self.unflushed);
         self.firm = self.bytes.len();
         self.unflushed.clear();
         Ok(())

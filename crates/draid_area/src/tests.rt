@@ -1,8 +1,11 @@
-ghost use Rattle.std.specs.Prelude.{◌≡◌, ◌≤◌, ◌+◌, OnOk, length};
+ghost use Rattle.std.specs.Prelude.{◌≡◌, ◌≤◌, ◌+◌, IfOk, OnOk, length};
 ghost use Rattle.draid_area.specs.Area.{within};
+ghost use Rattle.draid_area.specs.Memory.{size_of_memory};
 ghost use Rattle.draid_area.specs.Moments.{CrashKeeps, LeavesWritten, OnBoth};
 
 use crate::{Area, AreaFault, MemoryArea};
+use draid_faults::{CrashRule, Fuse};
+use std::alloc::Global;
 use std::test::Fail;
 
 // The form that an uberblock's slot is written in: what a crash leaves of the other half doesn't depend on
@@ -27,14 +30,61 @@ fn read<A: Area>(area: &mut A, at: u64) -> Result<[u8; 4], AreaFault>
     Ok(bytes)
 }
 
+/// Reads where there are enough bytes.
+fn read_some<A: Area>(area: &mut A, at: u64) -> Result<[u8; 4], AreaFault> {
+    if at > 1024 || area.length() < at + 4 {
+        return Ok([0; 4]);
+    }
+    read(area, at)
+}
+
+/// An area of 1,024 zero bytes.
+fn zeros(alloc: Global, failing: Vec<u64>) -> Result<MemoryArea, Fail>
+    ensures { IfOk result (λ area. size_of_memory area ≡ 1024) }
+{
+    let bytes = vec![in alloc; 0; 1024]?;
+    Ok(MemoryArea::new(alloc, bytes, failing)?)
+}
+
 #[test]
-fn reads_what_was_written_and_fails_by_its_list(rt: HostRuntime) -> Result<(), Fail> {
-    let bytes = vec![in rt.alloc(); 0; 1024]?;
-    let failing = vec![in rt.alloc(); 2, 5]?;
-    let mut area = MemoryArea::new(rt.alloc(), bytes, failing);
+fn the_calls_of_the_list_fail_alone(rt: HostRuntime) -> Result<(), Fail> {
+    let mut area = zeros(rt.alloc(), vec![in rt.alloc(); 2, 5]?)?;
     assert_eq!(rt; write_half(&mut area, 512, &[1; 512]), Ok(()));
     assert_eq!(rt; write_half(&mut area, 0, &[2; 512]), Err(AreaFault::Failed));
     assert_eq!(rt; read(&mut area, 510), Ok([0, 0, 1, 1]));
     assert_eq!(rt; area.length(), 1024);
+    Ok(())
+}
+
+#[test]
+fn a_crash_leaves_what_was_flushed_and_the_rest_by_its_rule(rt: HostRuntime) -> Result<(), Fail> {
+    for (rule, left, length) in [
+        (CrashRule::Old, [0, 0, 0, 0], 1024),
+        (CrashRule::New, [3, 4, 5, 6], 1028),
+        (CrashRule::Torn, [252, 251, 250, 249], 1028),
+        (CrashRule::Half, [3, 4, 0, 0], 1028),
+    ] {
+        let mut area = zeros(rt.alloc(), Vec::new(rt.alloc()))?;
+        assert_eq!(rt; write_half(&mut area, 512, &[1; 512]), Ok(()));
+        assert_eq!(rt; area.write(8, &[9; 4]), Ok(()));
+        assert_eq!(rt; area.write(8, &[3, 4, 5, 6]), Ok(()));
+        assert_eq!(rt; area.write(1024, &[7; 4]), Ok(()));
+        area.crash(rule);
+        assert_eq!(rt; area.length(), length);
+        assert_eq!(rt; read_some(&mut area, 8), Ok(left));
+        assert_eq!(rt; read_some(&mut area, 510), Ok([0, 0, 1, 1]));
+    }
+    Ok(())
+}
+
+#[test]
+fn a_fuse_lets_just_its_calls_pass(rt: HostRuntime) -> Result<(), Fail> {
+    let mut area = zeros(rt.alloc(), Vec::new(rt.alloc()))?;
+    area.put_fuse(Fuse::new(rt.alloc(), 2)?);
+    assert_eq!(rt; write_half(&mut area, 0, &[1; 512]), Ok(()));
+    assert_eq!(rt; write_half(&mut area, 0, &[2; 512]), Err(AreaFault::Failed));
+    assert_eq!(rt; read(&mut area, 0), Err(AreaFault::Failed));
+    area.crash(CrashRule::New);
+    assert_eq!(rt; read_some(&mut area, 0), Ok([1; 4]));
     Ok(())
 }

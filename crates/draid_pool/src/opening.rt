@@ -6,13 +6,13 @@ use crate::fault::PoolFault;
 use crate::pool::Pool;
 use draid_perm::Perms;
 use draid_shard::Shard;
-use draid_shelf::Shelf;
+use draid_shelf::RackShelf;
 use draid_spec::{Props, Spec, geometry};
 use std::alloc::Global;
 use std::collections::HashMap;
 
 /// Makes a pool of this spec on the shelf, in place of an earlier one, and opens it. The properties name one metaslab.
-pub fn create<H: Shelf>(
+pub fn create<H: RackShelf>(
     alloc: Global,
     shelf: &mut H,
     spec: Spec,

@@ -16,7 +16,7 @@ fn words(rt: &HostRuntime) -> io::Result<Vec<String>> {
 }
 
 fn main(rt: HostRuntime) -> ExitCode {
-    let mut shelf = MemoryShelf::new(Vec::new(rt.alloc()));
+    let mut shelf = MemoryShelf::new(rt.alloc(), Vec::new(rt.alloc()));
     let mut source = Input::new(rt.stdin());
     let mut sink = Output::new(rt.stdout());
     let status = match words(&rt) {

@@ -1,3 +1,4 @@
-pub mod Blanks
+pub mod Crashes
 pub mod Moments
+pub mod Sound
 pub mod Tells

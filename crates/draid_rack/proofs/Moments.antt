@@ -1,7 +1,7 @@
-use Rattle.std.proofs.Common.{arith, refl, ◌∙◌, ◌≡◌, ◌≤◌, ◌<◌, ◌==◌, ◌&&◌, ℕ, Bool, true, false, List, Option, Some, None, Result, Ok, Err, OnOk, OnErr, IsTrue, option_map, nat_lt}
+use Rattle.std.proofs.Common.{arith, refl, subst, ◌∙◌, ◌≡◌, ◌≤◌, ◌<◌, ◌==◌, ◌&&◌, ℕ, Bool, true, false, List, Option, Some, None, Result, Ok, Err, OnOk, OnErr, IsTrue, option_map, nat_lt}
 use Rattle.std.proofs.lemmas.Bool.Decides.{nat_tests}
 use Rattle.draid_rack.specs.Rack.{Told, Lands, OnTold, IsOrderly, adds, damages, drops, flushes, lands, last_clock, settles, tick}
-use Rattle.draid_rack.specs.Moments.{Stays, Goes, Between, Keeps, KeptOthers, Spares, SparesTold, OnBoth}
+use Rattle.draid_rack.specs.Moments.{Stays, Goes, Between, Keeps, KeptOthers, Spares, SparesTold, OnBoth, IsCrashOutcome, CrashKeepsOthers}
 
 pub goes_on : (x y z : Told) → Goes x y → Goes y z → Goes x z
 goes_on x y z a b = record {
@@ -211,3 +211,21 @@ told_added named bytes l n r o p all ok err = told_by_answer named (adds bytes l
 
 pub told_dropped : (named : ℕ → ℕ → Bool) (l : ℕ) (o p : Option Told) → ((s : ℕ) → named l s ≡ true) → p ≡ option_map (drops l) o → SparesTold named o p
 told_dropped named l o p all is = told_by_change named (drops l) (λ x. spares_drops named l x all) o p is
+
+-- a test is false where what it implies is
+stays_false : (a b : Bool) → (IsTrue b → IsTrue a) → a ≡ false → b ≡ false
+stays_false a b so is = grind arith
+
+crash_of : (x m left : Told) (l s : ℕ) (bytes : List ℕ) → Keeps x m l s bytes → IsCrashOutcome m left → x.soft l s ≡ false → (left.reads l s ≡ Some bytes) × (IsTrue (left.harmed l s) → IsTrue (x.harmed l s))
+crash_of x m left l s bytes keeps out firm = (
+  out.firm l s (stays_false (x.soft l s) (m.soft l s) keeps.soft firm) ∙ keeps.reads,
+  (λ h. keeps.harmed (subst (λ b. IsTrue b) (out.harmed l s) h)),
+)
+
+pub crash_keeps : (named : ℕ → ℕ → Bool) (x y : Told) → KeptOthers named x y → CrashKeepsOthers named x y
+crash_keeps named x y keeps low m between left out l s bytes other firm reads = crash_of x m left l s bytes (keeps low m between l s bytes other reads) out firm
+
+pub kept_by_crash : (named : ℕ → ℕ → Bool) (o p : Option Told) → OnBoth o p (KeptOthers named) → OnBoth o p (CrashKeepsOthers named)
+kept_by_crash named None p keeps = tt
+kept_by_crash named (Some x) None keeps = tt
+kept_by_crash named (Some x) (Some y) keeps = crash_keeps named x y keeps

@@ -2,3 +2,4 @@ pub mod Leaves
 pub mod Memory
 pub mod Moments
 pub mod Rack
+pub mod Sectors

@@ -1,4 +1,4 @@
-use Rattle.std.specs.Prelude.{◌≡◌, ◌<◌, ◌≤◌, ⊤, ℕ, Bool, false, List, Option, Some, None, MatchOption, IsTrue}
+use Rattle.std.specs.Prelude.{◌≡◌, ◌<◌, ◌≤◌, ⊤, ℕ, Bool, false, List, Option, Some, None, MatchOption, IsTrue, option_map, length}
 use Rattle.draid_rack.specs.Rack.{Told, last_clock}
 
 -- a sector that wasn't changed between two states
@@ -47,3 +47,23 @@ OnBoth old new P = MatchOption old ⊤ (λ x. MatchOption new ⊤ (λ y. P x y))
 -- what was told is told, and only the sectors named were changed
 abbrev pub SparesTold : (ℕ → ℕ → Bool) → Option Told → Option Told → Type 0
 SparesTold named old new = MatchOption old (new ≡ None) (λ x. MatchOption new ⊥ (λ y. Spares named x y))
+
+-- What a crash may leave of what a rack told: what isn't soft stays; what is soft reads any bytes of the
+-- same length; harm stays, and nothing is soft.
+pub record IsCrashOutcome (x y : Told) : Type 0 where
+  pub firm : (l s : ℕ) → x.soft l s ≡ false → y.reads l s ≡ x.reads l s
+  pub long : (l s : ℕ) → option_map length (y.reads l s) ≡ option_map length (x.reads l s)
+  pub harmed : (l s : ℕ) → y.harmed l s ≡ x.harmed l s
+  pub soft : (l s : ℕ) → y.soft l s ≡ false
+
+-- what was told is told, after a crash
+abbrev pub CrashesTold : Option Told → Option Told → Type 0
+CrashesTold old new = MatchOption old (new ≡ None) (λ x. MatchOption new ⊥ (λ y. IsCrashOutcome x y))
+
+-- After a crash at any moment between two, each sector that isn't named, and wasn't soft before, reads what
+-- it read before, and is harmed only if it was so before.
+abbrev pub CrashKeepsOthers : (ℕ → ℕ → Bool) → Told → Told → Type 0
+CrashKeepsOthers named x y =
+    x.clock < last_clock → (m : Told) → Between x m y → (left : Told) → IsCrashOutcome m left
+    → (l s : ℕ) (bytes : List ℕ) → named l s ≡ false → x.soft l s ≡ false → x.reads l s ≡ Some bytes
+    → (left.reads l s ≡ Some bytes) × (IsTrue (left.harmed l s) → IsTrue (x.harmed l s))

@@ -3,10 +3,11 @@
 
 #![tactic(auto)]
 
-mod calls;
+mod leaf;
 mod leaves;
 mod memory;
 mod rack;
+mod sector;
 #[cfg(test)]
 mod tests;
 

@@ -1,19 +1,23 @@
-ghost use Rattle.std.specs.Prelude.{◌≡◌, ◌+◌, ◌-◌, ◌^◌, ◌≤◌, ◌<◌, ◌↔◌, min, ℕ, Option, Some, None, false, Bool, IsTrue, IfOk, IfSome, IfNone, IsErr, IsErrOf, IsSome, OnOk, OnErr, Contains, Result, length, replicate, option_map};
+ghost use Rattle.std.specs.Prelude.{◌≡◌, ◌<◌, ◌≤◌, ℕ, Option, Some, None, false, Bool, IsTrue, IfOk, IfSome, IfNone, IsErr, IsErrOf, IsSome, OnOk, OnErr, Result, length, replicate, option_map};
 ghost use Rattle.draid_names.specs.Faults.{Rose};
-ghost use Rattle.draid_rack.specs.Leaves.{AreWhole, AreUpTo, faults_by, faults_in, harmed_in, leaf_at, reads_in, sectors_in, shape_by, since_in, soft_in, told_by};
-ghost use Rattle.draid_rack.specs.Rack.{Fits, HasJust, Lands, Reads, Counts, CountsOthers, IsCalm, OnTold, adds, damages, drops, flushes, settles, taints, with_leaf};
+ghost use Rattle.draid_faults.specs.Calls.{CountsCall, failing_calls, is_fused, next_call};
+ghost use Rattle.draid_rack.specs.Leaves.{AreLong, AreUpTo};
+ghost use Rattle.draid_rack.specs.Moments.{CrashesTold};
+ghost use Rattle.draid_rack.specs.Rack.{Fits, HasJust, Lands, Reads, Counts, CountsOthers, OnTold, adds, damages, drops, flushes, settles, taints, with_leaf};
 
-use crate::calls::Calls;
+use crate::leaf::Leaf;
 use crate::leaves::{
-    Leaf, count_fault, damage_sector, fail_sector, first_from, flush_leaf, insert_leaf,
-    is_any_harmed, is_harmed, land_sector, later, read_sector, remove_leaf, settle_sector,
+    count_fault, crash_leaves, damage_sector, first_from, flush_leaf, insert_leaf, is_any_harmed,
+    is_harmed, land_sector, later, mark_sector, read_sector, remove_leaf, settle_sector,
 };
 use crate::rack::{AddFault, At, Rack};
+use draid_faults::{Calls, CrashRule, Fuse};
 use draid_names::{Failed, NoMemory};
 use std::alloc::Global;
 use std::collections::BTreeMap;
 
-/// A rack in memory. Its calls that can fail are numbered from 0, and those that its list names fail.
+/// A rack in memory. Its calls that can fail are numbered from 0; those that its list names fail, and each
+/// once its fuse has burnt.
 #[derive(Drop)]
 pub struct MemoryRack {
     alloc: Global,
@@ -23,15 +27,15 @@ pub struct MemoryRack {
     /// How often adding a leaf has failed.
     own_faults: u64,
     calls: Calls,
-    ghost whole: { AreWhole bytes leaves },
+    ghost whole: { AreLong bytes leaves },
     ghost orderly: { AreUpTo clock leaves },
 }
 
 impl MemoryRack {
-    ghost use Rattle.draid_rack.specs.Memory.{CountsCall, failing_calls, faults_of_memory, next_call, shape_of_memory, told_by_memory};
+    ghost use Rattle.draid_rack.specs.Memory.{KeepsFlushed, LeavesByRule, calls_of, faults_of_memory, shape_of_memory, told_by_memory};
 
-    /// A rack of `leaves` leaves, each of `sectors` sectors of `bytes` zero bytes. Its calls that can
-    /// fail are numbered from 0, and those that `failing` names fail.
+    /// A rack of `leaves` leaves, each of `sectors` sectors of `bytes` zero bytes, without a fuse. Its calls
+    /// with the numbers in `failing` fail.
     pub fn new(
         alloc: Global,
         leaves: u32,
@@ -40,10 +44,14 @@ impl MemoryRack {
         failing: Vec<u64>,
     ) -> Result<MemoryRack, NoMemory>
         ensures just { IfOk result (λ rack. HasJust (shape_of_memory rack) leaves sectors bytes) }
-        ensures zeros { IfOk result (λ rack. (l s : ℕ) → l < leaves → s < sectors → Reads (told_by_memory rack) l s (replicate bytes 0)) }
-        ensures calm { IfOk result (λ rack. OnTold (told_by_memory rack) IsCalm) }
+        ensures zeros { IfOk result (λ rack. (l s : ℕ) → l < leaves → s < sectors
+            → Reads (told_by_memory rack) l s (replicate bytes 0)) }
+        ensures firm { IfOk result (λ rack. OnTold (told_by_memory rack) (λ x. (l s : ℕ) → x.soft l s ≡ false)) }
+        ensures unharmed { IfOk result (λ rack. OnTold (told_by_memory rack) (λ x. (l s : ℕ) → x.harmed l s ≡ false)) }
         ensures counts { IfOk result (λ rack. (who : Option ℕ) → faults_of_memory rack who ≡ 0) }
-        ensures list { IfOk result (λ rack. (failing_calls rack ≡ failing.items) × (next_call rack ≡ 0)) }
+        ensures next { IfOk result (λ rack. next_call (calls_of rack) ≡ 0) }
+        ensures failing { IfOk result (λ rack. failing_calls (calls_of rack) ≡ failing.items) }
+        ensures fused { IfOk result (λ rack. is_fused (calls_of rack) ≡ false) }
     {
         let mut rows = BTreeMap::new(alloc);
         for leaf in 0..leaves {
@@ -56,22 +64,57 @@ impl MemoryRack {
             leaves: rows,
             clock: 0,
             own_faults: 0,
-            calls: Calls { made: 0, failing },
+            calls: Calls::new(failing),
         })
+    }
+
+    /// The length of a sector in bytes.
+    pub fn sector_bytes(&self) -> u32
+        ensures { result ≡ (shape_of_memory self.now).bytes }
+    {
+        self.bytes
+    }
+
+    /// Puts a fuse in, in place of an earlier one.
+    pub fn put_fuse(&mut self, fuse: Fuse)
+        ensures told { told_by_memory self.new ≡ told_by_memory self.old }
+        ensures shape { shape_of_memory self.new ≡ shape_of_memory self.old }
+        ensures counts { (who : Option ℕ) → faults_of_memory self.new who ≡ faults_of_memory self.old who }
+        ensures flushed { KeepsFlushed self.old self.new }
+        ensures next { next_call (calls_of self.new) ≡ next_call (calls_of self.old) }
+        ensures failing { failing_calls (calls_of self.new) ≡ failing_calls (calls_of self.old) }
+    {
+        self.calls.put_fuse(fuse);
+    }
+
+    /// Gives it a crash, which leaves what was written since the last flush by the rule. The fuse is taken out.
+    pub fn crash(&mut self, rule: CrashRule)
+        ensures told { CrashesTold (told_by_memory self.old) (told_by_memory self.new) }
+        ensures exact { LeavesByRule rule self.old self.new }
+        ensures shape { shape_of_memory self.new ≡ shape_of_memory self.old }
+        ensures counts { (who : Option ℕ) → faults_of_memory self.new who ≡ faults_of_memory self.old who }
+        ensures next { next_call (calls_of self.new) ≡ next_call (calls_of self.old) }
+        ensures failing { failing_calls (calls_of self.new) ≡ failing_calls (calls_of self.old) }
+        ensures fused { is_fused (calls_of self.new) ≡ false }
+    {
+        crash_leaves(&mut self.leaves, rule);
+        self.calls.take_fuse();
     }
 
     /// Writes a sector, and says whether it is harmed then.
     fn land(&mut self, leaf: u64, sector: u64, bytes: &[u8], harmed: bool) -> Result<(), Failed>
         requires place { Fits (shape_of_memory self.old) leaf sector (length bytes.now) }
-        ensures told { Lands leaf sector bytes.now (λ _. harmed) result (told_by_memory self.old) (told_by_memory self.new) }
+        ensures told { Lands leaf sector bytes.now (λ _. harmed) result (told_by_memory self.old)
+            (told_by_memory self.new) }
         ensures shape { shape_of_memory self.new ≡ shape_of_memory self.old }
         ensures cause { Counts (Some leaf) result (faults_of_memory self.old) (faults_of_memory self.new) }
-        ensures exact { IsErr result ↔ Contains (failing_calls self.old) (next_call self.old) }
-        ensures list { CountsCall self.old self.new }
+        ensures flushed { KeepsFlushed self.old self.new }
+        ensures calls { CountsCall (IsErr result) (calls_of self.old) (calls_of self.new) }
     {
         self.clock = later(self.clock);
         if self.calls.fails() {
-            fail_sector(&mut self.leaves, leaf, sector, harmed, self.clock);
+            mark_sector(&mut self.leaves, leaf, sector, harmed, self.clock);
+            count_fault(&mut self.leaves, leaf);
             return Err(Failed);
         }
         land_sector(&mut self.leaves, leaf, sector, bytes, harmed, self.clock);
@@ -81,7 +124,7 @@ impl MemoryRack {
 
 impl Rack for MemoryRack {
     ghost use Rattle.draid_rack.specs.declared.rack.AddFault.{AddFault};
-    ghost use Rattle.draid_rack.specs.Memory.{CountsCall, failing_calls, faults_of_memory, next_call, shape_of_memory, told_by_memory};
+    ghost use Rattle.draid_rack.specs.Memory.{DamagesFlushed, Flushes, KeepsFlushed, calls_of, faults_of_memory, shape_of_memory, told_by_memory};
 
     ghost shape = { shape_of_memory };
 
@@ -98,8 +141,8 @@ impl Rack for MemoryRack {
         ensures told { told_by_memory self.new ≡ told_by_memory self.old }
         ensures shape { shape_of_memory self.new ≡ shape_of_memory self.old }
         ensures cause { Counts (Some leaf) result (faults_of_memory self.old) (faults_of_memory self.new) }
-        ensures exact { IsErr result ↔ Contains (failing_calls self.old) (next_call self.old) }
-        ensures list { CountsCall self.old self.new }
+        ensures flushed { KeepsFlushed self.old self.new }
+        ensures calls { CountsCall (IsErr result) (calls_of self.old) (calls_of self.new) }
     {
         if self.calls.fails() {
             count_fault(&mut self.leaves, leaf);
@@ -111,22 +154,24 @@ impl Rack for MemoryRack {
 
     fn write(&mut self, leaf: u64, sector: u64, bytes: &[u8]) -> Result<(), Failed>
         requires place { Fits (shape_of_memory self.old) leaf sector (length bytes.now) }
-        ensures told { Lands leaf sector bytes.now (λ _. false) result (told_by_memory self.old) (told_by_memory self.new) }
+        ensures told { Lands leaf sector bytes.now (λ _. false) result (told_by_memory self.old)
+            (told_by_memory self.new) }
         ensures shape { shape_of_memory self.new ≡ shape_of_memory self.old }
         ensures cause { Counts (Some leaf) result (faults_of_memory self.old) (faults_of_memory self.new) }
-        ensures exact { IsErr result ↔ Contains (failing_calls self.old) (next_call self.old) }
-        ensures list { CountsCall self.old self.new }
+        ensures flushed { KeepsFlushed self.old self.new }
+        ensures calls { CountsCall (IsErr result) (calls_of self.old) (calls_of self.new) }
     {
         self.land(leaf, sector, bytes, false)
     }
 
     fn mend(&mut self, leaf: u64, sector: u64, bytes: &[u8], sources: &[At]) -> Result<(), Failed>
         requires place { Fits (shape_of_memory self.old) leaf sector (length bytes.now) }
-        ensures told { Lands leaf sector bytes.now (taints sources.now) result (told_by_memory self.old) (told_by_memory self.new) }
+        ensures told { Lands leaf sector bytes.now (taints sources.now) result (told_by_memory self.old)
+            (told_by_memory self.new) }
         ensures shape { shape_of_memory self.new ≡ shape_of_memory self.old }
         ensures cause { Counts (Some leaf) result (faults_of_memory self.old) (faults_of_memory self.new) }
-        ensures exact { IsErr result ↔ Contains (failing_calls self.old) (next_call self.old) }
-        ensures list { CountsCall self.old self.new }
+        ensures flushed { KeepsFlushed self.old self.new }
+        ensures calls { CountsCall (IsErr result) (calls_of self.old) (calls_of self.new) }
     {
         let harmed = is_any_harmed(&self.leaves, sources);
         self.land(leaf, sector, bytes, harmed)
@@ -134,11 +179,12 @@ impl Rack for MemoryRack {
 
     fn patch(&mut self, leaf: u64, sector: u64, bytes: &[u8]) -> Result<(), Failed>
         requires place { Fits (shape_of_memory self.old) leaf sector (length bytes.now) }
-        ensures told { Lands leaf sector bytes.now (λ x. x.harmed leaf sector) result (told_by_memory self.old) (told_by_memory self.new) }
+        ensures told { Lands leaf sector bytes.now (λ x. x.harmed leaf sector) result
+            (told_by_memory self.old) (told_by_memory self.new) }
         ensures shape { shape_of_memory self.new ≡ shape_of_memory self.old }
         ensures cause { Counts (Some leaf) result (faults_of_memory self.old) (faults_of_memory self.new) }
-        ensures exact { IsErr result ↔ Contains (failing_calls self.old) (next_call self.old) }
-        ensures list { CountsCall self.old self.new }
+        ensures flushed { KeepsFlushed self.old self.new }
+        ensures calls { CountsCall (IsErr result) (calls_of self.old) (calls_of self.new) }
     {
         let harmed = is_harmed(&self.leaves, At { leaf, sector });
         self.land(leaf, sector, bytes, harmed)
@@ -146,12 +192,14 @@ impl Rack for MemoryRack {
 
     fn flush(&mut self, leaf: u64) -> Result<(), Failed>
         requires place { IsSome ((shape_of_memory self.old).leaves leaf) }
-        ensures ok { OnOk result (told_by_memory self.new ≡ option_map (flushes leaf) (told_by_memory self.old)) }
+        ensures ok { OnOk result
+            (told_by_memory self.new ≡ option_map (flushes leaf) (told_by_memory self.old)) }
         ensures err { OnErr result (told_by_memory self.new ≡ told_by_memory self.old) }
         ensures shape { shape_of_memory self.new ≡ shape_of_memory self.old }
         ensures cause { Counts (Some leaf) result (faults_of_memory self.old) (faults_of_memory self.new) }
-        ensures exact { IsErr result ↔ Contains (failing_calls self.old) (next_call self.old) }
-        ensures list { CountsCall self.old self.new }
+        ensures flushed { OnOk result (Flushes leaf self.old self.new) }
+        ensures unflushed { OnErr result (KeepsFlushed self.old self.new) }
+        ensures calls { CountsCall (IsErr result) (calls_of self.old) (calls_of self.new) }
     {
         if self.calls.fails() {
             count_fault(&mut self.leaves, leaf);
@@ -175,12 +223,14 @@ impl Rack for MemoryRack {
 
     fn damage(&mut self, leaf: u64, sector: u64) -> Result<(), Failed>
         requires place { Fits (shape_of_memory self.old) leaf sector (shape_of_memory self.old).bytes }
-        ensures ok { OnOk result (told_by_memory self.new ≡ option_map (damages leaf sector) (told_by_memory self.old)) }
+        ensures ok { OnOk result
+            (told_by_memory self.new ≡ option_map (damages leaf sector) (told_by_memory self.old)) }
         ensures err { OnErr result (told_by_memory self.new ≡ told_by_memory self.old) }
         ensures shape { shape_of_memory self.new ≡ shape_of_memory self.old }
         ensures cause { Counts (Some leaf) result (faults_of_memory self.old) (faults_of_memory self.new) }
-        ensures exact { IsErr result ↔ Contains (failing_calls self.old) (next_call self.old) }
-        ensures list { CountsCall self.old self.new }
+        ensures flushed { OnOk result (DamagesFlushed leaf sector self.old self.new) }
+        ensures unflushed { OnErr result (KeepsFlushed self.old self.new) }
+        ensures calls { CountsCall (IsErr result) (calls_of self.old) (calls_of self.new) }
     {
         if self.calls.fails() {
             count_fault(&mut self.leaves, leaf);
@@ -192,14 +242,17 @@ impl Rack for MemoryRack {
     }
 
     fn add_leaf(&mut self, leaf: u64, sectors: u64) -> Result<(), AddFault>
-        ensures ok { OnOk result (told_by_memory self.new ≡ option_map (adds (shape_of_memory self.old).bytes leaf sectors) (told_by_memory self.old)) }
+        ensures ok { OnOk result
+            (told_by_memory self.new ≡ option_map (adds (shape_of_memory self.old).bytes leaf sectors)
+            (told_by_memory self.old)) }
         ensures err { OnErr result (told_by_memory self.new ≡ told_by_memory self.old) }
-        ensures shape { OnOk result (shape_of_memory self.new ≡ with_leaf leaf (Some sectors) (shape_of_memory self.old)) }
+        ensures shape { OnOk result
+            (shape_of_memory self.new ≡ with_leaf leaf (Some sectors) (shape_of_memory self.old)) }
         ensures same { OnErr result (shape_of_memory self.new ≡ shape_of_memory self.old) }
         ensures later { CountsOthers leaf (faults_of_memory self.old) (faults_of_memory self.new) }
-        ensures cause { IsErrOf result AddFault.Failed → Rose (faults_of_memory self.old None) (faults_of_memory self.new None) }
-        ensures exact { IsErrOf result AddFault.Failed ↔ Contains (failing_calls self.old) (next_call self.old) }
-        ensures list { CountsCall self.old self.new }
+        ensures cause { IsErrOf result AddFault.Failed → Rose (faults_of_memory self.old None)
+            (faults_of_memory self.new None) }
+        ensures calls { CountsCall (IsErrOf result AddFault.Failed) (calls_of self.old) (calls_of self.new) }
     {
         if self.calls.fails() {
             self.own_faults = self.own_faults.saturating_add(1);

@@ -86,14 +86,16 @@ pub trait Rack: Drop {
     /// Writes one sector with bytes that came from others. It is harmed afterwards just where one of those is.
     fn mend(&mut self, leaf: u64, sector: u64, bytes: &[u8], sources: &[At]) -> Result<(), Failed>
         requires place { Fits (shape self.old) leaf sector (length bytes.now) }
-        ensures told { Lands leaf sector bytes.now (taints sources.now) result (told self.old) (told self.new) }
+        ensures told { Lands leaf sector bytes.now (taints sources.now) result (told self.old)
+            (told self.new) }
         ensures shape { shape self.new ≡ shape self.old }
         ensures cause { Counts (Some leaf) result (faults self.old) (faults self.new) };
 
     /// Writes one sector whose harm stays as it was.
     fn patch(&mut self, leaf: u64, sector: u64, bytes: &[u8]) -> Result<(), Failed>
         requires place { Fits (shape self.old) leaf sector (length bytes.now) }
-        ensures told { Lands leaf sector bytes.now (λ x. x.harmed leaf sector) result (told self.old) (told self.new) }
+        ensures told { Lands leaf sector bytes.now (λ x. x.harmed leaf sector) result (told self.old)
+            (told self.new) }
         ensures shape { shape self.new ≡ shape self.old }
         ensures cause { Counts (Some leaf) result (faults self.old) (faults self.new) };
 
@@ -123,7 +125,8 @@ pub trait Rack: Drop {
 
     /// Adds a leaf of zeros. A leaf of that number that was there is given up, where it succeeds.
     fn add_leaf(&mut self, leaf: u64, sectors: u64) -> Result<(), AddFault>
-        ensures ok { OnOk result (told self.new ≡ option_map (adds (shape self.old).bytes leaf sectors) (told self.old)) }
+        ensures ok { OnOk result
+            (told self.new ≡ option_map (adds (shape self.old).bytes leaf sectors) (told self.old)) }
         ensures err { OnErr result (told self.new ≡ told self.old) }
         ensures shape { OnOk result (shape self.new ≡ with_leaf leaf (Some sectors) (shape self.old)) }
         ensures same { OnErr result (shape self.new ≡ shape self.old) }

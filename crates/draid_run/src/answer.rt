@@ -16,7 +16,7 @@ use draid_names::NoMemory;
 use draid_pool::{Pool, PoolFault};
 use draid_rack::Rack;
 use draid_script::{CommandName, Line, PoolKeys, Reply, SpecRefusal};
-use draid_shelf::Shelf;
+use draid_shelf::RackShelf;
 use draid_spec::{Geometry, Props, Spec, SpecFault, parse_spec, spec_name};
 use std::alloc::Global;
 
@@ -70,7 +70,7 @@ fn stripes(geometry: &Geometry) -> u64
 }
 
 /// Opens a new pool of one metaslab, where none is open.
-fn create<H: Shelf>(
+fn create<H: RackShelf>(
     alloc: Global,
     shelf: &mut H,
     pool: &mut Option<Pool<H::R>>,
@@ -115,7 +115,7 @@ struct Made {
 }
 
 /// Opens a new pool of one metaslab, where none is open.
-fn open_pool<H: Shelf>(
+fn open_pool<H: RackShelf>(
     alloc: Global,
     shelf: &mut H,
     pool: &mut Option<Pool<H::R>>,
@@ -205,7 +205,7 @@ fn damage<R: Rack>(pool: &mut Option<Pool<R>>, leaf: u64, sector: u64) -> Reply
 }
 
 /// Does what a line asks for. An empty line and a comment have no reply.
-pub(crate) fn answer<H: Shelf>(
+pub(crate) fn answer<H: RackShelf>(
     alloc: Global,
     shelf: &mut H,
     pool: &mut Option<Pool<H::R>>,

@@ -13,14 +13,14 @@ use draid_pool::Pool;
 use draid_script::{
     LineFault, Lines, ParseFault, ReadFault, Reply, Sink, Source, parse_line, reply_text,
 };
-use draid_shelf::Shelf;
+use draid_shelf::RackShelf;
 use std::alloc::Global;
 
 /// One line more than a script may have.
 const LINES: u64 = 1_048_577;
 
 /// Runs one line, with this number, and prints its reply.
-fn serve_line<H: Shelf, K: Sink>(
+fn serve_line<H: RackShelf, K: Sink>(
     alloc: Global,
     shelf: &mut H,
     pool: &mut Option<Pool<H::R>>,
@@ -96,7 +96,7 @@ fn next_text<S: Source>(
 }
 
 /// Runs the lines of the source one after another, until one can't be run or none is left.
-pub(crate) fn serve<H: Shelf, S: Source, K: Sink>(
+pub(crate) fn serve<H: RackShelf, S: Source, K: Sink>(
     alloc: Global,
     shelf: &mut H,
     pool: &mut Option<Pool<H::R>>,

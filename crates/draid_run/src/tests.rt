@@ -31,7 +31,7 @@ fn run_words<R: AllocGlobal>(
 ) -> Result<(Status, Vec<u8>), AllocError> {
     let alloc = rt.alloc();
     let words = vec![in alloc; String::from_str(alloc, word)?]?;
-    let mut shelf = MemoryShelf::new(Vec::from_slice(alloc, failing.rack)?);
+    let mut shelf = MemoryShelf::new(alloc, Vec::from_slice(alloc, failing.rack)?);
     let mut source = MemorySource::new(script, Vec::from_slice(alloc, failing.source)?);
     let mut sink = MemorySink::new(alloc, Vec::from_slice(alloc, failing.sink)?);
     let status = run(rt, &words, &mut shelf, &mut source, &mut sink);

@@ -8,7 +8,7 @@ use crate::serve::serve;
 use crate::status::{Status, fixed_line, numbered_line};
 use draid_pool::Pool;
 use draid_script::{Sink, Source};
-use draid_shelf::Shelf;
+use draid_shelf::RackShelf;
 use std::alloc::Global;
 
 /// Puts the last line, where there is one.
@@ -55,7 +55,7 @@ fn is_session(words: &[String]) -> bool
 }
 
 /// Gives the rack of an open pool back to the shelf.
-fn give_back<H: Shelf>(shelf: &mut H, pool: Option<Pool<H::R>>)
+fn give_back<H: RackShelf>(shelf: &mut H, pool: Option<Pool<H::R>>)
     ensures { (writes : List Write) → IsDesk H.R.shape H.R.told pool writes → MatchOption (state_in H.R.told H.R.faults pool writes) ⊤ (HoldsPool (H.holds shelf.new 0) (H.counts shelf.new 0)) }
 {
     if let Some(pool) = pool {
@@ -65,7 +65,7 @@ fn give_back<H: Shelf>(shelf: &mut H, pool: Option<Pool<H::R>>)
 
 /// Runs the script of `source` on the pool of `shelf`, with its replies to `sink`. The words are those of the
 /// command line behind the program's name.
-pub fn run<H: Shelf, S: Source, K: Sink, A: AllocGlobal>(
+pub fn run<H: RackShelf, S: Source, K: Sink, A: AllocGlobal>(
     rt: &A,
     words: &[String],
     shelf: &mut H,

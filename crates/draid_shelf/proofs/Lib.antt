@@ -1,1 +1,2 @@
-pub mod Places
+pub mod Holdings
+pub mod Nothing

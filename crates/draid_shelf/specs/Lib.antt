@@ -1,3 +1,4 @@
 pub mod Failing
+pub mod Kits
 pub mod Memory
 pub mod Shelf

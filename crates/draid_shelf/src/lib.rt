@@ -2,8 +2,18 @@
 
 #![tactic(auto)]
 
+mod devices;
+mod kit;
+mod kits;
 mod memory;
+mod places;
+mod plan;
+mod racks;
 mod shelf;
+#[cfg(test)]
+mod tests;
 
+pub use kit::{Kit, ShelfFault};
 pub use memory::MemoryShelf;
+pub use racks::RackShelf;
 pub use shelf::{METASLABS, Shelf};

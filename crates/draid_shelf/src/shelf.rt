@@ -1,9 +1,11 @@
-ghost use Rattle.std.specs.Prelude.{◌≡◌, ◌<◌, ℕ, Option, Some, IfOk, IsSomeAnd, OnOk, OnErr};
+ghost use Rattle.std.specs.Prelude.{◌≡◌, ◌<◌, ◌↔◌, ℕ, Option, Some, IfOk, IsSome, IsSomeAnd, IsTrue, MatchOption, OnOk, OnErr, ⊤};
 ghost use Rattle.draid_spec.specs.Geometry.{IsGeometry};
-ghost use Rattle.draid_rack.specs.Rack.{Shape, Told};
-ghost use Rattle.draid_shelf.specs.Shelf.{HasLeavesOf, IsKnown, SameOthers, TellsCalm, TellsZeros, most_metaslabs};
+ghost use Rattle.draid_rack.specs.Rack.{Shape};
+ghost use Rattle.draid_shelf.specs.Shelf.{HasLeavesOf, IsKnown, SameOthers, most_metaslabs};
+ghost use Rattle.draid_shelf.specs.Kits.{Both, CrashedHeld, Held, IsNewPool, IsUncounted, KitCounts, OnHeld, ShelfCounts, gives_kit, gives_uber, kit_of, takes_kit, takes_uber, uber_bytes};
 
-use draid_names::NoMemory;
+use crate::kit::{Kit, ShelfFault};
+use draid_area::Area;
 use draid_rack::Rack;
 use draid_spec::Geometry;
 use std::alloc::Global;
@@ -11,47 +13,108 @@ use std::alloc::Global;
 /// How many metaslabs a shelf has places for.
 pub const METASLABS: u32 = 64;
 
-/// A shelf of devices, from which a pool takes the rack of each metaslab for a run, and to which it gives them back.
+/// A shelf of devices: the area of the uberblock, and a kit for each metaslab. A pool takes them for a run, and gives
+/// them back.
 pub trait Shelf {
     type R: Rack;
 
-    /// The leaves of each metaslab's rack, where they are known.
-    ghost made: { Self → ℕ → Option Shape };
+    type A: Area;
 
-    /// What the rack of each metaslab tells, where one is held that does.
-    ghost holds: { Self → ℕ → Option Told };
+    /// What is held, where the shelf tells it.
+    ghost told: { Self → Option Held };
 
-    /// How often calls on the rack of each metaslab have failed, by leaf.
-    ghost counts: { Self → ℕ → Option ℕ → ℕ };
+    /// How often making and taking has failed. The count stands still at 2^64 - 1.
+    ghost faults: { Self → ℕ };
 
-    /// Makes leaves of zero bytes for each metaslab, numbered from 0. An earlier pool is given up.
-    fn make(&mut self, alloc: Global, geometry: &Geometry) -> Result<(), NoMemory>
+    /// How often calls on the devices of each metaslab have failed, and those on the area of the uberblock.
+    ghost counts: { Self → ℕ → KitCounts };
+
+    ghost uber_count: { Self → ℕ };
+
+    /// The leaves of each metaslab's rack, and the length of the area of the uberblock, where they are known.
+    ghost leaves: { Self → ℕ → Option Shape };
+
+    ghost uber_size: { Self → Option ℕ };
+
+    /// Whether a pool is held.
+    fn has_pool(&self) -> bool
+        ensures { OnHeld (told self.now) (λ held. IsTrue result ↔ IsSome held.uber) };
+
+    /// Makes the devices of a new pool: leaves of zeros, empty areas of records, and the area of the uberblock, of 1,024
+    /// zero bytes. An earlier pool is given up.
+    fn make(&mut self, alloc: Global, geometry: &Geometry) -> Result<(), ShelfFault>
         requires { IsGeometry geometry.now }
-        ensures made { OnOk result ((m : ℕ) → m < geometry.now.props.metaslabs
-            → IsSomeAnd (made self.new m) (HasLeavesOf geometry.now)) }
-        ensures zeros { OnOk result ((m : ℕ) → m < geometry.now.props.metaslabs
-            → TellsZeros (holds self.new m) geometry.now) }
-        ensures calm { OnOk result ((m : ℕ) → m < geometry.now.props.metaslabs → TellsCalm (holds self.new m)) }
-        ensures counts { OnOk result ((m : ℕ) (who : Option ℕ) → m < geometry.now.props.metaslabs
-            → counts self.new m who ≡ 0) }
-        ensures err { OnErr result ((m : ℕ) → holds self.new m ≡ holds self.old m) };
+        ensures told { OnOk result (OnHeld (told self.new) (IsNewPool geometry.now)) }
+        ensures leaves { OnOk result ((m : ℕ) → m < geometry.now.props.metaslabs
+            → IsSomeAnd (leaves self.new m) (HasLeavesOf geometry.now)) }
+        ensures uber { OnOk result (uber_size self.new ≡ Some uber_bytes) }
+        ensures counts { OnOk result
+            ((m : ℕ) → m < geometry.now.props.metaslabs → IsUncounted (counts self.new m)) }
+        ensures uber_count { OnOk result (uber_count self.new ≡ 0) }
+        ensures err { OnErr result (told self.new ≡ told self.old) }
+        ensures cause { ShelfCounts result (faults self.old) (faults self.new) };
 
-    /// Takes the rack of a metaslab. Want of memory is the one refusal.
-    fn take(&mut self, metaslab: u32) -> Result<Self::R, NoMemory>
-        ensures leaves { IfOk result (λ rack. IsKnown (made self.old metaslab) (Self.R.shape rack)) }
-        ensures told { IfOk result (λ rack. Self.R.told rack ≡ holds self.old metaslab) }
-        ensures counts { IfOk result (λ rack.
-            (who : Option ℕ) → Self.R.faults rack who ≡ counts self.old metaslab who) }
-        ensures made { SameOthers metaslab (made self.old) (made self.new) }
-        ensures holds { SameOthers metaslab (holds self.old) (holds self.new) }
-        ensures others { SameOthers metaslab (counts self.old) (counts self.new) };
+    /// Takes the area of the uberblock.
+    fn take_uber(&mut self) -> Result<Self::A, ShelfFault>
+        ensures area { IfOk result (λ area. OnHeld (told self.old) (λ held. Self.A.told area ≡ held.uber)) }
+        ensures told { OnOk result (told self.new ≡ takes_uber (told self.old)) }
+        ensures size { IfOk result (λ area. MatchOption (uber_size self.old) ⊤ (λ n. Self.A.size area ≡ n)) }
+        ensures count { IfOk result (λ area. Self.A.faults area ≡ uber_count self.old) }
+        ensures leaves { (m : ℕ) → leaves self.new m ≡ leaves self.old m }
+        ensures counts { (m : ℕ) → counts self.new m ≡ counts self.old m }
+        ensures err { OnErr result (told self.new ≡ told self.old) }
+        ensures cause { ShelfCounts result (faults self.old) (faults self.new) };
 
-    /// Puts the rack of a metaslab back, in place of one that is held.
-    fn give(&mut self, metaslab: u32, rack: Self::R)
+    /// Takes the devices of a metaslab, whose sectors have the geometry's length.
+    fn take(
+        &mut self,
+        metaslab: u32,
+        geometry: &Geometry,
+    ) -> Result<Kit<Self::R, Self::A>, ShelfFault>
+        ensures sectors { IfOk result (λ kit. (Self.R.shape kit.rack).bytes ≡ geometry.now.props.sector) }
+        ensures leaves { IfOk result (λ kit. IsKnown (leaves self.old metaslab) (Self.R.shape kit.rack)) }
+        ensures kit { IfOk result (λ kit. OnHeld (told self.old) (λ held.
+            kit_of (Self.R.told kit.rack) (Self.A.told kit.even) (Self.A.told kit.odd) ≡ held.kits metaslab)) }
+        ensures told { OnOk result (told self.new ≡ takes_kit metaslab (told self.old)) }
+        ensures rack_count { IfOk result (λ kit.
+            (who : Option ℕ) → Self.R.faults kit.rack who ≡ (counts self.old metaslab).rack who) }
+        ensures even_count { IfOk result (λ kit. Self.A.faults kit.even ≡ (counts self.old metaslab).even) }
+        ensures odd_count { IfOk result (λ kit. Self.A.faults kit.odd ≡ (counts self.old metaslab).odd) }
+        ensures others { SameOthers metaslab (leaves self.old) (leaves self.new) }
+        ensures counts { SameOthers metaslab (counts self.old) (counts self.new) }
+        ensures uber { uber_size self.new ≡ uber_size self.old }
+        ensures uber_count { uber_count self.new ≡ uber_count self.old }
+        ensures err { OnErr result (told self.new ≡ told self.old) }
+        ensures cause { ShelfCounts result (faults self.old) (faults self.new) };
+
+    /// Puts the area of the uberblock back, in place of one that is held.
+    fn give_uber(&mut self, area: Self::A)
+        ensures told { told self.new ≡ gives_uber (Self.A.told area) (told self.old) }
+        ensures count { uber_count self.new ≡ Self.A.faults area }
+        ensures leaves { (m : ℕ) → leaves self.new m ≡ leaves self.old m }
+        ensures counts { (m : ℕ) → counts self.new m ≡ counts self.old m }
+        ensures faults { faults self.new ≡ faults self.old };
+
+    /// Puts the devices of a metaslab back, in place of those that are held.
+    fn give(&mut self, metaslab: u32, kit: Kit<Self::R, Self::A>)
         requires { metaslab < most_metaslabs }
-        ensures told { holds self.new metaslab ≡ Self.R.told rack }
-        ensures counts { (who : Option ℕ) → counts self.new metaslab who ≡ Self.R.faults rack who }
-        ensures made { SameOthers metaslab (made self.old) (made self.new) }
-        ensures holds { SameOthers metaslab (holds self.old) (holds self.new) }
-        ensures others { SameOthers metaslab (counts self.old) (counts self.new) };
+        ensures told { told self.new ≡ gives_kit metaslab
+            (kit_of (Self.R.told kit.rack) (Self.A.told kit.even) (Self.A.told kit.odd)) (told self.old) }
+        ensures rack_count { (who : Option ℕ) → (counts self.new metaslab).rack who
+            ≡ Self.R.faults kit.rack who }
+        ensures even_count { (counts self.new metaslab).even ≡ Self.A.faults kit.even }
+        ensures odd_count { (counts self.new metaslab).odd ≡ Self.A.faults kit.odd }
+        ensures others { SameOthers metaslab (leaves self.old) (leaves self.new) }
+        ensures counts { SameOthers metaslab (counts self.old) (counts self.new) }
+        ensures uber { uber_size self.new ≡ uber_size self.old }
+        ensures uber_count { uber_count self.new ≡ uber_count self.old }
+        ensures faults { faults self.new ≡ faults self.old };
+
+    /// Gives all that is held a crash.
+    fn crash(&mut self)
+        ensures told { Both CrashedHeld (told self.old) (told self.new) }
+        ensures leaves { (m : ℕ) → leaves self.new m ≡ leaves self.old m }
+        ensures counts { (m : ℕ) → counts self.new m ≡ counts self.old m }
+        ensures uber_count { uber_count self.new ≡ uber_count self.old }
+        ensures faults { faults self.new ≡ faults self.old };
 }

@@ -1,14 +1,39 @@
-use Rattle.draid_rack.proofs.Tells.{failed, landed, shape_same, whole_at}
+use Rattle.std.proofs.Common.{arith}
+use Rattle.draid_rack.proofs.Sound.{long_on, long_same, tick_later, up_to_on, up_to_same}
+use Rattle.draid_rack.proofs.Tells.{lands_by, lands_failed, long_at, shape_same, there_at}
 use Rattle.draid_rack.proofs.memory.MemoryRack.land.Goals as goal
 
+pub invariant_of-self : goal.invariant_of-self
+invariant_of-self c =
+    let was = c.args.self.now.leaves in
+    let mid = c.mark_sector.new.leaves in
+    record {
+      whole = long_same _ mid c.count_fault.new.leaves c.count_fault.ensures.views
+          (long_on _ _ _ was mid (λ x h. record { bytes = h.bytes; kept = h.kept }) c.args.self.now.whole c.mark_sector.ensures);
+      orderly = up_to_same _ _ mid c.count_fault.new.leaves (omega arith) c.count_fault.ensures.views
+          (up_to_on c.args.self.now.clock _ _ _ was mid (tick_later _ _ c.later-self.ensures) (λ x h. omega arith) c.args.self.now.orderly c.mark_sector.ensures);
+    }
+
 pub returns-then-fails-clause-told : goal.returns-then-fails-clause-told
-returns-then-fails-clause-told c = let e = c.fail_sector.ensures in failed _ _ c.args.self.now.clock _ _ c.args.self.now.leaves c.fail_sector.new.leaves e.soft e.harmed e.since c.later-self.ensures _ _ e.reads c.requires.place.there
+returns-then-fails-clause-told c =
+    lands_failed _ _ c.args.self.now.clock _ _ c.args.self.now.leaves c.count_fault.new.leaves c.later-self.ensures _ _ c.mark_sector.new.leaves
+    c.requires.place.there c.mark_sector.ensures c.count_fault.ensures.views
 
 pub land_sector-requires : goal.land_sector-requires
-land_sector-requires c = record { there = whole_at _ c.args.self.now.leaves _ _ _ c.args.self.now.whole c.requires.place.there c.requires.place.whole }
+land_sector-requires c = long_at _ c.args.self.now.leaves _ _ _ c.args.self.now.whole c.requires.place.there c.requires.place.whole
+
+pub invariant_of-self-2 : goal.invariant_of-self-2
+invariant_of-self-2 c =
+    let was = c.args.self.now.leaves in
+    record {
+      whole = long_on _ _ _ was c.land_sector.new.leaves (λ x h. record { bytes = c.requires.place.whole; kept = h.kept }) c.args.self.now.whole c.land_sector.ensures;
+      orderly = up_to_on c.args.self.now.clock _ _ _ was c.land_sector.new.leaves (tick_later _ _ c.later-self.ensures) (λ x h. omega arith) c.args.self.now.orderly c.land_sector.ensures;
+    }
 
 pub returns-clause-told : goal.returns-clause-told
-returns-clause-told c = let e = c.land_sector.ensures in landed _ _ c.args.self.now.clock _ _ c.args.self.now.leaves c.land_sector.new.leaves e.soft e.harmed e.since c.later-self.ensures _ e.reads
+returns-clause-told c =
+    lands_by _ _ c.args.self.now.clock _ _ c.args.self.now.leaves c.land_sector.new.leaves c.later-self.ensures _
+    (there_at c.args.self.now.leaves _ _ c.requires.place.there) c.land_sector.ensures
 
 pub returns-clause-shape : goal.returns-clause-shape
 returns-clause-shape c = shape_same _ c.args.self.now.leaves c.land_sector.new.leaves c.land_sector.ensures.sectors

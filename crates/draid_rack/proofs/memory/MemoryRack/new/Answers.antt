@@ -1,4 +1,4 @@
-use Rattle.draid_rack.proofs.Blanks.{blank_more, blanks_calm, blanks_count, blanks_up_to, blanks_whole, none_more}
+use Rattle.draid_rack.proofs.Sound.{blank_more, blanks_count, blanks_firm, blanks_long, blanks_unharmed, blanks_up_to, none_more}
 use Rattle.draid_rack.proofs.memory.MemoryRack.new.Goals as goal
 
 pub loop-leaf-preserved : goal.loop-leaf-preserved
@@ -9,12 +9,15 @@ loop-leaf-preserved c = record {
 
 pub invariant_of-result : goal.invariant_of-result
 invariant_of-result c = record {
-  whole = blanks_whole c.loop-leaf.rows _ _ _ c.loop-leaf.invariant.there c.loop-leaf.invariant.no_other;
+  whole = blanks_long c.loop-leaf.rows _ _ _ c.loop-leaf.invariant.there c.loop-leaf.invariant.no_other;
   orderly = blanks_up_to c.loop-leaf.rows _ _ _ c.loop-leaf.invariant.there c.loop-leaf.invariant.no_other;
 }
 
 pub returns-clause-counts : goal.returns-clause-counts
 returns-clause-counts c = blanks_count c.loop-leaf.rows _ _ _ c.loop-leaf.invariant.there c.loop-leaf.invariant.no_other
 
-pub returns-clause-calm : goal.returns-clause-calm
-returns-clause-calm c = blanks_calm c.loop-leaf.rows _ _ _ c.loop-leaf.invariant.there c.loop-leaf.invariant.no_other
+pub returns-clause-firm : goal.returns-clause-firm
+returns-clause-firm c = blanks_firm c.loop-leaf.rows _ _ _ c.loop-leaf.invariant.there c.loop-leaf.invariant.no_other
+
+pub returns-clause-unharmed : goal.returns-clause-unharmed
+returns-clause-unharmed c = blanks_unharmed c.loop-leaf.rows _ _ _ c.loop-leaf.invariant.there c.loop-leaf.invariant.no_other

@@ -1,8 +1,30 @@
-use Rattle.draid_rack.proofs.Tells.{damaged, shape_same}
+use Rattle.std.proofs.Common.{arith, ◌∙◌, ◌-◌}
+use Rattle.std.proofs.lemmas.List.{length-map}
+use Rattle.draid_rack.proofs.Sound.{long_on, long_same, tick_later, up_to_on, up_to_same}
+use Rattle.draid_rack.proofs.Tells.{shape_same, there_at, told_damaged}
 use Rattle.draid_rack.proofs.memory.MemoryRackRack.damage.Goals as goal
 
+pub invariant_of-self : goal.invariant_of-self
+invariant_of-self c = record {
+  whole = long_same _ c.args.self.now.leaves c.count_fault.new.leaves c.count_fault.ensures.views c.args.self.now.whole;
+  orderly = up_to_same _ _ c.args.self.now.leaves c.count_fault.new.leaves (omega arith) c.count_fault.ensures.views c.args.self.now.orderly;
+}
+
+pub damage_sector-requires : goal.damage_sector-requires
+damage_sector-requires c = there_at c.args.self.now.leaves _ _ c.requires.place.there
+
+pub invariant_of-self-2 : goal.invariant_of-self-2
+invariant_of-self-2 c = record {
+  whole = long_on _ _ _ c.args.self.now.leaves c.damage_sector.new.leaves
+      (λ x h. record { bytes = length-map x.bytes (λ b. 255 - b) ∙ h.bytes; kept = length-map x.kept (λ b. 255 - b) ∙ h.kept }) c.args.self.now.whole c.damage_sector.ensures;
+  orderly = up_to_on c.args.self.now.clock _ _ _ c.args.self.now.leaves c.damage_sector.new.leaves (tick_later _ _ c.later-self.ensures) (λ x h. omega arith)
+      c.args.self.now.orderly c.damage_sector.ensures;
+}
+
 pub returns-clause-ok : goal.returns-clause-ok
-returns-clause-ok c = let e = c.damage_sector.ensures in damaged _ _ c.args.self.now.clock _ c.args.self.now.leaves c.damage_sector.new.leaves e.reads e.soft e.harmed e.since c.later-self.ensures
+returns-clause-ok c =
+    told_damaged _ _ c.args.self.now.clock _ c.args.self.now.leaves c.damage_sector.new.leaves c.later-self.ensures
+    (there_at c.args.self.now.leaves _ _ c.requires.place.there) c.damage_sector.ensures
 
 pub returns-clause-shape : goal.returns-clause-shape
 returns-clause-shape c = shape_same _ c.args.self.now.leaves c.damage_sector.new.leaves c.damage_sector.ensures.sectors

@@ -1,8 +1,23 @@
-use Rattle.draid_rack.proofs.Tells.{flushed, shape_same}
+use Rattle.std.proofs.Common.{arith}
+use Rattle.draid_rack.proofs.Sound.{long_on, long_same, tick_later, up_to_on, up_to_same}
+use Rattle.draid_rack.proofs.Tells.{shape_same, told_flushed}
 use Rattle.draid_rack.proofs.memory.MemoryRackRack.flush.Goals as goal
 
+pub invariant_of-self : goal.invariant_of-self
+invariant_of-self c = record {
+  whole = long_same _ c.args.self.now.leaves c.count_fault.new.leaves c.count_fault.ensures.views c.args.self.now.whole;
+  orderly = up_to_same _ _ c.args.self.now.leaves c.count_fault.new.leaves (omega arith) c.count_fault.ensures.views c.args.self.now.orderly;
+}
+
+pub invariant_of-self-2 : goal.invariant_of-self-2
+invariant_of-self-2 c = record {
+  whole = long_on _ _ _ c.args.self.now.leaves c.flush_leaf.new.leaves (λ x h. record { bytes = h.bytes; kept = h.bytes }) c.args.self.now.whole c.flush_leaf.ensures;
+  orderly = let later = tick_later _ _ c.later-self.ensures in
+      up_to_on c.args.self.now.clock _ _ _ c.args.self.now.leaves c.flush_leaf.new.leaves later (λ x h. omega (arith, h, later)) c.args.self.now.orderly c.flush_leaf.ensures;
+}
+
 pub returns-clause-ok : goal.returns-clause-ok
-returns-clause-ok c = let e = c.flush_leaf.ensures in flushed _ c.args.self.now.clock _ c.args.self.now.leaves c.flush_leaf.new.leaves e.reads e.soft e.harmed e.since c.later-self.ensures
+returns-clause-ok c = told_flushed _ c.args.self.now.clock _ c.args.self.now.leaves c.flush_leaf.new.leaves c.later-self.ensures c.flush_leaf.ensures
 
 pub returns-clause-shape : goal.returns-clause-shape
 returns-clause-shape c = shape_same _ c.args.self.now.leaves c.flush_leaf.new.leaves c.flush_leaf.ensures.sectors
