@@ -3,7 +3,7 @@ use Rattle.std.specs.Ordering.{nat_cmp}
 use Rattle.std.specs.BTreeMap.{is_at}
 use Rattle.std.specs.Map.{lookup}
 use Rattle.draid_metaslab.specs.Spaces.{is_free}
-use Rattle.draid_shard.proofs.Tables.{allocated, back_again, held_tables, kept_tables, none_at, one_more, sets_entry, space_of}
+use Rattle.draid_shard.proofs.Tables.{allocated, back_again, held_tables, kept_tables, none_at, one_more, room_left, sets_entry, space_of}
 use Rattle.draid_shard.proofs.entry.hold.Goals as goal
 
 pub returns-in-Err-NoRoom-clause-tables : goal.returns-in-Err-NoRoom-clause-tables
@@ -32,7 +32,14 @@ returns-in-Ok-insert-clause-tables c geometry t sized =
     held_tables geometry c.args.space.now c.allocate.new.self c.args.blocks.now c.insert.new.self placed t (allocated geometry c.args.space.now c.args.blocks.now c.in-Ok.first c.args.pointer.stripes c.from.result t c.from.ensures c.requires.some c.in-Ok.ensures.lowest c.in-Ok.ensures.inside)
     (record { some = sized.some; short = sized.short; stripes = sized.stripes })
     (rw c.from.ensures at c.in-Ok.ensures.taken) (sets_entry c.args.blocks.now c.insert.new.self c.in-Ok.first _ e.updates)
-    (space_of geometry c.args.space.now c.allocate.new.self c.args.blocks.now _ t c.in-Ok.ensures.kept (omega (arith, len, count, held)))
+    (space_of geometry c.args.space.now c.allocate.new.self c.args.blocks.now _ t c.in-Ok.ensures.kept (omega (arith, len, count, held))
+    (let there = c.len.ensures.len in let few = room_left c.len.result c.if-len-eq-MOST_ENTRIES.false (omega (arith, there, c.requires.few)) in omega (arith, len, there, few)))
+
+pub returns-in-Ok-insert-clause-len : goal.returns-in-Ok-insert-clause-len
+returns-in-Ok-insert-clause-len c geometry t =
+    let e = c.in-Ok-insert.ensures in
+    let none = none_at geometry c.args.space.now c.args.blocks.now c.in-Ok.first c.args.pointer.stripes t (allocated geometry c.args.space.now c.args.blocks.now c.in-Ok.first c.args.pointer.stripes c.from.result t c.from.ensures c.requires.some c.in-Ok.ensures.lowest c.in-Ok.ensures.inside) in
+    one_more c.in-Ok-insert.field-0 _ _ (e.old ∙ none) e.len
 
 pub returns-in-Err-clause-tables : goal.returns-in-Err-clause-tables
 returns-in-Err-clause-tables c geometry t sized =

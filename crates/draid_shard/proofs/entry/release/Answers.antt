@@ -1,5 +1,5 @@
 use Rattle.std.proofs.Common.{◌∙◌, arith}
-use Rattle.draid_shard.proofs.Tables.{entry_run, one_less, released_tables, sets_entry, space_of}
+use Rattle.draid_shard.proofs.Tables.{entry_run, fewer, one_less, released_tables, sets_entry, space_of}
 use Rattle.draid_shard.proofs.entry.release.Goals as goal
 
 pub release-requires-clause-span : goal.release-requires-clause-span
@@ -21,4 +21,5 @@ returns-clause-tables c geometry t =
     let len = e.len in
     released_tables geometry c.args.space.now c.release.new.self c.args.blocks.now c.remove.new.self c.args.pointer.now t c.requires.is_open
     (rw c.from.ensures at c.release.ensures.freed) (sets_entry c.args.blocks.now c.remove.new.self c.args.pointer.now.first _ e.updates)
-    (space_of geometry c.args.space.now c.release.new.self c.args.blocks.now _ t c.release.ensures.kept (one_less c.remove.result _ _ _ _ _ was len held down))
+    (space_of geometry c.args.space.now c.release.new.self c.args.blocks.now _ t c.release.ensures.kept (one_less c.remove.result _ _ _ _ _ was len held down)
+    (let few = t.few in let one = fewer c.remove.result _ _ _ was len in omega (arith, few, one)))
