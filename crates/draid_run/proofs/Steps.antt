@@ -1,5 +1,6 @@
 -- What the calls of a pool did, in the words of a session.
-use Rattle.std.proofs.Common.{◌≡◌, ℕ, Option, subst}
+use Rattle.std.proofs.Common.{◌≡◌, ℕ, List, Option, subst}
+use Rattle.draid_names.specs.declared.room.Room.{Room}
 use Rattle.draid_rack.specs.Rack.{Shape, Told}
 use Rattle.draid_script.specs.Line.{SumObjects}
 use Rattle.draid_pool.specs.Answers.{SumStops}
@@ -18,10 +19,10 @@ module _ {R : Type 0} (shape : R → Shape) (told : R → Option Told) (faults :
       → ((x y : State) → P said x y → Q x y) → Moves shape told faults (P result) old pool → Moves shape told faults Q old pool
   by_answer P Q old pool result said is f m =
       let n = subst (λ a. Moves shape told faults (P a) old pool) is m in
-      record { writes = n.writes; represents = n.represents; moved = f old _ n.moved }
+      record { changes = n.changes; represents = n.represents; moved = f old _ n.moved }
 
 -- why a sum stopped
-pub stops : (first count o : ℕ) (why : ObjectFault) (old new : State) → SumStops first count (record { object = o; why = why }) old new → Step (SumObjects first count) (sum_refused o why) old new
-stops first count o object.NoObject old new s = record { mid = s.mid; stops = s.stops; cause = s.why; looks = s.looks }
-stops first count o (object.Unreadable absent tried) old new s = record { mid = s.mid; stops = s.stops; cause = s.why; looks = s.looks }
-stops first count o object.NoMemory old new s = looks_on old s.mid new s.stops.looks s.looks
+pub stops : (chosen : List Room → Option ℕ → Type 0) (first count o : ℕ) (why : ObjectFault) (old new : State) → SumStops first count (record { object = o; why = why }) old new → Step chosen (SumObjects first count) (sum_refused o why) old new
+stops chosen first count o object.NoObject old new s = record { mid = s.mid; stops = s.stops; cause = s.why; looks = s.looks }
+stops chosen first count o (object.Unreadable absent tried) old new s = record { mid = s.mid; stops = s.stops; cause = s.why; looks = s.looks }
+stops chosen first count o object.NoMemory old new s = looks_on old s.mid new s.stops.looks s.looks
