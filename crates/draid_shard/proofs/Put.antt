@@ -12,6 +12,7 @@ use Rattle.draid_block.specs.Columns.{Cut, stripes_of}
 use Rattle.draid_block.specs.Blocks.{column_len, cut_of}
 use Rattle.draid_parity.specs.Columns.{column_at}
 use Rattle.draid_shard.specs.declared.entry.Entry.{Entry}
+use Rattle.draid_shard.specs.declared.entry.Stage.TheVariants.{Writing, Live, Freed}
 use Rattle.draid_shard.specs.declared.ticket.Ticket.{Ticket}
 use Rattle.draid_shard.specs.Part.{IsPart, IsRun, Part, place_in}
 use Rattle.draid_shard.specs.Columns.{ColumnsStand, SparesOthers, TellsBoth, WritesRows}
@@ -55,7 +56,7 @@ live_elsewhere blocks own other o l same =
   where
     is_open_of : Option Entry → Bool
     is_open_of None = false
-    is_open_of (Some e) = e.is_open
+    is_open_of (Some e) = elim e.stage as (λ s. Bool) [ Writing ↦ true | Live ↦ false | Freed g ↦ false ]
 
 -- what stood of other blocks stands
 pub told_stand : (part : Part) (first stripes i at rows : ℕ) (columns : List (List ℕ)) (count : ℕ) (column : List ℕ) (r : Result Unit Failed) (o p : Option Told)

@@ -16,7 +16,8 @@ use Rattle.draid_metaslab.specs.Spaces.{IsKept, Stripes, is_free}
 use Rattle.draid_metaslab.specs.Spots.{IsLowest, IsSpot}
 use Rattle.draid_shard.specs.declared.entry.Entry.{Entry}
 use Rattle.draid_shard.specs.Part.{IsRun}
-use Rattle.draid_shard.specs.Entry.{IsSized, IsPlaced, SetsEntry, Tables, entry_at, live, opened}
+use Rattle.draid_shard.specs.declared.entry.Stage.{Stage}
+use Rattle.draid_shard.specs.Entry.{IsSized, IsPlaced, SetsEntry, Tables, entry_at, opened, staged}
 
 -- an entry is the one that was set, or one that was there elsewhere
 pub entry_cases : (old new : BTreeMap ℕ Entry) (at k : ℕ) (entry : Option Entry) (e : Entry) → SetsEntry old new at entry → entry_at new k ≡ Some e
@@ -126,10 +127,12 @@ pub record IsSpaceOf (geometry : Geometry) (space : Stripes) (runs : ℕ) : Type
   pub total : space.total ≡ part_stripes geometry
   pub enabled : space.disabled ≡ false
   pub count : space.held ≡ runs
+  pub few : runs ≤ 4096
 
-pub space_of : (geometry : Geometry) (old new : Stripes) (blocks : BTreeMap ℕ Entry) (runs : ℕ) → Tables geometry old blocks → IsKept old new → new.held ≡ runs → IsSpaceOf geometry new runs
-space_of geometry old new blocks runs t kept count =
-    record { height = kept.height ∙ t.height; total = kept.total ∙ t.total; enabled = kept.disabled ∙ t.enabled; count = count }
+pub space_of : (geometry : Geometry) (old new : Stripes) (blocks : BTreeMap ℕ Entry) (runs : ℕ) → Tables geometry old blocks → IsKept old new → new.held ≡ runs → runs ≤ 4096
+    → IsSpaceOf geometry new runs
+space_of geometry old new blocks runs t kept count few =
+    record { height = kept.height ∙ t.height; total = kept.total ∙ t.total; enabled = kept.disabled ∙ t.enabled; count = count; few = few }
 
 -- no entry changed, and just the same stripes are free
 pub kept_tables : (geometry : Geometry) (old new : Stripes) (blocks new_blocks : BTreeMap ℕ Entry) → Tables geometry old blocks
@@ -140,6 +143,7 @@ kept_tables geometry old new blocks new_blocks t same free is = record {
   total = is.total;
   enabled = is.enabled;
   count = is.count;
+  few = is.few;
   placed = λ k e h. let p = t.placed k e (sym (same k) ∙ h) in moved geometry (is_free old) (is_free new) k e.pointer p (λ x low high. free x ∙ p.held x low high);
   apart = λ j k a b ha hb lt. t.apart j k a b (sym (same j) ∙ ha) (sym (same k) ∙ hb) lt;
 }
@@ -153,6 +157,7 @@ held_tables geometry old new blocks new_blocks pointer t fits sized takes sets i
   total = is.total;
   enabled = is.enabled;
   count = is.count;
+  few = is.few;
   placed = λ k e h. elim (entry_cases blocks new_blocks pointer.first k (Some (opened pointer)) e sets h) [
     | inl own ↦ own_placed k e own.0 own.1
     | inr other ↦ old_placed k e other.1
@@ -218,6 +223,7 @@ released_tables geometry old new blocks new_blocks pointer t own frees sets is =
   total = is.total;
   enabled = is.enabled;
   count = is.count;
+  few = is.few;
   placed = λ k e h. elim (entry_cases blocks new_blocks pointer.first k None e sets h) [
     | inl none ↦ absurd (let n = none.1 in cc)
     | inr other ↦ old_placed k e other.0 other.1
@@ -244,20 +250,21 @@ released_tables geometry old new blocks new_blocks pointer t own frees sets is =
         held x (inl before) f = let was = frees x in grind (arith, nat_tests, was, f)
         held x (inr after) f = let was = frees x in grind (arith, nat_tests, was, f)
 
-pub published_tables : (geometry : Geometry) (space : Stripes) (blocks new_blocks : BTreeMap ℕ Entry) (pointer : Pointer) → Tables geometry space blocks
-    → entry_at blocks pointer.first ≡ Some (opened pointer) → SetsEntry blocks new_blocks pointer.first (Some (live pointer))
+pub turned_tables : (geometry : Geometry) (space : Stripes) (blocks new_blocks : BTreeMap ℕ Entry) (pointer : Pointer) (was now : Stage) → Tables geometry space blocks
+    → entry_at blocks pointer.first ≡ Some (staged was pointer) → SetsEntry blocks new_blocks pointer.first (Some (staged now pointer))
     → btree_map_len new_blocks ≡ btree_map_len blocks → Tables geometry space new_blocks
-published_tables geometry space blocks new_blocks pointer t own sets len = record {
+turned_tables geometry space blocks new_blocks pointer was now t own sets len = record {
   height = t.height;
   total = t.total;
   enabled = t.enabled;
   count = t.count ∙ sym len;
-  placed = λ k e h. let was = before k e h in let P : Pointer → Type 0 = λ p. IsPlaced geometry (is_free space) k p in subst P was.2 (t.placed k was.0 was.1);
+  few = rw len t.few;
+  placed = λ k e h. let b = before k e h in let P : Pointer → Type 0 = λ p. IsPlaced geometry (is_free space) k p in subst P b.2 (t.placed k b.0 b.1);
   apart = λ j k a b ha hb lt. let x = before j a ha in let y = before k b hb in let n = t.apart j k x.0 y.0 x.1 y.1 lt in rw (← x.2) n;
 } where
-  before : (k : ℕ) (e : Entry) → entry_at new_blocks k ≡ Some e → (was : Entry) × (entry_at blocks k ≡ Some was) × (was.pointer ≡ e.pointer)
-  before k e h = elim (entry_cases blocks new_blocks pointer.first k (Some (live pointer)) e sets h) [
-    | inl same ↦ (let eq : pointer ≡ e.pointer = (let s = same.1 in cc) in (opened pointer, (ap (entry_at blocks) same.0 ∙ own), eq))
+  before : (k : ℕ) (e : Entry) → entry_at new_blocks k ≡ Some e → (b : Entry) × (entry_at blocks k ≡ Some b) × (b.pointer ≡ e.pointer)
+  before k e h = elim (entry_cases blocks new_blocks pointer.first k (Some (staged now pointer)) e sets h) [
+    | inl same ↦ (let eq : pointer ≡ e.pointer = (let s = same.1 in cc) in (staged was pointer, (ap (entry_at blocks) same.0 ∙ own), eq))
     | inr other ↦ (e, other.1, refl)
   ]
 

@@ -9,8 +9,10 @@ use Rattle.draid_map.specs.Place.{part_stripes}
 use Rattle.draid_metaslab.specs.Spaces.{Stripes, is_free}
 use Rattle.draid_metaslab.specs.Spots.{IsLargest}
 use Rattle.draid_shard.specs.declared.entry.Entry.{Entry}
+use Rattle.draid_shard.specs.declared.entry.Stage.{Stage}
+use Rattle.draid_shard.specs.declared.entry.Stage.TheVariants as stage
 use Rattle.draid_shard.specs.declared.fault.BeginFault.{BeginFault}
-use Rattle.draid_shard.specs.declared.fault.BeginFault.TheVariants.{NoRoom, NoMemory}
+use Rattle.draid_shard.specs.declared.fault.BeginFault.TheVariants.{NoRoom, Entries, NoMemory}
 
 -- the entry at a stripe, if a block begins there
 abbrev pub entry_at : BTreeMap ℕ Entry → ℕ → Option Entry
@@ -38,21 +40,32 @@ pub record Tables (geometry : Geometry) (space : Stripes) (blocks : BTreeMap ℕ
   pub total : space.total ≡ part_stripes geometry
   pub enabled : space.disabled ≡ false
   pub count : space.held ≡ btree_map_len blocks
+  pub few : btree_map_len blocks ≤ 4096
   pub placed : (k : ℕ) (e : Entry) → entry_at blocks k ≡ Some e → IsPlaced geometry (is_free space) k e.pointer
   pub apart : (j k : ℕ) (a b : Entry) → entry_at blocks j ≡ Some a → entry_at blocks k ≡ Some b → j < k → j + a.pointer.stripes ≤ k
 
+abbrev pub staged : Stage → Pointer → Entry
+staged s p = record { pointer = p; stage = s }
+
 abbrev pub live : Pointer → Entry
-live p = record { pointer = p; is_open = false }
+live p = staged stage.Live p
 
 abbrev pub opened : Pointer → Entry
-opened p = record { pointer = p; is_open = true }
+opened p = staged stage.Writing p
 
 -- The table has this at one stripe, and what it had at the others.
 pub record SetsEntry (old new : BTreeMap ℕ Entry) (at : ℕ) (entry : Option Entry) : Type 0 where
   pub here : entry_at new at ≡ entry
   pub others : (k : ℕ) → (k ≡ at → ⊥) → entry_at new k ≡ entry_at old k
 
--- a refusal for want of room says the greatest length of a free run within one group, which is too short
-abbrev pub IsRefused : (ℕ → Bool) → ℕ → ℕ → BeginFault → Type 0
-IsRefused free height need (NoRoom largest) = IsLargest free height largest × (largest < need)
-IsRefused free height need NoMemory = Unit {0}
+-- A refusal for want of entries comes just where there are as many as there may be, and tells them. One for want of room says the greatest length of a free run
+-- within one group, which is too short.
+abbrev pub IsRefused : ℕ → (ℕ → Bool) → ℕ → ℕ → BeginFault → Type 0
+IsRefused held free height need (NoRoom largest) = (held < 4096) × IsLargest free height largest × (largest < need)
+IsRefused held free height need (Entries count) = (held ≡ 4096) × (count ≡ held)
+IsRefused held free height need NoMemory = Unit {0}
+
+-- the room that so many blocks and tickets leave: the longest free run within one group, none where they are as many as there may be
+pub record IsRoom (held : ℕ) (free : ℕ → Bool) (height run : ℕ) : Type 0 where
+  pub full : held ≡ 4096 → run ≡ 0
+  pub some : held < 4096 → IsLargest free height run

@@ -1,4 +1,5 @@
 use Rattle.std.specs.Prelude.{◌≡◌, ◌<◌, ◌≤◌, ◌+◌, ◌&&◌, ◌⊎◌, not, ℕ, List, Bool, Option, Some}
+use Rattle.std.specs.BTreeMap.{btree_map_len}
 use Rattle.draid_names.specs.Faults.{Rose}
 use Rattle.draid_names.specs.declared.pointer.Pointer.{Pointer}
 use Rattle.draid_rack.specs.Rack.{Shape, Told, HasJust, OnTold}
@@ -22,6 +23,10 @@ pub record Valid {R : Type 0} (shape : R → Shape) (shard : Shard R) : Type 0 w
   pub part : IsPart (part_of shard)
   pub rack : HasJust (shape shard.rack) shard.geometry.spec.children (part_sectors shard.geometry) shard.geometry.props.sector
   pub tables : Tables shard.geometry shard.space shard.blocks
+
+-- how many blocks and tickets there are, freed ones included
+abbrev pub held_of : {R : Type 0} → Shard R → ℕ
+held_of shard = btree_map_len shard.blocks
 
 -- which stripes are free
 abbrev pub free_of : {R : Type 0} → Shard R → ℕ → Bool
@@ -52,6 +57,10 @@ pub record HoldsBlock {R : Type 0} (told : R → Option Told) (shard : Shard R) 
 abbrev pub KeepsBlocks : {R : Type 0} → (R → Option Told) → Shard R → Shard R → Type 0
 KeepsBlocks told old new = (p : Pointer) (w : List ℕ) → HoldsBlock told old p w → HoldsBlock told new p w
 
+-- each block that was held is held, but for that of a pointer
+abbrev pub KeepsOtherBlocks : {R : Type 0} → (R → Option Told) → Pointer → Shard R → Shard R → Type 0
+KeepsOtherBlocks told pointer old new = (p : Pointer) (w : List ℕ) → (p ≡ pointer → ⊥) → HoldsBlock told old p w → HoldsBlock told new p w
+
 -- just the same blocks are live
 pub record SameLive {R : Type 0} (old new : Shard R) : Type 0 where
   pub kept : (p : Pointer) → IsLive old p → IsLive new p
@@ -62,6 +71,13 @@ pub record AddsLive {R : Type 0} (old new : Shard R) (pointer : Pointer) : Type 
   pub added : IsLive new pointer
   pub kept : (p : Pointer) → IsLive old p → IsLive new p
   pub only : (p : Pointer) → IsLive new p → IsLive old p ⊎ (p ≡ pointer)
+
+-- one block isn't live any more
+pub record DropsLive {R : Type 0} (old new : Shard R) (pointer : Pointer) : Type 0 where
+  pub was : IsLive old pointer
+  pub gone : IsLive new pointer → ⊥
+  pub kept : (p : Pointer) → (p ≡ pointer → ⊥) → IsLive old p → IsLive new p
+  pub only : (p : Pointer) → IsLive new p → IsLive old p
 
 -- The open ticket is that of the block. While no column was missed, those put so far stand, but for the sectors that are harmed.
 pub record Carries {R : Type 0} (told : R → Option Told) (shard : Shard R) (ticket : Ticket) (block : BlockValue) : Type 0 where

@@ -10,13 +10,25 @@ use draid_metaslab::{Space, SpaceFault};
 use draid_names::Pointer;
 use std::collections::BTreeMap;
 
-/// A block that has its stripes: live, or still being written.
+/// How far a block is that has its stripes.
+#[derive(Clone, Copy, Debug, PartialEq, Eq)]
+pub(crate) enum Stage {
+    /// A ticket for it is open.
+    Writing,
+    Live,
+    /// Freed in a transaction group that isn't committed yet.
+    Freed { group: u64 },
+}
+
+/// A block that has its stripes.
 #[derive(Clone, Copy, Debug, PartialEq, Eq)]
 pub(crate) struct Entry {
     pub pointer: Pointer,
-    /// Whether a ticket for the block is open.
-    pub is_open: bool,
+    pub stage: Stage,
 }
+
+/// How many blocks and tickets a metaslab may hold.
+pub(crate) const MOST_ENTRIES: usize = 4096;
 
 ghost use Rattle.draid_shard.specs.Entry.{IsRefused, IsSized, SetsEntry, Tables, entry_at, live, opened};
 
@@ -29,6 +41,7 @@ pub(crate) fn hold(
 ) -> Result<Pointer, BeginFault>
     requires enabled { space.old.disabled ≡ false }
     requires some { 0 < pointer.stripes }
+    requires few { btree_map_len blocks.old ≤ 4096 }
     ensures placed { IfOk result (λ placed. placed ≡ record pointer { first = placed.first }) }
     ensures takes { IfOk result (λ placed. TakesLowest space.old.height (is_free space.old) (is_free space.new) placed.first pointer.stripes) }
     ensures entry { IfOk result (λ placed. SetsEntry blocks.old blocks.new placed.first (Some (opened placed))) }
@@ -36,10 +49,16 @@ pub(crate) fn hold(
         → Tables geometry space.new blocks.new }
     ensures was { (geometry : Geometry) → Tables geometry space.old blocks.old
         → IfOk result (λ placed. entry_at blocks.old placed.first ≡ None) }
-    ensures refused { IfErr result (IsRefused (is_free space.old) space.old.height pointer.stripes) }
+    ensures refused { IfErr result (IsRefused (btree_map_len blocks.old) (is_free space.old) space.old.height pointer.stripes) }
     ensures free { OnErr result (Frees space.new (is_free space.old)) }
+    ensures len { btree_map_len blocks.new ≡ btree_map_len blocks.old + (if is_ok result then 1 else 0) }
     ensures same { OnErr result ((k : ℕ) → entry_at blocks.new k ≡ entry_at blocks.old k) }
 {
+    if blocks.len() == MOST_ENTRIES {
+        return Err(BeginFault::Entries {
+            held: blocks.len() as u32,
+        });
+    }
     let first = match space.allocate(u64::from(pointer.stripes)) {
         Ok(first) => first,
         Err(SpaceFault::NoRoom { largest }) => return Err(BeginFault::NoRoom { largest }),
@@ -48,7 +67,7 @@ pub(crate) fn hold(
     let placed = Pointer { first, ..pointer };
     let entry = Entry {
         pointer: placed,
-        is_open: true,
+        stage: Stage::Writing,
     };
     match blocks.insert(first, entry) {
         Ok(_) => Ok(placed),
@@ -66,18 +85,19 @@ pub(crate) fn release(space: &mut Space, blocks: &mut BTreeMap<u64, Entry>, poin
     ensures tables { (geometry : Geometry) → Tables geometry space.old blocks.old → Tables geometry space.new blocks.new }
     ensures frees { Frees space.new (λ x. is_free space.old x || is_between pointer.now.first (pointer.now.first + pointer.now.stripes) x) }
     ensures entry { SetsEntry blocks.old blocks.new pointer.now.first None }
+    ensures len { btree_map_len blocks.new + 1 ≡ btree_map_len blocks.old }
 {
     space.release(pointer.first, u64::from(pointer.stripes));
     blocks.remove(&pointer.first);
 }
 
-/// Ends an open write with a live block.
-pub(crate) fn publish(blocks: &mut BTreeMap<u64, Entry>, pointer: &Pointer)
-    requires is_open { entry_at blocks.old pointer.now.first ≡ Some (opened pointer.now) }
-    ensures entry { SetsEntry blocks.old blocks.new pointer.now.first (Some (live pointer.now)) }
+/// Takes the block of a pointer to another stage.
+pub(crate) fn turn(blocks: &mut BTreeMap<u64, Entry>, pointer: &Pointer, stage: Stage)
+    requires there { (was : Stage) × (entry_at blocks.old pointer.now.first ≡ Some (staged was pointer.now)) }
+    ensures entry { SetsEntry blocks.old blocks.new pointer.now.first (Some (staged stage pointer.now)) }
     ensures len { btree_map_len blocks.new ≡ btree_map_len blocks.old }
 {
     if let Some(entry) = blocks.get_mut(&pointer.first) {
-        entry.is_open = false;
+        entry.stage = stage;
     }
 }

@@ -8,6 +8,8 @@ use draid_names::NoMemory;
 pub enum BeginFault {
     /// No free run of stripes fits the block; `largest` is the length of the longest free run.
     NoRoom { largest: u64 },
+    /// The metaslab holds all the blocks and tickets that it may.
+    Entries { held: u32 },
     NoMemory,
 }
 
@@ -26,6 +28,10 @@ impl From<NoMemory> for BeginFault {
 pub struct Missed {
     pub columns: u32,
 }
+
+/// The pointer isn't that of a live block here.
+#[derive(Clone, Copy, Debug, PartialEq, Eq)]
+pub struct NotLive;
 
 /// Why nothing was fetched.
 #[derive(Clone, Copy, Debug, PartialEq, Eq)]

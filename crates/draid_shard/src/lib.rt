@@ -12,6 +12,6 @@ mod shard;
 mod tests;
 mod ticket;
 
-pub use fault::{BeginFault, FetchFault, Missed};
+pub use fault::{BeginFault, FetchFault, Missed, NotLive};
 pub use shard::{Shard, ShardRefused};
 pub use ticket::Ticket;

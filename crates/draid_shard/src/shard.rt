@@ -12,14 +12,14 @@ ghost use Rattle.draid_shard.specs.Entry.{IsRefused};
 ghost use Rattle.draid_shard.specs.Part.{IsPart, Part, leaf_of};
 
 use crate::column::write_column;
-use crate::entry::{Entry, hold, publish, release};
-use crate::fault::{BeginFault, FetchFault, Missed};
+use crate::entry::{Entry, MOST_ENTRIES, Stage, hold, release, turn};
+use crate::fault::{BeginFault, FetchFault, Missed, NotLive};
 use crate::fetch::read_columns;
 use crate::layout::place_within;
 use crate::ticket::Ticket;
 use draid_block::{Encoded, Fetched};
 use draid_metaslab::Space;
-use draid_names::{Failed, Pointer};
+use draid_names::{Failed, Pointer, Room};
 use draid_perm::Perms;
 use draid_rack::Rack;
 use draid_spec::Geometry;
@@ -68,6 +68,7 @@ impl<R: Rack> Shard<R> {
         ensures rack { IfOk result (λ shard. shard.rack ≡ rack) }
         ensures free { IfOk result (λ shard. (x : ℕ) → free_of shard x ≡ nat_lt x (part_stripes geometry)) }
         ensures empty { IfOk result (λ shard. (p : Pointer) → IsLive shard p → ⊥) }
+        ensures held { IfOk result (λ shard. held_of shard ≡ 0) }
         ensures refused { IfErr result (λ refused. refused.rack ≡ rack) }
     {
         let Ok(space) = Space::new(alloc, &geometry, &[]) else {
@@ -82,6 +83,25 @@ impl<R: Rack> Shard<R> {
             blocks: BTreeMap::new(alloc),
             alloc,
         })
+    }
+
+    /// The room for a block of `need` stripes: the longest run of free stripes within one group, none where the
+    /// metaslab holds all the blocks and tickets that it may.
+    pub fn room(&self, need: u64) -> Room
+        requires valid { Valid R.shape self.now }
+        ensures named { (result.metaslab ≡ self.now.number) × (result.need ≡ need) }
+        ensures run { IsRoom (held_of self.now) (free_of self.now) self.now.geometry.props.height result.run }
+    {
+        let run = if self.blocks.len() == MOST_ENTRIES {
+            0
+        } else {
+            self.space.largest()
+        };
+        Room {
+            metaslab: self.number,
+            run,
+            need,
+        }
     }
 
     /// Takes the lowest free run of stripes that the block fits, for a write of `seq` to `object`.
@@ -100,9 +120,10 @@ impl<R: Rack> Shard<R> {
         ensures fresh { IfOk result (λ ticket. (ticket.next ≡ 0) × (ticket.missed ≡ 0)) }
         ensures named { IfOk result (λ ticket. (ticket.pointer.object ≡ object) × (ticket.pointer.seq ≡ seq)
             × (ticket.pointer.metaslab ≡ self.old.number) × (ticket.pointer.birth ≡ 2)) }
-        ensures refused { IfErr result (IsRefused (free_of self.old) self.old.geometry.props.height
+        ensures refused { IfErr result (IsRefused (held_of self.old) (free_of self.old) self.old.geometry.props.height
             (stripes_of (cut_of self.old.geometry) (length block.now.bytes))) }
         ensures free { OnErr result ((x : ℕ) → free_of self.new x ≡ free_of self.old x) }
+        ensures held { held_of self.new ≡ held_of self.old + (if is_ok result then 1 else 0) }
         ensures same { SameLive self.old self.new }
         ensures kept { KeepsBlocks R.told self.old self.new }
         ensures tickets { KeepsTickets R.told self.old self.new }
@@ -145,6 +166,7 @@ impl<R: Rack> Shard<R> {
             (ticket.new.missed ≡ ticket.old.missed) x.harmed y.harmed) }
         ensures later { NoneFalls (R.faults self.old.rack) (R.faults self.new.rack) }
         ensures free { free_of self.new ≡ free_of self.old }
+        ensures held { held_of self.new ≡ held_of self.old }
         ensures shape { R.shape self.new.rack ≡ R.shape self.old.rack }
         ensures same { SameLive self.old self.new }
         ensures kept { KeepsBlocks R.told self.old self.new }
@@ -186,6 +208,7 @@ impl<R: Rack> Shard<R> {
         ensures holds { IfOk result (λ pointer. (b : BlockValue) → Carries R.told self.old ticket b → HoldsBlock R.told self.new pointer b.bytes) }
         ensures added { IfOk result (AddsLive self.old self.new) }
         ensures taken { OnOk result (free_of self.new ≡ free_of self.old) }
+        ensures held { held_of self.new + (if is_ok result then 0 else 1) ≡ held_of self.old }
         ensures missed { IfErr result (λ e. (0 < ticket.missed) × (e.columns ≡ ticket.missed)) }
         ensures freed { OnErr result ((x : ℕ) → free_of self.new x ≡ (free_of self.old x
             || is_between ticket.pointer.first (ticket.pointer.first + ticket.pointer.stripes) x)) }
@@ -202,8 +225,51 @@ impl<R: Rack> Shard<R> {
                 columns: ticket.missed,
             });
         }
-        publish(&mut self.blocks, &pointer);
+        turn(&mut self.blocks, &pointer, Stage::Live);
         Ok(pointer)
+    }
+
+    /// Gives a write up: its stripes are free again.
+    pub fn abort(&mut self, ticket: Ticket)
+        requires valid { Valid R.shape self.old }
+        requires is_open { IsOpen self.old ticket }
+        ensures valid { Valid R.shape self.new }
+        ensures part { part_of self.new ≡ part_of self.old }
+        ensures rack { self.new.rack ≡ self.old.rack }
+        ensures freed { (x : ℕ) → free_of self.new x ≡ (free_of self.old x
+            || is_between ticket.pointer.first (ticket.pointer.first + ticket.pointer.stripes) x) }
+        ensures held { held_of self.new + 1 ≡ held_of self.old }
+        ensures same { SameLive self.old self.new }
+        ensures kept { KeepsBlocks R.told self.old self.new }
+        ensures others { KeepsOtherTickets R.told ticket.pointer.first self.old self.new }
+    {
+        release(&mut self.space, &mut self.blocks, &ticket.pointer);
+    }
+
+    /// Frees a live block, in the open transaction group, which is the answer. Its stripes stay taken.
+    pub fn free(&mut self, pointer: &Pointer) -> Result<u64, NotLive>
+        requires valid { Valid R.shape self.old }
+        ensures valid { Valid R.shape self.new }
+        ensures part { part_of self.new ≡ part_of self.old }
+        ensures rack { self.new.rack ≡ self.old.rack }
+        ensures not_live { IsTrue (is_err result) ↔ (IsLive self.old pointer.now → ⊥) }
+        ensures group { IfOk result (λ group. group ≡ 2) }
+        ensures gone { OnOk result (DropsLive self.old self.new pointer.now) }
+        ensures same { OnErr result (self.new ≡ self.old) }
+        ensures taken { free_of self.new ≡ free_of self.old }
+        ensures held { held_of self.new ≡ held_of self.old }
+        ensures kept { KeepsOtherBlocks R.told pointer.now self.old self.new }
+        ensures tickets { KeepsTickets R.told self.old self.new }
+    {
+        if !self.is_live(pointer) {
+            return Err(NotLive);
+        }
+        turn(
+            &mut self.blocks,
+            pointer,
+            Stage::Freed { group: OPEN_GROUP },
+        );
+        Ok(OPEN_GROUP)
     }
 
     /// Whether the pointer is that of a live block here.
@@ -212,7 +278,7 @@ impl<R: Rack> Shard<R> {
     {
         let live = Entry {
             pointer: *pointer,
-            is_open: false,
+            stage: Stage::Live,
         };
         self.blocks.get(&pointer.first) == Some(&live)
     }
@@ -237,6 +303,7 @@ impl<R: Rack> Shard<R> {
         ensures told { R.told self.new.rack ≡ R.told self.old.rack }
         ensures shape { R.shape self.new.rack ≡ R.shape self.old.rack }
         ensures free { free_of self.new ≡ free_of self.old }
+        ensures held { held_of self.new ≡ held_of self.old }
         ensures same { SameLive self.old self.new }
         ensures kept { KeepsBlocks R.told self.old self.new }
         ensures tickets { KeepsTickets R.told self.old self.new }
@@ -270,6 +337,7 @@ impl<R: Rack> Shard<R> {
         ensures err { OnErr result (R.told self.new.rack ≡ R.told self.old.rack) }
         ensures cause { Counts (Some leaf) result (R.faults self.old.rack) (R.faults self.new.rack) }
         ensures free { free_of self.new ≡ free_of self.old }
+        ensures held { held_of self.new ≡ held_of self.old }
         ensures shape { R.shape self.new.rack ≡ R.shape self.old.rack }
         ensures same { SameLive self.old self.new }
         ensures kept { KeepsBlocks R.told self.old self.new }

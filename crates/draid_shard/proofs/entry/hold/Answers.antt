@@ -10,13 +10,13 @@ pub returns-in-Err-NoRoom-clause-tables : goal.returns-in-Err-NoRoom-clause-tabl
 returns-in-Err-NoRoom-clause-tables c geometry t sized =
     let e = c.in-Err-NoRoom.ensures in
     kept_tables geometry c.args.space.now c.allocate.new.self c.args.blocks.now c.args.blocks.now t (λ k. refl) e.same.0
-    (space_of geometry c.args.space.now c.allocate.new.self c.args.blocks.now _ t e.kept (e.same.1 ∙ t.count))
+    (space_of geometry c.args.space.now c.allocate.new.self c.args.blocks.now _ t e.kept (e.same.1 ∙ t.count) t.few)
 
 pub returns-in-Err-NoMemory-clause-tables : goal.returns-in-Err-NoMemory-clause-tables
 returns-in-Err-NoMemory-clause-tables c geometry t sized =
     let e = c.in-Err-NoMemory.ensures in
     kept_tables geometry c.args.space.now c.allocate.new.self c.args.blocks.now c.args.blocks.now t (λ k. refl) e.same.0
-    (space_of geometry c.args.space.now c.allocate.new.self c.args.blocks.now _ t e.kept (e.same.1 ∙ t.count))
+    (space_of geometry c.args.space.now c.allocate.new.self c.args.blocks.now _ t e.kept (e.same.1 ∙ t.count) t.few)
 
 pub returns-in-Ok-insert-clause-was : goal.returns-in-Ok-insert-clause-was
 returns-in-Ok-insert-clause-was c geometry t = none_at geometry c.args.space.now c.args.blocks.now c.in-Ok.first c.args.pointer.stripes t (allocated geometry c.args.space.now c.args.blocks.now c.in-Ok.first c.args.pointer.stripes c.from.result t c.from.ensures c.requires.some c.in-Ok.ensures.lowest c.in-Ok.ensures.inside)
@@ -50,4 +50,5 @@ returns-in-Err-clause-tables c geometry t sized =
       total = c.release.ensures.kept.total ∙ c.in-Ok.ensures.kept.total ∙ t.total;
       enabled = c.release.ensures.kept.disabled ∙ c.in-Ok.ensures.kept.disabled ∙ t.enabled;
       count = omega (arith, up, down, held, len);
+      few = (let f = t.few in omega (arith, f, len));
     })
