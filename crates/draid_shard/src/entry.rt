@@ -1,4 +1,4 @@
-ghost use Rattle.std.specs.Prelude.{◌≡◌, ◌<◌, ◌≤◌, ◌+◌, ◌||◌, ℕ, Some, None, IfOk, IfErr, OnErr, false};
+ghost use Rattle.std.specs.Prelude.{◌≡◌, ◌<◌, ◌≤◌, ◌+◌, ◌||◌, ℕ, Some, None, IfOk, IfErr, OnErr, false, is_ok, if◌then◌else◌};
 ghost use Rattle.std.specs.BTreeMap.{btree_map_len};
 ghost use Rattle.draid_spec.specs.declared.layout.Geometry.{Geometry};
 ghost use Rattle.draid_metaslab.specs.Spaces.{Frees, is_free};
@@ -30,7 +30,7 @@ pub(crate) struct Entry {
 /// How many blocks and tickets a metaslab may hold.
 pub(crate) const MOST_ENTRIES: usize = 4096;
 
-ghost use Rattle.draid_shard.specs.Entry.{IsRefused, IsSized, SetsEntry, Tables, entry_at, live, opened};
+ghost use Rattle.draid_shard.specs.Entry.{IsRefused, IsSized, SetsEntry, Tables, entry_at, opened, staged};
 
 /// Gives the lowest run of free stripes that fits to the pointer's block, whose write is then open. The answer
 /// is the pointer with its first stripe.
@@ -51,7 +51,8 @@ pub(crate) fn hold(
         → IfOk result (λ placed. entry_at blocks.old placed.first ≡ None) }
     ensures refused { IfErr result (IsRefused (btree_map_len blocks.old) (is_free space.old) space.old.height pointer.stripes) }
     ensures free { OnErr result (Frees space.new (is_free space.old)) }
-    ensures len { btree_map_len blocks.new ≡ btree_map_len blocks.old + (if is_ok result then 1 else 0) }
+    ensures len { (geometry : Geometry) → Tables geometry space.old blocks.old
+        → btree_map_len blocks.new ≡ btree_map_len blocks.old + (if is_ok result then 1 else 0) }
     ensures same { OnErr result ((k : ℕ) → entry_at blocks.new k ≡ entry_at blocks.old k) }
 {
     if blocks.len() == MOST_ENTRIES {

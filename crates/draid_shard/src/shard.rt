@@ -1,4 +1,4 @@
-ghost use Rattle.std.specs.Prelude.{◌≡◌, ◌<◌, ◌≤◌, ◌+◌, ◌^◌, ◌||◌, ◌&&◌, ◌⊎◌, ℕ, List, Bool, true, Option, Some, None, All, IfOk, OnOk, OnErr, IfErr, IsTrue, ◌↔◌, length, nat_lt};
+ghost use Rattle.std.specs.Prelude.{◌≡◌, ◌<◌, ◌≤◌, ◌+◌, ◌^◌, ◌||◌, ◌&&◌, ◌⊎◌, ℕ, List, Bool, true, Option, Some, None, All, IfOk, OnOk, OnErr, IfErr, IsTrue, ◌↔◌, length, nat_lt, is_ok, is_err, if◌then◌else◌};
 ghost use Rattle.draid_names.specs.declared.pointer.Pointer.{Pointer};
 ghost use Rattle.draid_spec.specs.declared.layout.Geometry.{Geometry};
 ghost use Rattle.draid_map.specs.Place.{part_sectors, part_stripes};
@@ -8,7 +8,7 @@ ghost use Rattle.draid_block.specs.Solving.{IsFetched, IsReadable, absent_column
 ghost use Rattle.draid_rack.specs.Rack.{Counts, HasJust, OnTold, put};
 ghost use Rattle.draid_ranges.specs.Runs.{is_between};
 ghost use Rattle.draid_shard.specs.Columns.{AreRead, EndsHarm, LeafRose, MoreBad, TellsBoth};
-ghost use Rattle.draid_shard.specs.Entry.{IsRefused};
+ghost use Rattle.draid_shard.specs.Entry.{IsRefused, IsRoom};
 ghost use Rattle.draid_shard.specs.Part.{IsPart, Part, leaf_of};
 
 use crate::column::write_column;
@@ -51,7 +51,7 @@ pub struct ShardRefused<R: Rack> {
 }
 
 impl<R: Rack> Shard<R> {
-    ghost use Rattle.draid_shard.specs.Shard.{AddsLive, Carries, CountsMiss, HoldsBlock, IsLive, IsOpen, KeepsBlocks, KeepsOtherTickets, KeepsTickets, NoneFalls, SameLive, TakesLowest, Valid, free_of, part_of};
+    ghost use Rattle.draid_shard.specs.Shard.{AddsLive, Carries, CountsMiss, DropsLive, HoldsBlock, IsLive, IsOpen, KeepsBlocks, KeepsOtherBlocks, KeepsOtherTickets, KeepsTickets, NoneFalls, SameLive, TakesLowest, Valid, free_of, held_of, part_of};
 
     /// An empty metaslab over a rack that has the layout's leaves, each with the metaslab's sectors.
     pub fn create(
@@ -102,6 +102,13 @@ impl<R: Rack> Shard<R> {
             run,
             need,
         }
+    }
+
+    /// Whether the metaslab holds all the blocks and tickets that it may.
+    pub fn is_full(&self) -> bool
+        ensures { IsTrue result ↔ (held_of self.now ≡ 4096) }
+    {
+        self.blocks.len() == MOST_ENTRIES
     }
 
     /// Takes the lowest free run of stripes that the block fits, for a write of `seq` to `object`.

@@ -21,4 +21,5 @@ returns-clause-tables c geometry t =
     let len = e.len in
     released_tables geometry c.args.space.now c.release.new.self c.args.blocks.now c.remove.new.self c.args.pointer.now t c.requires.is_open
     (rw c.from.ensures at c.release.ensures.freed) (sets_entry c.args.blocks.now c.remove.new.self c.args.pointer.now.first _ e.updates)
-    (space_of geometry c.args.space.now c.release.new.self c.args.blocks.now _ t c.release.ensures.kept (one_less c.remove.result _ _ _ _ _ was len held down))
+    (space_of geometry c.args.space.now c.release.new.self c.args.blocks.now _ t c.release.ensures.kept (one_less c.remove.result _ _ _ _ _ was len held down)
+    (let f = t.few in omega (arith, f, len)))
