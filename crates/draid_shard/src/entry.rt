@@ -51,7 +51,8 @@ pub(crate) fn hold(
         → IfOk result (λ placed. entry_at blocks.old placed.first ≡ None) }
     ensures refused { IfErr result (IsRefused (btree_map_len blocks.old) (is_free space.old) space.old.height pointer.stripes) }
     ensures free { OnErr result (Frees space.new (is_free space.old)) }
-    ensures len { (geometry : Geometry) → Tables geometry space.old blocks.old → btree_map_len blocks.new ≡ btree_map_len blocks.old + (if is_ok result then 1 else 0) }
+    ensures len { (geometry : Geometry) → Tables geometry space.old blocks.old
+        → btree_map_len blocks.new ≡ btree_map_len blocks.old + (if is_ok result then 1 else 0) }
     ensures same { OnErr result ((k : ℕ) → entry_at blocks.new k ≡ entry_at blocks.old k) }
 {
     if blocks.len() == MOST_ENTRIES {

@@ -104,6 +104,13 @@ impl<R: Rack> Shard<R> {
         }
     }
 
+    /// Whether the metaslab holds all the blocks and tickets that it may.
+    pub fn is_full(&self) -> bool
+        ensures { IsTrue result ↔ (held_of self.now ≡ 4096) }
+    {
+        self.blocks.len() == MOST_ENTRIES
+    }
+
     /// Takes the lowest free run of stripes that the block fits, for a write of `seq` to `object`.
     pub fn begin(&mut self, object: u64, seq: u64, block: &Encoded) -> Result<Ticket, BeginFault>
         requires valid { Valid R.shape self.old }

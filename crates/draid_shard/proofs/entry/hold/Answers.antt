@@ -33,13 +33,7 @@ returns-in-Ok-insert-clause-tables c geometry t sized =
     (record { some = sized.some; short = sized.short; stripes = sized.stripes })
     (rw c.from.ensures at c.in-Ok.ensures.taken) (sets_entry c.args.blocks.now c.insert.new.self c.in-Ok.first _ e.updates)
     (space_of geometry c.args.space.now c.allocate.new.self c.args.blocks.now _ t c.in-Ok.ensures.kept (omega (arith, len, count, held))
-    (let there = c.len.ensures.len in let few = room_left c.len.result c.if-len-eq-MOST_ENTRIES.false (omega (arith, there, c.requires.few)) in omega (arith, len, there, few)))
-
-pub returns-in-Ok-insert-clause-len : goal.returns-in-Ok-insert-clause-len
-returns-in-Ok-insert-clause-len c geometry t =
-    let e = c.in-Ok-insert.ensures in
-    let none = none_at geometry c.args.space.now c.args.blocks.now c.in-Ok.first c.args.pointer.stripes t (allocated geometry c.args.space.now c.args.blocks.now c.in-Ok.first c.args.pointer.stripes c.from.result t c.from.ensures c.requires.some c.in-Ok.ensures.lowest c.in-Ok.ensures.inside) in
-    one_more c.in-Ok-insert.field-0 _ _ (e.old ∙ none) e.len
+    (let f = c.requires.few in let below = c.if-len-eq-MOST_ENTRIES.false in omega (arith, len, f, below)))
 
 pub returns-in-Err-clause-tables : goal.returns-in-Err-clause-tables
 returns-in-Err-clause-tables c geometry t sized =
@@ -59,3 +53,8 @@ returns-in-Err-clause-tables c geometry t sized =
       count = omega (arith, up, down, held, len);
       few = (let f = t.few in omega (arith, f, len));
     })
+
+pub returns-in-Ok-insert-clause-len : goal.returns-in-Ok-insert-clause-len
+returns-in-Ok-insert-clause-len c geometry t =
+    let none = none_at geometry c.args.space.now c.args.blocks.now c.in-Ok.first c.args.pointer.stripes t (allocated geometry c.args.space.now c.args.blocks.now c.in-Ok.first c.args.pointer.stripes c.from.result t c.from.ensures c.requires.some c.in-Ok.ensures.lowest c.in-Ok.ensures.inside) in
+    one_more c.in-Ok-insert.field-0 _ _ (c.in-Ok-insert.ensures.old ∙ none) c.in-Ok-insert.ensures.len

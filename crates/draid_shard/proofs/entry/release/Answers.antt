@@ -22,4 +22,4 @@ returns-clause-tables c geometry t =
     released_tables geometry c.args.space.now c.release.new.self c.args.blocks.now c.remove.new.self c.args.pointer.now t c.requires.is_open
     (rw c.from.ensures at c.release.ensures.freed) (sets_entry c.args.blocks.now c.remove.new.self c.args.pointer.now.first _ e.updates)
     (space_of geometry c.args.space.now c.release.new.self c.args.blocks.now _ t c.release.ensures.kept (one_less c.remove.result _ _ _ _ _ was len held down)
-    (let few = t.few in let one = fewer c.remove.result _ _ _ was len in omega (arith, few, one)))
+    (let f = t.few in omega (arith, f, len)))
