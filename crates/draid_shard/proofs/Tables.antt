@@ -291,13 +291,6 @@ pub allocated : (geometry : Geometry) (space : Stripes) (blocks : BTreeMap ℕ E
 allocated geometry space blocks first need asked t same more lowest inside =
     subst (λ n. IsTaken geometry (is_free space) first n) same (spot_taken geometry space blocks first asked t (omega arith) lowest.spot inside)
 
--- not as many as there may be, and so fewer
-pub room_left : (len : ℕ) → (len ≡ 4096 → ⊥) → len ≤ 4096 → len + 1 ≤ 4096
-room_left len differs few = elim (cases_eq len 4096) [ inl same ↦ absurd (differs same) | inr other ↦ omega (arith, few, other) ]
-
-pub fewer : (was : Option Entry) (e : Entry) (now before : ℕ) → was ≡ Some e → now + (if is_some was then 1 else 0) ≡ before → now + 1 ≡ before
-fewer was e now before some len = ap (λ (o : Option Entry). now + (if is_some o then 1 else 0)) (sym some) ∙ len
-
 -- an entry that goes is one less
 pub one_less : (was : Option Entry) (e : Entry) (now before runs held : ℕ) → was ≡ Some e → now + (if is_some was then 1 else 0) ≡ before → held ≡ before → runs + 1 ≡ held → runs ≡ now
 one_less was e now before runs held some len count down =

@@ -3,7 +3,7 @@ use Rattle.std.specs.Ordering.{nat_cmp}
 use Rattle.std.specs.BTreeMap.{is_at}
 use Rattle.std.specs.Map.{lookup}
 use Rattle.draid_metaslab.specs.Spaces.{is_free}
-use Rattle.draid_shard.proofs.Tables.{allocated, back_again, held_tables, kept_tables, none_at, one_more, room_left, sets_entry, space_of}
+use Rattle.draid_shard.proofs.Tables.{allocated, back_again, held_tables, kept_tables, none_at, one_more, sets_entry, space_of}
 use Rattle.draid_shard.proofs.entry.hold.Goals as goal
 
 pub returns-in-Err-NoRoom-clause-tables : goal.returns-in-Err-NoRoom-clause-tables

@@ -1,5 +1,5 @@
 use Rattle.std.proofs.Common.{◌∙◌, arith}
-use Rattle.draid_shard.proofs.Tables.{entry_run, fewer, one_less, released_tables, sets_entry, space_of}
+use Rattle.draid_shard.proofs.Tables.{entry_run, one_less, released_tables, sets_entry, space_of}
 use Rattle.draid_shard.proofs.entry.release.Goals as goal
 
 pub release-requires-clause-span : goal.release-requires-clause-span
