@@ -1,6 +1,7 @@
 -- A pool was opened, or not, in the words of a session.
-use Rattle.std.proofs.Common.{◌≡◌, ◌∙◌, ◌++◌, ℕ, List, [], Option, Some, None, Result, Ok, Err, false, refl, sym, ap, subst}
+use Rattle.std.proofs.Common.{◌≡◌, ◌∙◌, ◌++◌, ℕ, List, [], Bool, true, Option, Some, None, Result, Ok, Err, false, if◌then◌else◌, refl, sym, ap, subst}
 use Rattle.std.specs.Prelude.{codes, is_some, nat_lt}
+use Rattle.std.specs.Result.{result_and}
 use Rattle.draid_spec.specs.declared.layout.Geometry.{Geometry}
 use Rattle.draid_spec.specs.declared.layout.Props.{Props}
 use Rattle.draid_spec.specs.declared.spec.Spec.{Spec}
@@ -22,11 +23,17 @@ use Rattle.draid_pool.specs.State.{Change}
 use Rattle.draid_pool.specs.declared.fault.PoolFault.{PoolFault}
 use Rattle.draid_pool.specs.declared.fault.PoolFault.TheVariants as fault
 use Rattle.draid_pool.specs.declared.pool.Pool.{Pool}
-use Rattle.draid_pool.proofs.Opened.{by_checks}
 use Rattle.draid_run.specs.Serve.{Turned}
 use Rattle.draid_run.specs.Session.{OpensBy, state_in}
 use Rattle.draid_run.specs.State.{layout_from, props_of, refusal_of}
 use Rattle.draid_run.specs.declared.answer.Made.{Made}
+
+-- what stands behind all checks is what passed them
+by_checks : (a b : Result Unit SpecFault) (big : Bool) (f : SpecFault) (l layout : Geometry) → result_and a (result_and b (if big then Err f else Ok l)) ≡ Ok layout → l ≡ layout
+by_checks (Ok u) (Ok v) false f l layout is = cc
+by_checks (Ok u) (Ok v) true f l layout is = absurd (cc)
+by_checks (Ok u) (Err e) big f l layout is = absurd (cc)
+by_checks (Err e) b big f l layout is = absurd (cc)
 
 same_spec : (spec : Spec) (props : Props) (layout : Geometry) → geometry_of spec props ≡ Ok layout → layout.spec ≡ spec
 same_spec spec props layout is =

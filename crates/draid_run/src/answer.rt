@@ -137,7 +137,7 @@ fn open_pool<H: RackShelf>(
             Ok(Made { name, stripes })
         }
         Err(NoMemory) => {
-            close(shelf, new);
+            close(new, shelf);
             Err(PoolFault::NoMemory)
         }
     }

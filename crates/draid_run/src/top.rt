@@ -61,10 +61,11 @@ fn is_session(words: &[String]) -> bool
 
 /// Gives the racks of an open pool back to the shelf.
 fn give_back<H: RackShelf>(shelf: &mut H, pool: Option<Pool<H::R>>)
+    requires desk { (changes : List Change) × IsDesk H.R.shape H.R.told pool changes }
     ensures { (changes : List Change) → IsDesk H.R.shape H.R.told pool changes → MatchOption (state_in H.R.told H.R.faults pool changes) ⊤ (HoldsPool (H.holds shelf.new) (H.counts shelf.new)) }
 {
     if let Some(pool) = pool {
-        close(shelf, pool);
+        close(pool, shelf);
     }
 }
 

@@ -161,7 +161,7 @@ fn logged(
     slots.set_log(leaf, Log::upto(alloc, 2)?);
     let set = slots.log(leaf).count();
     slots.set_fresh(leaf, true);
-    Ok(Some(([clean, filled, excised, set], slots.arms(1)[0].fresh)))
+    Ok(Some(([clean, filled, excised, set], slots.arms(1).iter().any(|arm| arm.fresh))))
 }
 
 /// Where sector 3 of slot 1 lies on its leaf.
