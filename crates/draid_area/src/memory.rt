@@ -1,8 +1,8 @@
 ghost use Rattle.std.specs.Prelude.{◌≡◌, ◌+◌, ◌≤◌, max, ℕ, Some, false, IfOk, IsErr, IsErrOf, OnOk, OnErr, length, option_map, refl};
-ghost use Rattle.draid_faults.specs.Calls.{CountsCall, failing_calls, is_fused, next_call};
+ghost use Rattle.draid_faults.specs.Calls.{CountsCall, CountsJust, failing_calls, is_fused, next_call};
 ghost use Rattle.draid_area.specs.Area.{Reads, Writes, Counts, begins, flushes};
 ghost use Rattle.draid_area.specs.Cells.{AreUpTo, IsSound};
-ghost use Rattle.draid_area.specs.Moments.{CrashesTold};
+ghost use Rattle.draid_area.specs.Moments.{CrashesTold, PassesTold};
 
 use crate::area::{Area, AreaFault};
 use crate::cells::{
@@ -109,8 +109,11 @@ impl Area for MemoryArea {
         ensures whole { length into.new ≡ length into.old }
         ensures read { OnOk result (Reads (told_by_memory self.old) at into.new) }
         ensures told { told_by_memory self.new ≡ told_by_memory self.old }
+        ensures moments { PassesTold (told_by_memory self.old) (told_by_memory self.new) }
         ensures size { size_of_memory self.new ≡ size_of_memory self.old }
         ensures cause { Counts result (faults_of_memory self.old) (faults_of_memory self.new) }
+        ensures exact { CountsJust (IsErrOf result AreaFault.Failed) (faults_of_memory self.old)
+            (faults_of_memory self.new) }
         ensures calls { CountsCall (IsErr result) (calls_of self.old) (calls_of self.new) }
         ensures device { IsErr result → IsErrOf result AreaFault.Failed }
     {
@@ -126,11 +129,14 @@ impl Area for MemoryArea {
     fn write(&mut self, at: u64, bytes: &[u8]) -> Result<(), AreaFault>
         requires place { at ≤ size_of_memory self.old }
         ensures told { Writes at bytes.now result (told_by_memory self.old) (told_by_memory self.new) }
+        ensures moments { PassesTold (told_by_memory self.old) (told_by_memory self.new) }
         ensures size { OnOk result (size_of_memory self.new
             ≡ max (size_of_memory self.old) (at + length bytes.now)) }
         ensures grown { size_of_memory self.old ≤ size_of_memory self.new }
         ensures bounded { size_of_memory self.new ≤ max (size_of_memory self.old) (at + length bytes.now) }
         ensures cause { Counts result (faults_of_memory self.old) (faults_of_memory self.new) }
+        ensures exact { CountsJust (IsErrOf result AreaFault.Failed) (faults_of_memory self.old)
+            (faults_of_memory self.new) }
         ensures flushed { KeepsFlushed self.old self.new }
         ensures calls { CountsCall (IsErrOf result AreaFault.Failed) (calls_of self.old) (calls_of self.new) }
 
@@ -161,8 +167,11 @@ impl Area for MemoryArea {
     fn flush(&mut self) -> Result<(), AreaFault>
         ensures ok { OnOk result (told_by_memory self.new ≡ option_map flushes (told_by_memory self.old)) }
         ensures err { OnErr result (told_by_memory self.new ≡ told_by_memory self.old) }
+        ensures moments { PassesTold (told_by_memory self.old) (told_by_memory self.new) }
         ensures size { size_of_memory self.new ≡ size_of_memory self.old }
         ensures cause { Counts result (faults_of_memory self.old) (faults_of_memory self.new) }
+        ensures exact { CountsJust (IsErrOf result AreaFault.Failed) (faults_of_memory self.old)
+            (faults_of_memory self.new) }
         ensures flushed { OnOk result (Flushes self.old self.new) }
         ensures unflushed { OnErr result (KeepsFlushed self.old self.new) }
         ensures calls { CountsCall (IsErr result) (calls_of self.old) (calls_of self.new) }
