@@ -7,6 +7,7 @@ ghost use Rattle.draid_area.specs.Moments.{CrashesTold, PassesTold};
 use crate::area::{Area, AreaFault};
 use crate::cells::{
     Span, cut, grow, keep_spans, later, leave_spans, length_left, mark, overwrite, reach,
+    risen,
 };
 use draid_faults::{Calls, CrashRule, Fuse};
 use std::alloc::{AllocError, Global};
@@ -118,7 +119,7 @@ impl Area for MemoryArea {
         ensures device { IsErr result → IsErrOf result AreaFault.Failed }
     {
         if self.calls.fails() {
-            self.faults = self.faults.saturating_add(1);
+            self.faults = risen(self.faults);
             return Err(AreaFault::Failed);
         }
         let start = at as usize;
@@ -145,7 +146,7 @@ impl Area for MemoryArea {
     {
         self.clock = later(self.clock);
         if self.calls.fails() {
-            self.faults = self.faults.saturating_add(1);
+            self.faults = risen(self.faults);
             return Err(AreaFault::Failed);
         }
         let start = at as usize;
@@ -178,7 +179,7 @@ impl Area for MemoryArea {
         ensures device { IsErr result → IsErrOf result AreaFault.Failed }
     {
         if self.calls.fails() {
-            self.faults = self.faults.saturating_add(1);
+            self.faults = risen(self.faults);
             return Err(AreaFault::Failed);
         }
         self.clock = later(self.clock);

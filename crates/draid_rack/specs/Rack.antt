@@ -2,7 +2,7 @@ use Rattle.std.specs.Prelude.{◌≡◌, ◌<◌, ◌≤◌, ⊤, ◌==◌, ◌&
 use Rattle.std.specs.List.{list_any}
 use Rattle.draid_names.specs.Faults.{Rose}
 use Rattle.draid_faults.specs.Calls.{CountsJust}
-use Rattle.draid_rack.specs.declared.rack.At.{At}
+use Rattle.draid_names.specs.declared.arm.At.{At}
 
 -- the length of a sector in bytes, and how many sectors each leaf has that is there
 pub record Shape : Type 0 where

@@ -10,9 +10,9 @@ use crate::leaves::{
     count_fault, crash_leaves, damage_sector, first_from, flush_leaf, insert_leaf, is_any_harmed,
     is_harmed, land_sector, later, mark_sector, read_sector, remove_leaf, settle_sector,
 };
-use crate::rack::{AddFault, At, Rack};
+use crate::rack::{AddFault, Rack};
 use draid_faults::{Calls, CrashRule, Fuse};
-use draid_names::{Failed, NoMemory};
+use draid_names::{At, Failed, NoMemory};
 use std::alloc::Global;
 use std::collections::BTreeMap;
 

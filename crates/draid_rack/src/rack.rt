@@ -3,15 +3,8 @@ ghost use Rattle.draid_names.specs.Faults.{Rose};
 ghost use Rattle.draid_rack.specs.Moments.{PassesTold};
 ghost use Rattle.draid_rack.specs.Rack.{Shape, Told, Fits, Lands, Reads, Counts, CountsOthers, IsOrderly, OnTold, adds, damages, drops, flushes, settles, taints, with_leaf};
 
-use draid_names::{Failed, NoMemory};
+use draid_names::{At, Failed, NoMemory};
 use std::alloc::{AllocError, AllocFailed};
-
-/// Where a sector lies.
-#[derive(Clone, Copy, Debug, PartialEq, Eq)]
-pub struct At {
-    pub leaf: u64,
-    pub sector: u64,
-}
 
 /// Why a leaf couldn't be added.
 #[derive(Clone, Copy, Debug, PartialEq, Eq)]

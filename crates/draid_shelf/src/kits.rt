@@ -55,7 +55,7 @@ impl Shelf for MemoryShelf {
         ensures uber_count { OnOk result (area_count self.new.devices.uber ≡ 0) }
         ensures err { OnErr result (told_of self.new ≡ told_of self.old) }
         ensures cause { ShelfCounts result self.old.faults self.new.faults }
-        ensures count { CountsJust (IsErrOf result ShelfFault.Failed) self.old.faults self.new.faults }
+        ensures risen { CountsJust (IsErrOf result ShelfFault.Failed) self.old.faults self.new.faults }
         ensures exact { FailsJust ⊤ (IsErrOf result ShelfFault.Failed) (calls_of self.old) (calls_of self.new) }
     {
         if self.calls.fails() {
@@ -86,7 +86,7 @@ impl Shelf for MemoryShelf {
         ensures needs { NeedsUber result (told_of self.old) }
         ensures cause { ShelfCounts result self.old.faults self.new.faults }
         ensures device { IsErr result → IsErrOf result ShelfFault.Failed }
-        ensures count { CountsJust (IsErrOf result ShelfFault.Failed) self.old.faults self.new.faults }
+        ensures risen { CountsJust (IsErrOf result ShelfFault.Failed) self.old.faults self.new.faults }
         ensures exact { FailsJust (IsSome self.old.devices.uber) (IsErrOf result ShelfFault.Failed) (calls_of self.old)
             (calls_of self.new) }
     {
@@ -125,7 +125,7 @@ impl Shelf for MemoryShelf {
         ensures needs { NeedsKit metaslab result (told_of self.old) }
         ensures cause { ShelfCounts result self.old.faults self.new.faults }
         ensures device { IsErr result → IsErrOf result ShelfFault.Failed }
-        ensures count { CountsJust (IsErrOf result ShelfFault.Failed) self.old.faults self.new.faults }
+        ensures risen { CountsJust (IsErrOf result ShelfFault.Failed) self.old.faults self.new.faults }
         ensures exact { FailsJust (HoldsKit self.old.devices metaslab geometry.now.props.sector)
             (IsErrOf result ShelfFault.Failed) (calls_of self.old) (calls_of self.new) }
     {
