@@ -1,4 +1,4 @@
-ghost use Rattle.std.specs.Prelude.{◌≡◌, ◌+◌, ◌≤◌, max, ℕ, Some, false, IfOk, IsErr, IsErrOf, OnOk, OnErr, length, option_map, refl};
+ghost use Rattle.std.specs.Prelude.{◌≡◌, ◌+◌, ◌≤◌, max, ℕ, Some, false, true, IfOk, IsErr, IsErrOf, OnOk, OnErr, length, option_map, refl};
 ghost use Rattle.draid_faults.specs.Calls.{CountsCall, CountsJust, failing_calls, is_fused, next_call};
 ghost use Rattle.draid_area.specs.Area.{Reads, Writes, Counts, begins, flushes};
 ghost use Rattle.draid_area.specs.Cells.{AreUpTo, IsSound};
@@ -64,6 +64,7 @@ impl MemoryArea {
         ensures faults { faults_of_memory self.new ≡ faults_of_memory self.old }
         ensures next { next_call (calls_of self.new) ≡ next_call (calls_of self.old) }
         ensures failing { failing_calls (calls_of self.new) ≡ failing_calls (calls_of self.old) }
+        ensures fused { is_fused (calls_of self.new) ≡ true }
     {
         self.calls.put_fuse(fuse);
     }

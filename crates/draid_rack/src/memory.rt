@@ -1,4 +1,4 @@
-ghost use Rattle.std.specs.Prelude.{◌≡◌, ◌<◌, ◌≤◌, ◌==◌, if◌then◌else◌, ℕ, Option, Some, None, false, Bool, IsTrue, IfOk, IfSome, IfNone, IsErr, IsErrOf, IsSome, OnOk, OnErr, Result, length, replicate, option_map};
+ghost use Rattle.std.specs.Prelude.{◌≡◌, ◌<◌, ◌≤◌, ◌==◌, if◌then◌else◌, ℕ, Option, Some, None, false, true, Bool, IsTrue, IfOk, IfSome, IfNone, IsErr, IsErrOf, IsSome, OnOk, OnErr, Result, length, replicate, option_map};
 ghost use Rattle.draid_names.specs.Faults.{Rose};
 ghost use Rattle.draid_faults.specs.Calls.{CountsCall, CountsJust, failing_calls, is_fused, next_call};
 ghost use Rattle.draid_rack.specs.Leaves.{AreLong, AreUpTo};
@@ -48,6 +48,7 @@ impl MemoryRack {
             → Reads (told_by_memory rack) l s (replicate bytes 0)) }
         ensures firm { IfOk result (λ rack. OnTold (told_by_memory rack) (λ x. (l s : ℕ) → x.soft l s ≡ false)) }
         ensures unharmed { IfOk result (λ rack. OnTold (told_by_memory rack) (λ x. (l s : ℕ) → x.harmed l s ≡ false)) }
+        ensures clock { IfOk result (λ rack. OnTold (told_by_memory rack) (λ x. x.clock ≡ 0)) }
         ensures counts { IfOk result (λ rack. (who : Option ℕ) → faults_of_memory rack who ≡ 0) }
         ensures next { IfOk result (λ rack. next_call (calls_of rack) ≡ 0) }
         ensures failing { IfOk result (λ rack. failing_calls (calls_of rack) ≡ failing.items) }
@@ -83,6 +84,7 @@ impl MemoryRack {
         ensures flushed { KeepsFlushed self.old self.new }
         ensures next { next_call (calls_of self.new) ≡ next_call (calls_of self.old) }
         ensures failing { failing_calls (calls_of self.new) ≡ failing_calls (calls_of self.old) }
+        ensures fused { is_fused (calls_of self.new) ≡ true }
     {
         self.calls.put_fuse(fuse);
     }

@@ -90,7 +90,8 @@ impl Shelf for MemoryShelf {
         ensures exact { FailsJust (IsSome self.old.devices.uber) (IsErrOf result ShelfFault.Failed) (calls_of self.old)
             (calls_of self.new) }
     {
-        if self.calls.fails() || self.devices.uber.is_none() {
+        let is_missing = self.devices.uber.is_none();
+        if self.calls.fails() || is_missing {
             return Err(self.failed());
         }
         match self.devices.uber.take() {

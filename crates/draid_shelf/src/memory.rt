@@ -1,4 +1,5 @@
-ghost use Rattle.std.specs.Prelude.{◌≡◌, ◌↔◌, ◌+◌, ◌-◌, ◌^◌, min, ℕ, None, IsTrue, false};
+ghost use Rattle.std.specs.Prelude.{◌≡◌, ◌≤◌, ◌↔◌, ◌+◌, ◌-◌, ◌^◌, min, ℕ, None, IsTrue, false};
+ghost use Rattle.draid_names.specs.Faults.{Rose};
 ghost use Rattle.draid_faults.specs.Calls.{failing_calls, is_fused, next_call};
 ghost use Rattle.draid_shelf.specs.Memory.{HoldsKit, counts_at, held_at, held_by, shape_at};
 
@@ -92,7 +93,9 @@ impl MemoryShelf {
     /// Counts a failure of the shelf itself.
     pub(crate) fn failed(&mut self) -> ShelfFault
         ensures fault { result ≡ ShelfFault.Failed }
-        ensures rose { self.new.faults ≡ min (self.old.faults + 1) (2 ^ 64 - 1) }
+        ensures rose { Rose self.old.faults self.new.faults }
+        ensures later { self.old.faults ≤ self.new.faults }
+        ensures risen { self.new.faults ≡ min (self.old.faults + 1) (2 ^ 64 - 1) }
         ensures devices { self.new.devices ≡ self.old.devices }
         ensures calls { self.new.calls ≡ self.old.calls }
     {

@@ -16,9 +16,9 @@ pub const METASLABS: u32 = 64;
 /// A shelf of devices: the area of the uberblock, and a kit for each metaslab. A pool takes them for a run, and gives
 /// them back.
 pub trait Shelf {
-    type R: Rack;
+    type R: Rack + Send;
 
-    type A: Area;
+    type A: Area + Send;
 
     /// What is held, where the shelf tells it.
     ghost told: { Self → Option Held };
