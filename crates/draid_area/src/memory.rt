@@ -6,8 +6,7 @@ ghost use Rattle.draid_area.specs.Moments.{CrashesTold, PassesTold};
 
 use crate::area::{Area, AreaFault};
 use crate::cells::{
-    Span, cut, grow, keep_spans, later, leave_spans, length_left, mark, overwrite, reach,
-    risen,
+    Span, cut, grow, keep_spans, later, leave_spans, length_left, mark, overwrite, reach, risen,
 };
 use draid_faults::{Calls, CrashRule, Fuse};
 use std::alloc::{AllocError, Global};
