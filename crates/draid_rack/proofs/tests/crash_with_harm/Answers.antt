@@ -1,4 +1,4 @@
-use Rattle.std.proofs.Common.{rules, ◌≡◌, ◌∙◌, ◌×◌, true, Result, Ok, Err, OnOk, Bool}
+use Rattle.std.proofs.Common.{rules, ◌≡◌, ◌∙◌, Result, Ok, Err, OnOk}
 use Rattle.draid_rack.proofs.tests.crash_with_harm.Goals as goal
 
 whole_of : {E : Type 0} {P : Type 0} (r : Result Unit E) → r ≡ Ok tt → OnOk r P → P
