@@ -1,30 +1,46 @@
 -- What the answers of a pool's calls say.
-use Rattle.std.specs.Prelude.{◌≡◌, ℕ, List, None, Result, Ok, Err}
+use Rattle.std.specs.Prelude.{◌≡◌, ℕ, List, Option, None, Result, Ok, Err}
 use Rattle.std.specs.declared.vec.Vec.{Vec}
 use Rattle.std.specs.declared.alloc.Global.{Global}
-use Rattle.draid_pool.specs.State.{Damages, FailsToDamage, HasNoSpace, IsLost, IsThere, Looks, Misses, ReadsLast, State, Stays, StopsAt, Sums, Writes, bytes_of}
+use Rattle.draid_names.specs.declared.room.Room.{Room}
+use Rattle.draid_pool.specs.State.{Damages, FailsToDamage, Frees, HasNoSpace, IsLast, IsLost, IsThere, Looks, Misses, MissesIn, ReadsLast, State, Stays, StopsAt, Sums, Writes, WritesTo, write_of}
 use Rattle.draid_pool.specs.declared.fault.WriteFault.{WriteFault}
 use Rattle.draid_pool.specs.declared.fault.WriteFault.TheVariants as write
+use Rattle.draid_pool.specs.declared.fault.FreeFault.{FreeFault}
 use Rattle.draid_pool.specs.declared.fault.ObjectFault.{ObjectFault}
 use Rattle.draid_pool.specs.declared.fault.ObjectFault.TheVariants as object
 use Rattle.draid_pool.specs.declared.fault.SumFault.{SumFault}
 use Rattle.draid_pool.specs.declared.fault.DamageFault.{DamageFault}
 use Rattle.draid_pool.specs.declared.fault.DamageFault.TheVariants as damage
 
-abbrev pub WriteIs : ℕ → List ℕ → Result Unit WriteFault → State → State → Type 0
-WriteIs object bytes (Ok done) old new = Writes object bytes old new
-WriteIs object bytes (Err (write.NoSpace run)) old new = HasNoSpace bytes run old new
-WriteIs object bytes (Err (write.Missed columns)) old new = Misses bytes columns old new
-WriteIs object bytes (Err write.NoMemory) old new = Stays old new
+-- The answer to a write, where the chooser may name these metaslabs.
+abbrev pub WriteIs : (List Room → Option ℕ → Type 0) → ℕ → List ℕ → Result Unit WriteFault → State → State → Type 0
+WriteIs chosen object bytes (Ok done) old new = Writes chosen object bytes old new
+WriteIs chosen object bytes (Err (write.NoSpace run disabled full worn)) old new = HasNoSpace bytes run disabled full worn old new
+WriteIs chosen object bytes (Err (write.Missed columns)) old new = Misses chosen bytes columns old new
+WriteIs chosen object bytes (Err write.Last) old new = IsLast chosen bytes old new
+WriteIs chosen object bytes (Err write.NoMemory) old new = Stays old new
+
+-- the answer to a write in metaslab m, which has room
+abbrev pub WriteInIs : ℕ → ℕ → List ℕ → Result Unit WriteFault → State → State → Type 0
+WriteInIs m object bytes (Ok done) old new = WritesTo m object bytes old new
+WriteInIs m object bytes (Err (write.NoSpace run disabled full worn)) old new = ⊥
+WriteInIs m object bytes (Err (write.Missed columns)) old new = MissesIn m bytes columns old new
+WriteInIs m object bytes (Err write.Last) old new = ⊥
+WriteInIs m object bytes (Err write.NoMemory) old new = Stays old new
+
+abbrev pub FreeIs : ℕ → Result Unit FreeFault → State → State → Type 0
+FreeIs object (Ok done) old new = Frees object old new
+FreeIs object (Err fault) old new = (write_of old.changes object ≡ None) × Stays old new
 
 -- why an object gave no bytes
 abbrev pub ObjectFaultIs : ℕ → ObjectFault → State → State → Type 0
-ObjectFaultIs o object.NoObject old new = bytes_of old.writes o ≡ None
+ObjectFaultIs o object.NoObject old new = write_of old.changes o ≡ None
 ObjectFaultIs o (object.Unreadable absent tried) old new = IsLost o absent tried old new
 ObjectFaultIs o object.NoMemory old new = Unit {0}
 
 abbrev pub ReadIs : ℕ → Result (Vec ℕ Global) ObjectFault → State → State → Type 0
-ReadIs o (Ok bytes) old new = ReadsLast old.writes o bytes.items × Looks old new
+ReadIs o (Ok bytes) old new = ReadsLast old.changes o bytes.items × Looks old new
 ReadIs o (Err why) old new = ObjectFaultIs o why old new × Looks old new
 
 -- the first object that gave no bytes, and why
@@ -35,7 +51,7 @@ pub record SumStops (first count : ℕ) (fault : SumFault) (old new : State) : T
   pub looks : Looks mid new
 
 abbrev pub SumIs : ℕ → ℕ → Result (List ℕ) SumFault → State → State → Type 0
-SumIs first count (Ok digest) old new = Sums old.writes first count digest × Looks old new
+SumIs first count (Ok digest) old new = Sums old.changes first count digest × Looks old new
 SumIs first count (Err fault) old new = SumStops first count fault old new
 
 abbrev pub DamageIs : ℕ → ℕ → Result Unit DamageFault → State → State → Type 0

@@ -1,7 +1,8 @@
 -- What a shelf holds of a pool that was given back to it.
-use Rattle.std.specs.Prelude.{◌≡◌, ℕ, List, Option, Some, slice_get}
+use Rattle.std.specs.Prelude.{◌≡◌, ◌≤◌, ℕ, List, Option, Some, length, slice_get}
 use Rattle.draid_rack.specs.Rack.{OnTold, Told}
 use Rattle.draid_block.specs.Blocks.{AreColumns, cut_of}
+use Rattle.draid_shard.specs.declared.shard.Shard.{Shard}
 use Rattle.draid_shard.specs.Part.{Part}
 use Rattle.draid_shard.specs.Columns.{ColumnsStand}
 use Rattle.draid_pool.specs.Pool.{harm_of}
@@ -23,3 +24,11 @@ pub record HoldsMetaslab (told : Option Told) (counts : Option ℕ → ℕ) (poo
 -- so of each metaslab of a pool
 pub record HoldsPool (told : ℕ → Option Told) (counts : ℕ → Option ℕ → ℕ) (pool : State) : Type 0 where
   pub each : (m : ℕ) (x : Metaslab) → slice_get pool.metaslabs m ≡ Some x → HoldsMetaslab (told m) (counts m) pool m x
+
+-- The racks of the shards were given to the shelf, each as that of its place, and those of other places are as before.
+pub record Returns {R : Type 0} (told : R → Option Told) (faults : R → Option ℕ → ℕ) (shards : List (Shard R)) (old new : ℕ → Option Told)
+    (before after : ℕ → Option ℕ → ℕ) : Type 0 where
+  pub given : (m : ℕ) (shard : Shard R) → slice_get shards m ≡ Some shard → new m ≡ told shard.rack
+  pub counted : (m : ℕ) (shard : Shard R) → slice_get shards m ≡ Some shard → (who : Option ℕ) → after m who ≡ faults shard.rack who
+  pub others : (m : ℕ) → length shards ≤ m → new m ≡ old m
+  pub counts : (m : ℕ) → length shards ≤ m → after m ≡ before m

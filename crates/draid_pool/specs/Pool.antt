@@ -1,50 +1,81 @@
-use Rattle.std.specs.Prelude.{◌≡◌, ◌==◌, ⊤, ℕ, Bool, List, [], ◌∷◌, Option, find, option_map, nat_eq}
+use Rattle.std.specs.Prelude.{◌≡◌, ⊤, ℕ, Bool, List, Option, Some, None, length, map, option_map, nat_eq, slice_get}
 use Rattle.std.specs.HashMap.{get}
 use Rattle.draid_names.specs.declared.pointer.Pointer.{Pointer}
+use Rattle.draid_spec.specs.declared.layout.Geometry.{Geometry}
+use Rattle.draid_spec.specs.Geometry.{IsGeometry}
 use Rattle.draid_rack.specs.Rack.{Shape, Told}
 use Rattle.draid_shard.specs.declared.shard.Shard.{Shard}
-use Rattle.draid_shard.specs.Shard.{HoldsBlock, Valid, free_of, part_of}
-use Rattle.draid_pool.specs.State.{State, Write}
+use Rattle.draid_shard.specs.Shard.{HoldsBlock, Valid, free_of, held_of, part_of}
+use Rattle.draid_pool.specs.State.{Change, Metaslab, State, Write, write_of}
+use Rattle.draid_pool.specs.Store.{HasRoom}
 use Rattle.draid_pool.specs.declared.pool.Pool.{Pool}
-
--- the block of an accepted write is live, and its columns stand where the rack tells, but for the sectors that are harmed
-pub record HoldsWrite {R : Type 0} (told : R → Option Told) (shard : Shard R) (pointer : Pointer) (write : Write) : Type 0 where
-  pub object : pointer.object ≡ write.object
-  pub first : pointer.first ≡ write.first
-  pub holds : HoldsBlock told shard pointer write.bytes
-
--- the pointers are those of the accepted writes, in the same order
-abbrev pub HoldsAll : {R : Type 0} → (R → Option Told) → Shard R → List Pointer → List Write → Type 0
-HoldsAll told shard [] [] = ⊤
-HoldsAll told shard (pointer ∷ pointers) (write ∷ writes) = HoldsWrite told shard pointer write × HoldsAll told shard pointers writes
-HoldsAll told shard pointers writes = ⊥
 
 -- which sectors are harmed, where it is told
 abbrev pub harm_of : Option Told → Option (ℕ → ℕ → Bool)
 harm_of told = option_map (λ x. x.harmed) told
 
--- the state that a pool stands for
-abbrev pub state_of : {R : Type 0} → (R → Option Told) → (R → Option ℕ → ℕ) → Pool R → List Write → State
-state_of told faults pool writes = record {
-  part = part_of pool.shard;
-  writes = writes;
-  free = free_of pool.shard;
-  seq = pool.seq;
-  faults = faults pool.shard.rack;
-  harm = harm_of (told pool.shard.rack);
+-- the metaslab that a shard stands for
+abbrev pub metaslab_of : {R : Type 0} → (R → Option Told) → (R → Option ℕ → ℕ) → Shard R → Metaslab
+metaslab_of told faults shard = record {
+  part = part_of shard;
+  free = free_of shard;
+  held = held_of shard;
+  faults = faults shard.rack;
+  harm = harm_of (told shard.rack);
 }
 
--- The pool holds these writes, and its table has the newest pointer of each object. It is of one metaslab.
-pub record Represents {R : Type 0} (shape : R → Shape) (told : R → Option Told) (pool : Pool R) (writes : List Write) : Type 0 where
-  pub valid : Valid shape pool.shard
-  pub one : pool.shard.geometry.props.metaslabs ≡ 1
-  pub pointers : List Pointer
-  pub holds : HoldsAll told pool.shard pointers writes
-  pub table : (object : ℕ) → get nat_eq pool.objects object ≡ find (λ (p : Pointer). p.object == object) pointers
+-- the state that a pool stands for, where this befell its objects
+abbrev pub state_of : {R : Type 0} → (R → Option Told) → (R → Option ℕ → ℕ) → Pool R → List Change → State
+state_of told faults pool changes = record {
+  geometry = pool.geometry;
+  metaslabs = map (metaslab_of told faults) pool.shards.items;
+  changes = changes;
+  seq = pool.seq;
+}
 
--- A pool stands for some list of writes, and this is what a call did to its state.
+-- The block of an accepted write is live in its metaslab, and its columns stand where the rack tells, but for the sectors that are harmed.
+pub record HoldsWrite {R : Type 0} (told : R → Option Told) (shards : List (Shard R)) (pointer : Pointer) (write : Write) : Type 0 where
+  pub object : pointer.object ≡ write.object
+  pub metaslab : pointer.metaslab ≡ write.metaslab
+  pub first : pointer.first ≡ write.first
+  pub shard : Shard R
+  pub there : slice_get shards pointer.metaslab ≡ Some shard
+  pub holds : HoldsBlock told shard pointer write.bytes
+
+-- an object's pointer is there just where it has bytes, and is that of their block
+abbrev pub HoldsObject : {R : Type 0} → (R → Option Told) → List (Shard R) → Option Pointer → Option Write → Type 0
+HoldsObject told shards None None = ⊤
+HoldsObject told shards (Some pointer) (Some write) = HoldsWrite told shards pointer write
+HoldsObject told shards pointer write = ⊥
+
+-- a metaslab of the pool's layout, with this number, which is fit for calls
+pub record IsMember {R : Type 0} (shape : R → Shape) (geometry : Geometry) (m : ℕ) (shard : Shard R) : Type 0 where
+  pub valid : Valid shape shard
+  pub layout : shard.geometry ≡ geometry
+  pub number : shard.number ≡ m
+
+-- The pool has all metaslabs of its layout. This befell its objects, and its table has the pointer of each of them that has bytes.
+pub record Represents {R : Type 0} (shape : R → Shape) (told : R → Option Told) (pool : Pool R) (changes : List Change) : Type 0 where
+  pub layout : IsGeometry pool.geometry
+  pub many : length pool.shards.items ≡ pool.geometry.props.metaslabs
+  pub members : (m : ℕ) (shard : Shard R) → slice_get pool.shards.items m ≡ Some shard → IsMember shape pool.geometry m shard
+  pub objects : (object : ℕ) → HoldsObject told pool.shards.items (get nat_eq pool.objects object) (write_of changes object)
+
+-- the layout, the metaslabs and the last write's number are as before
+pub record SamePool {R : Type 0} (told : R → Option Told) (faults : R → Option ℕ → ℕ) (old new : Pool R) : Type 0 where
+  pub layout : new.geometry ≡ old.geometry
+  pub metaslabs : map (metaslab_of told faults) new.shards.items ≡ map (metaslab_of told faults) old.shards.items
+  pub seq : new.seq ≡ old.seq
+
+-- metaslab m has room for a block of these bytes
+pub record HasRoomAt {R : Type 0} (pool : Pool R) (m : ℕ) (w : List ℕ) : Type 0 where
+  pub shard : Shard R
+  pub there : slice_get pool.shards.items m ≡ Some shard
+  pub room : HasRoom shard w
+
+-- A pool stands for some state, and this is what a call did to the state that it stood for.
 pub record Moves {R : Type 0} (shape : R → Shape) (told : R → Option Told) (faults : R → Option ℕ → ℕ) (step : State → State → Type 0)
     (old : State) (pool : Pool R) : Type 0 where
-  pub writes : List Write
-  pub represents : Represents shape told pool writes
-  pub moved : step old (state_of told faults pool writes)
+  pub changes : List Change
+  pub represents : Represents shape told pool changes
+  pub moved : step old (state_of told faults pool changes)

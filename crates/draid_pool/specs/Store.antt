@@ -1,22 +1,40 @@
--- What becomes of a block that is written to a shard, and of one that is read.
-use Rattle.std.specs.Prelude.{◌≡◌, ◌≤◌, ◌<◌, ⊤, ℕ, List, Option, Result, Ok, Err, All, length}
+-- What becomes of a block that is written to a shard, and of one that is read or freed.
+use Rattle.std.specs.Prelude.{◌≡◌, ◌≤◌, ◌<◌, ◌+◌, ⊤, ℕ, Bool, List, Option, Some, Result, Ok, Err, All, length, nat_eq, slice_get, slice_set}
 use Rattle.std.specs.List.Sorted.{IsStrictlyIncreasing}
 use Rattle.std.specs.declared.vec.Vec.{Vec}
 use Rattle.std.specs.declared.alloc.Global.{Global}
 use Rattle.sha2.specs.Sha256.{sha256}
 use Rattle.draid_names.specs.declared.pointer.Pointer.{Pointer}
-use Rattle.draid_rack.specs.Rack.{OnTold, Told}
+use Rattle.draid_names.specs.declared.room.Room.{Room}
+use Rattle.draid_rack.specs.Rack.{OnTold, Shape, Told}
 use Rattle.draid_block.specs.Order.{solve_order}
-use Rattle.draid_metaslab.specs.Spots.{IsLargest, IsLowest}
+use Rattle.draid_metaslab.specs.Spots.{IsLowest}
 use Rattle.draid_shard.specs.declared.shard.Shard.{Shard}
 use Rattle.draid_shard.specs.Part.{Part}
 use Rattle.draid_shard.specs.Columns.{EndsHarm, LeafRose, MoreBad, TellsBoth}
-use Rattle.draid_shard.specs.Shard.{HoldsBlock, TakesLowest, free_of, part_of}
-use Rattle.draid_pool.specs.State.{stripes_for}
+use Rattle.draid_shard.specs.Entry.{IsRoom}
+use Rattle.draid_shard.specs.Shard.{HoldsBlock, IsLive, KeepsOtherBlocks, TakesLowest, Valid, free_of, held_of, part_of}
+use Rattle.draid_pool.specs.State.{most_held, stripes_for}
 use Rattle.draid_pool.specs.declared.fault.ObjectFault.{ObjectFault}
 use Rattle.draid_pool.specs.declared.fault.ObjectFault.TheVariants as object
-use Rattle.draid_pool.specs.declared.fault.WriteFault.{WriteFault}
-use Rattle.draid_pool.specs.declared.fault.WriteFault.TheVariants as write
+use Rattle.draid_pool.specs.declared.store.StoreFault.{StoreFault}
+use Rattle.draid_pool.specs.declared.store.StoreFault.TheVariants as store
+
+-- the shard has room for a block of these bytes
+pub record HasRoom {R : Type 0} (shard : Shard R) (w : List ℕ) : Type 0 where
+  pub run : ℕ
+  pub is : IsRoom (held_of shard) (free_of shard) shard.geometry.props.height run
+  pub fits : stripes_for shard.geometry w ≤ run
+
+-- the room that a shard has for a block of so many stripes
+pub record RoomIs {R : Type 0} (need : ℕ) (shard : Shard R) (room : Room) : Type 0 where
+  pub metaslab : room.metaslab ≡ shard.number
+  pub wanted : room.need ≡ need
+  pub run : IsRoom (held_of shard) (free_of shard) shard.geometry.props.height room.run
+
+-- the shard holds all the blocks that it may
+abbrev pub has_all : {R : Type 0} → Shard R → Bool
+has_all shard = nat_eq (held_of shard) most_held
 
 -- so many of the columns below `next` landed nowhere, each on a leaf whose count of faults rose
 pub record MissedSome (part : Part) (first : ℕ) (old new : Option ℕ → ℕ) (next count : ℕ) : Type 0 where
@@ -29,37 +47,35 @@ pub record MissedSome (part : Part) (first : ℕ) (old new : Option ℕ → ℕ)
 -- The block w was stored for this object, on the lowest run that fits, and none of its sectors is harmed.
 pub record Stores {R : Type 0} (told : R → Option Told) (object : ℕ) (w : List ℕ) (old new : Shard R) (pointer : Pointer) : Type 0 where
   pub named : pointer.object ≡ object
-  pub takes : TakesLowest old.geometry.props.height (free_of old) (free_of new) pointer.first (stripes_for (part_of old) w)
+  pub here : pointer.metaslab ≡ old.number
+  pub is_new : IsLive old pointer → ⊥
+  pub takes : TakesLowest old.geometry.props.height (free_of old) (free_of new) pointer.first (stripes_for old.geometry w)
+  pub held : held_of new ≡ held_of old + 1
   pub holds : HoldsBlock told new pointer w
   pub harm : TellsBoth (told old.rack) (told new.rack) (λ x y.
-      EndsHarm (part_of old) pointer.first (stripes_for (part_of old) w) (λ i. i < old.geometry.g) ⊤ x.harmed y.harmed)
+      EndsHarm (part_of old) pointer.first (stripes_for old.geometry w) (λ i. i < old.geometry.g) ⊤ x.harmed y.harmed)
 
 -- Columns were missed. The free stripes are as before.
 pub record StoreMisses {R : Type 0} (told : R → Option Told) (faults : R → Option ℕ → ℕ) (w : List ℕ) (old new : Shard R) (columns : ℕ) : Type 0 where
   pub first : ℕ
   pub some : 1 ≤ columns
   pub missed : MissedSome (part_of old) first (faults old.rack) (faults new.rack) old.geometry.g columns
-  pub fitted : IsLowest (free_of old) old.geometry.props.height (stripes_for (part_of old) w) first
+  pub fitted : IsLowest (free_of old) old.geometry.props.height (stripes_for old.geometry w) first
   pub free : (x : ℕ) → free_of new x ≡ free_of old x
+  pub held : held_of new ≡ held_of old
   pub harm : TellsBoth (told old.rack) (told new.rack) (λ x y.
-      EndsHarm (part_of old) first (stripes_for (part_of old) w) (λ i. i < old.geometry.g) ⊥ x.harmed y.harmed)
+      EndsHarm (part_of old) first (stripes_for old.geometry w) (λ i. i < old.geometry.g) ⊥ x.harmed y.harmed)
 
 -- nothing changed
 pub record StoreStays {R : Type 0} (old new : Shard R) : Type 0 where
   pub rack : new.rack ≡ old.rack
   pub free : (x : ℕ) → free_of new x ≡ free_of old x
+  pub held : held_of new ≡ held_of old
 
--- no run fits, and nothing changed
-pub record StoreFull {R : Type 0} (w : List ℕ) (old new : Shard R) (run : ℕ) : Type 0 where
-  pub largest : IsLargest (free_of old) old.geometry.props.height run
-  pub short : run < stripes_for (part_of old) w
-  pub same : StoreStays old new
-
-abbrev pub StoreAnswers : {R : Type 0} → (R → Option Told) → (R → Option ℕ → ℕ) → ℕ → List ℕ → Shard R → Shard R → Result Pointer WriteFault → Type 0
+abbrev pub StoreAnswers : {R : Type 0} → (R → Option Told) → (R → Option ℕ → ℕ) → ℕ → List ℕ → Shard R → Shard R → Result Pointer StoreFault → Type 0
 StoreAnswers told faults o w old new (Ok pointer) = Stores told o w old new pointer
-StoreAnswers told faults o w old new (Err (write.NoSpace run)) = StoreFull w old new run
-StoreAnswers told faults o w old new (Err (write.Missed columns)) = StoreMisses told faults w old new columns
-StoreAnswers told faults o w old new (Err write.NoMemory) = StoreStays old new
+StoreAnswers told faults o w old new (Err (store.Missed columns)) = StoreMisses told faults w old new columns
+StoreAnswers told faults o w old new (Err store.NoMemory) = StoreStays old new
 
 -- the bytes are as many as those of the block w, and have their digest
 pub record AreBytesOf (w bytes : List ℕ) : Type 0 where
@@ -81,3 +97,27 @@ BlockAnswers part pointer w told old new (Ok bytes) = AreBytesOf w bytes.items
 BlockAnswers part pointer w told old new (Err (object.Unreadable absent tried)) = IsUnread part pointer.first pointer.stripes told old new absent tried
 BlockAnswers part pointer w told old new (Err object.NoMemory) = ⊤
 BlockAnswers part pointer w told old new (Err object.NoObject) = ⊥
+
+-- One shard of a list changed, and no other.
+pub record SetsShard {R : Type 0} (m : ℕ) (before after : Shard R) (old new : List (Shard R)) : Type 0 where
+  pub there : slice_get old m ≡ Some before
+  pub sets : new ≡ slice_set old m after
+
+-- the block of a pointer is live in its shard
+pub record IsLiveIn {R : Type 0} (shape : R → Shape) (shards : List (Shard R)) (pointer : Pointer) : Type 0 where
+  pub shard : Shard R
+  pub there : slice_get shards pointer.metaslab ≡ Some shard
+  pub valid : Valid shape shard
+  pub is_live : IsLive shard pointer
+
+-- A block was freed in its shard. It is still counted and keeps its stripes, and nothing else changed.
+pub record FreesBlock {R : Type 0} (shape : R → Shape) (told : R → Option Told) (pointer : Pointer) (old new : List (Shard R)) : Type 0 where
+  pub before : Shard R
+  pub after : Shard R
+  pub one : SetsShard pointer.metaslab before after old new
+  pub valid : Valid shape after
+  pub part : part_of after ≡ part_of before
+  pub rack : after.rack ≡ before.rack
+  pub taken : free_of after ≡ free_of before
+  pub held : held_of after ≡ held_of before
+  pub kept : KeepsOtherBlocks told pointer before after

@@ -24,11 +24,26 @@ impl From<NoMemory> for PoolFault {
 /// Why no bytes were written to an object, which has its earlier ones.
 #[derive(Clone, Copy, Debug, PartialEq, Eq)]
 pub enum WriteFault {
-    /// No run of free stripes fits; the longest within one group has this length.
-    NoSpace { run: u64 },
+    /// No metaslab has room: the longest run that one has is too short, and so many metaslabs take no new block,
+    /// since they are disabled, full or worn.
+    NoSpace {
+        run: u64,
+        disabled: u32,
+        full: u32,
+        worn: u32,
+    },
     /// So many columns landed on no leaf.
     Missed { columns: u32 },
+    /// The number of the last write is the greatest that there is.
+    Last,
     NoMemory,
+}
+
+/// Why no object was freed.
+#[derive(Clone, Copy, Debug, PartialEq, Eq)]
+pub enum FreeFault {
+    /// It has no bytes.
+    NoObject,
 }
 
 /// Why an object gives no bytes.

@@ -1,12 +1,15 @@
-//! A pool on one thread: objects whose bytes are written to the blocks of a metaslab, and read again.
+//! A pool on one thread: objects whose bytes are written to blocks of its metaslabs, and read again.
 
 #![tactic(auto)]
 
+mod closing;
 mod fault;
 mod opening;
 mod pool;
+mod room;
 mod store;
 
-pub use fault::{DamageFault, ObjectFault, PoolFault, SumFault, WriteFault};
+pub use closing::close;
+pub use fault::{DamageFault, FreeFault, ObjectFault, PoolFault, SumFault, WriteFault};
 pub use opening::create;
 pub use pool::Pool;

@@ -1,17 +1,58 @@
 ghost use Rattle.std.specs.Prelude.{◌≡◌};
 ghost use Rattle.draid_spec.specs.Spec.{IsSpec};
-ghost use Rattle.draid_pool.specs.Create.{CreateIs};
+ghost use Rattle.draid_spec.specs.Geometry.{IsGeometry};
+ghost use Rattle.draid_pool.specs.Create.{CreateIs, GivesBack};
 
+use crate::closing::give_back;
 use crate::fault::PoolFault;
 use crate::pool::Pool;
+use draid_names::NoMemory;
 use draid_perm::Perms;
 use draid_shard::Shard;
 use draid_shelf::RackShelf;
-use draid_spec::{Props, Spec, geometry};
+use draid_spec::{Geometry, Props, Spec, geometry};
 use std::alloc::Global;
 use std::collections::HashMap;
 
-/// Makes a pool of this spec on the shelf, in place of an earlier one, and opens it. The properties name one metaslab.
+/// Takes the rack of a new metaslab, and opens it. Where memory is wanting the rack is on the shelf.
+fn open_shard<H: RackShelf>(
+    alloc: Global,
+    shelf: &mut H,
+    layout: Geometry,
+    perms: Perms,
+    number: u32,
+) -> Result<Shard<H::R>, NoMemory> {
+    let rack = shelf.take(number)?;
+    match Shard::create(alloc, number, layout, perms, rack) {
+        Ok(shard) => Ok(shard),
+        Err(refused) => {
+            shelf.give(number, refused.rack);
+            Err(NoMemory)
+        }
+    }
+}
+
+/// Opens all metaslabs of a new pool. Where memory is wanting all racks are on the shelf.
+fn open_shards<H: RackShelf>(
+    alloc: Global,
+    shelf: &mut H,
+    layout: Geometry,
+) -> Result<Vec<Shard<H::R>>, NoMemory> {
+    let perms = Perms::new(layout.spec.children, layout.props.seed);
+    let mut shards = Vec::with_capacity(alloc, layout.props.metaslabs as usize)?;
+    for number in 0..layout.props.metaslabs {
+        match open_shard(alloc, shelf, layout, perms, number) {
+            Ok(shard) => shards.push_reserved(shard),
+            Err(fault) => {
+                give_back(shelf, shards);
+                return Err(fault);
+            }
+        }
+    }
+    Ok(shards)
+}
+
+/// Makes a pool of this spec on the shelf, in place of an earlier one, and opens it.
 pub fn create<H: RackShelf>(
     alloc: Global,
     shelf: &mut H,
@@ -19,26 +60,20 @@ pub fn create<H: RackShelf>(
     props: Props,
 ) -> Result<Pool<H::R>, PoolFault>
     requires spec { IsSpec spec }
-    requires one { props.metaslabs ≡ 1 }
-    ensures { CreateIs H.R.shape H.R.told H.R.faults spec props result }
+    ensures answer { CreateIs H.R.shape H.R.told H.R.faults spec props result }
+    ensures back { GivesBack spec props result (H.holds shelf.old) (H.holds shelf.new) (H.counts shelf.new) }
 {
     let layout = match geometry(spec, props) {
         Ok(layout) => layout,
         Err(fault) => return Err(PoolFault::Spec(fault)),
     };
     shelf.make(alloc, &layout)?;
-    let rack = shelf.take(0)?;
-    let perms = Perms::new(layout.spec.children, layout.props.seed);
-    match Shard::create(alloc, 0, layout, perms, rack) {
-        Ok(shard) => Ok(Pool {
-            shard,
-            objects: HashMap::new(alloc),
-            seq: 0,
-            alloc,
-        }),
-        Err(refused) => {
-            shelf.give(0, refused.rack);
-            Err(PoolFault::NoMemory)
-        }
-    }
+    let shards = open_shards(alloc, shelf, layout)?;
+    Ok(Pool {
+        geometry: layout,
+        shards,
+        objects: HashMap::new(alloc),
+        seq: 0,
+        alloc,
+    })
 }

@@ -1,12 +1,19 @@
-ghost use Rattle.std.specs.Prelude.{◌≡◌, ◌<◌, ◌≤◌, ◌+◌, ◌^◌, List, length};
-ghost use Rattle.draid_pool.specs.Answers.{DamageIs, ReadIs, SumIs, WriteIs};
-ghost use Rattle.draid_pool.specs.State.{Write};
+ghost use Rattle.std.specs.Prelude.{◌≡◌, ◌<◌, ◌≤◌, ◌+◌, ◌^◌, ◌∷◌, Some, List, length, nat_eq};
+ghost use Rattle.std.specs.Fn.{FnReturnsAt};
+ghost use Rattle.std.specs.HashMap.{get, spare};
+ghost use Rattle.draid_names.specs.declared.pointer.Pointer.{Pointer};
+ghost use Rattle.draid_choose.specs.Rooms.{IsChooser};
+ghost use Rattle.draid_block.specs.Blocks.{cut_of};
+ghost use Rattle.draid_pool.specs.Answers.{DamageIs, FreeIs, ReadIs, SumIs, WriteInIs, WriteIs};
+ghost use Rattle.draid_pool.specs.State.{Change, Wrote, Write};
 
-use crate::fault::{DamageFault, ObjectFault, SumFault, WriteFault};
-use crate::store::{read_block, store};
+use crate::fault::{DamageFault, FreeFault, ObjectFault, SumFault, WriteFault};
+use crate::room::{count_full, longest_run, rooms_of};
+use crate::store::{StoreFault, free_block, read_block, store};
 use draid_block::Encoded;
+use draid_choose::Chooser;
 use draid_map::metaslab_sectors;
-use draid_names::Pointer;
+use draid_names::{Pointer, Room};
 use draid_rack::Rack;
 use draid_shard::Shard;
 use draid_spec::Geometry;
@@ -14,10 +21,15 @@ use sha2::{Digest, Sha256};
 use std::alloc::Global;
 use std::collections::HashMap;
 
-/// An open pool of one metaslab.
+/// The greatest number of a write.
+const LAST_WRITE: u64 = (1 << 48) - 1;
+
+/// An open pool: objects whose bytes lie in the blocks of its metaslabs.
 #[derive(Drop)]
 pub struct Pool<R: Rack> {
-    pub(crate) shard: Shard<R>,
+    pub(crate) geometry: Geometry,
+    /// The metaslabs, in the order of their numbers.
+    pub(crate) shards: Vec<Shard<R>>,
     /// The pointer of each object's bytes.
     pub(crate) objects: HashMap<u64, Pointer>,
     /// The number of the last write that was begun.
@@ -26,69 +38,136 @@ pub struct Pool<R: Rack> {
 }
 
 impl<R: Rack> Pool<R> {
-    ghost use Rattle.draid_pool.specs.Pool.{Moves, Represents, state_of};
+    ghost use Rattle.draid_pool.specs.Pool.{HasRoomAt, HoldsWrite, Moves, Represents, SamePool, state_of};
 
     /// The layout of the pool.
     pub fn geometry(&self) -> &Geometry
-        ensures { result.now ≡ self.now.shard.geometry }
+        ensures { result.now ≡ self.now.geometry }
     {
-        &self.shard.geometry
+        &self.geometry
     }
 
-    /// Writes 1 to 131,072 bytes to an object below 2^32. After any refusal the object has its earlier bytes.
-    pub fn write(&mut self, object: u64, bytes: &[u8]) -> Result<(), WriteFault>
+    /// Writes 1 to 131,072 bytes to an object below 2^32, in the metaslab that the chooser names. After any refusal the
+    /// object has its earlier bytes.
+    pub fn write<F: Fn(&[Room]) -> Option<u32>>(
+        &mut self,
+        chooser: &Chooser<F>,
+        object: u64,
+        bytes: &[u8],
+    ) -> Result<(), WriteFault>
+        requires chooser { IsChooser F.Fn chooser.now }
         requires object { object < 2 ^ 32 }
         requires some { 1 ≤ length bytes.now }
         requires short { length bytes.now ≤ 131072 }
-        requires last { self.old.seq + 1 < 2 ^ 48 }
-        requires represents { (writes : List Write) × Represents R.shape R.told self.old writes }
-        ensures step { (writes : List Write) → Represents R.shape R.told self.old writes
-            → Moves R.shape R.told R.faults (WriteIs object bytes.now result) (state_of R.told R.faults self.old writes) self.new }
-        ensures seq { self.new.seq ≤ self.old.seq + 1 }
+        requires represents { (changes : List Change) × Represents R.shape R.told self.old changes }
+        ensures step { (changes : List Change) → Represents R.shape R.told self.old changes
+            → Moves R.shape R.told R.faults (WriteIs (FnReturnsAt F.Fn chooser.now) object bytes.now result)
+            (state_of R.told R.faults self.old changes) self.new }
     {
-        let Ok(block) = Encoded::of(self.alloc, &self.shard.geometry, bytes) else {
+        let Ok(block) = Encoded::of(self.alloc, &self.geometry, bytes) else {
             return Err(WriteFault::NoMemory);
         };
+        let need = u64::from(block.stripes());
+        let Ok(rooms) = rooms_of(self.alloc, self.shards.as_slice(), need) else {
+            return Err(WriteFault::NoMemory);
+        };
+        let Some(metaslab) = chooser.pick(rooms.as_slice()) else {
+            return Err(WriteFault::NoSpace {
+                run: longest_run(rooms.as_slice()),
+                disabled: 0,
+                full: count_full(self.shards.as_slice()),
+                worn: 0,
+            });
+        };
+        if self.seq >= LAST_WRITE {
+            return Err(WriteFault::Last);
+        }
+        self.write_block(metaslab, object, &block)
+    }
+
+    /// Writes a block of an object to a metaslab that has room for it.
+    fn write_block(&mut self, metaslab: u32, object: u64, block: &Encoded) -> Result<(), WriteFault>
+        requires object { object < 2 ^ 32 }
+        requires cut { block.now.cut ≡ cut_of self.old.geometry }
+        requires room { HasRoomAt self.old metaslab block.now.bytes }
+        requires last { self.old.seq + 1 < 2 ^ 48 }
+        requires represents { (changes : List Change) × Represents R.shape R.told self.old changes }
+        ensures step { (changes : List Change) → Represents R.shape R.told self.old changes
+            → Moves R.shape R.told R.faults (WriteInIs metaslab object block.now.bytes result)
+            (state_of R.told R.faults self.old changes) self.new }
+    {
         if self.objects.reserve(1).is_err() {
             return Err(WriteFault::NoMemory);
         }
-        match store(&mut self.shard, object, self.seq + 1, &block) {
+        match store(
+            &mut self.shards[metaslab as usize],
+            object,
+            self.seq + 1,
+            block,
+        ) {
             Ok(pointer) => {
                 self.seq += 1;
-                let Ok(_) = self.objects.insert(object, pointer) else {
-                    unreachable!()
-                };
+                self.replace(object, pointer);
                 Ok(())
             }
-            Err(WriteFault::Missed { columns }) => {
+            Err(StoreFault::Missed { columns }) => {
                 self.seq += 1;
                 Err(WriteFault::Missed { columns })
             }
-            Err(WriteFault::NoSpace { run }) => Err(WriteFault::NoSpace { run }),
-            Err(WriteFault::NoMemory) => Err(WriteFault::NoMemory),
+            Err(StoreFault::NoMemory) => Err(WriteFault::NoMemory),
         }
     }
 
-    /// The bytes last written to an object.
+    /// Gives an object the pointer of its new block, and frees the block that it had before.
+    fn replace(&mut self, object: u64, pointer: Pointer)
+        requires room { 0 < spare self.old.objects }
+        requires represents { (changes : List Change) × Represents R.shape R.told self.old changes }
+        requires apart { get nat_eq self.old.objects object ≡ Some pointer → ⊥ }
+        ensures same { SamePool R.told R.faults self.old self.new }
+        ensures represents { (changes : List Change) (write : Write) → Represents R.shape R.told self.old changes
+            → HoldsWrite R.told self.old.shards.items pointer write → write.object ≡ object
+            → Represents R.shape R.told self.new (Wrote write ∷ changes) }
+    {
+        let Ok(earlier) = self.objects.insert(object, pointer) else {
+            unreachable!()
+        };
+        if let Some(earlier) = earlier {
+            free_block(&mut self.shards, &earlier);
+        }
+    }
+
+    /// Frees an object, which has no bytes then. Their block keeps its stripes, and is still counted in its metaslab.
+    pub fn free(&mut self, object: u64) -> Result<(), FreeFault>
+        requires represents { (changes : List Change) × Represents R.shape R.told self.old changes }
+        ensures step { (changes : List Change) → Represents R.shape R.told self.old changes
+            → Moves R.shape R.told R.faults (FreeIs object result) (state_of R.told R.faults self.old changes) self.new }
+    {
+        let Some(pointer) = self.objects.remove(&object) else {
+            return Err(FreeFault::NoObject);
+        };
+        free_block(&mut self.shards, &pointer);
+        Ok(())
+    }
+
+    /// Reads the bytes last written to an object.
     pub fn read(&mut self, object: u64) -> Result<Vec<u8>, ObjectFault>
-        requires represents { (writes : List Write) × Represents R.shape R.told self.old writes }
-        ensures step { (writes : List Write) → Represents R.shape R.told self.old writes
-            → Moves R.shape R.told R.faults (ReadIs object result) (state_of R.told R.faults self.old writes) self.new }
-        ensures seq { self.new.seq ≡ self.old.seq }
+        requires represents { (changes : List Change) × Represents R.shape R.told self.old changes }
+        ensures step { (changes : List Change) → Represents R.shape R.told self.old changes
+            → Moves R.shape R.told R.faults (ReadIs object result) (state_of R.told R.faults self.old changes) self.new }
     {
         let Some(pointer) = self.objects.get(&object).copied() else {
             return Err(ObjectFault::NoObject);
         };
-        read_block(self.alloc, &mut self.shard, &pointer)
+        let shard = &mut self.shards[pointer.metaslab as usize];
+        read_block(self.alloc, shard, &pointer)
     }
 
-    /// The SHA-256 digest (FIPS 180-4) of the bytes of `count` objects from `first` on, one after another.
+    /// Gives the SHA-256 digest (FIPS 180-4) of the bytes of `count` objects from `first` on, one after another.
     pub fn sum(&mut self, first: u64, count: u64) -> Result<[u8; 32], SumFault>
         requires range { first + count ≤ 2 ^ 32 }
-        requires represents { (writes : List Write) × Represents R.shape R.told self.old writes }
-        ensures step { (writes : List Write) → Represents R.shape R.told self.old writes
-            → Moves R.shape R.told R.faults (SumIs first count result) (state_of R.told R.faults self.old writes) self.new }
-        ensures seq { self.new.seq ≡ self.old.seq }
+        requires represents { (changes : List Change) × Represents R.shape R.told self.old changes }
+        ensures step { (changes : List Change) → Represents R.shape R.told self.old changes
+            → Moves R.shape R.told R.faults (SumIs first count result) (state_of R.told R.faults self.old changes) self.new }
     {
         let mut hasher = Sha256::new();
         for object in first..first + count {
@@ -102,25 +181,19 @@ impl<R: Rack> Pool<R> {
 
     /// Makes each byte of a sector of a leaf its complement, and the sector harmed. It is counted through the metaslabs.
     pub fn damage(&mut self, leaf: u64, sector: u64) -> Result<(), DamageFault>
-        requires represents { (writes : List Write) × Represents R.shape R.told self.old writes }
-        ensures step { (writes : List Write) → Represents R.shape R.told self.old writes
-            → Moves R.shape R.told R.faults (DamageIs leaf sector result) (state_of R.told R.faults self.old writes) self.new }
-        ensures seq { self.new.seq ≡ self.old.seq }
+        requires represents { (changes : List Change) × Represents R.shape R.told self.old changes }
+        ensures step { (changes : List Change) → Represents R.shape R.told self.old changes
+            → Moves R.shape R.told R.faults (DamageIs leaf sector result) (state_of R.told R.faults self.old changes) self.new }
     {
-        let geometry = &self.shard.geometry;
-        if leaf >= u64::from(geometry.spec.children) || sector >= metaslab_sectors(geometry) {
+        let sectors = metaslab_sectors(&self.geometry);
+        let metaslabs = u64::from(self.geometry.props.metaslabs);
+        if leaf >= u64::from(self.geometry.spec.children) || sector >= metaslabs * sectors {
             return Err(DamageFault::NoSuch);
         }
-        match self.shard.damage(leaf, sector) {
+        let shard = &mut self.shards[(sector / sectors) as usize];
+        match shard.damage(leaf, sector % sectors) {
             Ok(()) => Ok(()),
             Err(_) => Err(DamageFault::Failed),
         }
-    }
-
-    /// Gives the rack back.
-    pub fn into_rack(self) -> R
-        ensures { result ≡ self.shard.rack }
-    {
-        self.shard.into_rack()
     }
 }

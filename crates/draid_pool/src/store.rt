@@ -1,15 +1,23 @@
 ghost use Rattle.std.specs.Prelude.{◌≡◌, ◌<◌, ◌≤◌, ◌^◌, ℕ, List};
 ghost use Rattle.draid_block.specs.Blocks.{cut_of};
-ghost use Rattle.draid_pool.specs.Store.{BlockAnswers, MissedSome, StoreAnswers};
+ghost use Rattle.draid_pool.specs.Store.{BlockAnswers, FreesBlock, HasRoom, IsLiveIn, MissedSome, StoreAnswers};
 ghost use Rattle.draid_shard.specs.Columns.{EndsHarm, TellsBoth};
-ghost use Rattle.draid_shard.specs.Shard.{Carries, HoldsBlock, IsLive, KeepsBlocks, NoneFalls, Valid, free_of, part_of};
+ghost use Rattle.draid_shard.specs.Shard.{Carries, HoldsBlock, IsLive, KeepsBlocks, NoneFalls, Valid, free_of, held_of, part_of};
 
-use crate::fault::{ObjectFault, WriteFault};
+use crate::fault::ObjectFault;
 use draid_block::{Encoded, SolveFault, solve_block};
 use draid_names::Pointer;
 use draid_rack::Rack;
 use draid_shard::{BeginFault, FetchFault, Missed, Shard, Ticket};
 use std::alloc::Global;
+
+/// Why a block wasn't stored.
+#[derive(Clone, Copy, Debug, PartialEq, Eq)]
+pub(crate) enum StoreFault {
+    /// So many columns landed on no leaf.
+    Missed { columns: u32 },
+    NoMemory,
+}
 
 /// Writes all columns of a block whose write has begun.
 fn put_all<R: Rack>(shard: &mut Shard<R>, ticket: &mut Ticket, block: &Encoded)
@@ -28,6 +36,7 @@ fn put_all<R: Rack>(shard: &mut Shard<R>, ticket: &mut Ticket, block: &Encoded)
         (ticket.new.missed ≡ 0) x.harmed y.harmed) }
     ensures later { NoneFalls (R.faults shard.old.rack) (R.faults shard.new.rack) }
     ensures free { free_of shard.new ≡ free_of shard.old }
+    ensures held { held_of shard.new ≡ held_of shard.old }
     ensures kept { KeepsBlocks R.told shard.old shard.new }
 {
     for _column in 0..shard.geometry.g {
@@ -35,18 +44,19 @@ fn put_all<R: Rack>(shard: &mut Shard<R>, ticket: &mut Ticket, block: &Encoded)
     }
 }
 
-/// Writes a block of `object` to the shard.
+/// Writes a block of `object` to a shard that has room for it.
 pub(crate) fn store<R: Rack>(
     shard: &mut Shard<R>,
     object: u64,
     seq: u64,
     block: &Encoded,
-) -> Result<Pointer, WriteFault>
+) -> Result<Pointer, StoreFault>
     requires valid { Valid R.shape shard.old }
     requires object { object < 2 ^ 32 }
     requires first { 1 ≤ seq }
     requires last { seq < 2 ^ 48 }
     requires cut { block.now.cut ≡ cut_of shard.old.geometry }
+    requires room { HasRoom shard.old block.now.bytes }
     ensures valid { Valid R.shape shard.new }
     ensures part { part_of shard.new ≡ part_of shard.old }
     ensures answer { StoreAnswers R.told R.faults object block.now.bytes shard.old shard.new result }
@@ -55,13 +65,14 @@ pub(crate) fn store<R: Rack>(
 {
     let mut ticket = match shard.begin(object, seq, block) {
         Ok(ticket) => ticket,
-        Err(BeginFault::NoRoom { largest }) => return Err(WriteFault::NoSpace { run: largest }),
-        Err(BeginFault::NoMemory) => return Err(WriteFault::NoMemory),
+        Err(BeginFault::NoRoom { .. }) => unreachable!(),
+        Err(BeginFault::Entries { .. }) => unreachable!(),
+        Err(BeginFault::NoMemory) => return Err(StoreFault::NoMemory),
     };
     put_all(shard, &mut ticket, block);
     match shard.finish(ticket) {
         Ok(pointer) => Ok(pointer),
-        Err(Missed { columns }) => Err(WriteFault::Missed { columns }),
+        Err(Missed { columns }) => Err(StoreFault::Missed { columns }),
     }
 }
 
@@ -79,6 +90,7 @@ pub(crate) fn read_block<R: Rack>(
         → BlockAnswers (part_of shard.old) pointer.now w (R.told shard.old.rack) (R.faults shard.old.rack) (R.faults shard.new.rack) result }
     ensures told { R.told shard.new.rack ≡ R.told shard.old.rack }
     ensures free { free_of shard.new ≡ free_of shard.old }
+    ensures held { held_of shard.new ≡ held_of shard.old }
     ensures later { NoneFalls (R.faults shard.old.rack) (R.faults shard.new.rack) }
     ensures kept { KeepsBlocks R.told shard.old shard.new }
 {
@@ -94,4 +106,14 @@ pub(crate) fn read_block<R: Rack>(
         }
         Err(SolveFault::NoMemory) => Err(ObjectFault::NoMemory),
     }
+}
+
+/// Frees a live block in its shard.
+pub(crate) fn free_block<R: Rack>(shards: &mut Vec<Shard<R>>, pointer: &Pointer)
+    requires live { IsLiveIn R.shape shards.old.items pointer.now }
+    ensures frees { FreesBlock R.shape R.told pointer.now shards.old.items shards.new.items }
+{
+    let Ok(_) = shards[pointer.metaslab as usize].free(pointer) else {
+        unreachable!()
+    };
 }
