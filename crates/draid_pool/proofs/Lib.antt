@@ -1,5 +1,10 @@
+pub mod Harm
 pub mod Lists
+pub mod Objects
 pub mod Rooms
+pub mod Shards
+pub mod Steps
 pub mod Stored
 pub mod Storing
 pub mod Unread
+pub mod Writing
