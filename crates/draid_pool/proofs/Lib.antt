@@ -1,6 +1,8 @@
+pub mod Choosing
 pub mod Harm
 pub mod Lists
 pub mod Objects
+pub mod Reading
 pub mod Rooms
 pub mod Shards
 pub mod Steps
