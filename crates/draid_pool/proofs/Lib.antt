@@ -2,11 +2,13 @@ pub mod Choosing
 pub mod Harm
 pub mod Lists
 pub mod Objects
+pub mod Places
 pub mod Reading
 pub mod Rooms
 pub mod Shards
 pub mod Steps
 pub mod Stored
 pub mod Storing
+pub mod Sums
 pub mod Unread
 pub mod Writing
