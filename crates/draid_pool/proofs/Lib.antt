@@ -1,4 +1,5 @@
 pub mod Choosing
+pub mod Closed
 pub mod Harm
 pub mod Lists
 pub mod Objects
