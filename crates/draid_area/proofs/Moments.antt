@@ -1,9 +1,9 @@
-use Rattle.std.proofs.Common.{arith, refl, ◌≡◌, ◌≤◌, ◌<◌, ◌+◌, ◌∙◌, sym, ap, ℕ, Bool, true, false, List, Option, Some, None, Result, Ok, Err, OnOk, OnErr, IsTrue, option_map, length, slice_index_or}
+use Rattle.std.proofs.Common.{arith, refl, ◌≡◌, ◌≤◌, ◌<◌, ◌+◌, ◌∙◌, sym, ap, ℕ, Bool, true, false, List, Option, Some, None, Result, Ok, Err, OnOk, OnErr, IsTrue, option_map, length, nat_lt, slice_index_or}
 use Rattle.std.proofs.lemmas.Bool.Decides.{nat_tests}
 use Rattle.std.proofs.lemmas.List.{ext_get_or}
 use Rattle.std.specs.List.{splice}
 use Rattle.draid_area.specs.Area.{Content, Writes, OnTold, IsOrderly, MayLeave, last_clock, tick, within, writes, flushes}
-use Rattle.draid_area.specs.Moments.{Stays, Goes, Between, CrashKeeps, LeavesWritten, Spares, SparesTold, OnBoth}
+use Rattle.draid_area.specs.Moments.{Stays, Goes, Between, CrashKeeps, LeavesWritten, Passes, PassesTold, Spares, SparesTold, OnBoth}
 use Rattle.draid_area.proofs.Splices.{length-splice, splice_outside}
 
 pub goes_self : (x : Content) → Goes x x
@@ -137,3 +137,43 @@ pub leaves_written : {E F : Type 0} (at : ℕ) (bytes : List ℕ) (u : Unit) (r 
 leaves_written at bytes u r (Err e) o p q w is flushed = tt
 leaves_written at bytes u r (Ok v) None p q w is flushed = tt
 leaves_written at bytes u r (Ok v) (Some x) p q w is flushed = rw (flushed, w.told) (λ left may. leaves_all _ left (λ i. refl) refl may ∙ ap (λ b. splice x.bytes at (at + length b) b) (whole_of r is w.whole))
+
+-- ---- what a call says of its moments
+not_since : (a b : ℕ) → nat_lt a b ≡ false → b ≤ a
+not_since a b out = grind (arith, nat_tests)
+
+at_moment : (x m y : Content) (left : List ℕ) (i d : ℕ) → y.since i ≤ x.clock → x.clock < last_clock → Between x m y → MayLeave m left → x.soft i ≡ false → slice_index_or left i d ≡ slice_index_or x.bytes i d
+at_moment x m y left i d early low between may firm =
+    let q = between.before.same i (omega (arith, early, between.after.later)) (omega (arith, early, low)) in
+    let p = between.after.same i (omega (arith, early, q.since)) (omega (arith, early, low, q.since)) in
+    may.same i d (stays_false (x.soft i) (m.soft i) p.soft firm) ∙ sym (p.byte d)
+
+pub passes : (x y : Content) → Goes x y → Passes x y
+passes x y goes = record {
+  goes = goes;
+  kept = λ low m between left may. record {
+    same = λ i d out firm. at_moment x m y left i d (not_since x.clock (y.since i) out) low between may firm;
+    least = omega (arith, between.after.firm, may.least);
+    most = omega (arith, may.most, between.before.grown);
+  };
+}
+
+pub passed_same : (o p : Option Content) → p ≡ o → PassesTold o p
+passed_same None p is = is
+passed_same (Some x) p is = rw is (passes x x (goes_self x))
+
+pub passed_writes : {E : Type 0} (at : ℕ) (bytes : List ℕ) (r : Result Unit E) (o p : Option Content) → Writes at bytes r o p → PassesTold o p
+passed_writes at bytes r None p w = w.told
+passed_writes at bytes r (Some x) p w = rw w.told (passes x (writes at w.stands x) (goes_writes at w.stands x w.inside))
+
+pub passed_flush : (o p : Option Content) → OnTold o (λ x. x.firm ≤ length x.bytes) → p ≡ option_map flushes o → PassesTold o p
+passed_flush None p kept is = is
+passed_flush (Some x) p kept is = rw is (passes x (flushes x) (goes_flushes x kept))
+
+-- calls one after another
+pub passed_on : (o p q : Option Content) → PassesTold o p → PassesTold p q → PassesTold o q
+passed_on None None q a b = b
+passed_on None (Some y) q a b = absurd (cc)
+passed_on (Some x) None q a b = absurd a
+passed_on (Some x) (Some y) None a b = absurd b
+passed_on (Some x) (Some y) (Some z) a b = passes x z (goes_on x y z a.goes b.goes)

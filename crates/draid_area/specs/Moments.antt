@@ -1,4 +1,4 @@
-use Rattle.std.specs.Prelude.{◌≡◌, ◌<◌, ◌≤◌, ◌+◌, ⊤, ℕ, Bool, false, List, Option, None, MatchOption, IsTrue, length, slice_index_or}
+use Rattle.std.specs.Prelude.{◌≡◌, ◌<◌, ◌≤◌, ◌+◌, ⊤, ℕ, Bool, false, nat_lt, List, Option, None, MatchOption, IsTrue, length, slice_index_or}
 use Rattle.std.specs.List.{splice}
 use Rattle.draid_area.specs.Area.{Content, MayLeave, last_clock}
 
@@ -33,6 +33,22 @@ abbrev pub CrashKeeps : (ℕ → Bool) → Content → Content → Type 0
 CrashKeeps named x y =
     x.clock < last_clock → (m : Content) → Between x m y
     → (left : List ℕ) → MayLeave m left → Keeps named x y left
+
+-- At each moment between two, a crash leaves each offset that wasn't written since the first, and wasn't soft then, as
+-- it was; no fewer bytes than outlast a crash at the first, and no more than there are at the second.
+abbrev pub KeptSince : Content → Content → Type 0
+KeptSince x y =
+    x.clock < last_clock → (m : Content) → Between x m y → (left : List ℕ) → MayLeave m left
+    → Keeps (λ i. nat_lt x.clock (y.since i)) x y left
+
+-- Time went from x to y, and this is known of the moments between them.
+pub record Passes (x y : Content) : Type 0 where
+  pub goes : Goes x y
+  pub kept : KeptSince x y
+
+-- what was told is told, and this is known of the moments between
+abbrev pub PassesTold : Option Content → Option Content → Type 0
+PassesTold old new = MatchOption old (new ≡ None) (λ x. MatchOption new ⊥ (λ y. Passes x y))
 
 -- whatever a crash at y leaves is what a write of these bytes from here on made of x
 abbrev pub LeavesWritten : ℕ → List ℕ → Content → Content → Type 0

@@ -1,5 +1,6 @@
 ghost use Rattle.std.specs.Prelude.{◌≡◌, ◌≤◌, ◌+◌, max, ℕ, Option, OnOk, OnErr, length, option_map};
 ghost use Rattle.draid_area.specs.Area.{Content, Reads, Writes, Counts, OnTold, IsOrderly, IsOfSize, flushes};
+ghost use Rattle.draid_area.specs.Moments.{PassesTold};
 
 use std::alloc::{AllocError, AllocFailed};
 
@@ -56,6 +57,7 @@ pub trait Area: Drop {
         ensures whole { length into.new ≡ length into.old }
         ensures read { OnOk result (Reads (told self.old) at into.new) }
         ensures told { told self.new ≡ told self.old }
+        ensures moments { PassesTold (told self.old) (told self.new) }
         ensures size { size self.new ≡ size self.old }
         ensures cause { Counts result (faults self.old) (faults self.new) };
 
@@ -63,6 +65,7 @@ pub trait Area: Drop {
     fn write(&mut self, at: u64, bytes: &[u8]) -> Result<(), AreaFault>
         requires place { at ≤ size self.old }
         ensures told { Writes at bytes.now result (told self.old) (told self.new) }
+        ensures moments { PassesTold (told self.old) (told self.new) }
         ensures size { OnOk result (size self.new ≡ max (size self.old) (at + length bytes.now)) }
         ensures grown { size self.old ≤ size self.new }
         ensures bounded { size self.new ≤ max (size self.old) (at + length bytes.now) }
@@ -72,6 +75,7 @@ pub trait Area: Drop {
     fn flush(&mut self) -> Result<(), AreaFault>
         ensures ok { OnOk result (told self.new ≡ option_map flushes (told self.old)) }
         ensures err { OnErr result (told self.new ≡ told self.old) }
+        ensures moments { PassesTold (told self.old) (told self.new) }
         ensures size { size self.new ≡ size self.old }
         ensures cause { Counts result (faults self.old) (faults self.new) };
 

@@ -1,4 +1,4 @@
-ghost use Rattle.std.specs.Prelude.{◌≡◌, ◌+◌, ◌-◌, ◌≤◌, ◌++◌, ℕ, true, false, if◌then◌else◌, OnOk, OnErr, length, replicate, slice_range, take};
+ghost use Rattle.std.specs.Prelude.{◌≡◌, ◌+◌, ◌-◌, ◌^◌, min, ◌≤◌, ◌++◌, ℕ, true, false, if◌then◌else◌, OnOk, OnErr, length, replicate, slice_range, take};
 ghost use Rattle.std.specs.List.{splice};
 ghost use Rattle.draid_area.specs.Cells.{AreInside, LeavesByte, byte_at, clock_at, covers, length_by};
 ghost use Rattle.draid_area.specs.Area.{tick, within};
@@ -19,6 +19,13 @@ pub(crate) fn later(clock: u64) -> u64
     ensures { result ≡ tick clock }
 {
     if clock < u64::MAX { clock + 1 } else { clock }
+}
+
+/// A count of failures after one more.
+pub(crate) fn risen(count: u64) -> u64
+    ensures { result ≡ min (count + 1) (2 ^ 64 - 1) }
+{
+    count.saturating_add(1)
 }
 
 /// Makes a list at least `len` long.

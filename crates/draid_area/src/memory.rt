@@ -1,12 +1,12 @@
-ghost use Rattle.std.specs.Prelude.{◌≡◌, ◌+◌, ◌≤◌, max, ℕ, Some, false, IfOk, IsErr, IsErrOf, OnOk, OnErr, length, option_map, refl};
-ghost use Rattle.draid_faults.specs.Calls.{CountsCall, failing_calls, is_fused, next_call};
+ghost use Rattle.std.specs.Prelude.{◌≡◌, ◌+◌, ◌≤◌, max, ℕ, Some, false, true, IfOk, IsErr, IsErrOf, OnOk, OnErr, length, option_map, refl};
+ghost use Rattle.draid_faults.specs.Calls.{CountsCall, CountsJust, failing_calls, is_fused, next_call};
 ghost use Rattle.draid_area.specs.Area.{Reads, Writes, Counts, begins, flushes};
 ghost use Rattle.draid_area.specs.Cells.{AreUpTo, IsSound};
-ghost use Rattle.draid_area.specs.Moments.{CrashesTold};
+ghost use Rattle.draid_area.specs.Moments.{CrashesTold, PassesTold};
 
 use crate::area::{Area, AreaFault};
 use crate::cells::{
-    Span, cut, grow, keep_spans, later, leave_spans, length_left, mark, overwrite, reach,
+    Span, cut, grow, keep_spans, later, leave_spans, length_left, mark, overwrite, reach, risen,
 };
 use draid_faults::{Calls, CrashRule, Fuse};
 use std::alloc::{AllocError, Global};
@@ -63,6 +63,7 @@ impl MemoryArea {
         ensures faults { faults_of_memory self.new ≡ faults_of_memory self.old }
         ensures next { next_call (calls_of self.new) ≡ next_call (calls_of self.old) }
         ensures failing { failing_calls (calls_of self.new) ≡ failing_calls (calls_of self.old) }
+        ensures fused { is_fused (calls_of self.new) ≡ true }
     {
         self.calls.put_fuse(fuse);
     }
@@ -109,13 +110,16 @@ impl Area for MemoryArea {
         ensures whole { length into.new ≡ length into.old }
         ensures read { OnOk result (Reads (told_by_memory self.old) at into.new) }
         ensures told { told_by_memory self.new ≡ told_by_memory self.old }
+        ensures moments { PassesTold (told_by_memory self.old) (told_by_memory self.new) }
         ensures size { size_of_memory self.new ≡ size_of_memory self.old }
         ensures cause { Counts result (faults_of_memory self.old) (faults_of_memory self.new) }
+        ensures exact { CountsJust (IsErrOf result AreaFault.Failed) (faults_of_memory self.old)
+            (faults_of_memory self.new) }
         ensures calls { CountsCall (IsErr result) (calls_of self.old) (calls_of self.new) }
         ensures device { IsErr result → IsErrOf result AreaFault.Failed }
     {
         if self.calls.fails() {
-            self.faults = self.faults.saturating_add(1);
+            self.faults = risen(self.faults);
             return Err(AreaFault::Failed);
         }
         let start = at as usize;
@@ -126,11 +130,14 @@ impl Area for MemoryArea {
     fn write(&mut self, at: u64, bytes: &[u8]) -> Result<(), AreaFault>
         requires place { at ≤ size_of_memory self.old }
         ensures told { Writes at bytes.now result (told_by_memory self.old) (told_by_memory self.new) }
+        ensures moments { PassesTold (told_by_memory self.old) (told_by_memory self.new) }
         ensures size { OnOk result (size_of_memory self.new
             ≡ max (size_of_memory self.old) (at + length bytes.now)) }
         ensures grown { size_of_memory self.old ≤ size_of_memory self.new }
         ensures bounded { size_of_memory self.new ≤ max (size_of_memory self.old) (at + length bytes.now) }
         ensures cause { Counts result (faults_of_memory self.old) (faults_of_memory self.new) }
+        ensures exact { CountsJust (IsErrOf result AreaFault.Failed) (faults_of_memory self.old)
+            (faults_of_memory self.new) }
         ensures flushed { KeepsFlushed self.old self.new }
         ensures calls { CountsCall (IsErrOf result AreaFault.Failed) (calls_of self.old) (calls_of self.new) }
 
@@ -139,7 +146,7 @@ impl Area for MemoryArea {
     {
         self.clock = later(self.clock);
         if self.calls.fails() {
-            self.faults = self.faults.saturating_add(1);
+            self.faults = risen(self.faults);
             return Err(AreaFault::Failed);
         }
         let start = at as usize;
@@ -161,15 +168,18 @@ impl Area for MemoryArea {
     fn flush(&mut self) -> Result<(), AreaFault>
         ensures ok { OnOk result (told_by_memory self.new ≡ option_map flushes (told_by_memory self.old)) }
         ensures err { OnErr result (told_by_memory self.new ≡ told_by_memory self.old) }
+        ensures moments { PassesTold (told_by_memory self.old) (told_by_memory self.new) }
         ensures size { size_of_memory self.new ≡ size_of_memory self.old }
         ensures cause { Counts result (faults_of_memory self.old) (faults_of_memory self.new) }
+        ensures exact { CountsJust (IsErrOf result AreaFault.Failed) (faults_of_memory self.old)
+            (faults_of_memory self.new) }
         ensures flushed { OnOk result (Flushes self.old self.new) }
         ensures unflushed { OnErr result (KeepsFlushed self.old self.new) }
         ensures calls { CountsCall (IsErr result) (calls_of self.old) (calls_of self.new) }
         ensures device { IsErr result → IsErrOf result AreaFault.Failed }
     {
         if self.calls.fails() {
-            self.faults = self.faults.saturating_add(1);
+            self.faults = risen(self.faults);
             return Err(AreaFault::Failed);
         }
         self.clock = later(self.clock);

@@ -57,22 +57,34 @@ fn the_calls_of_the_list_fail_alone(rt: HostRuntime) -> Result<(), Fail> {
 }
 
 #[test]
-fn a_crash_leaves_what_was_flushed_and_the_rest_by_its_rule(rt: HostRuntime) -> Result<(), Fail> {
-    for (rule, left, length) in [
-        (CrashRule::Old, [0, 0, 0, 0], 1024),
-        (CrashRule::New, [3, 4, 5, 6], 1028),
-        (CrashRule::Torn, [252, 251, 250, 249], 1028),
-        (CrashRule::Half, [3, 4, 0, 0], 1028),
+fn a_crash_leaves_the_half_that_was_flushed(rt: HostRuntime) -> Result<(), Fail> {
+    for (rule, front, middle) in [
+        (CrashRule::Old, [0; 4], [0; 4]),
+        (CrashRule::New, [2; 4], [2; 4]),
+        (CrashRule::Torn, [253; 4], [253; 4]),
+        (CrashRule::Half, [2; 4], [2, 2, 0, 0]),
     ] {
         let mut area = zeros(rt.alloc(), Vec::new(rt.alloc()))?;
         assert_eq!(rt; write_half(&mut area, 512, &[1; 512]), Ok(()));
+        assert_eq!(rt; area.write(0, &[2; 512]), Ok(()));
+        area.crash(rule);
+        assert_eq!(rt; area.length(), 1024);
+        assert_eq!(rt; read_some(&mut area, 0), Ok(front));
+        assert_eq!(rt; read_some(&mut area, 254), Ok(middle));
+        assert_eq!(rt; read_some(&mut area, 512), Ok([1; 4]));
+        assert_eq!(rt; read_some(&mut area, 1020), Ok([1; 4]));
+    }
+    Ok(())
+}
+
+#[test]
+fn a_crash_leaves_the_length_by_its_rule(rt: HostRuntime) -> Result<(), Fail> {
+    for (rule, length) in [(CrashRule::Old, 1024), (CrashRule::Half, 1028)] {
+        let mut area = zeros(rt.alloc(), Vec::new(rt.alloc()))?;
         assert_eq!(rt; area.write(8, &[9; 4]), Ok(()));
-        assert_eq!(rt; area.write(8, &[3, 4, 5, 6]), Ok(()));
         assert_eq!(rt; area.write(1024, &[7; 4]), Ok(()));
         area.crash(rule);
         assert_eq!(rt; area.length(), length);
-        assert_eq!(rt; read_some(&mut area, 8), Ok(left));
-        assert_eq!(rt; read_some(&mut area, 510), Ok([0, 0, 1, 1]));
     }
     Ok(())
 }

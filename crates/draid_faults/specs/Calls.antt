@@ -13,6 +13,11 @@ failing_calls calls = calls.failing.items
 abbrev pub is_fused : Calls → Bool
 is_fused calls = is_some calls.fuse
 
+-- A count of failures rose by one where a call failed, and else stays. It stands still at the greatest of 64 bits.
+pub record CountsJust (failed : Type 0) (before now : ℕ) : Type 0 where
+  pub risen : failed → now ≡ min (before + 1) (2 ^ 64 - 1)
+  pub same : (failed → ⊥) → now ≡ before
+
 -- A call was counted. It failed where the list names it, and else only where a fuse is in. The number of
 -- the calls stands still at the greatest of 64 bits.
 pub record CountsCall (failed : Type 0) (old new : Calls) : Type 0 where

@@ -5,6 +5,7 @@
 mod adapters;
 
 use adapters::{Input, Output};
+use draid_choose::{Chooser, first_fit};
 use draid_run::{Status, run};
 use draid_shelf::MemoryShelf;
 use std::process::ExitCode;
@@ -19,8 +20,9 @@ fn main(rt: HostRuntime) -> ExitCode {
     let mut shelf = MemoryShelf::new(rt.alloc(), Vec::new(rt.alloc()));
     let mut source = Input::new(rt.stdin());
     let mut sink = Output::new(rt.stdout());
+    let chooser = Chooser::new(first_fit);
     let status = match words(&rt) {
-        Ok(words) => run(&rt, &words, &mut shelf, &mut source, &mut sink),
+        Ok(words) => run(&rt, &words, &mut shelf, &mut source, &mut sink, &chooser),
         Err(_) => Status::NoMemory,
     };
     ExitCode::from(status.code())

@@ -1,3 +1,4 @@
+pub mod Counted
 pub mod Crashes
 pub mod Moments
 pub mod Sound

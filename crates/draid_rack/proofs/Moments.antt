@@ -1,7 +1,7 @@
 use Rattle.std.proofs.Common.{arith, refl, subst, ◌∙◌, ◌≡◌, ◌≤◌, ◌<◌, ◌==◌, ◌&&◌, ℕ, Bool, true, false, List, Option, Some, None, Result, Ok, Err, OnOk, OnErr, IsTrue, option_map, nat_lt}
 use Rattle.std.proofs.lemmas.Bool.Decides.{nat_tests}
 use Rattle.draid_rack.specs.Rack.{Told, Lands, OnTold, IsOrderly, adds, damages, drops, flushes, lands, last_clock, settles, tick}
-use Rattle.draid_rack.specs.Moments.{Stays, Goes, Between, Keeps, KeptOthers, Spares, SparesTold, OnBoth, IsCrashOutcome, CrashKeepsOthers}
+use Rattle.draid_rack.specs.Moments.{Stays, Goes, Between, Keeps, KeptOthers, Passes, PassesTold, Spares, SparesTold, OnBoth, IsCrashOutcome, CrashKeepsOthers}
 
 pub goes_on : (x y z : Told) → Goes x y → Goes y z → Goes x z
 goes_on x y z a b = record {
@@ -229,3 +229,31 @@ pub kept_by_crash : (named : ℕ → ℕ → Bool) (o p : Option Told) → OnBot
 kept_by_crash named None p keeps = tt
 kept_by_crash named (Some x) None keeps = tt
 kept_by_crash named (Some x) (Some y) keeps = crash_keeps named x y keeps
+
+-- ---- what a call says of its moments
+pub passes : (x y : Told) → Goes x y → Passes x y
+passes x y goes = record {
+  goes = goes;
+  kept = λ low m between l s bytes reads early.
+      let q = between.before.same l s bytes reads (omega (arith, early, between.after.later)) (omega (arith, early, low)) in
+      let p = between.after.same l s bytes q.reads (omega (arith, early, q.since)) (omega (arith, early, low, q.since)) in
+      record { reads = q.reads; soft = p.soft; harmed = p.harmed };
+}
+
+pub passed_same : (x : Told) (p : Option Told) → p ≡ Some x → PassesTold (Some x) p
+passed_same x p is = rw is (passes x x (goes_self x))
+
+pub passed_change : (f : Told → Told) → ((x : Told) → Goes x (f x)) → (x : Told) (p : Option Told) → p ≡ Some (f x) → PassesTold (Some x) p
+passed_change f goes x p is = rw is (passes x (f x) (goes x))
+
+pub passed_lands : {E : Type 0} (l s : ℕ) (bytes : List ℕ) (harm : Told → Bool) (r : Result Unit E) (o p : Option Told) → Lands l s bytes harm r o p → PassesTold o p
+passed_lands l s bytes harm r None p w = w.told
+passed_lands l s bytes harm r (Some x) p w = rw w.told (passes x (lands l s w.stands (harm x) x) (goes_lands l s w.stands (harm x) x))
+
+-- calls one after another
+pub passed_on : (o p q : Option Told) → PassesTold o p → PassesTold p q → PassesTold o q
+passed_on None None q a b = b
+passed_on None (Some y) q a b = absurd (cc)
+passed_on (Some x) None q a b = absurd a
+passed_on (Some x) (Some y) None a b = absurd b
+passed_on (Some x) (Some y) (Some z) a b = passes x z (goes_on x y z a.goes b.goes)

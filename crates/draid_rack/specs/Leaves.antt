@@ -1,7 +1,6 @@
-use Rattle.std.specs.Prelude.{◌≡◌, ◌≤◌, ℕ, Bool, false, List, Option, Some, None, option_map, option_and_then, slice_get, length, unwrap_or, nat_lt, if◌then◌else◌}
+use Rattle.std.specs.Prelude.{◌≡◌, ◌≤◌, ◌+◌, ◌-◌, ◌^◌, min, ℕ, Bool, false, List, Option, Some, None, option_map, option_and_then, slice_get, length, unwrap_or, nat_lt, if◌then◌else◌}
 use Rattle.std.specs.Ordering.{nat_cmp}
 use Rattle.std.specs.BTreeMap.{BTreeMap, get}
-use Rattle.draid_names.specs.Faults.{Rose}
 use Rattle.draid_rack.specs.declared.leaf.Leaf.{Leaf}
 use Rattle.draid_rack.specs.Sectors.{View, IsLong, blank, view_of}
 use Rattle.draid_rack.specs.Rack.{Shape, Told}
@@ -84,4 +83,5 @@ pub record CountsFault (l : ℕ) (old new : BTreeMap ℕ Leaf) : Type 0 where
   pub views : (m q : ℕ) → view_at new m q ≡ view_at old m q
   pub sectors : (m : ℕ) → sectors_in (leaf_at new m) ≡ sectors_in (leaf_at old m)
   pub later : (m : ℕ) → faults_in (leaf_at old m) ≤ faults_in (leaf_at new m)
-  pub rose : Rose (faults_in (leaf_at old l)) (faults_in (leaf_at new l))
+  pub own : faults_in (leaf_at new l) ≡ min (faults_in (leaf_at old l) + 1) (2 ^ 64 - 1)
+  pub others : (m : ℕ) → (m ≡ l → ⊥) → faults_in (leaf_at new m) ≡ faults_in (leaf_at old m)

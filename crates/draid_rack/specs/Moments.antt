@@ -32,6 +32,18 @@ KeptOthers named x y =
     x.clock < last_clock → (m : Told) → Between x m y → (l s : ℕ) (bytes : List ℕ)
     → named l s ≡ false → x.reads l s ≡ Some bytes → Keeps x m l s bytes
 
+-- At each moment between two, each sector that wasn't changed since the first read what it reads at the second,
+-- and was soft or harmed only if it was so at the first.
+abbrev pub KeptSince : Told → Told → Type 0
+KeptSince x y =
+    x.clock < last_clock → (m : Told) → Between x m y → (l s : ℕ) (bytes : List ℕ)
+    → y.reads l s ≡ Some bytes → y.since l s ≤ x.clock → Keeps x m l s bytes
+
+-- Time went from x to y, and this is known of the moments between them.
+pub record Passes (x y : Told) : Type 0 where
+  pub goes : Goes x y
+  pub kept : KeptSince x y
+
 -- Another state, in which only the sectors named were changed. Harm and softness may have ended elsewhere.
 pub record Spares (named : ℕ → ℕ → Bool) (x y : Told) : Type 0 where
   pub later : x.clock ≤ y.clock
@@ -67,3 +79,7 @@ CrashKeepsOthers named x y =
     x.clock < last_clock → (m : Told) → Between x m y → (left : Told) → IsCrashOutcome m left
     → (l s : ℕ) (bytes : List ℕ) → named l s ≡ false → x.soft l s ≡ false → x.reads l s ≡ Some bytes
     → (left.reads l s ≡ Some bytes) × (IsTrue (left.harmed l s) → IsTrue (x.harmed l s))
+
+-- what was told is told, and this is known of the moments between
+abbrev pub PassesTold : Option Told → Option Told → Type 0
+PassesTold old new = MatchOption old (new ≡ None) (λ x. MatchOption new ⊥ (λ y. Passes x y))

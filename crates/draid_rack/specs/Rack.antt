@@ -1,7 +1,8 @@
 use Rattle.std.specs.Prelude.{◌≡◌, ◌<◌, ◌≤◌, ⊤, ◌==◌, ◌&&◌, ◌+◌, ◌-◌, ◌^◌, ℕ, Bool, true, false, List, Option, Some, None, Result, MatchOption, OnOk, OnErr, option_map, map, replicate, nat_lt, if◌then◌else◌}
 use Rattle.std.specs.List.{list_any}
 use Rattle.draid_names.specs.Faults.{Rose}
-use Rattle.draid_rack.specs.declared.rack.At.{At}
+use Rattle.draid_faults.specs.Calls.{CountsJust}
+use Rattle.draid_names.specs.declared.arm.At.{At}
 
 -- the length of a sector in bytes, and how many sectors each leaf has that is there
 pub record Shape : Type 0 where
@@ -142,6 +143,11 @@ pub record IsCalm (x : Told) : Type 0 where
 pub record Counts {E : Type 0} (who : Option ℕ) (result : Result Unit E) (old new : Option ℕ → ℕ) : Type 0 where
   pub later : (w : Option ℕ) → old w ≤ new w
   pub cause : OnErr result (Rose (old who) (new who))
+
+-- The count of `who` rose by one where a call failed. No other changed.
+pub record CountsOnly (who : Option ℕ) (failed : Type 0) (old new : Option ℕ → ℕ) : Type 0 where
+  pub own : CountsJust failed (old who) (new who)
+  pub others : (w : Option ℕ) → (w ≡ who → ⊥) → new w ≡ old w
 
 -- No count but that of this leaf, which came or went, falls.
 abbrev pub CountsOthers : ℕ → (Option ℕ → ℕ) → (Option ℕ → ℕ) → Type 0

@@ -1,5 +1,4 @@
-ghost use Rattle.std.specs.Prelude.{◌≡◌, ◌≤◌, ◌<◌, ◌==◌, true, IfOk, IsSomeAnd, Some, length};
-ghost use Rattle.draid_names.specs.Faults.{Rose};
+ghost use Rattle.std.specs.Prelude.{◌≡◌, ◌≤◌, ◌<◌, ◌==◌, ◌+◌, ◌-◌, ◌^◌, min, true, IfOk, IsSomeAnd, Some, length};
 
 use crate::sector::Sector;
 use draid_faults::CrashRule;
@@ -37,7 +36,7 @@ impl Leaf {
 
     pub(crate) fn count_fault(&mut self)
         ensures sectors { self.new.sectors ≡ self.old.sectors }
-        ensures rose { Rose self.old.faults self.new.faults }
+        ensures rose { self.new.faults ≡ min (self.old.faults + 1) (2 ^ 64 - 1) }
         ensures later { self.old.faults ≤ self.new.faults }
     {
         if self.faults < u64::MAX {

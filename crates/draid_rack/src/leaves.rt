@@ -1,14 +1,13 @@
 ghost use Rattle.std.specs.Prelude.{◌≡◌, ◌≤◌, ◌<◌, ◌==◌, ◌^◌, ℕ, Option, Some, None, true, IsSome, IsSomeAnd, IfSome, IfNone, OnOk, OnErr, if◌then◌else◌, length, option_map};
 ghost use Rattle.std.specs.List.{list_any};
-ghost use Rattle.draid_rack.specs.declared.rack.At.{At};
+ghost use Rattle.draid_names.specs.declared.arm.At.{At};
 ghost use Rattle.draid_rack.specs.Leaves.{Changes, CountsFault, bytes_of, harmed_of, leaf_at, view_at};
 ghost use Rattle.draid_rack.specs.Sectors.{crashed, damaged, flushed, is_of_leaf, is_sector, landed, marked, settled};
 ghost use Rattle.draid_rack.specs.Rack.{tick};
 
 use crate::leaf::Leaf;
-use crate::rack::At;
 use draid_faults::CrashRule;
-use draid_names::NoMemory;
+use draid_names::{At, NoMemory};
 use std::collections::BTreeMap;
 use std::ops::Bound;
 

@@ -12,4 +12,4 @@ mod sector;
 mod tests;
 
 pub use memory::MemoryRack;
-pub use rack::{AddFault, At, Rack};
+pub use rack::{AddFault, Rack};

@@ -1,18 +1,18 @@
-ghost use Rattle.std.specs.Prelude.{◌≡◌, ◌<◌, ◌≤◌, ℕ, Option, Some, None, false, Bool, IsTrue, IfOk, IfSome, IfNone, IsErr, IsErrOf, IsSome, OnOk, OnErr, Result, length, replicate, option_map};
+ghost use Rattle.std.specs.Prelude.{◌≡◌, ◌<◌, ◌≤◌, ◌==◌, if◌then◌else◌, ℕ, Option, Some, None, false, true, Bool, IsTrue, IfOk, IfSome, IfNone, IsErr, IsErrOf, IsSome, OnOk, OnErr, Result, length, replicate, option_map};
 ghost use Rattle.draid_names.specs.Faults.{Rose};
-ghost use Rattle.draid_faults.specs.Calls.{CountsCall, failing_calls, is_fused, next_call};
+ghost use Rattle.draid_faults.specs.Calls.{CountsCall, CountsJust, failing_calls, is_fused, next_call};
 ghost use Rattle.draid_rack.specs.Leaves.{AreLong, AreUpTo};
-ghost use Rattle.draid_rack.specs.Moments.{CrashesTold};
-ghost use Rattle.draid_rack.specs.Rack.{Fits, HasJust, Lands, Reads, Counts, CountsOthers, OnTold, adds, damages, drops, flushes, settles, taints, with_leaf};
+ghost use Rattle.draid_rack.specs.Moments.{CrashesTold, PassesTold};
+ghost use Rattle.draid_rack.specs.Rack.{Fits, HasJust, Lands, Reads, Counts, CountsOnly, CountsOthers, OnTold, adds, damages, drops, flushes, settles, taints, with_leaf};
 
 use crate::leaf::Leaf;
 use crate::leaves::{
     count_fault, crash_leaves, damage_sector, first_from, flush_leaf, insert_leaf, is_any_harmed,
     is_harmed, land_sector, later, mark_sector, read_sector, remove_leaf, settle_sector,
 };
-use crate::rack::{AddFault, At, Rack};
+use crate::rack::{AddFault, Rack};
 use draid_faults::{Calls, CrashRule, Fuse};
-use draid_names::{Failed, NoMemory};
+use draid_names::{At, Failed, NoMemory};
 use std::alloc::Global;
 use std::collections::BTreeMap;
 
@@ -32,7 +32,7 @@ pub struct MemoryRack {
 }
 
 impl MemoryRack {
-    ghost use Rattle.draid_rack.specs.Memory.{KeepsFlushed, LeavesByRule, calls_of, faults_of_memory, shape_of_memory, told_by_memory};
+    ghost use Rattle.draid_rack.specs.Memory.{KeepsFlushed, LeavesByRule, calls_of, faults_of_memory, reads_of, shape_of_memory, told_by_memory};
 
     /// A rack of `leaves` leaves, each of `sectors` sectors of `bytes` zero bytes, without a fuse. Its calls
     /// with the numbers in `failing` fail.
@@ -48,6 +48,7 @@ impl MemoryRack {
             → Reads (told_by_memory rack) l s (replicate bytes 0)) }
         ensures firm { IfOk result (λ rack. OnTold (told_by_memory rack) (λ x. (l s : ℕ) → x.soft l s ≡ false)) }
         ensures unharmed { IfOk result (λ rack. OnTold (told_by_memory rack) (λ x. (l s : ℕ) → x.harmed l s ≡ false)) }
+        ensures clock { IfOk result (λ rack. OnTold (told_by_memory rack) (λ x. x.clock ≡ 0)) }
         ensures counts { IfOk result (λ rack. (who : Option ℕ) → faults_of_memory rack who ≡ 0) }
         ensures next { IfOk result (λ rack. next_call (calls_of rack) ≡ 0) }
         ensures failing { IfOk result (λ rack. failing_calls (calls_of rack) ≡ failing.items) }
@@ -83,6 +84,7 @@ impl MemoryRack {
         ensures flushed { KeepsFlushed self.old self.new }
         ensures next { next_call (calls_of self.new) ≡ next_call (calls_of self.old) }
         ensures failing { failing_calls (calls_of self.new) ≡ failing_calls (calls_of self.old) }
+        ensures fused { is_fused (calls_of self.new) ≡ true }
     {
         self.calls.put_fuse(fuse);
     }
@@ -106,8 +108,11 @@ impl MemoryRack {
         requires place { Fits (shape_of_memory self.old) leaf sector (length bytes.now) }
         ensures told { Lands leaf sector bytes.now (λ _. harmed) result (told_by_memory self.old)
             (told_by_memory self.new) }
+        ensures moments { PassesTold (told_by_memory self.old) (told_by_memory self.new) }
         ensures shape { shape_of_memory self.new ≡ shape_of_memory self.old }
         ensures cause { Counts (Some leaf) result (faults_of_memory self.old) (faults_of_memory self.new) }
+        ensures exact { CountsOnly (Some leaf) (IsErr result) (faults_of_memory self.old) (faults_of_memory self.new) }
+        ensures same { OnErr result ((l s : ℕ) → reads_of self.new l s ≡ reads_of self.old l s) }
         ensures flushed { KeepsFlushed self.old self.new }
         ensures calls { CountsCall (IsErr result) (calls_of self.old) (calls_of self.new) }
     {
@@ -124,7 +129,7 @@ impl MemoryRack {
 
 impl Rack for MemoryRack {
     ghost use Rattle.draid_rack.specs.declared.rack.AddFault.{AddFault};
-    ghost use Rattle.draid_rack.specs.Memory.{DamagesFlushed, Flushes, KeepsFlushed, calls_of, faults_of_memory, shape_of_memory, told_by_memory};
+    ghost use Rattle.draid_rack.specs.Memory.{DamagesFlushed, Flushes, KeepsFlushed, calls_of, faults_of_memory, reads_of, shape_of_memory, told_by_memory};
 
     ghost shape = { shape_of_memory };
 
@@ -139,8 +144,10 @@ impl Rack for MemoryRack {
         ensures whole { length into.new ≡ length into.old }
         ensures read { OnOk result (Reads (told_by_memory self.old) leaf sector into.new) }
         ensures told { told_by_memory self.new ≡ told_by_memory self.old }
+        ensures moments { PassesTold (told_by_memory self.old) (told_by_memory self.new) }
         ensures shape { shape_of_memory self.new ≡ shape_of_memory self.old }
         ensures cause { Counts (Some leaf) result (faults_of_memory self.old) (faults_of_memory self.new) }
+        ensures exact { CountsOnly (Some leaf) (IsErr result) (faults_of_memory self.old) (faults_of_memory self.new) }
         ensures flushed { KeepsFlushed self.old self.new }
         ensures calls { CountsCall (IsErr result) (calls_of self.old) (calls_of self.new) }
     {
@@ -156,8 +163,11 @@ impl Rack for MemoryRack {
         requires place { Fits (shape_of_memory self.old) leaf sector (length bytes.now) }
         ensures told { Lands leaf sector bytes.now (λ _. false) result (told_by_memory self.old)
             (told_by_memory self.new) }
+        ensures moments { PassesTold (told_by_memory self.old) (told_by_memory self.new) }
         ensures shape { shape_of_memory self.new ≡ shape_of_memory self.old }
         ensures cause { Counts (Some leaf) result (faults_of_memory self.old) (faults_of_memory self.new) }
+        ensures exact { CountsOnly (Some leaf) (IsErr result) (faults_of_memory self.old) (faults_of_memory self.new) }
+        ensures same { OnErr result ((l s : ℕ) → reads_of self.new l s ≡ reads_of self.old l s) }
         ensures flushed { KeepsFlushed self.old self.new }
         ensures calls { CountsCall (IsErr result) (calls_of self.old) (calls_of self.new) }
     {
@@ -168,8 +178,11 @@ impl Rack for MemoryRack {
         requires place { Fits (shape_of_memory self.old) leaf sector (length bytes.now) }
         ensures told { Lands leaf sector bytes.now (taints sources.now) result (told_by_memory self.old)
             (told_by_memory self.new) }
+        ensures moments { PassesTold (told_by_memory self.old) (told_by_memory self.new) }
         ensures shape { shape_of_memory self.new ≡ shape_of_memory self.old }
         ensures cause { Counts (Some leaf) result (faults_of_memory self.old) (faults_of_memory self.new) }
+        ensures exact { CountsOnly (Some leaf) (IsErr result) (faults_of_memory self.old) (faults_of_memory self.new) }
+        ensures same { OnErr result ((l s : ℕ) → reads_of self.new l s ≡ reads_of self.old l s) }
         ensures flushed { KeepsFlushed self.old self.new }
         ensures calls { CountsCall (IsErr result) (calls_of self.old) (calls_of self.new) }
     {
@@ -181,8 +194,11 @@ impl Rack for MemoryRack {
         requires place { Fits (shape_of_memory self.old) leaf sector (length bytes.now) }
         ensures told { Lands leaf sector bytes.now (λ x. x.harmed leaf sector) result
             (told_by_memory self.old) (told_by_memory self.new) }
+        ensures moments { PassesTold (told_by_memory self.old) (told_by_memory self.new) }
         ensures shape { shape_of_memory self.new ≡ shape_of_memory self.old }
         ensures cause { Counts (Some leaf) result (faults_of_memory self.old) (faults_of_memory self.new) }
+        ensures exact { CountsOnly (Some leaf) (IsErr result) (faults_of_memory self.old) (faults_of_memory self.new) }
+        ensures same { OnErr result ((l s : ℕ) → reads_of self.new l s ≡ reads_of self.old l s) }
         ensures flushed { KeepsFlushed self.old self.new }
         ensures calls { CountsCall (IsErr result) (calls_of self.old) (calls_of self.new) }
     {
@@ -195,8 +211,10 @@ impl Rack for MemoryRack {
         ensures ok { OnOk result
             (told_by_memory self.new ≡ option_map (flushes leaf) (told_by_memory self.old)) }
         ensures err { OnErr result (told_by_memory self.new ≡ told_by_memory self.old) }
+        ensures moments { PassesTold (told_by_memory self.old) (told_by_memory self.new) }
         ensures shape { shape_of_memory self.new ≡ shape_of_memory self.old }
         ensures cause { Counts (Some leaf) result (faults_of_memory self.old) (faults_of_memory self.new) }
+        ensures exact { CountsOnly (Some leaf) (IsErr result) (faults_of_memory self.old) (faults_of_memory self.new) }
         ensures flushed { OnOk result (Flushes leaf self.old self.new) }
         ensures unflushed { OnErr result (KeepsFlushed self.old self.new) }
         ensures calls { CountsCall (IsErr result) (calls_of self.old) (calls_of self.new) }
@@ -214,8 +232,10 @@ impl Rack for MemoryRack {
         requires place { Fits (shape_of_memory self.old) leaf sector (shape_of_memory self.old).bytes }
         requires firm { OnTold (told_by_memory self.old) (λ x. x.soft leaf sector ≡ false) }
         ensures told { told_by_memory self.new ≡ option_map (settles leaf sector) (told_by_memory self.old) }
+        ensures moments { PassesTold (told_by_memory self.old) (told_by_memory self.new) }
         ensures shape { shape_of_memory self.new ≡ shape_of_memory self.old }
         ensures later { (w : Option ℕ) → faults_of_memory self.old w ≤ faults_of_memory self.new w }
+        ensures exact { (w : Option ℕ) → faults_of_memory self.new w ≡ faults_of_memory self.old w }
     {
         self.clock = later(self.clock);
         settle_sector(&mut self.leaves, leaf, sector);
@@ -226,8 +246,10 @@ impl Rack for MemoryRack {
         ensures ok { OnOk result
             (told_by_memory self.new ≡ option_map (damages leaf sector) (told_by_memory self.old)) }
         ensures err { OnErr result (told_by_memory self.new ≡ told_by_memory self.old) }
+        ensures moments { PassesTold (told_by_memory self.old) (told_by_memory self.new) }
         ensures shape { shape_of_memory self.new ≡ shape_of_memory self.old }
         ensures cause { Counts (Some leaf) result (faults_of_memory self.old) (faults_of_memory self.new) }
+        ensures exact { CountsOnly (Some leaf) (IsErr result) (faults_of_memory self.old) (faults_of_memory self.new) }
         ensures flushed { OnOk result (DamagesFlushed leaf sector self.old self.new) }
         ensures unflushed { OnErr result (KeepsFlushed self.old self.new) }
         ensures calls { CountsCall (IsErr result) (calls_of self.old) (calls_of self.new) }
@@ -246,12 +268,19 @@ impl Rack for MemoryRack {
             (told_by_memory self.new ≡ option_map (adds (shape_of_memory self.old).bytes leaf sectors)
             (told_by_memory self.old)) }
         ensures err { OnErr result (told_by_memory self.new ≡ told_by_memory self.old) }
+        ensures moments { PassesTold (told_by_memory self.old) (told_by_memory self.new) }
         ensures shape { OnOk result
             (shape_of_memory self.new ≡ with_leaf leaf (Some sectors) (shape_of_memory self.old)) }
         ensures same { OnErr result (shape_of_memory self.new ≡ shape_of_memory self.old) }
         ensures later { CountsOthers leaf (faults_of_memory self.old) (faults_of_memory self.new) }
         ensures cause { IsErrOf result AddFault.Failed → Rose (faults_of_memory self.old None)
             (faults_of_memory self.new None) }
+        ensures exact { CountsJust (IsErrOf result AddFault.Failed) (faults_of_memory self.old None)
+            (faults_of_memory self.new None) }
+        ensures begun { OnOk result ((l : ℕ) → faults_of_memory self.new (Some l)
+            ≡ (if l == leaf then 0 else faults_of_memory self.old (Some l))) }
+        ensures kept { OnErr result ((l : ℕ) → faults_of_memory self.new (Some l)
+            ≡ faults_of_memory self.old (Some l)) }
         ensures calls { CountsCall (IsErrOf result AddFault.Failed) (calls_of self.old) (calls_of self.new) }
     {
         if self.calls.fails() {
@@ -267,8 +296,11 @@ impl Rack for MemoryRack {
 
     fn drop_leaf(&mut self, leaf: u64)
         ensures told { told_by_memory self.new ≡ option_map (drops leaf) (told_by_memory self.old) }
+        ensures moments { PassesTold (told_by_memory self.old) (told_by_memory self.new) }
         ensures shape { shape_of_memory self.new ≡ with_leaf leaf None (shape_of_memory self.old) }
         ensures later { CountsOthers leaf (faults_of_memory self.old) (faults_of_memory self.new) }
+        ensures exact { (w : Option ℕ) → (w ≡ Some leaf → ⊥) → faults_of_memory self.new w ≡ faults_of_memory self.old w }
+        ensures gone { faults_of_memory self.new (Some leaf) ≡ 0 }
     {
         self.clock = later(self.clock);
         remove_leaf(&mut self.leaves, leaf);

@@ -1,16 +1,10 @@
 ghost use Rattle.std.specs.Prelude.{◌≡◌, ◌≤◌, ◌<◌, ℕ, Option, Some, None, false, OnOk, OnErr, IsErrOf, IfSome, IfNone, IsSome, length, option_map};
 ghost use Rattle.draid_names.specs.Faults.{Rose};
+ghost use Rattle.draid_rack.specs.Moments.{PassesTold};
 ghost use Rattle.draid_rack.specs.Rack.{Shape, Told, Fits, Lands, Reads, Counts, CountsOthers, IsOrderly, OnTold, adds, damages, drops, flushes, settles, taints, with_leaf};
 
-use draid_names::{Failed, NoMemory};
+use draid_names::{At, Failed, NoMemory};
 use std::alloc::{AllocError, AllocFailed};
-
-/// Where a sector lies.
-#[derive(Clone, Copy, Debug, PartialEq, Eq)]
-pub struct At {
-    pub leaf: u64,
-    pub sector: u64,
-}
 
 /// Why a leaf couldn't be added.
 #[derive(Clone, Copy, Debug, PartialEq, Eq)]
@@ -73,6 +67,7 @@ pub trait Rack: Drop {
         ensures whole { length into.new ≡ length into.old }
         ensures read { OnOk result (Reads (told self.old) leaf sector into.new) }
         ensures told { told self.new ≡ told self.old }
+        ensures moments { PassesTold (told self.old) (told self.new) }
         ensures shape { shape self.new ≡ shape self.old }
         ensures cause { Counts (Some leaf) result (faults self.old) (faults self.new) };
 
@@ -80,6 +75,7 @@ pub trait Rack: Drop {
     fn write(&mut self, leaf: u64, sector: u64, bytes: &[u8]) -> Result<(), Failed>
         requires place { Fits (shape self.old) leaf sector (length bytes.now) }
         ensures told { Lands leaf sector bytes.now (λ _. false) result (told self.old) (told self.new) }
+        ensures moments { PassesTold (told self.old) (told self.new) }
         ensures shape { shape self.new ≡ shape self.old }
         ensures cause { Counts (Some leaf) result (faults self.old) (faults self.new) };
 
@@ -88,6 +84,7 @@ pub trait Rack: Drop {
         requires place { Fits (shape self.old) leaf sector (length bytes.now) }
         ensures told { Lands leaf sector bytes.now (taints sources.now) result (told self.old)
             (told self.new) }
+        ensures moments { PassesTold (told self.old) (told self.new) }
         ensures shape { shape self.new ≡ shape self.old }
         ensures cause { Counts (Some leaf) result (faults self.old) (faults self.new) };
 
@@ -96,6 +93,7 @@ pub trait Rack: Drop {
         requires place { Fits (shape self.old) leaf sector (length bytes.now) }
         ensures told { Lands leaf sector bytes.now (λ x. x.harmed leaf sector) result (told self.old)
             (told self.new) }
+        ensures moments { PassesTold (told self.old) (told self.new) }
         ensures shape { shape self.new ≡ shape self.old }
         ensures cause { Counts (Some leaf) result (faults self.old) (faults self.new) };
 
@@ -104,6 +102,7 @@ pub trait Rack: Drop {
         requires place { IsSome ((shape self.old).leaves leaf) }
         ensures ok { OnOk result (told self.new ≡ option_map (flushes leaf) (told self.old)) }
         ensures err { OnErr result (told self.new ≡ told self.old) }
+        ensures moments { PassesTold (told self.old) (told self.new) }
         ensures shape { shape self.new ≡ shape self.old }
         ensures cause { Counts (Some leaf) result (faults self.old) (faults self.new) };
 
@@ -112,6 +111,7 @@ pub trait Rack: Drop {
         requires place { Fits (shape self.old) leaf sector (shape self.old).bytes }
         requires firm { OnTold (told self.old) (λ x. x.soft leaf sector ≡ false) }
         ensures told { told self.new ≡ option_map (settles leaf sector) (told self.old) }
+        ensures moments { PassesTold (told self.old) (told self.new) }
         ensures shape { shape self.new ≡ shape self.old }
         ensures later { (w : Option ℕ) → faults self.old w ≤ faults self.new w };
 
@@ -120,6 +120,7 @@ pub trait Rack: Drop {
         requires place { Fits (shape self.old) leaf sector (shape self.old).bytes }
         ensures ok { OnOk result (told self.new ≡ option_map (damages leaf sector) (told self.old)) }
         ensures err { OnErr result (told self.new ≡ told self.old) }
+        ensures moments { PassesTold (told self.old) (told self.new) }
         ensures shape { shape self.new ≡ shape self.old }
         ensures cause { Counts (Some leaf) result (faults self.old) (faults self.new) };
 
@@ -128,6 +129,7 @@ pub trait Rack: Drop {
         ensures ok { OnOk result
             (told self.new ≡ option_map (adds (shape self.old).bytes leaf sectors) (told self.old)) }
         ensures err { OnErr result (told self.new ≡ told self.old) }
+        ensures moments { PassesTold (told self.old) (told self.new) }
         ensures shape { OnOk result (shape self.new ≡ with_leaf leaf (Some sectors) (shape self.old)) }
         ensures same { OnErr result (shape self.new ≡ shape self.old) }
         ensures later { CountsOthers leaf (faults self.old) (faults self.new) }
@@ -136,6 +138,7 @@ pub trait Rack: Drop {
     /// Gives up a leaf, if it is there.
     fn drop_leaf(&mut self, leaf: u64)
         ensures told { told self.new ≡ option_map (drops leaf) (told self.old) }
+        ensures moments { PassesTold (told self.old) (told self.new) }
         ensures shape { shape self.new ≡ with_leaf leaf None (shape self.old) }
         ensures later { CountsOthers leaf (faults self.old) (faults self.new) };
 

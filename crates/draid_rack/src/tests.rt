@@ -1,11 +1,11 @@
-ghost use Rattle.std.specs.Prelude.{◌≡◌, ◌≤◌, ◌<◌, ◌==◌, ◌&&◌, Some, false, true, nat_lt, OnOk, IfOk, length};
+ghost use Rattle.std.specs.Prelude.{◌≡◌, ◌≤◌, ◌<◌, ◌==◌, ◌&&◌, ℕ, Some, false, true, nat_lt, OnOk, IfOk, length};
 ghost use Rattle.draid_rack.specs.Rack.{Fits, HasJust, OnTold};
-ghost use Rattle.draid_rack.specs.Memory.{shape_of_memory};
+ghost use Rattle.draid_rack.specs.Memory.{shape_of_memory, told_by_memory};
 ghost use Rattle.draid_rack.specs.Moments.{CrashKeepsOthers, KeptOthers, OnBoth};
 
-use crate::{At, MemoryRack, Rack};
+use crate::{MemoryRack, Rack};
 use draid_faults::{CrashRule, Fuse};
-use draid_names::Failed;
+use draid_names::{At, Failed};
 use std::alloc::Global;
 use std::test::Fail;
 
@@ -13,8 +13,9 @@ use std::test::Fail;
 /// and a crash at such a moment leaves those of them that weren't soft before.
 fn write_three<R: Rack>(rack: &mut R, leaf: u64, bytes: &[u8]) -> Result<(), Failed>
     requires place { Fits (R.shape rack.old) leaf 2 (length bytes.now) }
+    ensures shape { R.shape rack.new ≡ R.shape rack.old }
     ensures written { OnOk result (OnTold (R.told rack.new) (λ y. (y.reads leaf 0 ≡ Some bytes.now)
-        × (y.reads leaf 1 ≡ Some bytes.now) × (y.reads leaf 2 ≡ Some bytes.now) × (y.soft leaf 2 ≡ false))) }
+        × (y.reads leaf 1 ≡ Some bytes.now) × (y.reads leaf 2 ≡ Some bytes.now) × ((s : ℕ) → y.soft leaf s ≡ false))) }
     ensures others { OnBoth (R.told rack.old) (R.told rack.new) (KeptOthers (λ l s. l == leaf && nat_lt s 3)) }
     ensures crash { OnBoth (R.told rack.old) (R.told rack.new) (CrashKeepsOthers (λ l s. l == leaf && nat_lt s 3)) }
 {
@@ -46,6 +47,28 @@ fn spread_harm<R: Rack>(rack: &mut R, bytes: &[u8]) -> Result<(), Failed>
     rack.patch(1, 2, bytes)?;
     rack.flush(1)?;
     rack.settle(1, 2);
+    Ok(())
+}
+
+/// Damages a sector, and mends another from it. Both are harmed then.
+fn mend_from_damage<R: Rack>(rack: &mut R, bytes: &[u8]) -> Result<(), Failed>
+    requires { HasJust (R.shape rack.old) 2 3 (length bytes.now) }
+    ensures shape { R.shape rack.new ≡ R.shape rack.old }
+    ensures harmed { OnOk result (OnTold (R.told rack.new) (λ y. (y.harmed 0 0 ≡ true) × (y.harmed 1 1 ≡ true))) }
+{
+    rack.damage(0, 0)?;
+    rack.mend(1, 1, bytes, &[At { leaf: 0, sector: 0 }])
+}
+
+/// Harms two sectors and gives the rack a crash. Both are still harmed, and nothing is soft.
+fn crash_with_harm(rack: &mut MemoryRack, bytes: &[u8]) -> Result<(), Failed>
+    requires { HasJust (shape_of_memory rack.old) 2 3 (length bytes.now) }
+    ensures shape { shape_of_memory rack.new ≡ shape_of_memory rack.old }
+    ensures harmed { OnOk result (OnTold (told_by_memory rack.new) (λ y. (y.harmed 0 0 ≡ true) × (y.harmed 1 1 ≡ true)
+        × (y.soft 1 1 ≡ false))) }
+{
+    mend_from_damage(rack, bytes)?;
+    rack.crash(CrashRule::Old);
     Ok(())
 }
 
@@ -142,8 +165,18 @@ fn damage_twice_gives_the_bytes_back(rt: HostRuntime) -> Result<(), Fail> {
 }
 
 #[test]
+fn harm_outlasts_a_crash(rt: HostRuntime) -> Result<(), Fail> {
+    let mut rack = small_rack(rt.alloc(), Vec::new(rt.alloc()))?;
+    assert_eq!(rt; crash_with_harm(&mut rack, &[6; 4]), Ok(()));
+    assert_eq!(rt; read(&mut rack, 1), Ok([0; 4]));
+    Ok(())
+}
+
+#[test]
 fn three_sectors_are_written(rt: HostRuntime) -> Result<(), Fail> {
     let mut rack = small_rack(rt.alloc(), Vec::new(rt.alloc()))?;
     assert_eq!(rt; write_three(&mut rack, 1, &[1, 2, 3, 4]), Ok(()));
+    rack.crash(CrashRule::Torn);
+    assert_eq!(rt; read(&mut rack, 2), Ok([1, 2, 3, 4]));
     Ok(())
 }

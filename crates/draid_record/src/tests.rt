@@ -3,7 +3,7 @@ ghost use Rattle.draid_spec.specs.Geometry.{IsGeometry};
 use super::*;
 use draid_dtl::Log;
 use draid_names::{Arm, ArmKind, NoMemory};
-use draid_spec::{Geometry, Props, geometry, parse_spec};
+use draid_spec::{Geometry, Props, Spec, geometry, parse_spec};
 use std::alloc::Global;
 
 const PROPS: Props = Props {
@@ -133,16 +133,27 @@ fn faults_of_lengths_are_found(rt: HostRuntime) {
     assert_eq!(rt; read_cut(rt.alloc(), 85, true, &layout), bad(84, 3));
 }
 
+/// What that uberblock tells.
+const BODY: UberBody = UberBody {
+    group: 1,
+    spec: Spec {
+        parity: 1,
+        ndata: 2,
+        children: 3,
+        spares: 0,
+    },
+    props: PROPS,
+    next_leaf: 3,
+};
+
+#[test]
+fn an_uberblock_is_written(rt: HostRuntime) {
+    assert_eq!(rt; write_uber(&BODY).as_slice(), UBER.as_slice());
+}
+
 #[test]
 fn an_uberblock_is_told(rt: HostRuntime) {
-    let spec = parse_spec(b"draid1:2d:3c", 3).expect(&rt, "a spec");
-    let body = UberBody {
-        group: 1,
-        spec,
-        props: PROPS,
-        next_leaf: 3,
-    };
-    assert_eq!(rt; read_uber(&UBER, 1), Ok(body));
+    assert_eq!(rt; read_uber(&UBER, 1), Ok(BODY));
     assert_eq!(rt;
         read_uber(&UBER, 0),
         Err(RecordFault::Bad { at: 7, kind: 2 })

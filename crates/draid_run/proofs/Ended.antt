@@ -3,19 +3,15 @@ use Rattle.std.proofs.Common.{arith, refl, sym, ap, subst, ◌≡◌, ◌∙◌,
 use Rattle.std.specs.Prelude.{⊤}
 use Rattle.std.specs.Io.KnownBytes.{Appends}
 use Rattle.std.proofs.lemmas.List.{append-nil}
-use Rattle.draid_names.specs.declared.pointer.Pointer.{Pointer}
-use Rattle.draid_rack.specs.Rack.{Shape, Told, OnTold}
-use Rattle.draid_shard.specs.declared.shard.Shard.{Shard}
-use Rattle.draid_block.specs.Blocks.{cut_of}
-use Rattle.draid_block.specs.Columns.{stripes_of}
-use Rattle.draid_shard.specs.Columns.{ColumnsStand}
-use Rattle.draid_shard.specs.Shard.{Valid, part_of}
+use Rattle.draid_names.specs.declared.room.Room.{Room}
+use Rattle.draid_rack.specs.Rack.{Shape, Told}
 use Rattle.draid_script.specs.Lines.{lines_of}
 use Rattle.draid_script.specs.Sink.{AppendsFront}
 use Rattle.draid_script.specs.declared.reply.Reply.{Reply}
-use Rattle.draid_pool.specs.State.{State, Write, stripes_for}
-use Rattle.draid_pool.specs.Pool.{HoldsAll, HoldsWrite, Represents, harm_of, state_of}
-use Rattle.draid_run.specs.Script.{AllStand, WriteStands, Ends, EndsWithLine, HasRun, HoldsPool, IsSession, Prints, RunIs, Shows}
+use Rattle.draid_pool.specs.Close.{HoldsPool}
+use Rattle.draid_pool.specs.State.{Change, State}
+use Rattle.draid_pool.specs.Pool.{Represents, state_of}
+use Rattle.draid_run.specs.Script.{Ends, EndsWithLine, HasRun, IsSession, Prints, RunIs, Shows}
 use Rattle.draid_run.specs.Session.{IsDesk, state_in}
 use Rattle.draid_run.specs.Serve.{PrintsReplies, Served}
 use Rattle.draid_run.specs.Status.{HasNumber, last_text}
@@ -86,14 +82,15 @@ prints_short SourceFault text old new number prints = absurd number
 prints_short SinkFault text old new number prints = absurd number
 prints_short NoMemory text old new number prints = absurd number
 
-module _ {R : Type 0} (shape : R → Shape) (told : R → Option Told) (faults : R → Option ℕ → ℕ) where
+module _ {R : Type 0} (shape : R → Shape) (told : R → Option Told) (faults : R → Option ℕ → ℕ)
+    (chosen : List Room → Option ℕ → Type 0) where
   -- want of memory for the last line is as good an end as that line
-  short_served : (ended : Status) (input start held : Option (List ℕ)) (pool : Option (Pool R)) → HasNumber ended → Served shape told faults ended input start held pool → Served shape told faults NoMemory input start held pool
+  short_served : (ended : Status) (input start held : Option (List ℕ)) (pool : Option (Pool R)) → HasNumber ended → Served shape told faults chosen ended input start held pool → Served shape told faults chosen NoMemory input start held pool
   short_served ended input start held pool number is = record {
     lines = is.lines;
     replies = is.replies;
     shown = is.shown;
-    writes = is.writes;
+    changes = is.changes;
     desk = is.desk;
     runs = is.runs;
     ends = ends_known ended _ is.lines input number is.ends;
@@ -103,7 +100,7 @@ module _ {R : Type 0} (shape : R → Shape) (told : R → Option Told) (faults :
 
   -- what was served, as the run of these words
   run_of : (words : List (List ℕ)) (status ended : Status) (input start mid new : Option (List ℕ)) (pool : Option (Pool R)) → (ended ≡ Usage → ⊥) → IsSession words
-      → (is : Served shape told faults ended input start mid pool) → Prints status ended (last_text ended) mid new → HasRun words status input start new (state_in told faults pool is.writes)
+      → (is : Served shape told faults chosen ended input start mid pool) → Prints status ended (last_text ended) mid new → HasRun chosen words status input start new (state_in told faults pool is.changes)
   run_of words status ended input start mid new pool other session is last = record {
     lines = is.lines;
     replies = is.replies;
@@ -116,47 +113,15 @@ module _ {R : Type 0} (shape : R → Shape) (told : R → Option Told) (faults :
     prints = prints_all status ended _ start mid new is.prints last;
   }
 
-  write_stands : (shard : Shard R) (pointer : Pointer) (write : Write) (x : Told) → Valid shape shard → told shard.rack ≡ Some x → HoldsWrite told shard pointer write
-      → WriteStands (part_of shard) x write
-  write_stands shard pointer write x valid is holds =
-      let sized = (valid.tables.placed pointer.first _ holds.holds.is_live).sized in
-      let stripes : pointer.stripes ≡ stripes_for (part_of shard) write.bytes = sized.stripes ∙ ap (stripes_of (cut_of shard.geometry)) (sym holds.holds.content.len) in
-      let first = holds.first in
-      record {
-        columns = holds.holds.columns;
-        are = holds.holds.are;
-        stand = rw (first, stripes) at (subst (λ t. OnTold t (λ y. ColumnsStand (part_of shard) y pointer.first pointer.stripes holds.holds.columns shard.geometry.g)) is holds.holds.stand);
-      }
-
-  all_stand : (shard : Shard R) (pointers : List Pointer) (writes : List Write) (x : Told) → Valid shape shard → told shard.rack ≡ Some x → HoldsAll told shard pointers writes
-      → AllStand (part_of shard) x writes
-  all_stand shard [] [] x valid is holds = tt
-  all_stand shard [] (w ∷ ws) x valid is holds = absurd holds
-  all_stand shard (p ∷ ps) [] x valid is holds = absurd holds
-  all_stand shard (p ∷ ps) (w ∷ ws) x valid is holds = (write_stands shard p w x valid is holds.0, all_stand shard ps ws x valid is holds.1)
-
-  stand_told : (shard : Shard R) (pointers : List Pointer) (writes : List Write) (held : Option Told) → Valid shape shard → told shard.rack ≡ held → HoldsAll told shard pointers writes
-      → OnTold held (λ x. AllStand (part_of shard) x writes)
-  stand_told shard pointers writes None valid is holds = tt
-  stand_told shard pointers writes (Some x) valid is holds = all_stand shard pointers writes x valid is holds
-
-  pub holds_pool : (pool : Pool R) (writes : List Write) (held : Option Told) (counts : Option ℕ → ℕ) → held ≡ told pool.shard.rack → ((who : Option ℕ) → counts who ≡ faults pool.shard.rack who)
-      → Represents shape told pool writes → HoldsPool held counts (state_of told faults pool writes)
-  holds_pool pool writes held counts is counted represents = record {
-    faults = λ who. sym (counted who);
-    harm = ap harm_of (sym is);
-    stand = stand_told pool.shard represents.pointers writes held represents.valid (sym is) represents.holds;
-  }
-
-  pub holds_desk : (pool : Pool R) (desk : Option (Pool R)) (held : Option Told) (counts : Option ℕ → ℕ) → desk ≡ Some pool → held ≡ told pool.shard.rack
-      → ((who : Option ℕ) → counts who ≡ faults pool.shard.rack who)
-      → (writes : List Write) → IsDesk shape told desk writes → MatchOption (state_in told faults desk writes) ⊤ (HoldsPool held counts)
-  holds_desk pool desk held counts is gives counted writes =
-      subst (λ p. IsDesk shape told p writes → MatchOption (state_in told faults p writes) ⊤ (HoldsPool held counts)) (sym is) (holds_pool pool writes held counts gives counted)
+  pub holds_desk : (pool : Pool R) (desk : Option (Pool R)) (held : ℕ → Option Told) (counts : ℕ → Option ℕ → ℕ) → desk ≡ Some pool
+      → ((changes : List Change) → Represents shape told pool changes → HoldsPool held counts (state_of told faults pool changes))
+      → (changes : List Change) → IsDesk shape told desk changes → MatchOption (state_in told faults desk changes) ⊤ (HoldsPool held counts)
+  holds_desk pool desk held counts is gives changes =
+      subst (λ p. IsDesk shape told p changes → MatchOption (state_in told faults p changes) ⊤ (HoldsPool held counts)) (sym is) (gives changes)
 
   -- a run whose words aren't those of a session
-  pub run_refused : (words : List (List ℕ)) (status : Status) (input old new : Option (List ℕ)) (held : Option Told) (counts : Option ℕ → ℕ) → (IsSession words → ⊥) → EndsWithLine Usage status old new
-      → RunIs words status input old new held counts
+  pub run_refused : (words : List (List ℕ)) (status : Status) (input old new : Option (List ℕ)) (held : ℕ → Option Told) (counts : ℕ → Option ℕ → ℕ) → (IsSession words → ⊥) → EndsWithLine Usage status old new
+      → RunIs chosen words status input old new held counts
   run_refused words status input old new held counts wrong ended = elim ended.is [
     | inl same ↦ record {
       last = None;
@@ -180,18 +145,18 @@ module _ {R : Type 0} (shape : R → Shape) (told : R → Option Told) (faults :
     ends_nothing (Some bytes) = refl
 
   -- a run of a session: what was served, the last line, and the pool on the shelf
-  pub run_served : (words : List (List ℕ)) (status ended : Status) (input start mid new : Option (List ℕ)) (pool : Option (Pool R)) (held : Option Told) (counts : Option ℕ → ℕ)
-      → IsSession words → (ended ≡ Usage → ⊥) → Served shape told faults ended input start mid pool → EndsWithLine ended status mid new
-      → ((writes : List Write) → IsDesk shape told pool writes → MatchOption (state_in told faults pool writes) ⊤ (HoldsPool held counts))
-      → RunIs words status input start new held counts
+  pub run_served : (words : List (List ℕ)) (status ended : Status) (input start mid new : Option (List ℕ)) (pool : Option (Pool R)) (held : ℕ → Option Told) (counts : ℕ → Option ℕ → ℕ)
+      → IsSession words → (ended ≡ Usage → ⊥) → Served shape told faults chosen ended input start mid pool → EndsWithLine ended status mid new
+      → ((changes : List Change) → IsDesk shape told pool changes → MatchOption (state_in told faults pool changes) ⊤ (HoldsPool held counts))
+      → RunIs chosen words status input start new held counts
   run_served words status ended input start mid new pool held counts session other is line shelf = elim line.is [
     | inl same ↦
         let prints = subst (λ m. Prints status m (last_text m) mid new) same line.prints in
-        record { last = state_in told faults pool is.writes; session = run_of words status ended input start mid new pool other session is prints; shelf = shelf is.writes is.desk }
+        record { last = state_in told faults pool is.changes; session = run_of words status ended input start mid new pool other session is prints; shelf = shelf is.changes is.desk }
     | inr none ↦
         let prints = subst (λ m. Prints status m (last_text m) mid new) none.0 line.prints in
         let short = short_served ended input start mid pool none.1 is in
-        record { last = state_in told faults pool short.writes; session = run_of words status NoMemory input start mid new pool (λ e. absurd (not_usage e)) session short prints; shelf = shelf short.writes short.desk }
+        record { last = state_in told faults pool short.changes; session = run_of words status NoMemory input start mid new pool (λ e. absurd (not_usage e)) session short prints; shelf = shelf short.changes short.desk }
   ] where
     not_usage : NoMemory ≡ Usage → ⊥
     not_usage e = cc e

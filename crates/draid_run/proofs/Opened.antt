@@ -1,6 +1,7 @@
 -- A pool was opened, or not, in the words of a session.
-use Rattle.std.proofs.Common.{◌≡◌, ◌∙◌, ◌++◌, ℕ, List, [], Option, Some, None, Result, Ok, Err, false, refl, sym, ap, subst}
+use Rattle.std.proofs.Common.{◌≡◌, ◌∙◌, ◌++◌, ℕ, List, [], Bool, true, Option, Some, None, Result, Ok, Err, false, if◌then◌else◌, refl, sym, ap, subst}
 use Rattle.std.specs.Prelude.{codes, is_some, nat_lt}
+use Rattle.std.specs.Result.{result_and}
 use Rattle.draid_spec.specs.declared.layout.Geometry.{Geometry}
 use Rattle.draid_spec.specs.declared.layout.Props.{Props}
 use Rattle.draid_spec.specs.declared.spec.Spec.{Spec}
@@ -9,6 +10,7 @@ use Rattle.draid_spec.specs.Geometry.{checked_props, geometry_of, layout_of, tot
 use Rattle.draid_spec.specs.Name.{spec_name_of}
 use Rattle.draid_spec.specs.Spec.{checked_width}
 use Rattle.draid_spec.specs.Text.{spec_by}
+use Rattle.draid_names.specs.declared.room.Room.{Room}
 use Rattle.draid_rack.specs.Rack.{Shape, Told}
 use Rattle.draid_script.specs.Line.{Command, CreatePool}
 use Rattle.draid_script.specs.declared.fault.LineFault.{LineFault}
@@ -17,76 +19,79 @@ use Rattle.draid_script.specs.declared.name.CommandName.TheVariants as name
 use Rattle.draid_script.specs.declared.refusal.SpecRefusal.{SpecRefusal}
 use Rattle.draid_script.specs.declared.reply.Reply.{Reply}
 use Rattle.draid_script.specs.declared.reply.Reply.TheVariants.{Created, CreateRefused, NoMemory}
-use Rattle.draid_pool.specs.State.{Write}
+use Rattle.draid_pool.specs.State.{Change}
 use Rattle.draid_pool.specs.declared.fault.PoolFault.{PoolFault}
 use Rattle.draid_pool.specs.declared.fault.PoolFault.TheVariants as fault
 use Rattle.draid_pool.specs.declared.pool.Pool.{Pool}
-use Rattle.draid_pool.proofs.Opened.{by_checks}
 use Rattle.draid_run.specs.Serve.{Turned}
 use Rattle.draid_run.specs.Session.{OpensBy, state_in}
 use Rattle.draid_run.specs.State.{layout_from, props_of, refusal_of}
 use Rattle.draid_run.specs.declared.answer.Made.{Made}
 
+-- what stands behind all checks is what passed them
+by_checks : (a b : Result Unit SpecFault) (big : Bool) (f : SpecFault) (l layout : Geometry) → result_and a (result_and b (if big then Err f else Ok l)) ≡ Ok layout → l ≡ layout
+by_checks (Ok u) (Ok v) false f l layout is = cc
+by_checks (Ok u) (Ok v) true f l layout is = absurd (cc)
+by_checks (Ok u) (Err e) big f l layout is = absurd (cc)
+by_checks (Err e) b big f l layout is = absurd (cc)
+
 same_spec : (spec : Spec) (props : Props) (layout : Geometry) → geometry_of spec props ≡ Ok layout → layout.spec ≡ spec
 same_spec spec props layout is =
     sym (ap (λ (g : Geometry). g.spec) (by_checks (checked_width spec) (checked_props props) (nat_lt 67108864 (total_of props (layout_of spec props).rows)) _ (layout_of spec props) layout is))
 
-module _ {R : Type 0} (shape : R → Shape) (told : R → Option Told) (faults : R → Option ℕ → ℕ) where
+module _ {R : Type 0} (shape : R → Shape) (told : R → Option Told) (faults : R → Option ℕ → ℕ)
+    (chosen : List Room → Option ℕ → Type 0) where
   -- the spec can't be read
-  pub unread : (text : List ℕ) (children : ℕ) (keys : PoolKeys) (cause : SpecFault) (why : SpecRefusal) (pool : Option (Pool R)) → keys.metaslabs ≡ 1 → spec_by text children ≡ Err cause
-      → why ≡ refusal_of cause → pool ≡ None → Turned shape told faults (Ok (CreatePool text children keys)) None (Some (CreateRefused why)) pool
-  unread text children keys cause why pool one none is closed = rw closed (record {
-    writes = [];
+  pub unread : (text : List ℕ) (children : ℕ) (keys : PoolKeys) (cause : SpecFault) (why : SpecRefusal) (pool : Option (Pool R)) → spec_by text children ≡ Err cause
+      → why ≡ refusal_of cause → pool ≡ None → Turned shape told faults chosen (Ok (CreatePool text children keys)) None (Some (CreateRefused why)) pool
+  unread text children keys cause why pool none is closed = rw closed (record {
+    changes = [];
     desk = refl;
-    turns = (one, record { cause = cause; none = ap (layout_from keys) none; is = is }, refl);
+    turns = (record { cause = cause; none = ap (layout_from keys) none; is = is }, refl);
   })
 
-  pub made : (text : List ℕ) (children : ℕ) (keys : PoolKeys) (spec : Spec) (m : Made) (result : Result Made PoolFault) (pool : Option (Pool R)) → keys.metaslabs ≡ 1 → spec_by text children ≡ Ok spec
+  pub made : (text : List ℕ) (children : ℕ) (keys : PoolKeys) (spec : Spec) (m : Made) (result : Result Made PoolFault) (pool : Option (Pool R)) → spec_by text children ≡ Ok spec
       → result ≡ Ok m → OpensBy shape told faults spec (props_of keys) result pool
-      → Turned shape told faults (Ok (CreatePool text children keys)) None (Some (Created m.name m.stripes)) pool
-  made text children keys spec m result pool one read said opens = at pool (subst (λ r. OpensBy shape told faults spec (props_of keys) r pool) said opens) where
-    at : (p : Option (Pool R)) → OpensBy shape told faults spec (props_of keys) (Ok m) p → Turned shape told faults (Ok (CreatePool text children keys)) None (Some (Created m.name m.stripes)) p
+      → Turned shape told faults chosen (Ok (CreatePool text children keys)) None (Some (Created m.name m.stripes)) pool
+  made text children keys spec m result pool read said opens = at pool (subst (λ r. OpensBy shape told faults spec (props_of keys) r pool) said opens) where
+    at : (p : Option (Pool R)) → OpensBy shape told faults spec (props_of keys) (Ok m) p → Turned shape told faults chosen (Ok (CreatePool text children keys)) None (Some (Created m.name m.stripes)) p
     at None o = absurd o
     at (Some p) o =
         let spec_is = same_spec spec (props_of keys) o.opens.layout.geometry o.opens.layout.is in
         record {
-          writes = [];
+          changes = [];
           desk = o.opens.represents;
-          turns = (
-            one,
+          turns =
             record {
               layout = record { geometry = o.opens.layout.geometry; layout = ap (layout_from keys) read ∙ o.opens.layout.is };
               name_is = o.name_is ∙ ap (λ (s : Spec). spec_name_of s ++ codes "-0") (sym spec_is);
               stripes_are = o.stripes_are;
               fresh = o.opens.fresh;
-            },
-          );
+            };
         }
 
-  pub refused : (text : List ℕ) (children : ℕ) (keys : PoolKeys) (spec : Spec) (cause : SpecFault) (why : SpecRefusal) (result : Result Made PoolFault) (pool : Option (Pool R)) → keys.metaslabs ≡ 1
-      → spec_by text children ≡ Ok spec → result ≡ Err (fault.Spec cause) → why ≡ refusal_of cause → OpensBy shape told faults spec (props_of keys) result pool
-      → Turned shape told faults (Ok (CreatePool text children keys)) None (Some (CreateRefused why)) pool
-  refused text children keys spec cause why result pool one read said is opens =
+  pub refused : (text : List ℕ) (children : ℕ) (keys : PoolKeys) (spec : Spec) (cause : SpecFault) (why : SpecRefusal) (result : Result Made PoolFault) (pool : Option (Pool R)) → spec_by text children ≡ Ok spec → result ≡ Err (fault.Spec cause) → why ≡ refusal_of cause → OpensBy shape told faults spec (props_of keys) result pool
+      → Turned shape told faults chosen (Ok (CreatePool text children keys)) None (Some (CreateRefused why)) pool
+  refused text children keys spec cause why result pool read said is opens =
       let o = subst (λ r. OpensBy shape told faults spec (props_of keys) r pool) said opens in
       rw o.1 (record {
-        writes = [];
+        changes = [];
         desk = refl;
-        turns = (one, record { cause = cause; none = ap (layout_from keys) read ∙ o.0; is = is }, refl);
+        turns = (record { cause = cause; none = ap (layout_from keys) read ∙ o.0; is = is }, refl);
       })
 
-  pub no_memory : (text : List ℕ) (children : ℕ) (keys : PoolKeys) (spec : Spec) (result : Result Made PoolFault) (pool : Option (Pool R)) → keys.metaslabs ≡ 1
-      → spec_by text children ≡ Ok spec → result ≡ Err fault.NoMemory → OpensBy shape told faults spec (props_of keys) result pool
-      → Turned shape told faults (Ok (CreatePool text children keys)) None (Some (NoMemory name.Create)) pool
-  no_memory text children keys spec result pool one read said opens =
+  pub no_memory : (text : List ℕ) (children : ℕ) (keys : PoolKeys) (spec : Spec) (result : Result Made PoolFault) (pool : Option (Pool R)) → spec_by text children ≡ Ok spec → result ≡ Err fault.NoMemory → OpensBy shape told faults spec (props_of keys) result pool
+      → Turned shape told faults chosen (Ok (CreatePool text children keys)) None (Some (NoMemory name.Create)) pool
+  no_memory text children keys spec result pool read said opens =
       let o = subst (λ r. OpensBy shape told faults spec (props_of keys) r pool) said opens in
       rw o.1 (record {
-        writes = [];
+        changes = [];
         desk = refl;
-        turns = (one, record { geometry = o.0.geometry; layout = ap (layout_from keys) read ∙ o.0.is }, refl);
+        turns = (record { geometry = o.0.geometry; layout = ap (layout_from keys) read ∙ o.0.is }, refl);
       })
 
   -- no pool was open
-  pub at_closed : (old : Option (Pool R)) (writes : List Write) (command : Result Command LineFault) (reply : Option Reply) (pool : Option (Pool R)) → is_some old ≡ false
-      → Turned shape told faults command None reply pool → Turned shape told faults command (state_in told faults old writes) reply pool
-  at_closed None writes command reply pool none turned = turned
-  at_closed (Some p) writes command reply pool none turned = absurd (cc)
+  pub at_closed : (old : Option (Pool R)) (changes : List Change) (command : Result Command LineFault) (reply : Option Reply) (pool : Option (Pool R)) → is_some old ≡ false
+      → Turned shape told faults chosen command None reply pool → Turned shape told faults chosen command (state_in told faults old changes) reply pool
+  at_closed None changes command reply pool none turned = turned
+  at_closed (Some p) changes command reply pool none turned = absurd (cc)

@@ -1,14 +1,15 @@
 -- What the calls of a pool did, in the words of a session.
-use Rattle.std.proofs.Common.{◌≡◌, ℕ, Option, subst}
+use Rattle.std.proofs.Common.{◌≡◌, ◌∙◌, ℕ, List, [], ◌∷◌, Option, arith, subst}
+use Rattle.std.specs.List.{AllZip}
+use Rattle.draid_names.specs.declared.room.Room.{Room}
 use Rattle.draid_rack.specs.Rack.{Shape, Told}
 use Rattle.draid_script.specs.Line.{SumObjects}
 use Rattle.draid_pool.specs.Answers.{SumStops}
 use Rattle.draid_pool.specs.Pool.{Moves}
-use Rattle.draid_pool.specs.State.{State}
+use Rattle.draid_pool.specs.State.{Looks, LooksAt, Metaslab, State}
 use Rattle.draid_pool.specs.declared.fault.ObjectFault.{ObjectFault}
 use Rattle.draid_pool.specs.declared.fault.ObjectFault.TheVariants as object
 use Rattle.draid_pool.specs.declared.pool.Pool.{Pool}
-use Rattle.draid_pool.proofs.Sums.{looks_on}
 use Rattle.draid_run.specs.Replies.{sum_refused}
 use Rattle.draid_run.specs.State.{Step}
 
@@ -18,10 +19,38 @@ module _ {R : Type 0} (shape : R → Shape) (told : R → Option Told) (faults :
       → ((x y : State) → P said x y → Q x y) → Moves shape told faults (P result) old pool → Moves shape told faults Q old pool
   by_answer P Q old pool result said is f m =
       let n = subst (λ a. Moves shape told faults (P a) old pool) is m in
-      record { writes = n.writes; represents = n.represents; moved = f old _ n.moved }
+      record { changes = n.changes; represents = n.represents; moved = f old _ n.moved }
+
+-- nothing changed, and again nothing
+looks_one : (a b c : Metaslab) → LooksAt a b → LooksAt b c → LooksAt a c
+looks_one a b c x y = record {
+  keeps = record {
+    part = y.keeps.part ∙ x.keeps.part;
+    free = y.keeps.free ∙ x.keeps.free;
+    held = y.keeps.held ∙ x.keeps.held;
+    later = λ who. (let p = x.keeps.later who in let q = y.keeps.later who in omega (arith, p, q));
+  };
+  harm = y.harm ∙ x.harm;
+}
+
+looks_all : (xs ys zs : List Metaslab) → AllZip LooksAt xs ys → AllZip LooksAt ys zs → AllZip LooksAt xs zs
+looks_all [] [] [] p q = tt
+looks_all [] [] (z ∷ zs) p q = absurd q
+looks_all [] (y ∷ ys) zs p q = absurd p
+looks_all (x ∷ xs) [] zs p q = absurd p
+looks_all (x ∷ xs) (y ∷ ys) [] p q = absurd q
+looks_all (x ∷ xs) (y ∷ ys) (z ∷ zs) p q = (looks_one x y z p.0 q.0, looks_all xs ys zs p.1 q.1)
+
+looks_on : (a b c : State) → Looks a b → Looks b c → Looks a c
+looks_on a b c x y = record {
+  geometry = y.geometry ∙ x.geometry;
+  metaslabs = looks_all a.metaslabs b.metaslabs c.metaslabs x.metaslabs y.metaslabs;
+  changes = y.changes ∙ x.changes;
+  seq = y.seq ∙ x.seq;
+}
 
 -- why a sum stopped
-pub stops : (first count o : ℕ) (why : ObjectFault) (old new : State) → SumStops first count (record { object = o; why = why }) old new → Step (SumObjects first count) (sum_refused o why) old new
-stops first count o object.NoObject old new s = record { mid = s.mid; stops = s.stops; cause = s.why; looks = s.looks }
-stops first count o (object.Unreadable absent tried) old new s = record { mid = s.mid; stops = s.stops; cause = s.why; looks = s.looks }
-stops first count o object.NoMemory old new s = looks_on old s.mid new s.stops.looks s.looks
+pub stops : (chosen : List Room → Option ℕ → Type 0) (first count o : ℕ) (why : ObjectFault) (old new : State) → SumStops first count (record { object = o; why = why }) old new → Step chosen (SumObjects first count) (sum_refused o why) old new
+stops chosen first count o object.NoObject old new s = record { mid = s.mid; stops = s.stops; cause = s.why; looks = s.looks }
+stops chosen first count o (object.Unreadable absent tried) old new s = record { mid = s.mid; stops = s.stops; cause = s.why; looks = s.looks }
+stops chosen first count o object.NoMemory old new s = looks_on old s.mid new s.stops.looks s.looks

@@ -1,16 +1,14 @@
 use Rattle.std.specs.Prelude.{◌≡◌, ◌+◌, ◌⊎◌, ◌↔◌, ⊤, ℕ, List, [], ◌∷◌, ◌++◌, Option, Some, None, MatchOption, length, codes, flat_map}
 use Rattle.std.specs.Io.KnownBytes.{Appends}
-use Rattle.draid_rack.specs.Rack.{Told, OnTold}
-use Rattle.draid_block.specs.Blocks.{AreColumns, cut_of}
-use Rattle.draid_shard.specs.Part.{Part}
-use Rattle.draid_shard.specs.Columns.{ColumnsStand}
+use Rattle.draid_names.specs.declared.room.Room.{Room}
+use Rattle.draid_rack.specs.Rack.{Told}
 use Rattle.draid_script.specs.Grammar.{line_of}
 use Rattle.draid_script.specs.Lines.{IsTooLong, lines_of}
 use Rattle.draid_script.specs.Reply.{text_of}
 use Rattle.draid_script.specs.Sink.{AppendsFront}
 use Rattle.draid_script.specs.declared.reply.Reply.{Reply}
-use Rattle.draid_pool.specs.State.{State, Write, stripes_for}
-use Rattle.draid_pool.specs.Pool.{harm_of}
+use Rattle.draid_pool.specs.Close.{HoldsPool}
+use Rattle.draid_pool.specs.State.{State}
 use Rattle.draid_run.specs.State.{LineFaultIs, Runs}
 use Rattle.draid_run.specs.Status.{HasNumber, last_text}
 use Rattle.draid_run.specs.declared.status.Status.{Status}
@@ -59,37 +57,20 @@ abbrev pub IsSession : List (List ℕ) → Type 0
 IsSession words = words ≡ codes "session" ∷ []
 
 -- A run: some lines were answered by replies, one after another; it ended for a cause; and the sink got the replies' texts and the last line.
-pub record HasRun (words : List (List ℕ)) (status : Status) (input : Option (List ℕ)) (old new : Option (List ℕ)) (last : Option State) : Type 0 where
+pub record HasRun (chosen : List Room → Option ℕ → Type 0) (words : List (List ℕ)) (status : Status) (input : Option (List ℕ)) (old new : Option (List ℕ)) (last : Option State) : Type 0 where
   pub lines : List (List ℕ)
   pub replies : List (Option Reply)
   pub shown : List (Option Reply)
   pub ended : Status
   pub usage : (ended ≡ Usage) ↔ (IsSession words → ⊥)
-  pub runs : Runs None lines replies last
+  pub runs : Runs chosen None lines replies last
   pub ends : MatchOption input ⊤ (Ends ended last lines)
   pub shows : Shows ended replies shown
   pub prints : Prints status ended (printed_text shown ended) old new
 
--- The columns of the block of an accepted write stand, but for the sectors that are harmed.
-pub record WriteStands (part : Part) (x : Told) (write : Write) : Type 0 where
-  pub columns : List (List ℕ)
-  pub are : AreColumns (cut_of part.geometry) write.bytes columns
-  pub stand : ColumnsStand part x write.first (stripes_for part write.bytes) columns part.geometry.g
-
--- those of each accepted write do
-abbrev pub AllStand : Part → Told → List Write → Type 0
-AllStand part x [] = ⊤
-AllStand part x (write ∷ writes) = WriteStands part x write × AllStand part x writes
-
--- The shelf holds the pool's rack, with the counts of faults and the harm that the pool came to. Where it tells, each block's columns stand there, but for the
--- sectors that are harmed.
-pub record HoldsPool (told : Option Told) (counts : Option ℕ → ℕ) (pool : State) : Type 0 where
-  pub faults : (who : Option ℕ) → pool.faults who ≡ counts who
-  pub harm : pool.harm ≡ harm_of told
-  pub stand : OnTold told (λ x. AllStand pool.part x pool.writes)
-
--- What a run of the program is: a session of lines, states and replies, whose pool is given back to the shelf.
-pub record RunIs (words : List (List ℕ)) (status : Status) (input old new : Option (List ℕ)) (held : Option Told) (counts : Option ℕ → ℕ) : Type 0 where
+-- What a run of the program is: a session of lines, states and replies, whose pool is given back to the shelf. Blocks go to metaslabs that the chooser may name.
+pub record RunIs (chosen : List Room → Option ℕ → Type 0) (words : List (List ℕ)) (status : Status) (input old new : Option (List ℕ)) (held : ℕ → Option Told)
+    (counts : ℕ → Option ℕ → ℕ) : Type 0 where
   pub last : Option State
-  pub session : HasRun words status input old new last
+  pub session : HasRun chosen words status input old new last
   pub shelf : MatchOption last ⊤ (HoldsPool held counts)

@@ -2,6 +2,7 @@ use Rattle.std.specs.Prelude.{◌≡◌, ◌≤◌, ◌+◌, ◌⊎◌, ⊤, ℕ
 use Rattle.std.specs.Io.KnownBytes.{Appends, prepend_known}
 use Rattle.std.specs.declared.vec.Vec.{Vec}
 use Rattle.std.specs.declared.alloc.Global.{Global}
+use Rattle.draid_names.specs.declared.room.Room.{Room}
 use Rattle.draid_rack.specs.Rack.{Shape, Told}
 use Rattle.draid_script.specs.Grammar.{line_of}
 use Rattle.draid_script.specs.Line.{Command}
@@ -9,7 +10,7 @@ use Rattle.draid_script.specs.Lines.{Rest, WhereKnown, IsTooLong, lines_of, most
 use Rattle.draid_script.specs.Sink.{AppendsFront}
 use Rattle.draid_script.specs.declared.fault.LineFault.{LineFault}
 use Rattle.draid_script.specs.declared.reply.Reply.{Reply}
-use Rattle.draid_pool.specs.State.{State, Write}
+use Rattle.draid_pool.specs.State.{Change, State}
 use Rattle.draid_pool.specs.declared.pool.Pool.{Pool}
 use Rattle.draid_run.specs.State.{IsUnbuilt, LineFaultIs, Runs, TurnsBy}
 use Rattle.draid_run.specs.Script.{Ends, Shows, said_text}
@@ -42,42 +43,43 @@ abbrev pub PrintsReplies : Status → List ℕ → Option (List ℕ) → Option 
 PrintsReplies SinkFault text old new = AppendsFront old new text
 PrintsReplies status text old new = Appends old new text
 
-module _ {R : Type 0} (shape : R → Shape) (told : R → Option Told) (faults : R → Option ℕ → ℕ) where
+module _ {R : Type 0} (shape : R → Shape) (told : R → Option Told) (faults : R → Option ℕ → ℕ)
+    (chosen : List Room → Option ℕ → Type 0) where
   -- a command was done, and this is its reply
   pub record Turned (command : Result Command LineFault) (old : Option State) (reply : Option Reply) (pool : Option (Pool R)) : Type 0 where
-    pub writes : List Write
-    pub desk : IsDesk shape told pool writes
-    pub turns : TurnsBy command old reply (state_in told faults pool writes)
+    pub changes : List Change
+    pub desk : IsDesk shape told pool changes
+    pub turns : TurnsBy chosen command old reply (state_in told faults pool changes)
 
   -- the reply to a command, or why it has none; then nothing changed
-  abbrev pub AnswerIs : Command → Option (Pool R) → List Write → Option (Pool R) → Result (Option Reply) Unbuilt → Type 0
-  AnswerIs command pool writes pool' (Ok reply) = Turned (Ok command) (state_in told faults pool writes) reply pool'
-  AnswerIs command pool writes pool' (Err unbuilt) = IsUnbuilt command × (pool' ≡ pool)
+  abbrev pub AnswerIs : Command → Option (Pool R) → List Change → Option (Pool R) → Result (Option Reply) Unbuilt → Type 0
+  AnswerIs command pool changes pool' (Ok reply) = Turned (Ok command) (state_in told faults pool changes) reply pool'
+  AnswerIs command pool changes pool' (Err unbuilt) = IsUnbuilt command × (pool' ≡ pool)
 
   -- A line was answered, and its reply printed in full or in part.
-  pub record Printed (text : List ℕ) (pool : Option (Pool R)) (writes : List Write) (pool' : Option (Pool R)) (adds : List ℕ → Type 0) : Type 0 where
+  pub record Printed (text : List ℕ) (pool : Option (Pool R)) (changes : List Change) (pool' : Option (Pool R)) (adds : List ℕ → Type 0) : Type 0 where
     pub reply : Option Reply
-    pub turned : Turned (line_of text) (state_in told faults pool writes) reply pool'
+    pub turned : Turned (line_of text) (state_in told faults pool changes) reply pool'
     pub prints : adds (said_text reply)
 
   -- what became of a line
-  abbrev pub LineIs : ℕ → List ℕ → Option (Pool R) → List Write → Option (Pool R) → Option (List ℕ) → Option (List ℕ) → Result Unit Status → Type 0
-  LineIs number text pool writes pool' held held' (Ok done) = Printed text pool writes pool' (Appends held held')
-  LineIs number text pool writes pool' held held' (Err SinkFault) = Printed text pool writes pool' (AppendsFront held held')
-  LineIs number text pool writes pool' held held' (Err (Line line kind at)) =
+  abbrev pub LineIs : ℕ → List ℕ → Option (Pool R) → List Change → Option (Pool R) → Option (List ℕ) → Option (List ℕ) → Result Unit Status → Type 0
+  LineIs number text pool changes pool' held held' (Ok done) = Printed text pool changes pool' (Appends held held')
+  LineIs number text pool changes pool' held held' (Err SinkFault) = Printed text pool changes pool' (AppendsFront held held')
+  LineIs number text pool changes pool' held held' (Err (Line line kind at)) =
       LineFaultIs (line_of text) kind at × (pool' ≡ pool) × (held' ≡ held) × (line ≡ number)
-  LineIs number text pool writes pool' held held' (Err NoMemory) =
-      (held' ≡ held) × ((pool' ≡ pool) ⊎ ((reply : Reply) × Turned (line_of text) (state_in told faults pool writes) (Some reply) pool'))
-  LineIs number text pool writes pool' held held' (Err status) = ⊥
+  LineIs number text pool changes pool' held held' (Err NoMemory) =
+      (held' ≡ held) × ((pool' ≡ pool) ⊎ ((reply : Reply) × Turned (line_of text) (state_in told faults pool changes) (Some reply) pool'))
+  LineIs number text pool changes pool' held held' (Err status) = ⊥
 
   -- The lines so far were answered and their replies printed.
   pub record Serving (input rest start held : Option (List ℕ)) (pool : Option (Pool R)) (count : ℕ) : Type 0 where
     pub lines : List (List ℕ)
     pub replies : List (Option Reply)
-    pub writes : List Write
+    pub changes : List Change
     pub count_is : length lines ≡ count
-    pub desk : IsDesk shape told pool writes
-    pub runs : Runs None lines replies (state_in told faults pool writes)
+    pub desk : IsDesk shape told pool changes
+    pub runs : Runs chosen None lines replies (state_in told faults pool changes)
     pub known : WhereKnown input rest (λ all behind. lines_of all ≡ lines ++ lines_of behind)
     pub printed : Appends start held (flat_map said_text replies)
 
@@ -86,9 +88,9 @@ module _ {R : Type 0} (shape : R → Shape) (told : R → Option Told) (faults :
     pub lines : List (List ℕ)
     pub replies : List (Option Reply)
     pub shown : List (Option Reply)
-    pub writes : List Write
-    pub desk : IsDesk shape told pool writes
-    pub runs : Runs None lines replies (state_in told faults pool writes)
-    pub ends : MatchOption input ⊤ (Ends ended (state_in told faults pool writes) lines)
+    pub changes : List Change
+    pub desk : IsDesk shape told pool changes
+    pub runs : Runs chosen None lines replies (state_in told faults pool changes)
+    pub ends : MatchOption input ⊤ (Ends ended (state_in told faults pool changes) lines)
     pub shows : Shows ended replies shown
     pub prints : PrintsReplies ended (flat_map said_text shown) start held

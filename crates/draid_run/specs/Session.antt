@@ -5,7 +5,7 @@ use Rattle.draid_spec.specs.Geometry.{geometry_of}
 use Rattle.draid_spec.specs.Name.{spec_name_of}
 use Rattle.draid_map.specs.Place.{stripes_of}
 use Rattle.draid_rack.specs.Rack.{Shape, Told}
-use Rattle.draid_pool.specs.State.{State, Write}
+use Rattle.draid_pool.specs.State.{State, Change}
 use Rattle.draid_pool.specs.Pool.{Represents, state_of}
 use Rattle.draid_pool.specs.Create.{HasLayout, Opens}
 use Rattle.draid_pool.specs.declared.pool.Pool.{Pool}
@@ -13,20 +13,15 @@ use Rattle.draid_pool.specs.declared.fault.PoolFault.{PoolFault}
 use Rattle.draid_pool.specs.declared.fault.PoolFault.TheVariants as fault
 use Rattle.draid_run.specs.declared.answer.Made.{Made}
 
--- where a pool is open, it stands for these writes; else there are none
-abbrev pub IsDesk : {R : Type 0} → (R → Shape) → (R → Option Told) → Option (Pool R) → List Write → Type 0
-IsDesk shape told None writes = writes ≡ []
-IsDesk shape told (Some pool) writes = Represents shape told pool writes
+-- where a pool is open, it stands for these changes; else there are none
+abbrev pub IsDesk : {R : Type 0} → (R → Shape) → (R → Option Told) → Option (Pool R) → List Change → Type 0
+IsDesk shape told None changes = changes ≡ []
+IsDesk shape told (Some pool) changes = Represents shape told pool changes
 
 -- the state of the pool that is open, if one is
-abbrev pub state_in : {R : Type 0} → (R → Option Told) → (R → Option ℕ → ℕ) → Option (Pool R) → List Write → Option State
-state_in told faults None writes = None
-state_in told faults (Some pool) writes = Some (state_of told faults pool writes)
-
--- the number of the last write that was begun
-abbrev pub seq_of : {R : Type 0} → Option (Pool R) → ℕ
-seq_of None = 0
-seq_of (Some pool) = pool.seq
+abbrev pub state_in : {R : Type 0} → (R → Option Told) → (R → Option ℕ → ℕ) → Option (Pool R) → List Change → Option State
+state_in told faults None changes = None
+state_in told faults (Some pool) changes = Some (state_of told faults pool changes)
 
 -- a pool was opened, which has this name and so many stripes
 pub record OpensAs {R : Type 0} (shape : R → Shape) (told : R → Option Told) (faults : R → Option ℕ → ℕ) (spec : Spec) (props : Props) (made : Made) (pool : Pool R) : Type 0 where

@@ -1,5 +1,5 @@
 -- The session of a script: what each command does to the pool that is open, and its reply.
-use Rattle.std.specs.Prelude.{◌≡◌, ◌++◌, ⊤, ℕ, List, [], ◌∷◌, codes, string_bytes, Option, Some, None, Result, Ok, Err}
+use Rattle.std.specs.Prelude.{◌≡◌, ◌<◌, ◌+◌, ◌%◌, ◌^◌, ◌++◌, ⊤, ℕ, zero, suc, List, [], ◌∷◌, codes, string_bytes, Option, Some, None, Result, Ok, Err}
 use Rattle.draid_spec.specs.declared.layout.Geometry.{Geometry}
 use Rattle.draid_spec.specs.declared.layout.Props.{Props}
 use Rattle.draid_spec.specs.declared.spec.Spec.{Spec}
@@ -8,19 +8,25 @@ use Rattle.draid_spec.specs.declared.spec.SpecFault.TheVariants as fault
 use Rattle.draid_spec.specs.Geometry.{geometry_of}
 use Rattle.draid_spec.specs.Name.{spec_name_of}
 use Rattle.draid_spec.specs.Text.{spec_by}
+use Rattle.rand_core.specs.Steps.{fill_via_u64}
+use Rattle.rand_xoshiro.specs.Xoroshiro128.{of_seed, plus_plus}
+use Rattle.rand_xoshiro.specs.SplitMix64.{splitmix_seed}
+use Rattle.draid_names.specs.declared.room.Room.{Room}
 use Rattle.draid_map.specs.Place.{stripes_of}
-use Rattle.draid_pool.specs.State.{Damages, FailsToDamage, HasNoSpace, IsFresh, IsLost, IsThere, Looks, Misses, ReadsLast, State, Stays, StopsAt, Sums, Writes, bytes_of}
+use Rattle.draid_pool.specs.State.{Damages, FailsToDamage, Frees, HasNoSpace, IsFresh, IsLast, IsLost, IsThere, Looks, Misses, ReadsLast, State, Stays, StopsAt, Sums, Writes, write_of}
 use Rattle.draid_script.specs.Grammar.{line_of}
-use Rattle.draid_script.specs.Line.{Command, Silent, CreatePool, WriteObject, ReadObject, SumObjects, DamageSector}
+use Rattle.draid_script.specs.Line.{Command, Silent, CreatePool, WriteObject, ReadObject, FillObjects, FreeObject, SumObjects, DamageSector}
 use Rattle.draid_script.specs.declared.fault.LineFault.{LineFault}
 use Rattle.draid_script.specs.declared.line.PoolKeys.{PoolKeys}
 use Rattle.draid_script.specs.declared.name.CommandName.TheVariants as name
+use Rattle.draid_script.specs.declared.refusal.FillRefusal.{FillRefusal}
+use Rattle.draid_script.specs.declared.refusal.FillRefusal.TheVariants as fill
 use Rattle.draid_script.specs.declared.refusal.SpecRefusal.{SpecRefusal}
 use Rattle.draid_script.specs.declared.refusal.SpecRefusal.TheVariants as refusal
 use Rattle.draid_script.specs.declared.refusal.SumRefusal.{SumRefusal}
 use Rattle.draid_script.specs.declared.refusal.SumRefusal.TheVariants as stop
 use Rattle.draid_script.specs.declared.reply.Reply.{Reply}
-use Rattle.draid_script.specs.declared.reply.Reply.TheVariants.{NoPool, PoolOpen, NoMemory, Created, CreateRefused, Written, NoSpace, Missed, Contents, NoObject, Unreadable, Summed, SumRefused, Damaged, DamageRefused, DamageFailed}
+use Rattle.draid_script.specs.declared.reply.Reply.TheVariants.{NoPool, PoolOpen, NoMemory, Created, CreateRefused, Written, NoSpace, Missed, WriteLast, Filled, FillRefused, Freed, FreeNoObject, Contents, NoObject, Unreadable, Summed, SumRefused, Damaged, DamageRefused, DamageFailed}
 
 -- why `create` is refused, in the words of its reply
 abbrev pub refusal_of : SpecFault → SpecRefusal
@@ -65,7 +71,7 @@ pub record Creates (text : List ℕ) (children : ℕ) (keys : PoolKeys) (called 
 
 -- why an object of a `sum` gave no bytes
 abbrev pub StopIs : ℕ → SumRefusal → State → State → Type 0
-StopIs object stop.NoObject old new = bytes_of old.writes object ≡ None
+StopIs object stop.NoObject old new = write_of old.changes object ≡ None
 StopIs object (stop.Unreadable absent tried) old new = IsLost object absent tried old new
 StopIs object stop.Worn old new = ⊥
 
@@ -76,57 +82,91 @@ pub record SumStops (first count object : ℕ) (why : SumRefusal) (old new : Sta
   pub cause : StopIs object why mid new
   pub looks : Looks mid new
 
--- What a command does to an open pool, and its reply.
-abbrev pub Step : Command → Reply → State → State → Type 0
-Step (WriteObject object bytes) (Written o) old new = (o ≡ object) × Writes object bytes old new
-Step (WriteObject object bytes) (NoSpace o run disabled full worn) old new =
-    (o ≡ object) × HasNoSpace bytes run old new × (disabled ≡ 0) × (full ≡ 0) × (worn ≡ 0)
-Step (WriteObject object bytes) (Missed o columns) old new = (o ≡ object) × Misses bytes columns old new
-Step (WriteObject object bytes) (NoMemory name.Write) old new = Stays old new
-Step (ReadObject object) (Contents o bytes) old new = (o ≡ object) × ReadsLast old.writes object bytes.items × Looks old new
-Step (ReadObject object) (NoObject o) old new = (o ≡ object) × (bytes_of old.writes object ≡ None) × Looks old new
-Step (ReadObject object) (Unreadable o absent tried) old new = (o ≡ object) × IsLost object absent tried old new × Looks old new
-Step (ReadObject object) (NoMemory name.Read) old new = Looks old new
-Step (SumObjects first count) (Summed f c digest) old new = (f ≡ first) × (c ≡ count) × Sums old.writes first count digest × Looks old new
-Step (SumObjects first count) (SumRefused object why) old new = SumStops first count object why old new
-Step (SumObjects first count) (NoMemory name.Sum) old new = Looks old new
-Step (DamageSector leaf sector) (Damaged l s) old new = (l ≡ leaf) × (s ≡ sector) × Damages leaf sector old new
-Step (DamageSector leaf sector) (DamageRefused l s) old new = (l ≡ leaf) × (s ≡ sector) × (IsThere old leaf sector → ⊥) × Stays old new
-Step (DamageSector leaf sector) (DamageFailed l s) old new = (l ≡ leaf) × (s ≡ sector) × FailsToDamage leaf sector old new
-Step command reply old new = ⊥
+-- The contents that `fill` gives an object: as many bytes of the generator xoroshiro128++ that the seed and the object's number seed together, modulo 2^64.
+unfoldable pub content_of : ℕ → ℕ → ℕ → List ℕ
+content_of seed object len = (fill_via_u64 plus_plus len (of_seed (splitmix_seed 16 ((seed + object) % 2 ^ 64)))).0
 
--- What a command does where a pool is open, or none is, and its reply, if it has one.
-abbrev pub Turns : Option State → Command → Option Reply → Option State → Type 0
-Turns old Silent None new = new ≡ old
-Turns None (CreatePool text children keys) (Some (Created called stripes)) (Some new) = (keys.metaslabs ≡ 1) × Creates text children keys (string_bytes called) stripes new
-Turns None (CreatePool text children keys) (Some (CreateRefused why)) new = (keys.metaslabs ≡ 1) × HasNoLayout text children keys why × (new ≡ None)
-Turns None (CreatePool text children keys) (Some (NoMemory name.Create)) new = (keys.metaslabs ≡ 1) × HasLayout text children keys × (new ≡ None)
-Turns (Some old) (CreatePool text children keys) (Some (PoolOpen name.Create)) new = (keys.metaslabs ≡ 1) × (new ≡ Some old)
-Turns None (WriteObject object bytes) (Some (NoPool name.Write)) new = new ≡ None
-Turns None (ReadObject object) (Some (NoPool name.Read)) new = new ≡ None
-Turns None (SumObjects first count) (Some (NoPool name.Sum)) new = new ≡ None
-Turns None (DamageSector leaf sector) (Some (NoPool name.Damage)) new = new ≡ None
-Turns (Some old) command (Some reply) (Some new) = Step command reply old new
-Turns old command reply new = ⊥
+-- Blocks go to metaslabs that the chooser may name.
+module _ (chosen : List Room → Option ℕ → Type 0) where
+  -- so many objects from the first on were given their contents, one after another
+  abbrev pub Fills : ℕ → ℕ → ℕ → ℕ → State → State → Type 0
+  Fills first zero len seed old new = new ≡ old
+  Fills first (suc count) len seed old new =
+      (mid : State) × Fills first count len seed old mid × Writes chosen (first + count) (content_of seed (first + count) len) mid new
 
--- what a line of the script does
-abbrev pub TurnsBy : Result Command LineFault → Option State → Option Reply → Option State → Type 0
-TurnsBy (Err fault) old reply new = ⊥
-TurnsBy (Ok command) old reply new = Turns old command reply new
+  -- why a `fill` stopped at these contents
+  abbrev pub FillStopIs : List ℕ → FillRefusal → State → State → Type 0
+  FillStopIs bytes (fill.NoSpace run disabled full worn) old new = HasNoSpace bytes run disabled full worn old new
+  FillStopIs bytes (fill.Missed columns) old new = Misses chosen bytes columns old new
+  FillStopIs bytes fill.Last old new = IsLast chosen bytes old new
+  FillStopIs bytes fill.NoMemory old new = Stays old new
 
--- The lines were answered by the replies, one after another.
-abbrev pub Runs : Option State → List (List ℕ) → List (Option Reply) → Option State → Type 0
-Runs old [] [] new = new ≡ old
-Runs old (line ∷ lines) (reply ∷ replies) new =
-    (mid : Option State) × TurnsBy (line_of line) old reply mid × Runs mid lines replies new
-Runs old lines replies new = ⊥
+  -- So many objects were given their contents, fewer than were asked for, and the next one was refused its.
+  pub record FillStops (first count len seed written : ℕ) (why : FillRefusal) (old new : State) : Type 0 where
+    pub mid : State
+    pub fewer : written < count
+    pub fills : Fills first written len seed old mid
+    pub cause : FillStopIs (content_of seed (first + written) len) why mid new
+
+  -- What a command does to an open pool, and its reply.
+  abbrev pub Step : Command → Reply → State → State → Type 0
+  Step (WriteObject object bytes) (Written o) old new = (o ≡ object) × Writes chosen object bytes old new
+  Step (WriteObject object bytes) (NoSpace o run disabled full worn) old new = (o ≡ object) × HasNoSpace bytes run disabled full worn old new
+  Step (WriteObject object bytes) (Missed o columns) old new = (o ≡ object) × Misses chosen bytes columns old new
+  Step (WriteObject object bytes) (WriteLast o) old new = (o ≡ object) × IsLast chosen bytes old new
+  Step (WriteObject object bytes) (NoMemory name.Write) old new = Stays old new
+  Step (FillObjects first count len seed) (Filled f written) old new = (f ≡ first) × (written ≡ count) × Fills first count len seed old new
+  Step (FillObjects first count len seed) (FillRefused f written why) old new = (f ≡ first) × FillStops first count len seed written why old new
+  Step (FreeObject object) (Freed o) old new = (o ≡ object) × Frees object old new
+  Step (FreeObject object) (FreeNoObject o) old new = (o ≡ object) × (write_of old.changes object ≡ None) × Stays old new
+  Step (ReadObject object) (Contents o bytes) old new = (o ≡ object) × ReadsLast old.changes object bytes.items × Looks old new
+  Step (ReadObject object) (NoObject o) old new = (o ≡ object) × (write_of old.changes object ≡ None) × Looks old new
+  Step (ReadObject object) (Unreadable o absent tried) old new = (o ≡ object) × IsLost object absent tried old new × Looks old new
+  Step (ReadObject object) (NoMemory name.Read) old new = Looks old new
+  Step (SumObjects first count) (Summed f c digest) old new = (f ≡ first) × (c ≡ count) × Sums old.changes first count digest × Looks old new
+  Step (SumObjects first count) (SumRefused object why) old new = SumStops first count object why old new
+  Step (SumObjects first count) (NoMemory name.Sum) old new = Looks old new
+  Step (DamageSector leaf sector) (Damaged l s) old new = (l ≡ leaf) × (s ≡ sector) × Damages leaf sector old new
+  Step (DamageSector leaf sector) (DamageRefused l s) old new = (l ≡ leaf) × (s ≡ sector) × (IsThere old leaf sector → ⊥) × Stays old new
+  Step (DamageSector leaf sector) (DamageFailed l s) old new = (l ≡ leaf) × (s ≡ sector) × FailsToDamage leaf sector old new
+  Step command reply old new = ⊥
+
+  -- What a command does where a pool is open, or none is, and its reply, if it has one.
+  abbrev pub Turns : Option State → Command → Option Reply → Option State → Type 0
+  Turns old Silent None new = new ≡ old
+  Turns None (CreatePool text children keys) (Some (Created called stripes)) (Some new) = Creates text children keys (string_bytes called) stripes new
+  Turns None (CreatePool text children keys) (Some (CreateRefused why)) new = HasNoLayout text children keys why × (new ≡ None)
+  Turns None (CreatePool text children keys) (Some (NoMemory name.Create)) new = HasLayout text children keys × (new ≡ None)
+  Turns (Some old) (CreatePool text children keys) (Some (PoolOpen name.Create)) new = (new ≡ Some old)
+  Turns None (WriteObject object bytes) (Some (NoPool name.Write)) new = new ≡ None
+  Turns None (ReadObject object) (Some (NoPool name.Read)) new = new ≡ None
+  Turns None (FillObjects first count len seed) (Some (NoPool name.Fill)) new = new ≡ None
+  Turns None (FreeObject object) (Some (NoPool name.Free)) new = new ≡ None
+  Turns None (SumObjects first count) (Some (NoPool name.Sum)) new = new ≡ None
+  Turns None (DamageSector leaf sector) (Some (NoPool name.Damage)) new = new ≡ None
+  Turns (Some old) command (Some reply) (Some new) = Step command reply old new
+  Turns old command reply new = ⊥
+
+  -- what a line of the script does
+  abbrev pub TurnsBy : Result Command LineFault → Option State → Option Reply → Option State → Type 0
+  TurnsBy (Err fault) old reply new = ⊥
+  TurnsBy (Ok command) old reply new = Turns old command reply new
+
+  -- The lines were answered by the replies, one after another.
+  abbrev pub Runs : Option State → List (List ℕ) → List (Option Reply) → Option State → Type 0
+  Runs old [] [] new = new ≡ old
+  Runs old (line ∷ lines) (reply ∷ replies) new =
+      (mid : Option State) × TurnsBy (line_of line) old reply mid × Runs mid lines replies new
+  Runs old lines replies new = ⊥
 
 -- the command is beyond what is built
 abbrev pub IsUnbuilt : Command → Type 0
 IsUnbuilt Silent = ⊥
-IsUnbuilt (CreatePool text children keys) = keys.metaslabs ≡ 1 → ⊥
+IsUnbuilt (CreatePool text children keys) = ⊥
 IsUnbuilt (WriteObject object bytes) = ⊥
 IsUnbuilt (ReadObject object) = ⊥
+IsUnbuilt (FillObjects first count len seed) = ⊥
+IsUnbuilt (FreeObject object) = ⊥
 IsUnbuilt (SumObjects first count) = ⊥
 IsUnbuilt (DamageSector leaf sector) = ⊥
 IsUnbuilt command = ⊤

@@ -1,19 +1,24 @@
 //! What the commands of a script reply, whether a pool is open or not.
-ghost use Rattle.std.specs.Prelude.{◌≡◌, ◌<◌, ◌≤◌, ◌+◌, ◌*◌, ◌++◌, ◌^◌, List, None, Some, Ok, IfOk, codes, string_bytes};
-ghost use Rattle.draid_script.specs.Line.{CreatePool, DamageSector, IsInRange, ReadObject, SumObjects, WriteObject, command_in};
+ghost use Rattle.std.specs.Prelude.{◌≡◌, ◌++◌, ℕ, List, Option, None, Some, Ok, IfOk, codes, string_bytes};
+ghost use Rattle.draid_script.specs.Line.{CreatePool, DamageSector, FillObjects, FreeObject, IsInRange, ReadObject, SumObjects, WriteObject, command_in};
+ghost use Rattle.std.specs.Fn.{FnReturnsAt};
+ghost use Rattle.draid_names.specs.declared.room.Room.{Room};
+ghost use Rattle.draid_choose.specs.Rooms.{IsChooser};
 ghost use Rattle.draid_spec.specs.Geometry.{IsGeometry};
 ghost use Rattle.draid_spec.specs.Spec.{IsSpec};
 ghost use Rattle.draid_spec.specs.Name.{spec_name_of};
 ghost use Rattle.draid_map.specs.Place.{stripes_of};
-ghost use Rattle.draid_pool.specs.State.{Write};
+ghost use Rattle.draid_pool.specs.State.{Change};
 ghost use Rattle.draid_run.specs.State.{props_of, refusal_of};
-ghost use Rattle.draid_run.specs.Session.{IsDesk, OpensBy, seq_of, state_in};
+ghost use Rattle.draid_run.specs.Session.{IsDesk, OpensBy, state_in};
 ghost use Rattle.draid_run.specs.Serve.{AnswerIs, Turned};
 
+use crate::fill;
 use crate::replies;
 use draid_map::metaslab_stripes;
-use draid_names::NoMemory;
-use draid_pool::{Pool, PoolFault};
+use draid_choose::Chooser;
+use draid_names::{NoMemory, Room};
+use draid_pool::{Pool, PoolFault, close};
 use draid_rack::Rack;
 use draid_script::{CommandName, Line, PoolKeys, Reply, SpecRefusal};
 use draid_shelf::RackShelf;
@@ -69,7 +74,7 @@ fn stripes(geometry: &Geometry) -> u64
     u64::from(geometry.props.metaslabs) * metaslab_stripes(geometry)
 }
 
-/// Opens a new pool of one metaslab, where none is open.
+/// Opens a new pool, where none is open.
 fn create<H: RackShelf>(
     alloc: Global,
     shelf: &mut H,
@@ -78,10 +83,8 @@ fn create<H: RackShelf>(
     children: u32,
     keys: PoolKeys,
 ) -> Reply
-    requires one { keys.metaslabs ≡ 1 }
-    ensures turned { (writes : List Write) → IsDesk H.R.shape H.R.told pool.old writes
-        → Turned H.R.shape H.R.told H.R.faults (Ok (CreatePool text.now children keys)) (state_in H.R.told H.R.faults pool.old writes) (Some result) pool.new }
-    ensures seq { seq_of pool.new ≤ seq_of pool.old }
+    ensures turned { (chosen : List Room → Option ℕ → Type 0) (changes : List Change) → IsDesk H.R.shape H.R.told pool.old changes
+        → Turned H.R.shape H.R.told H.R.faults chosen (Ok (CreatePool text.now children keys)) (state_in H.R.told H.R.faults pool.old changes) (Some result) pool.new }
 {
     if pool.is_some() {
         return Reply::PoolOpen {
@@ -114,7 +117,7 @@ struct Made {
     stripes: u64,
 }
 
-/// Opens a new pool of one metaslab, where none is open.
+/// Opens a new pool, where none is open.
 fn open_pool<H: RackShelf>(
     alloc: Global,
     shelf: &mut H,
@@ -123,10 +126,8 @@ fn open_pool<H: RackShelf>(
     props: Props,
 ) -> Result<Made, PoolFault>
     requires spec { IsSpec spec }
-    requires one { props.metaslabs ≡ 1 }
     requires closed { pool.old ≡ None }
     ensures opened { OpensBy H.R.shape H.R.told H.R.faults spec props result pool.new }
-    ensures seq { seq_of pool.new ≡ 0 }
 {
     let new = draid_pool::create(alloc, shelf, spec, props)?;
     match vdev_name(alloc, spec) {
@@ -136,7 +137,7 @@ fn open_pool<H: RackShelf>(
             Ok(Made { name, stripes })
         }
         Err(NoMemory) => {
-            shelf.give(0, new.into_rack());
+            close(new, shelf);
             Err(PoolFault::NoMemory)
         }
     }
@@ -150,26 +151,29 @@ fn no_pool(command: CommandName) -> Reply
 }
 
 /// Writes to the pool that is open, if one is.
-fn write<R: Rack>(pool: &mut Option<Pool<R>>, object: u64, bytes: &[u8]) -> Reply
+fn write<R: Rack, F: Fn(&[Room]) -> Option<u32>>(
+    pool: &mut Option<Pool<R>>,
+    chooser: &Chooser<F>,
+    object: u64,
+    bytes: &[u8],
+) -> Reply
+    requires chooser { IsChooser F.Fn chooser.now }
     requires range { IsInRange (WriteObject object bytes.now) }
-    requires desk { (writes : List Write) × IsDesk R.shape R.told pool.old writes }
-    requires seq { seq_of pool.old + 1 < 2 ^ 48 }
-    ensures turned { (writes : List Write) → IsDesk R.shape R.told pool.old writes
-        → Turned R.shape R.told R.faults (Ok (WriteObject object bytes.now)) (state_in R.told R.faults pool.old writes) (Some result) pool.new }
-    ensures seq { seq_of pool.new ≤ seq_of pool.old + 1 }
+    requires desk { (changes : List Change) × IsDesk R.shape R.told pool.old changes }
+    ensures turned { (changes : List Change) → IsDesk R.shape R.told pool.old changes
+        → Turned R.shape R.told R.faults (FnReturnsAt F.Fn chooser.now) (Ok (WriteObject object bytes.now)) (state_in R.told R.faults pool.old changes) (Some result) pool.new }
 {
     match pool {
-        Some(pool) => replies::write(pool, object, bytes),
+        Some(pool) => replies::write(pool, chooser, object, bytes),
         None => no_pool(CommandName::Write),
     }
 }
 
 /// Reads from the pool that is open, if one is.
 fn read<R: Rack>(pool: &mut Option<Pool<R>>, object: u64) -> Reply
-    requires desk { (writes : List Write) × IsDesk R.shape R.told pool.old writes }
-    ensures turned { (writes : List Write) → IsDesk R.shape R.told pool.old writes
-        → Turned R.shape R.told R.faults (Ok (ReadObject object)) (state_in R.told R.faults pool.old writes) (Some result) pool.new }
-    ensures seq { seq_of pool.new ≡ seq_of pool.old }
+    requires desk { (changes : List Change) × IsDesk R.shape R.told pool.old changes }
+    ensures turned { (chosen : List Room → Option ℕ → Type 0) (changes : List Change) → IsDesk R.shape R.told pool.old changes
+        → Turned R.shape R.told R.faults chosen (Ok (ReadObject object)) (state_in R.told R.faults pool.old changes) (Some result) pool.new }
 {
     match pool {
         Some(pool) => replies::read(pool, object),
@@ -177,13 +181,46 @@ fn read<R: Rack>(pool: &mut Option<Pool<R>>, object: u64) -> Reply
     }
 }
 
+/// Fills objects of the pool that is open, if one is.
+fn fill<R: Rack, F: Fn(&[Room]) -> Option<u32>>(
+    alloc: Global,
+    pool: &mut Option<Pool<R>>,
+    chooser: &Chooser<F>,
+    first: u64,
+    count: u64,
+    len: u32,
+    seed: u64,
+) -> Reply
+    requires chooser { IsChooser F.Fn chooser.now }
+    requires range { IsInRange (FillObjects first count len seed) }
+    requires desk { (changes : List Change) × IsDesk R.shape R.told pool.old changes }
+    ensures turned { (changes : List Change) → IsDesk R.shape R.told pool.old changes
+        → Turned R.shape R.told R.faults (FnReturnsAt F.Fn chooser.now) (Ok (FillObjects first count len seed)) (state_in R.told R.faults pool.old changes) (Some result) pool.new }
+{
+    match pool {
+        Some(pool) => fill::fill(alloc, pool, chooser, first, count, len, seed),
+        None => no_pool(CommandName::Fill),
+    }
+}
+
+/// Frees an object of the pool that is open, if one is.
+fn free<R: Rack>(pool: &mut Option<Pool<R>>, object: u64) -> Reply
+    requires desk { (changes : List Change) × IsDesk R.shape R.told pool.old changes }
+    ensures turned { (chosen : List Room → Option ℕ → Type 0) (changes : List Change) → IsDesk R.shape R.told pool.old changes
+        → Turned R.shape R.told R.faults chosen (Ok (FreeObject object)) (state_in R.told R.faults pool.old changes) (Some result) pool.new }
+{
+    match pool {
+        Some(pool) => replies::free(pool, object),
+        None => no_pool(CommandName::Free),
+    }
+}
+
 /// Sums objects of the pool that is open, if one is.
 fn sum<R: Rack>(pool: &mut Option<Pool<R>>, first: u64, count: u64) -> Reply
     requires range { IsInRange (SumObjects first count) }
-    requires desk { (writes : List Write) × IsDesk R.shape R.told pool.old writes }
-    ensures turned { (writes : List Write) → IsDesk R.shape R.told pool.old writes
-        → Turned R.shape R.told R.faults (Ok (SumObjects first count)) (state_in R.told R.faults pool.old writes) (Some result) pool.new }
-    ensures seq { seq_of pool.new ≡ seq_of pool.old }
+    requires desk { (changes : List Change) × IsDesk R.shape R.told pool.old changes }
+    ensures turned { (chosen : List Room → Option ℕ → Type 0) (changes : List Change) → IsDesk R.shape R.told pool.old changes
+        → Turned R.shape R.told R.faults chosen (Ok (SumObjects first count)) (state_in R.told R.faults pool.old changes) (Some result) pool.new }
 {
     match pool {
         Some(pool) => replies::sum(pool, first, count),
@@ -193,10 +230,9 @@ fn sum<R: Rack>(pool: &mut Option<Pool<R>>, first: u64, count: u64) -> Reply
 
 /// Damages a sector of the pool that is open, if one is.
 fn damage<R: Rack>(pool: &mut Option<Pool<R>>, leaf: u64, sector: u64) -> Reply
-    requires desk { (writes : List Write) × IsDesk R.shape R.told pool.old writes }
-    ensures turned { (writes : List Write) → IsDesk R.shape R.told pool.old writes
-        → Turned R.shape R.told R.faults (Ok (DamageSector leaf sector)) (state_in R.told R.faults pool.old writes) (Some result) pool.new }
-    ensures seq { seq_of pool.new ≡ seq_of pool.old }
+    requires desk { (changes : List Change) × IsDesk R.shape R.told pool.old changes }
+    ensures turned { (chosen : List Room → Option ℕ → Type 0) (changes : List Change) → IsDesk R.shape R.told pool.old changes
+        → Turned R.shape R.told R.faults chosen (Ok (DamageSector leaf sector)) (state_in R.told R.faults pool.old changes) (Some result) pool.new }
 {
     match pool {
         Some(pool) => replies::damage(pool, leaf, sector),
@@ -205,18 +241,18 @@ fn damage<R: Rack>(pool: &mut Option<Pool<R>>, leaf: u64, sector: u64) -> Reply
 }
 
 /// Does what a line asks for. An empty line and a comment have no reply.
-pub(crate) fn answer<H: RackShelf>(
+pub(crate) fn answer<H: RackShelf, F: Fn(&[Room]) -> Option<u32>>(
     alloc: Global,
     shelf: &mut H,
     pool: &mut Option<Pool<H::R>>,
+    chooser: &Chooser<F>,
     line: Line,
 ) -> Result<Option<Reply>, Unbuilt>
+    requires chooser { IsChooser F.Fn chooser.now }
     requires range { IsInRange (command_in line) }
-    requires desk { (writes : List Write) × IsDesk H.R.shape H.R.told pool.old writes }
-    requires seq { seq_of pool.old + 1 < 2 ^ 48 }
-    ensures answer { (writes : List Write) → IsDesk H.R.shape H.R.told pool.old writes
-        → AnswerIs H.R.shape H.R.told H.R.faults (command_in line) pool.old writes pool.new result }
-    ensures seq { seq_of pool.new ≤ seq_of pool.old + 1 }
+    requires desk { (changes : List Change) × IsDesk H.R.shape H.R.told pool.old changes }
+    ensures answer { (changes : List Change) → IsDesk H.R.shape H.R.told pool.old changes
+        → AnswerIs H.R.shape H.R.told H.R.faults (FnReturnsAt F.Fn chooser.now) (command_in line) pool.old changes pool.new result }
 {
     match line {
         Line::Nothing => Ok(None),
@@ -224,13 +260,15 @@ pub(crate) fn answer<H: RackShelf>(
             spec,
             children,
             keys,
-        } => {
-            if keys.metaslabs != 1 {
-                return Err(Unbuilt);
-            }
-            Ok(Some(create(alloc, shelf, pool, &spec, children, keys)))
-        }
-        Line::Write { object, bytes } => Ok(Some(write(pool, object, &bytes))),
+        } => Ok(Some(create(alloc, shelf, pool, &spec, children, keys))),
+        Line::Write { object, bytes } => Ok(Some(write(pool, chooser, object, &bytes))),
+        Line::Fill {
+            first,
+            count,
+            len,
+            seed,
+        } => Ok(Some(fill(alloc, pool, chooser, first, count, len, seed))),
+        Line::Free { object } => Ok(Some(free(pool, object))),
         Line::Read { object } => Ok(Some(read(pool, object))),
         Line::Sum { first, count } => Ok(Some(sum(pool, first, count))),
         Line::Damage { leaf, sector } => Ok(Some(damage(pool, leaf, sector))),

@@ -3,6 +3,7 @@
 #![tactic(auto)]
 
 mod answer;
+mod fill;
 mod replies;
 mod serve;
 mod status;

@@ -1,34 +1,49 @@
 //! What the commands of an open pool reply.
-ghost use Rattle.std.specs.Prelude.{◌≡◌, ◌<◌, ◌≤◌, ◌+◌, ◌^◌, List, length};
-ghost use Rattle.draid_script.specs.Line.{DamageSector, IsInRange, ReadObject, SumObjects, WriteObject};
+ghost use Rattle.std.specs.Prelude.{◌≡◌, ℕ, List, Option, length};
+ghost use Rattle.std.specs.Fn.{FnReturnsAt};
+ghost use Rattle.draid_names.specs.declared.room.Room.{Room};
+ghost use Rattle.draid_choose.specs.Rooms.{IsChooser};
+ghost use Rattle.draid_script.specs.Line.{DamageSector, FreeObject, IsInRange, ReadObject, SumObjects, WriteObject};
 ghost use Rattle.draid_pool.specs.Pool.{Moves, Represents, state_of};
-ghost use Rattle.draid_pool.specs.State.{Write};
+ghost use Rattle.draid_pool.specs.State.{Change};
 ghost use Rattle.draid_run.specs.State.{Step};
 ghost use Rattle.draid_run.specs.Replies.{sum_refused};
 
-use draid_pool::{DamageFault, ObjectFault, Pool, SumFault, WriteFault};
+use draid_choose::Chooser;
+use draid_names::Room;
+use draid_pool::{DamageFault, FreeFault, ObjectFault, Pool, SumFault, WriteFault};
 use draid_rack::Rack;
 use draid_script::{CommandName, Reply, SumRefusal};
 
 /// Writes to an object.
-pub(crate) fn write<R: Rack>(pool: &mut Pool<R>, object: u64, bytes: &[u8]) -> Reply
+pub(crate) fn write<R: Rack, F: Fn(&[Room]) -> Option<u32>>(
+    pool: &mut Pool<R>,
+    chooser: &Chooser<F>,
+    object: u64,
+    bytes: &[u8],
+) -> Reply
     requires range { IsInRange (WriteObject object bytes.now) }
-    requires seq { pool.old.seq + 1 < 2 ^ 48 }
-    requires represents { (writes : List Write) × Represents R.shape R.told pool.old writes }
-    ensures step { (writes : List Write) → Represents R.shape R.told pool.old writes
-        → Moves R.shape R.told R.faults (Step (WriteObject object bytes.now) result) (state_of R.told R.faults pool.old writes) pool.new }
-    ensures seq { pool.new.seq ≤ pool.old.seq + 1 }
+    requires chooser { IsChooser F.Fn chooser.now }
+    requires represents { (changes : List Change) × Represents R.shape R.told pool.old changes }
+    ensures step { (changes : List Change) → Represents R.shape R.told pool.old changes
+        → Moves R.shape R.told R.faults (Step (FnReturnsAt F.Fn chooser.now) (WriteObject object bytes.now) result) (state_of R.told R.faults pool.old changes) pool.new }
 {
-    match pool.write(object, bytes) {
+    match pool.write(chooser, object, bytes) {
         Ok(()) => Reply::Written { object },
-        Err(WriteFault::NoSpace { run }) => Reply::NoSpace {
+        Err(WriteFault::NoSpace {
+            run,
+            disabled,
+            full,
+            worn,
+        }) => Reply::NoSpace {
             object,
             run,
-            disabled: 0,
-            full: 0,
-            worn: 0,
+            disabled,
+            full,
+            worn,
         },
         Err(WriteFault::Missed { columns }) => Reply::Missed { object, columns },
+        Err(WriteFault::Last) => Reply::WriteLast { object },
         Err(WriteFault::NoMemory) => Reply::NoMemory {
             command: CommandName::Write,
         },
@@ -37,10 +52,9 @@ pub(crate) fn write<R: Rack>(pool: &mut Pool<R>, object: u64, bytes: &[u8]) -> R
 
 /// Reads an object.
 pub(crate) fn read<R: Rack>(pool: &mut Pool<R>, object: u64) -> Reply
-    requires represents { (writes : List Write) × Represents R.shape R.told pool.old writes }
-    ensures step { (writes : List Write) → Represents R.shape R.told pool.old writes
-        → Moves R.shape R.told R.faults (Step (ReadObject object) result) (state_of R.told R.faults pool.old writes) pool.new }
-    ensures seq { pool.new.seq ≡ pool.old.seq }
+    requires represents { (changes : List Change) × Represents R.shape R.told pool.old changes }
+    ensures step { (chosen : List Room → Option ℕ → Type 0) (changes : List Change) → Represents R.shape R.told pool.old changes
+        → Moves R.shape R.told R.faults (Step chosen (ReadObject object) result) (state_of R.told R.faults pool.old changes) pool.new }
 {
     match pool.read(object) {
         Ok(bytes) => Reply::Contents { object, bytes },
@@ -56,13 +70,24 @@ pub(crate) fn read<R: Rack>(pool: &mut Pool<R>, object: u64) -> Reply
     }
 }
 
+/// Frees an object.
+pub(crate) fn free<R: Rack>(pool: &mut Pool<R>, object: u64) -> Reply
+    requires represents { (changes : List Change) × Represents R.shape R.told pool.old changes }
+    ensures step { (chosen : List Room → Option ℕ → Type 0) (changes : List Change) → Represents R.shape R.told pool.old changes
+        → Moves R.shape R.told R.faults (Step chosen (FreeObject object) result) (state_of R.told R.faults pool.old changes) pool.new }
+{
+    match pool.free(object) {
+        Ok(()) => Reply::Freed { object },
+        Err(FreeFault::NoObject) => Reply::FreeNoObject { object },
+    }
+}
+
 /// Sums so many objects from the first on.
 pub(crate) fn sum<R: Rack>(pool: &mut Pool<R>, first: u64, count: u64) -> Reply
     requires range { IsInRange (SumObjects first count) }
-    requires represents { (writes : List Write) × Represents R.shape R.told pool.old writes }
-    ensures step { (writes : List Write) → Represents R.shape R.told pool.old writes
-        → Moves R.shape R.told R.faults (Step (SumObjects first count) result) (state_of R.told R.faults pool.old writes) pool.new }
-    ensures seq { pool.new.seq ≡ pool.old.seq }
+    requires represents { (changes : List Change) × Represents R.shape R.told pool.old changes }
+    ensures step { (chosen : List Room → Option ℕ → Type 0) (changes : List Change) → Represents R.shape R.told pool.old changes
+        → Moves R.shape R.told R.faults (Step chosen (SumObjects first count) result) (state_of R.told R.faults pool.old changes) pool.new }
 {
     match pool.sum(first, count) {
         Ok(digest) => Reply::Summed {
@@ -96,10 +121,9 @@ fn refuse_sum(fault: SumFault) -> Reply
 
 /// Damages a sector of a leaf.
 pub(crate) fn damage<R: Rack>(pool: &mut Pool<R>, leaf: u64, sector: u64) -> Reply
-    requires represents { (writes : List Write) × Represents R.shape R.told pool.old writes }
-    ensures step { (writes : List Write) → Represents R.shape R.told pool.old writes
-        → Moves R.shape R.told R.faults (Step (DamageSector leaf sector) result) (state_of R.told R.faults pool.old writes) pool.new }
-    ensures seq { pool.new.seq ≡ pool.old.seq }
+    requires represents { (changes : List Change) × Represents R.shape R.told pool.old changes }
+    ensures step { (chosen : List Room → Option ℕ → Type 0) (changes : List Change) → Represents R.shape R.told pool.old changes
+        → Moves R.shape R.told R.faults (Step chosen (DamageSector leaf sector) result) (state_of R.told R.faults pool.old changes) pool.new }
 {
     match pool.damage(leaf, sector) {
         Ok(()) => Reply::Damaged { leaf, sector },

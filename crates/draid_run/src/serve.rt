@@ -1,14 +1,17 @@
 ghost use Rattle.std.specs.Prelude.{◌≡◌, ◌<◌, ◌≤◌, ◌+◌, ◌^◌, ℕ, List, Some, None, Ok, Err, IfOk, IsTrue, OnErr, ◌↔◌, []};
 ghost use Rattle.std.specs.Io.KnownBytes.{prepend_known};
+ghost use Rattle.std.specs.Fn.{FnReturnsAt};
+ghost use Rattle.draid_choose.specs.Rooms.{IsChooser};
 ghost use Rattle.draid_names.specs.Faults.{Rose};
 ghost use Rattle.draid_script.specs.Reply.{text_of};
-ghost use Rattle.draid_pool.specs.State.{Write};
-ghost use Rattle.draid_run.specs.Session.{IsDesk, seq_of};
+ghost use Rattle.draid_pool.specs.State.{Change};
+ghost use Rattle.draid_run.specs.Session.{IsDesk};
 ghost use Rattle.draid_run.specs.Serve.{LineIs, PrintIs, Served, TextIs};
 
 use crate::answer::{Unbuilt, answer};
 use crate::status::Status;
-use draid_names::Failed;
+use draid_choose::Chooser;
+use draid_names::{Failed, Room};
 use draid_pool::Pool;
 use draid_script::{
     LineFault, Lines, ParseFault, ReadFault, Reply, Sink, Source, parse_line, reply_text,
@@ -20,19 +23,19 @@ use std::alloc::Global;
 const LINES: u64 = 1_048_577;
 
 /// Runs one line, with this number, and prints its reply.
-fn serve_line<H: RackShelf, K: Sink>(
+fn serve_line<H: RackShelf, K: Sink, F: Fn(&[Room]) -> Option<u32>>(
     alloc: Global,
     shelf: &mut H,
     pool: &mut Option<Pool<H::R>>,
+    chooser: &Chooser<F>,
     sink: &mut K,
     number: u64,
     text: &[u8],
 ) -> Result<(), Status>
-    requires desk { (writes : List Write) × IsDesk H.R.shape H.R.told pool.old writes }
-    requires seq { seq_of pool.old + 1 < 2 ^ 48 }
-    ensures line { (writes : List Write) → IsDesk H.R.shape H.R.told pool.old writes
-        → LineIs H.R.shape H.R.told H.R.faults number text.now pool.old writes pool.new (K.held sink.old) (K.held sink.new) result }
-    ensures seq { seq_of pool.new ≤ seq_of pool.old + 1 }
+    requires chooser { IsChooser F.Fn chooser.now }
+    requires desk { (changes : List Change) × IsDesk H.R.shape H.R.told pool.old changes }
+    ensures line { (changes : List Change) → IsDesk H.R.shape H.R.told pool.old changes
+        → LineIs H.R.shape H.R.told H.R.faults (FnReturnsAt F.Fn chooser.now) number text.now pool.old changes pool.new (K.held sink.old) (K.held sink.new) result }
     ensures later { K.faults sink.old ≤ K.faults sink.new }
     ensures cause { result ≡ Err Status.SinkFault → Rose (K.faults sink.old) (K.faults sink.new) }
 {
@@ -47,7 +50,7 @@ fn serve_line<H: RackShelf, K: Sink>(
         }
         Err(ParseFault::NoMemory) => return Err(Status::NoMemory),
     };
-    let reply = match answer(alloc, shelf, pool, line) {
+    let reply = match answer(alloc, shelf, pool, chooser, line) {
         Ok(Some(reply)) => reply,
         Ok(None) => return Ok(()),
         Err(Unbuilt) => {
@@ -96,15 +99,17 @@ fn next_text<S: Source>(
 }
 
 /// Runs the lines of the source one after another, until one can't be run or none is left.
-pub(crate) fn serve<H: RackShelf, S: Source, K: Sink>(
+pub(crate) fn serve<H: RackShelf, S: Source, K: Sink, F: Fn(&[Room]) -> Option<u32>>(
     alloc: Global,
     shelf: &mut H,
     pool: &mut Option<Pool<H::R>>,
+    chooser: &Chooser<F>,
     source: &mut S,
     sink: &mut K,
 ) -> Status
-    requires { pool.old ≡ None }
-    ensures served { Served H.R.shape H.R.told H.R.faults result (S.left source.old) (K.held sink.old) (K.held sink.new) pool.new }
+    requires chooser { IsChooser F.Fn chooser.now }
+    requires closed { pool.old ≡ None }
+    ensures served { Served H.R.shape H.R.told H.R.faults (FnReturnsAt F.Fn chooser.now) result (S.left source.old) (K.held sink.old) (K.held sink.new) pool.new }
     ensures source_later { S.faults source.old ≤ S.faults source.new }
     ensures sink_later { K.faults sink.old ≤ K.faults sink.new }
     ensures source_cause { result ≡ Status.SourceFault → Rose (S.faults source.old) (S.faults source.new) }
@@ -118,7 +123,7 @@ pub(crate) fn serve<H: RackShelf, S: Source, K: Sink>(
             Ok(None) => return Status::Done,
             Err(status) => return status,
         };
-        if let Err(status) = serve_line(alloc, shelf, pool, sink, number, &text) {
+        if let Err(status) = serve_line(alloc, shelf, pool, chooser, sink, number, &text) {
             return status;
         }
     }

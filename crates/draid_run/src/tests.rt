@@ -1,4 +1,8 @@
+ghost use Rattle.draid_choose.specs.Rooms.{IsChooser, Picks, most_rooms};
+
 use crate::{Status, run};
+use draid_choose::{Chooser, first_fit};
+use draid_names::Room;
 use draid_script::{MemorySink, MemorySource};
 use draid_shelf::MemoryShelf;
 use std::alloc::{AllocError, Global};
@@ -22,19 +26,34 @@ const NONE: Failing = Failing {
     sink: &[],
 };
 
-/// Runs a script that follows the line that creates the pool, and gives the status and what was printed.
+/// Runs a script that follows the line that creates the pool, with the first metaslab that has room for a block, and gives
+/// the status and what was printed.
 fn run_words<R: AllocGlobal>(
     rt: &R,
     word: &str,
     script: Vec<u8>,
     failing: &Failing,
 ) -> Result<(Status, Vec<u8>), AllocError> {
+    let chooser = Chooser::new(first_fit);
+    run_chosen(rt, word, script, failing, &chooser)
+}
+
+/// The same with another choice of metaslabs.
+fn run_chosen<R: AllocGlobal, F: Fn(&[Room]) -> Option<u32>>(
+    rt: &R,
+    word: &str,
+    script: Vec<u8>,
+    failing: &Failing,
+    chooser: &Chooser<F>,
+) -> Result<(Status, Vec<u8>), AllocError>
+    requires { IsChooser F.Fn chooser.now }
+{
     let alloc = rt.alloc();
     let words = vec![in alloc; String::from_str(alloc, word)?]?;
     let mut shelf = MemoryShelf::new(alloc, Vec::from_slice(alloc, failing.rack)?);
     let mut source = MemorySource::new(script, Vec::from_slice(alloc, failing.source)?);
     let mut sink = MemorySink::new(alloc, Vec::from_slice(alloc, failing.sink)?);
-    let status = run(rt, &words, &mut shelf, &mut source, &mut sink);
+    let status = run(rt, &words, &mut shelf, &mut source, &mut sink, chooser);
     Ok((status, Vec::from_slice(alloc, sink.held())?))
 }
 
@@ -83,7 +102,12 @@ fn replies_and_statuses(rt: HostRuntime) -> Result<(), Fail> {
         ("write 07 aa\n", "", 3, 6),
         ("end\n", "", 6, 0),
         ("sync\n", "", 7, 0),
-        ("create draid2:4d:11c:1s 11\n", "", 7, 0),
+        (
+            "write 7 aa\nfree 7\nread 7\nfree 7\n",
+            "write 7 ok\nfree 7 ok\nread 7 no object\nfree 7 no object\n",
+            0,
+            0,
+        ),
         (
             "write 7 68656c6c6f\nsum 7 1\nsum 7 2\n",
             "write 7 ok\nsum 7 1 2cf24dba5fb0a30e26e83b2ac5b9e29e1b161e5c1fa7425e73043362938b9824\nsum 8 no object\n",
@@ -204,13 +228,65 @@ fn devices_fail(rt: HostRuntime) -> Result<(), Fail> {
     Ok(())
 }
 
+/// The place of the last room that is large enough.
+fn last_fit(rooms: &[Room]) -> Option<u32>
+    requires { length rooms.now ≤ most_rooms }
+    ensures { Picks rooms.now result }
+{
+    let mut last = None;
+    for k in 0..rooms.len() {
+        if rooms[k].run >= rooms[k].need {
+            last = Some(k as u32);
+        }
+    }
+    last
+}
+
+// Two metaslabs of 8 stripes each hold 16 blocks of one stripe, whichever of them is chosen first.
+#[test]
+fn metaslabs_fill(rt: HostRuntime) -> Result<(), Fail> {
+    let alloc = rt.alloc();
+    let lines = "create draid1:2d:3c:0s 3 sector=512 height=8 metaslabs=2 slices=1\nfill 1 17 1024 1\nread 17\nfree 1\nfree 1\nsum 2 1\n";
+    let replies = "create draid1:2d:3c:0s-0 stripes=16\nfill 1 written=16 no space run=0 disabled=0 full=0 worn=0\nread 17 no object\nfree 1 ok\nfree 1 no object\n";
+    let script = Vec::from_slice(alloc, lines.as_bytes())?;
+    let (ended, printed) = run_words(&rt, "session", script.clone()?, &NONE)?;
+    assert_eq!(rt; ended, Status::Done);
+    assert!(rt; printed.starts_with(replies.as_bytes()));
+    let last = Chooser::new(last_fit);
+    let (ended, others) = run_chosen(&rt, "session", script, &NONE, &last)?;
+    assert_eq!(rt; ended, Status::Done);
+    assert_eq!(rt; others, printed);
+    Ok(())
+}
+
+// A metaslab holds 4,096 blocks, and no more.
+#[test]
+fn entries_fill(rt: HostRuntime) -> Result<(), Fail> {
+    let alloc = rt.alloc();
+    let lines = "create draid1:2d:3c:0s 3 sector=512 height=8 metaslabs=1 slices=513\nfill 1 4097 1 1\n";
+    let replies = "create draid1:2d:3c:0s-0 stripes=4104\nfill 1 written=4096 no space run=0 disabled=0 full=1 worn=0\n";
+    let script = Vec::from_slice(alloc, lines.as_bytes())?;
+    let (ended, printed) = run_words(&rt, "session", script, &NONE)?;
+    assert_eq!(rt; ended, Status::Done);
+    assert_eq!(rt; printed.as_slice(), replies.as_bytes());
+    Ok(())
+}
+
 #[test]
 fn pools_are_created_or_refused(rt: HostRuntime) -> Result<(), Fail> {
     let alloc = rt.alloc();
     for (line, reply) in [
         (
-            "create draid2:4d:11c:1s 11 metaslabs=1\n",
-            "create draid2:4d:11c:1s-0 stripes=640\n",
+            "create draid2:4d:11c:1s 11\n",
+            "create draid2:4d:11c:1s-0 stripes=2560\n",
+        ),
+        (
+            "create draid:2s 14\n",
+            "create draid1:8d:14c:2s-0 stripes=2048\n",
+        ),
+        (
+            "create draid1:2d 3 metaslabs=65\n",
+            "create refused 7 which=m value=65\n",
         ),
         ("create raidz 3 metaslabs=1\n", "create refused 1\n"),
         ("create draid4 9 metaslabs=1\n", "create refused 2\n"),

@@ -1,12 +1,17 @@
 ghost use Rattle.std.specs.Prelude.{◌≡◌, ◌↔◌, ◌≤◌, ◌⊎◌, ⊤, List, MatchOption, IsTrue, map, string_bytes};
+ghost use Rattle.std.specs.Fn.{FnReturnsAt};
+ghost use Rattle.draid_choose.specs.Rooms.{IsChooser};
 ghost use Rattle.draid_names.specs.Faults.{Rose};
 ghost use Rattle.draid_run.specs.Session.{IsDesk, state_in};
-ghost use Rattle.draid_pool.specs.State.{Write};
-ghost use Rattle.draid_run.specs.Script.{EndsWithLine, HoldsPool, IsSession, Prints, RunIs};
+ghost use Rattle.draid_pool.specs.Close.{HoldsPool};
+ghost use Rattle.draid_pool.specs.State.{Change};
+ghost use Rattle.draid_run.specs.Script.{EndsWithLine, IsSession, Prints, RunIs};
 
 use crate::serve::serve;
 use crate::status::{Status, fixed_line, numbered_line};
-use draid_pool::Pool;
+use draid_choose::Chooser;
+use draid_names::Room;
+use draid_pool::{Pool, close};
 use draid_script::{Sink, Source};
 use draid_shelf::RackShelf;
 use std::alloc::Global;
@@ -54,25 +59,28 @@ fn is_session(words: &[String]) -> bool
     }
 }
 
-/// Gives the rack of an open pool back to the shelf.
+/// Gives the racks of an open pool back to the shelf.
 fn give_back<H: RackShelf>(shelf: &mut H, pool: Option<Pool<H::R>>)
-    ensures { (writes : List Write) → IsDesk H.R.shape H.R.told pool writes → MatchOption (state_in H.R.told H.R.faults pool writes) ⊤ (HoldsPool (H.holds shelf.new 0) (H.counts shelf.new 0)) }
+    requires desk { (changes : List Change) × IsDesk H.R.shape H.R.told pool changes }
+    ensures { (changes : List Change) → IsDesk H.R.shape H.R.told pool changes → MatchOption (state_in H.R.told H.R.faults pool changes) ⊤ (HoldsPool (H.holds shelf.new) (H.counts shelf.new)) }
 {
     if let Some(pool) = pool {
-        shelf.give(0, pool.into_rack());
+        close(pool, shelf);
     }
 }
 
 /// Runs the script of `source` on the pool of `shelf`, with its replies to `sink`. The words are those of the
-/// command line behind the program's name.
-pub fn run<H: RackShelf, S: Source, K: Sink, A: AllocGlobal>(
+/// command line behind the program's name. The chooser names the metaslab that a new block goes to.
+pub fn run<H: RackShelf, S: Source, K: Sink, F: Fn(&[Room]) -> Option<u32>, A: AllocGlobal>(
     rt: &A,
     words: &[String],
     shelf: &mut H,
     source: &mut S,
     sink: &mut K,
+    chooser: &Chooser<F>,
 ) -> Status
-    ensures run { RunIs (map string_bytes words.now) result (S.left source.old) (K.held sink.old) (K.held sink.new) (H.holds shelf.new 0) (H.counts shelf.new 0) }
+    requires chooser { IsChooser F.Fn chooser.now }
+    ensures run { RunIs (FnReturnsAt F.Fn chooser.now) (map string_bytes words.now) result (S.left source.old) (K.held sink.old) (K.held sink.new) (H.holds shelf.new) (H.counts shelf.new) }
 
     // The devices are to blame only where they failed in this run.
     ensures source_fault { result ≡ Status.SourceFault → Rose (S.faults source.old) (S.faults source.new) }
@@ -83,7 +91,7 @@ pub fn run<H: RackShelf, S: Source, K: Sink, A: AllocGlobal>(
         return end_run(alloc, sink, Status::Usage);
     }
     let mut pool = None;
-    let ended = serve(alloc, shelf, &mut pool, source, sink);
+    let ended = serve(alloc, shelf, &mut pool, chooser, source, sink);
     give_back(shelf, pool);
     end_run(alloc, sink, ended)
 }

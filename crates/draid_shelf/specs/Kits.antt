@@ -1,7 +1,7 @@
-use Rattle.std.specs.Prelude.{◌≡◌, ◌<◌, ◌≤◌, ◌==◌, ⊤, ℕ, false, List, [], Option, Some, None, Result, MatchOption, IsErrOf, IsSomeAnd, option_and_then, option_map, length, replicate, if◌then◌else◌, ◌⊎◌, ◌+◌, ◌-◌, ◌^◌, min, Contains, IsTrue}
+use Rattle.std.specs.Prelude.{◌≡◌, ◌<◌, ◌≤◌, ◌==◌, ⊤, ℕ, false, List, [], Option, Some, None, Result, MatchOption, IsErrOf, IsSomeAnd, option_and_then, option_map, length, replicate, if◌then◌else◌, ◌+◌, ◌-◌, ◌^◌, min, Contains}
 use Rattle.draid_names.specs.Faults.{Rose}
 use Rattle.draid_faults.specs.declared.calls.Calls.{Calls}
-use Rattle.draid_faults.specs.Calls.{failing_calls, is_fused, next_call}
+use Rattle.draid_faults.specs.Calls.{failing_calls, next_call}
 use Rattle.draid_spec.specs.declared.layout.Geometry.{Geometry}
 use Rattle.draid_rack.specs.Rack.{Told}
 use Rattle.draid_rack.specs.Moments as rack
@@ -93,6 +93,13 @@ pub record ShelfCounts {T : Type 0} (result : Result T ShelfFault) (before now :
   pub later : before ≤ now
   pub cause : IsErrOf result ShelfFault.Failed → Rose before now
 
+-- what isn't held is refused, as a failure of the shelf
+abbrev pub NeedsKit : {T : Type 0} → ℕ → Result T ShelfFault → Option Held → Type 0
+NeedsKit m result told = OnHeld told (λ held. held.kits m ≡ None → IsErrOf result ShelfFault.Failed)
+
+abbrev pub NeedsUber : {T : Type 0} → Result T ShelfFault → Option Held → Type 0
+NeedsUber result told = OnHeld told (λ held. held.uber ≡ None → IsErrOf result ShelfFault.Failed)
+
 -- the devices of a metaslab after a crash
 pub record CrashedKit (x y : KitTold) : Type 0 where
   pub rack : rack.IsCrashOutcome x.rack y.rack
@@ -108,12 +115,10 @@ pub record CrashedHeld (x y : Held) : Type 0 where
   pub uber : Both area.IsCrashOutcome x.uber y.uber
   pub kits : (m : ℕ) → Both CrashedKit (x.kits m) (y.kits m)
 
--- A call of a shelf in memory that makes or takes was counted. It failed where its list names it or what it asks for isn't held, and
--- else only where a fuse is in.
+-- A call of a shelf in memory that makes or takes was counted. It failed just where its list names it or what it asks for isn't held.
 pub record FailsJust (held failed : Type 0) (old new : Calls) : Type 0 where
   pub named : Contains (failing_calls old) (next_call old) → failed
   pub missing : (held → ⊥) → failed
-  pub cause : failed → held → Contains (failing_calls old) (next_call old) ⊎ IsTrue (is_fused old)
+  pub cause : failed → held → Contains (failing_calls old) (next_call old)
   pub next : next_call new ≡ min (next_call old + 1) (2 ^ 64 - 1)
   pub failing : failing_calls new ≡ failing_calls old
-  pub fused : is_fused new ≡ is_fused old

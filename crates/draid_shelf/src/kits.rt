@@ -3,8 +3,9 @@ ghost use Rattle.draid_spec.specs.Geometry.{IsGeometry};
 ghost use Rattle.draid_rack.specs.Memory.{faults_of_memory, shape_of_memory, told_by_memory};
 ghost use Rattle.draid_area.specs.Memory.{size_of_memory};
 ghost use Rattle.draid_area.specs.Memory as device;
+ghost use Rattle.draid_faults.specs.Calls.{CountsJust};
 ghost use Rattle.draid_shelf.specs.Shelf.{HasLeavesOf, IsKnown, SameOthers, most_metaslabs};
-ghost use Rattle.draid_shelf.specs.Kits.{FailsJust, IsNewPool, IsUncounted, ShelfCounts, gives_kit, kit_of, takes_kit, takes_uber, uber_bytes};
+ghost use Rattle.draid_shelf.specs.Kits.{FailsJust, IsNewPool, IsUncounted, NeedsKit, NeedsUber, ShelfCounts, gives_kit, kit_of, takes_kit, takes_uber, uber_bytes};
 ghost use Rattle.draid_shelf.specs.Memory.{HoldsKit, area_count, content_of, held_by, kit_counts, shape_at};
 
 use crate::devices::Devices;
@@ -54,6 +55,7 @@ impl Shelf for MemoryShelf {
         ensures uber_count { OnOk result (area_count self.new.devices.uber ≡ 0) }
         ensures err { OnErr result (told_of self.new ≡ told_of self.old) }
         ensures cause { ShelfCounts result self.old.faults self.new.faults }
+        ensures risen { CountsJust (IsErrOf result ShelfFault.Failed) self.old.faults self.new.faults }
         ensures exact { FailsJust ⊤ (IsErrOf result ShelfFault.Failed) (calls_of self.old) (calls_of self.new) }
     {
         if self.calls.fails() {
@@ -81,11 +83,15 @@ impl Shelf for MemoryShelf {
         ensures leaves { (m : ℕ) → shape_at self.new.devices.racks m ≡ shape_at self.old.devices.racks m }
         ensures counts { (m : ℕ) → kit_counts self.new.devices m ≡ kit_counts self.old.devices m }
         ensures err { OnErr result (told_of self.new ≡ told_of self.old) }
+        ensures needs { NeedsUber result (told_of self.old) }
         ensures cause { ShelfCounts result self.old.faults self.new.faults }
-        ensures exact { FailsJust (IsSome self.old.devices.uber) (IsErr result) (calls_of self.old)
+        ensures device { IsErr result → IsErrOf result ShelfFault.Failed }
+        ensures risen { CountsJust (IsErrOf result ShelfFault.Failed) self.old.faults self.new.faults }
+        ensures exact { FailsJust (IsSome self.old.devices.uber) (IsErrOf result ShelfFault.Failed) (calls_of self.old)
             (calls_of self.new) }
     {
-        if self.calls.fails() || self.devices.uber.is_none() {
+        let is_missing = self.devices.uber.is_none();
+        if self.calls.fails() || is_missing {
             return Err(self.failed());
         }
         match self.devices.uber.take() {
@@ -117,9 +123,12 @@ impl Shelf for MemoryShelf {
         ensures uber { uber_size_of self.new ≡ uber_size_of self.old }
         ensures uber_count { area_count self.new.devices.uber ≡ area_count self.old.devices.uber }
         ensures err { OnErr result (told_of self.new ≡ told_of self.old) }
+        ensures needs { NeedsKit metaslab result (told_of self.old) }
         ensures cause { ShelfCounts result self.old.faults self.new.faults }
-        ensures exact { FailsJust (HoldsKit self.old.devices metaslab geometry.now.props.sector) (IsErr result)
-            (calls_of self.old) (calls_of self.new) }
+        ensures device { IsErr result → IsErrOf result ShelfFault.Failed }
+        ensures risen { CountsJust (IsErrOf result ShelfFault.Failed) self.old.faults self.new.faults }
+        ensures exact { FailsJust (HoldsKit self.old.devices metaslab geometry.now.props.sector)
+            (IsErrOf result ShelfFault.Failed) (calls_of self.old) (calls_of self.new) }
     {
         if self.calls.fails() || !self.holds(metaslab, geometry.props.sector) {
             return Err(self.failed());

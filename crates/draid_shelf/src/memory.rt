@@ -1,6 +1,6 @@
-ghost use Rattle.std.specs.Prelude.{◌≡◌, ◌≤◌, ◌↔◌, ℕ, None, IsTrue};
+ghost use Rattle.std.specs.Prelude.{◌≡◌, ◌≤◌, ◌↔◌, ◌+◌, ◌-◌, ◌^◌, min, ℕ, None, IsTrue, false};
 ghost use Rattle.draid_names.specs.Faults.{Rose};
-ghost use Rattle.draid_faults.specs.Calls.{failing_calls, next_call};
+ghost use Rattle.draid_faults.specs.Calls.{failing_calls, is_fused, next_call};
 ghost use Rattle.draid_shelf.specs.Memory.{HoldsKit, counts_at, held_at, held_by, shape_at};
 
 use crate::devices::Devices;
@@ -26,6 +26,7 @@ pub struct MemoryShelf {
     pub(crate) faults: u64,
     /// What a crash leaves of what wasn't flushed.
     pub(crate) rule: CrashRule,
+    ghost unfused: { is_fused calls ≡ false },
 }
 
 impl MemoryShelf {
@@ -94,6 +95,7 @@ impl MemoryShelf {
         ensures fault { result ≡ ShelfFault.Failed }
         ensures rose { Rose self.old.faults self.new.faults }
         ensures later { self.old.faults ≤ self.new.faults }
+        ensures risen { self.new.faults ≡ min (self.old.faults + 1) (2 ^ 64 - 1) }
         ensures devices { self.new.devices ≡ self.old.devices }
         ensures calls { self.new.calls ≡ self.old.calls }
     {

@@ -2,7 +2,7 @@ ghost use Rattle.std.specs.Prelude.{◌≡◌, ◌<◌, ◌↔◌, ℕ, Option, 
 ghost use Rattle.draid_spec.specs.Geometry.{IsGeometry};
 ghost use Rattle.draid_rack.specs.Rack.{Shape};
 ghost use Rattle.draid_shelf.specs.Shelf.{HasLeavesOf, IsKnown, SameOthers, most_metaslabs};
-ghost use Rattle.draid_shelf.specs.Kits.{Both, CrashedHeld, Held, IsNewPool, IsUncounted, KitCounts, OnHeld, ShelfCounts, gives_kit, gives_uber, kit_of, takes_kit, takes_uber, uber_bytes};
+ghost use Rattle.draid_shelf.specs.Kits.{Both, CrashedHeld, Held, IsNewPool, IsUncounted, KitCounts, NeedsKit, NeedsUber, OnHeld, ShelfCounts, gives_kit, gives_uber, kit_of, takes_kit, takes_uber, uber_bytes};
 
 use crate::kit::{Kit, ShelfFault};
 use draid_area::Area;
@@ -16,9 +16,9 @@ pub const METASLABS: u32 = 64;
 /// A shelf of devices: the area of the uberblock, and a kit for each metaslab. A pool takes them for a run, and gives
 /// them back.
 pub trait Shelf {
-    type R: Rack;
+    type R: Rack + Send;
 
-    type A: Area;
+    type A: Area + Send;
 
     /// What is held, where the shelf tells it.
     ghost told: { Self → Option Held };
@@ -62,6 +62,7 @@ pub trait Shelf {
         ensures count { IfOk result (λ area. Self.A.faults area ≡ uber_count self.old) }
         ensures leaves { (m : ℕ) → leaves self.new m ≡ leaves self.old m }
         ensures counts { (m : ℕ) → counts self.new m ≡ counts self.old m }
+        ensures needs { NeedsUber result (told self.old) }
         ensures err { OnErr result (told self.new ≡ told self.old) }
         ensures cause { ShelfCounts result (faults self.old) (faults self.new) };
 
@@ -84,6 +85,7 @@ pub trait Shelf {
         ensures counts { SameOthers metaslab (counts self.old) (counts self.new) }
         ensures uber { uber_size self.new ≡ uber_size self.old }
         ensures uber_count { uber_count self.new ≡ uber_count self.old }
+        ensures needs { NeedsKit metaslab result (told self.old) }
         ensures err { OnErr result (told self.new ≡ told self.old) }
         ensures cause { ShelfCounts result (faults self.old) (faults self.new) };
 

@@ -161,3 +161,29 @@ fn the_shelf_fails_by_its_list_and_for_what_it_does_not_hold(rt: HostRuntime) ->
     assert!(rt; shelf.take_uber().is_err());
     Ok(())
 }
+
+/// Flushes leaf 0 and a record of metaslab 0 twice each; which of these calls failed.
+fn flush_twice<H: Shelf>(shelf: &mut H, geometry: &Geometry) -> Result<[bool; 4], Fail> {
+    let mut kit = shelf.take(0, geometry)?;
+    let failed = [
+        flush(&mut kit.rack).is_err(),
+        kit.even.flush().is_err(),
+        flush(&mut kit.rack).is_err(),
+        kit.even.flush().is_err(),
+    ];
+    shelf.give(0, kit);
+    Ok(failed)
+}
+
+#[test]
+fn the_devices_fail_by_their_lists(rt: HostRuntime) -> Result<(), Fail> {
+    let geometry = small_geometry()?;
+    let mut shelf = MemoryShelf::new(rt.alloc(), vec![in rt.alloc(); 0]?);
+    shelf.fail(Vec::new(rt.alloc()), vec![in rt.alloc(); 1]?);
+    Shelf::make(&mut shelf, rt.alloc(), &geometry)?;
+    assert_eq!(rt;
+        flush_twice(&mut shelf, &geometry)?,
+        [true, false, false, true]
+    );
+    Ok(())
+}

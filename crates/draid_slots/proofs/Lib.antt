@@ -6,3 +6,4 @@ pub mod OneSlot
 pub mod Refusals
 pub mod Spares
 pub mod Tables
+pub mod Told

@@ -1,8 +1,11 @@
-ghost use Rattle.std.specs.Prelude.{◌≡◌, ◌<◌};
+ghost use Rattle.std.specs.Prelude.{◌≡◌, ◌<◌, IfOk, map, [], ◌∷◌, false};
+ghost use Rattle.draid_slots.specs.Changes.{new_arm};
+ghost use Rattle.draid_slots.specs.Table.{arms_listed};
 ghost use Rattle.draid_map.specs.Place.{IsLayout};
 
 use super::*;
-use draid_names::{Arm, ArmAt, ArmKind, NoMemory};
+use draid_dtl::Log;
+use draid_names::{Arm, ArmAt, ArmKind, At, NoMemory};
 use draid_perm::Perms;
 use draid_spec::{Geometry, Props, geometry, parse_spec};
 use std::alloc::Global;
@@ -22,7 +25,7 @@ fn at(slot: u32, arm: u32) -> ArmAt
 }
 
 fn arm(kind: ArmKind, number: u64) -> Arm
-    ensures { (result.kind ≡ kind) × (result.number ≡ number) }
+    ensures { result ≡ record { kind = kind; number = number; offline = false; fresh = false } }
 {
     Arm {
         kind,
@@ -133,6 +136,101 @@ fn read(
     let offline = slots.reading_arm(1, 0, 3);
     slots.set_offline(1, true);
     Ok(Some([first, doubtful, second, offline, slots.reading_arm(1, 0, 3)]))
+}
+
+/// The counts of the log of slot 1's leaf as it comes, filled up to group 4, without the groups up to 1, and
+/// with another leaf's log in its place; and whether the leaf is fresh once that was set.
+fn logged(
+    alloc: Global,
+    layout: Geometry,
+    perms: Perms,
+) -> Result<Option<([u64; 4], bool)>, NoMemory>
+    requires { IsLayout layout perms }
+{
+    let mut slots = Slots::new(alloc, layout, perms, 0)?;
+    slots.reserve(alloc, 2)?;
+    if layout.spec.children < 2 || slots.arms(1).is_empty() {
+        return Ok(None);
+    }
+    let leaf = at(1, 0);
+    let clean = slots.log(leaf).count();
+    slots.fill(leaf, 4);
+    let filled = slots.log(leaf).count();
+    slots.excise(leaf, 1);
+    let excised = slots.log(leaf).count();
+    slots.set_log(leaf, Log::upto(alloc, 2)?);
+    let set = slots.log(leaf).count();
+    slots.set_fresh(leaf, true);
+    Ok(Some(([clean, filled, excised, set], slots.arms(1).iter().any(|arm| arm.fresh))))
+}
+
+/// Where sector 3 of slot 1 lies on its leaf.
+fn placed(alloc: Global, layout: Geometry, perms: Perms) -> Result<Option<At>, NoMemory>
+    requires { IsLayout layout perms }
+{
+    let slots = Slots::new(alloc, layout, perms, 0)?;
+    if layout.spec.children < 2 || slots.arms(1).is_empty() || layout.props.height < 4 {
+        return Ok(None);
+    }
+    Ok(Some(slots.place(at(1, 0), 3)))
+}
+
+/// A slot with the leaf of this number, which missed nothing.
+fn leaf_of(alloc: Global, number: u64) -> Result<Vec<(Arm, Log)>, NoMemory>
+    ensures { IfOk result (λ list. map (λ pair. pair.0) list.items ≡ new_arm number ∷ []) }
+{
+    let mut list = Vec::new(alloc);
+    list.push((arm(ArmKind::Leaf, number), Log::new(alloc)))?;
+    Ok(list)
+}
+
+/// Two such slots.
+fn two_leaves(alloc: Global) -> Result<Vec<Vec<(Arm, Log)>>, NoMemory>
+    ensures { IfOk result (λ lists. arms_listed lists.items ≡ (new_arm 0 ∷ []) ∷ (new_arm 1 ∷ []) ∷ []) }
+{
+    let first = leaf_of(alloc, 0)?;
+    let second = leaf_of(alloc, 1)?;
+    let mut lists = Vec::new(alloc);
+    lists.push(first)?;
+    lists.push(second)?;
+    Ok(lists)
+}
+
+/// The arm from which slot 1 is read, as a record tells of the arms.
+#[tactic(auto, using(crate::proofs::Told::two_slots))]
+fn recorded(alloc: Global, layout: Geometry, perms: Perms) -> Result<Option<ReadArm>, NoMemory>
+    requires { IsLayout layout perms }
+{
+    if layout.spec.children != 2 {
+        return Ok(None);
+    }
+    let slots = Slots::of(alloc, layout, perms, 0, two_leaves(alloc)?)?;
+    Ok(slots.reading_arm(1, 0, 3))
+}
+
+#[test]
+fn a_record_tells_of_arms(rt: HostRuntime) {
+    let spec = parse_spec(b"draid1:1d", 2).expect(&rt, "a spec");
+    let layout = geometry(spec, PROPS).expect(&rt, "a layout");
+    let perms = Perms::new(layout.spec.children, layout.props.seed);
+    let first = ReadArm {
+        arm: 0,
+        clean: true,
+    };
+    assert_eq!(rt; recorded(rt.alloc(), layout, perms), Ok(Some(first)));
+}
+
+#[test]
+fn logs_change(rt: HostRuntime) {
+    let alloc = rt.alloc();
+    let spec = parse_spec(b"draid1:2d:1s", 4).expect(&rt, "a spec");
+    let layout = geometry(spec, PROPS).expect(&rt, "a layout");
+    let perms = Perms::new(layout.spec.children, layout.props.seed);
+    assert_eq!(rt; logged(alloc, layout, perms), Ok(Some(([0, 4, 3, 2], true))));
+    assert_eq!(rt;
+        placed(alloc, layout, perms),
+        Ok(Some(At { leaf: 1, sector: 3 }))
+    );
 }
 
 #[test]

@@ -1,6 +1,6 @@
 use Rattle.std.proofs.Common.{arith, Ok, Err, ap, sym, refl, ℕ}
+use Rattle.std.specs.Fn.{FnReturnsAt}
 use Rattle.draid_script.specs.Lines.{Rest}
-use Rattle.draid_run.specs.Session.{seq_of}
 use Rattle.draid_run.proofs.Serving.{line_by, served_done, served_line, serving_more, serving_start, text_by}
 use Rattle.draid_run.proofs.serve.serve.Goals as goal
 
@@ -8,13 +8,11 @@ pub lines-init : goal.lines-init
 lines-init g c =
     let given_of : Rest → ℕ = λ r. r.given in
     let given = ap given_of c.new-lines.ensures in
-    let seq = ap seq_of c.requires in
     record {
-      serving = serving_start _ _ _ _ _ c.new-lines.result c.args.pool.now c.new-lines.ensures c.requires;
+      serving = serving_start _ _ _ _ _ c.new-lines.result c.args.pool.now c.new-lines.ensures c.requires.closed;
       fault = ap (λ (r : Rest). r.fault) c.new-lines.ensures;
       given = omega (arith, given);
       few = omega (arith, given);
-      seq = omega (arith, given, seq);
       source_later = omega arith;
       sink_later = omega arith;
     }
@@ -28,26 +26,23 @@ returns-in-Err-serve_line-clause-served g c =
     let serving = c.lines.invariant.serving in
     let text = text_by c.lines.lines c.next_text.new.lines _ _ _ _ c.in-Ok-Some.field-0-is c.in-Ok-Some.ensures.text in
     served_line _ _ _ _ _ _ _ _ _ _ text.3 _ c.lines.pool _ _ serving
-    (line_by g.H.R.Rack.shape g.H.R.Rack.told g.H.R.Rack.faults c.lines.number _ _ c.in-Ok-Some.text.items c.lines.pool serving.writes c.serve_line.new.pool (g.K.Sink.held c.lines.sink) (g.K.Sink.held c.serve_line.new.sink) (Err c.in-Err-serve_line.status) (sym c.lines.invariant.given) c.deref.ensures.value (c.in-Err-serve_line.ensures.line serving.writes serving.desk))
+    (line_by g.H.R.Rack.shape g.H.R.Rack.told g.H.R.Rack.faults (FnReturnsAt g.F.Fn c.args.chooser.now) c.lines.number _ _ c.in-Ok-Some.text.items c.lines.pool serving.changes c.serve_line.new.pool (g.K.Sink.held c.lines.sink) (g.K.Sink.held c.serve_line.new.sink) (Err c.in-Err-serve_line.status) (sym c.lines.invariant.given) c.deref.ensures.value (c.in-Err-serve_line.ensures.line serving.changes serving.desk))
 
 pub lines-preserved : goal.lines-preserved
 lines-preserved g c =
     let serving = c.lines.invariant.serving in
     let text = text_by c.lines.lines c.next_text.new.lines _ _ _ _ c.in-Ok-Some.field-0-is c.in-Ok-Some.ensures.text in
     let one = text.0 in
-    let seq = c.lines.invariant.seq in
     let given = c.lines.invariant.given in
-    let drawn = c.serve_line.ensures.seq in
     let source = c.lines.invariant.source_later in
     let source' = c.next_text.ensures.later in
     let sink = c.lines.invariant.sink_later in
     let sink' = c.serve_line.ensures.later in
     record {
-      serving = rw one (serving_more _ _ _ _ _ _ _ _ _ _ _ _ _ serving text.3 (line_by g.H.R.Rack.shape g.H.R.Rack.told g.H.R.Rack.faults c.lines.number c.lines.number _ c.in-Ok-Some.text.items c.lines.pool serving.writes c.serve_line.new.pool (g.K.Sink.held c.lines.sink) (g.K.Sink.held c.serve_line.new.sink) (Ok tt) refl c.deref.ensures.value (c.in_default.ensures.line serving.writes serving.desk)));
+      serving = rw one (serving_more _ _ _ _ _ _ _ _ _ _ _ _ _ serving text.3 (line_by g.H.R.Rack.shape g.H.R.Rack.told g.H.R.Rack.faults (FnReturnsAt g.F.Fn c.args.chooser.now) c.lines.number c.lines.number _ c.in-Ok-Some.text.items c.lines.pool serving.changes c.serve_line.new.pool (g.K.Sink.held c.lines.sink) (g.K.Sink.held c.serve_line.new.sink) (Ok tt) refl c.deref.ensures.value (c.in_default.ensures.line serving.changes serving.desk)));
       fault = text.2;
       given = omega (arith, one, given);
       few = text.1;
-      seq = omega (arith, one, seq, drawn);
       source_later = omega (arith, source, source');
       sink_later = omega (arith, sink, sink');
     }

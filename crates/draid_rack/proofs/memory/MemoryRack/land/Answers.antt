@@ -1,6 +1,8 @@
 use Rattle.std.proofs.Common.{arith}
 use Rattle.draid_rack.proofs.Sound.{long_on, long_same, tick_later, up_to_on, up_to_same}
 use Rattle.draid_rack.proofs.Tells.{lands_by, lands_failed, long_at, shape_same, there_at}
+use Rattle.draid_rack.proofs.Counted.{counts_leaf, only_leaf, rises_after}
+use Rattle.draid_rack.proofs.Moments.{passed_lands}
 use Rattle.draid_rack.proofs.memory.MemoryRack.land.Goals as goal
 
 pub invariant_of-self : goal.invariant_of-self
@@ -37,3 +39,19 @@ returns-clause-told c =
 
 pub returns-clause-shape : goal.returns-clause-shape
 returns-clause-shape c = shape_same _ c.args.self.now.leaves c.land_sector.new.leaves c.land_sector.ensures.sectors
+
+pub returns-then-fails-clause-moments : goal.returns-then-fails-clause-moments
+returns-then-fails-clause-moments c = passed_lands _ _ _ _ _ _ _ (returns-then-fails-clause-told c)
+
+pub returns-clause-moments : goal.returns-clause-moments
+returns-clause-moments c = passed_lands _ _ _ _ _ _ _ (returns-clause-told c)
+
+pub returns-then-fails-clause-cause : goal.returns-then-fails-clause-cause
+returns-then-fails-clause-cause c =
+    counts_leaf c.args.leaf c.args.self.now.own_faults c.args.self.now.leaves c.count_fault.new.leaves
+    (rises_after _ _ _ _ c.mark_sector.ensures.faults c.count_fault.ensures) _
+
+pub returns-then-fails-clause-exact : goal.returns-then-fails-clause-exact
+returns-then-fails-clause-exact c =
+    only_leaf c.args.leaf c.args.self.now.own_faults c.args.self.now.leaves c.count_fault.new.leaves
+    (rises_after _ _ _ _ c.mark_sector.ensures.faults c.count_fault.ensures)

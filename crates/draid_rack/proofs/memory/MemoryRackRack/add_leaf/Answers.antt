@@ -1,5 +1,8 @@
+use Rattle.draid_rack.specs.Leaves.{told_of, view_at}
+use Rattle.draid_rack.specs.Rack.{adds}
 use Rattle.draid_rack.proofs.Sound.{long_added, long_kept, tick_later, up_to_added, up_to_kept}
 use Rattle.draid_rack.proofs.Tells.{shape_added, told_added}
+use Rattle.draid_rack.proofs.Moments.{goes_adds, passed_change, passed_same}
 use Rattle.draid_rack.proofs.memory.MemoryRackRack.add_leaf.Goals as goal
 
 pub invariant_of-self-in-Break-branch-2 : goal.invariant_of-self-in-Break-branch-2
@@ -24,3 +27,6 @@ pub returns-clause-shape : goal.returns-clause-shape
 returns-clause-shape c =
     shape_added c.args.self.now.bytes c.args.leaf c.args.sectors c.args.self.now.clock c.later-clock.result c.in_ok-new.new c.args.self.now.leaves c.insert_leaf.new.leaves
     c.in_ok-new.ensures c.in_ok-insert_leaf.ensures.ok
+
+pub returns-clause-moments : goal.returns-clause-moments
+returns-clause-moments c = passed_change (adds c.args.self.now.bytes c.args.leaf c.args.sectors) (goes_adds c.args.self.now.bytes c.args.leaf c.args.sectors) (told_of (view_at c.args.self.now.leaves) c.args.self.now.clock) _ (returns-clause-ok c)

@@ -1,0 +1,88 @@
+//! Objects that are given contents by a seed.
+ghost use Rattle.std.specs.Prelude.{◌≡◌, List, length};
+ghost use Rattle.std.specs.Fn.{FnReturnsAt};
+ghost use Rattle.draid_choose.specs.Rooms.{IsChooser};
+ghost use Rattle.draid_script.specs.Line.{FillObjects, IsInRange};
+ghost use Rattle.draid_pool.specs.Pool.{Moves, Represents, state_of};
+ghost use Rattle.draid_pool.specs.State.{Change};
+ghost use Rattle.draid_run.specs.State.{Step, content_of};
+ghost use Rattle.draid_run.specs.Replies.{fill_refusal};
+
+use draid_choose::Chooser;
+use draid_names::Room;
+use draid_pool::{Pool, WriteFault};
+use draid_rack::Rack;
+use draid_script::{FillRefusal, Reply};
+use rand_core::{Rng, SeedableRng};
+use rand_xoshiro::Xoroshiro128PlusPlus;
+use std::alloc::Global;
+
+/// Fills bytes with the contents that an object is given by a seed: those of xoroshiro128++, seeded by the sum of
+/// the seed and the object's number modulo 2^64.
+fn draw(into: &mut [u8], seed: u64, object: u64)
+    ensures { into.new ≡ content_of seed object (length into.old) }
+{
+    let mut rng = Xoroshiro128PlusPlus::seed_from_u64(seed.wrapping_add(object));
+    rng.fill_bytes(into);
+}
+
+/// Why a `fill` stops, in the words of its reply.
+fn refusal(fault: WriteFault) -> FillRefusal
+    ensures { result ≡ fill_refusal fault }
+{
+    match fault {
+        WriteFault::NoSpace {
+            run,
+            disabled,
+            full,
+            worn,
+        } => FillRefusal::NoSpace {
+            run,
+            disabled,
+            full,
+            worn,
+        },
+        WriteFault::Missed { columns } => FillRefusal::Missed { columns },
+        WriteFault::Last => FillRefusal::Last,
+        WriteFault::NoMemory => FillRefusal::NoMemory,
+    }
+}
+
+/// Gives `count` objects from the first on `len` bytes each, by a seed, until one is refused them.
+pub(crate) fn fill<R: Rack, F: Fn(&[Room]) -> Option<u32>>(
+    alloc: Global,
+    pool: &mut Pool<R>,
+    chooser: &Chooser<F>,
+    first: u64,
+    count: u64,
+    len: u32,
+    seed: u64,
+) -> Reply
+    requires range { IsInRange (FillObjects first count len seed) }
+    requires chooser { IsChooser F.Fn chooser.now }
+    requires represents { (changes : List Change) × Represents R.shape R.told pool.old changes }
+    ensures step { (changes : List Change) → Represents R.shape R.told pool.old changes
+        → Moves R.shape R.told R.faults (Step (FnReturnsAt F.Fn chooser.now) (FillObjects first count len seed) result) (state_of R.told R.faults pool.old changes) pool.new }
+{
+    let Ok(mut bytes) = vec![in alloc; 0; len as usize] else {
+        return Reply::FillRefused {
+            first,
+            written: 0,
+            why: FillRefusal::NoMemory,
+        };
+    };
+    for written in 0..count {
+        draw(&mut bytes, seed, first + written);
+        if let Err(fault) = pool.write(chooser, first + written, &bytes) {
+            return Reply::FillRefused {
+                first,
+                written,
+                why: refusal(fault),
+            };
+        }
+    }
+    Reply::Filled {
+        first,
+        written: count,
+    }
+}
