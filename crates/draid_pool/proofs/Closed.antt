@@ -18,7 +18,7 @@ use Rattle.draid_pool.specs.State.{Change, Metaslab, Write, stripes_for, write_o
 use Rattle.draid_pool.specs.declared.pool.Pool.{Pool}
 use Rattle.draid_pool.proofs.Shards.{some_of}
 
-at_end : {A : Type 0} (xs : List A) (x : A) (ys : List A) (n : ℕ) → n ≡ length xs → slice_get (xs ++ x ∷ ys) n ≡ Some x
+pub at_end : {A : Type 0} (xs : List A) (x : A) (ys : List A) (n : ℕ) → n ≡ length xs → slice_get (xs ++ x ∷ ys) n ≡ Some x
 at_end xs x ys n same = rw same (place xs x ys)
   where
     place : {A : Type 0} (xs : List A) (x : A) (ys : List A) → slice_get (xs ++ x ∷ ys) (length xs) ≡ Some x
@@ -26,12 +26,12 @@ at_end xs x ys n same = rw same (place xs x ys)
     place (z ∷ xs) x ys = place xs x ys
 
 -- what an image at a place is of
-record Unmapped {A B : Type 0} (f : A → B) (xs : List A) (m : ℕ) (y : B) : Type 0 where
-  from : A
-  at : slice_get xs m ≡ Some from
-  same : f from ≡ y
+pub record Unmapped {A B : Type 0} (f : A → B) (xs : List A) (m : ℕ) (y : B) : Type 0 where
+  pub from : A
+  pub at : slice_get xs m ≡ Some from
+  pub same : f from ≡ y
 
-unmapped : {A B : Type 0} (f : A → B) (xs : List A) (m : ℕ) (y : B) → slice_get (map f xs) m ≡ Some y → Unmapped f xs m y
+pub unmapped : {A B : Type 0} (f : A → B) (xs : List A) (m : ℕ) (y : B) → slice_get (map f xs) m ≡ Some y → Unmapped f xs m y
 unmapped f [] m y there = absurd (cc)
 unmapped f (x ∷ xs) zero y there = record { from = x; at = refl; same = cc }
 unmapped f (x ∷ xs) (suc m) y there = (let rest = unmapped f xs m y there in record { from = rest.from; at = rest.at; same = rest.same })

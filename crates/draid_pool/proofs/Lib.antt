@@ -3,6 +3,7 @@ pub mod Closed
 pub mod Harm
 pub mod Lists
 pub mod Objects
+pub mod Opened
 pub mod Places
 pub mod Reading
 pub mod Rooms
