@@ -13,11 +13,11 @@ use Rattle.draid_spec.specs.Geometry.{IsGeometry, geometry_of}
 use Rattle.draid_perm.specs.declared.perms.Perms.{Perms}
 use Rattle.draid_map.specs.Place.{IsLayout}
 use Rattle.draid_rack.specs.Rack.{IsCalm, OnTold, Shape, Told}
-use Rattle.draid_shelf.specs.Shelf.{SameOthers, TellsCalm, TellsZeros}
+use Rattle.draid_shelf.specs.Shelf.{SameOthers, TellsCalm}
 use Rattle.draid_shard.specs.declared.shard.Shard.{Shard}
 use Rattle.draid_shard.specs.Part.{Part}
 use Rattle.draid_pool.specs.Close.{Returns}
-use Rattle.draid_pool.specs.Create.{AreBack, AreOpened, HasRacks, IsOpened, Opens, TakesOne}
+use Rattle.draid_pool.specs.Create.{AreBack, AreOpened, IsOpened, Opens, TakesOne}
 use Rattle.draid_pool.specs.Pool.{HoldsObject, metaslab_of, state_of}
 use Rattle.draid_pool.specs.State.{IsNew}
 use Rattle.draid_pool.specs.declared.pool.Pool.{Pool}
@@ -96,7 +96,7 @@ module _ {R : Type 0} (shape : R → Shape) (told : R → Option Told) (faults :
           faults_are = λ who. is.faults_are who ∙ ap (λ (f : Option ℕ → ℕ). f who) (o.counts n (omega arith));
         }
 
-        each : (m : ℕ) (s : Shard R) → slice_get shards' m ≡ Some s → (m < n) ⊎ (m < n → ⊥) → IsOpened shape told faults geometry perms m (old m) (before m) s
+        each : (m : ℕ) (s : Shard R) → slice_get shards' m ≡ Some s → (m < n) ⊎ (n ≤ m) → IsOpened shape told faults geometry perms m (old m) (before m) s
         each m s there (inl below) =
             let many = o.many in
             o.each m s (sym (get_before shards (shard ∷ []) m (omega (arith, below, many))) ∙ (ap (λ (xs : List (Shard R)). slice_get xs m) (sym more) ∙ there))
@@ -136,11 +136,11 @@ module _ {R : Type 0} (shape : R → Shape) (told : R → Option Told) (faults :
   -- ---- the pool
   is_new : (geometry : Geometry) (perms : Perms) (m : ℕ) (held : Option Told) (counts : Option ℕ → ℕ) (shard : Shard R) → IsOpened shape told faults geometry perms m held counts shard
       → ((who : Option ℕ) → counts who ≡ 0) → TellsCalm held → IsNew geometry perms m (metaslab_of told faults shard)
-  is_new geometry perms m held counts shard is zero calm = record {
+  is_new geometry perms m held counts shard is unfailed calm = record {
     part = is.part;
     free = is.free;
     held = is.none;
-    faults = λ who. is.faults_are who ∙ zero who;
+    faults = λ who. is.faults_are who ∙ unfailed who;
     calm = on_harm (told shard.rack) (λ x. (l s : ℕ) → x l s ≡ false) (calm_harm (told shard.rack) (subst TellsCalm (sym is.holds) calm));
   } where
     calm_harm : (o : Option Told) → OnTold o IsCalm → OnTold o (λ x. (l s : ℕ) → x.harmed l s ≡ false)
@@ -154,7 +154,7 @@ module _ {R : Type 0} (shape : R → Shape) (told : R → Option Told) (faults :
       → AreOpened shape told faults layout holds counts pool.shards.items → ((m : ℕ) (who : Option ℕ) → m < layout.props.metaslabs → counts m who ≡ 0)
       → ((m : ℕ) → m < layout.props.metaslabs → TellsCalm (holds m)) → pool.geometry ≡ layout → pool.seq ≡ 0 → ((q : ℕ) → get nat_eq pool.objects q ≡ None)
       → Opens shape told faults spec props pool
-  opens spec props layout pool holds counts given whole opened zero calm used seq empty = record {
+  opens spec props layout pool holds counts given whole opened unfailed calm used seq empty = record {
     layout = record { geometry = layout; is = given };
     represents = record {
       layout = subst IsGeometry (sym used) whole;
@@ -174,18 +174,8 @@ module _ {R : Type 0} (shape : R → Shape) (told : R → Option Told) (faults :
           let many = opened.many in
           let within = slice_get_within pool.shards.items m u.from u.at in
           let below : m < layout.props.metaslabs = omega (arith, within, many) in
-          subst (IsNew layout opened.perms m) u.same (is_new layout opened.perms m (holds m) (counts m) u.from (opened.each m u.from u.at) (λ who. zero m who below) (calm m below)));
+          subst (IsNew layout opened.perms m) u.same (is_new layout opened.perms m (holds m) (counts m) u.from (opened.each m u.from u.at) (λ who. unfailed m who below) (calm m below)));
       changes = refl;
       seq = seq;
     };
   }
-
--- the racks are on the shelf as they were made
-pub has_racks : (geometry : Geometry) (old new : ℕ → Option Told) (before after : ℕ → Option ℕ → ℕ) → AreBack old new before after
-    → ((m : ℕ) → m < geometry.props.metaslabs → TellsZeros (old m) geometry) → ((m : ℕ) → m < geometry.props.metaslabs → TellsCalm (old m))
-    → ((m : ℕ) (who : Option ℕ) → m < geometry.props.metaslabs → before m who ≡ 0) → HasRacks geometry new after
-has_racks geometry old new before after b zeros calm counts = record {
-  zeros = λ m below. subst (λ (t : Option Told). TellsZeros t geometry) (sym (b.holds m)) (zeros m below);
-  calm = λ m below. subst TellsCalm (sym (b.holds m)) (calm m below);
-  uncounted = λ m who below. b.counts m who ∙ counts m who below;
-}

@@ -28,7 +28,7 @@ replace-requires-clause-represents g c =
     let e = c.in-Ok.ensures in (
       is.0,
       stands_yet g.R.Rack.shape g.R.Rack.told g.R.Rack.faults c.args.metaslab c.index_mut.result.now c.store.new.shard c.args.self.now _ is.0
-      (record { one = record { there = there; sets = refl }; valid = e.valid; part = e.part; layout = refl }) e.kept (λ q. c.reserve.ensures.entries.2 q) is.1,
+          (record { one = record { there = there; sets = refl }; valid = e.valid; part = e.part; layout = refl }) e.kept (λ q. c.reserve.ensures.entries.2 q) is.1,
     )
 
 pub replace-requires-clause-apart : goal.replace-requires-clause-apart
