@@ -13,6 +13,7 @@ pub struct Chooser<F: Fn(&[Room]) -> Option<u32>> {
 
 impl<F: Fn(&[Room]) -> Option<u32>> Model for Chooser<F> {
     ghost Value = { F };
+
     ghost view = { λ c. c.f };
 }
 

@@ -4,6 +4,8 @@
 
 mod chooser;
 mod first;
+#[cfg(test)]
+mod tests;
 
 pub use chooser::Chooser;
 pub use first::first_fit;

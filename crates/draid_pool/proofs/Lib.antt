@@ -1,7 +1,16 @@
-pub mod Held
+pub mod Choosing
+pub mod Closed
+pub mod Harm
+pub mod Lists
+pub mod Objects
 pub mod Opened
+pub mod Places
+pub mod Reading
+pub mod Rooms
+pub mod Shards
 pub mod Steps
 pub mod Stored
 pub mod Storing
 pub mod Sums
 pub mod Unread
+pub mod Writing

@@ -1,5 +1,5 @@
 -- A block was written from the begin of its write to the end.
-use Rattle.std.proofs.Common.{◌≡◌, ◌<◌, ◌∙◌, ℕ, Bool, Option, sym, ap, length}
+use Rattle.std.proofs.Common.{arith, ◌≡◌, ◌<◌, ◌≤◌, ◌∙◌, ℕ, Bool, true, false, Option, Some, None, sym, ap, length}
 use Rattle.draid_names.specs.declared.pointer.Pointer.{Pointer}
 use Rattle.draid_rack.specs.Rack.{Shape, Told}
 use Rattle.draid_block.specs.Blocks.{BlockValue, cut_of}
@@ -9,6 +9,12 @@ use Rattle.draid_shard.specs.declared.ticket.Ticket.{Ticket}
 use Rattle.draid_shard.specs.Part.{Part}
 use Rattle.draid_shard.specs.Columns.{EndsHarm, TellsBoth}
 use Rattle.draid_shard.specs.Shard.{Carries, TakesLowest, Valid}
+use Rattle.draid_metaslab.specs.Spots.{IsLargest, IsSpot}
+use Rattle.draid_shard.specs.Entry.{IsRefused, IsRoom, entry_at}
+use Rattle.draid_shard.specs.declared.entry.Entry.{Entry}
+use Rattle.draid_shard.specs.declared.entry.Stage.TheVariants.{Writing, Live, Freed}
+use Rattle.draid_shard.specs.declared.fault.BeginFault.TheVariants.{NoRoom}
+use Rattle.draid_shard.specs.Shard.{IsLive, IsOpen}
 use Rattle.draid_pool.specs.Store.{MissedSome}
 use Rattle.draid_pool.proofs.Storing.{told_ends_weaker}
 
@@ -32,3 +38,22 @@ pub harm_as_whole : (mid part : Part) (pointer pointer' : Pointer) (need : ℕ) 
     → TellsBoth o q (λ x y. EndsHarm part pointer'.first need (λ i. i < part.geometry.g) whole x.harmed y.harmed)
 harm_as_whole mid part pointer pointer' need before whole o m p q a b c d e f h =
     rw (sym a, b, sym c, sym d, e) (told_ends_weaker mid pointer.first pointer.stripes (λ i. i < mid.geometry.g) before whole m p f h)
+
+-- a block that is being written isn't live
+pub not_live : {R : Type 0} (shard : Shard R) (ticket : Ticket) (pointer : Pointer) → pointer ≡ ticket.pointer → IsOpen shard ticket → IsLive shard pointer → ⊥
+not_live shard ticket pointer same opened live =
+    let both = sym live ∙ (ap (λ (p : Pointer). entry_at shard.blocks p.first) same ∙ opened) in
+    let clash = ap is_live_of both in
+    cc
+  where
+    is_live_of : Option Entry → Bool
+    is_live_of None = false
+    is_live_of (Some e) = elim e.stage as (λ s. Bool) [ Writing ↦ false | Live ↦ true | Freed g ↦ false ]
+
+-- where there is room, the longest run isn't too short
+pub has_room : (free : ℕ → Bool) (held height run need largest : ℕ) → IsRoom held free height run → need ≤ run → IsRefused held free height need (NoRoom largest) → ⊥
+has_room free held height run need largest room fits refused =
+    let short = refused.2 in
+    let spot = (room.some refused.0).found (omega (arith, short, fits)) in
+    let most = refused.1.most run spot.0 spot.1 in
+    omega (arith, short, fits, most)

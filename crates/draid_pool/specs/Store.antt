@@ -25,6 +25,7 @@ pub record HasRoom {R : Type 0} (shard : Shard R) (w : List ℕ) : Type 0 where
   pub run : ℕ
   pub is : IsRoom (held_of shard) (free_of shard) shard.geometry.props.height run
   pub fits : stripes_for shard.geometry w ≤ run
+  pub some : 1 ≤ stripes_for shard.geometry w
 
 -- the room that a shard has for a block of so many stripes
 pub record RoomIs {R : Type 0} (need : ℕ) (shard : Shard R) (room : Room) : Type 0 where

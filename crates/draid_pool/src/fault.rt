@@ -33,7 +33,9 @@ pub enum WriteFault {
         worn: u32,
     },
     /// So many columns landed on no leaf.
-    Missed { columns: u32 },
+    Missed {
+        columns: u32,
+    },
     /// The number of the last write is the greatest that there is.
     Last,
     NoMemory,

@@ -1,7 +1,9 @@
-ghost use Rattle.std.specs.Prelude.{◌≡◌};
+ghost use Rattle.std.specs.Prelude.{◌≡◌, ◌<◌, IfOk, IsSomeAnd, OnErr, OnOk};
 ghost use Rattle.draid_spec.specs.Spec.{IsSpec};
 ghost use Rattle.draid_spec.specs.Geometry.{IsGeometry};
-ghost use Rattle.draid_pool.specs.Create.{CreateIs, GivesBack};
+ghost use Rattle.draid_map.specs.Place.{IsLayout};
+ghost use Rattle.draid_shelf.specs.Shelf.{HasLeavesOf};
+ghost use Rattle.draid_pool.specs.Create.{AreBack, AreMade, AreOpened, CreateIs, GivesBack, IsOpened, TakesOne};
 
 use crate::closing::give_back;
 use crate::fault::PoolFault;
@@ -21,7 +23,15 @@ fn open_shard<H: RackShelf>(
     layout: Geometry,
     perms: Perms,
     number: u32,
-) -> Result<Shard<H::R>, NoMemory> {
+) -> Result<Shard<H::R>, NoMemory>
+    requires layout { IsLayout layout perms }
+    requires number { number < layout.props.metaslabs }
+    requires made { IsSomeAnd (H.made shelf.old number) (HasLeavesOf layout) }
+    ensures opened { IfOk result (IsOpened H.R.shape H.R.told H.R.faults layout perms number (H.holds shelf.old number) (H.counts shelf.old number)) }
+    ensures taken { OnOk result (TakesOne number (H.made shelf.old) (H.made shelf.new) (H.holds shelf.old) (H.holds shelf.new)
+        (H.counts shelf.old) (H.counts shelf.new)) }
+    ensures back { OnErr result (AreBack (H.holds shelf.old) (H.holds shelf.new) (H.counts shelf.old) (H.counts shelf.new)) }
+{
     let rack = shelf.take(number)?;
     match Shard::create(alloc, number, layout, perms, rack) {
         Ok(shard) => Ok(shard),
@@ -37,7 +47,12 @@ fn open_shards<H: RackShelf>(
     alloc: Global,
     shelf: &mut H,
     layout: Geometry,
-) -> Result<Vec<Shard<H::R>>, NoMemory> {
+) -> Result<Vec<Shard<H::R>>, NoMemory>
+    requires layout { IsGeometry layout }
+    requires made { AreMade layout (H.made shelf.old) }
+    ensures opened { IfOk result (λ shards. AreOpened H.R.shape H.R.told H.R.faults layout (H.holds shelf.old) (H.counts shelf.old) shards.items) }
+    ensures back { OnErr result (AreBack (H.holds shelf.old) (H.holds shelf.new) (H.counts shelf.old) (H.counts shelf.new)) }
+{
     let perms = Perms::new(layout.spec.children, layout.props.seed);
     let mut shards = Vec::with_capacity(alloc, layout.props.metaslabs as usize)?;
     for number in 0..layout.props.metaslabs {

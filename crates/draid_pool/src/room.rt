@@ -1,4 +1,4 @@
-ghost use Rattle.std.specs.Prelude.{◌≡◌, ℕ, IfOk, All, map};
+ghost use Rattle.std.specs.Prelude.{◌≡◌, ◌≤◌, ℕ, IfOk, All, length};
 ghost use Rattle.std.specs.List.{AllZip, count_by};
 ghost use Rattle.draid_shard.specs.Shard.{Valid};
 ghost use Rattle.draid_shard.specs.declared.shard.Shard.{Shard};
@@ -11,7 +11,11 @@ use draid_shard::Shard;
 use std::alloc::Global;
 
 /// The room that each shard has for a block of so many stripes.
-pub(crate) fn rooms_of<R: Rack>(alloc: Global, shards: &[Shard<R>], need: u64) -> Result<Vec<Room>, NoMemory>
+pub(crate) fn rooms_of<R: Rack>(
+    alloc: Global,
+    shards: &[Shard<R>],
+    need: u64,
+) -> Result<Vec<Room>, NoMemory>
     requires { All (Valid R.shape) shards.now }
     ensures { IfOk result (λ rooms. AllZip (RoomIs need) shards.now rooms.items) }
 {

@@ -42,7 +42,9 @@ pub trait RackShelf {
             (who : Option ℕ) → Self.R.faults rack who ≡ counts self.old metaslab who) }
         ensures made { SameOthers metaslab (made self.old) (made self.new) }
         ensures holds { SameOthers metaslab (holds self.old) (holds self.new) }
-        ensures others { SameOthers metaslab (counts self.old) (counts self.new) };
+        ensures others { SameOthers metaslab (counts self.old) (counts self.new) }
+        ensures err { OnErr result ((m : ℕ) → holds self.new m ≡ holds self.old m) }
+        ensures err_counts { OnErr result ((m : ℕ) → counts self.new m ≡ counts self.old m) };
 
     /// Puts the rack of a metaslab back, in place of one that is held.
     fn give(&mut self, metaslab: u32, rack: Self::R)

@@ -32,6 +32,7 @@ loop-column-preserved g c =
           (g.R.Rack.told mid.rack) (g.R.Rack.told new.rack) i.part i.pointer i.next e.harm);
       later = λ who. (let a = i.later who in let b = e.later who in omega (arith, a, b));
       free = e.free ∙ i.free;
+      held = e.held ∙ i.held;
       kept = λ p w holds. e.kept p w (i.kept p w holds);
     }
 

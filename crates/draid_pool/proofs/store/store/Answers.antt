@@ -1,10 +1,11 @@
-use Rattle.std.proofs.Common.{◌≡◌, ◌∙◌, ap, arith, refl, sym}
+use Rattle.std.proofs.Common.{◌≡◌, ◌∙◌, ap, arith, refl, subst, sym}
 use Rattle.std.specs.Prelude.{⊤}
 use Rattle.draid_names.specs.declared.pointer.Pointer.{Pointer}
 use Rattle.draid_shard.specs.Part.{Part}
-use Rattle.draid_shard.specs.Shard.{free_of, part_of}
+use Rattle.draid_shard.specs.Entry.{IsRefused}
+use Rattle.draid_shard.specs.Shard.{free_of, held_of, part_of}
 use Rattle.draid_pool.specs.State.{stripes_for}
-use Rattle.draid_pool.proofs.Stored.{harm_as_whole, missed_as, takes_as, ticket_stripes}
+use Rattle.draid_pool.proofs.Stored.{harm_as_whole, has_room, missed_as, not_live, takes_as, ticket_stripes}
 use Rattle.draid_pool.proofs.store.store.Goals as goal
 
 pub returns-in-Ok-finish-clause-kept : goal.returns-in-Ok-finish-clause-kept
@@ -16,15 +17,18 @@ returns-in-Ok-finish-clause-answer g c =
     let all = c.put_all.ensures in
     let ended = c.in-Ok-finish.ensures in
     let old = c.args.shard.now in
-    let geometry = ap (λ (p : Part). stripes_for p c.args.block.now.bytes) begun.part in
+    let geometry = ap (λ (p : Part). stripes_for p.geometry c.args.block.now.bytes) begun.part in
     let stripes = ticket_stripes g.R.Rack.shape g.R.Rack.told c.begin.new.self c.in-Ok.ticket c.args.block.now begun.valid begun.carries ∙ geometry in
     let pointer = ended.ok.1 ∙ all.pointer in
     record {
       named = ap (λ (p : Pointer). p.object) pointer ∙ begun.named.0;
+      here = ap (λ (p : Pointer). p.metaslab) pointer ∙ begun.named.2;
+      is_new = λ live. not_live c.begin.new.self c.in-Ok.ticket c.in-Ok-finish.pointer pointer begun.carries.is_open (begun.same.kept c.in-Ok-finish.pointer live);
+      held = (let a = begun.held in let b = all.held in let d = ended.held in omega (arith, a, b, d));
       takes = takes_as old.geometry.props.height old.geometry.props.height (free_of old) (free_of c.begin.new.self) (free_of c.finish.new.self) c.in-Ok.ticket.pointer c.in-Ok-finish.pointer
           _ _ refl (ended.taken ∙ all.free) pointer refl begun.takes;
       holds = ended.holds c.args.block.now all.carries;
-      harm = harm_as_whole (part_of c.begin.new.self) (part_of old) c.in-Ok.ticket.pointer c.in-Ok-finish.pointer (stripes_for (part_of old) c.args.block.now.bytes) (c.put_all.new.ticket.missed ≡ 0) ⊤
+      harm = harm_as_whole (part_of c.begin.new.self) (part_of old) c.in-Ok.ticket.pointer c.in-Ok-finish.pointer (stripes_for old.geometry c.args.block.now.bytes) (c.put_all.new.ticket.missed ≡ 0) ⊤
           (g.R.Rack.told old.rack) (g.R.Rack.told c.begin.new.self.rack) (g.R.Rack.told c.put_all.new.shard.rack) (g.R.Rack.told c.finish.new.self.rack)
           begun.part pointer stripes (ap g.R.Rack.told begun.rack) (ap g.R.Rack.told ended.rack) (λ _. ended.ok.0) all.harm;
     }
@@ -35,7 +39,7 @@ returns-in-Err-clause-answer g c =
     let all = c.put_all.ensures in
     let ended = c.in-Err.ensures in
     let old = c.args.shard.now in
-    let geometry = ap (λ (p : Part). stripes_for p c.args.block.now.bytes) begun.part in
+    let geometry = ap (λ (p : Part). stripes_for p.geometry c.args.block.now.bytes) begun.part in
     let stripes = ticket_stripes g.R.Rack.shape g.R.Rack.told c.begin.new.self c.in-Ok.ticket c.args.block.now begun.valid begun.carries ∙ geometry in
     let height = ap (λ (p : Part). p.geometry.props.height) (sym begun.part ∙ sym all.part) in
     record {
@@ -44,9 +48,17 @@ returns-in-Err-clause-answer g c =
       missed = missed_as (part_of c.begin.new.self) (part_of old) c.in-Ok.ticket.pointer (g.R.Rack.faults old.rack) (g.R.Rack.faults c.begin.new.self.rack) (g.R.Rack.faults c.put_all.new.shard.rack)
           (g.R.Rack.faults c.finish.new.self.rack) c.put_all.new.ticket.missed c.in-Err.field-0.columns begun.part (ap g.R.Rack.faults begun.rack) (ap g.R.Rack.faults ended.rack) ended.missed.1 all.missed;
       fitted = begun.takes.lowest;
+      held = (let a = begun.held in let b = all.held in let d = ended.held in omega (arith, a, b, d));
       free = ended.undone (free_of old) (takes_as old.geometry.props.height c.put_all.new.shard.geometry.props.height (free_of old) (free_of c.begin.new.self) (free_of c.put_all.new.shard) c.in-Ok.ticket.pointer
           c.put_all.new.ticket.pointer _ _ height all.free all.pointer (sym stripes ∙ ap (λ (p : Pointer). p.stripes) (sym all.pointer)) begun.takes);
-      harm = harm_as_whole (part_of c.begin.new.self) (part_of old) c.in-Ok.ticket.pointer c.in-Ok.ticket.pointer (stripes_for (part_of old) c.args.block.now.bytes) (c.put_all.new.ticket.missed ≡ 0) ⊥
+      harm = harm_as_whole (part_of c.begin.new.self) (part_of old) c.in-Ok.ticket.pointer c.in-Ok.ticket.pointer (stripes_for old.geometry c.args.block.now.bytes) (c.put_all.new.ticket.missed ≡ 0) ⊥
           (g.R.Rack.told old.rack) (g.R.Rack.told c.begin.new.self.rack) (g.R.Rack.told c.put_all.new.shard.rack) (g.R.Rack.told c.finish.new.self.rack)
           begun.part refl stripes (ap g.R.Rack.told begun.rack) (ap g.R.Rack.told ended.rack) (λ none. absurd none) all.harm;
     }
+
+pub unreachable-requires : goal.unreachable-requires
+unreachable-requires g c =
+    let room = c.requires.room in
+    let old = c.args.shard.now in
+    has_room (free_of old) (held_of old) old.geometry.props.height room.run _ _ room.is room.fits
+    (subst (IsRefused (held_of old) (free_of old) old.geometry.props.height (stripes_for old.geometry c.args.block.now.bytes)) c.in-Err-NoRoom.field-0-is c.in-Err-NoRoom.ensures.refused)

@@ -1,24 +1,56 @@
-use Rattle.std.proofs.Common.{◌∙◌, refl, sym}
-use Rattle.draid_pool.proofs.Steps.{finds_live, no_object_step, read_step}
+use Rattle.std.proofs.Common.{arith, ◌∙◌, refl, sym}
+use Rattle.std.proofs.lemmas.Option.{slice_get_within}
+use Rattle.std.specs.Vec.{with_item}
+use Rattle.draid_pool.specs.declared.pool.Pool.{Pool}
+use Rattle.draid_pool.proofs.Reading.{no_object_step, read_live, read_shard, read_step}
+use Rattle.draid_pool.proofs.Steps.{Turned, found, stands_yet}
+use Rattle.draid_pool.proofs.Writing.{room_valid}
 use Rattle.draid_pool.proofs.pool.Pool.read.Goals as goal
 
-pub returns-in_default-clause-step : goal.returns-in_default-clause-step
-returns-in_default-clause-step g c writes is =
-    no_object_step g.R.Rack.shape g.R.Rack.told g.R.Rack.faults c.args.self.now c.args.object writes is (sym c.get.ensures.value ∙ (sym c.copied.ensures ∙ c.in_default.is))
+pub returns-in_default : goal.returns-in_default
+returns-in_default g c = record {
+  step = λ changes is.
+      no_object_step g.R.Rack.shape g.R.Rack.told g.R.Rack.faults c.args.self.now c.args.object changes is (sym c.get.ensures.value ∙ (sym c.copied.ensures ∙ c.in_default.is));
+}
+
+pub index_mut-shard-requires : goal.index_mut-shard-requires
+index_mut-shard-requires g c =
+    let is = c.requires.represents in
+    let there = sym c.get.ensures.value ∙ (sym c.copied.ensures ∙ c.in-Some.is) in
+    let held = (found g.R.Rack.shape g.R.Rack.told g.R.Rack.faults c.args.self.now is.0 c.args.object c.in-Some.pointer is.1 there).held in
+    let below = slice_get_within c.args.self.now.shards.items c.in-Some.pointer.metaslab held.shard held.there in
+    let len = c.args.self.now.shards.ok.0 in
+    omega (arith, below, len)
+
+pub read_block-requires-clause-valid : goal.read_block-requires-clause-valid
+read_block-requires-clause-valid g c =
+    let is = c.requires.represents in
+    let there = sym c.get.ensures.value ∙ (sym c.copied.ensures ∙ c.in-Some.is) in
+    let shard = c.index_mut-shard.result.now in
+    let at = read_shard g.R.Rack.shape g.R.Rack.told g.R.Rack.faults c.args.self.now c.args.object c.in-Some.pointer shard is.0 is.1 there c.index_mut-shard.ensures.value in
+    room_valid g.R.Rack.shape g.R.Rack.told g.R.Rack.faults c.args.self.now is.0 c.in-Some.pointer.metaslab shard is.1 at
 
 pub read_block-requires-clause-is_live : goal.read_block-requires-clause-is_live
 read_block-requires-clause-is_live g c =
-    finds_live g.R.Rack.shape g.R.Rack.told g.R.Rack.faults c.args.self.now c.args.object c.in-Some.pointer c.requires.represents (sym c.get.ensures.value ∙ (sym c.copied.ensures ∙ c.in-Some.is))
+    let is = c.requires.represents in
+    let there = sym c.get.ensures.value ∙ (sym c.copied.ensures ∙ c.in-Some.is) in
+    let shard = c.index_mut-shard.result.now in
+    let at = read_shard g.R.Rack.shape g.R.Rack.told g.R.Rack.faults c.args.self.now c.args.object c.in-Some.pointer shard is.0 is.1 there c.index_mut-shard.ensures.value in
+    read_live g.R.Rack.shape g.R.Rack.told g.R.Rack.faults c.args.self.now c.args.object c.in-Some.pointer shard is.0 is.1 there at
 
-pub returns-clause-step : goal.returns-clause-step
-returns-clause-step g c writes is =
-    let e = c.read_block.ensures in
-    read_step g.R.Rack.shape g.R.Rack.told g.R.Rack.faults c.args.self.now _ c.args.object c.in-Some.pointer c.read_block.result writes is
-    (record {
-      kept = record { valid = e.valid; part = e.part; kept = e.kept; objects = λ q. refl };
-      tells = e.told;
-      free = e.free;
-      later = e.later;
-      seq = refl;
-    })
-    (sym c.get.ensures.value ∙ (sym c.copied.ensures ∙ c.in-Some.is)) e.answer
+pub returns : goal.returns
+returns g c = record {
+  step = λ changes is.
+      (let there = sym c.get.ensures.value ∙ (sym c.copied.ensures ∙ c.in-Some.is) in
+      let before = c.index_mut-shard.result.now in
+      let after = c.read_block.new.shard in
+      let at = read_shard g.R.Rack.shape g.R.Rack.told g.R.Rack.faults c.args.self.now c.args.object c.in-Some.pointer before changes is there c.index_mut-shard.ensures.value in
+      let e = c.read_block.ensures in
+      let new : Pool g.row.R.Denot
+      = record { geometry = c.args.self.now.geometry; shards = with_item c.args.self.now.shards c.in-Some.pointer.metaslab after; objects = c.args.self.now.objects; seq = c.args.self.now.seq; alloc = c.args.self.now.alloc } in
+      let t : Turned g.R.Rack.shape g.R.Rack.told g.R.Rack.faults c.in-Some.pointer.metaslab before after c.args.self.now new
+      = record { one = record { there = at; sets = refl }; valid = e.valid; part = e.part; layout = refl } in
+      let yet = stands_yet g.R.Rack.shape g.R.Rack.told g.R.Rack.faults c.in-Some.pointer.metaslab before after c.args.self.now new changes t e.kept (λ q. refl) is in
+      read_step g.R.Rack.shape g.R.Rack.told g.R.Rack.faults c.args.self.now new c.args.object c.in-Some.pointer before after c.read_block.result changes is there t
+      (record { tells = e.told; free = e.free; held = e.held; later = e.later }) yet refl e.answer);
+}

@@ -1,0 +1,122 @@
+-- A block is written to one metaslab of a pool.
+use Rattle.std.proofs.Common.{◌≡◌, ◌+◌, ◌<◌, ◌∙◌, ℕ, List, ◌∷◌, Option, Some, Result, Ok, Err, refl, sym, ap, subst, slice_set, map, slice_index_or}
+use Rattle.std.specs.Prelude.{⊤, nat_eq, slice_get}
+use Rattle.std.specs.HashMap.{get}
+use Rattle.draid_names.specs.declared.pointer.Pointer.{Pointer}
+use Rattle.draid_spec.specs.declared.layout.Geometry.{Geometry}
+use Rattle.draid_block.specs.Blocks.{cut_of}
+use Rattle.draid_block.specs.Columns.{Cut}
+use Rattle.draid_rack.specs.Rack.{Shape, Told}
+use Rattle.draid_shard.specs.declared.shard.Shard.{Shard}
+use Rattle.draid_shard.specs.Columns.{EndsHarm}
+use Rattle.draid_shard.specs.Shard.{KeepsBlocks, NoneFalls, Valid, part_of}
+use Rattle.draid_pool.specs.Answers.{WriteInIs}
+use Rattle.draid_pool.specs.Pool.{HasRoomAt, HoldsWrite, Moves, Represents, SamePool, metaslab_of, state_of}
+use Rattle.draid_pool.specs.State.{Change, Write, Wrote, stripes_for}
+use Rattle.draid_pool.specs.Store.{HasRoom, SetsShard, StoreAnswers, StoreMisses, StoreStays, Stores}
+use Rattle.draid_pool.specs.declared.fault.WriteFault.TheVariants as write_fault
+use Rattle.draid_pool.specs.declared.pool.Pool.{Pool}
+use Rattle.draid_pool.specs.declared.store.StoreFault.{StoreFault}
+use Rattle.draid_pool.specs.declared.store.StoreFault.TheVariants as store_fault
+use Rattle.draid_pool.proofs.Harm.{harm_both}
+use Rattle.draid_pool.proofs.Lists.{fun_ext}
+use Rattle.draid_pool.proofs.Shards.{at_shard, images_set, same_image, same_images, set_here}
+use Rattle.draid_pool.proofs.Steps.{Turned, not_in_table, one_moved, same_state, stands_yet}
+
+module _ {R : Type 0} (shape : R → Shape) (told : R → Option Told) (faults : R → Option ℕ → ℕ) where
+  -- the shard that a block goes to
+  pub room_shard : (pool : Pool R) (m : ℕ) (w : List ℕ) (shard : Shard R) → HasRoomAt pool m w → shard ≡ slice_index_or pool.shards.items m shard
+      → slice_get pool.shards.items m ≡ Some shard
+  room_shard pool m w shard room value = room.there ∙ ap Some (sym (at_shard pool.shards.items m room.shard shard room.there value))
+
+  pub room_has : (pool : Pool R) (m : ℕ) (w : List ℕ) (shard : Shard R) → HasRoomAt pool m w → shard ≡ slice_index_or pool.shards.items m shard → HasRoom shard w
+  room_has pool m w shard room value = subst (λ (s : Shard R). HasRoom s w) (sym (at_shard pool.shards.items m room.shard shard room.there value)) room.room
+
+  pub room_valid : (pool : Pool R) (changes : List Change) (m : ℕ) (shard : Shard R) → Represents shape told pool changes → slice_get pool.shards.items m ≡ Some shard → Valid shape shard
+  room_valid pool changes m shard is there = (is.members m shard there).valid
+
+  pub room_cut : (pool : Pool R) (changes : List Change) (m : ℕ) (shard : Shard R) (cut : Cut) → Represents shape told pool changes → slice_get pool.shards.items m ≡ Some shard
+      → cut ≡ cut_of pool.geometry → cut ≡ cut_of shard.geometry
+  room_cut pool changes m shard cut is there same = same ∙ ap cut_of (sym (is.members m shard there).layout)
+
+  -- the block that was stored is that of the write
+  pub stored_holds : (m object : ℕ) (w : List ℕ) (pointer : Pointer) (before after : Shard R) (old new : Pool R) (changes : List Change) → Turned shape told faults m before after old new
+      → Represents shape told old changes → Stores told object w before after pointer
+      → HoldsWrite told new.shards.items pointer (record { object = object; bytes = w; metaslab = m; first = pointer.first })
+  stored_holds m object w pointer before after old new changes t is stores =
+      let at : pointer.metaslab ≡ m = stores.here ∙ (is.members m before t.one.there).number in
+      record {
+        object = stores.named;
+        metaslab = at;
+        first = refl;
+        shard = after;
+        there = ap (slice_get new.shards.items) at ∙ set_here m before after old.shards.items new.shards.items t.one;
+        holds = stores.holds;
+      }
+
+  pub stored_apart : (m object : ℕ) (w : List ℕ) (pointer : Pointer) (before after : Shard R) (old : Pool R) (changes : List Change) → slice_get old.shards.items m ≡ Some before
+      → Represents shape told old changes → Stores told object w before after pointer → get nat_eq old.objects object ≡ Some pointer → ⊥
+  stored_apart m object w pointer before after old changes there is stores said =
+      not_in_table shape told faults old changes m object before pointer is there stores.here stores.is_new said
+
+  pub writes_step : (m object : ℕ) (w : List ℕ) (pointer : Pointer) (before after : Shard R) (old mid new : Pool R) (changes : List Change) → Turned shape told faults m before after old mid
+      → Stores told object w before after pointer → NoneFalls (faults before.rack) (faults after.rack) → mid.seq ≡ old.seq + 1 → SamePool told faults mid new
+      → Represents shape told new (Wrote (record { object = object; bytes = w; metaslab = m; first = pointer.first }) ∷ changes)
+      → Moves shape told faults (WriteInIs m object w (Ok tt)) (state_of told faults old changes) new
+  writes_step m object w pointer before after old mid new changes t stores later seq same is =
+      let moved = one_moved shape told faults m before after old mid changes changes t in
+      record {
+        changes = Wrote (record { object = object; bytes = w; metaslab = m; first = pointer.first }) ∷ changes;
+        represents = is;
+        moved = record {
+          before = metaslab_of told faults before;
+          after = metaslab_of told faults after;
+          one = record { there = moved.there; part = moved.part; metaslabs = same.metaslabs ∙ moved.metaslabs; geometry = same.layout ∙ t.layout };
+          first = pointer.first;
+          takes = stores.takes;
+          held = stores.held;
+          later = later;
+          harm = harm_both (told before.rack) (told after.rack) (EndsHarm (part_of before) pointer.first (stripes_for before.geometry w) (λ i. i < before.geometry.g) ⊤) stores.harm;
+          changes = refl;
+          seq = same.seq ∙ seq;
+        };
+      }
+
+  pub misses_step : (m object : ℕ) (w : List ℕ) (columns : ℕ) (fault : StoreFault) (before after : Shard R) (old new : Pool R) (changes : List Change) → Turned shape told faults m before after old new
+      → fault ≡ store_fault.Missed columns → StoreAnswers told faults object w before after (Err fault) → NoneFalls (faults before.rack) (faults after.rack) → new.seq ≡ old.seq + 1
+      → Represents shape told new changes → Moves shape told faults (WriteInIs m object w (Err (write_fault.Missed columns))) (state_of told faults old changes) new
+  misses_step m object w columns fault before after old new changes t said answer later seq is =
+      let misses : StoreMisses told faults w before after columns = subst (λ (f : StoreFault). StoreAnswers told faults object w before after (Err f)) said answer in
+      record {
+        changes = changes;
+        represents = is;
+        moved = record {
+          before = metaslab_of told faults before;
+          after = metaslab_of told faults after;
+          one = one_moved shape told faults m before after old new changes changes t;
+          keeps = record { part = t.part; free = fun_ext _ _ misses.free; held = misses.held; later = later };
+          first = misses.first;
+          fitted = misses.fitted;
+          missed = misses.missed.missed;
+          some = misses.some;
+          count = misses.missed.many;
+          ascending = misses.missed.ascending;
+          in_range = misses.missed.in_range;
+          each = misses.missed.each;
+          harm = harm_both (told before.rack) (told after.rack) (EndsHarm (part_of before) misses.first (stripes_for before.geometry w) (λ i. i < before.geometry.g) ⊥) misses.harm;
+          changes = refl;
+          seq = seq;
+        };
+      }
+
+  pub stays_step : (m object : ℕ) (w : List ℕ) (fault : StoreFault) (before after : Shard R) (old new : Pool R) (changes : List Change) → Turned shape told faults m before after old new
+      → fault ≡ store_fault.NoMemory → StoreAnswers told faults object w before after (Err fault) → new.seq ≡ old.seq → Represents shape told new changes
+      → Moves shape told faults (WriteInIs m object w (Err write_fault.NoMemory)) (state_of told faults old changes) new
+  stays_step m object w fault before after old new changes t said answer seq is =
+      let stays : StoreStays before after = subst (λ (f : StoreFault). StoreAnswers told faults object w before after (Err f)) said answer in
+      record {
+        changes = changes;
+        represents = is;
+        moved = same_state shape told faults old new changes t.layout
+            (same_images told faults m before after old.shards.items new.shards.items t.one (same_image told faults before after t.part stays.rack (fun_ext _ _ stays.free) stays.held)) seq;
+      }
