@@ -6,3 +6,5 @@ pub mod blocks;
 pub mod fetch;
 pub mod groups;
 pub mod leaves;
+mod room;
+pub mod tickets;

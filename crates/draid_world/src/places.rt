@@ -14,7 +14,7 @@ use draid_machine::ArmName;
 pub fn home(site: &Site, spare: u32, stripe: u64) -> u32
     requires layout { IsLayout site.now.geometry site.now.perms }
     requires metaslab { site.now.metaslab < site.now.geometry.props.metaslabs }
-    requires stripe { stripe < 2 ^ 48 }
+    requires stripe { stripe < 2 ^ 49 }
     requires spare { spare < site.now.geometry.spec.spares }
     ensures { result ≡ child_of site.now.perms (slice_of site.now.geometry (pool_stripe site.now.geometry site.now.metaslab stripe)) (site.now.geometry.spec.children - 1 - spare) }
 {
@@ -31,7 +31,7 @@ pub fn home(site: &Site, spare: u32, stripe: u64) -> u32
 pub fn leaf_at(site: &Site, order: &[Vec<ArmName>], name: ArmName, stripe: u64) -> Option<u64>
     requires layout { IsLayout site.now.geometry site.now.perms }
     requires metaslab { site.now.metaslab < site.now.geometry.props.metaslabs }
-    requires stripe { stripe < 2 ^ 48 }
+    requires stripe { stripe < 2 ^ 49 }
     ensures { result ≡ arms.leaf_at (site_layout site.now) (names_at order.now) name stripe }
 {
     match name {
@@ -49,7 +49,7 @@ pub fn leaf_at(site: &Site, order: &[Vec<ArmName>], name: ArmName, stripe: u64) 
 pub fn answers(site: &Site, tables: &Tables, name: ArmName, stripe: u64) -> bool
     requires layout { IsLayout site.now.geometry site.now.perms }
     requires metaslab { site.now.metaslab < site.now.geometry.props.metaslabs }
-    requires stripe { stripe < 2 ^ 48 }
+    requires stripe { stripe < 2 ^ 49 }
     ensures { result ≡ arms.answers (site_layout site.now) (core_of tables.now) name stripe }
 {
     match leaf_at(site, &tables.order, name, stripe) {
@@ -74,7 +74,7 @@ pub fn has_number(numbers: &[u64], number: u64) -> bool
 pub fn fails(site: &Site, tables: &Tables, failed: &[u64], name: ArmName, stripe: u64) -> bool
     requires layout { IsLayout site.now.geometry site.now.perms }
     requires metaslab { site.now.metaslab < site.now.geometry.props.metaslabs }
-    requires stripe { stripe < 2 ^ 48 }
+    requires stripe { stripe < 2 ^ 49 }
     ensures { result ≡ arms.fails (site_layout site.now) (core_of tables.now) failed.now name stripe }
 {
     match leaf_at(site, &tables.order, name, stripe) {
@@ -87,7 +87,7 @@ pub fn fails(site: &Site, tables: &Tables, failed: &[u64], name: ArmName, stripe
 pub fn slot_of(site: &Site, stripe: u64, column: u32) -> u32
     requires layout { IsLayout site.now.geometry site.now.perms }
     requires metaslab { site.now.metaslab < site.now.geometry.props.metaslabs }
-    requires stripe { stripe < 2 ^ 48 }
+    requires stripe { stripe < 2 ^ 49 }
     requires column { column < site.now.geometry.g }
     ensures { result ≡ slot_at (site_layout site.now) stripe column }
 {
