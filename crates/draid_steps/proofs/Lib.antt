@@ -1,2 +1,7 @@
 pub mod Entries
+pub mod Kept
+pub mod Lists
+pub mod Logs
 pub mod Runs
+pub mod Segments
+pub mod Written

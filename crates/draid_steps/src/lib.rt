@@ -3,6 +3,8 @@
 #![tactic(auto)]
 
 pub mod blocks;
+pub mod columns;
+pub mod commits;
 pub mod fetch;
 pub mod groups;
 pub mod leaves;
