@@ -9,4 +9,5 @@ pub mod fetch;
 pub mod groups;
 pub mod leaves;
 mod room;
+pub mod slots;
 pub mod tickets;
