@@ -1,2 +1,3 @@
+pub mod Anys
 pub mod Lefts
 pub mod Walks

@@ -3,7 +3,9 @@
 #![tactic(auto)]
 
 mod left;
+mod lying;
 mod starts;
 
 pub use left::{is_block, is_heal, is_lent, next_stripe};
+pub use lying::{has_column, is_silent, lies_on, lies_on_silent, stripes};
 pub use starts::ready;
