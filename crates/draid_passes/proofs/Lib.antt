@@ -1,3 +1,4 @@
 pub mod Anys
+pub mod Changes
 pub mod Lefts
 pub mod Walks
