@@ -2,6 +2,7 @@
 
 #![tactic(auto)]
 
+mod ends;
 mod left;
 mod logs;
 mod lying;
@@ -9,6 +10,7 @@ mod plans;
 mod starts;
 mod targets;
 
+pub use ends::done;
 pub use left::{is_block, is_heal, is_lent, next_stripe};
 pub use lying::{has_column, is_silent, lies_on, lies_on_silent, stripes};
 pub use plans::plan;

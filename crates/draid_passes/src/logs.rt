@@ -49,3 +49,32 @@ pub(crate) fn fill_logs(
     }
     Ok(())
 }
+
+/// Takes the groups up to `upto` out of an arm's log.
+fn excise(arm: &mut Arm, upto: u64)
+    requires upto { upto < 2 ^ 48 }
+    ensures { arm_of arm.new ≡ after.excise_if true upto (arm_of arm.old) }
+{
+    arm.log.excise(upto);
+    arm.fresh = false;
+}
+
+/// Takes the groups up to `upto` out of the log of an arm, if there is one of that name.
+fn excise_at(arms: &mut BTreeMap<ArmName, Arm>, name: ArmName, upto: u64)
+    requires upto { upto < 2 ^ 48 }
+    ensures { (n : ArmName) → arm_in arms.new.entries n ≡ changed_at (name_eq name n) (after.excise_if true upto) (arm_in arms.old.entries n) }
+{
+    if let Some(arm) = arms.get_mut(&name) {
+        excise(arm, upto);
+    }
+}
+
+/// Takes the groups up to `upto` out of the logs of some arms.
+pub(crate) fn excise_logs(arms: &mut BTreeMap<ArmName, Arm>, names: &[ArmName], upto: u64)
+    requires upto { upto < 2 ^ 48 }
+    ensures { (n : ArmName) → arm_in arms.new.entries n ≡ after.map_arm (after.excise_if (has_name names.now n) upto) (arm_in arms.old.entries n) }
+{
+    for at in 0..names.len() {
+        excise_at(arms, names[at], upto);
+    }
+}
