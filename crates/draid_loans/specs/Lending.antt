@@ -1,0 +1,46 @@
+use Rattle.std.specs.Prelude.{◌≡◌, ◌<◌, ℕ, true, false, List, Option, Some}
+use Rattle.draid_machine.specs.declared.names.Key.{Key}
+use Rattle.draid_machine.specs.declared.names.ArmName.{ArmName}
+use Rattle.draid_machine.specs.declared.names.Held.{Held}
+use Rattle.draid_machine.specs.Names.{has_name, has_number, is_heal, takes}
+use Rattle.draid_machine.specs.State.{Layout, Core, Pass, Loan}
+use Rattle.draid_machine.specs.Arms.{HasEmptyLog, IsSource, answers, leaf_answers, leaf_at, reading}
+use Rattle.draid_machine.specs.Step.{IsChosen, ReadsThere, arms_read, is_lent}
+
+-- an arm that answers at a stripe and whose log is empty
+abbrev pub IsReady : Layout → Core → ℕ → ArmName → Type 0
+IsReady l q x n = (answers l q n x ≡ true) × HasEmptyLog q n
+
+-- the arm from which a pass takes a column
+pub record IsFrom (l : Layout) (q : Core) (p : Pass) (h : Held) (x c : ℕ) (from : Option ArmName) : Type 0 where
+  pub rebuild : is_heal p.kind ≡ false → IsSource l q x c from
+  pub heal : is_heal p.kind ≡ true → from ≡ reading l q h c
+
+-- a leaf from which a loan reads a column
+pub record ReadsAt (l : Layout) (q : Core) (p : Pass) (h : Held) (x c leaf : ℕ) : Type 0 where
+  pub n : ArmName
+  pub rebuild : is_heal p.kind ≡ false → IsSource l q x c (Some n)
+  pub heal : is_heal p.kind ≡ true → (has_name (q.order (l.slot_of h.first c)) n ≡ true) × (answers l q n x ≡ true)
+  pub lies : leaf_at l q.order n x ≡ Some leaf
+
+-- calls may fail on the leaves that a loan reads
+abbrev pub AllRead : Layout → Core → Pass → Held → ℕ → List ℕ → Type 0
+AllRead l q p h x failed = (leaf : ℕ) → has_number failed leaf ≡ true → ReadsThere l q p h x leaf
+
+-- a block that has a stripe, and from which a pass may read it
+pub record MayLend (l : Layout) (q : Core) (p : Pass) (x : ℕ) (failed : List ℕ) (h : Held) : Type 0 where
+  pub lent : is_lent p h ≡ true
+  pub taken : takes h x ≡ true
+  pub fail : AllRead l q p h x failed
+
+-- a leaf that answers, and keeps what belongs to a stripe for an arm of a list
+pub record IsAnswering (l : Layout) (q : Core) (names : List ArmName) (x leaf : ℕ) : Type 0 where
+  pub arm : ArmName
+  pub listed : has_name names arm ≡ true
+  pub lies : leaf_at l q.order arm x ≡ Some leaf
+  pub answers : leaf_answers q leaf ≡ true
+
+-- the readings of a loan
+pub record AreReadings (l : Layout) (q : Core) (p : Pass) (h : Held) (x : ℕ) (failed : List ℕ) (columns : ℕ) (read : ℕ → List ArmName) (chosen : ℕ → Option ArmName) : Type 0 where
+  pub chosen_is : (c : ℕ) → c < columns → IsChosen l q p h x failed c (chosen c)
+  pub read_is : (c : ℕ) → c < columns → read c ≡ arms_read l q p h x failed c (chosen c)
