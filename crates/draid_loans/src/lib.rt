@@ -2,9 +2,9 @@
 
 #![tactic(auto)]
 
-
-
 mod failing;
+mod lending;
+mod readings;
 mod sources;
 
-
+pub use lending::lend;
