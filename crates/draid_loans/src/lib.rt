@@ -1,0 +1,10 @@
+//! Loans of a pass on the maps of a metaslab's state: lent and landed, each exactly where that is legal.
+
+#![tactic(auto)]
+
+mod failing;
+mod lending;
+mod readings;
+mod sources;
+
+pub use lending::lend;
