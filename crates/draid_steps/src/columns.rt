@@ -20,11 +20,11 @@ use std::alloc::AllocError;
 use std::collections::{BTreeMap, BTreeSet};
 
 /// A column of a block on an arm.
-#[derive(Clone, Copy)]
-struct Part {
-    key: Key,
-    column: u32,
-    arm: ArmName,
+#[derive(Clone, Copy, Debug, PartialEq, Eq)]
+pub struct Part {
+    pub key: Key,
+    pub column: u32,
+    pub arm: ArmName,
 }
 
 /// Whether each arm of a list is one of a slot's.
@@ -126,7 +126,7 @@ fn are_used(site: &Site, tables: &Tables, stripe: u64, names: &[ArmName], leaves
 }
 
 /// Logs a group for an arm, if it is known.
-fn log_arm(arms: &mut BTreeMap<ArmName, Arm>, name: ArmName, group: u64) -> Result<(), AllocError>
+pub fn log_arm(arms: &mut BTreeMap<ArmName, Arm>, name: ArmName, group: u64) -> Result<(), AllocError>
     requires group { group < 2 ^ 48 }
     ensures { OnOk result ((n : ArmName) → arm_in arms.new.entries n ≡ each_arm (λ m. log_if (name_eq name m) group) (arm_in arms.old.entries) n) }
 {
@@ -156,7 +156,7 @@ fn log_unless(
 }
 
 /// Logs a group for the arms of a list on which a column didn't land.
-fn log_missed(
+pub fn log_missed(
     arms: &mut BTreeMap<ArmName, Arm>,
     names: &[ArmName],
     landed: &[ArmName],
@@ -173,7 +173,7 @@ fn log_missed(
 }
 
 /// Logs a group for the arms of a slot on which a column didn't land.
-fn log_slot(
+pub fn log_slot(
     tables: &mut Tables,
     slot: usize,
     landed: &[ArmName],
@@ -193,7 +193,7 @@ fn log_slot(
 }
 
 /// A segment joins a set.
-fn add_segment(segments: &mut BTreeSet<Segment>, segment: Segment) -> Result<(), AllocError>
+pub fn add_segment(segments: &mut BTreeSet<Segment>, segment: Segment) -> Result<(), AllocError>
     ensures { OnOk result ((s : Segment) → has_segment segments.new.keys s ≡ (segment_eq segment s || has_segment segments.old.keys s)) }
 {
     segments.insert(segment)?;
@@ -231,7 +231,7 @@ fn add_row(
 }
 
 /// The segments of a column on an arm join a set.
-fn add_rows(
+pub fn add_rows(
     site: &Site,
     order: &[Vec<ArmName>],
     segments: &mut BTreeSet<Segment>,
@@ -251,7 +251,7 @@ fn add_rows(
 }
 
 /// The segments of a column on the arms of a list join a set.
-fn add_landed(
+pub fn add_landed(
     site: &Site,
     order: &[Vec<ArmName>],
     segments: &mut BTreeSet<Segment>,

@@ -1,0 +1,2 @@
+pub mod Anyone
+pub mod Copied
