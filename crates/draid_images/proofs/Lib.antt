@@ -1,2 +1,3 @@
 pub mod Anyone
+pub mod Claiming
 pub mod Copied

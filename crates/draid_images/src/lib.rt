@@ -3,7 +3,9 @@
 #![tactic(auto)]
 
 mod copies;
+mod openings;
 mod seals;
 
 pub use copies::{Copying, copy_tables};
+pub use openings::reopen;
 pub use seals::seal;
