@@ -1,2 +1,4 @@
 pub mod Firsts
+pub mod Grown
 pub mod Loaned
+pub mod Sets

@@ -2,9 +2,12 @@
 
 #![tactic(auto)]
 
+mod blocks;
 mod failing;
+mod landings;
 mod lending;
 mod readings;
+mod segments;
 mod sources;
 
 pub use lending::lend;
