@@ -6,8 +6,11 @@ mod blocks;
 mod failing;
 mod landings;
 mod lending;
+mod mending;
 mod readings;
 mod segments;
 mod sources;
+mod stripes;
 
 pub use lending::lend;
+pub use stripes::land_stripe;
