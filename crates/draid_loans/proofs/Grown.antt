@@ -1,12 +1,12 @@
 -- The segments of a block, as they are listed.
-use Rattle.std.proofs.Common.{◌≡◌, ◌+◌, ◌<◌, ◌≤◌, ◌⊎◌, ◌&&◌, ◌++◌, ℕ, Bool, true, false, List, [], ◌∷◌, Option, Some, None, take, length, get_or, refl, sym, ◌∙◌, ap, subst, arith, inl, inr}
+use Rattle.std.proofs.Common.{◌≡◌, ◌+◌, ◌<◌, ◌≤◌, ◌⊎◌, ◌&&◌, ◌++◌, ℕ, true, List, [], ◌∷◌, Some, None, take, length, get_or, refl, sym, ◌∙◌, subst, arith, inl, inr}
 use Rattle.std.proofs.lemmas.Bool.{true≢false, cases_eq}
 use Rattle.std.proofs.lemmas.List.{take_all}
 use Rattle.draid_machine.specs.declared.names.Key.{Key}
 use Rattle.draid_machine.specs.declared.names.ArmName.{ArmName}
 use Rattle.draid_machine.specs.declared.names.Held.{Held}
 use Rattle.draid_machine.specs.declared.names.Segment.{Segment}
-use Rattle.draid_machine.specs.Names.{has_name, has_segment, key_eq, name_eq}
+use Rattle.draid_machine.specs.Names.{has_segment, key_eq, name_eq}
 use Rattle.draid_machine.specs.State.{Layout}
 use Rattle.draid_machine.specs.Arms.{leaf_at}
 use Rattle.draid_machine.specs.Claims.{is_on}

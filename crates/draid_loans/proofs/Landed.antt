@@ -1,10 +1,9 @@
 -- The landing of a rebuild's stripe.
-use Rattle.std.proofs.Common.{◌≡◌, ◌+◌, ◌-◌, ◌<◌, ◌≤◌, ◌&&◌, ◌||◌, not, ℕ, Bool, true, false, nat_lt, List, [], ◌∷◌, Option, Some, None, filter, count_by, cond, length, if◌then◌else◌, refl, sym, ◌∙◌, ap, ap₂, subst, arith, option_map}
+use Rattle.std.proofs.Common.{◌≡◌, ◌+◌, ◌&&◌, ◌||◌, not, ℕ, Bool, true, false, nat_lt, List, [], ◌∷◌, Option, Some, None, filter, count_by, cond, length, if◌then◌else◌, refl, sym, ◌∙◌, ap, ap₂, arith, option_map}
 use Rattle.std.proofs.lemmas.List.Sums.{sum_by-cons}
 use Rattle.draid_machine.specs.declared.names.ArmName.{ArmName}
 use Rattle.draid_machine.specs.declared.names.Held.{Held}
-use Rattle.draid_machine.specs.declared.names.Segment.{Segment}
-use Rattle.draid_machine.specs.State.{Layout, Core, Pass, Loan, State}
+use Rattle.draid_machine.specs.State.{Layout, Loan, State}
 use Rattle.draid_machine.specs.After.{capped, land_stripe_state, mend_state, pass_over, unsourced}
 use Rattle.draid_machine.specs.Step.{LandStripeStep}
 use Rattle.draid_machine.proofs.Small.{some_injective}
@@ -53,7 +52,7 @@ loan_same o loan n is e = some_injective n (loan_of loan) (sym e ∙ ap (option_
 pub land_over : (l : Layout) (w : World) (pass serial : ℕ) (found : WorldPass) (loan : Lent) (h : Held) (failed : List ℕ) (errors : ℕ) → w.tables.pass ≡ Some found → w.loan ≡ Some loan
     → MayLandStripe l (state_of w) pass serial failed h → nat_lt l.parity (unsourced l (loan_of loan)) ≡ true → errors ≡ capped (found.errors + 1)
     → LandStripeStep l (state_of w) pass serial failed
-        (state_of (record w { tables = record w.tables { pass = Some (record found { next = loan.stripe + 1; errors = errors }) }; loan = None }))
+    (state_of (record w { tables = record w.tables { pass = Some (record found { next = loan.stripe + 1; errors = errors }) }; loan = None }))
 land_over l w pass serial found loan h failed errors is lent may many sum =
     let at = pass_same w.tables.pass found may.p is may.counts.pass_is in
     let which = loan_same w.loan loan may.n lent may.counts.loan in

@@ -1,5 +1,5 @@
 -- Loans and their readings.
-use Rattle.std.proofs.Common.{◌≡◌, ◌+◌, ◌<◌, ◌≤◌, ◌&&◌, ◌++◌, not, ℕ, zero, suc, Bool, true, false, List, [], ◌∷◌, Option, Some, None, Result, Ok, Err, IfOk, Vec, Global, filter, get_or, length, option_map, if◌then◌else◌, refl, sym, ◌∙◌, ap, subst, inl, inr, arith, length-append}
+use Rattle.std.proofs.Common.{◌≡◌, ◌+◌, ◌<◌, ◌≤◌, ◌&&◌, ◌++◌, not, ℕ, zero, suc, true, List, [], ◌∷◌, Option, Some, None, Result, Ok, Err, IfOk, Vec, Global, filter, get_or, length, option_map, if◌then◌else◌, refl, sym, ◌∙◌, ap, subst, inl, inr, arith, length-append}
 use Rattle.std.proofs.lemmas.Bool.{cases_eq, cases_order}
 use Rattle.draid_machine.specs.declared.names.Key.{Key}
 use Rattle.draid_machine.specs.declared.names.ArmName.{ArmName}
@@ -7,7 +7,7 @@ use Rattle.draid_machine.specs.declared.names.Held.{Held}
 use Rattle.draid_machine.specs.Names.{is_heal, takes}
 use Rattle.draid_machine.specs.State.{Layout, Core, Pass, Loan, State}
 use Rattle.draid_machine.specs.Arms.{answers, fails}
-use Rattle.draid_machine.specs.Step.{IsChosen, IsNext, LendStep, arms_read, is_lent, to_list}
+use Rattle.draid_machine.specs.Step.{IsChosen, IsNext, LendStep, arms_read, to_list}
 use Rattle.draid_passes.specs.Left.{IsFirstLeft, NothingLeft}
 use Rattle.draid_machine.specs.After.{capped, lend_errors}
 use Rattle.draid_machine.proofs.Small.{some_injective}

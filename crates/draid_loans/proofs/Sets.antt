@@ -1,5 +1,5 @@
 -- Sets and lists of segments.
-use Rattle.std.proofs.Common.{◌≡◌, ◌==◌, ◌+◌, ◌<◌, ◌≤◌, ◌⊎◌, ◌&&◌, ◌||◌, ◌++◌, not, ℕ, Bool, true, false, List, [], ◌∷◌, Option, Some, None, cond, take, length, get_or, refl, sym, ◌∙◌, ap, ap₂, subst, arith, Ordering, inl, inr}
+use Rattle.std.proofs.Common.{◌≡◌, ◌==◌, ◌+◌, ◌<◌, ◌⊎◌, ◌&&◌, ◌||◌, ◌++◌, not, ℕ, Bool, true, false, List, [], ◌∷◌, Option, Some, None, cond, take, length, get_or, refl, sym, ◌∙◌, ap, ap₂, subst, arith, Ordering, inl, inr}
 use Rattle.std.specs.List.{list_any}
 use Rattle.std.specs.BTreeMap.{is_at}
 use Rattle.std.proofs.lemmas.Bool.{true≢false}
@@ -11,13 +11,12 @@ use Rattle.draid_machine.specs.declared.names.ArmName.{ArmName}
 use Rattle.draid_machine.specs.declared.names.ArmName.TheVariants.{Leaf, Spare}
 use Rattle.draid_machine.specs.declared.names.Held.{Held}
 use Rattle.draid_machine.specs.declared.names.Segment.{Segment}
-use Rattle.draid_machine.specs.Names.{key_eq, name_eq, has_name, segment_eq, has_segment}
+use Rattle.draid_machine.specs.Names.{key_eq, name_eq, segment_eq, has_segment}
 use Rattle.draid_machine.specs.State.{Layout}
-use Rattle.draid_machine.specs.Arms.{leaf_at, lies, passes}
+use Rattle.draid_machine.specs.Arms.{leaf_at, passes}
 use Rattle.draid_machine.specs.Claims.{is_on}
-use Rattle.draid_machine.proofs.Small.{both_true, either_true, is_below, is_equal, below, key_refl, key_true, name_refl, name_true, some_injective, true_both, true_left, true_right}
-use Rattle.draid_passes.proofs.Lists.{name_here, name_next}
-use Rattle.draid_loans.specs.Blocks.{Adds, OnArm, OnColumn, OnNames}
+use Rattle.draid_machine.proofs.Small.{both_true, either_true, is_below, is_equal, below, key_refl, key_true, name_refl, name_true, true_both, true_left, true_right}
+use Rattle.draid_loans.specs.Blocks.{Adds, OnColumn}
 
 abbrev pub segment_cmp : Segment → Segment → Ordering
 segment_cmp s t = (contracts.SegmentOrd.TheImpl.cmp-value).it s t
@@ -57,7 +56,6 @@ segment_added old new k is s = sym (segments_at new s) ∙ is s ∙ ap₂ (λ a 
     bits true false = refl
     bits false true = refl
     bits false false = refl
-
 
 pub segment_removed : (old new : List Segment) (k : Segment) → ((q : Segment) → list_any (is_at (segment_cmp q)) new ≡ cond (is_at (segment_cmp k) q) false (list_any (is_at (segment_cmp q)) old))
     → (s : Segment) → has_segment new s ≡ (has_segment old s && not (segment_eq k s))
@@ -133,16 +131,16 @@ adds_push P xs ys t is here one = subst (Adds P xs) (sym is) (record {
 pub adds_more : (P Q R : Segment → Type 0) (xs ys zs : List Segment) → Adds P xs ys → Adds Q ys zs → ((s : Segment) → P s → R s) → ((s : Segment) → Q s → R s) → ((s : Segment) → R s → P s ⊎ Q s) → Adds R xs zs
 adds_more P Q R xs ys zs a b f g h = record {
   sound = λ s e. elim (b.sound s e) [
-    | inl mid ↦ elim (a.sound s mid) [ | inl old ↦ inl old | inr p ↦ inr (f s p) ]
+    | inl mid ↦ elim (a.sound s mid) [ inl old ↦ inl old | inr p ↦ inr (f s p) ]
     | inr q ↦ inr (g s q)
   ];
   kept = λ s e. b.kept s (a.kept s e);
-  complete = λ s r. elim (h s r) [ | inl p ↦ b.kept s (a.complete s p) | inr q ↦ b.complete s q ];
+  complete = λ s r. elim (h s r) [ inl p ↦ b.kept s (a.complete s p) | inr q ↦ b.complete s q ];
 }
 
 pub adds_same : (P R : Segment → Type 0) (xs ys : List Segment) → Adds P xs ys → ((s : Segment) → P s → R s) → ((s : Segment) → R s → P s) → Adds R xs ys
 adds_same P R xs ys a f g = record {
-  sound = λ s e. elim (a.sound s e) [ | inl old ↦ inl old | inr p ↦ inr (f s p) ];
+  sound = λ s e. elim (a.sound s e) [ inl old ↦ inl old | inr p ↦ inr (f s p) ];
   kept = a.kept;
   complete = λ s r. a.complete s (g s r);
 }
@@ -160,11 +158,13 @@ on_parts l order key h s e =
     let a = both_true _ _ e in
     let b = both_true _ _ a.1 in
     let c = both_true _ _ b.0 in
-    let d = both_true _ _ c.0 in
-    (is_below s.column l.columns d.1, record {
-      listed = d.0;
-      on = record { key_is = sym (key_true key s.key a.0); column_is = refl; arm_is = refl; row = is_below s.row h.stripes c.1; lies = found (leaf_at l order s.arm (h.first + s.row)) b.1 };
-    })
+    let d = both_true _ _ c.0 in (
+      is_below s.column l.columns d.1,
+      record {
+        listed = d.0;
+        on = record { key_is = sym (key_true key s.key a.0); column_is = refl; arm_is = refl; row = is_below s.row h.stripes c.1; lies = found (leaf_at l order s.arm (h.first + s.row)) b.1 };
+      },
+    )
   where
     found : (o : Option ℕ) → passes o (λ m. m == s.leaf) ≡ true → o ≡ Some s.leaf
     found None v = absurd (true≢false (sym v))

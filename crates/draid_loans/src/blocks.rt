@@ -101,11 +101,17 @@ fn add_column(
     ensures { OnOk result (Adds (OnColumn (site_layout site.now) (core_of tables.now).order part.key part.held part.column) out.old.items out.new.items) }
 {
     let slot = slot_of(site, part.held.first, part.column);
-    add_names(site, tables, part, names_of(&tables.order, slot as usize), out)
+    add_names(
+        site,
+        tables,
+        part,
+        names_of(&tables.order, slot as usize),
+        out,
+    )
 }
 
 /// The segments of a block on the arms of its slots.
-pub(crate) fn block_segments(
+pub fn block_segments(
     alloc: Global,
     site: &Site,
     tables: &Tables,

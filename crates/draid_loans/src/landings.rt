@@ -16,7 +16,7 @@ use draid_world::tables::find;
 use draid_world::{Lent, Site, Tables, World, WorldPass};
 
 /// The block of a loan of a pass of this kind that counts under these numbers.
-pub(crate) fn landing(world: &World, kind: PassKind, pass: u64, serial: u64) -> Option<Held>
+pub fn landing(world: &World, kind: PassKind, pass: u64, serial: u64) -> Option<Held>
     ensures some { IfSome result (λ h. Lands (state_of world.now) kind pass serial h) }
     ensures none { IfNone result ((h : Held) → Lands (state_of world.now) kind pass serial h → ⊥) }
 {
@@ -69,13 +69,7 @@ fn keeps(site: &Site, tables: &Tables, name: ArmName, stripe: u64, leaf: u64) ->
 }
 
 /// Whether a target that has a column of a stripe answers from a leaf.
-fn mends_there(
-    site: &Site,
-    tables: &Tables,
-    pass: &WorldPass,
-    stripe: u64,
-    leaf: u64,
-) -> bool
+fn mends_there(site: &Site, tables: &Tables, pass: &WorldPass, stripe: u64, leaf: u64) -> bool
     requires layout { IsLayout site.now.geometry site.now.perms }
     requires metaslab { site.now.metaslab < site.now.geometry.props.metaslabs }
     requires stripe { stripe < 2 ^ 48 }

@@ -12,5 +12,10 @@ mod segments;
 mod sources;
 mod stripes;
 
-pub use lending::lend;
+pub use blocks::block_segments;
+pub use failing::any_answers;
+pub use landings::landing;
+pub use lending::{capped, lend};
+pub use mending::kept;
+pub use segments::{drop_all, put_all};
 pub use stripes::land_stripe;

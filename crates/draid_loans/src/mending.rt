@@ -205,7 +205,7 @@ fn misses(site: &Site, tables: &Tables, failed: &[u64], name: ArmName, stripe: u
 }
 
 /// The arms of a list that don't miss a stripe.
-pub(crate) fn kept(
+pub fn kept(
     alloc: Global,
     site: &Site,
     tables: &Tables,

@@ -7,7 +7,7 @@ use draid_names::NoMemory;
 use std::collections::BTreeSet;
 
 /// Whether a set has a segment.
-pub(crate) fn has(set: &BTreeSet<Segment>, segment: Segment) -> bool
+pub fn has(set: &BTreeSet<Segment>, segment: Segment) -> bool
     ensures { result ≡ has_segment set.now.keys segment }
 {
     set.contains(&segment)
@@ -22,7 +22,7 @@ fn put(set: &mut BTreeSet<Segment>, segment: Segment) -> Result<(), NoMemory>
 }
 
 /// Some segments join a set.
-pub(crate) fn put_all(set: &mut BTreeSet<Segment>, segments: &[Segment]) -> Result<(), NoMemory>
+pub fn put_all(set: &mut BTreeSet<Segment>, segments: &[Segment]) -> Result<(), NoMemory>
     ensures { OnOk result ((s : Segment) → has_segment set.new.keys s ≡ (has_segment set.old.keys s || has_segment segments.now s)) }
 {
     for at in 0..segments.len() {
@@ -39,7 +39,7 @@ fn drop(set: &mut BTreeSet<Segment>, segment: Segment)
 }
 
 /// Some segments leave a set.
-pub(crate) fn drop_all(set: &mut BTreeSet<Segment>, segments: &[Segment])
+pub fn drop_all(set: &mut BTreeSet<Segment>, segments: &[Segment])
     ensures { (s : Segment) → has_segment set.new.keys s ≡ (has_segment set.old.keys s && not (has_segment segments.now s)) }
 {
     for at in 0..segments.len() {

@@ -133,13 +133,6 @@ pub fn land_stripe(
         return Ok(true);
     }
     mend_segments(alloc, site, world, &found, &loan, held, failed)?;
-    world.tables.pass = Some(pass_after(
-        alloc,
-        site,
-        world,
-        found,
-        loan.stripe,
-        failed,
-    )?);
+    world.tables.pass = Some(pass_after(alloc, site, world, found, loan.stripe, failed)?);
     Ok(true)
 }

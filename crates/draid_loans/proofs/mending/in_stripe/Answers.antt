@@ -1,4 +1,4 @@
-use Rattle.std.proofs.Common.{◌+◌, ◌<◌, ◌∙◌, not, ap, sym, refl, subst, get_or, length, rules, Vec, Global}
+use Rattle.std.proofs.Common.{◌+◌, ◌<◌, ◌∙◌, sym, refl, subst, get_or, length, rules, Vec, Global}
 use Rattle.draid_machine.specs.declared.names.Segment.{Segment}
 use Rattle.draid_loans.specs.Mending.{is_in_stripe}
 use Rattle.draid_world.specs.World.{core_of, site_layout}
