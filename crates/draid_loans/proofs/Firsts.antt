@@ -1,10 +1,10 @@
 -- The first of a list, and logs that are empty.
-use Rattle.std.proofs.Common.{◌≡◌, ◌==◌, ◌+◌, ◌<◌, ◌≤◌, ◌⊎◌, ℕ, true, false, List, [], ◌∷◌, Option, Some, None, drop, get_or, length, refl, sym, ◌∙◌, ap, subst, inl, inr, arith}
+use Rattle.std.proofs.Common.{◌≡◌, ◌==◌, ◌+◌, ◌<◌, ℕ, true, false, List, [], ◌∷◌, Option, Some, None, drop, length, refl, sym, ◌∙◌, ap, inl, inr, arith}
 use Rattle.std.proofs.lemmas.Bool.{true≢false}
 use Rattle.std.proofs.lemmas.Bool.Decides.{nat_tests}
 use Rattle.draid_ranges.specs.declared.run.Run.{Run}
 use Rattle.draid_ranges.specs.Numbers.{AreRuns, Numbers, has}
-use Rattle.draid_ranges.specs.Runs.{AreApart, has_in, is_between}
+use Rattle.draid_ranges.specs.Runs.{has_in, is_between}
 use Rattle.draid_machine.specs.declared.names.ArmName.{ArmName}
 use Rattle.draid_machine.specs.Arms.{IsFirst}
 use Rattle.draid_machine.proofs.Small.{is_equal, true_left}
@@ -47,6 +47,6 @@ one_first P (m ∷ ms) (Some n) None x y = elim x [
   | inr z ↦ one_first P ms (Some n) None z.1 y.1
 ]
 one_first P (m ∷ ms) (Some n) (Some o) x y = elim x [
-  | inl z ↦ elim y [ | inl v ↦ ap Some (z.1 ∙ sym v.1) | inr v ↦ absurd (v.0 z.0) ]
-  | inr z ↦ elim y [ | inl v ↦ absurd (z.0 v.0) | inr v ↦ one_first P ms (Some n) (Some o) z.1 v.1 ]
+  | inl z ↦ elim y [ inl v ↦ ap Some (z.1 ∙ sym v.1) | inr v ↦ absurd (v.0 z.0) ]
+  | inr z ↦ elim y [ inl v ↦ absurd (z.0 v.0) | inr v ↦ one_first P ms (Some n) (Some o) z.1 v.1 ]
 ]

@@ -1,5 +1,5 @@
 -- Loans and their readings.
-use Rattle.std.proofs.Common.{◌≡◌, ◌+◌, ◌<◌, ◌≤◌, ◌&&◌, ◌++◌, not, ℕ, zero, suc, Bool, true, false, List, [], ◌∷◌, Option, Some, None, Result, Ok, Err, IfOk, Vec, Global, filter, length, option_map, if◌then◌else◌, refl, sym, ◌∙◌, ap, subst, inl, inr, arith, length-append}
+use Rattle.std.proofs.Common.{◌≡◌, ◌+◌, ◌<◌, ◌≤◌, ◌&&◌, ◌++◌, not, ℕ, zero, suc, true, List, [], ◌∷◌, Option, Some, None, Result, Ok, Err, IfOk, Vec, Global, filter, get_or, length, option_map, if◌then◌else◌, refl, sym, ◌∙◌, ap, subst, inl, inr, arith, length-append}
 use Rattle.std.proofs.lemmas.Bool.{cases_eq, cases_order}
 use Rattle.draid_machine.specs.declared.names.Key.{Key}
 use Rattle.draid_machine.specs.declared.names.ArmName.{ArmName}
@@ -7,7 +7,7 @@ use Rattle.draid_machine.specs.declared.names.Held.{Held}
 use Rattle.draid_machine.specs.Names.{is_heal, takes}
 use Rattle.draid_machine.specs.State.{Layout, Core, Pass, Loan, State}
 use Rattle.draid_machine.specs.Arms.{answers, fails}
-use Rattle.draid_machine.specs.Step.{IsChosen, IsNext, LendStep, arms_read, is_lent, to_list}
+use Rattle.draid_machine.specs.Step.{IsChosen, IsNext, LendStep, arms_read, to_list}
 use Rattle.draid_passes.specs.Left.{IsFirstLeft, NothingLeft}
 use Rattle.draid_machine.specs.After.{capped, lend_errors}
 use Rattle.draid_machine.proofs.Small.{some_injective}
@@ -52,6 +52,11 @@ pub name_past : (os : List (Option ArmName)) (c : ℕ) → length os ≤ c → n
 name_past [] c past = refl
 name_past (o ∷ os) zero past = absurd (omega (arith, past))
 name_past (o ∷ os) (suc c) past = name_past os c (omega (arith, past))
+
+pub name_in : (os : List (Option ArmName)) (c : ℕ) (o : Option ArmName) → c < length os → o ≡ get_or os c o → o ≡ name_at os c
+name_in [] c o less is = absurd (omega (arith, less))
+name_in (p ∷ os) zero o less is = is
+name_in (p ∷ os) (suc c) o less is = name_in os c o (omega (arith, less)) is
 
 -- one more column
 pub readings_more : (l : Layout) (q : Core) (p : Pass) (h : Held) (x : ℕ) (failed : List ℕ) (n : ℕ) (read : List (Vec ArmName Global)) (chosen : List (Option ArmName)) (v : Vec ArmName Global) (o : Option ArmName)

@@ -32,13 +32,7 @@ pub(crate) fn lies_at(site: &Site, tables: &Tables, name: ArmName, stripe: u64, 
 }
 
 /// Whether some arm of a list answers at a stripe from a leaf.
-pub(crate) fn any_answers(
-    site: &Site,
-    tables: &Tables,
-    names: &[ArmName],
-    stripe: u64,
-    leaf: u64,
-) -> bool
+pub fn any_answers(site: &Site, tables: &Tables, names: &[ArmName], stripe: u64, leaf: u64) -> bool
     requires layout { IsLayout site.now.geometry site.now.perms }
     requires metaslab { site.now.metaslab < site.now.geometry.props.metaslabs }
     requires stripe { stripe < 2 ^ 48 }

@@ -15,7 +15,7 @@ use draid_world::{Lent, Site, World, WorldPass};
 use std::alloc::Global;
 
 /// Errors and some more, which stand still at their last number.
-pub(crate) fn capped(errors: u64, more: u64) -> u64
+pub fn capped(errors: u64, more: u64) -> u64
     ensures { result ≡ after.capped (errors + more) }
 {
     errors.saturating_add(more).min((1 << 48) - 1)
@@ -68,12 +68,7 @@ fn next_loan(
 }
 
 /// Lends the next stripe, or the next block, of the pass, where that is legal.
-pub fn lend(
-    alloc: Global,
-    site: &Site,
-    world: &mut World,
-    failed: &[u64],
-) -> Result<bool, NoMemory>
+pub fn lend(alloc: Global, site: &Site, world: &mut World, failed: &[u64]) -> Result<bool, NoMemory>
     requires layout { IsLayout site.now.geometry site.now.perms }
     requires metaslab { site.now.metaslab < site.now.geometry.props.metaslabs }
     requires short { AreShort (held_in world.old.tables.held.entries) }

@@ -1,11 +1,11 @@
 -- Arms that are changed in their map.
-use Rattle.std.proofs.Common.{◌≡◌, ◌||◌, ◌∷◌, ◌+◌, ◌<◌, ℕ, Bool, true, false, List, Option, Some, None, option_map, ◌++◌, [], take, get_or, length, cond, is_some, if◌then◌else◌, refl, sym, ◌∙◌, ap, subst}
+use Rattle.std.proofs.Common.{◌≡◌, ◌||◌, ◌∷◌, ◌+◌, ◌<◌, ℕ, Bool, true, false, List, Option, Some, None, [], take, get_or, length, cond, if◌then◌else◌, refl, sym, ◌∙◌, ap}
 use Rattle.draid_machine.specs.contracts.names as contracts
 use Rattle.std.proofs.lemmas.List.{take_more}
 use Rattle.std.specs.Map.{lookup}
 use Rattle.std.specs.BTreeMap.{is_at}
 use Rattle.draid_machine.specs.declared.names.ArmName.{ArmName}
-use Rattle.draid_machine.specs.After.{map_arm, set_arm}
+use Rattle.draid_machine.specs.After.{map_arm}
 use Rattle.draid_machine.specs.Names.{name_eq, has_name}
 use Rattle.draid_machine.specs.State as state
 use Rattle.draid_machine.proofs.Small.{has_append, name_true}

@@ -1,19 +1,18 @@
 -- The end of a pass.
-use Rattle.std.proofs.Common.{◌≡◌, ◌==◌, ◌+◌, ◌<◌, ◌&&◌, ◌||◌, not, ℕ, Bool, true, false, nat_le, List, [], ◌∷◌, Option, Some, None, IfSome, BTreeMap, is_some, option_map, filter, count_by, cond, if◌then◌else◌, refl, sym, ◌∙◌, ap, ap₂, subst, arith}
+use Rattle.std.proofs.Common.{◌≡◌, ◌==◌, ◌+◌, ◌&&◌, not, ℕ, Bool, true, false, nat_le, List, [], ◌∷◌, Option, Some, None, IfSome, BTreeMap, is_some, option_map, filter, count_by, cond, refl, sym, ◌∙◌, ap, ap₂, subst, arith}
 use Rattle.std.proofs.lemmas.Bool.{true≢false}
-use Rattle.std.proofs.lemmas.Bool.Decides.{nat_tests}
 use Rattle.std.proofs.lemmas.List.Sums.{sum_by-cons}
 use Rattle.draid_names.specs.declared.pass_kind.PassKind.{PassKind}
 use Rattle.draid_names.specs.declared.pass_kind.PassKind.TheVariants.{Rebuild, Heal}
 use Rattle.draid_machine.specs.declared.names.ArmName.{ArmName}
-use Rattle.draid_machine.specs.Names.{has_name, name_eq}
+use Rattle.draid_machine.specs.Names.{has_name}
 use Rattle.draid_machine.specs.State.{Layout, Arm, Core, Pass}
-use Rattle.draid_machine.specs.After.{capped, ended_pass, excise_if, map_arm}
+use Rattle.draid_machine.specs.After.{ended_pass, excise_if, map_arm}
 use Rattle.draid_machine.specs.Arms.{is_silent, lies_on}
 use Rattle.draid_machine.specs.declared.names.Key.{Key}
 use Rattle.draid_machine.specs.declared.names.Held.{Held}
 use Rattle.draid_machine.specs.Step.{DoneStep}
-use Rattle.draid_machine.proofs.Small.{no_more_errors, is_equal, none_some, some_injective}
+use Rattle.draid_machine.proofs.Small.{no_more_errors, is_equal, some_injective}
 use Rattle.draid_world.specs.declared.world.Arm.{Arm as Stored}
 use Rattle.draid_world.specs.declared.world.World.{World}
 use Rattle.draid_world.specs.declared.world.WorldPass.{WorldPass}
@@ -85,7 +84,7 @@ pass_same o pass p is e = some_injective p (pass_of pass) (sym e ∙ ap (option_
 -- the end of a pass whose arms are changed as it says
 pub done_made : (l : Layout) (w : World) (pass : WorldPass) (failed : List ℕ) (arms : BTreeMap ArmName Stored) → w.tables.pass ≡ Some pass → MayEnd l (state_of w) failed
     → (let p = ended_pass l (core_of w.tables) (pass_of pass) failed in
-        (n : ArmName) → arm_in arms.entries n ≡ map_arm (excise_if ((p.errors == 0) && has_name p.targets n) p.max) (arm_in w.tables.arms.entries n))
+    (n : ArmName) → arm_in arms.entries n ≡ map_arm (excise_if ((p.errors == 0) && has_name p.targets n) p.max) (arm_in w.tables.arms.entries n))
     → DoneStep l (state_of w) failed (state_of (record w { tables = record w.tables { arms = arms; pass = None } }))
 done_made l w pass failed arms is may same =
     let at = pass_same w.tables.pass pass may.p is may.pass in

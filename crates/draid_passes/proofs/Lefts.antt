@@ -1,7 +1,6 @@
 -- What a pass has left to lend.
-use Rattle.std.proofs.Common.{◌≡◌, ◌+◌, ◌<◌, ◌≤◌, ◌⊎◌, ◌&&◌, ℕ, Bool, true, false, nat_lt, min, max, List, [], Option, Some, None, IfSome, IfNone, if◌then◌else◌, refl, sym, ◌∙◌, ap, subst, inl, inr, arith}
-use Rattle.std.proofs.lemmas.Bool.{true≢false, cases_lt}
-use Rattle.std.proofs.lemmas.Bool.Decides.{nat_tests}
+use Rattle.std.proofs.Common.{◌≡◌, ◌+◌, ◌<◌, ◌≤◌, ◌⊎◌, ◌&&◌, ℕ, Bool, true, false, nat_lt, min, max, List, [], Option, Some, None, IfSome, IfNone, if◌then◌else◌, refl, sym, ◌∙◌, ap, inl, inr, arith}
+use Rattle.std.proofs.lemmas.Bool.{cases_lt}
 use Rattle.draid_machine.specs.declared.names.Key.{Key}
 use Rattle.draid_machine.specs.declared.names.Held.{Held}
 use Rattle.draid_machine.specs.Names.{takes}
@@ -84,13 +83,15 @@ left_is p h b e = by (is_lent p h && nat_lt (max h.first p.next) (h.first + h.st
     by false is some = absurd (none_some None b refl some)
 
 pub least_lower : (held : Key → Option Held) (p : Pass) (first : Option ℕ) (k : Key) (h : Held) → held k ≡ Some h → IsLeast held p first → IsLeast held p (lower_of first (left_of p h))
-least_lower held p first k h found least = record { attains = λ b e. elim (lower_one first (left_of p h) b e) [
-  | inl old ↦ least.attains b old
-  | inr new ↦ (let z = left_is p h b new in
-      let at = z.1 in
-      let to = z.2 in
-      record { key = k; h = h; found = found; lent = z.0; taken = in_taken h b (omega (arith, at)) to; from = omega (arith, at) })
-] }
+least_lower held p first k h found least = record {
+  attains = λ b e. elim (lower_one first (left_of p h) b e) [
+    | inl old ↦ least.attains b old
+    | inr new ↦ (let z = left_is p h b new in
+        let at = z.1 in
+        let to = z.2 in
+        record { key = k; h = h; found = found; lent = z.0; taken = in_taken h b (omega (arith, at)) to; from = omega (arith, at) })
+  ];
+}
 
 pub if_some : {A : Type 0} (o : Option A) (P : A → Type 0) → ((a : A) → o ≡ Some a → P a) → IfSome o P
 if_some None P f = tt

@@ -21,11 +21,7 @@ fn fill(arm: &mut Arm, last: u64) -> Result<(), NoMemory>
 }
 
 /// Fills the log of an arm, if there is one of that name.
-fn fill_at(
-    arms: &mut BTreeMap<ArmName, Arm>,
-    name: ArmName,
-    last: u64,
-) -> Result<(), NoMemory>
+fn fill_at(arms: &mut BTreeMap<ArmName, Arm>, name: ArmName, last: u64) -> Result<(), NoMemory>
     requires last { last < 2 ^ 48 }
     ensures { OnOk result ((n : ArmName) → arm_in arms.new.entries n ≡ changed_at (name_eq name n) (after.fill_if true last) (arm_in arms.old.entries n)) }
 {

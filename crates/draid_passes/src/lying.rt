@@ -17,7 +17,10 @@ pub fn has_column(site: &Site, tables: &Tables, name: ArmName, stripe: u64) -> b
     ensures { result ≡ arms.has_column (site_layout site.now) (core_of tables.now) name stripe }
 {
     for column in 0..site.geometry.g {
-        if is_among(names_of(&tables.order, slot_of(site, stripe, column) as usize), name) {
+        if is_among(
+            names_of(&tables.order, slot_of(site, stripe, column) as usize),
+            name,
+        ) {
             return true;
         }
     }
@@ -42,13 +45,7 @@ pub fn is_silent(tables: &Tables, failed: &[u64], leaf: u64) -> bool
 }
 
 /// Whether an arm keeps a sector of its columns in a stripe on a silent leaf.
-fn keeps_silent(
-    site: &Site,
-    tables: &Tables,
-    failed: &[u64],
-    name: ArmName,
-    stripe: u64,
-) -> bool
+fn keeps_silent(site: &Site, tables: &Tables, failed: &[u64], name: ArmName, stripe: u64) -> bool
     requires layout { IsLayout site.now.geometry site.now.perms }
     requires metaslab { site.now.metaslab < site.now.geometry.props.metaslabs }
     requires stripe { stripe < 2 ^ 48 }

@@ -63,12 +63,7 @@ fn plan_heal(alloc: Global, site: &Site, world: &mut World) -> Result<bool, NoMe
 }
 
 /// Plans a pass of a kind, where that is legal.
-pub fn plan(
-    alloc: Global,
-    site: &Site,
-    world: &mut World,
-    kind: PassKind,
-) -> Result<bool, NoMemory>
+pub fn plan(alloc: Global, site: &Site, world: &mut World, kind: PassKind) -> Result<bool, NoMemory>
     requires layout { IsLayout site.now.geometry site.now.perms }
     requires metaslab { site.now.metaslab < site.now.geometry.props.metaslabs }
     ensures legal { result ≡ Ok true → PlanStep (site_layout site.now) (state_of world.old) kind (state_of world.new) }

@@ -1,4 +1,4 @@
-use Rattle.std.proofs.Common.{◌≡◌, ◌<◌, ◌∙◌, Some, true, false, get_or, length, rules, sym, subst, inl, inr}
+use Rattle.std.proofs.Common.{◌≡◌, ◌<◌, Some, get_or, length, rules, sym, subst, inl, inr}
 use Rattle.draid_machine.specs.declared.names.ArmName.TheVariants.{Leaf}
 use Rattle.draid_machine.specs.Arms.{leaf_at}
 use Rattle.draid_passes.proofs.Lists.{name_here, name_next}

@@ -1,4 +1,3 @@
-use Rattle.draid_passes.proofs.Lefts.{if_none}
 use Rattle.draid_passes.proofs.Walks.{walked_all, walked_here, walked_more}
 use Rattle.draid_loans.proofs.failing.lendable.Goals as goal
 

@@ -1,4 +1,4 @@
-use Rattle.std.proofs.Common.{◌≡◌, ◌∙◌, Some, None, false, sym, subst}
+use Rattle.std.proofs.Common.{◌≡◌, ◌∙◌, Some, false, sym, subst}
 use Rattle.draid_machine.specs.Arms.{leaf_at}
 use Rattle.draid_machine.specs.Names.{is_heal}
 use Rattle.draid_machine.proofs.Small.{none_some, some_injective}

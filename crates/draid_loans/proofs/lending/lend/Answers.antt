@@ -13,7 +13,7 @@ returns-in_default-clause-illegal c = λ e new step.
     let w = state_of c.args.world.now in
     let failed = c.args.failed.now in
     let none : (n : Loan) → IsLoan l w failed n → ⊥ =
-        subst (λ (o : Option Lent). MatchOption o ((n : Loan) → IsLoan l w failed n → ⊥) (λ n. IsLoan l w failed (loan_of n))) c.in_default.is c.in_ok-loan.ensures in
+    subst (λ (o : Option Lent). MatchOption o ((n : Loan) → IsLoan l w failed n → ⊥) (λ n. IsLoan l w failed (loan_of n))) c.in_default.is c.in_ok-loan.ensures in
     none step.n (step_loan l w failed new step)
 
 pub returns-clause-legal : goal.returns-clause-legal
@@ -23,5 +23,5 @@ returns-clause-legal c = λ e.
     let failed = c.args.failed.now in
     let pass = c.in-Some-take.pass in
     let loan : IsLoan l (state_of w) failed (loan_of c.in-Some.loan) =
-        subst (λ (o : Option Lent). MatchOption o ((n : Loan) → IsLoan l (state_of w) failed n → ⊥) (λ n. IsLoan l (state_of w) failed (loan_of n))) c.in-Some.is c.in_ok-loan.ensures in
+    subst (λ (o : Option Lent). MatchOption o ((n : Loan) → IsLoan l (state_of w) failed n → ⊥) (λ n. IsLoan l (state_of w) failed (loan_of n))) c.in-Some.is c.in_ok-loan.ensures in
     lend_made l w pass c.in-Some.loan failed c.capped.result (sym c.take.ensures.value ∙ c.in-Some-take.is) loan (c.capped.ensures ∙ ap (λ n. capped (pass.errors + n)) c.lend_errors.ensures)

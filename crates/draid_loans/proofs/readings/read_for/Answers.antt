@@ -1,4 +1,4 @@
-use Rattle.std.proofs.Common.{◌≡◌, ◌∙◌, true, ap, sym, rules}
+use Rattle.std.proofs.Common.{◌≡◌, ◌∙◌, true, ap, sym}
 use Rattle.draid_machine.specs.Names.{is_heal}
 use Rattle.draid_world.specs.World.{core_of, names_at, pass_of, site_layout}
 use Rattle.draid_loans.proofs.Loaned.{arms_heal, ok_map}

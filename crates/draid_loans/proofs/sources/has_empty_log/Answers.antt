@@ -1,5 +1,4 @@
-use Rattle.std.proofs.Common.{◌≡◌, ◌∙◌, ap, sym, Some, None, option_copied, true, false}
-use Rattle.draid_ranges.specs.Numbers.{has}
+use Rattle.std.proofs.Common.{◌∙◌, ap, sym, Some, None, option_copied}
 use Rattle.draid_machine.specs.Arms.{logged}
 use Rattle.draid_machine.proofs.Small.{absurd_test}
 use Rattle.draid_world.specs.World.{arm_in}

@@ -1,4 +1,4 @@
-use Rattle.std.proofs.Common.{◌≡◌, ◌<◌, ◌≤◌, true, false, get_or, length, rules, inl, inr, arith, subst, sym}
+use Rattle.std.proofs.Common.{◌≡◌, ◌<◌, ◌≤◌, false, get_or, length, rules, arith, subst}
 use Rattle.draid_machine.specs.Step.{FlushesThere}
 use Rattle.draid_world.specs.World.{core_of, pass_of, site_layout}
 use Rattle.draid_passes.proofs.Lists.{number_at, number_here}

@@ -1,4 +1,4 @@
-use Rattle.std.proofs.Common.{◌≡◌, ◌==◌, ◌∙◌, ◌&&◌, ap, sym, refl, subst, false, true, Option, None}
+use Rattle.std.proofs.Common.{◌≡◌, ◌==◌, ◌∙◌, ◌&&◌, ap, sym, refl, subst, false, true, Option}
 use Rattle.draid_machine.specs.Names.{has_name}
 use Rattle.draid_machine.specs.Step.{DoneStep}
 use Rattle.draid_machine.specs.After.{ended_pass, excise_if, map_arm}

@@ -1,4 +1,4 @@
-use Rattle.std.proofs.Common.{◌≡◌, ◌∙◌, sym, subst, true}
+use Rattle.std.proofs.Common.{◌∙◌, sym, subst}
 use Rattle.draid_machine.specs.State.{Pass}
 use Rattle.draid_world.specs.World.{held_in, pass_of}
 use Rattle.draid_passes.specs.Left.{NothingLeft}

@@ -1,6 +1,6 @@
 use Rattle.std.proofs.Common.{◌≡◌, ◌∙◌, ap, sym, subst}
 use Rattle.draid_world.specs.World.{held_in, pass_of}
-use Rattle.draid_passes.specs.Left.{IsFirstLeft, NothingLeft, left_of, lower_of}
+use Rattle.draid_passes.specs.Left.{left_of, lower_of}
 use Rattle.draid_passes.proofs.Lefts.{Covers, IsLeast, least_none, least_lower, covers_lower, covers_new, if_some, if_none, first_after, nothing_after}
 use Rattle.draid_passes.proofs.Walks.{Walked, walked_none, walked_more, walked_weaker, walked_here}
 use Rattle.draid_passes.proofs.left.next_stripe.Goals as goal

@@ -1,4 +1,4 @@
-use Rattle.std.proofs.Common.{true, sym, ◌∙◌, ap, subst, refl, is_some, ◌≡◌, Some, IsSome}
+use Rattle.std.proofs.Common.{true, sym, ap, subst, is_some, ◌≡◌}
 use Rattle.draid_machine.specs.After.{excise_if}
 use Rattle.draid_world.specs.World.{arm_in}
 use Rattle.draid_passes.specs.Logs.{changed_at}

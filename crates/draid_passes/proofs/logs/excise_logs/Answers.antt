@@ -1,4 +1,4 @@
-use Rattle.std.proofs.Common.{◌<◌, true, ◌∙◌, ap, sym, refl, take, get_or, length, rules}
+use Rattle.std.proofs.Common.{◌<◌, true, ◌∙◌, ap, sym, take, get_or, length, rules}
 use Rattle.draid_machine.specs.declared.names.ArmName.TheVariants.{Leaf}
 use Rattle.draid_machine.specs.After.{excise_if, map_arm}
 use Rattle.draid_machine.specs.Names.{has_name, name_eq}

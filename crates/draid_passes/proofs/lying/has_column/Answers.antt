@@ -1,4 +1,4 @@
-use Rattle.std.proofs.Common.{◌∙◌, ap, sym, rules}
+use Rattle.std.proofs.Common.{◌∙◌, ap, sym}
 use Rattle.draid_machine.specs.Names.{has_name}
 use Rattle.draid_machine.proofs.Small.{any_at}
 use Rattle.draid_world.specs.World.{core_of, names_at, site_layout}

@@ -1,5 +1,4 @@
-use Rattle.std.proofs.Common.{◌≡◌, ◌≤◌, true, false, not, sym, ◌∙◌, rules, arith}
-use Rattle.draid_machine.specs.declared.names.Held.{Held}
+use Rattle.std.proofs.Common.{◌≡◌, ◌≤◌, true, sym, ◌∙◌, arith}
 use Rattle.draid_machine.specs.Names.{is_block}
 use Rattle.draid_machine.proofs.Small.{absurd_test}
 use Rattle.draid_passes.proofs.Walks.{walked_none, walked_more, walked_all, walked_here}
