@@ -1,5 +1,5 @@
 -- Tests over the entries of the table of blocks and tickets, and over leaves.
-use Rattle.std.proofs.Common.{◌≡◌, ◌==◌, ◌<◌, nat_le, arith, ◌&&◌, ◌||◌, not, ℕ, Bool, true, false, List, [], ◌∷◌, Option, Some, None, is_some, filter, cond, if◌then◌else◌, refl, sym, ◌∙◌, ap, subst}
+use Rattle.std.proofs.Common.{◌≡◌, ◌==◌, ◌<◌, nat_le, arith, ◌&&◌, ◌||◌, not, ℕ, Bool, true, false, List, [], ◌∷◌, Option, Some, None, is_some, filter, cond, if◌then◌else◌, refl, sym, ◌∙◌, ap}
 use Rattle.std.specs.List.{list_any}
 use Rattle.std.specs.Map.{keys_of}
 use Rattle.std.proofs.lemmas.Bool.{true≢false}
@@ -13,11 +13,10 @@ use Rattle.draid_machine.specs.Step.{HasWritten}
 use Rattle.draid_images.specs.Seals.{is_early, is_written}
 use Rattle.draid_machine.specs.Arms.{online}
 use Rattle.draid_machine.specs.After.{map_arm, log_if}
-use Rattle.draid_machine.proofs.Small.{both_true, true_both, equal, is_equal, some_injective, key_true, key_refl, name_true, not_true}
+use Rattle.draid_machine.proofs.Small.{both_true, true_both, equal, is_equal, some_injective, key_refl, name_true, not_true}
 use Rattle.draid_world.specs.World.{held_in, arm_in, arm_of}
 use Rattle.draid_world.specs.declared.world.Arm.{Arm}
 use Rattle.draid_steps.proofs.Entries.{AreApart}
-use Rattle.draid_steps.proofs.Logs.{map_none}
 
 pub any_held : (p : Held → Bool) (es : List (Key × Held)) → AreApart es → list_any (λ e. p e.1) es ≡ true → (k : Key) × (h : Held) × (held_in es k ≡ Some h) × (p h ≡ true)
 any_held p [] apart any = absurd (true≢false (sym any))

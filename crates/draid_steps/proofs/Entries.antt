@@ -1,8 +1,8 @@
 -- Entries of the table of blocks and tickets: keys stand once.
-use Rattle.std.proofs.Common.{◌≡◌, ◌<◌, ◌≤◌, ◌^◌, ◌||◌, ℕ, Bool, true, false, List, [], ◌∷◌, length, Option, Some, None, Contains, get_or, cond, if◌then◌else◌, refl, sym, ◌∙◌, ap, subst, arith, Ordering, zero, suc}
+use Rattle.std.proofs.Common.{◌≡◌, ◌<◌, ◌≤◌, ◌^◌, ◌||◌, ℕ, Bool, true, false, List, [], ◌∷◌, length, Some, None, Contains, if◌then◌else◌, refl, sym, ◌∙◌, ap, subst, arith, zero, suc}
 use Rattle.std.specs.Ordering.{eq_by_cmp}
 use Rattle.std.specs.Map.{keys_of}
-use Rattle.std.specs.List.{IsDistinct, AllByRecursion, list_any}
+use Rattle.std.specs.List.{IsDistinct, AllByRecursion}
 use Rattle.std.specs.List.Sorted.{IsStrictlySortedBy}
 use Rattle.std.specs.Set.{is_member}
 use Rattle.std.specs.Cmp.{IsEquivalence}

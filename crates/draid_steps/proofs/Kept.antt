@@ -18,7 +18,7 @@ use Rattle.draid_machine.specs.declared.names.Segment.{Segment}
 use Rattle.draid_machine.specs.Names.{key_eq, name_eq, segment_eq}
 use Rattle.draid_machine.specs.State as state
 use Rattle.draid_machine.specs.After.{stays, is_freed_block, is_gone_arm}
-use Rattle.draid_machine.proofs.Small.{both_true, key_true, name_true, key_refl, name_refl}
+use Rattle.draid_machine.proofs.Small.{both_true, key_true, name_true}
 use Rattle.draid_world.specs.World.{held_in, arm_in, arm_of}
 use Rattle.draid_world.specs.declared.world.Arm.{Arm}
 use Rattle.draid_steps.proofs.Entries.{AreApart}

@@ -1,12 +1,11 @@
 -- Tests over lists of arms and of leaves.
-use Rattle.std.proofs.Common.{◌≡◌, ◌==◌, ◌&&◌, ◌||◌, not, ℕ, Bool, true, false, List, [], ◌∷◌, Option, Some, None, if◌then◌else◌, refl, sym, ◌∙◌, ap, subst, arith}
+use Rattle.std.proofs.Common.{◌≡◌, ◌==◌, ◌&&◌, ◌||◌, not, ℕ, Bool, true, false, List, [], ◌∷◌, Option, Some, None, if◌then◌else◌, refl, sym, ◌∙◌, ap, subst}
 use Rattle.std.specs.List.{list_all, list_any}
 use Rattle.std.proofs.lemmas.Bool.{true≢false}
-use Rattle.std.proofs.lemmas.Bool.Decides.{nat_tests}
 use Rattle.draid_machine.specs.declared.names.ArmName.{ArmName}
 use Rattle.draid_machine.specs.Names.{name_eq, has_name, has_number}
 use Rattle.draid_machine.specs.Arms.{passes}
-use Rattle.draid_machine.proofs.Small.{name_true, name_refl, both_true, either_true, true_left, true_right, is_equal, equal}
+use Rattle.draid_machine.proofs.Small.{name_true, name_refl, both_true, true_left, true_right, is_equal, equal}
 
 pub all_names : (p : ArmName → Bool) (ns : List ArmName) → list_all p ns ≡ true → (n : ArmName) → has_name ns n ≡ true → p n ≡ true
 all_names p [] all n has = absurd (true≢false (sym has))

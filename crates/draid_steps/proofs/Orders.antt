@@ -1,5 +1,5 @@
 -- Slots, their arms and their logs.
-use Rattle.std.proofs.Common.{◌≡◌, ◌==◌, ◌+◌, ◌++◌, ◌<◌, ◌≤◌, ◌⊎◌, ◌&&◌, ◌||◌, not, ℕ, zero, suc, Bool, true, false, List, [], ◌∷◌, Option, Some, None, option_map, Vec, Global, All, length, get_or, set, max, nat_le, nat_lt, if◌then◌else◌, inl, inr, refl, sym, ◌∙◌, ap, subst, arith}
+use Rattle.std.proofs.Common.{◌≡◌, ◌==◌, ◌+◌, ◌<◌, ◌≤◌, ◌⊎◌, ◌||◌, not, ℕ, zero, suc, Bool, true, false, List, [], ◌∷◌, Some, None, option_map, Vec, Global, length, get_or, set, max, if◌then◌else◌, inl, inr, refl, sym, ◌∙◌, ap, subst, arith}
 use Rattle.std.specs.List.{list_any}
 use Rattle.std.proofs.lemmas.Bool.{true≢false}
 use Rattle.std.proofs.lemmas.Bool.Decides.{nat_tests}
@@ -12,7 +12,7 @@ use Rattle.draid_machine.specs.declared.names.ArmName.TheVariants.{Leaf, Spare}
 use Rattle.draid_machine.specs.declared.names.Held.{Held}
 use Rattle.draid_machine.specs.Names.{key_eq, name_eq, has_name, is_leaf, up_to}
 use Rattle.draid_machine.specs.After.{set_order}
-use Rattle.draid_machine.proofs.Small.{is_equal, name_refl, name_true, key_refl, key_true, some_injective, true_left, true_right, both_true, true_both, not_true, not_false}
+use Rattle.draid_machine.proofs.Small.{is_equal, name_refl, name_true, key_refl, some_injective, true_left, true_right, both_true, not_true, not_false}
 use Rattle.draid_world.specs.World.{arm_of, gone_of, held_in, names_at}
 use Rattle.draid_world.specs.declared.world.Arm.{Arm}
 use Rattle.draid_steps.specs.Slots.{is_other_leaf, IsLeafLeft, fresh_arm, greatest}

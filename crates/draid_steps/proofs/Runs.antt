@@ -6,7 +6,6 @@ use Rattle.draid_names.specs.declared.pass_kind.PassKind.{PassKind}
 use Rattle.draid_names.specs.declared.pass_kind.PassKind.TheVariants.{Rebuild, Heal}
 use Rattle.draid_machine.specs.declared.names.Key.{Key}
 use Rattle.draid_machine.specs.declared.names.Held.{Held}
-use Rattle.draid_machine.specs.Names.{takes}
 use Rattle.draid_machine.specs.State.{Layout, Core}
 use Rattle.draid_machine.specs.Step.{Fits, IsTaken}
 use Rattle.draid_machine.proofs.Small.{both_true, true_both, low, below, is_low, is_below, absurd_test}

@@ -1,20 +1,18 @@
 -- Sets of segments.
-use Rattle.std.proofs.Common.{◌≡◌, ◌==◌, ◌+◌, ◌<◌, ◌≤◌, ◌&&◌, ◌||◌, ℕ, Bool, true, false, List, [], ◌∷◌, Option, Some, None, cond, drop, length, get_or, nat_lt, refl, sym, ◌∙◌, ap, ap₂, subst, arith, Ordering, inl, inr}
+use Rattle.std.proofs.Common.{◌≡◌, ◌==◌, ◌+◌, ◌&&◌, ◌||◌, ℕ, Bool, true, false, List, [], ◌∷◌, Some, cond, refl, sym, ◌∙◌, ap, ap₂, arith, Ordering}
 use Rattle.std.specs.List.{list_any}
 use Rattle.std.specs.BTreeMap.{is_at}
-use Rattle.std.proofs.lemmas.Bool.{true≢false}
 use Rattle.std.proofs.lemmas.Bool.Decides.{nat_tests}
-use Rattle.std.proofs.lemmas.List.{drop_more}
 use Rattle.draid_machine.specs.contracts.names as contracts
 use Rattle.draid_machine.specs.declared.names.Key.{Key}
 use Rattle.draid_machine.specs.declared.names.ArmName.{ArmName}
 use Rattle.draid_machine.specs.declared.names.ArmName.TheVariants.{Leaf, Spare}
 use Rattle.draid_machine.specs.declared.names.Held.{Held}
 use Rattle.draid_machine.specs.declared.names.Segment.{Segment}
-use Rattle.draid_machine.specs.Names.{key_eq, name_eq, has_name, segment_eq, has_segment}
+use Rattle.draid_machine.specs.Names.{key_eq, name_eq, segment_eq, has_segment}
 use Rattle.draid_machine.specs.State.{Layout}
 use Rattle.draid_machine.specs.Arms.{leaf_at, lies, passes}
-use Rattle.draid_steps.specs.Columns.{is_in_row, is_row}
+use Rattle.draid_steps.specs.Columns.{is_in_row}
 
 abbrev pub segment_cmp : Segment → Segment → Ordering
 segment_cmp s t = (contracts.SegmentOrd.TheImpl.cmp-value).it s t

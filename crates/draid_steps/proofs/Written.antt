@@ -1,7 +1,6 @@
 -- Columns that land on arms of their slot.
-use Rattle.std.proofs.Common.{◌≡◌, ◌==◌, ◌+◌, ◌<◌, ◌&&◌, ◌||◌, not, ℕ, Bool, true, false, List, [], ◌∷◌, Some, nat_lt, if◌then◌else◌, BTreeMap, BTreeSet, Global, refl, sym, ◌∙◌, ap, ap₂, subst}
+use Rattle.std.proofs.Common.{◌≡◌, ◌==◌, ◌+◌, ◌<◌, ◌&&◌, ◌||◌, not, ℕ, Bool, true, false, List, [], ◌∷◌, Some, nat_lt, if◌then◌else◌, BTreeMap, BTreeSet, refl, sym, ◌∙◌, ap, subst}
 use Rattle.std.specs.List.{list_all, list_any}
-use Rattle.std.proofs.lemmas.Bool.{true≢false}
 use Rattle.draid_machine.specs.declared.names.Key.{Key}
 use Rattle.draid_machine.specs.declared.names.ArmName.{ArmName}
 use Rattle.draid_machine.specs.declared.names.Stage.TheVariants.{Writing}
@@ -12,8 +11,7 @@ use Rattle.draid_machine.specs.State.{Layout, Core}
 use Rattle.draid_machine.specs.Arms.{answers, fails, lies, leaf_at, leaf_answers}
 use Rattle.draid_machine.specs.After.{each_arm, log_if, set_held, is_landed, put_state}
 use Rattle.draid_machine.proofs.Small.{both_true, true_both, below, absurd_test, name_true, is_equal}
-use Rattle.draid_world.specs.World.{state_of, core_of, arm_in, held_in, names_at}
-use Rattle.draid_world.specs.declared.world.Arm.{Arm}
+use Rattle.draid_world.specs.World.{state_of, core_of, arm_in, held_in}
 use Rattle.draid_world.specs.declared.world.Tables.{Tables}
 use Rattle.draid_world.specs.declared.world.World.{World}
 use Rattle.draid_steps.specs.Columns.{MayLand, lands_right, is_row}

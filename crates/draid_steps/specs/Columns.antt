@@ -1,4 +1,4 @@
-use Rattle.std.specs.Prelude.{◌≡◌, ◌+◌, ◌==◌, ◌&&◌, ◌^◌, ◌<◌, ◌≤◌, not, ℕ, Bool, true, nat_lt, List, [], ◌∷◌, Some, if◌then◌else◌}
+use Rattle.std.specs.Prelude.{◌≡◌, ◌+◌, ◌==◌, ◌&&◌, ◌^◌, ◌<◌, ◌≤◌, not, ℕ, Bool, true, nat_lt, List, Some, if◌then◌else◌}
 use Rattle.draid_machine.specs.declared.names.Key.{Key}
 use Rattle.draid_machine.specs.declared.names.ArmName.{ArmName}
 use Rattle.draid_machine.specs.declared.names.Stage.TheVariants.{Writing}
@@ -7,7 +7,7 @@ use Rattle.draid_machine.specs.declared.names.Segment.{Segment}
 use Rattle.draid_machine.specs.Names.{has_name, has_number, name_eq, key_eq}
 use Rattle.draid_machine.specs.State.{Layout, Core}
 use Rattle.draid_machine.specs.Step.{FailsThere}
-use Rattle.draid_machine.specs.Arms.{answers, fails, lies, leaf_answers}
+use Rattle.draid_machine.specs.Arms.{answers, fails, lies}
 
 -- births are below 2^48, and a ticket counts no more missed columns than were put
 abbrev pub AreCounted : Core → Type 0

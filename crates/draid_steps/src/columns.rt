@@ -126,7 +126,11 @@ fn are_used(site: &Site, tables: &Tables, stripe: u64, names: &[ArmName], leaves
 }
 
 /// Logs a group for an arm, if it is known.
-pub fn log_arm(arms: &mut BTreeMap<ArmName, Arm>, name: ArmName, group: u64) -> Result<(), AllocError>
+pub fn log_arm(
+    arms: &mut BTreeMap<ArmName, Arm>,
+    name: ArmName,
+    group: u64,
+) -> Result<(), AllocError>
     requires group { group < 2 ^ 48 }
     ensures { OnOk result ((n : ArmName) → arm_in arms.new.entries n ≡ each_arm (λ m. log_if (name_eq name m) group) (arm_in arms.old.entries) n) }
 {

@@ -215,7 +215,11 @@ fn join(order: &mut Vec<Vec<ArmName>>, slot: usize, name: ArmName) -> Result<(),
 }
 
 /// An arm becomes known.
-pub fn enter_arm(arms: &mut BTreeMap<ArmName, Arm>, name: ArmName, arm: Arm) -> Result<(), AllocError>
+pub fn enter_arm(
+    arms: &mut BTreeMap<ArmName, Arm>,
+    name: ArmName,
+    arm: Arm,
+) -> Result<(), AllocError>
     ensures { OnOk result ((n : ArmName) → arm_in arms.new.entries n ≡ set_arm (arm_in arms.old.entries) name (Some (arm_of arm)) n) }
 {
     arms.insert(name, arm)?;

@@ -1,5 +1,4 @@
-use Rattle.std.proofs.Common.{◌≡◌, ◌∙◌, sym, Bool}
-use Rattle.draid_machine.specs.declared.names.Segment.{Segment}
+use Rattle.std.proofs.Common.{◌∙◌, sym}
 use Rattle.draid_machine.specs.Claims.{claims}
 use Rattle.draid_machine.specs.Names.{has_segment}
 use Rattle.draid_world.specs.World.{core_of, site_layout}

@@ -1,8 +1,6 @@
 use Rattle.std.proofs.Common.{◌≡◌, ◌∙◌, ap, sym, subst, true, Some, None, option_copied, ◌&&◌}
-use Rattle.draid_machine.specs.State as state
 use Rattle.draid_machine.specs.Claims.{is_on, passed}
-use Rattle.draid_machine.specs.Names.{is_block}
-use Rattle.draid_world.specs.World.{arm_in, arm_of, core_of, held_in, names_at, site_layout}
+use Rattle.draid_world.specs.World.{arm_of, core_of, names_at, site_layout}
 use Rattle.draid_world.proofs.Maps.{arm_found}
 use Rattle.draid_images.proofs.Claiming.{claim_clean, claim_none, claim_passed}
 use Rattle.draid_images.proofs.openings.is_claimed.Goals as goal

@@ -1,4 +1,4 @@
-use Rattle.std.proofs.Common.{◌≡◌, ◌∙◌, subst, sym, inl, inr}
+use Rattle.std.proofs.Common.{subst, inl, inr}
 use Rattle.draid_world.specs.World.{image_of}
 use Rattle.draid_images.specs.Openings.{IsLowImage}
 use Rattle.draid_images.proofs.openings.reopen.Goals as goal

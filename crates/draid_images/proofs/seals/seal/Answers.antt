@@ -1,5 +1,4 @@
-use Rattle.std.proofs.Common.{rules, ◌≡◌, ◌∙◌, ap, sym, Some, None, Bool, ℕ, false, true}
-use Rattle.draid_machine.specs.State as state
+use Rattle.std.proofs.Common.{rules, ◌≡◌, ◌∙◌, ap, sym, Some, None, Bool, ℕ}
 use Rattle.draid_machine.specs.Arms.{online}
 use Rattle.draid_machine.specs.declared.names.ArmName.TheVariants.{Leaf}
 use Rattle.draid_world.specs.World.{arm_in, core_of, state_of}

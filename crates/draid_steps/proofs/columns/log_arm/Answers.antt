@@ -1,5 +1,4 @@
-use Rattle.std.proofs.Common.{rules, ◌≡◌, ◌∙◌, sym, refl, ap, true, Some, None, option_map}
-use Rattle.draid_machine.specs.After.{log_if}
+use Rattle.std.proofs.Common.{◌∙◌, sym, Some, None}
 use Rattle.draid_world.specs.World.{arm_in, arm_of}
 use Rattle.draid_world.specs.declared.world.Arm.{Arm}
 use Rattle.draid_world.proofs.Maps.{arm_found, arm_updated}

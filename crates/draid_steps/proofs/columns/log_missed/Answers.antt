@@ -1,4 +1,4 @@
-use Rattle.std.proofs.Common.{rules, ◌≡◌, ◌∙◌, ◌≤◌, ◌&&◌, not, false, sym, refl, ap, length, drop}
+use Rattle.std.proofs.Common.{◌∙◌, ◌&&◌, not, sym, refl, ap}
 use Rattle.std.proofs.lemmas.List.{drop_all}
 use Rattle.draid_machine.specs.After.{map_arm, log_if}
 use Rattle.draid_machine.specs.Names.{has_name}

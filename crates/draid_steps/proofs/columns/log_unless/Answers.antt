@@ -1,4 +1,4 @@
-use Rattle.std.proofs.Common.{rules, ◌≡◌, ◌∙◌, sym, ap, true, false}
+use Rattle.std.proofs.Common.{rules, ◌≡◌, ◌∙◌, true, false}
 use Rattle.draid_machine.specs.Names.{has_name}
 use Rattle.draid_world.specs.World.{arm_in}
 use Rattle.draid_world.proofs.Maps.{on_ok}

@@ -1,4 +1,4 @@
-use Rattle.std.proofs.Common.{rules, ◌≡◌, ◌∙◌, ap, sym, true, false}
+use Rattle.std.proofs.Common.{◌∙◌, ap, sym}
 use Rattle.draid_world.specs.World.{core_of, names_at, site_layout}
 use Rattle.draid_steps.proofs.Written.{may_land, not_listed, not_right, not_used}
 use Rattle.draid_steps.proofs.columns.may_land.Goals as goal

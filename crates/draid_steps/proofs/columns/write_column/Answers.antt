@@ -1,8 +1,7 @@
-use Rattle.std.proofs.Common.{◌≡◌, ◌&&◌, ◌||◌, ◌∙◌, not, ap}
+use Rattle.std.proofs.Common.{◌&&◌, ◌||◌, ◌∙◌, not, ap}
 use Rattle.std.specs.List.{list_any}
 use Rattle.draid_machine.specs.After.{each_arm, log_if}
 use Rattle.draid_machine.specs.Names.{has_name, has_segment}
-use Rattle.draid_machine.specs.declared.names.ArmName.{ArmName}
 use Rattle.draid_world.specs.World.{arm_in, core_of, names_at, site_layout}
 use Rattle.draid_world.specs.declared.world.Tables.{Tables}
 use Rattle.draid_steps.specs.Columns.{is_row}

@@ -1,5 +1,5 @@
-use Rattle.std.proofs.Common.{rules, ◌≡◌, ◌<◌, ◌≤◌, ◌≢◌, inl, inr, arith, subst, sym, ℕ, refl}
-use Rattle.std.proofs.lemmas.Bool.{cases_lt, cases_eq}
+use Rattle.std.proofs.Common.{rules, ◌<◌, ◌≤◌, inl, inr, arith, subst, ℕ}
+use Rattle.std.proofs.lemmas.Bool.{cases_lt}
 use Rattle.draid_machine.specs.Step.{Fits}
 use Rattle.draid_world.specs.World.{core_of, site_layout}
 use Rattle.draid_steps.proofs.room.is_lowest.Goals as goal

@@ -1,7 +1,7 @@
 use Rattle.std.proofs.Common.{◌≡◌, ◌∙◌, ◌∷◌, ap, sym, subst}
 use Rattle.draid_machine.specs.declared.names.Key.{Key}
 use Rattle.draid_machine.specs.declared.names.Held.{Held}
-use Rattle.draid_steps.specs.Room.{first_meeting, meets}
+use Rattle.draid_steps.specs.Room.{first_meeting}
 use Rattle.draid_steps.proofs.Entries.{AreApart, AllLow, ordered_apart, head_low, tail_low, meeting_found, meeting_none, meeting_head, meeting_tail}
 use Rattle.draid_steps.proofs.room.meeting.Goals as goal
 

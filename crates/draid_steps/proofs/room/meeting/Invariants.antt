@@ -1,4 +1,4 @@
-use Rattle.std.proofs.Common.{◌≡◌, ◌<◌, ◌^◌, ℕ, Some}
+use Rattle.std.proofs.Common.{◌≡◌}
 use Rattle.draid_steps.specs.Room.{first_meeting}
 use Rattle.draid_steps.proofs.Entries.{AreApart, AllLow}
 use Rattle.draid_steps.proofs.room.meeting.Given as goal

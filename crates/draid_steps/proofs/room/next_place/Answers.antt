@@ -1,4 +1,4 @@
-use Rattle.std.proofs.Common.{rules, ◌≡◌, ◌+◌, ◌<◌, ◌≤◌, ◌/◌, ◌-◌, ◌*◌, ◌∙◌, ap, ap₂, sym, ℕ, subst}
+use Rattle.std.proofs.Common.{◌≡◌, ◌+◌, ◌<◌, ◌≤◌, ◌/◌, ◌-◌, ◌*◌, ap, ap₂, subst}
 use Rattle.draid_machine.specs.Layout.{stripes_in}
 use Rattle.draid_world.specs.World.{core_of, site_layout}
 use Rattle.draid_steps.proofs.Runs.{blocked, free_run}

@@ -1,7 +1,6 @@
-use Rattle.std.proofs.Common.{◌≡◌, ◌∙◌, ◌<◌, ◌≤◌, not, true, false, Bool, inl, inr, arith, ap, sym, subst, length, rules, refl}
+use Rattle.std.proofs.Common.{◌≡◌, ◌∙◌, not, true, false, inl, inr, arith, ap, sym, subst, length, refl}
 use Rattle.std.specs.List.{list_any}
 use Rattle.std.proofs.lemmas.Bool.{cases_eq, cases_lt, true≢false}
-use Rattle.draid_machine.specs.declared.names.ArmName.{ArmName}
 use Rattle.draid_machine.specs.declared.names.ArmName.TheVariants.{Spare}
 use Rattle.draid_machine.specs.Names.{has_name, is_leaf}
 use Rattle.draid_world.specs.World.{names_at}

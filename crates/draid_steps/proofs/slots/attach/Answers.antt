@@ -1,4 +1,4 @@
-use Rattle.std.proofs.Common.{◌≡◌, ◌∙◌, Some, ap}
+use Rattle.std.proofs.Common.{◌∙◌, Some, ap}
 use Rattle.draid_machine.specs.State as state
 use Rattle.draid_machine.specs.After.{set_arm}
 use Rattle.draid_world.specs.World.{arm_in, core_of, state_of}

@@ -1,7 +1,6 @@
-use Rattle.std.proofs.Common.{◌≡◌, ◌∙◌, ap, sym, Some, None, option_copied, false, ℕ}
+use Rattle.std.proofs.Common.{◌∙◌, ap, sym, Some, None, option_copied}
 use Rattle.draid_machine.specs.Arms.{logged}
 use Rattle.draid_world.proofs.Maps.{arm_found}
-use Rattle.draid_world.specs.World.{arm_in, arm_of}
 use Rattle.draid_steps.proofs.Orders.{no_runs, some_run}
 use Rattle.draid_steps.proofs.slots.has_empty_log.Goals as goal
 

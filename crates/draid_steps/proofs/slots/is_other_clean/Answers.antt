@@ -1,4 +1,4 @@
-use Rattle.std.proofs.Common.{◌≡◌, ◌∙◌, ◌<◌, ◌≤◌, false, sym, subst, length, get_or, arith}
+use Rattle.std.proofs.Common.{◌≡◌, ◌∙◌, false, sym, subst, get_or, arith}
 use Rattle.draid_machine.specs.Arms.{HasEmptyLog}
 use Rattle.draid_machine.specs.Names.{name_eq}
 use Rattle.draid_machine.specs.declared.names.ArmName.TheVariants.{Leaf}

@@ -1,5 +1,4 @@
 use Rattle.std.proofs.Common.{◌≡◌, ◌∙◌, ◌++◌, ◌∷◌, [], ap, sym, refl}
-use Rattle.draid_machine.specs.declared.names.ArmName.{ArmName}
 use Rattle.draid_machine.specs.After.{set_order}
 use Rattle.draid_world.specs.World.{names_at}
 use Rattle.draid_world.proofs.Maps.{names_here}

@@ -1,4 +1,4 @@
-use Rattle.std.proofs.Common.{◌≡◌, ◌∙◌, ◌<◌, ◌≤◌, ◌^◌, subst, sym, ap, inl, inr}
+use Rattle.std.proofs.Common.{◌∙◌, ◌<◌, ◌≤◌, ◌^◌, subst, sym, ap, inl, inr}
 use Rattle.draid_steps.specs.Slots.{greatest}
 use Rattle.draid_steps.proofs.Entries.{ordered_apart}
 use Rattle.draid_steps.proofs.Orders.{greatest_from, greatest_birth, greatest_is, greatest_below}

@@ -1,4 +1,4 @@
-use Rattle.std.proofs.Common.{rules, ◌≡◌, ◌<◌, ◌≤◌, ◌∙◌, refl, length, subst, sym}
+use Rattle.std.proofs.Common.{◌<◌, ◌≤◌, refl, subst}
 use Rattle.draid_machine.proofs.Small.{is_below}
 use Rattle.draid_steps.proofs.Runs.{not_below}
 use Rattle.draid_world.specs.World.{core_of}
