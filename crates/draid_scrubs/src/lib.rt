@@ -3,3 +3,4 @@
 #![tactic(auto)]
 
 mod patches;
+mod wholes;
