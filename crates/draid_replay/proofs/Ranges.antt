@@ -1,6 +1,5 @@
 -- Legal events keep numbers in their ranges.
-use Rattle.std.proofs.Common.{◌≡◌, ◌+◌, ◌<◌, ◌≤◌, ◌^◌, ℕ, Bool, true, false, List, Option, Some, None, nat_lt, if◌then◌else◌, refl, sym, ◌∙◌, ap, subst, inl, inr, arith}
-use Rattle.std.proofs.lemmas.Bool.{true≢false}
+use Rattle.std.proofs.Common.{◌≡◌, ◌+◌, ◌<◌, ◌≤◌, ◌^◌, ℕ, Bool, true, false, List, Option, Some, None, nat_lt, if◌then◌else◌, refl, sym, ap, subst, inl, inr, arith}
 use Rattle.draid_names.specs.declared.pass_kind.PassKind.{PassKind}
 use Rattle.draid_names.specs.declared.pass_kind.PassKind.TheVariants.{Rebuild, Heal}
 use Rattle.draid_machine.specs.declared.names.Key.{Key}
@@ -10,11 +9,11 @@ use Rattle.draid_machine.specs.declared.names.Stage.TheVariants.{Writing, Live, 
 use Rattle.draid_machine.specs.declared.names.Held.{Held}
 use Rattle.draid_machine.specs.declared.event.Event.{Event}
 use Rattle.draid_machine.specs.declared.event.Event.TheVariants.{Begin, Put, Finish, Abort, Free, Fetch, Damage, Offline, Online, Attach, Detach, Close, Seal, Commit, Plan, Ready, Lend, LandStripe, LandBlock, Done, Cancel, Reopen}
-use Rattle.draid_machine.specs.Names.{key_eq, takes, is_nil}
-use Rattle.draid_machine.specs.State.{Layout, Pass, Core, Loan, Image, State}
-use Rattle.draid_machine.specs.After.{set_held, seal_held, keep_loan, is_freed_block, map_pass, image_of, seal_state, sealed_core, commit_state, planned_pass, plan_state, finish_state, land_stripe_state, land_block_state, unsourced}
+use Rattle.draid_machine.specs.Names.{key_eq, is_nil}
+use Rattle.draid_machine.specs.State.{Layout, Pass, Loan, Image, State}
+use Rattle.draid_machine.specs.After.{set_held, seal_held, keep_loan, is_freed_block, seal_state, sealed_core, commit_state, planned_pass, plan_state, finish_state, land_stripe_state, land_block_state, unsourced}
 use Rattle.draid_machine.specs.Step.{Step, MayPlan}
-use Rattle.draid_machine.proofs.Small.{some_injective, none_some, mapped_pass, kept_some, kept_if, both_true, is_low, is_below}
+use Rattle.draid_machine.proofs.Small.{some_injective, none_some, mapped_pass, kept_some, kept_if, both_true, is_below}
 use Rattle.draid_replay.specs.Within.{IsSmall, AreSmall, IsSmallPass, IsSmallImage, AreWithin, IsWithin, IsSmallEvent}
 
 -- ---- blocks and tickets

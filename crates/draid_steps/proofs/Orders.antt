@@ -1,5 +1,5 @@
 -- Slots, their arms and their logs.
-use Rattle.std.proofs.Common.{◌≡◌, ◌==◌, ◌+◌, ◌<◌, ◌≤◌, ◌⊎◌, ◌||◌, not, ℕ, zero, suc, Bool, true, false, List, [], ◌∷◌, Some, None, option_map, Vec, Global, length, get_or, set, max, if◌then◌else◌, inl, inr, refl, sym, ◌∙◌, ap, subst, arith}
+use Rattle.std.proofs.Common.{◌≡◌, ◌==◌, ◌+◌, ◌++◌, ◌<◌, ◌≤◌, ◌⊎◌, ◌||◌, not, ℕ, zero, suc, Bool, true, false, List, [], ◌∷◌, Some, None, option_map, Vec, Global, length, get_or, set, max, if◌then◌else◌, inl, inr, refl, sym, ◌∙◌, ap, subst, arith}
 use Rattle.std.specs.List.{list_any}
 use Rattle.std.proofs.lemmas.Bool.{true≢false}
 use Rattle.std.proofs.lemmas.Bool.Decides.{nat_tests}
@@ -129,3 +129,21 @@ greatest_below group bound es apart less births = elim (greatest_is group es apa
 -- an arm that may have missed the groups up to one
 pub fresh_is : (last : ℕ) (a : Arm) → a.offline ≡ false → a.fresh ≡ true → a.gone ≡ None → ((x : ℕ) → has a.log x ≡ is_between 1 (last + 1) x) → arm_of a ≡ fresh_arm last
 fresh_is last a offline fresh gone log = λ i. record { offline = offline i; fresh = fresh i; log = λ x. (log x ∙ same_groups last x) i; gone = option_map gone_of (gone i) }
+
+-- an arm more in orders that are the same
+pub order_pushed : (f g : ℕ → List ArmName) (s : ℕ) (n : ArmName) → ((c : ℕ) → f c ≡ g c) → (c : ℕ) → set_order f s (f s ++ n ∷ []) c ≡ set_order g s (g s ++ n ∷ []) c
+order_pushed f g s n same c = λ i. set_order (λ d. same d i) s (same s i ++ n ∷ []) c
+
+-- an empty slot behind the others changes nothing
+pub names_empty : (vs : List (Vec ArmName Global)) (v : Vec ArmName Global) → v.items ≡ [] → (c : ℕ) → names_at (vs ++ v ∷ []) c ≡ names_at vs c
+names_empty [] v is zero = is
+names_empty [] v is (suc c) = refl
+names_empty (x ∷ xs) v is zero = refl
+names_empty (x ∷ xs) v is (suc c) = names_empty xs v is c
+
+pub longer : (n : ℕ) (vs : List (Vec ArmName Global)) (v : Vec ArmName Global) (ws : List (Vec ArmName Global)) → ws ≡ vs ++ v ∷ [] → n ≤ length vs → n + 1 ≤ length ws
+longer n vs v ws is le = subst (λ x. n + 1 ≤ length x) (sym is) (let more = length-push vs in omega (arith, le, more))
+  where
+    length-push : (xs : List (Vec ArmName Global)) → length (xs ++ v ∷ []) ≡ length xs + 1
+    length-push [] = refl
+    length-push (x ∷ xs) = let e = length-push xs in omega (arith, e)

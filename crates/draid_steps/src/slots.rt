@@ -204,14 +204,41 @@ fn leave(order: &mut Vec<Vec<ArmName>>, slot: usize, name: ArmName)
     }
 }
 
-/// An arm joins a slot as its last.
-fn join(order: &mut Vec<Vec<ArmName>>, slot: usize, name: ArmName) -> Result<(), AllocError>
+/// Makes place for the arms of a slot.
+fn widen(alloc: Global, order: &mut Vec<Vec<ArmName>>, slot: usize) -> Result<(), AllocError>
+    requires slot { slot < 2 ^ 32 }
+    ensures same { OnOk result ((c : ℕ) → names_at order.new.items c ≡ names_at order.old.items c) }
+    ensures wide { OnOk result (slot < length order.new.items) }
+{
+    for _number in order.len()..slot + 1 {
+        order.push(Vec::new(alloc))?;
+    }
+    Ok(())
+}
+
+/// An arm becomes the last of a slot that has a place.
+fn push_arm(order: &mut Vec<Vec<ArmName>>, slot: usize, name: ArmName) -> Result<(), AllocError>
     requires slot { slot < length order.old.items }
     ensures { OnOk result ((c : ℕ) → names_at order.new.items c
         ≡ set_order (names_at order.old.items) slot (names_at order.old.items slot ++ name ∷ []) c) }
 {
     order[slot].push(name)?;
     Ok(())
+}
+
+/// An arm joins a slot as its last.
+fn join(
+    alloc: Global,
+    order: &mut Vec<Vec<ArmName>>,
+    slot: usize,
+    name: ArmName,
+) -> Result<(), AllocError>
+    requires slot { slot < 2 ^ 32 }
+    ensures { OnOk result ((c : ℕ) → names_at order.new.items c
+        ≡ set_order (names_at order.old.items) slot (names_at order.old.items slot ++ name ∷ []) c) }
+{
+    widen(alloc, order, slot)?;
+    push_arm(order, slot, name)
 }
 
 /// An arm becomes known.
@@ -283,7 +310,6 @@ pub fn attach(
 ) -> Result<bool, AllocError>
     requires group { world.old.open_group < 2 ^ 48 }
     requires counted { AreCounted (core_of world.old.tables) }
-    requires slots { site.now.geometry.spec.children ≤ length world.old.tables.order.items }
     ensures legal { IfOk result (λ b. b ≡ true → AttachStep (site_layout site.now) (state_of world.old) slot name (state_of world.new)) }
     ensures illegal { IfOk result (λ b. b ≡ false → (new : state.State) → AttachStep (site_layout site.now) (state_of world.old) slot name new → ⊥) }
 {
@@ -293,6 +319,6 @@ pub fn attach(
     let last = last_group(&world.tables.held, world.open_group);
     let arm = new_arm(alloc, last)?;
     enter_arm(&mut world.tables.arms, name, arm)?;
-    join(&mut world.tables.order, slot as usize, name)?;
+    join(alloc, &mut world.tables.order, slot as usize, name)?;
     Ok(true)
 }
