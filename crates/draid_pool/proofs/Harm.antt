@@ -1,5 +1,5 @@
 -- What is told of harm alone.
-use Rattle.std.proofs.Common.{◌≡◌, ℕ, Bool, Option, Some, None, ap}
+use Rattle.std.proofs.Common.{ℕ, Bool, Option, Some, None, ap}
 use Rattle.std.specs.Prelude.{MatchOption}
 use Rattle.draid_rack.specs.Rack.{OnTold, Told}
 use Rattle.draid_shard.specs.Columns.{TellsBoth}

@@ -18,7 +18,7 @@ use Rattle.draid_shard.specs.declared.shard.Shard.{Shard}
 use Rattle.draid_shard.specs.Part.{Part}
 use Rattle.draid_pool.specs.Close.{Returns}
 use Rattle.draid_pool.specs.Create.{AreBack, AreOpened, IsOpened, Opens, TakesOne}
-use Rattle.draid_pool.specs.Pool.{HoldsObject, metaslab_of, state_of}
+use Rattle.draid_pool.specs.Pool.{HoldsObject, metaslab_of}
 use Rattle.draid_pool.specs.State.{IsNew}
 use Rattle.draid_pool.specs.declared.pool.Pool.{Pool}
 use Rattle.draid_pool.proofs.Closed.{at_end, unmapped}

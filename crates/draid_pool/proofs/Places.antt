@@ -1,5 +1,5 @@
 -- The sectors of a pool and of its metaslabs.
-use Rattle.std.proofs.Common.{arith, ◌≡◌, ◌*◌, ◌/◌, ◌%◌, ◌<◌, ◌≤◌, ◌∙◌, ℕ, zero, suc, List, Option, Some, sym, ap, subst, length, slice_index_or}
+use Rattle.std.proofs.Common.{arith, ◌≡◌, ◌*◌, ◌/◌, ◌%◌, ◌<◌, ◌∙◌, ℕ, zero, suc, List, Option, Some, sym, ap, subst, slice_index_or}
 use Rattle.std.specs.Prelude.{slice_get}
 use Rattle.std.proofs.Math.Nat.{div-lt_iff_lt-mul, mod-lt, mul_assoc}
 use Rattle.std.proofs.lemmas.Option.{slice_get_read}

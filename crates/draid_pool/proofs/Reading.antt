@@ -1,5 +1,5 @@
 -- What reads, freeing and damage do to the state that a pool stands for.
-use Rattle.std.proofs.Common.{arith, ◌≡◌, ◌+◌, ◌*◌, ◌/◌, ◌%◌, ◌<◌, ◌≤◌, ◌∙◌, ℕ, Bool, true, List, ◌∷◌, Vec, Global, Option, Some, None, Result, Ok, Err, cond, refl, sym, ap, subst, map, slice_index_or}
+use Rattle.std.proofs.Common.{arith, ◌≡◌, ◌/◌, ◌%◌, ◌∙◌, ℕ, true, List, ◌∷◌, Vec, Global, Option, Some, None, Result, Ok, Err, cond, refl, sym, ap, subst, map, slice_index_or}
 use Rattle.std.specs.Prelude.{nat_eq, option_map, slice_get}
 use Rattle.std.specs.HashMap.{get}
 use Rattle.std.specs.List.{AllZip}

@@ -12,7 +12,7 @@ use Rattle.draid_shard.specs.declared.shard.Shard.{Shard}
 use Rattle.draid_shard.specs.Part.{Part}
 use Rattle.draid_shard.specs.Shard.{HoldsBlock, Valid, free_of, held_of, part_of}
 use Rattle.draid_pool.specs.Pool.{HoldsObject, HoldsWrite, IsMember, harm_of, metaslab_of}
-use Rattle.draid_pool.specs.State.{Metaslab, Write}
+use Rattle.draid_pool.specs.State.{Write}
 use Rattle.draid_pool.specs.Store.{SetsShard}
 use Rattle.draid_pool.proofs.Lists.{get_set_other, get_set_same}
 

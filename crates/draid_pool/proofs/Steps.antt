@@ -1,5 +1,5 @@
 -- What the calls of a pool do to the state that it stands for.
-use Rattle.std.proofs.Common.{◌≡◌, ◌+◌, ◌∙◌, ℕ, List, ◌∷◌, Option, Some, None, cond, refl, sym, ap, subst, map, length}
+use Rattle.std.proofs.Common.{◌≡◌, ◌∙◌, ℕ, List, ◌∷◌, Option, Some, None, cond, sym, ap, subst, map, length}
 use Rattle.std.specs.Prelude.{nat_eq, slice_get}
 use Rattle.std.specs.HashMap.{get}
 use Rattle.draid_names.specs.declared.pointer.Pointer.{Pointer}
@@ -7,8 +7,8 @@ use Rattle.draid_spec.specs.declared.layout.Geometry.{Geometry}
 use Rattle.draid_spec.specs.Geometry.{IsGeometry}
 use Rattle.draid_rack.specs.Rack.{Shape, Told}
 use Rattle.draid_shard.specs.declared.shard.Shard.{Shard}
-use Rattle.draid_shard.specs.Shard.{HoldsBlock, IsLive, KeepsBlocks, Valid, part_of}
-use Rattle.draid_pool.specs.Pool.{HoldsObject, HoldsWrite, IsMember, Represents, SamePool, metaslab_of, state_of}
+use Rattle.draid_shard.specs.Shard.{IsLive, KeepsBlocks, Valid, part_of}
+use Rattle.draid_pool.specs.Pool.{HoldsObject, HoldsWrite, IsMember, Represents, metaslab_of, state_of}
 use Rattle.draid_pool.specs.State.{Change, Freed, MovesOne, Write, Wrote, write_of}
 use Rattle.draid_pool.specs.Store.{FreesBlock, IsLiveIn, SetsShard}
 use Rattle.draid_pool.specs.declared.pool.Pool.{Pool}

@@ -9,7 +9,6 @@ use Rattle.draid_shard.specs.declared.ticket.Ticket.{Ticket}
 use Rattle.draid_shard.specs.Part.{Part}
 use Rattle.draid_shard.specs.Columns.{EndsHarm, TellsBoth}
 use Rattle.draid_shard.specs.Shard.{Carries, TakesLowest, Valid}
-use Rattle.draid_metaslab.specs.Spots.{IsLargest, IsSpot}
 use Rattle.draid_shard.specs.Entry.{IsRefused, IsRoom, entry_at}
 use Rattle.draid_shard.specs.declared.entry.Entry.{Entry}
 use Rattle.draid_shard.specs.declared.entry.Stage.TheVariants.{Writing, Live, Freed}

@@ -1,27 +1,26 @@
 -- A block is written to one metaslab of a pool.
-use Rattle.std.proofs.Common.{◌≡◌, ◌+◌, ◌<◌, ◌∙◌, ℕ, List, ◌∷◌, Option, Some, Result, Ok, Err, refl, sym, ap, subst, slice_set, map, slice_index_or}
+use Rattle.std.proofs.Common.{◌≡◌, ◌+◌, ◌<◌, ◌∙◌, ℕ, List, ◌∷◌, Option, Some, Ok, Err, refl, sym, ap, subst, slice_index_or}
 use Rattle.std.specs.Prelude.{⊤, nat_eq, slice_get}
 use Rattle.std.specs.HashMap.{get}
 use Rattle.draid_names.specs.declared.pointer.Pointer.{Pointer}
-use Rattle.draid_spec.specs.declared.layout.Geometry.{Geometry}
 use Rattle.draid_block.specs.Blocks.{cut_of}
 use Rattle.draid_block.specs.Columns.{Cut}
 use Rattle.draid_rack.specs.Rack.{Shape, Told}
 use Rattle.draid_shard.specs.declared.shard.Shard.{Shard}
 use Rattle.draid_shard.specs.Columns.{EndsHarm}
-use Rattle.draid_shard.specs.Shard.{KeepsBlocks, NoneFalls, Valid, part_of}
+use Rattle.draid_shard.specs.Shard.{NoneFalls, Valid, part_of}
 use Rattle.draid_pool.specs.Answers.{WriteInIs}
 use Rattle.draid_pool.specs.Pool.{HasRoomAt, HoldsWrite, Moves, Represents, SamePool, metaslab_of, state_of}
-use Rattle.draid_pool.specs.State.{Change, Write, Wrote, stripes_for}
-use Rattle.draid_pool.specs.Store.{HasRoom, SetsShard, StoreAnswers, StoreMisses, StoreStays, Stores}
+use Rattle.draid_pool.specs.State.{Change, Wrote, stripes_for}
+use Rattle.draid_pool.specs.Store.{HasRoom, StoreAnswers, StoreMisses, StoreStays, Stores}
 use Rattle.draid_pool.specs.declared.fault.WriteFault.TheVariants as write_fault
 use Rattle.draid_pool.specs.declared.pool.Pool.{Pool}
 use Rattle.draid_pool.specs.declared.store.StoreFault.{StoreFault}
 use Rattle.draid_pool.specs.declared.store.StoreFault.TheVariants as store_fault
 use Rattle.draid_pool.proofs.Harm.{harm_both}
 use Rattle.draid_pool.proofs.Lists.{fun_ext}
-use Rattle.draid_pool.proofs.Shards.{at_shard, images_set, same_image, same_images, set_here}
-use Rattle.draid_pool.proofs.Steps.{Turned, not_in_table, one_moved, same_state, stands_yet}
+use Rattle.draid_pool.proofs.Shards.{at_shard, same_image, same_images, set_here}
+use Rattle.draid_pool.proofs.Steps.{Turned, not_in_table, one_moved, same_state}
 
 module _ {R : Type 0} (shape : R → Shape) (told : R → Option Told) (faults : R → Option ℕ → ℕ) where
   -- the shard that a block goes to

@@ -1,4 +1,4 @@
-use Rattle.std.proofs.Common.{rules, ◌≡◌, ◌∙◌, refl, sym}
+use Rattle.std.proofs.Common.{rules, ◌∙◌, refl, sym}
 use Rattle.draid_pool.proofs.Opened.{opens}
 use Rattle.draid_pool.proofs.opening.create.Goals as goal
 

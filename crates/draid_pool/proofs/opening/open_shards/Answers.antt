@@ -1,4 +1,4 @@
-use Rattle.std.proofs.Common.{arith, ◌≡◌, ◌∙◌}
+use Rattle.std.proofs.Common.{arith}
 use Rattle.draid_pool.proofs.Opened.{opening_all, opening_back, opening_more}
 use Rattle.draid_pool.proofs.opening.open_shards.Goals as goal
 

@@ -1,4 +1,4 @@
-use Rattle.std.proofs.Common.{arith, ◌≡◌, ◌∙◌, ◌*◌, ◌/◌, ◌%◌, ◌<◌, ap, refl, sym, subst}
+use Rattle.std.proofs.Common.{arith, ◌∙◌, ◌*◌, ◌/◌, ◌%◌, ◌<◌, ap, refl, sym, subst}
 use Rattle.std.specs.Vec.{with_item}
 use Rattle.draid_spec.specs.declared.layout.Geometry.{Geometry}
 use Rattle.draid_map.specs.Place.{part_sectors}
@@ -6,7 +6,6 @@ use Rattle.draid_pool.specs.declared.pool.Pool.{Pool}
 use Rattle.draid_pool.proofs.Places.{is_there, part_below, rest_below, sector_shard}
 use Rattle.draid_pool.proofs.Reading.{damage_step, fails_step}
 use Rattle.draid_pool.proofs.Steps.{Turned, stands_yet}
-use Rattle.draid_pool.proofs.Writing.{room_valid}
 use Rattle.draid_pool.proofs.pool.Pool.damage.Goals as goal
 
 pub damage-requires-clause-valid : goal.damage-requires-clause-valid

@@ -1,5 +1,5 @@
 use Rattle.std.proofs.Common.{◌∙◌, Some, ap, refl, sym}
-use Rattle.draid_pool.proofs.Steps.{first_stands, freed_images, live_in, next_stands}
+use Rattle.draid_pool.proofs.Steps.{freed_images, live_in, next_stands}
 use Rattle.draid_pool.proofs.pool.Pool.replace.Goals as goal
 
 pub free_block-requires : goal.free_block-requires

@@ -1,4 +1,4 @@
-use Rattle.std.proofs.Common.{◌≡◌, ◌≤◌, ◌+◌, List}
+use Rattle.std.proofs.Common.{◌≤◌, ◌+◌, List}
 use Rattle.draid_pool.specs.State.{Change}
 use Rattle.draid_pool.specs.Pool.{Represents}
 use Rattle.draid_pool.proofs.Sums.{Summing}

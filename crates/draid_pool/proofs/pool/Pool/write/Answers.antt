@@ -1,4 +1,4 @@
-use Rattle.std.proofs.Common.{◌≡◌, ◌∙◌, ◌≤◌, List, None, Option, Some, ap, sym, subst, length}
+use Rattle.std.proofs.Common.{◌∙◌, ◌≤◌, List, None, Some, ap, sym, subst, length}
 use Rattle.std.specs.Prelude.{All}
 use Rattle.std.specs.Fn.{FnReturnsAt}
 use Rattle.std.specs.List.{AllZip, count_by}
