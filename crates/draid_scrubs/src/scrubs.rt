@@ -1,7 +1,7 @@
 ghost use Rattle.std.specs.Prelude.{◌≡◌, ◌+◌, ◌-◌, ◌<◌, ◌^◌, Ok, Some, None, true, false, IfSome, IfNone, IfOk, OnOk};
 ghost use Rattle.draid_machine.specs.After as after;
 ghost use Rattle.draid_machine.specs.State.{State};
-ghost use Rattle.draid_machine.specs.Step.{IsWhole, LandBlockStep, LandsBlock, Patches};
+ghost use Rattle.draid_machine.specs.Step.{LandBlockStep, LandsBlock, Patches};
 ghost use Rattle.draid_machine.specs.declared.names.Held.{Held};
 ghost use Rattle.draid_map.specs.Place.{IsLayout};
 ghost use Rattle.draid_passes.specs.Left.{AreShort};
@@ -173,22 +173,18 @@ fn heal(
     world: &mut World,
     loan: &Lent,
     held: Held,
-    failed: &[u64],
     patched: &[Patched],
-) -> Result<bool, NoMemory>
+    whole: bool,
+) -> Result<(), NoMemory>
     requires layout { IsLayout site.now.geometry site.now.perms }
     requires metaslab { site.now.metaslab < site.now.geometry.props.metaslabs }
     requires short { held.first + held.stripes < 2 ^ 48 }
-    ensures made { IfOk result (λ whole. state_of world.new ≡ healed_state (site_layout site.now) (state_of world.old) (loan_of loan.now) held patched.now whole) }
-    ensures yes { IfOk result (λ whole. whole ≡ true → IsWhole (site_layout site.now) (core_of world.old.tables) held failed.now) }
-    ensures no { IfOk result (λ whole. whole ≡ false → IsWhole (site_layout site.now) (core_of world.old.tables) held failed.now → ⊥) }
+    ensures { OnOk result (state_of world.new ≡ healed_state (site_layout site.now) (state_of world.old) (loan_of loan.now) held patched.now whole) }
 {
-    if is_whole(site, &world.tables, held, failed) {
-        heal_whole(alloc, site, world, loan, held, patched)?;
-        return Ok(true);
+    if whole {
+        return heal_whole(alloc, site, world, loan, held, patched);
     }
-    heal_part(alloc, site, world, loan, held, patched)?;
-    Ok(false)
+    heal_part(alloc, site, world, loan, held, patched)
 }
 
 /// A loan of a scrub comes back, where that is legal.
@@ -217,6 +213,7 @@ pub fn land_block(
     let Some(loan) = world.loan.take() else {
         return Ok(false);
     };
+    let whole = is_whole(site, &world.tables, held, failed);
     if unreadable {
         world.tables.pass = Some(WorldPass {
             next: held.first + u64::from(held.stripes),
@@ -225,7 +222,7 @@ pub fn land_block(
         });
         return Ok(true);
     }
-    heal(alloc, site, world, &loan, held, failed, patched)?;
+    heal(alloc, site, world, &loan, held, patched, whole)?;
     world.tables.pass = Some(pass_after(alloc, site, world, found, held, failed)?);
     Ok(true)
 }
