@@ -1,10 +1,10 @@
 -- The landing of a scrub's block.
-use Rattle.std.proofs.Common.{◌≡◌, ◌+◌, ◌<◌, ◌&&◌, ◌||◌, not, ℕ, Bool, true, false, List, Option, Some, None, length, if◌then◌else◌, refl, sym, ◌∙◌, ap, ap₂, subst, option_map}
+use Rattle.std.proofs.Common.{◌≡◌, ◌+◌, ◌&&◌, ◌||◌, not, ℕ, Bool, true, false, List, Option, Some, None, if◌then◌else◌, refl, sym, ◌∙◌, ap, ap₂, option_map}
 use Rattle.draid_machine.specs.declared.names.Held.{Held}
 use Rattle.draid_machine.specs.declared.event.Patched.{Patched}
-use Rattle.draid_machine.specs.State.{Layout, Core, Pass, Loan, State}
+use Rattle.draid_machine.specs.State.{Layout, Loan, State}
 use Rattle.draid_machine.specs.After.{capped, heal_state, land_block_state, pass_over}
-use Rattle.draid_machine.specs.Step.{IsWhole, LandBlockStep}
+use Rattle.draid_machine.specs.Step.{LandBlockStep}
 use Rattle.draid_machine.proofs.Small.{some_injective}
 use Rattle.draid_passes.proofs.Endings.{pass_same}
 use Rattle.draid_world.specs.declared.world.Lent.{Lent}

@@ -1,17 +1,15 @@
 -- What may be written, part by part.
-use Rattle.std.proofs.Common.{◌≡◌, ◌==◌, ◌<◌, ◌&&◌, ◌||◌, ℕ, Bool, true, false, List, [], ◌∷◌, refl, sym, ◌∙◌, ap, subst, inl, inr}
+use Rattle.std.proofs.Common.{◌≡◌, ◌==◌, ◌&&◌, ℕ, Bool, true, List, [], ◌∷◌, refl, sym, subst, inl, inr}
 use Rattle.std.proofs.lemmas.Bool.{true≢false}
-use Rattle.std.proofs.lemmas.Bool.Decides.{nat_tests}
 use Rattle.draid_machine.specs.declared.names.ArmName.{ArmName}
 use Rattle.draid_machine.specs.declared.names.Held.{Held}
 use Rattle.draid_machine.specs.declared.event.Patched.{Patched}
 use Rattle.draid_machine.specs.Names.{has_number, name_eq}
 use Rattle.draid_machine.specs.State.{Layout, Core}
 use Rattle.draid_machine.specs.After.{has_landed, was_written}
-use Rattle.draid_machine.specs.Arms.{answers, fails, is_clean}
 use Rattle.draid_machine.specs.Step.{HealsThere, Patches}
 use Rattle.draid_machine.proofs.Small.{both_true, either_true, equal, is_equal, name_refl, name_true, true_both, true_left, true_right}
-use Rattle.draid_scrubs.specs.Patches.{ArmStands, EachPart, PartStands, RowStands}
+use Rattle.draid_scrubs.specs.Patches.{EachPart, PartStands, RowStands}
 use Rattle.draid_scrubs.specs.Wholes.{AreColumnsPatched}
 
 row_parts : (d : Patched) (c : ℕ) (n : ArmName) (b : Bool) → ((d.column == c) && name_eq d.arm n && b) ≡ true → (d.column ≡ c) × (d.arm ≡ n) × (b ≡ true)
@@ -48,9 +46,10 @@ each_from : (P : Patched → Type 0) (all ps : List Patched) → ((c : ℕ) (n :
     → ((d : Patched) → ((r : ℕ) → has_number d.written.items r ≡ true → was_written all d.column d.arm r ≡ true) → ((r : ℕ) → has_number d.landed.items r ≡ true → has_landed all d.column d.arm r ≡ true) → P d)
     → EachPart P ps
 each_from P all [] wrote landed f = tt
-each_from P all (d ∷ ds) wrote landed f =
-    (f d (λ r e. wrote d.column d.arm r (true_left _ _ (parts_row d (has_number d.written.items r) e))) (λ r e. landed d.column d.arm r (true_left _ _ (parts_row d (has_number d.landed.items r) e))),
-    each_from P all ds (λ c n r e. wrote c n r (true_right _ _ e)) (λ c n r e. landed c n r (true_right _ _ e)) f)
+each_from P all (d ∷ ds) wrote landed f = (
+  f d (λ r e. wrote d.column d.arm r (true_left _ _ (parts_row d (has_number d.written.items r) e))) (λ r e. landed d.column d.arm r (true_left _ _ (parts_row d (has_number d.landed.items r) e))),
+  each_from P all ds (λ c n r e. wrote c n r (true_right _ _ e)) (λ c n r e. landed c n r (true_right _ _ e)) f,
+)
 
 pub patches_stand : (l : Layout) (q : Core) (h : Held) (failed : List ℕ) (patched : List Patched) → Patches l q h failed patched → EachPart (PartStands l q h failed patched) patched
 patches_stand l q h failed patched p =

@@ -9,8 +9,8 @@ ghost use Rattle.draid_world.specs.World.{arm_in, core_of};
 use crate::patches::{has_landed, was_written};
 use draid_machine::{ArmName, Held, Key, Patched, Segment};
 use draid_names::NoMemory;
-use draid_world::arms::is_logged;
 use draid_world::Tables;
+use draid_world::arms::is_logged;
 use std::alloc::Global;
 use std::collections::BTreeSet;
 

@@ -18,13 +18,7 @@ use draid_world::{Lent, Site, Tables, World, WorldPass};
 use std::alloc::Global;
 
 /// Whether a scrub may have written this of a readable block while calls failed on these leaves.
-fn may_heal(
-    site: &Site,
-    tables: &Tables,
-    held: Held,
-    failed: &[u64],
-    patched: &[Patched],
-) -> bool
+fn may_heal(site: &Site, tables: &Tables, held: Held, failed: &[u64], patched: &[Patched]) -> bool
     requires layout { IsLayout site.now.geometry site.now.perms }
     requires metaslab { site.now.metaslab < site.now.geometry.props.metaslabs }
     requires first { held.first < 2 ^ 48 }
