@@ -2,6 +2,8 @@
 
 #![tactic(auto)]
 
+mod events;
 mod laws;
 
+pub use events::advance;
 pub use laws::numbers_stay_small;
