@@ -1,5 +1,5 @@
 -- What calls ask of a state whose numbers are in their ranges.
-use Rattle.std.proofs.Common.{◌≡◌, ◌+◌, ◌<◌, ◌^◌, Option, Some, None, IfSome, option_map, refl, ap, arith}
+use Rattle.std.proofs.Common.{◌≡◌, ◌<◌, ◌^◌, Option, Some, None, IfSome, option_map, refl, ap, arith}
 use Rattle.draid_machine.specs.State as state
 use Rattle.draid_world.specs.World.{AreLow, core_of, held_in, image_of, loan_of, pass_of, state_of}
 use Rattle.draid_world.specs.declared.world.Lent.{Lent}
