@@ -1,15 +1,7 @@
-//! The state of a metaslab as plain data over ordered maps, and the first kinds of event on it: each is done
-//! exactly where it is legal.
+//! Histories of a metaslab on its maps: so far, that legal events keep numbers in their ranges.
 
 #![tactic(auto)]
 
-mod arms;
-mod blocks;
-mod groups;
-mod leaves;
-mod places;
-mod reads;
-mod tables;
-mod world;
+mod laws;
 
-pub use world::{Arm, Detached, Image, Lent, Site, Tables, World, WorldPass};
+pub use laws::numbers_stay_small;

@@ -10,7 +10,6 @@ use Rattle.draid_script.specs.Sink.{AppendsFront}
 use Rattle.draid_script.specs.declared.reply.Reply.{Reply}
 use Rattle.draid_pool.specs.Close.{HoldsPool}
 use Rattle.draid_pool.specs.State.{Change, State}
-use Rattle.draid_pool.specs.Pool.{Represents, state_of}
 use Rattle.draid_run.specs.Script.{Ends, EndsWithLine, HasRun, IsSession, Prints, RunIs, Shows}
 use Rattle.draid_run.specs.Session.{IsDesk, state_in}
 use Rattle.draid_run.specs.Serve.{PrintsReplies, Served}
@@ -112,12 +111,6 @@ module _ {R : Type 0} (shape : R → Shape) (told : R → Option Told) (faults :
     shows = is.shows;
     prints = prints_all status ended _ start mid new is.prints last;
   }
-
-  pub holds_desk : (pool : Pool R) (desk : Option (Pool R)) (held : ℕ → Option Told) (counts : ℕ → Option ℕ → ℕ) → desk ≡ Some pool
-      → ((changes : List Change) → Represents shape told pool changes → HoldsPool held counts (state_of told faults pool changes))
-      → (changes : List Change) → IsDesk shape told desk changes → MatchOption (state_in told faults desk changes) ⊤ (HoldsPool held counts)
-  holds_desk pool desk held counts is gives changes =
-      subst (λ p. IsDesk shape told p changes → MatchOption (state_in told faults p changes) ⊤ (HoldsPool held counts)) (sym is) (gives changes)
 
   -- a run whose words aren't those of a session
   pub run_refused : (words : List (List ℕ)) (status : Status) (input old new : Option (List ℕ)) (held : ℕ → Option Told) (counts : ℕ → Option ℕ → ℕ) → (IsSession words → ⊥) → EndsWithLine Usage status old new

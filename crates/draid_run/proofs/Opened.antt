@@ -10,10 +10,8 @@ use Rattle.draid_spec.specs.Geometry.{checked_props, geometry_of, layout_of, tot
 use Rattle.draid_spec.specs.Name.{spec_name_of}
 use Rattle.draid_spec.specs.Spec.{checked_width}
 use Rattle.draid_spec.specs.Text.{spec_by}
-use Rattle.draid_names.specs.declared.room.Room.{Room}
 use Rattle.draid_rack.specs.Rack.{Shape, Told}
 use Rattle.draid_script.specs.Line.{Command, CreatePool}
-use Rattle.draid_script.specs.declared.fault.LineFault.{LineFault}
 use Rattle.draid_script.specs.declared.line.PoolKeys.{PoolKeys}
 use Rattle.draid_script.specs.declared.name.CommandName.TheVariants as name
 use Rattle.draid_script.specs.declared.refusal.SpecRefusal.{SpecRefusal}
@@ -23,7 +21,7 @@ use Rattle.draid_pool.specs.State.{Change}
 use Rattle.draid_pool.specs.declared.fault.PoolFault.{PoolFault}
 use Rattle.draid_pool.specs.declared.fault.PoolFault.TheVariants as fault
 use Rattle.draid_pool.specs.declared.pool.Pool.{Pool}
-use Rattle.draid_run.specs.Serve.{Turned}
+use Rattle.draid_run.specs.Serve.{PlainTurned}
 use Rattle.draid_run.specs.Session.{OpensBy, state_in}
 use Rattle.draid_run.specs.State.{layout_from, props_of, refusal_of}
 use Rattle.draid_run.specs.declared.answer.Made.{Made}
@@ -39,11 +37,10 @@ same_spec : (spec : Spec) (props : Props) (layout : Geometry) → geometry_of sp
 same_spec spec props layout is =
     sym (ap (λ (g : Geometry). g.spec) (by_checks (checked_width spec) (checked_props props) (nat_lt 67108864 (total_of props (layout_of spec props).rows)) _ (layout_of spec props) layout is))
 
-module _ {R : Type 0} (shape : R → Shape) (told : R → Option Told) (faults : R → Option ℕ → ℕ)
-    (chosen : List Room → Option ℕ → Type 0) where
+module _ {R : Type 0} (shape : R → Shape) (told : R → Option Told) (faults : R → Option ℕ → ℕ) where
   -- the spec can't be read
   pub unread : (text : List ℕ) (children : ℕ) (keys : PoolKeys) (cause : SpecFault) (why : SpecRefusal) (pool : Option (Pool R)) → spec_by text children ≡ Err cause
-      → why ≡ refusal_of cause → pool ≡ None → Turned shape told faults chosen (Ok (CreatePool text children keys)) None (Some (CreateRefused why)) pool
+      → why ≡ refusal_of cause → pool ≡ None → PlainTurned shape told faults (CreatePool text children keys) None (Some (CreateRefused why)) pool
   unread text children keys cause why pool none is closed = rw closed (record {
     changes = [];
     desk = refl;
@@ -52,9 +49,9 @@ module _ {R : Type 0} (shape : R → Shape) (told : R → Option Told) (faults :
 
   pub made : (text : List ℕ) (children : ℕ) (keys : PoolKeys) (spec : Spec) (m : Made) (result : Result Made PoolFault) (pool : Option (Pool R)) → spec_by text children ≡ Ok spec
       → result ≡ Ok m → OpensBy shape told faults spec (props_of keys) result pool
-      → Turned shape told faults chosen (Ok (CreatePool text children keys)) None (Some (Created m.name m.stripes)) pool
+      → PlainTurned shape told faults (CreatePool text children keys) None (Some (Created m.name m.stripes)) pool
   made text children keys spec m result pool read said opens = at pool (subst (λ r. OpensBy shape told faults spec (props_of keys) r pool) said opens) where
-    at : (p : Option (Pool R)) → OpensBy shape told faults spec (props_of keys) (Ok m) p → Turned shape told faults chosen (Ok (CreatePool text children keys)) None (Some (Created m.name m.stripes)) p
+    at : (p : Option (Pool R)) → OpensBy shape told faults spec (props_of keys) (Ok m) p → PlainTurned shape told faults (CreatePool text children keys) None (Some (Created m.name m.stripes)) p
     at None o = absurd o
     at (Some p) o =
         let spec_is = same_spec spec (props_of keys) o.opens.layout.geometry o.opens.layout.is in
@@ -62,16 +59,16 @@ module _ {R : Type 0} (shape : R → Shape) (told : R → Option Told) (faults :
           changes = [];
           desk = o.opens.represents;
           turns =
-            record {
-              layout = record { geometry = o.opens.layout.geometry; layout = ap (layout_from keys) read ∙ o.opens.layout.is };
-              name_is = o.name_is ∙ ap (λ (s : Spec). spec_name_of s ++ codes "-0") (sym spec_is);
-              stripes_are = o.stripes_are;
-              fresh = o.opens.fresh;
-            };
+              record {
+                layout = record { geometry = o.opens.layout.geometry; layout = ap (layout_from keys) read ∙ o.opens.layout.is };
+                name_is = o.name_is ∙ ap (λ (s : Spec). spec_name_of s ++ codes "-0") (sym spec_is);
+                stripes_are = o.stripes_are;
+                fresh = o.opens.fresh;
+              };
         }
 
   pub refused : (text : List ℕ) (children : ℕ) (keys : PoolKeys) (spec : Spec) (cause : SpecFault) (why : SpecRefusal) (result : Result Made PoolFault) (pool : Option (Pool R)) → spec_by text children ≡ Ok spec → result ≡ Err (fault.Spec cause) → why ≡ refusal_of cause → OpensBy shape told faults spec (props_of keys) result pool
-      → Turned shape told faults chosen (Ok (CreatePool text children keys)) None (Some (CreateRefused why)) pool
+      → PlainTurned shape told faults (CreatePool text children keys) None (Some (CreateRefused why)) pool
   refused text children keys spec cause why result pool read said is opens =
       let o = subst (λ r. OpensBy shape told faults spec (props_of keys) r pool) said opens in
       rw o.1 (record {
@@ -81,7 +78,7 @@ module _ {R : Type 0} (shape : R → Shape) (told : R → Option Told) (faults :
       })
 
   pub no_memory : (text : List ℕ) (children : ℕ) (keys : PoolKeys) (spec : Spec) (result : Result Made PoolFault) (pool : Option (Pool R)) → spec_by text children ≡ Ok spec → result ≡ Err fault.NoMemory → OpensBy shape told faults spec (props_of keys) result pool
-      → Turned shape told faults chosen (Ok (CreatePool text children keys)) None (Some (NoMemory name.Create)) pool
+      → PlainTurned shape told faults (CreatePool text children keys) None (Some (NoMemory name.Create)) pool
   no_memory text children keys spec result pool read said opens =
       let o = subst (λ r. OpensBy shape told faults spec (props_of keys) r pool) said opens in
       rw o.1 (record {
@@ -91,7 +88,7 @@ module _ {R : Type 0} (shape : R → Shape) (told : R → Option Told) (faults :
       })
 
   -- no pool was open
-  pub at_closed : (old : Option (Pool R)) (changes : List Change) (command : Result Command LineFault) (reply : Option Reply) (pool : Option (Pool R)) → is_some old ≡ false
-      → Turned shape told faults chosen command None reply pool → Turned shape told faults chosen command (state_in told faults old changes) reply pool
+  pub at_closed : (old : Option (Pool R)) (changes : List Change) (command : Command) (reply : Option Reply) (pool : Option (Pool R)) → is_some old ≡ false
+      → PlainTurned shape told faults command None reply pool → PlainTurned shape told faults command (state_in told faults old changes) reply pool
   at_closed None changes command reply pool none turned = turned
   at_closed (Some p) changes command reply pool none turned = absurd (cc)

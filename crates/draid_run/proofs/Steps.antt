@@ -1,17 +1,23 @@
 -- What the calls of a pool did, in the words of a session.
-use Rattle.std.proofs.Common.{◌≡◌, ◌∙◌, ℕ, List, [], ◌∷◌, Option, arith, subst}
+use Rattle.std.proofs.Common.{◌≡◌, ◌∙◌, ℕ, List, [], ◌∷◌, Option, Some, Ok, MatchOption, arith, subst, sym}
+use Rattle.std.specs.Prelude.{⊤}
 use Rattle.std.specs.List.{AllZip}
-use Rattle.draid_names.specs.declared.room.Room.{Room}
 use Rattle.draid_rack.specs.Rack.{Shape, Told}
-use Rattle.draid_script.specs.Line.{SumObjects}
+use Rattle.draid_names.specs.declared.room.Room.{Room}
+use Rattle.draid_script.specs.Line.{CreatePool, DamageSector, FreeObject, ReadObject, SumObjects}
+use Rattle.draid_script.specs.declared.line.PoolKeys.{PoolKeys}
+use Rattle.draid_script.specs.declared.reply.Reply.{Reply}
+use Rattle.draid_run.specs.Serve.{PlainTurned, Turned}
 use Rattle.draid_pool.specs.Answers.{SumStops}
-use Rattle.draid_pool.specs.Pool.{Moves}
-use Rattle.draid_pool.specs.State.{Looks, LooksAt, Metaslab, State}
+use Rattle.draid_pool.specs.Close.{HoldsPool}
+use Rattle.draid_pool.specs.Pool.{Moves, Represents, state_of}
+use Rattle.draid_pool.specs.State.{Change, Looks, LooksAt, Metaslab, State}
 use Rattle.draid_pool.specs.declared.fault.ObjectFault.{ObjectFault}
 use Rattle.draid_pool.specs.declared.fault.ObjectFault.TheVariants as object
 use Rattle.draid_pool.specs.declared.pool.Pool.{Pool}
 use Rattle.draid_run.specs.Replies.{sum_refused}
-use Rattle.draid_run.specs.State.{Step}
+use Rattle.draid_run.specs.Session.{IsDesk, state_in}
+use Rattle.draid_run.specs.State.{Plain}
 
 module _ {R : Type 0} (shape : R → Shape) (told : R → Option Told) (faults : R → Option ℕ → ℕ) where
   -- what an answer says, said otherwise
@@ -20,6 +26,13 @@ module _ {R : Type 0} (shape : R → Shape) (told : R → Option Told) (faults :
   by_answer P Q old pool result said is f m =
       let n = subst (λ a. Moves shape told faults (P a) old pool) is m in
       record { changes = n.changes; represents = n.represents; moved = f old _ n.moved }
+
+  -- a pool that was given back
+  pub holds_desk : (pool : Pool R) (desk : Option (Pool R)) (held : ℕ → Option Told) (counts : ℕ → Option ℕ → ℕ) → desk ≡ Some pool
+      → ((changes : List Change) → Represents shape told pool changes → HoldsPool held counts (state_of told faults pool changes))
+      → (changes : List Change) → IsDesk shape told desk changes → MatchOption (state_in told faults desk changes) ⊤ (HoldsPool held counts)
+  holds_desk pool desk held counts is gives changes =
+      subst (λ p. IsDesk shape told p changes → MatchOption (state_in told faults p changes) ⊤ (HoldsPool held counts)) (sym is) (gives changes)
 
 -- nothing changed, and again nothing
 looks_one : (a b c : Metaslab) → LooksAt a b → LooksAt b c → LooksAt a c
@@ -50,7 +63,27 @@ looks_on a b c x y = record {
 }
 
 -- why a sum stopped
-pub stops : (chosen : List Room → Option ℕ → Type 0) (first count o : ℕ) (why : ObjectFault) (old new : State) → SumStops first count (record { object = o; why = why }) old new → Step chosen (SumObjects first count) (sum_refused o why) old new
-stops chosen first count o object.NoObject old new s = record { mid = s.mid; stops = s.stops; cause = s.why; looks = s.looks }
-stops chosen first count o (object.Unreadable absent tried) old new s = record { mid = s.mid; stops = s.stops; cause = s.why; looks = s.looks }
-stops chosen first count o object.NoMemory old new s = looks_on old s.mid new s.stops.looks s.looks
+pub stops : (first count o : ℕ) (why : ObjectFault) (old new : State) → SumStops first count (record { object = o; why = why }) old new → Plain (SumObjects first count) (sum_refused o why) old new
+stops first count o object.NoObject old new s = record { mid = s.mid; stops = s.stops; cause = s.why; looks = s.looks }
+stops first count o (object.Unreadable absent tried) old new s = record { mid = s.mid; stops = s.stops; cause = s.why; looks = s.looks }
+stops first count o object.NoMemory old new s = looks_on old s.mid new s.stops.looks s.looks
+
+-- a command for which no metaslab is chosen, in the words of all commands
+module _ {R : Type 0} (shape : R → Shape) (told : R → Option Told) (faults : R → Option ℕ → ℕ) (chosen : List Room → Option ℕ → Type 0)
+    (old : Option State) (reply : Option Reply) (pool : Option (Pool R)) where
+  pub by_create : (text : List ℕ) (children : ℕ) (keys : PoolKeys) → PlainTurned shape told faults (CreatePool text children keys) old reply pool
+      → Turned shape told faults chosen (Ok (CreatePool text children keys)) old reply pool
+  by_create text children keys t = record { changes = t.changes; desk = t.desk; turns = t.turns }
+
+  pub by_read : (o : ℕ) → PlainTurned shape told faults (ReadObject o) old reply pool → Turned shape told faults chosen (Ok (ReadObject o)) old reply pool
+  by_read o t = record { changes = t.changes; desk = t.desk; turns = t.turns }
+
+  pub by_free : (o : ℕ) → PlainTurned shape told faults (FreeObject o) old reply pool → Turned shape told faults chosen (Ok (FreeObject o)) old reply pool
+  by_free o t = record { changes = t.changes; desk = t.desk; turns = t.turns }
+
+  pub by_sum : (first count : ℕ) → PlainTurned shape told faults (SumObjects first count) old reply pool → Turned shape told faults chosen (Ok (SumObjects first count)) old reply pool
+  by_sum first count t = record { changes = t.changes; desk = t.desk; turns = t.turns }
+
+  pub by_damage : (leaf sector : ℕ) → PlainTurned shape told faults (DamageSector leaf sector) old reply pool
+      → Turned shape told faults chosen (Ok (DamageSector leaf sector)) old reply pool
+  by_damage leaf sector t = record { changes = t.changes; desk = t.desk; turns = t.turns }

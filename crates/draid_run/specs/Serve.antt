@@ -12,7 +12,7 @@ use Rattle.draid_script.specs.declared.fault.LineFault.{LineFault}
 use Rattle.draid_script.specs.declared.reply.Reply.{Reply}
 use Rattle.draid_pool.specs.State.{Change, State}
 use Rattle.draid_pool.specs.declared.pool.Pool.{Pool}
-use Rattle.draid_run.specs.State.{IsUnbuilt, LineFaultIs, Runs, TurnsBy}
+use Rattle.draid_run.specs.State.{IsUnbuilt, LineFaultIs, PlainTurns, Runs, TurnsBy}
 use Rattle.draid_run.specs.Script.{Ends, Shows, said_text}
 use Rattle.draid_run.specs.Session.{IsDesk, state_in}
 use Rattle.draid_run.specs.declared.answer.Unbuilt.{Unbuilt}
@@ -42,6 +42,13 @@ PrintIs text old new (Err status) = ⊥
 abbrev pub PrintsReplies : Status → List ℕ → Option (List ℕ) → Option (List ℕ) → Type 0
 PrintsReplies SinkFault text old new = AppendsFront old new text
 PrintsReplies status text old new = Appends old new text
+
+-- a command for which no metaslab is chosen was done, and this is its reply
+pub record PlainTurned {R : Type 0} (shape : R → Shape) (told : R → Option Told) (faults : R → Option ℕ → ℕ) (command : Command) (old : Option State) (reply : Option Reply)
+    (pool : Option (Pool R)) : Type 0 where
+  pub changes : List Change
+  pub desk : IsDesk shape told pool changes
+  pub turns : PlainTurns old command reply (state_in told faults pool changes)
 
 module _ {R : Type 0} (shape : R → Shape) (told : R → Option Told) (faults : R → Option ℕ → ℕ)
     (chosen : List Room → Option ℕ → Type 0) where

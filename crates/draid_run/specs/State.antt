@@ -82,6 +82,36 @@ pub record SumStops (first count object : ℕ) (why : SumRefusal) (old new : Sta
   pub cause : StopIs object why mid new
   pub looks : Looks mid new
 
+-- What a command for which no metaslab is chosen does to an open pool, and its reply.
+abbrev pub Plain : Command → Reply → State → State → Type 0
+Plain (FreeObject object) (Freed o) old new = (o ≡ object) × Frees object old new
+Plain (FreeObject object) (FreeNoObject o) old new = (o ≡ object) × (write_of old.changes object ≡ None) × Stays old new
+Plain (ReadObject object) (Contents o bytes) old new = (o ≡ object) × ReadsLast old.changes object bytes.items × Looks old new
+Plain (ReadObject object) (NoObject o) old new = (o ≡ object) × (write_of old.changes object ≡ None) × Looks old new
+Plain (ReadObject object) (Unreadable o absent tried) old new = (o ≡ object) × IsLost object absent tried old new × Looks old new
+Plain (ReadObject object) (NoMemory name.Read) old new = Looks old new
+Plain (SumObjects first count) (Summed f c digest) old new = (f ≡ first) × (c ≡ count) × Sums old.changes first count digest × Looks old new
+Plain (SumObjects first count) (SumRefused object why) old new = SumStops first count object why old new
+Plain (SumObjects first count) (NoMemory name.Sum) old new = Looks old new
+Plain (DamageSector leaf sector) (Damaged l s) old new = (l ≡ leaf) × (s ≡ sector) × Damages leaf sector old new
+Plain (DamageSector leaf sector) (DamageRefused l s) old new = (l ≡ leaf) × (s ≡ sector) × (IsThere old leaf sector → ⊥) × Stays old new
+Plain (DamageSector leaf sector) (DamageFailed l s) old new = (l ≡ leaf) × (s ≡ sector) × FailsToDamage leaf sector old new
+Plain command reply old new = ⊥
+
+-- The same where a pool is open, or none is; some have no reply.
+abbrev pub PlainTurns : Option State → Command → Option Reply → Option State → Type 0
+PlainTurns old Silent None new = new ≡ old
+PlainTurns None (CreatePool text children keys) (Some (Created called stripes)) (Some new) = Creates text children keys (string_bytes called) stripes new
+PlainTurns None (CreatePool text children keys) (Some (CreateRefused why)) new = HasNoLayout text children keys why × (new ≡ None)
+PlainTurns None (CreatePool text children keys) (Some (NoMemory name.Create)) new = HasLayout text children keys × (new ≡ None)
+PlainTurns (Some old) (CreatePool text children keys) (Some (PoolOpen name.Create)) new = (new ≡ Some old)
+PlainTurns None (ReadObject object) (Some (NoPool name.Read)) new = new ≡ None
+PlainTurns None (FreeObject object) (Some (NoPool name.Free)) new = new ≡ None
+PlainTurns None (SumObjects first count) (Some (NoPool name.Sum)) new = new ≡ None
+PlainTurns None (DamageSector leaf sector) (Some (NoPool name.Damage)) new = new ≡ None
+PlainTurns (Some old) command (Some reply) (Some new) = Plain command reply old new
+PlainTurns old command reply new = ⊥
+
 -- The contents that `fill` gives an object: as many bytes of the generator xoroshiro128++ that the seed and the object's number seed together, modulo 2^64.
 unfoldable pub content_of : ℕ → ℕ → ℕ → List ℕ
 content_of seed object len = (fill_via_u64 plus_plus len (of_seed (splitmix_seed 16 ((seed + object) % 2 ^ 64)))).0
@@ -108,7 +138,7 @@ module _ (chosen : List Room → Option ℕ → Type 0) where
     pub fills : Fills first written len seed old mid
     pub cause : FillStopIs (content_of seed (first + written) len) why mid new
 
-  -- What a command does to an open pool, and its reply.
+  -- what any command does to an open pool, and its reply
   abbrev pub Step : Command → Reply → State → State → Type 0
   Step (WriteObject object bytes) (Written o) old new = (o ≡ object) × Writes chosen object bytes old new
   Step (WriteObject object bytes) (NoSpace o run disabled full worn) old new = (o ≡ object) × HasNoSpace bytes run disabled full worn old new
@@ -117,35 +147,24 @@ module _ (chosen : List Room → Option ℕ → Type 0) where
   Step (WriteObject object bytes) (NoMemory name.Write) old new = Stays old new
   Step (FillObjects first count len seed) (Filled f written) old new = (f ≡ first) × (written ≡ count) × Fills first count len seed old new
   Step (FillObjects first count len seed) (FillRefused f written why) old new = (f ≡ first) × FillStops first count len seed written why old new
-  Step (FreeObject object) (Freed o) old new = (o ≡ object) × Frees object old new
-  Step (FreeObject object) (FreeNoObject o) old new = (o ≡ object) × (write_of old.changes object ≡ None) × Stays old new
-  Step (ReadObject object) (Contents o bytes) old new = (o ≡ object) × ReadsLast old.changes object bytes.items × Looks old new
-  Step (ReadObject object) (NoObject o) old new = (o ≡ object) × (write_of old.changes object ≡ None) × Looks old new
-  Step (ReadObject object) (Unreadable o absent tried) old new = (o ≡ object) × IsLost object absent tried old new × Looks old new
-  Step (ReadObject object) (NoMemory name.Read) old new = Looks old new
-  Step (SumObjects first count) (Summed f c digest) old new = (f ≡ first) × (c ≡ count) × Sums old.changes first count digest × Looks old new
-  Step (SumObjects first count) (SumRefused object why) old new = SumStops first count object why old new
-  Step (SumObjects first count) (NoMemory name.Sum) old new = Looks old new
-  Step (DamageSector leaf sector) (Damaged l s) old new = (l ≡ leaf) × (s ≡ sector) × Damages leaf sector old new
-  Step (DamageSector leaf sector) (DamageRefused l s) old new = (l ≡ leaf) × (s ≡ sector) × (IsThere old leaf sector → ⊥) × Stays old new
-  Step (DamageSector leaf sector) (DamageFailed l s) old new = (l ≡ leaf) × (s ≡ sector) × FailsToDamage leaf sector old new
-  Step command reply old new = ⊥
+  Step command reply old new = Plain command reply old new
+
+  -- A write where a pool is open, or none is, and its reply. Likewise a fill.
+  abbrev pub WriteTurns : ℕ → List ℕ → Option State → Option Reply → Option State → Type 0
+  WriteTurns object bytes None (Some (NoPool name.Write)) new = new ≡ None
+  WriteTurns object bytes (Some old) (Some reply) (Some new) = Step (WriteObject object bytes) reply old new
+  WriteTurns object bytes old reply new = ⊥
+
+  abbrev pub FillTurns : ℕ → ℕ → ℕ → ℕ → Option State → Option Reply → Option State → Type 0
+  FillTurns first count len seed None (Some (NoPool name.Fill)) new = new ≡ None
+  FillTurns first count len seed (Some old) (Some reply) (Some new) = Step (FillObjects first count len seed) reply old new
+  FillTurns first count len seed old reply new = ⊥
 
   -- What a command does where a pool is open, or none is, and its reply, if it has one.
   abbrev pub Turns : Option State → Command → Option Reply → Option State → Type 0
-  Turns old Silent None new = new ≡ old
-  Turns None (CreatePool text children keys) (Some (Created called stripes)) (Some new) = Creates text children keys (string_bytes called) stripes new
-  Turns None (CreatePool text children keys) (Some (CreateRefused why)) new = HasNoLayout text children keys why × (new ≡ None)
-  Turns None (CreatePool text children keys) (Some (NoMemory name.Create)) new = HasLayout text children keys × (new ≡ None)
-  Turns (Some old) (CreatePool text children keys) (Some (PoolOpen name.Create)) new = (new ≡ Some old)
-  Turns None (WriteObject object bytes) (Some (NoPool name.Write)) new = new ≡ None
-  Turns None (ReadObject object) (Some (NoPool name.Read)) new = new ≡ None
-  Turns None (FillObjects first count len seed) (Some (NoPool name.Fill)) new = new ≡ None
-  Turns None (FreeObject object) (Some (NoPool name.Free)) new = new ≡ None
-  Turns None (SumObjects first count) (Some (NoPool name.Sum)) new = new ≡ None
-  Turns None (DamageSector leaf sector) (Some (NoPool name.Damage)) new = new ≡ None
-  Turns (Some old) command (Some reply) (Some new) = Step command reply old new
-  Turns old command reply new = ⊥
+  Turns old (WriteObject object bytes) reply new = WriteTurns object bytes old reply new
+  Turns old (FillObjects first count len seed) reply new = FillTurns first count len seed old reply new
+  Turns old command reply new = PlainTurns old command reply new
 
   -- what a line of the script does
   abbrev pub TurnsBy : Result Command LineFault → Option State → Option Reply → Option State → Type 0

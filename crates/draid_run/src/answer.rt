@@ -2,7 +2,6 @@
 ghost use Rattle.std.specs.Prelude.{◌≡◌, ◌++◌, ℕ, List, Option, None, Some, Ok, IfOk, codes, string_bytes};
 ghost use Rattle.draid_script.specs.Line.{CreatePool, DamageSector, FillObjects, FreeObject, IsInRange, ReadObject, SumObjects, WriteObject, command_in};
 ghost use Rattle.std.specs.Fn.{FnReturnsAt};
-ghost use Rattle.draid_names.specs.declared.room.Room.{Room};
 ghost use Rattle.draid_choose.specs.Rooms.{IsChooser};
 ghost use Rattle.draid_spec.specs.Geometry.{IsGeometry};
 ghost use Rattle.draid_spec.specs.Spec.{IsSpec};
@@ -11,12 +10,11 @@ ghost use Rattle.draid_map.specs.Place.{stripes_of};
 ghost use Rattle.draid_pool.specs.State.{Change};
 ghost use Rattle.draid_run.specs.State.{props_of, refusal_of};
 ghost use Rattle.draid_run.specs.Session.{IsDesk, OpensBy, state_in};
-ghost use Rattle.draid_run.specs.Serve.{AnswerIs, Turned};
+ghost use Rattle.draid_run.specs.Serve.{AnswerIs, PlainTurned, Turned};
 
-use crate::fill;
-use crate::replies;
-use draid_map::metaslab_stripes;
+use crate::{fill, replies};
 use draid_choose::Chooser;
+use draid_map::metaslab_stripes;
 use draid_names::{NoMemory, Room};
 use draid_pool::{Pool, PoolFault, close};
 use draid_rack::Rack;
@@ -83,8 +81,8 @@ fn create<H: RackShelf>(
     children: u32,
     keys: PoolKeys,
 ) -> Reply
-    ensures turned { (chosen : List Room → Option ℕ → Type 0) (changes : List Change) → IsDesk H.R.shape H.R.told pool.old changes
-        → Turned H.R.shape H.R.told H.R.faults chosen (Ok (CreatePool text.now children keys)) (state_in H.R.told H.R.faults pool.old changes) (Some result) pool.new }
+    ensures turned { (changes : List Change) → IsDesk H.R.shape H.R.told pool.old changes
+        → PlainTurned H.R.shape H.R.told H.R.faults (CreatePool text.now children keys) (state_in H.R.told H.R.faults pool.old changes) (Some result) pool.new }
 {
     if pool.is_some() {
         return Reply::PoolOpen {
@@ -172,8 +170,8 @@ fn write<R: Rack, F: Fn(&[Room]) -> Option<u32>>(
 /// Reads from the pool that is open, if one is.
 fn read<R: Rack>(pool: &mut Option<Pool<R>>, object: u64) -> Reply
     requires desk { (changes : List Change) × IsDesk R.shape R.told pool.old changes }
-    ensures turned { (chosen : List Room → Option ℕ → Type 0) (changes : List Change) → IsDesk R.shape R.told pool.old changes
-        → Turned R.shape R.told R.faults chosen (Ok (ReadObject object)) (state_in R.told R.faults pool.old changes) (Some result) pool.new }
+    ensures turned { (changes : List Change) → IsDesk R.shape R.told pool.old changes
+        → PlainTurned R.shape R.told R.faults (ReadObject object) (state_in R.told R.faults pool.old changes) (Some result) pool.new }
 {
     match pool {
         Some(pool) => replies::read(pool, object),
@@ -206,8 +204,8 @@ fn fill<R: Rack, F: Fn(&[Room]) -> Option<u32>>(
 /// Frees an object of the pool that is open, if one is.
 fn free<R: Rack>(pool: &mut Option<Pool<R>>, object: u64) -> Reply
     requires desk { (changes : List Change) × IsDesk R.shape R.told pool.old changes }
-    ensures turned { (chosen : List Room → Option ℕ → Type 0) (changes : List Change) → IsDesk R.shape R.told pool.old changes
-        → Turned R.shape R.told R.faults chosen (Ok (FreeObject object)) (state_in R.told R.faults pool.old changes) (Some result) pool.new }
+    ensures turned { (changes : List Change) → IsDesk R.shape R.told pool.old changes
+        → PlainTurned R.shape R.told R.faults (FreeObject object) (state_in R.told R.faults pool.old changes) (Some result) pool.new }
 {
     match pool {
         Some(pool) => replies::free(pool, object),
@@ -219,8 +217,8 @@ fn free<R: Rack>(pool: &mut Option<Pool<R>>, object: u64) -> Reply
 fn sum<R: Rack>(pool: &mut Option<Pool<R>>, first: u64, count: u64) -> Reply
     requires range { IsInRange (SumObjects first count) }
     requires desk { (changes : List Change) × IsDesk R.shape R.told pool.old changes }
-    ensures turned { (chosen : List Room → Option ℕ → Type 0) (changes : List Change) → IsDesk R.shape R.told pool.old changes
-        → Turned R.shape R.told R.faults chosen (Ok (SumObjects first count)) (state_in R.told R.faults pool.old changes) (Some result) pool.new }
+    ensures turned { (changes : List Change) → IsDesk R.shape R.told pool.old changes
+        → PlainTurned R.shape R.told R.faults (SumObjects first count) (state_in R.told R.faults pool.old changes) (Some result) pool.new }
 {
     match pool {
         Some(pool) => replies::sum(pool, first, count),
@@ -231,8 +229,8 @@ fn sum<R: Rack>(pool: &mut Option<Pool<R>>, first: u64, count: u64) -> Reply
 /// Damages a sector of the pool that is open, if one is.
 fn damage<R: Rack>(pool: &mut Option<Pool<R>>, leaf: u64, sector: u64) -> Reply
     requires desk { (changes : List Change) × IsDesk R.shape R.told pool.old changes }
-    ensures turned { (chosen : List Room → Option ℕ → Type 0) (changes : List Change) → IsDesk R.shape R.told pool.old changes
-        → Turned R.shape R.told R.faults chosen (Ok (DamageSector leaf sector)) (state_in R.told R.faults pool.old changes) (Some result) pool.new }
+    ensures turned { (changes : List Change) → IsDesk R.shape R.told pool.old changes
+        → PlainTurned R.shape R.told R.faults (DamageSector leaf sector) (state_in R.told R.faults pool.old changes) (Some result) pool.new }
 {
     match pool {
         Some(pool) => replies::damage(pool, leaf, sector),
@@ -241,6 +239,7 @@ fn damage<R: Rack>(pool: &mut Option<Pool<R>>, leaf: u64, sector: u64) -> Reply
 }
 
 /// Does what a line asks for. An empty line and a comment have no reply.
+#[tactic(auto, using(crate::proofs::Steps::by_create, crate::proofs::Steps::by_read, crate::proofs::Steps::by_free, crate::proofs::Steps::by_sum, crate::proofs::Steps::by_damage))]
 pub(crate) fn answer<H: RackShelf, F: Fn(&[Room]) -> Option<u32>>(
     alloc: Global,
     shelf: &mut H,

@@ -1,12 +1,11 @@
 //! What the commands of an open pool reply.
-ghost use Rattle.std.specs.Prelude.{◌≡◌, ℕ, List, Option, length};
+ghost use Rattle.std.specs.Prelude.{◌≡◌, ◌≤◌, ◌<◌, ◌^◌, List, length};
 ghost use Rattle.std.specs.Fn.{FnReturnsAt};
-ghost use Rattle.draid_names.specs.declared.room.Room.{Room};
 ghost use Rattle.draid_choose.specs.Rooms.{IsChooser};
 ghost use Rattle.draid_script.specs.Line.{DamageSector, FreeObject, IsInRange, ReadObject, SumObjects, WriteObject};
 ghost use Rattle.draid_pool.specs.Pool.{Moves, Represents, state_of};
 ghost use Rattle.draid_pool.specs.State.{Change};
-ghost use Rattle.draid_run.specs.State.{Step};
+ghost use Rattle.draid_run.specs.State.{Plain, Step};
 ghost use Rattle.draid_run.specs.Replies.{sum_refused};
 
 use draid_choose::Chooser;
@@ -30,12 +29,14 @@ pub(crate) fn write<R: Rack, F: Fn(&[Room]) -> Option<u32>>(
 {
     match pool.write(chooser, object, bytes) {
         Ok(()) => Reply::Written { object },
-        Err(WriteFault::NoSpace {
-            run,
-            disabled,
-            full,
-            worn,
-        }) => Reply::NoSpace {
+        Err(
+            WriteFault::NoSpace {
+                run,
+                disabled,
+                full,
+                worn,
+            },
+        ) => Reply::NoSpace {
             object,
             run,
             disabled,
@@ -53,8 +54,8 @@ pub(crate) fn write<R: Rack, F: Fn(&[Room]) -> Option<u32>>(
 /// Reads an object.
 pub(crate) fn read<R: Rack>(pool: &mut Pool<R>, object: u64) -> Reply
     requires represents { (changes : List Change) × Represents R.shape R.told pool.old changes }
-    ensures step { (chosen : List Room → Option ℕ → Type 0) (changes : List Change) → Represents R.shape R.told pool.old changes
-        → Moves R.shape R.told R.faults (Step chosen (ReadObject object) result) (state_of R.told R.faults pool.old changes) pool.new }
+    ensures step { (changes : List Change) → Represents R.shape R.told pool.old changes
+        → Moves R.shape R.told R.faults (Plain (ReadObject object) result) (state_of R.told R.faults pool.old changes) pool.new }
 {
     match pool.read(object) {
         Ok(bytes) => Reply::Contents { object, bytes },
@@ -73,8 +74,8 @@ pub(crate) fn read<R: Rack>(pool: &mut Pool<R>, object: u64) -> Reply
 /// Frees an object.
 pub(crate) fn free<R: Rack>(pool: &mut Pool<R>, object: u64) -> Reply
     requires represents { (changes : List Change) × Represents R.shape R.told pool.old changes }
-    ensures step { (chosen : List Room → Option ℕ → Type 0) (changes : List Change) → Represents R.shape R.told pool.old changes
-        → Moves R.shape R.told R.faults (Step chosen (FreeObject object) result) (state_of R.told R.faults pool.old changes) pool.new }
+    ensures step { (changes : List Change) → Represents R.shape R.told pool.old changes
+        → Moves R.shape R.told R.faults (Plain (FreeObject object) result) (state_of R.told R.faults pool.old changes) pool.new }
 {
     match pool.free(object) {
         Ok(()) => Reply::Freed { object },
@@ -86,8 +87,8 @@ pub(crate) fn free<R: Rack>(pool: &mut Pool<R>, object: u64) -> Reply
 pub(crate) fn sum<R: Rack>(pool: &mut Pool<R>, first: u64, count: u64) -> Reply
     requires range { IsInRange (SumObjects first count) }
     requires represents { (changes : List Change) × Represents R.shape R.told pool.old changes }
-    ensures step { (chosen : List Room → Option ℕ → Type 0) (changes : List Change) → Represents R.shape R.told pool.old changes
-        → Moves R.shape R.told R.faults (Step chosen (SumObjects first count) result) (state_of R.told R.faults pool.old changes) pool.new }
+    ensures step { (changes : List Change) → Represents R.shape R.told pool.old changes
+        → Moves R.shape R.told R.faults (Plain (SumObjects first count) result) (state_of R.told R.faults pool.old changes) pool.new }
 {
     match pool.sum(first, count) {
         Ok(digest) => Reply::Summed {
@@ -122,8 +123,8 @@ fn refuse_sum(fault: SumFault) -> Reply
 /// Damages a sector of a leaf.
 pub(crate) fn damage<R: Rack>(pool: &mut Pool<R>, leaf: u64, sector: u64) -> Reply
     requires represents { (changes : List Change) × Represents R.shape R.told pool.old changes }
-    ensures step { (chosen : List Room → Option ℕ → Type 0) (changes : List Change) → Represents R.shape R.told pool.old changes
-        → Moves R.shape R.told R.faults (Step chosen (DamageSector leaf sector) result) (state_of R.told R.faults pool.old changes) pool.new }
+    ensures step { (changes : List Change) → Represents R.shape R.told pool.old changes
+        → Moves R.shape R.told R.faults (Plain (DamageSector leaf sector) result) (state_of R.told R.faults pool.old changes) pool.new }
 {
     match pool.damage(leaf, sector) {
         Ok(()) => Reply::Damaged { leaf, sector },

@@ -246,8 +246,10 @@ fn last_fit(rooms: &[Room]) -> Option<u32>
 #[test]
 fn metaslabs_fill(rt: HostRuntime) -> Result<(), Fail> {
     let alloc = rt.alloc();
-    let lines = "create draid1:2d:3c:0s 3 sector=512 height=8 metaslabs=2 slices=1\nfill 1 17 1024 1\nread 17\nfree 1\nfree 1\nsum 2 1\n";
-    let replies = "create draid1:2d:3c:0s-0 stripes=16\nfill 1 written=16 no space run=0 disabled=0 full=0 worn=0\nread 17 no object\nfree 1 ok\nfree 1 no object\n";
+    let lines =
+        "create draid1:2d:3c:0s 3 sector=512 height=8 metaslabs=2 slices=1\nfill 1 17 1024 1\nread 17\nfree 1\nfree 1\nsum 2 1\n";
+    let replies =
+        "create draid1:2d:3c:0s-0 stripes=16\nfill 1 written=16 no space run=0 disabled=0 full=0 worn=0\nread 17 no object\nfree 1 ok\nfree 1 no object\n";
     let script = Vec::from_slice(alloc, lines.as_bytes())?;
     let (ended, printed) = run_words(&rt, "session", script.clone()?, &NONE)?;
     assert_eq!(rt; ended, Status::Done);
@@ -263,8 +265,10 @@ fn metaslabs_fill(rt: HostRuntime) -> Result<(), Fail> {
 #[test]
 fn entries_fill(rt: HostRuntime) -> Result<(), Fail> {
     let alloc = rt.alloc();
-    let lines = "create draid1:2d:3c:0s 3 sector=512 height=8 metaslabs=1 slices=513\nfill 1 4097 1 1\n";
-    let replies = "create draid1:2d:3c:0s-0 stripes=4104\nfill 1 written=4096 no space run=0 disabled=0 full=1 worn=0\n";
+    let lines =
+        "create draid1:2d:3c:0s 3 sector=512 height=8 metaslabs=1 slices=513\nfill 1 4097 1 1\n";
+    let replies =
+        "create draid1:2d:3c:0s-0 stripes=4104\nfill 1 written=4096 no space run=0 disabled=0 full=1 worn=0\n";
     let script = Vec::from_slice(alloc, lines.as_bytes())?;
     let (ended, printed) = run_words(&rt, "session", script, &NONE)?;
     assert_eq!(rt; ended, Status::Done);

@@ -4,27 +4,37 @@ use Rattle.draid_pool.specs.Answers.{WriteIs}
 use Rattle.draid_run.proofs.Steps.{by_answer}
 use Rattle.draid_run.proofs.replies.write.Goals as goal
 
-pub returns-in-Ok-clause-step : goal.returns-in-Ok-clause-step
-returns-in-Ok-clause-step g c changes is =
-    by_answer g.R.Rack.shape g.R.Rack.told g.R.Rack.faults (λ r. WriteIs (FnReturnsAt g.F.Fn c.args.chooser.now) c.args.object c.args.bytes.now r) _ _ _ c.write.result (Ok tt) c.in-Ok.is
-    (λ x y w. (refl, w)) (c.write.ensures.step changes is)
+pub returns-in-Ok : goal.returns-in-Ok
+returns-in-Ok g c = record {
+  step = λ changes is.
+      by_answer g.R.Rack.shape g.R.Rack.told g.R.Rack.faults (λ r. WriteIs (FnReturnsAt g.F.Fn c.args.chooser.now) c.args.object c.args.bytes.now r) _ _ _ c.write.result (Ok tt) c.in-Ok.is
+      (λ x y w. (refl, w)) (c.write.ensures.step changes is);
+}
 
-pub returns-in-Err-NoSpace-clause-step : goal.returns-in-Err-NoSpace-clause-step
-returns-in-Err-NoSpace-clause-step g c changes is =
-    by_answer g.R.Rack.shape g.R.Rack.told g.R.Rack.faults (λ r. WriteIs (FnReturnsAt g.F.Fn c.args.chooser.now) c.args.object c.args.bytes.now r) _ _ _ c.write.result _ (c.in-Err-NoSpace.is ∙ ap Err c.in-Err-NoSpace.field-0-is)
-    (λ x y w. (refl, w)) (c.write.ensures.step changes is)
+pub returns-in-Err-NoSpace : goal.returns-in-Err-NoSpace
+returns-in-Err-NoSpace g c = record {
+  step = λ changes is.
+      by_answer g.R.Rack.shape g.R.Rack.told g.R.Rack.faults (λ r. WriteIs (FnReturnsAt g.F.Fn c.args.chooser.now) c.args.object c.args.bytes.now r) _ _ _ c.write.result _ (c.in-Err-NoSpace.is ∙ ap Err c.in-Err-NoSpace.field-0-is)
+      (λ x y w. (refl, w)) (c.write.ensures.step changes is);
+}
 
-pub returns-in-Err-Missed-clause-step : goal.returns-in-Err-Missed-clause-step
-returns-in-Err-Missed-clause-step g c changes is =
-    by_answer g.R.Rack.shape g.R.Rack.told g.R.Rack.faults (λ r. WriteIs (FnReturnsAt g.F.Fn c.args.chooser.now) c.args.object c.args.bytes.now r) _ _ _ c.write.result _ (c.in-Err-Missed.is ∙ ap Err c.in-Err-Missed.field-0-is)
-    (λ x y w. (refl, w)) (c.write.ensures.step changes is)
+pub returns-in-Err-Missed : goal.returns-in-Err-Missed
+returns-in-Err-Missed g c = record {
+  step = λ changes is.
+      by_answer g.R.Rack.shape g.R.Rack.told g.R.Rack.faults (λ r. WriteIs (FnReturnsAt g.F.Fn c.args.chooser.now) c.args.object c.args.bytes.now r) _ _ _ c.write.result _ (c.in-Err-Missed.is ∙ ap Err c.in-Err-Missed.field-0-is)
+      (λ x y w. (refl, w)) (c.write.ensures.step changes is);
+}
 
-pub returns-in-Err-Last-clause-step : goal.returns-in-Err-Last-clause-step
-returns-in-Err-Last-clause-step g c changes is =
-    by_answer g.R.Rack.shape g.R.Rack.told g.R.Rack.faults (λ r. WriteIs (FnReturnsAt g.F.Fn c.args.chooser.now) c.args.object c.args.bytes.now r) _ _ _ c.write.result _ (c.in-Err-Last.is ∙ ap Err c.in-Err-Last.field-0-is)
-    (λ x y w. (refl, w)) (c.write.ensures.step changes is)
+pub returns-in-Err-Last : goal.returns-in-Err-Last
+returns-in-Err-Last g c = record {
+  step = λ changes is.
+      by_answer g.R.Rack.shape g.R.Rack.told g.R.Rack.faults (λ r. WriteIs (FnReturnsAt g.F.Fn c.args.chooser.now) c.args.object c.args.bytes.now r) _ _ _ c.write.result _ (c.in-Err-Last.is ∙ ap Err c.in-Err-Last.field-0-is)
+      (λ x y w. (refl, w)) (c.write.ensures.step changes is);
+}
 
-pub returns-in-Err-NoMemory-clause-step : goal.returns-in-Err-NoMemory-clause-step
-returns-in-Err-NoMemory-clause-step g c changes is =
-    by_answer g.R.Rack.shape g.R.Rack.told g.R.Rack.faults (λ r. WriteIs (FnReturnsAt g.F.Fn c.args.chooser.now) c.args.object c.args.bytes.now r) _ _ _ c.write.result _ (c.in-Err-NoMemory.is ∙ ap Err c.in-Err-NoMemory.field-0-is)
-    (λ x y w. w) (c.write.ensures.step changes is)
+pub returns-in-Err-NoMemory : goal.returns-in-Err-NoMemory
+returns-in-Err-NoMemory g c = record {
+  step = λ changes is.
+      by_answer g.R.Rack.shape g.R.Rack.told g.R.Rack.faults (λ r. WriteIs (FnReturnsAt g.F.Fn c.args.chooser.now) c.args.object c.args.bytes.now r) _ _ _ c.write.result _ (c.in-Err-NoMemory.is ∙ ap Err c.in-Err-NoMemory.field-0-is)
+      (λ x y w. w) (c.write.ensures.step changes is);
+}

@@ -9,7 +9,7 @@ lines-init g c =
     let given_of : Rest → ℕ = λ r. r.given in
     let given = ap given_of c.new-lines.ensures in
     record {
-      serving = serving_start _ _ _ _ _ c.new-lines.result c.args.pool.now c.new-lines.ensures c.requires.closed;
+      serving = serving_start _ _ _ _ _ _ c.new-lines.result c.args.pool.now c.new-lines.ensures c.requires.closed;
       fault = ap (λ (r : Rest). r.fault) c.new-lines.ensures;
       given = omega (arith, given);
       few = omega (arith, given);
@@ -19,13 +19,13 @@ lines-init g c =
 
 pub returns-in-Ok-None-clause-served : goal.returns-in-Ok-None-clause-served
 returns-in-Ok-None-clause-served g c =
-    served_done _ _ _ _ _ _ _ _ _ _ c.lines.invariant.serving (text_by c.lines.lines c.next_text.new.lines _ _ _ _ c.in-Ok-None.field-0-is c.in-Ok-None.ensures.text)
+    served_done _ _ _ _ _ _ _ _ _ _ _ c.lines.invariant.serving (text_by c.lines.lines c.next_text.new.lines _ _ _ _ c.in-Ok-None.field-0-is c.in-Ok-None.ensures.text)
 
 pub returns-in-Err-serve_line-clause-served : goal.returns-in-Err-serve_line-clause-served
 returns-in-Err-serve_line-clause-served g c =
     let serving = c.lines.invariant.serving in
     let text = text_by c.lines.lines c.next_text.new.lines _ _ _ _ c.in-Ok-Some.field-0-is c.in-Ok-Some.ensures.text in
-    served_line _ _ _ _ _ _ _ _ _ _ text.3 _ c.lines.pool _ _ serving
+    served_line _ _ _ _ _ _ _ _ _ _ _ text.3 _ c.lines.pool _ _ serving
     (line_by g.H.R.Rack.shape g.H.R.Rack.told g.H.R.Rack.faults (FnReturnsAt g.F.Fn c.args.chooser.now) c.lines.number _ _ c.in-Ok-Some.text.items c.lines.pool serving.changes c.serve_line.new.pool (g.K.Sink.held c.lines.sink) (g.K.Sink.held c.serve_line.new.sink) (Err c.in-Err-serve_line.status) (sym c.lines.invariant.given) c.deref.ensures.value (c.in-Err-serve_line.ensures.line serving.changes serving.desk))
 
 pub lines-preserved : goal.lines-preserved
@@ -39,7 +39,7 @@ lines-preserved g c =
     let sink = c.lines.invariant.sink_later in
     let sink' = c.serve_line.ensures.later in
     record {
-      serving = rw one (serving_more _ _ _ _ _ _ _ _ _ _ _ _ _ serving text.3 (line_by g.H.R.Rack.shape g.H.R.Rack.told g.H.R.Rack.faults (FnReturnsAt g.F.Fn c.args.chooser.now) c.lines.number c.lines.number _ c.in-Ok-Some.text.items c.lines.pool serving.changes c.serve_line.new.pool (g.K.Sink.held c.lines.sink) (g.K.Sink.held c.serve_line.new.sink) (Ok tt) refl c.deref.ensures.value (c.in_default.ensures.line serving.changes serving.desk)));
+      serving = rw one (serving_more _ _ _ _ _ _ _ _ _ _ _ _ _ _ serving text.3 (line_by g.H.R.Rack.shape g.H.R.Rack.told g.H.R.Rack.faults (FnReturnsAt g.F.Fn c.args.chooser.now) c.lines.number c.lines.number _ c.in-Ok-Some.text.items c.lines.pool serving.changes c.serve_line.new.pool (g.K.Sink.held c.lines.sink) (g.K.Sink.held c.serve_line.new.sink) (Ok tt) refl c.deref.ensures.value (c.in_default.ensures.line serving.changes serving.desk)));
       fault = text.2;
       given = omega (arith, one, given);
       few = text.1;

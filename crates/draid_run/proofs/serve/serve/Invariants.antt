@@ -8,7 +8,7 @@ use Rattle.draid_run.proofs.serve.serve.Given as goal
 -- the lines so far were answered, and as many were given
 abbrev pub invariant-lines : goal.invariant-lines
 invariant-lines g l = let rack = g.H.R.Rack in let source = g.S.Source in let sink = g.K.Sink in record {
-  serving : Serving rack.shape rack.told rack.faults (FnReturnsAt g.F.Fn l.fn.chooser.now) (source.left l.initial.source) (prepend_known l.lines.held (source.left l.source)) (sink.held l.initial.sink) (sink.held l.sink) l.pool l.lines.given;
+  serving : Serving rack.shape rack.told rack.faults (FnReturnsAt g.F.Fn l.fn.chooser) (source.left l.initial.source) (prepend_known l.lines.held (source.left l.source)) (sink.held l.initial.sink) (sink.held l.sink) l.pool l.lines.given;
   fault : l.lines.fault ≡ None;
   given : l.lines.given + 1 ≡ l.number;
   few : l.lines.given ≤ most_lines;

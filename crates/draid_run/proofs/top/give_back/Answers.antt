@@ -1,4 +1,4 @@
-use Rattle.draid_run.proofs.Ended.{holds_desk}
+use Rattle.draid_run.proofs.Steps.{holds_desk}
 use Rattle.draid_run.proofs.top.give_back.Goals as goal
 
 pub returns-in-Some : goal.returns-in-Some

@@ -1,0 +1,109 @@
+-- Segments that have to be there.
+use Rattle.std.proofs.Common.{◌≡◌, ◌==◌, ◌+◌, ◌<◌, ◌&&◌, ◌||◌, not, ℕ, Bool, true, false, nat_lt, List, ◌∷◌, Option, Some, None, drop, length, get_or, refl, sym, ◌∙◌, ap, ap₂, subst}
+use Rattle.std.specs.List.{list_any}
+use Rattle.std.proofs.lemmas.Bool.{true≢false}
+use Rattle.std.proofs.lemmas.List.{drop_more}
+use Rattle.draid_machine.specs.declared.names.Key.{Key}
+use Rattle.draid_machine.specs.declared.names.ArmName.{ArmName}
+use Rattle.draid_machine.specs.declared.names.Held.{Held}
+use Rattle.draid_machine.specs.declared.names.Segment.{Segment}
+use Rattle.draid_machine.specs.Names.{key_eq, name_eq, has_name, segment_eq, has_segment, is_block, is_put}
+use Rattle.draid_machine.specs.State.{Layout, Core, Arm}
+use Rattle.draid_machine.specs.Arms.{lies}
+use Rattle.draid_machine.specs.Claims.{is_on, passed, claimed, claims}
+use Rattle.draid_machine.proofs.Small.{both_true, true_both, key_true, name_true, is_equal, equal, key_refl, name_refl}
+use Rattle.draid_steps.specs.Columns.{is_row}
+use Rattle.draid_steps.proofs.Lists.{name_passes}
+
+pub claim_by : (l : Layout) (q : Core) (s : Segment) (h : Held) (a : Arm) → q.held s.key ≡ Some h → q.arm s.arm ≡ Some a → is_on l q.order s h ≡ true → is_put h.stage s.column ≡ true
+    → (not (a.log h.birth) || (is_block h.stage && passed q.pass s.arm h s.row)) ≡ claims l q s
+claim_by l q s h a found arm on put =
+    sym (ap (λ b. b && is_put h.stage s.column && rest) on ∙ ap (λ b. true && b && rest) put)
+    ∙ sym (ap₂ (λ (o : Option Held) (p : Option Arm). claimed l q s o p) found arm)
+  where
+    rest : Bool
+    rest = not (a.log h.birth) || (is_block h.stage && passed q.pass s.arm h s.row)
+
+pub claim_clean : (l : Layout) (q : Core) (s : Segment) (h : Held) (a : Arm) → q.held s.key ≡ Some h → q.arm s.arm ≡ Some a → is_on l q.order s h ≡ true → is_put h.stage s.column ≡ true → a.log h.birth ≡ false
+    → true ≡ claims l q s
+claim_clean l q s h a found arm on put clean = sym (ap (λ b. not b || (is_block h.stage && passed q.pass s.arm h s.row)) clean) ∙ claim_by l q s h a found arm on put
+
+pub claim_passed : (l : Layout) (q : Core) (s : Segment) (h : Held) (a : Arm) → q.held s.key ≡ Some h → q.arm s.arm ≡ Some a → is_on l q.order s h ≡ true → is_put h.stage s.column ≡ true → a.log h.birth ≡ true
+    → (is_block h.stage && passed q.pass s.arm h s.row) ≡ claims l q s
+claim_passed l q s h a found arm on put logged = sym (ap (λ b. not b || (is_block h.stage && passed q.pass s.arm h s.row)) logged) ∙ claim_by l q s h a found arm on put
+
+pub claim_none : (l : Layout) (q : Core) (s : Segment) (h : Held) → q.held s.key ≡ Some h → q.arm s.arm ≡ None → false ≡ claims l q s
+claim_none l q s h found none = sym (ap₂ (λ (o : Option Held) (p : Option Arm). claimed l q s o p) found none)
+
+pub claim_is_on : (l : Layout) (q : Core) (s : Segment) → claims l q s ≡ true → (h : Held) × (q.held s.key ≡ Some h) × (is_on l q.order s h ≡ true)
+claim_is_on l q s is = by (q.held s.key) refl (q.arm s.arm) is
+  where
+    by : (o : Option Held) → q.held s.key ≡ o → (p : Option Arm) → claimed l q s o p ≡ true → (h : Held) × (q.held s.key ≡ Some h) × (is_on l q.order s h ≡ true)
+    by None at p is = absurd (true≢false (sym is))
+    by (Some h) at None is = absurd (true≢false (sym is))
+    by (Some h) at (Some a) is = (
+      h,
+      at,
+      (both_true (is_on l q.order s h) (is_put h.stage s.column)
+          (both_true (is_on l q.order s h && is_put h.stage s.column) (not (a.log h.birth) || (is_block h.stage && passed q.pass s.arm h s.row)) is).0).0,
+    )
+
+pub same_segment : (t s : Segment) → segment_eq t s ≡ true → t ≡ s
+same_segment t s e =
+    let a = both_true (key_eq t.key s.key && (t.column == s.column) && name_eq t.arm s.arm && (t.leaf == s.leaf)) (t.row == s.row) e in
+    let b = both_true (key_eq t.key s.key && (t.column == s.column) && name_eq t.arm s.arm) (t.leaf == s.leaf) a.0 in
+    let d = both_true (key_eq t.key s.key && (t.column == s.column)) (name_eq t.arm s.arm) b.0 in
+    let f = both_true (key_eq t.key s.key) (t.column == s.column) d.0 in
+    λ i. record { key = key_true t.key s.key f.0 i; column = is_equal t.column s.column f.1 i; arm = name_true t.arm s.arm d.1 i; leaf = is_equal t.leaf s.leaf b.1 i; row = is_equal t.row s.row a.1 i }
+
+-- a segment that is tested joins a set
+pub not_added : (test : Segment → Bool) (t s : Segment) (b : Bool) → test t ≡ false → b ≡ ((segment_eq t s && test s) || b)
+not_added test t s b no_test = bits (segment_eq t s) (test s) b (λ e. sym (ap test (same_segment t s e)) ∙ no_test)
+  where
+    bits : (e c b : Bool) → (e ≡ true → c ≡ false) → b ≡ ((e && c) || b)
+    bits true true b f = absurd (true≢false (f refl))
+    bits true false b f = refl
+    bits false c b f = refl
+
+pub is_added : (test : Segment → Bool) (t s : Segment) (b : Bool) → test t ≡ true → (segment_eq t s || b) ≡ ((segment_eq t s && test s) || b)
+is_added test t s b passes = bits (segment_eq t s) (test s) b (λ e. sym (ap test (same_segment t s e)) ∙ passes)
+  where
+    bits : (e c b : Bool) → (e ≡ true → c ≡ true) → (e || b) ≡ ((e && c) || b)
+    bits true true b f = refl
+    bits true false b f = absurd (true≢false (sym (f refl)))
+    bits false c b f = refl
+
+pub one_more : (e c o d : Bool) → (((e && c) || o) || (d && c)) ≡ (o || ((e || d) && c))
+one_more true true true d = refl
+one_more true true false d = refl
+one_more true false true d = refl
+one_more true false false true = refl
+one_more true false false false = refl
+one_more false c true d = refl
+one_more false c false d = refl
+
+pub next_of_list : (ss : List Segment) (at : ℕ) (d s : Segment) (c o new : Bool) → at < length ss → new ≡ ((segment_eq (get_or ss at d) s && c) || o)
+    → (new || (has_segment (drop (at + 1) ss) s && c)) ≡ (o || (has_segment (drop at ss) s && c))
+next_of_list ss at d s c o new less is =
+    ap (λ b. b || (has_segment (drop (at + 1) ss) s && c)) is ∙ one_more (segment_eq (get_or ss at d) s) c o (has_segment (drop (at + 1) ss) s)
+    ∙ ap (λ ts. o || (has_segment ts s && c)) (sym (drop_more ss at d less))
+
+pub next_of_set : (left rest : List Segment) (t s : Segment) (c o new : Bool) → left ≡ t ∷ rest → new ≡ ((segment_eq t s && c) || o) → (new || (has_segment rest s && c)) ≡ (o || (has_segment left s && c))
+next_of_set left rest t s c o new at is =
+    ap (λ b. b || (has_segment rest s && c)) is ∙ one_more (segment_eq t s) c o (has_segment rest s) ∙ ap (λ ts. o || (has_segment ts s && c)) (sym at)
+
+-- a segment of a column on an arm of its slot
+pub on_row : (l : Layout) (order : ℕ → List ArmName) (k : Key) (h : Held) (column : ℕ) (ns : List ArmName) (s : Segment) → k ≡ s.key → s.column ≡ column → ns ≡ order (l.slot_of h.first column)
+    → is_on l order s h ≡ true → list_any (λ n. is_row l order k h column n h.stripes s) ns ≡ true
+on_row l order k h column ns s key at is on =
+    let z = both_true (has_name (order (l.slot_of h.first s.column)) s.arm && nat_lt s.column l.columns && nat_lt s.row h.stripes) (lies l order s.arm (h.first + s.row) s.leaf) on in
+    let y = both_true (has_name (order (l.slot_of h.first s.column)) s.arm && nat_lt s.column l.columns) (nat_lt s.row h.stripes) z.0 in
+    let x = both_true (has_name (order (l.slot_of h.first s.column)) s.arm) (nat_lt s.column l.columns) y.0 in
+    let there : has_name ns s.arm ≡ true = ap (λ ms. has_name ms s.arm) (is ∙ ap (λ c. order (l.slot_of h.first c)) (sym at)) ∙ x.0 in
+    let same : key_eq k s.key ≡ true = subst (λ j. key_eq k j ≡ true) key (key_refl k) in
+    name_passes (λ n. is_row l order k h column n h.stripes s) ns s.arm there
+    (true_both (key_eq k s.key && (s.column == column) && name_eq s.arm s.arm && nat_lt s.row h.stripes) (lies l order s.arm (h.first + s.row) s.leaf)
+    (true_both (key_eq k s.key && (s.column == column) && name_eq s.arm s.arm) (nat_lt s.row h.stripes)
+    (true_both (key_eq k s.key && (s.column == column)) (name_eq s.arm s.arm) (true_both (key_eq k s.key) (s.column == column) same (equal s.column column at)) (name_refl s.arm))
+    y.1)
+    z.1)

@@ -1,0 +1,3 @@
+pub mod Anyone
+pub mod Claiming
+pub mod Copied

@@ -1,0 +1,19 @@
+use Rattle.std.proofs.Common.{◌∙◌, ◌||◌, Bool, ap, sym}
+use Rattle.std.specs.List.{list_any}
+use Rattle.draid_machine.specs.declared.names.Key.{Key}
+use Rattle.draid_machine.specs.declared.names.Held.{Held}
+use Rattle.draid_steps.proofs.Entries.{ordered_apart}
+use Rattle.draid_images.specs.Seals.{is_early}
+use Rattle.draid_images.proofs.Anyone.{any_held, no_held}
+use Rattle.draid_images.proofs.seals.has_early_ticket.Goals as goal
+
+pub returns-then-is_early_ticket-clause-yes : goal.returns-then-is_early_ticket-clause-yes
+returns-then-is_early_ticket-clause-yes c = λ e.
+    let test : Key × Held → Bool = λ x. is_early c.args.group x.1 in
+    any_held (is_early c.args.group) c.args.held.now.entries (ordered_apart c.args.held.now.entries c.iter-found-items.ensures.ordered)
+    (c.loop-found.invariant ∙ ap (list_any test) c.in-Some.ensures.steps ∙ ap (λ b. b || list_any test c.next.new.self) (sym c.is_early_ticket.ensures ∙ c.if-is_early_ticket.true))
+
+pub returns-clause-no : goal.returns-clause-no
+returns-clause-no c = λ e.
+    let test : Key × Held → Bool = λ x. is_early c.args.group x.1 in
+    no_held (is_early c.args.group) c.args.held.now.entries (c.loop-found.invariant ∙ ap (list_any test) c.in-None.ensures.steps.0)

@@ -1,0 +1,5 @@
+pub mod Blocks
+pub mod Landings
+pub mod Lending
+pub mod Mending
+pub mod Stripes

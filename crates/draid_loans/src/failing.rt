@@ -1,0 +1,171 @@
+ghost use Rattle.std.specs.Prelude.{◌≡◌, ◌<◌, ◌+◌, ◌^◌, ℕ, Some, true, false, IfSome, IfNone};
+ghost use Rattle.draid_machine.specs.Arms as arms;
+ghost use Rattle.draid_machine.specs.Names.{has_name, has_number};
+ghost use Rattle.draid_machine.specs.Step.{ReadsThere};
+ghost use Rattle.draid_machine.specs.declared.names.ArmName.{ArmName};
+ghost use Rattle.draid_machine.specs.declared.names.Held.{Held};
+ghost use Rattle.draid_machine.specs.declared.names.Key.{Key};
+ghost use Rattle.draid_map.specs.Place.{IsLayout};
+ghost use Rattle.draid_loans.specs.Lending.{AllRead, IsAnswering, MayLend, ReadsAt};
+ghost use Rattle.draid_passes.specs.Left.{AreShort};
+ghost use Rattle.draid_world.specs.World.{core_of, held_in, pass_of, site_layout};
+
+use crate::sources::source;
+use draid_machine::{ArmName, Held, Key};
+use draid_passes::{is_heal, is_lent};
+use draid_world::arms::{leaf_answers, names_of};
+use draid_world::places::{leaf_at, slot_of};
+use draid_world::{Site, Tables, WorldPass};
+
+/// Whether an arm keeps what belongs to a stripe on a leaf.
+pub(crate) fn lies_at(site: &Site, tables: &Tables, name: ArmName, stripe: u64, leaf: u64) -> bool
+    requires layout { IsLayout site.now.geometry site.now.perms }
+    requires metaslab { site.now.metaslab < site.now.geometry.props.metaslabs }
+    requires stripe { stripe < 2 ^ 48 }
+    ensures yes { result ≡ true → arms.leaf_at (site_layout site.now) (core_of tables.now).order name stripe ≡ Some leaf }
+    ensures no { result ≡ false → arms.leaf_at (site_layout site.now) (core_of tables.now).order name stripe ≡ Some leaf → ⊥ }
+{
+    match leaf_at(site, &tables.order, name, stripe) {
+        Some(found) => found == leaf,
+        None => false,
+    }
+}
+
+/// Whether some arm of a list answers at a stripe from a leaf.
+pub fn any_answers(site: &Site, tables: &Tables, names: &[ArmName], stripe: u64, leaf: u64) -> bool
+    requires layout { IsLayout site.now.geometry site.now.perms }
+    requires metaslab { site.now.metaslab < site.now.geometry.props.metaslabs }
+    requires stripe { stripe < 2 ^ 48 }
+    ensures yes { result ≡ true → IsAnswering (site_layout site.now) (core_of tables.now) names.now stripe leaf }
+    ensures no { result ≡ false → IsAnswering (site_layout site.now) (core_of tables.now) names.now stripe leaf → ⊥ }
+{
+    if !leaf_answers(tables, leaf) {
+        return false;
+    }
+    for at in 0..names.len() {
+        if lies_at(site, tables, names[at], stripe, leaf) {
+            return true;
+        }
+    }
+    false
+}
+
+/// Whether a pass reads a column from a leaf.
+fn reads_at(
+    site: &Site,
+    tables: &Tables,
+    pass: &WorldPass,
+    held: Held,
+    stripe: u64,
+    column: u32,
+    leaf: u64,
+) -> bool
+    requires layout { IsLayout site.now.geometry site.now.perms }
+    requires metaslab { site.now.metaslab < site.now.geometry.props.metaslabs }
+    requires first { held.first < 2 ^ 48 }
+    requires stripe { stripe < 2 ^ 48 }
+    requires column { column < site.now.geometry.g }
+    ensures yes { result ≡ true → ReadsAt (site_layout site.now) (core_of tables.now) (pass_of pass.now) held stripe column leaf }
+    ensures no { result ≡ false → ReadsAt (site_layout site.now) (core_of tables.now) (pass_of pass.now) held stripe column leaf → ⊥ }
+{
+    if is_heal(pass.kind) {
+        let names = names_of(&tables.order, slot_of(site, held.first, column) as usize);
+        return any_answers(site, tables, names, stripe, leaf);
+    }
+    match source(site, tables, stripe, column) {
+        Some(name) => lies_at(site, tables, name, stripe, leaf),
+        None => false,
+    }
+}
+
+/// Whether a pass reads some column of a stripe from a leaf.
+fn reads_there(
+    site: &Site,
+    tables: &Tables,
+    pass: &WorldPass,
+    held: Held,
+    stripe: u64,
+    leaf: u64,
+) -> bool
+    requires layout { IsLayout site.now.geometry site.now.perms }
+    requires metaslab { site.now.metaslab < site.now.geometry.props.metaslabs }
+    requires first { held.first < 2 ^ 48 }
+    requires stripe { stripe < 2 ^ 48 }
+    ensures yes { result ≡ true → ReadsThere (site_layout site.now) (core_of tables.now) (pass_of pass.now) held stripe leaf }
+    ensures no { result ≡ false → ReadsThere (site_layout site.now) (core_of tables.now) (pass_of pass.now) held stripe leaf → ⊥ }
+{
+    for column in 0..site.geometry.g {
+        if reads_at(site, tables, pass, held, stripe, column, leaf) {
+            return true;
+        }
+    }
+    false
+}
+
+/// Whether a pass reads a stripe from each leaf of a list.
+fn reads_all(
+    site: &Site,
+    tables: &Tables,
+    pass: &WorldPass,
+    held: Held,
+    stripe: u64,
+    leaves: &[u64],
+) -> bool
+    requires layout { IsLayout site.now.geometry site.now.perms }
+    requires metaslab { site.now.metaslab < site.now.geometry.props.metaslabs }
+    requires first { held.first < 2 ^ 48 }
+    requires stripe { stripe < 2 ^ 48 }
+    ensures yes { result ≡ true → AllRead (site_layout site.now) (core_of tables.now) (pass_of pass.now) held stripe leaves.now }
+    ensures no { result ≡ false → AllRead (site_layout site.now) (core_of tables.now) (pass_of pass.now) held stripe leaves.now → ⊥ }
+{
+    for at in 0..leaves.len() {
+        if !reads_there(site, tables, pass, held, stripe, leaves[at]) {
+            return false;
+        }
+    }
+    true
+}
+
+/// Whether a pass may lend a stripe of a block while calls fail on these leaves.
+fn may_lend(
+    site: &Site,
+    tables: &Tables,
+    pass: &WorldPass,
+    held: Held,
+    stripe: u64,
+    failed: &[u64],
+) -> bool
+    requires layout { IsLayout site.now.geometry site.now.perms }
+    requires metaslab { site.now.metaslab < site.now.geometry.props.metaslabs }
+    requires short { held.first + held.stripes < 2 ^ 48 }
+    ensures yes { result ≡ true → MayLend (site_layout site.now) (core_of tables.now) (pass_of pass.now) stripe failed.now held }
+    ensures no { result ≡ false → MayLend (site_layout site.now) (core_of tables.now) (pass_of pass.now) stripe failed.now held → ⊥ }
+{
+    if stripe < held.first || stripe >= held.first + u64::from(held.stripes) {
+        return false;
+    }
+    is_lent(pass, held) && reads_all(site, tables, pass, held, stripe, failed)
+}
+
+/// A block that has a stripe, from which a pass may lend it while calls fail on these leaves.
+pub(crate) fn lendable(
+    site: &Site,
+    tables: &Tables,
+    pass: &WorldPass,
+    stripe: u64,
+    failed: &[u64],
+) -> Option<(Key, Held)>
+    requires layout { IsLayout site.now.geometry site.now.perms }
+    requires metaslab { site.now.metaslab < site.now.geometry.props.metaslabs }
+    requires short { AreShort (held_in tables.now.held.entries) }
+    ensures found { IfSome result (λ e. held_in tables.now.held.entries e.0 ≡ Some e.1) }
+    ensures some { IfSome result (λ e. MayLend (site_layout site.now) (core_of tables.now) (pass_of pass.now) stripe failed.now e.1) }
+    ensures none { IfNone result ((k : Key) (h : Held) → held_in tables.now.held.entries k ≡ Some h → MayLend (site_layout site.now) (core_of tables.now) (pass_of pass.now) stripe failed.now h → ⊥) }
+{
+    for (key, block) in &tables.held {
+        if may_lend(site, tables, pass, *block, stripe, failed) {
+            return Some((*key, *block));
+        }
+    }
+    None
+}

@@ -1,0 +1,122 @@
+ghost use Rattle.std.specs.Prelude.{◌≡◌, ◌+◌, ◌<◌, ◌^◌, ℕ, true, false, IfSome, IfNone};
+ghost use Rattle.draid_machine.specs.After as after;
+ghost use Rattle.draid_machine.specs.Names.{has_number};
+ghost use Rattle.draid_machine.specs.Step.{MendsThere};
+ghost use Rattle.draid_machine.specs.declared.names.Held.{Held};
+ghost use Rattle.draid_map.specs.Place.{IsLayout};
+ghost use Rattle.draid_loans.specs.Landings.{Keeps, Lands, MayMend};
+ghost use Rattle.draid_world.specs.World.{core_of, loan_of, name_at, pass_of, site_layout, state_of};
+
+use crate::failing::lies_at;
+use draid_machine::{ArmName, Held};
+use draid_names::PassKind;
+use draid_passes::has_column;
+use draid_world::arms::leaf_answers;
+use draid_world::tables::find;
+use draid_world::{Lent, Site, Tables, World, WorldPass};
+
+/// The block of a loan of a pass of this kind that counts under these numbers.
+pub fn landing(world: &World, kind: PassKind, pass: u64, serial: u64) -> Option<Held>
+    ensures some { IfSome result (λ h. Lands (state_of world.now) kind pass serial h) }
+    ensures none { IfNone result ((h : Held) → Lands (state_of world.now) kind pass serial h → ⊥) }
+{
+    let Some(found) = &world.tables.pass else {
+        return None;
+    };
+    let Some(loan) = &world.loan else {
+        return None;
+    };
+    if found.kind != kind || found.number != pass || loan.serial != serial {
+        return None;
+    }
+    find(&world.tables.held, loan.key)
+}
+
+/// The arm that a column of a loan is taken from.
+pub(crate) fn taken_from(loan: &Lent, column: u32) -> Option<ArmName>
+    ensures { result ≡ name_at loan.now.chosen.items column }
+{
+    let at = column as usize;
+    if at < loan.chosen.len() {
+        loan.chosen[at]
+    } else {
+        None
+    }
+}
+
+/// How many columns of a loan are taken from no arm.
+pub(crate) fn unsourced(site: &Site, loan: &Lent) -> u32
+    ensures { result ≡ after.unsourced (site_layout site.now) (loan_of loan.now) }
+{
+    let mut count = 0;
+    for column in 0..site.geometry.g {
+        if taken_from(loan, column).is_none() {
+            count += 1;
+        }
+    }
+    count
+}
+
+/// Whether an arm has a column of a stripe, and keeps it on a leaf.
+fn keeps(site: &Site, tables: &Tables, name: ArmName, stripe: u64, leaf: u64) -> bool
+    requires layout { IsLayout site.now.geometry site.now.perms }
+    requires metaslab { site.now.metaslab < site.now.geometry.props.metaslabs }
+    requires stripe { stripe < 2 ^ 48 }
+    ensures yes { result ≡ true → Keeps (site_layout site.now) (core_of tables.now) stripe leaf name }
+    ensures no { result ≡ false → Keeps (site_layout site.now) (core_of tables.now) stripe leaf name → ⊥ }
+{
+    has_column(site, tables, name, stripe) && lies_at(site, tables, name, stripe, leaf)
+}
+
+/// Whether a target that has a column of a stripe answers from a leaf.
+fn mends_there(site: &Site, tables: &Tables, pass: &WorldPass, stripe: u64, leaf: u64) -> bool
+    requires layout { IsLayout site.now.geometry site.now.perms }
+    requires metaslab { site.now.metaslab < site.now.geometry.props.metaslabs }
+    requires stripe { stripe < 2 ^ 48 }
+    ensures yes { result ≡ true → MendsThere (site_layout site.now) (core_of tables.now) (pass_of pass.now) stripe leaf }
+    ensures no { result ≡ false → MendsThere (site_layout site.now) (core_of tables.now) (pass_of pass.now) stripe leaf → ⊥ }
+{
+    if !leaf_answers(tables, leaf) {
+        return false;
+    }
+    for at in 0..pass.targets.len() {
+        if keeps(site, tables, pass.targets[at], stripe, leaf) {
+            return true;
+        }
+    }
+    false
+}
+
+/// Whether the landing of a stripe writes to a leaf.
+fn may_mend(site: &Site, tables: &Tables, pass: &WorldPass, loan: &Lent, leaf: u64) -> bool
+    requires layout { IsLayout site.now.geometry site.now.perms }
+    requires metaslab { site.now.metaslab < site.now.geometry.props.metaslabs }
+    requires stripe { loan.now.stripe < 2 ^ 48 }
+    ensures yes { result ≡ true → MayMend (site_layout site.now) (core_of tables.now) (pass_of pass.now) (loan_of loan.now) leaf }
+    ensures no { result ≡ false → MayMend (site_layout site.now) (core_of tables.now) (pass_of pass.now) (loan_of loan.now) leaf → ⊥ }
+{
+    unsourced(site, loan) <= site.geometry.spec.parity
+        && mends_there(site, tables, pass, loan.stripe, leaf)
+}
+
+/// Whether the landing of a stripe writes to each leaf of a list.
+pub(crate) fn may_mend_all(
+    site: &Site,
+    tables: &Tables,
+    pass: &WorldPass,
+    loan: &Lent,
+    leaves: &[u64],
+) -> bool
+    requires layout { IsLayout site.now.geometry site.now.perms }
+    requires metaslab { site.now.metaslab < site.now.geometry.props.metaslabs }
+    requires stripe { loan.now.stripe < 2 ^ 48 }
+    ensures yes { result ≡ true → (leaf : ℕ) → has_number leaves.now leaf ≡ true → MayMend (site_layout site.now) (core_of tables.now) (pass_of pass.now) (loan_of loan.now) leaf }
+    ensures no { result ≡ false → ((leaf : ℕ) → has_number leaves.now leaf ≡ true → MayMend (site_layout site.now) (core_of tables.now) (pass_of pass.now) (loan_of loan.now) leaf) → ⊥ }
+{
+    for at in 0..leaves.len() {
+        if !may_mend(site, tables, pass, loan, leaves[at]) {
+            return false;
+        }
+    }
+    true
+}

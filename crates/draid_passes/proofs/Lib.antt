@@ -1,0 +1,6 @@
+pub mod Anys
+pub mod Changes
+pub mod Endings
+pub mod Lefts
+pub mod Lists
+pub mod Walks

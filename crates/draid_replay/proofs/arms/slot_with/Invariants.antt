@@ -1,7 +1,0 @@
-use Rattle.std.proofs.Common.{◌≡◌, ◌<◌, false, ℕ}
-use Rattle.draid_machine.specs.Names.{has_name}
-use Rattle.draid_replay.specs.World.{names_at}
-use Rattle.draid_replay.proofs.arms.slot_with.Given as goal
-
-abbrev pub invariant-loop-slot : goal.invariant-loop-slot
-invariant-loop-slot l = (c : ℕ) → c < l.slot → has_name (names_at l.order c) l.name ≡ false

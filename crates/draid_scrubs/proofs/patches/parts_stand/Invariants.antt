@@ -1,0 +1,12 @@
+use Rattle.std.proofs.Common.{drop}
+use Rattle.draid_scrubs.specs.Patches.{EachPart, PartStands}
+use Rattle.draid_world.specs.World.{core_of, site_layout}
+use Rattle.draid_scrubs.proofs.patches.parts_stand.Given as goal
+
+abbrev pub invariant-loop-at : goal.invariant-loop-at
+invariant-loop-at l = record {
+  front : EachPart (PartStands (site_layout l.site) (core_of l.tables) l.held l.failed l.patched) (drop l.at l.patched)
+      → EachPart (PartStands (site_layout l.site) (core_of l.tables) l.held l.failed l.patched) l.patched;
+  back : EachPart (PartStands (site_layout l.site) (core_of l.tables) l.held l.failed l.patched) l.patched
+      → EachPart (PartStands (site_layout l.site) (core_of l.tables) l.held l.failed l.patched) (drop l.at l.patched);
+}

@@ -1,0 +1,5 @@
+use Rattle.draid_steps.proofs.Segments.{segment_added}
+use Rattle.draid_steps.proofs.columns.add_segment.Goals as goal
+
+pub returns : goal.returns
+returns c = segment_added c.args.segments.now.keys c.insert.new.self.keys c.args.segment c.in_ok-insert.ensures.updates.0

@@ -1,0 +1,12 @@
+use Rattle.std.proofs.Common.{◌∙◌, ap, sym, Some, None, option_copied}
+use Rattle.draid_machine.specs.After.{is_gone_arm}
+use Rattle.draid_world.proofs.Maps.{arm_found}
+use Rattle.draid_steps.proofs.commits.is_name_gone.Goals as goal
+
+pub returns-in-Some : goal.returns-in-Some
+returns-in-Some c =
+    c.is_gone.ensures
+    ∙ ap (is_gone_arm c.args.group) (sym (arm_found c.args.tables.now.arms.entries c.args.name (Some c.in-Some.arm.now) (sym c.get.ensures.value ∙ ap option_copied c.in-Some.is)))
+
+pub returns-in-None : goal.returns-in-None
+returns-in-None c = ap (is_gone_arm c.args.group) (sym (arm_found c.args.tables.now.arms.entries c.args.name None (sym c.get.ensures.value ∙ ap option_copied c.in-None.is)))

@@ -1,0 +1,4 @@
+pub mod Columns
+pub mod Reads
+pub mod Room
+pub mod Slots

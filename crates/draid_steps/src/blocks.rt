@@ -1,0 +1,74 @@
+ghost use Rattle.std.specs.Prelude.{◌≡◌, ◌<◌, ◌^◌, true, false};
+ghost use Rattle.draid_machine.specs.State.{State};
+ghost use Rattle.draid_machine.specs.Step.{AbortStep, FinishStep, FreeStep};
+ghost use Rattle.draid_world.specs.World.{site_layout, state_of};
+
+use draid_machine::{Held, Key, Stage};
+use draid_world::tables::{change, find, forget, forget_segments};
+use draid_world::{Site, World};
+
+/// Frees a live block in a group, where that is legal.
+pub fn free(world: &mut World, key: Key, group: u64) -> bool
+    requires group { world.old.open_group < 2 ^ 48 }
+    ensures legal { result ≡ true → FreeStep (state_of world.old) key group (state_of world.new) }
+    ensures illegal { result ≡ false → (new : State) → FreeStep (state_of world.old) key group new → ⊥ }
+{
+    let Some(held) = find(&world.tables.held, key) else {
+        return false;
+    };
+    if held.stage != Stage::Live || group < world.open_group || group > world.open_group + 1 {
+        return false;
+    }
+    let freed = Held {
+        stage: Stage::Freed { group },
+        ..held
+    };
+    change(&mut world.tables.held, key, freed);
+    true
+}
+
+/// Gives a ticket up, where there is one.
+pub fn abort(world: &mut World, key: Key) -> bool
+    ensures legal { result ≡ true → AbortStep (state_of world.old) key (state_of world.new) }
+    ensures illegal { result ≡ false → (new : State) → AbortStep (state_of world.old) key new → ⊥ }
+{
+    let Some(held) = find(&world.tables.held, key) else {
+        return false;
+    };
+    match held.stage {
+        Stage::Writing { .. } => {}
+        _ => return false,
+    }
+    forget(&mut world.tables.held, key);
+    forget_segments(&mut world.present, key);
+    forget_segments(&mut world.aside, key);
+    true
+}
+
+/// Ends a ticket with all columns put: as a block, or missed where too many columns landed nowhere.
+pub fn finish(site: &Site, world: &mut World, key: Key) -> bool
+    ensures legal { result ≡ true → FinishStep (site_layout site.now) (state_of world.old) key (state_of world.new) }
+    ensures illegal { result ≡ false → (new : State) → FinishStep (site_layout site.now) (state_of world.old) key new → ⊥ }
+{
+    let Some(held) = find(&world.tables.held, key) else {
+        return false;
+    };
+    let Stage::Writing { columns, missed } = held.stage else {
+        return false;
+    };
+    if columns != site.geometry.g {
+        return false;
+    }
+    if missed > site.geometry.spec.parity {
+        forget(&mut world.tables.held, key);
+        forget_segments(&mut world.present, key);
+        forget_segments(&mut world.aside, key);
+        return true;
+    }
+    let live = Held {
+        stage: Stage::Live,
+        ..held
+    };
+    change(&mut world.tables.held, key, live);
+    true
+}

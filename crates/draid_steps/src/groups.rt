@@ -1,0 +1,33 @@
+ghost use Rattle.std.specs.Prelude.{◌≡◌, ◌+◌, ◌<◌, ◌≤◌, ◌^◌, true, false, IsTrue};
+ghost use Rattle.draid_machine.specs.State.{State};
+ghost use Rattle.draid_machine.specs.Step.{CloseStep, CancelStep};
+ghost use Rattle.draid_world.specs.World.{state_of};
+
+use draid_world::World;
+
+/// Closes the open group, where that is legal.
+pub fn close(world: &mut World, group: u64) -> bool
+    requires group { world.old.open_group < 2 ^ 48 }
+    ensures legal { result ≡ true → CloseStep (state_of world.old) group (state_of world.new) }
+    ensures illegal { result ≡ false → (new : State) → CloseStep (state_of world.old) group new → ⊥ }
+{
+    if world.open_group != group || group >= (1 << 48) - 1 || world.closing.is_some() {
+        return false;
+    }
+    world.closing = Some(group);
+    world.open_group = group + 1;
+    true
+}
+
+/// Ends the pass, if there is one.
+pub fn cancel(world: &mut World) -> bool
+    ensures legal { result ≡ true → CancelStep (state_of world.old) (state_of world.new) }
+    ensures illegal { result ≡ false → (new : State) → CancelStep (state_of world.old) new → ⊥ }
+{
+    if world.tables.pass.is_none() {
+        return false;
+    }
+    world.tables.pass = None;
+    world.loan = None;
+    true
+}

@@ -1,0 +1,83 @@
+ghost use Rattle.std.specs.Prelude.{◌≡◌, ◌+◌, ◌<◌, ◌≤◌, ◌^◌, true, false, ℕ, Some, IfNone, IfSome, IsSome};
+ghost use Rattle.draid_machine.specs.Step.{Fits, IsTaken};
+ghost use Rattle.draid_map.specs.Place.{IsLayout};
+ghost use Rattle.draid_machine.specs.declared.names.Key.{Key};
+ghost use Rattle.draid_steps.specs.Room.{first_meeting, meets};
+ghost use Rattle.draid_world.specs.World.{AreLow, core_of, held_in, site_layout};
+
+use draid_machine::{Held, Key};
+use draid_world::{Site, Tables};
+use std::collections::BTreeMap;
+
+/// Whether a block or a ticket has a stripe of a run.
+fn is_meeting(held: &Held, first: u64, stripes: u32) -> bool
+    requires held { held.now.first < 2 ^ 48 }
+    requires first { first < 2 ^ 48 }
+    ensures { result ≡ meets first stripes held.now }
+{
+    held.first < first + u64::from(stripes)
+        && first < held.first + u64::from(held.stripes)
+        && held.stripes > 0
+}
+
+/// A block or a ticket that has a stripe of a run.
+fn meeting(held: &BTreeMap<Key, Held>, first: u64, stripes: u32) -> Option<Held>
+    requires low { (k : Key) (h : Held) → held_in held.now.entries k ≡ Some h → h.first < 2 ^ 48 }
+    requires first { first < 2 ^ 48 }
+    ensures some { IfSome result (λ h. (k : Key) × (held_in held.now.entries k ≡ Some h) × (meets first stripes h ≡ true)) }
+    ensures none { IfNone result ((k : Key) (h : Held) → held_in held.now.entries k ≡ Some h → meets first stripes h ≡ false) }
+{
+    for (_, found) in held.iter() {
+        if is_meeting(found, first, stripes) {
+            return Some(*found);
+        }
+    }
+    None
+}
+
+/// The lowest place from one on at which a run may fit: that place itself exactly if the run fits there.
+fn next_place(site: &Site, tables: &Tables, first: u64, stripes: u32) -> u64
+    requires layout { IsLayout site.now.geometry site.now.perms }
+    requires low { AreLow (core_of tables.now) }
+    requires some { 0 < stripes }
+    requires first { first < 2 ^ 48 }
+    ensures from { first ≤ result }
+    ensures upto { result < 2 ^ 49 }
+    ensures fits { result ≡ first → Fits (site_layout site.now) (core_of tables.now) first stripes }
+    ensures before { (x : ℕ) → first ≤ x → x < result → Fits (site_layout site.now) (core_of tables.now) x stripes → ⊥ }
+{
+    let props = &site.geometry.props;
+    let height = u64::from(props.height);
+    let all = u64::from(props.slices) * u64::from(site.geometry.ngroups) * height;
+    let end = first + u64::from(stripes);
+    if end > all || (end - 1) / height != first / height {
+        return first + 1;
+    }
+    match meeting(&tables.held, first, stripes) {
+        Some(held) => held.first + u64::from(held.stripes),
+        None => first,
+    }
+}
+
+/// Whether a place is the lowest at which a run fits.
+pub fn is_lowest(site: &Site, tables: &Tables, first: u64, stripes: u32) -> bool
+    requires layout { IsLayout site.now.geometry site.now.perms }
+    requires low { AreLow (core_of tables.now) }
+    requires some { 0 < stripes }
+    requires first { first < 2 ^ 48 }
+    ensures fits { result ≡ true → Fits (site_layout site.now) (core_of tables.now) first stripes }
+    ensures lowest { result ≡ true → (x : ℕ) → x < first → Fits (site_layout site.now) (core_of tables.now) x stripes → ⊥ }
+    ensures no { result ≡ false → Fits (site_layout site.now) (core_of tables.now) first stripes
+        → ((x : ℕ) → x < first → Fits (site_layout site.now) (core_of tables.now) x stripes → ⊥) → ⊥ }
+{
+    let mut next = 0;
+    for place in 0..first {
+        if place >= next {
+            next = next_place(site, tables, place, stripes);
+            if next == place {
+                return false;
+            }
+        }
+    }
+    next_place(site, tables, first, stripes) == first
+}

@@ -1,0 +1,57 @@
+ghost use Rattle.std.specs.Prelude.{◌≡◌, ◌<◌, ◌^◌, true, false, IfOk};
+ghost use Rattle.draid_machine.specs.State.{State};
+ghost use Rattle.draid_machine.specs.Step.{BeginStep, HoldsFewer, IsEnabled};
+ghost use Rattle.draid_map.specs.Place.{IsLayout};
+ghost use Rattle.draid_world.specs.World.{AreLow, core_of, site_layout, state_of};
+
+use crate::room::is_lowest;
+use draid_machine::{Held, Key};
+use draid_names::PassKind;
+use draid_world::tables::{enter, find};
+use draid_world::{Site, Tables, World};
+use std::alloc::AllocError;
+
+/// Whether the pass, if any, isn't a rebuild.
+fn is_enabled(tables: &Tables) -> bool
+    ensures yes { result ≡ true → IsEnabled (core_of tables.now) }
+    ensures no { result ≡ false → IsEnabled (core_of tables.now) → ⊥ }
+{
+    let Some(pass) = &tables.pass else {
+        return true;
+    };
+    match pass.kind {
+        PassKind::Heal => true,
+        PassKind::Rebuild => false,
+    }
+}
+
+/// Whether there are fewer blocks and tickets than a metaslab may have.
+fn has_room(tables: &Tables) -> bool
+    ensures yes { result ≡ true → HoldsFewer (core_of tables.now) 4096 }
+    ensures no { result ≡ false → HoldsFewer (core_of tables.now) 4096 → ⊥ }
+{
+    tables.held.len() < 4096
+}
+
+/// Opens a ticket, where that is legal.
+pub fn begin(site: &Site, world: &mut World, key: Key, held: Held) -> Result<bool, AllocError>
+    requires layout { IsLayout site.now.geometry site.now.perms }
+    requires low { AreLow (core_of world.old.tables) }
+    requires group { world.old.open_group < 2 ^ 48 }
+    requires first { held.first < 2 ^ 48 }
+    ensures legal { IfOk result (λ b. b ≡ true → BeginStep (site_layout site.now) (state_of world.old) key held (state_of world.new)) }
+    ensures illegal { IfOk result (λ b. b ≡ false → (new : State) → BeginStep (site_layout site.now) (state_of world.old) key held new → ⊥) }
+{
+    let tables = &world.tables;
+    if !is_enabled(tables) || !has_room(tables) || find(&tables.held, key).is_some() {
+        return Ok(false);
+    }
+    if held.stripes == 0 || held.birth < world.open_group || held.birth > world.open_group + 1 {
+        return Ok(false);
+    }
+    if !is_lowest(site, tables, held.first, held.stripes) {
+        return Ok(false);
+    }
+    enter(&mut world.tables.held, key, held)?;
+    Ok(true)
+}

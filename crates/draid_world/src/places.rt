@@ -1,0 +1,103 @@
+ghost use Rattle.std.specs.Prelude.{◌≡◌, ◌+◌, ◌*◌, ◌<◌, ◌^◌, ℕ, ◌-◌};
+ghost use Rattle.draid_machine.specs.Arms as arms;
+ghost use Rattle.draid_machine.specs.Names as names;
+ghost use Rattle.draid_machine.specs.Layout.{pool_stripe, slice_of};
+ghost use Rattle.draid_map.specs.Place.{IsLayout};
+ghost use Rattle.draid_perm.specs.Perms.{child_of};
+ghost use Rattle.draid_world.specs.World.{core_of, names_at, site_layout, slot_at};
+
+use crate::arms::{first_leaf, leaf_answers, names_of};
+use crate::world::{Site, Tables};
+use draid_machine::ArmName;
+
+/// The slot on whose first leaf a spare keeps what belongs to a stripe.
+pub fn home(site: &Site, spare: u32, stripe: u64) -> u32
+    requires layout { IsLayout site.now.geometry site.now.perms }
+    requires metaslab { site.now.metaslab < site.now.geometry.props.metaslabs }
+    requires stripe { stripe < 2 ^ 49 }
+    requires spare { spare < site.now.geometry.spec.spares }
+    ensures { result ≡ child_of site.now.perms (slice_of site.now.geometry (pool_stripe site.now.geometry site.now.metaslab stripe)) (site.now.geometry.spec.children - 1 - spare) }
+{
+    let props = &site.geometry.props;
+    let height = u64::from(props.height);
+    let groups = u64::from(site.geometry.ngroups);
+    let stripes = u64::from(props.slices) * groups * height;
+    let slice = (u64::from(site.metaslab) * stripes + stripe) / (height * groups);
+    site.perms
+        .child(slice, site.geometry.spec.children - 1 - spare)
+}
+
+/// The leaf on which an arm keeps what belongs to a stripe.
+pub fn leaf_at(site: &Site, order: &[Vec<ArmName>], name: ArmName, stripe: u64) -> Option<u64>
+    requires layout { IsLayout site.now.geometry site.now.perms }
+    requires metaslab { site.now.metaslab < site.now.geometry.props.metaslabs }
+    requires stripe { stripe < 2 ^ 49 }
+    ensures { result ≡ arms.leaf_at (site_layout site.now) (names_at order.now) name stripe }
+{
+    match name {
+        ArmName::Leaf { leaf } => Some(leaf),
+        ArmName::Spare { spare } => {
+            if spare >= site.geometry.spec.spares {
+                return None;
+            }
+            first_leaf(names_of(order, home(site, spare, stripe) as usize))
+        }
+    }
+}
+
+/// Whether the leaf answers on which an arm keeps what belongs to a stripe.
+pub fn answers(site: &Site, tables: &Tables, name: ArmName, stripe: u64) -> bool
+    requires layout { IsLayout site.now.geometry site.now.perms }
+    requires metaslab { site.now.metaslab < site.now.geometry.props.metaslabs }
+    requires stripe { stripe < 2 ^ 49 }
+    ensures { result ≡ arms.answers (site_layout site.now) (core_of tables.now) name stripe }
+{
+    match leaf_at(site, &tables.order, name, stripe) {
+        Some(leaf) => leaf_answers(tables, leaf),
+        None => false,
+    }
+}
+
+/// Whether a list has a number.
+pub fn has_number(numbers: &[u64], number: u64) -> bool
+    ensures { result ≡ names.has_number numbers.now number }
+{
+    for at in 0..numbers.len() {
+        if numbers[at] == number {
+            return true;
+        }
+    }
+    false
+}
+
+/// Whether a call failed on the leaf on which an arm keeps what belongs to a stripe.
+pub fn fails(site: &Site, tables: &Tables, failed: &[u64], name: ArmName, stripe: u64) -> bool
+    requires layout { IsLayout site.now.geometry site.now.perms }
+    requires metaslab { site.now.metaslab < site.now.geometry.props.metaslabs }
+    requires stripe { stripe < 2 ^ 49 }
+    ensures { result ≡ arms.fails (site_layout site.now) (core_of tables.now) failed.now name stripe }
+{
+    match leaf_at(site, &tables.order, name, stripe) {
+        Some(leaf) => has_number(failed, leaf),
+        None => false,
+    }
+}
+
+/// The slot that has a column of a stripe.
+pub fn slot_of(site: &Site, stripe: u64, column: u32) -> u32
+    requires layout { IsLayout site.now.geometry site.now.perms }
+    requires metaslab { site.now.metaslab < site.now.geometry.props.metaslabs }
+    requires stripe { stripe < 2 ^ 49 }
+    requires column { column < site.now.geometry.g }
+    ensures { result ≡ slot_at (site_layout site.now) stripe column }
+{
+    let props = &site.geometry.props;
+    let height = u64::from(props.height);
+    let groups = u64::from(site.geometry.ngroups);
+    let stripes = u64::from(props.slices) * groups * height;
+    let number = u64::from(site.metaslab) * stripes + stripe;
+    let group = number / height % groups;
+    let index = group * u64::from(site.geometry.g) + u64::from(column);
+    let position = (index % u64::from(site.geometry.ndisks)) as u32;
+    site.perms.child(number / (height * groups), position)
+}

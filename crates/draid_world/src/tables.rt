@@ -1,0 +1,63 @@
+ghost use Rattle.std.specs.Prelude.{◌≡◌, ◌&&◌, not, Some, None, true, IsSome, IfOk, OnOk};
+ghost use Rattle.std.specs.BTreeMap.{Updates, get};
+ghost use Rattle.draid_machine.specs.After.{set_held};
+ghost use Rattle.draid_machine.specs.Names.{has_segment, key_eq};
+ghost use Rattle.draid_machine.specs.declared.names.Key.{Key};
+ghost use Rattle.draid_machine.specs.declared.names.Segment.{Segment};
+ghost use Rattle.draid_world.specs.World.{held_in};
+
+use draid_machine::{Held, Key, Segment};
+use std::alloc::AllocError;
+use std::collections::{BTreeMap, BTreeSet};
+
+/// The block or ticket of a key.
+pub fn find(held: &BTreeMap<Key, Held>, key: Key) -> Option<Held>
+    ensures { result ≡ held_in held.now.entries key }
+{
+    held.get(&key).copied()
+}
+
+/// Changes the entry of a key that is there.
+pub fn change(held: &mut BTreeMap<Key, Held>, key: Key, value: Held)
+    requires there { IsSome (held_in held.old.entries key) }
+    ensures { (k : Key) → held_in held.new.entries k ≡ set_held (held_in held.old.entries) key (Some value) k }
+{
+    write(held, key, value);
+}
+
+fn write(held: &mut BTreeMap<Key, Held>, key: Key, value: Held)
+    requires there { IsSome (get ⟦<Key as Ord>⟧.cmp held.old key) }
+    ensures { Updates ⟦<Key as Ord>⟧.cmp held.old held.new key (Some value) }
+{
+    if let Some(place) = held.get_mut(&key) {
+        *place = value;
+    }
+}
+
+/// Makes an entry for a key.
+pub fn enter(held: &mut BTreeMap<Key, Held>, key: Key, value: Held) -> Result<(), AllocError>
+    ensures { OnOk result ((k : Key) → held_in held.new.entries k ≡ set_held (held_in held.old.entries) key (Some value) k) }
+{
+    insert(held, key, value)
+}
+
+fn insert(held: &mut BTreeMap<Key, Held>, key: Key, value: Held) -> Result<(), AllocError>
+    ensures { OnOk result (Updates ⟦<Key as Ord>⟧.cmp held.old held.new key (Some value)) }
+{
+    held.insert(key, value)?;
+    Ok(())
+}
+
+/// Takes the entry of a key away.
+pub fn forget(held: &mut BTreeMap<Key, Held>, key: Key)
+    ensures { (k : Key) → held_in held.new.entries k ≡ set_held (held_in held.old.entries) key None k }
+{
+    held.remove(&key);
+}
+
+/// Takes the segments of a key away.
+pub fn forget_segments(segments: &mut BTreeSet<Segment>, key: Key)
+    ensures { (s : Segment) → has_segment segments.new.keys s ≡ (has_segment segments.old.keys s && not (key_eq key s.key)) }
+{
+    segments.retain(|segment| segment.key != key);
+}
