@@ -10,7 +10,7 @@ use Rattle.draid_rack.specs.Rack.{Shape, Told}
 use Rattle.draid_shard.specs.declared.shard.Shard.{Shard}
 use Rattle.draid_shard.specs.Shard.{Valid}
 use Rattle.draid_pool.specs.Answers.{WriteInIs, WriteIs}
-use Rattle.draid_pool.specs.Pool.{HasRoomAt, Moves, Represents, metaslab_of, state_of}
+use Rattle.draid_pool.specs.Pool.{HasRoomAt, Moves, Represents, Stands, metaslab_of, state_of}
 use Rattle.draid_pool.specs.State.{AreRooms, Change, GoesTo, State, is_full, longest, stripes_for}
 use Rattle.draid_pool.specs.Store.{RoomIs, has_all}
 use Rattle.draid_pool.specs.declared.fault.WriteFault.{WriteFault}
@@ -65,18 +65,15 @@ module _ {R : Type 0} where
     are_rooms need (shard ∷ shards) (room ∷ rooms) zip =
         (record { metaslab = zip.0.metaslab; wanted = zip.0.wanted; run = zip.0.run }, are_rooms need shards rooms zip.1)
 
-    pub all_valid : (pool : Pool R) (changes : List Change) → Represents shape told pool changes → All (Valid shape) pool.shards.items
+    pub all_valid : (pool : Pool R) (changes : List Change) → Stands shape told pool changes → All (Valid shape) pool.shards.items
     all_valid pool changes is k d below = (is.members k (slice_index_or pool.shards.items k d) (slice_get-get_or pool.shards.items k d below)).valid
 
-    pub few_rooms : (pool : Pool R) (changes : List Change) (need : ℕ) (rooms : List Room) → Represents shape told pool changes → AllZip (RoomIs need) pool.shards.items rooms → length rooms ≤ 64
+    pub few_rooms : (pool : Pool R) (changes : List Change) (need : ℕ) (rooms : List Room) → Stands shape told pool changes → AllZip (RoomIs need) pool.shards.items rooms → length rooms ≤ 64
     few_rooms pool changes need rooms is zip =
         let long = as_long need pool.shards.items rooms zip in
         let many = is.many in
         let most = is.layout.props.most_metaslabs in
         omega (arith, long, many, most)
-
-    pub few_shards : (pool : Pool R) (changes : List Change) → Represents shape told pool changes → length pool.shards.items ≤ 64
-    few_shards pool changes is = (let many = is.many in let most = is.layout.props.most_metaslabs in omega (arith, many, most))
 
     -- where the block goes
     pub goes_to : (chosen : List Room → Option ℕ → Type 0) (pool : Pool R) (changes : List Change) (bytes : List ℕ) (m need : ℕ) (rooms : List Room) → need ≡ stripes_for pool.geometry bytes
@@ -87,7 +84,7 @@ module _ {R : Type 0} where
       named = named;
     }
 
-    pub has_room_at : (pool : Pool R) (changes : List Change) (w : List ℕ) (m need : ℕ) (rooms : List Room) → Represents shape told pool changes → need ≡ stripes_for pool.geometry w → 1 ≤ need
+    pub has_room_at : (pool : Pool R) (changes : List Change) (w : List ℕ) (m need : ℕ) (rooms : List Room) → Stands shape told pool changes → need ≡ stripes_for pool.geometry w → 1 ≤ need
         → AllZip (RoomIs need) pool.shards.items rooms → Picks rooms (Some m) → HasRoomAt pool m w
     has_room_at pool changes w m need rooms is same some zip picks =
         let fit = picks.some m refl in

@@ -13,7 +13,7 @@ use Rattle.draid_shelf.specs.Shelf.{SameOthers}
 use Rattle.draid_shard.specs.declared.shard.Shard.{Shard}
 use Rattle.draid_shard.specs.Shard.{HoldsBlock, Valid, part_of}
 use Rattle.draid_pool.specs.Close.{HoldsMetaslab, HoldsPool, Returns, WriteStands}
-use Rattle.draid_pool.specs.Pool.{HoldsObject, HoldsWrite, Represents, harm_of, metaslab_of, state_of}
+use Rattle.draid_pool.specs.Pool.{HoldsObject, HoldsWrite, Stands, harm_of, metaslab_of, state_of}
 use Rattle.draid_pool.specs.State.{Change, Metaslab, Write, stripes_for, write_of}
 use Rattle.draid_pool.specs.declared.pool.Pool.{Pool}
 use Rattle.draid_pool.proofs.Shards.{some_of}
@@ -120,7 +120,7 @@ module _ {R : Type 0} (shape : R → Shape) (told : R → Option Told) (faults :
       let same : w ≡ write = cc in
       record { pointer = p; held = subst (λ (x : Write). HoldsWrite told shards p x) same h }
 
-  holds_metaslab : (pool : Pool R) (changes : List Change) (old new : ℕ → Option Told) (before after : ℕ → Option ℕ → ℕ) (m : ℕ) (shard : Shard R) → Represents shape told pool changes
+  holds_metaslab : (pool : Pool R) (changes : List Change) (old new : ℕ → Option Told) (before after : ℕ → Option ℕ → ℕ) (m : ℕ) (shard : Shard R) → Stands shape told pool changes
       → Returns told faults pool.shards.items old new before after → slice_get pool.shards.items m ≡ Some shard
       → HoldsMetaslab (new m) (after m) (state_of told faults pool changes) m (metaslab_of told faults shard)
   holds_metaslab pool changes old new before after m shard is r at = record {
@@ -134,7 +134,7 @@ module _ {R : Type 0} (shape : R → Shape) (told : R → Option Told) (faults :
   }
 
   -- the shelf holds what a pool was given back with
-  pub holds_pool : (pool : Pool R) (changes : List Change) (old new : ℕ → Option Told) (before after : ℕ → Option ℕ → ℕ) → Represents shape told pool changes
+  pub holds_pool : (pool : Pool R) (changes : List Change) (old new : ℕ → Option Told) (before after : ℕ → Option ℕ → ℕ) → Stands shape told pool changes
       → Returns told faults pool.shards.items old new before after → HoldsPool new after (state_of told faults pool changes)
   holds_pool pool changes old new before after is r = record {
     each = λ m x there.

@@ -2,6 +2,7 @@ pub mod Choosing
 pub mod Closed
 pub mod Harm
 pub mod Lists
+pub mod Named
 pub mod Objects
 pub mod Opened
 pub mod Places

@@ -39,6 +39,13 @@ put_here new old object q x put is = grind (arith, nat_tests, put, is)
 pub put_elsewhere : (new old : Option Pointer) (object q : ℕ) (x : Option Pointer) → new ≡ cond (nat_eq object q) x old → (object ≡ q → ⊥) → new ≡ old
 put_elsewhere new old object q x put other = grind (arith, nat_tests, put, other)
 
+-- nothing is dropped where nothing was
+pub drop_none : (new old : Option Pointer) (object q : ℕ) → new ≡ cond (nat_eq object q) None old → (object ≡ q → old ≡ None) → new ≡ old
+drop_none new old object q drops none = elim (cases_eq object q) [
+  | inl is ↦ put_here new old object q None drops is ∙ sym (none is)
+  | inr other ↦ put_elsewhere new old object q None drops (λ is. omega (arith, is, other))
+]
+
 module _ {R : Type 0} (told : R → Option Told) where
   -- the block of an object that has a pointer
   pub record Has (shards : List (Shard R)) (w : Option Write) (pointer : Pointer) : Type 0 where

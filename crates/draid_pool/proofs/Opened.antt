@@ -18,7 +18,7 @@ use Rattle.draid_shard.specs.declared.shard.Shard.{Shard}
 use Rattle.draid_shard.specs.Part.{Part}
 use Rattle.draid_pool.specs.Close.{Returns}
 use Rattle.draid_pool.specs.Create.{AreBack, AreOpened, IsOpened, Opens, TakesOne}
-use Rattle.draid_pool.specs.Pool.{HoldsObject, metaslab_of}
+use Rattle.draid_pool.specs.Pool.{HoldsObject, Stands, metaslab_of}
 use Rattle.draid_pool.specs.State.{IsNew}
 use Rattle.draid_pool.specs.declared.pool.Pool.{Pool}
 use Rattle.draid_pool.proofs.Closed.{at_end, unmapped}
@@ -92,6 +92,7 @@ module _ {R : Type 0} (shape : R → Shape) (told : R → Option Told) (faults :
           part = is.part;
           free = is.free;
           none = is.none;
+          empty = is.empty;
           holds = is.holds ∙ o.holds n (omega arith);
           faults_are = λ who. is.faults_are who ∙ ap (λ (f : Option ℕ → ℕ). f who) (o.counts n (omega arith));
         }
@@ -157,12 +158,8 @@ module _ {R : Type 0} (shape : R → Shape) (told : R → Option Told) (faults :
   opens spec props layout pool holds counts given whole opened unfailed calm used seq empty = record {
     layout = record { geometry = layout; is = given };
     represents = record {
-      layout = subst IsGeometry (sym used) whole;
-      many = opened.many ∙ ap (λ (g : Geometry). g.props.metaslabs) (sym used);
-      members = λ m shard there.
-          (let is = opened.each m shard there in
-          record { valid = is.valid; layout = ap (λ (p : Part). p.geometry) is.part ∙ sym used; number = ap (λ (p : Part). p.number) is.part });
-      objects = λ q. no_objects pool.shards.items (get nat_eq pool.objects q) (empty q);
+      stands = stands;
+      live = λ m shard p there live. absurd ((opened.each m shard there).empty p live);
     };
     fresh = record {
       layout = used;
@@ -178,4 +175,13 @@ module _ {R : Type 0} (shape : R → Shape) (told : R → Option Told) (faults :
       changes = refl;
       seq = seq;
     };
-  }
+  } where
+    stands : Stands shape told pool []
+    stands = record {
+      layout = subst IsGeometry (sym used) whole;
+      many = opened.many ∙ ap (λ (g : Geometry). g.props.metaslabs) (sym used);
+      members = λ m shard there.
+          (let is = opened.each m shard there in
+          record { valid = is.valid; layout = ap (λ (p : Part). p.geometry) is.part ∙ sym used; number = ap (λ (p : Part). p.number) is.part });
+      objects = λ q. no_objects pool.shards.items (get nat_eq pool.objects q) (empty q);
+    }

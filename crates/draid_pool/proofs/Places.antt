@@ -7,7 +7,7 @@ use Rattle.draid_spec.specs.declared.layout.Geometry.{Geometry}
 use Rattle.draid_map.specs.Place.{end_of, part_sectors}
 use Rattle.draid_rack.specs.Rack.{Shape, Told}
 use Rattle.draid_shard.specs.declared.shard.Shard.{Shard}
-use Rattle.draid_pool.specs.Pool.{Represents, state_of}
+use Rattle.draid_pool.specs.Pool.{Stands, state_of}
 use Rattle.draid_pool.specs.State.{Change, IsThere}
 use Rattle.draid_pool.specs.declared.pool.Pool.{Pool}
 
@@ -43,7 +43,7 @@ module _ {R : Type 0} (shape : R → Shape) (told : R → Option Told) (faults :
       past (subst (λ n. sector < n) (sym (ap (λ n. pool.geometry.props.metaslabs * n) same ∙ all_sectors pool.geometry)) there.1)
 
   -- the shard that a sector is in
-  pub sector_shard : (pool : Pool R) (changes : List Change) (k : ℕ) (shard : Shard R) → Represents shape told pool changes → k < pool.geometry.props.metaslabs
+  pub sector_shard : (pool : Pool R) (changes : List Change) (k : ℕ) (shard : Shard R) → Stands shape told pool changes → k < pool.geometry.props.metaslabs
       → shard ≡ slice_index_or pool.shards.items k shard → slice_get pool.shards.items k ≡ Some shard
   sector_shard pool changes k shard is below value =
       slice_get_read pool.shards.items pool.geometry.props.metaslabs k shard (sym is.many) below value

@@ -13,7 +13,7 @@ use Rattle.draid_shard.specs.declared.shard.Shard.{Shard}
 use Rattle.draid_shard.specs.Columns.{MoreBad, TellsBoth}
 use Rattle.draid_shard.specs.Shard.{HoldsBlock, IsLive, NoneFalls, free_of, held_of, part_of}
 use Rattle.draid_pool.specs.Answers.{DamageIs, FreeIs, ReadIs}
-use Rattle.draid_pool.specs.Pool.{HoldsWrite, Moves, Represents, harm_of, metaslab_of, state_of}
+use Rattle.draid_pool.specs.Pool.{HoldsWrite, Moves, Represents, Stands, harm_of, metaslab_of, state_of}
 use Rattle.draid_pool.specs.State.{Change, Freed, IsThere, Looks, LooksAt, Metaslab, MovesOne, State, Write, stripes_for, write_of}
 use Rattle.draid_pool.specs.Store.{BlockAnswers, FreesBlock}
 use Rattle.draid_pool.specs.declared.fault.DamageFault.TheVariants as damage_fault
@@ -23,9 +23,10 @@ use Rattle.draid_pool.specs.declared.fault.ObjectFault.TheVariants as object_fau
 use Rattle.draid_pool.specs.declared.pool.Pool.{Pool}
 use Rattle.draid_pool.proofs.Harm.{harm_both, on_harm}
 use Rattle.draid_pool.proofs.Lists.{zip_same, zip_set}
-use Rattle.draid_pool.proofs.Objects.{Has, has_none}
+use Rattle.draid_pool.proofs.Named.{names_drop}
+use Rattle.draid_pool.proofs.Objects.{Has, drop_none, has_none}
 use Rattle.draid_pool.proofs.Shards.{at_shard, some_of}
-use Rattle.draid_pool.proofs.Steps.{Turned, found, free_stands, freed_images, one_moved}
+use Rattle.draid_pool.proofs.Steps.{Turned, found, free_stands, freed_images, one_moved, same_stands, same_state}
 
 pub looks_same : (x : Metaslab) → LooksAt x x
 looks_same x = record { keeps = record { part = refl; free = refl; held = refl; later = λ who. omega arith }; harm = refl }
@@ -40,11 +41,14 @@ module _ {R : Type 0} (shape : R → Shape) (told : R → Option Told) (faults :
       → ((q : ℕ) → get nat_eq new.objects q ≡ cond (nat_eq object q) None (get nat_eq old.objects q))
       → Moves shape told faults (FreeIs object (Ok tt)) (state_of told faults old changes) new
   freed_step object pointer old new changes is there f layout seq objects =
-      let h = found shape told faults old changes object pointer is there in
+      let h = found shape told faults old changes object pointer is.stands there in
       let images = freed_images shape told faults pointer old.shards.items new.shards.items f in
       record {
         changes = Freed object ∷ changes;
-        represents = free_stands shape told faults object pointer old new changes is there f layout objects;
+        represents = record {
+          stands = free_stands shape told faults object pointer old new changes is.stands there f layout objects;
+          live = names_drop shape told pointer old.shards.items new.shards.items (λ q. get nat_eq old.objects q) (λ q. get nat_eq new.objects q) object f is.live there objects;
+        };
         moved = record {
           write = h.write;
           written = h.written;
@@ -53,10 +57,20 @@ module _ {R : Type 0} (shape : R → Shape) (told : R → Option Told) (faults :
       }
 
   pub unfreed_step : (object : ℕ) (fault : FreeFault) (old new : Pool R) (changes : List Change) → Represents shape told old changes → get nat_eq old.objects object ≡ None
-      → Represents shape told new changes → state_of told faults new changes ≡ state_of told faults old changes
+      → new.geometry ≡ old.geometry → new.shards.items ≡ old.shards.items → new.seq ≡ old.seq
+      → ((q : ℕ) → get nat_eq new.objects q ≡ cond (nat_eq object q) None (get nat_eq old.objects q))
       → Moves shape told faults (FreeIs object (Err fault)) (state_of told faults old changes) new
-  unfreed_step object fault old new changes is none yet same =
-      record { changes = changes; represents = yet; moved = (has_none told old.shards.items (get nat_eq old.objects object) (write_of changes object) none (is.objects object), same) }
+  unfreed_step object fault old new changes is none layout shards seq drops =
+      let objects : (q : ℕ) → get nat_eq new.objects q ≡ get nat_eq old.objects q =
+      λ q. drop_none (get nat_eq new.objects q) (get nat_eq old.objects q) object q (drops q) (λ same. subst (λ (k : ℕ). get nat_eq old.objects k ≡ None) same none) in
+      record {
+        changes = changes;
+        represents = same_stands shape told faults old new changes layout shards objects is;
+        moved = (
+          has_none told old.shards.items (get nat_eq old.objects object) (write_of changes object) none (is.stands.objects object),
+          same_state shape told faults old new changes layout (ap (map (metaslab_of told faults)) shards) seq,
+        );
+      }
 
   -- ---- reads
   -- a metaslab that was looked at
@@ -86,7 +100,7 @@ module _ {R : Type 0} (shape : R → Shape) (told : R → Option Told) (faults :
   no_object_step pool object changes is none = record {
     changes = changes;
     represents = is;
-    moved = (has_none told pool.shards.items (get nat_eq pool.objects object) (write_of changes object) none (is.objects object), looks_all (state_of told faults pool changes));
+    moved = (has_none told pool.shards.items (get nat_eq pool.objects object) (write_of changes object) none (is.stands.objects object), looks_all (state_of told faults pool changes));
   }
 
   -- the block of an object's pointer, in the shard that was read
@@ -97,7 +111,7 @@ module _ {R : Type 0} (shape : R → Shape) (told : R → Option Told) (faults :
 
   -- the answer to a read of an object that has bytes
   answered : (old new : Pool R) (object : ℕ) (pointer : Pointer) (before after : Shard R) (changes : List Change) (result : Result (Vec ℕ Global) ObjectFault)
-      → Represents shape told old changes → (h : Has told old.shards.items (write_of changes object) pointer) → Turned shape told faults pointer.metaslab before after old new
+      → Stands shape told old changes → (h : Has told old.shards.items (write_of changes object) pointer) → Turned shape told faults pointer.metaslab before after old new
       → HoldsBlock told before pointer h.write.bytes
       → BlockAnswers (part_of before) pointer h.write.bytes (told before.rack) (faults before.rack) (faults after.rack) result
       → Looks (state_of told faults old changes) (state_of told faults new changes) → ReadIs object result (state_of told faults old changes) (state_of told faults new changes)
@@ -128,7 +142,7 @@ module _ {R : Type 0} (shape : R → Shape) (told : R → Option Told) (faults :
       )
 
   pub read_step : (old new : Pool R) (object : ℕ) (pointer : Pointer) (before after : Shard R) (result : Result (Vec ℕ Global) ObjectFault) (changes : List Change)
-      → Represents shape told old changes → get nat_eq old.objects object ≡ Some pointer → Turned shape told faults pointer.metaslab before after old new → HasLooked before after
+      → Stands shape told old changes → get nat_eq old.objects object ≡ Some pointer → Turned shape told faults pointer.metaslab before after old new → HasLooked before after
       → Represents shape told new changes → new.seq ≡ old.seq
       → ((w : List ℕ) → HoldsBlock told before pointer w → BlockAnswers (part_of before) pointer w (told before.rack) (faults before.rack) (faults after.rack) result)
       → Moves shape told faults (ReadIs object result) (state_of told faults old changes) new
@@ -142,13 +156,13 @@ module _ {R : Type 0} (shape : R → Shape) (told : R → Option Told) (faults :
       }
 
   -- the shard of an object's pointer
-  pub read_shard : (old : Pool R) (object : ℕ) (pointer : Pointer) (shard : Shard R) (changes : List Change) → Represents shape told old changes → get nat_eq old.objects object ≡ Some pointer
+  pub read_shard : (old : Pool R) (object : ℕ) (pointer : Pointer) (shard : Shard R) (changes : List Change) → Stands shape told old changes → get nat_eq old.objects object ≡ Some pointer
       → shard ≡ slice_index_or old.shards.items pointer.metaslab shard → slice_get old.shards.items pointer.metaslab ≡ Some shard
   read_shard old object pointer shard changes is there value =
       let h = (found shape told faults old changes object pointer is there).held in
       h.there ∙ ap Some (sym (at_shard old.shards.items pointer.metaslab h.shard shard h.there value))
 
-  pub read_live : (old : Pool R) (object : ℕ) (pointer : Pointer) (shard : Shard R) (changes : List Change) → Represents shape told old changes → get nat_eq old.objects object ≡ Some pointer
+  pub read_live : (old : Pool R) (object : ℕ) (pointer : Pointer) (shard : Shard R) (changes : List Change) → Stands shape told old changes → get nat_eq old.objects object ≡ Some pointer
       → slice_get old.shards.items pointer.metaslab ≡ Some shard → IsLive shard pointer
   read_live old object pointer shard changes is there at =
       let h = found shape told faults old changes object pointer is there in

@@ -7,12 +7,13 @@ use Rattle.draid_spec.specs.declared.layout.Geometry.{Geometry}
 use Rattle.draid_spec.specs.Geometry.{IsGeometry}
 use Rattle.draid_rack.specs.Rack.{Shape, Told}
 use Rattle.draid_shard.specs.declared.shard.Shard.{Shard}
-use Rattle.draid_shard.specs.Shard.{IsLive, KeepsBlocks, Valid, part_of}
-use Rattle.draid_pool.specs.Pool.{HoldsObject, HoldsWrite, IsMember, Represents, metaslab_of, state_of}
+use Rattle.draid_shard.specs.Shard.{IsLive, KeepsBlocks, SameLive, Valid, part_of}
+use Rattle.draid_pool.specs.Pool.{HoldsObject, HoldsWrite, IsMember, Represents, Stands, metaslab_of, state_of}
 use Rattle.draid_pool.specs.State.{Change, Freed, MovesOne, Write, Wrote, write_of}
 use Rattle.draid_pool.specs.Store.{FreesBlock, IsLiveIn, SetsShard}
 use Rattle.draid_pool.specs.declared.pool.Pool.{Pool}
 use Rattle.draid_pool.proofs.Lists.{get_map}
+use Rattle.draid_pool.proofs.Named.{names_yet}
 use Rattle.draid_pool.proofs.Objects.{Has, has, object_drop, object_put, write_object}
 use Rattle.draid_pool.proofs.Shards.{images_set, members_on, object_on, same_image, same_images, set_length, some_of, write_on}
 
@@ -25,8 +26,8 @@ module _ {R : Type 0} (shape : R → Shape) (told : R → Option Told) (faults :
     pub layout : new.geometry ≡ old.geometry
 
   -- it stands for whatever befell its objects
-  pub stands : (m : ℕ) (before after : Shard R) (old new : Pool R) (was changes : List Change) → Turned m before after old new → Represents shape told old was
-      → ((q : ℕ) → HoldsObject told new.shards.items (get nat_eq new.objects q) (write_of changes q)) → Represents shape told new changes
+  pub stands : (m : ℕ) (before after : Shard R) (old new : Pool R) (was changes : List Change) → Turned m before after old new → Stands shape told old was
+      → ((q : ℕ) → HoldsObject told new.shards.items (get nat_eq new.objects q) (write_of changes q)) → Stands shape told new changes
   stands m before after old new was changes t is objects = record {
     layout = subst IsGeometry (sym t.layout) is.layout;
     many = set_length m before after old.shards.items new.shards.items t.one ∙ (is.many ∙ ap (λ (g : Geometry). g.props.metaslabs) (sym t.layout));
@@ -37,19 +38,26 @@ module _ {R : Type 0} (shape : R → Shape) (told : R → Option Told) (faults :
 
   -- for the same, where the shard keeps its blocks and the table is as it was
   pub stands_yet : (m : ℕ) (before after : Shard R) (old new : Pool R) (changes : List Change) → Turned m before after old new → KeepsBlocks told before after
-      → ((q : ℕ) → get nat_eq new.objects q ≡ get nat_eq old.objects q) → Represents shape told old changes → Represents shape told new changes
+      → ((q : ℕ) → get nat_eq new.objects q ≡ get nat_eq old.objects q) → Stands shape told old changes → Stands shape told new changes
   stands_yet m before after old new changes t kept objects is = stands m before after old new changes changes t is (λ q.
       subst (λ (o : Option Pointer). HoldsObject told new.shards.items o (write_of changes q)) (sym (objects q))
       (object_on told m before after old.shards.items new.shards.items (get nat_eq old.objects q) (write_of changes q) t.one (λ p there w. kept p w) (is.objects q)))
 
   -- the pool with another table alone
-  pub stands_table : (old new : Pool R) (was changes : List Change) → new.geometry ≡ old.geometry → new.shards.items ≡ old.shards.items → Represents shape told old was
-      → ((q : ℕ) → HoldsObject told old.shards.items (get nat_eq new.objects q) (write_of changes q)) → Represents shape told new changes
+  pub stands_table : (old new : Pool R) (was changes : List Change) → new.geometry ≡ old.geometry → new.shards.items ≡ old.shards.items → Stands shape told old was
+      → ((q : ℕ) → HoldsObject told old.shards.items (get nat_eq new.objects q) (write_of changes q)) → Stands shape told new changes
   stands_table old new was changes layout shards is objects = record {
     layout = subst IsGeometry (sym layout) is.layout;
     many = ap (λ (xs : List (Shard R)). length xs) shards ∙ (is.many ∙ ap (λ (g : Geometry). g.props.metaslabs) (sym layout));
     members = λ m shard there. subst (λ (g : Geometry). IsMember shape g m shard) (sym layout) (is.members m shard (ap (λ (xs : List (Shard R)). slice_get xs m) (sym shards) ∙ there));
     objects = λ q. subst (λ (xs : List (Shard R)). HoldsObject told xs (get nat_eq new.objects q) (write_of changes q)) (sym shards) (objects q);
+  }
+
+  pub represents_yet : (m : ℕ) (before after : Shard R) (old new : Pool R) (changes : List Change) → Turned m before after old new → KeepsBlocks told before after → SameLive before after
+      → ((q : ℕ) → get nat_eq new.objects q ≡ get nat_eq old.objects q) → Represents shape told old changes → Represents shape told new changes
+  represents_yet m before after old new changes t kept same objects is = record {
+    stands = stands_yet m before after old new changes t kept objects is.stands;
+    live = names_yet m before after old.shards.items new.shards.items (λ q. get nat_eq old.objects q) (λ q. get nat_eq new.objects q) t.one same.only objects is.live;
   }
 
   pub one_moved : (m : ℕ) (before after : Shard R) (old new : Pool R) (was changes : List Change) → Turned m before after old new
@@ -66,26 +74,36 @@ module _ {R : Type 0} (shape : R → Shape) (told : R → Option Told) (faults :
       → state_of told faults new changes ≡ state_of told faults old changes
   same_state old new changes layout images seq = λ i. record { geometry = layout i; metaslabs = images i; changes = changes; seq = seq i }
 
+  -- the same pool with the same table
+  pub same_stands : (old new : Pool R) (changes : List Change) → new.geometry ≡ old.geometry → new.shards.items ≡ old.shards.items
+      → ((q : ℕ) → get nat_eq new.objects q ≡ get nat_eq old.objects q) → Represents shape told old changes → Represents shape told new changes
+  same_stands old new changes layout shards objects is = record {
+    stands = stands_table old new changes changes layout shards is.stands
+        (λ q. subst (λ (o : Option Pointer). HoldsObject told old.shards.items o (write_of changes q)) (sym (objects q)) (is.stands.objects q));
+    live = λ m shard p there live.
+        (let n = is.live m shard p (ap (λ (xs : List (Shard R)). slice_get xs m) (sym shards) ∙ there) live in record { here = n.here; named = objects p.object ∙ n.named });
+  }
+
   -- ---- the block of an object
-  pub found : (pool : Pool R) (changes : List Change) (object : ℕ) (pointer : Pointer) → Represents shape told pool changes → get nat_eq pool.objects object ≡ Some pointer
+  pub found : (pool : Pool R) (changes : List Change) (object : ℕ) (pointer : Pointer) → Stands shape told pool changes → get nat_eq pool.objects object ≡ Some pointer
       → Has told pool.shards.items (write_of changes object) pointer
   found pool changes object pointer is there = has told pool.shards.items (get nat_eq pool.objects object) (write_of changes object) pointer there (is.objects object)
 
-  pub live_in : (pool : Pool R) (changes : List Change) (object : ℕ) (pointer : Pointer) → Represents shape told pool changes → get nat_eq pool.objects object ≡ Some pointer
+  pub live_in : (pool : Pool R) (changes : List Change) (object : ℕ) (pointer : Pointer) → Stands shape told pool changes → get nat_eq pool.objects object ≡ Some pointer
       → IsLiveIn shape pool.shards.items pointer
   live_in pool changes object pointer is there =
       let held = (found pool changes object pointer is there).held in
       record { shard = held.shard; there = held.there; valid = (is.members pointer.metaslab held.shard held.there).valid; is_live = held.holds.is_live }
 
   -- a pointer is that of its object
-  pub pointer_object : (pool : Pool R) (changes : List Change) (object : ℕ) (pointer : Pointer) → Represents shape told pool changes → get nat_eq pool.objects object ≡ Some pointer
+  pub pointer_object : (pool : Pool R) (changes : List Change) (object : ℕ) (pointer : Pointer) → Stands shape told pool changes → get nat_eq pool.objects object ≡ Some pointer
       → pointer.object ≡ object
   pointer_object pool changes object pointer is there =
       let f = found pool changes object pointer is there in
       f.held.object ∙ write_object changes object f.write f.written
 
   -- a block that wasn't live in its metaslab is no object's
-  pub not_in_table : (pool : Pool R) (changes : List Change) (m object : ℕ) (shard : Shard R) (pointer : Pointer) → Represents shape told pool changes
+  pub not_in_table : (pool : Pool R) (changes : List Change) (m object : ℕ) (shard : Shard R) (pointer : Pointer) → Stands shape told pool changes
       → slice_get pool.shards.items m ≡ Some shard → pointer.metaslab ≡ shard.number → (IsLive shard pointer → ⊥) → get nat_eq pool.objects object ≡ Some pointer → ⊥
   not_in_table pool changes m object shard pointer is there here never said =
       let held = (found pool changes object pointer is said).held in
@@ -102,16 +120,16 @@ module _ {R : Type 0} (shape : R → Shape) (told : R → Option Told) (faults :
   freed_images pointer old new f = same_images told faults pointer.metaslab f.before f.after old new f.one (same_image told faults f.before f.after f.part f.rack f.taken f.held)
 
   -- the blocks of other objects stay
-  pub others_stay : (object q : ℕ) (pointer : Pointer) (old new : Pool R) (changes : List Change) → Represents shape told old changes
+  pub others_stay : (object q : ℕ) (pointer : Pointer) (old new : Pool R) (changes : List Change) → Stands shape told old changes
       → FreesBlock shape told pointer old.shards.items new.shards.items → pointer.object ≡ object → (object ≡ q → ⊥)
       → HoldsObject told new.shards.items (get nat_eq old.objects q) (write_of changes q)
   others_stay object q pointer old new changes is f named other =
       object_on told pointer.metaslab f.before f.after old.shards.items new.shards.items (get nat_eq old.objects q) (write_of changes q) f.one
       (λ p there w. f.kept p w (λ same. other (sym named ∙ (ap (λ (x : Pointer). x.object) (sym same) ∙ pointer_object old changes q p is there)))) (is.objects q)
 
-  pub free_stands : (object : ℕ) (pointer : Pointer) (old new : Pool R) (changes : List Change) → Represents shape told old changes → get nat_eq old.objects object ≡ Some pointer
+  pub free_stands : (object : ℕ) (pointer : Pointer) (old new : Pool R) (changes : List Change) → Stands shape told old changes → get nat_eq old.objects object ≡ Some pointer
       → FreesBlock shape told pointer old.shards.items new.shards.items → new.geometry ≡ old.geometry
-      → ((q : ℕ) → get nat_eq new.objects q ≡ cond (nat_eq object q) None (get nat_eq old.objects q)) → Represents shape told new (Freed object ∷ changes)
+      → ((q : ℕ) → get nat_eq new.objects q ≡ cond (nat_eq object q) None (get nat_eq old.objects q)) → Stands shape told new (Freed object ∷ changes)
   free_stands object pointer old new changes is there f layout objects =
       stands pointer.metaslab f.before f.after old new changes (Freed object ∷ changes) (freed_turned pointer old new f layout) is (λ q.
       object_drop told new.shards.items (get nat_eq new.objects q) (get nat_eq old.objects q) changes object q (objects q)
@@ -119,18 +137,18 @@ module _ {R : Type 0} (shape : R → Shape) (told : R → Option Told) (faults :
 
   -- ---- replacing
   -- an object that had no block got one
-  pub first_stands : (object : ℕ) (pointer : Pointer) (write : Write) (old new : Pool R) (changes : List Change) → Represents shape told old changes
+  pub first_stands : (object : ℕ) (pointer : Pointer) (write : Write) (old new : Pool R) (changes : List Change) → Stands shape told old changes
       → HoldsWrite told old.shards.items pointer write → write.object ≡ object → new.geometry ≡ old.geometry → new.shards.items ≡ old.shards.items
-      → ((q : ℕ) → get nat_eq new.objects q ≡ cond (nat_eq object q) (Some pointer) (get nat_eq old.objects q)) → Represents shape told new (Wrote write ∷ changes)
+      → ((q : ℕ) → get nat_eq new.objects q ≡ cond (nat_eq object q) (Some pointer) (get nat_eq old.objects q)) → Stands shape told new (Wrote write ∷ changes)
   first_stands object pointer write old new changes is held named layout shards objects =
       stands_table old new changes (Wrote write ∷ changes) layout shards is (λ q.
       object_put told old.shards.items (get nat_eq new.objects q) (get nat_eq old.objects q) changes object q pointer write named (objects q) held (λ other. is.objects q))
 
   -- an object got another block, and its earlier one was freed
-  pub next_stands : (object : ℕ) (pointer earlier : Pointer) (write : Write) (old new : Pool R) (changes : List Change) → Represents shape told old changes
+  pub next_stands : (object : ℕ) (pointer earlier : Pointer) (write : Write) (old new : Pool R) (changes : List Change) → Stands shape told old changes
       → HoldsWrite told old.shards.items pointer write → write.object ≡ object → get nat_eq old.objects object ≡ Some earlier → (pointer ≡ earlier → ⊥)
       → FreesBlock shape told earlier old.shards.items new.shards.items → new.geometry ≡ old.geometry
-      → ((q : ℕ) → get nat_eq new.objects q ≡ cond (nat_eq object q) (Some pointer) (get nat_eq old.objects q)) → Represents shape told new (Wrote write ∷ changes)
+      → ((q : ℕ) → get nat_eq new.objects q ≡ cond (nat_eq object q) (Some pointer) (get nat_eq old.objects q)) → Stands shape told new (Wrote write ∷ changes)
   next_stands object pointer earlier write old new changes is held named there apart f layout objects =
       stands earlier.metaslab f.before f.after old new changes (Wrote write ∷ changes) (freed_turned earlier old new f layout) is (λ q.
       object_put told new.shards.items (get nat_eq new.objects q) (get nat_eq old.objects q) changes object q pointer write named (objects q)

@@ -8,7 +8,8 @@ use Rattle.draid_rack.specs.Rack.{Told}
 use Rattle.draid_block.proofs.Sets.{ascending-push}
 use Rattle.draid_shard.specs.Part.{Part, leaf_of}
 use Rattle.draid_shard.specs.Columns.{EndsHarm, LeafRose, TellsBoth}
-use Rattle.draid_shard.specs.Shard.{CountsMiss, NoneFalls}
+use Rattle.draid_shard.specs.declared.shard.Shard.{Shard}
+use Rattle.draid_shard.specs.Shard.{AddsLive, CountsMiss, NoneFalls, SameLive}
 use Rattle.draid_pool.specs.Store.{MissedSome}
 
 longer : (a b c d : ℕ) → a ≤ b → c ≤ d → Rose b c → Rose a d
@@ -111,3 +112,14 @@ harm_as part part' pointer pointer' next next' one o p a b c h = rw (sym a, sym 
 pub harm_all : (part : Part) (first stripes count all : ℕ) (whole : Type 0) (o p : Option Told) → count ≡ all
     → TellsBoth o p (λ x y. EndsHarm part first stripes (λ i. i < count) whole x.harmed y.harmed) → TellsBoth o p (λ x y. EndsHarm part first stripes (λ i. i < all) whole x.harmed y.harmed)
 harm_all part first stripes count all whole o p e h = rw (sym e) h
+
+-- ---- live blocks
+pub same_twice : {R : Type 0} (a b c : Shard R) → SameLive a b → SameLive b c → SameLive a c
+same_twice a b c x y = record { kept = λ p live. y.kept p (x.kept p live); only = λ p live. x.only p (y.only p live) }
+
+pub adds_behind : {R : Type 0} (a b c : Shard R) (pointer : Pointer) → SameLive a b → AddsLive b c pointer → AddsLive a c pointer
+adds_behind a b c pointer same adds = record {
+  added = adds.added;
+  kept = λ p live. adds.kept p (same.kept p live);
+  only = λ p live. elim (adds.only p live) [ inl was ↦ inl (same.only p was) | inr own ↦ inr own ];
+}

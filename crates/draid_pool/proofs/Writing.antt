@@ -1,5 +1,5 @@
 -- A block is written to one metaslab of a pool.
-use Rattle.std.proofs.Common.{◌≡◌, ◌+◌, ◌<◌, ◌∙◌, ℕ, List, ◌∷◌, Option, Some, Ok, Err, refl, sym, ap, subst, slice_index_or}
+use Rattle.std.proofs.Common.{◌≡◌, ◌+◌, ◌<◌, ◌∙◌, ℕ, List, ◌∷◌, Option, Some, Ok, Err, refl, sym, ap, subst, map, slice_index_or}
 use Rattle.std.specs.Prelude.{⊤, nat_eq, slice_get}
 use Rattle.std.specs.HashMap.{get}
 use Rattle.draid_names.specs.declared.pointer.Pointer.{Pointer}
@@ -8,9 +8,9 @@ use Rattle.draid_block.specs.Columns.{Cut}
 use Rattle.draid_rack.specs.Rack.{Shape, Told}
 use Rattle.draid_shard.specs.declared.shard.Shard.{Shard}
 use Rattle.draid_shard.specs.Columns.{EndsHarm}
-use Rattle.draid_shard.specs.Shard.{NoneFalls, Valid, part_of}
+use Rattle.draid_shard.specs.Shard.{KeepsBlocks, NoneFalls, Valid, part_of}
 use Rattle.draid_pool.specs.Answers.{WriteInIs}
-use Rattle.draid_pool.specs.Pool.{HasRoomAt, HoldsWrite, Moves, Represents, SamePool, metaslab_of, state_of}
+use Rattle.draid_pool.specs.Pool.{HasRoomAt, HoldsWrite, Moves, NamesOthers, Represents, SamePool, Stands, metaslab_of, state_of}
 use Rattle.draid_pool.specs.State.{Change, Wrote, stripes_for}
 use Rattle.draid_pool.specs.Store.{HasRoom, StoreAnswers, StoreMisses, StoreStays, Stores}
 use Rattle.draid_pool.specs.declared.fault.WriteFault.TheVariants as write_fault
@@ -19,8 +19,9 @@ use Rattle.draid_pool.specs.declared.store.StoreFault.{StoreFault}
 use Rattle.draid_pool.specs.declared.store.StoreFault.TheVariants as store_fault
 use Rattle.draid_pool.proofs.Harm.{harm_both}
 use Rattle.draid_pool.proofs.Lists.{fun_ext}
+use Rattle.draid_pool.proofs.Named.{names_stored}
 use Rattle.draid_pool.proofs.Shards.{at_shard, same_image, same_images, set_here}
-use Rattle.draid_pool.proofs.Steps.{Turned, not_in_table, one_moved, same_state}
+use Rattle.draid_pool.proofs.Steps.{Turned, not_in_table, one_moved, represents_yet, same_stands, same_state}
 
 module _ {R : Type 0} (shape : R → Shape) (told : R → Option Told) (faults : R → Option ℕ → ℕ) where
   -- the shard that a block goes to
@@ -31,16 +32,16 @@ module _ {R : Type 0} (shape : R → Shape) (told : R → Option Told) (faults :
   pub room_has : (pool : Pool R) (m : ℕ) (w : List ℕ) (shard : Shard R) → HasRoomAt pool m w → shard ≡ slice_index_or pool.shards.items m shard → HasRoom shard w
   room_has pool m w shard room value = subst (λ (s : Shard R). HasRoom s w) (sym (at_shard pool.shards.items m room.shard shard room.there value)) room.room
 
-  pub room_valid : (pool : Pool R) (changes : List Change) (m : ℕ) (shard : Shard R) → Represents shape told pool changes → slice_get pool.shards.items m ≡ Some shard → Valid shape shard
+  pub room_valid : (pool : Pool R) (changes : List Change) (m : ℕ) (shard : Shard R) → Stands shape told pool changes → slice_get pool.shards.items m ≡ Some shard → Valid shape shard
   room_valid pool changes m shard is there = (is.members m shard there).valid
 
-  pub room_cut : (pool : Pool R) (changes : List Change) (m : ℕ) (shard : Shard R) (cut : Cut) → Represents shape told pool changes → slice_get pool.shards.items m ≡ Some shard
+  pub room_cut : (pool : Pool R) (changes : List Change) (m : ℕ) (shard : Shard R) (cut : Cut) → Stands shape told pool changes → slice_get pool.shards.items m ≡ Some shard
       → cut ≡ cut_of pool.geometry → cut ≡ cut_of shard.geometry
   room_cut pool changes m shard cut is there same = same ∙ ap cut_of (sym (is.members m shard there).layout)
 
   -- the block that was stored is that of the write
   pub stored_holds : (m object : ℕ) (w : List ℕ) (pointer : Pointer) (before after : Shard R) (old new : Pool R) (changes : List Change) → Turned shape told faults m before after old new
-      → Represents shape told old changes → Stores told object w before after pointer
+      → Stands shape told old changes → Stores told object w before after pointer
       → HoldsWrite told new.shards.items pointer (record { object = object; bytes = w; metaslab = m; first = pointer.first })
   stored_holds m object w pointer before after old new changes t is stores =
       let at : pointer.metaslab ≡ m = stores.here ∙ (is.members m before t.one.there).number in
@@ -54,9 +55,17 @@ module _ {R : Type 0} (shape : R → Shape) (told : R → Option Told) (faults :
       }
 
   pub stored_apart : (m object : ℕ) (w : List ℕ) (pointer : Pointer) (before after : Shard R) (old : Pool R) (changes : List Change) → slice_get old.shards.items m ≡ Some before
-      → Represents shape told old changes → Stores told object w before after pointer → get nat_eq old.objects object ≡ Some pointer → ⊥
+      → Stands shape told old changes → Stores told object w before after pointer → get nat_eq old.objects object ≡ Some pointer → ⊥
   stored_apart m object w pointer before after old changes there is stores said =
       not_in_table shape told faults old changes m object before pointer is there stores.here stores.is_new said
+
+  -- and no object's yet
+  pub stored_names : (m object : ℕ) (w : List ℕ) (pointer : Pointer) (before after : Shard R) (old new : Pool R) (changes : List Change) → Turned shape told faults m before after old new
+      → Represents shape told old changes → Stores told object w before after pointer → ((q : ℕ) → get nat_eq new.objects q ≡ get nat_eq old.objects q)
+      → NamesOthers pointer new.shards.items (λ q. get nat_eq new.objects q)
+  stored_names m object w pointer before after old new changes t is stores objects =
+      names_stored m before after old.shards.items new.shards.items (λ q. get nat_eq old.objects q) (λ q. get nat_eq new.objects q) pointer t.one stores.adds
+      (stores.here ∙ (is.stands.members m before t.one.there).number) objects is.live
 
   pub writes_step : (m object : ℕ) (w : List ℕ) (pointer : Pointer) (before after : Shard R) (old mid new : Pool R) (changes : List Change) → Turned shape told faults m before after old mid
       → Stores told object w before after pointer → NoneFalls (faults before.rack) (faults after.rack) → mid.seq ≡ old.seq + 1 → SamePool told faults mid new
@@ -83,12 +92,13 @@ module _ {R : Type 0} (shape : R → Shape) (told : R → Option Told) (faults :
 
   pub misses_step : (m object : ℕ) (w : List ℕ) (columns : ℕ) (fault : StoreFault) (before after : Shard R) (old new : Pool R) (changes : List Change) → Turned shape told faults m before after old new
       → fault ≡ store_fault.Missed columns → StoreAnswers told faults object w before after (Err fault) → NoneFalls (faults before.rack) (faults after.rack) → new.seq ≡ old.seq + 1
-      → Represents shape told new changes → Moves shape told faults (WriteInIs m object w (Err (write_fault.Missed columns))) (state_of told faults old changes) new
-  misses_step m object w columns fault before after old new changes t said answer later seq is =
+      → KeepsBlocks told before after → ((q : ℕ) → get nat_eq new.objects q ≡ get nat_eq old.objects q) → Represents shape told old changes
+      → Moves shape told faults (WriteInIs m object w (Err (write_fault.Missed columns))) (state_of told faults old changes) new
+  misses_step m object w columns fault before after old new changes t said answer later seq kept objects is =
       let misses : StoreMisses told faults w before after columns = subst (λ (f : StoreFault). StoreAnswers told faults object w before after (Err f)) said answer in
       record {
         changes = changes;
-        represents = is;
+        represents = represents_yet shape told faults m before after old new changes t kept misses.live objects is;
         moved = record {
           before = metaslab_of told faults before;
           after = metaslab_of told faults after;
@@ -109,13 +119,24 @@ module _ {R : Type 0} (shape : R → Shape) (told : R → Option Told) (faults :
       }
 
   pub stays_step : (m object : ℕ) (w : List ℕ) (fault : StoreFault) (before after : Shard R) (old new : Pool R) (changes : List Change) → Turned shape told faults m before after old new
-      → fault ≡ store_fault.NoMemory → StoreAnswers told faults object w before after (Err fault) → new.seq ≡ old.seq → Represents shape told new changes
+      → fault ≡ store_fault.NoMemory → StoreAnswers told faults object w before after (Err fault) → new.seq ≡ old.seq → KeepsBlocks told before after
+      → ((q : ℕ) → get nat_eq new.objects q ≡ get nat_eq old.objects q) → Represents shape told old changes
       → Moves shape told faults (WriteInIs m object w (Err write_fault.NoMemory)) (state_of told faults old changes) new
-  stays_step m object w fault before after old new changes t said answer seq is =
+  stays_step m object w fault before after old new changes t said answer seq kept objects is =
       let stays : StoreStays before after = subst (λ (f : StoreFault). StoreAnswers told faults object w before after (Err f)) said answer in
       record {
         changes = changes;
-        represents = is;
+        represents = represents_yet shape told faults m before after old new changes t kept stays.live objects is;
         moved = same_state shape told faults old new changes t.layout
             (same_images told faults m before after old.shards.items new.shards.items t.one (same_image told faults before after t.part stays.rack (fun_ext _ _ stays.free) stays.held)) seq;
       }
+
+  -- no room in the table
+  pub unwritten_step : (m object : ℕ) (w : List ℕ) (old new : Pool R) (changes : List Change) → new.geometry ≡ old.geometry → new.shards.items ≡ old.shards.items → new.seq ≡ old.seq
+      → ((q : ℕ) → get nat_eq new.objects q ≡ get nat_eq old.objects q) → Represents shape told old changes
+      → Moves shape told faults (WriteInIs m object w (Err write_fault.NoMemory)) (state_of told faults old changes) new
+  unwritten_step m object w old new changes layout shards seq objects is = record {
+    changes = changes;
+    represents = same_stands shape told faults old new changes layout shards objects is;
+    moved = same_state shape told faults old new changes layout (ap (map (metaslab_of told faults)) shards) seq;
+  }

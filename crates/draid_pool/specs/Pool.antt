@@ -1,11 +1,11 @@
-use Rattle.std.specs.Prelude.{◌≡◌, ⊤, ℕ, Bool, List, Option, Some, None, length, map, option_map, nat_eq, slice_get}
+use Rattle.std.specs.Prelude.{◌≡◌, ◌⊎◌, ⊤, ℕ, Bool, List, Option, Some, None, length, map, option_map, nat_eq, slice_get}
 use Rattle.std.specs.HashMap.{get}
 use Rattle.draid_names.specs.declared.pointer.Pointer.{Pointer}
 use Rattle.draid_spec.specs.declared.layout.Geometry.{Geometry}
 use Rattle.draid_spec.specs.Geometry.{IsGeometry}
 use Rattle.draid_rack.specs.Rack.{Shape, Told}
 use Rattle.draid_shard.specs.declared.shard.Shard.{Shard}
-use Rattle.draid_shard.specs.Shard.{HoldsBlock, Valid, free_of, held_of, part_of}
+use Rattle.draid_shard.specs.Shard.{HoldsBlock, IsLive, Valid, free_of, held_of, part_of}
 use Rattle.draid_pool.specs.State.{Change, Metaslab, State, Write, write_of}
 use Rattle.draid_pool.specs.Store.{HasRoom}
 use Rattle.draid_pool.specs.declared.pool.Pool.{Pool}
@@ -55,11 +55,30 @@ pub record IsMember {R : Type 0} (shape : R → Shape) (geometry : Geometry) (m 
   pub number : shard.number ≡ m
 
 -- The pool has all metaslabs of its layout. This befell its objects, and its table has the pointer of each of them that has bytes.
-pub record Represents {R : Type 0} (shape : R → Shape) (told : R → Option Told) (pool : Pool R) (changes : List Change) : Type 0 where
+pub record Stands {R : Type 0} (shape : R → Shape) (told : R → Option Told) (pool : Pool R) (changes : List Change) : Type 0 where
   pub layout : IsGeometry pool.geometry
   pub many : length pool.shards.items ≡ pool.geometry.props.metaslabs
   pub members : (m : ℕ) (shard : Shard R) → slice_get pool.shards.items m ≡ Some shard → IsMember shape pool.geometry m shard
   pub objects : (object : ℕ) → HoldsObject told pool.shards.items (get nat_eq pool.objects object) (write_of changes object)
+
+-- the pointer is that of its object, and names its metaslab
+pub record IsNamed (table : ℕ → Option Pointer) (m : ℕ) (p : Pointer) : Type 0 where
+  pub here : p.metaslab ≡ m
+  pub named : table p.object ≡ Some p
+
+-- each live block is that of its object
+abbrev pub NamesLive : {R : Type 0} → List (Shard R) → (ℕ → Option Pointer) → Type 0
+NamesLive {R} shards table = (m : ℕ) (shard : Shard R) (p : Pointer) → slice_get shards m ≡ Some shard → IsLive shard p → IsNamed table m p
+
+-- each live block but that of a pointer is
+abbrev pub NamesOthers : {R : Type 0} → Pointer → List (Shard R) → (ℕ → Option Pointer) → Type 0
+NamesOthers {R} pointer shards table = (m : ℕ) (shard : Shard R) (p : Pointer) → slice_get shards m ≡ Some shard → IsLive shard p
+    → IsNamed table m p ⊎ ((p ≡ pointer) × (p.metaslab ≡ m))
+
+-- and the blocks of the objects are all that are live
+pub record Represents {R : Type 0} (shape : R → Shape) (told : R → Option Told) (pool : Pool R) (changes : List Change) : Type 0 where
+  pub stands : Stands shape told pool changes
+  pub live : NamesLive pool.shards.items (λ object. get nat_eq pool.objects object)
 
 -- the layout, the metaslabs and the last write's number are as before
 pub record SamePool {R : Type 0} (told : R → Option Told) (faults : R → Option ℕ → ℕ) (old new : Pool R) : Type 0 where

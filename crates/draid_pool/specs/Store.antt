@@ -13,7 +13,7 @@ use Rattle.draid_shard.specs.declared.shard.Shard.{Shard}
 use Rattle.draid_shard.specs.Part.{Part}
 use Rattle.draid_shard.specs.Columns.{EndsHarm, LeafRose, MoreBad, TellsBoth}
 use Rattle.draid_shard.specs.Entry.{IsRoom}
-use Rattle.draid_shard.specs.Shard.{HoldsBlock, IsLive, KeepsOtherBlocks, TakesLowest, Valid, free_of, held_of, part_of}
+use Rattle.draid_shard.specs.Shard.{AddsLive, DropsLive, HoldsBlock, IsLive, KeepsOtherBlocks, SameLive, TakesLowest, Valid, free_of, held_of, part_of}
 use Rattle.draid_pool.specs.State.{most_held, stripes_for}
 use Rattle.draid_pool.specs.declared.fault.ObjectFault.{ObjectFault}
 use Rattle.draid_pool.specs.declared.fault.ObjectFault.TheVariants as object
@@ -50,6 +50,7 @@ pub record Stores {R : Type 0} (told : R → Option Told) (object : ℕ) (w : Li
   pub named : pointer.object ≡ object
   pub here : pointer.metaslab ≡ old.number
   pub is_new : IsLive old pointer → ⊥
+  pub adds : AddsLive old new pointer
   pub takes : TakesLowest old.geometry.props.height (free_of old) (free_of new) pointer.first (stripes_for old.geometry w)
   pub held : held_of new ≡ held_of old + 1
   pub holds : HoldsBlock told new pointer w
@@ -64,6 +65,7 @@ pub record StoreMisses {R : Type 0} (told : R → Option Told) (faults : R → O
   pub fitted : IsLowest (free_of old) old.geometry.props.height (stripes_for old.geometry w) first
   pub free : (x : ℕ) → free_of new x ≡ free_of old x
   pub held : held_of new ≡ held_of old
+  pub live : SameLive old new
   pub harm : TellsBoth (told old.rack) (told new.rack) (λ x y.
       EndsHarm (part_of old) first (stripes_for old.geometry w) (λ i. i < old.geometry.g) ⊥ x.harmed y.harmed)
 
@@ -72,6 +74,7 @@ pub record StoreStays {R : Type 0} (old new : Shard R) : Type 0 where
   pub rack : new.rack ≡ old.rack
   pub free : (x : ℕ) → free_of new x ≡ free_of old x
   pub held : held_of new ≡ held_of old
+  pub live : SameLive old new
 
 abbrev pub StoreAnswers : {R : Type 0} → (R → Option Told) → (R → Option ℕ → ℕ) → ℕ → List ℕ → Shard R → Shard R → Result Pointer StoreFault → Type 0
 StoreAnswers told faults o w old new (Ok pointer) = Stores told o w old new pointer
@@ -121,4 +124,5 @@ pub record FreesBlock {R : Type 0} (shape : R → Shape) (told : R → Option To
   pub rack : after.rack ≡ before.rack
   pub taken : free_of after ≡ free_of before
   pub held : held_of after ≡ held_of before
+  pub drops : DropsLive before after pointer
   pub kept : KeepsOtherBlocks told pointer before after

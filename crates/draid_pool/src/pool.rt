@@ -38,7 +38,7 @@ pub struct Pool<R: Rack> {
 }
 
 impl<R: Rack> Pool<R> {
-    ghost use Rattle.draid_pool.specs.Pool.{HasRoomAt, HoldsWrite, Moves, Represents, SamePool, state_of};
+    ghost use Rattle.draid_pool.specs.Pool.{HasRoomAt, HoldsWrite, Moves, NamesOthers, Represents, SamePool, Stands, state_of};
 
     /// The layout of the pool.
     pub fn geometry(&self) -> &Geometry
@@ -121,11 +121,12 @@ impl<R: Rack> Pool<R> {
     /// Gives an object the pointer of its new block, and frees the block that it had before.
     fn replace(&mut self, object: u64, pointer: Pointer)
         requires room { 0 < spare self.old.objects }
-        requires represents { (changes : List Change) × Represents R.shape R.told self.old changes }
+        requires stands { (changes : List Change) × Stands R.shape R.told self.old changes }
         requires apart { get nat_eq self.old.objects object ≡ Some pointer → ⊥ }
         ensures same { SamePool R.told R.faults self.old self.new }
-        ensures represents { (changes : List Change) (write : Write) → Represents R.shape R.told self.old changes
+        ensures represents { (changes : List Change) (write : Write) → Stands R.shape R.told self.old changes
             → HoldsWrite R.told self.old.shards.items pointer write → write.object ≡ object
+            → NamesOthers pointer self.old.shards.items (λ q. get nat_eq self.old.objects q)
             → Represents R.shape R.told self.new (Wrote write ∷ changes) }
     {
         let Ok(earlier) = self.objects.insert(object, pointer) else {

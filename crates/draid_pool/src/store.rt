@@ -2,7 +2,7 @@ ghost use Rattle.std.specs.Prelude.{◌≡◌, ◌<◌, ◌≤◌, ◌^◌, ℕ,
 ghost use Rattle.draid_block.specs.Blocks.{cut_of};
 ghost use Rattle.draid_pool.specs.Store.{BlockAnswers, FreesBlock, HasRoom, IsLiveIn, MissedSome, StoreAnswers};
 ghost use Rattle.draid_shard.specs.Columns.{EndsHarm, TellsBoth};
-ghost use Rattle.draid_shard.specs.Shard.{Carries, HoldsBlock, IsLive, KeepsBlocks, NoneFalls, Valid, free_of, held_of, part_of};
+ghost use Rattle.draid_shard.specs.Shard.{Carries, HoldsBlock, IsLive, KeepsBlocks, NoneFalls, SameLive, Valid, free_of, held_of, part_of};
 
 use crate::fault::ObjectFault;
 use draid_block::{Encoded, SolveFault, solve_block};
@@ -37,6 +37,7 @@ fn put_all<R: Rack>(shard: &mut Shard<R>, ticket: &mut Ticket, block: &Encoded)
     ensures later { NoneFalls (R.faults shard.old.rack) (R.faults shard.new.rack) }
     ensures free { free_of shard.new ≡ free_of shard.old }
     ensures held { held_of shard.new ≡ held_of shard.old }
+    ensures same { SameLive shard.old shard.new }
     ensures kept { KeepsBlocks R.told shard.old shard.new }
 {
     for _column in 0..shard.geometry.g {
@@ -91,6 +92,7 @@ pub(crate) fn read_block<R: Rack>(
     ensures told { R.told shard.new.rack ≡ R.told shard.old.rack }
     ensures free { free_of shard.new ≡ free_of shard.old }
     ensures held { held_of shard.new ≡ held_of shard.old }
+    ensures same { SameLive shard.old shard.new }
     ensures later { NoneFalls (R.faults shard.old.rack) (R.faults shard.new.rack) }
     ensures kept { KeepsBlocks R.told shard.old shard.new }
 {

@@ -18,6 +18,7 @@ returns g c =
         rack = e.rack;
         taken = e.taken;
         held = e.held;
+        drops = e.gone;
         kept = e.kept;
       };
     }

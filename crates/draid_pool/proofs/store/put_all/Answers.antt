@@ -1,7 +1,7 @@
 use Rattle.std.proofs.Common.{◌≡◌, ◌∙◌, arith, ap}
 use Rattle.draid_shard.specs.Part.{Part}
 use Rattle.draid_shard.specs.Shard.{part_of}
-use Rattle.draid_pool.proofs.Storing.{counts_as, harm_all, harm_as, missed_more, told_ends_more}
+use Rattle.draid_pool.proofs.Storing.{counts_as, harm_all, harm_as, missed_more, same_twice, told_ends_more}
 use Rattle.draid_pool.proofs.store.put_all.Goals as goal
 
 pub loop-column-preserved : goal.loop-column-preserved
@@ -33,6 +33,7 @@ loop-column-preserved g c =
       later = λ who. (let a = i.later who in let b = e.later who in omega (arith, a, b));
       free = e.free ∙ i.free;
       held = e.held ∙ i.held;
+      same = same_twice old mid new i.same e.same;
       kept = λ p w holds. e.kept p w (i.kept p w holds);
     }
 

@@ -1,6 +1,6 @@
 use Rattle.std.proofs.Common.{◌≡◌, ◌<◌}
 use Rattle.draid_shard.specs.Columns.{EndsHarm, TellsBoth}
-use Rattle.draid_shard.specs.Shard.{Carries, KeepsBlocks, NoneFalls, Valid, free_of, held_of, part_of}
+use Rattle.draid_shard.specs.Shard.{Carries, KeepsBlocks, NoneFalls, SameLive, Valid, free_of, held_of, part_of}
 use Rattle.draid_pool.specs.Store.{MissedSome}
 use Rattle.draid_pool.proofs.store.put_all.Given as goal
 
@@ -17,5 +17,6 @@ invariant-loop-column g l = let rack = g.R.Rack in let old = l.initial.shard in 
   later : NoneFalls (rack.faults old.rack) (rack.faults l.shard.rack);
   free : free_of l.shard ≡ free_of old;
   held : held_of l.shard ≡ held_of old;
+  same : SameLive old l.shard;
   kept : KeepsBlocks rack.told old l.shard;
 }

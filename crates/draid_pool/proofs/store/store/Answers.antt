@@ -6,6 +6,7 @@ use Rattle.draid_shard.specs.Entry.{IsRefused}
 use Rattle.draid_shard.specs.Shard.{free_of, held_of, part_of}
 use Rattle.draid_pool.specs.State.{stripes_for}
 use Rattle.draid_pool.proofs.Stored.{harm_as_whole, has_room, missed_as, not_live, takes_as, ticket_stripes}
+use Rattle.draid_pool.proofs.Storing.{adds_behind, same_twice}
 use Rattle.draid_pool.proofs.store.store.Goals as goal
 
 pub returns-in-Ok-finish-clause-kept : goal.returns-in-Ok-finish-clause-kept
@@ -24,6 +25,7 @@ returns-in-Ok-finish-clause-answer g c =
       named = ap (λ (p : Pointer). p.object) pointer ∙ begun.named.0;
       here = ap (λ (p : Pointer). p.metaslab) pointer ∙ begun.named.2;
       is_new = λ live. not_live c.begin.new.self c.in-Ok.ticket c.in-Ok-finish.pointer pointer begun.carries.is_open (begun.same.kept c.in-Ok-finish.pointer live);
+      adds = adds_behind old c.put_all.new.shard c.finish.new.self c.in-Ok-finish.pointer (same_twice old c.begin.new.self c.put_all.new.shard begun.same all.same) ended.added;
       held = (let a = begun.held in let b = all.held in let d = ended.held in omega (arith, a, b, d));
       takes = takes_as old.geometry.props.height old.geometry.props.height (free_of old) (free_of c.begin.new.self) (free_of c.finish.new.self) c.in-Ok.ticket.pointer c.in-Ok-finish.pointer
           _ _ refl (ended.taken ∙ all.free) pointer refl begun.takes;
@@ -48,6 +50,7 @@ returns-in-Err-clause-answer g c =
       missed = missed_as (part_of c.begin.new.self) (part_of old) c.in-Ok.ticket.pointer (g.R.Rack.faults old.rack) (g.R.Rack.faults c.begin.new.self.rack) (g.R.Rack.faults c.put_all.new.shard.rack)
           (g.R.Rack.faults c.finish.new.self.rack) c.put_all.new.ticket.missed c.in-Err.field-0.columns begun.part (ap g.R.Rack.faults begun.rack) (ap g.R.Rack.faults ended.rack) ended.missed.1 all.missed;
       fitted = begun.takes.lowest;
+      live = same_twice old c.put_all.new.shard c.finish.new.self (same_twice old c.begin.new.self c.put_all.new.shard begun.same all.same) ended.same;
       held = (let a = begun.held in let b = all.held in let d = ended.held in omega (arith, a, b, d));
       free = ended.undone (free_of old) (takes_as old.geometry.props.height c.put_all.new.shard.geometry.props.height (free_of old) (free_of c.begin.new.self) (free_of c.put_all.new.shard) c.in-Ok.ticket.pointer
           c.put_all.new.ticket.pointer _ _ height all.free all.pointer (sym stripes ∙ ap (λ (p : Pointer). p.stripes) (sym all.pointer)) begun.takes);

@@ -5,7 +5,7 @@ use Rattle.draid_map.specs.Place.{part_sectors}
 use Rattle.draid_pool.specs.declared.pool.Pool.{Pool}
 use Rattle.draid_pool.proofs.Places.{is_there, part_below, rest_below, sector_shard}
 use Rattle.draid_pool.proofs.Reading.{damage_step, fails_step}
-use Rattle.draid_pool.proofs.Steps.{Turned, stands_yet}
+use Rattle.draid_pool.proofs.Steps.{Turned, represents_yet}
 use Rattle.draid_pool.proofs.pool.Pool.damage.Goals as goal
 
 pub damage-requires-clause-valid : goal.damage-requires-clause-valid
@@ -13,18 +13,18 @@ damage-requires-clause-valid g c =
     let is = c.requires.represents in
     let within = subst (λ n. c.args.sector < n * c.metaslab_sectors-sectors.result) c.from-metaslabs.ensures c.if-sector-metaslabs.false in
     let k = c.args.sector / c.metaslab_sectors-sectors.result in
-    let there = sector_shard g.R.Rack.shape g.R.Rack.told g.R.Rack.faults c.args.self.now is.0 k c.index_mut-shard.result.now is.1
+    let there = sector_shard g.R.Rack.shape g.R.Rack.told g.R.Rack.faults c.args.self.now is.0 k c.index_mut-shard.result.now is.1.stands
     (part_below c.args.sector c.args.self.now.geometry.props.metaslabs c.metaslab_sectors-sectors.result within) c.index_mut-shard.ensures.value in
-    (is.1.members k c.index_mut-shard.result.now there).valid
+    (is.1.stands.members k c.index_mut-shard.result.now there).valid
 
 pub damage-requires-clause-leaf : goal.damage-requires-clause-leaf
 damage-requires-clause-leaf g c =
     let is = c.requires.represents in
     let within = subst (λ n. c.args.sector < n * c.metaslab_sectors-sectors.result) c.from-metaslabs.ensures c.if-sector-metaslabs.false in
     let k = c.args.sector / c.metaslab_sectors-sectors.result in
-    let there = sector_shard g.R.Rack.shape g.R.Rack.told g.R.Rack.faults c.args.self.now is.0 k c.index_mut-shard.result.now is.1
+    let there = sector_shard g.R.Rack.shape g.R.Rack.told g.R.Rack.faults c.args.self.now is.0 k c.index_mut-shard.result.now is.1.stands
     (part_below c.args.sector c.args.self.now.geometry.props.metaslabs c.metaslab_sectors-sectors.result within) c.index_mut-shard.ensures.value in
-    let children = ap (λ (x : Geometry). x.spec.children) (is.1.members k c.index_mut-shard.result.now there).layout in
+    let children = ap (λ (x : Geometry). x.spec.children) (is.1.stands.members k c.index_mut-shard.result.now there).layout in
     let below = c.if-leaf-from.false in
     let from = c.from.ensures in
     omega (arith, below, from, children)
@@ -34,9 +34,9 @@ damage-requires-clause-sector g c =
     let is = c.requires.represents in
     let within = subst (λ n. c.args.sector < n * c.metaslab_sectors-sectors.result) c.from-metaslabs.ensures c.if-sector-metaslabs.false in
     let k = c.args.sector / c.metaslab_sectors-sectors.result in
-    let there = sector_shard g.R.Rack.shape g.R.Rack.told g.R.Rack.faults c.args.self.now is.0 k c.index_mut-shard.result.now is.1
+    let there = sector_shard g.R.Rack.shape g.R.Rack.told g.R.Rack.faults c.args.self.now is.0 k c.index_mut-shard.result.now is.1.stands
     (part_below c.args.sector c.args.self.now.geometry.props.metaslabs c.metaslab_sectors-sectors.result within) c.index_mut-shard.ensures.value in
-    let sectors = ap part_sectors (is.1.members k c.index_mut-shard.result.now there).layout in
+    let sectors = ap part_sectors (is.1.stands.members k c.index_mut-shard.result.now there).layout in
     subst (λ n. c.args.sector % c.metaslab_sectors-sectors.result < n) (c.metaslab_sectors-sectors.ensures.value ∙ sym sectors)
     (rest_below c.args.sector c.args.self.now.geometry.props.metaslabs c.metaslab_sectors-sectors.result within)
 
@@ -48,12 +48,12 @@ returns-in-Ok g c = record {
       let old = c.args.self.now in
       let before = c.index_mut-shard.result.now in
       let after = c.damage.new.self in
-      let at = sector_shard g.R.Rack.shape g.R.Rack.told g.R.Rack.faults old changes k before is (part_below c.args.sector old.geometry.props.metaslabs c.metaslab_sectors-sectors.result within)
+      let at = sector_shard g.R.Rack.shape g.R.Rack.told g.R.Rack.faults old changes k before is.stands (part_below c.args.sector old.geometry.props.metaslabs c.metaslab_sectors-sectors.result within)
       c.index_mut-shard.ensures.value in
       let e = c.in-Ok.ensures in
       let new : Pool g.row.R.Denot = record { geometry = old.geometry; shards = with_item old.shards k after; objects = old.objects; seq = old.seq; alloc = old.alloc } in
       let t : Turned g.R.Rack.shape g.R.Rack.told g.R.Rack.faults k before after old new = record { one = record { there = at; sets = refl }; valid = e.valid; part = e.part; layout = refl } in
-      let yet = stands_yet g.R.Rack.shape g.R.Rack.told g.R.Rack.faults k before after old new changes t e.kept (λ q. refl) is in
+      let yet = represents_yet g.R.Rack.shape g.R.Rack.told g.R.Rack.faults k before after old new changes t e.kept e.same (λ q. refl) is in
       let same = c.metaslab_sectors-sectors.ensures.value in
       damage_step g.R.Rack.shape g.R.Rack.told g.R.Rack.faults c.args.leaf c.args.sector (c.args.sector % c.metaslab_sectors-sectors.result) before after old new changes
       (is_there g.R.Rack.shape g.R.Rack.told g.R.Rack.faults old changes c.args.leaf c.args.sector c.metaslab_sectors-sectors.result
@@ -69,12 +69,12 @@ returns-in-Err g c = record {
       let old = c.args.self.now in
       let before = c.index_mut-shard.result.now in
       let after = c.damage.new.self in
-      let at = sector_shard g.R.Rack.shape g.R.Rack.told g.R.Rack.faults old changes k before is (part_below c.args.sector old.geometry.props.metaslabs c.metaslab_sectors-sectors.result within)
+      let at = sector_shard g.R.Rack.shape g.R.Rack.told g.R.Rack.faults old changes k before is.stands (part_below c.args.sector old.geometry.props.metaslabs c.metaslab_sectors-sectors.result within)
       c.index_mut-shard.ensures.value in
       let e = c.in-Err.ensures in
       let new : Pool g.row.R.Denot = record { geometry = old.geometry; shards = with_item old.shards k after; objects = old.objects; seq = old.seq; alloc = old.alloc } in
       let t : Turned g.R.Rack.shape g.R.Rack.told g.R.Rack.faults k before after old new = record { one = record { there = at; sets = refl }; valid = e.valid; part = e.part; layout = refl } in
-      let yet = stands_yet g.R.Rack.shape g.R.Rack.told g.R.Rack.faults k before after old new changes t e.kept (λ q. refl) is in
+      let yet = represents_yet g.R.Rack.shape g.R.Rack.told g.R.Rack.faults k before after old new changes t e.kept e.same (λ q. refl) is in
       let same = c.metaslab_sectors-sectors.ensures.value in
       fails_step g.R.Rack.shape g.R.Rack.told g.R.Rack.faults c.args.leaf c.args.sector before after old new changes
       (is_there g.R.Rack.shape g.R.Rack.told g.R.Rack.faults old changes c.args.leaf c.args.sector c.metaslab_sectors-sectors.result

@@ -15,14 +15,14 @@ use Rattle.draid_pool.proofs.pool.Pool.write.Goals as goal
 pub rooms_of-requires : goal.rooms_of-requires
 rooms_of-requires g c =
     let is = c.requires.represents in
-    subst (λ (xs : List (Shard g.row.R.Denot)). All (Valid g.R.Rack.shape) xs) (sym c.as_slice.ensures.value) (all_valid g.R.Rack.shape g.R.Rack.told g.R.Rack.faults c.args.self.now is.0 is.1)
+    subst (λ (xs : List (Shard g.row.R.Denot)). All (Valid g.R.Rack.shape) xs) (sym c.as_slice.ensures.value) (all_valid g.R.Rack.shape g.R.Rack.told g.R.Rack.faults c.args.self.now is.0 is.1.stands)
 
 pub pick-requires-clause-few : goal.pick-requires-clause-few
 pick-requires-clause-few g c =
     let is = c.requires.represents in
     let zip = subst (λ (xs : List (Shard g.row.R.Denot)). AllZip (RoomIs c.from-need.result) xs c.in-Ok-rooms_of.rooms.items) c.as_slice.ensures.value c.in-Ok-rooms_of.ensures in
     subst (λ (xs : List Room). length xs ≤ 64) (sym c.as_slice-2.ensures.value)
-    (few_rooms g.R.Rack.shape g.R.Rack.told g.R.Rack.faults c.args.self.now is.0 c.from-need.result c.in-Ok-rooms_of.rooms.items is.1 zip)
+    (few_rooms g.R.Rack.shape g.R.Rack.told g.R.Rack.faults c.args.self.now is.0 c.from-need.result c.in-Ok-rooms_of.rooms.items is.1.stands zip)
 
 pub returns-in_default-pick : goal.returns-in_default-pick
 returns-in_default-pick g c = record {
@@ -55,7 +55,7 @@ write_block-requires-clause-room g c =
     let same = c.from-need.ensures ∙ (c.stripes.ensures.stripes ∙ ap (λ (k : Cut). stripes_of k (length c.in-Ok.block.bytes)) c.in-Ok.ensures.cut) in
     let some = subst (λ n. 1 ≤ n) (sym c.from-need.ensures) c.stripes.ensures.some in
     let picks = subst (λ (xs : List Room). Picks xs (Some c.in-Some.metaslab)) c.as_slice-2.ensures.value c.in-Some.ensures.picks in
-    has_room_at g.R.Rack.shape g.R.Rack.told g.R.Rack.faults c.args.self.now is.0 c.in-Ok.block.bytes c.in-Some.metaslab c.from-need.result c.in-Ok-rooms_of.rooms.items is.1 same some zip picks
+    has_room_at g.R.Rack.shape g.R.Rack.told g.R.Rack.faults c.args.self.now is.0 c.in-Ok.block.bytes c.in-Some.metaslab c.from-need.result c.in-Ok-rooms_of.rooms.items is.1.stands same some zip picks
 
 pub returns : goal.returns
 returns g c = record {
