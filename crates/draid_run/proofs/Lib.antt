@@ -1,4 +1,5 @@
 pub mod Ended
+pub mod Filled
 pub mod Known
 pub mod Opened
 pub mod Runs

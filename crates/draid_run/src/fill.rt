@@ -20,7 +20,8 @@ use std::alloc::Global;
 /// Fills bytes with the contents that an object is given by a seed: those of xoroshiro128++, seeded by the sum of
 /// the seed and the object's number modulo 2^64.
 fn draw(into: &mut [u8], seed: u64, object: u64)
-    ensures { into.new ≡ content_of seed object (length into.old) }
+    ensures bytes { into.new ≡ content_of seed object (length into.old) }
+    ensures len { length into.new ≡ length into.old }
 {
     let mut rng = Xoroshiro128PlusPlus::seed_from_u64(seed.wrapping_add(object));
     rng.fill_bytes(into);

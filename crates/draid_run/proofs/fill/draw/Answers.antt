@@ -5,9 +5,9 @@ use Rattle.rand_xoshiro.specs.Xoroshiro128.{plus_plus}
 use Rattle.draid_run.specs.State.{content_of}
 use Rattle.draid_run.proofs.fill.draw.Goals as goal
 
-pub returns : goal.returns
+pub returns-clause-bytes : goal.returns-clause-bytes
 unfolding content_of fill_bytes stream_of
-returns c =
+returns-clause-bytes c =
     let first : List ℕ × Stream → List ℕ = λ p. p.0 in
     let bytes : List ℕ → List ℕ = λ s. (fill_bytes (length c.args.into.now) (stream_of (steps_u64_low plus_plus) s)).0 in
     ap first c.fill_bytes.ensures ∙ ap bytes c.seed_from_u64-rng.ensures
