@@ -49,12 +49,15 @@ module _ {R : Type 0} (shape : R → Shape) (told : R → Option Told) (faults :
       record {
         changes = n.changes;
         represents = n.represents;
-        moved = (refl, record {
-          mid = state_of told faults mid m.changes;
-          fewer = fewer;
-          fills = m.moved;
-          cause = subst (λ y. FillStopIs chosen (content_of seed (first + written) len) y (state_of told faults mid m.changes) (state_of told faults new n.changes)) (sym said) stops;
-        });
+        moved = (
+          refl,
+          record {
+            mid = state_of told faults mid m.changes;
+            fewer = fewer;
+            fills = m.moved;
+            cause = subst (λ y. FillStopIs chosen (content_of seed (first + written) len) y (state_of told faults mid m.changes) (state_of told faults new n.changes)) (sym said) stops;
+          },
+        );
       }
 
 -- all of them

@@ -161,7 +161,10 @@ fn logged(
     slots.set_log(leaf, Log::upto(alloc, 2)?);
     let set = slots.log(leaf).count();
     slots.set_fresh(leaf, true);
-    Ok(Some(([clean, filled, excised, set], slots.arms(1).iter().any(|arm| arm.fresh))))
+    Ok(Some((
+        [clean, filled, excised, set],
+        slots.arms(1).iter().any(|arm| arm.fresh),
+    )))
 }
 
 /// Where sector 3 of slot 1 lies on its leaf.
@@ -226,7 +229,10 @@ fn logs_change(rt: HostRuntime) {
     let spec = parse_spec(b"draid1:2d:1s", 4).expect(&rt, "a spec");
     let layout = geometry(spec, PROPS).expect(&rt, "a layout");
     let perms = Perms::new(layout.spec.children, layout.props.seed);
-    assert_eq!(rt; logged(alloc, layout, perms), Ok(Some(([0, 4, 3, 2], true))));
+    assert_eq!(rt;
+        logged(alloc, layout, perms),
+        Ok(Some(([0, 4, 3, 2], true)))
+    );
     assert_eq!(rt;
         placed(alloc, layout, perms),
         Ok(Some(At { leaf: 1, sector: 3 }))

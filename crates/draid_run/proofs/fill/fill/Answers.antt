@@ -1,4 +1,4 @@
-use Rattle.std.proofs.Common.{◌≡◌, ◌∙◌, ◌+◌, arith, refl, sym, ap, length}
+use Rattle.std.proofs.Common.{◌∙◌, ◌+◌, arith, ap, length}
 use Rattle.std.specs.Fn.{FnReturnsAt}
 use Rattle.draid_run.specs.State.{content_of}
 use Rattle.draid_run.proofs.Filled.{fill_stopped, filled_all, filled_more, whole}
