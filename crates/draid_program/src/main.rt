@@ -2,10 +2,14 @@
 
 #![tactic(auto)]
 
+ghost use Rattle.std.specs.Prelude.{◌≤◌, length};
+ghost use Rattle.draid_choose.specs.Rooms.{Picks, most_rooms};
+
 mod adapters;
 
 use adapters::{Input, Output};
 use draid_choose::{Chooser, first_fit};
+use draid_names::Room;
 use draid_run::{Status, run};
 use draid_shelf::MemoryShelf;
 use std::process::ExitCode;
@@ -20,7 +24,12 @@ fn main(rt: HostRuntime) -> ExitCode {
     let mut shelf = MemoryShelf::new(rt.alloc(), Vec::new(rt.alloc()));
     let mut source = Input::new(rt.stdin());
     let mut sink = Output::new(rt.stdout());
-    let chooser = Chooser::new(first_fit);
+    let chooser = Chooser::new(
+        |rooms: &[Room]| -> Option<u32>
+            requires { length rooms.now ≤ most_rooms }
+            ensures { Picks rooms.now result }
+        { first_fit(rooms) },
+    );
     let status = match words(&rt) {
         Ok(words) => run(&rt, &words, &mut shelf, &mut source, &mut sink, &chooser),
         Err(_) => Status::NoMemory,

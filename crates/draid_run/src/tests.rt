@@ -1,3 +1,4 @@
+ghost use Rattle.std.specs.Prelude.{◌≤◌, length};
 ghost use Rattle.draid_choose.specs.Rooms.{IsChooser, Picks, most_rooms};
 
 use crate::{Status, run};
@@ -34,7 +35,12 @@ fn run_words<R: AllocGlobal>(
     script: Vec<u8>,
     failing: &Failing,
 ) -> Result<(Status, Vec<u8>), AllocError> {
-    let chooser = Chooser::new(first_fit);
+    let chooser = Chooser::new(
+        |rooms: &[Room]| -> Option<u32>
+            requires { length rooms.now ≤ most_rooms }
+            ensures { Picks rooms.now result }
+        { first_fit(rooms) },
+    );
     run_chosen(rt, word, script, failing, &chooser)
 }
 
@@ -254,7 +260,12 @@ fn metaslabs_fill(rt: HostRuntime) -> Result<(), Fail> {
     let (ended, printed) = run_words(&rt, "session", script.clone()?, &NONE)?;
     assert_eq!(rt; ended, Status::Done);
     assert!(rt; printed.starts_with(replies.as_bytes()));
-    let last = Chooser::new(last_fit);
+    let last = Chooser::new(
+        |rooms: &[Room]| -> Option<u32>
+            requires { length rooms.now ≤ most_rooms }
+            ensures { Picks rooms.now result }
+        { last_fit(rooms) },
+    );
     let (ended, others) = run_chosen(&rt, "session", script, &NONE, &last)?;
     assert_eq!(rt; ended, Status::Done);
     assert_eq!(rt; others, printed);
