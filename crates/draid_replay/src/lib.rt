@@ -5,6 +5,8 @@
 mod events;
 mod history;
 mod laws;
+#[cfg(test)]
+mod tests;
 
 pub use events::advance;
 pub use history::{ReplayFault, replay};
