@@ -1,7 +1,11 @@
-//! Histories of a metaslab on its maps: so far, that legal events keep numbers in their ranges.
+//! Histories of a metaslab on its maps: each event is done exactly where it is legal, and a history up to the first that is not.
 
 #![tactic(auto)]
 
+mod events;
+mod history;
 mod laws;
 
+pub use events::advance;
+pub use history::{ReplayFault, replay};
 pub use laws::numbers_stay_small;

@@ -4,7 +4,7 @@ use Rattle.std.specs.Prelude.{⊤}
 use Rattle.std.specs.List.{AllZip}
 use Rattle.draid_rack.specs.Rack.{Shape, Told}
 use Rattle.draid_names.specs.declared.room.Room.{Room}
-use Rattle.draid_script.specs.Line.{CreatePool, DamageSector, FreeObject, ReadObject, SumObjects}
+use Rattle.draid_script.specs.Line.{Command, CreatePool, DamageSector, FreeObject, ReadObject, SumObjects}
 use Rattle.draid_script.specs.declared.line.PoolKeys.{PoolKeys}
 use Rattle.draid_script.specs.declared.reply.Reply.{Reply}
 use Rattle.draid_run.specs.Serve.{PlainTurned, Turned}
@@ -17,7 +17,7 @@ use Rattle.draid_pool.specs.declared.fault.ObjectFault.TheVariants as object
 use Rattle.draid_pool.specs.declared.pool.Pool.{Pool}
 use Rattle.draid_run.specs.Replies.{sum_refused}
 use Rattle.draid_run.specs.Session.{IsDesk, state_in}
-use Rattle.draid_run.specs.State.{Plain}
+use Rattle.draid_run.specs.State.{Plain, PlainTurns, Turns}
 
 module _ {R : Type 0} (shape : R → Shape) (told : R → Option Told) (faults : R → Option ℕ → ℕ) where
   -- what an answer says, said otherwise
@@ -87,3 +87,16 @@ module _ {R : Type 0} (shape : R → Shape) (told : R → Option Told) (faults :
   pub by_damage : (leaf sector : ℕ) → PlainTurned shape told faults (DamageSector leaf sector) old reply pool
       → Turned shape told faults chosen (Ok (DamageSector leaf sector)) old reply pool
   by_damage leaf sector t = record { changes = t.changes; desk = t.desk; turns = t.turns }
+
+-- what a call did to the pool that was open, in the words of a session
+module _ {R : Type 0} (shape : R → Shape) (told : R → Option Told) (faults : R → Option ℕ → ℕ) (desk : Option (Pool R)) (pool new : Pool R) (reply : Reply) (is : desk ≡ Some pool)
+    (P : State → State → Type 0) (moves : (changes : List Change) → Represents shape told pool changes → Moves shape told faults P (state_of told faults pool changes) new) where
+  pub plain_open : (command : Command) → ((x y : State) → P x y → PlainTurns (Some x) command (Some reply) (Some y)) → (changes : List Change) → IsDesk shape told desk changes
+      → PlainTurned shape told faults command (state_in told faults desk changes) (Some reply) (Some new)
+  plain_open command turns changes = subst (λ d. IsDesk shape told d changes → PlainTurned shape told faults command (state_in told faults d changes) (Some reply) (Some new)) (sym is)
+      (λ rep. (let m = moves changes rep in record { changes = m.changes; desk = m.represents; turns = turns (state_of told faults pool changes) _ m.moved }))
+
+  pub chosen_open : (chosen : List Room → Option ℕ → Type 0) (command : Command) → ((x y : State) → P x y → Turns chosen (Some x) command (Some reply) (Some y)) → (changes : List Change)
+      → IsDesk shape told desk changes → Turned shape told faults chosen (Ok command) (state_in told faults desk changes) (Some reply) (Some new)
+  chosen_open chosen command turns changes = subst (λ d. IsDesk shape told d changes → Turned shape told faults chosen (Ok command) (state_in told faults d changes) (Some reply) (Some new)) (sym is)
+      (λ rep. (let m = moves changes rep in record { changes = m.changes; desk = m.represents; turns = turns (state_of told faults pool changes) _ m.moved }))

@@ -1,9 +1,8 @@
 -- What holds of arms and columns so far.
-use Rattle.std.proofs.Common.{◌≡◌, ◌+◌, ◌<◌, ◌≤◌, ℕ, true, List, [], take, get_or, length, sym, subst, arith, inl, inr}
+use Rattle.std.proofs.Common.{◌+◌, ◌<◌, ◌≤◌, ℕ, List, [], take, get_or, length, sym, subst, arith, inl, inr}
 use Rattle.std.proofs.lemmas.Bool.{true≢false, cases_eq}
 use Rattle.std.proofs.lemmas.List.{take_all}
 use Rattle.draid_machine.specs.declared.names.ArmName.{ArmName}
-use Rattle.draid_machine.specs.Names.{has_name}
 use Rattle.draid_passes.proofs.Lists.{name_next}
 use Rattle.draid_scrubs.specs.Wholes.{AreOn}
 

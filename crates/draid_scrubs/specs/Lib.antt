@@ -1,2 +1,4 @@
+pub mod Healing
 pub mod Patches
+pub mod Scrubs
 pub mod Wholes

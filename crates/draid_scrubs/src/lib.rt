@@ -2,5 +2,9 @@
 
 #![tactic(auto)]
 
+mod healing;
 mod patches;
+mod scrubs;
 mod wholes;
+
+pub use scrubs::land_block;

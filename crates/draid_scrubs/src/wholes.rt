@@ -105,12 +105,7 @@ fn names_patched(
 }
 
 /// Whether each column was written on each arm that isn't clean and answers.
-pub(crate) fn all_patched(
-    site: &Site,
-    tables: &Tables,
-    held: Held,
-    patched: &[Patched],
-) -> bool
+pub(crate) fn all_patched(site: &Site, tables: &Tables, held: Held, patched: &[Patched]) -> bool
     requires layout { IsLayout site.now.geometry site.now.perms }
     requires metaslab { site.now.metaslab < site.now.geometry.props.metaslabs }
     requires first { held.first < 2 ^ 48 }

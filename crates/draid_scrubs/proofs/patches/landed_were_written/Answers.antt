@@ -12,7 +12,7 @@ returns-then-not-was_written-clause-no c =
     let less : c.loop-at.at < length rows = search rules in
     let fails : c.was_written.result ≡ false = search rules in
     λ e all. absurd_test (was_written c.args.patched.now part.column part.arm (get_or rows c.loop-at.at 0))
-        (all (get_or rows c.loop-at.at 0) (ap (λ xs. has_number xs (get_or rows c.loop-at.at 0)) (sym c.as_slice-rows.ensures.value) ∙ number_here rows c.loop-at.at 0 less)) (sym c.was_written.ensures ∙ fails)
+    (all (get_or rows c.loop-at.at 0) (ap (λ xs. has_number xs (get_or rows c.loop-at.at 0)) (sym c.as_slice-rows.ensures.value) ∙ number_here rows c.loop-at.at 0 less)) (sym c.was_written.ensures ∙ fails)
 
 pub returns-clause-yes : goal.returns-clause-yes
 returns-clause-yes c =

@@ -1,4 +1,4 @@
-use Rattle.std.proofs.Common.{◌≡◌, ◌<◌, ◌≤◌, ◌∙◌, true, false, ap, sym, rules, arith, subst}
+use Rattle.std.proofs.Common.{◌≡◌, ◌≤◌, ◌∙◌, true, false, ap, sym, rules, arith, subst}
 use Rattle.draid_world.specs.World.{core_of, names_at, site_layout}
 use Rattle.draid_scrubs.specs.Wholes.{AreOn, IsArmPatched}
 use Rattle.draid_scrubs.proofs.Columns.{below_more}

@@ -1,8 +1,7 @@
-use Rattle.std.proofs.Common.{◌≡◌, ◌≤◌, ◌∙◌, true, ap, sym, rules, inl, inr, arith, subst}
+use Rattle.std.proofs.Common.{◌≤◌, ◌∙◌, ap, sym, rules, inl, inr, arith, subst}
 use Rattle.std.proofs.lemmas.Bool.{cases_eq}
 use Rattle.draid_machine.specs.Names.{has_name}
 use Rattle.draid_machine.specs.Step.{FailsThere}
-use Rattle.draid_loans.specs.Lending.{IsAnswering}
 use Rattle.draid_world.specs.World.{core_of, names_at, site_layout}
 use Rattle.draid_scrubs.proofs.wholes.heals_there.Goals as goal
 

@@ -1,4 +1,4 @@
-use Rattle.std.proofs.Common.{◌≡◌, ◌<◌, ◌≤◌, ◌∙◌, true, false, sym, rules, arith}
+use Rattle.std.proofs.Common.{◌≡◌, ◌≤◌, ◌∙◌, true, false, sym, rules, arith}
 use Rattle.draid_machine.specs.After.{was_written}
 use Rattle.draid_machine.proofs.Small.{absurd_test}
 use Rattle.draid_scrubs.proofs.Columns.{below_more}

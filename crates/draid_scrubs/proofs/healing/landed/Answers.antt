@@ -1,0 +1,20 @@
+use Rattle.std.proofs.Common.{◌+◌, ◌<◌, ◌∙◌, sym, refl, subst, get_or, length, rules, Vec, Global}
+use Rattle.draid_machine.specs.declared.names.Segment.{Segment}
+use Rattle.draid_machine.specs.After.{has_landed}
+use Rattle.draid_loans.proofs.Picks.{ArePicked, picked_no, picked_yes}
+use Rattle.draid_loans.proofs.Sets.{no_segment}
+use Rattle.draid_scrubs.proofs.healing.landed.Goals as goal
+use Rattle.draid_scrubs.proofs.healing.landed.Goals.{then-has_landed+in_ok-push, else-has_landed}
+
+pub loop-at-preserved : goal.loop-at-preserved
+loop-at-preserved c =
+    let all = c.args.all.now in
+    let at = c.loop-at.at in
+    let less : at < length all = search rules in
+    let test : Segment → _ = λ s. has_landed c.args.patched.now s.column s.arm s.row in
+    elim c.if-has_landed.branch [
+      | then-has_landed+in_ok-push w ↦ subst (λ (v : Vec Segment Global). ArePicked test all (at + 1) v.items) (sym w.out-is)
+          (picked_yes test all c.loop-at.out.items w.push.new.self.items at no_segment (get_or all at no_segment) less refl c.loop-at.invariant w.in_ok-push.ensures.items (sym c.has_landed.ensures ∙ w.if-has_landed.true))
+      | else-has_landed w ↦ subst (λ (v : Vec Segment Global). ArePicked test all (at + 1) v.items) (sym w.out-is)
+          (picked_no test all c.loop-at.out.items at no_segment (get_or all at no_segment) less refl c.loop-at.invariant (sym c.has_landed.ensures ∙ w.if-has_landed.false))
+    ]

@@ -1,0 +1,7 @@
+use Rattle.draid_machine.specs.declared.names.Segment.{Segment}
+use Rattle.draid_machine.specs.After.{has_landed}
+use Rattle.draid_loans.proofs.Picks.{ArePicked}
+use Rattle.draid_scrubs.proofs.healing.landed.Given as goal
+
+abbrev pub invariant-loop-at : goal.invariant-loop-at
+invariant-loop-at l = ArePicked (λ (s : Segment). has_landed l.patched s.column s.arm s.row) l.all l.at l.out.items

@@ -1,0 +1,111 @@
+ghost use Rattle.std.specs.Prelude.{◌≡◌, ◌+◌, ◌<◌, ◌^◌, ◌&&◌, ◌||◌, not, true, false, IfOk};
+ghost use Rattle.draid_machine.specs.After as after;
+ghost use Rattle.draid_machine.specs.Arms as arms;
+ghost use Rattle.draid_machine.specs.Names.{has_segment, key_eq};
+ghost use Rattle.draid_machine.specs.declared.names.Segment.{Segment};
+ghost use Rattle.draid_scrubs.specs.Healing.{is_dubious, is_staying};
+ghost use Rattle.draid_world.specs.World.{arm_in, core_of};
+
+use crate::patches::{has_landed, was_written};
+use draid_machine::{ArmName, Held, Key, Patched, Segment};
+use draid_names::NoMemory;
+use draid_world::Tables;
+use draid_world::arms::is_logged;
+use std::alloc::Global;
+use std::collections::BTreeSet;
+
+/// The segments of a list that landed.
+pub(crate) fn landed(
+    alloc: Global,
+    patched: &[Patched],
+    all: &[Segment],
+) -> Result<Vec<Segment>, NoMemory>
+    ensures { IfOk result (λ out. (s : Segment) → has_segment out.items s ≡ (has_segment all.now s && after.has_landed patched.now s.column s.arm s.row)) }
+{
+    let mut out = Vec::new(alloc);
+    for at in 0..all.len() {
+        if has_landed(patched, all[at].column, all[at].arm, all[at].row) {
+            out.push(all[at])?;
+        }
+    }
+    Ok(out)
+}
+
+/// The segments of a list that were written.
+pub(crate) fn written(
+    alloc: Global,
+    patched: &[Patched],
+    all: &[Segment],
+) -> Result<Vec<Segment>, NoMemory>
+    ensures { IfOk result (λ out. (s : Segment) → has_segment out.items s ≡ (has_segment all.now s && after.was_written patched.now s.column s.arm s.row)) }
+{
+    let mut out = Vec::new(alloc);
+    for at in 0..all.len() {
+        if was_written(patched, all[at].column, all[at].arm, all[at].row) {
+            out.push(all[at])?;
+        }
+    }
+    Ok(out)
+}
+
+/// Whether a segment is in doubt after a whole landing: it is on an arm that isn't clean, and didn't land.
+fn is_in_doubt(tables: &Tables, birth: u64, patched: &[Patched], segment: Segment) -> bool
+    ensures { result ≡ is_dubious (core_of tables.now) birth patched.now segment }
+{
+    is_logged(tables, segment.arm, birth)
+        && !has_landed(patched, segment.column, segment.arm, segment.row)
+}
+
+/// The segments of a list that are in doubt after a whole landing.
+pub(crate) fn doubted(
+    alloc: Global,
+    tables: &Tables,
+    birth: u64,
+    patched: &[Patched],
+    all: &[Segment],
+) -> Result<Vec<Segment>, NoMemory>
+    ensures { IfOk result (λ out. (s : Segment) → has_segment out.items s ≡ (has_segment all.now s && is_dubious (core_of tables.now) birth patched.now s)) }
+{
+    let mut out = Vec::new(alloc);
+    for at in 0..all.len() {
+        if is_in_doubt(tables, birth, patched, all[at]) {
+            out.push(all[at])?;
+        }
+    }
+    Ok(out)
+}
+
+/// Whether an arm is there, and wasn't detached.
+fn is_here(tables: &Tables, name: ArmName) -> bool
+    ensures { result ≡ arms.is_here (arm_in tables.now.arms.entries name) }
+{
+    match tables.arms.get(&name) {
+        Some(arm) => arm.gone.is_none(),
+        None => false,
+    }
+}
+
+/// Whether a segment of a block stays for an image alone.
+fn stays(tables: &Tables, key: Key, segment: Segment) -> bool
+    ensures { result ≡ is_staying (core_of tables.now) key segment }
+{
+    segment.key == key && !is_here(tables, segment.arm)
+}
+
+/// The segments of a set that are of a block and stay for an image alone.
+pub(crate) fn staying(
+    alloc: Global,
+    tables: &Tables,
+    present: &BTreeSet<Segment>,
+    key: Key,
+) -> Result<Vec<Segment>, NoMemory>
+    ensures { IfOk result (λ out. (s : Segment) → has_segment out.items s ≡ (has_segment present.now.keys s && is_staying (core_of tables.now) key s)) }
+{
+    let mut out = Vec::new(alloc);
+    for segment in present {
+        if stays(tables, key, *segment) {
+            out.push(*segment)?;
+        }
+    }
+    Ok(out)
+}
