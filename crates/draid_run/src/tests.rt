@@ -239,13 +239,13 @@ fn last_fit(rooms: &[Room]) -> Option<u32>
     requires { length rooms.now ≤ most_rooms }
     ensures { Picks rooms.now result }
 {
-    let mut last = None;
     for k in 0..rooms.len() {
-        if rooms[k].run >= rooms[k].need {
-            last = Some(k as u32);
+        let at = rooms.len() - 1 - k;
+        if rooms[at].run >= rooms[at].need {
+            return Some(at as u32);
         }
     }
-    last
+    None
 }
 
 // Two metaslabs of 8 stripes each hold 16 blocks of one stripe, whichever of them is chosen first.
