@@ -147,11 +147,6 @@ const BODY: UberBody = UberBody {
 };
 
 #[test]
-fn an_uberblock_is_written(rt: HostRuntime) {
-    assert_eq!(rt; write_uber(&BODY).as_slice(), UBER.as_slice());
-}
-
-#[test]
 fn an_uberblock_is_told(rt: HostRuntime) {
     assert_eq!(rt; read_uber(&UBER, 1), Ok(BODY));
     assert_eq!(rt;
