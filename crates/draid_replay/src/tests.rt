@@ -1,14 +1,15 @@
-ghost use Rattle.std.specs.Prelude.{◌≡◌, ◌<◌, ◌^◌, [], None, IfOk, All, length};
+ghost use Rattle.std.specs.Prelude.{◌≡◌, ◌<◌, ◌^◌, [], None, IfOk, OnOk, All, length};
 ghost use Rattle.draid_map.specs.Place.{IsLayout};
 ghost use Rattle.draid_world.specs.World.{state_of};
 ghost use Rattle.draid_replay.specs.Within.{IsSmallEvent, IsWithin};
 
 use crate::{ReplayFault, replay};
 use draid_dtl::Log;
-use draid_machine::{ArmName, Event};
-use draid_names::NoMemory;
+use draid_machine::{ArmName, Event, Key};
+use draid_names::{NoMemory, PassKind};
 use draid_perm::Perms;
 use draid_spec::{Geometry, Props, geometry, parse_spec};
+use draid_world::places::slot_of;
 use draid_world::{Arm, Image, Site, Tables, World};
 use std::alloc::Global;
 use std::collections::{BTreeMap, BTreeSet};
@@ -118,6 +119,265 @@ fn answers(alloc: Global, site: &Site) -> [Result<u64, ReplayFault>; 5]
             &[Event::Close { group: 2 }, Event::Commit { group: 2 }],
         ),
     ]
+}
+
+/// Adds an event.
+fn add(events: &mut Vec<Event>, event: Event) -> Result<(), NoMemory>
+    requires small { IsSmallEvent event }
+    requires before { All IsSmallEvent events.old.items }
+    ensures behind { OnOk result (All IsSmallEvent events.new.items) }
+{
+    events.push(event)?;
+    Ok(())
+}
+
+/// The column of a block on stripe 0 lands on the leaf of its slot.
+fn put(alloc: Global, site: &Site, key: Key, column: u32) -> Result<Event, NoMemory>
+    requires layout { IsLayout site.now.geometry site.now.perms }
+    requires metaslab { site.now.metaslab < site.now.geometry.props.metaslabs }
+    requires column { column < site.now.geometry.g }
+    ensures { IfOk result IsSmallEvent }
+{
+    let slot = slot_of(site, 0, column);
+    let mut landed = Vec::new(alloc);
+    landed.push(ArmName::Leaf {
+        leaf: u64::from(slot),
+    })?;
+    Ok(Event::Put {
+        key,
+        landed,
+        failed: Vec::new(alloc),
+    })
+}
+
+/// A group is closed and sealed, and committed if it shall.
+fn add_group(
+    alloc: Global,
+    events: &mut Vec<Event>,
+    group: u64,
+    commits: bool,
+) -> Result<(), NoMemory>
+    requires group { group < 2 ^ 48 }
+    requires before { All IsSmallEvent events.old.items }
+    ensures behind { OnOk result (All IsSmallEvent events.new.items) }
+{
+    add(events, Event::Close { group })?;
+    add(
+        events,
+        Event::Seal {
+            group,
+            failed: Vec::new(alloc),
+        },
+    )?;
+    if !commits {
+        return Ok(());
+    }
+    add(events, Event::Commit { group })
+}
+
+const KEY: Key = Key { object: 7, seq: 1 };
+
+/// A block is begun on stripe 0 in group 2.
+fn begin(key: Key, first: u64, birth: u64) -> Event
+    requires first { first < 2 ^ 48 }
+    requires birth { birth < 2 ^ 48 }
+    ensures { IsSmallEvent result }
+{
+    Event::Begin {
+        key,
+        first,
+        stripes: 1,
+        len: 1,
+        birth,
+        digest: [0; 32],
+    }
+}
+
+/// A block is written, read, damaged and committed in group 2.
+fn add_write(alloc: Global, site: &Site, events: &mut Vec<Event>) -> Result<(), NoMemory>
+    requires layout { IsLayout site.now.geometry site.now.perms }
+    requires metaslab { site.now.metaslab < site.now.geometry.props.metaslabs }
+    requires before { All IsSmallEvent events.old.items }
+    ensures behind { OnOk result (All IsSmallEvent events.new.items) }
+{
+    add(events, begin(KEY, 0, 2))?;
+    for column in 0..site.geometry.g {
+        let event = put(alloc, site, KEY, column)?;
+        add(events, event)?;
+    }
+    add(events, Event::Finish { key: KEY })?;
+    add(
+        events,
+        Event::Fetch {
+            key: KEY,
+            failed: Vec::new(alloc),
+        },
+    )?;
+    add(
+        events,
+        Event::Damage {
+            leaf: 0,
+            sector: 0,
+            failed: false,
+        },
+    )?;
+    add_group(alloc, events, 2, true)
+}
+
+/// A disk goes offline, and a spare takes its place, is rebuilt behind group 3, and leaves again.
+fn add_rebuild(
+    alloc: Global,
+    site: &Site,
+    events: &mut Vec<Event>,
+    commits: bool,
+) -> Result<(), NoMemory>
+    requires layout { IsLayout site.now.geometry site.now.perms }
+    requires metaslab { site.now.metaslab < site.now.geometry.props.metaslabs }
+    requires columns { 0 < site.now.geometry.g }
+    requires before { All IsSmallEvent events.old.items }
+    ensures behind { OnOk result (All IsSmallEvent events.new.items) }
+{
+    let slot = slot_of(site, 0, 0);
+    let leaf = u64::from(slot);
+    let arm = ArmName::Spare { spare: 0 };
+    add(events, Event::Offline { leaf })?;
+    add(events, Event::Attach { slot, arm })?;
+    add(
+        events,
+        Event::Plan {
+            kind: PassKind::Rebuild,
+        },
+    )?;
+    add_group(alloc, events, 3, commits)?;
+    add(events, Event::Ready)?;
+    add(
+        events,
+        Event::Lend {
+            failed: Vec::new(alloc),
+        },
+    )?;
+    add(
+        events,
+        Event::LandStripe {
+            pass: 1,
+            serial: 1,
+            failed: Vec::new(alloc),
+        },
+    )?;
+    add(
+        events,
+        Event::Done {
+            failed: Vec::new(alloc),
+        },
+    )?;
+    add(events, Event::Detach { slot, arm })?;
+    add(events, Event::Online { leaf })
+}
+
+/// A scrub goes over the block, which is then freed; a second write is given up, a second scrub is cancelled, and
+/// the metaslab is opened again from group 3.
+fn add_scrub(alloc: Global, events: &mut Vec<Event>) -> Result<(), NoMemory>
+    requires before { All IsSmallEvent events.old.items }
+    ensures behind { OnOk result (All IsSmallEvent events.new.items) }
+{
+    let other = Key { object: 8, seq: 2 };
+    add(
+        events,
+        Event::Plan {
+            kind: PassKind::Heal,
+        },
+    )?;
+    add(
+        events,
+        Event::Lend {
+            failed: Vec::new(alloc),
+        },
+    )?;
+    add(
+        events,
+        Event::LandBlock {
+            pass: 2,
+            serial: 2,
+            failed: Vec::new(alloc),
+            patched: Vec::new(alloc),
+            unreadable: false,
+        },
+    )?;
+    add(
+        events,
+        Event::Done {
+            failed: Vec::new(alloc),
+        },
+    )?;
+    add(events, Event::Free { key: KEY, group: 4 })?;
+    add(events, begin(other, 1, 4))?;
+    add(events, Event::Abort { key: other })?;
+    add(
+        events,
+        Event::Plan {
+            kind: PassKind::Heal,
+        },
+    )?;
+    add(events, Event::Cancel)?;
+    add(
+        events,
+        Event::Reopen {
+            group: 3,
+            doubtful: Vec::new(alloc),
+        },
+    )
+}
+
+/// A history with every kind of event; without the commit of group 3, if it shall.
+fn all_kinds(alloc: Global, site: &Site, commits: bool) -> Result<Vec<Event>, NoMemory>
+    requires layout { IsLayout site.now.geometry site.now.perms }
+    requires metaslab { site.now.metaslab < site.now.geometry.props.metaslabs }
+    requires columns { 0 < site.now.geometry.g }
+    ensures { IfOk result (λ events. All IsSmallEvent events.items) }
+{
+    let mut events = Vec::new(alloc);
+    add_write(alloc, site, &mut events)?;
+    add_rebuild(alloc, site, &mut events, commits)?;
+    add_scrub(alloc, &mut events)?;
+    Ok(events)
+}
+
+/// The open group behind that history.
+fn open_group_behind_all(alloc: Global, site: &Site, commits: bool) -> Result<u64, ReplayFault>
+    requires layout { IsLayout site.now.geometry site.now.perms }
+    requires metaslab { site.now.metaslab < site.now.geometry.props.metaslabs }
+{
+    if site.geometry.g == 0 {
+        return Err(ReplayFault::NoMemory);
+    }
+    match all_kinds(alloc, site, commits) {
+        Ok(events) if events.len() < 100 => open_group_after(alloc, site, &events),
+        _ => Err(ReplayFault::NoMemory),
+    }
+}
+
+#[test]
+fn every_kind_of_event_is_done(rt: HostRuntime) -> Result<(), Fail> {
+    let props = Props {
+        sector: 512,
+        height: 8,
+        metaslabs: 1,
+        slices: 1,
+        seed: 1,
+    };
+    let spec = parse_spec(b"draid1:2d:1s", 4).expect(&rt, "a spec");
+    let layout: Geometry = geometry(spec, props).expect(&rt, "a layout");
+    let site = Site {
+        perms: Perms::new(layout.spec.children, layout.props.seed),
+        geometry: layout,
+        metaslab: 0,
+    };
+    assert_eq!(rt; open_group_behind_all(rt.alloc(), &site, true), Ok(4));
+    assert_eq!(rt;
+        open_group_behind_all(rt.alloc(), &site, false),
+        Err(ReplayFault::NotLegal { at: 15 })
+    );
+    Ok(())
 }
 
 #[test]
