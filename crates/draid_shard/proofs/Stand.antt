@@ -155,14 +155,6 @@ told_on None p P A B f h a = rw h tt
 told_on (Some x) None P A B f h a = absurd h
 told_on (Some x) (Some y) P A B f h a = f x y h a
 
--- a write that was answered so, of this column of a block
-pub record Writes (part : Part) (first stripes i : ℕ) (column : List ℕ) (r : Result Unit Failed) (o p : Option Told) : Type 0 where
-  pub is : IsPart part
-  pub run : IsRun part.geometry first stripes
-  pub below : i < part.geometry.g
-  pub ok : OnOk r (TellsBoth o p (WritesRows part.geometry.props.sector (place_in part first i).child (place_in part first i).sector column stripes))
-  pub err : OnErr r (TellsBoth o p (SparesOthers (place_in part first i).child (place_in part first i).sector stripes))
-
 pub told_spares : (part : Part) (first stripes i : ℕ) (column : List ℕ) (r : Result Unit Failed) (o p : Option Told) → Writes part first stripes i column r o p
     → TellsBoth o p (SparesColumn part first stripes i)
 told_spares part first stripes i column (Ok done) o p w =

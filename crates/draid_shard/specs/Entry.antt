@@ -9,8 +9,9 @@ use Rattle.draid_map.specs.Place.{part_stripes}
 use Rattle.draid_metaslab.specs.Spaces.{Stripes, is_free}
 use Rattle.draid_metaslab.specs.Spots.{IsLargest}
 use Rattle.draid_shard.specs.declared.entry.Entry.{Entry}
-use Rattle.draid_shard.specs.declared.entry.Stage.{Stage}
-use Rattle.draid_shard.specs.declared.entry.Stage.TheVariants as stage
+use Rattle.draid_machine.specs.declared.names.Stage.{Stage}
+use Rattle.draid_machine.specs.declared.names.Stage.TheVariants as stage
+use Rattle.draid_shard.specs.declared.ticket.Ticket.{Ticket}
 use Rattle.draid_shard.specs.declared.fault.BeginFault.{BeginFault}
 use Rattle.draid_shard.specs.declared.fault.BeginFault.TheVariants.{NoRoom, Entries, NoMemory}
 
@@ -18,11 +19,21 @@ use Rattle.draid_shard.specs.declared.fault.BeginFault.TheVariants.{NoRoom, Entr
 abbrev pub entry_at : BTreeMap ℕ Entry → ℕ → Option Entry
 entry_at blocks k = get nat_cmp blocks k
 
--- a pointer's length and stripes fit together
-pub record IsSized (geometry : Geometry) (pointer : Pointer) : Type 0 where
+-- the transaction group in which blocks are born, and the one before it, which is committed
+abbrev pub open_group : ℕ
+open_group = 2
+
+-- a group of the greater of the open one and a floor of at most the next one
+pub record IsDue (group : ℕ) : Type 0 where
+  pub from : open_group ≤ group
+  pub upto : group ≤ open_group + 1
+
+-- what a pointer says of its block: its length and stripes fit together, and it was born in the open group or the next
+pub record IsBlock (geometry : Geometry) (pointer : Pointer) : Type 0 where
   pub some : 1 ≤ pointer.len
   pub short : pointer.len ≤ 131072
   pub stripes : pointer.stripes ≡ stripes_of (cut_of geometry) pointer.len
+  pub born : IsDue pointer.birth
 
 -- a pointer's block lies at stripe k, on taken stripes within one group
 pub record IsPlaced (geometry : Geometry) (free : ℕ → Bool) (k : ℕ) (pointer : Pointer) : Type 0 where
@@ -31,10 +42,18 @@ pub record IsPlaced (geometry : Geometry) (free : ℕ → Bool) (k : ℕ) (point
   pub inside : k + pointer.stripes ≤ part_stripes geometry
   pub group : k % geometry.props.height + pointer.stripes ≤ geometry.props.height
   pub held : (x : ℕ) → k ≤ x → x < k + pointer.stripes → free x ≡ false
-  pub sized : IsSized geometry pointer
+  pub is_block : IsBlock geometry pointer
+
+-- the stripe is one of a block or a ticket
+pub record HasStripe (blocks : BTreeMap ℕ Entry) (x : ℕ) : Type 0 where
+  pub first : ℕ
+  pub entry : Entry
+  pub there : entry_at blocks first ≡ Some entry
+  pub from : first ≤ x
+  pub to : x < first + entry.pointer.stripes
 
 -- The space is that of the layout, and takes new blocks. Entries stand at their first stripes, on taken stripes, and apart from each other; for each of them the
--- space holds a run.
+-- space holds a run. No other stripe is taken.
 pub record Tables (geometry : Geometry) (space : Stripes) (blocks : BTreeMap ℕ Entry) : Type 0 where
   pub height : space.height ≡ geometry.props.height
   pub total : space.total ≡ part_stripes geometry
@@ -43,6 +62,7 @@ pub record Tables (geometry : Geometry) (space : Stripes) (blocks : BTreeMap ℕ
   pub few : btree_map_len blocks ≤ 4096
   pub placed : (k : ℕ) (e : Entry) → entry_at blocks k ≡ Some e → IsPlaced geometry (is_free space) k e.pointer
   pub apart : (j k : ℕ) (a b : Entry) → entry_at blocks j ≡ Some a → entry_at blocks k ≡ Some b → j < k → j + a.pointer.stripes ≤ k
+  pub covered : (x : ℕ) → x < part_stripes geometry → is_free space x ≡ false → HasStripe blocks x
 
 abbrev pub staged : Stage → Pointer → Entry
 staged s p = record { pointer = p; stage = s }
@@ -50,8 +70,17 @@ staged s p = record { pointer = p; stage = s }
 abbrev pub live : Pointer → Entry
 live p = staged stage.Live p
 
-abbrev pub opened : Pointer → Entry
-opened p = staged stage.Writing p
+-- the entry of an open write
+abbrev pub opened : Ticket → Entry
+opened t = staged (stage.Writing t.next t.missed) t.pointer
+
+-- a write that has just begun
+abbrev pub begun : Pointer → Entry
+begun p = staged (stage.Writing 0 0) p
+
+-- the pointer is that of a block or a ticket
+abbrev pub IsEntered : BTreeMap ℕ Entry → Pointer → Type 0
+IsEntered blocks p = (s : Stage) × (entry_at blocks p.first ≡ Some (staged s p))
 
 -- The table has this at one stripe, and what it had at the others.
 pub record SetsEntry (old new : BTreeMap ℕ Entry) (at : ℕ) (entry : Option Entry) : Type 0 where

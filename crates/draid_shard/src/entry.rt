@@ -6,19 +6,10 @@ ghost use Rattle.draid_ranges.specs.Runs.{is_between};
 ghost use Rattle.draid_shard.specs.Shard.{TakesLowest};
 
 use crate::fault::BeginFault;
+use draid_machine::Stage;
 use draid_metaslab::{Space, SpaceFault};
 use draid_names::Pointer;
 use std::collections::BTreeMap;
-
-/// How far a block is that has its stripes.
-#[derive(Clone, Copy, Debug, PartialEq, Eq)]
-pub(crate) enum Stage {
-    /// A ticket for it is open.
-    Writing,
-    Live,
-    /// Freed in a transaction group that isn't committed yet.
-    Freed { group: u64 },
-}
 
 /// A block that has its stripes.
 #[derive(Clone, Copy, Debug, PartialEq, Eq)]
@@ -30,7 +21,7 @@ pub(crate) struct Entry {
 /// How many blocks and tickets a metaslab may hold.
 pub(crate) const MOST_ENTRIES: usize = 4096;
 
-ghost use Rattle.draid_shard.specs.Entry.{IsRefused, IsSized, SetsEntry, Tables, entry_at, opened, staged};
+ghost use Rattle.draid_shard.specs.Entry.{IsBlock, IsEntered, IsRefused, SetsEntry, Tables, begun, entry_at, staged};
 
 /// Gives the lowest run of free stripes that fits to the pointer's block, whose write is then open. The answer
 /// is the pointer with its first stripe.
@@ -44,8 +35,8 @@ pub(crate) fn hold(
     requires few { btree_map_len blocks.old ≤ 4096 }
     ensures placed { IfOk result (λ placed. placed ≡ record pointer { first = placed.first }) }
     ensures takes { IfOk result (λ placed. TakesLowest space.old.height (is_free space.old) (is_free space.new) placed.first pointer.stripes) }
-    ensures entry { IfOk result (λ placed. SetsEntry blocks.old blocks.new placed.first (Some (opened placed))) }
-    ensures tables { (geometry : Geometry) → Tables geometry space.old blocks.old → IsSized geometry pointer
+    ensures entry { IfOk result (λ placed. SetsEntry blocks.old blocks.new placed.first (Some (begun placed))) }
+    ensures tables { (geometry : Geometry) → Tables geometry space.old blocks.old → IsBlock geometry pointer
         → Tables geometry space.new blocks.new }
     ensures was { (geometry : Geometry) → Tables geometry space.old blocks.old
         → IfOk result (λ placed. entry_at blocks.old placed.first ≡ None) }
@@ -68,7 +59,10 @@ pub(crate) fn hold(
     let placed = Pointer { first, ..pointer };
     let entry = Entry {
         pointer: placed,
-        stage: Stage::Writing,
+        stage: Stage::Writing {
+            columns: 0,
+            missed: 0,
+        },
     };
     match blocks.insert(first, entry) {
         Ok(_) => Ok(placed),
@@ -82,7 +76,7 @@ pub(crate) fn hold(
 /// Ends an open write without a block: its stripes are free again.
 pub(crate) fn release(space: &mut Space, blocks: &mut BTreeMap<u64, Entry>, pointer: &Pointer)
     requires tables { (geometry : Geometry) × Tables geometry space.old blocks.old }
-    requires is_open { entry_at blocks.old pointer.now.first ≡ Some (opened pointer.now) }
+    requires there { IsEntered blocks.old pointer.now }
     ensures tables { (geometry : Geometry) → Tables geometry space.old blocks.old → Tables geometry space.new blocks.new }
     ensures frees { Frees space.new (λ x. is_free space.old x || is_between pointer.now.first (pointer.now.first + pointer.now.stripes) x) }
     ensures entry { SetsEntry blocks.old blocks.new pointer.now.first None }
@@ -94,7 +88,7 @@ pub(crate) fn release(space: &mut Space, blocks: &mut BTreeMap<u64, Entry>, poin
 
 /// Takes the block of a pointer to another stage.
 pub(crate) fn turn(blocks: &mut BTreeMap<u64, Entry>, pointer: &Pointer, stage: Stage)
-    requires there { (was : Stage) × (entry_at blocks.old pointer.now.first ≡ Some (staged was pointer.now)) }
+    requires there { IsEntered blocks.old pointer.now }
     ensures entry { SetsEntry blocks.old blocks.new pointer.now.first (Some (staged stage pointer.now)) }
     ensures len { btree_map_len blocks.new ≡ btree_map_len blocks.old }
 {

@@ -7,6 +7,7 @@ mod entry;
 mod fault;
 mod fetch;
 mod layout;
+mod log;
 mod shard;
 #[cfg(test)]
 mod tests;

@@ -1,36 +1,44 @@
-ghost use Rattle.std.specs.Prelude.{◌≡◌, ◌<◌, ◌≤◌, ◌+◌, ◌^◌, ◌||◌, ◌&&◌, ◌⊎◌, ℕ, List, Bool, true, Option, Some, None, All, IfOk, OnOk, OnErr, IfErr, IsTrue, ◌↔◌, length, nat_lt, is_ok, is_err, if◌then◌else◌};
+ghost use Rattle.std.specs.Prelude.{◌≡◌, ◌<◌, ◌≤◌, ◌+◌, ◌^◌, ◌||◌, ◌⊎◌, ℕ, List, Bool, true, false, Option, Some, None, All, IfOk, OnOk, OnErr, IfErr, IsTrue, ◌↔◌, length, max, nat_lt, is_ok, is_err, if◌then◌else◌};
 ghost use Rattle.draid_names.specs.declared.pointer.Pointer.{Pointer};
-ghost use Rattle.draid_spec.specs.declared.layout.Geometry.{Geometry};
 ghost use Rattle.draid_map.specs.Place.{part_sectors, part_stripes};
 ghost use Rattle.draid_block.specs.Blocks.{BlockValue, cut_of};
 ghost use Rattle.draid_block.specs.Columns.{stripes_of};
 ghost use Rattle.draid_block.specs.Solving.{IsFetched, IsReadable, absent_columns};
+ghost use Rattle.draid_machine.specs.Created.{created};
+ghost use Rattle.draid_machine.specs.State.{State};
+ghost use Rattle.draid_machine.specs.Step.{AbortStep, BeginStep, DamageStep, FetchStep, FinishStep, FreeStep};
+ghost use Rattle.draid_parity.specs.Columns.{column_at};
 ghost use Rattle.draid_rack.specs.Rack.{Counts, HasJust, OnTold, put};
 ghost use Rattle.draid_ranges.specs.Runs.{is_between};
-ghost use Rattle.draid_shard.specs.Columns.{AreRead, EndsHarm, LeafRose, MoreBad, TellsBoth};
-ghost use Rattle.draid_shard.specs.Entry.{IsRefused, IsRoom};
+ghost use Rattle.draid_shard.specs.Columns.{AreRead, EndsHarm, LeafRose, MoreBad, TellsBoth, Writes};
+ghost use Rattle.draid_shard.specs.Entry.{IsRefused, IsRoom, begun, open_group};
+ghost use Rattle.draid_shard.specs.Logs.{LogsMiss};
+ghost use Rattle.draid_shard.specs.Machine.{IsIn, StepsTo, held_at, key_of, layout_in, leaves_of};
 ghost use Rattle.draid_shard.specs.Part.{IsPart, Part, leaf_of};
 
 use crate::column::write_column;
-use crate::entry::{Entry, MOST_ENTRIES, Stage, hold, release, turn};
+use crate::entry::{Entry, MOST_ENTRIES, hold, release, turn};
 use crate::fault::{BeginFault, FetchFault, Missed, NotLive};
 use crate::fetch::read_columns;
 use crate::layout::place_within;
+use crate::log::{log_miss, own_slots};
 use crate::ticket::Ticket;
 use draid_block::{Encoded, Fetched};
+use draid_machine::Stage;
 use draid_metaslab::Space;
 use draid_names::{Failed, Pointer, Room};
 use draid_perm::Perms;
 use draid_rack::Rack;
+use draid_slots::Slots;
 use draid_spec::Geometry;
 use std::alloc::Global;
 use std::collections::BTreeMap;
 
-/// The transaction group in which blocks are born.
+/// The transaction group that is open: no group was closed since creation, which commits group 1.
 const OPEN_GROUP: u64 = 2;
 
 /// One metaslab over its rack. Column i of a block stands, each row in a stripe of its own, where the layout
-/// has its place.
+/// has its place; where it can't be written, the group of the block's birth is in the log of its leaf.
 #[derive(Drop)]
 pub struct Shard<R: Rack> {
     /// The metaslab's number.
@@ -38,6 +46,8 @@ pub struct Shard<R: Rack> {
     pub geometry: Geometry,
     pub perms: Perms,
     pub rack: R,
+    /// The child slots, each with the leaf of its own number.
+    pub slots: Slots,
     space: Space,
     /// The blocks and the open writes, by their first stripes.
     blocks: BTreeMap<u64, Entry>,
@@ -51,7 +61,7 @@ pub struct ShardRefused<R: Rack> {
 }
 
 impl<R: Rack> Shard<R> {
-    ghost use Rattle.draid_shard.specs.Shard.{AddsLive, Carries, CountsMiss, DropsLive, HoldsBlock, IsLive, IsOpen, KeepsBlocks, KeepsOtherBlocks, KeepsOtherTickets, KeepsTickets, NoneFalls, SameLive, TakesLowest, Valid, free_of, held_of, part_of};
+    ghost use Rattle.draid_shard.specs.Shard.{AddsLive, Carries, DropsLive, HasEntry, HoldsBlock, IsLive, IsOpen, IsUnused, KeepsBlocks, KeepsOtherBlocks, KeepsOtherTickets, KeepsTickets, NoneFalls, NoneMore, PutIs, PutsColumn, SameLive, TakesLowest, Valid, free_of, held_of, logs_of, missed_of, part_of};
 
     /// An empty metaslab over a rack that has the layout's leaves, each with the metaslab's sectors.
     pub fn create(
@@ -67,11 +77,16 @@ impl<R: Rack> Shard<R> {
         ensures part { IfOk result (λ shard. part_of shard ≡ record { geometry = geometry; perms = perms; number = number }) }
         ensures rack { IfOk result (λ shard. shard.rack ≡ rack) }
         ensures free { IfOk result (λ shard. (x : ℕ) → free_of shard x ≡ nat_lt x (part_stripes geometry)) }
-        ensures empty { IfOk result (λ shard. (p : Pointer) → IsLive shard p → ⊥) }
+        ensures empty { IfOk result (λ shard. (p : Pointer) → HasEntry shard p → ⊥) }
         ensures held { IfOk result (λ shard. held_of shard ≡ 0) }
+        ensures logs { IfOk result (λ shard. (leaf group : ℕ) → logs_of shard leaf group ≡ false) }
+        ensures created { IfOk result (λ shard. IsIn shard (created (layout_in (part_of shard)))) }
         ensures refused { IfErr result (λ refused. refused.rack ≡ rack) }
     {
         let Ok(space) = Space::new(alloc, &geometry, &[]) else {
+            return Err(ShardRefused { rack });
+        };
+        let Ok(slots) = own_slots(alloc, geometry, perms, number) else {
             return Err(ShardRefused { rack });
         };
         Ok(Shard {
@@ -79,6 +94,7 @@ impl<R: Rack> Shard<R> {
             geometry,
             perms,
             rack,
+            slots,
             space,
             blocks: BTreeMap::new(alloc),
             alloc,
@@ -111,12 +127,21 @@ impl<R: Rack> Shard<R> {
         self.blocks.len() == MOST_ENTRIES
     }
 
-    /// Takes the lowest free run of stripes that the block fits, for a write of `seq` to `object`.
-    pub fn begin(&mut self, object: u64, seq: u64, block: &Encoded) -> Result<Ticket, BeginFault>
+    /// Takes the lowest free run of stripes that the block fits, for a write of `seq` to `object`. The block is born in
+    /// the open group, or in `floor` where that is the next one.
+    pub fn begin(
+        &mut self,
+        object: u64,
+        seq: u64,
+        block: &Encoded,
+        floor: u64,
+    ) -> Result<Ticket, BeginFault>
         requires valid { Valid R.shape self.old }
         requires object { object < 2 ^ 32 }
         requires first { 1 ≤ seq }
         requires last { seq < 2 ^ 48 }
+        requires unused { IsUnused self.old object seq }
+        requires floor { floor ≤ open_group + 1 }
         requires cut { block.now.cut ≡ cut_of self.old.geometry }
         ensures valid { Valid R.shape self.new }
         ensures part { part_of self.new ≡ part_of self.old }
@@ -126,11 +151,17 @@ impl<R: Rack> Shard<R> {
         ensures carries { IfOk result (λ ticket. Carries R.told self.new ticket block.now) }
         ensures fresh { IfOk result (λ ticket. (ticket.next ≡ 0) × (ticket.missed ≡ 0)) }
         ensures named { IfOk result (λ ticket. (ticket.pointer.object ≡ object) × (ticket.pointer.seq ≡ seq)
-            × (ticket.pointer.metaslab ≡ self.old.number) × (ticket.pointer.birth ≡ 2)) }
+            × (ticket.pointer.metaslab ≡ self.old.number) × (ticket.pointer.birth ≡ max open_group floor)) }
+        ensures event { IfOk result (λ ticket. (w : State) → IsIn self.old w
+            → StepsTo (BeginStep (layout_in (part_of self.old)) w (key_of ticket.pointer) (held_at (begun ticket.pointer))) self.new) }
+        ensures unmoved { OnErr result ((w : State) → IsIn self.old w → IsIn self.new w) }
         ensures refused { IfErr result (IsRefused (held_of self.old) (free_of self.old) self.old.geometry.props.height
             (stripes_of (cut_of self.old.geometry) (length block.now.bytes))) }
         ensures free { OnErr result ((x : ℕ) → free_of self.new x ≡ free_of self.old x) }
         ensures held { held_of self.new ≡ held_of self.old + (if is_ok result then 1 else 0) }
+        ensures logs { logs_of self.new ≡ logs_of self.old }
+        ensures entered { IfOk result (λ ticket. (p : Pointer) → HasEntry self.new p → HasEntry self.old p ⊎ (p ≡ ticket.pointer)) }
+        ensures none_more { OnErr result (NoneMore self.old self.new) }
         ensures same { SameLive self.old self.new }
         ensures kept { KeepsBlocks R.told self.old self.new }
         ensures tickets { KeepsTickets R.told self.old self.new }
@@ -142,7 +173,7 @@ impl<R: Rack> Shard<R> {
             first: 0,
             stripes: block.stripes(),
             len: block.len(),
-            birth: OPEN_GROUP,
+            birth: OPEN_GROUP.max(floor),
             digest: block.digest(),
         };
         match hold(&mut self.space, &mut self.blocks, pointer) {
@@ -155,7 +186,8 @@ impl<R: Rack> Shard<R> {
         }
     }
 
-    /// Writes the ticket's next column to its leaf. A column of which a sector fails is missed.
+    /// Writes the ticket's next column to its leaf. A column of which a sector fails is missed: the block's birth is
+    /// then in the log of the leaf.
     pub fn put(&mut self, ticket: &mut Ticket, block: &Encoded)
         requires valid { Valid R.shape self.old }
         requires carries { Carries R.told self.old ticket.old block.now }
@@ -165,28 +197,56 @@ impl<R: Rack> Shard<R> {
         ensures carries { Carries R.told self.new ticket.new block.now }
         ensures next { ticket.new.next ≡ ticket.old.next + 1 }
         ensures pointer { ticket.new.pointer ≡ ticket.old.pointer }
-        ensures missed { CountsMiss ticket.old.missed ticket.new.missed
-            (R.faults self.old.rack (Some (leaf_of (part_of self.old) ticket.old.pointer.first ticket.old.next)))
-            (R.faults self.new.rack (Some (leaf_of (part_of self.old) ticket.old.pointer.first ticket.old.next))) }
+        ensures ended { PutIs R.faults self.old self.new ticket.old ticket.new }
+        ensures event { (w : State) → IsIn self.old w → PutsColumn self.old self.new ticket.old ticket.new w }
         ensures harm { TellsBoth (R.told self.old.rack) (R.told self.new.rack) (λ x y.
             EndsHarm (part_of self.old) ticket.old.pointer.first ticket.old.pointer.stripes (λ i. i ≡ ticket.old.next)
-            (ticket.new.missed ≡ ticket.old.missed) x.harmed y.harmed) }
+            (missed_of self.new ticket.old.pointer) x.harmed y.harmed) }
         ensures later { NoneFalls (R.faults self.old.rack) (R.faults self.new.rack) }
         ensures free { free_of self.new ≡ free_of self.old }
         ensures held { held_of self.new ≡ held_of self.old }
+        ensures none_more { NoneMore self.old self.new }
         ensures shape { R.shape self.new.rack ≡ R.shape self.old.rack }
         ensures same { SameLive self.old self.new }
         ensures kept { KeepsBlocks R.told self.old self.new }
         ensures others { KeepsOtherTickets R.told ticket.old.pointer.first self.old self.new }
     {
-        let column = ticket.next;
+        if self.land(ticket, block).is_err() {
+            ticket.missed += 1;
+        }
+        ticket.next += 1;
+        let stage = Stage::Writing {
+            columns: ticket.next,
+            missed: ticket.missed,
+        };
+        turn(&mut self.blocks, &ticket.pointer, stage);
+    }
+
+    /// Writes the ticket's next column to its leaf. Where that fails the block's birth goes into the log of the leaf.
+    fn land(&mut self, ticket: &Ticket, block: &Encoded) -> Result<(), Failed>
+        requires valid { Valid R.shape self.old }
+        requires carries { Carries R.told self.old ticket.now block.now }
+        requires left { ticket.now.next < self.old.geometry.g }
+        ensures valid { Valid R.shape self.new }
+        ensures part { part_of self.new ≡ part_of self.old }
+        ensures blocks { self.new.blocks ≡ self.old.blocks }
+        ensures space { self.new.space ≡ self.old.space }
+        ensures told { Writes (part_of self.old) ticket.now.pointer.first ticket.now.pointer.stripes ticket.now.next
+            (column_at block.now.columns ticket.now.next) result (R.told self.old.rack) (R.told self.new.rack) }
+        ensures landed { OnOk result (logs_of self.new ≡ logs_of self.old) }
+        ensures missed { OnErr result (LogsMiss (leaf_of (part_of self.old) ticket.now.pointer.first ticket.now.next) ticket.now.pointer.birth
+            (logs_of self.old) (logs_of self.new)) }
+        ensures cause { OnErr result (LeafRose (part_of self.old) ticket.now.pointer.first (R.faults self.old.rack) (R.faults self.new.rack) ticket.now.next) }
+        ensures later { NoneFalls (R.faults self.old.rack) (R.faults self.new.rack) }
+        ensures shape { R.shape self.new.rack ≡ R.shape self.old.rack }
+    {
         let pointer = ticket.pointer;
         let place = place_within(
             &self.geometry,
             &self.perms,
             self.number,
             pointer.first,
-            column,
+            ticket.next,
         );
         let written = write_column(
             &mut self.rack,
@@ -194,16 +254,16 @@ impl<R: Rack> Shard<R> {
             place.sector,
             u64::from(pointer.stripes),
             self.geometry.props.sector as usize,
-            block.column(column),
+            block.column(ticket.next),
         );
         if written.is_err() {
-            ticket.missed += 1;
+            log_miss(&mut self.slots, place.child, pointer.birth);
         }
-        ticket.next += 1;
+        written
     }
 
-    /// Ends a write whose columns are all put: its block is live, or its stripes are free again
-    /// where a column was missed.
+    /// Ends a write whose columns are all put: its block is live, or its stripes are free again where more columns were
+    /// missed than there are parity columns.
     pub fn finish(&mut self, ticket: Ticket) -> Result<Pointer, Missed>
         requires valid { Valid R.shape self.old }
         requires is_open { IsOpen self.old ticket }
@@ -211,12 +271,15 @@ impl<R: Rack> Shard<R> {
         ensures valid { Valid R.shape self.new }
         ensures part { part_of self.new ≡ part_of self.old }
         ensures rack { self.new.rack ≡ self.old.rack }
-        ensures ok { IfOk result (λ pointer. (ticket.missed ≡ 0) × (pointer ≡ ticket.pointer)) }
+        ensures ok { IfOk result (λ pointer. (ticket.missed ≤ self.old.geometry.spec.parity) × (pointer ≡ ticket.pointer)) }
         ensures holds { IfOk result (λ pointer. (b : BlockValue) → Carries R.told self.old ticket b → HoldsBlock R.told self.new pointer b.bytes) }
         ensures added { IfOk result (AddsLive self.old self.new) }
         ensures taken { OnOk result (free_of self.new ≡ free_of self.old) }
         ensures held { held_of self.new + (if is_ok result then 0 else 1) ≡ held_of self.old }
-        ensures missed { IfErr result (λ e. (0 < ticket.missed) × (e.columns ≡ ticket.missed)) }
+        ensures missed { IfErr result (λ e. (self.old.geometry.spec.parity < ticket.missed) × (e.columns ≡ ticket.missed)) }
+        ensures event { (w : State) → IsIn self.old w → StepsTo (FinishStep (layout_in (part_of self.old)) w (key_of ticket.pointer)) self.new }
+        ensures logs { logs_of self.new ≡ logs_of self.old }
+        ensures none_more { NoneMore self.old self.new }
         ensures freed { OnErr result ((x : ℕ) → free_of self.new x ≡ (free_of self.old x
             || is_between ticket.pointer.first (ticket.pointer.first + ticket.pointer.stripes) x)) }
         ensures undone { OnErr result ((before : ℕ → Bool) → TakesLowest self.old.geometry.props.height before (free_of self.old)
@@ -226,7 +289,7 @@ impl<R: Rack> Shard<R> {
         ensures others { KeepsOtherTickets R.told ticket.pointer.first self.old self.new }
     {
         let pointer = ticket.pointer;
-        if ticket.missed > 0 {
+        if ticket.missed > self.geometry.spec.parity {
             release(&mut self.space, &mut self.blocks, &pointer);
             return Err(Missed {
                 columns: ticket.missed,
@@ -245,7 +308,10 @@ impl<R: Rack> Shard<R> {
         ensures rack { self.new.rack ≡ self.old.rack }
         ensures freed { (x : ℕ) → free_of self.new x ≡ (free_of self.old x
             || is_between ticket.pointer.first (ticket.pointer.first + ticket.pointer.stripes) x) }
+        ensures event { (w : State) → IsIn self.old w → StepsTo (AbortStep w (key_of ticket.pointer)) self.new }
         ensures held { held_of self.new + 1 ≡ held_of self.old }
+        ensures logs { logs_of self.new ≡ logs_of self.old }
+        ensures none_more { NoneMore self.old self.new }
         ensures same { SameLive self.old self.new }
         ensures kept { KeepsBlocks R.told self.old self.new }
         ensures others { KeepsOtherTickets R.told ticket.pointer.first self.old self.new }
@@ -253,30 +319,32 @@ impl<R: Rack> Shard<R> {
         release(&mut self.space, &mut self.blocks, &ticket.pointer);
     }
 
-    /// Frees a live block, in the open transaction group, which is the answer. Its stripes stay taken.
-    pub fn free(&mut self, pointer: &Pointer) -> Result<u64, NotLive>
+    /// Frees a live block in a transaction group, which is the answer: the open one, or `floor` where that is the next
+    /// one. Its stripes stay taken.
+    pub fn free(&mut self, pointer: &Pointer, floor: u64) -> Result<u64, NotLive>
         requires valid { Valid R.shape self.old }
+        requires floor { floor ≤ open_group + 1 }
         ensures valid { Valid R.shape self.new }
         ensures part { part_of self.new ≡ part_of self.old }
         ensures rack { self.new.rack ≡ self.old.rack }
         ensures not_live { IsTrue (is_err result) ↔ (IsLive self.old pointer.now → ⊥) }
-        ensures group { IfOk result (λ group. group ≡ 2) }
+        ensures group { IfOk result (λ group. group ≡ max open_group floor) }
+        ensures event { IfOk result (λ group. (w : State) → IsIn self.old w → StepsTo (FreeStep w (key_of pointer.now) group) self.new) }
         ensures gone { OnOk result (DropsLive self.old self.new pointer.now) }
         ensures same { OnErr result (self.new ≡ self.old) }
         ensures taken { free_of self.new ≡ free_of self.old }
         ensures held { held_of self.new ≡ held_of self.old }
+        ensures logs { logs_of self.new ≡ logs_of self.old }
+        ensures none_more { NoneMore self.old self.new }
         ensures kept { KeepsOtherBlocks R.told pointer.now self.old self.new }
         ensures tickets { KeepsTickets R.told self.old self.new }
     {
         if !self.is_live(pointer) {
             return Err(NotLive);
         }
-        turn(
-            &mut self.blocks,
-            pointer,
-            Stage::Freed { group: OPEN_GROUP },
-        );
-        Ok(OPEN_GROUP)
+        let group = OPEN_GROUP.max(floor);
+        turn(&mut self.blocks, pointer, Stage::Freed { group });
+        Ok(group)
     }
 
     /// Whether the pointer is that of a live block here.
@@ -305,12 +373,17 @@ impl<R: Rack> Shard<R> {
             (absent_columns fetched.columns.items)) }
         ensures readable { IfOk result (λ fetched. (w : List ℕ) → HoldsBlock R.told self.old pointer.now w → OnTold (R.told self.old.rack) (λ x.
             ((bad : List ℕ) × IsReadable (cut_of self.old.geometry) fetched w bad)
-            ⊎ MoreBad (part_of self.old) x.harmed pointer.now.first pointer.now.stripes (R.faults self.old.rack) (R.faults self.new.rack))) }
+            ⊎ MoreBad (part_of self.old) x.harmed (missed_of self.old pointer.now) pointer.now.first pointer.now.stripes (R.faults self.old.rack) (R.faults self.new.rack))) }
+        ensures event { IfOk result (λ fetched. (w : State) → IsIn self.old w → StepsTo (FetchStep (layout_in (part_of self.old)) w (key_of pointer.now)
+            (leaves_of (part_of self.old) pointer.now.first (absent_columns fetched.columns.items))) self.new) }
+        ensures unmoved { OnErr result ((w : State) → IsIn self.old w → IsIn self.new w) }
         ensures later { NoneFalls (R.faults self.old.rack) (R.faults self.new.rack) }
         ensures told { R.told self.new.rack ≡ R.told self.old.rack }
         ensures shape { R.shape self.new.rack ≡ R.shape self.old.rack }
         ensures free { free_of self.new ≡ free_of self.old }
         ensures held { held_of self.new ≡ held_of self.old }
+        ensures logs { logs_of self.new ≡ logs_of self.old }
+        ensures none_more { NoneMore self.old self.new }
         ensures same { SameLive self.old self.new }
         ensures kept { KeepsBlocks R.told self.old self.new }
         ensures tickets { KeepsTickets R.told self.old self.new }
@@ -343,8 +416,11 @@ impl<R: Rack> Shard<R> {
             (l s : ℕ) → y.harmed l s ≡ put leaf sector true x.harmed l s)) }
         ensures err { OnErr result (R.told self.new.rack ≡ R.told self.old.rack) }
         ensures cause { Counts (Some leaf) result (R.faults self.old.rack) (R.faults self.new.rack) }
+        ensures event { (w : State) → IsIn self.old w → StepsTo (DamageStep (layout_in (part_of self.old)) w leaf sector) self.new }
         ensures free { free_of self.new ≡ free_of self.old }
         ensures held { held_of self.new ≡ held_of self.old }
+        ensures logs { logs_of self.new ≡ logs_of self.old }
+        ensures none_more { NoneMore self.old self.new }
         ensures shape { R.shape self.new.rack ≡ R.shape self.old.rack }
         ensures same { SameLive self.old self.new }
         ensures kept { KeepsBlocks R.told self.old self.new }
