@@ -1,4 +1,4 @@
-use Rattle.std.specs.Prelude.{◌≡◌, ◌<◌, ◌⊎◌, ⊤, ℕ, List, [], Option, Some, Result, Ok, Err, IsSomeAnd, length, nat_lt, slice_get}
+use Rattle.std.specs.Prelude.{◌≡◌, ◌<◌, ◌⊎◌, ⊤, ℕ, false, List, [], Option, Some, Result, Ok, Err, IsSomeAnd, length, nat_lt, slice_get}
 use Rattle.draid_names.specs.declared.pointer.Pointer.{Pointer}
 use Rattle.draid_spec.specs.declared.layout.Geometry.{Geometry}
 use Rattle.draid_spec.specs.declared.layout.Props.{Props}
@@ -9,7 +9,7 @@ use Rattle.draid_perm.specs.declared.perms.Perms.{Perms}
 use Rattle.draid_map.specs.Place.{IsLayout, part_stripes}
 use Rattle.draid_shelf.specs.Shelf.{HasLeavesOf, SameOthers, TellsCalm, TellsZeros}
 use Rattle.draid_shard.specs.declared.shard.Shard.{Shard}
-use Rattle.draid_shard.specs.Shard.{IsLive, Valid, free_of, held_of, part_of}
+use Rattle.draid_shard.specs.Shard.{HasEntry, Valid, free_of, held_of, logs_of, part_of}
 use Rattle.draid_pool.specs.Pool.{Represents, state_of}
 use Rattle.draid_pool.specs.State.{IsFresh}
 use Rattle.draid_pool.specs.declared.fault.PoolFault.{PoolFault}
@@ -52,7 +52,8 @@ module _ {R : Type 0} (shape : R → Shape) (told : R → Option Told) (faults :
     pub part : part_of shard ≡ record { geometry = geometry; perms = perms; number = m }
     pub free : (k : ℕ) → free_of shard k ≡ nat_lt k (part_stripes geometry)
     pub none : held_of shard ≡ 0
-    pub empty : (p : Pointer) → IsLive shard p → ⊥
+    pub logs : (leaf group : ℕ) → logs_of shard leaf group ≡ false
+    pub empty : (p : Pointer) → HasEntry shard p → ⊥
     pub holds : told shard.rack ≡ held
     pub faults_are : (who : Option ℕ) → faults shard.rack who ≡ counts who
 

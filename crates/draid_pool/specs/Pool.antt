@@ -1,11 +1,11 @@
-use Rattle.std.specs.Prelude.{◌≡◌, ◌⊎◌, ⊤, ℕ, Bool, List, Option, Some, None, length, map, option_map, nat_eq, slice_get}
+use Rattle.std.specs.Prelude.{◌≡◌, ◌≤◌, ◌⊎◌, ⊤, ℕ, Bool, List, Option, Some, None, length, map, option_map, nat_eq, slice_get}
 use Rattle.std.specs.HashMap.{get}
 use Rattle.draid_names.specs.declared.pointer.Pointer.{Pointer}
 use Rattle.draid_spec.specs.declared.layout.Geometry.{Geometry}
 use Rattle.draid_spec.specs.Geometry.{IsGeometry}
 use Rattle.draid_rack.specs.Rack.{Shape, Told}
 use Rattle.draid_shard.specs.declared.shard.Shard.{Shard}
-use Rattle.draid_shard.specs.Shard.{HoldsBlock, IsLive, Valid, free_of, held_of, part_of}
+use Rattle.draid_shard.specs.Shard.{HasEntry, HoldsBlock, IsLive, Valid, free_of, held_of, logs_of, part_of}
 use Rattle.draid_pool.specs.State.{Change, Metaslab, State, Write, write_of}
 use Rattle.draid_pool.specs.Store.{HasRoom}
 use Rattle.draid_pool.specs.declared.pool.Pool.{Pool}
@@ -21,6 +21,7 @@ metaslab_of told faults shard = record {
   free = free_of shard;
   held = held_of shard;
   faults = faults shard.rack;
+  logs = logs_of shard;
   harm = harm_of (told shard.rack);
 }
 
@@ -33,11 +34,13 @@ state_of told faults pool changes = record {
   seq = pool.seq;
 }
 
--- The block of an accepted write is live in its metaslab, and its columns stand where the rack tells, but for the sectors that are harmed.
+-- The block of an accepted write is live in its metaslab, and its columns stand where the rack tells, but for those that are missed and the sectors that are
+-- harmed.
 pub record HoldsWrite {R : Type 0} (told : R → Option Told) (shards : List (Shard R)) (pointer : Pointer) (write : Write) : Type 0 where
   pub object : pointer.object ≡ write.object
   pub metaslab : pointer.metaslab ≡ write.metaslab
   pub first : pointer.first ≡ write.first
+  pub birth : pointer.birth ≡ write.birth
   pub shard : Shard R
   pub there : slice_get shards pointer.metaslab ≡ Some shard
   pub holds : HoldsBlock told shard pointer write.bytes
@@ -54,11 +57,13 @@ pub record IsMember {R : Type 0} (shape : R → Shape) (geometry : Geometry) (m 
   pub layout : shard.geometry ≡ geometry
   pub number : shard.number ≡ m
 
--- The pool has all metaslabs of its layout. This befell its objects, and its table has the pointer of each of them that has bytes.
+-- The pool has all metaslabs of its layout, and no write in them has a greater number than the last. This befell its objects, and its table has the pointer of each
+-- of them that has bytes.
 pub record Stands {R : Type 0} (shape : R → Shape) (told : R → Option Told) (pool : Pool R) (changes : List Change) : Type 0 where
   pub layout : IsGeometry pool.geometry
   pub many : length pool.shards.items ≡ pool.geometry.props.metaslabs
   pub members : (m : ℕ) (shard : Shard R) → slice_get pool.shards.items m ≡ Some shard → IsMember shape pool.geometry m shard
+  pub numbered : (m : ℕ) (shard : Shard R) (p : Pointer) → slice_get pool.shards.items m ≡ Some shard → HasEntry shard p → p.seq ≤ pool.seq
   pub objects : (object : ℕ) → HoldsObject told pool.shards.items (get nat_eq pool.objects object) (write_of changes object)
 
 -- the pointer is that of its object, and names its metaslab

@@ -1,6 +1,6 @@
 -- What a pool is to those who use it, and what its calls do to it.
-use Rattle.std.specs.Prelude.{◌≡◌, ◌≤◌, ◌<◌, ◌+◌, ◌-◌, ◌^◌, ◌/◌, ◌%◌, ◌==◌, ⊤, ℕ, Bool, true, false, List, [], ◌∷◌, Option, Some, None, MatchOption, All, length, option_map, slice_get, slice_set, flat_map, nat_eq, nat_lt, max, if◌then◌else◌}
-use Rattle.std.specs.List.{AllZip, count_by}
+use Rattle.std.specs.Prelude.{◌≡◌, ◌≤◌, ◌<◌, ◌+◌, ◌-◌, ◌^◌, ◌/◌, ◌%◌, ◌==◌, ◌||◌, ◌&&◌, ⊤, ℕ, Bool, true, false, List, [], ◌∷◌, Option, Some, None, MatchOption, All, length, option_map, slice_get, slice_set, flat_map, nat_eq, nat_lt, max, if◌then◌else◌}
+use Rattle.std.specs.List.{AllZip, count_by, list_any}
 use Rattle.std.specs.List.Sorted.{IsStrictlyIncreasing}
 use Rattle.sha2.specs.Sha256.{sha256}
 use Rattle.draid_names.specs.Faults.{Rose}
@@ -13,17 +13,18 @@ use Rattle.draid_block.specs.Blocks.{cut_of}
 use Rattle.draid_block.specs.Columns.{stripes_of}
 use Rattle.draid_block.specs.Order.{solve_order}
 use Rattle.draid_metaslab.specs.Spots.{IsLowest}
-use Rattle.draid_shard.specs.Part.{Part}
-use Rattle.draid_shard.specs.Columns.{EndsHarm, LeafRose, MoreBad}
-use Rattle.draid_shard.specs.Entry.{IsRoom}
+use Rattle.draid_shard.specs.Part.{Part, leaf_of}
+use Rattle.draid_shard.specs.Columns.{EndsHarm, LeafRose, MoreBad, is_missed}
+use Rattle.draid_shard.specs.Entry.{IsRoom, open_group}
 use Rattle.draid_shard.specs.Shard.{NoneFalls, TakesLowest}
 
--- an accepted write: the object, the bytes, and where their block lies
+-- an accepted write: the object, the bytes, where their block lies, and the group in which it was born
 pub record Write : Type 0 where
   pub object : ℕ
   pub bytes : List ℕ
   pub metaslab : ℕ
   pub first : ℕ
+  pub birth : ℕ
 
 -- what befell an object: a block was written to it, or it was freed
 pub data Change : Type 0 where
@@ -31,12 +32,13 @@ pub data Change : Type 0 where
   Freed : ℕ → Change
 
 -- A metaslab of an open pool: its layout and its number; which stripes are free; how many blocks it has, the freed ones and those under way included; how often
--- calls on each leaf have failed; and which sectors are harmed, where the rack tells it.
+-- calls on each leaf have failed; which groups are in the log of each leaf; and which sectors are harmed, where the rack tells it.
 pub record Metaslab : Type 0 where
   pub part : Part
   pub free : ℕ → Bool
   pub held : ℕ
   pub faults : Option ℕ → ℕ
+  pub logs : ℕ → ℕ → Bool
   pub harm : Option (ℕ → ℕ → Bool)
 
 -- An open pool: the layout; the metaslabs in order; what befell the objects, the newest first; and the number of the last write that was begun.
@@ -115,9 +117,10 @@ pub record Keeps (before after : Metaslab) : Type 0 where
   pub held : after.held ≡ before.held
   pub later : NoneFalls before.faults after.faults
 
--- and its harm is the same too
+-- and its logs and its harm are the same too
 pub record LooksAt (before after : Metaslab) : Type 0 where
   pub keeps : Keeps before after
+  pub logs : after.logs ≡ before.logs
   pub harm : after.harm ≡ before.harm
 
 -- nothing changed but the counts of faults, which don't fall
@@ -127,12 +130,13 @@ pub record Looks (old new : State) : Type 0 where
   pub changes : new.changes ≡ old.changes
   pub seq : new.seq ≡ old.seq
 
--- A metaslab of a pool that was just created: all stripes are free, it holds no block, no call has failed, and no sector is harmed.
+-- A metaslab of a pool that was just created: all stripes are free, it holds no block, no call has failed, no log has a group, and no sector is harmed.
 pub record IsNew (geometry : Geometry) (perms : Perms) (m : ℕ) (x : Metaslab) : Type 0 where
   pub part : x.part ≡ record { geometry = geometry; perms = perms; number = m }
   pub free : (k : ℕ) → x.free k ≡ nat_lt k (part_stripes geometry)
   pub held : x.held ≡ 0
   pub faults : (who : Option ℕ) → x.faults who ≡ 0
+  pub logs : (leaf group : ℕ) → x.logs leaf group ≡ false
   pub calm : MatchOption x.harm ⊤ (λ h. (l s : ℕ) → h l s ≡ false)
 
 -- A pool of this layout that was just created: it has all its metaslabs, and nothing was written.
@@ -147,12 +151,25 @@ pub record IsFresh (geometry : Geometry) (new : State) : Type 0 where
 
 -- ---- writes
 
--- The sectors of a block's columns, as they were written: harm ended there where it was written whole, and began nowhere.
-abbrev pub WritesHarm : ℕ → ℕ → Type 0 → Metaslab → Metaslab → Type 0
-WritesHarm first stripes whole before after = HarmBoth before.harm after.harm (EndsHarm before.part first stripes (λ i. i < before.part.geometry.g) whole)
+-- Just these columns of a block that was written from a stripe on landed nowhere: the count of faults of the leaf of each rose, and the group of the block's
+-- birth is in the logs of these leaves. No other log changed.
+pub record LandsBut (first : ℕ) (missed : List ℕ) (before after : Metaslab) : Type 0 where
+  pub ascending : IsStrictlyIncreasing missed
+  pub in_range : All (λ i. i < before.part.geometry.g) missed
+  pub each : All (LeafRose before.part first before.faults after.faults) missed
+  pub logs : (leaf group : ℕ) → after.logs leaf group
+      ≡ (before.logs leaf group || ((group == open_group) && list_any (λ i. leaf_of before.part first i == leaf) missed))
 
--- A block of these bytes was written to the object, in metaslab m, on its lowest run of stripes that fits. The sectors of its columns aren't harmed now. The block
--- that the object had before keeps its stripes and is still counted.
+-- which columns of a block are missed
+abbrev pub missed_in : Metaslab → ℕ → ℕ → ℕ → Bool
+missed_in x first birth = is_missed x.part x.logs first birth
+
+-- The sectors of a block's columns, as they were written: harm ended there but for the columns that are missed, and began nowhere.
+abbrev pub WritesHarm : ℕ → ℕ → Metaslab → Metaslab → Type 0
+WritesHarm first stripes before after = HarmBoth before.harm after.harm (EndsHarm before.part first stripes (λ i. i < before.part.geometry.g) (missed_in after first open_group))
+
+-- A block of these bytes was written to the object, in metaslab m, on its lowest run of stripes that fits. No more of its columns landed nowhere than there are
+-- parity columns; the sectors of the others aren't harmed now. The block that the object had before keeps its stripes and is still counted.
 pub record WritesTo (m object : ℕ) (bytes : List ℕ) (old new : State) : Type 0 where
   pub before : Metaslab
   pub after : Metaslab
@@ -161,8 +178,11 @@ pub record WritesTo (m object : ℕ) (bytes : List ℕ) (old new : State) : Type
   pub takes : TakesLowest before.part.geometry.props.height before.free after.free first (stripes_for before.part.geometry bytes)
   pub held : after.held ≡ before.held + 1
   pub later : NoneFalls before.faults after.faults
-  pub harm : WritesHarm first (stripes_for before.part.geometry bytes) ⊤ before after
-  pub changes : new.changes ≡ Wrote (record { object = object; bytes = bytes; metaslab = m; first = first }) ∷ old.changes
+  pub missed : List ℕ
+  pub few : length missed ≤ before.part.geometry.spec.parity
+  pub lands : LandsBut first missed before after
+  pub harm : WritesHarm first (stripes_for before.part.geometry bytes) before after
+  pub changes : new.changes ≡ Wrote (record { object = object; bytes = bytes; metaslab = m; first = first; birth = open_group }) ∷ old.changes
   pub seq : new.seq ≡ old.seq + 1
 
 -- so in the metaslab that the chooser named
@@ -189,8 +209,7 @@ pub record IsLast (chosen : List Room → Option ℕ → Type 0) (bytes : List �
   pub last : 2 ^ 48 - 1 ≤ old.seq
   pub same : Stays old new
 
--- Some run of metaslab m fitted, but these columns landed nowhere, each of them on a leaf that has had failures in this write. The pool keeps its blocks and free
--- stripes.
+-- Some run of metaslab m fitted, but more columns landed nowhere than there are parity columns. The pool keeps its blocks and free stripes.
 pub record MissesIn (m : ℕ) (bytes : List ℕ) (columns : ℕ) (old new : State) : Type 0 where
   pub before : Metaslab
   pub after : Metaslab
@@ -199,12 +218,10 @@ pub record MissesIn (m : ℕ) (bytes : List ℕ) (columns : ℕ) (old new : Stat
   pub first : ℕ
   pub fitted : IsLowest before.free before.part.geometry.props.height (stripes_for before.part.geometry bytes) first
   pub missed : List ℕ
-  pub some : 1 ≤ columns
   pub count : columns ≡ length missed
-  pub ascending : IsStrictlyIncreasing missed
-  pub in_range : All (λ i. i < before.part.geometry.g) missed
-  pub each : All (LeafRose before.part first before.faults after.faults) missed
-  pub harm : WritesHarm first (stripes_for before.part.geometry bytes) ⊥ before after
+  pub many : before.part.geometry.spec.parity < columns
+  pub lands : LandsBut first missed before after
+  pub harm : WritesHarm first (stripes_for before.part.geometry bytes) before after
   pub changes : new.changes ≡ old.changes
   pub seq : new.seq ≡ old.seq + 1
 
@@ -243,7 +260,8 @@ pub record IsLost (object absent tried : ℕ) (old new : State) : Type 0 where
   pub count : absent ≡ length missing
   pub each : All (LeafRose before.part write.first before.faults after.faults) missing
   pub sets : tried ≡ length (solve_order before.part.geometry.spec.parity before.part.geometry.g missing)
-  pub bad : MatchOption before.harm ⊤ (λ x. MoreBad before.part x write.first (stripes_for before.part.geometry write.bytes) before.faults after.faults)
+  pub bad : MatchOption before.harm ⊤ (λ x. MoreBad before.part x (missed_in before write.first write.birth) write.first
+      (stripes_for before.part.geometry write.bytes) before.faults after.faults)
 
 -- these are the bytes of as many objects, one after another
 abbrev pub AreLast : List Change → ℕ → List (List ℕ) → Type 0
@@ -278,6 +296,7 @@ pub record Damages (leaf sector : ℕ) (old new : State) : Type 0 where
   pub after : Metaslab
   pub one : MovesOne (sector / part_sectors old.geometry) before after old new
   pub keeps : Keeps before after
+  pub logs : after.logs ≡ before.logs
   pub harm : HarmBoth before.harm after.harm (λ x y. (l s : ℕ) → y l s ≡ put leaf (sector % part_sectors old.geometry) true x l s)
   pub changes : new.changes ≡ old.changes
   pub seq : new.seq ≡ old.seq

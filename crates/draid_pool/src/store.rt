@@ -1,8 +1,9 @@
 ghost use Rattle.std.specs.Prelude.{◌≡◌, ◌<◌, ◌≤◌, ◌^◌, ℕ, List};
 ghost use Rattle.draid_block.specs.Blocks.{cut_of};
-ghost use Rattle.draid_pool.specs.Store.{BlockAnswers, FreesBlock, HasRoom, IsLiveIn, MissedSome, StoreAnswers};
+ghost use Rattle.draid_pool.specs.Store.{BlockAnswers, EntersOne, FreesBlock, HasRoom, IsLiveIn, MissedSome, StoreAnswers};
 ghost use Rattle.draid_shard.specs.Columns.{EndsHarm, TellsBoth};
-ghost use Rattle.draid_shard.specs.Shard.{Carries, HoldsBlock, IsLive, KeepsBlocks, NoneFalls, SameLive, Valid, free_of, held_of, part_of};
+ghost use Rattle.draid_shard.specs.Entry.{open_group};
+ghost use Rattle.draid_shard.specs.Shard.{Carries, HoldsBlock, IsLive, IsUnused, KeepsBlocks, NoneFalls, NoneMore, SameLive, Valid, free_of, held_of, logs_of, missed_of, part_of};
 
 use crate::fault::ObjectFault;
 use draid_block::{Encoded, SolveFault, solve_block};
@@ -10,6 +11,9 @@ use draid_names::Pointer;
 use draid_rack::Rack;
 use draid_shard::{BeginFault, FetchFault, Missed, Shard, Ticket};
 use std::alloc::Global;
+
+/// The floor of a block's birth and of its freeing while no group was closed: both fall into the open group.
+const NO_FLOOR: u64 = 0;
 
 /// Why a block wasn't stored.
 #[derive(Clone, Copy, Debug, PartialEq, Eq)]
@@ -24,19 +28,20 @@ fn put_all<R: Rack>(shard: &mut Shard<R>, ticket: &mut Ticket, block: &Encoded)
     requires valid { Valid R.shape shard.old }
     requires carries { Carries R.told shard.old ticket.old block.now }
     requires fresh { (ticket.old.next ≡ 0) × (ticket.old.missed ≡ 0) }
+    requires born { ticket.old.pointer.birth ≡ open_group }
     ensures valid { Valid R.shape shard.new }
     ensures part { part_of shard.new ≡ part_of shard.old }
     ensures carries { Carries R.told shard.new ticket.new block.now }
     ensures all { ticket.new.next ≡ shard.old.geometry.g }
     ensures pointer { ticket.new.pointer ≡ ticket.old.pointer }
-    ensures missed { MissedSome (part_of shard.old) ticket.old.pointer.first (R.faults shard.old.rack) (R.faults shard.new.rack)
-        shard.old.geometry.g ticket.new.missed }
+    ensures missed { MissedSome R.faults shard.old shard.new ticket.old.pointer.first open_group shard.old.geometry.g ticket.new.missed }
     ensures harm { TellsBoth (R.told shard.old.rack) (R.told shard.new.rack) (λ x y.
         EndsHarm (part_of shard.old) ticket.old.pointer.first ticket.old.pointer.stripes (λ i. i < shard.old.geometry.g)
-        (ticket.new.missed ≡ 0) x.harmed y.harmed) }
+        (missed_of shard.new ticket.old.pointer) x.harmed y.harmed) }
     ensures later { NoneFalls (R.faults shard.old.rack) (R.faults shard.new.rack) }
     ensures free { free_of shard.new ≡ free_of shard.old }
     ensures held { held_of shard.new ≡ held_of shard.old }
+    ensures none_more { NoneMore shard.old shard.new }
     ensures same { SameLive shard.old shard.new }
     ensures kept { KeepsBlocks R.told shard.old shard.new }
 {
@@ -56,15 +61,17 @@ pub(crate) fn store<R: Rack>(
     requires object { object < 2 ^ 32 }
     requires first { 1 ≤ seq }
     requires last { seq < 2 ^ 48 }
+    requires unused { IsUnused shard.old object seq }
     requires cut { block.now.cut ≡ cut_of shard.old.geometry }
     requires room { HasRoom shard.old block.now.bytes }
     ensures valid { Valid R.shape shard.new }
     ensures part { part_of shard.new ≡ part_of shard.old }
     ensures answer { StoreAnswers R.told R.faults object block.now.bytes shard.old shard.new result }
+    ensures entered { EntersOne seq shard.old shard.new }
     ensures later { NoneFalls (R.faults shard.old.rack) (R.faults shard.new.rack) }
     ensures kept { KeepsBlocks R.told shard.old shard.new }
 {
-    let mut ticket = match shard.begin(object, seq, block) {
+    let mut ticket = match shard.begin(object, seq, block, NO_FLOOR) {
         Ok(ticket) => ticket,
         Err(BeginFault::NoRoom { .. }) => unreachable!(),
         Err(BeginFault::Entries { .. }) => unreachable!(),
@@ -88,8 +95,10 @@ pub(crate) fn read_block<R: Rack>(
     ensures valid { Valid R.shape shard.new }
     ensures part { part_of shard.new ≡ part_of shard.old }
     ensures answer { (w : List ℕ) → HoldsBlock R.told shard.old pointer.now w
-        → BlockAnswers (part_of shard.old) pointer.now w (R.told shard.old.rack) (R.faults shard.old.rack) (R.faults shard.new.rack) result }
+        → BlockAnswers (part_of shard.old) (missed_of shard.old pointer.now) pointer.now w (R.told shard.old.rack) (R.faults shard.old.rack) (R.faults shard.new.rack) result }
     ensures told { R.told shard.new.rack ≡ R.told shard.old.rack }
+    ensures logs { logs_of shard.new ≡ logs_of shard.old }
+    ensures none_more { NoneMore shard.old shard.new }
     ensures free { free_of shard.new ≡ free_of shard.old }
     ensures held { held_of shard.new ≡ held_of shard.old }
     ensures same { SameLive shard.old shard.new }
@@ -115,7 +124,7 @@ pub(crate) fn free_block<R: Rack>(shards: &mut Vec<Shard<R>>, pointer: &Pointer)
     requires live { IsLiveIn R.shape shards.old.items pointer.now }
     ensures frees { FreesBlock R.shape R.told pointer.now shards.old.items shards.new.items }
 {
-    let Ok(_) = shards[pointer.metaslab as usize].free(pointer) else {
+    let Ok(_) = shards[pointer.metaslab as usize].free(pointer, NO_FLOOR) else {
         unreachable!()
     };
 }
