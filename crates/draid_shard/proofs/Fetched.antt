@@ -19,7 +19,7 @@ use Rattle.draid_block.proofs.Complete.{absent_is, absent_within}
 use Rattle.draid_block.proofs.Sets.{ascending-push}
 use Rattle.draid_shard.specs.Part.{Part, at_place}
 use Rattle.draid_shard.specs.Columns.{AbsentRose, AreLong, AreRead, ColumnStands, ColumnsStand, IsBad, LeafRose, MoreBad, sector_of}
-use Rattle.draid_shard.specs.Entry.{IsSized}
+use Rattle.draid_shard.specs.Entry.{IsBlock}
 
 abbrev Columns : Type 0
 Columns = List (Option (Vec ℕ Global))
@@ -103,41 +103,46 @@ no_row f (suc n) is j lt = at (no_row f n) (any_row f n) (f n) refl refl is wher
     | inr same ↦ (let e : j ≡ n = omega arith in rw e last)
   ]
 
--- a column is absent, or one of its sectors is harmed
-is_bad : Part → Told → ℕ → ℕ → Columns → ℕ → Bool
-is_bad part x first stripes columns i = is_none (get_or columns i None) || any_row (λ j. at_place part x.harmed (first + j) i) stripes
+-- a column is absent or missed, or one of its sectors is harmed
+is_bad : Part → Told → (ℕ → Bool) → ℕ → ℕ → Columns → ℕ → Bool
+is_bad part x missed first stripes columns i = is_none (get_or columns i None) || (missed i || any_row (λ j. at_place part x.harmed (first + j) i) stripes)
 
-bad_cause : (part : Part) (x : Told) (first stripes : ℕ) (columns : Columns) (old new : Option ℕ → ℕ) → AbsentRose part first columns old new → (i : ℕ) → i < length columns
-    → is_bad part x first stripes columns i ≡ true → IsBad part x.harmed first stripes old new i
+bad_cause : (part : Part) (x : Told) (missed : ℕ → Bool) (first stripes : ℕ) (columns : Columns) (old new : Option ℕ → ℕ) → AbsentRose part first columns old new → (i : ℕ) → i < length columns
+    → is_bad part x missed first stripes columns i ≡ true → IsBad part x.harmed missed first stripes old new i
 unfolding is_bad
-bad_cause part x first stripes columns old new absent i lt is = at (get_or columns i None) (any_row (λ j. at_place part x.harmed (first + j) i) stripes) refl refl is where
-  at : (o : Option (Vec ℕ Global)) (b : Bool) → get_or columns i None ≡ o → any_row (λ j. at_place part x.harmed (first + j) i) stripes ≡ b → (is_none o || b) ≡ true
-      → IsBad part x.harmed first stripes old new i
-  at None b none rows either = inl (absent i (slice_get-get_or columns i None lt ∙ ap Some none))
-  at (Some c) true there rows either = inr (some_row (λ j. at_place part x.harmed (first + j) i) stripes rows)
-  at (Some c) false there rows either = absurd (cc)
+bad_cause part x missed first stripes columns old new absent i lt is = at (get_or columns i None) (missed i) (any_row (λ j. at_place part x.harmed (first + j) i) stripes) refl refl refl is where
+  at : (o : Option (Vec ℕ Global)) (m b : Bool) → get_or columns i None ≡ o → missed i ≡ m → any_row (λ j. at_place part x.harmed (first + j) i) stripes ≡ b → (is_none o || (m || b)) ≡ true
+      → IsBad part x.harmed missed first stripes old new i
+  at None m b none out rows either = inl (absent i (slice_get-get_or columns i None lt ∙ ap Some none))
+  at (Some c) true b there out rows either = inr (inl out)
+  at (Some c) false true there out rows either = inr (inr (some_row (λ j. at_place part x.harmed (first + j) i) stripes rows))
+  at (Some c) false false there out rows either = absurd (cc)
 
--- a column that isn't bad is there, and none of its sectors is harmed
-pub record IsGood (part : Part) (x : Told) (first stripes : ℕ) (columns : Columns) (i : ℕ) : Type 0 where
+-- a column that isn't bad is there and isn't missed, and none of its sectors is harmed
+pub record IsGood (part : Part) (x : Told) (missed : ℕ → Bool) (first stripes : ℕ) (columns : Columns) (i : ℕ) : Type 0 where
   pub column : Vec ℕ Global
   pub there : slice_get columns i ≡ Some (Some column)
+  pub landed : missed i ≡ false
   pub whole : (j : ℕ) → j < stripes → at_place part x.harmed (first + j) i ≡ false
 
-good : (part : Part) (x : Told) (first stripes : ℕ) (columns : Columns) (i : ℕ) → i < length columns → is_bad part x first stripes columns i ≡ false → IsGood part x first stripes columns i
+good : (part : Part) (x : Told) (missed : ℕ → Bool) (first stripes : ℕ) (columns : Columns) (i : ℕ) → i < length columns → is_bad part x missed first stripes columns i ≡ false
+    → IsGood part x missed first stripes columns i
 unfolding is_bad
-good part x first stripes columns i lt is = at (get_or columns i None) (any_row (λ j. at_place part x.harmed (first + j) i) stripes) refl refl is where
-  at : (o : Option (Vec ℕ Global)) (b : Bool) → get_or columns i None ≡ o → any_row (λ j. at_place part x.harmed (first + j) i) stripes ≡ b → (is_none o || b) ≡ false
-      → IsGood part x first stripes columns i
-  at None b none rows either = absurd (cc)
-  at (Some c) true there rows either = absurd (cc)
-  at (Some c) false there rows either = record {
+good part x missed first stripes columns i lt is = at (get_or columns i None) (missed i) (any_row (λ j. at_place part x.harmed (first + j) i) stripes) refl refl refl is where
+  at : (o : Option (Vec ℕ Global)) (m b : Bool) → get_or columns i None ≡ o → missed i ≡ m → any_row (λ j. at_place part x.harmed (first + j) i) stripes ≡ b → (is_none o || (m || b)) ≡ false
+      → IsGood part x missed first stripes columns i
+  at None m b none out rows either = absurd (cc)
+  at (Some c) true b there out rows either = absurd (cc)
+  at (Some c) false true there out rows either = absurd (cc)
+  at (Some c) false false there out rows either = record {
     column = c;
     there = slice_get-get_or columns i None lt ∙ ap Some there;
+    landed = out;
     whole = no_row (λ j. at_place part x.harmed (first + j) i) stripes rows;
   }
 
 -- ---- what was fetched
-pub is_fetched : (geometry : Geometry) (fetched : Fetched) → IsGeometry geometry → IsSized geometry fetched.pointer → length fetched.columns.items ≡ geometry.g
+pub is_fetched : (geometry : Geometry) (fetched : Fetched) → IsGeometry geometry → IsBlock geometry fetched.pointer → length fetched.columns.items ≡ geometry.g
     → AreLong fetched.columns.items (fetched.pointer.stripes * geometry.props.sector) → IsFetched (cut_of geometry) fetched
 unfolding column_len
 is_fetched geometry fetched is sized count long = record {
@@ -154,21 +159,21 @@ all_absent part first columns old new absent k d below =
     let found : Contains (absent_columns columns) i = Contains-get_or (absent_columns columns) k d below in
     absent i (slice_get-get_or columns i None (absent_within columns (length columns) i found) ∙ ap Some (absent_is columns (length columns) i found))
 
-readable : (part : Part) (x : Told) (fetched : Fetched) (w : List ℕ) (whole : List (List ℕ)) (old new : Option ℕ → ℕ) → IsGeometry part.geometry → IsSized part.geometry fetched.pointer
+readable : (part : Part) (x : Told) (missed : ℕ → Bool) (fetched : Fetched) (w : List ℕ) (whole : List (List ℕ)) (old new : Option ℕ → ℕ) → IsGeometry part.geometry → IsBlock part.geometry fetched.pointer
     → length fetched.columns.items ≡ part.geometry.g → AreLong fetched.columns.items (fetched.pointer.stripes * part.geometry.props.sector)
     → AreRead part x fetched.pointer.first fetched.pointer.stripes fetched.columns.items → AbsentRose part fetched.pointer.first fetched.columns.items old new
     → IsContent fetched.pointer w → AreColumns (cut_of part.geometry) w whole
-    → ColumnsStand part x fetched.pointer.first fetched.pointer.stripes whole part.geometry.g
-    → ((bad : List ℕ) × IsReadable (cut_of part.geometry) fetched w bad) ⊎ MoreBad part x.harmed fetched.pointer.first fetched.pointer.stripes old new
+    → ColumnsStand part x missed fetched.pointer.first fetched.pointer.stripes whole part.geometry.g
+    → ((bad : List ℕ) × IsReadable (cut_of part.geometry) fetched w bad) ⊎ MoreBad part x.harmed missed fetched.pointer.first fetched.pointer.stripes old new
 unfolding column_len
-readable part x fetched w whole old new is sized count long read absent content are stand =
+readable part x missed fetched w whole old new is sized count long read absent content are stand =
     elim (cases_lt part.geometry.spec.parity (length bad)) [
       | inl many ↦ inr (record {
         bad = bad;
         ascending = passing_increasing test part.geometry.g;
         in_range = all_passing test (λ i. i < part.geometry.g) part.geometry.g (λ i lt passes. lt);
-        each = all_passing test (IsBad part x.harmed fetched.pointer.first fetched.pointer.stripes old new) part.geometry.g
-            (λ i lt passes. bad_cause part x fetched.pointer.first fetched.pointer.stripes fetched.columns.items old new absent i (omega (arith, lt, count)) passes);
+        each = all_passing test (IsBad part x.harmed missed fetched.pointer.first fetched.pointer.stripes old new) part.geometry.g
+            (λ i lt passes. bad_cause part x missed fetched.pointer.first fetched.pointer.stripes fetched.columns.items old new absent i (omega (arith, lt, count)) passes);
         many = many;
       })
       | inr few ↦ inl (
@@ -186,7 +191,7 @@ readable part x fetched w whole old new is sized count long read absent content 
     ]
   where
     test : ℕ → Bool
-    test i = is_bad part x fetched.pointer.first fetched.pointer.stripes fetched.columns.items i
+    test i = is_bad part x missed fetched.pointer.first fetched.pointer.stripes fetched.columns.items i
 
     bad : List ℕ
     bad = passing test part.geometry.g
@@ -202,19 +207,19 @@ readable part x fetched w whole old new is sized count long read absent content 
       by_test : (b : Bool) → test i ≡ b → (c : Vec ℕ Global) × (slice_get fetched.columns.items i ≡ Some (Some c)) × (c.items ≡ column_at whole i)
       by_test true passes = absurd (out (has_passing test part.geometry.g i lt passes))
       by_test false fails =
-          let it = good part x fetched.pointer.first fetched.pointer.stripes fetched.columns.items i (omega (arith, lt, count)) fails in (
+          let it = good part x missed fetched.pointer.first fetched.pointer.stripes fetched.columns.items i (omega (arith, lt, count)) fails in (
             it.column,
             it.there,
             column_read part x fetched.pointer.first fetched.pointer.stripes i it.column.items (column_at whole i) (long i it.column it.there) (length_is i lt)
-                (read i it.column it.there) it.whole (stand i lt),
+                (read i it.column it.there) it.whole (stand i lt it.landed),
           )
 
-pub told_readable : (told : Option Told) (part : Part) (fetched : Fetched) (w : List ℕ) (whole : List (List ℕ)) (old new : Option ℕ → ℕ) → IsGeometry part.geometry → IsSized part.geometry fetched.pointer
+pub told_readable : (told : Option Told) (part : Part) (missed : ℕ → Bool) (fetched : Fetched) (w : List ℕ) (whole : List (List ℕ)) (old new : Option ℕ → ℕ) → IsGeometry part.geometry → IsBlock part.geometry fetched.pointer
     → length fetched.columns.items ≡ part.geometry.g → AreLong fetched.columns.items (fetched.pointer.stripes * part.geometry.props.sector)
     → OnTold told (λ x. AreRead part x fetched.pointer.first fetched.pointer.stripes fetched.columns.items) → AbsentRose part fetched.pointer.first fetched.columns.items old new
     → IsContent fetched.pointer w → AreColumns (cut_of part.geometry) w whole
-    → OnTold told (λ x. ColumnsStand part x fetched.pointer.first fetched.pointer.stripes whole part.geometry.g)
-    → OnTold told (λ x. ((bad : List ℕ) × IsReadable (cut_of part.geometry) fetched w bad) ⊎ MoreBad part x.harmed fetched.pointer.first fetched.pointer.stripes old new)
-told_readable None part fetched w whole old new is sized count long read absent content are stand = tt
-told_readable (Some x) part fetched w whole old new is sized count long read absent content are stand =
-    readable part x fetched w whole old new is sized count long read absent content are stand
+    → OnTold told (λ x. ColumnsStand part x missed fetched.pointer.first fetched.pointer.stripes whole part.geometry.g)
+    → OnTold told (λ x. ((bad : List ℕ) × IsReadable (cut_of part.geometry) fetched w bad) ⊎ MoreBad part x.harmed missed fetched.pointer.first fetched.pointer.stripes old new)
+told_readable None part missed fetched w whole old new is sized count long read absent content are stand = tt
+told_readable (Some x) part missed fetched w whole old new is sized count long read absent content are stand =
+    readable part x missed fetched w whole old new is sized count long read absent content are stand

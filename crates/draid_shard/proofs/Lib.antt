@@ -6,3 +6,6 @@ pub mod Read
 pub mod Stand
 pub mod Tables
 pub mod Written
+pub mod Logs
+pub mod Held
+pub mod Events

@@ -13,7 +13,7 @@ use Rattle.draid_shard.specs.Part.{IsPart, Part, place_in}
 abbrev pub in_pool : Part → ℕ → ℕ
 in_pool part k = part.number * part_stripes part.geometry + k
 
-some_height : (part : Part) → IsPart part → 0 < part.geometry.props.height
+pub some_height : (part : Part) → IsPart part → 0 < part.geometry.props.height
 some_height part is = let least : 8 ≤ part.geometry.props.height = is.layout.geometry_is.props.least_height in omega arith
 
 pub pool_stripe : (part : Part) (k : ℕ) → IsPart part → k < part_stripes part.geometry → in_pool part k < stripes_of part.geometry

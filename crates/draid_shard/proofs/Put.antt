@@ -12,12 +12,12 @@ use Rattle.draid_block.specs.Columns.{Cut, stripes_of}
 use Rattle.draid_block.specs.Blocks.{column_len, cut_of}
 use Rattle.draid_parity.specs.Columns.{column_at}
 use Rattle.draid_shard.specs.declared.entry.Entry.{Entry}
-use Rattle.draid_shard.specs.declared.entry.Stage.TheVariants.{Writing, Live, Freed}
+use Rattle.draid_machine.specs.declared.names.Stage.TheVariants.{Writing, Live, Freed}
 use Rattle.draid_shard.specs.declared.ticket.Ticket.{Ticket}
 use Rattle.draid_shard.specs.Part.{IsPart, IsRun, Part, place_in}
-use Rattle.draid_shard.specs.Columns.{ColumnsStand, SparesOthers, TellsBoth, WritesRows}
+use Rattle.draid_shard.specs.Columns.{ColumnsStand, SparesOthers, TellsBoth, Writes, WritesRows}
 use Rattle.draid_shard.specs.Entry.{Tables, entry_at, live, opened}
-use Rattle.draid_shard.proofs.Stand.{SparesColumn, Writes, stand_more, stand_on, told_on, told_puts, told_spares}
+use Rattle.draid_shard.proofs.Stand.{IsGrown, SparesColumn, stand_on, told_on, told_spares}
 use Rattle.draid_shard.proofs.Tables.{entries_apart}
 
 -- the length of the column that is put
@@ -25,18 +25,6 @@ pub column_long : (geometry : Geometry) (cut : Cut) (pointer : Pointer) (bytes l
     → bytes ≡ pointer.len → rows ≡ pointer.stripes → long ≡ column_len cut bytes → long ≡ rows * geometry.props.sector
 unfolding column_len
 column_long geometry cut pointer bytes long rows same stripes len n is = is ∙ rw (same, len, n, stripes) refl
-
--- what became of the ticket's numbers
-pub record Counted (r : Result Unit Failed) (old new : Ticket) : Type 0 where
-  pub pointer : new.pointer ≡ old.pointer
-  pub next : new.next ≡ old.next
-  pub missed : ((new.missed ≡ old.missed) × (is_ok r ≡ true)) ⊎ (new.missed ≡ old.missed + 1)
-
-pub landed : (r : Result Unit Failed) (old new : Ticket) → Counted r old new → new.missed ≡ old.missed → is_ok r ≡ true
-landed r old new c same = elim c.missed [ inl both ↦ both.1 | inr more ↦ absurd (omega (arith, more, same)) ]
-
-pub none_missed : (r : Result Unit Failed) (old new : Ticket) → Counted r old new → new.missed ≡ 0 → (old.missed ≡ 0) × (is_ok r ≡ true)
-none_missed r old new c zero = elim c.missed [ inl both ↦ (sym both.0 ∙ zero, both.1) | inr more ↦ absurd (omega (arith, more, zero)) ]
 
 -- the block of another entry has other stripes
 pub others_apart : (geometry : Geometry) (space : Stripes) (blocks : BTreeMap ℕ Entry) (at k : ℕ) (own e : Entry) → Tables geometry space blocks → entry_at blocks at ≡ Some own
@@ -47,8 +35,8 @@ others_apart geometry space blocks at k own e t ho he other j m in_own in_other 
 ]
 
 -- a live block isn't an open write
-pub live_elsewhere : (blocks : BTreeMap ℕ Entry) (own other : Pointer) → entry_at blocks own.first ≡ Some (opened own) → entry_at blocks other.first ≡ Some (live other)
-    → other.first ≡ own.first → ⊥
+pub live_elsewhere : (blocks : BTreeMap ℕ Entry) (own : Ticket) (other : Pointer) → entry_at blocks own.pointer.first ≡ Some (opened own) → entry_at blocks other.first ≡ Some (live other)
+    → other.first ≡ own.pointer.first → ⊥
 live_elsewhere blocks own other o l same =
     let both : Some (opened own) ≡ Some (live other) = sym o ∙ ap (entry_at blocks) (sym same) ∙ l in
     let flag : true ≡ false = ap is_open_of both in
@@ -56,25 +44,17 @@ live_elsewhere blocks own other o l same =
   where
     is_open_of : Option Entry → Bool
     is_open_of None = false
-    is_open_of (Some e) = elim e.stage as (λ s. Bool) [ Writing ↦ true | Live ↦ false | Freed g ↦ false ]
+    is_open_of (Some e) = elim e.stage as (λ s. Bool) [ Writing c m ↦ true | Live ↦ false | Freed g ↦ false ]
 
 -- what stood of other blocks stands
-pub told_stand : (part : Part) (first stripes i at rows : ℕ) (columns : List (List ℕ)) (count : ℕ) (column : List ℕ) (r : Result Unit Failed) (o p : Option Told)
-    → Writes part first stripes i column r o p → count ≤ part.geometry.g
+pub told_stand : (part : Part) (first stripes i at rows : ℕ) (columns : List (List ℕ)) (count : ℕ) (column : List ℕ) (r : Result Unit Failed) (o p : Option Told) (old new : ℕ → Bool)
+    → Writes part first stripes i column r o p → count ≤ part.geometry.g → IsGrown old new
     → ((j m : ℕ) → j < stripes → m < rows → at + m ≡ first + j → ⊥)
-    → OnTold o (λ x. ColumnsStand part x at rows columns count) → OnTold p (λ y. ColumnsStand part y at rows columns count)
-told_stand part first stripes i at rows columns count column r o p w few away =
-    told_on o p (SparesColumn part first stripes i) (λ x. ColumnsStand part x at rows columns count) (λ y. ColumnsStand part y at rows columns count)
-    (λ x y spares stands. stand_on part first stripes i at rows columns count x y w.is w.below few (λ j m a in_run in_rows lt same own. away j m in_run in_rows same) spares stands)
+    → OnTold o (λ x. ColumnsStand part x old at rows columns count) → OnTold p (λ y. ColumnsStand part y new at rows columns count)
+told_stand part first stripes i at rows columns count column r o p old new w few grown away =
+    told_on o p (SparesColumn part first stripes i) (λ x. ColumnsStand part x old at rows columns count) (λ y. ColumnsStand part y new at rows columns count)
+    (λ x y spares stands. stand_on part first stripes i at rows columns count old new x y w.is w.below few grown (λ j m a in_run in_rows lt same own. away j m in_run in_rows same) spares stands)
     (told_spares part first stripes i column r o p w)
-
--- and the columns of the open write, with the one that was put
-pub told_more : (part : Part) (first stripes i : ℕ) (columns : List (List ℕ)) (r : Result Unit Failed) (o p : Option Told) → Writes part first stripes i (column_at columns i) r o p → is_ok r ≡ true
-    → OnTold o (λ x. ColumnsStand part x first stripes columns i) → OnTold p (λ y. ColumnsStand part y first stripes columns (i + 1))
-told_more part first stripes i columns r o p w ok =
-    told_on o p _ (λ x. ColumnsStand part x first stripes columns i) (λ y. ColumnsStand part y first stripes columns (i + 1))
-    (λ x y h stands. stand_more part first stripes i columns x y w.is w.below h.spares h.puts stands)
-    (told_puts part first stripes i (column_at columns i) r o p w ok)
 
 -- the code's write is that of the column at its place
 pub writes_are : (part : Part) (first stripes i : ℕ) (column given : List ℕ) (leaf sector rows : ℕ) (r : Result Unit Failed) (o p : Option Told)

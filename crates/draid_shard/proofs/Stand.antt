@@ -1,5 +1,5 @@
 -- What stands where a column of a block is written, and everywhere else.
-use Rattle.std.proofs.Common.{◌≡◌, ◌+◌, ◌-◌, ◌*◌, ◌<◌, ◌≤◌, ◌^◌, ◌==◌, ◌&&◌, ◌∙◌, ℕ, List, Bool, true, false, Option, Some, None, arith, refl, sym, ap₂, inl, inr, subst}
+use Rattle.std.proofs.Common.{◌≡◌, ◌+◌, ◌-◌, ◌*◌, ◌<◌, ◌≤◌, ◌^◌, ◌==◌, ◌&&◌, ◌∙◌, ℕ, List, Bool, true, false, Option, Some, None, arith, refl, sym, ap, ap₂, inl, inr, subst}
 use Rattle.std.specs.Prelude.{Result, Ok, Err, OnOk, OnErr}
 use Rattle.std.specs.Result.{is_ok}
 use Rattle.std.proofs.Math.Nat.{mul-le-mul}
@@ -13,7 +13,7 @@ use Rattle.draid_map.specs.Place.{part_sectors, part_stripes}
 use Rattle.draid_rack.specs.Rack.{HasJust, OnTold, Shape, Told}
 use Rattle.draid_parity.specs.Columns.{column_at}
 use Rattle.draid_shard.specs.Part.{IsPart, IsRun, Part, at_place, place_in}
-use Rattle.draid_shard.specs.Columns.{ColumnStands, ColumnsStand, EndsHarm, HasRun, IsElsewhere, IsWhole, SparesOthers, TellsBoth, WritesRows, in_run, sector_of}
+use Rattle.draid_shard.specs.Columns.{ColumnStands, ColumnsStand, EndsHarm, HasRun, IsElsewhere, IsWhole, SparesOthers, TellsBoth, Writes, WritesRows, in_run, sector_of}
 use Rattle.draid_shard.proofs.Places.{apart, child_there, follows, sector_below}
 
 -- ---- the run of a column on its leaf
@@ -123,26 +123,31 @@ elsewhere part first stripes i k a is below in_group apart_from j b lt same chil
     place_same : (p q : Place) → p.child ≡ q.child → p.sector ≡ q.sector → p ≡ q
     place_same p q c s = ap₂ place c s
 
+-- no column that isn't missed now was missed before
+abbrev pub IsGrown : (ℕ → Bool) → (ℕ → Bool) → Type 0
+IsGrown old new = (a : ℕ) → new a ≡ false → old a ≡ false
+
 -- columns that stood stand, where none of their sectors was written
-pub stand_on : (part : Part) (first stripes i at rows : ℕ) (columns : List (List ℕ)) (count : ℕ) (x y : Told) → IsPart part → i < part.geometry.g → count ≤ part.geometry.g
-    → ((j k a : ℕ) → j < stripes → k < rows → a < count → at + k ≡ first + j → a ≡ i → ⊥)
-    → SparesColumn part first stripes i x y → ColumnsStand part x at rows columns count → ColumnsStand part y at rows columns count
-stand_on part first stripes i at rows columns count x y is below few apart_from spares stands a lt k in_rows whole =
+pub stand_on : (part : Part) (first stripes i at rows : ℕ) (columns : List (List ℕ)) (count : ℕ) (m n : ℕ → Bool) (x y : Told) → IsPart part → i < part.geometry.g → count ≤ part.geometry.g
+    → IsGrown m n → ((j k a : ℕ) → j < stripes → k < rows → a < count → at + k ≡ first + j → a ≡ i → ⊥)
+    → SparesColumn part first stripes i x y → ColumnsStand part x m at rows columns count → ColumnsStand part y n at rows columns count
+stand_on part first stripes i at rows columns count m n x y is below few grown apart_from spares stands a lt out k in_rows whole =
     let away = elsewhere part first stripes i (at + k) a is below (omega (arith, few, lt)) (λ j in_run same own. apart_from j k a in_run in_rows lt same own) in
     let was : at_place part x.harmed (at + k) a ≡ false = sym (spares.harmed (place_in part (at + k) a).child (place_in part (at + k) a).sector away) ∙ whole in
-    spares.reads (place_in part (at + k) a).child (place_in part (at + k) a).sector away ∙ stands a lt k in_rows was
+    spares.reads (place_in part (at + k) a).child (place_in part (at + k) a).sector away ∙ stands a lt (grown a out) k in_rows was
 
--- and the column that was written stands too
-pub stand_more : (part : Part) (first stripes i : ℕ) (columns : List (List ℕ)) (x y : Told) → IsPart part → i < part.geometry.g
-    → SparesColumn part first stripes i x y → PutsColumn part first stripes i (column_at columns i) y → ColumnsStand part x first stripes columns i
-    → ColumnsStand part y first stripes columns (i + 1)
-stand_more part first stripes i columns x y is below spares puts stands a lt = elim (cases_lt a i) [
+-- and the column that was written stands too, unless it is missed
+pub stand_more : (part : Part) (first stripes i : ℕ) (columns : List (List ℕ)) (m n : ℕ → Bool) (x y : Told) → IsPart part → i < part.geometry.g → IsGrown m n
+    → SparesColumn part first stripes i x y → (n i ≡ false → PutsColumn part first stripes i (column_at columns i) y) → ColumnsStand part x m first stripes columns i
+    → ColumnsStand part y n first stripes columns (i + 1)
+stand_more part first stripes i columns m n x y is below grown spares puts stands a lt out = elim (cases_lt a i) [
   | inl lower ↦
-      stand_on part first stripes i first stripes columns i x y is below (omega arith) (λ j k b in_run in_rows b_lt same own. omega (arith, b_lt, own)) spares stands a lower
-  | inr same ↦ (let e : a ≡ i = omega arith in last a e)
+      stand_on part first stripes i first stripes columns i m n x y is below (omega arith) grown (λ j k b in_run in_rows b_lt same own. omega (arith, b_lt, own)) spares stands a lower out
+  | inr same ↦ (let e : a ≡ i = omega arith in last a e out)
 ] where
-  last : (a : ℕ) → a ≡ i → ColumnStands part y first stripes a (column_at columns a)
-  last a e j in_run whole = subst (λ b. at_place part y.reads (first + j) b ≡ Some (sector_of part.geometry.props.sector (column_at columns b) j)) (sym e) (puts.reads j in_run)
+  last : (a : ℕ) → a ≡ i → n a ≡ false → ColumnStands part y first stripes a (column_at columns a)
+  last a e out j in_run whole =
+      subst (λ b. at_place part y.reads (first + j) b ≡ Some (sector_of part.geometry.props.sector (column_at columns b) j)) (sym e) ((puts (ap n (sym e) ∙ out)).reads j in_run)
 
 -- ---- what is told
 told_both : (o p : Option Told) (P Q : Told → Told → Type 0) → ((x y : Told) → P x y → Q x y) → TellsBoth o p P → TellsBoth o p Q
@@ -175,17 +180,34 @@ told_puts part first stripes i column (Ok done) o p w ok = told_both o p _ (Puts
   puts = puts_column part first stripes i column x y w.is w.run w.below h;
 }) w.ok
 
-ends : (part : Part) (first stripes i : ℕ) (same : Type 0) (x y : Told) → SparesColumn part first stripes i x y → (same → IsWhole part y.harmed first stripes i)
-    → EndsHarm part first stripes (λ a. a ≡ i) same x.harmed y.harmed
-ends part first stripes i same x y spares whole = record {
-  ended = λ s a own. subst (λ (b : ℕ). IsWhole part y.harmed first stripes b) (sym own) (whole s);
+ends : (part : Part) (first stripes i : ℕ) (n : ℕ → Bool) (x y : Told) → SparesColumn part first stripes i x y → (n i ≡ false → IsWhole part y.harmed first stripes i)
+    → EndsHarm part first stripes (λ a. a ≡ i) n x.harmed y.harmed
+ends part first stripes i n x y spares whole = record {
+  ended = λ a own out. subst (λ (b : ℕ). IsWhole part y.harmed first stripes b) (sym own) (whole (ap n (sym own) ∙ out));
   fewer = spares.fewer;
   others = spares.harmed;
 }
 
-pub told_ends : (part : Part) (first stripes i : ℕ) (column : List ℕ) (r : Result Unit Failed) (o p : Option Told) (same : Type 0) → Writes part first stripes i column r o p
-    → (same → is_ok r ≡ true) → TellsBoth o p (λ x y. EndsHarm part first stripes (λ a. a ≡ i) same x.harmed y.harmed)
-told_ends part first stripes i column (Ok done) o p same w ok =
-    told_both o p _ _ (λ x y h. ends part first stripes i same x y h.spares (λ s. h.puts.whole)) (told_puts part first stripes i column (Ok done) o p w refl)
-told_ends part first stripes i column (Err e) o p same w ok =
-    told_both o p _ _ (λ x y h. ends part first stripes i same x y h (λ s. absurd (let b = ok s in cc))) (told_spares part first stripes i column (Err e) o p w)
+pub told_ends : (part : Part) (first stripes i : ℕ) (column : List ℕ) (r : Result Unit Failed) (o p : Option Told) (n : ℕ → Bool) → Writes part first stripes i column r o p
+    → (n i ≡ false → is_ok r ≡ true) → TellsBoth o p (λ x y. EndsHarm part first stripes (λ a. a ≡ i) n x.harmed y.harmed)
+told_ends part first stripes i column (Ok done) o p n w ok =
+    told_both o p _ _ (λ x y h. ends part first stripes i n x y h.spares (λ out. h.puts.whole)) (told_puts part first stripes i column (Ok done) o p w refl)
+told_ends part first stripes i column (Err e) o p n w ok =
+    told_both o p _ _ (λ x y h. ends part first stripes i n x y h (λ out. absurd (let b = ok out in cc))) (told_spares part first stripes i column (Err e) o p w)
+
+-- the columns put so far, with the one that was put now, unless it is missed
+more : (part : Part) (first stripes i : ℕ) (columns : List (List ℕ)) (r : Result Unit Failed) (o p : Option Told) (m n : ℕ → Bool) → Writes part first stripes i (column_at columns i) r o p
+    → IsGrown m n → (n i ≡ false → is_ok r ≡ true) → TellsBoth o p (λ x y. ColumnsStand part x m first stripes columns i → ColumnsStand part y n first stripes columns (i + 1))
+more part first stripes i columns (Ok done) o p m n w grown ok =
+    told_both o p _ _ (λ x y h. stand_more part first stripes i columns m n x y w.is w.below grown h.spares (λ out. h.puts))
+    (told_puts part first stripes i (column_at columns i) (Ok done) o p w refl)
+more part first stripes i columns (Err e) o p m n w grown ok =
+    told_both o p _ _ (λ x y h. stand_more part first stripes i columns m n x y w.is w.below grown h (λ out. absurd (let b = ok out in cc)))
+    (told_spares part first stripes i (column_at columns i) (Err e) o p w)
+
+pub told_more : (part : Part) (first stripes i : ℕ) (columns : List (List ℕ)) (r : Result Unit Failed) (o p : Option Told) (m n : ℕ → Bool) → Writes part first stripes i (column_at columns i) r o p
+    → IsGrown m n → (n i ≡ false → is_ok r ≡ true)
+    → OnTold o (λ x. ColumnsStand part x m first stripes columns i) → OnTold p (λ y. ColumnsStand part y n first stripes columns (i + 1))
+told_more part first stripes i columns r o p m n w grown ok =
+    told_on o p _ (λ x. ColumnsStand part x m first stripes columns i) (λ y. ColumnsStand part y n first stripes columns (i + 1)) (λ x y f stands. f stands)
+    (more part first stripes i columns r o p m n w grown ok)

@@ -16,8 +16,8 @@ use Rattle.draid_metaslab.specs.Spaces.{IsKept, Stripes, is_free}
 use Rattle.draid_metaslab.specs.Spots.{IsLowest, IsSpot}
 use Rattle.draid_shard.specs.declared.entry.Entry.{Entry}
 use Rattle.draid_shard.specs.Part.{IsRun}
-use Rattle.draid_shard.specs.declared.entry.Stage.{Stage}
-use Rattle.draid_shard.specs.Entry.{IsSized, IsPlaced, SetsEntry, Tables, entry_at, opened, staged}
+use Rattle.draid_machine.specs.declared.names.Stage.{Stage}
+use Rattle.draid_shard.specs.Entry.{HasStripe, IsBlock, IsPlaced, SetsEntry, Tables, begun, entry_at, staged}
 
 -- an entry is the one that was set, or one that was there elsewhere
 pub entry_cases : (old new : BTreeMap ℕ Entry) (at k : ℕ) (entry : Option Entry) (e : Entry) → SetsEntry old new at entry → entry_at new k ≡ Some e
@@ -119,7 +119,7 @@ none_at geometry space blocks first need t fits = by_cases (entry_at blocks firs
 -- an entry whose stripes are still taken
 moved : (geometry : Geometry) (old new : ℕ → Bool) (k : ℕ) (pointer : Pointer) → IsPlaced geometry old k pointer
     → ((x : ℕ) → k ≤ x → x < k + pointer.stripes → new x ≡ false) → IsPlaced geometry new k pointer
-moved geometry old new k pointer p held = record { first = p.first; some = p.some; inside = p.inside; group = p.group; held = held; sized = p.sized }
+moved geometry old new k pointer p held = record { first = p.first; some = p.some; inside = p.inside; group = p.group; held = held; is_block = p.is_block }
 
 -- the space as it was, or with another number of runs that are out
 pub record IsSpaceOf (geometry : Geometry) (space : Stripes) (runs : ℕ) : Type 0 where
@@ -134,6 +134,10 @@ pub space_of : (geometry : Geometry) (old new : Stripes) (blocks : BTreeMap ℕ 
 space_of geometry old new blocks runs t kept count few =
     record { height = kept.height ∙ t.height; total = kept.total ∙ t.total; enabled = kept.disabled ∙ t.enabled; count = count; few = few }
 
+-- a stripe whose entry is there still
+has_still : (old new : BTreeMap ℕ Entry) (x : ℕ) → ((k : ℕ) (e : Entry) → entry_at old k ≡ Some e → entry_at new k ≡ Some e) → HasStripe old x → HasStripe new x
+has_still old new x kept h = record { first = h.first; entry = h.entry; there = kept h.first h.entry h.there; from = h.from; to = h.to }
+
 -- no entry changed, and just the same stripes are free
 pub kept_tables : (geometry : Geometry) (old new : Stripes) (blocks new_blocks : BTreeMap ℕ Entry) → Tables geometry old blocks
     → ((k : ℕ) → entry_at new_blocks k ≡ entry_at blocks k) → ((x : ℕ) → is_free new x ≡ is_free old x)
@@ -146,34 +150,50 @@ kept_tables geometry old new blocks new_blocks t same free is = record {
   few = is.few;
   placed = λ k e h. let p = t.placed k e (sym (same k) ∙ h) in moved geometry (is_free old) (is_free new) k e.pointer p (λ x low high. free x ∙ p.held x low high);
   apart = λ j k a b ha hb lt. t.apart j k a b (sym (same j) ∙ ha) (sym (same k) ∙ hb) lt;
+  covered = λ x below taken. has_still blocks new_blocks x (λ k e h. same k ∙ h) (t.covered x below (sym (free x) ∙ taken));
 }
 
 pub held_tables : (geometry : Geometry) (old new : Stripes) (blocks new_blocks : BTreeMap ℕ Entry) (pointer : Pointer) → Tables geometry old blocks
-    → IsTaken geometry (is_free old) pointer.first pointer.stripes → IsSized geometry pointer
+    → IsTaken geometry (is_free old) pointer.first pointer.stripes → IsBlock geometry pointer
     → ((x : ℕ) → is_free new x ≡ (is_free old x && not (is_between pointer.first (pointer.first + pointer.stripes) x)))
-    → SetsEntry blocks new_blocks pointer.first (Some (opened pointer)) → IsSpaceOf geometry new (btree_map_len new_blocks) → Tables geometry new new_blocks
+    → SetsEntry blocks new_blocks pointer.first (Some (begun pointer)) → IsSpaceOf geometry new (btree_map_len new_blocks) → Tables geometry new new_blocks
 held_tables geometry old new blocks new_blocks pointer t fits sized takes sets is = record {
   height = is.height;
   total = is.total;
   enabled = is.enabled;
   count = is.count;
   few = is.few;
-  placed = λ k e h. elim (entry_cases blocks new_blocks pointer.first k (Some (opened pointer)) e sets h) [
+  placed = λ k e h. elim (entry_cases blocks new_blocks pointer.first k (Some (begun pointer)) e sets h) [
     | inl own ↦ own_placed k e own.0 own.1
     | inr other ↦ old_placed k e other.1
   ];
-  apart = λ j k a b ha hb lt. elim (entry_cases blocks new_blocks pointer.first j (Some (opened pointer)) a sets ha) [
-    | inl own ↦ elim (entry_cases blocks new_blocks pointer.first k (Some (opened pointer)) b sets hb) [
+  apart = λ j k a b ha hb lt. elim (entry_cases blocks new_blocks pointer.first j (Some (begun pointer)) a sets ha) [
+    | inl own ↦ elim (entry_cases blocks new_blocks pointer.first k (Some (begun pointer)) b sets hb) [
       | inl both ↦ absurd (omega (arith, own.0, both.0))
       | inr other ↦ first_own j k a b own.0 own.1 other.1 lt
     ]
-    | inr other ↦ elim (entry_cases blocks new_blocks pointer.first k (Some (opened pointer)) b sets hb) [
+    | inr other ↦ elim (entry_cases blocks new_blocks pointer.first k (Some (begun pointer)) b sets hb) [
       | inl own ↦ second_own j k a b own.0 own.1 other.1 lt
       | inr both ↦ t.apart j k a b other.1 both.1 lt
     ]
   ];
+  covered = λ x below taken. covers x below (is_free old x) refl taken;
 } where
-  own_placed : (k : ℕ) (e : Entry) → k ≡ pointer.first → Some (opened pointer) ≡ Some e → IsPlaced geometry (is_free new) k e.pointer
+  still : (k : ℕ) (e : Entry) → entry_at blocks k ≡ Some e → entry_at new_blocks k ≡ Some e
+  still k e h = sets.others k (λ same. (let n = none_at geometry old blocks pointer.first pointer.stripes t fits in let m : entry_at blocks k ≡ None = ap (entry_at blocks) same ∙ n in absurd (cc))) ∙ h
+
+  covers : (x : ℕ) → x < part_stripes geometry → (b : Bool) → is_free old x ≡ b → is_free new x ≡ false → HasStripe new_blocks x
+  covers x below false was taken = has_still blocks new_blocks x still (t.covered x below was)
+  covers x below true was taken =
+      let both = takes x in record {
+        first = pointer.first;
+        entry = begun pointer;
+        there = sets.here;
+        from = grind (arith, nat_tests, both, was, taken);
+        to = grind (arith, nat_tests, both, was, taken);
+      }
+
+  own_placed : (k : ℕ) (e : Entry) → k ≡ pointer.first → Some (begun pointer) ≡ Some e → IsPlaced geometry (is_free new) k e.pointer
   own_placed k e same is =
       let P : Pointer → Type 0 = λ p. IsPlaced geometry (is_free new) k p in
       let eq : pointer ≡ e.pointer = cc in
@@ -183,7 +203,7 @@ held_tables geometry old new blocks new_blocks pointer t fits sized takes sets i
         inside = (let i = fits.run.inside in omega (arith, same, i));
         group = rw same fits.run.group;
         held = λ x low high. (let was = takes x in let f = fits.was_free x (omega (arith, same)) (omega (arith, same)) in grind (arith, nat_tests, was, f, same));
-        sized = sized;
+        is_block = sized;
       })
 
   old_placed : (k : ℕ) (e : Entry) → entry_at blocks k ≡ Some e → IsPlaced geometry (is_free new) k e.pointer
@@ -191,7 +211,7 @@ held_tables geometry old new blocks new_blocks pointer t fits sized takes sets i
       let p = t.placed k e h in
       moved geometry (is_free old) (is_free new) k e.pointer p (λ x low high. (let was = takes x in let f = p.held x low high in grind (arith, nat_tests, was, f)))
 
-  first_own : (j k : ℕ) (a b : Entry) → j ≡ pointer.first → Some (opened pointer) ≡ Some a → entry_at blocks k ≡ Some b → j < k → j + a.pointer.stripes ≤ k
+  first_own : (j k : ℕ) (a b : Entry) → j ≡ pointer.first → Some (begun pointer) ≡ Some a → entry_at blocks k ≡ Some b → j < k → j + a.pointer.stripes ≤ k
   first_own j k a b same is hb lt =
       let eq : pointer.stripes ≡ a.pointer.stripes = cc in
       elim (free_apart geometry old blocks pointer.first pointer.stripes t fits k b hb) [
@@ -199,7 +219,7 @@ held_tables geometry old new blocks new_blocks pointer t fits sized takes sets i
         | inr after ↦ omega (arith, same, eq)
       ]
 
-  second_own : (j k : ℕ) (a b : Entry) → k ≡ pointer.first → Some (opened pointer) ≡ Some b → entry_at blocks j ≡ Some a → j < k → j + a.pointer.stripes ≤ k
+  second_own : (j k : ℕ) (a b : Entry) → k ≡ pointer.first → Some (begun pointer) ≡ Some b → entry_at blocks j ≡ Some a → j < k → j + a.pointer.stripes ≤ k
   second_own j k a b same is ha lt =
       elim (free_apart geometry old blocks pointer.first pointer.stripes t fits j a ha) [
         | inl before ↦ omega (arith, same)
@@ -214,11 +234,11 @@ entries_apart geometry space blocks at k own e t ho he other = elim (cases_lt k 
   | inr after ↦ inr (t.apart at k own e ho he (omega (arith, other)))
 ]
 
-pub released_tables : (geometry : Geometry) (old new : Stripes) (blocks new_blocks : BTreeMap ℕ Entry) (pointer : Pointer) → Tables geometry old blocks
-    → entry_at blocks pointer.first ≡ Some (opened pointer)
+pub released_tables : (geometry : Geometry) (old new : Stripes) (blocks new_blocks : BTreeMap ℕ Entry) (pointer : Pointer) (stage : Stage) → Tables geometry old blocks
+    → entry_at blocks pointer.first ≡ Some (staged stage pointer)
     → ((x : ℕ) → is_free new x ≡ (is_free old x || is_between pointer.first (pointer.first + pointer.stripes) x))
     → SetsEntry blocks new_blocks pointer.first None → IsSpaceOf geometry new (btree_map_len new_blocks) → Tables geometry new new_blocks
-released_tables geometry old new blocks new_blocks pointer t own frees sets is = record {
+released_tables geometry old new blocks new_blocks pointer stage t own frees sets is = record {
   height = is.height;
   total = is.total;
   enabled = is.enabled;
@@ -235,13 +255,36 @@ released_tables geometry old new blocks new_blocks pointer t own frees sets is =
       | inr second ↦ t.apart j k a b first.1 second.1 lt
     ]
   ];
+  covered = λ x below taken.
+      let was : is_free old x ≡ false = (let f = frees x in grind (arith, nat_tests, f, taken)) in
+      let out : (x < pointer.first) ⊎ (pointer.first + pointer.stripes ≤ x) = (let f = frees x in outside x f taken) in
+      stays x (t.covered x below was) out;
 } where
+  outside : (x : ℕ) → is_free new x ≡ (is_free old x || is_between pointer.first (pointer.first + pointer.stripes) x) → is_free new x ≡ false
+      → (x < pointer.first) ⊎ (pointer.first + pointer.stripes ≤ x)
+  outside x f taken = elim (cases_lt x pointer.first) [
+    | inl before ↦ inl before
+    | inr from ↦ elim (cases_lt x (pointer.first + pointer.stripes)) [
+      | inl to ↦ absurd (let b : is_between pointer.first (pointer.first + pointer.stripes) x ≡ true = grind (arith, nat_tests, from, to) in grind (arith, nat_tests, f, taken, b))
+      | inr after ↦ inr after
+    ]
+  ]
+
+  stays : (x : ℕ) → HasStripe blocks x → (x < pointer.first) ⊎ (pointer.first + pointer.stripes ≤ x) → HasStripe new_blocks x
+  stays x h out = record { first = h.first; entry = h.entry; there = sets.others h.first other ∙ h.there; from = h.from; to = h.to } where
+    other : h.first ≡ pointer.first → ⊥
+    other same =
+        let eq : pointer.stripes ≡ h.entry.pointer.stripes = (let a : entry_at blocks h.first ≡ Some (staged stage pointer) = ap (entry_at blocks) same ∙ own in let b = h.there in cc) in
+        let from = h.from in
+        let to = h.to in
+        elim out [ inl before ↦ omega arith | inr after ↦ omega arith ]
+
   old_placed : (k : ℕ) (e : Entry) → (k ≡ pointer.first → ⊥) → entry_at blocks k ≡ Some e → IsPlaced geometry (is_free new) k e.pointer
   old_placed k e other h =
       let p = t.placed k e h in
       moved geometry (is_free old) (is_free new) k e.pointer p (λ x low high. held x (out x low high) (p.held x low high)) where
         out : (x : ℕ) → k ≤ x → x < k + e.pointer.stripes → (x < pointer.first) ⊎ (pointer.first + pointer.stripes ≤ x)
-        out x low high = elim (entries_apart geometry old blocks pointer.first k (opened pointer) e t own h other) [
+        out x low high = elim (entries_apart geometry old blocks pointer.first k (staged stage pointer) e t own h other) [
           | inl before ↦ inl (omega arith)
           | inr after ↦ inr (omega arith)
         ]
@@ -261,7 +304,18 @@ turned_tables geometry space blocks new_blocks pointer was now t own sets len = 
   few = rw len t.few;
   placed = λ k e h. let b = before k e h in let P : Pointer → Type 0 = λ p. IsPlaced geometry (is_free space) k p in subst P b.2 (t.placed k b.0 b.1);
   apart = λ j k a b ha hb lt. let x = before j a ha in let y = before k b hb in let n = t.apart j k x.0 y.0 x.1 y.1 lt in rw (← x.2) n;
+  covered = λ x below taken. turns x (t.covered x below taken);
 } where
+  turns : (x : ℕ) → HasStripe blocks x → HasStripe new_blocks x
+  turns x h = elim (cases_eq h.first pointer.first) [
+    | inl same ↦
+        let eq : pointer.stripes ≡ h.entry.pointer.stripes = (let a : entry_at blocks h.first ≡ Some (staged was pointer) = ap (entry_at blocks) same ∙ own in let b = h.there in cc) in
+        let from = h.from in
+        let to = h.to in
+        record { first = pointer.first; entry = staged now pointer; there = sets.here; from = omega arith; to = omega arith }
+    | inr other ↦ record { first = h.first; entry = h.entry; there = sets.others h.first other ∙ h.there; from = h.from; to = h.to }
+  ]
+
   before : (k : ℕ) (e : Entry) → entry_at new_blocks k ≡ Some e → (b : Entry) × (entry_at blocks k ≡ Some b) × (b.pointer ≡ e.pointer)
   before k e h = elim (entry_cases blocks new_blocks pointer.first k (Some (staged now pointer)) e sets h) [
     | inl same ↦ (let eq : pointer ≡ e.pointer = (let s = same.1 in cc) in (staged was pointer, (ap (entry_at blocks) same.0 ∙ own), eq))

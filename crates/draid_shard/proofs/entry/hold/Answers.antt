@@ -30,7 +30,7 @@ returns-in-Ok-insert-clause-tables c geometry t sized =
     let count = c.in-Ok.ensures.held in
     let held = t.count in
     held_tables geometry c.args.space.now c.allocate.new.self c.args.blocks.now c.insert.new.self placed t (allocated geometry c.args.space.now c.args.blocks.now c.in-Ok.first c.args.pointer.stripes c.from.result t c.from.ensures c.requires.some c.in-Ok.ensures.lowest c.in-Ok.ensures.inside)
-    (record { some = sized.some; short = sized.short; stripes = sized.stripes })
+    (record { some = sized.some; short = sized.short; stripes = sized.stripes; born = sized.born })
     (rw c.from.ensures at c.in-Ok.ensures.taken) (sets_entry c.args.blocks.now c.insert.new.self c.in-Ok.first _ e.updates)
     (space_of geometry c.args.space.now c.allocate.new.self c.args.blocks.now _ t c.in-Ok.ensures.kept (omega (arith, len, count, held))
     (let f = c.requires.few in let below = c.if-len-eq-MOST_ENTRIES.false in omega (arith, len, f, below)))

@@ -1,5 +1,8 @@
-use Rattle.std.proofs.Common.{refl}
-use Rattle.draid_shard.specs.Shard.{part_of}
+use Rattle.std.proofs.Common.{arith, length, refl}
+use Rattle.draid_shard.specs.Shard.{missed_of, part_of}
+use Rattle.draid_block.specs.Solving.{absent_columns}
+use Rattle.draid_block.proofs.Complete.{absent_within}
+use Rattle.draid_shard.proofs.Events.{fetches, unmoved_in}
 use Rattle.draid_shard.proofs.Fetched.{all_absent, is_fetched, told_readable}
 use Rattle.draid_shard.proofs.Tables.{entry_run}
 use Rattle.draid_shard.proofs.shard.Shard.fetch.Goals as goal
@@ -10,7 +13,7 @@ read_columns-requires-clause-run g c =
 
 pub returns-clause-fetched : goal.returns-clause-fetched
 returns-clause-fetched g c =
-    let sized = (c.requires.valid.tables.placed c.args.pointer.now.first _ (c.if-not-is_live.ensures.0 refl)).sized in
+    let sized = (c.requires.valid.tables.placed c.args.pointer.now.first _ (c.if-not-is_live.ensures.0 refl)).is_block in
     is_fetched c.args.self.now.geometry _ c.requires.valid.part.layout.geometry_is sized c.in_ok-columns.ensures.count c.in_ok-columns.ensures.long
 
 pub returns-clause-absent : goal.returns-clause-absent
@@ -19,7 +22,14 @@ returns-clause-absent g c =
 
 pub returns-clause-readable : goal.returns-clause-readable
 returns-clause-readable g c w holds =
-    let sized = (c.requires.valid.tables.placed c.args.pointer.now.first _ (c.if-not-is_live.ensures.0 refl)).sized in
-    told_readable (g.R.Rack.told c.args.self.now.rack) (part_of c.args.self.now) _ w holds.columns (g.R.Rack.faults c.args.self.now.rack) (g.R.Rack.faults c.read_columns.new.rack)
+    let sized = (c.requires.valid.tables.placed c.args.pointer.now.first _ (c.if-not-is_live.ensures.0 refl)).is_block in
+    told_readable (g.R.Rack.told c.args.self.now.rack) (part_of c.args.self.now) (missed_of c.args.self.now c.args.pointer.now) _ w holds.columns (g.R.Rack.faults c.args.self.now.rack) (g.R.Rack.faults c.read_columns.new.rack)
     c.requires.valid.part.layout.geometry_is sized c.in_ok-columns.ensures.count c.in_ok-columns.ensures.long c.in_ok-columns.ensures.stand c.in_ok-columns.ensures.absent
     holds.content holds.are holds.stand
+
+pub returns-clause-event : goal.returns-clause-event
+returns-clause-event g c w is_in =
+    let columns = c.in_ok-columns.columns.items in
+    let count = c.in_ok-columns.ensures.count in
+    fetches c.args.self.now _ w c.args.pointer.now (absent_columns columns) refl c.requires.valid.part refl (c.if-not-is_live.ensures.0 refl)
+    (λ i there. (let lt = absent_within columns (length columns) i there in omega (arith, lt, count))) refl is_in
