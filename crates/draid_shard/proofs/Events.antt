@@ -1,5 +1,5 @@
 -- Each call's event is legal in the state for which the shard stands.
-use Rattle.std.proofs.Common.{◌≡◌, ◌⊎◌, ◌+◌, ◌-◌, ◌*◌, ◌/◌, ◌%◌, ◌<◌, ◌≤◌, ◌∙◌, ◌==◌, ◌||◌, ◌&&◌, not, ℕ, suc, List, [], ◌∷◌, Bool, true, false, nat_lt, Option, Some, None, arith, refl, sym, ap, inl, inr, subst, find, map, max, if◌then◌else◌}
+use Rattle.std.proofs.Common.{◌≡◌, ◌+◌, ◌-◌, ◌*◌, ◌/◌, ◌%◌, ◌<◌, ◌≤◌, ◌∙◌, ◌==◌, ◌||◌, ◌&&◌, ℕ, suc, List, [], ◌∷◌, Bool, true, false, nat_lt, Option, Some, None, arith, refl, sym, ap, inl, inr, subst, find, map, max, if◌then◌else◌}
 use Rattle.std.specs.Prelude.{Contains}
 use Rattle.std.proofs.Math.Nat.{mod-lt}
 use Rattle.std.proofs.lemmas.Bool.{cases_lt}
@@ -11,28 +11,26 @@ use Rattle.draid_map.proofs.Radix.{its_digits}
 use Rattle.draid_metaslab.specs.Spaces.{Stripes, is_free}
 use Rattle.draid_metaslab.specs.Spots.{IsLowest, IsSpot}
 use Rattle.draid_machine.specs.declared.names.ArmName.{ArmName}
-use Rattle.draid_machine.specs.declared.names.ArmName.TheVariants.{Leaf, Spare}
+use Rattle.draid_machine.specs.declared.names.ArmName.TheVariants.{Leaf}
 use Rattle.draid_machine.specs.declared.names.Held.{Held}
 use Rattle.draid_machine.specs.declared.names.Key.{Key}
 use Rattle.draid_machine.specs.declared.names.Segment.{Segment}
-use Rattle.draid_machine.specs.declared.names.Stage.{Stage}
 use Rattle.draid_machine.specs.declared.names.Stage.TheVariants.{Writing, Live, Freed}
-use Rattle.draid_machine.specs.After.{begin_state, each_arm, free_state, gone_state, live_state, log_if, put_state, set_held}
-use Rattle.draid_machine.specs.Arms.{answers, is_clean, leaf_at, leaf_answers, reading, else_some}
+use Rattle.draid_machine.specs.After.{begin_state, free_state, gone_state, live_state, set_held}
+use Rattle.draid_machine.specs.Arms.{answers, is_clean, leaf_answers, reading, else_some}
 use Rattle.draid_machine.specs.Created.{created}
-use Rattle.draid_machine.specs.Layout.{layout_of}
-use Rattle.draid_machine.specs.Names.{has_name, has_number, is_nil, name_eq, takes}
+use Rattle.draid_machine.specs.Names.{has_name, has_number, name_eq}
 use Rattle.draid_machine.specs.State.{Arm, Core, Layout, State}
-use Rattle.draid_machine.specs.Step.{AbortStep, BeginStep, DamageStep, FailsThere, FetchStep, FinishStep, Fits, FreeStep, IsDue as IsDueIn, IsTaken as TakesStripe, PutStep}
-use Rattle.draid_machine.proofs.Small.{name_true, name_refl, none_some, some_same}
+use Rattle.draid_machine.specs.Step.{AbortStep, BeginStep, DamageStep, FetchStep, FinishStep, Fits, FreeStep, IsTaken as TakesStripe}
+use Rattle.draid_machine.proofs.Small.{name_true, name_refl, none_some}
 use Rattle.draid_shard.specs.declared.entry.Entry.{Entry}
 use Rattle.draid_shard.specs.declared.shard.Shard.{Shard}
 use Rattle.draid_shard.specs.declared.ticket.Ticket.{Ticket}
 use Rattle.draid_shard.specs.Part.{IsPart, IsRun, Part, leaf_of, place_in}
-use Rattle.draid_shard.specs.Entry.{HasStripe, IsDue, SetsEntry, open_group, Tables, begun, entry_at, opened, staged}
-use Rattle.draid_shard.specs.Logs.{LogsMiss, logs_in}
-use Rattle.draid_shard.specs.Machine.{HoldsSame, IsEntry, IsIn, StepsTo, arm_in, arm_with, held_at, key_of, layout_in, leaves_of}
-use Rattle.draid_shard.specs.Shard.{HasEntry, IsUnused, Lands, FailsToLand, TakesLowest, part_of}
+use Rattle.draid_shard.specs.Entry.{IsDue, SetsEntry, open_group, Tables, begun, entry_at, opened, staged}
+use Rattle.draid_shard.specs.Logs.{logs_in}
+use Rattle.draid_shard.specs.Machine.{HoldsSame, IsIn, StepsTo, arm_in, arm_with, held_at, key_of, layout_in, leaves_of}
+use Rattle.draid_shard.specs.Shard.{IsUnused, part_of}
 use Rattle.draid_shard.proofs.Held.{StandFirst, few_held, holds_less, holds_more, holds_still, holds_turned}
 use Rattle.draid_shard.proofs.Places.{child_there}
 use Rattle.draid_shard.proofs.Tables.{entry_run}
@@ -77,7 +75,7 @@ own_arm shard w slot is_in below =
     is_in.arms (Leaf slot) ∙ ap (λ b. if b then Some (arm_with (logs_in shard.slots slot)) else None) there
 
 -- which answers
-leaf_responds : {R : Type 0} (shard : Shard R) (w : State) (slot : ℕ) → IsIn shard w → slot < shard.geometry.spec.children → leaf_answers w.core slot ≡ true
+pub leaf_responds : {R : Type 0} (shard : Shard R) (w : State) (slot : ℕ) → IsIn shard w → slot < shard.geometry.spec.children → leaf_answers w.core slot ≡ true
 leaf_responds shard w slot is_in below = rw (own_arm shard w slot is_in below) refl
 
 -- the slot of a column is the leaf on which it lies
@@ -85,20 +83,20 @@ slot_is : (part : Part) (first i : ℕ) → (layout_in part).slot_of first i ≡
 unfolding place_in
 slot_is part first i = refl
 
-column_order : {R : Type 0} (shard : Shard R) (w : State) (first i : ℕ) → IsPart (part_of shard) → IsIn shard w → i < shard.geometry.g
+pub column_order : {R : Type 0} (shard : Shard R) (w : State) (first i : ℕ) → IsPart (part_of shard) → IsIn shard w → i < shard.geometry.g
     → w.core.order ((layout_in (part_of shard)).slot_of first i) ≡ Leaf (leaf_of (part_of shard) first i) ∷ []
 column_order shard w first i is is_in below =
     ap w.core.order (slot_is (part_of shard) first i) ∙ own_order shard w (leaf_of (part_of shard) first i) is_in (child_there (part_of shard) first i is)
 
 -- a leaf is the one that a slot has
-in_one : (leaf : ℕ) (n : ArmName) → has_name (Leaf leaf ∷ []) n ≡ true → n ≡ Leaf leaf
+pub in_one : (leaf : ℕ) (n : ArmName) → has_name (Leaf leaf ∷ []) n ≡ true → n ≡ Leaf leaf
 in_one leaf n is = sym (name_true (Leaf leaf) n (or_right (name_eq (Leaf leaf) n) is))
   where
     or_right : (a : Bool) → (a || false) ≡ true → a ≡ true
     or_right true e = refl
     or_right false e = e
 
-one_in : (leaf : ℕ) → has_name (Leaf leaf ∷ []) (Leaf leaf) ≡ true
+pub one_in : (leaf : ℕ) → has_name (Leaf leaf ∷ []) (Leaf leaf) ≡ true
 one_in leaf = rw (name_refl (Leaf leaf)) refl
 
 -- ---- begin
@@ -323,9 +321,13 @@ fetches old new w p absent part is same is_live inside logs is_in = record {
     found = is_in.held.listed p.first (staged Live p) is_live;
     live = refl;
     fail = λ leaf failed.
-        let found = has_mapped (leaf_of (part_of old) p.first) absent leaf failed in
-        (found.0, Leaf (leaf_of (part_of old) p.first found.0), inside found.0 found.1,
-        reads_own old w (held_at (staged Live p)) found.0 is is_in (inside found.0 found.1), ap Some found.2);
+        let found = has_mapped (leaf_of (part_of old) p.first) absent leaf failed in (
+          found.0,
+          Leaf (leaf_of (part_of old) p.first found.0),
+          inside found.0 found.1,
+          reads_own old w (held_at (staged Live p)) found.0 is is_in (inside found.0 found.1),
+          ap Some found.2,
+        );
     made = refl;
   };
   is_in = unmoved_in old new w part logs (holds_still old.blocks new.blocks w.core.held is_in.held (λ k. ap (λ blocks. entry_at blocks k) same)) is_in;

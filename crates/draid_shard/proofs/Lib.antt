@@ -9,3 +9,4 @@ pub mod Written
 pub mod Logs
 pub mod Held
 pub mod Events
+pub mod Landing

@@ -1,9 +1,7 @@
 -- The logs of the leaves, with room for the groups in which blocks may be born.
-use Rattle.std.proofs.Common.{rules, if◌then◌else◌, ◌≡◌, ◌==◌, ◌⊎◌, ◌+◌, ◌<◌, ◌≤◌, ◌||◌, ◌&&◌, ℕ, List, Bool, true, false, slice_index_or, arith, refl, sym, ap, inl, inr, ◌∙◌, subst, [], ◌∷◌, length}
+use Rattle.std.proofs.Common.{if◌then◌else◌, ◌≡◌, ◌==◌, ◌⊎◌, ◌+◌, ◌<◌, ◌≤◌, ◌||◌, ◌&&◌, ℕ, List, Bool, true, false, slice_index_or, arith, refl, sym, ap, inl, inr, ◌∙◌, subst, [], ◌∷◌, length}
 use Rattle.std.proofs.lemmas.Bool.Decides.{nat_tests}
 use Rattle.draid_names.specs.declared.arm.Arm.{Arm}
-use Rattle.draid_names.specs.declared.arm.ArmAt.{ArmAt}
-use Rattle.draid_map.specs.Place.{IsLayout}
 use Rattle.draid_slots.specs.Table.{SlotTable, IsThere, arms_of, is_at, is_logged, room_at}
 use Rattle.draid_slots.specs.Changes.{ChangesLog, HasRoom, IsNew, IsOf, Keeps, new_arm}
 use Rattle.draid_shard.specs.Entry.{IsDue, open_group}

@@ -1,7 +1,6 @@
 -- The next column of an open write was put.
-use Rattle.std.proofs.Common.{◌≡◌, ◌⊎◌, ◌+◌, ◌*◌, ◌<◌, ◌≤◌, ◌∙◌, ℕ, List, Bool, true, false, Option, Some, None, arith, refl, sym, ap, inl, inr}
+use Rattle.std.proofs.Common.{◌≡◌, ◌+◌, ◌*◌, ◌<◌, ◌≤◌, ◌∙◌, ℕ, List, Bool, true, false, Option, Some, None, arith, refl, sym, ap, inl, inr}
 use Rattle.std.specs.Prelude.{Result, OnOk, OnErr}
-use Rattle.std.specs.Result.{is_ok}
 use Rattle.std.specs.BTreeMap.{BTreeMap}
 use Rattle.draid_names.specs.declared.fault.Failed.{Failed}
 use Rattle.draid_names.specs.declared.pointer.Pointer.{Pointer}
@@ -10,7 +9,6 @@ use Rattle.draid_metaslab.specs.Spaces.{Stripes}
 use Rattle.draid_rack.specs.Rack.{OnTold, Told}
 use Rattle.draid_block.specs.Columns.{Cut, stripes_of}
 use Rattle.draid_block.specs.Blocks.{column_len, cut_of}
-use Rattle.draid_parity.specs.Columns.{column_at}
 use Rattle.draid_shard.specs.declared.entry.Entry.{Entry}
 use Rattle.draid_machine.specs.declared.names.Stage.TheVariants.{Writing, Live, Freed}
 use Rattle.draid_shard.specs.declared.ticket.Ticket.{Ticket}

@@ -1,5 +1,5 @@
 -- What the leaves of a metaslab have missed. Each slot has the leaf of its own number, and no other arm.
-use Rattle.std.specs.Prelude.{◌≡◌, ◌==◌, ◌<◌, ◌≤◌, ◌+◌, ◌||◌, ◌&&◌, ℕ, Bool, List, [], ◌∷◌, if◌then◌else◌}
+use Rattle.std.specs.Prelude.{◌≡◌, ◌==◌, ◌<◌, ◌≤◌, ◌+◌, ◌||◌, ◌&&◌, ℕ, Bool, [], ◌∷◌, if◌then◌else◌}
 use Rattle.draid_names.specs.declared.arm.ArmAt.{ArmAt}
 use Rattle.draid_slots.specs.Table.{SlotTable, arms_of, is_logged, room_at}
 use Rattle.draid_slots.specs.Changes.{IsOf, new_arm}

@@ -1,5 +1,5 @@
 -- How a shard stands to the state of a metaslab, in which events are told.
-use Rattle.std.specs.Prelude.{◌≡◌, ◌<◌, ℕ, Bool, false, nat_lt, List, [], map, Option, Some, None, if◌then◌else◌}
+use Rattle.std.specs.Prelude.{◌≡◌, ℕ, Bool, false, nat_lt, List, map, Option, Some, None, if◌then◌else◌}
 use Rattle.std.specs.BTreeMap.{BTreeMap}
 use Rattle.draid_machine.specs.declared.names.Key.{Key}
 use Rattle.draid_machine.specs.declared.names.ArmName.{ArmName}
@@ -11,8 +11,7 @@ use Rattle.draid_machine.specs.State.{Arm, Layout, State}
 use Rattle.draid_names.specs.declared.pointer.Pointer.{Pointer}
 use Rattle.draid_shard.specs.declared.entry.Entry.{Entry}
 use Rattle.draid_shard.specs.declared.shard.Shard.{Shard}
-use Rattle.draid_shard.specs.declared.ticket.Ticket.{Ticket}
-use Rattle.draid_shard.specs.Entry.{entry_at, opened}
+use Rattle.draid_shard.specs.Entry.{entry_at}
 use Rattle.draid_shard.specs.Logs.{logs_in}
 use Rattle.draid_shard.specs.Part.{Part, leaf_of}
 

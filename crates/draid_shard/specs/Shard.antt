@@ -1,4 +1,4 @@
-use Rattle.std.specs.Prelude.{◌≡◌, ◌<◌, ◌≤◌, ◌+◌, ◌&&◌, ◌⊎◌, not, ℕ, List, [], ◌∷◌, Bool, Option, Some}
+use Rattle.std.specs.Prelude.{◌≡◌, ◌≤◌, ◌+◌, ◌&&◌, ◌⊎◌, not, ℕ, List, [], ◌∷◌, Bool, Option, Some}
 use Rattle.std.specs.BTreeMap.{btree_map_len}
 use Rattle.draid_names.specs.declared.pointer.Pointer.{Pointer}
 use Rattle.draid_rack.specs.Rack.{Shape, Told, HasJust, OnTold}
@@ -16,7 +16,7 @@ use Rattle.draid_machine.specs.Step.{PutStep}
 use Rattle.draid_shard.specs.Columns.{ColumnsStand, LeafRose, is_missed}
 use Rattle.draid_shard.specs.Entry.{IsEntered, Tables, entry_at, live, opened}
 use Rattle.draid_shard.specs.Logs.{AreOwn, LogsMiss, logs_in}
-use Rattle.draid_shard.specs.Machine.{IsIn, StepsTo, key_of, layout_in}
+use Rattle.draid_shard.specs.Machine.{StepsTo, key_of, layout_in}
 
 -- the metaslab that the shard is
 abbrev pub part_of : {R : Type 0} → Shard R → Part

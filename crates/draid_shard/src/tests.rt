@@ -1,12 +1,13 @@
-ghost use Rattle.std.specs.Prelude.{◌≡◌, ◌<◌, ◌≤◌, IfOk, length};
+ghost use Rattle.std.specs.Prelude.{◌≡◌, ◌<◌, ◌≤◌, ◌+◌, ◌^◌, IfOk, length};
 ghost use Rattle.draid_map.specs.Place.{part_sectors};
 ghost use Rattle.draid_spec.specs.Geometry.{IsGeometry};
-ghost use Rattle.draid_shard.specs.Shard.{Carries, Valid};
+ghost use Rattle.draid_names.specs.declared.pointer.Pointer.{Pointer};
+ghost use Rattle.draid_shard.specs.Shard.{Carries, HasEntry, Valid};
 
 use crate::{BeginFault, FetchFault, Missed, Shard, Ticket};
 use draid_block::{Encoded, SolveFault, solve_block};
 use draid_map::metaslab_sectors;
-use draid_names::{Failed, NoMemory, Pointer};
+use draid_names::{ArmAt, Failed, NoMemory, Pointer};
 use draid_perm::Perms;
 use draid_rack::{MemoryRack, Rack};
 use draid_spec::{Geometry, Props, geometry, parse_spec};
@@ -19,6 +20,7 @@ fn shard(alloc: Global, layout: Geometry, failing: &[u64]) -> Result<Shard<Memor
     requires layout { IsGeometry layout }
     ensures valid { IfOk result (Valid ⟦<MemoryRack as Rack>⟧.shape) }
     ensures layout { IfOk result (λ shard. shard.geometry ≡ layout) }
+    ensures empty { IfOk result (λ shard. (p : Pointer) → HasEntry shard p → p.seq < 1) }
 {
     let perms = Perms::new(layout.spec.children, layout.props.seed);
     let failing = Vec::from_slice(alloc, failing)?;
@@ -46,6 +48,7 @@ fn write_columns<R: Rack>(
     requires fresh { ticket.next ≡ 0 }
     ensures valid { Valid R.shape shard.new }
     ensures layout { shard.new.geometry ≡ shard.old.geometry }
+    ensures none_more { (p : Pointer) → HasEntry shard.new p → HasEntry shard.old p }
 {
     for _column in 0..shard.geometry.g {
         shard.put(&mut ticket, block);
@@ -53,21 +56,57 @@ fn write_columns<R: Rack>(
     shard.finish(ticket)
 }
 
-/// Writes a block.
+/// Writes a block, by the write of this number, which is above those before.
 fn write<R: Rack>(
     alloc: Global,
     shard: &mut Shard<R>,
+    seq: u64,
     bytes: &[u8],
 ) -> Result<Result<Pointer, Missed>, BeginFault>
     requires valid { Valid R.shape shard.old }
+    requires first { 1 ≤ seq }
+    requires low { seq < 100 }
+    requires above { (p : Pointer) → HasEntry shard.old p → p.seq < seq }
     requires some { 1 ≤ length bytes.now }
     requires short { length bytes.now ≤ 131072 }
     ensures valid { Valid R.shape shard.new }
     ensures layout { shard.new.geometry ≡ shard.old.geometry }
+    ensures upto { (p : Pointer) → HasEntry shard.new p → p.seq < seq + 1 }
 {
     let block = Encoded::of(alloc, &shard.geometry, bytes)?;
-    let ticket = shard.begin(7, 1, &block)?;
+    let ticket = shard.begin(7, seq, &block, 0)?;
     Ok(write_columns(shard, ticket, &block))
+}
+
+/// Begins to write a block, puts one column and gives the write up. Gives the run that it had.
+fn give_up<R: Rack>(
+    alloc: Global,
+    shard: &mut Shard<R>,
+    bytes: &[u8],
+) -> Result<(u64, u32), BeginFault>
+    requires valid { Valid R.shape shard.old }
+    requires above { (p : Pointer) → HasEntry shard.old p → p.seq < 99 }
+    requires some { 1 ≤ length bytes.now }
+    requires short { length bytes.now ≤ 131072 }
+    ensures valid { Valid R.shape shard.new }
+    ensures layout { shard.new.geometry ≡ shard.old.geometry }
+    ensures upto { (p : Pointer) → HasEntry shard.new p → HasEntry shard.old p }
+{
+    let block = Encoded::of(alloc, &shard.geometry, bytes)?;
+    let mut ticket = shard.begin(7, 99, &block, 3)?;
+    if ticket.next < shard.geometry.g {
+        shard.put(&mut ticket, &block);
+    }
+    let run = (ticket.pointer.first, ticket.pointer.stripes);
+    shard.abort(ticket);
+    Ok(run)
+}
+
+/// Whether a leaf has missed the open group.
+fn has_missed<R: Rack>(shard: &Shard<R>, leaf: u32) -> bool
+    requires valid { Valid R.shape shard.now }
+{
+    leaf < shard.geometry.spec.children && shard.slots.log(ArmAt { slot: leaf, arm: 0 }).contains(2)
 }
 
 /// Damages the first sector of a leaf.
@@ -116,14 +155,14 @@ fn first_layout(rt: &impl Abort) -> Geometry
 fn gives_a_block_back_until_no_room_is_left(rt: HostRuntime) -> Result<(), Fail> {
     let alloc = rt.alloc();
     let mut shard = shard(alloc, first_layout(&rt), &[])?;
-    let pointer = write(alloc, &mut shard, b"hello")??;
+    let pointer = write(alloc, &mut shard, 1, b"hello")??;
     assert_eq!(rt; (pointer.first, pointer.stripes), (0, 1));
     let group = [5; 8192];
-    assert_eq!(rt; write(alloc, &mut shard, &group)??.first, 8);
-    assert_eq!(rt; write(alloc, &mut shard, &group)??.first, 16);
-    assert_eq!(rt; write(alloc, &mut shard, &group)??.first, 24);
+    assert_eq!(rt; write(alloc, &mut shard, 2, &group)??.first, 8);
+    assert_eq!(rt; write(alloc, &mut shard, 3, &group)??.first, 16);
+    assert_eq!(rt; write(alloc, &mut shard, 4, &group)??.first, 24);
     assert_eq!(rt;
-        write(alloc, &mut shard, &group),
+        write(alloc, &mut shard, 5, &group),
         Err(BeginFault::NoRoom { largest: 7 })
     );
     assert_eq!(rt;
@@ -133,28 +172,52 @@ fn gives_a_block_back_until_no_room_is_left(rt: HostRuntime) -> Result<(), Fail>
     Ok(())
 }
 
-// A block of one stripe is three writes and three reads. Of the first block the second column is missed,
-// of the second block the second column isn't read at first.
+// A block of one stripe is three writes and three reads. Of the first block two columns are missed, of the second
+// block one column, and another one isn't read at first: too many for one parity column, but their bytes are there.
 #[test]
 fn tells_what_failed(rt: HostRuntime) -> Result<(), Fail> {
     let alloc = rt.alloc();
-    let mut shard = shard(alloc, first_layout(&rt), &[1, 7])?;
+    let mut shard = shard(alloc, first_layout(&rt), &[0, 2, 4, 7])?;
     assert_eq!(rt;
-        write(alloc, &mut shard, b"hello"),
-        Ok(Err(Missed { columns: 1 }))
+        write(alloc, &mut shard, 1, b"hello"),
+        Ok(Err(Missed { columns: 2 }))
     );
-    let pointer = write(alloc, &mut shard, b"hello")??;
-    assert_eq!(rt; pointer.first, 0);
+    let pointer = write(alloc, &mut shard, 2, b"hello")??;
+    assert_eq!(rt; (pointer.first, pointer.birth), (0, 2));
     let fetched = shard.fetch(&pointer)?;
     assert_eq!(rt; fetched.columns[1].is_none(), true);
     assert_eq!(rt;
         solve_block(alloc, &shard.geometry, &fetched)?.as_slice(),
         b"hello".as_slice()
     );
-    let other = Pointer { seq: 2, ..pointer };
+    let other = Pointer { seq: 3, ..pointer };
     assert_eq!(rt;
         read(alloc, &mut shard, &other).err(),
         Some(FetchFault::NotLive)
+    );
+    Ok(())
+}
+
+// The leaf on which a column is missed has the group in its log, and the others haven't. A write that is given up
+// leaves its stripes to the next one, which may fill a whole group.
+#[test]
+fn logs_what_is_missed(rt: HostRuntime) -> Result<(), Fail> {
+    let alloc = rt.alloc();
+    let mut shard = shard(alloc, first_layout(&rt), &[2, 4])?;
+    let group = [5; 8192];
+    assert_eq!(rt; give_up(alloc, &mut shard, &group), Ok((0, 8)));
+    let pointer = write(alloc, &mut shard, 1, &group)??;
+    assert_eq!(rt; (pointer.first, pointer.stripes), (0, 8));
+    let mut missed = 0;
+    for leaf in 0..3 {
+        if has_missed(&shard, leaf) {
+            missed += 1;
+        }
+    }
+    assert_eq!(rt; missed, 1);
+    assert_eq!(rt;
+        read(alloc, &mut shard, &pointer)??.as_slice(),
+        group.as_slice()
     );
     Ok(())
 }
@@ -164,7 +227,7 @@ fn tells_what_failed(rt: HostRuntime) -> Result<(), Fail> {
 fn reads_around_damage(rt: HostRuntime) -> Result<(), Fail> {
     let alloc = rt.alloc();
     let mut shard = shard(alloc, first_layout(&rt), &[])?;
-    let pointer = write(alloc, &mut shard, b"hello")??;
+    let pointer = write(alloc, &mut shard, 1, b"hello")??;
     assert_eq!(rt; damage(&mut shard, 0), Ok(()));
     assert_eq!(rt;
         read(alloc, &mut shard, &pointer)??.as_slice(),

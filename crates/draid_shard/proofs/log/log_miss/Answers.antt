@@ -1,4 +1,4 @@
-use Rattle.std.proofs.Common.{◌≡◌, ◌∙◌, ℕ, false, ap, sym}
+use Rattle.std.proofs.Common.{◌≡◌, ◌∙◌, false, ap, sym}
 use Rattle.draid_ranges.specs.Numbers.{Numbers, has}
 use Rattle.draid_shard.specs.Logs.{logs_in}
 use Rattle.draid_shard.proofs.Logs.{dirty_logs, dirty_own}

@@ -2,7 +2,7 @@ use Rattle.std.proofs.Common.{arith, length, refl}
 use Rattle.draid_shard.specs.Shard.{missed_of, part_of}
 use Rattle.draid_block.specs.Solving.{absent_columns}
 use Rattle.draid_block.proofs.Complete.{absent_within}
-use Rattle.draid_shard.proofs.Events.{fetches, unmoved_in}
+use Rattle.draid_shard.proofs.Events.{fetches}
 use Rattle.draid_shard.proofs.Fetched.{all_absent, is_fetched, told_readable}
 use Rattle.draid_shard.proofs.Tables.{entry_run}
 use Rattle.draid_shard.proofs.shard.Shard.fetch.Goals as goal

@@ -1,7 +1,7 @@
 use Rattle.std.proofs.Common.{refl}
 use Rattle.draid_shard.proofs.Events.{due_of, frees}
 use Rattle.draid_shard.proofs.Tables.{turned_tables}
-use Rattle.draid_machine.specs.declared.names.Stage.TheVariants.{Live, Freed}
+use Rattle.draid_machine.specs.declared.names.Stage.TheVariants.{Live}
 use Rattle.draid_shard.proofs.shard.Shard.free.Goals as goal
 
 pub returns-clause-valid : goal.returns-clause-valid

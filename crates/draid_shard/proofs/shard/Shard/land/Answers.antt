@@ -1,4 +1,4 @@
-use Rattle.std.proofs.Common.{◌≡◌, ◌<◌, ◌∙◌, refl, ap, sym, subst}
+use Rattle.std.proofs.Common.{◌<◌, ◌∙◌, refl, ap, sym, subst}
 use Rattle.draid_map.specs.declared.sectors.Place.{Place}
 use Rattle.draid_map.specs.Place.{part_sectors}
 use Rattle.draid_rack.specs.Rack.{HasJust}
