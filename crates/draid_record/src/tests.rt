@@ -1,3 +1,4 @@
+ghost use Rattle.std.specs.Prelude.{◌≡◌};
 ghost use Rattle.draid_spec.specs.Geometry.{IsGeometry};
 
 use super::*;
@@ -134,21 +135,41 @@ fn faults_of_lengths_are_found(rt: HostRuntime) {
 }
 
 /// What that uberblock tells.
-const BODY: UberBody = UberBody {
-    group: 1,
-    spec: Spec {
-        parity: 1,
-        ndata: 2,
-        children: 3,
-        spares: 0,
-    },
-    props: PROPS,
-    next_leaf: 3,
-};
+fn body() -> UberBody
+    ensures { result
+        ≡ record {
+          group = 1;
+          spec = record { parity = 1; ndata = 2; children = 3; spares = 0 };
+          props = record { sector = 512; height = 8; metaslabs = 1; slices = 4; seed = 1 };
+          next_leaf = 3;
+        } }
+{
+    UberBody {
+        group: 1,
+        spec: Spec {
+            parity: 1,
+            ndata: 2,
+            children: 3,
+            spares: 0,
+        },
+        props: PROPS,
+        next_leaf: 3,
+    }
+}
+
+/// The bytes that are written of it.
+fn uber() -> [u8; 51] {
+    write_uber(&body())
+}
+
+#[test]
+fn an_uberblock_is_written(rt: HostRuntime) {
+    assert_eq!(rt; uber().as_slice(), UBER.as_slice());
+}
 
 #[test]
 fn an_uberblock_is_told(rt: HostRuntime) {
-    assert_eq!(rt; read_uber(&UBER, 1), Ok(BODY));
+    assert_eq!(rt; read_uber(&UBER, 1), Ok(body()));
     assert_eq!(rt;
         read_uber(&UBER, 0),
         Err(RecordFault::Bad { at: 7, kind: 2 })
