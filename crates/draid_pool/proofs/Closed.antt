@@ -11,7 +11,7 @@ use Rattle.draid_block.specs.Columns.{stripes_of}
 use Rattle.draid_rack.specs.Rack.{OnTold, Shape, Told}
 use Rattle.draid_shelf.specs.Shelf.{SameOthers}
 use Rattle.draid_shard.specs.declared.shard.Shard.{Shard}
-use Rattle.draid_shard.specs.Shard.{HoldsBlock, Valid, part_of}
+use Rattle.draid_shard.specs.Shard.{HoldsBlock, Valid, logs_of, part_of}
 use Rattle.draid_pool.specs.Close.{HoldsMetaslab, HoldsPool, Returns, WriteStands}
 use Rattle.draid_pool.specs.Pool.{HoldsObject, HoldsWrite, Stands, harm_of, metaslab_of, state_of}
 use Rattle.draid_pool.specs.State.{Change, Metaslab, Write, stripes_for, write_of}
@@ -97,11 +97,11 @@ module _ {R : Type 0} (told : R → Option Told) (faults : R → Option ℕ → 
 module _ {R : Type 0} (shape : R → Shape) (told : R → Option Told) (faults : R → Option ℕ → ℕ) where
   -- a block that a shard holds stands on its rack
   write_stands : (shard : Shard R) (pointer : Pointer) (write : Write) (held : Option Told) → Valid shape shard → HoldsBlock told shard pointer write.bytes → pointer.first ≡ write.first
-      → held ≡ told shard.rack → OnTold held (λ t. WriteStands (part_of shard) t write)
-  write_stands shard pointer write held valid block first same =
-      let sized = (valid.tables.placed pointer.first _ block.is_live).sized in
+      → held ≡ told shard.rack → pointer.birth ≡ write.birth → OnTold held (λ t. WriteStands (part_of shard) (logs_of shard) t write)
+  write_stands shard pointer write held valid block first same birth =
+      let sized = (valid.tables.placed pointer.first _ block.is_live).is_block in
       let stripes : pointer.stripes ≡ stripes_for shard.geometry write.bytes = sized.stripes ∙ ap (stripes_of (cut_of shard.geometry)) (sym block.content.len) in
-      rw same (on_told (told shard.rack) (λ t at. record { columns = block.columns; are = block.are; stand = rw (first, stripes) at at }) block.stand)
+      rw same (on_told (told shard.rack) (λ t at. record { columns = block.columns; are = block.are; stand = rw (first, birth, stripes) at at }) block.stand)
     where
       on_told : (o : Option Told) {P Q : Told → Type 0} → ((t : Told) → P t → Q t) → OnTold o P → OnTold o Q
       on_told None f h = tt
@@ -130,7 +130,7 @@ module _ {R : Type 0} (shape : R → Shape) (told : R → Option Told) (faults :
         (let p = pointed pool.shards.items (get nat_eq pool.objects object) (write_of changes object) write written (is.objects object) in
         let there : slice_get pool.shards.items m ≡ Some p.held.shard = subst (λ (k : ℕ). slice_get pool.shards.items k ≡ Some p.held.shard) (p.held.metaslab ∙ here) p.held.there in
         let own = some_of (slice_get pool.shards.items m) p.held.shard shard there at in
-        write_stands shard p.pointer write (new m) (is.members m shard at).valid (subst (λ (s : Shard R). HoldsBlock told s p.pointer write.bytes) own p.held.holds) p.held.first (r.given m shard at));
+        write_stands shard p.pointer write (new m) (is.members m shard at).valid (subst (λ (s : Shard R). HoldsBlock told s p.pointer write.bytes) own p.held.holds) p.held.first (r.given m shard at) p.held.birth);
   }
 
   -- the shelf holds what a pool was given back with

@@ -92,6 +92,7 @@ module _ {R : Type 0} (shape : R → Shape) (told : R → Option Told) (faults :
           part = is.part;
           free = is.free;
           none = is.none;
+          logs = is.logs;
           empty = is.empty;
           holds = is.holds ∙ o.holds n (omega arith);
           faults_are = λ who. is.faults_are who ∙ ap (λ (f : Option ℕ → ℕ). f who) (o.counts n (omega arith));
@@ -142,6 +143,7 @@ module _ {R : Type 0} (shape : R → Shape) (told : R → Option Told) (faults :
     free = is.free;
     held = is.none;
     faults = λ who. is.faults_are who ∙ unfailed who;
+    logs = is.logs;
     calm = on_harm (told shard.rack) (λ x. (l s : ℕ) → x l s ≡ false) (calm_harm (told shard.rack) (subst TellsCalm (sym is.holds) calm));
   } where
     calm_harm : (o : Option Told) → OnTold o IsCalm → OnTold o (λ x. (l s : ℕ) → x.harmed l s ≡ false)
@@ -159,7 +161,7 @@ module _ {R : Type 0} (shape : R → Shape) (told : R → Option Told) (faults :
     layout = record { geometry = layout; is = given };
     represents = record {
       stands = stands;
-      live = λ m shard p there live. absurd ((opened.each m shard there).empty p live);
+      live = λ m shard p there live. absurd ((opened.each m shard there).empty p (_, live));
     };
     fresh = record {
       layout = used;
@@ -183,5 +185,6 @@ module _ {R : Type 0} (shape : R → Shape) (told : R → Option Told) (faults :
       members = λ m shard there.
           (let is = opened.each m shard there in
           record { valid = is.valid; layout = ap (λ (p : Part). p.geometry) is.part ∙ sym used; number = ap (λ (p : Part). p.number) is.part });
+      numbered = λ m shard p there has. absurd ((opened.each m shard there).empty p has);
       objects = λ q. no_objects pool.shards.items (get nat_eq pool.objects q) (empty q);
     }

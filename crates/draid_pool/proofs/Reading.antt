@@ -10,8 +10,8 @@ use Rattle.draid_rack.specs.Rack.{Shape, Told, put}
 use Rattle.draid_block.specs.Blocks.{cut_of}
 use Rattle.draid_block.specs.Columns.{stripes_of}
 use Rattle.draid_shard.specs.declared.shard.Shard.{Shard}
-use Rattle.draid_shard.specs.Columns.{MoreBad, TellsBoth}
-use Rattle.draid_shard.specs.Shard.{HoldsBlock, IsLive, NoneFalls, free_of, held_of, part_of}
+use Rattle.draid_shard.specs.Columns.{MoreBad, TellsBoth, is_missed}
+use Rattle.draid_shard.specs.Shard.{HoldsBlock, IsLive, NoneFalls, free_of, held_of, logs_of, missed_of, part_of}
 use Rattle.draid_pool.specs.Answers.{DamageIs, FreeIs, ReadIs}
 use Rattle.draid_pool.specs.Pool.{HoldsWrite, Moves, Represents, Stands, harm_of, metaslab_of, state_of}
 use Rattle.draid_pool.specs.State.{Change, Freed, IsThere, Looks, LooksAt, Metaslab, MovesOne, State, Write, stripes_for, write_of}
@@ -29,7 +29,7 @@ use Rattle.draid_pool.proofs.Shards.{at_shard, some_of}
 use Rattle.draid_pool.proofs.Steps.{Turned, found, free_stands, freed_images, one_moved, same_stands, same_state}
 
 pub looks_same : (x : Metaslab) → LooksAt x x
-looks_same x = record { keeps = record { part = refl; free = refl; held = refl; later = λ who. omega arith }; harm = refl }
+looks_same x = record { keeps = record { part = refl; free = refl; held = refl; later = λ who. omega arith }; logs = refl; harm = refl }
 
 pub looks_all : (s : State) → Looks s s
 looks_all s = record { geometry = refl; metaslabs = zip_same LooksAt looks_same s.metaslabs; changes = refl; seq = refl }
@@ -46,7 +46,7 @@ module _ {R : Type 0} (shape : R → Shape) (told : R → Option Told) (faults :
       record {
         changes = Freed object ∷ changes;
         represents = record {
-          stands = free_stands shape told faults object pointer old new changes is.stands there f layout objects;
+          stands = free_stands shape told faults object pointer old new changes is.stands there f layout seq objects;
           live = names_drop shape told pointer old.shards.items new.shards.items (λ q. get nat_eq old.objects q) (λ q. get nat_eq new.objects q) object f is.live there objects;
         };
         moved = record {
@@ -65,7 +65,7 @@ module _ {R : Type 0} (shape : R → Shape) (told : R → Option Told) (faults :
       λ q. drop_none (get nat_eq new.objects q) (get nat_eq old.objects q) object q (drops q) (λ same. subst (λ (k : ℕ). get nat_eq old.objects k ≡ None) same none) in
       record {
         changes = changes;
-        represents = same_stands shape told faults old new changes layout shards objects is;
+        represents = same_stands shape told faults old new changes layout shards seq objects is;
         moved = (
           has_none told old.shards.items (get nat_eq old.objects object) (write_of changes object) none (is.stands.objects object),
           same_state shape told faults old new changes layout (ap (map (metaslab_of told faults)) shards) seq,
@@ -78,10 +78,11 @@ module _ {R : Type 0} (shape : R → Shape) (told : R → Option Told) (faults :
     pub tells : told after.rack ≡ told before.rack
     pub free : free_of after ≡ free_of before
     pub held : held_of after ≡ held_of before
+    pub logs : logs_of after ≡ logs_of before
     pub later : NoneFalls (faults before.rack) (faults after.rack)
 
   looks_at : (before after : Shard R) → part_of after ≡ part_of before → HasLooked before after → LooksAt (metaslab_of told faults before) (metaslab_of told faults after)
-  looks_at before after part l = record { keeps = record { part = part; free = l.free; held = l.held; later = l.later }; harm = ap harm_of l.tells }
+  looks_at before after part l = record { keeps = record { part = part; free = l.free; held = l.held; later = l.later }; logs = l.logs; harm = ap harm_of l.tells }
 
   pub looks_of : (m : ℕ) (before after : Shard R) (old new : Pool R) (changes : List Change) → Turned shape told faults m before after old new → HasLooked before after → new.seq ≡ old.seq
       → Looks (state_of told faults old changes) (state_of told faults new changes)
@@ -113,7 +114,7 @@ module _ {R : Type 0} (shape : R → Shape) (told : R → Option Told) (faults :
   answered : (old new : Pool R) (object : ℕ) (pointer : Pointer) (before after : Shard R) (changes : List Change) (result : Result (Vec ℕ Global) ObjectFault)
       → Stands shape told old changes → (h : Has told old.shards.items (write_of changes object) pointer) → Turned shape told faults pointer.metaslab before after old new
       → HoldsBlock told before pointer h.write.bytes
-      → BlockAnswers (part_of before) pointer h.write.bytes (told before.rack) (faults before.rack) (faults after.rack) result
+      → BlockAnswers (part_of before) (missed_of before pointer) pointer h.write.bytes (told before.rack) (faults before.rack) (faults after.rack) result
       → Looks (state_of told faults old changes) (state_of told faults new changes) → ReadIs object result (state_of told faults old changes) (state_of told faults new changes)
   answered old new object pointer before after changes (Ok bytes) is h t holds answer looks =
       (record { last = h.write.bytes; written = ap (option_map (λ (w : Write). w.bytes)) h.written; len = answer.len; digest = answer.digest }, looks)
@@ -121,9 +122,10 @@ module _ {R : Type 0} (shape : R → Shape) (told : R → Option Told) (faults :
   answered old new object pointer before after changes (Err object_fault.NoMemory) is h t holds answer looks = (tt, looks)
   answered old new object pointer before after changes (Err (object_fault.Unreadable absent tried)) is h t holds answer looks =
       let member = is.members pointer.metaslab before t.one.there in
-      let sized = (member.valid.tables.placed pointer.first _ holds.is_live).sized in
+      let sized = (member.valid.tables.placed pointer.first _ holds.is_live).is_block in
       let stripes : pointer.stripes ≡ stripes_for before.geometry h.write.bytes = sized.stripes ∙ ap (stripes_of (cut_of before.geometry)) (sym holds.content.len) in
-      let first = h.held.first in (
+      let first = h.held.first in
+      let birth = h.held.birth in (
         record {
           write = h.write;
           written = h.written;
@@ -135,8 +137,8 @@ module _ {R : Type 0} (shape : R → Shape) (told : R → Option Told) (faults :
           count = answer.count;
           each = rw first at answer.each;
           sets = answer.sets;
-          bad = on_harm (told before.rack) (λ x. MoreBad (part_of before) x h.write.first (stripes_for before.geometry h.write.bytes) (faults before.rack) (faults after.rack))
-              (rw (first, stripes) at answer.bad);
+          bad = on_harm (told before.rack) (λ x. MoreBad (part_of before) x (is_missed (part_of before) (logs_of before) h.write.first h.write.birth) h.write.first (stripes_for before.geometry h.write.bytes) (faults before.rack) (faults after.rack))
+              (rw (first, birth, stripes) at answer.bad);
         },
         looks,
       )
@@ -144,7 +146,7 @@ module _ {R : Type 0} (shape : R → Shape) (told : R → Option Told) (faults :
   pub read_step : (old new : Pool R) (object : ℕ) (pointer : Pointer) (before after : Shard R) (result : Result (Vec ℕ Global) ObjectFault) (changes : List Change)
       → Stands shape told old changes → get nat_eq old.objects object ≡ Some pointer → Turned shape told faults pointer.metaslab before after old new → HasLooked before after
       → Represents shape told new changes → new.seq ≡ old.seq
-      → ((w : List ℕ) → HoldsBlock told before pointer w → BlockAnswers (part_of before) pointer w (told before.rack) (faults before.rack) (faults after.rack) result)
+      → ((w : List ℕ) → HoldsBlock told before pointer w → BlockAnswers (part_of before) (missed_of before pointer) pointer w (told before.rack) (faults before.rack) (faults after.rack) result)
       → Moves shape told faults (ReadIs object result) (state_of told faults old changes) new
   read_step old new object pointer before after result changes is there t looked yet seq answer =
       let h = found shape told faults old changes object pointer is there in
@@ -172,9 +174,9 @@ module _ {R : Type 0} (shape : R → Shape) (told : R → Option Told) (faults :
   pub damage_step : (leaf sector at : ℕ) (before after : Shard R) (old new : Pool R) (changes : List Change) → IsThere (state_of told faults old changes) leaf sector
       → Turned shape told faults (sector / part_sectors old.geometry) before after old new → Represents shape told new changes → at ≡ sector % part_sectors old.geometry
       → TellsBoth (told before.rack) (told after.rack) (λ x y. (l s : ℕ) → y.harmed l s ≡ put leaf at true x.harmed l s) → free_of after ≡ free_of before → held_of after ≡ held_of before
-      → NoneFalls (faults before.rack) (faults after.rack) → new.seq ≡ old.seq
+      → logs_of after ≡ logs_of before → NoneFalls (faults before.rack) (faults after.rack) → new.seq ≡ old.seq
       → Moves shape told faults (DamageIs leaf sector (Ok tt)) (state_of told faults old changes) new
-  damage_step leaf sector at before after old new changes there t yet same harmed free held later seq = record {
+  damage_step leaf sector at before after old new changes there t yet same harmed free held logs later seq = record {
     changes = changes;
     represents = yet;
     moved = record {
@@ -183,6 +185,7 @@ module _ {R : Type 0} (shape : R → Shape) (told : R → Option Told) (faults :
       after = metaslab_of told faults after;
       one = one_moved shape told faults (sector / part_sectors old.geometry) before after old new changes changes t;
       keeps = record { part = t.part; free = free; held = held; later = later };
+      logs = logs;
       harm = harm_both (told before.rack) (told after.rack) (λ x y. (l s : ℕ) → y l s ≡ put leaf (sector % part_sectors old.geometry) true x l s) (rw same at harmed);
       changes = refl;
       seq = seq;

@@ -1,5 +1,5 @@
 -- One shard of a pool's changes, and what the others hold stays.
-use Rattle.std.proofs.Common.{◌≡◌, ◌∙◌, inl, inr, ℕ, List, Option, Some, None, refl, sym, ap, subst, slice_set, slice_index_or, length, map, arith}
+use Rattle.std.proofs.Common.{◌≡◌, ◌≤◌, ◌⊎◌, ◌∙◌, inl, inr, ℕ, List, Option, Some, None, refl, sym, ap, subst, slice_set, slice_index_or, length, map, arith}
 use Rattle.std.specs.Prelude.{slice_get}
 use Rattle.std.proofs.lemmas.Bool.{cases_eq}
 use Rattle.std.proofs.lemmas.List.{map-set, length-set}
@@ -10,7 +10,7 @@ use Rattle.draid_spec.specs.declared.layout.Geometry.{Geometry}
 use Rattle.draid_rack.specs.Rack.{Shape, Told}
 use Rattle.draid_shard.specs.declared.shard.Shard.{Shard}
 use Rattle.draid_shard.specs.Part.{Part}
-use Rattle.draid_shard.specs.Shard.{HoldsBlock, Valid, free_of, held_of, part_of}
+use Rattle.draid_shard.specs.Shard.{HasEntry, HoldsBlock, Valid, free_of, held_of, logs_of, part_of}
 use Rattle.draid_pool.specs.Pool.{HoldsObject, HoldsWrite, IsMember, harm_of, metaslab_of}
 use Rattle.draid_pool.specs.State.{Write}
 use Rattle.draid_pool.specs.Store.{SetsShard}
@@ -46,6 +46,7 @@ module _ {R : Type 0} where
             object = h.object;
             metaslab = h.metaslab;
             first = h.first;
+            birth = h.birth;
             shard = after;
             there = ap (slice_get new) is ∙ set_here m before after old new one;
             holds = kept write.bytes (subst (λ (s : Shard R). HoldsBlock told s pointer write.bytes) shard h.holds);
@@ -55,6 +56,7 @@ module _ {R : Type 0} where
             object = h.object;
             metaslab = h.metaslab;
             first = h.first;
+            birth = h.birth;
             shard = h.shard;
             there = set_elsewhere m pointer.metaslab before after old new one (λ is. omega (arith, is, other)) ∙ h.there;
             holds = h.holds;
@@ -86,18 +88,37 @@ module _ {R : Type 0} where
     | inr other ↦ members k s (sym (set_elsewhere m k before after old new one (λ is. omega (arith, is, other))) ∙ there)
   ]
 
+  -- no number is above the greatest yet
+  pub numbers_on : (m : ℕ) (before after : Shard R) (old new : List (Shard R)) (seq last : ℕ) → SetsShard m before after old new → seq ≤ last
+      → ((p : Pointer) → HasEntry after p → HasEntry before p ⊎ (p.seq ≤ last)) → ((k : ℕ) (s : Shard R) (p : Pointer) → slice_get old k ≡ Some s → HasEntry s p → p.seq ≤ seq)
+      → (k : ℕ) (s : Shard R) (p : Pointer) → slice_get new k ≡ Some s → HasEntry s p → p.seq ≤ last
+  numbers_on m before after old new seq last one later entered numbered k s p there has = elim (cases_eq k m) [
+    | inl is ↦
+        let at : slice_get new m ≡ Some s = subst (λ (j : ℕ). slice_get new j ≡ Some s) is there in
+        let here : after ≡ s = some_of (slice_get new m) after s (set_here m before after old new one) at in
+        elim (entered p (subst (λ (x : Shard R). HasEntry x p) (sym here) has)) [
+          | inl was ↦ (let low = numbered m before p one.there was in omega (arith, low, later))
+          | inr low ↦ low
+        ]
+    | inr other ↦
+        let at = sym (set_elsewhere m k before after old new one (λ is. omega (arith, is, other))) ∙ there in
+        let low = numbered k s p at has in
+        omega (arith, low, later)
+  ]
+
   module _ (told : R → Option Told) (faults : R → Option ℕ → ℕ) where
     pub images_set : (m : ℕ) (before after : Shard R) (old new : List (Shard R)) → SetsShard m before after old new
         → map (metaslab_of told faults) new ≡ slice_set (map (metaslab_of told faults) old) m (metaslab_of told faults after)
     images_set m before after old new one = ap (map (metaslab_of told faults)) one.sets ∙ map-set (metaslab_of told faults) old m after
 
     pub same_image : (before after : Shard R) → part_of after ≡ part_of before → after.rack ≡ before.rack → free_of after ≡ free_of before → held_of after ≡ held_of before
-        → metaslab_of told faults after ≡ metaslab_of told faults before
-    same_image before after part rack free held = λ i. record {
+        → logs_of after ≡ logs_of before → metaslab_of told faults after ≡ metaslab_of told faults before
+    same_image before after part rack free held logs = λ i. record {
       part = part i;
       free = free i;
       held = held i;
       faults = faults (rack i);
+      logs = logs i;
       harm = harm_of (told (rack i));
     }
 

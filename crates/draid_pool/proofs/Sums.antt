@@ -35,6 +35,7 @@ at_twice x y z a b = record {
     held = b.keeps.held ∙ a.keeps.held;
     later = λ who. (let p = a.keeps.later who in let q = b.keeps.later who in omega (arith, p, q));
   };
+  logs = b.logs ∙ a.logs;
   harm = b.harm ∙ a.harm;
 }
 

@@ -1,5 +1,5 @@
 -- No set of columns restores a block.
-use Rattle.std.proofs.Common.{◌≡◌, ◌⊎◌, ◌+◌, ◌∙◌, ℕ, List, Option, Some, None, Vec, Global, sym, ap, inl, inr, length, subst}
+use Rattle.std.proofs.Common.{◌≡◌, ◌⊎◌, ◌+◌, ◌∙◌, ℕ, Bool, List, Option, Some, None, Vec, Global, sym, ap, inl, inr, length, subst}
 use Rattle.std.specs.Prelude.{All, Result, Err}
 use Rattle.draid_rack.specs.Rack.{OnTold, Told}
 use Rattle.draid_names.specs.declared.pointer.Pointer.{Pointer}
@@ -21,25 +21,25 @@ no_answer part fetched result absent tried said solves = subst (SolvesBlock (cut
 not_answered : (result : Result (Vec ℕ Global) SolveFault) (absent tried : ℕ) → result ≡ Err (Unreadable absent tried) → IsAnswered result → ⊥
 not_answered result absent tried said answered = subst IsAnswered said answered
 
-bad_on : (told : Option Told) (part : Part) (first stripes : ℕ) (old new : Option ℕ → ℕ) (A : Type 0) → (A → ⊥)
-    → OnTold told (λ x. A ⊎ MoreBad part x.harmed first stripes old new) → OnTold told (λ x. MoreBad part x.harmed first stripes old new)
-bad_on None part first stripes old new A never either = tt
-bad_on (Some x) part first stripes old new A never (inl a) = absurd (never a)
-bad_on (Some x) part first stripes old new A never (inr more) = more
+bad_on : (told : Option Told) (part : Part) (gone : ℕ → Bool) (first stripes : ℕ) (old new : Option ℕ → ℕ) (A : Type 0) → (A → ⊥)
+    → OnTold told (λ x. A ⊎ MoreBad part x.harmed gone first stripes old new) → OnTold told (λ x. MoreBad part x.harmed gone first stripes old new)
+bad_on None part gone first stripes old new A never either = tt
+bad_on (Some x) part gone first stripes old new A never (inl a) = absurd (never a)
+bad_on (Some x) part gone first stripes old new A never (inr more) = more
 
-pub unread : (told : Option Told) (part : Part) (pointer : Pointer) (w : List ℕ) (fetched : Fetched) (old new : Option ℕ → ℕ) (result : Result (Vec ℕ Global) SolveFault) (absent tried : ℕ) (used : Geometry)
+pub unread : (told : Option Told) (part : Part) (gone : ℕ → Bool) (pointer : Pointer) (w : List ℕ) (fetched : Fetched) (old new : Option ℕ → ℕ) (result : Result (Vec ℕ Global) SolveFault) (absent tried : ℕ) (used : Geometry)
     → used ≡ part.geometry → result ≡ Err (Unreadable absent tried) → part.geometry.g ≡ part.geometry.spec.parity + part.geometry.spec.ndata → SolvesBlock (cut_of used) fetched result
     → ((v bad : List ℕ) → IsReadable (cut_of used) fetched v bad → IsAnswered result)
     → All (LeafRose part pointer.first old new) (absent_columns fetched.columns.items)
-    → OnTold told (λ x. ((bad : List ℕ) × IsReadable (cut_of part.geometry) fetched w bad) ⊎ MoreBad part x.harmed pointer.first pointer.stripes old new)
-    → IsUnread part pointer.first pointer.stripes told old new absent tried
-unread told part pointer w fetched old new result absent tried used same said wide solves answered rose either =
+    → OnTold told (λ x. ((bad : List ℕ) × IsReadable (cut_of part.geometry) fetched w bad) ⊎ MoreBad part x.harmed gone pointer.first pointer.stripes old new)
+    → IsUnread part gone pointer.first pointer.stripes told old new absent tried
+unread told part gone pointer w fetched old new result absent tried used same said wide solves answered rose either =
     let none = no_answer part fetched result absent tried said (rw same at solves) in
     record {
       missing = absent_columns fetched.columns.items;
       count = none.absent_is;
       each = rose;
       sets = none.tried_is ∙ ap (λ n. length (solve_order part.geometry.spec.parity n (absent_columns fetched.columns.items))) (sym wide);
-      bad = bad_on told part pointer.first pointer.stripes old new ((bad : List ℕ) × IsReadable (cut_of part.geometry) fetched w bad)
+      bad = bad_on told part gone pointer.first pointer.stripes old new ((bad : List ℕ) × IsReadable (cut_of part.geometry) fetched w bad)
           (λ readable. not_answered result absent tried said ((rw same at answered) w readable.0 readable.1)) either;
     }

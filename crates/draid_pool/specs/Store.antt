@@ -88,6 +88,7 @@ pub record StoreStays {R : Type 0} (old new : Shard R) : Type 0 where
   pub free : (x : ℕ) → free_of new x ≡ free_of old x
   pub held : held_of new ≡ held_of old
   pub logs : logs_of new ≡ logs_of old
+  pub none_more : NoneMore old new
   pub live : SameLive old new
 
 -- no pointer is that of a block or a ticket that wasn't before, but of one with this number

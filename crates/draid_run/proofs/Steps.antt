@@ -43,6 +43,7 @@ looks_one a b c x y = record {
     held = y.keeps.held ∙ x.keeps.held;
     later = λ who. (let p = x.keeps.later who in let q = y.keeps.later who in omega (arith, p, q));
   };
+  logs = y.logs ∙ x.logs;
   harm = y.harm ∙ x.harm;
 }
 

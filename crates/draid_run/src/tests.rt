@@ -176,7 +176,16 @@ fn devices_fail(rt: HostRuntime) -> Result<(), Fail> {
                 source: &[],
                 sink: &[],
             },
-            "write 7 missed columns=1\nread 7 no object\n",
+            "write 7 ok\nread 7 1 aa\n",
+            Status::Done,
+        ),
+        (
+            Failing {
+                rack: &[1],
+                source: &[],
+                sink: &[],
+            },
+            "write 7 ok\nread 7 1 aa\n",
             Status::Done,
         ),
         (
@@ -185,7 +194,25 @@ fn devices_fail(rt: HostRuntime) -> Result<(), Fail> {
                 source: &[],
                 sink: &[],
             },
-            "write 7 missed columns=1\nread 7 no object\n",
+            "write 7 ok\nread 7 1 aa\n",
+            Status::Done,
+        ),
+        (
+            Failing {
+                rack: &[1, 5],
+                source: &[],
+                sink: &[],
+            },
+            "write 7 ok\nread 7 unreadable absent=1 tried=1\n",
+            Status::Done,
+        ),
+        (
+            Failing {
+                rack: &[0, 2],
+                source: &[],
+                sink: &[],
+            },
+            "write 7 missed columns=2\nread 7 no object\n",
             Status::Done,
         ),
         (
@@ -231,6 +258,22 @@ fn devices_fail(rt: HostRuntime) -> Result<(), Fail> {
         wanted.extend_from_slice(replies.as_bytes())?;
         assert_eq!(rt; printed, wanted);
     }
+    Ok(())
+}
+
+// The second block is written by calls 3 to 5 of the rack.
+#[test]
+fn earlier_bytes_stay(rt: HostRuntime) -> Result<(), Fail> {
+    let alloc = rt.alloc();
+    let failing = Failing {
+        rack: &[3, 5],
+        source: &[],
+        sink: &[],
+    };
+    let lines = "write 7 aa\nwrite 7 bb\nread 7\n";
+    let (ended, printed) = run_words(&rt, "session", created(alloc, lines)?, &failing)?;
+    assert_eq!(rt; ended, Status::Done);
+    assert!(rt; printed.ends_with(b"write 7 ok\nwrite 7 missed columns=2\nread 7 1 aa\n"));
     Ok(())
 }
 

@@ -18,6 +18,8 @@ returns g c =
         rack = e.rack;
         taken = e.taken;
         held = e.held;
+        logs = e.logs;
+        none_more = e.none_more;
         drops = e.gone;
         kept = e.kept;
       };

@@ -1,4 +1,4 @@
-use Rattle.std.proofs.Common.{arith, ◌∙◌, ◌*◌, ◌/◌, ◌%◌, ◌<◌, ap, refl, sym, subst}
+use Rattle.std.proofs.Common.{arith, ◌∙◌, inl, ◌*◌, ◌/◌, ◌%◌, ◌<◌, ap, refl, sym, subst}
 use Rattle.std.specs.Vec.{with_item}
 use Rattle.draid_spec.specs.declared.layout.Geometry.{Geometry}
 use Rattle.draid_map.specs.Place.{part_sectors}
@@ -52,13 +52,13 @@ returns-in-Ok g c = record {
       c.index_mut-shard.ensures.value in
       let e = c.in-Ok.ensures in
       let new : Pool g.row.R.Denot = record { geometry = old.geometry; shards = with_item old.shards k after; objects = old.objects; seq = old.seq; alloc = old.alloc } in
-      let t : Turned g.R.Rack.shape g.R.Rack.told g.R.Rack.faults k before after old new = record { one = record { there = at; sets = refl }; valid = e.valid; part = e.part; layout = refl } in
+      let t : Turned g.R.Rack.shape g.R.Rack.told g.R.Rack.faults k before after old new = record { one = record { there = at; sets = refl }; valid = e.valid; part = e.part; layout = refl; later = omega arith; entered = λ p has. inl (e.none_more p has) } in
       let yet = represents_yet g.R.Rack.shape g.R.Rack.told g.R.Rack.faults k before after old new changes t e.kept e.same (λ q. refl) is in
       let same = c.metaslab_sectors-sectors.ensures.value in
       damage_step g.R.Rack.shape g.R.Rack.told g.R.Rack.faults c.args.leaf c.args.sector (c.args.sector % c.metaslab_sectors-sectors.result) before after old new changes
       (is_there g.R.Rack.shape g.R.Rack.told g.R.Rack.faults old changes c.args.leaf c.args.sector c.metaslab_sectors-sectors.result
       (let below = c.if-leaf-from.false in let from = c.from.ensures in omega (arith, below, from)) same within)
-      (subst (λ n. Turned g.R.Rack.shape g.R.Rack.told g.R.Rack.faults (c.args.sector / n) before after old new) same t) yet (ap (λ n. c.args.sector % n) same) e.harmed e.free e.held e.cause.later refl);
+      (subst (λ n. Turned g.R.Rack.shape g.R.Rack.told g.R.Rack.faults (c.args.sector / n) before after old new) same t) yet (ap (λ n. c.args.sector % n) same) e.harmed e.free e.held e.logs e.cause.later refl);
 }
 
 pub returns-in-Err : goal.returns-in-Err
@@ -73,12 +73,12 @@ returns-in-Err g c = record {
       c.index_mut-shard.ensures.value in
       let e = c.in-Err.ensures in
       let new : Pool g.row.R.Denot = record { geometry = old.geometry; shards = with_item old.shards k after; objects = old.objects; seq = old.seq; alloc = old.alloc } in
-      let t : Turned g.R.Rack.shape g.R.Rack.told g.R.Rack.faults k before after old new = record { one = record { there = at; sets = refl }; valid = e.valid; part = e.part; layout = refl } in
+      let t : Turned g.R.Rack.shape g.R.Rack.told g.R.Rack.faults k before after old new = record { one = record { there = at; sets = refl }; valid = e.valid; part = e.part; layout = refl; later = omega arith; entered = λ p has. inl (e.none_more p has) } in
       let yet = represents_yet g.R.Rack.shape g.R.Rack.told g.R.Rack.faults k before after old new changes t e.kept e.same (λ q. refl) is in
       let same = c.metaslab_sectors-sectors.ensures.value in
       fails_step g.R.Rack.shape g.R.Rack.told g.R.Rack.faults c.args.leaf c.args.sector before after old new changes
       (is_there g.R.Rack.shape g.R.Rack.told g.R.Rack.faults old changes c.args.leaf c.args.sector c.metaslab_sectors-sectors.result
       (let below = c.if-leaf-from.false in let from = c.from.ensures in omega (arith, below, from)) same within)
       (subst (λ n. Turned g.R.Rack.shape g.R.Rack.told g.R.Rack.faults (c.args.sector / n) before after old new) same t) yet
-      (record { tells = e.err; free = e.free; held = e.held; later = e.cause.later }) e.cause.cause refl);
+      (record { tells = e.err; free = e.free; held = e.held; logs = e.logs; later = e.cause.later }) e.cause.cause refl);
 }

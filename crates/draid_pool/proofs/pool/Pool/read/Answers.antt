@@ -1,4 +1,4 @@
-use Rattle.std.proofs.Common.{arith, ◌∙◌, refl, sym}
+use Rattle.std.proofs.Common.{arith, ◌∙◌, inl, refl, sym}
 use Rattle.std.proofs.lemmas.Option.{slice_get_within}
 use Rattle.std.specs.Vec.{with_item}
 use Rattle.draid_pool.specs.declared.pool.Pool.{Pool}
@@ -49,8 +49,8 @@ returns g c = record {
       let new : Pool g.row.R.Denot
       = record { geometry = c.args.self.now.geometry; shards = with_item c.args.self.now.shards c.in-Some.pointer.metaslab after; objects = c.args.self.now.objects; seq = c.args.self.now.seq; alloc = c.args.self.now.alloc } in
       let t : Turned g.R.Rack.shape g.R.Rack.told g.R.Rack.faults c.in-Some.pointer.metaslab before after c.args.self.now new
-      = record { one = record { there = at; sets = refl }; valid = e.valid; part = e.part; layout = refl } in
+      = record { one = record { there = at; sets = refl }; valid = e.valid; part = e.part; layout = refl; later = omega arith; entered = λ p has. inl (e.none_more p has) } in
       let yet = represents_yet g.R.Rack.shape g.R.Rack.told g.R.Rack.faults c.in-Some.pointer.metaslab before after c.args.self.now new changes t e.kept e.same (λ q. refl) is in
       read_step g.R.Rack.shape g.R.Rack.told g.R.Rack.faults c.args.self.now new c.args.object c.in-Some.pointer before after c.read_block.result changes is.stands there t
-      (record { tells = e.told; free = e.free; held = e.held; later = e.later }) yet refl e.answer);
+      (record { tells = e.told; free = e.free; held = e.held; logs = e.logs; later = e.later }) yet refl e.answer);
 }

@@ -24,7 +24,7 @@ returns-in-Some-clause-represents g c changes write is held named names =
     let there = sym c.in-Ok.ensures.old ∙ c.in-Some.is in
     record {
       stands = next_stands g.R.Rack.shape g.R.Rack.told g.R.Rack.faults c.args.object c.args.pointer c.in-Some.earlier write c.args.self.now _ changes is held named there
-          (λ same. c.requires.apart (there ∙ ap Some (sym same))) c.free_block.ensures.frees refl (λ q. c.in-Ok.ensures.updates.0 q);
+          (λ same. c.requires.apart (there ∙ ap Some (sym same))) c.free_block.ensures.frees refl refl (λ q. c.in-Ok.ensures.updates.0 q);
       live = names_next g.R.Rack.shape g.R.Rack.told c.in-Some.earlier c.args.pointer c.args.self.now.shards.items c.free_block.new.shards.items (λ q. get nat_eq c.args.self.now.objects q)
           (λ q. get nat_eq c.insert.new.self q) c.args.object c.free_block.ensures.frees names there (held.object ∙ named) (λ q. c.in-Ok.ensures.updates.0 q);
     }
@@ -33,7 +33,7 @@ pub returns-in_default-earlier-clause-represents : goal.returns-in_default-earli
 returns-in_default-earlier-clause-represents g c changes write is held named names =
     let none = sym c.in-Ok.ensures.old ∙ c.in_default-earlier.is in
     record {
-      stands = first_stands g.R.Rack.shape g.R.Rack.told g.R.Rack.faults c.args.object c.args.pointer write c.args.self.now _ changes is held named refl refl (λ q. c.in-Ok.ensures.updates.0 q);
+      stands = first_stands g.R.Rack.shape g.R.Rack.told g.R.Rack.faults c.args.object c.args.pointer write c.args.self.now _ changes is held named refl refl refl (λ q. c.in-Ok.ensures.updates.0 q);
       live = names_put c.args.self.now.shards.items (λ q. get nat_eq c.args.self.now.objects q) (λ q. get nat_eq c.insert.new.self q) c.args.object c.args.pointer names none (held.object ∙ named)
           (λ q. c.in-Ok.ensures.updates.0 q);
     }

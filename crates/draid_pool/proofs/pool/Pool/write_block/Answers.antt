@@ -3,7 +3,7 @@ use Rattle.std.specs.Vec.{with_item}
 use Rattle.std.proofs.lemmas.Option.{slice_get_within}
 use Rattle.draid_pool.specs.declared.pool.Pool.{Pool}
 use Rattle.draid_pool.proofs.Steps.{Turned, stands_yet}
-use Rattle.draid_pool.proofs.Writing.{misses_step, room_cut, room_has, room_shard, room_valid, stays_step, stored_apart, stored_holds, stored_names, unwritten_step, writes_step}
+use Rattle.draid_pool.proofs.Writing.{entered_next, entered_none, misses_step, room_cut, room_has, room_shard, room_unused, room_valid, stays_step, stored_apart, stored_holds, stored_names, unwritten_step, writes_step}
 use Rattle.draid_pool.proofs.pool.Pool.write_block.Goals as goal
 
 pub returns-then-is_err : goal.returns-then-is_err
@@ -24,6 +24,12 @@ store-requires-clause-valid g c =
     let there = room_shard g.R.Rack.shape g.R.Rack.told g.R.Rack.faults c.args.self.now c.args.metaslab c.args.block.now.bytes c.index_mut.result.now c.requires.room c.index_mut.ensures.value in
     room_valid g.R.Rack.shape g.R.Rack.told g.R.Rack.faults c.args.self.now is.0 c.args.metaslab c.index_mut.result.now is.1.stands there
 
+pub store-requires-clause-unused : goal.store-requires-clause-unused
+store-requires-clause-unused g c =
+    let is = c.requires.represents in
+    let there = room_shard g.R.Rack.shape g.R.Rack.told g.R.Rack.faults c.args.self.now c.args.metaslab c.args.block.now.bytes c.index_mut.result.now c.requires.room c.index_mut.ensures.value in
+    room_unused g.R.Rack.shape g.R.Rack.told g.R.Rack.faults c.args.self.now is.0 c.args.metaslab c.args.object c.index_mut.result.now is.1.stands there
+
 pub store-requires-clause-cut : goal.store-requires-clause-cut
 store-requires-clause-cut g c =
     let is = c.requires.represents in
@@ -41,7 +47,7 @@ replace-requires-clause-stands g c =
     let e = c.in-Ok.ensures in (
       is.0,
       stands_yet g.R.Rack.shape g.R.Rack.told g.R.Rack.faults c.args.metaslab c.index_mut.result.now c.store.new.shard c.args.self.now _ is.0
-          (record { one = record { there = there; sets = refl }; valid = e.valid; part = e.part; layout = refl }) e.kept (λ q. c.reserve.ensures.entries.2 q) is.1.stands,
+          (record { one = record { there = there; sets = refl }; valid = e.valid; part = e.part; layout = refl; later = omega arith; entered = entered_next g.R.Rack.shape g.R.Rack.told g.R.Rack.faults c.args.self.now.seq c.index_mut.result.now c.store.new.shard e.entered }) e.kept (λ q. c.reserve.ensures.entries.2 q) is.1.stands,
     )
 
 pub replace-requires-clause-apart : goal.replace-requires-clause-apart
@@ -58,7 +64,7 @@ returns-in-Ok g c = record {
       let e = c.in-Ok.ensures in
       let mid : Pool g.row.R.Denot = record { geometry = c.args.self.now.geometry; shards = with_item c.args.self.now.shards c.args.metaslab c.store.new.shard; objects = c.reserve.new.self; seq = c.args.self.now.seq + 1; alloc = c.args.self.now.alloc } in
       let t : Turned g.R.Rack.shape g.R.Rack.told g.R.Rack.faults c.args.metaslab c.index_mut.result.now c.store.new.shard c.args.self.now mid
-      = record { one = record { there = there; sets = refl }; valid = e.valid; part = e.part; layout = refl } in
+      = record { one = record { there = there; sets = refl }; valid = e.valid; part = e.part; layout = refl; later = omega arith; entered = entered_next g.R.Rack.shape g.R.Rack.told g.R.Rack.faults c.args.self.now.seq c.index_mut.result.now c.store.new.shard e.entered } in
       let kept = stands_yet g.R.Rack.shape g.R.Rack.told g.R.Rack.faults c.args.metaslab c.index_mut.result.now c.store.new.shard c.args.self.now mid changes t e.kept (λ q. c.reserve.ensures.entries.2 q) is.stands in
       writes_step g.R.Rack.shape g.R.Rack.told g.R.Rack.faults c.args.metaslab c.args.object c.args.block.now.bytes c.in-Ok.pointer c.index_mut.result.now c.store.new.shard c.args.self.now mid c.replace.new.self
       changes t e.answer e.later refl c.replace.ensures.same
@@ -75,7 +81,7 @@ returns-in-Err-Missed g c = record {
       let e = c.in-Err-Missed.ensures in
       let new : Pool g.row.R.Denot = record { geometry = c.args.self.now.geometry; shards = with_item c.args.self.now.shards c.args.metaslab c.store.new.shard; objects = c.reserve.new.self; seq = c.args.self.now.seq + 1; alloc = c.args.self.now.alloc } in
       let t : Turned g.R.Rack.shape g.R.Rack.told g.R.Rack.faults c.args.metaslab c.index_mut.result.now c.store.new.shard c.args.self.now new
-      = record { one = record { there = there; sets = refl }; valid = e.valid; part = e.part; layout = refl } in
+      = record { one = record { there = there; sets = refl }; valid = e.valid; part = e.part; layout = refl; later = omega arith; entered = entered_next g.R.Rack.shape g.R.Rack.told g.R.Rack.faults c.args.self.now.seq c.index_mut.result.now c.store.new.shard e.entered } in
       misses_step g.R.Rack.shape g.R.Rack.told g.R.Rack.faults c.args.metaslab c.args.object c.args.block.now.bytes c.in-Err-Missed.columns c.in-Err-Missed.field-0 c.index_mut.result.now c.store.new.shard
       c.args.self.now new changes t c.in-Err-Missed.field-0-is e.answer e.later refl e.kept (λ q. c.reserve.ensures.entries.2 q) is);
 }
@@ -87,7 +93,7 @@ returns-in-Err-NoMemory g c = record {
       let e = c.in-Err-NoMemory.ensures in
       let new : Pool g.row.R.Denot = record { geometry = c.args.self.now.geometry; shards = with_item c.args.self.now.shards c.args.metaslab c.store.new.shard; objects = c.reserve.new.self; seq = c.args.self.now.seq; alloc = c.args.self.now.alloc } in
       let t : Turned g.R.Rack.shape g.R.Rack.told g.R.Rack.faults c.args.metaslab c.index_mut.result.now c.store.new.shard c.args.self.now new
-      = record { one = record { there = there; sets = refl }; valid = e.valid; part = e.part; layout = refl } in
+      = record { one = record { there = there; sets = refl }; valid = e.valid; part = e.part; layout = refl; later = omega arith; entered = entered_none g.R.Rack.shape g.R.Rack.told g.R.Rack.faults c.args.object c.args.block.now.bytes c.in-Err-NoMemory.field-0 c.index_mut.result.now c.store.new.shard c.args.self.now.seq c.in-Err-NoMemory.field-0-is e.answer } in
       stays_step g.R.Rack.shape g.R.Rack.told g.R.Rack.faults c.args.metaslab c.args.object c.args.block.now.bytes c.in-Err-NoMemory.field-0 c.index_mut.result.now c.store.new.shard
       c.args.self.now new changes t c.in-Err-NoMemory.field-0-is e.answer refl e.kept (λ q. c.reserve.ensures.entries.2 q) is);
 }
