@@ -2,6 +2,7 @@
 
 #![tactic(auto)]
 
+mod batch;
 mod closing;
 mod fault;
 mod opening;
