@@ -22,7 +22,7 @@ pub(crate) struct Batch {
     fault: Option<ObjectFault>,
 }
 
-/// Fetches the blocks of the first of `count` objects.
+/// Fetches the blocks of objects from `first` on, at most `count`, until they have bytes enough or an object gives none.
 fn fetch_batch<R: Rack>(pool: &mut Pool<R>, first: u64, count: u64) -> Batch
     requires some { 1 ≤ count }
     requires range { first + count ≤ 2 ^ 32 }
@@ -81,7 +81,8 @@ fn feed(hasher: &mut Sha256, first: u64, solves: &[Solve]) -> Result<(), SumFaul
     Ok(())
 }
 
-/// Adds the bytes of the first of `count` objects to what a hasher holds, and gives the number of objects.
+/// Adds the bytes of objects from `first` on, at least one and at most `count`, to what a hasher holds, and gives their
+/// number.
 pub(crate) fn add_batch<R: Rack>(
     rt: &(impl Threads + Sync),
     pool: &mut Pool<R>,

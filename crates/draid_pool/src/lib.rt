@@ -1,4 +1,4 @@
-//! A pool on one thread: objects whose bytes are written to blocks of its metaslabs, and read again.
+//! A pool: objects whose bytes are written to blocks of its metaslabs, and read again.
 
 #![tactic(auto)]
 
