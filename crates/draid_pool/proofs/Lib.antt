@@ -1,5 +1,7 @@
+pub mod Batches
 pub mod Choosing
 pub mod Closed
+pub mod Feeding
 pub mod Harm
 pub mod Lists
 pub mod Named

@@ -1,21 +1,27 @@
 -- What reads, freeing and damage do to the state that a pool stands for.
-use Rattle.std.proofs.Common.{arith, ◌≡◌, ◌/◌, ◌%◌, ◌∙◌, ℕ, true, List, ◌∷◌, Vec, Global, Option, Some, None, Result, Ok, Err, cond, refl, sym, ap, subst, map, slice_index_or}
+use Rattle.std.proofs.Common.{arith, ◌≡◌, ◌/◌, ◌%◌, ◌∙◌, ℕ, true, List, ◌∷◌, Vec, Global, Option, Some, None, Result, Ok, Err, cond, refl, sym, ap, subst, map, slice_index_or, IfOk}
 use Rattle.std.specs.Prelude.{nat_eq, option_map, slice_get}
 use Rattle.std.specs.HashMap.{get}
 use Rattle.std.specs.List.{AllZip}
 use Rattle.draid_names.specs.Faults.{Rose}
+use Rattle.draid_names.specs.declared.fault.NoMemory.{NoMemory}
 use Rattle.draid_names.specs.declared.pointer.Pointer.{Pointer}
+use Rattle.draid_spec.specs.declared.layout.Geometry.{Geometry}
 use Rattle.draid_map.specs.Place.{part_sectors}
 use Rattle.draid_rack.specs.Rack.{Shape, Told, put}
 use Rattle.draid_block.specs.Blocks.{cut_of}
 use Rattle.draid_block.specs.Columns.{stripes_of}
+use Rattle.draid_block.specs.Many.{IsSolved}
+use Rattle.draid_block.specs.Solving.{IsFetched}
+use Rattle.draid_block.specs.declared.many.Solve.TheVariants as solve
+use Rattle.draid_block.specs.declared.solve.Fetched.{Fetched}
 use Rattle.draid_shard.specs.declared.shard.Shard.{Shard}
 use Rattle.draid_shard.specs.Columns.{MoreBad, TellsBoth, is_missed}
 use Rattle.draid_shard.specs.Shard.{HoldsBlock, IsLive, NoneFalls, free_of, held_of, logs_of, missed_of, part_of}
-use Rattle.draid_pool.specs.Answers.{DamageIs, FreeIs, ReadIs}
+use Rattle.draid_pool.specs.Answers.{DamageIs, FetchIs, FreeIs, ReadIs}
 use Rattle.draid_pool.specs.Pool.{HoldsWrite, Moves, Represents, Stands, harm_of, metaslab_of, state_of}
 use Rattle.draid_pool.specs.State.{Change, Freed, IsThere, Looks, LooksAt, Metaslab, MovesOne, State, Write, stripes_for, write_of}
-use Rattle.draid_pool.specs.Store.{BlockAnswers, FreesBlock}
+use Rattle.draid_pool.specs.Store.{BlockAnswers, FetchAnswers, FreesBlock, SolveIs, reading_of}
 use Rattle.draid_pool.specs.declared.fault.DamageFault.TheVariants as damage_fault
 use Rattle.draid_pool.specs.declared.fault.FreeFault.{FreeFault}
 use Rattle.draid_pool.specs.declared.fault.ObjectFault.{ObjectFault}
@@ -27,6 +33,11 @@ use Rattle.draid_pool.proofs.Named.{names_drop}
 use Rattle.draid_pool.proofs.Objects.{Has, drop_none, has_none}
 use Rattle.draid_pool.proofs.Shards.{at_shard, some_of}
 use Rattle.draid_pool.proofs.Steps.{Turned, found, free_stands, freed_images, one_moved, same_stands, same_state}
+
+-- the answer to a fetch, where a block was fetched or memory was wanting
+abbrev pub fetch_of : Result Fetched NoMemory → Result Fetched ObjectFault
+fetch_of (Ok fetched) = Ok fetched
+fetch_of (Err fault) = Err object_fault.NoMemory
 
 pub looks_same : (x : Metaslab) → LooksAt x x
 looks_same x = record { keeps = record { part = refl; free = refl; held = refl; later = λ who. omega arith }; logs = refl; harm = refl }
@@ -97,7 +108,7 @@ module _ {R : Type 0} (shape : R → Shape) (told : R → Option Told) (faults :
       }
 
   pub no_object_step : (pool : Pool R) (object : ℕ) (changes : List Change) → Represents shape told pool changes → get nat_eq pool.objects object ≡ None
-      → Moves shape told faults (ReadIs object (Err object_fault.NoObject)) (state_of told faults pool changes) pool
+      → Moves shape told faults (FetchIs object (Err object_fault.NoObject)) (state_of told faults pool changes) pool
   no_object_step pool object changes is none = record {
     changes = changes;
     represents = is;
@@ -143,19 +154,59 @@ module _ {R : Type 0} (shape : R → Shape) (told : R → Option Told) (faults :
         looks,
       )
 
-  pub read_step : (old new : Pool R) (object : ℕ) (pointer : Pointer) (before after : Shard R) (result : Result (Vec ℕ Global) ObjectFault) (changes : List Change)
+  fetch_is : (old new : Pool R) (object : ℕ) (pointer : Pointer) (before after : Shard R) (changes : List Change) (result : Result Fetched NoMemory)
+      → Stands shape told old changes → (h : Has told old.shards.items (write_of changes object) pointer) → Turned shape told faults pointer.metaslab before after old new
+      → HoldsBlock told before pointer h.write.bytes → IfOk result (IsFetched (cut_of old.geometry))
+      → IfOk result (FetchAnswers (part_of before) (missed_of before pointer) pointer h.write.bytes (told before.rack) (faults before.rack) (faults after.rack))
+      → Looks (state_of told faults old changes) (state_of told faults new changes) → FetchIs object (fetch_of result) (state_of told faults old changes) (state_of told faults new changes)
+  fetch_is old new object pointer before after changes (Ok fetched) is h t holds block answers looks =
+      let layout = (is.members pointer.metaslab before t.one.there).layout in
+      record {
+        block = block;
+        answers = λ answer solved. answered old new object pointer before after changes (reading_of answer) is h t holds
+            (answers answer (subst (λ (g : Geometry). IsSolved (cut_of g) fetched answer) (sym layout) solved)) looks;
+        looks = looks;
+      }
+  fetch_is old new object pointer before after changes (Err fault) is h t holds block answers looks = (tt, looks)
+
+  pub fetch_step : (old new : Pool R) (object : ℕ) (pointer : Pointer) (before after : Shard R) (result : Result Fetched NoMemory) (changes : List Change)
       → Stands shape told old changes → get nat_eq old.objects object ≡ Some pointer → Turned shape told faults pointer.metaslab before after old new → HasLooked before after
-      → Represents shape told new changes → new.seq ≡ old.seq
-      → ((w : List ℕ) → HoldsBlock told before pointer w → BlockAnswers (part_of before) (missed_of before pointer) pointer w (told before.rack) (faults before.rack) (faults after.rack) result)
-      → Moves shape told faults (ReadIs object result) (state_of told faults old changes) new
-  read_step old new object pointer before after result changes is there t looked yet seq answer =
+      → Represents shape told new changes → new.seq ≡ old.seq → IfOk result (IsFetched (cut_of before.geometry))
+      → ((w : List ℕ) → HoldsBlock told before pointer w → IfOk result (FetchAnswers (part_of before) (missed_of before pointer) pointer w (told before.rack) (faults before.rack) (faults after.rack)))
+      → Moves shape told faults (FetchIs object (fetch_of result)) (state_of told faults old changes) new
+  fetch_step old new object pointer before after result changes is there t looked yet seq block answers =
       let h = found shape told faults old changes object pointer is there in
       let holds = block_in old.shards.items pointer h.write before h.held t.one.there in
+      let layout = (is.members pointer.metaslab before t.one.there).layout in
       record {
         changes = changes;
         represents = yet;
-        moved = answered old new object pointer before after changes result is h t holds (answer h.write.bytes holds) (looks_of pointer.metaslab before after old new changes t looked seq);
+        moved = fetch_is old new object pointer before after changes result is h t holds (subst (λ (g : Geometry). IfOk result (IsFetched (cut_of g))) layout block) (answers h.write.bytes holds)
+            (looks_of pointer.metaslab before after old new changes t looked seq);
       }
+
+  -- what solves the block that was fetched is what was read
+  pub read_is : (object : ℕ) (fetched : Fetched) (result : Result (Vec ℕ Global) ObjectFault) (old : State) (new : Pool R) → Moves shape told faults (FetchIs object (Ok fetched)) old new
+      → SolveIs (cut_of new.geometry) fetched result → Moves shape told faults (ReadIs object result) old new
+  read_is object fetched (Ok bytes) old new m solved = record {
+    changes = m.changes;
+    represents = m.represents;
+    moved = m.moved.answers (solve.Bytes bytes) (subst (λ (g : Geometry). IsSolved (cut_of g) fetched (solve.Bytes bytes)) m.moved.looks.geometry solved);
+  }
+  read_is object fetched (Err object_fault.NoObject) old new m solved = absurd solved
+  read_is object fetched (Err object_fault.NoMemory) old new m solved = record { changes = m.changes; represents = m.represents; moved = (tt, m.moved.looks) }
+  read_is object fetched (Err (object_fault.Unreadable absent tried)) old new m solved = record {
+    changes = m.changes;
+    represents = m.represents;
+    moved = m.moved.answers (solve.Unreadable absent tried) (subst (λ (g : Geometry). IsSolved (cut_of g) fetched (solve.Unreadable absent tried)) m.moved.looks.geometry solved);
+  }
+
+  pub unfetched : (object : ℕ) (why : ObjectFault) (old : State) (new : Pool R) → Moves shape told faults (FetchIs object (Err why)) old new
+      → Moves shape told faults (ReadIs object (Err why)) old new
+  unfetched object why old new m = record { changes = m.changes; represents = m.represents; moved = m.moved }
+
+  pub block_fetched : (object : ℕ) (fetched : Fetched) (old : State) (new : Pool R) → Moves shape told faults (FetchIs object (Ok fetched)) old new → IsFetched (cut_of new.geometry) fetched
+  block_fetched object fetched old new m = subst (λ (g : Geometry). IsFetched (cut_of g) fetched) (sym m.moved.looks.geometry) m.moved.block
 
   -- the shard of an object's pointer
   pub read_shard : (old : Pool R) (object : ℕ) (pointer : Pointer) (shard : Shard R) (changes : List Change) → Stands shape told old changes → get nat_eq old.objects object ≡ Some pointer

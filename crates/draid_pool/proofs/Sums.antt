@@ -1,15 +1,18 @@
 -- The bytes of one object after another.
-use Rattle.std.proofs.Common.{◌≡◌, ◌+◌, ◌<◌, ◌∙◌, ◌++◌, ℕ, List, [], ◌∷◌, Vec, Global, Option, Result, Ok, Err, arith, sym, ap, subst, length, length-append}
+use Rattle.std.proofs.Common.{◌≡◌, ◌+◌, ◌-◌, ◌≤◌, ◌∙◌, ◌++◌, ℕ, List, [], ◌∷◌, Option, Ok, Err, arith, refl, sym, ap, subst, length, length-append}
 use Rattle.std.specs.Prelude.{flat_map}
-use Rattle.std.proofs.lemmas.List.{append-nil, append_assoc}
+use Rattle.std.proofs.lemmas.List.{append_assoc}
 use Rattle.sha2.specs.Sha256.{sha256}
 use Rattle.sha2.specs.Hashers.{Holds256}
 use Rattle.sha2.specs.declared.Sha256.{Sha256}
 use Rattle.draid_rack.specs.Rack.{Shape, Told}
-use Rattle.draid_pool.specs.Answers.{ReadIs, SumIs}
+use Rattle.draid_pool.specs.Answers.{BatchBehind, SumIs, SumStops}
+use Rattle.draid_pool.specs.Batches.{AddIs}
 use Rattle.draid_pool.specs.Pool.{Moves, Represents, state_of}
-use Rattle.draid_pool.specs.State.{AreLast, Change, Looks, LooksAt, Metaslab, ReadsLast, State}
+use Rattle.draid_pool.specs.State.{AreLast, Change, Looks, LooksAt, Metaslab, State}
 use Rattle.draid_pool.specs.declared.fault.ObjectFault.{ObjectFault}
+use Rattle.draid_pool.specs.declared.fault.ObjectFault.TheVariants as object_fault
+use Rattle.draid_pool.specs.declared.fault.SumFault.{SumFault}
 use Rattle.draid_pool.specs.declared.pool.Pool.{Pool}
 use Rattle.draid_pool.proofs.Lists.{zip_twice}
 use Rattle.draid_pool.proofs.Reading.{looks_all}
@@ -18,14 +21,14 @@ use Rattle.draid_pool.proofs.Reading.{looks_all}
 abbrev pub joined : List (List ℕ) → List ℕ
 joined contents = flat_map (λ bytes. bytes) contents
 
-joined_more : (contents : List (List ℕ)) (bytes : List ℕ) → joined contents ++ bytes ≡ joined (contents ++ bytes ∷ [])
-joined_more [] bytes = sym (append-nil bytes)
-joined_more (c ∷ cs) bytes = append_assoc c (joined cs) bytes ∙ ap (λ rest. c ++ rest) (joined_more cs bytes)
+pub joined_append : (contents more : List (List ℕ)) → joined contents ++ joined more ≡ joined (contents ++ more)
+joined_append [] more = refl
+joined_append (c ∷ cs) more = append_assoc c (joined cs) (joined more) ∙ ap (λ rest. c ++ rest) (joined_append cs more)
 
-last_more : (changes : List Change) (first object : ℕ) (contents : List (List ℕ)) (bytes : List ℕ) → first + length contents ≡ object → AreLast changes first contents → ReadsLast changes object bytes
-    → AreLast changes first (contents ++ bytes ∷ [])
-last_more changes first object [] bytes at last here = (subst (λ (o : ℕ). ReadsLast changes o bytes) (omega (arith, at)) here, tt)
-last_more changes first object (c ∷ cs) bytes at last here = (last.0, last_more changes (first + 1) object cs bytes (omega (arith, at)) last.1 here)
+last_append : (changes : List Change) (first object : ℕ) (contents more : List (List ℕ)) → first + length contents ≡ object → AreLast changes first contents → AreLast changes object more
+    → AreLast changes first (contents ++ more)
+last_append changes first object [] more at last here = subst (λ (o : ℕ). AreLast changes o more) (omega (arith, at)) here
+last_append changes first object (c ∷ cs) more at last here = (last.0, last_append changes (first + 1) object cs more (omega (arith, at)) last.1 here)
 
 at_twice : (x y z : Metaslab) → LooksAt x y → LooksAt y z → LooksAt x z
 at_twice x y z a b = record {
@@ -47,73 +50,93 @@ looks_on a b c x y = record {
   seq = y.seq ∙ x.seq;
 }
 
+-- what was read behind an object that gave no bytes changes nothing but counts of faults
+pub behind_looks : (why : ObjectFault) (after new : State) → BatchBehind why after new → Looks after new
+behind_looks object_fault.NoObject after new is = subst (λ (s : State). Looks after s) (sym is) (looks_all after)
+behind_looks (object_fault.Unreadable absent tried) after new is = is
+behind_looks object_fault.NoMemory after new is = is
+
 module _ {R : Type 0} (shape : R → Shape) (told : R → Option Told) (faults : R → Option ℕ → ℕ) where
-  -- the objects so far gave their bytes, which the hasher holds
-  pub record Summing (old new : Pool R) (changes : List Change) (first object : ℕ) (hasher : Sha256) : Type 0 where
+  -- what a call did that changes nothing of the objects, where the pool stands for these changes then
+  pub record Stayed (step : State → State → Type 0) (mid new : Pool R) (changes now : List Change) : Type 0 where
+    pub represents : Represents shape told new now
+    pub moved : step (state_of told faults mid changes) (state_of told faults new now)
+
+  pub stayed : (step : State → State → Type 0) → ((x y : State) → step x y → Looks x y) → (mid new : Pool R) (changes : List Change)
+      → Moves shape told faults step (state_of told faults mid changes) new → Stayed step mid new changes changes
+  stayed step look mid new changes m =
+      let looks = look (state_of told faults mid changes) (state_of told faults new m.changes) m.moved in
+      subst (λ (now : List Change). Stayed step mid new changes now) looks.changes (record { represents = m.represents; moved = m.moved })
+
+  -- so many objects gave their bytes, which the hasher holds
+  pub record Summing (old new : Pool R) (changes : List Change) (first summed : ℕ) (hasher : Sha256) : Type 0 where
     pub contents : List (List ℕ)
-    pub many : first + length contents ≡ object
+    pub many : length contents ≡ summed
     pub last : AreLast changes first contents
     pub holds : Holds256 hasher (joined contents)
     pub represents : Represents shape told new changes
     pub looks : Looks (state_of told faults old changes) (state_of told faults new changes)
 
-  pub summing_none : (old : Pool R) (changes : List Change) (first : ℕ) (hasher : Sha256) → Holds256 hasher [] → Represents shape told old changes → Summing old old changes first first hasher
+  pub summing_none : (old : Pool R) (changes : List Change) (first : ℕ) (hasher : Sha256) → Holds256 hasher [] → Represents shape told old changes → Summing old old changes first 0 hasher
   summing_none old changes first hasher holds is =
-      record { contents = []; many = omega arith; last = tt; holds = holds; represents = is; looks = looks_all (state_of told faults old changes) }
+      record { contents = []; many = refl; last = tt; holds = holds; represents = is; looks = looks_all (state_of told faults old changes) }
 
-  -- what was read of the next object, where the pool then stands for these changes
-  record Next (mid new : Pool R) (changes now : List Change) (object : ℕ) (result : Result (Vec ℕ Global) ObjectFault) : Type 0 where
-    pub represents : Represents shape told new now
-    pub answer : ReadIs object result (state_of told faults mid changes) (state_of told faults new now)
-
-  looks_in : (object : ℕ) (result : Result (Vec ℕ Global) ObjectFault) (old new : State) → ReadIs object result old new → Looks old new
-  looks_in object (Ok bytes) old new h = h.1
-  looks_in object (Err why) old new h = h.1
-
-  next : (mid new : Pool R) (changes : List Change) (object : ℕ) (result : Result (Vec ℕ Global) ObjectFault)
-      → Moves shape told faults (ReadIs object result) (state_of told faults mid changes) new → Next mid new changes changes object result
-  next mid new changes object result m =
-      let looks = looks_in object result (state_of told faults mid changes) (state_of told faults new m.changes) m.moved in
-      subst (λ (now : List Change). Next mid new changes now object result) looks.changes (record { represents = m.represents; answer = m.moved })
-
-  pub summing_more : (old mid new : Pool R) (changes : List Change) (first object : ℕ) (hasher hasher' : Sha256) (bytes : Vec ℕ Global) → Summing old mid changes first object hasher
-      → (Represents shape told mid changes → Moves shape told faults (ReadIs object (Ok bytes)) (state_of told faults mid changes) new)
-      → ((m : List ℕ) → Holds256 hasher m → Holds256 hasher' (m ++ bytes.items)) → Summing old new changes first (object + 1) hasher'
-  summing_more old mid new changes first object hasher hasher' bytes s moves more =
-      let n = next mid new changes object (Ok bytes) (moves s.represents) in
-      let many = s.many in
+  pub summing_more : (old mid new : Pool R) (changes : List Change) (first summed count added : ℕ) (hasher hasher' : Sha256) → Summing old mid changes first summed hasher
+      → (Represents shape told mid changes → Moves shape told faults (AddIs (first + summed) count hasher hasher' (Ok added)) (state_of told faults mid changes) new)
+      → Summing old new changes first (summed + added) hasher'
+  summing_more old mid new changes first summed count added hasher hasher' s moves =
+      let n = stayed (AddIs (first + summed) count hasher hasher' (Ok added)) (λ x y h. h.looks) mid new changes (moves s.represents) in
+      let a = n.moved in
       record {
-        contents = s.contents ++ bytes.items ∷ [];
-        many = omega (arith, many, length-append s.contents (bytes.items ∷ []));
-        last = last_more changes first object s.contents bytes.items s.many s.last n.answer.0;
-        holds = subst (λ (m : List ℕ). Holds256 hasher' m) (joined_more s.contents bytes.items) (more (joined s.contents) s.holds);
+        contents = s.contents ++ a.contents;
+        many = (let many = s.many in let more = a.many in omega (arith, many, more, length-append s.contents a.contents));
+        last = last_append changes first (first + summed) s.contents a.contents (ap (λ k. first + k) s.many) s.last a.last;
+        holds = subst (λ (m : List ℕ). Holds256 hasher' m) (joined_append s.contents a.contents) (a.fed (joined s.contents) s.holds);
         represents = n.represents;
-        looks = looks_on (state_of told faults old changes) (state_of told faults mid changes) (state_of told faults new changes) s.looks n.answer.1;
+        looks = looks_on (state_of told faults old changes) (state_of told faults mid changes) (state_of told faults new changes) s.looks a.looks;
       }
 
-  pub sum_stops : (old mid new : Pool R) (changes : List Change) (first count object : ℕ) (hasher : Sha256) (why : ObjectFault) → Summing old mid changes first object hasher → object < first + count
-      → (Represents shape told mid changes → Moves shape told faults (ReadIs object (Err why)) (state_of told faults mid changes) new)
-      → Moves shape told faults (SumIs first count (Err (record { object = object; why = why }))) (state_of told faults old changes) new
-  sum_stops old mid new changes first count object hasher why s below moves =
-      let n = next mid new changes object (Err why) (moves s.represents) in
+  -- the objects that were added are some of those that were left
+  pub some_added : (first count added : ℕ) (hasher hasher' : Sha256) (old : State) (new : Pool R) → Moves shape told faults (AddIs first count hasher hasher' (Ok added)) old new
+      → (1 ≤ added) × (added ≤ count)
+  some_added first count added hasher hasher' old new m = (m.moved.some, m.moved.within)
+
+  stops_look : (first count : ℕ) (fault : SumFault) (x y : State) → SumStops first count fault x y → Looks x y
+  stops_look first count fault x y s = looks_on x s.mid y s.stops.looks (looks_on s.mid s.after y s.looks (behind_looks fault.why s.after y s.behind))
+
+  pub sum_stops : (old mid new : Pool R) (changes : List Change) (first summed count : ℕ) (hasher hasher' : Sha256) (fault : SumFault) → Summing old mid changes first summed hasher → summed ≤ count
+      → (Represents shape told mid changes → Moves shape told faults (AddIs (first + summed) (count - summed) hasher hasher' (Err fault)) (state_of told faults mid changes) new)
+      → Moves shape told faults (SumIs first count (Err fault)) (state_of told faults old changes) new
+  sum_stops old mid new changes first summed count hasher hasher' fault s below moves =
+      let n = stayed (AddIs (first + summed) (count - summed) hasher hasher' (Err fault)) (stops_look (first + summed) (count - summed) fault) mid new changes (moves s.represents) in
+      let f = n.moved in
       let many = s.many in
+      let at = f.stops.behind in
+      let within = f.stops.within in
+      let long = length-append s.contents f.stops.contents in
       record {
         changes = changes;
         represents = n.represents;
         moved = record {
-          mid = state_of told faults mid changes;
-          stops = record { contents = s.contents; behind = sym s.many; within = omega (arith, many, below); last = s.last; looks = s.looks };
-          why = n.answer.0;
-          looks = n.answer.1;
+          mid = f.mid;
+          after = f.after;
+          stops = record {
+            contents = s.contents ++ f.stops.contents;
+            behind = omega (arith, many, at, long);
+            within = omega (arith, many, within, long, below);
+            last = last_append changes first (first + summed) s.contents f.stops.contents (ap (λ k. first + k) s.many) s.last f.stops.last;
+            looks = looks_on (state_of told faults old changes) (state_of told faults mid changes) f.mid s.looks f.stops.looks;
+          };
+          why = f.why;
+          looks = f.looks;
+          behind = f.behind;
         };
       }
 
-  pub sum_done : (old new : Pool R) (changes : List Change) (first count object : ℕ) (hasher : Sha256) (digest : List ℕ) → Summing old new changes first object hasher → object ≡ first + count
+  pub sum_done : (old new : Pool R) (changes : List Change) (first summed count : ℕ) (hasher : Sha256) (digest : List ℕ) → Summing old new changes first summed hasher → summed ≡ count
       → ((m : List ℕ) → Holds256 hasher m → digest ≡ sha256 m) → Moves shape told faults (SumIs first count (Ok digest)) (state_of told faults old changes) new
-  sum_done old new changes first count object hasher digest s end is =
-      let many = s.many in
-      record {
-        changes = changes;
-        represents = s.represents;
-        moved = (record { contents = s.contents; many = omega (arith, many, end); last = s.last; is = is (joined s.contents) s.holds }, s.looks);
-      }
+  sum_done old new changes first summed count hasher digest s end is = record {
+    changes = changes;
+    represents = s.represents;
+    moved = (record { contents = s.contents; many = s.many ∙ end; last = s.last; is = is (joined s.contents) s.holds }, s.looks);
+  }

@@ -3,7 +3,13 @@ use Rattle.std.specs.Prelude.{◌≡◌, ℕ, List, Option, None, Result, Ok, Er
 use Rattle.std.specs.declared.vec.Vec.{Vec}
 use Rattle.std.specs.declared.alloc.Global.{Global}
 use Rattle.draid_names.specs.declared.room.Room.{Room}
+use Rattle.draid_block.specs.Blocks.{cut_of}
+use Rattle.draid_block.specs.Many.{IsSolved}
+use Rattle.draid_block.specs.Solving.{IsFetched}
+use Rattle.draid_block.specs.declared.many.Solve.{Solve}
+use Rattle.draid_block.specs.declared.solve.Fetched.{Fetched}
 use Rattle.draid_pool.specs.State.{Damages, FailsToDamage, Frees, HasNoSpace, IsLast, IsLost, IsThere, Looks, Misses, MissesIn, ReadsLast, State, Stays, StopsAt, Sums, Writes, WritesTo, write_of}
+use Rattle.draid_pool.specs.Store.{reading_of}
 use Rattle.draid_pool.specs.declared.fault.WriteFault.{WriteFault}
 use Rattle.draid_pool.specs.declared.fault.WriteFault.TheVariants as write
 use Rattle.draid_pool.specs.declared.fault.FreeFault.{FreeFault}
@@ -43,12 +49,30 @@ abbrev pub ReadIs : ℕ → Result (Vec ℕ Global) ObjectFault → State → St
 ReadIs o (Ok bytes) old new = ReadsLast old.changes o bytes.items × Looks old new
 ReadIs o (Err why) old new = ObjectFaultIs o why old new × Looks old new
 
+-- An object's block was fetched: whatever solves it is an answer to a read of the object.
+pub record Fetches (o : ℕ) (fetched : Fetched) (old new : State) : Type 0 where
+  pub block : IsFetched (cut_of old.geometry) fetched
+  pub answers : (solve : Solve) → IsSolved (cut_of old.geometry) fetched solve → ReadIs o (reading_of solve) old new
+  pub looks : Looks old new
+
+abbrev pub FetchIs : ℕ → Result Fetched ObjectFault → State → State → Type 0
+FetchIs o (Ok fetched) old new = Fetches o fetched old new
+FetchIs o (Err why) old new = ObjectFaultIs o why old new × Looks old new
+
+-- which objects behind one that gave no bytes were read yet: none where it has none, else perhaps some of its batch
+abbrev pub BatchBehind : ObjectFault → State → State → Type 0
+BatchBehind object.NoObject after new = new ≡ after
+BatchBehind (object.Unreadable absent tried) after new = Looks after new
+BatchBehind object.NoMemory after new = Looks after new
+
 -- the first object that gave no bytes, and why
 pub record SumStops (first count : ℕ) (fault : SumFault) (old new : State) : Type 0 where
-  pub mid : State
+  pub mid : State  -- the state as the object was come to
+  pub after : State  -- and as it gave no bytes
   pub stops : StopsAt first count fault.object old mid
-  pub why : ObjectFaultIs fault.object fault.why mid new
-  pub looks : Looks mid new
+  pub why : ObjectFaultIs fault.object fault.why mid after
+  pub looks : Looks mid after
+  pub behind : BatchBehind fault.why after new  -- others of its batch may have been read since; none where it is missing
 
 abbrev pub SumIs : ℕ → ℕ → Result (List ℕ) SumFault → State → State → Type 0
 SumIs first count (Ok digest) old new = Sums old.changes first count digest × Looks old new

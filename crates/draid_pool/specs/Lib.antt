@@ -1,4 +1,5 @@
 pub mod Answers
+pub mod Batches
 pub mod Close
 pub mod Create
 pub mod Pool

@@ -8,7 +8,13 @@ use Rattle.sha2.specs.Sha256.{sha256}
 use Rattle.draid_names.specs.declared.pointer.Pointer.{Pointer}
 use Rattle.draid_names.specs.declared.room.Room.{Room}
 use Rattle.draid_rack.specs.Rack.{OnTold, Shape, Told}
+use Rattle.draid_block.specs.Columns.{Cut}
+use Rattle.draid_block.specs.Blocks.{cut_of}
+use Rattle.draid_block.specs.Many.{IsSolved}
 use Rattle.draid_block.specs.Order.{solve_order}
+use Rattle.draid_block.specs.declared.many.Solve.{Solve}
+use Rattle.draid_block.specs.declared.many.Solve.TheVariants.{Bytes, Unreadable}
+use Rattle.draid_block.specs.declared.solve.Fetched.{Fetched}
 use Rattle.draid_metaslab.specs.Spots.{IsLowest}
 use Rattle.draid_shard.specs.declared.shard.Shard.{Shard}
 use Rattle.draid_shard.specs.Part.{Part, leaf_of}
@@ -120,6 +126,23 @@ BlockAnswers part gone pointer w told old new (Ok bytes) = AreBytesOf w bytes.it
 BlockAnswers part gone pointer w told old new (Err (object.Unreadable absent tried)) = IsUnread part gone pointer.first pointer.stripes told old new absent tried
 BlockAnswers part gone pointer w told old new (Err object.NoMemory) = ⊤
 BlockAnswers part gone pointer w told old new (Err object.NoObject) = ⊥
+
+-- a block's answer as that of a read
+abbrev pub reading_of : Solve → Result (Vec ℕ Global) ObjectFault
+reading_of (Bytes bytes) = Ok bytes
+reading_of (Unreadable absent tried) = Err (object.Unreadable absent tried)
+
+-- whatever solves this that was fetched is an answer to a read of the block w, of which these columns are missed
+abbrev pub FetchAnswers : Part → (ℕ → Bool) → Pointer → List ℕ → Option Told → (Option ℕ → ℕ) → (Option ℕ → ℕ) → Fetched → Type 0
+FetchAnswers part gone pointer w told old new fetched =
+    (solve : Solve) → IsSolved (cut_of part.geometry) fetched solve → BlockAnswers part gone pointer w told old new (reading_of solve)
+
+-- the answer solves the block
+abbrev pub SolveIs : Cut → Fetched → Result (Vec ℕ Global) ObjectFault → Type 0
+SolveIs cut fetched (Ok bytes) = IsSolved cut fetched (Bytes bytes)
+SolveIs cut fetched (Err (object.Unreadable absent tried)) = IsSolved cut fetched (Unreadable absent tried)
+SolveIs cut fetched (Err object.NoMemory) = ⊤
+SolveIs cut fetched (Err object.NoObject) = ⊥
 
 -- One shard of a list changed, and no other.
 pub record SetsShard {R : Type 0} (m : ℕ) (before after : Shard R) (old new : List (Shard R)) : Type 0 where

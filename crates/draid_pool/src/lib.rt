@@ -1,7 +1,8 @@
-//! A pool on one thread: objects whose bytes are written to blocks of its metaslabs, and read again.
+//! A pool: objects whose bytes are written to blocks of its metaslabs, and read again.
 
 #![tactic(auto)]
 
+mod batch;
 mod closing;
 mod fault;
 mod opening;

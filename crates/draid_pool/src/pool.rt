@@ -4,22 +4,24 @@ ghost use Rattle.std.specs.HashMap.{get, spare};
 ghost use Rattle.draid_names.specs.declared.pointer.Pointer.{Pointer};
 ghost use Rattle.draid_choose.specs.Rooms.{IsChooser};
 ghost use Rattle.draid_block.specs.Blocks.{cut_of};
-ghost use Rattle.draid_pool.specs.Answers.{DamageIs, FreeIs, ReadIs, SumIs, WriteInIs, WriteIs};
+ghost use Rattle.draid_pool.specs.Answers.{DamageIs, FetchIs, FreeIs, ReadIs, SumIs, WriteInIs, WriteIs};
 ghost use Rattle.draid_pool.specs.State.{Change, Wrote, Write};
 
+use crate::batch::add_batch;
 use crate::fault::{DamageFault, FreeFault, ObjectFault, SumFault, WriteFault};
 use crate::room::{count_full, longest_run, rooms_of};
-use crate::store::{StoreFault, free_block, read_block, store};
-use draid_block::Encoded;
+use crate::store::{StoreFault, fetch_block, free_block, solve, store};
+use draid_block::{Encoded, Fetched};
 use draid_choose::Chooser;
 use draid_map::metaslab_sectors;
-use draid_names::{Pointer, Room};
+use draid_names::{NoMemory, Pointer, Room};
 use draid_rack::Rack;
 use draid_shard::Shard;
 use draid_spec::Geometry;
 use sha2::{Digest, Sha256};
 use std::alloc::Global;
 use std::collections::HashMap;
+use std::thread::Threads;
 
 /// The greatest number of a write.
 const LAST_WRITE: u64 = (1 << 48) - 1;
@@ -156,26 +158,42 @@ impl<R: Rack> Pool<R> {
         ensures step { (changes : List Change) → Represents R.shape R.told self.old changes
             → Moves R.shape R.told R.faults (ReadIs object result) (state_of R.told R.faults self.old changes) self.new }
     {
+        let fetched = self.fetch(object)?;
+        solve(self.alloc, &self.geometry, &fetched)
+    }
+
+    /// Reads the columns of an object's block.
+    pub(crate) fn fetch(&mut self, object: u64) -> Result<Fetched, ObjectFault>
+        requires represents { (changes : List Change) × Represents R.shape R.told self.old changes }
+        ensures step { (changes : List Change) → Represents R.shape R.told self.old changes
+            → Moves R.shape R.told R.faults (FetchIs object result) (state_of R.told R.faults self.old changes) self.new }
+    {
         let Some(pointer) = self.objects.get(&object).copied() else {
             return Err(ObjectFault::NoObject);
         };
         let shard = &mut self.shards[pointer.metaslab as usize];
-        read_block(self.alloc, shard, &pointer)
+        match fetch_block(shard, &pointer) {
+            Ok(fetched) => Ok(fetched),
+            Err(NoMemory) => Err(ObjectFault::NoMemory),
+        }
     }
 
     /// Gives the SHA-256 digest (FIPS 180-4) of the bytes of `count` objects from `first` on, one after another.
-    pub fn sum(&mut self, first: u64, count: u64) -> Result<[u8; 32], SumFault>
+    pub fn sum(
+        &mut self,
+        rt: &(impl Threads + Sync),
+        first: u64,
+        count: u64,
+    ) -> Result<[u8; 32], SumFault>
         requires range { first + count ≤ 2 ^ 32 }
         requires represents { (changes : List Change) × Represents R.shape R.told self.old changes }
         ensures step { (changes : List Change) → Represents R.shape R.told self.old changes
             → Moves R.shape R.told R.faults (SumIs first count result) (state_of R.told R.faults self.old changes) self.new }
     {
         let mut hasher = Sha256::new();
-        for object in first..first + count {
-            match self.read(object) {
-                Ok(bytes) => hasher.update(&bytes),
-                Err(why) => return Err(SumFault { object, why }),
-            }
+        let mut summed = 0;
+        while summed < count {
+            summed += add_batch(rt, self, &mut hasher, first + summed, count - summed)?;
         }
         Ok(hasher.finalize())
     }

@@ -1,15 +1,18 @@
-ghost use Rattle.std.specs.Prelude.{◌≡◌, ◌<◌, ◌≤◌, ◌^◌, ℕ, List};
+ghost use Rattle.std.specs.Prelude.{◌≡◌, ◌<◌, ◌≤◌, ◌^◌, ℕ, List, IfOk};
+ghost use Rattle.draid_spec.specs.Geometry.{IsGeometry};
 ghost use Rattle.draid_block.specs.Blocks.{cut_of};
-ghost use Rattle.draid_pool.specs.Store.{BlockAnswers, EntersOne, FreesBlock, HasRoom, IsLiveIn, MissedSome, StoreAnswers};
+ghost use Rattle.draid_block.specs.Solving.{IsFetched};
+ghost use Rattle.draid_pool.specs.Store.{EntersOne, FetchAnswers, FreesBlock, HasRoom, IsLiveIn, MissedSome, SolveIs, StoreAnswers};
 ghost use Rattle.draid_shard.specs.Columns.{EndsHarm, TellsBoth};
 ghost use Rattle.draid_shard.specs.Entry.{open_group};
 ghost use Rattle.draid_shard.specs.Shard.{Carries, HoldsBlock, IsLive, IsUnused, KeepsBlocks, NoneFalls, NoneMore, SameLive, Valid, free_of, held_of, logs_of, missed_of, part_of};
 
 use crate::fault::ObjectFault;
-use draid_block::{Encoded, SolveFault, solve_block};
-use draid_names::Pointer;
+use draid_block::{Encoded, Fetched, SolveFault, solve_block};
+use draid_names::{NoMemory, Pointer};
 use draid_rack::Rack;
 use draid_shard::{BeginFault, FetchFault, Missed, Shard, Ticket};
+use draid_spec::Geometry;
 use std::alloc::Global;
 
 /// The floor of a block's birth and of its freeing while no group was closed: both fall into the open group.
@@ -84,18 +87,18 @@ pub(crate) fn store<R: Rack>(
     }
 }
 
-/// Reads the bytes of a live block.
-pub(crate) fn read_block<R: Rack>(
-    alloc: Global,
+/// Reads the columns of a live block.
+pub(crate) fn fetch_block<R: Rack>(
     shard: &mut Shard<R>,
     pointer: &Pointer,
-) -> Result<Vec<u8>, ObjectFault>
+) -> Result<Fetched, NoMemory>
     requires valid { Valid R.shape shard.old }
     requires is_live { IsLive shard.old pointer.now }
     ensures valid { Valid R.shape shard.new }
     ensures part { part_of shard.new ≡ part_of shard.old }
+    ensures fetched { IfOk result (IsFetched (cut_of shard.old.geometry)) }
     ensures answer { (w : List ℕ) → HoldsBlock R.told shard.old pointer.now w
-        → BlockAnswers (part_of shard.old) (missed_of shard.old pointer.now) pointer.now w (R.told shard.old.rack) (R.faults shard.old.rack) (R.faults shard.new.rack) result }
+        → IfOk result (FetchAnswers (part_of shard.old) (missed_of shard.old pointer.now) pointer.now w (R.told shard.old.rack) (R.faults shard.old.rack) (R.faults shard.new.rack)) }
     ensures told { R.told shard.new.rack ≡ R.told shard.old.rack }
     ensures logs { logs_of shard.new ≡ logs_of shard.old }
     ensures none_more { NoneMore shard.old shard.new }
@@ -105,12 +108,24 @@ pub(crate) fn read_block<R: Rack>(
     ensures later { NoneFalls (R.faults shard.old.rack) (R.faults shard.new.rack) }
     ensures kept { KeepsBlocks R.told shard.old shard.new }
 {
-    let fetched = match shard.fetch(pointer) {
-        Ok(fetched) => fetched,
+    match shard.fetch(pointer) {
+        Ok(fetched) => Ok(fetched),
         Err(FetchFault::NotLive) => unreachable!(),
-        Err(FetchFault::NoMemory) => return Err(ObjectFault::NoMemory),
-    };
-    match solve_block(alloc, &shard.geometry, &fetched) {
+        Err(FetchFault::NoMemory) => Err(NoMemory),
+    }
+}
+
+/// The bytes of a block that was fetched.
+pub(crate) fn solve(
+    alloc: Global,
+    geometry: &Geometry,
+    fetched: &Fetched,
+) -> Result<Vec<u8>, ObjectFault>
+    requires geometry { IsGeometry geometry.now }
+    requires fetched { IsFetched (cut_of geometry.now) fetched.now }
+    ensures { SolveIs (cut_of geometry.now) fetched.now result }
+{
+    match solve_block(alloc, geometry, fetched) {
         Ok(bytes) => Ok(bytes),
         Err(SolveFault::Unreadable { absent, tried }) => {
             Err(ObjectFault::Unreadable { absent, tried })

@@ -65,9 +65,9 @@ looks_on a b c x y = record {
 
 -- why a sum stopped
 pub stops : (first count o : ℕ) (why : ObjectFault) (old new : State) → SumStops first count (record { object = o; why = why }) old new → Plain (SumObjects first count) (sum_refused o why) old new
-stops first count o object.NoObject old new s = record { mid = s.mid; stops = s.stops; cause = s.why; looks = s.looks }
-stops first count o (object.Unreadable absent tried) old new s = record { mid = s.mid; stops = s.stops; cause = s.why; looks = s.looks }
-stops first count o object.NoMemory old new s = looks_on old s.mid new s.stops.looks s.looks
+stops first count o object.NoObject old new s = record { mid = s.mid; after = s.after; stops = s.stops; cause = s.why; looks = s.looks; behind = s.behind }
+stops first count o (object.Unreadable absent tried) old new s = record { mid = s.mid; after = s.after; stops = s.stops; cause = s.why; looks = s.looks; behind = s.behind }
+stops first count o object.NoMemory old new s = looks_on old s.mid new s.stops.looks (looks_on s.mid s.after new s.looks s.behind)
 
 -- a command for which no metaslab is chosen, in the words of all commands
 module _ {R : Type 0} (shape : R → Shape) (told : R → Option Told) (faults : R → Option ℕ → ℕ) (chosen : List Room → Option ℕ → Type 0)

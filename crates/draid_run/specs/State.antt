@@ -75,12 +75,20 @@ StopIs object stop.NoObject old new = write_of old.changes object ≡ None
 StopIs object (stop.Unreadable absent tried) old new = IsLost object absent tried old new
 StopIs object stop.Worn old new = ⊥
 
+-- which objects behind that one were read yet: none where it has none, else perhaps some of its batch
+abbrev pub BatchBehind : SumRefusal → State → State → Type 0
+BatchBehind stop.NoObject after new = new ≡ after
+BatchBehind (stop.Unreadable absent tried) after new = Looks after new
+BatchBehind stop.Worn after new = ⊥
+
 -- The first object that gave no bytes, and why. Those before it gave theirs.
 pub record SumStops (first count object : ℕ) (why : SumRefusal) (old new : State) : Type 0 where
-  pub mid : State
+  pub mid : State  -- the state as the object was come to
+  pub after : State  -- and as it gave no bytes
   pub stops : StopsAt first count object old mid
-  pub cause : StopIs object why mid new
-  pub looks : Looks mid new
+  pub cause : StopIs object why mid after
+  pub looks : Looks mid after
+  pub behind : BatchBehind why after new  -- others of its batch may have been read since; none where it is missing
 
 -- What a command for which no metaslab is chosen does to an open pool, and its reply.
 abbrev pub Plain : Command → Reply → State → State → Type 0

@@ -22,6 +22,7 @@ use draid_script::{CommandName, Line, PoolKeys, Reply, SpecRefusal};
 use draid_shelf::RackShelf;
 use draid_spec::{Geometry, Props, Spec, SpecFault, parse_spec, spec_name};
 use std::alloc::Global;
+use std::thread::Threads;
 
 /// A command is beyond what is built.
 #[derive(Clone, Copy, Debug, PartialEq, Eq)]
@@ -214,14 +215,19 @@ fn free<R: Rack>(pool: &mut Option<Pool<R>>, object: u64) -> Reply
 }
 
 /// Sums objects of the pool that is open, if one is.
-fn sum<R: Rack>(pool: &mut Option<Pool<R>>, first: u64, count: u64) -> Reply
+fn sum<R: Rack>(
+    rt: &(impl Threads + Sync),
+    pool: &mut Option<Pool<R>>,
+    first: u64,
+    count: u64,
+) -> Reply
     requires range { IsInRange (SumObjects first count) }
     requires desk { (changes : List Change) × IsDesk R.shape R.told pool.old changes }
     ensures turned { (changes : List Change) → IsDesk R.shape R.told pool.old changes
         → PlainTurned R.shape R.told R.faults (SumObjects first count) (state_in R.told R.faults pool.old changes) (Some result) pool.new }
 {
     match pool {
-        Some(pool) => replies::sum(pool, first, count),
+        Some(pool) => replies::sum(rt, pool, first, count),
         None => no_pool(CommandName::Sum),
     }
 }
@@ -241,6 +247,7 @@ fn damage<R: Rack>(pool: &mut Option<Pool<R>>, leaf: u64, sector: u64) -> Reply
 /// Does what a line asks for. An empty line and a comment have no reply.
 #[tactic(auto, using(crate::proofs::Steps::by_create, crate::proofs::Steps::by_read, crate::proofs::Steps::by_free, crate::proofs::Steps::by_sum, crate::proofs::Steps::by_damage))]
 pub(crate) fn answer<H: RackShelf, F: Fn(&[Room]) -> Option<u32>>(
+    rt: &(impl Threads + Sync),
     alloc: Global,
     shelf: &mut H,
     pool: &mut Option<Pool<H::R>>,
@@ -269,7 +276,7 @@ pub(crate) fn answer<H: RackShelf, F: Fn(&[Room]) -> Option<u32>>(
         } => Ok(Some(fill(alloc, pool, chooser, first, count, len, seed))),
         Line::Free { object } => Ok(Some(free(pool, object))),
         Line::Read { object } => Ok(Some(read(pool, object))),
-        Line::Sum { first, count } => Ok(Some(sum(pool, first, count))),
+        Line::Sum { first, count } => Ok(Some(sum(rt, pool, first, count))),
         Line::Damage { leaf, sector } => Ok(Some(damage(pool, leaf, sector))),
         _ => Err(Unbuilt),
     }

@@ -13,6 +13,7 @@ use draid_names::Room;
 use draid_pool::{DamageFault, FreeFault, ObjectFault, Pool, SumFault, WriteFault};
 use draid_rack::Rack;
 use draid_script::{CommandName, Reply, SumRefusal};
+use std::thread::Threads;
 
 /// Writes to an object.
 pub(crate) fn write<R: Rack, F: Fn(&[Room]) -> Option<u32>>(
@@ -84,13 +85,18 @@ pub(crate) fn free<R: Rack>(pool: &mut Pool<R>, object: u64) -> Reply
 }
 
 /// Sums so many objects from the first on.
-pub(crate) fn sum<R: Rack>(pool: &mut Pool<R>, first: u64, count: u64) -> Reply
+pub(crate) fn sum<R: Rack>(
+    rt: &(impl Threads + Sync),
+    pool: &mut Pool<R>,
+    first: u64,
+    count: u64,
+) -> Reply
     requires range { IsInRange (SumObjects first count) }
     requires represents { (changes : List Change) × Represents R.shape R.told pool.old changes }
     ensures step { (changes : List Change) → Represents R.shape R.told pool.old changes
         → Moves R.shape R.told R.faults (Plain (SumObjects first count) result) (state_of R.told R.faults pool.old changes) pool.new }
 {
-    match pool.sum(first, count) {
+    match pool.sum(rt, first, count) {
         Ok(digest) => Reply::Summed {
             first,
             count,

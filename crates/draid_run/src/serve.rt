@@ -18,12 +18,14 @@ use draid_script::{
 };
 use draid_shelf::RackShelf;
 use std::alloc::Global;
+use std::thread::Threads;
 
 /// One line more than a script may have.
 const LINES: u64 = 1_048_577;
 
 /// Runs one line, with this number, and prints its reply.
 fn serve_line<H: RackShelf, K: Sink, F: Fn(&[Room]) -> Option<u32>>(
+    rt: &(impl Threads + Sync),
     alloc: Global,
     shelf: &mut H,
     pool: &mut Option<Pool<H::R>>,
@@ -50,7 +52,7 @@ fn serve_line<H: RackShelf, K: Sink, F: Fn(&[Room]) -> Option<u32>>(
         }
         Err(ParseFault::NoMemory) => return Err(Status::NoMemory),
     };
-    let reply = match answer(alloc, shelf, pool, chooser, line) {
+    let reply = match answer(rt, alloc, shelf, pool, chooser, line) {
         Ok(Some(reply)) => reply,
         Ok(None) => return Ok(()),
         Err(Unbuilt) => {
@@ -100,6 +102,7 @@ fn next_text<S: Source>(
 
 /// Runs the lines of the source one after another, until one can't be run or none is left.
 pub(crate) fn serve<H: RackShelf, S: Source, K: Sink, F: Fn(&[Room]) -> Option<u32>>(
+    rt: &(impl Threads + Sync),
     alloc: Global,
     shelf: &mut H,
     pool: &mut Option<Pool<H::R>>,
@@ -123,7 +126,7 @@ pub(crate) fn serve<H: RackShelf, S: Source, K: Sink, F: Fn(&[Room]) -> Option<u
             Ok(None) => return Status::Done,
             Err(status) => return status,
         };
-        if let Err(status) = serve_line(alloc, shelf, pool, chooser, sink, number, &text) {
+        if let Err(status) = serve_line(rt, alloc, shelf, pool, chooser, sink, number, &text) {
             return status;
         }
     }

@@ -8,6 +8,7 @@ use draid_script::{MemorySink, MemorySource};
 use draid_shelf::MemoryShelf;
 use std::alloc::{AllocError, Global};
 use std::test::Fail;
+use std::thread::Threads;
 
 const CREATE: &str = "create draid1:2d:3c:0s 3 sector=512 height=8 metaslabs=1 slices=4\n";
 
@@ -29,7 +30,7 @@ const NONE: Failing = Failing {
 
 /// Runs a script that follows the line that creates the pool, with the first metaslab that has room for a block, and gives
 /// the status and what was printed.
-fn run_words<R: AllocGlobal>(
+fn run_words<R: AllocGlobal + Threads + Sync>(
     rt: &R,
     word: &str,
     script: Vec<u8>,
@@ -45,7 +46,7 @@ fn run_words<R: AllocGlobal>(
 }
 
 /// The same with another choice of metaslabs.
-fn run_chosen<R: AllocGlobal, F: Fn(&[Room]) -> Option<u32>>(
+fn run_chosen<R: AllocGlobal + Threads + Sync, F: Fn(&[Room]) -> Option<u32>>(
     rt: &R,
     word: &str,
     script: Vec<u8>,
@@ -117,6 +118,12 @@ fn replies_and_statuses(rt: HostRuntime) -> Result<(), Fail> {
         (
             "write 7 68656c6c6f\nsum 7 1\nsum 7 2\n",
             "write 7 ok\nsum 7 1 2cf24dba5fb0a30e26e83b2ac5b9e29e1b161e5c1fa7425e73043362938b9824\nsum 8 no object\n",
+            0,
+            0,
+        ),
+        (
+            "write 1 aa\nwrite 2 bb\nwrite 3 cc\ndamage 0 1\ndamage 1 1\nsum 1 3\nsum 1 4\nsum 3 2\n",
+            "write 1 ok\nwrite 2 ok\nwrite 3 ok\ndamage 0 1 ok\ndamage 1 1 ok\nsum 2 unreadable absent=0 tried=4\nsum 2 unreadable absent=0 tried=4\nsum 4 no object\n",
             0,
             0,
         ),
@@ -277,6 +284,51 @@ fn earlier_bytes_stay(rt: HostRuntime) -> Result<(), Fail> {
     Ok(())
 }
 
+// Each of these blocks is written or read by three calls of the rack. No object behind a missing one is read.
+#[test]
+fn sums_stop(rt: HostRuntime) -> Result<(), Fail> {
+    let alloc = rt.alloc();
+    for (lines, rack, replies) in [
+        (
+            "write 1 aa\nwrite 3 cc\nsum 1 3\nread 3\n",
+            [9, 11].as_slice(),
+            "write 1 ok\nwrite 3 ok\nsum 2 no object\nread 3 unreadable absent=2 tried=0\n",
+        ),
+        (
+            "write 1 aa\nwrite 2 bb\nwrite 3 cc\nsum 1 4\n",
+            [12, 14].as_slice(),
+            "write 1 ok\nwrite 2 ok\nwrite 3 ok\nsum 2 unreadable absent=2 tried=0\n",
+        ),
+    ] {
+        let failing = Failing {
+            rack,
+            source: &[],
+            sink: &[],
+        };
+        let (ended, printed) = run_words(&rt, "session", created(alloc, lines)?, &failing)?;
+        assert_eq!(rt; ended, Status::Done);
+        let mut wanted = Vec::from_slice(alloc, CREATED.as_bytes())?;
+        wanted.extend_from_slice(replies.as_bytes())?;
+        assert_eq!(rt; printed, wanted);
+    }
+    Ok(())
+}
+
+// Blocks of 131,072 bytes are solved eight at a time; object 11 stands in the middle of the second batch.
+#[test]
+fn sums_take_several_batches(rt: HostRuntime) -> Result<(), Fail> {
+    let alloc = rt.alloc();
+    let lines =
+        "create draid1:2d:3c:0s 3 sector=4096 height=16 metaslabs=1 slices=20\nfill 1 20 131072 1\nsum 1 20\nsum 1 21\ndamage 0 160\ndamage 1 160\nsum 1 20\nsum 1 10\n";
+    let replies =
+        "create draid1:2d:3c:0s-0 stripes=320\nfill 1 written=20\nsum 1 20 cd7d1c3ab180ddad9b693b2c9e595d3e6ebc8d396dbaa4dd9b676fbf3edcae17\nsum 21 no object\ndamage 0 160 ok\ndamage 1 160 ok\nsum 11 unreadable absent=0 tried=4\nsum 1 10 d7b0f5139911babcf7bd5724f969dce9e71d14cd9c7d8013884e416f8b7ae168\n";
+    let script = Vec::from_slice(alloc, lines.as_bytes())?;
+    let (ended, printed) = run_words(&rt, "session", script, &NONE)?;
+    assert_eq!(rt; ended, Status::Done);
+    assert_eq!(rt; printed.as_slice(), replies.as_bytes());
+    Ok(())
+}
+
 /// The place of the last room that is large enough.
 fn last_fit(rooms: &[Room]) -> Option<u32>
     requires { length rooms.now ≤ most_rooms }
@@ -397,7 +449,11 @@ const ZEROS: [(usize, &str); 3] = [
 ];
 
 /// Whether blocks are read where all sectors of these leaves are damaged.
-fn reads_over<R: AllocGlobal>(rt: &R, create: &str, leaves: &[u64]) -> Result<bool, AllocError> {
+fn reads_over<R: AllocGlobal + Threads + Sync>(
+    rt: &R,
+    create: &str,
+    leaves: &[u64],
+) -> Result<bool, AllocError> {
     let alloc = rt.alloc();
     for (len, sum) in ZEROS {
         let mut script = Vec::from_slice(alloc, create.as_bytes())?;

@@ -15,6 +15,7 @@ use draid_pool::{Pool, close};
 use draid_script::{Sink, Source};
 use draid_shelf::RackShelf;
 use std::alloc::Global;
+use std::thread::Threads;
 
 /// Puts the last line, where there is one.
 fn put_last<K: Sink>(sink: &mut K, line: &[u8], ended: Status) -> Status
@@ -71,7 +72,13 @@ fn give_back<H: RackShelf>(shelf: &mut H, pool: Option<Pool<H::R>>)
 
 /// Runs the script of `source` on the pool of `shelf`, with its replies to `sink`. The words are those of the
 /// command line behind the program's name. The chooser names the metaslab that a new block goes to.
-pub fn run<H: RackShelf, S: Source, K: Sink, F: Fn(&[Room]) -> Option<u32>, A: AllocGlobal>(
+pub fn run<
+    H: RackShelf,
+    S: Source,
+    K: Sink,
+    F: Fn(&[Room]) -> Option<u32>,
+    A: AllocGlobal + Threads + Sync,
+>(
     rt: &A,
     words: &[String],
     shelf: &mut H,
@@ -91,7 +98,7 @@ pub fn run<H: RackShelf, S: Source, K: Sink, F: Fn(&[Room]) -> Option<u32>, A: A
         return end_run(alloc, sink, Status::Usage);
     }
     let mut pool = None;
-    let ended = serve(alloc, shelf, &mut pool, chooser, source, sink);
+    let ended = serve(rt, alloc, shelf, &mut pool, chooser, source, sink);
     give_back(shelf, pool);
     end_run(alloc, sink, ended)
 }

@@ -1,56 +1,26 @@
-use Rattle.std.proofs.Common.{arith, ◌∙◌, inl, refl, sym}
-use Rattle.std.proofs.lemmas.Option.{slice_get_within}
-use Rattle.std.specs.Vec.{with_item}
-use Rattle.draid_pool.specs.declared.pool.Pool.{Pool}
-use Rattle.draid_pool.proofs.Reading.{no_object_step, read_live, read_shard, read_step}
-use Rattle.draid_pool.proofs.Steps.{Turned, found, represents_yet}
-use Rattle.draid_pool.proofs.Writing.{room_valid}
+use Rattle.std.proofs.lemmas.Result.{err_from_is_err_and}
+use Rattle.draid_pool.proofs.Reading.{block_fetched, read_is, unfetched}
 use Rattle.draid_pool.proofs.pool.Pool.read.Goals as goal
 
-pub returns-in_default : goal.returns-in_default
-returns-in_default g c = record {
+pub returns-in_err-fetched : goal.returns-in_err-fetched
+returns-in_err-fetched g c = record {
   step = λ changes is.
-      no_object_step g.R.Rack.shape g.R.Rack.told g.R.Rack.faults c.args.self.now c.args.object changes is (sym c.get.ensures.value ∙ (sym c.copied.ensures ∙ c.in_default.is));
+      (let p = err_from_is_err_and c.from_residual.result c.from_residual.ensures.1 in
+      rw (p.1, p.2) (unfetched g.R.Rack.shape g.R.Rack.told g.R.Rack.faults c.args.object c.in_err-fetched.field-0.0 _ c.fetch.new.self (c.in_err-fetched.ensures.step changes is)));
 }
 
-pub index_mut-shard-requires : goal.index_mut-shard-requires
-index_mut-shard-requires g c =
+pub solve-requires-clause-geometry : goal.solve-requires-clause-geometry
+solve-requires-clause-geometry g c =
     let is = c.requires.represents in
-    let there = sym c.get.ensures.value ∙ (sym c.copied.ensures ∙ c.in-Some.is) in
-    let held = (found g.R.Rack.shape g.R.Rack.told g.R.Rack.faults c.args.self.now is.0 c.args.object c.in-Some.pointer is.1.stands there).held in
-    let below = slice_get_within c.args.self.now.shards.items c.in-Some.pointer.metaslab held.shard held.there in
-    let len = c.args.self.now.shards.ok.0 in
-    omega (arith, below, len)
+    (c.fetch.ensures.step is.0 is.1).represents.stands.layout
 
-pub read_block-requires-clause-valid : goal.read_block-requires-clause-valid
-read_block-requires-clause-valid g c =
+pub solve-requires-clause-fetched : goal.solve-requires-clause-fetched
+solve-requires-clause-fetched g c =
     let is = c.requires.represents in
-    let there = sym c.get.ensures.value ∙ (sym c.copied.ensures ∙ c.in-Some.is) in
-    let shard = c.index_mut-shard.result.now in
-    let at = read_shard g.R.Rack.shape g.R.Rack.told g.R.Rack.faults c.args.self.now c.args.object c.in-Some.pointer shard is.0 is.1.stands there c.index_mut-shard.ensures.value in
-    room_valid g.R.Rack.shape g.R.Rack.told g.R.Rack.faults c.args.self.now is.0 c.in-Some.pointer.metaslab shard is.1.stands at
-
-pub read_block-requires-clause-is_live : goal.read_block-requires-clause-is_live
-read_block-requires-clause-is_live g c =
-    let is = c.requires.represents in
-    let there = sym c.get.ensures.value ∙ (sym c.copied.ensures ∙ c.in-Some.is) in
-    let shard = c.index_mut-shard.result.now in
-    let at = read_shard g.R.Rack.shape g.R.Rack.told g.R.Rack.faults c.args.self.now c.args.object c.in-Some.pointer shard is.0 is.1.stands there c.index_mut-shard.ensures.value in
-    read_live g.R.Rack.shape g.R.Rack.told g.R.Rack.faults c.args.self.now c.args.object c.in-Some.pointer shard is.0 is.1.stands there at
+    block_fetched g.R.Rack.shape g.R.Rack.told g.R.Rack.faults c.args.object c.in_ok-fetched.fetched _ c.fetch.new.self (c.in_ok-fetched.ensures.step is.0 is.1)
 
 pub returns : goal.returns
 returns g c = record {
   step = λ changes is.
-      (let there = sym c.get.ensures.value ∙ (sym c.copied.ensures ∙ c.in-Some.is) in
-      let before = c.index_mut-shard.result.now in
-      let after = c.read_block.new.shard in
-      let at = read_shard g.R.Rack.shape g.R.Rack.told g.R.Rack.faults c.args.self.now c.args.object c.in-Some.pointer before changes is.stands there c.index_mut-shard.ensures.value in
-      let e = c.read_block.ensures in
-      let new : Pool g.row.R.Denot
-      = record { geometry = c.args.self.now.geometry; shards = with_item c.args.self.now.shards c.in-Some.pointer.metaslab after; objects = c.args.self.now.objects; seq = c.args.self.now.seq; alloc = c.args.self.now.alloc } in
-      let t : Turned g.R.Rack.shape g.R.Rack.told g.R.Rack.faults c.in-Some.pointer.metaslab before after c.args.self.now new
-      = record { one = record { there = at; sets = refl }; valid = e.valid; part = e.part; layout = refl; later = omega arith; entered = λ p has. inl (e.none_more p has) } in
-      let yet = represents_yet g.R.Rack.shape g.R.Rack.told g.R.Rack.faults c.in-Some.pointer.metaslab before after c.args.self.now new changes t e.kept e.same (λ q. refl) is in
-      read_step g.R.Rack.shape g.R.Rack.told g.R.Rack.faults c.args.self.now new c.args.object c.in-Some.pointer before after c.read_block.result changes is.stands there t
-      (record { tells = e.told; free = e.free; held = e.held; logs = e.logs; later = e.later }) yet refl e.answer);
+      read_is g.R.Rack.shape g.R.Rack.told g.R.Rack.faults c.args.object c.in_ok-fetched.fetched c.solve.result _ c.fetch.new.self (c.in_ok-fetched.ensures.step changes is) c.solve.ensures;
 }

@@ -1,40 +1,65 @@
-use Rattle.std.proofs.Common.{arith}
-use Rattle.draid_pool.proofs.Sums.{sum_done, sum_stops, summing_more, summing_none}
+use Rattle.std.proofs.Common.{◌+◌, ◌-◌, arith}
+use Rattle.std.proofs.lemmas.Result.{err_from_is_err_and}
+use Rattle.draid_pool.proofs.Sums.{some_added, sum_done, sum_stops, summing_more, summing_none}
 use Rattle.draid_pool.proofs.pool.Pool.sum.Goals as goal
 
-pub loop-object-init : goal.loop-object-init
-loop-object-init g c = record {
+pub loop-summed-init : goal.loop-summed-init
+loop-summed-init g c = record {
   summing = λ changes is. summing_none g.R.Rack.shape g.R.Rack.told g.R.Rack.faults c.args.self.now changes c.args.first c.new-hasher.result c.new-hasher.ensures is;
   bound = omega arith;
 }
 
-pub read-requires : goal.read-requires
-read-requires g c =
+pub add_batch-requires-clause-represents : goal.add_batch-requires-clause-represents
+add_batch-requires-clause-represents g c κs within =
     let is = c.requires.represents in
-    record { represents = (is.0, (c.loop-object.invariant.summing is.0 is.1).represents) }
+    (is.0, (c.loop-summed.invariant.summing is.0 is.1).represents)
 
-pub returns-in-Err : goal.returns-in-Err
-returns-in-Err g c = record {
+pub returns-in_err-summed : goal.returns-in_err-summed
+returns-in_err-summed g c = record {
   step = λ changes is.
-      sum_stops g.R.Rack.shape g.R.Rack.told g.R.Rack.faults c.args.self.now c.loop-object.self c.read.new.self changes c.args.first c.args.count c.loop-object.object c.loop-object.hasher c.in-Err.why
-      (c.loop-object.invariant.summing changes is) c.loop-object-test.true (λ represents. c.in-Err.ensures.step changes represents);
+      (let p = err_from_is_err_and c.from_residual.result c.from_residual.ensures.1 in
+      rw (p.1, p.2) (sum_stops g.R.Rack.shape g.R.Rack.told g.R.Rack.faults c.args.self.now c.loop-summed.self c.add_batch.new.pool changes c.args.first c.loop-summed.summed c.args.count c.loop-summed.hasher
+      c.add_batch.new.hasher c.in_err-summed.field-0.0 (c.loop-summed.invariant.summing changes is) c.loop-summed.invariant.bound (λ represents. c.in_err-summed.ensures.step changes represents)));
 }
 
-pub loop-object-preserved : goal.loop-object-preserved
-loop-object-preserved g c =
-    let below = c.loop-object-test.true in
+pub overflow_add-summed : goal.overflow_add-summed
+overflow_add-summed g c =
+    let is = c.requires.represents in
+    let some = some_added g.R.Rack.shape g.R.Rack.told g.R.Rack.faults (c.args.first + c.loop-summed.summed) (c.args.count - c.loop-summed.summed) c.in_ok-summed.field-0 c.loop-summed.hasher c.add_batch.new.hasher _
+    c.add_batch.new.pool (c.in_ok-summed.ensures.step is.0 (c.loop-summed.invariant.summing is.0 is.1).represents) in
+    let within = some.1 in
+    let below = c.loop-summed-test.true in
+    let fits = c.ranges.count.fits in
+    omega (arith, within, below, fits)
+
+pub loop-summed-smaller : goal.loop-summed-smaller
+loop-summed-smaller g c =
+    let is = c.requires.represents in
+    let some = some_added g.R.Rack.shape g.R.Rack.told g.R.Rack.faults (c.args.first + c.loop-summed.summed) (c.args.count - c.loop-summed.summed) c.in_ok-summed.field-0 c.loop-summed.hasher c.add_batch.new.hasher _
+    c.add_batch.new.pool (c.in_ok-summed.ensures.step is.0 (c.loop-summed.invariant.summing is.0 is.1).represents) in
+    let more = some.0 in
+    let below = c.loop-summed-test.true in
+    omega (arith, more, below)
+
+pub loop-summed-preserved : goal.loop-summed-preserved
+loop-summed-preserved g c =
+    let is = c.requires.represents in
+    let some = some_added g.R.Rack.shape g.R.Rack.told g.R.Rack.faults (c.args.first + c.loop-summed.summed) (c.args.count - c.loop-summed.summed) c.in_ok-summed.field-0 c.loop-summed.hasher c.add_batch.new.hasher _
+    c.add_batch.new.pool (c.in_ok-summed.ensures.step is.0 (c.loop-summed.invariant.summing is.0 is.1).represents) in
+    let within = some.1 in
+    let below = c.loop-summed-test.true in
     record {
-      summing = λ changes is.
-          summing_more g.R.Rack.shape g.R.Rack.told g.R.Rack.faults c.args.self.now c.loop-object.self c.read.new.self changes c.args.first c.loop-object.object c.loop-object.hasher c.update.new.self c.in-Ok.bytes
-          (c.loop-object.invariant.summing changes is) (λ represents. c.in-Ok.ensures.step changes represents) c.update.ensures;
-      bound = omega (arith, below);
+      summing = λ changes given.
+          summing_more g.R.Rack.shape g.R.Rack.told g.R.Rack.faults c.args.self.now c.loop-summed.self c.add_batch.new.pool changes c.args.first c.loop-summed.summed (c.args.count - c.loop-summed.summed)
+          c.in_ok-summed.field-0 c.loop-summed.hasher c.add_batch.new.hasher (c.loop-summed.invariant.summing changes given) (λ represents. c.in_ok-summed.ensures.step changes represents);
+      bound = omega (arith, within, below);
     }
 
 pub returns : goal.returns
 returns g c = record {
   step = λ changes is.
-      (let end = c.loop-object-test.false in
-      let bound = c.loop-object.invariant.bound in
-      sum_done g.R.Rack.shape g.R.Rack.told g.R.Rack.faults c.args.self.now c.loop-object.self changes c.args.first c.args.count c.loop-object.object c.loop-object.hasher c.finalize.result
-      (c.loop-object.invariant.summing changes is) (omega (arith, end, bound)) c.finalize.ensures);
+      (let end = c.loop-summed-test.false in
+      let bound = c.loop-summed.invariant.bound in
+      sum_done g.R.Rack.shape g.R.Rack.told g.R.Rack.faults c.args.self.now c.loop-summed.self changes c.args.first c.loop-summed.summed c.args.count c.loop-summed.hasher c.finalize.result
+      (c.loop-summed.invariant.summing changes is) (omega (arith, end, bound)) c.finalize.ensures);
 }
