@@ -43,7 +43,7 @@ module _ (l : Layout) (lay : IsLayout l) where
   pub step_sound : (w : State) (e : Event) (new : State) → Step l w e new → Sound l w → Sound l new
   step_sound w (Begin key first stripes len birth digest) new x s =
       subst (λ v. Sound l v) (sym x.made) (begin_sound l lay w key (record { first = first; stripes = stripes; len = len; birth = birth; digest = digest; stage = Writing 0 0 }) x.enabled x.unused x.fits x.birth refl s)
-  step_sound w (Put key landed failed) new x s = subst (λ v. Sound l v) (sym x.made) (put_sound l lay w key landed.items x.h x.c x.m x.found x.stage s)
+  step_sound w (Put key landed failed) new x s = subst (λ v. Sound l v) (sym x.made) (put_sound l lay w key landed x.h x.c x.m x.found x.stage s)
   step_sound w (Finish key) new x s = subst (λ v. Sound l v) (sym x.made) (finish_sound w key x.h x.m x.found x.stage s)
   step_sound w (Abort key) new x s = subst (λ v. Sound l v) (sym x.made) (gone_sound l lay w key x.h x.found x.ticket s)
   step_sound w (Free key group) new x s = subst (λ v. Sound l v) (sym x.made) (free_sound l lay w key x.h group x.found x.live s)

@@ -624,7 +624,7 @@ module _ (l : Layout) (lay : IsLayout l) where
 
   pub step_stands : (w : State) (e : Event) (new : State) → Step l w e new → Sound l w → ImagesStand l w → ImagesStand l new
   step_stands w (Begin key first stripes len birth digest) new x sound s = subst (λ v. ImagesStand l v) (sym x.made) (begin_stands w key _ x.unused refl s)
-  step_stands w (Put key landed failed) new x sound s = subst (λ v. ImagesStand l v) (sym x.made) (put_stands w key landed.items x.h x.c x.m x.found x.stage s)
+  step_stands w (Put key landed failed) new x sound s = subst (λ v. ImagesStand l v) (sym x.made) (put_stands w key landed x.h x.c x.m x.found x.stage s)
   step_stands w (Finish key) new x sound s = subst (λ v. ImagesStand l v) (sym x.made) (finish_stands w key x.h x.m x.found (ap is_block x.stage) sound s)
   step_stands w (Abort key) new x sound s = subst (λ v. ImagesStand l v) (sym x.made) (gone_stands w key x.h x.found x.ticket s)
   step_stands w (Free key group) new x sound s = subst (λ v. ImagesStand l v) (sym x.made) (free_stands w key x.h group x.found x.live x.due.from s)

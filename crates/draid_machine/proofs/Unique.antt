@@ -163,7 +163,7 @@ module _ (l : Layout) where
       let st = sym x.stage ∙ ap (λ (v : Held). v.stage) h ∙ y.stage in
       let c : x.c ≡ y.c = ap put_of st in
       let m : x.m ≡ y.m = ap missed_of st in
-      x.made ∙ (λ i. put_state l w key landed.items (h i) (c i) (m i)) ∙ sym y.made
+      x.made ∙ (λ i. put_state l w key landed (h i) (c i) (m i)) ∙ sym y.made
   one_result w (Finish key) new other s x y =
       let h = some_same (w.core.held key) x.h y.h x.found y.found in
       let m : x.m ≡ y.m = ap missed_of (sym x.stage ∙ ap (λ (v : Held). v.stage) h ∙ y.stage) in

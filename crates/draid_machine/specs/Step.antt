@@ -400,7 +400,7 @@ pub record ReopenStep (l : Layout) (w : State) (t : ℕ) (doubtful : List Segmen
 abbrev pub Step : Layout → State → Event → State → Type 0
 Step l w (Begin key first stripes len birth digest) new =
     BeginStep l w key (record { first = first; stripes = stripes; len = len; birth = birth; digest = digest; stage = Writing 0 0 }) new
-Step l w (Put key landed failed) new = PutStep l w key landed.items failed.items new
+Step l w (Put key landed failed) new = PutStep l w key landed failed new
 Step l w (Finish key) new = FinishStep l w key new
 Step l w (Abort key) new = AbortStep w key new
 Step l w (Free key group) new = FreeStep w key group new

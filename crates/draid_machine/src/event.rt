@@ -1,3 +1,4 @@
+use crate::few::{FewArms, FewLeaves};
 use crate::names::{ArmName, Key, Segment};
 use draid_names::PassKind;
 
@@ -27,8 +28,8 @@ pub enum Event {
     /// A ticket's next column is written; it landed on these arms.
     Put {
         key: Key,
-        landed: Vec<ArmName>,
-        failed: Vec<u64>,
+        landed: FewArms,
+        failed: FewLeaves,
     },
     /// A ticket becomes a block, or ends as missed.
     Finish {
