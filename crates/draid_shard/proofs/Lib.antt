@@ -10,3 +10,4 @@ pub mod Logs
 pub mod Held
 pub mod Events
 pub mod Landing
+pub mod Owed

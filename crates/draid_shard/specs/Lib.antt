@@ -1,5 +1,6 @@
 pub mod Columns
 pub mod Entry
+pub mod History
 pub mod Logs
 pub mod Machine
 pub mod Part

@@ -1,5 +1,5 @@
 -- How a shard stands to the state of a metaslab, in which events are told.
-use Rattle.std.specs.Prelude.{◌≡◌, ℕ, Bool, false, nat_lt, List, map, Option, Some, None, if◌then◌else◌}
+use Rattle.std.specs.Prelude.{◌≡◌, ◌++◌, ◌∷◌, [], ℕ, Bool, false, nat_lt, List, map, Option, Some, None, if◌then◌else◌}
 use Rattle.std.specs.BTreeMap.{BTreeMap}
 use Rattle.draid_machine.specs.declared.names.Key.{Key}
 use Rattle.draid_machine.specs.declared.names.ArmName.{ArmName}
@@ -7,7 +7,9 @@ use Rattle.draid_machine.specs.declared.names.ArmName.TheVariants.{Leaf, Spare}
 use Rattle.draid_machine.specs.declared.names.Held.{Held}
 use Rattle.draid_machine.specs.Created.{created}
 use Rattle.draid_machine.specs.Layout.{layout_of}
+use Rattle.draid_machine.specs.declared.event.Event.{Event}
 use Rattle.draid_machine.specs.State.{Arm, Layout, State}
+use Rattle.draid_machine.specs.Step.{Run, Step}
 use Rattle.draid_names.specs.declared.pointer.Pointer.{Pointer}
 use Rattle.draid_shard.specs.declared.entry.Entry.{Entry}
 use Rattle.draid_shard.specs.declared.shard.Shard.{Shard}
@@ -74,6 +76,26 @@ pub record IsIn {R : Type 0} (shard : Shard R) (w : State) : Type 0 where
 pub record StepsTo {R : Type 0} (step : State → Type 0) (shard : Shard R) : Type 0 where
   pub state : State
   pub stepped : step state
+  pub is_in : IsIn shard state
+
+-- the events since the shard's opening
+abbrev pub events_of : {R : Type 0} → Shard R → List Event
+events_of shard = shard.history.events.items
+
+-- A call did just one event: it is stored behind the others, and it is legal in each state for which the shard stood, and leads to one for which the shard stands.
+pub record Does {R : Type 0} (old new : Shard R) (event : Event) : Type 0 where
+  pub stored : events_of new ≡ events_of old ++ event ∷ []
+  pub steps : (w : State) → IsIn old w → StepsTo (Step (layout_of old.geometry old.perms old.number) w event) new
+
+-- A call did no event.
+pub record DoesNone {R : Type 0} (old new : Shard R) : Type 0 where
+  pub stored : events_of new ≡ events_of old
+  pub stays : (w : State) → IsIn old w → IsIn new w
+
+-- the events since the opening are a legal history of a new metaslab, and lead to a state for which the shard stands
+pub record HasHistory {R : Type 0} (shard : Shard R) : Type 0 where
+  pub state : State
+  pub run : Run (layout_of shard.geometry shard.perms shard.number) (created (layout_of shard.geometry shard.perms shard.number)) (events_of shard) state
   pub is_in : IsIn shard state
 
 -- the leaves on which these columns of a block lie

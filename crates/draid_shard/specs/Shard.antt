@@ -11,23 +11,25 @@ use Rattle.draid_shard.specs.declared.shard.Shard.{Shard}
 use Rattle.draid_shard.specs.declared.ticket.Ticket.{Ticket}
 use Rattle.draid_shard.specs.Part.{IsPart, Part, leaf_of}
 use Rattle.draid_machine.specs.declared.names.ArmName.TheVariants.{Leaf}
-use Rattle.draid_machine.specs.State.{State}
-use Rattle.draid_machine.specs.Step.{PutStep}
+use Rattle.draid_machine.specs.declared.event.Event.TheVariants.{Put}
 use Rattle.draid_shard.specs.Columns.{ColumnsStand, LeafRose, is_missed}
 use Rattle.draid_shard.specs.Entry.{IsEntered, Tables, entry_at, live, opened}
+use Rattle.draid_shard.specs.History.{Owes}
 use Rattle.draid_shard.specs.Logs.{AreOwn, LogsMiss, logs_in}
-use Rattle.draid_shard.specs.Machine.{StepsTo, key_of, layout_in}
+use Rattle.draid_shard.specs.Machine.{Does, key_of}
 
 -- the metaslab that the shard is
 abbrev pub part_of : {R : Type 0} → Shard R → Part
 part_of shard = record { geometry = shard.geometry; perms = shard.perms; number = shard.number }
 
--- what each call needs and keeps: the rack has just the layout's leaves of a metaslab, each the one arm of its slot, and the tables fit together
+-- what each call needs and keeps: the rack has just the layout's leaves of a metaslab, each the one arm of its slot, the tables fit together, and there is room for
+-- the events that are owed
 pub record Valid {R : Type 0} (shape : R → Shape) (shard : Shard R) : Type 0 where
   pub part : IsPart (part_of shard)
   pub rack : HasJust (shape shard.rack) shard.geometry.spec.children (part_sectors shard.geometry) shard.geometry.props.sector
   pub tables : Tables shard.geometry shard.space shard.blocks
   pub slots : AreOwn (part_of shard) shard.slots
+  pub owes : Owes shard.geometry shard.blocks shard.history
 
 -- how many blocks and tickets there are, freed ones included
 abbrev pub held_of : {R : Type 0} → Shard R → ℕ
@@ -142,8 +144,12 @@ abbrev pub PutIs : {R : Type 0} → (R → Option ℕ → ℕ) → Shard R → S
 PutIs faults old new before now = Lands old new before now ⊎ FailsToLand faults old new before now
 
 -- The event of a put: the column's leaf is among those on which it landed, or among those that failed.
-abbrev pub PutsColumn : {R : Type 0} → Shard R → Shard R → Ticket → Ticket → State → Type 0
-PutsColumn old new before now w =
+abbrev pub PutsColumn : {R : Type 0} → Shard R → Shard R → Ticket → Ticket → Type 0
+PutsColumn old new before now =
     let leaf = leaf_of (part_of old) before.pointer.first before.next in
-    ((now.missed ≡ before.missed) × StepsTo (PutStep (layout_in (part_of old)) w (key_of before.pointer) (Leaf leaf ∷ []) []) new)
-    ⊎ ((now.missed ≡ before.missed + 1) × StepsTo (PutStep (layout_in (part_of old)) w (key_of before.pointer) [] (leaf ∷ [])) new)
+    ((now.missed ≡ before.missed) × Does old new (Put (key_of before.pointer) (Leaf leaf ∷ []) []))
+    ⊎ ((now.missed ≡ before.missed + 1) × Does old new (Put (key_of before.pointer) [] (leaf ∷ [])))
+
+-- how many events are reserved and not used
+abbrev pub reserved_of : {R : Type 0} → Shard R → ℕ
+reserved_of shard = shard.history.reserved

@@ -4,8 +4,10 @@
 
 mod column;
 mod entry;
+mod event;
 mod fault;
 mod fetch;
+mod history;
 mod layout;
 mod log;
 mod shard;
@@ -14,5 +16,6 @@ mod tests;
 mod ticket;
 
 pub use fault::{BeginFault, FetchFault, Missed, NotLive};
+pub use history::History;
 pub use shard::{Shard, ShardRefused};
 pub use ticket::Ticket;

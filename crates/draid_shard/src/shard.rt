@@ -1,32 +1,35 @@
-ghost use Rattle.std.specs.Prelude.{◌≡◌, ◌<◌, ◌≤◌, ◌+◌, ◌^◌, ◌||◌, ◌⊎◌, ℕ, List, Bool, true, false, Option, Some, None, All, IfOk, OnOk, OnErr, IfErr, IsTrue, ◌↔◌, length, max, nat_lt, is_ok, is_err, if◌then◌else◌};
+ghost use Rattle.std.specs.Prelude.{◌≡◌, ◌<◌, ◌≤◌, ◌+◌, ◌^◌, ◌||◌, ◌⊎◌, ℕ, List, [], Bool, true, false, Option, Some, None, All, IfOk, OnOk, OnErr, IfErr, IsTrue, ◌↔◌, length, max, nat_lt, is_ok, is_err, if◌then◌else◌};
 ghost use Rattle.draid_names.specs.declared.pointer.Pointer.{Pointer};
 ghost use Rattle.draid_map.specs.Place.{part_sectors, part_stripes};
 ghost use Rattle.draid_block.specs.Blocks.{BlockValue, cut_of};
 ghost use Rattle.draid_block.specs.Columns.{stripes_of};
 ghost use Rattle.draid_block.specs.Solving.{IsFetched, IsReadable, absent_columns};
-ghost use Rattle.draid_machine.specs.Created.{created};
-ghost use Rattle.draid_machine.specs.State.{State};
-ghost use Rattle.draid_machine.specs.Step.{AbortStep, BeginStep, DamageStep, FetchStep, FinishStep, FreeStep};
+ghost use Rattle.std.specs.declared.vec.Vec.{Vec};
+ghost use Rattle.std.specs.declared.alloc.Global.{Global};
+ghost use Rattle.draid_machine.specs.declared.event.Event.TheVariants.{Abort, Begin, Damage, Fetch, Finish, Free};
 ghost use Rattle.draid_parity.specs.Columns.{column_at};
 ghost use Rattle.draid_rack.specs.Rack.{Counts, HasJust, OnTold, put};
 ghost use Rattle.draid_ranges.specs.Runs.{is_between};
 ghost use Rattle.draid_shard.specs.Columns.{AreRead, EndsHarm, LeafRose, MoreBad, TellsBoth, Writes};
-ghost use Rattle.draid_shard.specs.Entry.{IsRefused, IsRoom, begun, open_group};
+ghost use Rattle.draid_shard.specs.Entry.{IsRefused, IsRoom, open_group};
 ghost use Rattle.draid_shard.specs.Logs.{LogsMiss};
-ghost use Rattle.draid_shard.specs.Machine.{IsIn, StepsTo, held_at, key_of, layout_in, leaves_of};
-ghost use Rattle.draid_shard.specs.Part.{IsPart, Part, leaf_of};
+ghost use Rattle.draid_shard.specs.Machine.{Does, DoesNone, HasHistory, events_of, key_of, leaves_of};
+ghost use Rattle.draid_shard.specs.Part.{IsPart, IsRun, Part, leaf_of, place_in};
 
 use crate::column::write_column;
 use crate::entry::{Entry, MOST_ENTRIES, hold, release, turn};
 use crate::fault::{BeginFault, FetchFault, Missed, NotLive};
+use crate::event::{begin_event, key_of, put_event};
 use crate::fetch::read_columns;
+use crate::history::History;
 use crate::layout::place_within;
 use crate::log::{log_miss, own_slots};
 use crate::ticket::Ticket;
 use draid_block::{Encoded, Fetched};
-use draid_machine::Stage;
+use draid_machine::{Event, Stage};
+use draid_map::Place;
 use draid_metaslab::Space;
-use draid_names::{Failed, Pointer, Room};
+use draid_names::{Failed, NoMemory, Pointer, Room};
 use draid_perm::Perms;
 use draid_rack::Rack;
 use draid_slots::Slots;
@@ -48,6 +51,8 @@ pub struct Shard<R: Rack> {
     pub rack: R,
     /// The child slots, each with the leaf of its own number.
     pub slots: Slots,
+    /// What was done since the opening.
+    pub history: History,
     space: Space,
     /// The blocks and the open writes, by their first stripes.
     blocks: BTreeMap<u64, Entry>,
@@ -61,7 +66,7 @@ pub struct ShardRefused<R: Rack> {
 }
 
 impl<R: Rack> Shard<R> {
-    ghost use Rattle.draid_shard.specs.Shard.{AddsLive, Carries, DropsLive, HasEntry, HoldsBlock, IsLive, IsOpen, IsUnused, KeepsBlocks, KeepsOtherBlocks, KeepsOtherTickets, KeepsTickets, NoneFalls, NoneMore, PutIs, PutsColumn, SameLive, TakesLowest, Valid, free_of, held_of, logs_of, missed_of, part_of};
+    ghost use Rattle.draid_shard.specs.Shard.{AddsLive, Carries, DropsLive, HasEntry, HoldsBlock, IsLive, IsOpen, IsUnused, KeepsBlocks, KeepsOtherBlocks, KeepsOtherTickets, KeepsTickets, NoneFalls, NoneMore, PutIs, PutsColumn, SameLive, TakesLowest, Valid, free_of, held_of, logs_of, missed_of, part_of, reserved_of};
 
     /// An empty metaslab over a rack that has the layout's leaves, each with the metaslab's sectors.
     pub fn create(
@@ -80,7 +85,8 @@ impl<R: Rack> Shard<R> {
         ensures empty { IfOk result (λ shard. (p : Pointer) → HasEntry shard p → ⊥) }
         ensures held { IfOk result (λ shard. held_of shard ≡ 0) }
         ensures logs { IfOk result (λ shard. (leaf group : ℕ) → logs_of shard leaf group ≡ false) }
-        ensures created { IfOk result (λ shard. IsIn shard (created (layout_in (part_of shard)))) }
+        ensures history { IfOk result HasHistory }
+        ensures none { IfOk result (λ shard. (events_of shard ≡ []) × (reserved_of shard ≡ 0)) }
         ensures refused { IfErr result (λ refused. refused.rack ≡ rack) }
     {
         let Ok(space) = Space::new(alloc, &geometry, &[]) else {
@@ -95,6 +101,7 @@ impl<R: Rack> Shard<R> {
             perms,
             rack,
             slots,
+            history: History::new(alloc),
             space,
             blocks: BTreeMap::new(alloc),
             alloc,
@@ -152,9 +159,10 @@ impl<R: Rack> Shard<R> {
         ensures fresh { IfOk result (λ ticket. (ticket.next ≡ 0) × (ticket.missed ≡ 0)) }
         ensures named { IfOk result (λ ticket. (ticket.pointer.object ≡ object) × (ticket.pointer.seq ≡ seq)
             × (ticket.pointer.metaslab ≡ self.old.number) × (ticket.pointer.birth ≡ max open_group floor)) }
-        ensures event { IfOk result (λ ticket. (w : State) → IsIn self.old w
-            → StepsTo (BeginStep (layout_in (part_of self.old)) w (key_of ticket.pointer) (held_at (begun ticket.pointer))) self.new) }
-        ensures unmoved { OnErr result ((w : State) → IsIn self.old w → IsIn self.new w) }
+        ensures event { IfOk result (λ ticket. Does self.old self.new
+            (Begin (key_of ticket.pointer) ticket.pointer.first ticket.pointer.stripes ticket.pointer.len ticket.pointer.birth ticket.pointer.digest)) }
+        ensures no_event { OnErr result (DoesNone self.old self.new) }
+        ensures reserved { reserved_of self.new ≡ reserved_of self.old }
         ensures refused { IfErr result (IsRefused (held_of self.old) (free_of self.old) self.old.geometry.props.height
             (stripes_of (cut_of self.old.geometry) (length block.now.bytes))) }
         ensures free { OnErr result ((x : ℕ) → free_of self.new x ≡ free_of self.old x) }
@@ -176,14 +184,16 @@ impl<R: Rack> Shard<R> {
             birth: OPEN_GROUP.max(floor),
             digest: block.digest(),
         };
-        match hold(&mut self.space, &mut self.blocks, pointer) {
-            Ok(pointer) => Ok(Ticket {
-                pointer,
-                next: 0,
-                missed: 0,
-            }),
-            Err(fault) => Err(fault),
-        }
+        // Its own event, one for each column, one for its end, and one for the freeing of its block.
+        let asked = u64::from(self.geometry.g) + 3;
+        self.history.ask(asked)?;
+        let pointer = hold(&mut self.space, &mut self.blocks, pointer)?;
+        self.history.add_asked(begin_event(&pointer), asked);
+        Ok(Ticket {
+            pointer,
+            next: 0,
+            missed: 0,
+        })
     }
 
     /// Writes the ticket's next column to its leaf. A column of which a sector fails is missed: the block's birth is
@@ -198,7 +208,8 @@ impl<R: Rack> Shard<R> {
         ensures next { ticket.new.next ≡ ticket.old.next + 1 }
         ensures pointer { ticket.new.pointer ≡ ticket.old.pointer }
         ensures ended { PutIs R.faults self.old self.new ticket.old ticket.new }
-        ensures event { (w : State) → IsIn self.old w → PutsColumn self.old self.new ticket.old ticket.new w }
+        ensures event { PutsColumn self.old self.new ticket.old ticket.new }
+        ensures reserved { reserved_of self.new ≡ reserved_of self.old }
         ensures harm { TellsBoth (R.told self.old.rack) (R.told self.new.rack) (λ x y.
             EndsHarm (part_of self.old) ticket.old.pointer.first ticket.old.pointer.stripes (λ i. i ≡ ticket.old.next)
             (missed_of self.new ticket.old.pointer) x.harmed y.harmed) }
@@ -211,7 +222,15 @@ impl<R: Rack> Shard<R> {
         ensures kept { KeepsBlocks R.told self.old self.new }
         ensures others { KeepsOtherTickets R.told ticket.old.pointer.first self.old self.new }
     {
-        if self.land(ticket, block).is_err() {
+        let place = place_within(
+            &self.geometry,
+            &self.perms,
+            self.number,
+            ticket.pointer.first,
+            ticket.next,
+        );
+        let landed = self.land(ticket, block, place);
+        if landed.is_err() {
             ticket.missed += 1;
         }
         ticket.next += 1;
@@ -220,17 +239,21 @@ impl<R: Rack> Shard<R> {
             missed: ticket.missed,
         };
         turn(&mut self.blocks, &ticket.pointer, stage);
+        self.history
+            .add(put_event(&ticket.pointer, place.child, landed), 1);
     }
 
-    /// Writes the ticket's next column to its leaf. Where that fails the block's birth goes into the log of the leaf.
-    fn land(&mut self, ticket: &Ticket, block: &Encoded) -> Result<(), Failed>
+    /// Writes the ticket's next column to its place. Where that fails the block's birth goes into the log of the leaf.
+    fn land(&mut self, ticket: &Ticket, block: &Encoded, place: Place) -> Result<(), Failed>
         requires valid { Valid R.shape self.old }
         requires carries { Carries R.told self.old ticket.now block.now }
         requires left { ticket.now.next < self.old.geometry.g }
+        requires place { place ≡ place_in (part_of self.old) ticket.now.pointer.first ticket.now.next }
         ensures valid { Valid R.shape self.new }
         ensures part { part_of self.new ≡ part_of self.old }
         ensures blocks { self.new.blocks ≡ self.old.blocks }
         ensures space { self.new.space ≡ self.old.space }
+        ensures history { self.new.history ≡ self.old.history }
         ensures told { Writes (part_of self.old) ticket.now.pointer.first ticket.now.pointer.stripes ticket.now.next
             (column_at block.now.columns ticket.now.next) result (R.told self.old.rack) (R.told self.new.rack) }
         ensures landed { OnOk result (logs_of self.new ≡ logs_of self.old) }
@@ -240,24 +263,16 @@ impl<R: Rack> Shard<R> {
         ensures later { NoneFalls (R.faults self.old.rack) (R.faults self.new.rack) }
         ensures shape { R.shape self.new.rack ≡ R.shape self.old.rack }
     {
-        let pointer = ticket.pointer;
-        let place = place_within(
-            &self.geometry,
-            &self.perms,
-            self.number,
-            pointer.first,
-            ticket.next,
-        );
         let written = write_column(
             &mut self.rack,
             u64::from(place.child),
             place.sector,
-            u64::from(pointer.stripes),
+            u64::from(ticket.pointer.stripes),
             self.geometry.props.sector as usize,
             block.column(ticket.next),
         );
         if written.is_err() {
-            log_miss(&mut self.slots, place.child, pointer.birth);
+            log_miss(&mut self.slots, place.child, ticket.pointer.birth);
         }
         written
     }
@@ -277,7 +292,8 @@ impl<R: Rack> Shard<R> {
         ensures taken { OnOk result (free_of self.new ≡ free_of self.old) }
         ensures held { held_of self.new + (if is_ok result then 0 else 1) ≡ held_of self.old }
         ensures missed { IfErr result (λ e. (self.old.geometry.spec.parity < ticket.missed) × (e.columns ≡ ticket.missed)) }
-        ensures event { (w : State) → IsIn self.old w → StepsTo (FinishStep (layout_in (part_of self.old)) w (key_of ticket.pointer)) self.new }
+        ensures event { Does self.old self.new (Finish (key_of ticket.pointer)) }
+        ensures reserved { reserved_of self.new ≡ reserved_of self.old }
         ensures logs { logs_of self.new ≡ logs_of self.old }
         ensures none_more { NoneMore self.old self.new }
         ensures freed { OnErr result ((x : ℕ) → free_of self.new x ≡ (free_of self.old x
@@ -289,13 +305,18 @@ impl<R: Rack> Shard<R> {
         ensures others { KeepsOtherTickets R.told ticket.pointer.first self.old self.new }
     {
         let pointer = ticket.pointer;
+        let event = Event::Finish {
+            key: key_of(&pointer),
+        };
         if ticket.missed > self.geometry.spec.parity {
             release(&mut self.space, &mut self.blocks, &pointer);
+            self.history.add(event, 2);
             return Err(Missed {
                 columns: ticket.missed,
             });
         }
         turn(&mut self.blocks, &pointer, Stage::Live);
+        self.history.add(event, 1);
         Ok(pointer)
     }
 
@@ -308,7 +329,8 @@ impl<R: Rack> Shard<R> {
         ensures rack { self.new.rack ≡ self.old.rack }
         ensures freed { (x : ℕ) → free_of self.new x ≡ (free_of self.old x
             || is_between ticket.pointer.first (ticket.pointer.first + ticket.pointer.stripes) x) }
-        ensures event { (w : State) → IsIn self.old w → StepsTo (AbortStep w (key_of ticket.pointer)) self.new }
+        ensures event { Does self.old self.new (Abort (key_of ticket.pointer)) }
+        ensures reserved { reserved_of self.new ≡ reserved_of self.old }
         ensures held { held_of self.new + 1 ≡ held_of self.old }
         ensures logs { logs_of self.new ≡ logs_of self.old }
         ensures none_more { NoneMore self.old self.new }
@@ -317,6 +339,11 @@ impl<R: Rack> Shard<R> {
         ensures others { KeepsOtherTickets R.told ticket.pointer.first self.old self.new }
     {
         release(&mut self.space, &mut self.blocks, &ticket.pointer);
+        let event = Event::Abort {
+            key: key_of(&ticket.pointer),
+        };
+        let left = self.geometry.g.saturating_sub(ticket.next);
+        self.history.add(event, u64::from(left) + 2);
     }
 
     /// Frees a live block in a transaction group, which is the answer: the open one, or `floor` where that is the next
@@ -329,7 +356,8 @@ impl<R: Rack> Shard<R> {
         ensures rack { self.new.rack ≡ self.old.rack }
         ensures not_live { IsTrue (is_err result) ↔ (IsLive self.old pointer.now → ⊥) }
         ensures group { IfOk result (λ group. group ≡ max open_group floor) }
-        ensures event { IfOk result (λ group. (w : State) → IsIn self.old w → StepsTo (FreeStep w (key_of pointer.now) group) self.new) }
+        ensures event { IfOk result (λ group. Does self.old self.new (Free (key_of pointer.now) group)) }
+        ensures reserved { reserved_of self.new ≡ reserved_of self.old }
         ensures gone { OnOk result (DropsLive self.old self.new pointer.now) }
         ensures same { OnErr result (self.new ≡ self.old) }
         ensures taken { free_of self.new ≡ free_of self.old }
@@ -344,6 +372,11 @@ impl<R: Rack> Shard<R> {
         }
         let group = OPEN_GROUP.max(floor);
         turn(&mut self.blocks, pointer, Stage::Freed { group });
+        let event = Event::Free {
+            key: key_of(pointer),
+            group,
+        };
+        self.history.add(event, 1);
         Ok(group)
     }
 
@@ -374,9 +407,10 @@ impl<R: Rack> Shard<R> {
         ensures readable { IfOk result (λ fetched. (w : List ℕ) → HoldsBlock R.told self.old pointer.now w → OnTold (R.told self.old.rack) (λ x.
             ((bad : List ℕ) × IsReadable (cut_of self.old.geometry) fetched w bad)
             ⊎ MoreBad (part_of self.old) x.harmed (missed_of self.old pointer.now) pointer.now.first pointer.now.stripes (R.faults self.old.rack) (R.faults self.new.rack))) }
-        ensures event { IfOk result (λ fetched. (w : State) → IsIn self.old w → StepsTo (FetchStep (layout_in (part_of self.old)) w (key_of pointer.now)
-            (leaves_of (part_of self.old) pointer.now.first (absent_columns fetched.columns.items))) self.new) }
-        ensures unmoved { OnErr result ((w : State) → IsIn self.old w → IsIn self.new w) }
+        ensures event { IfOk result (λ fetched. (failed : Vec ℕ Global) × Does self.old self.new (Fetch (key_of pointer.now) failed)
+            × (failed.items ≡ leaves_of (part_of self.old) pointer.now.first (absent_columns fetched.columns.items))) }
+        ensures no_event { OnErr result (DoesNone self.old self.new) }
+        ensures reserved { reserved_of self.new ≡ reserved_of self.old }
         ensures later { NoneFalls (R.faults self.old.rack) (R.faults self.new.rack) }
         ensures told { R.told self.new.rack ≡ R.told self.old.rack }
         ensures shape { R.shape self.new.rack ≡ R.shape self.old.rack }
@@ -391,6 +425,7 @@ impl<R: Rack> Shard<R> {
         if !self.is_live(pointer) {
             return Err(FetchFault::NotLive);
         }
+        self.history.ask(1)?;
         let columns = read_columns(
             self.alloc,
             &mut self.rack,
@@ -399,15 +434,63 @@ impl<R: Rack> Shard<R> {
             self.number,
             pointer,
         )?;
+        let event = Event::Fetch {
+            key: key_of(pointer),
+            failed: self.leaves_failed(pointer, &columns)?,
+        };
+        self.history.add_asked(event, 1);
         Ok(Fetched {
             pointer: *pointer,
             columns,
         })
     }
 
-    /// Makes each byte of a sector of the metaslab its complement, and the sector harmed.
+    /// The leaves of the columns of a block that weren't read.
+    fn leaves_failed(&self, pointer: &Pointer, columns: &[Option<Vec<u8>>]) -> Result<Vec<u64>, NoMemory>
+        requires part { IsPart (part_of self.now) }
+        requires run { IsRun self.now.geometry pointer.now.first pointer.now.stripes }
+        requires count { length columns.now ≡ self.now.geometry.g }
+        ensures { IfOk result (λ leaves. leaves.items ≡ leaves_of (part_of self.now) pointer.now.first (absent_columns columns.now)) }
+    {
+        let mut leaves = Vec::new(self.alloc);
+        for i in 0..self.geometry.g {
+            if columns[i as usize].is_none() {
+                let place = place_within(
+                    &self.geometry,
+                    &self.perms,
+                    self.number,
+                    pointer.first,
+                    i,
+                );
+                leaves.push(u64::from(place.child))?;
+            }
+        }
+        Ok(leaves)
+    }
+
+    /// Reserves so many events, less those that are reserved.
+    pub fn reserve(&mut self, events: u32) -> Result<(), NoMemory>
+        requires valid { Valid R.shape self.old }
+        ensures valid { Valid R.shape self.new }
+        ensures part { part_of self.new ≡ part_of self.old }
+        ensures rack { self.new.rack ≡ self.old.rack }
+        ensures reserved { OnOk result (events ≤ reserved_of self.new) }
+        ensures no_event { DoesNone self.old self.new }
+        ensures free { free_of self.new ≡ free_of self.old }
+        ensures held { held_of self.new ≡ held_of self.old }
+        ensures logs { logs_of self.new ≡ logs_of self.old }
+        ensures none_more { NoneMore self.old self.new }
+        ensures same { SameLive self.old self.new }
+        ensures kept { KeepsBlocks R.told self.old self.new }
+        ensures tickets { KeepsTickets R.told self.old self.new }
+    {
+        self.history.reserve(u64::from(events))
+    }
+
+    /// Makes each byte of a sector of the metaslab its complement, and the sector harmed. One event is reserved for it.
     pub fn damage(&mut self, leaf: u64, sector: u64) -> Result<(), Failed>
         requires valid { Valid R.shape self.old }
+        requires reserved { 0 < reserved_of self.old }
         requires leaf { leaf < self.old.geometry.spec.children }
         requires sector { sector < part_sectors self.old.geometry }
         ensures valid { Valid R.shape self.new }
@@ -416,7 +499,8 @@ impl<R: Rack> Shard<R> {
             (l s : ℕ) → y.harmed l s ≡ put leaf sector true x.harmed l s)) }
         ensures err { OnErr result (R.told self.new.rack ≡ R.told self.old.rack) }
         ensures cause { Counts (Some leaf) result (R.faults self.old.rack) (R.faults self.new.rack) }
-        ensures event { (w : State) → IsIn self.old w → StepsTo (DamageStep (layout_in (part_of self.old)) w leaf sector) self.new }
+        ensures event { Does self.old self.new (Damage leaf sector (is_err result)) }
+        ensures reserved { reserved_of self.new + 1 ≡ reserved_of self.old }
         ensures free { free_of self.new ≡ free_of self.old }
         ensures held { held_of self.new ≡ held_of self.old }
         ensures logs { logs_of self.new ≡ logs_of self.old }
@@ -426,7 +510,21 @@ impl<R: Rack> Shard<R> {
         ensures kept { KeepsBlocks R.told self.old self.new }
         ensures tickets { KeepsTickets R.told self.old self.new }
     {
-        self.rack.damage(leaf, sector)
+        let done = self.rack.damage(leaf, sector);
+        let failed = done.is_err();
+        self.history.add_reserved(Event::Damage {
+            leaf,
+            sector,
+            failed,
+        });
+        done
+    }
+
+    /// What was done since the opening, in order.
+    pub fn events(&self) -> &[Event]
+        ensures { result.now ≡ events_of self.now }
+    {
+        self.history.events.as_slice()
     }
 
     /// Gives the rack back.
