@@ -11,7 +11,7 @@ use Rattle.draid_map.proofs.Radix.{its_digits}
 use Rattle.draid_metaslab.specs.Spaces.{Stripes, is_free}
 use Rattle.draid_metaslab.specs.Spots.{IsLowest, IsSpot}
 use Rattle.draid_machine.specs.declared.names.ArmName.{ArmName}
-use Rattle.draid_machine.specs.declared.names.ArmName.TheVariants.{Leaf}
+use Rattle.draid_machine.specs.declared.names.ArmName.TheVariants.{Leaf, Spare}
 use Rattle.draid_machine.specs.declared.names.Held.{Held}
 use Rattle.draid_machine.specs.declared.names.Key.{Key}
 use Rattle.draid_machine.specs.declared.names.Segment.{Segment}
@@ -19,6 +19,7 @@ use Rattle.draid_machine.specs.declared.names.Stage.TheVariants.{Writing, Live, 
 use Rattle.draid_machine.specs.After.{begin_state, free_state, gone_state, live_state, set_held}
 use Rattle.draid_machine.specs.Arms.{answers, is_clean, leaf_answers, reading, else_some}
 use Rattle.draid_machine.specs.Created.{created}
+use Rattle.draid_machine.specs.Layout.{layout_of}
 use Rattle.draid_machine.specs.Names.{has_name, has_number, name_eq}
 use Rattle.draid_machine.specs.State.{Arm, Core, Layout, State}
 use Rattle.draid_machine.specs.Step.{AbortStep, BeginStep, DamageStep, FetchStep, FinishStep, Fits, FreeStep, IsTaken as TakesStripe}
@@ -311,17 +312,17 @@ reads_own shard w h c is is_in below =
     either true = rw responds refl
     either false = rw responds refl
 
-pub fetches : {R : Type 0} (old new : Shard R) (w : State) (p : Pointer) (absent : List ℕ) → part_of new ≡ part_of old → IsPart (part_of old) → new.blocks ≡ old.blocks
+pub fetches : {R : Type 0} (old new : Shard R) (w : State) (p : Pointer) (absent failed : List ℕ) → failed ≡ leaves_of (part_of old) p.first absent → part_of new ≡ part_of old → IsPart (part_of old) → new.blocks ≡ old.blocks
     → entry_at old.blocks p.first ≡ Some (staged Live p) → ((c : ℕ) → Contains absent c → c < old.geometry.g) → logs_in new.slots ≡ logs_in old.slots → IsIn old w
-    → StepsTo (FetchStep (layout_in (part_of old)) w (key_of p) (leaves_of (part_of old) p.first absent)) new
-fetches old new w p absent part is same is_live inside logs is_in = record {
+    → StepsTo (FetchStep (layout_in (part_of old)) w (key_of p) failed) new
+fetches old new w p absent failed leaves part is same is_live inside logs is_in = record {
   state = w;
   stepped = record {
     h = held_at (staged Live p);
     found = is_in.held.listed p.first (staged Live p) is_live;
     live = refl;
-    fail = λ leaf failed.
-        let found = has_mapped (leaf_of (part_of old) p.first) absent leaf failed in (
+    fail = λ leaf there.
+        let found = has_mapped (leaf_of (part_of old) p.first) absent leaf (subst (λ xs. has_number xs leaf ≡ true) leaves there) in (
           found.0,
           Leaf (leaf_of (part_of old) p.first found.0),
           inside found.0 found.1,
@@ -341,3 +342,24 @@ damages old new w leaf sector part same there inside logs is_in = record {
   stepped = record { a = arm_with (logs_in old.slots leaf); found = own_arm old w leaf is_in there; inside = inside; made = refl };
   is_in = unmoved_in old new w part logs (holds_still old.blocks new.blocks w.core.held is_in.held (λ k. ap (λ blocks. entry_at blocks k) same)) is_in;
 }
+
+-- ---- create
+pub created_in : {R : Type 0} (shard : Shard R) → ((k : ℕ) → entry_at shard.blocks k ≡ None) → ((leaf group : ℕ) → logs_in shard.slots leaf group ≡ false)
+    → IsIn shard (created (layout_of shard.geometry shard.perms shard.number))
+created_in shard none empty = record {
+  held = record { listed = λ k e there. absurd (none_some (entry_at shard.blocks k) e (none k) there); only = λ key h is. absurd (none_some None h refl is) };
+  arms = arms;
+  order = refl;
+  pass = refl;
+  last = refl;
+  open_group_is = refl;
+  closing = refl;
+  committed = refl;
+  serial = refl;
+  loan = refl;
+  image = refl;
+  sealed = refl;
+} where
+  arms : (n : ArmName) → (created (layout_of shard.geometry shard.perms shard.number)).core.arm n ≡ arm_in shard.geometry.spec.children (logs_in shard.slots) n
+  arms (Leaf leaf) = λ i. if nat_lt leaf shard.geometry.spec.children then Some (arm_with (λ g. sym (empty leaf g) i)) else None
+  arms (Spare spare) = refl

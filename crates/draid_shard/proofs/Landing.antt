@@ -61,7 +61,7 @@ pub on_ok_of : (r : Result Unit Failed) (P : Type 0) → P → OnOk r P
 on_ok_of (Ok done) P p = p
 on_ok_of (Err e) P p = tt
 
-pub on_err_of : (r : Result Unit Failed) (P : Type 0) → P → OnErr r P
+pub on_err_of : {T E : Type 0} (r : Result T E) (P : Type 0) → P → OnErr r P
 on_err_of (Ok done) P p = tt
 on_err_of (Err e) P p = p
 

@@ -11,3 +11,4 @@ pub mod Held
 pub mod Events
 pub mod Landing
 pub mod Owed
+pub mod Failed

@@ -1,4 +1,6 @@
-use Rattle.std.proofs.Common.{arith, length, refl}
+use Rattle.std.proofs.Common.{◌≡◌, ◌∙◌, ◌++◌, ◌∷◌, [], ap, ap₂, arith, length, refl}
+use Rattle.draid_machine.specs.declared.event.Event.TheVariants.{Fetch}
+use Rattle.draid_shard.specs.Machine.{leaves_of}
 use Rattle.draid_shard.specs.Shard.{missed_of, part_of}
 use Rattle.draid_block.specs.Solving.{absent_columns}
 use Rattle.draid_block.proofs.Complete.{absent_within}
@@ -28,8 +30,21 @@ returns-clause-readable g c w holds =
     holds.content holds.are holds.stand
 
 pub returns-clause-event : goal.returns-clause-event
-returns-clause-event g c w is_in =
+returns-clause-event g c =
     let columns = c.in_ok-columns.columns.items in
     let count = c.in_ok-columns.ensures.count in
-    fetches c.args.self.now _ w c.args.pointer.now (absent_columns columns) refl c.requires.valid.part refl (c.if-not-is_live.ensures.0 refl)
-    (λ i there. (let lt = absent_within columns (length columns) i there in omega (arith, lt, count))) refl is_in
+    let failed = c.in_ok-leaves_failed.field-0 in
+    let leaves : failed.items ≡ leaves_of (part_of c.args.self.now) c.args.pointer.now.first (absent_columns columns)
+    = c.in_ok-leaves_failed.ensures ∙ ap (λ cs. leaves_of (part_of c.args.self.now) c.args.pointer.now.first (absent_columns cs)) c.deref.ensures.value in (
+      failed,
+      record {
+        stored = c.add_asked.ensures.events ∙ ap₂ (λ es key. es ++ Fetch key failed ∷ []) c.ask.ensures.events c.key_of.ensures;
+        steps = λ w is_in. fetches c.args.self.now _ w c.args.pointer.now (absent_columns columns) failed.items leaves refl c.requires.valid.part refl (c.if-not-is_live.ensures.0 refl)
+            (λ i there. (let lt = absent_within columns (length columns) i there in omega (arith, lt, count))) refl is_in;
+      },
+      leaves,
+    )
+
+pub leaves_failed-requires-clause-run : goal.leaves_failed-requires-clause-run
+leaves_failed-requires-clause-run g c =
+    entry_run c.args.self.now.geometry c.args.self.now.space c.args.self.now.blocks c.args.pointer.now.first _ c.requires.valid.tables (c.if-not-is_live.ensures.0 refl)
