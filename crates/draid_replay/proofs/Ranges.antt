@@ -186,7 +186,7 @@ kept l w new (Begin key first stripes len birth digest) few s small step =
       counted = λ c m is. let z : 0 ≡ m = ap missed_of is in omega (arith, z);
     })))
 kept l w new (Put key landed failed) few s small step =
-    to _ new step.made (held_within w _ s (held_set w.core.held key _ s.holds (put_small step.h step.c step.m (is_nil landed.items) (s.holds key step.h step.found) step.stage)))
+    to _ new step.made (held_within w _ s (held_set w.core.held key _ s.holds (put_small step.h step.c step.m (is_nil landed) (s.holds key step.h step.found) step.stage)))
 kept l w new (Finish key) few s small step =
     to (finish_state l w key step.h step.m) new step.made
     (if_within (nat_lt l.parity step.m) _ _

@@ -64,7 +64,7 @@ pub fn advance(
             key,
             landed,
             failed,
-        } => Ok(put(site, world, *key, landed, failed)?),
+        } => Ok(put(site, world, *key, landed.as_slice(), failed.as_slice())?),
         Event::Finish { key } => Ok(finish(site, world, *key)),
         Event::Abort { key } => Ok(abort(world, *key)),
         Event::Free { key, group } => Ok(free(world, *key, *group)),

@@ -5,7 +5,7 @@ ghost use Rattle.draid_replay.specs.Within.{IsSmallEvent, IsWithin};
 
 use crate::{ReplayFault, replay};
 use draid_dtl::Log;
-use draid_machine::{ArmName, Event, Key};
+use draid_machine::{ArmName, Event, FewArms, FewLeaves, Key};
 use draid_names::{NoMemory, PassKind};
 use draid_perm::Perms;
 use draid_spec::{Geometry, Props, geometry, parse_spec};
@@ -132,22 +132,20 @@ fn add(events: &mut Vec<Event>, event: Event) -> Result<(), NoMemory>
 }
 
 /// The column of a block on stripe 0 lands on the leaf of its slot.
-fn put(alloc: Global, site: &Site, key: Key, column: u32) -> Result<Event, NoMemory>
+fn put(site: &Site, key: Key, column: u32) -> Event
     requires layout { IsLayout site.now.geometry site.now.perms }
     requires metaslab { site.now.metaslab < site.now.geometry.props.metaslabs }
     requires column { column < site.now.geometry.g }
-    ensures { IfOk result IsSmallEvent }
+    ensures { IsSmallEvent result }
 {
     let slot = slot_of(site, 0, column);
-    let mut landed = Vec::new(alloc);
-    landed.push(ArmName::Leaf {
-        leaf: u64::from(slot),
-    })?;
-    Ok(Event::Put {
+    Event::Put {
         key,
-        landed,
-        failed: Vec::new(alloc),
-    })
+        landed: FewArms::one(ArmName::Leaf {
+            leaf: u64::from(slot),
+        }),
+        failed: FewLeaves::none(),
+    }
 }
 
 /// A group is closed and sealed, and committed if it shall.
@@ -202,8 +200,7 @@ fn add_write(alloc: Global, site: &Site, events: &mut Vec<Event>) -> Result<(), 
 {
     add(events, begin(KEY, 0, 2))?;
     for column in 0..site.geometry.g {
-        let event = put(alloc, site, KEY, column)?;
-        add(events, event)?;
+        add(events, put(site, KEY, column))?;
     }
     add(events, Event::Finish { key: KEY })?;
     add(
@@ -401,5 +398,21 @@ fn histories_go_to_their_first_illegal_event(rt: HostRuntime) -> Result<(), Fail
         answers(rt.alloc(), &site),
         [Ok(2), not_legal(0), not_legal(0), Ok(3), not_legal(1)]
     );
+    Ok(())
+}
+
+#[test]
+fn lists_of_a_put_keep_their_order(rt: HostRuntime) -> Result<(), Fail> {
+    let arms = [
+        ArmName::Leaf { leaf: 3 },
+        ArmName::Spare { spare: 1 },
+        ArmName::Leaf { leaf: 0 },
+    ];
+    let leaves = [3, 0, 3];
+    assert_eq!(rt; FewArms::of(&arms).as_slice(), arms.as_slice());
+    assert_eq!(rt; FewArms::of(&arms[1..]).as_slice(), &arms[1..]);
+    assert_eq!(rt; FewLeaves::of(&leaves).as_slice(), leaves.as_slice());
+    assert_eq!(rt; FewLeaves::one(4).as_slice(), [4].as_slice());
+    assert!(rt; FewArms::none().as_slice().is_empty());
     Ok(())
 }
