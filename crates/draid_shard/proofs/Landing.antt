@@ -1,5 +1,5 @@
 -- What a put did to its shard and its ticket.
-use Rattle.std.proofs.Common.{◌≡◌, ◌+◌, ◌<◌, ◌≤◌, ◌∙◌, ◌==◌, ◌||◌, ◌&&◌, not, ℕ, List, [], ◌∷◌, Bool, true, false, nat_lt, Option, Some, None, arith, refl, sym, ap, ap₂, inl, inr, subst, if◌then◌else◌}
+use Rattle.std.proofs.Common.{◌≡◌, ◌++◌, ◌+◌, ◌<◌, ◌≤◌, ◌∙◌, ◌==◌, ◌||◌, ◌&&◌, not, ℕ, List, [], ◌∷◌, Bool, true, false, nat_lt, Option, Some, None, arith, refl, sym, ap, ap₂, inl, inr, subst, if◌then◌else◌}
 use Rattle.std.specs.Prelude.{Result, Ok, Err, OnOk, OnErr}
 use Rattle.std.specs.Result.{is_ok}
 use Rattle.std.specs.BTreeMap.{BTreeMap}
@@ -9,6 +9,7 @@ use Rattle.draid_names.specs.declared.pointer.Pointer.{Pointer}
 use Rattle.draid_rack.specs.Rack.{OnTold, Told}
 use Rattle.draid_parity.specs.Columns.{column_at}
 use Rattle.draid_block.specs.Blocks.{AreColumns, BlockValue, IsContent, cut_of}
+use Rattle.draid_machine.specs.declared.event.Event.TheVariants.{Put}
 use Rattle.draid_machine.specs.declared.names.ArmName.{ArmName}
 use Rattle.draid_machine.specs.declared.names.ArmName.TheVariants.{Leaf, Spare}
 use Rattle.draid_machine.specs.declared.names.Held.{Held}
@@ -27,7 +28,7 @@ use Rattle.draid_shard.specs.Part.{IsPart, Part, leaf_of}
 use Rattle.draid_shard.specs.Columns.{ColumnsStand, EndsHarm, LeafRose, TellsBoth, Writes, is_missed}
 use Rattle.draid_shard.specs.Entry.{IsEntered, SetsEntry, Tables, entry_at, live, opened, staged}
 use Rattle.draid_shard.specs.Logs.{LogsMiss}
-use Rattle.draid_shard.specs.Machine.{HoldsSame, IsIn, StepsTo, arm_in, arm_with, held_at, key_of, layout_in}
+use Rattle.draid_shard.specs.Machine.{HoldsSame, IsIn, StepsTo, arm_in, arm_with, events_of, held_at, key_of, layout_in}
 use Rattle.draid_shard.specs.Shard.{Carries, HoldsBlock, PutIs, PutsColumn, logs_of, missed_of, part_of}
 use Rattle.draid_shard.proofs.Events.{column_order, in_one, leaf_responds, one_in, stand_first, still_in}
 use Rattle.draid_shard.proofs.Held.{holds_turned}
@@ -82,6 +83,13 @@ still_entered blocks new q was now own sets p entered = elim (entry_cases blocks
       (was, ap (entry_at blocks) here.0 ∙ own ∙ ap (λ (x : Pointer). Some (staged was x)) same)
   | inr other ↦ (entered.0, other.1)
 ]
+
+-- the entry of the ticket, as a column has landed and before it is counted
+pub put_there : (old mid : BTreeMap ℕ Entry) (before : Ticket) (q : Pointer) → mid ≡ old → entry_at old before.pointer.first ≡ Some (opened before) → q ≡ before.pointer
+    → entry_at mid q.first ≡ Some (staged (Writing before.next before.missed) q)
+put_there old mid before q same is_open pointer =
+    subst (λ (p : Pointer). entry_at mid p.first ≡ Some (staged (Writing before.next before.missed) p)) (sym pointer)
+    (ap (λ blocks. entry_at blocks before.pointer.first) same ∙ is_open)
 
 -- ---- the logs
 -- a group that isn't in a log now wasn't there before
@@ -294,13 +302,36 @@ module _ {R : Type 0} (old new : Shard R) (w : State) (before now : Ticket) (par
         swapped : (m : ℕ) → (((leaf == m) || false) && true) ≡ (m == leaf)
         swapped m = grind (arith, nat_tests)
 
+-- what a promise of one kind of answer gives
+pub on_ok_map : (r : Result Unit Failed) (P Q : Type 0) → (P → Q) → OnOk r P → OnOk r Q
+on_ok_map (Ok done) P Q f p = f p
+on_ok_map (Err e) P Q f p = tt
+
+pub on_err_map : (r : Result Unit Failed) (P Q : Type 0) → (P → Q) → OnErr r P → OnErr r Q
+on_err_map (Ok done) P Q f p = tt
+on_err_map (Err e) P Q f p = f p
+
 pub put_event : {R : Type 0} (told : R → Option Told) (faults : R → Option ℕ → ℕ) (old new : Shard R) (before now : Ticket) (block : BlockValue) (r : Result Unit Failed)
-    → IsPutOf told faults old new before now block r → (w : State) → IsIn old w → PutsColumn old new before now w
-put_event told faults old new before now block r p w is_in = by r p.counted.landed p.counted.missed p.landed p.missed
+    → IsPutOf told faults old new before now block r
+    → OnOk r (events_of new ≡ events_of old ++ Put (key_of before.pointer) (Leaf (leaf_of (part_of old) before.pointer.first before.next) ∷ []) [] ∷ [])
+    → OnErr r (events_of new ≡ events_of old ++ Put (key_of before.pointer) [] (leaf_of (part_of old) before.pointer.first before.next ∷ []) ∷ []) → PutsColumn old new before now
+put_event told faults old new before now block r p ok err = by r p.counted.landed p.counted.missed p.landed p.missed ok err
   where
     by : (s : Result Unit Failed) → OnOk s (now.missed ≡ before.missed) → OnErr s (now.missed ≡ before.missed + 1) → OnOk s (logs_of new ≡ logs_of old)
-        → OnErr s (LogsMiss (leaf_of (part_of old) before.pointer.first before.next) before.pointer.birth (logs_of old) (logs_of new)) → PutsColumn old new before now w
-    by (Ok done) same more landed missed =
-        inl (same, lands old new w before now p.part p.is p.tables p.carries.is_open p.left p.counted.pointer p.counted.next p.sets is_in same landed)
-    by (Err e) same more landed missed =
-        inr (more, fails_to old new w before now p.part p.is p.tables p.carries.is_open p.left p.counted.pointer p.counted.next p.sets is_in more missed)
+        → OnErr s (LogsMiss (leaf_of (part_of old) before.pointer.first before.next) before.pointer.birth (logs_of old) (logs_of new))
+        → OnOk s (events_of new ≡ events_of old ++ Put (key_of before.pointer) (Leaf (leaf_of (part_of old) before.pointer.first before.next) ∷ []) [] ∷ [])
+        → OnErr s (events_of new ≡ events_of old ++ Put (key_of before.pointer) [] (leaf_of (part_of old) before.pointer.first before.next ∷ []) ∷ []) → PutsColumn old new before now
+    by (Ok done) same more landed missed stored failed = inl (
+      same,
+      record {
+        stored = stored;
+        steps = λ w is_in. lands old new w before now p.part p.is p.tables p.carries.is_open p.left p.counted.pointer p.counted.next p.sets is_in same landed;
+      },
+    )
+    by (Err e) same more landed missed stored failed = inr (
+      more,
+      record {
+        stored = failed;
+        steps = λ w is_in. fails_to old new w before now p.part p.is p.tables p.carries.is_open p.left p.counted.pointer p.counted.next p.sets is_in more missed;
+      },
+    )
