@@ -82,3 +82,4 @@ abbrev pub DamageIs : ℕ → ℕ → Result Unit DamageFault → State → Stat
 DamageIs leaf sector (Ok done) old new = Damages leaf sector old new
 DamageIs leaf sector (Err damage.NoSuch) old new = (IsThere old leaf sector → ⊥) × Stays old new
 DamageIs leaf sector (Err damage.Failed) old new = FailsToDamage leaf sector old new
+DamageIs leaf sector (Err damage.NoMemory) old new = Stays old new

@@ -1,5 +1,5 @@
 -- What becomes of a block that is written to a shard, and of one that is read or freed.
-use Rattle.std.specs.Prelude.{◌≡◌, ◌≤◌, ◌<◌, ◌+◌, ◌==◌, ◌||◌, ◌&&◌, ◌⊎◌, ⊤, ℕ, Bool, List, Option, Some, Result, Ok, Err, All, length, nat_eq, slice_get, slice_set}
+use Rattle.std.specs.Prelude.{◌≡◌, ◌≤◌, ◌<◌, ◌+◌, ◌==◌, ◌||◌, ◌&&◌, ◌⊎◌, ⊤, ℕ, Bool, true, List, Option, Some, Result, Ok, Err, All, length, nat_eq, slice_get, slice_set}
 use Rattle.std.specs.List.{list_any}
 use Rattle.std.specs.List.Sorted.{IsStrictlyIncreasing}
 use Rattle.std.specs.declared.vec.Vec.{Vec}
@@ -7,7 +7,8 @@ use Rattle.std.specs.declared.alloc.Global.{Global}
 use Rattle.sha2.specs.Sha256.{sha256}
 use Rattle.draid_names.specs.declared.pointer.Pointer.{Pointer}
 use Rattle.draid_names.specs.declared.room.Room.{Room}
-use Rattle.draid_rack.specs.Rack.{OnTold, Shape, Told}
+use Rattle.draid_names.specs.Faults.{Rose}
+use Rattle.draid_rack.specs.Rack.{OnTold, Shape, Told, put}
 use Rattle.draid_block.specs.Columns.{Cut}
 use Rattle.draid_block.specs.Blocks.{cut_of}
 use Rattle.draid_block.specs.Many.{IsSolved}
@@ -24,6 +25,8 @@ use Rattle.draid_shard.specs.Shard.{AddsLive, DropsLive, HasEntry, HoldsBlock, I
 use Rattle.draid_pool.specs.State.{most_held, stripes_for}
 use Rattle.draid_pool.specs.declared.fault.ObjectFault.{ObjectFault}
 use Rattle.draid_pool.specs.declared.fault.ObjectFault.TheVariants as object
+use Rattle.draid_pool.specs.declared.fault.DamageFault.{DamageFault}
+use Rattle.draid_pool.specs.declared.fault.DamageFault.TheVariants as damage
 use Rattle.draid_pool.specs.declared.store.StoreFault.{StoreFault}
 use Rattle.draid_pool.specs.declared.store.StoreFault.TheVariants as store
 
@@ -143,6 +146,13 @@ SolveIs cut fetched (Ok bytes) = IsSolved cut fetched (Bytes bytes)
 SolveIs cut fetched (Err (object.Unreadable absent tried)) = IsSolved cut fetched (Unreadable absent tried)
 SolveIs cut fetched (Err object.NoMemory) = ⊤
 SolveIs cut fetched (Err object.NoObject) = ⊥
+
+-- the answer to a damage of a sector of a shard
+abbrev pub SectorAnswers : {R : Type 0} → (R → Option Told) → (R → Option ℕ → ℕ) → ℕ → ℕ → Shard R → Shard R → Result Unit DamageFault → Type 0
+SectorAnswers told faults leaf sector old new (Ok done) = TellsBoth (told old.rack) (told new.rack) (λ x y. (l s : ℕ) → y.harmed l s ≡ put leaf sector true x.harmed l s)
+SectorAnswers told faults leaf sector old new (Err damage.Failed) = (told new.rack ≡ told old.rack) × Rose (faults old.rack (Some leaf)) (faults new.rack (Some leaf))
+SectorAnswers told faults leaf sector old new (Err damage.NoMemory) = new.rack ≡ old.rack
+SectorAnswers told faults leaf sector old new (Err damage.NoSuch) = ⊥
 
 -- One shard of a list changed, and no other.
 pub record SetsShard {R : Type 0} (m : ℕ) (before after : Shard R) (old new : List (Shard R)) : Type 0 where

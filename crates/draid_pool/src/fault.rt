@@ -72,4 +72,5 @@ pub enum DamageFault {
     NoSuch,
     /// The leaf failed.
     Failed,
+    NoMemory,
 }

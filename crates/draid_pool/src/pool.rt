@@ -10,7 +10,7 @@ ghost use Rattle.draid_pool.specs.State.{Change, Wrote, Write};
 use crate::batch::add_batch;
 use crate::fault::{DamageFault, FreeFault, ObjectFault, SumFault, WriteFault};
 use crate::room::{count_full, longest_run, rooms_of};
-use crate::store::{StoreFault, fetch_block, free_block, solve, store};
+use crate::store::{StoreFault, damage_sector, fetch_block, free_block, solve, store};
 use draid_block::{Encoded, Fetched};
 use draid_choose::Chooser;
 use draid_map::metaslab_sectors;
@@ -210,9 +210,11 @@ impl<R: Rack> Pool<R> {
             return Err(DamageFault::NoSuch);
         }
         let shard = &mut self.shards[(sector / sectors) as usize];
-        match shard.damage(leaf, sector % sectors) {
+        match damage_sector(shard, leaf, sector % sectors) {
             Ok(()) => Ok(()),
-            Err(_) => Err(DamageFault::Failed),
+            Err(DamageFault::NoSuch) => unreachable!(),
+            Err(DamageFault::Failed) => Err(DamageFault::Failed),
+            Err(DamageFault::NoMemory) => Err(DamageFault::NoMemory),
         }
     }
 }

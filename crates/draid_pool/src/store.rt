@@ -2,12 +2,13 @@ ghost use Rattle.std.specs.Prelude.{◌≡◌, ◌<◌, ◌≤◌, ◌^◌, ℕ,
 ghost use Rattle.draid_spec.specs.Geometry.{IsGeometry};
 ghost use Rattle.draid_block.specs.Blocks.{cut_of};
 ghost use Rattle.draid_block.specs.Solving.{IsFetched};
-ghost use Rattle.draid_pool.specs.Store.{EntersOne, FetchAnswers, FreesBlock, HasRoom, IsLiveIn, MissedSome, SolveIs, StoreAnswers};
+ghost use Rattle.draid_map.specs.Place.{part_sectors};
+ghost use Rattle.draid_pool.specs.Store.{EntersOne, FetchAnswers, FreesBlock, HasRoom, IsLiveIn, MissedSome, SectorAnswers, SolveIs, StoreAnswers};
 ghost use Rattle.draid_shard.specs.Columns.{EndsHarm, TellsBoth};
 ghost use Rattle.draid_shard.specs.Entry.{open_group};
 ghost use Rattle.draid_shard.specs.Shard.{Carries, HoldsBlock, IsLive, IsUnused, KeepsBlocks, NoneFalls, NoneMore, SameLive, Valid, free_of, held_of, logs_of, missed_of, part_of};
 
-use crate::fault::ObjectFault;
+use crate::fault::{DamageFault, ObjectFault};
 use draid_block::{Encoded, Fetched, SolveFault, solve_block};
 use draid_names::{NoMemory, Pointer};
 use draid_rack::Rack;
@@ -142,4 +143,33 @@ pub(crate) fn free_block<R: Rack>(shards: &mut Vec<Shard<R>>, pointer: &Pointer)
     let Ok(_) = shards[pointer.metaslab as usize].free(pointer, NO_FLOOR) else {
         unreachable!()
     };
+}
+
+/// Damages a sector of a shard, for which an event is reserved first.
+pub(crate) fn damage_sector<R: Rack>(
+    shard: &mut Shard<R>,
+    leaf: u64,
+    sector: u64,
+) -> Result<(), DamageFault>
+    requires valid { Valid R.shape shard.old }
+    requires leaf { leaf < shard.old.geometry.spec.children }
+    requires sector { sector < part_sectors shard.old.geometry }
+    ensures valid { Valid R.shape shard.new }
+    ensures part { part_of shard.new ≡ part_of shard.old }
+    ensures answer { SectorAnswers R.told R.faults leaf sector shard.old shard.new result }
+    ensures later { NoneFalls (R.faults shard.old.rack) (R.faults shard.new.rack) }
+    ensures free { free_of shard.new ≡ free_of shard.old }
+    ensures held { held_of shard.new ≡ held_of shard.old }
+    ensures logs { logs_of shard.new ≡ logs_of shard.old }
+    ensures none_more { NoneMore shard.old shard.new }
+    ensures same { SameLive shard.old shard.new }
+    ensures kept { KeepsBlocks R.told shard.old shard.new }
+{
+    if shard.reserve(1).is_err() {
+        return Err(DamageFault::NoMemory);
+    }
+    match shard.damage(leaf, sector) {
+        Ok(()) => Ok(()),
+        Err(_) => Err(DamageFault::Failed),
+    }
 }

@@ -104,6 +104,7 @@ Plain (SumObjects first count) (NoMemory name.Sum) old new = Looks old new
 Plain (DamageSector leaf sector) (Damaged l s) old new = (l ≡ leaf) × (s ≡ sector) × Damages leaf sector old new
 Plain (DamageSector leaf sector) (DamageRefused l s) old new = (l ≡ leaf) × (s ≡ sector) × (IsThere old leaf sector → ⊥) × Stays old new
 Plain (DamageSector leaf sector) (DamageFailed l s) old new = (l ≡ leaf) × (s ≡ sector) × FailsToDamage leaf sector old new
+Plain (DamageSector leaf sector) (NoMemory name.Damage) old new = Stays old new
 Plain command reply old new = ⊥
 
 -- The same where a pool is open, or none is; some have no reply.
