@@ -136,6 +136,8 @@ pub(crate) fn damage<R: Rack>(pool: &mut Pool<R>, leaf: u64, sector: u64) -> Rep
         Ok(()) => Reply::Damaged { leaf, sector },
         Err(DamageFault::NoSuch) => Reply::DamageRefused { leaf, sector },
         Err(DamageFault::Failed) => Reply::DamageFailed { leaf, sector },
-        Err(DamageFault::NoMemory) => Reply::NoMemory(CommandName::Damage),
+        Err(DamageFault::NoMemory) => Reply::NoMemory {
+            command: CommandName::Damage,
+        },
     }
 }

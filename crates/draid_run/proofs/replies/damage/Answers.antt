@@ -22,3 +22,10 @@ returns-in-Err-Failed g c = record {
       by_answer g.R.Rack.shape g.R.Rack.told g.R.Rack.faults (λ r. DamageIs c.args.leaf c.args.sector r) _ _ _ c.damage.result _ (c.in-Err-Failed.is ∙ ap Err c.in-Err-Failed.field-0-is)
       (λ x y w. (refl, refl, w)) (c.damage.ensures.step changes is);
 }
+
+pub returns-in-Err-NoMemory : goal.returns-in-Err-NoMemory
+returns-in-Err-NoMemory g c = record {
+  step = λ changes is.
+      by_answer g.R.Rack.shape g.R.Rack.told g.R.Rack.faults (λ r. DamageIs c.args.leaf c.args.sector r) _ _ _ c.damage.result _ (c.in-Err-NoMemory.is ∙ ap Err c.in-Err-NoMemory.field-0-is)
+      (λ x y w. w) (c.damage.ensures.step changes is);
+}
