@@ -1,5 +1,5 @@
 -- The leaves of the columns that weren't read, one column after another.
-use Rattle.std.proofs.Common.{◌≡◌, ◌+◌, ◌<◌, ◌∙◌, ◌++◌, ◌∷◌, [], not, ℕ, zero, suc, List, Bool, true, false, Option, Some, None, Vec, Global, arith, refl, sym, subst, ap, ap₂, get_or, length, unwrap_or, if◌then◌else◌}
+use Rattle.std.proofs.Common.{◌≡◌, ◌+◌, ◌<◌, ◌∙◌, ◌++◌, ◌∷◌, [], not, ℕ, suc, List, Bool, true, false, Option, Some, None, Vec, Global, arith, refl, sym, subst, ap, ap₂, get_or, length, unwrap_or, if◌then◌else◌}
 use Rattle.std.specs.Prelude.{is_none, is_some, slice_index_or}
 use Rattle.std.proofs.lemmas.Option.{slice_get-get_or}
 use Rattle.std.proofs.lemmas.List.{append-nil, map-append}

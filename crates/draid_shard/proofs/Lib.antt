@@ -12,3 +12,4 @@ pub mod Events
 pub mod Landing
 pub mod Owed
 pub mod Failed
+pub mod Histories

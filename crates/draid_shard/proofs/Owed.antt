@@ -1,7 +1,7 @@
 -- How many events are owed, as one entry of the table changes.
-use Rattle.std.proofs.Common.{◌≡◌, ◌⊎◌, ◌+◌, ◌-◌, ◌<◌, ◌≤◌, ◌∙◌, ℕ, zero, suc, Option, Some, None, arith, refl, sym, ap, inl, inr}
+use Rattle.std.proofs.Common.{◌≡◌, ◌+◌, ◌<◌, ◌≤◌, ◌∙◌, ℕ, zero, suc, Option, Some, None, arith, refl, ap, inl, inr}
 use Rattle.std.specs.Prelude.{vec_capacity, vec_len}
-use Rattle.std.proofs.lemmas.Bool.{cases_eq, cases_lt}
+use Rattle.std.proofs.lemmas.Bool.{cases_lt}
 use Rattle.std.specs.BTreeMap.{BTreeMap}
 use Rattle.draid_map.specs.Place.{part_stripes}
 use Rattle.draid_spec.specs.declared.layout.Geometry.{Geometry}
@@ -10,7 +10,7 @@ use Rattle.draid_shard.specs.declared.history.History.{History}
 use Rattle.draid_metaslab.specs.Spaces.{Stripes}
 use Rattle.draid_shard.specs.declared.ticket.Ticket.{Ticket}
 use Rattle.draid_shard.specs.Entry.{SetsEntry, Tables, entry_at, opened}
-use Rattle.draid_shard.specs.History.{Owes, owed_by, owed_in, sum_below}
+use Rattle.draid_shard.specs.History.{Owes, owed_by, sum_below}
 use Rattle.draid_shard.proofs.Stand.{first_there}
 use Rattle.draid_shard.proofs.Tables.{entry_run}
 

@@ -1,7 +1,6 @@
 -- The events that a shard stores, and those for which it keeps room.
-use Rattle.std.specs.Prelude.{◌≡◌, ◌+◌, ◌-◌, ◌≤◌, ℕ, zero, suc, List, Option, Some, None, vec_capacity, vec_len}
+use Rattle.std.specs.Prelude.{◌≡◌, ◌+◌, ◌-◌, ◌≤◌, ℕ, zero, suc, Option, Some, None, vec_capacity, vec_len}
 use Rattle.std.specs.BTreeMap.{BTreeMap}
-use Rattle.draid_machine.specs.declared.event.Event.{Event}
 use Rattle.draid_machine.specs.declared.names.Stage.{Stage}
 use Rattle.draid_machine.specs.declared.names.Stage.TheVariants.{Writing, Live, Freed}
 use Rattle.draid_map.specs.Place.{part_stripes}

@@ -8,6 +8,7 @@ mod event;
 mod fault;
 mod fetch;
 mod history;
+mod laws;
 mod layout;
 mod log;
 mod shard;
@@ -17,5 +18,6 @@ mod ticket;
 
 pub use fault::{BeginFault, FetchFault, Missed, NotLive};
 pub use history::History;
+pub use laws::histories_are_legal;
 pub use shard::{Shard, ShardRefused};
 pub use ticket::Ticket;

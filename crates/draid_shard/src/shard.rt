@@ -18,8 +18,8 @@ ghost use Rattle.draid_shard.specs.Part.{IsPart, IsRun, Part, leaf_of, place_in}
 
 use crate::column::write_column;
 use crate::entry::{Entry, MOST_ENTRIES, hold, release, turn};
-use crate::fault::{BeginFault, FetchFault, Missed, NotLive};
 use crate::event::{begin_event, key_of, put_event};
+use crate::fault::{BeginFault, FetchFault, Missed, NotLive};
 use crate::fetch::read_columns;
 use crate::history::History;
 use crate::layout::place_within;
@@ -446,7 +446,11 @@ impl<R: Rack> Shard<R> {
     }
 
     /// The leaves of the columns of a block that weren't read.
-    fn leaves_failed(&self, pointer: &Pointer, columns: &[Option<Vec<u8>>]) -> Result<Vec<u64>, NoMemory>
+    fn leaves_failed(
+        &self,
+        pointer: &Pointer,
+        columns: &[Option<Vec<u8>>],
+    ) -> Result<Vec<u64>, NoMemory>
         requires part { IsPart (part_of self.now) }
         requires run { IsRun self.now.geometry pointer.now.first pointer.now.stripes }
         requires count { length columns.now ≡ self.now.geometry.g }

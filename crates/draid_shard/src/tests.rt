@@ -6,6 +6,7 @@ ghost use Rattle.draid_shard.specs.Shard.{Carries, HasEntry, Valid};
 
 use crate::{BeginFault, FetchFault, Missed, Shard, Ticket};
 use draid_block::{Encoded, SolveFault, solve_block};
+use draid_machine::{Event, Key};
 use draid_map::metaslab_sectors;
 use draid_names::{ArmAt, Failed, NoMemory, Pointer};
 use draid_perm::Perms;
@@ -109,13 +110,14 @@ fn has_missed<R: Rack>(shard: &Shard<R>, leaf: u32) -> bool
     leaf < shard.geometry.spec.children && shard.slots.log(ArmAt { slot: leaf, arm: 0 }).contains(2)
 }
 
-/// Damages the first sector of a leaf.
+/// Damages the first sector of a leaf. Want of memory counts as a failure.
 fn damage<R: Rack>(shard: &mut Shard<R>, leaf: u64) -> Result<(), Failed>
     requires valid { Valid R.shape shard.old }
     ensures valid { Valid R.shape shard.new }
     ensures layout { shard.new.geometry ≡ shard.old.geometry }
 {
-    if leaf < u64::from(shard.geometry.spec.children) && metaslab_sectors(&shard.geometry) > 0 {
+    let there = leaf < u64::from(shard.geometry.spec.children);
+    if there && metaslab_sectors(&shard.geometry) > 0 && shard.reserve(1).is_ok() {
         shard.damage(leaf, 0)
     } else {
         Err(Failed)
@@ -216,6 +218,48 @@ fn logs_what_is_missed(rt: HostRuntime) -> Result<(), Fail> {
         read(alloc, &mut shard, &pointer)??.as_slice(),
         group.as_slice()
     );
+    Ok(())
+}
+
+// What is stored of a block that is written with one column missed, read and freed: each call is one event.
+#[test]
+fn stores_one_event_a_call(rt: HostRuntime) -> Result<(), Fail> {
+    let alloc = rt.alloc();
+    let mut shard = shard(alloc, first_layout(&rt), &[1])?;
+    let pointer = write(alloc, &mut shard, 1, b"hello")??;
+    shard.fetch(&pointer)?;
+    assert_eq!(rt; shard.free(&pointer, 0), Ok(2));
+    let key = Key { object: 7, seq: 1 };
+    let [begin, first, second, third, finish, fetch, free] = shard.events() else {
+        panic!(rt; "other events");
+    };
+    assert!(rt;
+        matches!(
+            begin,
+            Event::Begin {
+                first: 0,
+                stripes: 1,
+                ..
+            }
+        )
+    );
+    for (put, landed, failed) in [(first, 1, 0), (second, 0, 1), (third, 1, 0)] {
+        let Event::Put {
+            landed: arms,
+            failed: leaves,
+            ..
+        } = put
+        else {
+            panic!(rt; "no put");
+        };
+        assert_eq!(rt;
+            (arms.as_slice().len(), leaves.as_slice().len()),
+            (landed, failed)
+        );
+    }
+    assert!(rt; matches!(finish, Event::Finish { key: of } if *of == key));
+    assert!(rt; matches!(fetch, Event::Fetch { failed, .. } if failed.is_empty()));
+    assert!(rt; matches!(free, Event::Free { group: 2, .. }));
     Ok(())
 }
 

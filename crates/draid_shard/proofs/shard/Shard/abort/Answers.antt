@@ -1,4 +1,4 @@
-use Rattle.std.proofs.Common.{◌≡◌, ◌∙◌, ◌+◌, ◌-◌, ◌≤◌, ◌++◌, ◌∷◌, [], ℕ, None, arith, ap, refl}
+use Rattle.std.proofs.Common.{◌∙◌, ◌+◌, ◌-◌, ◌++◌, ◌∷◌, [], None, arith, ap, refl}
 use Rattle.draid_machine.specs.declared.event.Event.TheVariants.{Abort}
 use Rattle.draid_shard.proofs.Events.{aborts}
 use Rattle.draid_shard.proofs.Owed.{entry_below, owed_least, owes_set}

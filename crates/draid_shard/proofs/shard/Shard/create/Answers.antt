@@ -1,4 +1,4 @@
-use Rattle.std.proofs.Common.{rules, ◌≡◌, [], ℕ, None, refl, sym, subst, arith}
+use Rattle.std.proofs.Common.{rules, ◌≡◌, ℕ, None, refl, sym, subst, arith}
 use Rattle.draid_machine.specs.Created.{created}
 use Rattle.draid_machine.specs.Layout.{layout_of}
 use Rattle.draid_machine.specs.Step.{Run}

@@ -1,4 +1,4 @@
-use Rattle.std.proofs.Common.{◌≡◌, ◌∙◌, ◌+◌, ◌++◌, ◌∷◌, [], arith, ap, refl, sym, subst}
+use Rattle.std.proofs.Common.{◌∙◌, ◌++◌, ◌∷◌, [], arith, ap, refl, sym, subst}
 use Rattle.draid_map.specs.Place.{part_sectors}
 use Rattle.draid_rack.specs.Rack.{HasJust}
 use Rattle.draid_machine.specs.declared.event.Event.TheVariants.{Damage}

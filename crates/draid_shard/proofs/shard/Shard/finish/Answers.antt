@@ -1,7 +1,7 @@
-use Rattle.std.proofs.Common.{◌≡◌, ◌∙◌, ◌-◌, ◌+◌, ◌++◌, ◌∷◌, [], Some, None, arith, ap, refl}
+use Rattle.std.proofs.Common.{◌∙◌, ◌++◌, ◌∷◌, [], Some, None, arith, ap, refl}
 use Rattle.draid_machine.specs.declared.event.Event.TheVariants.{Finish}
 use Rattle.draid_machine.specs.declared.names.Stage.TheVariants.{Writing, Live}
-use Rattle.draid_shard.specs.Entry.{opened, staged}
+use Rattle.draid_shard.specs.Entry.{staged}
 use Rattle.draid_shard.proofs.Events.{finishes, misses}
 use Rattle.draid_shard.proofs.Owed.{all_put, entry_below, owed_least, owes_set}
 use Rattle.draid_shard.proofs.Tables.{turned_tables}

@@ -1,4 +1,4 @@
-use Rattle.std.proofs.Common.{◌≡◌, ◌+◌, ◌∙◌, ℕ, Vec, Global, arith, ap, refl}
+use Rattle.std.proofs.Common.{◌∙◌, ℕ, Vec, Global, arith, ap}
 use Rattle.draid_block.specs.Solving.{absent_below}
 use Rattle.draid_map.specs.declared.sectors.Place.{Place}
 use Rattle.draid_shard.specs.Machine.{leaves_of}

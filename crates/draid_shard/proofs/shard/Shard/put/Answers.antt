@@ -1,4 +1,4 @@
-use Rattle.std.proofs.Common.{◌≡◌, ◌+◌, ◌-◌, ◌∙◌, ◌++◌, ◌∷◌, [], arith, ap₂, Some, ap, refl, sym, subst}
+use Rattle.std.proofs.Common.{◌≡◌, ◌+◌, ◌-◌, ◌∙◌, ◌++◌, ◌∷◌, [], arith, ap₂, Some, ap, refl, subst}
 use Rattle.draid_names.specs.declared.pointer.Pointer.{Pointer}
 use Rattle.draid_map.specs.declared.sectors.Place.{Place}
 use Rattle.draid_machine.specs.declared.event.Event.TheVariants.{Put}
@@ -9,7 +9,7 @@ use Rattle.draid_shard.specs.Machine.{key_of}
 use Rattle.draid_shard.specs.Part.{Part, leaf_of}
 use Rattle.draid_shard.specs.Shard.{part_of}
 use Rattle.draid_shard.specs.declared.ticket.Ticket.{Ticket}
-use Rattle.draid_shard.specs.Entry.{SetsEntry, entry_at, opened, staged}
+use Rattle.draid_shard.specs.Entry.{SetsEntry, opened, staged}
 use Rattle.draid_shard.proofs.Landing.{Counted, IsPutOf, on_err_map, on_err_none, on_err_of, on_ok_map, on_ok_none, on_ok_of, put_carries, put_ended, put_event, put_harm, put_kept, put_others, put_there, still_entered}
 use Rattle.draid_shard.proofs.Owed.{entry_below, owed_least, owes_set}
 use Rattle.draid_shard.proofs.Stand.{first_there}
@@ -30,8 +30,10 @@ turn-requires g c =
       | else-is_err w ↦ ap (λ (t : Ticket). t.pointer) w.ticket-is
     ] in
     record {
-      there = (Writing c.args.ticket.now.next c.args.ticket.now.missed,
-      put_there c.args.self.now.blocks c.land-landed.new.self.blocks c.args.ticket.now c.if-is_err.ticket.pointer c.land-landed.ensures.blocks c.requires.carries.is_open pointer);
+      there = (
+        Writing c.args.ticket.now.next c.args.ticket.now.missed,
+        put_there c.args.self.now.blocks c.land-landed.new.self.blocks c.args.ticket.now c.if-is_err.ticket.pointer c.land-landed.ensures.blocks c.requires.carries.is_open pointer,
+      );
     }
 
 -- what was done
