@@ -21,3 +21,42 @@ impl<T: Drop> From<AllocFailed<T>> for NoMemory {
 /// A call on a device failed, and the device's count of faults rose in that call.
 #[derive(Clone, Copy, Debug, PartialEq, Eq)]
 pub struct Failed;
+
+/// Why a call on a device gave nothing.
+#[derive(Clone, Copy, Debug, PartialEq, Eq)]
+pub enum DeviceFault {
+    /// The device failed, and its own count of faults rose in that call.
+    Failed,
+    /// There was no memory.
+    NoMemory,
+}
+
+impl From<NoMemory> for DeviceFault {
+    ghost use Rattle.draid_names.specs.declared.fault.DeviceFault.{DeviceFault};
+
+    ghost from_gives = { λ _ fault. fault ≡ DeviceFault.NoMemory };
+
+    fn from(_error: NoMemory) -> DeviceFault {
+        DeviceFault::NoMemory
+    }
+}
+
+impl From<AllocError> for DeviceFault {
+    ghost use Rattle.draid_names.specs.declared.fault.DeviceFault.{DeviceFault};
+
+    ghost from_gives = { λ _ fault. fault ≡ DeviceFault.NoMemory };
+
+    fn from(_error: AllocError) -> DeviceFault {
+        DeviceFault::NoMemory
+    }
+}
+
+impl<T: Drop> From<AllocFailed<T>> for DeviceFault {
+    ghost use Rattle.draid_names.specs.declared.fault.DeviceFault.{DeviceFault};
+
+    ghost from_gives = { λ _ fault. fault ≡ DeviceFault.NoMemory };
+
+    fn from(_failed: AllocFailed<T>) -> DeviceFault {
+        DeviceFault::NoMemory
+    }
+}
