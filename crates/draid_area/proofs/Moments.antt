@@ -3,7 +3,7 @@ use Rattle.std.proofs.lemmas.Bool.Decides.{nat_tests}
 use Rattle.std.proofs.lemmas.List.{ext_get_or}
 use Rattle.std.specs.List.{splice}
 use Rattle.draid_area.specs.Area.{Content, Writes, OnTold, IsOrderly, MayLeave, last_clock, tick, within, writes, flushes}
-use Rattle.draid_area.specs.Moments.{Stays, Goes, Between, CrashKeeps, LeavesWritten, Passes, PassesTold, Spares, SparesTold, OnBoth}
+use Rattle.draid_area.specs.Moments.{Stays, Goes, Between, CrashKeeps, LeavesWritten, Elapses, ElapsesTold, ChangesOnly, ChangesOnlyTold, OnBoth}
 use Rattle.draid_area.proofs.Splices.{length-splice, splice_outside}
 
 pub goes_self : (x : Content) → Goes x x
@@ -56,11 +56,11 @@ leaves_all x left firm all may = ext_get_or 0 left x.bytes (omega (arith, all, m
 stays_false : (a b : Bool) → (IsTrue b → IsTrue a) → a ≡ false → b ≡ false
 stays_false a b so is = grind arith
 
-pub spares_self : (named : ℕ → Bool) (x : Content) → Spares named x x
-spares_self named x = record { later = omega arith; bytes = λ i d out. refl; since = λ i out. refl; soft = λ i out h. h }
+pub only_self : (named : ℕ → Bool) (x : Content) → ChangesOnly named x x
+only_self named x = record { later = omega arith; bytes = λ i d out. refl; since = λ i out. refl; soft = λ i out h. h }
 
-pub spares_on : (named : ℕ → Bool) (x y z : Content) → Spares named x y → Spares named y z → Spares named x z
-spares_on named x y z a b = record {
+pub only_on : (named : ℕ → Bool) (x y z : Content) → ChangesOnly named x y → ChangesOnly named y z → ChangesOnly named x z
+only_on named x y z a b = record {
   later = omega (arith, a.later, b.later);
   bytes = λ i d out. b.bytes i d out ∙ a.bytes i d out;
   since = λ i out. b.since i out ∙ a.since i out;
@@ -68,35 +68,35 @@ spares_on named x y z a b = record {
 }
 
 -- with more offsets named
-pub spares_more : (few more : ℕ → Bool) (x y : Content) → ((i : ℕ) → more i ≡ false → few i ≡ false) → Spares few x y → Spares more x y
-spares_more few more x y fewer a = record {
+pub only_more : (few more : ℕ → Bool) (x y : Content) → ((i : ℕ) → more i ≡ false → few i ≡ false) → ChangesOnly few x y → ChangesOnly more x y
+only_more few more x y fewer a = record {
   later = a.later;
   bytes = λ i d out. a.bytes i d (fewer i out);
   since = λ i out. a.since i (fewer i out);
   soft = λ i out. a.soft i (fewer i out);
 }
 
-pub spares_writes : (named : ℕ → Bool) (at : ℕ) (bytes : List ℕ) (x : Content) → at ≤ length x.bytes → ((i : ℕ) → named i ≡ false → within at (length bytes) i ≡ false) → Spares named x (writes at bytes x)
-spares_writes named at bytes x inside apart = record {
+pub only_writes : (named : ℕ → Bool) (at : ℕ) (bytes : List ℕ) (x : Content) → at ≤ length x.bytes → ((i : ℕ) → named i ≡ false → within at (length bytes) i ≡ false) → ChangesOnly named x (writes at bytes x)
+only_writes named at bytes x inside apart = record {
   later = grind (arith, nat_tests);
   bytes = λ i d out. splice_outside x.bytes bytes at (length bytes) i d inside refl (apart i out);
   since = λ i out. rw (apart i out) refl;
   soft = λ i out. rw (apart i out) (λ h. h);
 }
 
-pub spares_flushes : (named : ℕ → Bool) (x : Content) → Spares named x (flushes x)
-spares_flushes named x = record { later = grind (arith, nat_tests); bytes = λ i d out. refl; since = λ i out. refl; soft = λ i out h. absurd (cc) }
+pub only_flushes : (named : ℕ → Bool) (x : Content) → ChangesOnly named x (flushes x)
+only_flushes named x = record { later = grind (arith, nat_tests); bytes = λ i d out. refl; since = λ i out. refl; soft = λ i out h. absurd (cc) }
 
-pub told_on : (named : ℕ → Bool) (o p q : Option Content) → SparesTold named o p → SparesTold named p q → SparesTold named o q
+pub told_on : (named : ℕ → Bool) (o p q : Option Content) → ChangesOnlyTold named o p → ChangesOnlyTold named p q → ChangesOnlyTold named o q
 told_on named None None q a b = b
 told_on named None (Some y) q a b = absurd (cc)
 told_on named (Some x) None q a b = absurd a
 told_on named (Some x) (Some y) None a b = absurd b
-told_on named (Some x) (Some y) (Some z) a b = spares_on named x y z a b
+told_on named (Some x) (Some y) (Some z) a b = only_on named x y z a b
 
-pub told_same : (named : ℕ → Bool) (o p : Option Content) → p ≡ o → SparesTold named o p
+pub told_same : (named : ℕ → Bool) (o p : Option Content) → p ≡ o → ChangesOnlyTold named o p
 told_same named None p is = is
-told_same named (Some x) p is = rw is (spares_self named x)
+told_same named (Some x) p is = rw is (only_self named x)
 
 whole_of : {E : Type 0} {P : Type 0} {u : Unit} (r : Result Unit E) → r ≡ Ok u → OnOk r P → P
 whole_of (Ok v) is whole = whole
@@ -105,13 +105,13 @@ whole_of (Err e) is whole = absurd (cc)
 shorter : (at n m i : ℕ) → n ≤ m → within at m i ≡ false → within at n i ≡ false
 shorter at n m i le out = grind (arith, nat_tests)
 
-pub told_writes : {E : Type 0} (named : ℕ → Bool) (at : ℕ) (bytes : List ℕ) (r : Result Unit E) (o p : Option Content) → ((i : ℕ) → named i ≡ false → within at (length bytes) i ≡ false) → Writes at bytes r o p → SparesTold named o p
+pub told_writes : {E : Type 0} (named : ℕ → Bool) (at : ℕ) (bytes : List ℕ) (r : Result Unit E) (o p : Option Content) → ((i : ℕ) → named i ≡ false → within at (length bytes) i ≡ false) → Writes at bytes r o p → ChangesOnlyTold named o p
 told_writes named at bytes r None p apart w = w.told
-told_writes named at bytes r (Some x) p apart w = rw w.told (spares_writes named at w.stands x w.inside (λ i out. shorter at (length w.stands) (length bytes) i w.no_more (apart i out)))
+told_writes named at bytes r (Some x) p apart w = rw w.told (only_writes named at w.stands x w.inside (λ i out. shorter at (length w.stands) (length bytes) i w.no_more (apart i out)))
 
-pub told_flushed : {E : Type 0} (named : ℕ → Bool) (r : Result Unit E) (o p : Option Content) → OnOk r (p ≡ option_map flushes o) → OnErr r (p ≡ o) → SparesTold named o p
+pub told_flushed : {E : Type 0} (named : ℕ → Bool) (r : Result Unit E) (o p : Option Content) → OnOk r (p ≡ option_map flushes o) → OnErr r (p ≡ o) → ChangesOnlyTold named o p
 told_flushed named (Ok u) None p ok err = ok
-told_flushed named (Ok u) (Some x) p ok err = rw ok (spares_flushes named x)
+told_flushed named (Ok u) (Some x) p ok err = rw ok (only_flushes named x)
 told_flushed named (Err e) o p ok err = told_same named o p err
 
 moment : (named : ℕ → Bool) (x m y : Content) (left : List ℕ) (i d : ℕ) → x.since i ≤ x.clock → y.since i ≡ x.since i → x.clock < last_clock → Between x m y → MayLeave m left → x.soft i ≡ false → slice_index_or left i d ≡ slice_index_or x.bytes i d
@@ -120,14 +120,14 @@ moment named x m y left i d early same low between may firm =
     let p = between.after.same i (omega (arith, early, same, q.since)) (omega (arith, early, same, q.since)) in
     may.same i d (stays_false (x.soft i) (m.soft i) p.soft firm) ∙ sym (p.byte d)
 
-pub moments : (named : ℕ → Bool) (x y : Content) → IsOrderly x → Spares named x y → CrashKeeps named x y
+pub moments : (named : ℕ → Bool) (x y : Content) → IsOrderly x → ChangesOnly named x y → CrashKeeps named x y
 moments named x y orderly spares low m between left may = record {
   same = λ i d out firm. moment named x m y left i d (orderly i) (spares.since i out) low between may firm;
   least = omega (arith, between.after.firm, may.least);
   most = omega (arith, may.most, between.before.grown);
 }
 
-pub kept : (named : ℕ → Bool) (o p : Option Content) → OnTold o IsOrderly → SparesTold named o p → OnBoth o p (CrashKeeps named)
+pub kept : (named : ℕ → Bool) (o p : Option Content) → OnTold o IsOrderly → ChangesOnlyTold named o p → OnBoth o p (CrashKeeps named)
 kept named None p orderly spares = tt
 kept named (Some x) None orderly spares = absurd spares
 kept named (Some x) (Some y) orderly spares = moments named x y orderly spares
@@ -148,8 +148,8 @@ at_moment x m y left i d early low between may firm =
     let p = between.after.same i (omega (arith, early, q.since)) (omega (arith, early, low, q.since)) in
     may.same i d (stays_false (x.soft i) (m.soft i) p.soft firm) ∙ sym (p.byte d)
 
-pub passes : (x y : Content) → Goes x y → Passes x y
-passes x y goes = record {
+pub elapses : (x y : Content) → Goes x y → Elapses x y
+elapses x y goes = record {
   goes = goes;
   kept = λ low m between left may. record {
     same = λ i d out firm. at_moment x m y left i d (not_since x.clock (y.since i) out) low between may firm;
@@ -158,22 +158,22 @@ passes x y goes = record {
   };
 }
 
-pub passed_same : (o p : Option Content) → p ≡ o → PassesTold o p
-passed_same None p is = is
-passed_same (Some x) p is = rw is (passes x x (goes_self x))
+pub elapsed_same : (o p : Option Content) → p ≡ o → ElapsesTold o p
+elapsed_same None p is = is
+elapsed_same (Some x) p is = rw is (elapses x x (goes_self x))
 
-pub passed_writes : {E : Type 0} (at : ℕ) (bytes : List ℕ) (r : Result Unit E) (o p : Option Content) → Writes at bytes r o p → PassesTold o p
-passed_writes at bytes r None p w = w.told
-passed_writes at bytes r (Some x) p w = rw w.told (passes x (writes at w.stands x) (goes_writes at w.stands x w.inside))
+pub elapsed_writes : {E : Type 0} (at : ℕ) (bytes : List ℕ) (r : Result Unit E) (o p : Option Content) → Writes at bytes r o p → ElapsesTold o p
+elapsed_writes at bytes r None p w = w.told
+elapsed_writes at bytes r (Some x) p w = rw w.told (elapses x (writes at w.stands x) (goes_writes at w.stands x w.inside))
 
-pub passed_flush : (o p : Option Content) → OnTold o (λ x. x.firm ≤ length x.bytes) → p ≡ option_map flushes o → PassesTold o p
-passed_flush None p kept is = is
-passed_flush (Some x) p kept is = rw is (passes x (flushes x) (goes_flushes x kept))
+pub elapsed_flush : (o p : Option Content) → OnTold o (λ x. x.firm ≤ length x.bytes) → p ≡ option_map flushes o → ElapsesTold o p
+elapsed_flush None p kept is = is
+elapsed_flush (Some x) p kept is = rw is (elapses x (flushes x) (goes_flushes x kept))
 
 -- calls one after another
-pub passed_on : (o p q : Option Content) → PassesTold o p → PassesTold p q → PassesTold o q
-passed_on None None q a b = b
-passed_on None (Some y) q a b = absurd (cc)
-passed_on (Some x) None q a b = absurd a
-passed_on (Some x) (Some y) None a b = absurd b
-passed_on (Some x) (Some y) (Some z) a b = passes x z (goes_on x y z a.goes b.goes)
+pub elapsed_on : (o p q : Option Content) → ElapsesTold o p → ElapsesTold p q → ElapsesTold o q
+elapsed_on None None q a b = b
+elapsed_on None (Some y) q a b = absurd (cc)
+elapsed_on (Some x) None q a b = absurd a
+elapsed_on (Some x) (Some y) None a b = absurd b
+elapsed_on (Some x) (Some y) (Some z) a b = elapses x z (goes_on x y z a.goes b.goes)

@@ -1,7 +1,7 @@
 use Rattle.std.specs.Prelude.{◌≡◌, ◌≤◌, ⊤, ◌+◌, ◌-◌, ◌^◌, ◌&&◌, ℕ, Bool, true, false, List, Option, Result, MatchOption, OnOk, IsErrOf, option_map, nat_le, nat_lt, length, slice_range, slice_index_or, if◌then◌else◌}
 use Rattle.std.specs.List.{splice}
 use Rattle.draid_names.specs.Faults.{Rose}
-use Rattle.draid_area.specs.declared.area.AreaFault.{AreaFault}
+use Rattle.draid_names.specs.declared.fault.DeviceFault.{DeviceFault}
 
 -- What an area tells: its bytes, how many it had at the last flush, and, by offset, what is soft (written
 -- since the last flush) and the clock at the last write there.
@@ -71,9 +71,9 @@ pub record Writes {E : Type 0} (at : ℕ) (bytes : List ℕ) (result : Result Un
   pub told : new ≡ option_map (writes at stands) old
 
 -- The count of faults doesn't fall, and where the answer is that the device failed, it rose.
-pub record Counts (result : Result Unit AreaFault) (before now : ℕ) : Type 0 where
+pub record Counts (result : Result Unit DeviceFault) (before now : ℕ) : Type 0 where
   pub later : before ≤ now
-  pub cause : IsErrOf result AreaFault.Failed → Rose before now
+  pub cause : IsErrOf result DeviceFault.Failed → Rose before now
 
 abbrev pub IsOrderly : Content → Type 0
 IsOrderly x = (i : ℕ) → x.since i ≤ x.clock

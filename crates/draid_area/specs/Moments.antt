@@ -42,13 +42,13 @@ KeptSince x y =
     → Keeps (λ i. nat_lt x.clock (y.since i)) x y left
 
 -- Time went from x to y, and this is known of the moments between them.
-pub record Passes (x y : Content) : Type 0 where
+pub record Elapses (x y : Content) : Type 0 where
   pub goes : Goes x y
   pub kept : KeptSince x y
 
 -- what was told is told, and this is known of the moments between
-abbrev pub PassesTold : Option Content → Option Content → Type 0
-PassesTold old new = MatchOption old (new ≡ None) (λ x. MatchOption new ⊥ (λ y. Passes x y))
+abbrev pub ElapsesTold : Option Content → Option Content → Type 0
+ElapsesTold old new = MatchOption old (new ≡ None) (λ x. MatchOption new ⊥ (λ y. Elapses x y))
 
 -- whatever a crash at y leaves is what a write of these bytes from here on made of x
 abbrev pub LeavesWritten : ℕ → List ℕ → Content → Content → Type 0
@@ -56,7 +56,7 @@ LeavesWritten at bytes x y =
     (left : List ℕ) → MayLeave y left → left ≡ splice x.bytes at (at + length bytes) bytes
 
 -- Another state, in which only the offsets named were written. Softness may have ended elsewhere.
-pub record Spares (named : ℕ → Bool) (x y : Content) : Type 0 where
+pub record ChangesOnly (named : ℕ → Bool) (x y : Content) : Type 0 where
   pub later : x.clock ≤ y.clock
   pub bytes : (i d : ℕ) → named i ≡ false → slice_index_or y.bytes i d ≡ slice_index_or x.bytes i d
   pub since : (i : ℕ) → named i ≡ false → y.since i ≡ x.since i
@@ -67,8 +67,8 @@ abbrev pub OnBoth : Option Content → Option Content → (Content → Content �
 OnBoth old new P = MatchOption old ⊤ (λ x. MatchOption new ⊤ (λ y. P x y))
 
 -- what was told is told, and only the offsets named were written
-abbrev pub SparesTold : (ℕ → Bool) → Option Content → Option Content → Type 0
-SparesTold named old new = MatchOption old (new ≡ None) (λ x. MatchOption new ⊥ (λ y. Spares named x y))
+abbrev pub ChangesOnlyTold : (ℕ → Bool) → Option Content → Option Content → Type 0
+ChangesOnlyTold named old new = MatchOption old (new ≡ None) (λ x. MatchOption new ⊥ (λ y. ChangesOnly named x y))
 
 -- an area after a crash: it reads what the crash left, and all of it outlasts a further one
 pub record IsCrashOutcome (x y : Content) : Type 0 where

@@ -1,37 +1,8 @@
 ghost use Rattle.std.specs.Prelude.{◌≡◌, ◌≤◌, ◌+◌, max, ℕ, Option, OnOk, OnErr, length, option_map};
 ghost use Rattle.draid_area.specs.Area.{Content, Reads, Writes, Counts, OnTold, IsOrderly, IsOfSize, flushes};
-ghost use Rattle.draid_area.specs.Moments.{PassesTold};
+ghost use Rattle.draid_area.specs.Moments.{ElapsesTold};
 
-use std::alloc::{AllocError, AllocFailed};
-
-/// Why a call on an area failed.
-#[derive(Clone, Copy, Debug, PartialEq, Eq)]
-pub enum AreaFault {
-    /// The device failed, and the area's count of faults rose in that call.
-    Failed,
-    /// There was no memory.
-    NoMemory,
-}
-
-impl From<AllocError> for AreaFault {
-    ghost use Rattle.draid_area.specs.declared.area.AreaFault.TheVariants.{NoMemory};
-
-    ghost from_gives = { λ _ fault. fault ≡ NoMemory };
-
-    fn from(_error: AllocError) -> AreaFault {
-        AreaFault::NoMemory
-    }
-}
-
-impl<T: Drop> From<AllocFailed<T>> for AreaFault {
-    ghost use Rattle.draid_area.specs.declared.area.AreaFault.TheVariants.{NoMemory};
-
-    ghost from_gives = { λ _ fault. fault ≡ NoMemory };
-
-    fn from(_failed: AllocFailed<T>) -> AreaFault {
-        AreaFault::NoMemory
-    }
-}
+use draid_names::DeviceFault;
 
 /// A list of bytes that can be overwritten and grown, but not shortened.
 ///
@@ -52,30 +23,30 @@ pub trait Area: Drop {
         ensures { result ≡ size self.now };
 
     /// Reads the bytes from `at` on that fill `into`.
-    fn read(&mut self, at: u64, into: &mut [u8]) -> Result<(), AreaFault>
+    fn read(&mut self, at: u64, into: &mut [u8]) -> Result<(), DeviceFault>
         requires place { at + length into.old ≤ size self.old }
         ensures whole { length into.new ≡ length into.old }
         ensures read { OnOk result (Reads (told self.old) at into.new) }
         ensures told { told self.new ≡ told self.old }
-        ensures moments { PassesTold (told self.old) (told self.new) }
+        ensures moments { ElapsesTold (told self.old) (told self.new) }
         ensures size { size self.new ≡ size self.old }
         ensures cause { Counts result (faults self.old) (faults self.new) };
 
     /// Writes `bytes` from `at` on, also over the end. A failed write leaves other bytes there, but no more.
-    fn write(&mut self, at: u64, bytes: &[u8]) -> Result<(), AreaFault>
+    fn write(&mut self, at: u64, bytes: &[u8]) -> Result<(), DeviceFault>
         requires place { at ≤ size self.old }
         ensures told { Writes at bytes.now result (told self.old) (told self.new) }
-        ensures moments { PassesTold (told self.old) (told self.new) }
+        ensures moments { ElapsesTold (told self.old) (told self.new) }
         ensures size { OnOk result (size self.new ≡ max (size self.old) (at + length bytes.now)) }
         ensures grown { size self.old ≤ size self.new }
         ensures bounded { size self.new ≤ max (size self.old) (at + length bytes.now) }
         ensures cause { Counts result (faults self.old) (faults self.new) };
 
     /// Makes what was written outlast a crash. Where it fails, nothing changes.
-    fn flush(&mut self) -> Result<(), AreaFault>
+    fn flush(&mut self) -> Result<(), DeviceFault>
         ensures ok { OnOk result (told self.new ≡ option_map flushes (told self.old)) }
         ensures err { OnErr result (told self.new ≡ told self.old) }
-        ensures moments { PassesTold (told self.old) (told self.new) }
+        ensures moments { ElapsesTold (told self.old) (told self.new) }
         ensures size { size self.new ≡ size self.old }
         ensures cause { Counts result (faults self.old) (faults self.new) };
 

@@ -9,5 +9,6 @@ mod memory;
 #[cfg(test)]
 mod tests;
 
-pub use area::{Area, AreaFault};
+pub use area::Area;
+pub use draid_names::DeviceFault;
 pub use memory::MemoryArea;

@@ -2,13 +2,14 @@ ghost use Rattle.std.specs.Prelude.{◌≡◌, ◌+◌, ◌≤◌, max, ℕ, Som
 ghost use Rattle.draid_faults.specs.Calls.{CountsCall, CountsJust, failing_calls, is_fused, next_call};
 ghost use Rattle.draid_area.specs.Area.{Reads, Writes, Counts, begins, flushes};
 ghost use Rattle.draid_area.specs.Cells.{AreUpTo, IsSound};
-ghost use Rattle.draid_area.specs.Moments.{CrashesTold, PassesTold};
+ghost use Rattle.draid_area.specs.Moments.{CrashesTold, ElapsesTold};
 
-use crate::area::{Area, AreaFault};
+use crate::area::Area;
 use crate::cells::{
     Span, cut, grow, keep_spans, later, leave_spans, length_left, mark, overwrite, reach, risen,
 };
 use draid_faults::{Calls, CrashRule, Fuse};
+use draid_names::DeviceFault;
 use std::alloc::{AllocError, Global};
 
 /// An area in memory. Its calls that can fail are numbered from 0; those that its list names fail, and each once
@@ -88,7 +89,7 @@ impl MemoryArea {
 }
 
 impl Area for MemoryArea {
-    ghost use Rattle.draid_area.specs.declared.area.AreaFault.{AreaFault};
+    ghost use Rattle.draid_names.specs.declared.fault.DeviceFault.{DeviceFault};
     ghost use Rattle.draid_area.specs.Memory.{Flushes, KeepsFlushed, LeavesByRule, calls_of, faults_of_memory, size_of_memory, told_by_memory};
 
     ghost size = { size_of_memory };
@@ -105,41 +106,41 @@ impl Area for MemoryArea {
         self.bytes.len() as u64
     }
 
-    fn read(&mut self, at: u64, into: &mut [u8]) -> Result<(), AreaFault>
+    fn read(&mut self, at: u64, into: &mut [u8]) -> Result<(), DeviceFault>
         requires place { at + length into.old ≤ size_of_memory self.old }
         ensures whole { length into.new ≡ length into.old }
         ensures read { OnOk result (Reads (told_by_memory self.old) at into.new) }
         ensures told { told_by_memory self.new ≡ told_by_memory self.old }
-        ensures moments { PassesTold (told_by_memory self.old) (told_by_memory self.new) }
+        ensures moments { ElapsesTold (told_by_memory self.old) (told_by_memory self.new) }
         ensures size { size_of_memory self.new ≡ size_of_memory self.old }
         ensures cause { Counts result (faults_of_memory self.old) (faults_of_memory self.new) }
-        ensures exact { CountsJust (IsErrOf result AreaFault.Failed) (faults_of_memory self.old)
+        ensures exact { CountsJust (IsErrOf result DeviceFault.Failed) (faults_of_memory self.old)
             (faults_of_memory self.new) }
         ensures calls { CountsCall (IsErr result) (calls_of self.old) (calls_of self.new) }
-        ensures device { IsErr result → IsErrOf result AreaFault.Failed }
+        ensures device { IsErr result → IsErrOf result DeviceFault.Failed }
     {
         if self.calls.fails() {
             self.faults = risen(self.faults);
-            return Err(AreaFault::Failed);
+            return Err(DeviceFault::Failed);
         }
         let start = at as usize;
         into.copy_from_slice(&self.bytes[start..start + into.len()]);
         Ok(())
     }
 
-    fn write(&mut self, at: u64, bytes: &[u8]) -> Result<(), AreaFault>
+    fn write(&mut self, at: u64, bytes: &[u8]) -> Result<(), DeviceFault>
         requires place { at ≤ size_of_memory self.old }
         ensures told { Writes at bytes.now result (told_by_memory self.old) (told_by_memory self.new) }
-        ensures moments { PassesTold (told_by_memory self.old) (told_by_memory self.new) }
+        ensures moments { ElapsesTold (told_by_memory self.old) (told_by_memory self.new) }
         ensures size { OnOk result (size_of_memory self.new
             ≡ max (size_of_memory self.old) (at + length bytes.now)) }
         ensures grown { size_of_memory self.old ≤ size_of_memory self.new }
         ensures bounded { size_of_memory self.new ≤ max (size_of_memory self.old) (at + length bytes.now) }
         ensures cause { Counts result (faults_of_memory self.old) (faults_of_memory self.new) }
-        ensures exact { CountsJust (IsErrOf result AreaFault.Failed) (faults_of_memory self.old)
+        ensures exact { CountsJust (IsErrOf result DeviceFault.Failed) (faults_of_memory self.old)
             (faults_of_memory self.new) }
         ensures flushed { KeepsFlushed self.old self.new }
-        ensures calls { CountsCall (IsErrOf result AreaFault.Failed) (calls_of self.old) (calls_of self.new) }
+        ensures calls { CountsCall (IsErrOf result DeviceFault.Failed) (calls_of self.old) (calls_of self.new) }
 
         // A write that failed changed no byte.
         ensures same { OnErr result (self.new.bytes.items ≡ self.old.bytes.items) }
@@ -147,7 +148,7 @@ impl Area for MemoryArea {
         self.clock = later(self.clock);
         if self.calls.fails() {
             self.faults = risen(self.faults);
-            return Err(AreaFault::Failed);
+            return Err(DeviceFault::Failed);
         }
         let start = at as usize;
         let end = start + bytes.len();
@@ -165,22 +166,22 @@ impl Area for MemoryArea {
         Ok(())
     }
 
-    fn flush(&mut self) -> Result<(), AreaFault>
+    fn flush(&mut self) -> Result<(), DeviceFault>
         ensures ok { OnOk result (told_by_memory self.new ≡ option_map flushes (told_by_memory self.old)) }
         ensures err { OnErr result (told_by_memory self.new ≡ told_by_memory self.old) }
-        ensures moments { PassesTold (told_by_memory self.old) (told_by_memory self.new) }
+        ensures moments { ElapsesTold (told_by_memory self.old) (told_by_memory self.new) }
         ensures size { size_of_memory self.new ≡ size_of_memory self.old }
         ensures cause { Counts result (faults_of_memory self.old) (faults_of_memory self.new) }
-        ensures exact { CountsJust (IsErrOf result AreaFault.Failed) (faults_of_memory self.old)
+        ensures exact { CountsJust (IsErrOf result DeviceFault.Failed) (faults_of_memory self.old)
             (faults_of_memory self.new) }
         ensures flushed { OnOk result (Flushes self.old self.new) }
         ensures unflushed { OnErr result (KeepsFlushed self.old self.new) }
         ensures calls { CountsCall (IsErr result) (calls_of self.old) (calls_of self.new) }
-        ensures device { IsErr result → IsErrOf result AreaFault.Failed }
+        ensures device { IsErr result → IsErrOf result DeviceFault.Failed }
     {
         if self.calls.fails() {
             self.faults = risen(self.faults);
-            return Err(AreaFault::Failed);
+            return Err(DeviceFault::Failed);
         }
         self.clock = later(self.clock);
         keep_spans(&mut self.flushed, &self.bytes, &self.unflushed);

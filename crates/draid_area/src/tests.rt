@@ -3,14 +3,14 @@ ghost use Rattle.draid_area.specs.Area.{within};
 ghost use Rattle.draid_area.specs.Memory.{size_of_memory};
 ghost use Rattle.draid_area.specs.Moments.{CrashKeeps, LeavesWritten, OnBoth};
 
-use crate::{Area, AreaFault, MemoryArea};
+use crate::{Area, DeviceFault, MemoryArea};
 use draid_faults::{CrashRule, Fuse};
 use std::alloc::Global;
 use std::test::Fail;
 
 // The form that an uberblock's slot is written in: what a crash leaves of the other half doesn't depend on
 // the moment, and after an Ok it leaves just what was written.
-fn write_half<A: Area>(area: &mut A, at: u64, half: &[u8]) -> Result<(), AreaFault>
+fn write_half<A: Area>(area: &mut A, at: u64, half: &[u8]) -> Result<(), DeviceFault>
     requires size { A.size area.old ≡ 1024 }
     requires half { (at ≤ 512) × (length half.now ≡ 512) }
     ensures size { A.size area.new ≡ 1024 }
@@ -21,7 +21,7 @@ fn write_half<A: Area>(area: &mut A, at: u64, half: &[u8]) -> Result<(), AreaFau
     area.flush()
 }
 
-fn read<A: Area>(area: &mut A, at: u64) -> Result<[u8; 4], AreaFault>
+fn read<A: Area>(area: &mut A, at: u64) -> Result<[u8; 4], DeviceFault>
     requires { at + 4 ≤ A.size area.old }
     ensures { A.size area.new ≡ A.size area.old }
 {
@@ -31,7 +31,7 @@ fn read<A: Area>(area: &mut A, at: u64) -> Result<[u8; 4], AreaFault>
 }
 
 /// Reads where there are enough bytes.
-fn read_some<A: Area>(area: &mut A, at: u64) -> Result<[u8; 4], AreaFault> {
+fn read_some<A: Area>(area: &mut A, at: u64) -> Result<[u8; 4], DeviceFault> {
     if at > 1024 || area.length() < at + 4 {
         return Ok([0; 4]);
     }
@@ -50,7 +50,7 @@ fn zeros(alloc: Global, failing: Vec<u64>) -> Result<MemoryArea, Fail>
 fn the_calls_of_the_list_fail_alone(rt: HostRuntime) -> Result<(), Fail> {
     let mut area = zeros(rt.alloc(), vec![in rt.alloc(); 2, 5]?)?;
     assert_eq!(rt; write_half(&mut area, 512, &[1; 512]), Ok(()));
-    assert_eq!(rt; write_half(&mut area, 0, &[2; 512]), Err(AreaFault::Failed));
+    assert_eq!(rt; write_half(&mut area, 0, &[2; 512]), Err(DeviceFault::Failed));
     assert_eq!(rt; read(&mut area, 510), Ok([0, 0, 1, 1]));
     assert_eq!(rt; area.length(), 1024);
     Ok(())
@@ -94,8 +94,8 @@ fn a_fuse_lets_just_its_calls_pass(rt: HostRuntime) -> Result<(), Fail> {
     let mut area = zeros(rt.alloc(), Vec::new(rt.alloc()))?;
     area.put_fuse(Fuse::new(rt.alloc(), 2)?);
     assert_eq!(rt; write_half(&mut area, 0, &[1; 512]), Ok(()));
-    assert_eq!(rt; write_half(&mut area, 0, &[2; 512]), Err(AreaFault::Failed));
-    assert_eq!(rt; read(&mut area, 0), Err(AreaFault::Failed));
+    assert_eq!(rt; write_half(&mut area, 0, &[2; 512]), Err(DeviceFault::Failed));
+    assert_eq!(rt; read(&mut area, 0), Err(DeviceFault::Failed));
     area.crash(CrashRule::New);
     assert_eq!(rt; read_some(&mut area, 0), Ok([1; 4]));
     Ok(())

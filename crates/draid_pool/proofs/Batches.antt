@@ -17,8 +17,8 @@ use Rattle.draid_pool.specs.Batches.{AddIs, AreBytes, BatchIs, EndsBatch, FeedsA
 use Rattle.draid_pool.specs.Pool.{Moves, Represents, state_of}
 use Rattle.draid_pool.specs.State.{AreLast, Change, Looks, ReadsLast, State}
 use Rattle.draid_pool.specs.declared.batch.Batch.{Batch}
-use Rattle.draid_pool.specs.declared.fault.ObjectFault.{ObjectFault}
-use Rattle.draid_pool.specs.declared.fault.ObjectFault.TheVariants as object_fault
+use Rattle.draid_names.specs.declared.refusal.ObjectFault.{ObjectFault}
+use Rattle.draid_names.specs.declared.refusal.ObjectFault.TheVariants as object_fault
 use Rattle.draid_pool.specs.declared.fault.SumFault.{SumFault}
 use Rattle.draid_pool.specs.declared.pool.Pool.{Pool}
 use Rattle.draid_pool.proofs.Reading.{looks_all}
@@ -54,6 +54,7 @@ ends_short first count many (Some why) old new is = (let below = is.0 in omega (
 pub none_behind : (why : ObjectFault) (new : State) → BatchBehind why new new
 none_behind object_fault.NoObject new = refl
 none_behind (object_fault.Unreadable absent tried) new = looks_all new
+none_behind object_fault.Worn new = looks_all new
 none_behind object_fault.NoMemory new = looks_all new
 
 -- ---- solving

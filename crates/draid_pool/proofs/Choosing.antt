@@ -13,8 +13,8 @@ use Rattle.draid_pool.specs.Answers.{WriteInIs, WriteIs}
 use Rattle.draid_pool.specs.Pool.{HasRoomAt, Moves, Represents, Stands, metaslab_of, state_of}
 use Rattle.draid_pool.specs.State.{AreRooms, Change, GoesTo, State, is_full, longest, stripes_for}
 use Rattle.draid_pool.specs.Store.{RoomIs, has_all}
-use Rattle.draid_pool.specs.declared.fault.WriteFault.{WriteFault}
-use Rattle.draid_pool.specs.declared.fault.WriteFault.TheVariants as fault
+use Rattle.draid_names.specs.declared.refusal.WriteFault.{WriteFault}
+use Rattle.draid_names.specs.declared.refusal.WriteFault.TheVariants as fault
 use Rattle.draid_pool.specs.declared.pool.Pool.{Pool}
 
 count_map : {A B : Type 0} (p : B → Bool) (f : A → B) (xs : List A) → count_by p (map f xs) ≡ count_by (λ x. p (f x)) xs

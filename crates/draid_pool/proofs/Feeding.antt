@@ -7,7 +7,7 @@ use Rattle.sha2.specs.declared.Sha256.{Sha256}
 use Rattle.draid_block.specs.declared.many.Solve.{Solve}
 use Rattle.draid_block.specs.declared.many.Solve.TheVariants.{Bytes, Unreadable}
 use Rattle.draid_pool.specs.Batches.{AreBytes, Feeds, FeedsAll, FirstUnread}
-use Rattle.draid_pool.specs.declared.fault.ObjectFault.TheVariants as object
+use Rattle.draid_names.specs.declared.refusal.ObjectFault.TheVariants as object
 use Rattle.draid_pool.specs.declared.fault.SumFault.{SumFault}
 use Rattle.draid_pool.proofs.Sums.{joined, joined_append}
 

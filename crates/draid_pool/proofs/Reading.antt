@@ -24,8 +24,8 @@ use Rattle.draid_pool.specs.State.{Change, Freed, IsThere, Looks, LooksAt, Metas
 use Rattle.draid_pool.specs.Store.{BlockAnswers, FetchAnswers, FreesBlock, SolveIs, reading_of}
 use Rattle.draid_pool.specs.declared.fault.DamageFault.TheVariants as damage_fault
 use Rattle.draid_pool.specs.declared.fault.FreeFault.{FreeFault}
-use Rattle.draid_pool.specs.declared.fault.ObjectFault.{ObjectFault}
-use Rattle.draid_pool.specs.declared.fault.ObjectFault.TheVariants as object_fault
+use Rattle.draid_names.specs.declared.refusal.ObjectFault.{ObjectFault}
+use Rattle.draid_names.specs.declared.refusal.ObjectFault.TheVariants as object_fault
 use Rattle.draid_pool.specs.declared.pool.Pool.{Pool}
 use Rattle.draid_pool.proofs.Harm.{harm_both, on_harm}
 use Rattle.draid_pool.proofs.Lists.{zip_same, zip_set}
@@ -130,6 +130,7 @@ module _ {R : Type 0} (shape : R → Shape) (told : R → Option Told) (faults :
   answered old new object pointer before after changes (Ok bytes) is h t holds answer looks =
       (record { last = h.write.bytes; written = ap (option_map (λ (w : Write). w.bytes)) h.written; len = answer.len; digest = answer.digest }, looks)
   answered old new object pointer before after changes (Err object_fault.NoObject) is h t holds answer looks = absurd answer
+  answered old new object pointer before after changes (Err object_fault.Worn) is h t holds answer looks = absurd answer
   answered old new object pointer before after changes (Err object_fault.NoMemory) is h t holds answer looks = (tt, looks)
   answered old new object pointer before after changes (Err (object_fault.Unreadable absent tried)) is h t holds answer looks =
       let member = is.members pointer.metaslab before t.one.there in
@@ -194,6 +195,7 @@ module _ {R : Type 0} (shape : R → Shape) (told : R → Option Told) (faults :
     moved = m.moved.answers (solve.Bytes bytes) (subst (λ (g : Geometry). IsSolved (cut_of g) fetched (solve.Bytes bytes)) m.moved.looks.geometry solved);
   }
   read_is object fetched (Err object_fault.NoObject) old new m solved = absurd solved
+  read_is object fetched (Err object_fault.Worn) old new m solved = absurd solved
   read_is object fetched (Err object_fault.NoMemory) old new m solved = record { changes = m.changes; represents = m.represents; moved = (tt, m.moved.looks) }
   read_is object fetched (Err (object_fault.Unreadable absent tried)) old new m solved = record {
     changes = m.changes;

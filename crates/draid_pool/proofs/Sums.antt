@@ -10,8 +10,8 @@ use Rattle.draid_pool.specs.Answers.{BatchBehind, SumIs, SumStops}
 use Rattle.draid_pool.specs.Batches.{AddIs}
 use Rattle.draid_pool.specs.Pool.{Moves, Represents, state_of}
 use Rattle.draid_pool.specs.State.{AreLast, Change, Looks, LooksAt, Metaslab, State}
-use Rattle.draid_pool.specs.declared.fault.ObjectFault.{ObjectFault}
-use Rattle.draid_pool.specs.declared.fault.ObjectFault.TheVariants as object_fault
+use Rattle.draid_names.specs.declared.refusal.ObjectFault.{ObjectFault}
+use Rattle.draid_names.specs.declared.refusal.ObjectFault.TheVariants as object_fault
 use Rattle.draid_pool.specs.declared.fault.SumFault.{SumFault}
 use Rattle.draid_pool.specs.declared.pool.Pool.{Pool}
 use Rattle.draid_pool.proofs.Lists.{zip_twice}
@@ -54,6 +54,7 @@ looks_on a b c x y = record {
 pub behind_looks : (why : ObjectFault) (after new : State) → BatchBehind why after new → Looks after new
 behind_looks object_fault.NoObject after new is = subst (λ (s : State). Looks after s) (sym is) (looks_all after)
 behind_looks (object_fault.Unreadable absent tried) after new is = is
+behind_looks object_fault.Worn after new is = is
 behind_looks object_fault.NoMemory after new is = is
 
 module _ {R : Type 0} (shape : R → Shape) (told : R → Option Told) (faults : R → Option ℕ → ℕ) where

@@ -15,7 +15,7 @@ use Rattle.draid_pool.specs.Answers.{WriteInIs}
 use Rattle.draid_pool.specs.Pool.{HasRoomAt, HoldsWrite, Moves, NamesOthers, Represents, SamePool, Stands, metaslab_of, state_of}
 use Rattle.draid_pool.specs.State.{Change, LandsBut, Wrote, stripes_for}
 use Rattle.draid_pool.specs.Store.{EntersOne, HasRoom, MissesJust, StoreAnswers, StoreMisses, StoreStays, Stores}
-use Rattle.draid_pool.specs.declared.fault.WriteFault.TheVariants as write_fault
+use Rattle.draid_names.specs.declared.refusal.WriteFault.TheVariants as write_fault
 use Rattle.draid_pool.specs.declared.pool.Pool.{Pool}
 use Rattle.draid_pool.specs.declared.store.StoreFault.{StoreFault}
 use Rattle.draid_pool.specs.declared.store.StoreFault.TheVariants as store_fault

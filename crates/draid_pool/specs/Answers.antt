@@ -10,11 +10,11 @@ use Rattle.draid_block.specs.declared.many.Solve.{Solve}
 use Rattle.draid_block.specs.declared.solve.Fetched.{Fetched}
 use Rattle.draid_pool.specs.State.{Damages, FailsToDamage, Frees, HasNoSpace, IsLast, IsLost, IsThere, Looks, Misses, MissesIn, ReadsLast, State, Stays, StopsAt, Sums, Writes, WritesTo, write_of}
 use Rattle.draid_pool.specs.Store.{reading_of}
-use Rattle.draid_pool.specs.declared.fault.WriteFault.{WriteFault}
-use Rattle.draid_pool.specs.declared.fault.WriteFault.TheVariants as write
+use Rattle.draid_names.specs.declared.refusal.WriteFault.{WriteFault}
+use Rattle.draid_names.specs.declared.refusal.WriteFault.TheVariants as write
 use Rattle.draid_pool.specs.declared.fault.FreeFault.{FreeFault}
-use Rattle.draid_pool.specs.declared.fault.ObjectFault.{ObjectFault}
-use Rattle.draid_pool.specs.declared.fault.ObjectFault.TheVariants as object
+use Rattle.draid_names.specs.declared.refusal.ObjectFault.{ObjectFault}
+use Rattle.draid_names.specs.declared.refusal.ObjectFault.TheVariants as object
 use Rattle.draid_pool.specs.declared.fault.SumFault.{SumFault}
 use Rattle.draid_pool.specs.declared.fault.DamageFault.{DamageFault}
 use Rattle.draid_pool.specs.declared.fault.DamageFault.TheVariants as damage
@@ -43,6 +43,7 @@ FreeIs object (Err fault) old new = (write_of old.changes object ≡ None) × St
 abbrev pub ObjectFaultIs : ℕ → ObjectFault → State → State → Type 0
 ObjectFaultIs o object.NoObject old new = write_of old.changes o ≡ None
 ObjectFaultIs o (object.Unreadable absent tried) old new = IsLost o absent tried old new
+ObjectFaultIs o object.Worn old new = ⊥
 ObjectFaultIs o object.NoMemory old new = Unit {0}
 
 abbrev pub ReadIs : ℕ → Result (Vec ℕ Global) ObjectFault → State → State → Type 0
@@ -63,6 +64,7 @@ FetchIs o (Err why) old new = ObjectFaultIs o why old new × Looks old new
 abbrev pub BatchBehind : ObjectFault → State → State → Type 0
 BatchBehind object.NoObject after new = new ≡ after
 BatchBehind (object.Unreadable absent tried) after new = Looks after new
+BatchBehind object.Worn after new = Looks after new
 BatchBehind object.NoMemory after new = Looks after new
 
 -- the first object that gave no bytes, and why

@@ -7,8 +7,8 @@ use Rattle.draid_block.specs.declared.many.Solve.TheVariants.{Bytes, Unreadable}
 use Rattle.draid_block.specs.declared.solve.Fetched.{Fetched}
 use Rattle.draid_pool.specs.Answers.{Fetches, ObjectFaultIs, SumStops}
 use Rattle.draid_pool.specs.State.{AreLast, Looks, State}
-use Rattle.draid_pool.specs.declared.fault.ObjectFault.{ObjectFault}
-use Rattle.draid_pool.specs.declared.fault.ObjectFault.TheVariants as object
+use Rattle.draid_names.specs.declared.refusal.ObjectFault.{ObjectFault}
+use Rattle.draid_names.specs.declared.refusal.ObjectFault.TheVariants as object
 use Rattle.draid_pool.specs.declared.fault.SumFault.{SumFault}
 use Rattle.draid_pool.specs.declared.batch.Batch.{Batch}
 

@@ -23,8 +23,8 @@ use Rattle.draid_shard.specs.Columns.{EndsHarm, LeafRose, MoreBad, TellsBoth, is
 use Rattle.draid_shard.specs.Entry.{IsRoom, open_group}
 use Rattle.draid_shard.specs.Shard.{AddsLive, DropsLive, HasEntry, HoldsBlock, IsLive, KeepsOtherBlocks, NoneMore, SameLive, TakesLowest, Valid, free_of, held_of, logs_of, missed_of, part_of}
 use Rattle.draid_pool.specs.State.{most_held, stripes_for}
-use Rattle.draid_pool.specs.declared.fault.ObjectFault.{ObjectFault}
-use Rattle.draid_pool.specs.declared.fault.ObjectFault.TheVariants as object
+use Rattle.draid_names.specs.declared.refusal.ObjectFault.{ObjectFault}
+use Rattle.draid_names.specs.declared.refusal.ObjectFault.TheVariants as object
 use Rattle.draid_pool.specs.declared.fault.DamageFault.{DamageFault}
 use Rattle.draid_pool.specs.declared.fault.DamageFault.TheVariants as damage
 use Rattle.draid_pool.specs.declared.store.StoreFault.{StoreFault}
@@ -129,6 +129,7 @@ BlockAnswers part gone pointer w told old new (Ok bytes) = AreBytesOf w bytes.it
 BlockAnswers part gone pointer w told old new (Err (object.Unreadable absent tried)) = IsUnread part gone pointer.first pointer.stripes told old new absent tried
 BlockAnswers part gone pointer w told old new (Err object.NoMemory) = ⊤
 BlockAnswers part gone pointer w told old new (Err object.NoObject) = ⊥
+BlockAnswers part gone pointer w told old new (Err object.Worn) = ⊥
 
 -- a block's answer as that of a read
 abbrev pub reading_of : Solve → Result (Vec ℕ Global) ObjectFault
@@ -146,6 +147,7 @@ SolveIs cut fetched (Ok bytes) = IsSolved cut fetched (Bytes bytes)
 SolveIs cut fetched (Err (object.Unreadable absent tried)) = IsSolved cut fetched (Unreadable absent tried)
 SolveIs cut fetched (Err object.NoMemory) = ⊤
 SolveIs cut fetched (Err object.NoObject) = ⊥
+SolveIs cut fetched (Err object.Worn) = ⊥
 
 -- the answer to a damage of a sector of a shard
 abbrev pub SectorAnswers : {R : Type 0} → (R → Option Told) → (R → Option ℕ → ℕ) → ℕ → ℕ → Shard R → Shard R → Result Unit DamageFault → Type 0

@@ -4,9 +4,10 @@ ghost use Rattle.draid_pool.specs.Batches.{AddIs, BatchIs, FeedIs};
 ghost use Rattle.draid_pool.specs.Pool.{Moves, Represents, state_of};
 ghost use Rattle.draid_pool.specs.State.{Change};
 
-use crate::fault::{ObjectFault, SumFault};
+use crate::fault::SumFault;
 use crate::pool::Pool;
 use draid_block::{Fetched, Solve, solve_many};
+use draid_names::ObjectFault;
 use draid_rack::Rack;
 use sha2::{Digest, Sha256};
 use std::thread::Threads;

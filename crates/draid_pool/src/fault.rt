@@ -1,6 +1,6 @@
 ghost use Rattle.std.specs.Prelude.{◌≡◌};
 
-use draid_names::NoMemory;
+use draid_names::{NoMemory, ObjectFault};
 use draid_spec::SpecFault;
 
 /// Why no pool was created.
@@ -21,41 +21,11 @@ impl From<NoMemory> for PoolFault {
     }
 }
 
-/// Why no bytes were written to an object, which has its earlier ones.
-#[derive(Clone, Copy, Debug, PartialEq, Eq)]
-pub enum WriteFault {
-    /// No metaslab has room: the longest run that one has is too short, and so many metaslabs take no new block,
-    /// since they are disabled, full or worn.
-    NoSpace {
-        run: u64,
-        disabled: u32,
-        full: u32,
-        worn: u32,
-    },
-    /// So many columns landed on no leaf.
-    Missed {
-        columns: u32,
-    },
-    /// The number of the last write is the greatest that there is.
-    Last,
-    NoMemory,
-}
-
 /// Why no object was freed.
 #[derive(Clone, Copy, Debug, PartialEq, Eq)]
 pub enum FreeFault {
     /// It has no bytes.
     NoObject,
-}
-
-/// Why an object gives no bytes.
-#[derive(Clone, Copy, Debug, PartialEq, Eq)]
-pub enum ObjectFault {
-    /// It has none.
-    NoObject,
-    /// No set of columns restores them: so many columns are absent, and so many sets were tried.
-    Unreadable { absent: u32, tried: u64 },
-    NoMemory,
 }
 
 /// The first of some objects that gives no bytes, and why.

@@ -11,6 +11,7 @@ mod room;
 mod store;
 
 pub use closing::close;
-pub use fault::{DamageFault, FreeFault, ObjectFault, PoolFault, SumFault, WriteFault};
+pub use draid_names::{ObjectFault, WriteFault};
+pub use fault::{DamageFault, FreeFault, PoolFault, SumFault};
 pub use opening::create;
 pub use pool::Pool;

@@ -8,13 +8,13 @@ ghost use Rattle.draid_pool.specs.Answers.{DamageIs, FetchIs, FreeIs, ReadIs, Su
 ghost use Rattle.draid_pool.specs.State.{Change, Wrote, Write};
 
 use crate::batch::add_batch;
-use crate::fault::{DamageFault, FreeFault, ObjectFault, SumFault, WriteFault};
+use crate::fault::{DamageFault, FreeFault, SumFault};
 use crate::room::{count_full, longest_run, rooms_of};
 use crate::store::{StoreFault, damage_sector, fetch_block, free_block, solve, store};
 use draid_block::{Encoded, Fetched};
 use draid_choose::Chooser;
 use draid_map::metaslab_sectors;
-use draid_names::{NoMemory, Pointer, Room};
+use draid_names::{LAST_NUMBER, NoMemory, ObjectFault, Pointer, Room, WriteFault};
 use draid_rack::Rack;
 use draid_shard::Shard;
 use draid_spec::Geometry;

@@ -8,9 +8,9 @@ ghost use Rattle.draid_shard.specs.Columns.{EndsHarm, TellsBoth};
 ghost use Rattle.draid_shard.specs.Entry.{open_group};
 ghost use Rattle.draid_shard.specs.Shard.{Carries, HoldsBlock, IsLive, IsUnused, KeepsBlocks, NoneFalls, NoneMore, SameLive, Valid, free_of, held_of, logs_of, missed_of, part_of};
 
-use crate::fault::{DamageFault, ObjectFault};
+use crate::fault::DamageFault;
 use draid_block::{Encoded, Fetched, SolveFault, solve_block};
-use draid_names::{NoMemory, Pointer};
+use draid_names::{NoMemory, ObjectFault, Pointer};
 use draid_rack::Rack;
 use draid_shard::{BeginFault, FetchFault, Missed, Shard, Ticket};
 use draid_spec::Geometry;

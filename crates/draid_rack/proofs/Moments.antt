@@ -1,7 +1,7 @@
 use Rattle.std.proofs.Common.{arith, refl, subst, ◌∙◌, ◌≡◌, ◌≤◌, ◌<◌, ◌==◌, ◌&&◌, ℕ, Bool, true, false, List, Option, Some, None, Result, Ok, Err, OnOk, OnErr, IsTrue, option_map, nat_lt}
 use Rattle.std.proofs.lemmas.Bool.Decides.{nat_tests}
 use Rattle.draid_rack.specs.Rack.{Told, Lands, OnTold, IsOrderly, adds, damages, drops, flushes, lands, last_clock, settles, tick}
-use Rattle.draid_rack.specs.Moments.{Stays, Goes, Between, Keeps, KeptOthers, Passes, PassesTold, Spares, SparesTold, OnBoth, IsCrashOutcome, CrashKeepsOthers}
+use Rattle.draid_rack.specs.Moments.{Stays, Goes, Between, Keeps, KeptOthers, Elapses, ElapsesTold, ChangesOnly, ChangesOnlyTold, OnBoth, IsCrashOutcome, CrashKeepsOthers}
 
 pub goes_on : (x y z : Told) → Goes x y → Goes y z → Goes x z
 goes_on x y z a b = record {
@@ -12,11 +12,11 @@ goes_on x y z a b = record {
       record { reads = p.reads; soft = λ h. p.soft (q.soft h); harmed = λ h. p.harmed (q.harmed h); since = p.since ∙ q.since };
 }
 
-pub spares_self : (named : ℕ → ℕ → Bool) (x : Told) → Spares named x x
-spares_self named x = record { later = omega arith; reads = λ l s out. refl; since = λ l s out. refl; soft = λ l s out h. h; harmed = λ l s out h. h }
+pub only_self : (named : ℕ → ℕ → Bool) (x : Told) → ChangesOnly named x x
+only_self named x = record { later = omega arith; reads = λ l s out. refl; since = λ l s out. refl; soft = λ l s out h. h; harmed = λ l s out h. h }
 
-pub spares_on : (named : ℕ → ℕ → Bool) (x y z : Told) → Spares named x y → Spares named y z → Spares named x z
-spares_on named x y z a b = record {
+pub only_on : (named : ℕ → ℕ → Bool) (x y z : Told) → ChangesOnly named x y → ChangesOnly named y z → ChangesOnly named x z
+only_on named x y z a b = record {
   later = omega (arith, a.later, b.later);
   reads = λ l s out. b.reads l s out ∙ a.reads l s out;
   since = λ l s out. b.since l s out ∙ a.since l s out;
@@ -30,27 +30,27 @@ moment x m y l s bytes early same reads low between =
     let p = between.after.same l s bytes q.reads (omega (arith, early, same, q.since)) (omega (arith, early, same, q.since)) in
     record { reads = q.reads; soft = p.soft; harmed = p.harmed }
 
-pub moments : (named : ℕ → ℕ → Bool) (x y : Told) → IsOrderly x → Spares named x y → KeptOthers named x y
+pub moments : (named : ℕ → ℕ → Bool) (x y : Told) → IsOrderly x → ChangesOnly named x y → KeptOthers named x y
 moments named x y orderly spares low m between l s bytes out reads = moment x m y l s bytes (orderly l s) (spares.since l s out) (spares.reads l s out ∙ reads) low between
 
-pub told_on : (named : ℕ → ℕ → Bool) (o p q : Option Told) → SparesTold named o p → SparesTold named p q → SparesTold named o q
+pub told_on : (named : ℕ → ℕ → Bool) (o p q : Option Told) → ChangesOnlyTold named o p → ChangesOnlyTold named p q → ChangesOnlyTold named o q
 told_on named None None q a b = b
 told_on named None (Some y) q a b = absurd (cc)
 told_on named (Some x) None q a b = absurd a
 told_on named (Some x) (Some y) None a b = absurd b
-told_on named (Some x) (Some y) (Some z) a b = spares_on named x y z a b
+told_on named (Some x) (Some y) (Some z) a b = only_on named x y z a b
 
-pub told_same : (named : ℕ → ℕ → Bool) (o p : Option Told) → p ≡ o → SparesTold named o p
+pub told_same : (named : ℕ → ℕ → Bool) (o p : Option Told) → p ≡ o → ChangesOnlyTold named o p
 told_same named None p is = is
-told_same named (Some x) p is = rw is (spares_self named x)
+told_same named (Some x) p is = rw is (only_self named x)
 
-pub kept : (named : ℕ → ℕ → Bool) (o p : Option Told) → OnTold o IsOrderly → SparesTold named o p → OnBoth o p (KeptOthers named)
+pub kept : (named : ℕ → ℕ → Bool) (o p : Option Told) → OnTold o IsOrderly → ChangesOnlyTold named o p → OnBoth o p (KeptOthers named)
 kept named None p orderly spares = tt
 kept named (Some x) None orderly spares = absurd spares
 kept named (Some x) (Some y) orderly spares = moments named x y orderly spares
 
-pub spares_lands : (named : ℕ → ℕ → Bool) (l s : ℕ) (bytes : List ℕ) (harm : Bool) (x : Told) → named l s ≡ true → Spares named x (lands l s bytes harm x)
-spares_lands named l s bytes harm x is = record {
+pub only_lands : (named : ℕ → ℕ → Bool) (l s : ℕ) (bytes : List ℕ) (harm : Bool) (x : Told) → named l s ≡ true → ChangesOnly named x (lands l s bytes harm x)
+only_lands named l s bytes harm x is = record {
   later = grind (arith, nat_tests);
   reads = λ m q out. grind (arith, nat_tests);
   since = λ m q out. grind (arith, nat_tests);
@@ -58,8 +58,8 @@ spares_lands named l s bytes harm x is = record {
   harmed = λ m q out. grind (arith, nat_tests);
 }
 
-pub spares_flushes : (named : ℕ → ℕ → Bool) (l : ℕ) (x : Told) → Spares named x (flushes l x)
-spares_flushes named l x = record {
+pub only_flushes : (named : ℕ → ℕ → Bool) (l : ℕ) (x : Told) → ChangesOnly named x (flushes l x)
+only_flushes named l x = record {
   later = grind (arith, nat_tests);
   reads = λ m q out. refl;
   since = λ m q out. refl;
@@ -67,13 +67,13 @@ spares_flushes named l x = record {
   harmed = λ m q out h. h;
 }
 
-pub told_lands : {E : Type 0} (named : ℕ → ℕ → Bool) (l s : ℕ) (bytes : List ℕ) (harm : Told → Bool) (r : Result Unit E) (o p : Option Told) → named l s ≡ true → Lands l s bytes harm r o p → SparesTold named o p
+pub told_lands : {E : Type 0} (named : ℕ → ℕ → Bool) (l s : ℕ) (bytes : List ℕ) (harm : Told → Bool) (r : Result Unit E) (o p : Option Told) → named l s ≡ true → Lands l s bytes harm r o p → ChangesOnlyTold named o p
 told_lands named l s bytes harm r None p is w = w.told
-told_lands named l s bytes harm r (Some x) p is w = rw w.told (spares_lands named l s w.stands (harm x) x is)
+told_lands named l s bytes harm r (Some x) p is w = rw w.told (only_lands named l s w.stands (harm x) x is)
 
-pub told_flushed : {E : Type 0} (named : ℕ → ℕ → Bool) (l : ℕ) (r : Result Unit E) (o p : Option Told) → OnOk r (p ≡ option_map (flushes l) o) → OnErr r (p ≡ o) → SparesTold named o p
+pub told_flushed : {E : Type 0} (named : ℕ → ℕ → Bool) (l : ℕ) (r : Result Unit E) (o p : Option Told) → OnOk r (p ≡ option_map (flushes l) o) → OnErr r (p ≡ o) → ChangesOnlyTold named o p
 told_flushed named l (Ok u) None p ok err = ok
-told_flushed named l (Ok u) (Some x) p ok err = rw ok (spares_flushes named l x)
+told_flushed named l (Ok u) (Some x) p ok err = rw ok (only_flushes named l x)
 told_flushed named l (Err e) o p ok err = told_same named o p err
 
 goes_later : (c : ℕ) → c ≤ tick c
@@ -142,8 +142,8 @@ goes_drops l x = record {
 pub goes_self : (x : Told) → Goes x x
 goes_self x = record { later = omega arith; same = λ l s bytes reads early low. record { reads = reads; soft = λ h. h; harmed = λ h. h; since = refl } }
 
-pub spares_more : (few more : ℕ → ℕ → Bool) (x y : Told) → ((l s : ℕ) → more l s ≡ false → few l s ≡ false) → Spares few x y → Spares more x y
-spares_more few more x y fewer a = record {
+pub only_more : (few more : ℕ → ℕ → Bool) (x y : Told) → ((l s : ℕ) → more l s ≡ false → few l s ≡ false) → ChangesOnly few x y → ChangesOnly more x y
+only_more few more x y fewer a = record {
   later = a.later;
   reads = λ l s out. a.reads l s (fewer l s out);
   since = λ l s out. a.since l s (fewer l s out);
@@ -155,8 +155,8 @@ spares_more few more x y fewer a = record {
 other_leaf : (named : ℕ → ℕ → Bool) (l m q : ℕ) → ((s : ℕ) → named l s ≡ true) → named m q ≡ false → (m == l) ≡ false
 other_leaf named l m q all out = let is = all q in grind (arith, nat_tests)
 
-pub spares_settles : (named : ℕ → ℕ → Bool) (l s : ℕ) (x : Told) → Spares named x (settles l s x)
-spares_settles named l s x = record {
+pub only_settles : (named : ℕ → ℕ → Bool) (l s : ℕ) (x : Told) → ChangesOnly named x (settles l s x)
+only_settles named l s x = record {
   later = goes_later x.clock;
   reads = λ m q out. refl;
   since = λ m q out. refl;
@@ -164,8 +164,8 @@ spares_settles named l s x = record {
   harmed = λ m q out. settles_stays l s x m q;
 }
 
-pub spares_damages : (named : ℕ → ℕ → Bool) (l s : ℕ) (x : Told) → named l s ≡ true → Spares named x (damages l s x)
-spares_damages named l s x is = record {
+pub only_damages : (named : ℕ → ℕ → Bool) (l s : ℕ) (x : Told) → named l s ≡ true → ChangesOnly named x (damages l s x)
+only_damages named l s x is = record {
   later = goes_later x.clock;
   reads = λ m q out. grind (arith, nat_tests);
   since = λ m q out. grind (arith, nat_tests);
@@ -173,8 +173,8 @@ spares_damages named l s x is = record {
   harmed = λ m q out. grind (arith, nat_tests);
 }
 
-pub spares_adds : (named : ℕ → ℕ → Bool) (bytes l n : ℕ) (x : Told) → ((s : ℕ) → named l s ≡ true) → Spares named x (adds bytes l n x)
-spares_adds named bytes l n x all = record {
+pub only_adds : (named : ℕ → ℕ → Bool) (bytes l n : ℕ) (x : Told) → ((s : ℕ) → named l s ≡ true) → ChangesOnly named x (adds bytes l n x)
+only_adds named bytes l n x all = record {
   later = goes_later x.clock;
   reads = λ m q out. rw (other_leaf named l m q all out) refl;
   since = λ m q out. rw (other_leaf named l m q all out) refl;
@@ -182,8 +182,8 @@ spares_adds named bytes l n x all = record {
   harmed = λ m q out. rw (other_leaf named l m q all out) (λ h. h);
 }
 
-pub spares_drops : (named : ℕ → ℕ → Bool) (l : ℕ) (x : Told) → ((s : ℕ) → named l s ≡ true) → Spares named x (drops l x)
-spares_drops named l x all = record {
+pub only_drops : (named : ℕ → ℕ → Bool) (l : ℕ) (x : Told) → ((s : ℕ) → named l s ≡ true) → ChangesOnly named x (drops l x)
+only_drops named l x all = record {
   later = goes_later x.clock;
   reads = λ m q out. rw (other_leaf named l m q all out) refl;
   since = λ m q out. rw (other_leaf named l m q all out) refl;
@@ -192,25 +192,25 @@ spares_drops named l x all = record {
 }
 
 -- what was told is told after a change that spares the others
-told_by_change : (named : ℕ → ℕ → Bool) (f : Told → Told) → ((x : Told) → Spares named x (f x)) → (o p : Option Told) → p ≡ option_map f o → SparesTold named o p
+told_by_change : (named : ℕ → ℕ → Bool) (f : Told → Told) → ((x : Told) → ChangesOnly named x (f x)) → (o p : Option Told) → p ≡ option_map f o → ChangesOnlyTold named o p
 told_by_change named f spares None p is = is
 told_by_change named f spares (Some x) p is = rw is (spares x)
 
-told_by_answer : {E : Type 0} (named : ℕ → ℕ → Bool) (f : Told → Told) → ((x : Told) → Spares named x (f x)) → (r : Result Unit E) (o p : Option Told) → OnOk r (p ≡ option_map f o) → OnErr r (p ≡ o) → SparesTold named o p
+told_by_answer : {E : Type 0} (named : ℕ → ℕ → Bool) (f : Told → Told) → ((x : Told) → ChangesOnly named x (f x)) → (r : Result Unit E) (o p : Option Told) → OnOk r (p ≡ option_map f o) → OnErr r (p ≡ o) → ChangesOnlyTold named o p
 told_by_answer named f spares (Ok u) o p ok err = told_by_change named f spares o p ok
 told_by_answer named f spares (Err e) o p ok err = told_same named o p err
 
-pub told_settled : (named : ℕ → ℕ → Bool) (l s : ℕ) (o p : Option Told) → p ≡ option_map (settles l s) o → SparesTold named o p
-told_settled named l s o p is = told_by_change named (settles l s) (spares_settles named l s) o p is
+pub told_settled : (named : ℕ → ℕ → Bool) (l s : ℕ) (o p : Option Told) → p ≡ option_map (settles l s) o → ChangesOnlyTold named o p
+told_settled named l s o p is = told_by_change named (settles l s) (only_settles named l s) o p is
 
-pub told_damaged : {E : Type 0} (named : ℕ → ℕ → Bool) (l s : ℕ) (r : Result Unit E) (o p : Option Told) → named l s ≡ true → OnOk r (p ≡ option_map (damages l s) o) → OnErr r (p ≡ o) → SparesTold named o p
-told_damaged named l s r o p is ok err = told_by_answer named (damages l s) (λ x. spares_damages named l s x is) r o p ok err
+pub told_damaged : {E : Type 0} (named : ℕ → ℕ → Bool) (l s : ℕ) (r : Result Unit E) (o p : Option Told) → named l s ≡ true → OnOk r (p ≡ option_map (damages l s) o) → OnErr r (p ≡ o) → ChangesOnlyTold named o p
+told_damaged named l s r o p is ok err = told_by_answer named (damages l s) (λ x. only_damages named l s x is) r o p ok err
 
-pub told_added : {E : Type 0} (named : ℕ → ℕ → Bool) (bytes l n : ℕ) (r : Result Unit E) (o p : Option Told) → ((s : ℕ) → named l s ≡ true) → OnOk r (p ≡ option_map (adds bytes l n) o) → OnErr r (p ≡ o) → SparesTold named o p
-told_added named bytes l n r o p all ok err = told_by_answer named (adds bytes l n) (λ x. spares_adds named bytes l n x all) r o p ok err
+pub told_added : {E : Type 0} (named : ℕ → ℕ → Bool) (bytes l n : ℕ) (r : Result Unit E) (o p : Option Told) → ((s : ℕ) → named l s ≡ true) → OnOk r (p ≡ option_map (adds bytes l n) o) → OnErr r (p ≡ o) → ChangesOnlyTold named o p
+told_added named bytes l n r o p all ok err = told_by_answer named (adds bytes l n) (λ x. only_adds named bytes l n x all) r o p ok err
 
-pub told_dropped : (named : ℕ → ℕ → Bool) (l : ℕ) (o p : Option Told) → ((s : ℕ) → named l s ≡ true) → p ≡ option_map (drops l) o → SparesTold named o p
-told_dropped named l o p all is = told_by_change named (drops l) (λ x. spares_drops named l x all) o p is
+pub told_dropped : (named : ℕ → ℕ → Bool) (l : ℕ) (o p : Option Told) → ((s : ℕ) → named l s ≡ true) → p ≡ option_map (drops l) o → ChangesOnlyTold named o p
+told_dropped named l o p all is = told_by_change named (drops l) (λ x. only_drops named l x all) o p is
 
 -- a test is false where what it implies is
 stays_false : (a b : Bool) → (IsTrue b → IsTrue a) → a ≡ false → b ≡ false
@@ -231,8 +231,8 @@ kept_by_crash named (Some x) None keeps = tt
 kept_by_crash named (Some x) (Some y) keeps = crash_keeps named x y keeps
 
 -- ---- what a call says of its moments
-pub passes : (x y : Told) → Goes x y → Passes x y
-passes x y goes = record {
+pub elapses : (x y : Told) → Goes x y → Elapses x y
+elapses x y goes = record {
   goes = goes;
   kept = λ low m between l s bytes reads early.
       let q = between.before.same l s bytes reads (omega (arith, early, between.after.later)) (omega (arith, early, low)) in
@@ -240,20 +240,20 @@ passes x y goes = record {
       record { reads = q.reads; soft = p.soft; harmed = p.harmed };
 }
 
-pub passed_same : (x : Told) (p : Option Told) → p ≡ Some x → PassesTold (Some x) p
-passed_same x p is = rw is (passes x x (goes_self x))
+pub elapsed_same : (x : Told) (p : Option Told) → p ≡ Some x → ElapsesTold (Some x) p
+elapsed_same x p is = rw is (elapses x x (goes_self x))
 
-pub passed_change : (f : Told → Told) → ((x : Told) → Goes x (f x)) → (x : Told) (p : Option Told) → p ≡ Some (f x) → PassesTold (Some x) p
-passed_change f goes x p is = rw is (passes x (f x) (goes x))
+pub elapsed_change : (f : Told → Told) → ((x : Told) → Goes x (f x)) → (x : Told) (p : Option Told) → p ≡ Some (f x) → ElapsesTold (Some x) p
+elapsed_change f goes x p is = rw is (elapses x (f x) (goes x))
 
-pub passed_lands : {E : Type 0} (l s : ℕ) (bytes : List ℕ) (harm : Told → Bool) (r : Result Unit E) (o p : Option Told) → Lands l s bytes harm r o p → PassesTold o p
-passed_lands l s bytes harm r None p w = w.told
-passed_lands l s bytes harm r (Some x) p w = rw w.told (passes x (lands l s w.stands (harm x) x) (goes_lands l s w.stands (harm x) x))
+pub elapsed_lands : {E : Type 0} (l s : ℕ) (bytes : List ℕ) (harm : Told → Bool) (r : Result Unit E) (o p : Option Told) → Lands l s bytes harm r o p → ElapsesTold o p
+elapsed_lands l s bytes harm r None p w = w.told
+elapsed_lands l s bytes harm r (Some x) p w = rw w.told (elapses x (lands l s w.stands (harm x) x) (goes_lands l s w.stands (harm x) x))
 
 -- calls one after another
-pub passed_on : (o p q : Option Told) → PassesTold o p → PassesTold p q → PassesTold o q
-passed_on None None q a b = b
-passed_on None (Some y) q a b = absurd (cc)
-passed_on (Some x) None q a b = absurd a
-passed_on (Some x) (Some y) None a b = absurd b
-passed_on (Some x) (Some y) (Some z) a b = passes x z (goes_on x y z a.goes b.goes)
+pub elapsed_on : (o p q : Option Told) → ElapsesTold o p → ElapsesTold p q → ElapsesTold o q
+elapsed_on None None q a b = b
+elapsed_on None (Some y) q a b = absurd (cc)
+elapsed_on (Some x) None q a b = absurd a
+elapsed_on (Some x) (Some y) None a b = absurd b
+elapsed_on (Some x) (Some y) (Some z) a b = elapses x z (goes_on x y z a.goes b.goes)

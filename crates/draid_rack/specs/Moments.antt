@@ -40,12 +40,12 @@ KeptSince x y =
     → y.reads l s ≡ Some bytes → y.since l s ≤ x.clock → Keeps x m l s bytes
 
 -- Time went from x to y, and this is known of the moments between them.
-pub record Passes (x y : Told) : Type 0 where
+pub record Elapses (x y : Told) : Type 0 where
   pub goes : Goes x y
   pub kept : KeptSince x y
 
 -- Another state, in which only the sectors named were changed. Harm and softness may have ended elsewhere.
-pub record Spares (named : ℕ → ℕ → Bool) (x y : Told) : Type 0 where
+pub record ChangesOnly (named : ℕ → ℕ → Bool) (x y : Told) : Type 0 where
   pub later : x.clock ≤ y.clock
   pub reads : (l s : ℕ) → named l s ≡ false → y.reads l s ≡ x.reads l s
   pub since : (l s : ℕ) → named l s ≡ false → y.since l s ≡ x.since l s
@@ -57,8 +57,8 @@ abbrev pub OnBoth : Option Told → Option Told → (Told → Told → Type 0) �
 OnBoth old new P = MatchOption old ⊤ (λ x. MatchOption new ⊤ (λ y. P x y))
 
 -- what was told is told, and only the sectors named were changed
-abbrev pub SparesTold : (ℕ → ℕ → Bool) → Option Told → Option Told → Type 0
-SparesTold named old new = MatchOption old (new ≡ None) (λ x. MatchOption new ⊥ (λ y. Spares named x y))
+abbrev pub ChangesOnlyTold : (ℕ → ℕ → Bool) → Option Told → Option Told → Type 0
+ChangesOnlyTold named old new = MatchOption old (new ≡ None) (λ x. MatchOption new ⊥ (λ y. ChangesOnly named x y))
 
 -- What a crash may leave of what a rack told: what isn't soft stays; what is soft reads any bytes of the
 -- same length; harm stays, and nothing is soft.
@@ -81,5 +81,5 @@ CrashKeepsOthers named x y =
     → (left.reads l s ≡ Some bytes) × (IsTrue (left.harmed l s) → IsTrue (x.harmed l s))
 
 -- what was told is told, and this is known of the moments between
-abbrev pub PassesTold : Option Told → Option Told → Type 0
-PassesTold old new = MatchOption old (new ≡ None) (λ x. MatchOption new ⊥ (λ y. Passes x y))
+abbrev pub ElapsesTold : Option Told → Option Told → Type 0
+ElapsesTold old new = MatchOption old (new ≡ None) (λ x. MatchOption new ⊥ (λ y. Elapses x y))

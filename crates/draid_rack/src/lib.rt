@@ -11,5 +11,6 @@ mod sector;
 #[cfg(test)]
 mod tests;
 
+pub use draid_names::DeviceFault;
 pub use memory::MemoryRack;
-pub use rack::{AddFault, Rack};
+pub use rack::Rack;

@@ -2,7 +2,7 @@ ghost use Rattle.std.specs.Prelude.{◌≡◌, ◌<◌, ◌≤◌, ◌==◌, if�
 ghost use Rattle.draid_names.specs.Faults.{Rose};
 ghost use Rattle.draid_faults.specs.Calls.{CountsCall, CountsJust, failing_calls, is_fused, next_call};
 ghost use Rattle.draid_rack.specs.Leaves.{AreLong, AreUpTo};
-ghost use Rattle.draid_rack.specs.Moments.{CrashesTold, PassesTold};
+ghost use Rattle.draid_rack.specs.Moments.{CrashesTold, ElapsesTold};
 ghost use Rattle.draid_rack.specs.Rack.{Fits, HasJust, Lands, Reads, Counts, CountsOnly, CountsOthers, OnTold, adds, damages, drops, flushes, settles, taints, with_leaf};
 
 use crate::leaf::Leaf;
@@ -10,9 +10,9 @@ use crate::leaves::{
     count_fault, crash_leaves, damage_sector, first_from, flush_leaf, insert_leaf, is_any_harmed,
     is_harmed, land_sector, later, mark_sector, read_sector, remove_leaf, settle_sector,
 };
-use crate::rack::{AddFault, Rack};
+use crate::rack::Rack;
 use draid_faults::{Calls, CrashRule, Fuse};
-use draid_names::{At, Failed, NoMemory};
+use draid_names::{At, DeviceFault, Failed, NoMemory};
 use std::alloc::Global;
 use std::collections::BTreeMap;
 
@@ -108,7 +108,7 @@ impl MemoryRack {
         requires place { Fits (shape_of_memory self.old) leaf sector (length bytes.now) }
         ensures told { Lands leaf sector bytes.now (λ _. harmed) result (told_by_memory self.old)
             (told_by_memory self.new) }
-        ensures moments { PassesTold (told_by_memory self.old) (told_by_memory self.new) }
+        ensures moments { ElapsesTold (told_by_memory self.old) (told_by_memory self.new) }
         ensures shape { shape_of_memory self.new ≡ shape_of_memory self.old }
         ensures cause { Counts (Some leaf) result (faults_of_memory self.old) (faults_of_memory self.new) }
         ensures exact { CountsOnly (Some leaf) (IsErr result) (faults_of_memory self.old) (faults_of_memory self.new) }
@@ -128,7 +128,7 @@ impl MemoryRack {
 }
 
 impl Rack for MemoryRack {
-    ghost use Rattle.draid_rack.specs.declared.rack.AddFault.{AddFault};
+    ghost use Rattle.draid_names.specs.declared.fault.DeviceFault.{DeviceFault};
     ghost use Rattle.draid_rack.specs.Memory.{DamagesFlushed, Flushes, KeepsFlushed, calls_of, faults_of_memory, reads_of, shape_of_memory, told_by_memory};
 
     ghost shape = { shape_of_memory };
@@ -144,7 +144,7 @@ impl Rack for MemoryRack {
         ensures whole { length into.new ≡ length into.old }
         ensures read { OnOk result (Reads (told_by_memory self.old) leaf sector into.new) }
         ensures told { told_by_memory self.new ≡ told_by_memory self.old }
-        ensures moments { PassesTold (told_by_memory self.old) (told_by_memory self.new) }
+        ensures moments { ElapsesTold (told_by_memory self.old) (told_by_memory self.new) }
         ensures shape { shape_of_memory self.new ≡ shape_of_memory self.old }
         ensures cause { Counts (Some leaf) result (faults_of_memory self.old) (faults_of_memory self.new) }
         ensures exact { CountsOnly (Some leaf) (IsErr result) (faults_of_memory self.old) (faults_of_memory self.new) }
@@ -163,7 +163,7 @@ impl Rack for MemoryRack {
         requires place { Fits (shape_of_memory self.old) leaf sector (length bytes.now) }
         ensures told { Lands leaf sector bytes.now (λ _. false) result (told_by_memory self.old)
             (told_by_memory self.new) }
-        ensures moments { PassesTold (told_by_memory self.old) (told_by_memory self.new) }
+        ensures moments { ElapsesTold (told_by_memory self.old) (told_by_memory self.new) }
         ensures shape { shape_of_memory self.new ≡ shape_of_memory self.old }
         ensures cause { Counts (Some leaf) result (faults_of_memory self.old) (faults_of_memory self.new) }
         ensures exact { CountsOnly (Some leaf) (IsErr result) (faults_of_memory self.old) (faults_of_memory self.new) }
@@ -178,7 +178,7 @@ impl Rack for MemoryRack {
         requires place { Fits (shape_of_memory self.old) leaf sector (length bytes.now) }
         ensures told { Lands leaf sector bytes.now (taints sources.now) result (told_by_memory self.old)
             (told_by_memory self.new) }
-        ensures moments { PassesTold (told_by_memory self.old) (told_by_memory self.new) }
+        ensures moments { ElapsesTold (told_by_memory self.old) (told_by_memory self.new) }
         ensures shape { shape_of_memory self.new ≡ shape_of_memory self.old }
         ensures cause { Counts (Some leaf) result (faults_of_memory self.old) (faults_of_memory self.new) }
         ensures exact { CountsOnly (Some leaf) (IsErr result) (faults_of_memory self.old) (faults_of_memory self.new) }
@@ -194,7 +194,7 @@ impl Rack for MemoryRack {
         requires place { Fits (shape_of_memory self.old) leaf sector (length bytes.now) }
         ensures told { Lands leaf sector bytes.now (λ x. x.harmed leaf sector) result
             (told_by_memory self.old) (told_by_memory self.new) }
-        ensures moments { PassesTold (told_by_memory self.old) (told_by_memory self.new) }
+        ensures moments { ElapsesTold (told_by_memory self.old) (told_by_memory self.new) }
         ensures shape { shape_of_memory self.new ≡ shape_of_memory self.old }
         ensures cause { Counts (Some leaf) result (faults_of_memory self.old) (faults_of_memory self.new) }
         ensures exact { CountsOnly (Some leaf) (IsErr result) (faults_of_memory self.old) (faults_of_memory self.new) }
@@ -211,7 +211,7 @@ impl Rack for MemoryRack {
         ensures ok { OnOk result
             (told_by_memory self.new ≡ option_map (flushes leaf) (told_by_memory self.old)) }
         ensures err { OnErr result (told_by_memory self.new ≡ told_by_memory self.old) }
-        ensures moments { PassesTold (told_by_memory self.old) (told_by_memory self.new) }
+        ensures moments { ElapsesTold (told_by_memory self.old) (told_by_memory self.new) }
         ensures shape { shape_of_memory self.new ≡ shape_of_memory self.old }
         ensures cause { Counts (Some leaf) result (faults_of_memory self.old) (faults_of_memory self.new) }
         ensures exact { CountsOnly (Some leaf) (IsErr result) (faults_of_memory self.old) (faults_of_memory self.new) }
@@ -232,7 +232,7 @@ impl Rack for MemoryRack {
         requires place { Fits (shape_of_memory self.old) leaf sector (shape_of_memory self.old).bytes }
         requires firm { OnTold (told_by_memory self.old) (λ x. x.soft leaf sector ≡ false) }
         ensures told { told_by_memory self.new ≡ option_map (settles leaf sector) (told_by_memory self.old) }
-        ensures moments { PassesTold (told_by_memory self.old) (told_by_memory self.new) }
+        ensures moments { ElapsesTold (told_by_memory self.old) (told_by_memory self.new) }
         ensures shape { shape_of_memory self.new ≡ shape_of_memory self.old }
         ensures later { (w : Option ℕ) → faults_of_memory self.old w ≤ faults_of_memory self.new w }
         ensures exact { (w : Option ℕ) → faults_of_memory self.new w ≡ faults_of_memory self.old w }
@@ -246,7 +246,7 @@ impl Rack for MemoryRack {
         ensures ok { OnOk result
             (told_by_memory self.new ≡ option_map (damages leaf sector) (told_by_memory self.old)) }
         ensures err { OnErr result (told_by_memory self.new ≡ told_by_memory self.old) }
-        ensures moments { PassesTold (told_by_memory self.old) (told_by_memory self.new) }
+        ensures moments { ElapsesTold (told_by_memory self.old) (told_by_memory self.new) }
         ensures shape { shape_of_memory self.new ≡ shape_of_memory self.old }
         ensures cause { Counts (Some leaf) result (faults_of_memory self.old) (faults_of_memory self.new) }
         ensures exact { CountsOnly (Some leaf) (IsErr result) (faults_of_memory self.old) (faults_of_memory self.new) }
@@ -263,29 +263,29 @@ impl Rack for MemoryRack {
         Ok(())
     }
 
-    fn add_leaf(&mut self, leaf: u64, sectors: u64) -> Result<(), AddFault>
+    fn add_leaf(&mut self, leaf: u64, sectors: u64) -> Result<(), DeviceFault>
         ensures ok { OnOk result
             (told_by_memory self.new ≡ option_map (adds (shape_of_memory self.old).bytes leaf sectors)
             (told_by_memory self.old)) }
         ensures err { OnErr result (told_by_memory self.new ≡ told_by_memory self.old) }
-        ensures moments { PassesTold (told_by_memory self.old) (told_by_memory self.new) }
+        ensures moments { ElapsesTold (told_by_memory self.old) (told_by_memory self.new) }
         ensures shape { OnOk result
             (shape_of_memory self.new ≡ with_leaf leaf (Some sectors) (shape_of_memory self.old)) }
         ensures same { OnErr result (shape_of_memory self.new ≡ shape_of_memory self.old) }
         ensures later { CountsOthers leaf (faults_of_memory self.old) (faults_of_memory self.new) }
-        ensures cause { IsErrOf result AddFault.Failed → Rose (faults_of_memory self.old None)
+        ensures cause { IsErrOf result DeviceFault.Failed → Rose (faults_of_memory self.old None)
             (faults_of_memory self.new None) }
-        ensures exact { CountsJust (IsErrOf result AddFault.Failed) (faults_of_memory self.old None)
+        ensures exact { CountsJust (IsErrOf result DeviceFault.Failed) (faults_of_memory self.old None)
             (faults_of_memory self.new None) }
         ensures begun { OnOk result ((l : ℕ) → faults_of_memory self.new (Some l)
             ≡ (if l == leaf then 0 else faults_of_memory self.old (Some l))) }
         ensures kept { OnErr result ((l : ℕ) → faults_of_memory self.new (Some l)
             ≡ faults_of_memory self.old (Some l)) }
-        ensures calls { CountsCall (IsErrOf result AddFault.Failed) (calls_of self.old) (calls_of self.new) }
+        ensures calls { CountsCall (IsErrOf result DeviceFault.Failed) (calls_of self.old) (calls_of self.new) }
     {
         if self.calls.fails() {
             self.own_faults = self.own_faults.saturating_add(1);
-            return Err(AddFault::Failed);
+            return Err(DeviceFault::Failed);
         }
         let clock = later(self.clock);
         let new = Leaf::zeros(self.alloc, sectors, self.bytes, clock)?;
@@ -296,7 +296,7 @@ impl Rack for MemoryRack {
 
     fn drop_leaf(&mut self, leaf: u64)
         ensures told { told_by_memory self.new ≡ option_map (drops leaf) (told_by_memory self.old) }
-        ensures moments { PassesTold (told_by_memory self.old) (told_by_memory self.new) }
+        ensures moments { ElapsesTold (told_by_memory self.old) (told_by_memory self.new) }
         ensures shape { shape_of_memory self.new ≡ with_leaf leaf None (shape_of_memory self.old) }
         ensures later { CountsOthers leaf (faults_of_memory self.old) (faults_of_memory self.new) }
         ensures exact { (w : Option ℕ) → (w ≡ Some leaf → ⊥) → faults_of_memory self.new w ≡ faults_of_memory self.old w }

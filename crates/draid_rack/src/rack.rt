@@ -1,56 +1,16 @@
 ghost use Rattle.std.specs.Prelude.{◌≡◌, ◌≤◌, ◌<◌, ℕ, Option, Some, None, false, OnOk, OnErr, IsErrOf, IfSome, IfNone, IsSome, length, option_map};
 ghost use Rattle.draid_names.specs.Faults.{Rose};
-ghost use Rattle.draid_rack.specs.Moments.{PassesTold};
+ghost use Rattle.draid_rack.specs.Moments.{ElapsesTold};
 ghost use Rattle.draid_rack.specs.Rack.{Shape, Told, Fits, Lands, Reads, Counts, CountsOthers, IsOrderly, OnTold, adds, damages, drops, flushes, settles, taints, with_leaf};
 
-use draid_names::{At, Failed, NoMemory};
-use std::alloc::{AllocError, AllocFailed};
-
-/// Why a leaf couldn't be added.
-#[derive(Clone, Copy, Debug, PartialEq, Eq)]
-pub enum AddFault {
-    /// The device failed, and the rack's own count of faults rose in that call.
-    Failed,
-    /// There was no memory.
-    NoMemory,
-}
-
-impl From<NoMemory> for AddFault {
-    ghost use Rattle.draid_rack.specs.declared.rack.AddFault.{AddFault};
-
-    ghost from_gives = { λ _ fault. fault ≡ AddFault.NoMemory };
-
-    fn from(_error: NoMemory) -> AddFault {
-        AddFault::NoMemory
-    }
-}
-
-impl From<AllocError> for AddFault {
-    ghost use Rattle.draid_rack.specs.declared.rack.AddFault.{AddFault};
-
-    ghost from_gives = { λ _ fault. fault ≡ AddFault.NoMemory };
-
-    fn from(_error: AllocError) -> AddFault {
-        AddFault::NoMemory
-    }
-}
-
-impl<T: Drop> From<AllocFailed<T>> for AddFault {
-    ghost use Rattle.draid_rack.specs.declared.rack.AddFault.{AddFault};
-
-    ghost from_gives = { λ _ fault. fault ≡ AddFault.NoMemory };
-
-    fn from(_failed: AllocFailed<T>) -> AddFault {
-        AddFault::NoMemory
-    }
-}
+use draid_names::{At, DeviceFault, Failed};
 
 /// All leaves of one metaslab. A leaf is a disk's share of the metaslab, a row of sectors.
 ///
 /// A call raises the rack's clock, and those of the sectors that it changes, before it changes a byte. That
 /// is what is trusted of a real device, so that a state in the middle of a write counts as one after it began.
 pub trait Rack: Drop {
-    ghost use Rattle.draid_rack.specs.declared.rack.AddFault.{AddFault};
+    ghost use Rattle.draid_names.specs.declared.fault.DeviceFault.{DeviceFault};
 
     /// The length of a sector, and the sectors of each leaf that is there.
     ghost shape: { Self → Shape };
@@ -67,7 +27,7 @@ pub trait Rack: Drop {
         ensures whole { length into.new ≡ length into.old }
         ensures read { OnOk result (Reads (told self.old) leaf sector into.new) }
         ensures told { told self.new ≡ told self.old }
-        ensures moments { PassesTold (told self.old) (told self.new) }
+        ensures moments { ElapsesTold (told self.old) (told self.new) }
         ensures shape { shape self.new ≡ shape self.old }
         ensures cause { Counts (Some leaf) result (faults self.old) (faults self.new) };
 
@@ -75,7 +35,7 @@ pub trait Rack: Drop {
     fn write(&mut self, leaf: u64, sector: u64, bytes: &[u8]) -> Result<(), Failed>
         requires place { Fits (shape self.old) leaf sector (length bytes.now) }
         ensures told { Lands leaf sector bytes.now (λ _. false) result (told self.old) (told self.new) }
-        ensures moments { PassesTold (told self.old) (told self.new) }
+        ensures moments { ElapsesTold (told self.old) (told self.new) }
         ensures shape { shape self.new ≡ shape self.old }
         ensures cause { Counts (Some leaf) result (faults self.old) (faults self.new) };
 
@@ -84,7 +44,7 @@ pub trait Rack: Drop {
         requires place { Fits (shape self.old) leaf sector (length bytes.now) }
         ensures told { Lands leaf sector bytes.now (taints sources.now) result (told self.old)
             (told self.new) }
-        ensures moments { PassesTold (told self.old) (told self.new) }
+        ensures moments { ElapsesTold (told self.old) (told self.new) }
         ensures shape { shape self.new ≡ shape self.old }
         ensures cause { Counts (Some leaf) result (faults self.old) (faults self.new) };
 
@@ -93,7 +53,7 @@ pub trait Rack: Drop {
         requires place { Fits (shape self.old) leaf sector (length bytes.now) }
         ensures told { Lands leaf sector bytes.now (λ x. x.harmed leaf sector) result (told self.old)
             (told self.new) }
-        ensures moments { PassesTold (told self.old) (told self.new) }
+        ensures moments { ElapsesTold (told self.old) (told self.new) }
         ensures shape { shape self.new ≡ shape self.old }
         ensures cause { Counts (Some leaf) result (faults self.old) (faults self.new) };
 
@@ -102,7 +62,7 @@ pub trait Rack: Drop {
         requires place { IsSome ((shape self.old).leaves leaf) }
         ensures ok { OnOk result (told self.new ≡ option_map (flushes leaf) (told self.old)) }
         ensures err { OnErr result (told self.new ≡ told self.old) }
-        ensures moments { PassesTold (told self.old) (told self.new) }
+        ensures moments { ElapsesTold (told self.old) (told self.new) }
         ensures shape { shape self.new ≡ shape self.old }
         ensures cause { Counts (Some leaf) result (faults self.old) (faults self.new) };
 
@@ -111,7 +71,7 @@ pub trait Rack: Drop {
         requires place { Fits (shape self.old) leaf sector (shape self.old).bytes }
         requires firm { OnTold (told self.old) (λ x. x.soft leaf sector ≡ false) }
         ensures told { told self.new ≡ option_map (settles leaf sector) (told self.old) }
-        ensures moments { PassesTold (told self.old) (told self.new) }
+        ensures moments { ElapsesTold (told self.old) (told self.new) }
         ensures shape { shape self.new ≡ shape self.old }
         ensures later { (w : Option ℕ) → faults self.old w ≤ faults self.new w };
 
@@ -120,25 +80,25 @@ pub trait Rack: Drop {
         requires place { Fits (shape self.old) leaf sector (shape self.old).bytes }
         ensures ok { OnOk result (told self.new ≡ option_map (damages leaf sector) (told self.old)) }
         ensures err { OnErr result (told self.new ≡ told self.old) }
-        ensures moments { PassesTold (told self.old) (told self.new) }
+        ensures moments { ElapsesTold (told self.old) (told self.new) }
         ensures shape { shape self.new ≡ shape self.old }
         ensures cause { Counts (Some leaf) result (faults self.old) (faults self.new) };
 
     /// Adds a leaf of zeros. A leaf of that number that was there is given up, where it succeeds.
-    fn add_leaf(&mut self, leaf: u64, sectors: u64) -> Result<(), AddFault>
+    fn add_leaf(&mut self, leaf: u64, sectors: u64) -> Result<(), DeviceFault>
         ensures ok { OnOk result
             (told self.new ≡ option_map (adds (shape self.old).bytes leaf sectors) (told self.old)) }
         ensures err { OnErr result (told self.new ≡ told self.old) }
-        ensures moments { PassesTold (told self.old) (told self.new) }
+        ensures moments { ElapsesTold (told self.old) (told self.new) }
         ensures shape { OnOk result (shape self.new ≡ with_leaf leaf (Some sectors) (shape self.old)) }
         ensures same { OnErr result (shape self.new ≡ shape self.old) }
         ensures later { CountsOthers leaf (faults self.old) (faults self.new) }
-        ensures cause { IsErrOf result AddFault.Failed → Rose (faults self.old None) (faults self.new None) };
+        ensures cause { IsErrOf result DeviceFault.Failed → Rose (faults self.old None) (faults self.new None) };
 
     /// Gives up a leaf, if it is there.
     fn drop_leaf(&mut self, leaf: u64)
         ensures told { told self.new ≡ option_map (drops leaf) (told self.old) }
-        ensures moments { PassesTold (told self.old) (told self.new) }
+        ensures moments { ElapsesTold (told self.old) (told self.new) }
         ensures shape { shape self.new ≡ with_leaf leaf None (shape self.old) }
         ensures later { CountsOthers leaf (faults self.old) (faults self.new) };
 

@@ -4,16 +4,14 @@ use Rattle.std.proofs.lemmas.List.{append-nil, drop_all, take_all}
 use Rattle.draid_names.specs.declared.room.Room.{Room}
 use Rattle.draid_rack.specs.Rack.{Shape, Told}
 use Rattle.draid_script.specs.Line.{FillObjects}
-use Rattle.draid_script.specs.declared.refusal.FillRefusal.{FillRefusal}
+use Rattle.draid_names.specs.declared.refusal.WriteFault.{WriteFault}
 use Rattle.draid_script.specs.declared.reply.Reply.TheVariants.{Filled, FillRefused}
 use Rattle.draid_pool.specs.Answers.{WriteIs}
 use Rattle.draid_pool.specs.Pool.{Moves, state_of}
 use Rattle.draid_pool.specs.State.{State}
-use Rattle.draid_pool.specs.declared.fault.WriteFault.{WriteFault}
-use Rattle.draid_pool.specs.declared.fault.WriteFault.TheVariants as write
+use Rattle.draid_names.specs.declared.refusal.WriteFault.{WriteFault}
 use Rattle.draid_pool.specs.declared.pool.Pool.{Pool}
-use Rattle.draid_run.specs.Replies.{fill_refusal}
-use Rattle.draid_run.specs.State.{FillStopIs, Fills, Step, content_of}
+use Rattle.draid_run.specs.State.{Fills, Step, content_of}
 
 -- a buffer that was written from end to end
 pub whole : (n : ℕ) (x items : List ℕ) → length x ≡ length items → length items ≡ n → take n (x ++ drop (length x) items) ≡ x
@@ -34,18 +32,11 @@ module _ {R : Type 0} (shape : R → Shape) (told : R → Option Told) (faults :
         moved = subst (λ k. Fills chosen first k len seed start (state_of told faults new n.changes)) next (state_of told faults mid m.changes, m.moved, gave);
       }
 
-  cause : (contents : List ℕ) (fault : WriteFault) (x y : State) → WriteIs chosen (first + written) contents (Err fault) x y → FillStopIs chosen contents (fill_refusal fault) x y
-  cause contents (write.NoSpace run disabled full worn) x y w = w
-  cause contents (write.Missed columns) x y w = w
-  cause contents write.Last x y w = w
-  cause contents write.NoMemory x y w = w
-
-  pub fill_stopped : (count : ℕ) (fault : WriteFault) (why : FillRefusal) → result ≡ Err fault → why ≡ fill_refusal fault → written < count
+  pub fill_stopped : (count : ℕ) (why : WriteFault) → result ≡ Err why → written < count
       → Moves shape told faults (Step chosen (FillObjects first count len seed) (FillRefused first written why)) start new
-  fill_stopped count fault why err said fewer =
+  fill_stopped count why err fewer =
       let refused = subst (λ r. WriteIs chosen (first + written) bytes r (state_of told faults mid m.changes) (state_of told faults new n.changes)) err n.moved in
-      let same = subst (λ b. WriteIs chosen (first + written) b (Err fault) (state_of told faults mid m.changes) (state_of told faults new n.changes)) is refused in
-      let stops = cause (content_of seed (first + written) len) fault _ _ same in
+      let same = subst (λ b. WriteIs chosen (first + written) b (Err why) (state_of told faults mid m.changes) (state_of told faults new n.changes)) is refused in
       record {
         changes = n.changes;
         represents = n.represents;
@@ -55,7 +46,7 @@ module _ {R : Type 0} (shape : R → Shape) (told : R → Option Told) (faults :
             mid = state_of told faults mid m.changes;
             fewer = fewer;
             fills = m.moved;
-            cause = subst (λ y. FillStopIs chosen (content_of seed (first + written) len) y (state_of told faults mid m.changes) (state_of told faults new n.changes)) (sym said) stops;
+            cause = same;
           },
         );
       }

@@ -5,7 +5,6 @@ use Rattle.std.specs.Result.{result_and}
 use Rattle.draid_spec.specs.declared.layout.Geometry.{Geometry}
 use Rattle.draid_spec.specs.declared.layout.Props.{Props}
 use Rattle.draid_spec.specs.declared.spec.Spec.{Spec}
-use Rattle.draid_spec.specs.declared.spec.SpecFault.{SpecFault}
 use Rattle.draid_spec.specs.Geometry.{checked_props, geometry_of, layout_of, total_of}
 use Rattle.draid_spec.specs.Name.{spec_name_of}
 use Rattle.draid_spec.specs.Spec.{checked_width}
@@ -14,7 +13,7 @@ use Rattle.draid_rack.specs.Rack.{Shape, Told}
 use Rattle.draid_script.specs.Line.{Command, CreatePool}
 use Rattle.draid_script.specs.declared.line.PoolKeys.{PoolKeys}
 use Rattle.draid_script.specs.declared.name.CommandName.TheVariants as name
-use Rattle.draid_script.specs.declared.refusal.SpecRefusal.{SpecRefusal}
+use Rattle.draid_spec.specs.declared.spec.SpecFault.{SpecFault}
 use Rattle.draid_script.specs.declared.reply.Reply.{Reply}
 use Rattle.draid_script.specs.declared.reply.Reply.TheVariants.{Created, CreateRefused, NoMemory}
 use Rattle.draid_pool.specs.State.{Change}
@@ -23,7 +22,7 @@ use Rattle.draid_pool.specs.declared.fault.PoolFault.TheVariants as fault
 use Rattle.draid_pool.specs.declared.pool.Pool.{Pool}
 use Rattle.draid_run.specs.Serve.{PlainTurned}
 use Rattle.draid_run.specs.Session.{OpensBy, state_in}
-use Rattle.draid_run.specs.State.{layout_from, props_of, refusal_of}
+use Rattle.draid_run.specs.State.{layout_from, props_of}
 use Rattle.draid_run.specs.declared.answer.Made.{Made}
 
 -- what stands behind all checks is what passed them
@@ -39,12 +38,11 @@ same_spec spec props layout is =
 
 module _ {R : Type 0} (shape : R → Shape) (told : R → Option Told) (faults : R → Option ℕ → ℕ) where
   -- the spec can't be read
-  pub unread : (text : List ℕ) (children : ℕ) (keys : PoolKeys) (cause : SpecFault) (why : SpecRefusal) (pool : Option (Pool R)) → spec_by text children ≡ Err cause
-      → why ≡ refusal_of cause → pool ≡ None → PlainTurned shape told faults (CreatePool text children keys) None (Some (CreateRefused why)) pool
-  unread text children keys cause why pool none is closed = rw closed (record {
+  pub unread : (text : List ℕ) (children : ℕ) (keys : PoolKeys) (why : SpecFault) (pool : Option (Pool R)) → spec_by text children ≡ Err why → pool ≡ None → PlainTurned shape told faults (CreatePool text children keys) None (Some (CreateRefused why)) pool
+  unread text children keys why pool none closed = rw closed (record {
     changes = [];
     desk = refl;
-    turns = (record { cause = cause; none = ap (layout_from keys) none; is = is }, refl);
+    turns = (ap (layout_from keys) none, refl);
   })
 
   pub made : (text : List ℕ) (children : ℕ) (keys : PoolKeys) (spec : Spec) (m : Made) (result : Result Made PoolFault) (pool : Option (Pool R)) → spec_by text children ≡ Ok spec
@@ -67,14 +65,14 @@ module _ {R : Type 0} (shape : R → Shape) (told : R → Option Told) (faults :
               };
         }
 
-  pub refused : (text : List ℕ) (children : ℕ) (keys : PoolKeys) (spec : Spec) (cause : SpecFault) (why : SpecRefusal) (result : Result Made PoolFault) (pool : Option (Pool R)) → spec_by text children ≡ Ok spec → result ≡ Err (fault.Spec cause) → why ≡ refusal_of cause → OpensBy shape told faults spec (props_of keys) result pool
+  pub refused : (text : List ℕ) (children : ℕ) (keys : PoolKeys) (spec : Spec) (why : SpecFault) (result : Result Made PoolFault) (pool : Option (Pool R)) → spec_by text children ≡ Ok spec → result ≡ Err (fault.Spec why) → OpensBy shape told faults spec (props_of keys) result pool
       → PlainTurned shape told faults (CreatePool text children keys) None (Some (CreateRefused why)) pool
-  refused text children keys spec cause why result pool read said is opens =
+  refused text children keys spec why result pool read said opens =
       let o = subst (λ r. OpensBy shape told faults spec (props_of keys) r pool) said opens in
       rw o.1 (record {
         changes = [];
         desk = refl;
-        turns = (record { cause = cause; none = ap (layout_from keys) read ∙ o.0; is = is }, refl);
+        turns = (ap (layout_from keys) read ∙ o.0, refl);
       })
 
   pub no_memory : (text : List ℕ) (children : ℕ) (keys : PoolKeys) (spec : Spec) (result : Result Made PoolFault) (pool : Option (Pool R)) → spec_by text children ≡ Ok spec → result ≡ Err fault.NoMemory → OpensBy shape told faults spec (props_of keys) result pool

@@ -1,4 +1,3 @@
-pub mod Replies
 pub mod Script
 pub mod Serve
 pub mod Session

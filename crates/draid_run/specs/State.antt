@@ -4,7 +4,6 @@ use Rattle.draid_spec.specs.declared.layout.Geometry.{Geometry}
 use Rattle.draid_spec.specs.declared.layout.Props.{Props}
 use Rattle.draid_spec.specs.declared.spec.Spec.{Spec}
 use Rattle.draid_spec.specs.declared.spec.SpecFault.{SpecFault}
-use Rattle.draid_spec.specs.declared.spec.SpecFault.TheVariants as fault
 use Rattle.draid_spec.specs.Geometry.{geometry_of}
 use Rattle.draid_spec.specs.Name.{spec_name_of}
 use Rattle.draid_spec.specs.Text.{spec_by}
@@ -13,30 +12,16 @@ use Rattle.rand_xoshiro.specs.Xoroshiro128.{of_seed, plus_plus}
 use Rattle.rand_xoshiro.specs.SplitMix64.{splitmix_seed}
 use Rattle.draid_names.specs.declared.room.Room.{Room}
 use Rattle.draid_map.specs.Place.{stripes_of}
-use Rattle.draid_pool.specs.State.{Damages, FailsToDamage, Frees, HasNoSpace, IsFresh, IsLast, IsLost, IsThere, Looks, Misses, ReadsLast, State, Stays, StopsAt, Sums, Writes, write_of}
+use Rattle.draid_pool.specs.Answers.{SumStops, WriteIs}
+use Rattle.draid_pool.specs.State.{Damages, FailsToDamage, Frees, HasNoSpace, IsFresh, IsLast, IsLost, IsThere, Looks, Misses, ReadsLast, State, Stays, Sums, Writes, write_of}
 use Rattle.draid_script.specs.Grammar.{line_of}
 use Rattle.draid_script.specs.Line.{Command, Silent, CreatePool, WriteObject, ReadObject, FillObjects, FreeObject, SumObjects, DamageSector}
 use Rattle.draid_script.specs.declared.fault.LineFault.{LineFault}
 use Rattle.draid_script.specs.declared.line.PoolKeys.{PoolKeys}
 use Rattle.draid_script.specs.declared.name.CommandName.TheVariants as name
-use Rattle.draid_script.specs.declared.refusal.FillRefusal.{FillRefusal}
-use Rattle.draid_script.specs.declared.refusal.FillRefusal.TheVariants as fill
-use Rattle.draid_script.specs.declared.refusal.SpecRefusal.{SpecRefusal}
-use Rattle.draid_script.specs.declared.refusal.SpecRefusal.TheVariants as refusal
-use Rattle.draid_script.specs.declared.refusal.SumRefusal.{SumRefusal}
-use Rattle.draid_script.specs.declared.refusal.SumRefusal.TheVariants as stop
+use Rattle.draid_names.specs.declared.refusal.WriteFault.{WriteFault}
 use Rattle.draid_script.specs.declared.reply.Reply.{Reply}
 use Rattle.draid_script.specs.declared.reply.Reply.TheVariants.{NoPool, PoolOpen, NoMemory, Created, CreateRefused, Written, NoSpace, Missed, WriteLast, Filled, FillRefused, Freed, FreeNoObject, Contents, NoObject, Unreadable, Summed, SumRefused, Damaged, DamageRefused, DamageFailed}
-
--- why `create` is refused, in the words of its reply
-abbrev pub refusal_of : SpecFault → SpecRefusal
-refusal_of fault.NotDraid = refusal.NotDraid
-refusal_of fault.Parity = refusal.Parity
-refusal_of (fault.Number at) = refusal.Number at
-refusal_of (fault.Repeated letter) = refusal.Repeated letter
-refusal_of (fault.Children said given) = refusal.Children said given
-refusal_of (fault.Width need have) = refusal.Width need have
-refusal_of (fault.Limit which value) = refusal.Limit which value
 
 -- the properties that the keys of `create` name
 abbrev pub props_of : PoolKeys → Props
@@ -57,10 +42,8 @@ pub record HasLayout (text : List ℕ) (children : ℕ) (keys : PoolKeys) : Type
   pub layout : layout_by text children keys ≡ Ok geometry
 
 -- there is no such layout, for this cause
-pub record HasNoLayout (text : List ℕ) (children : ℕ) (keys : PoolKeys) (why : SpecRefusal) : Type 0 where
-  pub cause : SpecFault
-  pub none : layout_by text children keys ≡ Err cause
-  pub is : why ≡ refusal_of cause
+abbrev pub HasNoLayout : List ℕ → ℕ → PoolKeys → SpecFault → Type 0
+HasNoLayout text children keys why = layout_by text children keys ≡ Err why
 
 -- A pool of the layout that was asked for was created, of this name and with so many stripes.
 pub record Creates (text : List ℕ) (children : ℕ) (keys : PoolKeys) (called : List ℕ) (stripes : ℕ) (new : State) : Type 0 where
@@ -68,27 +51,6 @@ pub record Creates (text : List ℕ) (children : ℕ) (keys : PoolKeys) (called 
   pub name_is : called ≡ spec_name_of layout.geometry.spec ++ codes "-0"
   pub stripes_are : stripes ≡ stripes_of layout.geometry
   pub fresh : IsFresh layout.geometry new
-
--- why an object of a `sum` gave no bytes
-abbrev pub StopIs : ℕ → SumRefusal → State → State → Type 0
-StopIs object stop.NoObject old new = write_of old.changes object ≡ None
-StopIs object (stop.Unreadable absent tried) old new = IsLost object absent tried old new
-StopIs object stop.Worn old new = ⊥
-
--- which objects behind that one were read yet: none where it has none, else perhaps some of its batch
-abbrev pub BatchBehind : SumRefusal → State → State → Type 0
-BatchBehind stop.NoObject after new = new ≡ after
-BatchBehind (stop.Unreadable absent tried) after new = Looks after new
-BatchBehind stop.Worn after new = ⊥
-
--- The first object that gave no bytes, and why. Those before it gave theirs.
-pub record SumStops (first count object : ℕ) (why : SumRefusal) (old new : State) : Type 0 where
-  pub mid : State  -- the state as the object was come to
-  pub after : State  -- and as it gave no bytes
-  pub stops : StopsAt first count object old mid
-  pub cause : StopIs object why mid after
-  pub looks : Looks mid after
-  pub behind : BatchBehind why after new  -- others of its batch may have been read since; none where it is missing
 
 -- What a command for which no metaslab is chosen does to an open pool, and its reply.
 abbrev pub Plain : Command → Reply → State → State → Type 0
@@ -99,8 +61,7 @@ Plain (ReadObject object) (NoObject o) old new = (o ≡ object) × (write_of old
 Plain (ReadObject object) (Unreadable o absent tried) old new = (o ≡ object) × IsLost object absent tried old new × Looks old new
 Plain (ReadObject object) (NoMemory name.Read) old new = Looks old new
 Plain (SumObjects first count) (Summed f c digest) old new = (f ≡ first) × (c ≡ count) × Sums old.changes first count digest × Looks old new
-Plain (SumObjects first count) (SumRefused object why) old new = SumStops first count object why old new
-Plain (SumObjects first count) (NoMemory name.Sum) old new = Looks old new
+Plain (SumObjects first count) (SumRefused object why) old new = SumStops first count (record { object = object; why = why }) old new
 Plain (DamageSector leaf sector) (Damaged l s) old new = (l ≡ leaf) × (s ≡ sector) × Damages leaf sector old new
 Plain (DamageSector leaf sector) (DamageRefused l s) old new = (l ≡ leaf) × (s ≡ sector) × (IsThere old leaf sector → ⊥) × Stays old new
 Plain (DamageSector leaf sector) (DamageFailed l s) old new = (l ≡ leaf) × (s ≡ sector) × FailsToDamage leaf sector old new
@@ -133,19 +94,12 @@ module _ (chosen : List Room → Option ℕ → Type 0) where
   Fills first (suc count) len seed old new =
       (mid : State) × Fills first count len seed old mid × Writes chosen (first + count) (content_of seed (first + count) len) mid new
 
-  -- why a `fill` stopped at these contents
-  abbrev pub FillStopIs : List ℕ → FillRefusal → State → State → Type 0
-  FillStopIs bytes (fill.NoSpace run disabled full worn) old new = HasNoSpace bytes run disabled full worn old new
-  FillStopIs bytes (fill.Missed columns) old new = Misses chosen bytes columns old new
-  FillStopIs bytes fill.Last old new = IsLast chosen bytes old new
-  FillStopIs bytes fill.NoMemory old new = Stays old new
-
   -- So many objects were given their contents, fewer than were asked for, and the next one was refused its.
-  pub record FillStops (first count len seed written : ℕ) (why : FillRefusal) (old new : State) : Type 0 where
+  pub record FillStops (first count len seed written : ℕ) (why : WriteFault) (old new : State) : Type 0 where
     pub mid : State
     pub fewer : written < count
     pub fills : Fills first written len seed old mid
-    pub cause : FillStopIs (content_of seed (first + written) len) why mid new
+    pub cause : WriteIs chosen (first + written) (content_of seed (first + written) len) (Err why) mid new
 
   -- what any command does to an open pool, and its reply
   abbrev pub Step : Command → Reply → State → State → Type 0

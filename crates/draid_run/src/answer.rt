@@ -8,7 +8,7 @@ ghost use Rattle.draid_spec.specs.Spec.{IsSpec};
 ghost use Rattle.draid_spec.specs.Name.{spec_name_of};
 ghost use Rattle.draid_map.specs.Place.{stripes_of};
 ghost use Rattle.draid_pool.specs.State.{Change};
-ghost use Rattle.draid_run.specs.State.{props_of, refusal_of};
+ghost use Rattle.draid_run.specs.State.{props_of};
 ghost use Rattle.draid_run.specs.Session.{IsDesk, OpensBy, state_in};
 ghost use Rattle.draid_run.specs.Serve.{AnswerIs, PlainTurned, Turned};
 
@@ -18,30 +18,15 @@ use draid_map::metaslab_stripes;
 use draid_names::{NoMemory, Room};
 use draid_pool::{Pool, PoolFault, close};
 use draid_rack::Rack;
-use draid_script::{CommandName, Line, PoolKeys, Reply, SpecRefusal};
+use draid_script::{CommandName, Line, PoolKeys, Reply};
 use draid_shelf::RackShelf;
-use draid_spec::{Geometry, Props, Spec, SpecFault, parse_spec, spec_name};
+use draid_spec::{Geometry, Props, Spec, parse_spec, spec_name};
 use std::alloc::Global;
 use std::thread::Threads;
 
 /// A command is beyond what is built.
 #[derive(Clone, Copy, Debug, PartialEq, Eq)]
 pub(crate) struct Unbuilt;
-
-/// Why `create` is refused, in the words of its reply.
-fn refusal(fault: SpecFault) -> SpecRefusal
-    ensures { result ≡ refusal_of fault }
-{
-    match fault {
-        SpecFault::NotDraid => SpecRefusal::NotDraid,
-        SpecFault::Parity => SpecRefusal::Parity,
-        SpecFault::Number { at } => SpecRefusal::Number { at },
-        SpecFault::Repeated { letter } => SpecRefusal::Repeated { letter },
-        SpecFault::Children { said, given } => SpecRefusal::Children { said, given },
-        SpecFault::Width { need, have } => SpecRefusal::Width { need, have },
-        SpecFault::Limit { which, value } => SpecRefusal::Limit { which, value },
-    }
-}
 
 /// The properties that the keys of `create` name.
 fn props(keys: PoolKeys) -> Props
@@ -92,17 +77,11 @@ fn create<H: RackShelf>(
     }
     let spec = match parse_spec(text, children) {
         Ok(spec) => spec,
-        Err(fault) => {
-            return Reply::CreateRefused {
-                why: refusal(fault),
-            };
-        }
+        Err(why) => return Reply::CreateRefused { why },
     };
     match open_pool(alloc, shelf, pool, spec, props(keys)) {
         Ok(Made { name, stripes }) => Reply::Created { name, stripes },
-        Err(PoolFault::Spec(fault)) => Reply::CreateRefused {
-            why: refusal(fault),
-        },
+        Err(PoolFault::Spec(why)) => Reply::CreateRefused { why },
         Err(PoolFault::NoMemory) => Reply::NoMemory {
             command: CommandName::Create,
         },

@@ -6,13 +6,12 @@ ghost use Rattle.draid_script.specs.Line.{FillObjects, IsInRange};
 ghost use Rattle.draid_pool.specs.Pool.{Moves, Represents, state_of};
 ghost use Rattle.draid_pool.specs.State.{Change};
 ghost use Rattle.draid_run.specs.State.{Step, content_of};
-ghost use Rattle.draid_run.specs.Replies.{fill_refusal};
 
 use draid_choose::Chooser;
-use draid_names::Room;
-use draid_pool::{Pool, WriteFault};
+use draid_names::{Room, WriteFault};
+use draid_pool::Pool;
 use draid_rack::Rack;
-use draid_script::{FillRefusal, Reply};
+use draid_script::Reply;
 use rand_core::{Rng, SeedableRng};
 use rand_xoshiro::Xoroshiro128PlusPlus;
 use std::alloc::Global;
@@ -25,28 +24,6 @@ fn draw(into: &mut [u8], seed: u64, object: u64)
 {
     let mut rng = Xoroshiro128PlusPlus::seed_from_u64(seed.wrapping_add(object));
     rng.fill_bytes(into);
-}
-
-/// Why a `fill` stops, in the words of its reply.
-fn refusal(fault: WriteFault) -> FillRefusal
-    ensures { result ≡ fill_refusal fault }
-{
-    match fault {
-        WriteFault::NoSpace {
-            run,
-            disabled,
-            full,
-            worn,
-        } => FillRefusal::NoSpace {
-            run,
-            disabled,
-            full,
-            worn,
-        },
-        WriteFault::Missed { columns } => FillRefusal::Missed { columns },
-        WriteFault::Last => FillRefusal::Last,
-        WriteFault::NoMemory => FillRefusal::NoMemory,
-    }
 }
 
 /// Gives `count` objects from the first on `len` bytes each, by a seed, until one is refused them.
@@ -69,16 +46,16 @@ pub(crate) fn fill<R: Rack, F: Fn(&[Room]) -> Option<u32>>(
         return Reply::FillRefused {
             first,
             written: 0,
-            why: FillRefusal::NoMemory,
+            why: WriteFault::NoMemory,
         };
     };
     for written in 0..count {
         draw(&mut bytes, seed, first + written);
-        if let Err(fault) = pool.write(chooser, first + written, &bytes) {
+        if let Err(why) = pool.write(chooser, first + written, &bytes) {
             return Reply::FillRefused {
                 first,
                 written,
-                why: refusal(fault),
+                why,
             };
         }
     }

@@ -6,13 +6,12 @@ ghost use Rattle.draid_script.specs.Line.{DamageSector, FreeObject, IsInRange, R
 ghost use Rattle.draid_pool.specs.Pool.{Moves, Represents, state_of};
 ghost use Rattle.draid_pool.specs.State.{Change};
 ghost use Rattle.draid_run.specs.State.{Plain, Step};
-ghost use Rattle.draid_run.specs.Replies.{sum_refused};
 
 use draid_choose::Chooser;
-use draid_names::Room;
-use draid_pool::{DamageFault, FreeFault, ObjectFault, Pool, SumFault, WriteFault};
+use draid_names::{ObjectFault, Room, WriteFault};
+use draid_pool::{DamageFault, FreeFault, Pool, SumFault};
 use draid_rack::Rack;
-use draid_script::{CommandName, Reply, SumRefusal};
+use draid_script::{CommandName, Reply};
 use std::thread::Threads;
 
 /// Writes to an object.
@@ -66,6 +65,7 @@ pub(crate) fn read<R: Rack>(pool: &mut Pool<R>, object: u64) -> Reply
             absent,
             tried,
         },
+        Err(ObjectFault::Worn) => Reply::ReadWorn { object },
         Err(ObjectFault::NoMemory) => Reply::NoMemory {
             command: CommandName::Read,
         },
@@ -102,27 +102,7 @@ pub(crate) fn sum<R: Rack>(
             count,
             digest,
         },
-        Err(fault) => refuse_sum(fault),
-    }
-}
-
-/// The reply of a `sum` that stopped at an object.
-fn refuse_sum(fault: SumFault) -> Reply
-    ensures { result ≡ sum_refused fault.object fault.why }
-{
-    let object = fault.object;
-    match fault.why {
-        ObjectFault::NoObject => Reply::SumRefused {
-            object,
-            why: SumRefusal::NoObject,
-        },
-        ObjectFault::Unreadable { absent, tried } => Reply::SumRefused {
-            object,
-            why: SumRefusal::Unreadable { absent, tried },
-        },
-        ObjectFault::NoMemory => Reply::NoMemory {
-            command: CommandName::Sum,
-        },
+        Err(SumFault { object, why }) => Reply::SumRefused { object, why },
     }
 }
 

@@ -5,14 +5,14 @@ use Rattle.draid_script.specs.declared.line.ArmName.{ArmName}
 use Rattle.draid_script.specs.declared.line.ArmName.TheVariants.{Leaf, Spare}
 use Rattle.draid_script.specs.declared.name.CommandName.{CommandName}
 use Rattle.draid_script.specs.declared.name.CommandName.TheVariants as name
-use Rattle.draid_script.specs.declared.refusal.SpecRefusal.{SpecRefusal}
-use Rattle.draid_script.specs.declared.refusal.SpecRefusal.TheVariants as spec
-use Rattle.draid_script.specs.declared.refusal.SlotRefusal.{SlotRefusal}
-use Rattle.draid_script.specs.declared.refusal.SlotRefusal.TheVariants as slot
-use Rattle.draid_script.specs.declared.refusal.FillRefusal.{FillRefusal}
-use Rattle.draid_script.specs.declared.refusal.FillRefusal.TheVariants as fill
-use Rattle.draid_script.specs.declared.refusal.SumRefusal.{SumRefusal}
-use Rattle.draid_script.specs.declared.refusal.SumRefusal.TheVariants as sum
+use Rattle.draid_spec.specs.declared.spec.SpecFault.{SpecFault}
+use Rattle.draid_spec.specs.declared.spec.SpecFault.TheVariants as spec
+use Rattle.draid_names.specs.declared.refusal.SlotFault.{SlotFault}
+use Rattle.draid_names.specs.declared.refusal.SlotFault.TheVariants as slot
+use Rattle.draid_names.specs.declared.refusal.WriteFault.{WriteFault}
+use Rattle.draid_names.specs.declared.refusal.WriteFault.TheVariants as fill
+use Rattle.draid_names.specs.declared.refusal.ObjectFault.{ObjectFault}
+use Rattle.draid_names.specs.declared.refusal.ObjectFault.TheVariants as sum
 use Rattle.draid_script.specs.declared.reply.Reply.{Reply}
 use Rattle.draid_script.specs.declared.reply.Reply.TheVariants.{NoPool, PoolOpen, NoMemory, Created, CreateRefused, Imported, Exported, ExportWorn, ExportLast, Written, NoSpace, Missed, WriteLast, Filled, FillRefused, Contents, NoObject, Unreadable, ReadWorn, Summed, SumRefused, Freed, FreeNoObject, Synced, SyncWorn, SyncLast, OfflineDone, OfflineRefused, OfflineWorn, OnlineDone, OnlineRefused, OnlineWorn, Damaged, DamageRefused, DamageFailed, DamageWorn, Spared, SpareRefused, SpareWorn, Replaced, ReplaceRefused, ReplaceWorn, Detached, DetachRefused, DetachWorn, DetachLast, Rebuilt, RebuildNothing, RebuildRefused, RebuildWorn, RebuildLast, Scrubbed, ScrubRefused, ScrubWorn, ScrubLast, Rebalanced, RebalanceRefused, RebalanceWorn, RebalanceLast, Cancelled, Crashed, LanesClash, LanesClashMend}
 use Rattle.draid_script.specs.Name.{name_text}
@@ -22,45 +22,45 @@ abbrev pub said_of : CommandName → List ℕ → List ℕ
 said_of command words = name_text command ++ words
 
 -- the number of a refusal, and its values
-abbrev pub spec_refusal_of : SpecRefusal → List ℕ
-spec_refusal_of spec.NotDraid = codes "1"
-spec_refusal_of spec.Parity = codes "2"
-spec_refusal_of (spec.Number at) = codes "3 at=" ++ decimal at
-spec_refusal_of (spec.Repeated letter) = codes "4 letter=" ++ encode_utf8 letter
-spec_refusal_of (spec.Children said given) = codes "5 said=" ++ (decimal said ++ (codes " given=" ++ decimal given))
-spec_refusal_of (spec.Width need have) = codes "6 need=" ++ (decimal need ++ (codes " have=" ++ decimal have))
-spec_refusal_of (spec.Limit which value) = codes "7 which=" ++ (encode_utf8 which ++ (codes " value=" ++ decimal value))
+abbrev pub spec_fault_of : SpecFault → List ℕ
+spec_fault_of spec.NotDraid = codes "1"
+spec_fault_of spec.Parity = codes "2"
+spec_fault_of (spec.Number at) = codes "3 at=" ++ decimal at
+spec_fault_of (spec.Repeated letter) = codes "4 letter=" ++ encode_utf8 letter
+spec_fault_of (spec.Children said given) = codes "5 said=" ++ (decimal said ++ (codes " given=" ++ decimal given))
+spec_fault_of (spec.Width need have) = codes "6 need=" ++ (decimal need ++ (codes " have=" ++ decimal have))
+spec_fault_of (spec.Limit which value) = codes "7 which=" ++ (encode_utf8 which ++ (codes " value=" ++ decimal value))
 
-abbrev pub slot_refusal_of : SlotRefusal → List ℕ
-slot_refusal_of slot.NoSuch = codes "1"
-slot_refusal_of (slot.SpareBusy by) = codes "2 by=" ++ decimal by
-slot_refusal_of (slot.SpareInUse spare) = codes "3 spare=" ++ decimal spare
-slot_refusal_of (slot.LogNotEmpty groups) = codes "4 groups=" ++ decimal groups
-slot_refusal_of slot.LastArm = codes "5"
-slot_refusal_of (slot.PassRunning metaslab number) = codes "6 metaslab=" ++ (decimal metaslab ++ (codes " number=" ++ decimal number))
-slot_refusal_of (slot.TooSmall need have) = codes "7 need=" ++ (decimal need ++ (codes " have=" ++ decimal have))
-slot_refusal_of (slot.Full arms) = codes "8 arms=" ++ decimal arms
-slot_refusal_of slot.Last = codes "9"
+abbrev pub slot_fault_of : SlotFault → List ℕ
+slot_fault_of slot.NoSuch = codes "1"
+slot_fault_of (slot.SpareBusy by) = codes "2 by=" ++ decimal by
+slot_fault_of (slot.SpareInUse spare) = codes "3 spare=" ++ decimal spare
+slot_fault_of (slot.LogNotEmpty groups) = codes "4 groups=" ++ decimal groups
+slot_fault_of slot.LastArm = codes "5"
+slot_fault_of (slot.PassRunning metaslab number) = codes "6 metaslab=" ++ (decimal metaslab ++ (codes " number=" ++ decimal number))
+slot_fault_of (slot.TooSmall need have) = codes "7 need=" ++ (decimal need ++ (codes " have=" ++ decimal have))
+slot_fault_of (slot.Full arms) = codes "8 arms=" ++ decimal arms
+slot_fault_of slot.Last = codes "9"
 
-abbrev pub create_refused_of : SpecRefusal → List ℕ
-create_refused_of why = codes "create refused " ++ (spec_refusal_of why ++ codes "\n")
+abbrev pub create_refused_of : SpecFault → List ℕ
+create_refused_of why = codes "create refused " ++ (spec_fault_of why ++ codes "\n")
 
-abbrev pub slot_refused_of : CommandName → ℕ → SlotRefusal → List ℕ
+abbrev pub slot_refused_of : CommandName → ℕ → SlotFault → List ℕ
 slot_refused_of command number why =
-    name_text command ++ (codes " " ++ (decimal number ++ (codes " refused " ++ (slot_refusal_of why ++ codes "\n"))))
+    name_text command ++ (codes " " ++ (decimal number ++ (codes " refused " ++ (slot_fault_of why ++ codes "\n"))))
 
 -- why a `fill` stopped, in the words of a `write`
-abbrev pub fill_refusal_of : FillRefusal → List ℕ
-fill_refusal_of (fill.NoSpace run disabled full worn) =
+abbrev pub write_fault_of : WriteFault → List ℕ
+write_fault_of (fill.NoSpace run disabled full worn) =
     codes "no space run=" ++ (decimal run ++ (codes " disabled=" ++ (decimal disabled
     ++ (codes " full=" ++ (decimal full ++ (codes " worn=" ++ decimal worn))))))
-fill_refusal_of (fill.Missed columns) = codes "missed columns=" ++ decimal columns
-fill_refusal_of fill.Last = codes "last"
-fill_refusal_of fill.NoMemory = codes "no memory"
+write_fault_of (fill.Missed columns) = codes "missed columns=" ++ decimal columns
+write_fault_of fill.Last = codes "last"
+write_fault_of fill.NoMemory = codes "no memory"
 
-abbrev pub fill_refused_of : ℕ → ℕ → FillRefusal → List ℕ
+abbrev pub fill_refused_of : ℕ → ℕ → WriteFault → List ℕ
 fill_refused_of first written why =
-    codes "fill " ++ (decimal first ++ (codes " written=" ++ (decimal written ++ (codes " " ++ (fill_refusal_of why ++ codes "\n")))))
+    codes "fill " ++ (decimal first ++ (codes " written=" ++ (decimal written ++ (codes " " ++ (write_fault_of why ++ codes "\n")))))
 
 -- the line of an object's bytes
 abbrev pub contents_of : ℕ → List ℕ → List ℕ
@@ -73,13 +73,12 @@ summed_of first count digest =
     codes "sum " ++ (decimal first ++ (codes " " ++ (decimal count ++ (codes " " ++ (encode_lower digest ++ codes "\n")))))
 
 -- why an object of a `sum` gives no bytes, in the words of a `read`
-abbrev pub sum_refusal_of : SumRefusal → List ℕ
-sum_refusal_of sum.NoObject = codes "no object"
-sum_refusal_of (sum.Unreadable absent tried) = codes "unreadable absent=" ++ (decimal absent ++ (codes " tried=" ++ decimal tried))
-sum_refusal_of sum.Worn = codes "worn"
-
-abbrev pub sum_refused_of : ℕ → SumRefusal → List ℕ
-sum_refused_of object why = codes "sum " ++ (decimal object ++ (codes " " ++ (sum_refusal_of why ++ codes "\n")))
+abbrev pub sum_refused_of : ℕ → ObjectFault → List ℕ
+sum_refused_of object sum.NoObject = codes "sum " ++ (decimal object ++ codes " no object\n")
+sum_refused_of object (sum.Unreadable absent tried) =
+    codes "sum " ++ (decimal object ++ (codes " unreadable absent=" ++ (decimal absent ++ (codes " tried=" ++ (decimal tried ++ codes "\n")))))
+sum_refused_of object sum.Worn = codes "sum " ++ (decimal object ++ codes " worn\n")
+sum_refused_of object sum.NoMemory = codes "sum no memory\n"
 
 -- an arm as `detach` names it
 abbrev pub arm_of : ArmName → List ℕ
@@ -89,8 +88,8 @@ arm_of (Spare parity spare) = codes "draid" ++ (decimal parity ++ (codes "-0-" +
 abbrev pub detached_of : ArmName → ℕ → List ℕ
 detached_of arm group = codes "detach " ++ (arm_of arm ++ (codes " ok group=" ++ (decimal group ++ codes "\n")))
 
-abbrev pub detach_refused_of : ArmName → SlotRefusal → List ℕ
-detach_refused_of arm why = codes "detach " ++ (arm_of arm ++ (codes " refused " ++ (slot_refusal_of why ++ codes "\n")))
+abbrev pub detach_refused_of : ArmName → SlotFault → List ℕ
+detach_refused_of arm why = codes "detach " ++ (arm_of arm ++ (codes " refused " ++ (slot_fault_of why ++ codes "\n")))
 
 abbrev pub detach_stopped_of : ArmName → List ℕ → List ℕ
 detach_stopped_of arm words = codes "detach " ++ (arm_of arm ++ (codes " " ++ (words ++ codes "\n")))

@@ -1,13 +1,13 @@
 ghost use Rattle.std.specs.Prelude.{◌≡◌, IfOk, string_bytes};
 ghost use Rattle.draid_script.specs.Reply.{text_of};
 
-use crate::refusal::{FillRefusal, SlotRefusal, SpecRefusal, SumRefusal};
 use crate::texts::{
     contents, create_refused, detach_refused, detach_stopped, detached, fill_refused, name_said,
     rebalanced, rebuilt, scrubbed, slot_refused, sum_refused, summed,
 };
 use crate::{ArmName, CommandName};
-use draid_names::NoMemory;
+use draid_names::{NoMemory, ObjectFault, SlotFault, WriteFault};
+use draid_spec::SpecFault;
 use std::alloc::{AllocError, Global};
 
 /// The reply to a command.
@@ -32,7 +32,7 @@ pub enum Reply {
     },
     /// The spec or its keys are refused.
     CreateRefused {
-        why: SpecRefusal,
+        why: SpecFault,
     },
     /// A pool of this name and committed group was opened, with so many objects.
     Imported {
@@ -79,7 +79,7 @@ pub enum Reply {
     FillRefused {
         first: u64,
         written: u64,
-        why: FillRefusal,
+        why: WriteFault,
     },
     /// The object's bytes.
     Contents {
@@ -110,7 +110,7 @@ pub enum Reply {
     /// The first object of a `sum` that gives no bytes.
     SumRefused {
         object: u64,
-        why: SumRefusal,
+        why: ObjectFault,
     },
     /// The object has no bytes any more.
     Freed {
@@ -181,7 +181,7 @@ pub enum Reply {
     /// The slot gets no spare.
     SpareRefused {
         slot: u32,
-        why: SlotRefusal,
+        why: SlotFault,
     },
     /// A metaslab has too many events.
     SpareWorn {
@@ -195,7 +195,7 @@ pub enum Reply {
     /// The slot gets no new leaf.
     ReplaceRefused {
         slot: u32,
-        why: SlotRefusal,
+        why: SlotFault,
     },
     /// A metaslab has too many events.
     ReplaceWorn {
@@ -209,7 +209,7 @@ pub enum Reply {
     /// The arm stays in its slot.
     DetachRefused {
         arm: ArmName,
-        why: SlotRefusal,
+        why: SlotFault,
     },
     /// A metaslab has too many events.
     DetachWorn {
@@ -265,7 +265,7 @@ pub enum Reply {
     /// The slot stays as it is.
     RebalanceRefused {
         slot: u32,
-        why: SlotRefusal,
+        why: SlotFault,
     },
     /// A metaslab has too many events.
     RebalanceWorn {

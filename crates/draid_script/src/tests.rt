@@ -1,6 +1,6 @@
 use crate::{
-    ArmName, CommandName, FillRefusal, Lines, MemorySink, MemorySource, ParseFault, ReadFault,
-    Reply, Sink, SlotRefusal, SpecRefusal, SumRefusal, parse_lane, parse_line, reply_text,
+    ArmName, CommandName, WriteFault, Lines, MemorySink, MemorySource, ParseFault, ReadFault,
+    Reply, Sink, SlotFault, SpecFault, ObjectFault, parse_lane, parse_line, reply_text,
 };
 use draid_names::Failed;
 use std::fmt::Debug;
@@ -331,31 +331,31 @@ fn prints_replies_of_arms(rt: HostRuntime) -> Result<(), Fail> {
         ),
         (
             Reply::CreateRefused {
-                why: SpecRefusal::NotDraid,
+                why: SpecFault::NotDraid,
             },
             "create refused 1\n",
         ),
         (
             Reply::CreateRefused {
-                why: SpecRefusal::Parity,
+                why: SpecFault::Parity,
             },
             "create refused 2\n",
         ),
         (
             Reply::CreateRefused {
-                why: SpecRefusal::Number { at: 6 },
+                why: SpecFault::Number { at: 6 },
             },
             "create refused 3 at=6\n",
         ),
         (
             Reply::CreateRefused {
-                why: SpecRefusal::Repeated { letter: b'd' },
+                why: SpecFault::Repeated { letter: b'd' },
             },
             "create refused 4 letter=d\n",
         ),
         (
             Reply::CreateRefused {
-                why: SpecRefusal::Children {
+                why: SpecFault::Children {
                     said: 11,
                     given: 10,
                 },
@@ -364,7 +364,7 @@ fn prints_replies_of_arms(rt: HostRuntime) -> Result<(), Fail> {
         ),
         (
             Reply::CreateRefused {
-                why: SpecRefusal::Width { need: 10, have: 8 },
+                why: SpecFault::Width { need: 10, have: 8 },
             },
             "create refused 6 need=10 have=8\n",
         ),
@@ -380,7 +380,7 @@ fn prints_refusals(rt: HostRuntime) -> Result<(), Fail> {
     for (reply, want) in [
         (
             Reply::CreateRefused {
-                why: SpecRefusal::Limit {
+                why: SpecFault::Limit {
                     which: b'h',
                     value: 7,
                 },
@@ -391,7 +391,7 @@ fn prints_refusals(rt: HostRuntime) -> Result<(), Fail> {
             Reply::FillRefused {
                 first: 1,
                 written: 4,
-                why: FillRefusal::NoSpace {
+                why: WriteFault::NoSpace {
                     run: 1,
                     disabled: 2,
                     full: 3,
@@ -404,7 +404,7 @@ fn prints_refusals(rt: HostRuntime) -> Result<(), Fail> {
             Reply::FillRefused {
                 first: 1,
                 written: 4,
-                why: FillRefusal::Missed { columns: 2 },
+                why: WriteFault::Missed { columns: 2 },
             },
             "fill 1 written=4 missed columns=2\n",
         ),
@@ -412,7 +412,7 @@ fn prints_refusals(rt: HostRuntime) -> Result<(), Fail> {
             Reply::FillRefused {
                 first: 1,
                 written: 4,
-                why: FillRefusal::Last,
+                why: WriteFault::Last,
             },
             "fill 1 written=4 last\n",
         ),
@@ -420,21 +420,21 @@ fn prints_refusals(rt: HostRuntime) -> Result<(), Fail> {
             Reply::FillRefused {
                 first: 1,
                 written: 4,
-                why: FillRefusal::NoMemory,
+                why: WriteFault::NoMemory,
             },
             "fill 1 written=4 no memory\n",
         ),
         (
             Reply::SumRefused {
                 object: 7,
-                why: SumRefusal::NoObject,
+                why: ObjectFault::NoObject,
             },
             "sum 7 no object\n",
         ),
         (
             Reply::SumRefused {
                 object: 7,
-                why: SumRefusal::Unreadable {
+                why: ObjectFault::Unreadable {
                     absent: 1,
                     tried: 2,
                 },
@@ -444,49 +444,49 @@ fn prints_refusals(rt: HostRuntime) -> Result<(), Fail> {
         (
             Reply::SumRefused {
                 object: 7,
-                why: SumRefusal::Worn,
+                why: ObjectFault::Worn,
             },
             "sum 7 worn\n",
         ),
         (
             Reply::SpareRefused {
                 slot: 4,
-                why: SlotRefusal::NoSuch,
+                why: SlotFault::NoSuch,
             },
             "spare 4 refused 1\n",
         ),
         (
             Reply::ReplaceRefused {
                 slot: 4,
-                why: SlotRefusal::SpareBusy { by: 3 },
+                why: SlotFault::SpareBusy { by: 3 },
             },
             "replace 4 refused 2 by=3\n",
         ),
         (
             Reply::RebalanceRefused {
                 slot: 4,
-                why: SlotRefusal::SpareInUse { spare: 0 },
+                why: SlotFault::SpareInUse { spare: 0 },
             },
             "rebalance 4 refused 3 spare=0\n",
         ),
         (
             Reply::SpareRefused {
                 slot: 4,
-                why: SlotRefusal::LogNotEmpty { groups: 8 },
+                why: SlotFault::LogNotEmpty { groups: 8 },
             },
             "spare 4 refused 4 groups=8\n",
         ),
         (
             Reply::ReplaceRefused {
                 slot: 4,
-                why: SlotRefusal::LastArm,
+                why: SlotFault::LastArm,
             },
             "replace 4 refused 5\n",
         ),
         (
             Reply::RebalanceRefused {
                 slot: 4,
-                why: SlotRefusal::PassRunning {
+                why: SlotFault::PassRunning {
                     metaslab: 0,
                     number: 1,
                 },
@@ -496,7 +496,7 @@ fn prints_refusals(rt: HostRuntime) -> Result<(), Fail> {
         (
             Reply::SpareRefused {
                 slot: 4,
-                why: SlotRefusal::TooSmall {
+                why: SlotFault::TooSmall {
                     need: 1536,
                     have: 100,
                 },
@@ -506,21 +506,21 @@ fn prints_refusals(rt: HostRuntime) -> Result<(), Fail> {
         (
             Reply::ReplaceRefused {
                 slot: 4,
-                why: SlotRefusal::Full { arms: 3 },
+                why: SlotFault::Full { arms: 3 },
             },
             "replace 4 refused 8 arms=3\n",
         ),
         (
             Reply::RebalanceRefused {
                 slot: 4,
-                why: SlotRefusal::Last,
+                why: SlotFault::Last,
             },
             "rebalance 4 refused 9\n",
         ),
         (
             Reply::DetachRefused {
                 arm: ArmName::Leaf { leaf: 3 },
-                why: SlotRefusal::LastArm,
+                why: SlotFault::LastArm,
             },
             "detach 3 refused 5\n",
         ),

@@ -1,8 +1,9 @@
 ghost use Rattle.std.specs.Prelude.{◌≡◌, ◌++◌, IfOk, codes, string_bytes};
-ghost use Rattle.draid_script.specs.Reply.{arm_of, contents_of, create_refused_of, detach_refused_of, detach_stopped_of, detached_of, fill_refusal_of, fill_refused_of, others_of, pause_of, rebalanced_of, rebuilt_of, said_of, scrubbed_of, slot_refusal_of, slot_refused_of, spec_refusal_of, sum_refusal_of, sum_refused_of, summed_of};
+ghost use Rattle.draid_script.specs.Reply.{arm_of, contents_of, create_refused_of, detach_refused_of, detach_stopped_of, detached_of, write_fault_of, fill_refused_of, others_of, pause_of, rebalanced_of, rebuilt_of, said_of, scrubbed_of, slot_fault_of, slot_refused_of, spec_fault_of, sum_refused_of, summed_of};
 
-use crate::refusal::{FillRefusal, SlotRefusal, SpecRefusal, SumRefusal};
 use crate::{ArmName, CommandName};
+use draid_names::{ObjectFault, SlotFault, WriteFault};
+use draid_spec::SpecFault;
 use std::alloc::{AllocError, Global};
 
 /// The first word of a command, and what is said of it.
@@ -13,28 +14,28 @@ pub fn name_said(alloc: Global, command: CommandName, words: &str) -> Result<Str
     format!(in alloc; "{name}{words}\n")
 }
 
-pub fn create_refused(alloc: Global, why: SpecRefusal) -> Result<String, AllocError>
+pub fn create_refused(alloc: Global, why: SpecFault) -> Result<String, AllocError>
     ensures { IfOk result (λ text. string_bytes text ≡ create_refused_of why) }
 {
-    let why = spec_refusal(alloc, why)?;
+    let why = spec_fault(alloc, why)?;
     format!(in alloc; "create refused {why}\n")
 }
 
 /// The number of a refusal, and its values.
-fn spec_refusal(alloc: Global, why: SpecRefusal) -> Result<String, AllocError>
-    ensures { IfOk result (λ text. string_bytes text ≡ spec_refusal_of why) }
+fn spec_fault(alloc: Global, why: SpecFault) -> Result<String, AllocError>
+    ensures { IfOk result (λ text. string_bytes text ≡ spec_fault_of why) }
 {
     match why {
-        SpecRefusal::NotDraid => String::from_str(alloc, "1"),
-        SpecRefusal::Parity => String::from_str(alloc, "2"),
-        SpecRefusal::Number { at } => format!(in alloc; "3 at={at}"),
-        SpecRefusal::Repeated { letter } => {
+        SpecFault::NotDraid => String::from_str(alloc, "1"),
+        SpecFault::Parity => String::from_str(alloc, "2"),
+        SpecFault::Number { at } => format!(in alloc; "3 at={at}"),
+        SpecFault::Repeated { letter } => {
             let letter = char::from(letter);
             format!(in alloc; "4 letter={letter}")
         }
-        SpecRefusal::Children { said, given } => format!(in alloc; "5 said={said} given={given}"),
-        SpecRefusal::Width { need, have } => format!(in alloc; "6 need={need} have={have}"),
-        SpecRefusal::Limit { which, value } => {
+        SpecFault::Children { said, given } => format!(in alloc; "5 said={said} given={given}"),
+        SpecFault::Width { need, have } => format!(in alloc; "6 need={need} have={have}"),
+        SpecFault::Limit { which, value } => {
             let which = char::from(which);
             format!(in alloc; "7 which={which} value={value}")
         }
@@ -45,31 +46,31 @@ pub fn slot_refused(
     alloc: Global,
     command: CommandName,
     slot: u32,
-    why: SlotRefusal,
+    why: SlotFault,
 ) -> Result<String, AllocError>
     ensures { IfOk result (λ text. string_bytes text ≡ slot_refused_of command slot why) }
 {
     let name = command.text();
-    let why = slot_refusal(alloc, why)?;
+    let why = slot_fault(alloc, why)?;
     format!(in alloc; "{name} {slot} refused {why}\n")
 }
 
 /// The number of a refusal, and its values.
-fn slot_refusal(alloc: Global, why: SlotRefusal) -> Result<String, AllocError>
-    ensures { IfOk result (λ text. string_bytes text ≡ slot_refusal_of why) }
+fn slot_fault(alloc: Global, why: SlotFault) -> Result<String, AllocError>
+    ensures { IfOk result (λ text. string_bytes text ≡ slot_fault_of why) }
 {
     match why {
-        SlotRefusal::NoSuch => String::from_str(alloc, "1"),
-        SlotRefusal::SpareBusy { by } => format!(in alloc; "2 by={by}"),
-        SlotRefusal::SpareInUse { spare } => format!(in alloc; "3 spare={spare}"),
-        SlotRefusal::LogNotEmpty { groups } => format!(in alloc; "4 groups={groups}"),
-        SlotRefusal::LastArm => String::from_str(alloc, "5"),
-        SlotRefusal::PassRunning { metaslab, number } => {
+        SlotFault::NoSuch => String::from_str(alloc, "1"),
+        SlotFault::SpareBusy { by } => format!(in alloc; "2 by={by}"),
+        SlotFault::SpareInUse { spare } => format!(in alloc; "3 spare={spare}"),
+        SlotFault::LogNotEmpty { groups } => format!(in alloc; "4 groups={groups}"),
+        SlotFault::LastArm => String::from_str(alloc, "5"),
+        SlotFault::PassRunning { metaslab, number } => {
             format!(in alloc; "6 metaslab={metaslab} number={number}")
         }
-        SlotRefusal::TooSmall { need, have } => format!(in alloc; "7 need={need} have={have}"),
-        SlotRefusal::Full { arms } => format!(in alloc; "8 arms={arms}"),
-        SlotRefusal::Last => String::from_str(alloc, "9"),
+        SlotFault::TooSmall { need, have } => format!(in alloc; "7 need={need} have={have}"),
+        SlotFault::Full { arms } => format!(in alloc; "8 arms={arms}"),
+        SlotFault::Last => String::from_str(alloc, "9"),
     }
 }
 
@@ -77,28 +78,28 @@ pub fn fill_refused(
     alloc: Global,
     first: u64,
     written: u64,
-    why: FillRefusal,
+    why: WriteFault,
 ) -> Result<String, AllocError>
     ensures { IfOk result (λ text. string_bytes text ≡ fill_refused_of first written why) }
 {
-    let why = fill_refusal(alloc, why)?;
+    let why = write_fault(alloc, why)?;
     format!(in alloc; "fill {first} written={written} {why}\n")
 }
 
 /// Why a `fill` stopped, in the words of a `write`.
-fn fill_refusal(alloc: Global, why: FillRefusal) -> Result<String, AllocError>
-    ensures { IfOk result (λ text. string_bytes text ≡ fill_refusal_of why) }
+fn write_fault(alloc: Global, why: WriteFault) -> Result<String, AllocError>
+    ensures { IfOk result (λ text. string_bytes text ≡ write_fault_of why) }
 {
     match why {
-        FillRefusal::NoSpace {
+        WriteFault::NoSpace {
             run,
             disabled,
             full,
             worn,
         } => { format!(in alloc; "no space run={run} disabled={disabled} full={full} worn={worn}") }
-        FillRefusal::Missed { columns } => format!(in alloc; "missed columns={columns}"),
-        FillRefusal::Last => String::from_str(alloc, "last"),
-        FillRefusal::NoMemory => String::from_str(alloc, "no memory"),
+        WriteFault::Missed { columns } => format!(in alloc; "missed columns={columns}"),
+        WriteFault::Last => String::from_str(alloc, "last"),
+        WriteFault::NoMemory => String::from_str(alloc, "no memory"),
     }
 }
 
@@ -122,23 +123,17 @@ pub fn summed(
     format!(in alloc; "sum {first} {count} {digits}\n")
 }
 
-pub fn sum_refused(alloc: Global, object: u64, why: SumRefusal) -> Result<String, AllocError>
+/// Why an object of a `sum` gives no bytes, in the words of a `read`.
+pub fn sum_refused(alloc: Global, object: u64, why: ObjectFault) -> Result<String, AllocError>
     ensures { IfOk result (λ text. string_bytes text ≡ sum_refused_of object why) }
 {
-    let why = sum_refusal(alloc, why)?;
-    format!(in alloc; "sum {object} {why}\n")
-}
-
-/// Why an object of a `sum` gives no bytes, in the words of a `read`.
-fn sum_refusal(alloc: Global, why: SumRefusal) -> Result<String, AllocError>
-    ensures { IfOk result (λ text. string_bytes text ≡ sum_refusal_of why) }
-{
     match why {
-        SumRefusal::NoObject => String::from_str(alloc, "no object"),
-        SumRefusal::Unreadable { absent, tried } => {
-            format!(in alloc; "unreadable absent={absent} tried={tried}")
+        ObjectFault::NoObject => format!(in alloc; "sum {object} no object\n"),
+        ObjectFault::Unreadable { absent, tried } => {
+            format!(in alloc; "sum {object} unreadable absent={absent} tried={tried}\n")
         }
-        SumRefusal::Worn => String::from_str(alloc, "worn"),
+        ObjectFault::Worn => format!(in alloc; "sum {object} worn\n"),
+        ObjectFault::NoMemory => format!(in alloc; "sum no memory\n"),
     }
 }
 
@@ -149,11 +144,11 @@ pub fn detached(alloc: Global, arm: ArmName, group: u64) -> Result<String, Alloc
     format!(in alloc; "detach {arm} ok group={group}\n")
 }
 
-pub fn detach_refused(alloc: Global, arm: ArmName, why: SlotRefusal) -> Result<String, AllocError>
+pub fn detach_refused(alloc: Global, arm: ArmName, why: SlotFault) -> Result<String, AllocError>
     ensures { IfOk result (λ text. string_bytes text ≡ detach_refused_of arm why) }
 {
     let arm = arm_text(alloc, arm)?;
-    let why = slot_refusal(alloc, why)?;
+    let why = slot_fault(alloc, why)?;
     format!(in alloc; "detach {arm} refused {why}\n")
 }
 

@@ -7,7 +7,7 @@ use Rattle.draid_rack.specs.Rack.{Told}
 use Rattle.draid_rack.specs.Moments as rack
 use Rattle.draid_area.specs.Area.{Content}
 use Rattle.draid_area.specs.Moments as area
-use Rattle.draid_shelf.specs.declared.kit.ShelfFault.{ShelfFault}
+use Rattle.draid_names.specs.declared.fault.DeviceFault.{DeviceFault}
 use Rattle.draid_shelf.specs.Shelf.{sectors_of}
 
 -- what the devices of a metaslab tell
@@ -89,16 +89,16 @@ pub record IsUncounted (counts : KitCounts) : Type 0 where
   pub no_odd : counts.odd ≡ 0
 
 -- The shelf's count doesn't fall, and where the answer is that it failed, it rose.
-pub record ShelfCounts {T : Type 0} (result : Result T ShelfFault) (before now : ℕ) : Type 0 where
+pub record ShelfCounts {T : Type 0} (result : Result T DeviceFault) (before now : ℕ) : Type 0 where
   pub later : before ≤ now
-  pub cause : IsErrOf result ShelfFault.Failed → Rose before now
+  pub cause : IsErrOf result DeviceFault.Failed → Rose before now
 
 -- what isn't held is refused, as a failure of the shelf
-abbrev pub NeedsKit : {T : Type 0} → ℕ → Result T ShelfFault → Option Held → Type 0
-NeedsKit m result told = OnHeld told (λ held. held.kits m ≡ None → IsErrOf result ShelfFault.Failed)
+abbrev pub NeedsKit : {T : Type 0} → ℕ → Result T DeviceFault → Option Held → Type 0
+NeedsKit m result told = OnHeld told (λ held. held.kits m ≡ None → IsErrOf result DeviceFault.Failed)
 
-abbrev pub NeedsUber : {T : Type 0} → Result T ShelfFault → Option Held → Type 0
-NeedsUber result told = OnHeld told (λ held. held.uber ≡ None → IsErrOf result ShelfFault.Failed)
+abbrev pub NeedsUber : {T : Type 0} → Result T DeviceFault → Option Held → Type 0
+NeedsUber result told = OnHeld told (λ held. held.uber ≡ None → IsErrOf result DeviceFault.Failed)
 
 -- the devices of a metaslab after a crash
 pub record CrashedKit (x y : KitTold) : Type 0 where

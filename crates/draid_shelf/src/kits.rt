@@ -9,19 +9,20 @@ ghost use Rattle.draid_shelf.specs.Kits.{FailsJust, IsNewPool, IsUncounted, Need
 ghost use Rattle.draid_shelf.specs.Memory.{HoldsKit, area_count, content_of, held_by, kit_counts, shape_at};
 
 use crate::devices::Devices;
-use crate::kit::{Kit, ShelfFault};
+use crate::kit::Kit;
 use crate::memory::MemoryShelf;
 use crate::places::{
     UBER, area_of, areas_of, crash_area, crash_areas, crash_racks, put_on, racks_of, take_from,
 };
 use crate::shelf::{METASLABS, Shelf};
 use draid_area::MemoryArea;
+use draid_names::DeviceFault;
 use draid_rack::MemoryRack;
 use draid_spec::Geometry;
 use std::alloc::Global;
 
 impl Shelf for MemoryShelf {
-    ghost use Rattle.draid_shelf.specs.declared.kit.ShelfFault.{ShelfFault};
+    ghost use Rattle.draid_names.specs.declared.fault.DeviceFault.{DeviceFault};
     ghost use Rattle.draid_shelf.specs.Failing.{calls_of, told_of, uber_size_of};
 
     type R = MemoryRack;
@@ -44,7 +45,7 @@ impl Shelf for MemoryShelf {
         self.devices.uber.is_some()
     }
 
-    fn make(&mut self, alloc: Global, geometry: &Geometry) -> Result<(), ShelfFault>
+    fn make(&mut self, alloc: Global, geometry: &Geometry) -> Result<(), DeviceFault>
         requires { IsGeometry geometry.now }
         ensures told { OnOk result (IsNewPool geometry.now (held_by self.new.devices)) }
         ensures leaves { OnOk result ((m : ℕ) → m < geometry.now.props.metaslabs
@@ -55,8 +56,8 @@ impl Shelf for MemoryShelf {
         ensures uber_count { OnOk result (area_count self.new.devices.uber ≡ 0) }
         ensures err { OnErr result (told_of self.new ≡ told_of self.old) }
         ensures cause { ShelfCounts result self.old.faults self.new.faults }
-        ensures risen { CountsJust (IsErrOf result ShelfFault.Failed) self.old.faults self.new.faults }
-        ensures exact { FailsJust ⊤ (IsErrOf result ShelfFault.Failed) (calls_of self.old) (calls_of self.new) }
+        ensures risen { CountsJust (IsErrOf result DeviceFault.Failed) self.old.faults self.new.faults }
+        ensures exact { FailsJust ⊤ (IsErrOf result DeviceFault.Failed) (calls_of self.old) (calls_of self.new) }
     {
         if self.calls.fails() {
             return Err(self.failed());
@@ -75,7 +76,7 @@ impl Shelf for MemoryShelf {
         Ok(())
     }
 
-    fn take_uber(&mut self) -> Result<MemoryArea, ShelfFault>
+    fn take_uber(&mut self) -> Result<MemoryArea, DeviceFault>
         ensures area { IfOk result (λ area. device.told_by_memory area ≡ content_of self.old.devices.uber) }
         ensures told { OnOk result (told_of self.new ≡ takes_uber (told_of self.old)) }
         ensures size { IfOk result (λ area. MatchOption (uber_size_of self.old) ⊤ (λ n. size_of_memory area ≡ n)) }
@@ -85,9 +86,9 @@ impl Shelf for MemoryShelf {
         ensures err { OnErr result (told_of self.new ≡ told_of self.old) }
         ensures needs { NeedsUber result (told_of self.old) }
         ensures cause { ShelfCounts result self.old.faults self.new.faults }
-        ensures device { IsErr result → IsErrOf result ShelfFault.Failed }
-        ensures risen { CountsJust (IsErrOf result ShelfFault.Failed) self.old.faults self.new.faults }
-        ensures exact { FailsJust (IsSome self.old.devices.uber) (IsErrOf result ShelfFault.Failed) (calls_of self.old)
+        ensures device { IsErr result → IsErrOf result DeviceFault.Failed }
+        ensures risen { CountsJust (IsErrOf result DeviceFault.Failed) self.old.faults self.new.faults }
+        ensures exact { FailsJust (IsSome self.old.devices.uber) (IsErrOf result DeviceFault.Failed) (calls_of self.old)
             (calls_of self.new) }
     {
         let is_missing = self.devices.uber.is_none();
@@ -104,7 +105,7 @@ impl Shelf for MemoryShelf {
         &mut self,
         metaslab: u32,
         geometry: &Geometry,
-    ) -> Result<Kit<MemoryRack, MemoryArea>, ShelfFault>
+    ) -> Result<Kit<MemoryRack, MemoryArea>, DeviceFault>
         ensures sectors { IfOk result (λ kit. (shape_of_memory kit.rack).bytes ≡ geometry.now.props.sector) }
         ensures leaves { IfOk result (λ kit.
             IsKnown (shape_at self.old.devices.racks metaslab) (shape_of_memory kit.rack)) }
@@ -125,10 +126,10 @@ impl Shelf for MemoryShelf {
         ensures err { OnErr result (told_of self.new ≡ told_of self.old) }
         ensures needs { NeedsKit metaslab result (told_of self.old) }
         ensures cause { ShelfCounts result self.old.faults self.new.faults }
-        ensures device { IsErr result → IsErrOf result ShelfFault.Failed }
-        ensures risen { CountsJust (IsErrOf result ShelfFault.Failed) self.old.faults self.new.faults }
+        ensures device { IsErr result → IsErrOf result DeviceFault.Failed }
+        ensures risen { CountsJust (IsErrOf result DeviceFault.Failed) self.old.faults self.new.faults }
         ensures exact { FailsJust (HoldsKit self.old.devices metaslab geometry.now.props.sector)
-            (IsErrOf result ShelfFault.Failed) (calls_of self.old) (calls_of self.new) }
+            (IsErrOf result DeviceFault.Failed) (calls_of self.old) (calls_of self.new) }
     {
         if self.calls.fails() || !self.holds(metaslab, geometry.props.sector) {
             return Err(self.failed());

@@ -13,7 +13,8 @@ mod shelf;
 #[cfg(test)]
 mod tests;
 
-pub use kit::{Kit, ShelfFault};
+pub use draid_names::DeviceFault;
+pub use kit::Kit;
 pub use memory::MemoryShelf;
 pub use racks::RackShelf;
 pub use shelf::{METASLABS, Shelf};

@@ -4,13 +4,12 @@ ghost use Rattle.draid_faults.specs.Calls.{failing_calls, is_fused, next_call};
 ghost use Rattle.draid_shelf.specs.Memory.{HoldsKit, counts_at, held_at, held_by, shape_at};
 
 use crate::devices::Devices;
-use crate::kit::ShelfFault;
 use crate::places::{empty_places, fuse_areas, fuse_racks, racks_of};
 use crate::plan::Plan;
 use crate::racks::RackShelf;
 use crate::shelf::METASLABS;
 use draid_faults::{Calls, CrashRule, Fuse};
-use draid_names::NoMemory;
+use draid_names::{DeviceFault, NoMemory};
 use draid_rack::MemoryRack;
 use draid_spec::Geometry;
 use std::alloc::{AllocError, Global};
@@ -30,7 +29,7 @@ pub struct MemoryShelf {
 }
 
 impl MemoryShelf {
-    ghost use Rattle.draid_shelf.specs.declared.kit.ShelfFault.{ShelfFault};
+    ghost use Rattle.draid_names.specs.declared.fault.DeviceFault.{DeviceFault};
     ghost use Rattle.draid_shelf.specs.Failing.{calls_of, held_by_memory, shelf_failing};
 
     /// An empty shelf. Of each rack that it makes, the calls with the numbers in `failing` fail. A crash leaves what was
@@ -91,8 +90,8 @@ impl MemoryShelf {
     }
 
     /// Counts a failure of the shelf itself.
-    pub(crate) fn failed(&mut self) -> ShelfFault
-        ensures fault { result ≡ ShelfFault.Failed }
+    pub(crate) fn failed(&mut self) -> DeviceFault
+        ensures fault { result ≡ DeviceFault.Failed }
         ensures rose { Rose self.old.faults self.new.faults }
         ensures later { self.old.faults ≤ self.new.faults }
         ensures risen { self.new.faults ≡ min (self.old.faults + 1) (2 ^ 64 - 1) }
@@ -100,7 +99,7 @@ impl MemoryShelf {
         ensures calls { self.new.calls ≡ self.old.calls }
     {
         self.faults = self.faults.saturating_add(1);
-        ShelfFault::Failed
+        DeviceFault::Failed
     }
 
     /// Whether the devices of a metaslab are held, with sectors of this length.

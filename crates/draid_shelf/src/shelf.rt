@@ -4,8 +4,9 @@ ghost use Rattle.draid_rack.specs.Rack.{Shape};
 ghost use Rattle.draid_shelf.specs.Shelf.{HasLeavesOf, IsKnown, SameOthers, most_metaslabs};
 ghost use Rattle.draid_shelf.specs.Kits.{Both, CrashedHeld, Held, IsNewPool, IsUncounted, KitCounts, NeedsKit, NeedsUber, OnHeld, ShelfCounts, gives_kit, gives_uber, kit_of, takes_kit, takes_uber, uber_bytes};
 
-use crate::kit::{Kit, ShelfFault};
+use crate::kit::Kit;
 use draid_area::Area;
+use draid_names::DeviceFault;
 use draid_rack::Rack;
 use draid_spec::Geometry;
 use std::alloc::Global;
@@ -42,7 +43,7 @@ pub trait Shelf {
 
     /// Makes the devices of a new pool: leaves of zeros, empty areas of records, and the area of the uberblock, of 1,024
     /// zero bytes. An earlier pool is given up.
-    fn make(&mut self, alloc: Global, geometry: &Geometry) -> Result<(), ShelfFault>
+    fn make(&mut self, alloc: Global, geometry: &Geometry) -> Result<(), DeviceFault>
         requires { IsGeometry geometry.now }
         ensures told { OnOk result (OnHeld (told self.new) (IsNewPool geometry.now)) }
         ensures leaves { OnOk result ((m : ℕ) → m < geometry.now.props.metaslabs
@@ -55,7 +56,7 @@ pub trait Shelf {
         ensures cause { ShelfCounts result (faults self.old) (faults self.new) };
 
     /// Takes the area of the uberblock.
-    fn take_uber(&mut self) -> Result<Self::A, ShelfFault>
+    fn take_uber(&mut self) -> Result<Self::A, DeviceFault>
         ensures area { IfOk result (λ area. OnHeld (told self.old) (λ held. Self.A.told area ≡ held.uber)) }
         ensures told { OnOk result (told self.new ≡ takes_uber (told self.old)) }
         ensures size { IfOk result (λ area. MatchOption (uber_size self.old) ⊤ (λ n. Self.A.size area ≡ n)) }
@@ -71,7 +72,7 @@ pub trait Shelf {
         &mut self,
         metaslab: u32,
         geometry: &Geometry,
-    ) -> Result<Kit<Self::R, Self::A>, ShelfFault>
+    ) -> Result<Kit<Self::R, Self::A>, DeviceFault>
         ensures sectors { IfOk result (λ kit. (Self.R.shape kit.rack).bytes ≡ geometry.now.props.sector) }
         ensures leaves { IfOk result (λ kit. IsKnown (leaves self.old metaslab) (Self.R.shape kit.rack)) }
         ensures kit { IfOk result (λ kit. OnHeld (told self.old) (λ held.

@@ -1,8 +1,8 @@
 use Rattle.std.specs.Prelude.{◌≡◌, ◌≢◌, ◌<◌, ◌≤◌, ◌⊎◌, ℕ, true, false, Some, List, [], length, remove, slice_index_or}
 use Rattle.draid_names.specs.declared.arm.Arm.{Arm}
 use Rattle.draid_names.specs.declared.arm.ArmAt.{ArmAt}
-use Rattle.draid_slots.specs.declared.fault.SlotFault.{SlotFault}
-use Rattle.draid_slots.specs.declared.fault.SlotFault.TheVariants.{NoSuch, SpareBusy, SpareInUse, LogNotEmpty, LastArm, PassRunning, TooSmall, Full, Last}
+use Rattle.draid_names.specs.declared.refusal.SlotFault.{SlotFault}
+use Rattle.draid_names.specs.declared.refusal.SlotFault.TheVariants.{NoSuch, SpareBusy, SpareInUse, LogNotEmpty, LastArm, PassRunning, TooSmall, Full, Last}
 use Rattle.draid_ranges.specs.Numbers.{Numbers}
 use Rattle.draid_slots.specs.Table.{SlotTable, IsThere, arm_at, arms_of, count_at, count_of, no_log, has_leaf, has_spare, holds_spare, is_leaf, is_spare_kind}
 

@@ -2,7 +2,6 @@
 
 #![tactic(auto)]
 
-mod fault;
 mod laws;
 mod lists;
 mod slot;
@@ -10,7 +9,7 @@ mod slots;
 #[cfg(test)]
 mod tests;
 
-pub use fault::SlotFault;
+pub use draid_names::SlotFault;
 pub use laws::spares_lie_by_the_layout;
 pub use slot::{Detached, ReadArm};
 pub use slots::Slots;

@@ -10,7 +10,6 @@ ghost use Rattle.draid_slots.specs.Faults.{IsAttachRefused, IsDetachRefused, IsL
 ghost use Rattle.draid_slots.specs.Reading.{IsFirst, IsNone, IsRead, answers, answers_in, holder, is_clean_in, sectors_of, slice_of};
 ghost use Rattle.draid_slots.specs.Table.{AreKept, AreSlots, IsPaired, IsThere, SlotTable, arms_listed, arms_of, holds_spare, is_leaving, is_logged, log_at, logs_listed, next_room, room_at, table_of};
 
-use crate::SlotFault;
 use crate::lists::{
     is_elsewhere, last_slot_of, new_slots, reserve_next, reserve_slots, slot_with, slots_of,
     switch_all,
@@ -20,7 +19,7 @@ use crate::slot::{
     remove_arm,
 };
 use draid_dtl::Log;
-use draid_names::{Arm, ArmAt, ArmKind, At, NoMemory};
+use draid_names::{Arm, ArmAt, ArmKind, At, NoMemory, SlotFault};
 use draid_perm::Perms;
 use draid_spec::Geometry;
 use std::alloc::Global;

@@ -4,7 +4,7 @@ use Rattle.draid_block.specs.declared.solve.Fetched.{Fetched}
 use Rattle.draid_pool.specs.Batches.{BatchIs}
 use Rattle.draid_pool.specs.Pool.{Moves, state_of}
 use Rattle.draid_pool.specs.declared.batch.Batch.{Batch}
-use Rattle.draid_pool.specs.declared.fault.ObjectFault.TheVariants.{NoMemory}
+use Rattle.draid_names.specs.declared.refusal.ObjectFault.TheVariants.{NoMemory}
 use Rattle.draid_pool.specs.declared.pool.Pool.{Pool}
 use Rattle.draid_pool.proofs.Batches.{fetching_done, fetching_ends, fetching_more, unkept}
 use Rattle.draid_pool.proofs.batch.fetch_batch.Goals as goal

@@ -16,8 +16,8 @@ pub returns-in-Err-Spec : goal.returns-in-Err-Spec
 returns-in-Err-Spec g c = record {
   turned = λ changes desk.
       at_closed g.H.R.Rack.shape g.H.R.Rack.told g.H.R.Rack.faults c.args.pool.now changes _ _ c.open_pool.new.pool (sym c.is_some.ensures ∙ c.if-is_some.false)
-      (refused g.H.R.Rack.shape g.H.R.Rack.told g.H.R.Rack.faults c.args.text.now c.args.children c.args.keys c.in-Ok.spec c.in-Err-Spec.fault c.refusal-in-Err-Spec.result c.open_pool.result c.open_pool.new.pool
-      (sym c.parse_spec.ensures.exact ∙ c.in-Ok.is) (c.in-Err-Spec.is ∙ ap Err c.in-Err-Spec.field-0-is) c.refusal-in-Err-Spec.ensures
+      (refused g.H.R.Rack.shape g.H.R.Rack.told g.H.R.Rack.faults c.args.text.now c.args.children c.args.keys c.in-Ok.spec c.in-Err-Spec.why c.open_pool.result c.open_pool.new.pool
+      (sym c.parse_spec.ensures.exact ∙ c.in-Ok.is) (c.in-Err-Spec.is ∙ ap Err c.in-Err-Spec.field-0-is)
       (subst (λ (p : Props). OpensBy g.H.R.Rack.shape g.H.R.Rack.told g.H.R.Rack.faults c.in-Ok.spec p c.open_pool.result c.open_pool.new.pool) c.props.ensures c.open_pool.ensures.opened));
 }
 

@@ -15,7 +15,7 @@ returns-in-Err g c =
     record {
       step = λ changes rep. (let m = c.loop-written.invariant.filled changes rep in
           fill_stopped g.R.Rack.shape g.R.Rack.told g.R.Rack.faults (FnReturnsAt g.F.Fn c.args.chooser.now) c.args.first c.args.len c.args.seed _ c.loop-written.pool c.write.new.self
-          c.loop-written.written c.deref.result.now c.write.result is m (c.write.ensures.step m.changes m.represents) c.args.count c.in-Err.fault c.refusal.result c.in-Err.is c.refusal.ensures
+          c.loop-written.written c.deref.result.now c.write.result is m (c.write.ensures.step m.changes m.represents) c.args.count c.in-Err.why c.in-Err.is
           c.loop-written-test.true);
     }
 

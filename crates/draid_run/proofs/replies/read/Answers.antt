@@ -23,6 +23,13 @@ returns-in-Err-Unreadable g c = record {
       (λ x y w. (refl, w.0, w.1)) (c.read.ensures.step changes is);
 }
 
+pub returns-in-Err-Worn : goal.returns-in-Err-Worn
+returns-in-Err-Worn g c = record {
+  step = λ changes is.
+      by_answer g.R.Rack.shape g.R.Rack.told g.R.Rack.faults (λ r. ReadIs c.args.object r) _ _ _ c.read.result _ (c.in-Err-Worn.is ∙ ap Err c.in-Err-Worn.field-0-is)
+      (λ x y w. absurd w.0) (c.read.ensures.step changes is);
+}
+
 pub returns-in-Err-NoMemory : goal.returns-in-Err-NoMemory
 returns-in-Err-NoMemory g c = record {
   step = λ changes is.

@@ -1,9 +1,6 @@
-use Rattle.std.proofs.Common.{Err, refl}
-use Rattle.draid_script.specs.Line.{SumObjects}
+use Rattle.std.proofs.Common.{◌∙◌, Err, ap, refl}
 use Rattle.draid_pool.specs.Answers.{SumIs}
-use Rattle.draid_run.specs.Replies.{sum_refused}
-use Rattle.draid_run.specs.State.{Plain}
-use Rattle.draid_run.proofs.Steps.{by_answer, stops}
+use Rattle.draid_run.proofs.Steps.{by_answer}
 use Rattle.draid_run.proofs.replies.sum.Goals as goal
 
 pub returns-in-Ok : goal.returns-in-Ok
@@ -15,7 +12,5 @@ returns-in-Ok g c = record {
 pub returns-in-Err : goal.returns-in-Err
 returns-in-Err g c = record {
   step = λ changes is.
-      rw c.refuse_sum.ensures
-      (by_answer g.R.Rack.shape g.R.Rack.told g.R.Rack.faults (λ r. SumIs c.args.first c.args.count r) (Plain (SumObjects c.args.first c.args.count) (sum_refused c.in-Err.fault.object c.in-Err.fault.why)) _ _ c.sum.result
-      (Err c.in-Err.fault) c.in-Err.is (λ x y w. stops c.args.first c.args.count c.in-Err.fault.object c.in-Err.fault.why x y w) (c.sum.ensures.step changes is));
+      by_answer g.R.Rack.shape g.R.Rack.told g.R.Rack.faults (λ r. SumIs c.args.first c.args.count r) _ _ _ c.sum.result _ (c.in-Err.is ∙ ap Err c.in-Err.field-0-is) (λ x y w. w) (c.sum.ensures.step changes is);
 }

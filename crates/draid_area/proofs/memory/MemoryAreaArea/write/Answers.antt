@@ -1,10 +1,10 @@
 use Rattle.std.proofs.Common.{rules, refl, ap, ◌∙◌, ◌∷◌, [], length}
 use Rattle.std.proofs.lemmas.Slice.{pushed}
 use Rattle.draid_area.specs.Cells.{covers}
-use Rattle.draid_area.specs.declared.area.AreaFault.TheVariants.{NoMemory}
+use Rattle.draid_names.specs.declared.fault.DeviceFault.TheVariants.{NoMemory}
 use Rattle.draid_area.proofs.Clocks.{bytes_written, clocks_early, clocks_marked, clocks_written, covers_more, writes_all, writes_none}
 use Rattle.draid_area.proofs.Sound.{kept_longer, sound_unwritten, sound_written}
-use Rattle.draid_area.proofs.Moments.{passed_writes}
+use Rattle.draid_area.proofs.Moments.{elapsed_writes}
 use Rattle.draid_area.proofs.memory.MemoryAreaArea.write.Goals as goal
 
 pub returns-then-fails-clause-told : goal.returns-then-fails-clause-told
@@ -51,19 +51,19 @@ pub returns-clause-flushed : goal.returns-clause-flushed
 returns-clause-flushed c = λ i. kept_longer c.args.self.now.flushed.items _ _ i c.in_ok-grow.ensures.ok
 
 pub returns-then-fails-clause-moments : goal.returns-then-fails-clause-moments
-returns-then-fails-clause-moments c = passed_writes _ _ _ _ _ (returns-then-fails-clause-told c)
+returns-then-fails-clause-moments c = elapsed_writes _ _ _ _ _ (returns-then-fails-clause-told c)
 
 pub returns-in_err-reserve-clause-moments : goal.returns-in_err-reserve-clause-moments
-returns-in_err-reserve-clause-moments c = passed_writes _ _ _ _ _ (returns-in_err-reserve-clause-told c)
+returns-in_err-reserve-clause-moments c = elapsed_writes _ _ _ _ _ (returns-in_err-reserve-clause-told c)
 
 pub returns-in_err-reach-clause-moments : goal.returns-in_err-reach-clause-moments
-returns-in_err-reach-clause-moments c = passed_writes _ _ _ _ _ (returns-in_err-reach-clause-told c)
+returns-in_err-reach-clause-moments c = elapsed_writes _ _ _ _ _ (returns-in_err-reach-clause-told c)
 
 pub returns-in_err-grow-clause-moments : goal.returns-in_err-grow-clause-moments
-returns-in_err-grow-clause-moments c = passed_writes _ _ _ _ _ (returns-in_err-grow-clause-told c)
+returns-in_err-grow-clause-moments c = elapsed_writes _ _ _ _ _ (returns-in_err-grow-clause-told c)
 
 pub returns-in_err-grow-2-clause-moments : goal.returns-in_err-grow-2-clause-moments
-returns-in_err-grow-2-clause-moments c = passed_writes _ _ _ _ _ (returns-in_err-grow-2-clause-told c)
+returns-in_err-grow-2-clause-moments c = elapsed_writes _ _ _ _ _ (returns-in_err-grow-2-clause-told c)
 
 pub returns-clause-moments : goal.returns-clause-moments
-returns-clause-moments c = passed_writes _ _ _ _ _ (returns-clause-told c)
+returns-clause-moments c = elapsed_writes _ _ _ _ _ (returns-clause-told c)

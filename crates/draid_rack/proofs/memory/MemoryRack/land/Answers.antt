@@ -2,7 +2,7 @@ use Rattle.std.proofs.Common.{arith}
 use Rattle.draid_rack.proofs.Sound.{long_on, long_same, tick_later, up_to_on, up_to_same}
 use Rattle.draid_rack.proofs.Tells.{lands_by, lands_failed, long_at, shape_same, there_at}
 use Rattle.draid_rack.proofs.Counted.{counts_leaf, only_leaf, rises_after}
-use Rattle.draid_rack.proofs.Moments.{passed_lands}
+use Rattle.draid_rack.proofs.Moments.{elapsed_lands}
 use Rattle.draid_rack.proofs.memory.MemoryRack.land.Goals as goal
 
 pub invariant_of-self : goal.invariant_of-self
@@ -41,10 +41,10 @@ pub returns-clause-shape : goal.returns-clause-shape
 returns-clause-shape c = shape_same _ c.args.self.now.leaves c.land_sector.new.leaves c.land_sector.ensures.sectors
 
 pub returns-then-fails-clause-moments : goal.returns-then-fails-clause-moments
-returns-then-fails-clause-moments c = passed_lands _ _ _ _ _ _ _ (returns-then-fails-clause-told c)
+returns-then-fails-clause-moments c = elapsed_lands _ _ _ _ _ _ _ (returns-then-fails-clause-told c)
 
 pub returns-clause-moments : goal.returns-clause-moments
-returns-clause-moments c = passed_lands _ _ _ _ _ _ _ (returns-clause-told c)
+returns-clause-moments c = elapsed_lands _ _ _ _ _ _ _ (returns-clause-told c)
 
 pub returns-then-fails-clause-cause : goal.returns-then-fails-clause-cause
 returns-then-fails-clause-cause c =

@@ -2,7 +2,7 @@ use Rattle.draid_rack.specs.Leaves.{told_of, view_at}
 use Rattle.draid_rack.specs.Rack.{adds}
 use Rattle.draid_rack.proofs.Sound.{long_added, long_kept, tick_later, up_to_added, up_to_kept}
 use Rattle.draid_rack.proofs.Tells.{shape_added, told_added}
-use Rattle.draid_rack.proofs.Moments.{goes_adds, passed_change, passed_same}
+use Rattle.draid_rack.proofs.Moments.{goes_adds, elapsed_change, elapsed_same}
 use Rattle.draid_rack.proofs.memory.MemoryRackRack.add_leaf.Goals as goal
 
 pub invariant_of-self-in-Break-branch-2 : goal.invariant_of-self-in-Break-branch-2
@@ -29,4 +29,4 @@ returns-clause-shape c =
     c.in_ok-new.ensures c.in_ok-insert_leaf.ensures.ok
 
 pub returns-clause-moments : goal.returns-clause-moments
-returns-clause-moments c = passed_change (adds c.args.self.now.bytes c.args.leaf c.args.sectors) (goes_adds c.args.self.now.bytes c.args.leaf c.args.sectors) (told_of (view_at c.args.self.now.leaves) c.args.self.now.clock) _ (returns-clause-ok c)
+returns-clause-moments c = elapsed_change (adds c.args.self.now.bytes c.args.leaf c.args.sectors) (goes_adds c.args.self.now.bytes c.args.leaf c.args.sectors) (told_of (view_at c.args.self.now.leaves) c.args.self.now.clock) _ (returns-clause-ok c)

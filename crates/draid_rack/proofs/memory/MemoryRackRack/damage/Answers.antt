@@ -5,7 +5,7 @@ use Rattle.std.proofs.lemmas.List.{length-map}
 use Rattle.draid_rack.proofs.Sound.{long_on, long_same, tick_later, up_to_on, up_to_same}
 use Rattle.draid_rack.proofs.Tells.{told_same, shape_same, there_at, told_damaged}
 use Rattle.draid_rack.proofs.Counted.{counts_leaf, only_leaf, rises}
-use Rattle.draid_rack.proofs.Moments.{goes_damages, passed_change, passed_same}
+use Rattle.draid_rack.proofs.Moments.{goes_damages, elapsed_change, elapsed_same}
 use Rattle.draid_rack.proofs.memory.MemoryRackRack.damage.Goals as goal
 
 pub invariant_of-self : goal.invariant_of-self
@@ -34,13 +34,13 @@ pub returns-clause-shape : goal.returns-clause-shape
 returns-clause-shape c = shape_same _ c.args.self.now.leaves c.damage_sector.new.leaves c.damage_sector.ensures.sectors
 
 pub returns-then-fails-clause-moments : goal.returns-then-fails-clause-moments
-returns-then-fails-clause-moments c = passed_same (told_of (view_at c.args.self.now.leaves) c.args.self.now.clock) _ (told_same _ c.args.self.now.leaves c.count_fault.new.leaves c.count_fault.ensures.views)
+returns-then-fails-clause-moments c = elapsed_same (told_of (view_at c.args.self.now.leaves) c.args.self.now.clock) _ (told_same _ c.args.self.now.leaves c.count_fault.new.leaves c.count_fault.ensures.views)
 
 pub returns-then-fails-clause-exact : goal.returns-then-fails-clause-exact
 returns-then-fails-clause-exact c = only_leaf c.args.leaf c.args.self.now.own_faults c.args.self.now.leaves c.count_fault.new.leaves (rises _ _ _ c.count_fault.ensures)
 
 pub returns-clause-moments : goal.returns-clause-moments
-returns-clause-moments c = passed_change (damages c.args.leaf c.args.sector) (goes_damages c.args.leaf c.args.sector) (told_of (view_at c.args.self.now.leaves) c.args.self.now.clock) _ (returns-clause-ok c)
+returns-clause-moments c = elapsed_change (damages c.args.leaf c.args.sector) (goes_damages c.args.leaf c.args.sector) (told_of (view_at c.args.self.now.leaves) c.args.self.now.clock) _ (returns-clause-ok c)
 
 pub returns-then-fails-clause-cause : goal.returns-then-fails-clause-cause
 returns-then-fails-clause-cause c = counts_leaf c.args.leaf c.args.self.now.own_faults c.args.self.now.leaves c.count_fault.new.leaves (rises _ _ _ c.count_fault.ensures) _

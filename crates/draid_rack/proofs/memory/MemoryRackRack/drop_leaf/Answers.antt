@@ -1,7 +1,7 @@
 use Rattle.draid_rack.specs.Leaves.{told_of, view_at}
 use Rattle.draid_rack.specs.Rack.{drops}
 use Rattle.draid_rack.proofs.Sound.{long_dropped, tick_later, up_to_dropped}
-use Rattle.draid_rack.proofs.Moments.{goes_drops, passed_change}
+use Rattle.draid_rack.proofs.Moments.{goes_drops, elapsed_change}
 use Rattle.draid_rack.proofs.Tells.{told_dropped}
 use Rattle.draid_rack.proofs.memory.MemoryRackRack.drop_leaf.Goals as goal
 
@@ -13,5 +13,5 @@ invariant_of-self c = record {
 
 pub returns-clause-moments : goal.returns-clause-moments
 returns-clause-moments c =
-    passed_change (drops c.args.leaf) (goes_drops c.args.leaf) (told_of (view_at c.args.self.now.leaves) c.args.self.now.clock) _
+    elapsed_change (drops c.args.leaf) (goes_drops c.args.leaf) (told_of (view_at c.args.self.now.leaves) c.args.self.now.clock) _
     (told_dropped c.args.leaf c.args.self.now.clock _ c.args.self.now.leaves c.remove_leaf.new.leaves c.remove_leaf.ensures c.later-self.ensures)

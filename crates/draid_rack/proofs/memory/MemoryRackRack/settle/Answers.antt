@@ -2,7 +2,7 @@ use Rattle.draid_rack.specs.Leaves.{told_of, view_at}
 use Rattle.draid_rack.specs.Rack.{settles}
 use Rattle.std.proofs.Common.{arith}
 use Rattle.draid_rack.proofs.Sound.{long_on, tick_later, up_to_on}
-use Rattle.draid_rack.proofs.Moments.{goes_settles, passed_change}
+use Rattle.draid_rack.proofs.Moments.{goes_settles, elapsed_change}
 use Rattle.draid_rack.proofs.Tells.{told_settled}
 use Rattle.draid_rack.proofs.memory.MemoryRackRack.settle.Goals as goal
 
@@ -15,5 +15,5 @@ invariant_of-self c = record {
 
 pub returns-clause-moments : goal.returns-clause-moments
 returns-clause-moments c =
-    passed_change (settles c.args.leaf c.args.sector) (goes_settles c.args.leaf c.args.sector) (told_of (view_at c.args.self.now.leaves) c.args.self.now.clock) _
+    elapsed_change (settles c.args.leaf c.args.sector) (goes_settles c.args.leaf c.args.sector) (told_of (view_at c.args.self.now.leaves) c.args.self.now.clock) _
     (told_settled c.args.leaf c.args.sector c.args.self.now.clock _ c.args.self.now.leaves c.settle_sector.new.leaves c.later-self.ensures c.settle_sector.ensures)

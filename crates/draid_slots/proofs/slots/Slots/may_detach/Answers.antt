@@ -2,7 +2,7 @@ use Rattle.std.proofs.Common.{◌≡◌, ◌<◌, ◌-◌, ℕ, [], true, Some, 
 use Rattle.std.specs.Prelude.{remove, vec_len, vec_capacity}
 use Rattle.std.proofs.lemmas.List.{get_or-map, length-map}
 use Rattle.draid_names.specs.declared.arm.Arm.{Arm}
-use Rattle.draid_slots.specs.declared.fault.SlotFault.TheVariants.{LogNotEmpty}
+use Rattle.draid_names.specs.declared.refusal.SlotFault.TheVariants.{LogNotEmpty}
 use Rattle.draid_slots.specs.declared.slot.Slot.{Slot}
 use Rattle.draid_slots.specs.Faults.{IsDetachRefused, MayDetach, HasLeafBeside, IsLeafAt, IsLeastLogged, NoneElsewhere}
 use Rattle.draid_slots.specs.Table.{IsPaired, IsThere, SlotTable, arm_at, arms_in, arms_of, has_leaf, next_room, table_of}
