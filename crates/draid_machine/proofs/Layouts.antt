@@ -2,7 +2,7 @@
 use Rattle.std.proofs.Common.{◌≡◌, ◌≢◌, ◌+◌, ◌-◌, ◌*◌, ◌/◌, ◌%◌, ◌<◌, ℕ, subst, sym, ap, ◌∙◌, arith, add_comm}
 use Rattle.std.proofs.Math.Nat.{div-div-eq-div-mul, add-mul-div_left, mod-lt}
 use Rattle.draid_spec.specs.declared.layout.Geometry.{Geometry}
-use Rattle.draid_spec.specs.Geometry.{IsGeometry}
+use Rattle.draid_spec.specs.Geometry.{IsGeometry, metaslab_stripes, metaslab_sectors}
 use Rattle.draid_perm.specs.declared.perms.Perms.{Perms}
 use Rattle.draid_perm.specs.Perms.{child_of}
 use Rattle.draid_map.specs.Place as place
@@ -11,7 +11,7 @@ use Rattle.draid_map.proofs.Apart.{has_some, row_of_column}
 use Rattle.draid_map.proofs.Radix.{three_below, high_below}
 use Rattle.draid_map.proofs.Distinct.{slice_in, group_in, index_in, place_apart, spares_apart, spare_apart, place_slice}
 use Rattle.draid_machine.specs.State.{IsLayout}
-use Rattle.draid_machine.specs.Layout.{sectors_in, stripes_in, pool_stripe, layout_of}
+use Rattle.draid_machine.specs.Layout.{pool_stripe, layout_of}
 
 module _ (geometry : Geometry) (perms : Perms) (metaslab : ℕ) (lay : place.IsLayout geometry perms) where
   is : IsGeometry geometry
@@ -64,7 +64,7 @@ module _ (geometry : Geometry) (perms : Perms) (metaslab : ℕ) (lay : place.IsL
   spread : (m s b r rows height o : ℕ) → ((m * s + b) * rows + r) * height + o ≡ m * (s * rows * height) + ((b * rows + r) * height + o)
   spread m s b r rows height o = grind arith
 
-  parts : (x c : ℕ) → (place_of geometry perms (pool_stripe geometry metaslab x) c).sector ≡ metaslab * sectors_in geometry + local x c
+  parts : (x c : ℕ) → (place_of geometry perms (pool_stripe geometry metaslab x) c).sector ≡ metaslab * metaslab_sectors geometry + local x c
   unfolding local
   parts x c =
       ap (λ q. (q * geometry.rows + index_in geometry (pool_stripe geometry metaslab x) c / geometry.ndisks) * geometry.props.height + pool_stripe geometry metaslab x % geometry.props.height) (slice_is x)
@@ -76,9 +76,9 @@ module _ (geometry : Geometry) (perms : Perms) (metaslab : ℕ) (lay : place.IsL
 
   same_sector : (x y c d : ℕ) → (layout_of geometry perms metaslab).sector_of x c ≡ (layout_of geometry perms metaslab).sector_of y d
       → (place_of geometry perms (pool_stripe geometry metaslab x) c).sector ≡ (place_of geometry perms (pool_stripe geometry metaslab y) d).sector
-  same_sector x y c d e = parts x c ∙ ap (λ n. metaslab * sectors_in geometry + n) (sym (sector_is x c) ∙ e ∙ sector_is y d) ∙ sym (parts y d)
+  same_sector x y c d e = parts x c ∙ ap (λ n. metaslab * metaslab_sectors geometry + n) (sym (sector_is x c) ∙ e ∙ sector_is y d) ∙ sym (parts y d)
 
-  inside : (x c : ℕ) → x < stripes_in geometry → c < geometry.g → (layout_of geometry perms metaslab).sector_of x c < sectors_in geometry
+  inside : (x c : ℕ) → x < metaslab_stripes geometry → c < geometry.g → (layout_of geometry perms metaslab).sector_of x c < metaslab_sectors geometry
   unfolding local
   inside x c less column =
       let some = has_some geometry is in
@@ -88,7 +88,7 @@ module _ (geometry : Geometry) (perms : Perms) (metaslab : ℕ) (lay : place.IsL
       three_below geometry.props.height geometry.rows (x / (geometry.props.height * geometry.ngroups)) (index_in geometry k c / geometry.ndisks) (k % geometry.props.height) geometry.props.slices
       (high_below geometry.props.height geometry.ngroups x geometry.props.slices some.height some.groups less)
       (row_of_column geometry (group_in geometry k) c is group column) (mod-lt k some.height) in
-      subst (λ n. n < sectors_in geometry) (sym (sector_is x c)) z
+      subst (λ n. n < metaslab_sectors geometry) (sym (sector_is x c)) z
 
   one_column : (x y c d : ℕ) → c < geometry.g → d < geometry.g → (layout_of geometry perms metaslab).slot_of x c ≡ (layout_of geometry perms metaslab).slot_of y d
       → (layout_of geometry perms metaslab).sector_of x c ≡ (layout_of geometry perms metaslab).sector_of y d → (x ≡ y) × (c ≡ d)

@@ -1,20 +1,14 @@
 use Rattle.std.specs.Prelude.{◌+◌, ◌-◌, ◌*◌, ◌/◌, ℕ}
 use Rattle.draid_spec.specs.declared.layout.Geometry.{Geometry}
+use Rattle.draid_spec.specs.Geometry.{metaslab_sectors, metaslab_stripes}
 use Rattle.draid_perm.specs.declared.perms.Perms.{Perms}
 use Rattle.draid_perm.specs.Perms.{child_of}
 use Rattle.draid_map.specs.Place.{place_of}
 use Rattle.draid_machine.specs.State.{Layout}
 
--- the stripes of a metaslab, and its sectors on each child
-abbrev pub stripes_in : Geometry → ℕ
-stripes_in geometry = geometry.props.slices * geometry.ngroups * geometry.props.height
-
-abbrev pub sectors_in : Geometry → ℕ
-sectors_in geometry = geometry.props.slices * geometry.rows * geometry.props.height
-
 -- a stripe of a metaslab in the pool, and its slice there
 abbrev pub pool_stripe : Geometry → ℕ → ℕ → ℕ
-pool_stripe geometry metaslab x = metaslab * stripes_in geometry + x
+pool_stripe geometry metaslab x = metaslab * metaslab_stripes geometry + x
 
 abbrev pub slice_of : Geometry → ℕ → ℕ
 slice_of geometry stripe = stripe / (geometry.props.height * geometry.ngroups)
@@ -27,10 +21,10 @@ layout_of geometry perms metaslab = record {
   parity = geometry.spec.parity;
   slots = geometry.spec.children;
   spares = geometry.spec.spares;
-  stripes = stripes_in geometry;
+  stripes = metaslab_stripes geometry;
   height = geometry.props.height;
-  sectors = sectors_in geometry;
+  sectors = metaslab_sectors geometry;
   slot_of = λ x column. (place_of geometry perms (pool_stripe geometry metaslab x) column).child;
-  sector_of = λ x column. (place_of geometry perms (pool_stripe geometry metaslab x) column).sector - metaslab * sectors_in geometry;
+  sector_of = λ x column. (place_of geometry perms (pool_stripe geometry metaslab x) column).sector - metaslab * metaslab_sectors geometry;
   home = λ spare x. child_of perms (slice_of geometry (pool_stripe geometry metaslab x)) (geometry.spec.children - 1 - spare);
 }

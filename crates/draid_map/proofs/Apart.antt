@@ -2,11 +2,11 @@ use Rattle.std.proofs.Common.{◌≡◌, ◌+◌, ◌*◌, ◌/◌, ◌%◌, ◌
 use Rattle.std.proofs.Math.Nat.{mod-lt, mul-le-mul}
 use Rattle.std.proofs.lemmas.Nat.{div-mul-add, mod-mul-add}
 use Rattle.draid_spec.specs.declared.layout.Geometry.{Geometry}
-use Rattle.draid_spec.specs.Geometry.{IsGeometry}
+use Rattle.draid_spec.specs.Geometry.{IsGeometry, pool_stripes, child_sectors}
 use Rattle.draid_perm.specs.declared.perms.Perms.{Perms}
 use Rattle.draid_perm.specs.Perms.{child_of}
 use Rattle.draid_map.specs.declared.sectors.Place.{Place}
-use Rattle.draid_map.specs.Place.{stripes_of, end_of, place_of}
+use Rattle.draid_map.specs.Place.{place_of}
 use Rattle.draid_map.proofs.Radix.{two_below, its_digits, first_below, three_digits, high_digit, middle_digit, low_digit, high_below, three_below}
 
 -- the slices of a pool are few
@@ -27,13 +27,13 @@ pub has_some : (geometry : Geometry) → IsGeometry geometry → HasSome geometr
 has_some geometry is = record { height = omega arith; groups = omega arith; rows = omega arith; columns = omega arith; disks = omega arith }
 
 -- the slice of a stripe, and the row of a column
-pub stripe_slice : (geometry : Geometry) (stripe : ℕ) → IsGeometry geometry → stripe < stripes_of geometry
+pub stripe_slice : (geometry : Geometry) (stripe : ℕ) → IsGeometry geometry → stripe < pool_stripes geometry
     → stripe / (geometry.props.height * geometry.ngroups) < geometry.props.metaslabs * geometry.props.slices
 stripe_slice geometry stripe is within =
     let some : HasSome geometry = has_some geometry is in
     high_below geometry.props.height geometry.ngroups stripe (geometry.props.metaslabs * geometry.props.slices) some.height some.groups within
 
-pub slice_of_stripe : (geometry : Geometry) (stripe : ℕ) → IsGeometry geometry → stripe < stripes_of geometry
+pub slice_of_stripe : (geometry : Geometry) (stripe : ℕ) → IsGeometry geometry → stripe < pool_stripes geometry
     → stripe / (geometry.props.height * geometry.ngroups) < 65536
 slice_of_stripe geometry stripe is within = omega (arith, stripe_slice geometry stripe is within, few_slices geometry is)
 
@@ -46,13 +46,13 @@ row_of_column geometry group column is in_slice in_group =
     first_below geometry.ndisks (group * geometry.g + column) geometry.rows some.disks (omega arith)
 
 -- the slice of a sector, and the group of a position
-pub sector_slice : (geometry : Geometry) (sector : ℕ) → IsGeometry geometry → sector < end_of geometry
+pub sector_slice : (geometry : Geometry) (sector : ℕ) → IsGeometry geometry → sector < child_sectors geometry
     → sector / (geometry.props.height * geometry.rows) < geometry.props.metaslabs * geometry.props.slices
 sector_slice geometry sector is within =
     let some : HasSome geometry = has_some geometry is in
     high_below geometry.props.height geometry.rows sector (geometry.props.metaslabs * geometry.props.slices) some.height some.rows within
 
-pub slice_of_sector : (geometry : Geometry) (sector : ℕ) → IsGeometry geometry → sector < end_of geometry
+pub slice_of_sector : (geometry : Geometry) (sector : ℕ) → IsGeometry geometry → sector < child_sectors geometry
     → sector / (geometry.props.height * geometry.rows) < 65536
 slice_of_sector geometry sector is within = omega (arith, sector_slice geometry sector is within, few_slices geometry is)
 
@@ -103,11 +103,11 @@ row_place geometry perms slice row position offset is in_slice in_row in_group =
     ∙ ap (place_at row) (mod-mul-add row geometry.ndisks position in_row)))
 
 -- a sector with a disk's position belongs to a column
-pub column_owns : (geometry : Geometry) (perms : Perms) (child sector position stripe column : ℕ) → IsGeometry geometry → sector < end_of geometry
+pub column_owns : (geometry : Geometry) (perms : Perms) (child sector position stripe column : ℕ) → IsGeometry geometry → sector < child_sectors geometry
     → position < geometry.ndisks → child_of perms (sector / (geometry.props.height * geometry.rows)) position ≡ child
     → stripe ≡ (sector / (geometry.props.height * geometry.rows) * geometry.ngroups + (sector / geometry.props.height % geometry.rows * geometry.ndisks + position) / geometry.g) * geometry.props.height + sector % geometry.props.height
     → column ≡ (sector / geometry.props.height % geometry.rows * geometry.ndisks + position) % geometry.g
-    → (stripe < stripes_of geometry) × (column < geometry.g) × (place_of geometry perms stripe column ≡ record { child = child; sector = sector })
+    → (stripe < pool_stripes geometry) × (column < geometry.g) × (place_of geometry perms stripe column ≡ record { child = child; sector = sector })
 column_owns geometry perms child sector position stripe column is within in_row stands stripe_is column_is =
     let some : HasSome geometry = has_some geometry is in
     let row : sector / geometry.props.height % geometry.rows < geometry.rows = mod-lt (sector / geometry.props.height) some.rows in
@@ -118,7 +118,7 @@ column_owns geometry perms child sector position stripe column is within in_row 
     ((sector / geometry.props.height % geometry.rows * geometry.ndisks + position) / geometry.g) (sector % geometry.props.height)
     (geometry.props.metaslabs * geometry.props.slices) slice group offset in
     let column_below : (sector / geometry.props.height % geometry.rows * geometry.ndisks + position) % geometry.g < geometry.g = mod-lt _ some.columns in
-    let P : ℕ → Type 0 = λ k. k < stripes_of geometry in
+    let P : ℕ → Type 0 = λ k. k < pool_stripes geometry in
     let C : ℕ → Type 0 = λ i. i < geometry.g in
     let place : ℕ → ℕ → Place = λ c x. record { child = c; sector = x } in (
       subst P (sym stripe_is) stripe_below,

@@ -1,7 +1,7 @@
 use Rattle.std.proofs.Common.{◌≡◌, ◌≢◌, ◌+◌, ◌-◌, ◌*◌, ◌/◌, ◌%◌, ◌<◌, ◌≤◌, ℕ, refl, sym, ap, ◌∙◌, arith, add_comm, mul_comm}
 use Rattle.std.proofs.Math.Nat.{mod-lt, add-mod-mod}
 use Rattle.draid_spec.specs.declared.layout.Geometry.{Geometry}
-use Rattle.draid_spec.specs.Geometry.{IsGeometry}
+use Rattle.draid_spec.specs.Geometry.{IsGeometry, pool_stripes, child_sectors}
 use Rattle.draid_perm.specs.declared.perms.Perms.{Perms}
 use Rattle.draid_perm.specs.Perms.{children_of, child_of}
 use Rattle.draid_perm.proofs.Children.{child_apart}
@@ -10,7 +10,7 @@ use Rattle.draid_map.specs.declared.sectors.Place.{Place}
 use Rattle.draid_map.specs.declared.sectors.Owner.{Owner}
 use Rattle.draid_map.specs.declared.sectors.Owner.TheVariants.{Column, Spare, Past}
 use Rattle.draid_map.specs.Owner.{Owns}
-use Rattle.draid_map.specs.Place.{IsLayout, stripes_of, end_of, place_of, spare_child_of}
+use Rattle.draid_map.specs.Place.{IsLayout, place_of, spare_child_of}
 use Rattle.draid_map.proofs.Apart.{HasSome, has_some, stripe_slice, row_of_column}
 use Rattle.draid_map.proofs.Radix.{two_digits, its_digits, three_digits, high_digit, three_below}
 
@@ -85,8 +85,8 @@ columns_apart geometry perms stripe a b lay left right same =
     (turn a ∙ (positions ∙ sym (turn b)))
 
 -- a place lies before the end, in the slice of its stripe
-pub place_within : (geometry : Geometry) (perms : Perms) (stripe column : ℕ) → IsGeometry geometry → stripe < stripes_of geometry → column < geometry.g
-    → (place_of geometry perms stripe column).sector < end_of geometry
+pub place_within : (geometry : Geometry) (perms : Perms) (stripe column : ℕ) → IsGeometry geometry → stripe < pool_stripes geometry → column < geometry.g
+    → (place_of geometry perms stripe column).sector < child_sectors geometry
 place_within geometry perms stripe column is within in_group =
     let some : HasSome geometry = has_some geometry is in
     let group : group_in geometry stripe < geometry.ngroups = mod-lt (stripe / geometry.props.height) some.groups in
@@ -141,10 +141,10 @@ column_or_spare geometry perms child sector k a t lay column spare =
     spare_apart geometry perms k a t lay column.1 spare.0 (ap (spare_child_of geometry perms t) lies ∙ (spare.2 ∙ sym on))
 
 column_or_past : (geometry : Geometry) (perms : Perms) (child sector k a : ℕ) → IsGeometry geometry
-    → Owns geometry perms child sector (Column k a) → end_of geometry ≤ sector → ⊥
+    → Owns geometry perms child sector (Column k a) → child_sectors geometry ≤ sector → ⊥
 column_or_past geometry perms child sector k a is column past =
     let lies : (place_of geometry perms k a).sector ≡ sector = ap (λ (p : Place). p.sector) column.2 in
-    let within : (place_of geometry perms k a).sector < end_of geometry = place_within geometry perms k a is column.0 column.1 in
+    let within : (place_of geometry perms k a).sector < child_sectors geometry = place_within geometry perms k a is column.0 column.1 in
     omega arith
 
 -- a sector has no two owners
@@ -162,11 +162,11 @@ one_owner geometry perms child sector (Spare t) (Column k a) lay left right =
 one_owner geometry perms child sector (Spare t) (Spare u) lay left right =
     ap Spare (spares_apart geometry perms t u sector lay left.0 right.0 (left.2 ∙ sym right.2))
 one_owner geometry perms child sector (Spare t) Past lay left right =
-    let within : sector < end_of geometry = left.1 in
+    let within : sector < child_sectors geometry = left.1 in
     absurd (omega arith)
 one_owner geometry perms child sector Past (Column k a) lay left right =
     absurd (column_or_past geometry perms child sector k a lay.geometry_is right left)
 one_owner geometry perms child sector Past (Spare t) lay left right =
-    let within : sector < end_of geometry = right.1 in
+    let within : sector < child_sectors geometry = right.1 in
     absurd (omega arith)
 one_owner geometry perms child sector Past Past lay left right = refl

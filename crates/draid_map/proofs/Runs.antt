@@ -3,12 +3,12 @@ use Rattle.std.proofs.Common.{◌≡◌, ◌+◌, ◌*◌, ◌/◌, ◌%◌, ◌
 use Rattle.std.proofs.Math.Nat.{mod-lt, mul-le-mul_right}
 use Rattle.std.proofs.lemmas.Bool.{cases_lt}
 use Rattle.draid_spec.specs.declared.layout.Geometry.{Geometry}
-use Rattle.draid_spec.specs.Geometry.{IsGeometry}
+use Rattle.draid_spec.specs.Geometry.{IsGeometry, metaslab_stripes, metaslab_sectors}
 use Rattle.draid_perm.specs.declared.perms.Perms.{Perms}
 use Rattle.draid_perm.specs.Perms.{children_of, child_of}
 use Rattle.draid_perm.proofs.Children.{child_below}
 use Rattle.draid_map.specs.declared.sectors.Place.{Place}
-use Rattle.draid_map.specs.Place.{IsLayout, part_stripes, part_sectors, place_of}
+use Rattle.draid_map.specs.Place.{IsLayout, place_of}
 use Rattle.draid_map.proofs.Apart.{HasSome, has_some, row_of_column, spot_place}
 use Rattle.draid_map.proofs.Distinct.{slice_in, group_in, index_in}
 use Rattle.draid_map.proofs.Radix.{three_digits, three_below, high_below}
@@ -37,7 +37,7 @@ place_child geometry perms k a lay =
     omega (arith, all, below)
 
 -- the slices of a metaslab's stripe
-slice_from : (geometry : Geometry) (m k : ℕ) → IsGeometry geometry → m * part_stripes geometry ≤ k → m * geometry.props.slices ≤ slice_in geometry k
+slice_from : (geometry : Geometry) (m k : ℕ) → IsGeometry geometry → m * metaslab_stripes geometry ≤ k → m * geometry.props.slices ≤ slice_in geometry k
 slice_from geometry m k is from = elim (cases_lt (slice_in geometry k) (m * geometry.props.slices)) [
   | inr ge ↦ ge
   | inl lt ↦
@@ -49,14 +49,14 @@ slice_from geometry m k is from = elim (cases_lt (slice_in geometry k) (m * geom
       absurd (omega (arith, below, digits, shape, from))
 ]
 
-slice_to : (geometry : Geometry) (m k : ℕ) → IsGeometry geometry → k < (m + 1) * part_stripes geometry → slice_in geometry k < (m + 1) * geometry.props.slices
+slice_to : (geometry : Geometry) (m k : ℕ) → IsGeometry geometry → k < (m + 1) * metaslab_stripes geometry → slice_in geometry k < (m + 1) * geometry.props.slices
 slice_to geometry m k is to =
     let some : HasSome geometry = has_some geometry is in
     let shape : (m + 1) * geometry.props.slices * geometry.ngroups * geometry.props.height ≡ (m + 1) * (geometry.props.slices * geometry.ngroups * geometry.props.height) = grind arith in
     high_below geometry.props.height geometry.ngroups k ((m + 1) * geometry.props.slices) some.height some.groups (omega (arith, shape, to))
 
-pub part_from : (geometry : Geometry) (perms : Perms) (m k a : ℕ) → IsGeometry geometry → a < geometry.g → m * part_stripes geometry ≤ k
-    → m * part_sectors geometry ≤ (place_of geometry perms k a).sector
+pub part_from : (geometry : Geometry) (perms : Perms) (m k a : ℕ) → IsGeometry geometry → a < geometry.g → m * metaslab_stripes geometry ≤ k
+    → m * metaslab_sectors geometry ≤ (place_of geometry perms k a).sector
 part_from geometry perms m k a is in_group from =
     let low = slice_from geometry m k is from in
     let shape : m * (geometry.props.slices * geometry.rows * geometry.props.height) ≡ m * geometry.props.slices * (geometry.rows * geometry.props.height) = grind arith in
@@ -65,8 +65,8 @@ part_from geometry perms m k a is in_group from =
     ≡ slice_in geometry k * (geometry.rows * geometry.props.height) + (index_in geometry k a / geometry.ndisks * geometry.props.height + k % geometry.props.height) = grind arith in
     omega (arith, shape, rows, parts)
 
-pub part_to : (geometry : Geometry) (perms : Perms) (m k a : ℕ) → IsGeometry geometry → a < geometry.g → k < (m + 1) * part_stripes geometry
-    → (place_of geometry perms k a).sector < (m + 1) * part_sectors geometry
+pub part_to : (geometry : Geometry) (perms : Perms) (m k a : ℕ) → IsGeometry geometry → a < geometry.g → k < (m + 1) * metaslab_stripes geometry
+    → (place_of geometry perms k a).sector < (m + 1) * metaslab_sectors geometry
 part_to geometry perms m k a is in_group to =
     let some : HasSome geometry = has_some geometry is in
     let group : group_in geometry k < geometry.ngroups = mod-lt (k / geometry.props.height) some.groups in

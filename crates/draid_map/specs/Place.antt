@@ -1,6 +1,6 @@
 use Rattle.std.specs.Prelude.{◌+◌, ◌-◌, ◌*◌, ◌/◌, ◌%◌, ℕ}
 use Rattle.draid_spec.specs.declared.layout.Geometry.{Geometry}
-use Rattle.draid_spec.specs.Geometry.{IsGeometry, total_of}
+use Rattle.draid_spec.specs.Geometry.{IsGeometry}
 use Rattle.draid_perm.specs.declared.perms.Perms.{Perms}
 use Rattle.draid_perm.specs.Perms.{AreSeeded, child_of}
 use Rattle.draid_map.specs.declared.sectors.Place.{Place}
@@ -9,21 +9,6 @@ use Rattle.draid_map.specs.declared.sectors.Place.{Place}
 pub record IsLayout (geometry : Geometry) (perms : Perms) : Type 0 where
   pub geometry_is : IsGeometry geometry
   pub perms_are : AreSeeded perms geometry.spec.children geometry.props.seed
-
--- the stripes of a pool: in each slice of each metaslab a height of them for each group
-abbrev pub stripes_of : Geometry → ℕ
-stripes_of geometry = geometry.props.metaslabs * geometry.props.slices * geometry.ngroups * geometry.props.height
-
--- the sectors of a child up to the end of the last slice
-abbrev pub end_of : Geometry → ℕ
-end_of geometry = total_of geometry.props geometry.rows
-
--- the stripes of one metaslab, and the sectors that it has of each child
-abbrev pub part_stripes : Geometry → ℕ
-part_stripes geometry = geometry.props.slices * geometry.ngroups * geometry.props.height
-
-abbrev pub part_sectors : Geometry → ℕ
-part_sectors geometry = geometry.props.slices * geometry.rows * geometry.props.height
 
 -- the place of a column: stripe k is stripe k mod height of a group of a slice, the columns of a slice's groups
 -- stand one after another in the rows of the disks, and each slice has a permutation of its own

@@ -1,9 +1,10 @@
 ghost use Rattle.std.specs.Prelude.{◌≡◌, ◌≢◌, ◌+◌, ◌*◌, ◌%◌, ◌<◌, ◌≤◌, ℕ};
+ghost use Rattle.draid_spec.specs.Geometry.{pool_stripes, child_sectors, metaslab_stripes, metaslab_sectors};
 ghost use Rattle.draid_spec.specs.declared.layout.Geometry.{Geometry};
 ghost use Rattle.draid_perm.specs.declared.perms.Perms.{Perms};
 ghost use Rattle.draid_map.specs.declared.sectors.Owner.{Owner};
 ghost use Rattle.draid_map.specs.Owner.{Owns};
-ghost use Rattle.draid_map.specs.Place.{IsLayout, end_of, part_sectors, part_stripes, place_of, spare_child_of, stripes_of};
+ghost use Rattle.draid_map.specs.Place.{IsLayout, place_of, spare_child_of};
 
 /// Law: each column of a pool has a place of its own, before the end of the last slice.
 #[tactic(auto, using(crate::proofs::Distinct::place_apart, crate::proofs::Distinct::place_within))]
@@ -12,8 +13,8 @@ pub fn places_lie_apart()
         → a < geometry.g → b < geometry.g
         → place_of geometry perms k a ≡ place_of geometry perms l b → (k ≡ l) × (a ≡ b) }
     ensures within { (geometry : Geometry) (perms : Perms) (k a : ℕ) → IsLayout geometry perms
-        → k < stripes_of geometry → a < geometry.g
-        → (place_of geometry perms k a).sector < end_of geometry }
+        → k < pool_stripes geometry → a < geometry.g
+        → (place_of geometry perms k a).sector < child_sectors geometry }
 {}
 
 /// Law: the columns of a stripe lie on as many children.
@@ -58,9 +59,9 @@ pub fn runs_lie_in_order()
 /// Law: the stripes of a metaslab have their places in its part of each child.
 pub fn metaslabs_lie_apart()
     ensures from { (geometry : Geometry) (perms : Perms) (m k a : ℕ) → IsLayout geometry perms
-        → a < geometry.g → m * part_stripes geometry ≤ k
-        → m * part_sectors geometry ≤ (place_of geometry perms k a).sector }
+        → a < geometry.g → m * metaslab_stripes geometry ≤ k
+        → m * metaslab_sectors geometry ≤ (place_of geometry perms k a).sector }
     ensures to { (geometry : Geometry) (perms : Perms) (m k a : ℕ) → IsLayout geometry perms
-        → a < geometry.g → k < (m + 1) * part_stripes geometry
-        → (place_of geometry perms k a).sector < (m + 1) * part_sectors geometry }
+        → a < geometry.g → k < (m + 1) * metaslab_stripes geometry
+        → (place_of geometry perms k a).sector < (m + 1) * metaslab_sectors geometry }
 {}

@@ -12,5 +12,5 @@ pub use laws::{
     columns_lie_on_children, metaslabs_lie_apart, places_lie_apart, runs_lie_in_order,
     sectors_have_one_owner, spares_lie_apart,
 };
-pub use places::{metaslab_sectors, metaslab_stripes, owner, place, spare_child};
+pub use places::{owner, place, spare_child};
 pub use sectors::{Owner, Place};

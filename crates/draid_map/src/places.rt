@@ -1,7 +1,7 @@
 ghost use Rattle.std.specs.Prelude.{◌≡◌, ◌+◌, ◌<◌, ◌≤◌, ◌*◌, ◌^◌};
-ghost use Rattle.draid_spec.specs.Geometry.{IsGeometry};
+ghost use Rattle.draid_spec.specs.Geometry.{child_sectors, pool_stripes};
 ghost use Rattle.draid_map.specs.Owner.{Owns};
-ghost use Rattle.draid_map.specs.Place.{IsLayout, end_of, part_sectors, part_stripes, place_of, spare_child_of, stripes_of};
+ghost use Rattle.draid_map.specs.Place.{IsLayout, place_of, spare_child_of};
 
 use crate::sectors::{Owner, Place};
 use crate::spot::Spot;
@@ -11,7 +11,7 @@ use draid_spec::Geometry;
 /// Where a column of a stripe of the pool lies, in the manner of OpenZFS's `vdev_draid.c`.
 pub fn place(geometry: &Geometry, perms: &Perms, stripe: u64, column: u32) -> Place
     requires layout { IsLayout geometry.now perms.now }
-    requires stripe { stripe < stripes_of geometry.now }
+    requires stripe { stripe < pool_stripes geometry.now }
     requires column { column < geometry.now.g }
     ensures { result ≡ place_of geometry.now perms.now stripe column }
 {
@@ -33,7 +33,7 @@ pub fn place(geometry: &Geometry, perms: &Perms, stripe: u64, column: u32) -> Pl
 pub fn spare_child(geometry: &Geometry, perms: &Perms, spare: u32, sector: u64) -> u32
     requires layout { IsLayout geometry.now perms.now }
     requires spare { spare < geometry.now.spec.spares }
-    requires sector { sector < end_of geometry.now }
+    requires sector { sector < child_sectors geometry.now }
     ensures { result ≡ spare_child_of geometry.now perms.now spare sector }
 {
     let height = u64::from(geometry.props.height);
@@ -47,7 +47,7 @@ pub fn owner(geometry: &Geometry, perms: &Perms, child: u32, sector: u64) -> Own
     requires child { child < geometry.now.spec.children }
     ensures owns { Owns geometry.now perms.now child sector result }
 {
-    if sector >= sectors(geometry) {
+    if sector >= geometry.child_sectors() {
         return Owner::Past;
     }
     let height = u64::from(geometry.props.height);
@@ -68,33 +68,4 @@ pub fn owner(geometry: &Geometry, perms: &Perms, child: u32, sector: u64) -> Own
         stripe: held.number(u64::from(geometry.ngroups), height),
         column: (index % g) as u32,
     }
-}
-
-/// The stripes of one metaslab, at most 2^27.
-pub fn metaslab_stripes(geometry: &Geometry) -> u64
-    requires { IsGeometry geometry.now }
-    ensures value { result ≡ part_stripes geometry.now }
-    ensures most { result ≤ 2 ^ 27 }
-{
-    let slices = u64::from(geometry.props.slices);
-    slices * u64::from(geometry.ngroups) * u64::from(geometry.props.height)
-}
-
-/// The sectors that one metaslab has of each child, at most 2^27.
-pub fn metaslab_sectors(geometry: &Geometry) -> u64
-    requires { IsGeometry geometry.now }
-    ensures value { result ≡ part_sectors geometry.now }
-    ensures most { result ≤ 2 ^ 27 }
-{
-    let slices = u64::from(geometry.props.slices);
-    slices * u64::from(geometry.rows) * u64::from(geometry.props.height)
-}
-
-/// The sectors of a child up to the end of the last slice.
-fn sectors(geometry: &Geometry) -> u64
-    requires { IsGeometry geometry.now }
-    ensures { result ≡ end_of geometry.now }
-{
-    let slices = u64::from(geometry.props.metaslabs) * u64::from(geometry.props.slices);
-    slices * u64::from(geometry.rows) * u64::from(geometry.props.height)
 }

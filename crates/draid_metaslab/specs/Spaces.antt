@@ -50,10 +50,6 @@ abbrev pub IsRefused : Stripes → ℕ → SpaceFault → Type 0
 IsRefused space stripes (NoRoom largest) = IsLargest (is_free space) space.height largest × (largest < stripes)
 IsRefused space stripes NoMemory = ⊤
 
--- the stripes of a metaslab
-abbrev pub stripes_of : Geometry → ℕ
-stripes_of geometry = geometry.props.slices * geometry.ngroups * geometry.props.height
-
 -- the facts of the fields, with the capacity of the list of what is deferred
 pub record IsSound (height total held capacity : ℕ) (free : Numbers) (deferred : List Deferred) : Type 0 where
   pub some : 0 < height

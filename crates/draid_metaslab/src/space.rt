@@ -1,9 +1,9 @@
 ghost use Rattle.std.specs.Prelude.{◌≡◌, ◌+◌, ◌-◌, ◌*◌, ◌<◌, ◌≤◌, ◌^◌, ◌||◌, ◌&&◌, ◌++◌, ◌∷◌, [], not, ℕ, true, false, All, filter, length, IfOk, IfErr, OnOk, OnErr, nat_lt, vec_len, vec_capacity};
-ghost use Rattle.draid_metaslab.specs.Spaces.{Frees, IsKept, IsRefused, IsSound, IsSpan, Stripes, is_due, is_free, is_later, stripes_of};
+ghost use Rattle.draid_metaslab.specs.Spaces.{Frees, IsKept, IsRefused, IsSound, IsSpan, Stripes, is_due, is_free, is_later};
 ghost use Rattle.draid_metaslab.specs.Spots.{IsLargest, IsLowest};
 ghost use Rattle.draid_ranges.specs.Numbers.{Has, Numbers, count_below, has};
 ghost use Rattle.draid_ranges.specs.Runs.{has_in, is_between};
-ghost use Rattle.draid_spec.specs.Geometry.{IsGeometry};
+ghost use Rattle.draid_spec.specs.Geometry.{IsGeometry, metaslab_stripes};
 
 use crate::SpaceFault;
 use crate::due::free_all_due;
@@ -44,13 +44,13 @@ impl Space {
     /// The space of a metaslab in which these runs are out. It has the room for each to come back.
     pub fn new(alloc: Global, geometry: &Geometry, taken: &[Run]) -> Result<Space, AllocError>
         requires geometry { IsGeometry geometry.now }
-        requires taken { All (λ (run : Run). IsSpan (stripes_of geometry.now) run.first run.len) taken.now }
-        ensures free { IfOk result (λ space. Frees space (λ x. nat_lt x (stripes_of geometry.now) && not (has_in taken.now x))) }
-        ensures sizes { IfOk result (λ space. (space.height ≡ geometry.now.props.height) × (space.total ≡ stripes_of geometry.now)) }
+        requires taken { All (λ (run : Run). IsSpan (metaslab_stripes geometry.now) run.first run.len) taken.now }
+        ensures free { IfOk result (λ space. Frees space (λ x. nat_lt x (metaslab_stripes geometry.now) && not (has_in taken.now x))) }
+        ensures sizes { IfOk result (λ space. (space.height ≡ geometry.now.props.height) × (space.total ≡ metaslab_stripes geometry.now)) }
         ensures held { IfOk result (λ space. (space.held ≡ length taken.now) × (space.deferred ≡ [])) }
         ensures enabled { IfOk result (λ space. space.disabled ≡ false) }
     {
-        let total = stripes(geometry);
+        let total = geometry.metaslab_stripes();
         let Ok(held) = u32::try_from(taken.len()) else {
             return Err(AllocError);
         };
@@ -187,17 +187,6 @@ fn make_room(free: &mut RangeSet, deferred: &mut Vec<Deferred>, held: u32) -> Re
     deferred.reserve(held as usize + 1)
 }
 
-/// How many stripes a metaslab has.
-fn stripes(geometry: &Geometry) -> u64
-    requires { IsGeometry geometry.now }
-    ensures value { result ≡ stripes_of geometry.now }
-    ensures some { 0 < result }
-    ensures most { result ≤ 2 ^ 48 }
-{
-    let slices = u64::from(geometry.props.slices);
-    slices * u64::from(geometry.ngroups) * u64::from(geometry.props.height)
-}
-
 /// All stripes but those of the runs.
 fn untaken(alloc: Global, total: u64, taken: &[Run]) -> Result<RangeSet, AllocError>
     requires total { (0 < total) × (total ≤ 2 ^ 48) }
@@ -234,7 +223,7 @@ mod tests {
     ) -> Result<(u64, u64, Result<u64, SpaceFault>), SpaceFault>
         requires { IsGeometry layout.now }
     {
-        if stripes(layout) < 9 {
+        if layout.metaslab_stripes() < 9 {
             return Err(SpaceFault::NoMemory);
         }
         let taken = [Run { first: 0, len: 6 }, Run { first: 8, len: 1 }];

@@ -1,5 +1,6 @@
 -- What reads, freeing and damage do to the state that a pool stands for.
 use Rattle.std.proofs.Common.{arith, ◌≡◌, ◌/◌, ◌%◌, ◌∙◌, ℕ, true, List, ◌∷◌, Vec, Global, Option, Some, None, Result, Ok, Err, cond, refl, sym, ap, subst, map, slice_index_or, IfOk}
+use Rattle.draid_spec.specs.Geometry.{metaslab_sectors}
 use Rattle.std.specs.Prelude.{nat_eq, option_map, slice_get}
 use Rattle.std.specs.HashMap.{get}
 use Rattle.std.specs.List.{AllZip}
@@ -7,7 +8,6 @@ use Rattle.draid_names.specs.Faults.{Rose}
 use Rattle.draid_names.specs.declared.fault.NoMemory.{NoMemory}
 use Rattle.draid_names.specs.declared.pointer.Pointer.{Pointer}
 use Rattle.draid_spec.specs.declared.layout.Geometry.{Geometry}
-use Rattle.draid_map.specs.Place.{part_sectors}
 use Rattle.draid_rack.specs.Rack.{Shape, Told, put}
 use Rattle.draid_block.specs.Blocks.{cut_of}
 use Rattle.draid_block.specs.Columns.{stripes_of}
@@ -225,7 +225,7 @@ module _ {R : Type 0} (shape : R → Shape) (told : R → Option Told) (faults :
 
   -- ---- damage
   pub damage_step : (leaf sector at : ℕ) (before after : Shard R) (old new : Pool R) (changes : List Change) → IsThere (state_of told faults old changes) leaf sector
-      → Turned shape told faults (sector / part_sectors old.geometry) before after old new → Represents shape told new changes → at ≡ sector % part_sectors old.geometry
+      → Turned shape told faults (sector / metaslab_sectors old.geometry) before after old new → Represents shape told new changes → at ≡ sector % metaslab_sectors old.geometry
       → TellsBoth (told before.rack) (told after.rack) (λ x y. (l s : ℕ) → y.harmed l s ≡ put leaf at true x.harmed l s) → free_of after ≡ free_of before → held_of after ≡ held_of before
       → logs_of after ≡ logs_of before → NoneFalls (faults before.rack) (faults after.rack) → new.seq ≡ old.seq
       → Moves shape told faults (DamageIs leaf sector (Ok tt)) (state_of told faults old changes) new
@@ -236,17 +236,17 @@ module _ {R : Type 0} (shape : R → Shape) (told : R → Option Told) (faults :
       there = there;
       before = metaslab_of told faults before;
       after = metaslab_of told faults after;
-      one = one_moved shape told faults (sector / part_sectors old.geometry) before after old new changes changes t;
+      one = one_moved shape told faults (sector / metaslab_sectors old.geometry) before after old new changes changes t;
       keeps = record { part = t.part; free = free; held = held; later = later };
       logs = logs;
-      harm = harm_both (told before.rack) (told after.rack) (λ x y. (l s : ℕ) → y l s ≡ put leaf (sector % part_sectors old.geometry) true x l s) (rw same at harmed);
+      harm = harm_both (told before.rack) (told after.rack) (λ x y. (l s : ℕ) → y l s ≡ put leaf (sector % metaslab_sectors old.geometry) true x l s) (rw same at harmed);
       changes = refl;
       seq = seq;
     };
   }
 
   pub fails_step : (leaf sector : ℕ) (before after : Shard R) (old new : Pool R) (changes : List Change) → IsThere (state_of told faults old changes) leaf sector
-      → Turned shape told faults (sector / part_sectors old.geometry) before after old new → Represents shape told new changes → HasLooked before after
+      → Turned shape told faults (sector / metaslab_sectors old.geometry) before after old new → Represents shape told new changes → HasLooked before after
       → Rose (faults before.rack (Some leaf)) (faults after.rack (Some leaf)) → new.seq ≡ old.seq
       → Moves shape told faults (DamageIs leaf sector (Err damage_fault.Failed)) (state_of told faults old changes) new
   fails_step leaf sector before after old new changes there t yet looked rose seq = record {
@@ -256,7 +256,7 @@ module _ {R : Type 0} (shape : R → Shape) (told : R → Option Told) (faults :
       there = there;
       before = metaslab_of told faults before;
       after = metaslab_of told faults after;
-      one = one_moved shape told faults (sector / part_sectors old.geometry) before after old new changes changes t;
+      one = one_moved shape told faults (sector / metaslab_sectors old.geometry) before after old new changes changes t;
       looks = looks_at before after t.part looked;
       rose = rose;
       changes = refl;

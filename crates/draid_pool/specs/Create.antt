@@ -3,10 +3,10 @@ use Rattle.draid_names.specs.declared.pointer.Pointer.{Pointer}
 use Rattle.draid_spec.specs.declared.layout.Geometry.{Geometry}
 use Rattle.draid_spec.specs.declared.layout.Props.{Props}
 use Rattle.draid_spec.specs.declared.spec.Spec.{Spec}
-use Rattle.draid_spec.specs.Geometry.{geometry_of}
+use Rattle.draid_spec.specs.Geometry.{geometry_of, metaslab_stripes}
 use Rattle.draid_rack.specs.Rack.{Shape, Told}
 use Rattle.draid_perm.specs.declared.perms.Perms.{Perms}
-use Rattle.draid_map.specs.Place.{IsLayout, part_stripes}
+use Rattle.draid_map.specs.Place.{IsLayout}
 use Rattle.draid_shelf.specs.Shelf.{HasLeavesOf, SameOthers, TellsCalm, TellsZeros}
 use Rattle.draid_shard.specs.declared.shard.Shard.{Shard}
 use Rattle.draid_shard.specs.Shard.{HasEntry, Valid, free_of, held_of, logs_of, part_of}
@@ -50,7 +50,7 @@ module _ {R : Type 0} (shape : R → Shape) (told : R → Option Told) (faults :
   pub record IsOpened (geometry : Geometry) (perms : Perms) (m : ℕ) (held : Option Told) (counts : Option ℕ → ℕ) (shard : Shard R) : Type 0 where
     pub valid : Valid shape shard
     pub part : part_of shard ≡ record { geometry = geometry; perms = perms; number = m }
-    pub free : (k : ℕ) → free_of shard k ≡ nat_lt k (part_stripes geometry)
+    pub free : (k : ℕ) → free_of shard k ≡ nat_lt k (metaslab_stripes geometry)
     pub none : held_of shard ≡ 0
     pub logs : (leaf group : ℕ) → logs_of shard leaf group ≡ false
     pub empty : (p : Pointer) → HasEntry shard p → ⊥

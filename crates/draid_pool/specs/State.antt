@@ -1,5 +1,6 @@
 -- What a pool is to those who use it, and what its calls do to it.
 use Rattle.std.specs.Prelude.{◌≡◌, ◌≤◌, ◌<◌, ◌+◌, ◌-◌, ◌^◌, ◌/◌, ◌%◌, ◌==◌, ◌||◌, ◌&&◌, ⊤, ℕ, Bool, true, false, List, [], ◌∷◌, Option, Some, None, MatchOption, All, length, option_map, slice_get, slice_set, flat_map, nat_eq, nat_lt, max, if◌then◌else◌}
+use Rattle.draid_spec.specs.Geometry.{child_sectors, metaslab_stripes, metaslab_sectors}
 use Rattle.std.specs.List.{AllZip, count_by, list_any}
 use Rattle.std.specs.List.Sorted.{IsStrictlyIncreasing}
 use Rattle.sha2.specs.Sha256.{sha256}
@@ -7,7 +8,7 @@ use Rattle.draid_names.specs.Faults.{Rose}
 use Rattle.draid_names.specs.declared.room.Room.{Room}
 use Rattle.draid_spec.specs.declared.layout.Geometry.{Geometry}
 use Rattle.draid_perm.specs.declared.perms.Perms.{Perms}
-use Rattle.draid_map.specs.Place.{IsLayout, end_of, part_sectors, part_stripes}
+use Rattle.draid_map.specs.Place.{IsLayout}
 use Rattle.draid_rack.specs.Rack.{put}
 use Rattle.draid_block.specs.Blocks.{cut_of}
 use Rattle.draid_block.specs.Columns.{stripes_of}
@@ -133,7 +134,7 @@ pub record Looks (old new : State) : Type 0 where
 -- A metaslab of a pool that was just created: all stripes are free, it holds no block, no call has failed, no log has a group, and no sector is harmed.
 pub record IsNew (geometry : Geometry) (perms : Perms) (m : ℕ) (x : Metaslab) : Type 0 where
   pub part : x.part ≡ record { geometry = geometry; perms = perms; number = m }
-  pub free : (k : ℕ) → x.free k ≡ nat_lt k (part_stripes geometry)
+  pub free : (k : ℕ) → x.free k ≡ nat_lt k (metaslab_stripes geometry)
   pub held : x.held ≡ 0
   pub faults : (who : Option ℕ) → x.faults who ≡ 0
   pub logs : (leaf group : ℕ) → x.logs leaf group ≡ false
@@ -287,17 +288,17 @@ pub record StopsAt (first count object : ℕ) (old mid : State) : Type 0 where
 
 -- this leaf has this sector, counted through the metaslabs
 abbrev pub IsThere : State → ℕ → ℕ → Type 0
-IsThere old leaf sector = (leaf < old.geometry.spec.children) × (sector < end_of old.geometry)
+IsThere old leaf sector = (leaf < old.geometry.spec.children) × (sector < child_sectors old.geometry)
 
 -- The bytes of a sector changed, which is harmed now. It is there, and nothing else changed. Each metaslab has an equal part of the sectors.
 pub record Damages (leaf sector : ℕ) (old new : State) : Type 0 where
   pub there : IsThere old leaf sector
   pub before : Metaslab
   pub after : Metaslab
-  pub one : MovesOne (sector / part_sectors old.geometry) before after old new
+  pub one : MovesOne (sector / metaslab_sectors old.geometry) before after old new
   pub keeps : Keeps before after
   pub logs : after.logs ≡ before.logs
-  pub harm : HarmBoth before.harm after.harm (λ x y. (l s : ℕ) → y l s ≡ put leaf (sector % part_sectors old.geometry) true x l s)
+  pub harm : HarmBoth before.harm after.harm (λ x y. (l s : ℕ) → y l s ≡ put leaf (sector % metaslab_sectors old.geometry) true x l s)
   pub changes : new.changes ≡ old.changes
   pub seq : new.seq ≡ old.seq
 
@@ -306,7 +307,7 @@ pub record FailsToDamage (leaf sector : ℕ) (old new : State) : Type 0 where
   pub there : IsThere old leaf sector
   pub before : Metaslab
   pub after : Metaslab
-  pub one : MovesOne (sector / part_sectors old.geometry) before after old new
+  pub one : MovesOne (sector / metaslab_sectors old.geometry) before after old new
   pub looks : LooksAt before after
   pub rose : Rose (before.faults (Some leaf)) (after.faults (Some leaf))
   pub changes : new.changes ≡ old.changes

@@ -13,7 +13,6 @@ use crate::room::{count_full, longest_run, rooms_of};
 use crate::store::{StoreFault, damage_sector, fetch_block, free_block, solve, store};
 use draid_block::{Encoded, Fetched};
 use draid_choose::Chooser;
-use draid_map::metaslab_sectors;
 use draid_names::{LAST_NUMBER, NoMemory, ObjectFault, Pointer, Room, WriteFault};
 use draid_rack::Rack;
 use draid_shard::Shard;
@@ -204,7 +203,7 @@ impl<R: Rack> Pool<R> {
         ensures step { (changes : List Change) → Represents R.shape R.told self.old changes
             → Moves R.shape R.told R.faults (DamageIs leaf sector result) (state_of R.told R.faults self.old changes) self.new }
     {
-        let sectors = metaslab_sectors(&self.geometry);
+        let sectors = self.geometry.metaslab_sectors();
         let metaslabs = u64::from(self.geometry.props.metaslabs);
         if leaf >= u64::from(self.geometry.spec.children) || sector >= metaslabs * sectors {
             return Err(DamageFault::NoSuch);

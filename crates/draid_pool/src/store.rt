@@ -1,8 +1,7 @@
 ghost use Rattle.std.specs.Prelude.{◌≡◌, ◌<◌, ◌≤◌, ◌^◌, ℕ, List, IfOk};
-ghost use Rattle.draid_spec.specs.Geometry.{IsGeometry};
+ghost use Rattle.draid_spec.specs.Geometry.{IsGeometry, metaslab_sectors};
 ghost use Rattle.draid_block.specs.Blocks.{cut_of};
 ghost use Rattle.draid_block.specs.Solving.{IsFetched};
-ghost use Rattle.draid_map.specs.Place.{part_sectors};
 ghost use Rattle.draid_pool.specs.Store.{EntersOne, FetchAnswers, FreesBlock, HasRoom, IsLiveIn, MissedSome, SectorAnswers, SolveIs, StoreAnswers};
 ghost use Rattle.draid_shard.specs.Columns.{EndsHarm, TellsBoth};
 ghost use Rattle.draid_shard.specs.Entry.{open_group};
@@ -153,7 +152,7 @@ pub(crate) fn damage_sector<R: Rack>(
 ) -> Result<(), DamageFault>
     requires valid { Valid R.shape shard.old }
     requires leaf { leaf < shard.old.geometry.spec.children }
-    requires sector { sector < part_sectors shard.old.geometry }
+    requires sector { sector < metaslab_sectors shard.old.geometry }
     ensures valid { Valid R.shape shard.new }
     ensures part { part_of shard.new ≡ part_of shard.old }
     ensures answer { SectorAnswers R.told R.faults leaf sector shard.old shard.new result }

@@ -15,6 +15,7 @@ use Rattle.draid_pass.specs.declared.pass.Pass.{Pass}
 use Rattle.draid_ranges.specs.Numbers.{Numbers}
 use Rattle.draid_ranges.specs.declared.run.Run.{Run}
 use Rattle.draid_spec.specs.declared.layout.Geometry.{Geometry}
+use Rattle.draid_spec.specs.Geometry.{metaslab_stripes}
 use Rattle.draid_record.specs.declared.record.Record.{Record}
 use Rattle.draid_record.specs.declared.limits.Limits.{Limits}
 use Rattle.draid_record.specs.declared.fault.Fault.{Fault}
@@ -319,7 +320,7 @@ limits_of geometry metaslab group next_leaf =
       next_leaf = next_leaf;
       metaslab = metaslab;
       group = group;
-      stripes = geometry.props.slices * geometry.ngroups * geometry.props.height;
+      stripes = metaslab_stripes geometry;
       height = geometry.props.height;
       sector = geometry.props.sector;
       ndata = geometry.spec.ndata;

@@ -117,16 +117,14 @@ fn limits(geometry: &Geometry, metaslab: u32, group: u64, next_leaf: u64) -> Lim
     ensures value { result ≡ spec.limits_of geometry.now metaslab group next_leaf }
     ensures sound { AreLimits result }
 {
-    let slices = u64::from(geometry.props.slices);
-    let height = u64::from(geometry.props.height);
     Limits {
         children: geometry.spec.children,
         spares: u64::from(geometry.spec.spares),
         next_leaf,
         metaslab,
         group,
-        stripes: slices * u64::from(geometry.ngroups) * height,
-        height,
+        stripes: geometry.metaslab_stripes(),
+        height: u64::from(geometry.props.height),
         sector: u64::from(geometry.props.sector),
         ndata: u64::from(geometry.spec.ndata),
     }

@@ -3,11 +3,10 @@ use Rattle.std.proofs.Common.{zero, suc, Result, Ok, Err, ◌≡◌, ◌+◌, �
 use Rattle.std.proofs.Math.Nat.{mul-le-mul}
 use Rattle.std.proofs.lemmas.List.{take_more, take_all}
 use Rattle.draid_spec.specs.declared.layout.Geometry.{Geometry}
-use Rattle.draid_spec.specs.Geometry.{IsGeometry}
+use Rattle.draid_spec.specs.Geometry.{IsGeometry, metaslab_stripes}
 use Rattle.draid_machine.specs.declared.event.Event.{Event}
 use Rattle.draid_machine.specs.declared.event.Event.TheVariants.{Begin, Put, Finish, Abort, Free, Fetch, Damage, Offline, Online, Attach, Detach, Close, Seal, Commit, Plan, Ready, Lend, LandStripe, LandBlock, Done, Cancel, Reopen}
 use Rattle.draid_machine.specs.State.{Layout, State}
-use Rattle.draid_machine.specs.Layout.{stripes_in}
 use Rattle.draid_machine.specs.Step.{Run, Step}
 use Rattle.draid_replay.specs.Within.{IsWithin, IsSmallEvent}
 use Rattle.draid_replay.specs.History.{IsSoFar}
@@ -16,10 +15,10 @@ use Rattle.draid_replay.specs.declared.history.ReplayFault.{ReplayFault}
 use Rattle.draid_replay.specs.declared.history.ReplayFault.TheVariants.{NotLegal, NoMemory}
 use Rattle.draid_world.specs.declared.world.World.{World}
 
-pub stripes_few : (geometry : Geometry) → IsGeometry geometry → stripes_in geometry < 2 ^ 48
+pub stripes_few : (geometry : Geometry) → IsGeometry geometry → metaslab_stripes geometry < 2 ^ 48
 stripes_few geometry is =
     let groups : geometry.ngroups ≤ 32 = (let a = is.slice.most_groups in let b = is.disks in let d = is.spec.most_children in omega (arith, a, b, d)) in
-    let most : stripes_in geometry ≤ 1024 * 32 * 4096 = mul-le-mul (mul-le-mul is.props.most_slices groups) is.props.most_height in
+    let most : metaslab_stripes geometry ≤ 1024 * 32 * 4096 = mul-le-mul (mul-le-mul is.props.most_slices groups) is.props.most_height in
     omega (arith, most)
 
 run_more : (l : Layout) (w mid new : State) (es : List Event) (e : Event) → Run l w es mid → Step l mid e new → Run l w (es ++ e ∷ []) new

@@ -1,9 +1,8 @@
 use Rattle.std.specs.Prelude.{◌≡◌, ◌++◌, ℕ, List, [], codes, string_bytes, Option, Some, None, Result, Ok, Err}
 use Rattle.draid_spec.specs.declared.layout.Props.{Props}
 use Rattle.draid_spec.specs.declared.spec.Spec.{Spec}
-use Rattle.draid_spec.specs.Geometry.{geometry_of}
+use Rattle.draid_spec.specs.Geometry.{geometry_of, pool_stripes}
 use Rattle.draid_spec.specs.Name.{spec_name_of}
-use Rattle.draid_map.specs.Place.{stripes_of}
 use Rattle.draid_rack.specs.Rack.{Shape, Told}
 use Rattle.draid_pool.specs.State.{State, Change}
 use Rattle.draid_pool.specs.Pool.{Represents, state_of}
@@ -27,7 +26,7 @@ state_in told faults (Some pool) changes = Some (state_of told faults pool chang
 pub record OpensAs {R : Type 0} (shape : R → Shape) (told : R → Option Told) (faults : R → Option ℕ → ℕ) (spec : Spec) (props : Props) (made : Made) (pool : Pool R) : Type 0 where
   pub opens : Opens shape told faults spec props pool
   pub name_is : string_bytes made.name ≡ spec_name_of spec ++ codes "-0"
-  pub stripes_are : made.stripes ≡ stripes_of opens.layout.geometry
+  pub stripes_are : made.stripes ≡ pool_stripes opens.layout.geometry
 
 -- what became of a pool that was to be opened
 abbrev pub OpensBy : {R : Type 0} → (R → Shape) → (R → Option Told) → (R → Option ℕ → ℕ) → Spec → Props → Result Made PoolFault → Option (Pool R) → Type 0

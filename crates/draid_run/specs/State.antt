@@ -4,14 +4,13 @@ use Rattle.draid_spec.specs.declared.layout.Geometry.{Geometry}
 use Rattle.draid_spec.specs.declared.layout.Props.{Props}
 use Rattle.draid_spec.specs.declared.spec.Spec.{Spec}
 use Rattle.draid_spec.specs.declared.spec.SpecFault.{SpecFault}
-use Rattle.draid_spec.specs.Geometry.{geometry_of}
+use Rattle.draid_spec.specs.Geometry.{geometry_of, pool_stripes}
 use Rattle.draid_spec.specs.Name.{spec_name_of}
 use Rattle.draid_spec.specs.Text.{spec_by}
 use Rattle.rand_core.specs.Steps.{fill_via_u64}
 use Rattle.rand_xoshiro.specs.Xoroshiro128.{of_seed, plus_plus}
 use Rattle.rand_xoshiro.specs.SplitMix64.{splitmix_seed}
 use Rattle.draid_names.specs.declared.room.Room.{Room}
-use Rattle.draid_map.specs.Place.{stripes_of}
 use Rattle.draid_pool.specs.Answers.{SumStops, WriteIs}
 use Rattle.draid_pool.specs.State.{Damages, FailsToDamage, Frees, HasNoSpace, IsFresh, IsLast, IsLost, IsThere, Looks, Misses, ReadsLast, State, Stays, Sums, Writes, write_of}
 use Rattle.draid_script.specs.Grammar.{line_of}
@@ -49,7 +48,7 @@ HasNoLayout text children keys why = layout_by text children keys ≡ Err why
 pub record Creates (text : List ℕ) (children : ℕ) (keys : PoolKeys) (called : List ℕ) (stripes : ℕ) (new : State) : Type 0 where
   pub layout : HasLayout text children keys
   pub name_is : called ≡ spec_name_of layout.geometry.spec ++ codes "-0"
-  pub stripes_are : stripes ≡ stripes_of layout.geometry
+  pub stripes_are : stripes ≡ pool_stripes layout.geometry
   pub fresh : IsFresh layout.geometry new
 
 -- What a command for which no metaslab is chosen does to an open pool, and its reply.

@@ -3,10 +3,8 @@ ghost use Rattle.std.specs.Prelude.{◌≡◌, ◌++◌, ℕ, List, Option, None
 ghost use Rattle.draid_script.specs.Line.{CreatePool, DamageSector, FillObjects, FreeObject, IsInRange, ReadObject, SumObjects, WriteObject, command_in};
 ghost use Rattle.std.specs.Fn.{FnReturnsAt};
 ghost use Rattle.draid_choose.specs.Rooms.{IsChooser};
-ghost use Rattle.draid_spec.specs.Geometry.{IsGeometry};
 ghost use Rattle.draid_spec.specs.Spec.{IsSpec};
 ghost use Rattle.draid_spec.specs.Name.{spec_name_of};
-ghost use Rattle.draid_map.specs.Place.{stripes_of};
 ghost use Rattle.draid_pool.specs.State.{Change};
 ghost use Rattle.draid_run.specs.State.{props_of};
 ghost use Rattle.draid_run.specs.Session.{IsDesk, OpensBy, state_in};
@@ -14,13 +12,12 @@ ghost use Rattle.draid_run.specs.Serve.{AnswerIs, PlainTurned, Turned};
 
 use crate::{fill, replies};
 use draid_choose::Chooser;
-use draid_map::metaslab_stripes;
 use draid_names::{NoMemory, Room};
 use draid_pool::{Pool, PoolFault, close};
 use draid_rack::Rack;
 use draid_script::{CommandName, Line, PoolKeys, Reply};
 use draid_shelf::RackShelf;
-use draid_spec::{Geometry, Props, Spec, parse_spec, spec_name};
+use draid_spec::{Props, Spec, parse_spec, spec_name};
 use std::alloc::Global;
 use std::thread::Threads;
 
@@ -48,14 +45,6 @@ fn vdev_name(alloc: Global, spec: Spec) -> Result<String, NoMemory>
     let mut name = spec_name(alloc, spec)?;
     name.push_str("-0")?;
     Ok(name)
-}
-
-/// The stripes of a pool.
-fn stripes(geometry: &Geometry) -> u64
-    requires { IsGeometry geometry.now }
-    ensures { result ≡ stripes_of geometry.now }
-{
-    u64::from(geometry.props.metaslabs) * metaslab_stripes(geometry)
 }
 
 /// Opens a new pool, where none is open.
@@ -110,7 +99,7 @@ fn open_pool<H: RackShelf>(
     let new = draid_pool::create(alloc, shelf, spec, props)?;
     match vdev_name(alloc, spec) {
         Ok(name) => {
-            let stripes = stripes(new.geometry());
+            let stripes = new.geometry().pool_stripes();
             *pool = Some(new);
             Ok(Made { name, stripes })
         }

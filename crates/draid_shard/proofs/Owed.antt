@@ -1,9 +1,9 @@
 -- How many events are owed, as one entry of the table changes.
 use Rattle.std.proofs.Common.{◌≡◌, ◌+◌, ◌<◌, ◌≤◌, ◌∙◌, ℕ, zero, suc, Option, Some, None, arith, refl, ap, inl, inr}
+use Rattle.draid_spec.specs.Geometry.{metaslab_stripes}
 use Rattle.std.specs.Prelude.{vec_capacity, vec_len}
 use Rattle.std.proofs.lemmas.Bool.{cases_lt}
 use Rattle.std.specs.BTreeMap.{BTreeMap}
-use Rattle.draid_map.specs.Place.{part_stripes}
 use Rattle.draid_spec.specs.declared.layout.Geometry.{Geometry}
 use Rattle.draid_shard.specs.declared.entry.Entry.{Entry}
 use Rattle.draid_shard.specs.declared.history.History.{History}
@@ -55,21 +55,21 @@ sum_none f zero none = refl
 sum_none f (suc n) none = let before = sum_none f n none in let last = none n in omega (arith, before, last)
 
 -- of an entry no more events are owed than of all
-pub owed_least : (geometry : Geometry) (blocks : BTreeMap ℕ Entry) (history : History) (at owed : ℕ) (entry : Option Entry) → Owes geometry blocks history → at < part_stripes geometry
+pub owed_least : (geometry : Geometry) (blocks : BTreeMap ℕ Entry) (history : History) (at owed : ℕ) (entry : Option Entry) → Owes geometry blocks history → at < metaslab_stripes geometry
     → entry_at blocks at ≡ entry → owed_by geometry.g entry ≡ owed → owed ≤ history.owed
 owed_least geometry blocks history at owed entry owes lt there is =
-    let least = sum_least (λ k. owed_by geometry.g (entry_at blocks k)) (part_stripes geometry) at lt in
+    let least = sum_least (λ k. owed_by geometry.g (entry_at blocks k)) (metaslab_stripes geometry) at lt in
     let own : owed_by geometry.g (entry_at blocks at) ≡ owed = ap (owed_by geometry.g) there ∙ is in
     let all = owes.owed in
     omega (arith, least, own, all)
 
 -- one entry was set, and what is owed changed as it does
-pub owes_set : (geometry : Geometry) (old new : BTreeMap ℕ Entry) (history next : History) (at before after : ℕ) (was entry : Option Entry) → Owes geometry old history → at < part_stripes geometry
+pub owes_set : (geometry : Geometry) (old new : BTreeMap ℕ Entry) (history next : History) (at before after : ℕ) (was entry : Option Entry) → Owes geometry old history → at < metaslab_stripes geometry
     → SetsEntry old new at entry → entry_at old at ≡ was → owed_by geometry.g was ≡ before → owed_by geometry.g entry ≡ after
     → next.owed + before ≡ history.owed + after → next.reserved ≡ history.reserved → vec_len next.events + next.owed ≤ vec_capacity next.events → Owes geometry new next
 owes_set geometry old new history next at before after was entry owes lt sets there b a change reserved room = record {
   owed =
-      let sum = sum_set (λ k. owed_by geometry.g (entry_at old k)) (λ k. owed_by geometry.g (entry_at new k)) (part_stripes geometry) at lt
+      let sum = sum_set (λ k. owed_by geometry.g (entry_at old k)) (λ k. owed_by geometry.g (entry_at new k)) (metaslab_stripes geometry) at lt
       (λ k other. ap (owed_by geometry.g) (sets.others k other)) in
       let o : owed_by geometry.g (entry_at old at) ≡ before = ap (owed_by geometry.g) there ∙ b in
       let n : owed_by geometry.g (entry_at new at) ≡ after = ap (owed_by geometry.g) sets.here ∙ a in
@@ -83,7 +83,7 @@ pub owes_same : (geometry : Geometry) (old new : BTreeMap ℕ Entry) (history ne
     → next.owed + history.reserved ≡ history.owed + next.reserved → vec_len next.events + next.owed ≤ vec_capacity next.events → Owes geometry new next
 owes_same geometry old new history next owes same change room = record {
   owed =
-      let sum = sum_same (λ k. owed_by geometry.g (entry_at old k)) (λ k. owed_by geometry.g (entry_at new k)) (part_stripes geometry) (λ k lt. ap (owed_by geometry.g) (same k)) in
+      let sum = sum_same (λ k. owed_by geometry.g (entry_at old k)) (λ k. owed_by geometry.g (entry_at new k)) (metaslab_stripes geometry) (λ k lt. ap (owed_by geometry.g) (same k)) in
       let all = owes.owed in
       omega (arith, sum, all, change);
   room = room;
@@ -94,7 +94,7 @@ pub owes_none : (geometry : Geometry) (blocks : BTreeMap ℕ Entry) (history : H
     → vec_len history.events + history.owed ≤ vec_capacity history.events → Owes geometry blocks history
 owes_none geometry blocks history none owed reserved room = record {
   owed =
-      let sum = sum_none (λ k. owed_by geometry.g (entry_at blocks k)) (part_stripes geometry) (λ k. ap (owed_by geometry.g) (none k)) in
+      let sum = sum_none (λ k. owed_by geometry.g (entry_at blocks k)) (metaslab_stripes geometry) (λ k. ap (owed_by geometry.g) (none k)) in
       omega (arith, sum, owed, reserved);
   room = room;
 }
@@ -104,7 +104,7 @@ pub reserved_owed : (geometry : Geometry) (blocks : BTreeMap ℕ Entry) (history
 reserved_owed geometry blocks history owes = let all = owes.owed in omega (arith, all)
 
 -- where the entry of a pointer is
-pub entry_below : (geometry : Geometry) (space : Stripes) (blocks : BTreeMap ℕ Entry) (k : ℕ) (e : Entry) → Tables geometry space blocks → entry_at blocks k ≡ Some e → k < part_stripes geometry
+pub entry_below : (geometry : Geometry) (space : Stripes) (blocks : BTreeMap ℕ Entry) (k : ℕ) (e : Entry) → Tables geometry space blocks → entry_at blocks k ≡ Some e → k < metaslab_stripes geometry
 entry_below geometry space blocks k e t there =
     let first = (t.placed k e there).first in
     let low = first_there geometry e.pointer.first e.pointer.stripes (entry_run geometry space blocks k e t there) in

@@ -1,9 +1,10 @@
 -- Where the columns of a metaslab have their places.
 use Rattle.std.proofs.Common.{◌≡◌, ◌+◌, ◌-◌, ◌*◌, ◌/◌, ◌%◌, ◌<◌, ◌≤◌, ℕ, refl, ap, ap₂, ◌∙◌, arith}
+use Rattle.draid_spec.specs.Geometry.{pool_stripes, metaslab_stripes, metaslab_sectors}
 use Rattle.std.proofs.Math.Nat.{mod-lt, mul-le-mul_right}
 use Rattle.std.proofs.lemmas.Nat.{mod-mul-add}
 use Rattle.draid_map.specs.declared.sectors.Place.{Place}
-use Rattle.draid_map.specs.Place.{part_sectors, part_stripes, place_of, stripes_of}
+use Rattle.draid_map.specs.Place.{place_of}
 use Rattle.draid_map.proofs.Distinct.{place_apart, columns_apart}
 use Rattle.draid_map.proofs.Radix.{its_digits}
 use Rattle.draid_map.proofs.Runs.{run_follows, place_child, part_from, part_to}
@@ -11,34 +12,34 @@ use Rattle.draid_shard.specs.Part.{IsPart, Part, place_in}
 
 -- a stripe of the metaslab, counted through the pool
 abbrev pub in_pool : Part → ℕ → ℕ
-in_pool part k = part.number * part_stripes part.geometry + k
+in_pool part k = part.number * metaslab_stripes part.geometry + k
 
 pub some_height : (part : Part) → IsPart part → 0 < part.geometry.props.height
 some_height part is = let least : 8 ≤ part.geometry.props.height = is.layout.geometry_is.props.least_height in omega arith
 
-pub pool_stripe : (part : Part) (k : ℕ) → IsPart part → k < part_stripes part.geometry → in_pool part k < stripes_of part.geometry
+pub pool_stripe : (part : Part) (k : ℕ) → IsPart part → k < metaslab_stripes part.geometry → in_pool part k < pool_stripes part.geometry
 pool_stripe part k is below =
-    let up : (part.number + 1) * part_stripes part.geometry ≤ part.geometry.props.metaslabs * part_stripes part.geometry
-    = mul-le-mul_right (part_stripes part.geometry) (let b = is.below in omega arith) in
-    let next : (part.number + 1) * part_stripes part.geometry ≡ part.number * part_stripes part.geometry + part_stripes part.geometry = grind arith in
+    let up : (part.number + 1) * metaslab_stripes part.geometry ≤ part.geometry.props.metaslabs * metaslab_stripes part.geometry
+    = mul-le-mul_right (metaslab_stripes part.geometry) (let b = is.below in omega arith) in
+    let next : (part.number + 1) * metaslab_stripes part.geometry ≡ part.number * metaslab_stripes part.geometry + metaslab_stripes part.geometry = grind arith in
     let all : part.geometry.props.metaslabs * part.geometry.props.slices * part.geometry.ngroups * part.geometry.props.height
-    ≡ part.geometry.props.metaslabs * part_stripes part.geometry = grind arith in
+    ≡ part.geometry.props.metaslabs * metaslab_stripes part.geometry = grind arith in
     omega (arith, up, next, all)
 
 -- the sectors of the metaslab begin where its number says
 pub sector_from : (part : Part) (k i : ℕ) → IsPart part → i < part.geometry.g
-    → part.number * part_sectors part.geometry ≤ (place_of part.geometry part.perms (in_pool part k) i).sector
+    → part.number * metaslab_sectors part.geometry ≤ (place_of part.geometry part.perms (in_pool part k) i).sector
 sector_from part k i is in_group = part_from part.geometry part.perms part.number (in_pool part k) i is.layout.geometry_is in_group (omega arith)
 
-pub sector_below : (part : Part) (k i : ℕ) → IsPart part → k < part_stripes part.geometry → i < part.geometry.g
-    → (place_in part k i).sector < part_sectors part.geometry
+pub sector_below : (part : Part) (k i : ℕ) → IsPart part → k < metaslab_stripes part.geometry → i < part.geometry.g
+    → (place_in part k i).sector < metaslab_sectors part.geometry
 unfolding place_in
 sector_below part k i is below in_group =
-    let next : (part.number + 1) * part_stripes part.geometry ≡ part.number * part_stripes part.geometry + part_stripes part.geometry = grind arith in
+    let next : (part.number + 1) * metaslab_stripes part.geometry ≡ part.number * metaslab_stripes part.geometry + metaslab_stripes part.geometry = grind arith in
     let low = sector_from part k i is in_group in
-    let high : (place_of part.geometry part.perms (in_pool part k) i).sector < (part.number + 1) * part_sectors part.geometry
+    let high : (place_of part.geometry part.perms (in_pool part k) i).sector < (part.number + 1) * metaslab_sectors part.geometry
     = part_to part.geometry part.perms part.number (in_pool part k) i is.layout.geometry_is in_group (omega (arith, below, next)) in
-    let more : (part.number + 1) * part_sectors part.geometry ≡ part.number * part_sectors part.geometry + part_sectors part.geometry = grind arith in
+    let more : (part.number + 1) * metaslab_sectors part.geometry ≡ part.number * metaslab_sectors part.geometry + metaslab_sectors part.geometry = grind arith in
     omega (arith, low, high, more)
 
 pub child_there : (part : Part) (k i : ℕ) → IsPart part → (place_in part k i).child < part.geometry.spec.children
@@ -51,7 +52,7 @@ unfolding place_in
 apart part k a l b is left right same =
     let low = sector_from part k a is left in
     let other = sector_from part l b is right in
-    let offset : ℕ = part.number * part_sectors part.geometry in
+    let offset : ℕ = part.number * metaslab_sectors part.geometry in
     let sectors : (place_of part.geometry part.perms (in_pool part k) a).sector ≡ (place_of part.geometry part.perms (in_pool part l) b).sector
     = (let s : (place_of part.geometry part.perms (in_pool part k) a).sector - offset ≡ (place_of part.geometry part.perms (in_pool part l) b).sector - offset = ap (λ (p : Place). p.sector) same in omega (arith, low, other, s)) in
     let children : (place_of part.geometry part.perms (in_pool part k) a).child ≡ (place_of part.geometry part.perms (in_pool part l) b).child = ap (λ (p : Place). p.child) same in
@@ -78,7 +79,7 @@ unfolding place_in
 follows part k j i is in_group within =
     let low = sector_from part k i is in_group in
     let height : ℕ = part.geometry.props.height in
-    let whole : part.number * part_stripes part.geometry ≡ part.number * part.geometry.props.slices * part.geometry.ngroups * height = grind arith in
+    let whole : part.number * metaslab_stripes part.geometry ≡ part.number * part.geometry.props.slices * part.geometry.ngroups * height = grind arith in
     let digits : k % height + (k / height) * height ≡ k = omega (arith, its_digits height k) in
     let offset : in_pool part k ≡ (part.number * part.geometry.props.slices * part.geometry.ngroups + k / height) * height + k % height = grind arith in
     let less : k % height < height = mod-lt k (some_height part is) in
@@ -94,7 +95,7 @@ follows part k j i is in_group within =
 
 -- the code's way to a place is the definition's
 pub place_is : (part : Part) (k i : ℕ) (lies : Place) (number stripes sectors : ℕ) → lies ≡ place_of part.geometry part.perms (number * stripes + k) i
-    → number ≡ part.number → stripes ≡ part_stripes part.geometry → sectors ≡ part_sectors part.geometry
+    → number ≡ part.number → stripes ≡ metaslab_stripes part.geometry → sectors ≡ metaslab_sectors part.geometry
     → record { child = lies.child; sector = lies.sector - number * sectors } ≡ place_in part k i
 unfolding place_in
 place_is part k i lies number stripes sectors at n s t = rw (at, n, s, t) refl

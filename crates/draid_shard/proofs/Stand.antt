@@ -7,9 +7,8 @@ use Rattle.std.proofs.lemmas.Bool.{cases_lt}
 use Rattle.std.proofs.lemmas.Bool.Decides.{nat_tests}
 use Rattle.draid_names.specs.declared.fault.Failed.{Failed}
 use Rattle.draid_spec.specs.declared.layout.Geometry.{Geometry}
-use Rattle.draid_spec.specs.Geometry.{IsGeometry}
+use Rattle.draid_spec.specs.Geometry.{IsGeometry, metaslab_stripes, metaslab_sectors}
 use Rattle.draid_map.specs.declared.sectors.Place.{Place}
-use Rattle.draid_map.specs.Place.{part_sectors, part_stripes}
 use Rattle.draid_rack.specs.Rack.{HasJust, OnTold, Shape, Told}
 use Rattle.draid_parity.specs.Columns.{column_at}
 use Rattle.draid_shard.specs.Part.{IsPart, IsRun, Part, at_place, place_in}
@@ -17,10 +16,10 @@ use Rattle.draid_shard.specs.Columns.{ColumnStands, ColumnsStand, EndsHarm, HasR
 use Rattle.draid_shard.proofs.Places.{apart, child_there, follows, sector_below}
 
 -- ---- the run of a column on its leaf
-pub first_there : (geometry : Geometry) (first stripes : ℕ) → IsRun geometry first stripes → first < part_stripes geometry
+pub first_there : (geometry : Geometry) (first stripes : ℕ) → IsRun geometry first stripes → first < metaslab_stripes geometry
 first_there geometry first stripes run = let a = run.some in let b = run.inside in omega (arith, a, b)
 
-few_sectors : (geometry : Geometry) → IsGeometry geometry → part_sectors geometry ≤ 2 ^ 27
+few_sectors : (geometry : Geometry) → IsGeometry geometry → metaslab_sectors geometry ≤ 2 ^ 27
 few_sectors geometry is =
     let rows : geometry.rows ≤ 32 = (let a = is.slice.most_rows in let w = is.width in let d = is.disks in let c = is.spec.most_children in omega (arith, a, w, d, c)) in
     let two : geometry.props.slices * geometry.rows ≤ 1024 * 32 = mul-le-mul is.props.most_slices rows in
@@ -38,7 +37,7 @@ some_size : (geometry : Geometry) → IsGeometry geometry → 0 < geometry.props
 some_size geometry is = elim is.props.sector [ inl a ↦ omega (arith, a) | inr b ↦ omega (arith, b) ]
 
 pub has_run : (part : Part) (shape : Shape) (first stripes i leaf sector rows size : ℕ) → IsPart part
-    → HasJust shape part.geometry.spec.children (part_sectors part.geometry) part.geometry.props.sector → IsRun part.geometry first stripes → i < part.geometry.g
+    → HasJust shape part.geometry.spec.children (metaslab_sectors part.geometry) part.geometry.props.sector → IsRun part.geometry first stripes → i < part.geometry.g
     → leaf ≡ (place_in part first i).child → sector ≡ (place_in part first i).sector → rows ≡ stripes → size ≡ part.geometry.props.sector
     → HasRun shape leaf sector rows size
 has_run part shape first stripes i leaf sector rows size is just run below l s r z = rw (l, s, r, z) (record {
@@ -51,7 +50,7 @@ has_run part shape first stripes i leaf sector rows size is just run below l s r
   last : ℕ
   last = stripes - 1
 
-  fits : (place_in part first i).sector + stripes ≤ part_sectors part.geometry
+  fits : (place_in part first i).sector + stripes ≤ metaslab_sectors part.geometry
   fits =
       let some = run.some in
       let inside = run.inside in

@@ -1,5 +1,6 @@
 -- The tables fit together after each change of one entry.
 use Rattle.std.proofs.Common.{rules, if◌then◌else◌, ◌≡◌, ◌⊎◌, ◌+◌, ◌*◌, ◌<◌, ◌≤◌, ◌%◌, ◌/◌, ◌&&◌, ◌||◌, not, ℕ, List, Bool, true, false, Option, Some, None, arith, refl, sym, ap, inl, inr, ◌∙◌, subst, [], ◌∷◌, length}
+use Rattle.draid_spec.specs.Geometry.{metaslab_stripes}
 use Rattle.std.proofs.Math.Nat.{mod-lt, mul-le-mul_right}
 use Rattle.std.proofs.lemmas.Bool.{cases_lt, cases_eq}
 use Rattle.std.proofs.lemmas.Bool.Decides.{nat_tests}
@@ -9,7 +10,6 @@ use Rattle.std.specs.Map.{lookup}
 use Rattle.std.specs.Prelude.{is_some}
 use Rattle.draid_names.specs.declared.pointer.Pointer.{Pointer}
 use Rattle.draid_spec.specs.declared.layout.Geometry.{Geometry}
-use Rattle.draid_map.specs.Place.{part_stripes}
 use Rattle.draid_map.proofs.Radix.{its_digits}
 use Rattle.draid_ranges.specs.Runs.{is_between}
 use Rattle.draid_metaslab.specs.Spaces.{IsKept, Stripes, is_free}
@@ -124,7 +124,7 @@ moved geometry old new k pointer p held = record { first = p.first; some = p.som
 -- the space as it was, or with another number of runs that are out
 pub record IsSpaceOf (geometry : Geometry) (space : Stripes) (runs : ℕ) : Type 0 where
   pub height : space.height ≡ geometry.props.height
-  pub total : space.total ≡ part_stripes geometry
+  pub total : space.total ≡ metaslab_stripes geometry
   pub enabled : space.disabled ≡ false
   pub count : space.held ≡ runs
   pub few : runs ≤ 4096
@@ -182,7 +182,7 @@ held_tables geometry old new blocks new_blocks pointer t fits sized takes sets i
   still : (k : ℕ) (e : Entry) → entry_at blocks k ≡ Some e → entry_at new_blocks k ≡ Some e
   still k e h = sets.others k (λ same. (let n = none_at geometry old blocks pointer.first pointer.stripes t fits in let m : entry_at blocks k ≡ None = ap (entry_at blocks) same ∙ n in absurd (cc))) ∙ h
 
-  covers : (x : ℕ) → x < part_stripes geometry → (b : Bool) → is_free old x ≡ b → is_free new x ≡ false → HasStripe new_blocks x
+  covers : (x : ℕ) → x < metaslab_stripes geometry → (b : Bool) → is_free old x ≡ b → is_free new x ≡ false → HasStripe new_blocks x
   covers x below false was taken = has_still blocks new_blocks x still (t.covered x below was)
   covers x below true was taken =
       let both = takes x in record {

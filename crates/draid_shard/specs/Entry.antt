@@ -1,11 +1,11 @@
 use Rattle.std.specs.Prelude.{◌≡◌, ◌<◌, ◌≤◌, ◌+◌, ◌%◌, ℕ, Bool, false, Option, Some}
+use Rattle.draid_spec.specs.Geometry.{metaslab_stripes}
 use Rattle.std.specs.Ordering.{nat_cmp}
 use Rattle.std.specs.BTreeMap.{BTreeMap, get, btree_map_len}
 use Rattle.draid_names.specs.declared.pointer.Pointer.{Pointer}
 use Rattle.draid_spec.specs.declared.layout.Geometry.{Geometry}
 use Rattle.draid_block.specs.Columns.{stripes_of}
 use Rattle.draid_block.specs.Blocks.{cut_of}
-use Rattle.draid_map.specs.Place.{part_stripes}
 use Rattle.draid_metaslab.specs.Spaces.{Stripes, is_free}
 use Rattle.draid_metaslab.specs.Spots.{IsLargest}
 use Rattle.draid_shard.specs.declared.entry.Entry.{Entry}
@@ -39,7 +39,7 @@ pub record IsBlock (geometry : Geometry) (pointer : Pointer) : Type 0 where
 pub record IsPlaced (geometry : Geometry) (free : ℕ → Bool) (k : ℕ) (pointer : Pointer) : Type 0 where
   pub first : pointer.first ≡ k
   pub some : 1 ≤ pointer.stripes
-  pub inside : k + pointer.stripes ≤ part_stripes geometry
+  pub inside : k + pointer.stripes ≤ metaslab_stripes geometry
   pub group : k % geometry.props.height + pointer.stripes ≤ geometry.props.height
   pub held : (x : ℕ) → k ≤ x → x < k + pointer.stripes → free x ≡ false
   pub is_block : IsBlock geometry pointer
@@ -56,13 +56,13 @@ pub record HasStripe (blocks : BTreeMap ℕ Entry) (x : ℕ) : Type 0 where
 -- space holds a run. No other stripe is taken.
 pub record Tables (geometry : Geometry) (space : Stripes) (blocks : BTreeMap ℕ Entry) : Type 0 where
   pub height : space.height ≡ geometry.props.height
-  pub total : space.total ≡ part_stripes geometry
+  pub total : space.total ≡ metaslab_stripes geometry
   pub enabled : space.disabled ≡ false
   pub count : space.held ≡ btree_map_len blocks
   pub few : btree_map_len blocks ≤ 4096
   pub placed : (k : ℕ) (e : Entry) → entry_at blocks k ≡ Some e → IsPlaced geometry (is_free space) k e.pointer
   pub apart : (j k : ℕ) (a b : Entry) → entry_at blocks j ≡ Some a → entry_at blocks k ≡ Some b → j < k → j + a.pointer.stripes ≤ k
-  pub covered : (x : ℕ) → x < part_stripes geometry → is_free space x ≡ false → HasStripe blocks x
+  pub covered : (x : ℕ) → x < metaslab_stripes geometry → is_free space x ≡ false → HasStripe blocks x
 
 abbrev pub staged : Stage → Pointer → Entry
 staged s p = record { pointer = p; stage = s }

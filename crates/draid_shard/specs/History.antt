@@ -1,9 +1,9 @@
 -- The events that a shard stores, and those for which it keeps room.
 use Rattle.std.specs.Prelude.{◌≡◌, ◌+◌, ◌-◌, ◌≤◌, ℕ, zero, suc, Option, Some, None, vec_capacity, vec_len}
+use Rattle.draid_spec.specs.Geometry.{metaslab_stripes}
 use Rattle.std.specs.BTreeMap.{BTreeMap}
 use Rattle.draid_machine.specs.declared.names.Stage.{Stage}
 use Rattle.draid_machine.specs.declared.names.Stage.TheVariants.{Writing, Live, Freed}
-use Rattle.draid_map.specs.Place.{part_stripes}
 use Rattle.draid_spec.specs.declared.layout.Geometry.{Geometry}
 use Rattle.draid_shard.specs.declared.entry.Entry.{Entry}
 use Rattle.draid_shard.specs.declared.history.History.{History}
@@ -27,7 +27,7 @@ sum_below f (suc n) = sum_below f n + f n
 
 -- how many events the blocks and tickets of a table may still add
 abbrev pub owed_in : Geometry → BTreeMap ℕ Entry → ℕ
-owed_in geometry blocks = sum_below (λ k. owed_by geometry.g (entry_at blocks k)) (part_stripes geometry)
+owed_in geometry blocks = sum_below (λ k. owed_by geometry.g (entry_at blocks k)) (metaslab_stripes geometry)
 
 -- what the blocks and tickets may still add, and what is reserved, is owed, and there is room for it
 pub record Owes (geometry : Geometry) (blocks : BTreeMap ℕ Entry) (history : History) : Type 0 where

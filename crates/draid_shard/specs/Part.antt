@@ -1,9 +1,10 @@
 -- One metaslab of a layout, and where its columns lie.
 use Rattle.std.specs.Prelude.{ℕ, ◌<◌, ◌≤◌, ◌+◌, ◌-◌, ◌*◌, ◌%◌}
+use Rattle.draid_spec.specs.Geometry.{metaslab_stripes, metaslab_sectors}
 use Rattle.draid_spec.specs.declared.layout.Geometry.{Geometry}
 use Rattle.draid_perm.specs.declared.perms.Perms.{Perms}
 use Rattle.draid_map.specs.declared.sectors.Place.{Place}
-use Rattle.draid_map.specs.Place.{IsLayout, part_sectors, part_stripes, place_of}
+use Rattle.draid_map.specs.Place.{IsLayout, place_of}
 
 -- a layout, and the number of a metaslab
 pub record Part : Type 0 where
@@ -19,8 +20,8 @@ pub record IsPart (part : Part) : Type 0 where
 -- Where column i of stripe k has its place. Stripes and sectors are counted within the metaslab.
 unfoldable pub place_in : Part → ℕ → ℕ → Place
 place_in part k i =
-    let place = place_of part.geometry part.perms (part.number * part_stripes part.geometry + k) i in
-    record { child = place.child; sector = place.sector - part.number * part_sectors part.geometry }
+    let place = place_of part.geometry part.perms (part.number * metaslab_stripes part.geometry + k) i in
+    record { child = place.child; sector = place.sector - part.number * metaslab_sectors part.geometry }
 
 -- the leaf on which a column of a block stands that begins at this stripe
 abbrev pub leaf_of : Part → ℕ → ℕ → ℕ
@@ -33,5 +34,5 @@ at_place part f k i = f (place_in part k i).child (place_in part k i).sector
 -- stripes of the metaslab that follow one another within one group
 pub record IsRun (geometry : Geometry) (first stripes : ℕ) : Type 0 where
   pub some : 1 ≤ stripes
-  pub inside : first + stripes ≤ part_stripes geometry
+  pub inside : first + stripes ≤ metaslab_stripes geometry
   pub group : first % geometry.props.height + stripes ≤ geometry.props.height

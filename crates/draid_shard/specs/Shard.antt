@@ -1,8 +1,8 @@
 use Rattle.std.specs.Prelude.{◌≡◌, ◌≤◌, ◌+◌, ◌&&◌, ◌⊎◌, not, ℕ, List, [], ◌∷◌, Bool, Option, Some}
+use Rattle.draid_spec.specs.Geometry.{metaslab_sectors}
 use Rattle.std.specs.BTreeMap.{btree_map_len}
 use Rattle.draid_names.specs.declared.pointer.Pointer.{Pointer}
 use Rattle.draid_rack.specs.Rack.{Shape, Told, HasJust, OnTold}
-use Rattle.draid_map.specs.Place.{part_sectors}
 use Rattle.draid_ranges.specs.Runs.{is_between}
 use Rattle.draid_metaslab.specs.Spaces.{is_free}
 use Rattle.draid_metaslab.specs.Spots.{IsLowest}
@@ -26,7 +26,7 @@ part_of shard = record { geometry = shard.geometry; perms = shard.perms; number 
 -- the events that are owed
 pub record Valid {R : Type 0} (shape : R → Shape) (shard : Shard R) : Type 0 where
   pub part : IsPart (part_of shard)
-  pub rack : HasJust (shape shard.rack) shard.geometry.spec.children (part_sectors shard.geometry) shard.geometry.props.sector
+  pub rack : HasJust (shape shard.rack) shard.geometry.spec.children (metaslab_sectors shard.geometry) shard.geometry.props.sector
   pub tables : Tables shard.geometry shard.space shard.blocks
   pub slots : AreOwn (part_of shard) shard.slots
   pub owes : Owes shard.geometry shard.blocks shard.history

@@ -1,5 +1,5 @@
 ghost use Rattle.std.specs.Prelude.{◌≡◌, ◌<◌, ◌≤◌, ◌+◌, ◌*◌, ℕ, Option, IfOk, length};
-ghost use Rattle.draid_map.specs.Place.{part_sectors};
+ghost use Rattle.draid_spec.specs.Geometry.{metaslab_sectors};
 ghost use Rattle.draid_rack.specs.Rack.{HasJust, OnTold};
 ghost use Rattle.draid_shard.specs.Columns.{AbsentRose, AreLong, AreRead};
 ghost use Rattle.draid_shard.specs.Part.{IsPart, IsRun, Part};
@@ -22,7 +22,7 @@ pub(crate) fn read_columns<R: Rack>(
     pointer: &Pointer,
 ) -> Result<Vec<Option<Vec<u8>>>, NoMemory>
     requires part { IsPart (record { geometry = geometry.now; perms = perms.now; number = number }) }
-    requires shape { HasJust (R.shape rack.old) geometry.now.spec.children (part_sectors geometry.now) geometry.now.props.sector }
+    requires shape { HasJust (R.shape rack.old) geometry.now.spec.children (metaslab_sectors geometry.now) geometry.now.props.sector }
     requires run { IsRun geometry.now pointer.now.first pointer.now.stripes }
     ensures count { IfOk result (λ columns. length columns.items ≡ geometry.now.g) }
     ensures long { IfOk result (λ columns. AreLong columns.items (pointer.now.stripes * geometry.now.props.sector)) }

@@ -1,8 +1,8 @@
 ghost use Rattle.std.specs.Prelude.{◌≡◌, ◌<◌};
-ghost use Rattle.draid_map.specs.Place.{part_stripes};
+ghost use Rattle.draid_spec.specs.Geometry.{metaslab_stripes};
 ghost use Rattle.draid_shard.specs.Part.{IsPart, Part, place_in};
 
-use draid_map::{Place, metaslab_sectors, metaslab_stripes, place};
+use draid_map::{Place, place};
 use draid_perm::Perms;
 use draid_spec::Geometry;
 
@@ -15,7 +15,7 @@ pub(crate) fn place_within(
     column: u32,
 ) -> Place
     requires part { IsPart (record { geometry = geometry.now; perms = perms.now; number = number }) }
-    requires stripe { stripe < part_stripes geometry.now }
+    requires stripe { stripe < metaslab_stripes geometry.now }
     requires column { column < geometry.now.g }
     ensures { result ≡ place_in (record { geometry = geometry.now; perms = perms.now; number = number }) stripe column }
 {
@@ -23,11 +23,11 @@ pub(crate) fn place_within(
     let lies = place(
         geometry,
         perms,
-        number * metaslab_stripes(geometry) + stripe,
+        number * geometry.metaslab_stripes() + stripe,
         column,
     );
     Place {
         child: lies.child,
-        sector: lies.sector - number * metaslab_sectors(geometry),
+        sector: lies.sector - number * geometry.metaslab_sectors(),
     }
 }

@@ -1,6 +1,6 @@
 ghost use Rattle.std.specs.Prelude.{◌≡◌, ◌<◌, ◌≤◌, ◌+◌, ◌^◌, ◌||◌, ◌⊎◌, ℕ, List, [], Bool, true, false, Option, Some, None, All, IfOk, OnOk, OnErr, IfErr, IsTrue, ◌↔◌, length, max, nat_lt, is_ok, is_err, if◌then◌else◌};
+ghost use Rattle.draid_spec.specs.Geometry.{metaslab_stripes, metaslab_sectors};
 ghost use Rattle.draid_names.specs.declared.pointer.Pointer.{Pointer};
-ghost use Rattle.draid_map.specs.Place.{part_sectors, part_stripes};
 ghost use Rattle.draid_block.specs.Blocks.{BlockValue, cut_of};
 ghost use Rattle.draid_block.specs.Columns.{stripes_of};
 ghost use Rattle.draid_block.specs.Solving.{IsFetched, IsReadable, absent_columns};
@@ -77,11 +77,11 @@ impl<R: Rack> Shard<R> {
         rack: R,
     ) -> Result<Shard<R>, ShardRefused<R>>
         requires part { IsPart (record { geometry = geometry; perms = perms; number = number }) }
-        requires rack { HasJust (R.shape rack) geometry.spec.children (part_sectors geometry) geometry.props.sector }
+        requires rack { HasJust (R.shape rack) geometry.spec.children (metaslab_sectors geometry) geometry.props.sector }
         ensures valid { IfOk result (Valid R.shape) }
         ensures part { IfOk result (λ shard. part_of shard ≡ record { geometry = geometry; perms = perms; number = number }) }
         ensures rack { IfOk result (λ shard. shard.rack ≡ rack) }
-        ensures free { IfOk result (λ shard. (x : ℕ) → free_of shard x ≡ nat_lt x (part_stripes geometry)) }
+        ensures free { IfOk result (λ shard. (x : ℕ) → free_of shard x ≡ nat_lt x (metaslab_stripes geometry)) }
         ensures empty { IfOk result (λ shard. (p : Pointer) → HasEntry shard p → ⊥) }
         ensures held { IfOk result (λ shard. held_of shard ≡ 0) }
         ensures logs { IfOk result (λ shard. (leaf group : ℕ) → logs_of shard leaf group ≡ false) }
@@ -496,7 +496,7 @@ impl<R: Rack> Shard<R> {
         requires valid { Valid R.shape self.old }
         requires reserved { 0 < reserved_of self.old }
         requires leaf { leaf < self.old.geometry.spec.children }
-        requires sector { sector < part_sectors self.old.geometry }
+        requires sector { sector < metaslab_sectors self.old.geometry }
         ensures valid { Valid R.shape self.new }
         ensures part { part_of self.new ≡ part_of self.old }
         ensures harmed { OnOk result (TellsBoth (R.told self.old.rack) (R.told self.new.rack) (λ x y.

@@ -1,13 +1,11 @@
 ghost use Rattle.std.specs.Prelude.{◌≡◌, ◌<◌, ◌≤◌, ◌+◌, ◌^◌, IfOk, length};
-ghost use Rattle.draid_map.specs.Place.{part_sectors};
-ghost use Rattle.draid_spec.specs.Geometry.{IsGeometry};
+ghost use Rattle.draid_spec.specs.Geometry.{IsGeometry, metaslab_sectors};
 ghost use Rattle.draid_names.specs.declared.pointer.Pointer.{Pointer};
 ghost use Rattle.draid_shard.specs.Shard.{Carries, HasEntry, Valid};
 
 use crate::{BeginFault, FetchFault, Missed, Shard, Ticket};
 use draid_block::{Encoded, SolveFault, solve_block};
 use draid_machine::{Event, Key};
-use draid_map::metaslab_sectors;
 use draid_names::{ArmAt, Failed, NoMemory, Pointer};
 use draid_perm::Perms;
 use draid_rack::{MemoryRack, Rack};
@@ -28,7 +26,7 @@ fn shard(alloc: Global, layout: Geometry, failing: &[u64]) -> Result<Shard<Memor
     let rack = MemoryRack::new(
         alloc,
         layout.spec.children,
-        metaslab_sectors(&layout),
+        layout.metaslab_sectors(),
         layout.props.sector,
         failing,
     )?;
@@ -117,7 +115,7 @@ fn damage<R: Rack>(shard: &mut Shard<R>, leaf: u64) -> Result<(), Failed>
     ensures layout { shard.new.geometry ≡ shard.old.geometry }
 {
     let there = leaf < u64::from(shard.geometry.spec.children);
-    if there && metaslab_sectors(&shard.geometry) > 0 && shard.reserve(1).is_ok() {
+    if there && shard.geometry.metaslab_sectors() > 0 && shard.reserve(1).is_ok() {
         shard.damage(leaf, 0)
     } else {
         Err(Failed)

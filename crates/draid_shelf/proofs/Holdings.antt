@@ -1,5 +1,6 @@
 -- What a shelf in memory tells after its places were changed.
 use Rattle.std.proofs.Common.{arith, refl, inl, inr, ◌≡◌, ◌<◌, ◌≤◌, ◌∙◌, ◌==◌, ap, sym, subst, ℕ, Bool, true, false, List, [], Option, Some, None, length, option_map, slice_index_or, if◌then◌else◌}
+use Rattle.draid_spec.specs.Geometry.{metaslab_sectors}
 use Rattle.std.specs.Prelude.{IsSomeAnd, option_and_then, replicate, slice_set}
 use Rattle.std.proofs.lemmas.Bool.{cases_lt}
 use Rattle.std.proofs.lemmas.Bool.Decides.{nat_tests}
@@ -13,7 +14,7 @@ use Rattle.draid_area.specs.Area.{Content, begins}
 use Rattle.draid_area.specs.Memory as device
 use Rattle.draid_area.specs.Moments as moments
 use Rattle.draid_area.specs.declared.memory.MemoryArea.{MemoryArea}
-use Rattle.draid_shelf.specs.Shelf.{HasLeavesOf, sectors_of}
+use Rattle.draid_shelf.specs.Shelf.{HasLeavesOf}
 use Rattle.draid_shelf.specs.Kits.{Both, CrashedHeld, CrashedKit, IsNewArea, IsNewKit, IsNewPool, IsNewRack, IsUncounted, kit_of, puts_kit}
 use Rattle.draid_shelf.specs.Memory.{AreEmpty, AreMade, Areas, CrashesAreas, CrashesRacks, IsMade, IsMadeArea, Racks, area_at, area_count, content_of, counts_by, held_at, held_by, kit_counts, rack_at, shape_at}
 use Rattle.draid_shelf.specs.declared.devices.Devices.{Devices}
@@ -68,7 +69,7 @@ made_as geometry made now is told shape counts = record {
   counts = λ who. counts who ∙ is.counts who;
 }
 
-pub made_rack : (geometry : Geometry) (rack : MemoryRack) → HasLeavesOf geometry (shape_of_memory rack) → ((l s : ℕ) → l < geometry.spec.children → s < sectors_of geometry → Reads (told_by_memory rack) l s (replicate geometry.props.sector 0))
+pub made_rack : (geometry : Geometry) (rack : MemoryRack) → HasLeavesOf geometry (shape_of_memory rack) → ((l s : ℕ) → l < geometry.spec.children → s < metaslab_sectors geometry → Reads (told_by_memory rack) l s (replicate geometry.props.sector 0))
     → OnTold (told_by_memory rack) (λ x. (l s : ℕ) → x.soft l s ≡ false) → OnTold (told_by_memory rack) (λ x. (l s : ℕ) → x.harmed l s ≡ false) → ((who : Option ℕ) → faults_of_memory rack who ≡ 0) → IsMade geometry rack
 made_rack geometry rack leaves zeros firm unharmed counts = record { leaves = leaves; told = record { zeros = zeros; soft = firm; harmed = unharmed }; counts = counts }
 

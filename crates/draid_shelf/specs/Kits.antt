@@ -1,4 +1,5 @@
 use Rattle.std.specs.Prelude.{◌≡◌, ◌<◌, ◌≤◌, ◌==◌, ⊤, ℕ, false, List, [], Option, Some, None, Result, MatchOption, IsErrOf, IsSomeAnd, option_and_then, option_map, length, replicate, if◌then◌else◌, ◌+◌, ◌-◌, ◌^◌, min, Contains}
+use Rattle.draid_spec.specs.Geometry.{metaslab_sectors}
 use Rattle.draid_names.specs.Faults.{Rose}
 use Rattle.draid_faults.specs.declared.calls.Calls.{Calls}
 use Rattle.draid_faults.specs.Calls.{failing_calls, next_call}
@@ -8,7 +9,6 @@ use Rattle.draid_rack.specs.Moments as rack
 use Rattle.draid_area.specs.Area.{Content}
 use Rattle.draid_area.specs.Moments as area
 use Rattle.draid_names.specs.declared.fault.DeviceFault.{DeviceFault}
-use Rattle.draid_shelf.specs.Shelf.{sectors_of}
 
 -- what the devices of a metaslab tell
 pub record KitTold : Type 0 where
@@ -57,7 +57,7 @@ pub record IsNewArea (bytes : List ℕ) (x : Content) : Type 0 where
 
 -- a rack of zeros, which is neither soft nor harmed
 pub record IsNewRack (geometry : Geometry) (x : Told) : Type 0 where
-  pub zeros : (l s : ℕ) → l < geometry.spec.children → s < sectors_of geometry → x.reads l s ≡ Some (replicate geometry.props.sector 0)
+  pub zeros : (l s : ℕ) → l < geometry.spec.children → s < metaslab_sectors geometry → x.reads l s ≡ Some (replicate geometry.props.sector 0)
   pub soft : (l s : ℕ) → x.soft l s ≡ false
   pub harmed : (l s : ℕ) → x.harmed l s ≡ false
 

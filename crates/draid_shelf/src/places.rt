@@ -69,11 +69,10 @@ fn rack_of(alloc: Global, geometry: &Geometry, plan: &Plan) -> Result<MemoryRack
     requires { IsGeometry geometry.now }
     ensures { IfOk result (IsMade geometry.now) }
 {
-    let sectors = geometry.props.slices * geometry.rows * geometry.props.height;
     let mut rack = MemoryRack::new(
         alloc,
         geometry.spec.children,
-        sectors as u64,
+        geometry.metaslab_sectors(),
         geometry.props.sector,
         plan.racks.clone()?,
     )?;

@@ -3,12 +3,12 @@ use Rattle.std.proofs.Common.{◌≡◌, ℕ, ◌+◌, ◌-◌, ◌*◌, ◌/◌
 use Rattle.std.proofs.Math.Nat.{add_comm, add-mul-div_right, mul_assoc, mul-le-mul}
 use Rattle.draid_map.specs.Place.{spare_child_of}
 use Rattle.draid_perm.specs.Perms.{child_of}
-use Rattle.draid_spec.specs.Geometry.{IsGeometry}
-use Rattle.draid_slots.specs.Reading.{sectors_of, slice_of, spare_slot}
+use Rattle.draid_spec.specs.Geometry.{IsGeometry, metaslab_sectors}
+use Rattle.draid_slots.specs.Reading.{slice_of, spare_slot}
 use Rattle.draid_slots.specs.Table.{SlotTable}
 
-pub layout_slot : (table : SlotTable) (spare sector : ℕ) → IsGeometry table.geometry → sector < sectors_of table.geometry
-    → spare_child_of table.geometry table.perms spare (table.metaslab * sectors_of table.geometry + sector) ≡ spare_slot table spare (slice_of table.geometry sector)
+pub layout_slot : (table : SlotTable) (spare sector : ℕ) → IsGeometry table.geometry → sector < metaslab_sectors table.geometry
+    → spare_child_of table.geometry table.perms spare (table.metaslab * metaslab_sectors table.geometry + sector) ≡ spare_slot table spare (slice_of table.geometry sector)
 layout_slot table spare sector is below =
     let d = table.geometry.rows * table.geometry.props.height in
     let rows = is.slice.some_rows in

@@ -12,10 +12,6 @@ use Rattle.draid_slots.specs.Table.{SlotTable, arm_at, arms_of, is_leaf, is_logg
 abbrev pub slice_of : Geometry → ℕ → ℕ
 slice_of geometry sector = sector / (geometry.rows * geometry.props.height)
 
--- the sectors of a metaslab on each leaf
-abbrev pub sectors_of : Geometry → ℕ
-sectors_of geometry = geometry.props.slices * (geometry.rows * geometry.props.height)
-
 -- the slot whose first leaf keeps a slice for a spare: the one at the spare's position, spares from the last on
 abbrev pub spare_slot : SlotTable → ℕ → ℕ → ℕ
 spare_slot table spare slice =

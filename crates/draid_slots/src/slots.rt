@@ -1,4 +1,5 @@
 ghost use Rattle.std.specs.Prelude.{◌≡◌, ◌≢◌, ◌==◌, ◌+◌, ◌-◌, ◌*◌, ◌<◌, ◌≤◌, ◌^◌, ◌||◌, ◌&&◌, ◌∷◌, [], ℕ, All, Some, true, false, map, filter, length, nat_lt, IfOk, IfErr, OnOk, OnErr, IfSome, IfNone, IsSomeAnd, slice_index_or, vec_len, vec_capacity};
+ghost use Rattle.draid_spec.specs.Geometry.{metaslab_sectors};
 ghost use Rattle.draid_map.specs.Place.{IsLayout};
 ghost use Rattle.draid_names.specs.declared.arm.Arm.{Arm};
 ghost use Rattle.draid_names.specs.declared.arm.ArmAt.{ArmAt};
@@ -7,7 +8,7 @@ ghost use Rattle.draid_ranges.specs.Runs.{is_between};
 ghost use Rattle.draid_slots.specs.declared.slot.Slot.{Slot};
 ghost use Rattle.draid_slots.specs.Changes.{Attaches, ChangesArms, ChangesLog, Commits, Detaches, HasRoom, IsNew, IsOf, IsRoomier, Keeps, SetsLog, freshened, switched};
 ghost use Rattle.draid_slots.specs.Faults.{IsAttachRefused, IsDetachRefused, IsLeafRefused, IsLeastElsewhere, IsSpareRefused, MayAttach, MayDetach, NoneElsewhere};
-ghost use Rattle.draid_slots.specs.Reading.{IsFirst, IsNone, IsRead, answers, answers_in, holder, is_clean_in, sectors_of, slice_of};
+ghost use Rattle.draid_slots.specs.Reading.{IsFirst, IsNone, IsRead, answers, answers_in, holder, is_clean_in, slice_of};
 ghost use Rattle.draid_slots.specs.Table.{AreKept, AreSlots, IsPaired, IsThere, SlotTable, arms_listed, arms_of, holds_spare, is_leaving, is_logged, log_at, logs_listed, next_room, room_at, table_of};
 
 use crate::lists::{
@@ -132,7 +133,7 @@ impl Slots {
     /// Where a sector of the slot lies on one of its arms, by the number of the sector in the metaslab.
     pub fn place(&self, at: ArmAt, sector: u64) -> At
         requires there { IsThere self.now at }
-        requires sector { sector < sectors_of self.now.geometry }
+        requires sector { sector < metaslab_sectors self.now.geometry }
         ensures leaf { IsSomeAnd (holder self.now at (slice_of self.now.geometry sector)) (λ leaf. leaf.number ≡ result.leaf) }
         ensures sector { result.sector ≡ sector }
     {

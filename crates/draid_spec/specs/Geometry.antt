@@ -80,3 +80,18 @@ pub record IsGeometry (geometry : Geometry) : Type 0 where
   pub width : geometry.g ≤ geometry.ndisks
   pub slice : FillsRows geometry.g geometry.ndisks geometry.ngroups geometry.rows
   pub total : total_of geometry.props geometry.rows ≤ 67108864
+
+-- the stripes of a metaslab: in each of its slices a height of them for each group
+abbrev pub metaslab_stripes : Geometry → ℕ
+metaslab_stripes geometry = geometry.props.slices * geometry.ngroups * geometry.props.height
+
+-- the sectors that a metaslab has of each child: in each of its slices a height of them for each row
+abbrev pub metaslab_sectors : Geometry → ℕ
+metaslab_sectors geometry = geometry.props.slices * geometry.rows * geometry.props.height
+
+-- the stripes of a pool, and the sectors of a child, over all metaslabs
+abbrev pub pool_stripes : Geometry → ℕ
+pool_stripes geometry = geometry.props.metaslabs * geometry.props.slices * geometry.ngroups * geometry.props.height
+
+abbrev pub child_sectors : Geometry → ℕ
+child_sectors geometry = total_of geometry.props geometry.rows

@@ -1,6 +1,7 @@
 //! The specs of pools, as `draid2:4d:11c:1s`, and the numbers of a pool's layout.
 #![tactic(auto)]
 
+mod extents;
 mod laws;
 mod layout;
 mod names;

@@ -97,7 +97,7 @@ pub(crate) fn limit(which: u8, value: u32) -> SpecFault
 }
 
 /// The sectors of a child, over all metaslabs.
-fn total_sectors(props: Props, rows: u32) -> u64
+pub(crate) fn total_sectors(props: Props, rows: u32) -> u64
     requires metaslabs { props.metaslabs ≤ 64 }
     requires slices { props.slices ≤ 1024 }
     requires height { props.height ≤ 4096 }

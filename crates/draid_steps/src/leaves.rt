@@ -27,7 +27,6 @@ pub fn may_damage(site: &Site, world: &World, leaf: u64, sector: u64) -> bool
     ensures legal { result ≡ true → DamageStep (site_layout site.now) (state_of world.now) leaf sector (state_of world.now) }
     ensures illegal { result ≡ false → (new : State) → DamageStep (site_layout site.now) (state_of world.now) leaf sector new → ⊥ }
 {
-    let props = &site.geometry.props;
-    let rows = u64::from(props.slices) * u64::from(site.geometry.rows);
-    sector < rows * u64::from(props.height) && is_known(&world.tables.arms, ArmName::Leaf { leaf })
+    let sectors = site.geometry.metaslab_sectors();
+    sector < sectors && is_known(&world.tables.arms, ArmName::Leaf { leaf })
 }

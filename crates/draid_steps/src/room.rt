@@ -46,11 +46,9 @@ fn next_place(site: &Site, tables: &Tables, first: u64, stripes: u32) -> u64
     ensures fits { result ≡ first → Fits (site_layout site.now) (core_of tables.now) first stripes }
     ensures before { (x : ℕ) → first ≤ x → x < result → Fits (site_layout site.now) (core_of tables.now) x stripes → ⊥ }
 {
-    let props = &site.geometry.props;
-    let height = u64::from(props.height);
-    let all = u64::from(props.slices) * u64::from(site.geometry.ngroups) * height;
+    let height = u64::from(site.geometry.props.height);
     let end = first + u64::from(stripes);
-    if end > all || (end - 1) / height != first / height {
+    if end > site.geometry.metaslab_stripes() || (end - 1) / height != first / height {
         return first + 1;
     }
     match meeting(&tables.held, first, stripes) {

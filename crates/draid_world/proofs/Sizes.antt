@@ -3,14 +3,14 @@ use Rattle.std.proofs.Common.{◌≡◌, ◌*◌, ◌<◌, ◌≤◌, ℕ, Bool,
 use Rattle.std.proofs.Math.Nat.{mul-le-mul}
 use Rattle.std.proofs.lemmas.Bool.Decides.{nat_tests}
 use Rattle.draid_spec.specs.declared.layout.Geometry.{Geometry}
-use Rattle.draid_spec.specs.Geometry.{IsGeometry}
+use Rattle.draid_spec.specs.Geometry.{IsGeometry, metaslab_stripes}
 use Rattle.draid_machine.specs.declared.names.ArmName.{ArmName}
 use Rattle.draid_machine.specs.declared.names.ArmName.TheVariants.{Spare}
 use Rattle.draid_machine.specs.State.{Layout}
 use Rattle.draid_machine.specs.Arms.{leaf_at, first_leaf}
 
 pub few_stripes : (geometry : Geometry) (metaslab : ℕ) → IsGeometry geometry → metaslab < geometry.props.metaslabs
-    → metaslab * (geometry.props.slices * geometry.ngroups * geometry.props.height) ≤ 64 * (1024 * 32 * 4096)
+    → metaslab * metaslab_stripes geometry ≤ 64 * (1024 * 32 * 4096)
 few_stripes geometry metaslab is less =
     let groups : geometry.ngroups ≤ 32 = (let a = is.slice.most_groups in let b = is.disks in let d = is.spec.most_children in omega (arith, a, b, d)) in
     let metaslabs : metaslab ≤ 64 = (let a = is.props.most_metaslabs in omega (arith, a, less)) in

@@ -18,11 +18,10 @@ pub fn home(site: &Site, spare: u32, stripe: u64) -> u32
     requires spare { spare < site.now.geometry.spec.spares }
     ensures { result ≡ child_of site.now.perms (slice_of site.now.geometry (pool_stripe site.now.geometry site.now.metaslab stripe)) (site.now.geometry.spec.children - 1 - spare) }
 {
-    let props = &site.geometry.props;
-    let height = u64::from(props.height);
+    let height = u64::from(site.geometry.props.height);
     let groups = u64::from(site.geometry.ngroups);
-    let stripes = u64::from(props.slices) * groups * height;
-    let slice = (u64::from(site.metaslab) * stripes + stripe) / (height * groups);
+    let number = u64::from(site.metaslab) * site.geometry.metaslab_stripes() + stripe;
+    let slice = number / (height * groups);
     site.perms
         .child(slice, site.geometry.spec.children - 1 - spare)
 }
@@ -91,11 +90,9 @@ pub fn slot_of(site: &Site, stripe: u64, column: u32) -> u32
     requires column { column < site.now.geometry.g }
     ensures { result ≡ slot_at (site_layout site.now) stripe column }
 {
-    let props = &site.geometry.props;
-    let height = u64::from(props.height);
+    let height = u64::from(site.geometry.props.height);
     let groups = u64::from(site.geometry.ngroups);
-    let stripes = u64::from(props.slices) * groups * height;
-    let number = u64::from(site.metaslab) * stripes + stripe;
+    let number = u64::from(site.metaslab) * site.geometry.metaslab_stripes() + stripe;
     let group = number / height % groups;
     let index = group * u64::from(site.geometry.g) + u64::from(column);
     let position = (index % u64::from(site.geometry.ndisks)) as u32;

@@ -1,13 +1,13 @@
 use Rattle.std.proofs.Common.{◌≡◌, ◌+◌, ◌*◌, ◌/◌, ◌%◌, ◌<◌, sym, ap, ◌∙◌, arith}
+use Rattle.draid_spec.specs.Geometry.{child_sectors}
 use Rattle.std.proofs.Math.Nat.{mod-lt}
 use Rattle.draid_perm.specs.Perms.{child_of}
-use Rattle.draid_map.specs.Place.{end_of}
 use Rattle.draid_map.proofs.Apart.{slice_of_sector, group_of_position, column_owns}
 use Rattle.draid_map.proofs.places.owner.Goals as goal
 
 pub number-requires-clause-slice : goal.number-requires-clause-slice
 number-requires-clause-slice c =
-    let within : c.args.sector < end_of c.args.geometry.now = omega arith in
+    let within : c.args.sector < child_sectors c.args.geometry.now = omega arith in
     let is : c.of-spot.result.slice ≡ c.args.sector / (c.args.geometry.now.props.height * c.args.geometry.now.rows) = cc in
     let below = slice_of_sector c.args.geometry.now c.args.sector c.requires.layout.geometry_is within in
     omega arith
@@ -24,7 +24,7 @@ number-requires-clause-band c =
 
 pub returns : goal.returns
 returns c =
-    let within : c.args.sector < end_of c.args.geometry.now = omega arith in
+    let within : c.args.sector < child_sectors c.args.geometry.now = omega arith in
     let position : c.position-position.result < c.args.geometry.now.ndisks = omega arith in
     let slice : c.of-spot.result.slice ≡ c.args.sector / (c.args.geometry.now.props.height * c.args.geometry.now.rows) = cc in
     record {

@@ -1,7 +1,7 @@
 use Rattle.std.proofs.Common.{arith, Result, Err, ◌∙◌, inl, ◌*◌, ◌/◌, ◌%◌, ◌<◌, ap, refl, sym, subst}
+use Rattle.draid_spec.specs.Geometry.{metaslab_sectors}
 use Rattle.std.specs.Vec.{with_item}
 use Rattle.draid_spec.specs.declared.layout.Geometry.{Geometry}
-use Rattle.draid_map.specs.Place.{part_sectors}
 use Rattle.draid_pool.specs.Store.{SectorAnswers}
 use Rattle.draid_pool.specs.declared.fault.DamageFault.{DamageFault}
 use Rattle.draid_pool.specs.declared.fault.DamageFault.TheVariants.{Failed, NoMemory}
@@ -40,7 +40,7 @@ damage_sector-requires-clause-sector g c =
     let k = c.args.sector / c.metaslab_sectors-sectors.result in
     let there = sector_shard g.R.Rack.shape g.R.Rack.told g.R.Rack.faults c.args.self.now is.0 k c.index_mut-shard.result.now is.1.stands
     (part_below c.args.sector c.args.self.now.geometry.props.metaslabs c.metaslab_sectors-sectors.result within) c.index_mut-shard.ensures.value in
-    let sectors = ap part_sectors (is.1.stands.members k c.index_mut-shard.result.now there).layout in
+    let sectors = ap metaslab_sectors (is.1.stands.members k c.index_mut-shard.result.now there).layout in
     subst (λ n. c.args.sector % c.metaslab_sectors-sectors.result < n) (c.metaslab_sectors-sectors.ensures.value ∙ sym sectors)
     (rest_below c.args.sector c.args.self.now.geometry.props.metaslabs c.metaslab_sectors-sectors.result within)
 

@@ -1,5 +1,5 @@
 use Rattle.std.proofs.Common.{◌∙◌, ◌++◌, ◌∷◌, [], arith, ap, refl, sym, subst}
-use Rattle.draid_map.specs.Place.{part_sectors}
+use Rattle.draid_spec.specs.Geometry.{metaslab_sectors}
 use Rattle.draid_rack.specs.Rack.{HasJust}
 use Rattle.draid_machine.specs.declared.event.Event.TheVariants.{Damage}
 use Rattle.draid_shard.proofs.Events.{damages}
@@ -16,7 +16,7 @@ returns-clause-valid g c =
     let v = c.requires.valid in
     record {
       part = v.part;
-      rack = subst (λ shape. HasJust shape c.args.self.now.geometry.spec.children (part_sectors c.args.self.now.geometry) c.args.self.now.geometry.props.sector)
+      rack = subst (λ shape. HasJust shape c.args.self.now.geometry.spec.children (metaslab_sectors c.args.self.now.geometry) c.args.self.now.geometry.props.sector)
           (sym c.damage-done.ensures.shape) v.rack;
       tables = v.tables;
       slots = v.slots;

@@ -1,6 +1,6 @@
 use Rattle.std.proofs.Common.{◌<◌, ◌∙◌, refl, ap, sym, subst}
+use Rattle.draid_spec.specs.Geometry.{metaslab_sectors}
 use Rattle.draid_map.specs.declared.sectors.Place.{Place}
-use Rattle.draid_map.specs.Place.{part_sectors}
 use Rattle.draid_rack.specs.Rack.{HasJust}
 use Rattle.draid_shard.specs.Shard.{part_of}
 use Rattle.draid_shard.proofs.Places.{child_there}
@@ -32,7 +32,7 @@ log_miss-requires-clause-due g c = let t = c.requires.valid.tables in (t.placed 
 pub returns-then-is_err-clause-valid : goal.returns-then-is_err-clause-valid
 returns-then-is_err-clause-valid g c = record {
   part = c.requires.valid.part;
-  rack = subst (λ shape. HasJust shape c.args.self.now.geometry.spec.children (part_sectors c.args.self.now.geometry) c.args.self.now.geometry.props.sector)
+  rack = subst (λ shape. HasJust shape c.args.self.now.geometry.spec.children (metaslab_sectors c.args.self.now.geometry) c.args.self.now.geometry.props.sector)
       (sym c.write_column-written.ensures.shape) c.requires.valid.rack;
   tables = c.requires.valid.tables;
   slots = c.log_miss.ensures.own (part_of c.args.self.now) c.requires.valid.slots;
