@@ -53,8 +53,8 @@ impl Log {
     /// Makes room for so many changes.
     pub fn reserve(&mut self, changes: u32) -> Result<(), AllocError>
         ensures same { Has self.new (has self.old) }
-        ensures room { OnOk result (changes ≤ self.new.spare) }
-        ensures kept { self.old.spare ≤ self.new.spare }
+        ensures room { OnOk result (changes ≤ self.new.room) }
+        ensures kept { self.old.room ≤ self.new.room }
     {
         self.groups.reserve(changes)
     }
@@ -64,8 +64,8 @@ impl Log {
         requires { group < 2 ^ 48 }
         ensures ok { OnOk result (Has self.new (λ x. has self.old x || x == group)) }
         ensures err { OnErr result (Has self.new (has self.old)) }
-        ensures room { 0 < self.old.spare → IsOk result }
-        ensures spare { self.old.spare ≤ self.new.spare + 1 }
+        ensures room { 0 < self.old.room → IsOk result }
+        ensures left { self.old.room ≤ self.new.room + 1 }
     {
         self.groups.insert(group, group)
     }
@@ -73,9 +73,9 @@ impl Log {
     /// Makes it the log of the groups from 1 to `group`.
     pub fn fill(&mut self, group: u64)
         requires range { group < 2 ^ 48 }
-        requires room { 0 < self.old.spare }
+        requires room { 0 < self.old.room }
         ensures members { Has self.new (is_between 1 (group + 1)) }
-        ensures spare { self.old.spare ≤ self.new.spare + 1 }
+        ensures left { self.old.room ≤ self.new.room + 1 }
     {
         self.groups.clear();
         if group > 0 {
@@ -89,7 +89,7 @@ impl Log {
     pub fn excise(&mut self, upto: u64)
         requires { upto < 2 ^ 48 }
         ensures members { Has self.new (λ x. has self.old x && nat_lt upto x) }
-        ensures spare { self.old.spare ≤ self.new.spare + 1 }
+        ensures left { self.old.room ≤ self.new.room + 1 }
     {
         let Ok(()) = self.groups.remove(0, upto) else {
             unreachable!()
@@ -99,7 +99,7 @@ impl Log {
     /// Takes the groups above `group` out.
     pub fn cut_above(&mut self, group: u64)
         ensures members { Has self.new (λ x. has self.old x && nat_le x group) }
-        ensures spare { self.old.spare ≤ self.new.spare }
+        ensures left { self.old.room ≤ self.new.room }
     {
         self.groups.cut_above(group);
     }

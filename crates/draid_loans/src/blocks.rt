@@ -15,7 +15,7 @@ use std::alloc::Global;
 
 /// A column of a block.
 #[derive(Clone, Copy)]
-struct Part {
+struct BlockColumn {
     key: Key,
     held: Held,
     column: u32,
@@ -25,7 +25,7 @@ struct Part {
 fn add_row(
     site: &Site,
     tables: &Tables,
-    part: Part,
+    part: BlockColumn,
     name: ArmName,
     row: u32,
     out: &mut Vec<Segment>,
@@ -53,7 +53,7 @@ fn add_row(
 fn add_rows(
     site: &Site,
     tables: &Tables,
-    part: Part,
+    part: BlockColumn,
     name: ArmName,
     out: &mut Vec<Segment>,
 ) -> Result<(), NoMemory>
@@ -72,7 +72,7 @@ fn add_rows(
 fn add_names(
     site: &Site,
     tables: &Tables,
-    part: Part,
+    part: BlockColumn,
     names: &[ArmName],
     out: &mut Vec<Segment>,
 ) -> Result<(), NoMemory>
@@ -91,7 +91,7 @@ fn add_names(
 fn add_column(
     site: &Site,
     tables: &Tables,
-    part: Part,
+    part: BlockColumn,
     out: &mut Vec<Segment>,
 ) -> Result<(), NoMemory>
     requires layout { IsLayout site.now.geometry site.now.perms }
@@ -125,7 +125,7 @@ pub fn block_segments(
 {
     let mut out = Vec::new(alloc);
     for column in 0..site.geometry.g {
-        add_column(site, tables, Part { key, held, column }, &mut out)?;
+        add_column(site, tables, BlockColumn { key, held, column }, &mut out)?;
     }
     Ok(out)
 }

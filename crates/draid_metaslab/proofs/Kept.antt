@@ -32,9 +32,9 @@ due_inside (entry ∷ deferred) total group x spans h =
     (λ t. due_inside deferred total group x (λ k d l. spans (suc k) d (omega arith)) t)
 
 pub committed : (height total held capacity group more : ℕ) (free new : Numbers) (deferred kept : List Deferred) → IsSound height total held capacity free deferred
-    → ((x : ℕ) → has new x ≡ (has free x || is_due group deferred x)) → free.spare ≤ new.spare + count_by (λ (entry : Deferred). nat_le entry.group group) deferred
+    → ((x : ℕ) → has new x ≡ (has free x || is_due group deferred x)) → free.room ≤ new.room + count_by (λ (entry : Deferred). nat_le entry.group group) deferred
     → kept ≡ filter (is_later group) deferred → capacity ≤ more → IsSound height total held more new kept
-committed height total held capacity group more free new deferred kept s members spare is wide =
+committed height total held capacity group more free new deferred kept s members left is wide =
     let room = s.room in
     let places = s.places in
     let parts = parts_of group deferred in

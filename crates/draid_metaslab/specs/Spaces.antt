@@ -57,5 +57,5 @@ pub record IsSound (height total held capacity : ℕ) (free : Numbers) (deferred
   pub most : total ≤ 2 ^ 48
   pub inside : (x : ℕ) → has free x ≡ true → x < total
   pub spans : All (λ (entry : Deferred). IsSpan total entry.run.first entry.run.len) deferred
-  pub room : held + length deferred ≤ free.spare
+  pub room : held + length deferred ≤ free.room
   pub places : length deferred + held ≤ capacity

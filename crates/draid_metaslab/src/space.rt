@@ -173,8 +173,8 @@ impl Space {
 /// Makes the room for one more run to be out and to come back.
 fn make_room(free: &mut RangeSet, deferred: &mut Vec<Deferred>, held: u32) -> Result<(), AllocError>
     ensures free { Has free.new (has free.old) }
-    ensures spare { free.old.spare ≤ free.new.spare }
-    ensures room { OnOk result (held + length deferred.old.items + 2 ≤ free.new.spare) }
+    ensures left { free.old.room ≤ free.new.room }
+    ensures room { OnOk result (held + length deferred.old.items + 2 ≤ free.new.room) }
     ensures deferred { deferred.new.items ≡ deferred.old.items }
     ensures capacity { vec_capacity deferred.old ≤ vec_capacity deferred.new }
     ensures places { OnOk result (length deferred.old.items + held + 1 ≤ vec_capacity deferred.new) }

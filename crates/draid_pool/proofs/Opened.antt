@@ -15,7 +15,7 @@ use Rattle.draid_map.specs.Place.{IsLayout}
 use Rattle.draid_rack.specs.Rack.{IsCalm, OnTold, Shape, Told}
 use Rattle.draid_shelf.specs.Shelf.{SameOthers, TellsCalm}
 use Rattle.draid_shard.specs.declared.shard.Shard.{Shard}
-use Rattle.draid_shard.specs.Part.{Part}
+use Rattle.draid_shard.specs.MetaslabLayout.{MetaslabLayout}
 use Rattle.draid_pool.specs.Close.{Returns}
 use Rattle.draid_pool.specs.Create.{AreBack, AreOpened, IsOpened, Opens, TakesOne}
 use Rattle.draid_pool.specs.Pool.{HoldsObject, Stands, metaslab_of}
@@ -184,7 +184,7 @@ module _ {R : Type 0} (shape : R → Shape) (told : R → Option Told) (faults :
       many = opened.many ∙ ap (λ (g : Geometry). g.props.metaslabs) (sym used);
       members = λ m shard there.
           (let is = opened.each m shard there in
-          record { valid = is.valid; layout = ap (λ (p : Part). p.geometry) is.part ∙ sym used; number = ap (λ (p : Part). p.number) is.part });
+          record { valid = is.valid; layout = ap (λ (p : MetaslabLayout). p.geometry) is.part ∙ sym used; number = ap (λ (p : MetaslabLayout). p.number) is.part });
       numbered = λ m shard p there has. absurd ((opened.each m shard there).empty p has);
       objects = λ q. no_objects pool.shards.items (get nat_eq pool.objects q) (empty q);
     }

@@ -9,7 +9,7 @@ use Rattle.draid_names.specs.declared.pointer.Pointer.{Pointer}
 use Rattle.draid_spec.specs.declared.layout.Geometry.{Geometry}
 use Rattle.draid_rack.specs.Rack.{Shape, Told}
 use Rattle.draid_shard.specs.declared.shard.Shard.{Shard}
-use Rattle.draid_shard.specs.Part.{Part}
+use Rattle.draid_shard.specs.MetaslabLayout.{MetaslabLayout}
 use Rattle.draid_shard.specs.Shard.{HasEntry, HoldsBlock, Valid, free_of, held_of, logs_of, part_of}
 use Rattle.draid_pool.specs.Pool.{HoldsObject, HoldsWrite, IsMember, harm_of, metaslab_of}
 use Rattle.draid_pool.specs.State.{Write}
@@ -81,8 +81,8 @@ module _ {R : Type 0} where
         let here : after ≡ s = some_of (slice_get new m) after s (set_here m before after old new one) at in
         let member : IsMember shape geometry m after = record {
           valid = valid;
-          layout = ap (λ (p : Part). p.geometry) part ∙ was.layout;
-          number = ap (λ (p : Part). p.number) part ∙ was.number;
+          layout = ap (λ (p : MetaslabLayout). p.geometry) part ∙ was.layout;
+          number = ap (λ (p : MetaslabLayout). p.number) part ∙ was.number;
         } in
         subst (λ (j : ℕ). IsMember shape geometry j s) (sym is) (subst (λ (x : Shard R). IsMember shape geometry m x) here member)
     | inr other ↦ members k s (sym (set_elsewhere m k before after old new one (λ is. omega (arith, is, other))) ∙ there)

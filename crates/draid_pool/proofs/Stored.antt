@@ -8,7 +8,7 @@ use Rattle.draid_block.specs.Blocks.{BlockValue, cut_of}
 use Rattle.draid_block.specs.Columns.{stripes_of}
 use Rattle.draid_shard.specs.declared.shard.Shard.{Shard}
 use Rattle.draid_shard.specs.declared.ticket.Ticket.{Ticket}
-use Rattle.draid_shard.specs.Part.{Part, leaf_of}
+use Rattle.draid_shard.specs.MetaslabLayout.{MetaslabLayout, leaf_of}
 use Rattle.draid_shard.specs.Columns.{EndsHarm, LeafRose, TellsBoth, is_missed}
 use Rattle.draid_shard.specs.Shard.{Carries, HasEntry, NoneMore, TakesLowest, Valid, logs_of, part_of}
 use Rattle.draid_shard.specs.Entry.{IsRefused, IsRoom, entry_at, live, opened}
@@ -30,11 +30,11 @@ pub takes_as : (height height' : ℕ) (old new new' : ℕ → Bool) (pointer poi
 takes_as height height' old new new' pointer pointer' need need' h n p s takes = rw (sym h, n, p, sym s) takes
 
 -- the columns that are missed, from the begin of the write to the end
-missed_each : (mid part : Part) (first first' : ℕ) (missed : List ℕ) (a b c d : Option ℕ → ℕ) → mid ≡ part → first' ≡ first → b ≡ a → d ≡ c → All (LeafRose mid first b c) missed
+missed_each : (mid part : MetaslabLayout) (first first' : ℕ) (missed : List ℕ) (a b c d : Option ℕ → ℕ) → mid ≡ part → first' ≡ first → b ≡ a → d ≡ c → All (LeafRose mid first b c) missed
     → All (LeafRose part first' a d) missed
 missed_each mid part first first' missed a b c d p f x y h = rw (sym p, f, sym x, y) h
 
-missed_logs : (mid part : Part) (first first' birth leaf group : ℕ) (missed : List ℕ) (a b c d : ℕ → ℕ → Bool) → mid ≡ part → first' ≡ first → b ≡ a → d ≡ c
+missed_logs : (mid part : MetaslabLayout) (first first' birth leaf group : ℕ) (missed : List ℕ) (a b c d : ℕ → ℕ → Bool) → mid ≡ part → first' ≡ first → b ≡ a → d ≡ c
     → c leaf group ≡ (b leaf group || ((group == birth) && list_any (λ i. leaf_of mid first i == leaf) missed))
     → d leaf group ≡ (a leaf group || ((group == birth) && list_any (λ i. leaf_of part first' i == leaf) missed))
 missed_logs mid part first first' birth leaf group missed a b c d p f x y h = rw (sym p, f, sym x, y) h
@@ -43,13 +43,13 @@ pub just_as : {R : Type 0} (faults : R → Option ℕ → ℕ) (old mid last new
     → new.rack ≡ last.rack → logs_of new ≡ logs_of last → first' ≡ first → MissesJust faults mid last first birth mid.geometry.g missed → MissesJust faults old new first' birth old.geometry.g missed
 just_as faults old mid last new first first' birth missed part rack logs rack' logs' same just = record {
   ascending = just.ascending;
-  in_range = subst (λ (p : Part). All (λ i. i < p.geometry.g) missed) part just.in_range;
+  in_range = subst (λ (p : MetaslabLayout). All (λ i. i < p.geometry.g) missed) part just.in_range;
   each = missed_each (part_of mid) (part_of old) first first' missed (faults old.rack) (faults mid.rack) (faults last.rack) (faults new.rack) part same (ap faults rack) (ap faults rack') just.each;
   logs = λ leaf group.
       missed_logs (part_of mid) (part_of old) first first' birth leaf group missed (logs_of old) (logs_of mid) (logs_of last) (logs_of new) part same logs logs' (just.logs leaf group);
 }
 
-pub harm_as_whole : (mid part from to : Part) (logs logs' : ℕ → ℕ → Bool) (pointer : Pointer) (first need birth : ℕ) (o m p q : Option Told) → mid ≡ part → to ≡ from → logs' ≡ logs
+pub harm_as_whole : (mid part from to : MetaslabLayout) (logs logs' : ℕ → ℕ → Bool) (pointer : Pointer) (first need birth : ℕ) (o m p q : Option Told) → mid ≡ part → to ≡ from → logs' ≡ logs
     → first ≡ pointer.first → pointer.stripes ≡ need → birth ≡ pointer.birth → m ≡ o → q ≡ p
     → TellsBoth m p (λ x y. EndsHarm mid pointer.first pointer.stripes (λ i. i < mid.geometry.g) (is_missed from logs pointer.first pointer.birth) x.harmed y.harmed)
     → TellsBoth o q (λ x y. EndsHarm part first need (λ i. i < part.geometry.g) (is_missed to logs' first birth) x.harmed y.harmed)

@@ -10,7 +10,7 @@ use Rattle.draid_names.specs.Faults.{Rose}
 use Rattle.draid_names.specs.declared.pointer.Pointer.{Pointer}
 use Rattle.draid_rack.specs.Rack.{Told}
 use Rattle.draid_block.proofs.Sets.{ascending-push}
-use Rattle.draid_shard.specs.Part.{Part, leaf_of}
+use Rattle.draid_shard.specs.MetaslabLayout.{MetaslabLayout, leaf_of}
 use Rattle.draid_shard.specs.Columns.{EndsHarm, LeafRose, TellsBoth, is_missed}
 use Rattle.draid_shard.specs.Logs.{LogsMiss}
 use Rattle.draid_shard.specs.declared.shard.Shard.{Shard}
@@ -43,7 +43,7 @@ same_test : (a b : ℕ) → (a == b) ≡ (b == a)
 same_test a b = grind (arith, nat_tests)
 
 -- what the log of a leaf has after the next column was missed
-logs_more : (part : Part) (first birth next leaf group : ℕ) (missed : List ℕ) (old mid new : ℕ → ℕ → Bool)
+logs_more : (part : MetaslabLayout) (first birth next leaf group : ℕ) (missed : List ℕ) (old mid new : ℕ → ℕ → Bool)
     → mid leaf group ≡ (old leaf group || ((group == birth) && list_any (λ i. leaf_of part first i == leaf) missed)) → LogsMiss (leaf_of part first next) birth mid new
     → new leaf group ≡ (old leaf group || ((group == birth) && list_any (λ i. leaf_of part first i == leaf) (missed ++ next ∷ [])))
 logs_more part first birth next leaf group missed old mid new was more =
@@ -54,11 +54,11 @@ logs_more part first birth next leaf group missed old mid new was more =
     ∙ ap (λ (b : Bool). old leaf group || ((group == birth) && b)) (sym (list_any-append p missed (next ∷ [])))))
 
 -- the same, by other names of the metaslab, the run and the column
-rose_as : (part part' : Part) (pointer pointer' : Pointer) (next next' : ℕ) (old new : Option ℕ → ℕ) → part ≡ part' → pointer ≡ pointer' → next ≡ next'
+rose_as : (part part' : MetaslabLayout) (pointer pointer' : Pointer) (next next' : ℕ) (old new : Option ℕ → ℕ) → part ≡ part' → pointer ≡ pointer' → next ≡ next'
     → LeafRose part pointer.first old new next → LeafRose part' pointer'.first old new next'
 rose_as part part' pointer pointer' next next' old new a b c h = rw (sym a, sym b, sym c) h
 
-miss_as : (part part' : Part) (pointer pointer' : Pointer) (next next' birth : ℕ) (old new : ℕ → ℕ → Bool) → part ≡ part' → pointer ≡ pointer' → next ≡ next' → pointer'.birth ≡ birth
+miss_as : (part part' : MetaslabLayout) (pointer pointer' : Pointer) (next next' birth : ℕ) (old new : ℕ → ℕ → Bool) → part ≡ part' → pointer ≡ pointer' → next ≡ next' → pointer'.birth ≡ birth
     → LogsMiss (leaf_of part pointer.first next) pointer.birth old new → LogsMiss (leaf_of part' pointer'.first next') birth old new
 miss_as part part' pointer pointer' next next' birth old new a b c d h = rw (sym d, sym a, sym b, sym c) h
 
@@ -123,7 +123,7 @@ module _ {R : Type 0} (faults : R → Option ℕ → ℕ) where
       → missed_of mid pointer i ≡ false
   unmissed mid new before now pointer i part ended lacks =
       lacked mid new before now (leaf_of (part_of mid) pointer.first i) pointer.birth ended
-      (subst (λ (p : Part). logs_of new (leaf_of p pointer.first i) pointer.birth ≡ false) part lacks)
+      (subst (λ (p : MetaslabLayout). logs_of new (leaf_of p pointer.first i) pointer.birth ≡ false) part lacks)
 
 -- ---- harm
 pub told_twice : (o m p : Option Told) (P Q R : Told → Told → Type 0) → ((x y z : Told) → P x y → Q y z → R x z) → TellsBoth o m P → TellsBoth m p Q → TellsBoth o p R
@@ -132,12 +132,12 @@ told_twice (Some x) None p P Q R f a b = absurd a
 told_twice (Some x) (Some y) None P Q R f a b = absurd b
 told_twice (Some x) (Some y) (Some z) P Q R f a b = f x y z a b
 
-pub harm_none : (part : Part) (first stripes : ℕ) (missed : ℕ → Bool) (o : Option Told) → TellsBoth o o (λ x y. EndsHarm part first stripes (λ i. i < 0) missed x.harmed y.harmed)
+pub harm_none : (part : MetaslabLayout) (first stripes : ℕ) (missed : ℕ → Bool) (o : Option Told) → TellsBoth o o (λ x y. EndsHarm part first stripes (λ i. i < 0) missed x.harmed y.harmed)
 harm_none part first stripes missed None = refl
 harm_none part first stripes missed (Some x) =
     record { ended = λ i below lands. absurd (omega arith); fewer = λ l s was. was; others = λ l s away. refl }
 
-ends_more : (part : Part) (first stripes next : ℕ) (before now : ℕ → Bool) (x y z : ℕ → ℕ → Bool) → ((i : ℕ) → now i ≡ false → before i ≡ false)
+ends_more : (part : MetaslabLayout) (first stripes next : ℕ) (before now : ℕ → Bool) (x y z : ℕ → ℕ → Bool) → ((i : ℕ) → now i ≡ false → before i ≡ false)
     → EndsHarm part first stripes (λ i. i < next) before x y → EndsHarm part first stripes (λ i. i ≡ next) now y z → EndsHarm part first stripes (λ i. i < next + 1) now x z
 ends_more part first stripes next before now x y z fewer a b = record {
   ended = λ i below lands. elim (cases_lt i next) [
@@ -150,7 +150,7 @@ ends_more part first stripes next before now x y z fewer a b = record {
       ∙ a.others l s (λ j i lt own. away j i lt (omega arith));
 }
 
-pub told_ends_more : (part : Part) (first stripes next : ℕ) (before now : ℕ → Bool) (o m p : Option Told) → ((i : ℕ) → now i ≡ false → before i ≡ false)
+pub told_ends_more : (part : MetaslabLayout) (first stripes next : ℕ) (before now : ℕ → Bool) (o m p : Option Told) → ((i : ℕ) → now i ≡ false → before i ≡ false)
     → TellsBoth o m (λ x y. EndsHarm part first stripes (λ i. i < next) before x.harmed y.harmed) → TellsBoth m p (λ x y. EndsHarm part first stripes (λ i. i ≡ next) now x.harmed y.harmed)
     → TellsBoth o p (λ x y. EndsHarm part first stripes (λ i. i < next + 1) now x.harmed y.harmed)
 told_ends_more part first stripes next before now o m p fewer a b =
@@ -158,13 +158,13 @@ told_ends_more part first stripes next before now o m p fewer a b =
     (λ x y. EndsHarm part first stripes (λ i. i < next + 1) now x.harmed y.harmed)
     (λ x y z h k. ends_more part first stripes next before now x.harmed y.harmed z.harmed fewer h k) a b
 
-pub harm_as : (part part' home : Part) (logs : ℕ → ℕ → Bool) (pointer pointer' : Pointer) (next next' : ℕ) (o p : Option Told) → part ≡ part' → pointer ≡ pointer' → next ≡ next'
+pub harm_as : (part part' home : MetaslabLayout) (logs : ℕ → ℕ → Bool) (pointer pointer' : Pointer) (next next' : ℕ) (o p : Option Told) → part ≡ part' → pointer ≡ pointer' → next ≡ next'
     → TellsBoth o p (λ x y. EndsHarm part pointer.first pointer.stripes (λ i. i ≡ next) (is_missed home logs pointer.first pointer.birth) x.harmed y.harmed)
     → TellsBoth o p (λ x y. EndsHarm part' pointer'.first pointer'.stripes (λ i. i ≡ next') (is_missed home logs pointer'.first pointer'.birth) x.harmed y.harmed)
 harm_as part part' home logs pointer pointer' next next' o p a b c h = rw (sym a, sym b, sym c) h
 
 -- all columns
-pub harm_all : (part : Part) (first stripes count all : ℕ) (missed : ℕ → Bool) (o p : Option Told) → count ≡ all
+pub harm_all : (part : MetaslabLayout) (first stripes count all : ℕ) (missed : ℕ → Bool) (o p : Option Told) → count ≡ all
     → TellsBoth o p (λ x y. EndsHarm part first stripes (λ i. i < count) missed x.harmed y.harmed) → TellsBoth o p (λ x y. EndsHarm part first stripes (λ i. i < all) missed x.harmed y.harmed)
 harm_all part first stripes count all missed o p e h = rw (sym e) h
 

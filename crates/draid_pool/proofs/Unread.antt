@@ -13,24 +13,24 @@ use Rattle.draid_block.specs.declared.many.Solve.TheVariants as solve
 use Rattle.draid_block.specs.declared.solve.Fetched.{Fetched}
 use Rattle.draid_block.specs.declared.solve.SolveFault.{SolveFault}
 use Rattle.draid_block.specs.declared.solve.SolveFault.TheVariants.{Unreadable}
-use Rattle.draid_shard.specs.Part.{Part}
+use Rattle.draid_shard.specs.MetaslabLayout.{MetaslabLayout}
 use Rattle.draid_shard.specs.Columns.{LeafRose, MoreBad}
 use Rattle.draid_pool.specs.Store.{BlockAnswers, IsUnread, reading_of}
 
-no_answer : (part : Part) (fetched : Fetched) (result : Result (Vec ℕ Global) SolveFault) (absent tried : ℕ) → result ≡ Err (Unreadable absent tried)
+no_answer : (part : MetaslabLayout) (fetched : Fetched) (result : Result (Vec ℕ Global) SolveFault) (absent tried : ℕ) → result ≡ Err (Unreadable absent tried)
     → SolvesBlock (cut_of part.geometry) fetched result → HasNoAnswer (cut_of part.geometry) fetched absent tried
 no_answer part fetched result absent tried said solves = subst (SolvesBlock (cut_of part.geometry) fetched) said solves
 
 not_answered : (result : Result (Vec ℕ Global) SolveFault) (absent tried : ℕ) → result ≡ Err (Unreadable absent tried) → IsAnswered result → ⊥
 not_answered result absent tried said answered = subst IsAnswered said answered
 
-bad_on : (told : Option Told) (part : Part) (gone : ℕ → Bool) (first stripes : ℕ) (old new : Option ℕ → ℕ) (A : Type 0) → (A → ⊥)
+bad_on : (told : Option Told) (part : MetaslabLayout) (gone : ℕ → Bool) (first stripes : ℕ) (old new : Option ℕ → ℕ) (A : Type 0) → (A → ⊥)
     → OnTold told (λ x. A ⊎ MoreBad part x.harmed gone first stripes old new) → OnTold told (λ x. MoreBad part x.harmed gone first stripes old new)
 bad_on None part gone first stripes old new A never either = tt
 bad_on (Some x) part gone first stripes old new A never (inl a) = absurd (never a)
 bad_on (Some x) part gone first stripes old new A never (inr more) = more
 
-pub unread : (told : Option Told) (part : Part) (gone : ℕ → Bool) (pointer : Pointer) (w : List ℕ) (fetched : Fetched) (old new : Option ℕ → ℕ) (result : Result (Vec ℕ Global) SolveFault) (absent tried : ℕ) (used : Geometry)
+pub unread : (told : Option Told) (part : MetaslabLayout) (gone : ℕ → Bool) (pointer : Pointer) (w : List ℕ) (fetched : Fetched) (old new : Option ℕ → ℕ) (result : Result (Vec ℕ Global) SolveFault) (absent tried : ℕ) (used : Geometry)
     → used ≡ part.geometry → result ≡ Err (Unreadable absent tried) → part.geometry.g ≡ part.geometry.spec.parity + part.geometry.spec.ndata → SolvesBlock (cut_of used) fetched result
     → ((v bad : List ℕ) → IsReadable (cut_of used) fetched v bad → IsAnswered result)
     → All (LeafRose part pointer.first old new) (absent_columns fetched.columns.items)
@@ -48,7 +48,7 @@ unread told part gone pointer w fetched old new result absent tried used same sa
     }
 
 -- whatever solves what was fetched of a block is an answer to a read of it
-pub fetch_answers : (told : Option Told) (part : Part) (gone : ℕ → Bool) (pointer : Pointer) (w : List ℕ) (fetched : Fetched) (old new : Option ℕ → ℕ)
+pub fetch_answers : (told : Option Told) (part : MetaslabLayout) (gone : ℕ → Bool) (pointer : Pointer) (w : List ℕ) (fetched : Fetched) (old new : Option ℕ → ℕ)
     → part.geometry.g ≡ part.geometry.spec.parity + part.geometry.spec.ndata → fetched.pointer ≡ pointer → IsContent pointer w
     → All (LeafRose part pointer.first old new) (absent_columns fetched.columns.items)
     → OnTold told (λ x. ((bad : List ℕ) × IsReadable (cut_of part.geometry) fetched w bad) ⊎ MoreBad part x.harmed gone pointer.first pointer.stripes old new)

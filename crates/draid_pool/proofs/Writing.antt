@@ -9,7 +9,7 @@ use Rattle.draid_rack.specs.Rack.{Shape, Told}
 use Rattle.draid_shard.specs.declared.shard.Shard.{Shard}
 use Rattle.draid_shard.specs.Columns.{EndsHarm, TellsBoth, is_missed}
 use Rattle.draid_shard.specs.Entry.{open_group}
-use Rattle.draid_shard.specs.Part.{Part}
+use Rattle.draid_shard.specs.MetaslabLayout.{MetaslabLayout}
 use Rattle.draid_shard.specs.Shard.{HasEntry, IsUnused, KeepsBlocks, NoneFalls, Valid, logs_of, part_of}
 use Rattle.draid_pool.specs.Answers.{WriteInIs}
 use Rattle.draid_pool.specs.Pool.{HasRoomAt, HoldsWrite, Moves, NamesOthers, Represents, SamePool, Stands, metaslab_of, state_of}
@@ -26,12 +26,12 @@ use Rattle.draid_pool.proofs.Shards.{at_shard, same_image, same_images, set_here
 use Rattle.draid_pool.proofs.Steps.{Turned, not_in_table, one_moved, represents_yet, same_stands, same_state}
 
 -- the harm of a write, by other names of the group and of the metaslab
-harm_born : (part home : Part) (logs : ℕ → ℕ → Bool) (first stripes birth birth' : ℕ) (o p : Option Told) → birth ≡ birth'
+harm_born : (part home : MetaslabLayout) (logs : ℕ → ℕ → Bool) (first stripes birth birth' : ℕ) (o p : Option Told) → birth ≡ birth'
     → TellsBoth o p (λ x y. EndsHarm part first stripes (λ i. i < part.geometry.g) (is_missed home logs first birth) x.harmed y.harmed)
     → TellsBoth o p (λ x y. EndsHarm part first stripes (λ i. i < part.geometry.g) (is_missed home logs first birth') x.harmed y.harmed)
 harm_born part home logs first stripes birth birth' o p same h = rw (sym same) h
 
-harm_here : (part home home' : Part) (logs : ℕ → ℕ → Bool) (first stripes birth : ℕ) (o p : Option Told) → home' ≡ home
+harm_here : (part home home' : MetaslabLayout) (logs : ℕ → ℕ → Bool) (first stripes birth : ℕ) (o p : Option Told) → home' ≡ home
     → TellsBoth o p (λ x y. EndsHarm part first stripes (λ i. i < part.geometry.g) (is_missed home logs first birth) x.harmed y.harmed)
     → TellsBoth o p (λ x y. EndsHarm part first stripes (λ i. i < part.geometry.g) (is_missed home' logs first birth) x.harmed y.harmed)
 harm_here part home home' logs first stripes birth o p same h = rw same h

@@ -3,13 +3,13 @@ use Rattle.std.specs.Prelude.{◌≡◌, ◌≤◌, ℕ, Bool, List, Option, Som
 use Rattle.draid_rack.specs.Rack.{OnTold, Told}
 use Rattle.draid_block.specs.Blocks.{AreColumns, cut_of}
 use Rattle.draid_shard.specs.declared.shard.Shard.{Shard}
-use Rattle.draid_shard.specs.Part.{Part}
+use Rattle.draid_shard.specs.MetaslabLayout.{MetaslabLayout}
 use Rattle.draid_shard.specs.Columns.{ColumnsStand, is_missed}
 use Rattle.draid_pool.specs.Pool.{harm_of}
 use Rattle.draid_pool.specs.State.{Metaslab, State, Write, stripes_for, write_of}
 
 -- The columns of the block of an accepted write stand, but for those that are missed and the sectors that are harmed.
-pub record WriteStands (part : Part) (logs : ℕ → ℕ → Bool) (x : Told) (write : Write) : Type 0 where
+pub record WriteStands (part : MetaslabLayout) (logs : ℕ → ℕ → Bool) (x : Told) (write : Write) : Type 0 where
   pub columns : List (List ℕ)
   pub are : AreColumns (cut_of part.geometry) write.bytes columns
   pub stand : ColumnsStand part x (is_missed part logs write.first write.birth) write.first (stripes_for part.geometry write.bytes) columns part.geometry.g

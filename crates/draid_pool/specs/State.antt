@@ -14,7 +14,7 @@ use Rattle.draid_block.specs.Blocks.{cut_of}
 use Rattle.draid_block.specs.Columns.{stripes_of}
 use Rattle.draid_block.specs.Order.{solve_order}
 use Rattle.draid_metaslab.specs.Spots.{IsLowest}
-use Rattle.draid_shard.specs.Part.{Part, leaf_of}
+use Rattle.draid_shard.specs.MetaslabLayout.{MetaslabLayout, leaf_of}
 use Rattle.draid_shard.specs.Columns.{EndsHarm, LeafRose, MoreBad, is_missed}
 use Rattle.draid_shard.specs.Entry.{IsRoom, open_group}
 use Rattle.draid_shard.specs.Shard.{NoneFalls, TakesLowest}
@@ -35,7 +35,7 @@ pub data Change : Type 0 where
 -- A metaslab of an open pool: its layout and its number; which stripes are free; how many blocks it has, the freed ones and those under way included; how often
 -- calls on each leaf have failed; which groups are in the log of each leaf; and which sectors are harmed, where the rack tells it.
 pub record Metaslab : Type 0 where
-  pub part : Part
+  pub part : MetaslabLayout
   pub free : ℕ → Bool
   pub held : ℕ
   pub faults : Option ℕ → ℕ

@@ -18,7 +18,7 @@ use Rattle.draid_block.specs.declared.many.Solve.TheVariants.{Bytes, Unreadable}
 use Rattle.draid_block.specs.declared.solve.Fetched.{Fetched}
 use Rattle.draid_metaslab.specs.Spots.{IsLowest}
 use Rattle.draid_shard.specs.declared.shard.Shard.{Shard}
-use Rattle.draid_shard.specs.Part.{Part, leaf_of}
+use Rattle.draid_shard.specs.MetaslabLayout.{MetaslabLayout, leaf_of}
 use Rattle.draid_shard.specs.Columns.{EndsHarm, LeafRose, MoreBad, TellsBoth, is_missed}
 use Rattle.draid_shard.specs.Entry.{IsRoom, open_group}
 use Rattle.draid_shard.specs.Shard.{AddsLive, DropsLive, HasEntry, HoldsBlock, IsLive, KeepsOtherBlocks, NoneMore, SameLive, TakesLowest, Valid, free_of, held_of, logs_of, missed_of, part_of}
@@ -116,7 +116,7 @@ pub record AreBytesOf (w bytes : List ℕ) : Type 0 where
 
 -- No set of columns restores the block: these are absent, and their leaves have had failures; and where the rack tells, more columns are bad than there are
 -- parity columns.
-pub record IsUnread (part : Part) (gone : ℕ → Bool) (first stripes : ℕ) (told : Option Told) (old new : Option ℕ → ℕ) (absent tried : ℕ) : Type 0 where
+pub record IsUnread (part : MetaslabLayout) (gone : ℕ → Bool) (first stripes : ℕ) (told : Option Told) (old new : Option ℕ → ℕ) (absent tried : ℕ) : Type 0 where
   pub missing : List ℕ
   pub count : absent ≡ length missing
   pub each : All (LeafRose part first old new) missing
@@ -124,7 +124,7 @@ pub record IsUnread (part : Part) (gone : ℕ → Bool) (first stripes : ℕ) (t
   pub bad : OnTold told (λ x. MoreBad part x.harmed gone first stripes old new)
 
 -- the answer to a read of the block w, of which these columns are missed
-abbrev pub BlockAnswers : Part → (ℕ → Bool) → Pointer → List ℕ → Option Told → (Option ℕ → ℕ) → (Option ℕ → ℕ) → Result (Vec ℕ Global) ObjectFault → Type 0
+abbrev pub BlockAnswers : MetaslabLayout → (ℕ → Bool) → Pointer → List ℕ → Option Told → (Option ℕ → ℕ) → (Option ℕ → ℕ) → Result (Vec ℕ Global) ObjectFault → Type 0
 BlockAnswers part gone pointer w told old new (Ok bytes) = AreBytesOf w bytes.items
 BlockAnswers part gone pointer w told old new (Err (object.Unreadable absent tried)) = IsUnread part gone pointer.first pointer.stripes told old new absent tried
 BlockAnswers part gone pointer w told old new (Err object.NoMemory) = ⊤
@@ -137,7 +137,7 @@ reading_of (Bytes bytes) = Ok bytes
 reading_of (Unreadable absent tried) = Err (object.Unreadable absent tried)
 
 -- whatever solves this that was fetched is an answer to a read of the block w, of which these columns are missed
-abbrev pub FetchAnswers : Part → (ℕ → Bool) → Pointer → List ℕ → Option Told → (Option ℕ → ℕ) → (Option ℕ → ℕ) → Fetched → Type 0
+abbrev pub FetchAnswers : MetaslabLayout → (ℕ → Bool) → Pointer → List ℕ → Option Told → (Option ℕ → ℕ) → (Option ℕ → ℕ) → Fetched → Type 0
 FetchAnswers part gone pointer w told old new fetched =
     (solve : Solve) → IsSolved (cut_of part.geometry) fetched solve → BlockAnswers part gone pointer w told old new (reading_of solve)
 

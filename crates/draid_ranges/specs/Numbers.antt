@@ -6,7 +6,7 @@ use Rattle.draid_ranges.specs.Runs.{AreApart, end_of, has_in}
 -- is room in memory.
 pub record Numbers : Type 0 where
   pub runs : List Run
-  pub spare : ℕ
+  pub room : ℕ
 
 -- whether the set has a number
 abbrev pub has : Numbers → ℕ → Bool

@@ -22,7 +22,7 @@ pub(crate) fn put(runs: &mut Vec<Run>, from: usize, to: usize, run: Run) -> Resu
     ensures ok { OnOk result (runs.new.items ≡ take from runs.old.items ++ run ∷ drop to runs.old.items) }
     ensures err { OnErr result (runs.new.items ≡ runs.old.items) }
     ensures room { (from < to → IsOk result) × (vec_len runs.old < vec_capacity runs.old → IsOk result) }
-    ensures spare { vec_capacity runs.old + vec_len runs.new ≤ vec_capacity runs.new + vec_len runs.old + 1 }
+    ensures left { vec_capacity runs.old + vec_len runs.new ≤ vec_capacity runs.new + vec_len runs.old + 1 }
 {
     if from == to {
         runs.insert(from, run)?;
@@ -85,7 +85,7 @@ pub(crate) fn keep_sides(
     ensures err { OnErr result (runs.new.items ≡ runs.old.items) }
     ensures room { vec_len runs.old < vec_capacity runs.old → IsOk result }
     ensures no_left { whole.first ≡ first → IsOk result }
-    ensures spare { vec_capacity runs.old + vec_len runs.new ≤ vec_capacity runs.new + vec_len runs.old + 1 }
+    ensures left { vec_capacity runs.old + vec_len runs.new ≤ vec_capacity runs.new + vec_len runs.old + 1 }
 {
     match (whole.first < first, end < whole.end()) {
         (false, false) => cut(runs, from, to),

@@ -18,7 +18,7 @@ pub struct RangeSet {
 impl Model for RangeSet {
     ghost Value = { Numbers };
 
-    ghost view = { λ s. record { runs = s.runs.items; spare = vec_capacity s.runs - vec_len s.runs } };
+    ghost view = { λ s. record { runs = s.runs.items; room = vec_capacity s.runs - vec_len s.runs } };
 
     ghost invariant = { λ s. AreApart s.runs.items };
 }
@@ -44,8 +44,8 @@ impl RangeSet {
     /// Makes room for so many changes.
     pub fn reserve(&mut self, changes: u32) -> Result<(), AllocError>
         ensures same { Has self.new (has self.old) }
-        ensures room { OnOk result (changes ≤ self.new.spare) }
-        ensures kept { self.old.spare ≤ self.new.spare }
+        ensures room { OnOk result (changes ≤ self.new.room) }
+        ensures kept { self.old.room ≤ self.new.room }
     {
         self.runs.reserve(changes as usize)
     }
@@ -56,8 +56,8 @@ impl RangeSet {
         requires range { last < 2 ^ 48 }
         ensures ok { OnOk result (Has self.new (λ x. has self.old x || is_between first (last + 1) x)) }
         ensures err { OnErr result (Has self.new (has self.old)) }
-        ensures room { 0 < self.old.spare → IsOk result }
-        ensures spare { self.old.spare ≤ self.new.spare + 1 }
+        ensures room { 0 < self.old.room → IsOk result }
+        ensures left { self.old.room ≤ self.new.room + 1 }
     {
         let at = ending_before(&self.runs, first);
         let (whole, end) = absorb(&self.runs, at, Run::between(first, last + 1));
@@ -70,9 +70,9 @@ impl RangeSet {
         requires range { last < 2 ^ 48 }
         ensures ok { OnOk result (Has self.new (λ x. has self.old x && not (is_between first (last + 1) x))) }
         ensures err { OnErr result (Has self.new (has self.old)) }
-        ensures room { 0 < self.old.spare → IsOk result }
+        ensures room { 0 < self.old.room → IsOk result }
         ensures from_zero { first ≡ 0 → IsOk result }
-        ensures spare { self.old.spare ≤ self.new.spare + 1 }
+        ensures left { self.old.room ≤ self.new.room + 1 }
     {
         let at = ending_before(&self.runs, first);
         let (whole, end) = absorb(&self.runs, at, Run::between(first, last + 1));
@@ -82,7 +82,7 @@ impl RangeSet {
     /// Takes all members out.
     pub fn clear(&mut self)
         ensures members { Has self.new (λ x. false) }
-        ensures spare { self.old.spare ≤ self.new.spare }
+        ensures left { self.old.room ≤ self.new.room }
     {
         self.runs.clear();
     }
@@ -90,7 +90,7 @@ impl RangeSet {
     /// Takes out what is above `last`.
     pub fn cut_above(&mut self, last: u64)
         ensures members { Has self.new (λ x. has self.old x && nat_le x last) }
-        ensures spare { self.old.spare ≤ self.new.spare }
+        ensures left { self.old.room ≤ self.new.room }
     {
         let at = ending_before(&self.runs, last.saturating_add(2));
         shorten(&mut self.runs, at, last)

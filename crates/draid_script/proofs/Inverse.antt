@@ -9,13 +9,13 @@ use Rattle.std.proofs.lemmas.Fmt.{decimal_digit}
 use Rattle.std.proofs.lemmas.Slice.Eq.{bytes_eq-Decides, starts_is}
 use Rattle.std.proofs.lemmas.Bool.Decides.{Decides-eqb}
 use Rattle.draid_script.specs.declared.fault.LineFault.{LineFault}
-use Rattle.draid_script.specs.declared.line.ArmName.{ArmName}
-use Rattle.draid_script.specs.declared.line.ArmName.TheVariants.{Leaf, Spare}
+use Rattle.draid_script.specs.declared.line.ArmArgument.{ArmArgument}
+use Rattle.draid_script.specs.declared.line.ArmArgument.TheVariants.{Leaf, Spare}
 use Rattle.draid_script.specs.declared.name.CommandName.{CommandName}
 use Rattle.draid_script.specs.Fault.{fault, ◌>>=◌}
 use Rattle.draid_script.specs.Field.{arm_at, block_at, count_at, number_at, number_in, spare_behind, within}
 use Rattle.draid_script.specs.Grammar.{limit_at, one_number, two_numbers}
-use Rattle.draid_script.specs.Line.{IsArmName, IsLimit, longest_block, most_objects}
+use Rattle.draid_script.specs.Line.{IsArmArgument, IsLimit, longest_block, most_objects}
 use Rattle.draid_script.specs.Name.{all_names, name_of, name_text}
 use Rattle.draid_script.specs.Reply.{arm_of}
 use Rattle.draid_script.specs.Word.{Placed, bytes_of, number_of}
@@ -123,7 +123,7 @@ cond_inv true r e y gives = (refl, gives)
 cond_inv false r e y gives = cc
 
 -- an arm is spelled as `detach` names it
-spare_inv : (at : ℕ) (rest : List ℕ) (arm : ArmName) → spare_behind at rest ≡ Ok arm → (codes "draid" ++ rest ≡ arm_of arm) × IsArmName arm
+spare_inv : (at : ℕ) (rest : List ℕ) (arm : ArmArgument) → spare_behind at rest ≡ Ok arm → (codes "draid" ++ rest ≡ arm_of arm) × IsArmArgument arm
 spare_inv at [] arm gives = cc
 spare_inv at (parity ∷ []) arm gives = cc
 spare_inv at (parity ∷ dash ∷ []) arm gives = cc
@@ -147,13 +147,13 @@ spare_inv at (parity ∷ dash ∷ vdev ∷ dash' ∷ number) arm gives =
     let back : 48 + (parity - 48) ≡ parity = omega arith in
     let same : Spare (parity - 48) read.0 ≡ arm = cc in
     let words : parity ∷ dash ∷ vdev ∷ dash' ∷ number ≡ parity ∷ 45 ∷ 48 ∷ 45 ∷ decimal read.0 = cc in
-    let P : ArmName → Type 0 = λ a. (codes "draid" ++ (parity ∷ dash ∷ vdev ∷ dash' ∷ number) ≡ arm_of a) × IsArmName a in
+    let P : ArmArgument → Type 0 = λ a. (codes "draid" ++ (parity ∷ dash ∷ vdev ∷ dash' ∷ number) ≡ arm_of a) × IsArmArgument a in
     subst P same (
       ap (λ (ws : List ℕ). codes "draid" ++ ws) (words ∙ ap (λ (p : ℕ). p ∷ 45 ∷ 48 ∷ 45 ∷ decimal read.0) (sym back)) ∙ ap (λ (ds : List ℕ). codes "draid" ++ (ds ++ (codes "-0-" ++ decimal read.0))) (sym digit),
       (omega arith, omega arith, spelled.2),
     )
 
-pub arm_inv : (word : Placed) (arm : ArmName) → arm_at word ≡ Ok arm → (word.text ≡ arm_of arm) × IsArmName arm
+pub arm_inv : (word : Placed) (arm : ArmArgument) → arm_at word ≡ Ok arm → (word.text ≡ arm_of arm) × IsArmArgument arm
 arm_inv word arm gives =
     let starts = starts_with nat_eq word.text (codes "draid") in
     elim (cases_Bool (starts_with nat_eq word.text (codes "draid"))) [
@@ -165,6 +165,6 @@ arm_inv word arm gives =
           let read = then_inv (number_in 0 (2 ^ 48) word) (λ leaf. Ok (Leaf leaf)) arm (sym (cond-false starts (spare_behind word.at (drop 5 word.text)) _ fails) ∙ gives) in
           let spelled = in_inv 0 (2 ^ 48) word read.0 read.1 in
           let same : Leaf read.0 ≡ arm = cc in
-          let P : ArmName → Type 0 = λ a. (word.text ≡ arm_of a) × IsArmName a in
+          let P : ArmArgument → Type 0 = λ a. (word.text ≡ arm_of a) × IsArmArgument a in
           subst P same (spelled.0, spelled.2)
     ]

@@ -11,8 +11,8 @@ use Rattle.std.proofs.lemmas.List.Splits.{join_with_byte-slice_split, length-sli
 use Rattle.std.proofs.lemmas.Str.Parse.{digit_at}
 use Rattle.draid_script.specs.declared.fault.LineFault.{LineFault}
 use Rattle.draid_script.specs.declared.keys.Given.{Given}
-use Rattle.draid_script.specs.declared.line.ArmName.{ArmName}
-use Rattle.draid_script.specs.declared.line.ArmName.TheVariants.{Leaf, Spare}
+use Rattle.draid_script.specs.declared.line.ArmArgument.{ArmArgument}
+use Rattle.draid_script.specs.declared.line.ArmArgument.TheVariants.{Leaf, Spare}
 use Rattle.draid_script.specs.declared.line.PoolKeys.{PoolKeys}
 use Rattle.draid_script.specs.declared.line.StatusFormat.TheVariants.{Text, Json}
 use Rattle.draid_script.specs.declared.name.CommandName.{CommandName}
@@ -21,7 +21,7 @@ use Rattle.draid_script.specs.Fault.{fault, ◌>>=◌}
 use Rattle.draid_script.specs.Field.{short_at, arm_at, block_at, count_at, hex_place, number_at, number_in, spare_behind, within}
 use Rattle.draid_script.specs.Grammar.{command_of, fill_of, is_silent, limit_at, line_of, one_number, outside, replace_of, sum_of, two_numbers, write_of}
 use Rattle.draid_script.specs.Keys.{given_by, given_with, keys_at, new_value, nothing_given}
-use Rattle.draid_script.specs.Line.{Command, Silent, CreatePool, ImportPool, ExportPool, SyncPool, CancelPasses, CrashPool, WriteObject, FillObjects, ReadObject, FreeObject, SumObjects, TakeOffline, TakeOnline, DamageSector, AttachSpare, ReplaceDisk, DetachArm, RebuildPool, ScrubPool, RebalanceSlot, ShowStatus, OpenLanes, AreKeys, AreObjects, IsArmName, IsInRange, IsLimit, longest_block, most_lanes, most_objects}
+use Rattle.draid_script.specs.Line.{Command, Silent, CreatePool, ImportPool, ExportPool, SyncPool, CancelPasses, CrashPool, WriteObject, FillObjects, ReadObject, FreeObject, SumObjects, TakeOffline, TakeOnline, DamageSector, AttachSpare, ReplaceDisk, DetachArm, RebuildPool, ScrubPool, RebalanceSlot, ShowStatus, OpenLanes, AreKeys, AreObjects, IsArmArgument, IsInRange, IsLimit, longest_block, most_lanes, most_objects}
 use Rattle.draid_script.specs.Name.{name_of, name_text}
 use Rattle.draid_script.specs.Reply.{arm_of}
 use Rattle.draid_script.specs.Shape.{AreSettings, AreWordsOf, GivesKey, GivesKeys, IsLine, texts_of}
@@ -192,7 +192,7 @@ starts_not : (text : List ℕ) → get_or text 0 0 ≢ 100 → starts_with nat_e
 starts_not [] other = refl
 starts_not (byte ∷ bytes) other = and_left (100 == byte) _ (ne_eqb 100 byte (λ same. other (sym same)))
 
-arm_again : (at : ℕ) (arm : ArmName) → IsArmName arm → arm_at (record { text = arm_of arm; at = at }) ≡ Ok arm
+arm_again : (at : ℕ) (arm : ArmArgument) → IsArmArgument arm → arm_at (record { text = arm_of arm; at = at }) ≡ Ok arm
 arm_again at (Leaf leaf) below =
     let numeral = (decimal_is_IsNumeral leaf (omega (arith, below))).0 in
     let digit = digit_at (decimal leaf) 0 numeral.1 numeral.0 in
@@ -205,7 +205,7 @@ arm_again at (Spare parity spare) is =
     ∙ then_ok _ spare _ (number_in_again 0 (2 ^ 32) spare at (omega arith) is.2 (omega (arith, is.2)))
     ∙ ap (λ (p : ℕ). Ok (Spare p spare)) (omega arith)
 
-arm_word : (arm : ArmName) → IsArmName arm → IsWord (arm_of arm)
+arm_word : (arm : ArmArgument) → IsArmArgument arm → IsWord (arm_of arm)
 arm_word (Leaf leaf) below = decimal_word leaf (omega (arith, below))
 arm_word (Spare parity spare) is =
     All-append (λ byte. is_space byte ≡ false) (codes "draid") _ (literal_word (codes "draid") refl)

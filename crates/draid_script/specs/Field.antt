@@ -4,8 +4,8 @@ use Rattle.std.specs.Prelude.{nat_eq}
 use Rattle.std.specs.Option.{ok_or}
 use Rattle.hex.specs.Hex.{is_hex_digit}
 use Rattle.draid_script.specs.declared.fault.LineFault.{LineFault}
-use Rattle.draid_script.specs.declared.line.ArmName.{ArmName}
-use Rattle.draid_script.specs.declared.line.ArmName.TheVariants.{Leaf, Spare}
+use Rattle.draid_script.specs.declared.line.ArmArgument.{ArmArgument}
+use Rattle.draid_script.specs.declared.line.ArmArgument.TheVariants.{Leaf, Spare}
 use Rattle.draid_script.specs.declared.line.StatusFormat.{StatusFormat}
 use Rattle.draid_script.specs.declared.line.StatusFormat.TheVariants.{Json}
 use Rattle.draid_script.specs.Fault.{fault, ◌>>=◌}
@@ -50,7 +50,7 @@ block_at end word = do
   if nat_le (length bytes) longest_block then Ok bytes else Err (fault 5 word.at)
 
 -- what stands behind `draid` in the name of a spare: its parity, `-0-` and its number
-abbrev pub spare_behind : ℕ → List ℕ → Result ArmName LineFault
+abbrev pub spare_behind : ℕ → List ℕ → Result ArmArgument LineFault
 spare_behind at (parity ∷ dash ∷ vdev ∷ dash' ∷ number) =
     if nat_le 49 parity && nat_le parity 51 && dash == 45 && vdev == 48 && dash' == 45
     then (short_at (record { text = number; at = at }) >>= λ spare. Ok (Spare (parity - 48) spare))
@@ -58,7 +58,7 @@ spare_behind at (parity ∷ dash ∷ vdev ∷ dash' ∷ number) =
 spare_behind at _ = Err (fault 3 at)
 
 -- a leaf's number, or a spare's name
-abbrev pub arm_at : Placed → Result ArmName LineFault
+abbrev pub arm_at : Placed → Result ArmArgument LineFault
 arm_at word =
     if starts_with nat_eq word.text (codes "draid")
     then spare_behind word.at (drop 5 word.text)

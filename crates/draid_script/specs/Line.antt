@@ -2,8 +2,8 @@ use Rattle.std.specs.Prelude.{◌+◌, ◌<◌, ◌≤◌, ◌^◌, ⊤, ℕ, Li
 use Rattle.draid_script.specs.declared.line.Line.{Line}
 use Rattle.draid_script.specs.declared.line.Line.TheVariants as line
 use Rattle.draid_script.specs.declared.line.PoolKeys.{PoolKeys}
-use Rattle.draid_script.specs.declared.line.ArmName.{ArmName}
-use Rattle.draid_script.specs.declared.line.ArmName.TheVariants.{Leaf, Spare}
+use Rattle.draid_script.specs.declared.line.ArmArgument.{ArmArgument}
+use Rattle.draid_script.specs.declared.line.ArmArgument.TheVariants.{Leaf, Spare}
 use Rattle.draid_script.specs.declared.line.StatusFormat.{StatusFormat}
 use Rattle.draid_script.specs.declared.line.LaneLine.{LaneLine}
 use Rattle.draid_script.specs.declared.line.LaneLine.TheVariants as lane
@@ -27,7 +27,7 @@ pub data Command : Type 0 where
   DamageSector : ℕ → ℕ → Command
   AttachSpare : ℕ → ℕ → Command
   ReplaceDisk : ℕ → Option ℕ → Command
-  DetachArm : ArmName → Command
+  DetachArm : ArmArgument → Command
   RebuildPool : Option ℕ → Command
   ScrubPool : Option ℕ → Command
   RebalanceSlot : ℕ → Command
@@ -101,9 +101,9 @@ pub record AreKeys (keys : PoolKeys) : Type 0 where
   pub seed : keys.seed < 2 ^ 64
 
 -- a leaf below 2^48, or a spare below 2^32 of a parity from 1 to 3
-abbrev pub IsArmName : ArmName → Type 0
-IsArmName (Leaf leaf) = leaf < 2 ^ 48
-IsArmName (Spare parity spare) = (1 ≤ parity) × (parity ≤ 3) × (spare < 2 ^ 32)
+abbrev pub IsArmArgument : ArmArgument → Type 0
+IsArmArgument (Leaf leaf) = leaf < 2 ^ 48
+IsArmArgument (Spare parity spare) = (1 ≤ parity) × (parity ≤ 3) × (spare < 2 ^ 32)
 
 -- at most so many units, 1 to 2^48 - 1
 abbrev pub IsLimit : Option ℕ → Type 0
@@ -122,7 +122,7 @@ IsInRange (TakeOnline leaf) = leaf < 2 ^ 48
 IsInRange (DamageSector leaf sector) = (leaf < 2 ^ 48) × (sector < 2 ^ 26)
 IsInRange (AttachSpare slot spare) = (slot < 2 ^ 32) × (spare < 2 ^ 32)
 IsInRange (ReplaceDisk slot sectors) = (slot < 2 ^ 32) × IfSome sectors (λ n. n < 2 ^ 48)
-IsInRange (DetachArm arm) = IsArmName arm
+IsInRange (DetachArm arm) = IsArmArgument arm
 IsInRange (RebuildPool limit) = IsLimit limit
 IsInRange (ScrubPool limit) = IsLimit limit
 IsInRange (RebalanceSlot slot) = slot < 2 ^ 32

@@ -1,8 +1,8 @@
 use Rattle.std.specs.Prelude.{ℕ, Bool, true, false, List, ◌++◌, length, codes, Option, None, Some, string_bytes, encode_utf8}
 use Rattle.std.specs.Fmt.{decimal}
 use Rattle.hex.specs.Hex.{encode_lower}
-use Rattle.draid_script.specs.declared.line.ArmName.{ArmName}
-use Rattle.draid_script.specs.declared.line.ArmName.TheVariants.{Leaf, Spare}
+use Rattle.draid_script.specs.declared.line.ArmArgument.{ArmArgument}
+use Rattle.draid_script.specs.declared.line.ArmArgument.TheVariants.{Leaf, Spare}
 use Rattle.draid_script.specs.declared.name.CommandName.{CommandName}
 use Rattle.draid_script.specs.declared.name.CommandName.TheVariants as name
 use Rattle.draid_spec.specs.declared.spec.SpecFault.{SpecFault}
@@ -81,17 +81,17 @@ sum_refused_of object sum.Worn = codes "sum " ++ (decimal object ++ codes " worn
 sum_refused_of object sum.NoMemory = codes "sum no memory\n"
 
 -- an arm as `detach` names it
-abbrev pub arm_of : ArmName → List ℕ
+abbrev pub arm_of : ArmArgument → List ℕ
 arm_of (Leaf leaf) = decimal leaf
 arm_of (Spare parity spare) = codes "draid" ++ (decimal parity ++ (codes "-0-" ++ decimal spare))
 
-abbrev pub detached_of : ArmName → ℕ → List ℕ
+abbrev pub detached_of : ArmArgument → ℕ → List ℕ
 detached_of arm group = codes "detach " ++ (arm_of arm ++ (codes " ok group=" ++ (decimal group ++ codes "\n")))
 
-abbrev pub detach_refused_of : ArmName → SlotFault → List ℕ
+abbrev pub detach_refused_of : ArmArgument → SlotFault → List ℕ
 detach_refused_of arm why = codes "detach " ++ (arm_of arm ++ (codes " refused " ++ (slot_fault_of why ++ codes "\n")))
 
-abbrev pub detach_stopped_of : ArmName → List ℕ → List ℕ
+abbrev pub detach_stopped_of : ArmArgument → List ℕ → List ℕ
 detach_stopped_of arm words = codes "detach " ++ (arm_of arm ++ (codes " " ++ (words ++ codes "\n")))
 
 -- how a pass stands

@@ -1,12 +1,12 @@
 ghost use Rattle.std.specs.Prelude.{◌≡◌, ◌+◌, ◌<◌, ◌≤◌, ◌^◌, IfOk, length};
-ghost use Rattle.draid_script.specs.Line.{IsArmName, longest_block, most_objects};
+ghost use Rattle.draid_script.specs.Line.{IsArmArgument, longest_block, most_objects};
 ghost use Rattle.draid_script.specs.Fault.{Gives};
 ghost use Rattle.draid_script.specs.Field as spec;
 ghost use Rattle.draid_script.specs.Word.{placed};
 
 use crate::text::{decimal, hex_bytes, is_hex};
 use crate::word::Word;
-use crate::{ArmName, LineFault, ParseFault, StatusFormat};
+use crate::{ArmArgument, LineFault, ParseFault, StatusFormat};
 use std::alloc::Global;
 
 /// Objects have numbers below this.
@@ -103,29 +103,29 @@ fn hex_place(end: u64, word: &Word) -> u64
 }
 
 /// A leaf's number, or a spare's name.
-pub fn arm(word: &Word) -> Result<ArmName, ParseFault>
+pub fn arm(word: &Word) -> Result<ArmArgument, ParseFault>
     ensures value { Gives (λ arm. arm) result (spec.arm_at (placed word.now)) }
-    ensures range { IfOk result (λ arm. IsArmName arm) }
+    ensures range { IfOk result (λ arm. IsArmArgument arm) }
 {
     match word.text.strip_prefix(DRAID) {
         Some(text) => spare(&Word { text, at: word.at }),
         None => {
             let leaf = number_in(word, 0, LEAVES)?;
-            Ok(ArmName::Leaf { leaf })
+            Ok(ArmArgument::Leaf { leaf })
         }
     }
 }
 
 /// What stands behind `draid` in the name of a spare: its parity, `-0-` and its number.
-fn spare(name: &Word) -> Result<ArmName, ParseFault>
+fn spare(name: &Word) -> Result<ArmArgument, ParseFault>
     ensures value { Gives (λ arm. arm) result (spec.spare_behind name.now.at name.now.text.now) }
-    ensures range { IfOk result (λ arm. IsArmName arm) }
+    ensures range { IfOk result (λ arm. IsArmArgument arm) }
 {
     match name.text {
         [parity @ b'1'..=b'3', b'-', b'0', b'-', text @ ..] => {
             let spare = short_number(&Word { text, at: name.at })?;
             let parity = u32::from(*parity - b'0');
-            Ok(ArmName::Spare { parity, spare })
+            Ok(ArmArgument::Spare { parity, spare })
         }
         _ => Err(ParseFault::line(LineFault::NUMBER, name.at)),
     }

@@ -26,7 +26,7 @@ pub use laws::{
     lane_lines_are_exact, lane_lines_are_read_again, lines_are_exact, lines_are_read_again,
     numbers_are_decimal, words_are_joined,
 };
-pub use line::{ArmName, LaneLine, Line, PoolKeys, StatusFormat};
+pub use line::{ArmArgument, LaneLine, Line, PoolKeys, StatusFormat};
 pub use lines::{Lines, ReadFault};
 pub use name::CommandName;
 pub use parse::{parse_lane, parse_line};

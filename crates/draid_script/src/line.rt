@@ -71,7 +71,7 @@ pub enum Line {
     },
     /// `detach A`: an arm leaves its slot.
     Detach {
-        arm: ArmName,
+        arm: ArmArgument,
     },
     /// `rebuild [N]`: at most so many stripes are rebuilt, 1 to 2^48 - 1.
     Rebuild {
@@ -112,7 +112,7 @@ pub struct PoolKeys {
 
 /// An arm as `detach` names it.
 #[derive(Clone, Copy, Debug, PartialEq, Eq)]
-pub enum ArmName {
+pub enum ArmArgument {
     /// A leaf's number, below 2^48.
     Leaf { leaf: u64 },
     /// A distributed spare, as `draid2-0-0`: the parity, 1 to 3, and the spare, below 2^32.

@@ -5,7 +5,7 @@ use crate::texts::{
     contents, create_refused, detach_refused, detach_stopped, detached, fill_refused, name_said,
     rebalanced, rebuilt, scrubbed, slot_refused, sum_refused, summed,
 };
-use crate::{ArmName, CommandName};
+use crate::{ArmArgument, CommandName};
 use draid_names::{NoMemory, ObjectFault, SlotFault, WriteFault};
 use draid_spec::SpecFault;
 use std::alloc::{AllocError, Global};
@@ -203,21 +203,21 @@ pub enum Reply {
     },
     /// The arm has left its slot, committed with this group.
     Detached {
-        arm: ArmName,
+        arm: ArmArgument,
         group: u64,
     },
     /// The arm stays in its slot.
     DetachRefused {
-        arm: ArmName,
+        arm: ArmArgument,
         why: SlotFault,
     },
     /// A metaslab has too many events.
     DetachWorn {
-        arm: ArmName,
+        arm: ArmArgument,
     },
     /// No further group can be numbered.
     DetachLast {
-        arm: ArmName,
+        arm: ArmArgument,
     },
     /// So many stripes were rebuilt, from this one of the pool on.
     Rebuilt {

@@ -1,5 +1,5 @@
 use crate::{
-    ArmName, CommandName, WriteFault, Lines, MemorySink, MemorySource, ParseFault, ReadFault,
+    ArmArgument, CommandName, WriteFault, Lines, MemorySink, MemorySource, ParseFault, ReadFault,
     Reply, Sink, SlotFault, SpecFault, ObjectFault, parse_lane, parse_line, reply_text,
 };
 use draid_names::Failed;
@@ -519,14 +519,14 @@ fn prints_refusals(rt: HostRuntime) -> Result<(), Fail> {
         ),
         (
             Reply::DetachRefused {
-                arm: ArmName::Leaf { leaf: 3 },
+                arm: ArmArgument::Leaf { leaf: 3 },
                 why: SlotFault::LastArm,
             },
             "detach 3 refused 5\n",
         ),
         (
             Reply::Detached {
-                arm: ArmName::Spare {
+                arm: ArmArgument::Spare {
                     parity: 2,
                     spare: 0,
                 },
@@ -536,13 +536,13 @@ fn prints_refusals(rt: HostRuntime) -> Result<(), Fail> {
         ),
         (
             Reply::DetachWorn {
-                arm: ArmName::Leaf { leaf: 3 },
+                arm: ArmArgument::Leaf { leaf: 3 },
             },
             "detach 3 worn\n",
         ),
         (
             Reply::DetachLast {
-                arm: ArmName::Leaf { leaf: 3 },
+                arm: ArmArgument::Leaf { leaf: 3 },
             },
             "detach 3 last\n",
         ),

@@ -1,7 +1,7 @@
 ghost use Rattle.std.specs.Prelude.{◌≡◌, ◌++◌, IfOk, codes, string_bytes};
 ghost use Rattle.draid_script.specs.Reply.{arm_of, contents_of, create_refused_of, detach_refused_of, detach_stopped_of, detached_of, write_fault_of, fill_refused_of, others_of, pause_of, rebalanced_of, rebuilt_of, said_of, scrubbed_of, slot_fault_of, slot_refused_of, spec_fault_of, sum_refused_of, summed_of};
 
-use crate::{ArmName, CommandName};
+use crate::{ArmArgument, CommandName};
 use draid_names::{ObjectFault, SlotFault, WriteFault};
 use draid_spec::SpecFault;
 use std::alloc::{AllocError, Global};
@@ -137,14 +137,14 @@ pub fn sum_refused(alloc: Global, object: u64, why: ObjectFault) -> Result<Strin
     }
 }
 
-pub fn detached(alloc: Global, arm: ArmName, group: u64) -> Result<String, AllocError>
+pub fn detached(alloc: Global, arm: ArmArgument, group: u64) -> Result<String, AllocError>
     ensures { IfOk result (λ text. string_bytes text ≡ detached_of arm group) }
 {
     let arm = arm_text(alloc, arm)?;
     format!(in alloc; "detach {arm} ok group={group}\n")
 }
 
-pub fn detach_refused(alloc: Global, arm: ArmName, why: SlotFault) -> Result<String, AllocError>
+pub fn detach_refused(alloc: Global, arm: ArmArgument, why: SlotFault) -> Result<String, AllocError>
     ensures { IfOk result (λ text. string_bytes text ≡ detach_refused_of arm why) }
 {
     let arm = arm_text(alloc, arm)?;
@@ -152,7 +152,7 @@ pub fn detach_refused(alloc: Global, arm: ArmName, why: SlotFault) -> Result<Str
     format!(in alloc; "detach {arm} refused {why}\n")
 }
 
-pub fn detach_stopped(alloc: Global, arm: ArmName, words: &str) -> Result<String, AllocError>
+pub fn detach_stopped(alloc: Global, arm: ArmArgument, words: &str) -> Result<String, AllocError>
     ensures { IfOk result (λ text. string_bytes text ≡ detach_stopped_of arm words.now) }
 {
     let arm = arm_text(alloc, arm)?;
@@ -160,12 +160,12 @@ pub fn detach_stopped(alloc: Global, arm: ArmName, words: &str) -> Result<String
 }
 
 /// An arm as `detach` names it.
-fn arm_text(alloc: Global, arm: ArmName) -> Result<String, AllocError>
+fn arm_text(alloc: Global, arm: ArmArgument) -> Result<String, AllocError>
     ensures { IfOk result (λ text. string_bytes text ≡ arm_of arm) }
 {
     match arm {
-        ArmName::Leaf { leaf } => format!(in alloc; "{leaf}"),
-        ArmName::Spare { parity, spare } => format!(in alloc; "draid{parity}-0-{spare}"),
+        ArmArgument::Leaf { leaf } => format!(in alloc; "{leaf}"),
+        ArmArgument::Spare { parity, spare } => format!(in alloc; "draid{parity}-0-{spare}"),
     }
 }
 

@@ -3,7 +3,7 @@ use Rattle.std.proofs.Common.{◌≡◌, ◌⊎◌, ◌+◌, ◌<◌, ◌≤◌,
 use Rattle.std.specs.Option.{IfSome, IfNone}
 use Rattle.draid_names.specs.Faults.{Rose}
 use Rattle.draid_rack.specs.Rack.{Told, OnTold}
-use Rattle.draid_shard.specs.Part.{IsPart, IsRun, Part, at_place, leaf_of, place_in}
+use Rattle.draid_shard.specs.MetaslabLayout.{IsMetaslabLayout, IsRun, MetaslabLayout, at_place, leaf_of, place_in}
 use Rattle.draid_shard.specs.Columns.{AbsentRose, AreLong, AreRead, LeafRose, RowsStand, sector_of}
 use Rattle.draid_shard.proofs.Stand.{row_at}
 
@@ -31,8 +31,8 @@ pushed_long cs new x len e before here i c at = elim (last_or_before cs x (Some 
 ]
 
 -- the column that is read next
-pub record IsNext (part : Part) (first stripes i leaf sector rows size : ℕ) : Type 0 where
-  pub is : IsPart part
+pub record IsNext (part : MetaslabLayout) (first stripes i leaf sector rows size : ℕ) : Type 0 where
+  pub is : IsMetaslabLayout part
   pub run : IsRun part.geometry first stripes
   pub below : i < part.geometry.g
   pub leaf_is : leaf ≡ (place_in part first i).child
@@ -40,7 +40,7 @@ pub record IsNext (part : Part) (first stripes i leaf sector rows size : ℕ) : 
   pub rows_are : rows ≡ stripes
   pub size_is : size ≡ part.geometry.props.sector
 
-rows_read : (part : Part) (first stripes i leaf sector rows size : ℕ) (t : Told) (column : List ℕ) → IsNext part first stripes i leaf sector rows size
+rows_read : (part : MetaslabLayout) (first stripes i leaf sector rows size : ℕ) (t : Told) (column : List ℕ) → IsNext part first stripes i leaf sector rows size
     → RowsStand size t.reads leaf sector column rows → (j : ℕ) → j < stripes
     → at_place part t.reads (first + j) i ≡ Some (sector_of part.geometry.props.sector column j)
 rows_read part first stripes i leaf sector rows size t column n stand j lt =
@@ -48,7 +48,7 @@ rows_read part first stripes i leaf sector rows size t column n stand j lt =
     let plain = (rw (n.leaf_is, n.sector_is, n.rows_are, n.size_is) at stand) j lt in
     ap₂ t.reads r.0 r.1 ∙ plain
 
-pub pushed_read : (told : Option Told) (part : Part) (first stripes i leaf sector rows size : ℕ) (cs new : List Column) (x : Column)
+pub pushed_read : (told : Option Told) (part : MetaslabLayout) (first stripes i leaf sector rows size : ℕ) (cs new : List Column) (x : Column)
     → IsNext part first stripes i leaf sector rows size → new ≡ cs ++ x ∷ [] → length cs ≡ i
     → OnTold told (λ t. AreRead part t first stripes cs) → IfSome x (λ c. OnTold told (λ t. RowsStand size t.reads leaf sector c.items rows))
     → OnTold told (λ t. AreRead part t first stripes new)
@@ -68,7 +68,7 @@ rose_since a b c h r = omega arith
 rose_later : (a b c : ℕ) → b ≤ c → Rose a b → Rose a c
 rose_later a b c h r = omega arith
 
-pub pushed_absent : (old mid now : Option ℕ → ℕ) (part : Part) (first stripes i leaf sector rows size : ℕ) (cs new : List Column) (x : Column)
+pub pushed_absent : (old mid now : Option ℕ → ℕ) (part : MetaslabLayout) (first stripes i leaf sector rows size : ℕ) (cs new : List Column) (x : Column)
     → IsNext part first stripes i leaf sector rows size → new ≡ cs ++ x ∷ [] → length cs ≡ i
     → ((who : Option ℕ) → old who ≤ mid who) → ((who : Option ℕ) → mid who ≤ now who)
     → AbsentRose part first cs old mid → IfNone x (Rose (mid (Some leaf)) (now (Some leaf))) → AbsentRose part first new old now

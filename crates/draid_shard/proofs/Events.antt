@@ -27,7 +27,7 @@ use Rattle.draid_machine.proofs.Small.{name_true, name_refl, none_some}
 use Rattle.draid_shard.specs.declared.entry.Entry.{Entry}
 use Rattle.draid_shard.specs.declared.shard.Shard.{Shard}
 use Rattle.draid_shard.specs.declared.ticket.Ticket.{Ticket}
-use Rattle.draid_shard.specs.Part.{IsPart, IsRun, Part, leaf_of, place_in}
+use Rattle.draid_shard.specs.MetaslabLayout.{IsMetaslabLayout, IsRun, MetaslabLayout, leaf_of, place_in}
 use Rattle.draid_shard.specs.Entry.{IsDue, SetsEntry, open_group, Tables, begun, entry_at, opened, staged}
 use Rattle.draid_shard.specs.Logs.{logs_in}
 use Rattle.draid_shard.specs.Machine.{HoldsSame, IsIn, StepsTo, arm_in, arm_with, held_at, key_of, layout_in, leaves_of}
@@ -42,8 +42,8 @@ pub still_in : {R : Type 0} (old new : Shard R) (w : State) (held : Key → Opti
     → IsIn new (record w { core = record w.core { held = held; arm = arm }; present = present; aside = aside })
 still_in old new w held arm present aside part is_in same arms = record {
   held = same;
-  arms = λ n. arms n ∙ ap (λ (p : Part). arm_in p.geometry.spec.children (logs_in new.slots) n) (sym part);
-  order = is_in.order ∙ ap (λ (p : Part). (created (layout_in p)).core.order) (sym part);
+  arms = λ n. arms n ∙ ap (λ (p : MetaslabLayout). arm_in p.geometry.spec.children (logs_in new.slots) n) (sym part);
+  order = is_in.order ∙ ap (λ (p : MetaslabLayout). (created (layout_in p)).core.order) (sym part);
   pass = is_in.pass;
   last = is_in.last;
   open_group_is = is_in.open_group_is;
@@ -51,7 +51,7 @@ still_in old new w held arm present aside part is_in same arms = record {
   committed = is_in.committed;
   serial = is_in.serial;
   loan = is_in.loan;
-  image = is_in.image ∙ ap (λ (p : Part). (created (layout_in p)).image) (sym part);
+  image = is_in.image ∙ ap (λ (p : MetaslabLayout). (created (layout_in p)).image) (sym part);
   sealed = is_in.sealed;
 }
 
@@ -80,11 +80,11 @@ pub leaf_responds : {R : Type 0} (shard : Shard R) (w : State) (slot : ℕ) → 
 leaf_responds shard w slot is_in below = rw (own_arm shard w slot is_in below) refl
 
 -- the slot of a column is the leaf on which it lies
-slot_is : (part : Part) (first i : ℕ) → (layout_in part).slot_of first i ≡ leaf_of part first i
+slot_is : (part : MetaslabLayout) (first i : ℕ) → (layout_in part).slot_of first i ≡ leaf_of part first i
 unfolding place_in
 slot_is part first i = refl
 
-pub column_order : {R : Type 0} (shard : Shard R) (w : State) (first i : ℕ) → IsPart (part_of shard) → IsIn shard w → i < shard.geometry.g
+pub column_order : {R : Type 0} (shard : Shard R) (w : State) (first i : ℕ) → IsMetaslabLayout (part_of shard) → IsIn shard w → i < shard.geometry.g
     → w.core.order ((layout_in (part_of shard)).slot_of first i) ≡ Leaf (leaf_of (part_of shard) first i) ∷ []
 column_order shard w first i is is_in below =
     ap w.core.order (slot_is (part_of shard) first i) ∙ own_order shard w (leaf_of (part_of shard) first i) is_in (child_there (part_of shard) first i is)
@@ -190,7 +190,7 @@ begins old new w p part some t u lowest due sets free few unused logs is_in = re
       (holds_more old.blocks new.blocks w.core.held p is_in.held sets free none) (same_arms old new w is_in logs);
 } where
   run : IsRun old.geometry p.first p.stripes
-  run = subst (λ (at : Part). IsRun at.geometry p.first p.stripes) part (entry_run new.geometry new.space new.blocks p.first (begun p) u sets.here)
+  run = subst (λ (at : MetaslabLayout). IsRun at.geometry p.first p.stripes) part (entry_run new.geometry new.space new.blocks p.first (begun p) u sets.here)
 
   none : w.core.held (key_of p) ≡ None
   none = by (w.core.held (key_of p)) refl
@@ -293,7 +293,7 @@ has_mapped f (x ∷ xs) y is = by (f x == y) refl is (λ there. has_mapped f xs 
     by false at found more = let z = more found in (z.0, (suc z.1.0, (let l = z.1.1 in omega (arith, l)), z.1.2), z.2)
 
 -- a column of a block is read from its leaf
-reads_own : {R : Type 0} (shard : Shard R) (w : State) (h : Held) (c : ℕ) → IsPart (part_of shard) → IsIn shard w → c < shard.geometry.g
+reads_own : {R : Type 0} (shard : Shard R) (w : State) (h : Held) (c : ℕ) → IsMetaslabLayout (part_of shard) → IsIn shard w → c < shard.geometry.g
     → reading (layout_in (part_of shard)) w.core h c ≡ Some (Leaf (leaf_of (part_of shard) h.first c))
 reads_own shard w h c is is_in below =
     let order = column_order shard w h.first c is is_in below in
@@ -312,7 +312,7 @@ reads_own shard w h c is is_in below =
     either true = rw responds refl
     either false = rw responds refl
 
-pub fetches : {R : Type 0} (old new : Shard R) (w : State) (p : Pointer) (absent failed : List ℕ) → failed ≡ leaves_of (part_of old) p.first absent → part_of new ≡ part_of old → IsPart (part_of old) → new.blocks ≡ old.blocks
+pub fetches : {R : Type 0} (old new : Shard R) (w : State) (p : Pointer) (absent failed : List ℕ) → failed ≡ leaves_of (part_of old) p.first absent → part_of new ≡ part_of old → IsMetaslabLayout (part_of old) → new.blocks ≡ old.blocks
     → entry_at old.blocks p.first ≡ Some (staged Live p) → ((c : ℕ) → Contains absent c → c < old.geometry.g) → logs_in new.slots ≡ logs_in old.slots → IsIn old w
     → StepsTo (FetchStep (layout_in (part_of old)) w (key_of p) failed) new
 fetches old new w p absent failed leaves part is same is_live inside logs is_in = record {

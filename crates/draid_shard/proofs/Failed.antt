@@ -5,13 +5,13 @@ use Rattle.std.proofs.lemmas.Option.{slice_get-get_or}
 use Rattle.std.proofs.lemmas.List.{append-nil, map-append}
 use Rattle.draid_block.specs.Solving.{absent_below}
 use Rattle.draid_shard.specs.Machine.{leaves_of}
-use Rattle.draid_shard.specs.Part.{Part, leaf_of}
+use Rattle.draid_shard.specs.MetaslabLayout.{MetaslabLayout, leaf_of}
 
-pub failed_none : (part : Part) (first : ℕ) (columns : List (Option (Vec ℕ Global))) → [] ≡ leaves_of part first (absent_below columns 0)
+pub failed_none : (part : MetaslabLayout) (first : ℕ) (columns : List (Option (Vec ℕ Global))) → [] ≡ leaves_of part first (absent_below columns 0)
 unfolding absent_below
 failed_none part first columns = refl
 
-pub failed_more : (part : Part) (first : ℕ) (columns : List (Option (Vec ℕ Global))) (i child : ℕ) (leaves new : List ℕ) → leaves ≡ leaves_of part first (absent_below columns i)
+pub failed_more : (part : MetaslabLayout) (first : ℕ) (columns : List (Option (Vec ℕ Global))) (i child : ℕ) (leaves new : List ℕ) → leaves ≡ leaves_of part first (absent_below columns i)
     → is_none (slice_index_or columns i None) ≡ true → child ≡ leaf_of part first i → new ≡ leaves ++ child ∷ [] → new ≡ leaves_of part first (absent_below columns (i + 1))
 unfolding absent_below
 failed_more part first columns i child leaves new before gone at is =
@@ -19,7 +19,7 @@ failed_more part first columns i child leaves new before gone at is =
     subst (λ n. new ≡ leaves_of part first (absent_below columns n)) next (is ∙ ap₂ (λ xs x. xs ++ x ∷ []) before at ∙ sym (map-append (leaf_of part first) (absent_below columns i) (i ∷ []))
     ∙ ap (λ b. leaves_of part first (absent_below columns i ++ (if b then i ∷ [] else []))) (sym gone))
 
-pub failed_same : (part : Part) (first : ℕ) (columns : List (Option (Vec ℕ Global))) (i : ℕ) (leaves : List ℕ) → leaves ≡ leaves_of part first (absent_below columns i)
+pub failed_same : (part : MetaslabLayout) (first : ℕ) (columns : List (Option (Vec ℕ Global))) (i : ℕ) (leaves : List ℕ) → leaves ≡ leaves_of part first (absent_below columns i)
     → is_none (slice_index_or columns i None) ≡ false → leaves ≡ leaves_of part first (absent_below columns (i + 1))
 unfolding absent_below
 failed_same part first columns i leaves before there =

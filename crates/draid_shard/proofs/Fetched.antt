@@ -17,7 +17,7 @@ use Rattle.draid_block.specs.Solving.{IsFetched, IsReadable, absent_columns}
 use Rattle.draid_block.specs.declared.solve.Fetched.{Fetched}
 use Rattle.draid_block.proofs.Complete.{absent_is, absent_within}
 use Rattle.draid_block.proofs.Sets.{ascending-push}
-use Rattle.draid_shard.specs.Part.{Part, at_place}
+use Rattle.draid_shard.specs.MetaslabLayout.{MetaslabLayout, at_place}
 use Rattle.draid_shard.specs.Columns.{AbsentRose, AreLong, AreRead, ColumnStands, ColumnsStand, IsBad, LeafRose, MoreBad, sector_of}
 use Rattle.draid_shard.specs.Entry.{IsBlock}
 
@@ -36,7 +36,7 @@ same_sectors : (size : ℕ) (a b : List ℕ) (n : ℕ) → length a ≡ n * size
 same_sectors size a b n la lb same = sym (take_all (n * size) a (omega arith)) ∙ same_front size a b n same ∙ take_all (n * size) b (omega arith)
 
 -- a column that is whole was read as it stands
-column_read : (part : Part) (x : Told) (first stripes i : ℕ) (c column : List ℕ) → length c ≡ stripes * part.geometry.props.sector → length column ≡ stripes * part.geometry.props.sector
+column_read : (part : MetaslabLayout) (x : Told) (first stripes i : ℕ) (c column : List ℕ) → length c ≡ stripes * part.geometry.props.sector → length column ≡ stripes * part.geometry.props.sector
     → ((j : ℕ) → j < stripes → at_place part x.reads (first + j) i ≡ Some (sector_of part.geometry.props.sector c j))
     → ((j : ℕ) → j < stripes → at_place part x.harmed (first + j) i ≡ false) → ColumnStands part x first stripes i column → c ≡ column
 column_read part x first stripes i c column lc lk read whole stands =
@@ -104,10 +104,10 @@ no_row f (suc n) is j lt = at (no_row f n) (any_row f n) (f n) refl refl is wher
   ]
 
 -- a column is absent or missed, or one of its sectors is harmed
-is_bad : Part → Told → (ℕ → Bool) → ℕ → ℕ → Columns → ℕ → Bool
+is_bad : MetaslabLayout → Told → (ℕ → Bool) → ℕ → ℕ → Columns → ℕ → Bool
 is_bad part x missed first stripes columns i = is_none (get_or columns i None) || (missed i || any_row (λ j. at_place part x.harmed (first + j) i) stripes)
 
-bad_cause : (part : Part) (x : Told) (missed : ℕ → Bool) (first stripes : ℕ) (columns : Columns) (old new : Option ℕ → ℕ) → AbsentRose part first columns old new → (i : ℕ) → i < length columns
+bad_cause : (part : MetaslabLayout) (x : Told) (missed : ℕ → Bool) (first stripes : ℕ) (columns : Columns) (old new : Option ℕ → ℕ) → AbsentRose part first columns old new → (i : ℕ) → i < length columns
     → is_bad part x missed first stripes columns i ≡ true → IsBad part x.harmed missed first stripes old new i
 unfolding is_bad
 bad_cause part x missed first stripes columns old new absent i lt is = at (get_or columns i None) (missed i) (any_row (λ j. at_place part x.harmed (first + j) i) stripes) refl refl refl is where
@@ -119,13 +119,13 @@ bad_cause part x missed first stripes columns old new absent i lt is = at (get_o
   at (Some c) false false there out rows either = absurd (cc)
 
 -- a column that isn't bad is there and isn't missed, and none of its sectors is harmed
-pub record IsGood (part : Part) (x : Told) (missed : ℕ → Bool) (first stripes : ℕ) (columns : Columns) (i : ℕ) : Type 0 where
+pub record IsGood (part : MetaslabLayout) (x : Told) (missed : ℕ → Bool) (first stripes : ℕ) (columns : Columns) (i : ℕ) : Type 0 where
   pub column : Vec ℕ Global
   pub there : slice_get columns i ≡ Some (Some column)
   pub landed : missed i ≡ false
   pub whole : (j : ℕ) → j < stripes → at_place part x.harmed (first + j) i ≡ false
 
-good : (part : Part) (x : Told) (missed : ℕ → Bool) (first stripes : ℕ) (columns : Columns) (i : ℕ) → i < length columns → is_bad part x missed first stripes columns i ≡ false
+good : (part : MetaslabLayout) (x : Told) (missed : ℕ → Bool) (first stripes : ℕ) (columns : Columns) (i : ℕ) → i < length columns → is_bad part x missed first stripes columns i ≡ false
     → IsGood part x missed first stripes columns i
 unfolding is_bad
 good part x missed first stripes columns i lt is = at (get_or columns i None) (missed i) (any_row (λ j. at_place part x.harmed (first + j) i) stripes) refl refl refl is where
@@ -153,13 +153,13 @@ is_fetched geometry fetched is sized count long = record {
   long = λ i c at. long i c at ∙ ap (λ n. n * geometry.props.sector) sized.stripes;
 }
 
-pub all_absent : (part : Part) (first : ℕ) (columns : Columns) (old new : Option ℕ → ℕ) → AbsentRose part first columns old new → All (LeafRose part first old new) (absent_columns columns)
+pub all_absent : (part : MetaslabLayout) (first : ℕ) (columns : Columns) (old new : Option ℕ → ℕ) → AbsentRose part first columns old new → All (LeafRose part first old new) (absent_columns columns)
 all_absent part first columns old new absent k d below =
     let i : ℕ = get_or (absent_columns columns) k d in
     let found : Contains (absent_columns columns) i = Contains-get_or (absent_columns columns) k d below in
     absent i (slice_get-get_or columns i None (absent_within columns (length columns) i found) ∙ ap Some (absent_is columns (length columns) i found))
 
-readable : (part : Part) (x : Told) (missed : ℕ → Bool) (fetched : Fetched) (w : List ℕ) (whole : List (List ℕ)) (old new : Option ℕ → ℕ) → IsGeometry part.geometry → IsBlock part.geometry fetched.pointer
+readable : (part : MetaslabLayout) (x : Told) (missed : ℕ → Bool) (fetched : Fetched) (w : List ℕ) (whole : List (List ℕ)) (old new : Option ℕ → ℕ) → IsGeometry part.geometry → IsBlock part.geometry fetched.pointer
     → length fetched.columns.items ≡ part.geometry.g → AreLong fetched.columns.items (fetched.pointer.stripes * part.geometry.props.sector)
     → AreRead part x fetched.pointer.first fetched.pointer.stripes fetched.columns.items → AbsentRose part fetched.pointer.first fetched.columns.items old new
     → IsContent fetched.pointer w → AreColumns (cut_of part.geometry) w whole
@@ -214,7 +214,7 @@ readable part x missed fetched w whole old new is sized count long read absent c
                 (read i it.column it.there) it.whole (stand i lt it.landed),
           )
 
-pub told_readable : (told : Option Told) (part : Part) (missed : ℕ → Bool) (fetched : Fetched) (w : List ℕ) (whole : List (List ℕ)) (old new : Option ℕ → ℕ) → IsGeometry part.geometry → IsBlock part.geometry fetched.pointer
+pub told_readable : (told : Option Told) (part : MetaslabLayout) (missed : ℕ → Bool) (fetched : Fetched) (w : List ℕ) (whole : List (List ℕ)) (old new : Option ℕ → ℕ) → IsGeometry part.geometry → IsBlock part.geometry fetched.pointer
     → length fetched.columns.items ≡ part.geometry.g → AreLong fetched.columns.items (fetched.pointer.stripes * part.geometry.props.sector)
     → OnTold told (λ x. AreRead part x fetched.pointer.first fetched.pointer.stripes fetched.columns.items) → AbsentRose part fetched.pointer.first fetched.columns.items old new
     → IsContent fetched.pointer w → AreColumns (cut_of part.geometry) w whole

@@ -24,7 +24,7 @@ use Rattle.draid_machine.proofs.Small.{some_injective}
 use Rattle.draid_shard.specs.declared.entry.Entry.{Entry}
 use Rattle.draid_shard.specs.declared.shard.Shard.{Shard}
 use Rattle.draid_shard.specs.declared.ticket.Ticket.{Ticket}
-use Rattle.draid_shard.specs.Part.{IsPart, Part, leaf_of}
+use Rattle.draid_shard.specs.MetaslabLayout.{IsMetaslabLayout, MetaslabLayout, leaf_of}
 use Rattle.draid_shard.specs.Columns.{ColumnsStand, EndsHarm, LeafRose, TellsBoth, Writes, is_missed}
 use Rattle.draid_shard.specs.Entry.{IsEntered, SetsEntry, Tables, entry_at, live, opened, staged}
 use Rattle.draid_shard.specs.Logs.{LogsMiss}
@@ -46,7 +46,7 @@ pub record Counted (r : Result Unit Failed) (old new : Ticket) : Type 0 where
 
 pub record IsPutOf {R : Type 0} (told : R → Option Told) (faults : R → Option ℕ → ℕ) (old new : Shard R) (before now : Ticket) (block : BlockValue) (r : Result Unit Failed) : Type 0 where
   pub part : part_of new ≡ part_of old
-  pub is : IsPart (part_of old)
+  pub is : IsMetaslabLayout (part_of old)
   pub tables : Tables old.geometry old.space old.blocks
   pub carries : Carries told old before block
   pub left : before.next < old.geometry.g
@@ -131,21 +131,21 @@ module _ {R : Type 0} (told : R → Option Told) (faults : R → Option ℕ → 
   moved : (q : Pointer) (stripes : ℕ) (columns : List (List ℕ)) (count : ℕ) → OnTold (told new.rack) (λ x. ColumnsStand (part_of old) x (missed_now q) q.first stripes columns count)
       → OnTold (told new.rack) (λ x. ColumnsStand (part_of new) x (missed_of new q) q.first stripes columns count)
   moved q stripes columns count stand =
-      subst (λ (at : Part). OnTold (told new.rack) (λ x. ColumnsStand at x (is_missed at (logs_of new) q.first q.birth) q.first stripes columns count)) (sym p.part) stand
+      subst (λ (at : MetaslabLayout). OnTold (told new.rack) (λ x. ColumnsStand at x (is_missed at (logs_of new) q.first q.birth) q.first stripes columns count)) (sym p.part) stand
 
   pub put_harm : TellsBoth (told old.rack) (told new.rack) (λ x y. EndsHarm (part_of old) before.pointer.first before.pointer.stripes (λ i. i ≡ before.next) (missed_of new before.pointer) x.harmed y.harmed)
   put_harm =
-      subst (λ (at : Part). TellsBoth (told old.rack) (told new.rack)
+      subst (λ (at : MetaslabLayout). TellsBoth (told old.rack) (told new.rack)
       (λ x y. EndsHarm (part_of old) before.pointer.first before.pointer.stripes (λ i. i ≡ before.next) (is_missed at (logs_of new) before.pointer.first before.pointer.birth) x.harmed y.harmed)) (sym p.part)
       (told_ends (part_of old) before.pointer.first before.pointer.stripes before.next _ r (told old.rack) (told new.rack) (missed_now before.pointer) p.writes own_ok)
 
   pub put_carries : Carries told new now block
   put_carries = record {
     is_open = subst (λ (q : Pointer). entry_at new.blocks q.first ≡ Some (opened now)) (sym p.counted.pointer) p.sets.here;
-    cut = p.carries.cut ∙ ap (λ (at : Part). cut_of at.geometry) (sym p.part);
+    cut = p.carries.cut ∙ ap (λ (at : MetaslabLayout). cut_of at.geometry) (sym p.part);
     content = subst (λ (q : Pointer). IsContent q block.bytes) (sym p.counted.pointer) p.carries.content;
     are = p.carries.are;
-    count = (let next = p.counted.next in let left = p.left in let g = ap (λ (at : Part). at.geometry.g) p.part in omega (arith, next, left, g));
+    count = (let next = p.counted.next in let left = p.left in let g = ap (λ (at : MetaslabLayout). at.geometry.g) p.part in omega (arith, next, left, g));
     few = few r p.counted.landed p.counted.missed;
     stand = subst (λ (q : Pointer). OnTold (told new.rack) (λ x. ColumnsStand (part_of new) x (missed_of new q) q.first q.stripes block.columns now.next)) (sym p.counted.pointer)
         (moved before.pointer before.pointer.stripes block.columns now.next (subst (λ n. OnTold (told new.rack) (λ x. ColumnsStand (part_of old) x (missed_now before.pointer) before.pointer.first before.pointer.stripes block.columns n))
@@ -162,8 +162,8 @@ module _ {R : Type 0} (told : R → Option Told) (faults : R → Option ℕ → 
     is_live = p.sets.others q.first (live_elsewhere old.blocks before q p.carries.is_open holds.is_live) ∙ holds.is_live;
     content = holds.content;
     columns = holds.columns;
-    are = subst (λ (at : Part). AreColumns (cut_of at.geometry) w holds.columns) (sym p.part) holds.are;
-    stand = subst (λ (at : Part). OnTold (told new.rack) (λ x. ColumnsStand (part_of new) x (missed_of new q) q.first q.stripes holds.columns at.geometry.g)) (sym p.part)
+    are = subst (λ (at : MetaslabLayout). AreColumns (cut_of at.geometry) w holds.columns) (sym p.part) holds.are;
+    stand = subst (λ (at : MetaslabLayout). OnTold (told new.rack) (λ x. ColumnsStand (part_of new) x (missed_of new q) q.first q.stripes holds.columns at.geometry.g)) (sym p.part)
         (moved q q.stripes holds.columns old.geometry.g
         (told_stand (part_of old) before.pointer.first before.pointer.stripes before.next q.first q.stripes holds.columns old.geometry.g _ r (told old.rack) (told new.rack)
         (missed_of old q) (missed_now q) p.writes (omega arith) (grown q)
@@ -174,10 +174,10 @@ module _ {R : Type 0} (told : R → Option Told) (faults : R → Option ℕ → 
   pub put_others : (t : Ticket) (b : BlockValue) → (t.pointer.first ≡ before.pointer.first → ⊥) → Carries told old t b → Carries told new t b
   put_others t b other carries = record {
     is_open = p.sets.others t.pointer.first other ∙ carries.is_open;
-    cut = carries.cut ∙ ap (λ (at : Part). cut_of at.geometry) (sym p.part);
+    cut = carries.cut ∙ ap (λ (at : MetaslabLayout). cut_of at.geometry) (sym p.part);
     content = carries.content;
     are = carries.are;
-    count = (let count = carries.count in let g = ap (λ (at : Part). at.geometry.g) p.part in omega (arith, count, g));
+    count = (let count = carries.count in let g = ap (λ (at : MetaslabLayout). at.geometry.g) p.part in omega (arith, count, g));
     few = carries.few;
     stand = moved t.pointer t.pointer.stripes b.columns t.next
         (told_stand (part_of old) before.pointer.first before.pointer.stripes before.next t.pointer.first t.pointer.stripes b.columns t.next _ r (told old.rack) (told new.rack)
@@ -205,7 +205,7 @@ logs_arm children birth logs after b same (Leaf m) = by (nat_lt m children)
     by true = λ i. Some (arm_with (λ g. same m g i))
     by false = refl
 
-module _ {R : Type 0} (old new : Shard R) (w : State) (before now : Ticket) (part : part_of new ≡ part_of old) (is : IsPart (part_of old)) (tables : Tables old.geometry old.space old.blocks)
+module _ {R : Type 0} (old new : Shard R) (w : State) (before now : Ticket) (part : part_of new ≡ part_of old) (is : IsMetaslabLayout (part_of old)) (tables : Tables old.geometry old.space old.blocks)
     (is_open : entry_at old.blocks before.pointer.first ≡ Some (opened before)) (left : before.next < old.geometry.g) (pointer : now.pointer ≡ before.pointer) (next : now.next ≡ before.next + 1)
     (sets : SetsEntry old.blocks new.blocks before.pointer.first (Some (opened now))) (is_in : IsIn old w) where
   abbrev l : Layout

@@ -6,7 +6,7 @@ use Rattle.draid_slots.specs.Table.{SlotTable, IsThere, arms_of, is_at, is_logge
 use Rattle.draid_slots.specs.Changes.{ChangesLog, HasRoom, IsNew, IsOf, Keeps, new_arm}
 use Rattle.draid_shard.specs.Entry.{IsDue, open_group}
 use Rattle.draid_shard.specs.Logs.{AreOwn, LogsMiss, lacks, leaf_arm, logs_in}
-use Rattle.draid_shard.specs.Part.{Part}
+use Rattle.draid_shard.specs.MetaslabLayout.{MetaslabLayout}
 
 lacks_few : (log : ℕ → Bool) → lacks log ≤ 2
 lacks_few log = by (log open_group) (log (open_group + 1))
@@ -18,11 +18,11 @@ lacks_few log = by (log open_group) (log (open_group + 1))
     by false false = omega arith
 
 -- the one arm of a leaf's slot is there
-pub own_there : (part : Part) (slots : SlotTable) (leaf : ℕ) → AreOwn part slots → leaf < part.geometry.spec.children → IsThere slots (leaf_arm leaf)
+pub own_there : (part : MetaslabLayout) (slots : SlotTable) (leaf : ℕ) → AreOwn part slots → leaf < part.geometry.spec.children → IsThere slots (leaf_arm leaf)
 own_there part slots leaf own below = let one = ap (λ arms. length arms) (own.arms leaf below) in omega (arith, one)
 
 -- new slots with room
-pub new_own : (part : Part) (old new : SlotTable) → IsOf old part.geometry part.perms part.number → IsNew part.geometry.spec.children old → Keeps old new → HasRoom new 2 → AreOwn part new
+pub new_own : (part : MetaslabLayout) (old new : SlotTable) → IsOf old part.geometry part.perms part.number → IsNew part.geometry.spec.children old → Keeps old new → HasRoom new 2 → AreOwn part new
 new_own part old new is_of is_new keeps room = record {
   is_of = record {
     geometry_is = keeps.same.geometry_is ∙ is_of.geometry_is;
@@ -76,7 +76,7 @@ logged_there : (old new : SlotTable) (leaf group other : ℕ) → ChangesLog old
     → logs_in new other g ≡ logs_in old other g
 logged_there old new leaf group other c apart g = let e = c.logged (leaf_arm other) g in let t : is_at (leaf_arm leaf) (leaf_arm other) ≡ false = rw apart refl in e ∙ rw t refl
 
-pub dirty_own : (part : Part) (old new : SlotTable) (leaf group : ℕ) → AreOwn part old → IsDue group → logs_in old leaf group ≡ false
+pub dirty_own : (part : MetaslabLayout) (old new : SlotTable) (leaf group : ℕ) → AreOwn part old → IsDue group → logs_in old leaf group ≡ false
     → ChangesLog old new (leaf_arm leaf) (λ x. is_logged old (leaf_arm leaf) x || x == group) → AreOwn part new
 dirty_own part old new leaf group own due out c = record {
   is_of = record {

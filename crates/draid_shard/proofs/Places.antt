@@ -8,16 +8,16 @@ use Rattle.draid_map.specs.Place.{place_of}
 use Rattle.draid_map.proofs.Distinct.{place_apart, columns_apart}
 use Rattle.draid_map.proofs.Radix.{its_digits}
 use Rattle.draid_map.proofs.Runs.{run_follows, place_child, part_from, part_to}
-use Rattle.draid_shard.specs.Part.{IsPart, Part, place_in}
+use Rattle.draid_shard.specs.MetaslabLayout.{IsMetaslabLayout, MetaslabLayout, place_in}
 
 -- a stripe of the metaslab, counted through the pool
-abbrev pub in_pool : Part → ℕ → ℕ
+abbrev pub in_pool : MetaslabLayout → ℕ → ℕ
 in_pool part k = part.number * metaslab_stripes part.geometry + k
 
-pub some_height : (part : Part) → IsPart part → 0 < part.geometry.props.height
+pub some_height : (part : MetaslabLayout) → IsMetaslabLayout part → 0 < part.geometry.props.height
 some_height part is = let least : 8 ≤ part.geometry.props.height = is.layout.geometry_is.props.least_height in omega arith
 
-pub pool_stripe : (part : Part) (k : ℕ) → IsPart part → k < metaslab_stripes part.geometry → in_pool part k < pool_stripes part.geometry
+pub pool_stripe : (part : MetaslabLayout) (k : ℕ) → IsMetaslabLayout part → k < metaslab_stripes part.geometry → in_pool part k < pool_stripes part.geometry
 pool_stripe part k is below =
     let up : (part.number + 1) * metaslab_stripes part.geometry ≤ part.geometry.props.metaslabs * metaslab_stripes part.geometry
     = mul-le-mul_right (metaslab_stripes part.geometry) (let b = is.below in omega arith) in
@@ -27,11 +27,11 @@ pool_stripe part k is below =
     omega (arith, up, next, all)
 
 -- the sectors of the metaslab begin where its number says
-pub sector_from : (part : Part) (k i : ℕ) → IsPart part → i < part.geometry.g
+pub sector_from : (part : MetaslabLayout) (k i : ℕ) → IsMetaslabLayout part → i < part.geometry.g
     → part.number * metaslab_sectors part.geometry ≤ (place_of part.geometry part.perms (in_pool part k) i).sector
 sector_from part k i is in_group = part_from part.geometry part.perms part.number (in_pool part k) i is.layout.geometry_is in_group (omega arith)
 
-pub sector_below : (part : Part) (k i : ℕ) → IsPart part → k < metaslab_stripes part.geometry → i < part.geometry.g
+pub sector_below : (part : MetaslabLayout) (k i : ℕ) → IsMetaslabLayout part → k < metaslab_stripes part.geometry → i < part.geometry.g
     → (place_in part k i).sector < metaslab_sectors part.geometry
 unfolding place_in
 sector_below part k i is below in_group =
@@ -42,12 +42,12 @@ sector_below part k i is below in_group =
     let more : (part.number + 1) * metaslab_sectors part.geometry ≡ part.number * metaslab_sectors part.geometry + metaslab_sectors part.geometry = grind arith in
     omega (arith, low, high, more)
 
-pub child_there : (part : Part) (k i : ℕ) → IsPart part → (place_in part k i).child < part.geometry.spec.children
+pub child_there : (part : MetaslabLayout) (k i : ℕ) → IsMetaslabLayout part → (place_in part k i).child < part.geometry.spec.children
 unfolding place_in
 child_there part k i is = place_child part.geometry part.perms (in_pool part k) i is.layout
 
 -- two columns have the same place just where they are the same
-pub apart : (part : Part) (k a l b : ℕ) → IsPart part → a < part.geometry.g → b < part.geometry.g → place_in part k a ≡ place_in part l b → (k ≡ l) × (a ≡ b)
+pub apart : (part : MetaslabLayout) (k a l b : ℕ) → IsMetaslabLayout part → a < part.geometry.g → b < part.geometry.g → place_in part k a ≡ place_in part l b → (k ≡ l) × (a ≡ b)
 unfolding place_in
 apart part k a l b is left right same =
     let low = sector_from part k a is left in
@@ -67,13 +67,13 @@ apart part k a l b is left right same =
     places_same p q children sectors = ap₂ place children sectors
 
 -- the columns of a stripe stand on leaves apart
-pub leaves_apart : (part : Part) (k a b : ℕ) → IsPart part → a < part.geometry.g → b < part.geometry.g
+pub leaves_apart : (part : MetaslabLayout) (k a b : ℕ) → IsMetaslabLayout part → a < part.geometry.g → b < part.geometry.g
     → (place_in part k a).child ≡ (place_in part k b).child → a ≡ b
 unfolding place_in
 leaves_apart part k a b is left right same = columns_apart part.geometry part.perms (in_pool part k) a b is.layout left right same
 
 -- the next stripes of a group stand at the next sectors of the same leaf
-pub follows : (part : Part) (k j i : ℕ) → IsPart part → i < part.geometry.g → k % part.geometry.props.height + j < part.geometry.props.height
+pub follows : (part : MetaslabLayout) (k j i : ℕ) → IsMetaslabLayout part → i < part.geometry.g → k % part.geometry.props.height + j < part.geometry.props.height
     → ((place_in part (k + j) i).child ≡ (place_in part k i).child) × ((place_in part (k + j) i).sector ≡ (place_in part k i).sector + j)
 unfolding place_in
 follows part k j i is in_group within =
@@ -94,7 +94,7 @@ follows part k j i is in_group within =
     )
 
 -- the code's way to a place is the definition's
-pub place_is : (part : Part) (k i : ℕ) (lies : Place) (number stripes sectors : ℕ) → lies ≡ place_of part.geometry part.perms (number * stripes + k) i
+pub place_is : (part : MetaslabLayout) (k i : ℕ) (lies : Place) (number stripes sectors : ℕ) → lies ≡ place_of part.geometry part.perms (number * stripes + k) i
     → number ≡ part.number → stripes ≡ metaslab_stripes part.geometry → sectors ≡ metaslab_sectors part.geometry
     → record { child = lies.child; sector = lies.sector - number * sectors } ≡ place_in part k i
 unfolding place_in

@@ -12,7 +12,7 @@ use Rattle.draid_block.specs.Blocks.{column_len, cut_of}
 use Rattle.draid_shard.specs.declared.entry.Entry.{Entry}
 use Rattle.draid_machine.specs.declared.names.Stage.TheVariants.{Writing, Live, Freed}
 use Rattle.draid_shard.specs.declared.ticket.Ticket.{Ticket}
-use Rattle.draid_shard.specs.Part.{IsPart, IsRun, Part, place_in}
+use Rattle.draid_shard.specs.MetaslabLayout.{IsMetaslabLayout, IsRun, MetaslabLayout, place_in}
 use Rattle.draid_shard.specs.Columns.{ColumnsStand, SparesOthers, TellsBoth, Writes, WritesRows}
 use Rattle.draid_shard.specs.Entry.{Tables, entry_at, live, opened}
 use Rattle.draid_shard.proofs.Stand.{IsGrown, SparesColumn, stand_on, told_on, told_spares}
@@ -45,7 +45,7 @@ live_elsewhere blocks own other o l same =
     is_open_of (Some e) = elim e.stage as (λ s. Bool) [ Writing c m ↦ true | Live ↦ false | Freed g ↦ false ]
 
 -- what stood of other blocks stands
-pub told_stand : (part : Part) (first stripes i at rows : ℕ) (columns : List (List ℕ)) (count : ℕ) (column : List ℕ) (r : Result Unit Failed) (o p : Option Told) (old new : ℕ → Bool)
+pub told_stand : (part : MetaslabLayout) (first stripes i at rows : ℕ) (columns : List (List ℕ)) (count : ℕ) (column : List ℕ) (r : Result Unit Failed) (o p : Option Told) (old new : ℕ → Bool)
     → Writes part first stripes i column r o p → count ≤ part.geometry.g → IsGrown old new
     → ((j m : ℕ) → j < stripes → m < rows → at + m ≡ first + j → ⊥)
     → OnTold o (λ x. ColumnsStand part x old at rows columns count) → OnTold p (λ y. ColumnsStand part y new at rows columns count)
@@ -55,8 +55,8 @@ told_stand part first stripes i at rows columns count column r o p old new w few
     (told_spares part first stripes i column r o p w)
 
 -- the code's write is that of the column at its place
-pub writes_are : (part : Part) (first stripes i : ℕ) (column given : List ℕ) (leaf sector rows : ℕ) (r : Result Unit Failed) (o p : Option Told)
-    → IsPart part → IsRun part.geometry first stripes → i < part.geometry.g
+pub writes_are : (part : MetaslabLayout) (first stripes i : ℕ) (column given : List ℕ) (leaf sector rows : ℕ) (r : Result Unit Failed) (o p : Option Told)
+    → IsMetaslabLayout part → IsRun part.geometry first stripes → i < part.geometry.g
     → leaf ≡ (place_in part first i).child → sector ≡ (place_in part first i).sector → rows ≡ stripes → given ≡ column
     → OnOk r (TellsBoth o p (WritesRows part.geometry.props.sector leaf sector given rows)) → OnErr r (TellsBoth o p (SparesOthers leaf sector rows))
     → Writes part first stripes i column r o p

@@ -11,7 +11,7 @@ use Rattle.draid_spec.specs.Geometry.{IsGeometry, metaslab_stripes, metaslab_sec
 use Rattle.draid_map.specs.declared.sectors.Place.{Place}
 use Rattle.draid_rack.specs.Rack.{HasJust, OnTold, Shape, Told}
 use Rattle.draid_parity.specs.Columns.{column_at}
-use Rattle.draid_shard.specs.Part.{IsPart, IsRun, Part, at_place, place_in}
+use Rattle.draid_shard.specs.MetaslabLayout.{IsMetaslabLayout, IsRun, MetaslabLayout, at_place, place_in}
 use Rattle.draid_shard.specs.Columns.{ColumnStands, ColumnsStand, EndsHarm, HasRun, IsElsewhere, IsWhole, SparesOthers, TellsBoth, Writes, WritesRows, in_run, sector_of}
 use Rattle.draid_shard.proofs.Places.{apart, child_there, follows, sector_below}
 
@@ -36,7 +36,7 @@ small_rows geometry first stripes is run =
 some_size : (geometry : Geometry) → IsGeometry geometry → 0 < geometry.props.sector
 some_size geometry is = elim is.props.sector [ inl a ↦ omega (arith, a) | inr b ↦ omega (arith, b) ]
 
-pub has_run : (part : Part) (shape : Shape) (first stripes i leaf sector rows size : ℕ) → IsPart part
+pub has_run : (part : MetaslabLayout) (shape : Shape) (first stripes i leaf sector rows size : ℕ) → IsMetaslabLayout part
     → HasJust shape part.geometry.spec.children (metaslab_sectors part.geometry) part.geometry.props.sector → IsRun part.geometry first stripes → i < part.geometry.g
     → leaf ≡ (place_in part first i).child → sector ≡ (place_in part first i).sector → rows ≡ stripes → size ≡ part.geometry.props.sector
     → HasRun shape leaf sector rows size
@@ -61,22 +61,22 @@ has_run part shape first stripes i leaf sector rows size is just run below l s r
 
 -- ---- one column of a block
 -- a column was written whole
-pub record PutsColumn (part : Part) (first stripes i : ℕ) (column : List ℕ) (y : Told) : Type 0 where
+pub record PutsColumn (part : MetaslabLayout) (first stripes i : ℕ) (column : List ℕ) (y : Told) : Type 0 where
   pub reads : (j : ℕ) → j < stripes → at_place part y.reads (first + j) i ≡ Some (sector_of part.geometry.props.sector column j)
   pub whole : IsWhole part y.harmed first stripes i
 
 -- what isn't a sector of this column of the block stays, and no harm is new
-pub record SparesColumn (part : Part) (first stripes i : ℕ) (x y : Told) : Type 0 where
+pub record SparesColumn (part : MetaslabLayout) (first stripes i : ℕ) (x y : Told) : Type 0 where
   pub reads : (l s : ℕ) → IsElsewhere part first stripes (λ a. a ≡ i) l s → y.reads l s ≡ x.reads l s
   pub harmed : (l s : ℕ) → IsElsewhere part first stripes (λ a. a ≡ i) l s → y.harmed l s ≡ x.harmed l s
   pub fewer : (l s : ℕ) → x.harmed l s ≡ false → y.harmed l s ≡ false
 
 -- a stripe of the run stands so far behind the first one
-pub row_at : (part : Part) (first stripes i j : ℕ) → IsPart part → IsRun part.geometry first stripes → i < part.geometry.g → j < stripes
+pub row_at : (part : MetaslabLayout) (first stripes i j : ℕ) → IsMetaslabLayout part → IsRun part.geometry first stripes → i < part.geometry.g → j < stripes
     → ((place_in part (first + j) i).child ≡ (place_in part first i).child) × ((place_in part (first + j) i).sector ≡ (place_in part first i).sector + j)
 row_at part first stripes i j is run below lt = follows part first j i is below (let g = run.group in omega (arith, g, lt))
 
-pub puts_column : (part : Part) (first stripes i : ℕ) (column : List ℕ) (x y : Told) → IsPart part → IsRun part.geometry first stripes → i < part.geometry.g
+pub puts_column : (part : MetaslabLayout) (first stripes i : ℕ) (column : List ℕ) (x y : Told) → IsMetaslabLayout part → IsRun part.geometry first stripes → i < part.geometry.g
     → WritesRows part.geometry.props.sector (place_in part first i).child (place_in part first i).sector column stripes x y → PutsColumn part first stripes i column y
 puts_column part first stripes i column x y is run below w = record {
   reads = λ j lt. (let r = row_at part first stripes i j is run below lt in ap₂ y.reads r.0 r.1 ∙ w.stand j lt);
@@ -84,7 +84,7 @@ puts_column part first stripes i column x y is run below w = record {
 }
 
 -- a sector that is none of the column's isn't one of the rows that were written
-outside : (part : Part) (first stripes i l s : ℕ) → IsPart part → IsRun part.geometry first stripes → i < part.geometry.g → IsElsewhere part first stripes (λ a. a ≡ i) l s
+outside : (part : MetaslabLayout) (first stripes i l s : ℕ) → IsMetaslabLayout part → IsRun part.geometry first stripes → i < part.geometry.g → IsElsewhere part first stripes (λ a. a ≡ i) l s
     → (l == (place_in part first i).child && in_run (place_in part first i).sector stripes s) ≡ false
 outside part first stripes i l s is run below elsewhere = at (l == (place_in part first i).child && in_run (place_in part first i).sector stripes s) refl where
   at : (b : Bool) → (l == (place_in part first i).child && in_run (place_in part first i).sector stripes s) ≡ b
@@ -100,7 +100,7 @@ outside part first stripes i l s is run below elsewhere = at (l == (place_in par
       let sum : (place_in part first i).sector + j ≡ s = omega arith in
       absurd (elsewhere j i lt refl (r.0 ∙ sym leaf) (r.1 ∙ sum))
 
-pub spares_column : (part : Part) (first stripes i : ℕ) (x y : Told) → IsPart part → IsRun part.geometry first stripes → i < part.geometry.g
+pub spares_column : (part : MetaslabLayout) (first stripes i : ℕ) (x y : Told) → IsMetaslabLayout part → IsRun part.geometry first stripes → i < part.geometry.g
     → SparesOthers (place_in part first i).child (place_in part first i).sector stripes x y → SparesColumn part first stripes i x y
 spares_column part first stripes i x y is run below spares = record {
   reads = λ l s elsewhere. spares.reads l s (outside part first stripes i l s is run below elsewhere);
@@ -109,7 +109,7 @@ spares_column part first stripes i x y is run below spares = record {
 }
 
 -- another column, or one of a stripe that isn't of the run, is elsewhere
-pub elsewhere : (part : Part) (first stripes i k a : ℕ) → IsPart part → i < part.geometry.g → a < part.geometry.g
+pub elsewhere : (part : MetaslabLayout) (first stripes i k a : ℕ) → IsMetaslabLayout part → i < part.geometry.g → a < part.geometry.g
     → ((j : ℕ) → j < stripes → k ≡ first + j → a ≡ i → ⊥) → IsElsewhere part first stripes (λ b. b ≡ i) (place_in part k a).child (place_in part k a).sector
 elsewhere part first stripes i k a is below in_group apart_from j b lt same child sector =
     let own : b < part.geometry.g = omega (arith, same, below) in
@@ -127,7 +127,7 @@ abbrev pub IsGrown : (ℕ → Bool) → (ℕ → Bool) → Type 0
 IsGrown old new = (a : ℕ) → new a ≡ false → old a ≡ false
 
 -- columns that stood stand, where none of their sectors was written
-pub stand_on : (part : Part) (first stripes i at rows : ℕ) (columns : List (List ℕ)) (count : ℕ) (m n : ℕ → Bool) (x y : Told) → IsPart part → i < part.geometry.g → count ≤ part.geometry.g
+pub stand_on : (part : MetaslabLayout) (first stripes i at rows : ℕ) (columns : List (List ℕ)) (count : ℕ) (m n : ℕ → Bool) (x y : Told) → IsMetaslabLayout part → i < part.geometry.g → count ≤ part.geometry.g
     → IsGrown m n → ((j k a : ℕ) → j < stripes → k < rows → a < count → at + k ≡ first + j → a ≡ i → ⊥)
     → SparesColumn part first stripes i x y → ColumnsStand part x m at rows columns count → ColumnsStand part y n at rows columns count
 stand_on part first stripes i at rows columns count m n x y is below few grown apart_from spares stands a lt out k in_rows whole =
@@ -136,7 +136,7 @@ stand_on part first stripes i at rows columns count m n x y is below few grown a
     spares.reads (place_in part (at + k) a).child (place_in part (at + k) a).sector away ∙ stands a lt (grown a out) k in_rows was
 
 -- and the column that was written stands too, unless it is missed
-pub stand_more : (part : Part) (first stripes i : ℕ) (columns : List (List ℕ)) (m n : ℕ → Bool) (x y : Told) → IsPart part → i < part.geometry.g → IsGrown m n
+pub stand_more : (part : MetaslabLayout) (first stripes i : ℕ) (columns : List (List ℕ)) (m n : ℕ → Bool) (x y : Told) → IsMetaslabLayout part → i < part.geometry.g → IsGrown m n
     → SparesColumn part first stripes i x y → (n i ≡ false → PutsColumn part first stripes i (column_at columns i) y) → ColumnsStand part x m first stripes columns i
     → ColumnsStand part y n first stripes columns (i + 1)
 stand_more part first stripes i columns m n x y is below grown spares puts stands a lt out = elim (cases_lt a i) [
@@ -159,7 +159,7 @@ told_on None p P A B f h a = rw h tt
 told_on (Some x) None P A B f h a = absurd h
 told_on (Some x) (Some y) P A B f h a = f x y h a
 
-pub told_spares : (part : Part) (first stripes i : ℕ) (column : List ℕ) (r : Result Unit Failed) (o p : Option Told) → Writes part first stripes i column r o p
+pub told_spares : (part : MetaslabLayout) (first stripes i : ℕ) (column : List ℕ) (r : Result Unit Failed) (o p : Option Told) → Writes part first stripes i column r o p
     → TellsBoth o p (SparesColumn part first stripes i)
 told_spares part first stripes i column (Ok done) o p w =
     told_both o p _ (SparesColumn part first stripes i) (λ x y h. spares_column part first stripes i x y w.is w.run w.below h.others) w.ok
@@ -167,11 +167,11 @@ told_spares part first stripes i column (Err e) o p w =
     told_both o p _ (SparesColumn part first stripes i) (λ x y h. spares_column part first stripes i x y w.is w.run w.below h) w.err
 
 -- a column that was written whole
-pub record PutsAll (part : Part) (first stripes i : ℕ) (column : List ℕ) (x y : Told) : Type 0 where
+pub record PutsAll (part : MetaslabLayout) (first stripes i : ℕ) (column : List ℕ) (x y : Told) : Type 0 where
   pub spares : SparesColumn part first stripes i x y
   pub puts : PutsColumn part first stripes i column y
 
-pub told_puts : (part : Part) (first stripes i : ℕ) (column : List ℕ) (r : Result Unit Failed) (o p : Option Told) → Writes part first stripes i column r o p → is_ok r ≡ true
+pub told_puts : (part : MetaslabLayout) (first stripes i : ℕ) (column : List ℕ) (r : Result Unit Failed) (o p : Option Told) → Writes part first stripes i column r o p → is_ok r ≡ true
     → TellsBoth o p (PutsAll part first stripes i column)
 told_puts part first stripes i column (Err e) o p w ok = absurd (cc)
 told_puts part first stripes i column (Ok done) o p w ok = told_both o p _ (PutsAll part first stripes i column) (λ x y h. record {
@@ -179,7 +179,7 @@ told_puts part first stripes i column (Ok done) o p w ok = told_both o p _ (Puts
   puts = puts_column part first stripes i column x y w.is w.run w.below h;
 }) w.ok
 
-ends : (part : Part) (first stripes i : ℕ) (n : ℕ → Bool) (x y : Told) → SparesColumn part first stripes i x y → (n i ≡ false → IsWhole part y.harmed first stripes i)
+ends : (part : MetaslabLayout) (first stripes i : ℕ) (n : ℕ → Bool) (x y : Told) → SparesColumn part first stripes i x y → (n i ≡ false → IsWhole part y.harmed first stripes i)
     → EndsHarm part first stripes (λ a. a ≡ i) n x.harmed y.harmed
 ends part first stripes i n x y spares whole = record {
   ended = λ a own out. subst (λ (b : ℕ). IsWhole part y.harmed first stripes b) (sym own) (whole (ap n (sym own) ∙ out));
@@ -187,7 +187,7 @@ ends part first stripes i n x y spares whole = record {
   others = spares.harmed;
 }
 
-pub told_ends : (part : Part) (first stripes i : ℕ) (column : List ℕ) (r : Result Unit Failed) (o p : Option Told) (n : ℕ → Bool) → Writes part first stripes i column r o p
+pub told_ends : (part : MetaslabLayout) (first stripes i : ℕ) (column : List ℕ) (r : Result Unit Failed) (o p : Option Told) (n : ℕ → Bool) → Writes part first stripes i column r o p
     → (n i ≡ false → is_ok r ≡ true) → TellsBoth o p (λ x y. EndsHarm part first stripes (λ a. a ≡ i) n x.harmed y.harmed)
 told_ends part first stripes i column (Ok done) o p n w ok =
     told_both o p _ _ (λ x y h. ends part first stripes i n x y h.spares (λ out. h.puts.whole)) (told_puts part first stripes i column (Ok done) o p w refl)
@@ -195,7 +195,7 @@ told_ends part first stripes i column (Err e) o p n w ok =
     told_both o p _ _ (λ x y h. ends part first stripes i n x y h (λ out. absurd (let b = ok out in cc))) (told_spares part first stripes i column (Err e) o p w)
 
 -- the columns put so far, with the one that was put now, unless it is missed
-more : (part : Part) (first stripes i : ℕ) (columns : List (List ℕ)) (r : Result Unit Failed) (o p : Option Told) (m n : ℕ → Bool) → Writes part first stripes i (column_at columns i) r o p
+more : (part : MetaslabLayout) (first stripes i : ℕ) (columns : List (List ℕ)) (r : Result Unit Failed) (o p : Option Told) (m n : ℕ → Bool) → Writes part first stripes i (column_at columns i) r o p
     → IsGrown m n → (n i ≡ false → is_ok r ≡ true) → TellsBoth o p (λ x y. ColumnsStand part x m first stripes columns i → ColumnsStand part y n first stripes columns (i + 1))
 more part first stripes i columns (Ok done) o p m n w grown ok =
     told_both o p _ _ (λ x y h. stand_more part first stripes i columns m n x y w.is w.below grown h.spares (λ out. h.puts))
@@ -204,7 +204,7 @@ more part first stripes i columns (Err e) o p m n w grown ok =
     told_both o p _ _ (λ x y h. stand_more part first stripes i columns m n x y w.is w.below grown h (λ out. absurd (let b = ok out in cc)))
     (told_spares part first stripes i (column_at columns i) (Err e) o p w)
 
-pub told_more : (part : Part) (first stripes i : ℕ) (columns : List (List ℕ)) (r : Result Unit Failed) (o p : Option Told) (m n : ℕ → Bool) → Writes part first stripes i (column_at columns i) r o p
+pub told_more : (part : MetaslabLayout) (first stripes i : ℕ) (columns : List (List ℕ)) (r : Result Unit Failed) (o p : Option Told) (m n : ℕ → Bool) → Writes part first stripes i (column_at columns i) r o p
     → IsGrown m n → (n i ≡ false → is_ok r ≡ true)
     → OnTold o (λ x. ColumnsStand part x m first stripes columns i) → OnTold p (λ y. ColumnsStand part y n first stripes columns (i + 1))
 told_more part first stripes i columns r o p m n w grown ok =

@@ -15,7 +15,7 @@ use Rattle.draid_ranges.specs.Runs.{is_between}
 use Rattle.draid_metaslab.specs.Spaces.{IsKept, Stripes, is_free}
 use Rattle.draid_metaslab.specs.Spots.{IsLowest, IsSpot}
 use Rattle.draid_shard.specs.declared.entry.Entry.{Entry}
-use Rattle.draid_shard.specs.Part.{IsRun}
+use Rattle.draid_shard.specs.MetaslabLayout.{IsRun}
 use Rattle.draid_machine.specs.declared.names.Stage.{Stage}
 use Rattle.draid_shard.specs.Entry.{HasStripe, IsBlock, IsPlaced, SetsEntry, Tables, begun, entry_at, staged}
 

@@ -3,5 +3,5 @@ pub mod Entry
 pub mod History
 pub mod Logs
 pub mod Machine
-pub mod Part
+pub mod MetaslabLayout
 pub mod Shard

@@ -3,7 +3,7 @@ use Rattle.std.specs.Prelude.{◌≡◌, ◌==◌, ◌<◌, ◌≤◌, ◌+◌, 
 use Rattle.draid_names.specs.declared.arm.ArmAt.{ArmAt}
 use Rattle.draid_slots.specs.Table.{SlotTable, arms_of, is_logged, room_at}
 use Rattle.draid_slots.specs.Changes.{IsOf, new_arm}
-use Rattle.draid_shard.specs.Part.{Part}
+use Rattle.draid_shard.specs.MetaslabLayout.{MetaslabLayout}
 use Rattle.draid_shard.specs.Entry.{open_group}
 
 -- the place of a leaf as the one arm of its slot
@@ -19,7 +19,7 @@ abbrev pub lacks : (ℕ → Bool) → ℕ
 lacks log = (if log open_group then 0 else 1) + (if log (open_group + 1) then 0 else 1)
 
 -- The slots of a new pool, with what their leaves have missed since. Each log has room for the groups in which blocks may be born now.
-pub record AreOwn (part : Part) (slots : SlotTable) : Type 0 where
+pub record AreOwn (part : MetaslabLayout) (slots : SlotTable) : Type 0 where
   pub is_of : IsOf slots part.geometry part.perms part.number
   pub arms : (slot : ℕ) → slot < part.geometry.spec.children → arms_of slots slot ≡ new_arm slot ∷ []
   pub none_detached : slots.detached ≡ []

@@ -15,10 +15,10 @@ use Rattle.draid_shard.specs.declared.entry.Entry.{Entry}
 use Rattle.draid_shard.specs.declared.shard.Shard.{Shard}
 use Rattle.draid_shard.specs.Entry.{entry_at}
 use Rattle.draid_shard.specs.Logs.{logs_in}
-use Rattle.draid_shard.specs.Part.{Part, leaf_of}
+use Rattle.draid_shard.specs.MetaslabLayout.{MetaslabLayout, leaf_of}
 
 -- the layout by which the events of a metaslab are told
-abbrev pub layout_in : Part → Layout
+abbrev pub layout_in : MetaslabLayout → Layout
 layout_in part = layout_of part.geometry part.perms part.number
 
 -- by what a block is known
@@ -99,5 +99,5 @@ pub record HasHistory {R : Type 0} (shard : Shard R) : Type 0 where
   pub is_in : IsIn shard state
 
 -- the leaves on which these columns of a block lie
-abbrev pub leaves_of : Part → ℕ → List ℕ → List ℕ
+abbrev pub leaves_of : MetaslabLayout → ℕ → List ℕ → List ℕ
 leaves_of part first columns = map (leaf_of part first) columns

@@ -9,7 +9,7 @@ use Rattle.draid_metaslab.specs.Spots.{IsLowest}
 use Rattle.draid_block.specs.Blocks.{AreColumns, BlockValue, IsContent, cut_of}
 use Rattle.draid_shard.specs.declared.shard.Shard.{Shard}
 use Rattle.draid_shard.specs.declared.ticket.Ticket.{Ticket}
-use Rattle.draid_shard.specs.Part.{IsPart, Part, leaf_of}
+use Rattle.draid_shard.specs.MetaslabLayout.{IsMetaslabLayout, MetaslabLayout, leaf_of}
 use Rattle.draid_machine.specs.declared.names.ArmName.TheVariants.{Leaf}
 use Rattle.draid_machine.specs.declared.event.Event.TheVariants.{Put}
 use Rattle.draid_shard.specs.Columns.{ColumnsStand, LeafRose, is_missed}
@@ -19,13 +19,13 @@ use Rattle.draid_shard.specs.Logs.{AreOwn, LogsMiss, logs_in}
 use Rattle.draid_shard.specs.Machine.{Does, key_of}
 
 -- the metaslab that the shard is
-abbrev pub part_of : {R : Type 0} → Shard R → Part
+abbrev pub part_of : {R : Type 0} → Shard R → MetaslabLayout
 part_of shard = record { geometry = shard.geometry; perms = shard.perms; number = shard.number }
 
 -- what each call needs and keeps: the rack has just the layout's leaves of a metaslab, each the one arm of its slot, the tables fit together, and there is room for
 -- the events that are owed
 pub record Valid {R : Type 0} (shape : R → Shape) (shard : Shard R) : Type 0 where
-  pub part : IsPart (part_of shard)
+  pub part : IsMetaslabLayout (part_of shard)
   pub rack : HasJust (shape shard.rack) shard.geometry.spec.children (metaslab_sectors shard.geometry) shard.geometry.props.sector
   pub tables : Tables shard.geometry shard.space shard.blocks
   pub slots : AreOwn (part_of shard) shard.slots

@@ -2,7 +2,7 @@ ghost use Rattle.std.specs.Prelude.{◌≡◌, ◌<◌, ◌≤◌, ◌+◌, ◌*
 ghost use Rattle.draid_spec.specs.Geometry.{metaslab_sectors};
 ghost use Rattle.draid_rack.specs.Rack.{HasJust, OnTold};
 ghost use Rattle.draid_shard.specs.Columns.{AbsentRose, AreLong, AreRead};
-ghost use Rattle.draid_shard.specs.Part.{IsPart, IsRun, Part};
+ghost use Rattle.draid_shard.specs.MetaslabLayout.{IsMetaslabLayout, IsRun, MetaslabLayout};
 
 use crate::column::read_column;
 use crate::layout::place_within;
@@ -21,7 +21,7 @@ pub(crate) fn read_columns<R: Rack>(
     number: u32,
     pointer: &Pointer,
 ) -> Result<Vec<Option<Vec<u8>>>, NoMemory>
-    requires part { IsPart (record { geometry = geometry.now; perms = perms.now; number = number }) }
+    requires part { IsMetaslabLayout (record { geometry = geometry.now; perms = perms.now; number = number }) }
     requires shape { HasJust (R.shape rack.old) geometry.now.spec.children (metaslab_sectors geometry.now) geometry.now.props.sector }
     requires run { IsRun geometry.now pointer.now.first pointer.now.stripes }
     ensures count { IfOk result (λ columns. length columns.items ≡ geometry.now.g) }

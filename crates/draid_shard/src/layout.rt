@@ -1,6 +1,6 @@
 ghost use Rattle.std.specs.Prelude.{◌≡◌, ◌<◌};
 ghost use Rattle.draid_spec.specs.Geometry.{metaslab_stripes};
-ghost use Rattle.draid_shard.specs.Part.{IsPart, Part, place_in};
+ghost use Rattle.draid_shard.specs.MetaslabLayout.{IsMetaslabLayout, MetaslabLayout, place_in};
 
 use draid_map::{Place, place};
 use draid_perm::Perms;
@@ -14,7 +14,7 @@ pub(crate) fn place_within(
     stripe: u64,
     column: u32,
 ) -> Place
-    requires part { IsPart (record { geometry = geometry.now; perms = perms.now; number = number }) }
+    requires part { IsMetaslabLayout (record { geometry = geometry.now; perms = perms.now; number = number }) }
     requires stripe { stripe < metaslab_stripes geometry.now }
     requires column { column < geometry.now.g }
     ensures { result ≡ place_in (record { geometry = geometry.now; perms = perms.now; number = number }) stripe column }

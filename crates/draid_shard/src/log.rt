@@ -2,7 +2,7 @@ ghost use Rattle.std.specs.Prelude.{◌≡◌, ◌<◌, ℕ, false, IfOk};
 ghost use Rattle.draid_map.specs.Place.{IsLayout};
 ghost use Rattle.draid_shard.specs.Entry.{IsDue};
 ghost use Rattle.draid_shard.specs.Logs.{AreOwn, LogsMiss, logs_in};
-ghost use Rattle.draid_shard.specs.Part.{Part};
+ghost use Rattle.draid_shard.specs.MetaslabLayout.{MetaslabLayout};
 
 use draid_names::{ArmAt, NoMemory};
 use draid_perm::Perms;
@@ -33,9 +33,9 @@ pub(crate) fn own_slots(
 
 /// Notes in the log of a leaf that a block born in this group isn't whole there.
 pub(crate) fn log_miss(slots: &mut Slots, leaf: u32, birth: u64)
-    requires own { (part : Part) × AreOwn part slots.old × (leaf < part.geometry.spec.children) }
+    requires own { (part : MetaslabLayout) × AreOwn part slots.old × (leaf < part.geometry.spec.children) }
     requires due { IsDue birth }
-    ensures own { (part : Part) → AreOwn part slots.old → AreOwn part slots.new }
+    ensures own { (part : MetaslabLayout) → AreOwn part slots.old → AreOwn part slots.new }
     ensures logs { LogsMiss leaf birth (logs_in slots.old) (logs_in slots.new) }
 {
     let at = ArmAt { slot: leaf, arm: 0 };

@@ -14,7 +14,7 @@ ghost use Rattle.draid_shard.specs.Columns.{AreRead, EndsHarm, LeafRose, MoreBad
 ghost use Rattle.draid_shard.specs.Entry.{IsRefused, IsRoom, open_group};
 ghost use Rattle.draid_shard.specs.Logs.{LogsMiss};
 ghost use Rattle.draid_shard.specs.Machine.{Does, DoesNone, HasHistory, events_of, key_of, leaves_of};
-ghost use Rattle.draid_shard.specs.Part.{IsPart, IsRun, Part, leaf_of, place_in};
+ghost use Rattle.draid_shard.specs.MetaslabLayout.{IsMetaslabLayout, IsRun, MetaslabLayout, leaf_of, place_in};
 
 use crate::column::write_column;
 use crate::entry::{Entry, MOST_ENTRIES, hold, release, turn};
@@ -76,7 +76,7 @@ impl<R: Rack> Shard<R> {
         perms: Perms,
         rack: R,
     ) -> Result<Shard<R>, ShardRefused<R>>
-        requires part { IsPart (record { geometry = geometry; perms = perms; number = number }) }
+        requires part { IsMetaslabLayout (record { geometry = geometry; perms = perms; number = number }) }
         requires rack { HasJust (R.shape rack) geometry.spec.children (metaslab_sectors geometry) geometry.props.sector }
         ensures valid { IfOk result (Valid R.shape) }
         ensures part { IfOk result (λ shard. part_of shard ≡ record { geometry = geometry; perms = perms; number = number }) }
@@ -451,7 +451,7 @@ impl<R: Rack> Shard<R> {
         pointer: &Pointer,
         columns: &[Option<Vec<u8>>],
     ) -> Result<Vec<u64>, NoMemory>
-        requires part { IsPart (part_of self.now) }
+        requires part { IsMetaslabLayout (part_of self.now) }
         requires run { IsRun self.now.geometry pointer.now.first pointer.now.stripes }
         requires count { length columns.now ≡ self.now.geometry.g }
         ensures { IfOk result (λ leaves. leaves.items ≡ leaves_of (part_of self.now) pointer.now.first (absent_columns columns.now)) }

@@ -53,7 +53,7 @@ one_log_more logs slot here log n at l was many = elim (cases_eq at.slot slot) [
 pub attached : (geometry : Geometry) (perms : Perms) (metaslab : ℕ) (slots : List Slot) (detached : List Detached) (next places slot : ℕ) (old new : Slot) (arm : Arm) (log : Numbers) (upto : ℕ)
     → slot < length slots → get_or (map arms_in slots) slot [] ≡ arms_in old → get_or (map logs_in slots) slot [] ≡ logs_in old → length (logs_in old) ≡ length (arms_in old)
     → arms_in new ≡ arms_in old ++ record arm { fresh = true } ∷ [] → logs_in new ≡ logs_in old ++ log ∷ []
-    → ((x : ℕ) → has log x ≡ is_between 1 (upto + 1) x) → next ≤ log.spare + 1
+    → ((x : ℕ) → has log x ≡ is_between 1 (upto + 1) x) → next ≤ log.room + 1
     → Attaches (table_of geometry perms metaslab slots detached next places) (table_of geometry perms metaslab (set slots slot new) detached 0 places) slot arm upto
 attached geometry perms metaslab slots detached next places slot old new arm log upto l arms_are logs_are paired arms logs groups room =
     record {
@@ -64,7 +64,7 @@ attached geometry perms metaslab slots detached next places slot old new arm log
       logged = λ at group. ap (λ ls. has ls group) (log_now at) ∙ has_either _ log (log_in (map logs_in slots) at) (is_between 1 (upto + 1)) group (groups group);
       room = λ at there. at_old at there ((at.slot == slot) && (at.arm == length (get_or (map arms_in slots) slot []))) refl (log_now at);
       new_room = λ at here last. (let test : ((at.slot == slot) && (at.arm == length (get_or (map arms_in slots) slot []))) ≡ true = grind (arith, nat_tests) in
-          let now = ap (λ (ls : Numbers). ls.spare) (log_now at ∙ ap (λ b. cond b log (log_in (map logs_in slots) at)) test) in
+          let now = ap (λ (ls : Numbers). ls.room) (log_now at ∙ ap (λ b. cond b log (log_in (map logs_in slots) at)) test) in
           omega arith);
       detached_stay = refl;
       next_used = refl;
@@ -78,13 +78,13 @@ attached geometry perms metaslab slots detached next places slot old new arm log
 
       at_old : (at : ArmAt) → at.arm < length (get_or (map arms_in slots) at.slot []) → (b : Bool) → ((at.slot == slot) && (at.arm == length (get_or (map arms_in slots) slot []))) ≡ b
           → log_in (map logs_in (set slots slot new)) at ≡ cond b log (log_in (map logs_in slots) at)
-          → (log_in (map logs_in (set slots slot new)) at).spare ≡ (log_in (map logs_in slots) at).spare
+          → (log_in (map logs_in (set slots slot new)) at).room ≡ (log_in (map logs_in slots) at).room
       at_old at there true is now =
           let same : at.slot ≡ slot = grind (arith, nat_tests) in
           let last : at.arm ≡ length (get_or (map arms_in slots) slot []) = grind (arith, nat_tests) in
           let many = ap (λ j. length (get_or (map arms_in slots) j [])) same in
           absurd (omega arith)
-      at_old at there false is now = ap (λ (ls : Numbers). ls.spare) now
+      at_old at there false is now = ap (λ (ls : Numbers). ls.room) now
 
 -- a slot has one log less
 one_log_less : (logs : List (List Numbers)) (at : ArmAt) (here : List Numbers) (other : ArmAt) → at.slot < length logs → get_or logs at.slot [] ≡ here → at.arm < length here
@@ -125,7 +125,7 @@ detached_from geometry perms metaslab slots detached gone next places left at ol
           ∙ arms ∙ ap (λ xs. remove xs at.arm) (sym place.arms_are);
       others = λ other differs. ap (λ all. get_or all other []) (map-set arms_in slots at.slot new) ∙ get_or-set_other (map arms_in slots) at.slot other (arms_in new) [] differs;
       logged = λ other number. ap (λ (ls : Numbers). has ls number) (log_now other);
-      room = λ other. ap (λ (ls : Numbers). ls.spare) (log_now other);
+      room = λ other. ap (λ (ls : Numbers). ls.room) (log_now other);
       gone = λ it found. (let same = some_same arm it (sym (arm_found slots at old arm place is) ∙ found) in
           went ∙ ap (λ (a : Arm). detached ++ record { kind = a.kind; number = a.number; slot = at.slot; group = group } ∷ []) same);
       next_stays = refl;

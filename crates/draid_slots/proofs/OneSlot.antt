@@ -51,16 +51,16 @@ grown_more old cur i n m new l all one =
 
 -- and have the room
 pub reserved_more : (cur : List (List Numbers)) (i changes : ℕ) (new : List Numbers) → i < length cur → AreReserved cur i changes
-    → ((k : ℕ) → k < length new → changes ≤ (get_or new k no_log).spare) → AreReserved (set cur i new) (i + 1) changes
+    → ((k : ℕ) → k < length new → changes ≤ (get_or new k no_log).room) → AreReserved (set cur i new) (i + 1) changes
 reserved_more cur i changes new l all one at below there = elim (cases_eq at.slot i) [
   | inl same ↦
       let here : get_or (set cur i new) at.slot [] ≡ new = ap (λ j. get_or (set cur i new) j []) same ∙ get_or-set_same cur i new [] l in
-      let R : List Numbers → Type 0 = λ logs. changes ≤ (get_or logs at.arm no_log).spare in
+      let R : List Numbers → Type 0 = λ logs. changes ≤ (get_or logs at.arm no_log).room in
       let L : List Numbers → Type 0 = λ logs. at.arm < length logs in
       subst R (sym here) (one at.arm (subst L here there))
   | inr other ↦
       let here = get_or-set_other cur i at.slot new [] other in
-      let R : List Numbers → Type 0 = λ logs. changes ≤ (get_or logs at.arm no_log).spare in
+      let R : List Numbers → Type 0 = λ logs. changes ≤ (get_or logs at.arm no_log).room in
       let L : List Numbers → Type 0 = λ logs. at.arm < length logs in
       subst R (sym here) (all at (omega arith) (subst L here there))
 ]

@@ -87,7 +87,7 @@ has_either true log other test x is = is
 has_either false log other test x is = refl
 
 -- a log is set to one that has just the groups of a test, and takes at most the room of one change
-pub changes_log : (old new : SlotTable) (at : ArmAt) (log : Numbers) (test : ℕ → Bool) → SetsLog old new at log → ((x : ℕ) → has log x ≡ test x) → room_at old at ≤ log.spare + 1 → ChangesLog old new at test
+pub changes_log : (old new : SlotTable) (at : ArmAt) (log : Numbers) (test : ℕ → Bool) → SetsLog old new at log → ((x : ℕ) → has log x ≡ test x) → room_at old at ≤ log.room + 1 → ChangesLog old new at test
 changes_log old new at log test sets is room =
     record {
       same = sets.same;
@@ -100,11 +100,11 @@ changes_log old new at log test sets is room =
     } where
       by_place : (other : ArmAt) (b : Bool) → is_at at other ≡ b → log_at new other ≡ cond b log (log_at old other) → room_at old other ≤ room_at new other + cond b 1 0
       by_place other true here set =
-          let same : room_at old other ≡ room_at old at = ap (λ l. l.spare) (its_at at other old.logs here) in
-          let now : room_at new other ≡ log.spare = ap (λ l. l.spare) set in
+          let same : room_at old other ≡ room_at old at = ap (λ l. l.room) (its_at at other old.logs here) in
+          let now : room_at new other ≡ log.room = ap (λ l. l.room) set in
           omega arith
       by_place other false elsewhere set =
-          let now : room_at new other ≡ room_at old other = ap (λ l. l.spare) set in
+          let now : room_at new other ≡ room_at old other = ap (λ l. l.room) set in
           omega arith
 
 pub arm_found : (slots : List Slot) (at : ArmAt) (slot : Slot) (arm : Arm) → IsPlace slots at slot → arm ≡ get_or (arms_in slot) at.arm arm

@@ -133,8 +133,8 @@ pub record HasRoom (table : SlotTable) (changes : ℕ) : Type 0 where
 pub record AreGrown (old new : List Numbers) (upto changes : ℕ) : Type 0 where
   pub len : length new ≡ length old
   pub members : (k group : ℕ) → has (slice_index_or new k no_log) group ≡ has (slice_index_or old k no_log) group
-  pub kept : (k : ℕ) → (slice_index_or old k no_log).spare ≤ (slice_index_or new k no_log).spare
-  pub reserved : (k : ℕ) → k < upto → changes ≤ (slice_index_or new k no_log).spare
+  pub kept : (k : ℕ) → (slice_index_or old k no_log).room ≤ (slice_index_or new k no_log).room
+  pub reserved : (k : ℕ) → k < upto → changes ≤ (slice_index_or new k no_log).room
 
 -- the same of the logs of all slots
 pub record AreAllGrown (old new : List (List Numbers)) : Type 0 where
@@ -143,4 +143,4 @@ pub record AreAllGrown (old new : List (List Numbers)) : Type 0 where
 
 -- the logs of the slots before `upto` have room for so many changes
 abbrev pub AreReserved : List (List Numbers) → ℕ → ℕ → Type 0
-AreReserved logs upto changes = (at : ArmAt) → at.slot < upto → at.arm < length (slice_index_or logs at.slot []) → changes ≤ (log_in logs at).spare
+AreReserved logs upto changes = (at : ArmAt) → at.slot < upto → at.arm < length (slice_index_or logs at.slot []) → changes ≤ (log_in logs at).room

@@ -42,7 +42,7 @@ IsThere table at = at.arm < length (arms_of table at.slot)
 
 -- the log of no arm
 abbrev pub no_log : Numbers
-no_log = record { runs = []; spare = 0 }
+no_log = record { runs = []; room = 0 }
 
 -- the log of the arm at a place
 abbrev pub log_in : List (List Numbers) → ArmAt → Numbers
@@ -64,7 +64,7 @@ count_at table at = count_of (log_at table at)
 
 -- for how many more changes of it there is room in memory
 abbrev pub room_at : SlotTable → ArmAt → ℕ
-room_at table at = (log_at table at).spare
+room_at table at = (log_at table at).room
 
 abbrev pub is_at : ArmAt → ArmAt → Bool
 is_at at other = (at.slot == other.slot) && (at.arm == other.arm)
@@ -154,7 +154,7 @@ pub record AreKept (geometry : Geometry) (perms : Perms) (metaslab : ℕ) (slots
 
 abbrev pub next_room : Option Numbers → ℕ
 next_room None = 0
-next_room (Some log) = log.spare
+next_room (Some log) = log.room
 
 -- what contracts see of the fields
 abbrev pub table_of : Geometry → Perms → ℕ → List Slot → List Detached → ℕ → ℕ → SlotTable

@@ -8,7 +8,7 @@ use Rattle.draid_spacemap.specs.declared.map.Record.{Record}
 -- memory.
 pub record Records : Type 0 where
   pub records : List Record
-  pub spare : ℕ
+  pub room : ℕ
 
 -- whether x is allocated after the records, where at first it was so or not: the last record of a run
 -- that has x decides

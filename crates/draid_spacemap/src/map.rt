@@ -24,7 +24,7 @@ pub struct SpaceMap {
 impl Model for SpaceMap {
     ghost Value = { Records };
 
-    ghost view = { λ map. record { records = map.records.items; spare = vec_capacity map.records - vec_len map.records } };
+    ghost view = { λ map. record { records = map.records.items; room = vec_capacity map.records - vec_len map.records } };
 
     ghost invariant = { λ map. All (λ (entry : Record). IsSpan entry.run) map.records.items };
 }
@@ -42,8 +42,8 @@ impl SpaceMap {
     /// Makes room for so many records.
     pub fn reserve(&mut self, changes: u32) -> Result<(), AllocError>
         ensures same { Allocates self.new (is_allocated self.old) }
-        ensures room { OnOk result (changes ≤ self.new.spare) }
-        ensures kept { self.old.spare ≤ self.new.spare }
+        ensures room { OnOk result (changes ≤ self.new.room) }
+        ensures kept { self.old.room ≤ self.new.room }
     {
         self.records.reserve(changes as usize)
     }
@@ -54,8 +54,8 @@ impl SpaceMap {
         requires free { (x : ℕ) → in_run run x ≡ true → is_allocated self.old x ≡ false }
         ensures ok { OnOk result (Allocates self.new (λ x. is_allocated self.old x || in_run run x)) }
         ensures err { OnErr result (Allocates self.new (is_allocated self.old)) }
-        ensures room { 0 < self.old.spare → IsOk result }
-        ensures spare { self.old.spare ≤ self.new.spare + 1 }
+        ensures room { 0 < self.old.room → IsOk result }
+        ensures left { self.old.room ≤ self.new.room + 1 }
     {
         self.records.push(Record {
             run,
@@ -70,8 +70,8 @@ impl SpaceMap {
         requires allocated { (x : ℕ) → in_run run x ≡ true → is_allocated self.old x ≡ true }
         ensures ok { OnOk result (Allocates self.new (λ x. is_allocated self.old x && not (in_run run x))) }
         ensures err { OnErr result (Allocates self.new (is_allocated self.old)) }
-        ensures room { 0 < self.old.spare → IsOk result }
-        ensures spare { self.old.spare ≤ self.new.spare + 1 }
+        ensures room { 0 < self.old.room → IsOk result }
+        ensures left { self.old.room ≤ self.new.room + 1 }
     {
         self.records.push(Record {
             run,

@@ -21,7 +21,7 @@ use std::collections::{BTreeMap, BTreeSet};
 
 /// A column of a block on an arm.
 #[derive(Clone, Copy, Debug, PartialEq, Eq)]
-pub struct Part {
+pub struct ArmColumn {
     pub key: Key,
     pub column: u32,
     pub arm: ArmName,
@@ -210,7 +210,7 @@ fn add_row(
     order: &[Vec<ArmName>],
     segments: &mut BTreeSet<Segment>,
     held: &Held,
-    part: Part,
+    part: ArmColumn,
     row: u32,
 ) -> Result<(), AllocError>
     requires layout { IsLayout site.now.geometry site.now.perms }
@@ -240,7 +240,7 @@ pub fn add_rows(
     order: &[Vec<ArmName>],
     segments: &mut BTreeSet<Segment>,
     held: &Held,
-    part: Part,
+    part: ArmColumn,
 ) -> Result<(), AllocError>
     requires layout { IsLayout site.now.geometry site.now.perms }
     requires metaslab { site.now.metaslab < site.now.geometry.props.metaslabs }
@@ -271,7 +271,7 @@ pub fn add_landed(
         ≡ (has_segment segments.old.keys s || list_any (λ n. is_row (site_layout site.now) (names_at order.now) key held.now column n held.now.stripes s) landed.now)) }
 {
     for at in 0..landed.len() {
-        let part = Part {
+        let part = ArmColumn {
             key,
             column,
             arm: landed[at],

@@ -7,4 +7,4 @@ use Rattle.draid_metaslab.proofs.due.free_all_due.Given as goal
 abbrev pub invariant-loop-entry : goal.invariant-loop-entry
 invariant-loop-entry l =
     Has l.free (λ x. has l.initial.free x || is_due l.group (take l.entry-index l.deferred) x)
-    × (l.initial.free.spare ≤ l.free.spare + count_by (λ (entry : Deferred). nat_le entry.group l.group) (take l.entry-index l.deferred))
+    × (l.initial.free.room ≤ l.free.room + count_by (λ (entry : Deferred). nat_le entry.group l.group) (take l.entry-index l.deferred))

@@ -1,6 +1,6 @@
 use Rattle.std.proofs.Common.{◌≡◌, ◌∙◌, arith, ap, refl}
 use Rattle.draid_shard.specs.Entry.{open_group}
-use Rattle.draid_shard.specs.Part.{Part}
+use Rattle.draid_shard.specs.MetaslabLayout.{MetaslabLayout}
 use Rattle.draid_shard.specs.Shard.{logs_of, missed_of, part_of}
 use Rattle.draid_pool.proofs.Storing.{harm_all, harm_as, harm_none, missed_more, missed_none, same_twice, told_ends_more, unmissed}
 use Rattle.draid_pool.proofs.store.put_all.Goals as goal
@@ -59,7 +59,7 @@ returns-clause-harm g c =
     let i = c.loop-column.invariant in
     let count = i.carries.count in
     let next = i.next in
-    let wide : c.loop-column.shard.geometry.g ≡ c.args.shard.now.geometry.g = ap (λ (p : Part). p.geometry.g) i.part in
+    let wide : c.loop-column.shard.geometry.g ≡ c.args.shard.now.geometry.g = ap (λ (p : MetaslabLayout). p.geometry.g) i.part in
     harm_all (part_of c.args.shard.now) c.args.ticket.now.pointer.first c.args.ticket.now.pointer.stripes c.loop-column._column c.args.shard.now.geometry.g
     (missed_of c.loop-column.shard c.args.ticket.now.pointer) (g.R.Rack.told c.args.shard.now.rack) (g.R.Rack.told c.loop-column.shard.rack)
     (let end = c.loop-column-test.false in omega (arith, count, next, wide, end)) i.harm

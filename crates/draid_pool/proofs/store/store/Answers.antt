@@ -1,6 +1,6 @@
 use Rattle.std.proofs.Common.{◌∙◌, ap, arith, refl, subst, sym}
 use Rattle.draid_names.specs.declared.pointer.Pointer.{Pointer}
-use Rattle.draid_shard.specs.Part.{Part}
+use Rattle.draid_shard.specs.MetaslabLayout.{MetaslabLayout}
 use Rattle.draid_shard.specs.Entry.{IsRefused, open_group}
 use Rattle.draid_shard.specs.Shard.{free_of, held_of, logs_of, part_of}
 use Rattle.draid_pool.specs.State.{stripes_for}
@@ -17,10 +17,10 @@ returns-in-Ok-finish-clause-answer g c =
     let all = c.put_all.ensures in
     let ended = c.in-Ok-finish.ensures in
     let old = c.args.shard.now in
-    let geometry = ap (λ (p : Part). stripes_for p.geometry c.args.block.now.bytes) begun.part in
+    let geometry = ap (λ (p : MetaslabLayout). stripes_for p.geometry c.args.block.now.bytes) begun.part in
     let stripes = ticket_stripes g.R.Rack.shape g.R.Rack.told c.begin.new.self c.in-Ok.ticket c.args.block.now begun.valid begun.carries ∙ geometry in
     let pointer = ended.ok.1 ∙ all.pointer in
-    let parity = ap (λ (p : Part). p.geometry.spec.parity) (all.part ∙ begun.part) in
+    let parity = ap (λ (p : MetaslabLayout). p.geometry.spec.parity) (all.part ∙ begun.part) in
     record {
       named = ap (λ (p : Pointer). p.object) pointer ∙ begun.named.0;
       here = ap (λ (p : Pointer). p.metaslab) pointer ∙ begun.named.2;
@@ -47,10 +47,10 @@ returns-in-Err-clause-answer g c =
     let all = c.put_all.ensures in
     let ended = c.in-Err.ensures in
     let old = c.args.shard.now in
-    let geometry = ap (λ (p : Part). stripes_for p.geometry c.args.block.now.bytes) begun.part in
+    let geometry = ap (λ (p : MetaslabLayout). stripes_for p.geometry c.args.block.now.bytes) begun.part in
     let stripes = ticket_stripes g.R.Rack.shape g.R.Rack.told c.begin.new.self c.in-Ok.ticket c.args.block.now begun.valid begun.carries ∙ geometry in
-    let height = ap (λ (p : Part). p.geometry.props.height) (sym begun.part ∙ sym all.part) in
-    let parity = ap (λ (p : Part). p.geometry.spec.parity) (all.part ∙ begun.part) in
+    let height = ap (λ (p : MetaslabLayout). p.geometry.props.height) (sym begun.part ∙ sym all.part) in
+    let parity = ap (λ (p : MetaslabLayout). p.geometry.spec.parity) (all.part ∙ begun.part) in
     record {
       first = c.in-Ok.ticket.pointer.first;
       many = (let many = ended.missed.0 in let columns = ended.missed.1 in omega (arith, many, columns, parity));

@@ -1,6 +1,6 @@
 use Rattle.std.proofs.Common.{[], ◌∷◌, ◌*◌, ◌∙◌, arith, length, length-append, refl, ap}
 use Rattle.draid_map.specs.declared.sectors.Place.{Place}
-use Rattle.draid_shard.specs.Part.{Part}
+use Rattle.draid_shard.specs.MetaslabLayout.{MetaslabLayout}
 use Rattle.draid_shard.proofs.Columns.{IsNext, pushed_long, pushed_read, pushed_absent}
 use Rattle.draid_shard.proofs.Stand.{first_there, has_run}
 use Rattle.draid_shard.proofs.fetch.read_columns.Goals as goal
@@ -10,7 +10,7 @@ place_within-place-requires-clause-stripe g c = first_there c.args.geometry.now 
 
 pub read_column-requires : goal.read_column-requires
 read_column-requires g c =
-    let part : Part = record { geometry = c.args.geometry.now; perms = c.args.perms.now; number = c.args.number } in
+    let part : MetaslabLayout = record { geometry = c.args.geometry.now; perms = c.args.perms.now; number = c.args.number } in
     record {
       run = has_run part _ c.args.pointer.now.first c.args.pointer.now.stripes c.loop-i.i _ _ _ _ c.requires.part (rw c.loop-i.invariant.shape c.requires.shape) c.requires.run
           c.loop-i-test.true (c.from.ensures ∙ ap (λ (p : Place). p.child) c.place_within-place.ensures) (ap (λ (p : Place). p.sector) c.place_within-place.ensures) c.from-in-loop-i.ensures refl;
@@ -18,7 +18,7 @@ read_column-requires g c =
 
 pub loop-i-preserved : goal.loop-i-preserved
 loop-i-preserved g c =
-    let part : Part = record { geometry = c.args.geometry.now; perms = c.args.perms.now; number = c.args.number } in
+    let part : MetaslabLayout = record { geometry = c.args.geometry.now; perms = c.args.perms.now; number = c.args.number } in
     let new = c.push.new.self.items in
     let cs = c.loop-i.columns.items in
     let x = c.in_ok-column.column in

@@ -15,6 +15,6 @@ pub invariant_of-self : goal.invariant_of-self
 invariant_of-self c =
     let kept : c.retain.new.self.items ≡ filter (is_later c.args.group) c.self.inside.deferred.items = filter_same _ _ _ (λ x b f' k. search rules) _ _ c.retain.ensures.filtered in
     let M : List Deferred → Type 0 = λ ds. (x : ℕ) → has c.free_all_due.new.free x ≡ (has c.self.inside.free x || is_due c.args.group ds x) in
-    let S : List Deferred → Type 0 = λ ds. c.self.inside.free.spare ≤ c.free_all_due.new.free.spare + count_by (λ (entry : Deferred). nat_le entry.group c.args.group) ds in
+    let S : List Deferred → Type 0 = λ ds. c.self.inside.free.room ≤ c.free_all_due.new.free.room + count_by (λ (entry : Deferred). nat_le entry.group c.args.group) ds in
     committed c.self.inside.height c.self.inside.total c.self.inside.held _ c.args.group _ c.self.inside.free c.free_all_due.new.free c.self.inside.deferred.items c.retain.new.self.items
-    c.self.invariant (subst M c.deref.ensures.value c.free_all_due.ensures.members) (subst S c.deref.ensures.value c.free_all_due.ensures.spare) kept (omega arith)
+    c.self.invariant (subst M c.deref.ensures.value c.free_all_due.ensures.members) (subst S c.deref.ensures.value c.free_all_due.ensures.left) kept (omega arith)

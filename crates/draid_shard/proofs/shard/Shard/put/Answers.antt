@@ -6,7 +6,7 @@ use Rattle.draid_machine.specs.declared.names.ArmName.TheVariants.{Leaf}
 use Rattle.draid_machine.specs.declared.names.Stage.TheVariants.{Writing}
 use Rattle.draid_shard.specs.declared.history.History.{History}
 use Rattle.draid_shard.specs.Machine.{key_of}
-use Rattle.draid_shard.specs.Part.{Part, leaf_of}
+use Rattle.draid_shard.specs.MetaslabLayout.{MetaslabLayout, leaf_of}
 use Rattle.draid_shard.specs.Shard.{part_of}
 use Rattle.draid_shard.specs.declared.ticket.Ticket.{Ticket}
 use Rattle.draid_shard.specs.Entry.{SetsEntry, opened, staged}
@@ -102,7 +102,7 @@ returns-clause-valid g c =
           (let o = c.add.ensures.owed.0 in
           let next = d.counted.next in
           let left = c.requires.left in
-          let same = ap (λ (part : Part). part.geometry.g) c.land-landed.ensures.part in
+          let same = ap (λ (part : MetaslabLayout). part.geometry.g) c.land-landed.ensures.part in
           omega (arith, o, next, left, same)) c.add.ensures.owed.1 c.add.ensures.room;
     }
 

@@ -54,9 +54,9 @@ returns-clause-attached c =
     let arms_are : get_or (map arms_in slots) c.args.slot [] ≡ arms_in old = get_or-map arms_in slots c.args.slot old [] below ∙ ap arms_in (sym c.index_mut.ensures.value) in
     let logs_are : get_or (map logs_in slots) c.args.slot [] ≡ logs_in old = get_or-map logs_in slots c.args.slot old [] below ∙ ap logs_in (sym c.index_mut.ensures.value) in
     let paired : IsPaired old = subst IsPaired (sym c.index_mut.ensures.value) (c.self.invariant.paired c.args.slot old below) in
-    let spare = c.fill.ensures.spare in
-    let had : next_room s.next ≡ c.in-Some.log.spare = ap next_room (sym c.take.ensures.value ∙ c.in-Some.is) in
-    let room : next_room s.next ≤ log.spare + 1 = omega arith in
+    let left = c.fill.ensures.left in
+    let had : next_room s.next ≡ c.in-Some.log.room = ap next_room (sym c.take.ensures.value ∙ c.in-Some.is) in
+    let room : next_room s.next ≤ log.room + 1 = omega arith in
     let done : Attaches t now c.args.slot c.args.arm c.args.upto = attached s.geometry s.perms s.metaslab slots s.detached.items (next_room s.next) (vec_capacity s.detached - vec_len s.detached) c.args.slot old new c.args.arm log c.args.upto
     below arms_are logs_are paired.same c.add_arm.ensures.arms c.add_arm.ensures.logs c.fill.ensures.members room in
     let A : SlotTable → Type 0 = λ t. Attaches t (table_of s.geometry s.perms s.metaslab (set slots c.args.slot new) s.detached.items (next_room c.take.new.self) (vec_capacity s.detached - vec_len s.detached)) c.args.slot c.args.arm c.args.upto in

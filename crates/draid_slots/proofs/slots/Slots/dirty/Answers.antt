@@ -31,8 +31,8 @@ returns c =
     let C : SlotTable → Type 0 = λ t. ChangesLog t now c.args.at (λ x. is_logged t c.args.at x || x == c.args.group) in
     let place : IsPlace s.slots.items c.args.at old = its_place s.slots.items c.args.at old c.self.invariant.paired (subst T (sym c.self.view_is) c.requires.there) c.index_mut.ensures.value in
     let was = log_found s.slots.items c.args.at old before place c.index_mut-2.ensures.value in
-    let spare = c.dirty.ensures.spare in
-    let had = ap (λ (l : Numbers). l.spare) was in
+    let left = c.dirty.ensures.left in
+    let had = ap (λ (l : Numbers). l.room) was in
     subst C c.self.view_is (changes_log _ now c.args.at log _
     (sets_log s.geometry s.perms s.metaslab s.slots.items s.detached.items (next_room s.next) (vec_capacity s.detached - vec_len s.detached) c.args.at old new log place c.index_mut.ensures.value refl refl)
     (λ x. c.in-Ok.ensures.ok x ∙ sym (ap (λ l. has l x || x == c.args.group) was)) (omega arith))
