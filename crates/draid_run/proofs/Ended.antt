@@ -5,9 +5,9 @@ use Rattle.std.specs.Io.KnownBytes.{Appends}
 use Rattle.std.proofs.lemmas.List.{append-nil}
 use Rattle.draid_names.specs.declared.room.Room.{Room}
 use Rattle.draid_rack.specs.Rack.{Shape, Told}
-use Rattle.draid_script.specs.Lines.{lines_of}
-use Rattle.draid_script.specs.Sink.{AppendsFront}
-use Rattle.draid_script.specs.declared.reply.Reply.{Reply}
+use Rattle.draid_lines.specs.Lines.{lines_of}
+use Rattle.draid_lines.specs.Sink.{AppendsFront}
+use Rattle.draid_reply.specs.declared.reply.Reply.{Reply}
 use Rattle.draid_pool.specs.Close.{HoldsPool}
 use Rattle.draid_pool.specs.State.{Change, State}
 use Rattle.draid_run.specs.Script.{Ends, EndsWithLine, HasRun, IsSession, Prints, RunIs, Shows}

@@ -5,7 +5,7 @@ use Rattle.draid_names.specs.declared.room.Room.{Room}
 use Rattle.draid_rack.specs.Rack.{Shape, Told}
 use Rattle.draid_script.specs.Line.{FillObjects}
 use Rattle.draid_names.specs.declared.refusal.WriteFault.{WriteFault}
-use Rattle.draid_script.specs.declared.reply.Reply.TheVariants.{Filled, FillRefused}
+use Rattle.draid_reply.specs.declared.reply.Reply.TheVariants.{Filled, FillRefused}
 use Rattle.draid_pool.specs.Answers.{WriteIs}
 use Rattle.draid_pool.specs.Pool.{Moves, state_of}
 use Rattle.draid_pool.specs.State.{State}

@@ -3,8 +3,8 @@ use Rattle.std.proofs.Common.{sym, ap, ◌∙◌, ℕ, List, [], ◌++◌, Optio
 use Rattle.std.specs.Prelude.{⊤}
 use Rattle.std.specs.Io.KnownBytes.{Appends}
 use Rattle.std.proofs.lemmas.List.{append-nil}
-use Rattle.draid_script.specs.Lines.{WhereKnown}
-use Rattle.draid_script.specs.Sink.{AppendsFront}
+use Rattle.draid_lines.specs.Lines.{WhereKnown}
+use Rattle.draid_lines.specs.Sink.{AppendsFront}
 
 pub appends_none : (old : Option (List ℕ)) → Appends old old []
 appends_none None = tt

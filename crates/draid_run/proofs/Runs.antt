@@ -1,7 +1,7 @@
 use Rattle.std.proofs.Common.{refl, sym, ℕ, List, [], ◌∷◌, ◌++◌, Option}
 use Rattle.draid_names.specs.declared.room.Room.{Room}
 use Rattle.draid_script.specs.Grammar.{line_of}
-use Rattle.draid_script.specs.declared.reply.Reply.{Reply}
+use Rattle.draid_reply.specs.declared.reply.Reply.{Reply}
 use Rattle.draid_pool.specs.State.{State}
 use Rattle.draid_run.specs.State.{Runs, TurnsBy}
 

@@ -6,11 +6,11 @@ use Rattle.std.proofs.lemmas.Grind.{flat_map-append}
 use Rattle.std.proofs.lemmas.List.{append-nil}
 use Rattle.draid_names.specs.declared.room.Room.{Room}
 use Rattle.draid_rack.specs.Rack.{Shape, Told}
-use Rattle.draid_script.proofs.Ends.{lines_none}
+use Rattle.draid_lines.proofs.Ends.{lines_none}
 use Rattle.draid_script.specs.Grammar.{line_of}
-use Rattle.draid_script.specs.Lines.{Rest, WhereKnown, lines_of}
-use Rattle.draid_script.specs.Sink.{AppendsFront}
-use Rattle.draid_script.specs.declared.reply.Reply.{Reply}
+use Rattle.draid_lines.specs.Lines.{Rest, WhereKnown, lines_of}
+use Rattle.draid_lines.specs.Sink.{AppendsFront}
+use Rattle.draid_reply.specs.declared.reply.Reply.{Reply}
 use Rattle.draid_pool.specs.State.{Change}
 use Rattle.draid_run.specs.State.{LineFaultIs}
 use Rattle.draid_run.specs.Script.{Ends, said_text}

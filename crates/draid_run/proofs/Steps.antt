@@ -5,7 +5,7 @@ use Rattle.draid_rack.specs.Rack.{Shape, Told}
 use Rattle.draid_names.specs.declared.room.Room.{Room}
 use Rattle.draid_script.specs.Line.{Command, CreatePool, DamageSector, FreeObject, ReadObject, SumObjects}
 use Rattle.draid_script.specs.declared.line.PoolKeys.{PoolKeys}
-use Rattle.draid_script.specs.declared.reply.Reply.{Reply}
+use Rattle.draid_reply.specs.declared.reply.Reply.{Reply}
 use Rattle.draid_run.specs.Serve.{PlainTurned, Turned}
 use Rattle.draid_pool.specs.Close.{HoldsPool}
 use Rattle.draid_pool.specs.Pool.{Moves, Represents, state_of}

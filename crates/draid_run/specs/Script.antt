@@ -3,10 +3,10 @@ use Rattle.std.specs.Io.KnownBytes.{Appends}
 use Rattle.draid_names.specs.declared.room.Room.{Room}
 use Rattle.draid_rack.specs.Rack.{Told}
 use Rattle.draid_script.specs.Grammar.{line_of}
-use Rattle.draid_script.specs.Lines.{IsTooLong, lines_of}
-use Rattle.draid_script.specs.Reply.{text_of}
-use Rattle.draid_script.specs.Sink.{AppendsFront}
-use Rattle.draid_script.specs.declared.reply.Reply.{Reply}
+use Rattle.draid_lines.specs.Lines.{IsTooLong, lines_of}
+use Rattle.draid_reply.specs.Reply.{text_of}
+use Rattle.draid_lines.specs.Sink.{AppendsFront}
+use Rattle.draid_reply.specs.declared.reply.Reply.{Reply}
 use Rattle.draid_pool.specs.Close.{HoldsPool}
 use Rattle.draid_pool.specs.State.{State}
 use Rattle.draid_run.specs.State.{LineFaultIs, Runs}

@@ -6,10 +6,10 @@ use Rattle.draid_names.specs.declared.room.Room.{Room}
 use Rattle.draid_rack.specs.Rack.{Shape, Told}
 use Rattle.draid_script.specs.Grammar.{line_of}
 use Rattle.draid_script.specs.Line.{Command}
-use Rattle.draid_script.specs.Lines.{Rest, WhereKnown, IsTooLong, lines_of, most_lines}
-use Rattle.draid_script.specs.Sink.{AppendsFront}
+use Rattle.draid_lines.specs.Lines.{Rest, WhereKnown, IsTooLong, lines_of, most_lines}
+use Rattle.draid_lines.specs.Sink.{AppendsFront}
 use Rattle.draid_script.specs.declared.fault.LineFault.{LineFault}
-use Rattle.draid_script.specs.declared.reply.Reply.{Reply}
+use Rattle.draid_reply.specs.declared.reply.Reply.{Reply}
 use Rattle.draid_pool.specs.State.{Change, State}
 use Rattle.draid_pool.specs.declared.pool.Pool.{Pool}
 use Rattle.draid_run.specs.State.{IsUnbuilt, LineFaultIs, PlainTurns, Runs, TurnsBy}

@@ -19,8 +19,8 @@ use Rattle.draid_script.specs.declared.fault.LineFault.{LineFault}
 use Rattle.draid_script.specs.declared.line.PoolKeys.{PoolKeys}
 use Rattle.draid_script.specs.declared.name.CommandName.TheVariants as name
 use Rattle.draid_names.specs.declared.refusal.WriteFault.{WriteFault}
-use Rattle.draid_script.specs.declared.reply.Reply.{Reply}
-use Rattle.draid_script.specs.declared.reply.Reply.TheVariants.{NoPool, PoolOpen, NoMemory, Created, CreateRefused, Written, NoSpace, Missed, WriteLast, Filled, FillRefused, Freed, FreeNoObject, Contents, NoObject, Unreadable, Summed, SumRefused, Damaged, DamageRefused, DamageFailed}
+use Rattle.draid_reply.specs.declared.reply.Reply.{Reply}
+use Rattle.draid_reply.specs.declared.reply.Reply.TheVariants.{NoPool, PoolOpen, NoMemory, Created, CreateRefused, Written, NoSpace, Missed, WriteLast, Filled, FillRefused, Freed, FreeNoObject, Contents, NoObject, Unreadable, Summed, SumRefused, Damaged, DamageRefused, DamageFailed}
 
 -- the properties that the keys of `create` name
 abbrev pub props_of : PoolKeys → Props

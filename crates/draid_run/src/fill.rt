@@ -11,7 +11,7 @@ use draid_choose::Chooser;
 use draid_names::{Room, WriteFault};
 use draid_pool::Pool;
 use draid_rack::Rack;
-use draid_script::Reply;
+use draid_reply::Reply;
 use rand_core::{Rng, SeedableRng};
 use rand_xoshiro::Xoroshiro128PlusPlus;
 use std::alloc::Global;

@@ -11,7 +11,8 @@ use draid_choose::Chooser;
 use draid_names::{ObjectFault, Room, WriteFault};
 use draid_pool::{DamageFault, FreeFault, Pool, SumFault};
 use draid_rack::Rack;
-use draid_script::{CommandName, Reply};
+use draid_reply::Reply;
+use draid_script::CommandName;
 use std::thread::Threads;
 
 /// Writes to an object.

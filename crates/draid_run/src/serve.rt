@@ -3,7 +3,7 @@ ghost use Rattle.std.specs.Io.KnownBytes.{prepend_known};
 ghost use Rattle.std.specs.Fn.{FnReturnsAt};
 ghost use Rattle.draid_choose.specs.Rooms.{IsChooser};
 ghost use Rattle.draid_names.specs.Faults.{Rose};
-ghost use Rattle.draid_script.specs.Reply.{text_of};
+ghost use Rattle.draid_reply.specs.Reply.{text_of};
 ghost use Rattle.draid_pool.specs.State.{Change};
 ghost use Rattle.draid_run.specs.Session.{IsDesk};
 ghost use Rattle.draid_run.specs.Serve.{LineIs, PrintIs, Served, TextIs};
@@ -11,11 +11,11 @@ ghost use Rattle.draid_run.specs.Serve.{LineIs, PrintIs, Served, TextIs};
 use crate::answer::{Unbuilt, answer};
 use crate::status::Status;
 use draid_choose::Chooser;
+use draid_lines::{Lines, ReadFault, Sink, Source};
 use draid_names::{Failed, Room};
 use draid_pool::Pool;
-use draid_script::{
-    LineFault, Lines, ParseFault, ReadFault, Reply, Sink, Source, parse_line, reply_text,
-};
+use draid_reply::{Reply, reply_text};
+use draid_script::{LineFault, ParseFault, parse_line};
 use draid_shelf::RackShelf;
 use std::alloc::Global;
 use std::thread::Threads;

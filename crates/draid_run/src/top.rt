@@ -10,9 +10,9 @@ ghost use Rattle.draid_run.specs.Script.{EndsWithLine, IsSession, Prints, RunIs}
 use crate::serve::serve;
 use crate::status::{Status, fixed_line, numbered_line};
 use draid_choose::Chooser;
+use draid_lines::{Sink, Source};
 use draid_names::Room;
 use draid_pool::{Pool, close};
-use draid_script::{Sink, Source};
 use draid_shelf::RackShelf;
 use std::alloc::Global;
 use std::thread::Threads;

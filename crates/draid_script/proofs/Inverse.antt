@@ -16,8 +16,7 @@ use Rattle.draid_script.specs.Fault.{fault, ◌>>=◌}
 use Rattle.draid_script.specs.Field.{arm_at, block_at, count_at, number_at, number_in, spare_behind, within}
 use Rattle.draid_script.specs.Grammar.{limit_at, one_number, two_numbers}
 use Rattle.draid_script.specs.Line.{IsArmArgument, IsLimit, longest_block, most_objects}
-use Rattle.draid_script.specs.Name.{all_names, name_of, name_text}
-use Rattle.draid_script.specs.Reply.{arm_of}
+use Rattle.draid_script.specs.Name.{all_names, arm_of, name_of, name_text}
 use Rattle.draid_script.specs.Word.{Placed, bytes_of, number_of}
 use Rattle.draid_script.specs.Writing.{optional}
 use Rattle.draid_script.proofs.Numbers.{decimal_of_number}

@@ -1,6 +1,3 @@
-pub mod Copies
-pub mod Ends
-pub mod Given
 pub mod Numbers
 pub mod Pairs
 pub mod Positions

@@ -22,8 +22,7 @@ use Rattle.draid_script.specs.Field.{short_at, arm_at, block_at, count_at, hex_p
 use Rattle.draid_script.specs.Grammar.{command_of, fill_of, is_silent, limit_at, line_of, one_number, outside, replace_of, sum_of, two_numbers, write_of}
 use Rattle.draid_script.specs.Keys.{given_by, given_with, keys_at, new_value, nothing_given}
 use Rattle.draid_script.specs.Line.{Command, Silent, CreatePool, ImportPool, ExportPool, SyncPool, CancelPasses, CrashPool, WriteObject, FillObjects, ReadObject, FreeObject, SumObjects, TakeOffline, TakeOnline, DamageSector, AttachSpare, ReplaceDisk, DetachArm, RebuildPool, ScrubPool, RebalanceSlot, ShowStatus, OpenLanes, AreKeys, AreObjects, IsArmArgument, IsInRange, IsLimit, longest_block, most_lanes, most_objects}
-use Rattle.draid_script.specs.Name.{name_of, name_text}
-use Rattle.draid_script.specs.Reply.{arm_of}
+use Rattle.draid_script.specs.Name.{arm_of, name_of, name_text}
 use Rattle.draid_script.specs.Shape.{AreSettings, AreWordsOf, GivesKey, GivesKeys, IsLine, texts_of}
 use Rattle.draid_script.specs.Word.{Placed, bytes_of, is_space, placed_from, words_of}
 use Rattle.draid_script.specs.Writing.{IsWritable, optional, setting, settings, written_line, written_words}

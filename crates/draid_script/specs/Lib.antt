@@ -3,11 +3,7 @@ pub mod Field
 pub mod Grammar
 pub mod Keys
 pub mod Line
-pub mod Lines
 pub mod Name
-pub mod Reply
 pub mod Shape
-pub mod Sink
-pub mod Source
 pub mod Word
 pub mod Writing

@@ -1,6 +1,9 @@
-use Rattle.std.specs.Prelude.{ℕ, Bool, true, false, List, [], ◌∷◌, codes, Option}
+use Rattle.std.specs.Prelude.{ℕ, Bool, true, false, List, [], ◌∷◌, ◌++◌, codes, Option}
+use Rattle.std.specs.Fmt.{decimal}
 use Rattle.std.specs.List.{find}
 use Rattle.std.specs.Str.{bytes_eq}
+use Rattle.draid_script.specs.declared.line.ArmArgument.{ArmArgument}
+use Rattle.draid_script.specs.declared.line.ArmArgument.TheVariants as arm
 use Rattle.draid_script.specs.declared.name.CommandName.{CommandName}
 use Rattle.draid_script.specs.declared.name.CommandName.TheVariants.{Create, Import, Export, Sync, Cancel, Crash, Write, Fill, Read, Free, Sum, Offline, Online, Damage, Spare, Replace, Detach, Rebuild, Scrub, Rebalance, Status, Lanes}
 
@@ -49,3 +52,8 @@ is_for_lanes Online = true
 is_for_lanes Rebuild = true
 is_for_lanes Scrub = true
 is_for_lanes _ = false
+
+-- an arm as `detach` names it
+abbrev pub arm_of : ArmArgument → List ℕ
+arm_of (arm.Leaf leaf) = decimal leaf
+arm_of (arm.Spare parity spare) = codes "draid" ++ (decimal parity ++ (codes "-0-" ++ decimal spare))

@@ -5,7 +5,7 @@ use Rattle.hex.specs.Hex.{encode_lower, IsBytes}
 use Rattle.draid_script.specs.declared.line.PoolKeys.{PoolKeys}
 use Rattle.draid_script.specs.declared.line.StatusFormat.TheVariants.{Text, Json}
 use Rattle.draid_script.specs.Line.{Command, Silent, CreatePool, ImportPool, ExportPool, SyncPool, CancelPasses, CrashPool, WriteObject, FillObjects, ReadObject, FreeObject, SumObjects, TakeOffline, TakeOnline, DamageSector, AttachSpare, ReplaceDisk, DetachArm, RebuildPool, ScrubPool, RebalanceSlot, ShowStatus, OpenLanes, IsInRange}
-use Rattle.draid_script.specs.Reply.{arm_of}
+use Rattle.draid_script.specs.Name.{arm_of}
 
 -- a word `key=value`
 abbrev pub setting : List ℕ → ℕ → List ℕ

@@ -1,4 +1,4 @@
-//! Scripts of commands: where their bytes come from and replies go to, their lines, and the texts of replies.
+//! The grammar of scripts: which lines are taken, and what they ask for.
 
 #![tactic(auto)]
 
@@ -8,16 +8,11 @@ mod field;
 mod keys;
 mod laws;
 mod line;
-mod lines;
 mod name;
 mod parse;
-mod reply;
-mod sink;
-mod source;
 #[cfg(test)]
 mod tests;
 mod text;
-mod texts;
 mod word;
 mod words;
 
@@ -27,9 +22,5 @@ pub use laws::{
     numbers_are_decimal, words_are_joined,
 };
 pub use line::{ArmArgument, LaneLine, Line, PoolKeys, StatusFormat};
-pub use lines::{Lines, ReadFault};
 pub use name::CommandName;
 pub use parse::{parse_lane, parse_line};
-pub use reply::{Reply, reply_text};
-pub use sink::{MemorySink, Sink};
-pub use source::{MemorySource, Source};

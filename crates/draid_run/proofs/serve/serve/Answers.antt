@@ -1,6 +1,6 @@
 use Rattle.std.proofs.Common.{arith, Ok, Err, ap, sym, refl, ℕ}
 use Rattle.std.specs.Fn.{FnReturnsAt}
-use Rattle.draid_script.specs.Lines.{Rest}
+use Rattle.draid_lines.specs.Lines.{Rest}
 use Rattle.draid_run.proofs.Serving.{line_by, served_done, served_line, serving_more, serving_start, text_by}
 use Rattle.draid_run.proofs.serve.serve.Goals as goal
 

@@ -1,7 +1,7 @@
 use Rattle.std.proofs.Common.{◌≡◌, ◌≤◌, ◌+◌, None}
 use Rattle.std.specs.Io.KnownBytes.{prepend_known}
 use Rattle.std.specs.Fn.{FnReturnsAt}
-use Rattle.draid_script.specs.Lines.{most_lines}
+use Rattle.draid_lines.specs.Lines.{most_lines}
 use Rattle.draid_run.specs.Serve.{Serving}
 use Rattle.draid_run.proofs.serve.serve.Given as goal
 

@@ -1,6 +1,6 @@
 ghost use Rattle.std.specs.Prelude.{◌≡◌, ◌+◌, ◌-◌, ◌^◌, ◌<◌, ◌⊎◌, ℕ, List, Option, Some, Contains, IsErr, MatchResult, OnErr, length, min, []};
 ghost use Rattle.draid_names.specs.Faults.{HasCause};
-ghost use Rattle.draid_script.specs.Sink.{PutAppends};
+ghost use Rattle.draid_lines.specs.Sink.{PutAppends};
 
 use draid_names::Failed;
 use std::alloc::{AllocError, Global};
@@ -31,7 +31,7 @@ pub struct MemorySink {
 
 impl Model for MemorySink {
     ghost use Rattle.std.specs.Prelude.{vec_capacity};
-    ghost use Rattle.draid_script.specs.Sink.{SinkState};
+    ghost use Rattle.draid_lines.specs.Sink.{SinkState};
 
     ghost Value = { SinkState };
 

@@ -1,8 +1,9 @@
 ghost use Rattle.std.specs.Prelude.{◌≡◌, ◌++◌, IfOk, codes, string_bytes};
-ghost use Rattle.draid_script.specs.Reply.{arm_of, contents_of, create_refused_of, detach_refused_of, detach_stopped_of, detached_of, write_fault_of, fill_refused_of, others_of, pause_of, rebalanced_of, rebuilt_of, said_of, scrubbed_of, slot_fault_of, slot_refused_of, spec_fault_of, sum_refused_of, summed_of};
+ghost use Rattle.draid_script.specs.Name.{arm_of};
+ghost use Rattle.draid_reply.specs.Reply.{contents_of, create_refused_of, detach_refused_of, detach_stopped_of, detached_of, write_fault_of, fill_refused_of, others_of, pause_of, rebalanced_of, rebuilt_of, said_of, scrubbed_of, slot_fault_of, slot_refused_of, spec_fault_of, sum_refused_of, summed_of};
 
-use crate::{ArmArgument, CommandName};
 use draid_names::{ObjectFault, SlotFault, WriteFault};
+use draid_script::{ArmArgument, CommandName};
 use draid_spec::SpecFault;
 use std::alloc::{AllocError, Global};
 

@@ -1,5 +1,5 @@
-use Rattle.draid_script.specs.Reply.{text_of}
-use Rattle.draid_script.proofs.reply.text.Goals as goal
+use Rattle.draid_reply.specs.Reply.{text_of}
+use Rattle.draid_reply.proofs.reply.text.Goals as goal
 
 -- Each arm prints the text of its reply.
 

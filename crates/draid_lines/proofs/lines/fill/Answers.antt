@@ -1,7 +1,7 @@
 use Rattle.std.proofs.Common.{rules, arith, inl}
-use Rattle.draid_script.proofs.Ends.{found_behind, none_behind}
-use Rattle.draid_script.proofs.Given.{takes_more}
-use Rattle.draid_script.proofs.lines.fill.Goals as goal
+use Rattle.draid_lines.proofs.Ends.{found_behind, none_behind}
+use Rattle.draid_lines.proofs.Given.{takes_more}
+use Rattle.draid_lines.proofs.lines.fill.Goals as goal
 
 pub returns-in-Some-clause-found : goal.returns-in-Some-clause-found
 returns-in-Some-clause-found g c =

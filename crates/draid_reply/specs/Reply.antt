@@ -2,7 +2,6 @@ use Rattle.std.specs.Prelude.{ℕ, Bool, true, false, List, ◌++◌, length, co
 use Rattle.std.specs.Fmt.{decimal}
 use Rattle.hex.specs.Hex.{encode_lower}
 use Rattle.draid_script.specs.declared.line.ArmArgument.{ArmArgument}
-use Rattle.draid_script.specs.declared.line.ArmArgument.TheVariants.{Leaf, Spare}
 use Rattle.draid_script.specs.declared.name.CommandName.{CommandName}
 use Rattle.draid_script.specs.declared.name.CommandName.TheVariants as name
 use Rattle.draid_spec.specs.declared.spec.SpecFault.{SpecFault}
@@ -13,9 +12,9 @@ use Rattle.draid_names.specs.declared.refusal.WriteFault.{WriteFault}
 use Rattle.draid_names.specs.declared.refusal.WriteFault.TheVariants as fill
 use Rattle.draid_names.specs.declared.refusal.ObjectFault.{ObjectFault}
 use Rattle.draid_names.specs.declared.refusal.ObjectFault.TheVariants as sum
-use Rattle.draid_script.specs.declared.reply.Reply.{Reply}
-use Rattle.draid_script.specs.declared.reply.Reply.TheVariants.{NoPool, PoolOpen, NoMemory, Created, CreateRefused, Imported, Exported, ExportWorn, ExportLast, Written, NoSpace, Missed, WriteLast, Filled, FillRefused, Contents, NoObject, Unreadable, ReadWorn, Summed, SumRefused, Freed, FreeNoObject, Synced, SyncWorn, SyncLast, OfflineDone, OfflineRefused, OfflineWorn, OnlineDone, OnlineRefused, OnlineWorn, Damaged, DamageRefused, DamageFailed, DamageWorn, Spared, SpareRefused, SpareWorn, Replaced, ReplaceRefused, ReplaceWorn, Detached, DetachRefused, DetachWorn, DetachLast, Rebuilt, RebuildNothing, RebuildRefused, RebuildWorn, RebuildLast, Scrubbed, ScrubRefused, ScrubWorn, ScrubLast, Rebalanced, RebalanceRefused, RebalanceWorn, RebalanceLast, Cancelled, Crashed, LanesClash, LanesClashMend}
-use Rattle.draid_script.specs.Name.{name_text}
+use Rattle.draid_reply.specs.declared.reply.Reply.{Reply}
+use Rattle.draid_reply.specs.declared.reply.Reply.TheVariants.{NoPool, PoolOpen, NoMemory, Created, CreateRefused, Imported, Exported, ExportWorn, ExportLast, Written, NoSpace, Missed, WriteLast, Filled, FillRefused, Contents, NoObject, Unreadable, ReadWorn, Summed, SumRefused, Freed, FreeNoObject, Synced, SyncWorn, SyncLast, OfflineDone, OfflineRefused, OfflineWorn, OnlineDone, OnlineRefused, OnlineWorn, Damaged, DamageRefused, DamageFailed, DamageWorn, Spared, SpareRefused, SpareWorn, Replaced, ReplaceRefused, ReplaceWorn, Detached, DetachRefused, DetachWorn, DetachLast, Rebuilt, RebuildNothing, RebuildRefused, RebuildWorn, RebuildLast, Scrubbed, ScrubRefused, ScrubWorn, ScrubLast, Rebalanced, RebalanceRefused, RebalanceWorn, RebalanceLast, Cancelled, Crashed, LanesClash, LanesClashMend}
+use Rattle.draid_script.specs.Name.{arm_of, name_text}
 
 -- the first word of a command, and what is said of it
 abbrev pub said_of : CommandName → List ℕ → List ℕ
@@ -79,11 +78,6 @@ sum_refused_of object (sum.Unreadable absent tried) =
     codes "sum " ++ (decimal object ++ (codes " unreadable absent=" ++ (decimal absent ++ (codes " tried=" ++ (decimal tried ++ codes "\n")))))
 sum_refused_of object sum.Worn = codes "sum " ++ (decimal object ++ codes " worn\n")
 sum_refused_of object sum.NoMemory = codes "sum no memory\n"
-
--- an arm as `detach` names it
-abbrev pub arm_of : ArmArgument → List ℕ
-arm_of (Leaf leaf) = decimal leaf
-arm_of (Spare parity spare) = codes "draid" ++ (decimal parity ++ (codes "-0-" ++ decimal spare))
 
 abbrev pub detached_of : ArmArgument → ℕ → List ℕ
 detached_of arm group = codes "detach " ++ (arm_of arm ++ (codes " ok group=" ++ (decimal group ++ codes "\n")))

@@ -1,17 +1,17 @@
 ghost use Rattle.std.specs.Prelude.{◌≡◌, IfOk, string_bytes};
-ghost use Rattle.draid_script.specs.Reply.{text_of};
+ghost use Rattle.draid_reply.specs.Reply.{text_of};
 
 use crate::texts::{
     contents, create_refused, detach_refused, detach_stopped, detached, fill_refused, name_said,
     rebalanced, rebuilt, scrubbed, slot_refused, sum_refused, summed,
 };
-use crate::{ArmArgument, CommandName};
 use draid_names::{NoMemory, ObjectFault, SlotFault, WriteFault};
+use draid_script::{ArmArgument, CommandName};
 use draid_spec::SpecFault;
 use std::alloc::{AllocError, Global};
 
 /// The reply to a command.
-#[derive(Debug, Drop)]
+#[derive(Drop)]
 pub enum Reply {
     /// The command needs an open pool, and none is open. Of `import`: there is none.
     NoPool {

@@ -7,10 +7,10 @@ use Rattle.std.specs.List.{before_first, after_first, position_or_len}
 use Rattle.std.specs.declared.vec.Vec.{Vec}
 use Rattle.std.specs.declared.alloc.Global.{Global}
 use Rattle.std.proofs.lemmas.Bool.{cases_lt, cond-false, ne_eqb}
-use Rattle.draid_script.specs.declared.lines.ReadFault.{ReadFault}
-use Rattle.draid_script.specs.declared.lines.ReadFault.TheVariants.{SourceFault, TooLong, NoMemory}
-use Rattle.draid_script.specs.Lines.{Answers, Cuts, Finds, IsTooLong, Takes, WhereKnown, is_end, lines_of, longest_after, longest_line, most_lines}
-use Rattle.draid_script.proofs.Ends.{position-le, position-append_none, position-append_some, lines_first, lines_last, lines_none, no_end_before}
+use Rattle.draid_lines.specs.declared.lines.ReadFault.{ReadFault}
+use Rattle.draid_lines.specs.declared.lines.ReadFault.TheVariants.{SourceFault, TooLong, NoMemory}
+use Rattle.draid_lines.specs.Lines.{Answers, Cuts, Finds, IsTooLong, Takes, WhereKnown, is_end, lines_of, longest_after, longest_line, most_lines}
+use Rattle.draid_lines.proofs.Ends.{position-le, position-append_none, position-append_some, lines_first, lines_last, lines_none, no_end_before}
 
 keeps_more : (old mid new : Option (List ℕ)) → Keeps old mid → Keeps mid new → Keeps old new
 keeps_more None mid new a b = tt

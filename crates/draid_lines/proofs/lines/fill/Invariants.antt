@@ -1,7 +1,7 @@
 use Rattle.std.proofs.Common.{◌≡◌, ◌+◌, ◌-◌, ◌≤◌, vec_len, length}
 use Rattle.std.specs.List.{position_or_len}
-use Rattle.draid_script.specs.Lines.{Takes, is_end}
-use Rattle.draid_script.proofs.lines.fill.Given as goal
+use Rattle.draid_lines.specs.Lines.{Takes, is_end}
+use Rattle.draid_lines.proofs.lines.fill.Given as goal
 
 abbrev pub invariant-loop-held : goal.invariant-loop-held
 invariant-loop-held g l =

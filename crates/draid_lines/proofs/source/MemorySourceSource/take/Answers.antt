@@ -1,7 +1,7 @@
 use Rattle.std.proofs.Common.{ap, drop, ◌∙◌}
-use Rattle.draid_script.specs.Source.{SourceState}
-use Rattle.draid_script.proofs.Copies.{front_copied}
-use Rattle.draid_script.proofs.source.MemorySourceSource.take.Goals as goal
+use Rattle.draid_lines.specs.Source.{SourceState}
+use Rattle.draid_lines.proofs.Copies.{front_copied}
+use Rattle.draid_lines.proofs.source.MemorySourceSource.take.Goals as goal
 
 pub returns-clause-bytes : goal.returns-clause-bytes
 returns-clause-bytes c =

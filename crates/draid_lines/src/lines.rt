@@ -2,8 +2,8 @@ ghost use Rattle.std.specs.Prelude.{◌≡◌, ◌≢◌, ◌+◌, ◌<◌, ◌�
 ghost use Rattle.std.specs.List.{position_or_len};
 ghost use Rattle.std.specs.Io.KnownBytes.{IsAtEnd, prepend_known};
 ghost use Rattle.draid_names.specs.Faults.{Rose};
-ghost use Rattle.draid_script.specs.Lines.{Answers, Cuts, Finds, Takes, WhereKnown, IsTooLong, is_end, longest_after, longest_line, most_lines};
-ghost use Rattle.draid_script.specs.declared.lines.ReadFault.TheVariants.{SourceFault, TooLong};
+ghost use Rattle.draid_lines.specs.Lines.{Answers, Cuts, Finds, Takes, WhereKnown, IsTooLong, is_end, longest_after, longest_line, most_lines};
+ghost use Rattle.draid_lines.specs.declared.lines.ReadFault.TheVariants.{SourceFault, TooLong};
 
 use crate::Source;
 use draid_names::Failed;
@@ -41,7 +41,7 @@ pub struct Lines {
 
 impl Model for Lines {
     ghost use Rattle.std.specs.Prelude.{◌≤◌, drop, vec_len};
-    ghost use Rattle.draid_script.specs.Lines.{Rest, most_lines};
+    ghost use Rattle.draid_lines.specs.Lines.{Rest, most_lines};
 
     ghost Value = { Rest };
 
@@ -256,7 +256,7 @@ fn take_more<S: Source>(held: &mut Vec<u8>, source: &mut S) -> Result<usize, Rea
 }
 
 impl From<AllocError> for ReadFault {
-    ghost use Rattle.draid_script.specs.declared.lines.ReadFault.TheVariants.{NoMemory};
+    ghost use Rattle.draid_lines.specs.declared.lines.ReadFault.TheVariants.{NoMemory};
 
     ghost from_gives = { λ _ fault. fault ≡ NoMemory };
 

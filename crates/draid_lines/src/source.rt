@@ -34,7 +34,7 @@ pub struct MemorySource {
 
 impl Model for MemorySource {
     ghost use Rattle.std.specs.Prelude.{◌≤◌, drop, vec_len};
-    ghost use Rattle.draid_script.specs.Source.{SourceState};
+    ghost use Rattle.draid_lines.specs.Source.{SourceState};
 
     ghost Value = { SourceState };
 

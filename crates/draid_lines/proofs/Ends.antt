@@ -4,7 +4,7 @@ use Rattle.std.specs.List.{slice_split, before_first, after_first, position_or_l
 use Rattle.std.proofs.lemmas.Bool.{cond_both, lt-ltb, le-ltb, cases_lt, eq-eqb, ne_eqb, cond-false, both_ways}
 use Rattle.std.proofs.lemmas.List.Sums.{fails_before_first}
 use Rattle.std.proofs.lemmas.List.Splits.{slice_split_first, slice_split_none, length-slice_split}
-use Rattle.draid_script.specs.Lines.{is_end, lines_of, lines_of_parts}
+use Rattle.draid_lines.specs.Lines.{is_end, lines_of, lines_of_parts}
 
 -- the first end stands within the bytes, or they have none
 pub position-le : (bytes : List ℕ) → position_or_len is_end bytes ≤ length bytes

@@ -1,7 +1,7 @@
 use Rattle.std.proofs.Common.{rules, ◌≡◌, ℕ, List, [], drop, Some, Ok, Err, subst, ap, sym, ◌∙◌}
-use Rattle.draid_script.specs.Lines.{Cuts, Finds}
-use Rattle.draid_script.proofs.Given.{behind_line, given_fault, given_line, given_none, line_parts}
-use Rattle.draid_script.proofs.lines.next_line.Goals as goal
+use Rattle.draid_lines.specs.Lines.{Cuts, Finds}
+use Rattle.draid_lines.proofs.Given.{behind_line, given_fault, given_line, given_none, line_parts}
+use Rattle.draid_lines.proofs.lines.next_line.Goals as goal
 
 pub returns-in-Ok-Some-clause-answer : goal.returns-in-Ok-Some-clause-answer
 returns-in-Ok-Some-clause-answer g c =

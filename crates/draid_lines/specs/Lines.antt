@@ -3,8 +3,8 @@ use Rattle.std.specs.List.{slice_split, before_first, position_or_len}
 use Rattle.std.specs.Io.KnownBytes.{IsAtEnd, Keeps, prepend_known}
 use Rattle.std.specs.declared.vec.Vec.{Vec}
 use Rattle.std.specs.declared.alloc.Global.{Global}
-use Rattle.draid_script.specs.declared.lines.ReadFault.{ReadFault}
-use Rattle.draid_script.specs.declared.lines.ReadFault.TheVariants.{SourceFault, TooLong, NoMemory}
+use Rattle.draid_lines.specs.declared.lines.ReadFault.{ReadFault}
+use Rattle.draid_lines.specs.declared.lines.ReadFault.TheVariants.{SourceFault, TooLong, NoMemory}
 
 -- the byte that ends a line
 abbrev pub is_end : ℕ → Bool

@@ -1,0 +1,8 @@
+//! The reply to each command, and the line that it is printed as.
+
+#![tactic(auto)]
+
+mod reply;
+mod texts;
+
+pub use reply::{Reply, reply_text};
