@@ -1,6 +1,6 @@
 use crate::{
-    ArmArgument, CommandName, WriteFault, Lines, MemorySink, MemorySource, ParseFault, ReadFault,
-    Reply, Sink, SlotFault, SpecFault, ObjectFault, parse_lane, parse_line, reply_text,
+    ArmArgument, CommandName, Lines, MemorySink, MemorySource, ObjectFault, ParseFault, ReadFault,
+    Reply, Sink, SlotFault, SpecFault, WriteFault, parse_lane, parse_line, reply_text,
 };
 use draid_names::Failed;
 use std::fmt::Debug;
