@@ -14,7 +14,7 @@ use crate::store::{StoreFault, damage_sector, fetch_block, free_block, solve, st
 use draid_block::{Encoded, Fetched};
 use draid_choose::Chooser;
 use draid_names::{
-    LAST_NUMBER, LONGEST_BLOCK, NUMBERS, NoMemory, ObjectFault, Pointer, Room, WriteFault,
+    LAST_NUMBER, LONGEST_BLOCK, NUMBERS, NoMemory, OBJECTS, ObjectFault, Pointer, Room, WriteFault,
 };
 use draid_rack::Rack;
 use draid_shard::Shard;
@@ -56,7 +56,7 @@ impl<R: Rack> Pool<R> {
         bytes: &[u8],
     ) -> Result<(), WriteFault>
         requires chooser { IsChooser F.Fn chooser.now }
-        requires object { object < 2 ^ 32 }
+        requires object { object < OBJECTS }
         requires some { 1 ≤ length bytes.now }
         requires short { length bytes.now ≤ LONGEST_BLOCK }
         requires represents { (changes : List Change) × Represents R.shape R.told self.old changes }
@@ -87,7 +87,7 @@ impl<R: Rack> Pool<R> {
 
     /// Writes a block of an object to a metaslab that has room for it.
     fn write_block(&mut self, metaslab: u32, object: u64, block: &Encoded) -> Result<(), WriteFault>
-        requires object { object < 2 ^ 32 }
+        requires object { object < OBJECTS }
         requires cut { block.now.cut ≡ cut_of self.old.geometry }
         requires room { HasRoomAt self.old metaslab block.now.bytes }
         requires last { self.old.seq + 1 < NUMBERS }
@@ -183,7 +183,7 @@ impl<R: Rack> Pool<R> {
         first: u64,
         count: u64,
     ) -> Result<[u8; 32], SumFault>
-        requires range { first + count ≤ 2 ^ 32 }
+        requires range { first + count ≤ OBJECTS }
         requires represents { (changes : List Change) × Represents R.shape R.told self.old changes }
         ensures step { (changes : List Change) → Represents R.shape R.told self.old changes
             → Moves R.shape R.told R.faults (SumIs first count result) (state_of R.told R.faults self.old changes) self.new }

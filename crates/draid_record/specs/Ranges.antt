@@ -1,7 +1,7 @@
 -- The values that a record can spell, part by part.
 use Rattle.std.specs.Prelude.{◌≡◌, ◌==◌, ◌<◌, ◌≤◌, ◌+◌, ◌-◌, ◌%◌, ◌^◌, ◌||◌, ◌&&◌, not, ⊤, ℕ, true, nat_lt, List, [], ◌∷◌, ◌++◌, length, slice_index_or, Option, None, Some}
 use Rattle.draid_names.specs.Numbers.{most_held}
-use Rattle.draid_names.specs.declared.numbers.TheConstants.{LONGEST_BLOCK, NUMBERS}
+use Rattle.draid_names.specs.declared.numbers.TheConstants.{LONGEST_BLOCK, NUMBERS, OBJECTS}
 use Rattle.draid_names.specs.declared.arm.ArmAt.{ArmAt}
 use Rattle.draid_names.specs.declared.pass_kind.PassKind.{PassKind}
 use Rattle.draid_names.specs.declared.pass_kind.PassKind.TheVariants.{Rebuild, Heal}
@@ -68,7 +68,7 @@ IsPassOrNone limits all (Some pass) = IsPass limits all pass
 
 -- a block at or behind a stripe, within one group of the metaslab
 pub record IsBlock (limits : Limits) (low : ℕ) (b : Pointer) : Type 0 where
-  pub object_small : b.object < 2 ^ 32
+  pub object_small : b.object < OBJECTS
   pub some_seq : 1 ≤ b.seq
   pub most_seq : b.seq < NUMBERS
   pub metaslab_is : b.metaslab ≡ limits.metaslab

@@ -5,7 +5,7 @@ use Rattle.std.specs.Option.{option_map}
 use Rattle.std.specs.declared.alloc.Global.{Global}
 use Rattle.std.specs.declared.vec.Vec.{Vec}
 use Rattle.draid_names.specs.Numbers.{most_held}
-use Rattle.draid_names.specs.declared.numbers.TheConstants.{LAST_NUMBER, LONGEST_BLOCK, NUMBERS}
+use Rattle.draid_names.specs.declared.numbers.TheConstants.{LAST_NUMBER, LONGEST_BLOCK, NUMBERS, OBJECTS}
 use Rattle.draid_names.specs.declared.arm.Arm.{Arm}
 use Rattle.draid_names.specs.declared.arm.ArmAt.{ArmAt}
 use Rattle.draid_names.specs.declared.arm.ArmKind.{ArmKind}
@@ -197,7 +197,7 @@ stripes_of limits len = ((len + limits.sector - 1) / limits.sector + limits.ndat
 -- a block at or behind a stripe, within one group
 abbrev pub block : Limits → ℕ → Grammar Pointer
 block limits low = do
-  object ← number 8 0 (2 ^ 32 - 1)
+  object ← number 8 0 (OBJECTS - 1)
   seq ← number 8 1 LAST_NUMBER
   first ← number 8 low (limits.stripes - 1)
   count ← number 4 1 (limits.height - first % limits.height)

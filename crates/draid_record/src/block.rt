@@ -8,7 +8,7 @@ ghost use Rattle.draid_record.specs.Record.{AreLimits};
 use crate::fault::ReadError;
 use crate::field::{check, number, text};
 use crate::limits::Limits;
-use draid_names::{LAST_NUMBER, LONGEST_BLOCK, Pointer, most_held};
+use draid_names::{LAST_NUMBER, LONGEST_BLOCK, OBJECTS, Pointer, most_held};
 use draid_ranges::Run;
 use std::alloc::Global;
 
@@ -63,7 +63,7 @@ fn block<'a>(bytes: &'a [u8], limits: &Limits, low: u64) -> Result<(Pointer, &'a
     ensures block { Gives (λ x. (x.0, x.1.now)) result (read (spec.block limits.now low) bytes.now) }
     ensures range { IfOk result (λ x. x.0.first + x.0.stripes ≤ 2 ^ 49) }
 {
-    let (object, bytes) = number(bytes, 8, 0, u64::from(u32::MAX))?;
+    let (object, bytes) = number(bytes, 8, 0, OBJECTS - 1)?;
     let (seq, bytes) = number(bytes, 8, 1, LAST_NUMBER)?;
     let (first, bytes) = number(bytes, 8, low, limits.stripes.saturating_sub(1))?;
     let (stripes, bytes) = number(bytes, 4, 1, limits.height - first % limits.height)?;

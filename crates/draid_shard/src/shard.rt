@@ -30,7 +30,7 @@ use draid_block::{Encoded, Fetched};
 use draid_machine::{Event, Stage};
 use draid_map::Place;
 use draid_metaslab::Space;
-use draid_names::{Failed, NUMBERS, NoMemory, Pointer, Room, most_held};
+use draid_names::{Failed, NUMBERS, NoMemory, OBJECTS, Pointer, Room, most_held};
 use draid_perm::Perms;
 use draid_rack::Rack;
 use draid_slots::Slots;
@@ -145,7 +145,7 @@ impl<R: Rack> Shard<R> {
         floor: u64,
     ) -> Result<Ticket, BeginFault>
         requires valid { Valid R.shape self.old }
-        requires object { object < 2 ^ 32 }
+        requires object { object < OBJECTS }
         requires first { 1 ≤ seq }
         requires last { seq < NUMBERS }
         requires unused { IsUnused self.old object seq }
