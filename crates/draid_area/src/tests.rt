@@ -50,7 +50,10 @@ fn zeros(alloc: Global, failing: Vec<u64>) -> Result<MemoryArea, Fail>
 fn the_calls_of_the_list_fail_alone(rt: HostRuntime) -> Result<(), Fail> {
     let mut area = zeros(rt.alloc(), vec![in rt.alloc(); 2, 5]?)?;
     assert_eq!(rt; write_half(&mut area, 512, &[1; 512]), Ok(()));
-    assert_eq!(rt; write_half(&mut area, 0, &[2; 512]), Err(DeviceFault::Failed));
+    assert_eq!(rt;
+        write_half(&mut area, 0, &[2; 512]),
+        Err(DeviceFault::Failed)
+    );
     assert_eq!(rt; read(&mut area, 510), Ok([0, 0, 1, 1]));
     assert_eq!(rt; area.length(), 1024);
     Ok(())
@@ -94,7 +97,10 @@ fn a_fuse_lets_just_its_calls_pass(rt: HostRuntime) -> Result<(), Fail> {
     let mut area = zeros(rt.alloc(), Vec::new(rt.alloc()))?;
     area.put_fuse(Fuse::new(rt.alloc(), 2)?);
     assert_eq!(rt; write_half(&mut area, 0, &[1; 512]), Ok(()));
-    assert_eq!(rt; write_half(&mut area, 0, &[2; 512]), Err(DeviceFault::Failed));
+    assert_eq!(rt;
+        write_half(&mut area, 0, &[2; 512]),
+        Err(DeviceFault::Failed)
+    );
     assert_eq!(rt; read(&mut area, 0), Err(DeviceFault::Failed));
     area.crash(CrashRule::New);
     assert_eq!(rt; read_some(&mut area, 0), Ok([1; 4]));

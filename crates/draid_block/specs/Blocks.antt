@@ -1,6 +1,7 @@
 -- The columns of a block over the stripes of any geometry.
 use Rattle.std.specs.Prelude.{◌≡◌, ◌⊎◌, ◌≤◌, ◌<◌, ◌+◌, ◌*◌, ℕ, zero, suc, List, [], ◌++◌, length, map, take, slice_index}
 use Rattle.std.specs.List.{range_with_len}
+use Rattle.draid_names.specs.declared.numbers.TheConstants.{LONGEST_BLOCK}
 use Rattle.sha2.specs.Sha256.{sha256}
 use Rattle.draid_gf.specs.Field.{IsByte}
 use Rattle.draid_names.specs.declared.pointer.Pointer.{Pointer}
@@ -64,7 +65,7 @@ pub record BlockValue : Type 0 where
 -- the parts are those of the block
 pub record IsBlock (block : BlockValue) (len stripes : ℕ) (digest : List ℕ) : Type 0 where
   pub some : 1 ≤ len
-  pub short : len ≤ 131072
+  pub short : len ≤ LONGEST_BLOCK
   pub sector : (block.cut.sector ≡ 512) ⊎ (block.cut.sector ≡ 4096)
   pub len_is : length block.bytes ≡ len
   pub stripes_is : stripes ≡ stripes_of block.cut len

@@ -3,6 +3,7 @@ use Rattle.std.specs.Prelude.{◌≡◌, ◌≤◌, ◌<◌, ◌+◌, ℕ, zero,
 use Rattle.std.specs.List.Sorted.{IsStrictlyIncreasing}
 use Rattle.std.specs.declared.vec.Vec.{Vec}
 use Rattle.std.specs.declared.alloc.Global.{Global}
+use Rattle.draid_names.specs.declared.numbers.TheConstants.{LONGEST_BLOCK}
 use Rattle.sha2.specs.Sha256.{sha256}
 use Rattle.draid_parity.specs.Columns.{IsSolution, column_at}
 use Rattle.draid_block.specs.Columns.{Cut, stripes_of}
@@ -28,7 +29,7 @@ absent_columns columns = absent_below columns (length columns)
 pub record IsFetched (cut : Cut) (fetched : Fetched) : Type 0 where
   pub count : length fetched.columns.items ≡ cut.parity + cut.ndata
   pub some : 1 ≤ fetched.pointer.len
-  pub short : fetched.pointer.len ≤ 131072
+  pub short : fetched.pointer.len ≤ LONGEST_BLOCK
   pub stripes : fetched.pointer.stripes ≡ stripes_of cut fetched.pointer.len
   pub long : (i : ℕ) (c : Vec ℕ Global) → slice_get fetched.columns.items i ≡ Some (Some c) → length c.items ≡ column_len cut fetched.pointer.len
 

@@ -8,7 +8,7 @@ ghost use Rattle.draid_block.specs.Columns.{stripes_of, data_column};
 ghost use Rattle.draid_block.specs.Blocks.{AreColumns, column_len, columns_of, cut_of};
 
 use crate::shape::{column_bytes, part_bytes, stripes_for};
-use draid_names::NoMemory;
+use draid_names::{LONGEST_BLOCK, NoMemory};
 use draid_parity::Stripe;
 use draid_spec::Geometry;
 use sha2::{Digest, Sha256};
@@ -47,7 +47,7 @@ fn write_front(column: &mut [u8], bytes: &[u8])
 /// Writes the sectors of a block to the data columns of a stripe of zero bytes.
 fn fill_columns(stripe: &mut Stripe, geometry: &Geometry, bytes: &[u8])
     requires geometry { IsGeometry geometry.now }
-    requires short { length bytes.now ≤ 131072 }
+    requires short { length bytes.now ≤ LONGEST_BLOCK }
     requires zero { stripe.old ≡ zero_stripe geometry.now.spec.parity geometry.now.spec.ndata
         (column_len (cut_of geometry.now) (length bytes.now)) }
     ensures shape { stripe.new ≡ record stripe.old { columns = stripe.new.columns } }
@@ -70,7 +70,7 @@ impl Encoded {
     pub fn of(alloc: Global, geometry: &Geometry, bytes: &[u8]) -> Result<Encoded, NoMemory>
         requires geometry { IsGeometry geometry.now }
         requires some { 1 ≤ length bytes.now }
-        requires short { length bytes.now ≤ 131072 }
+        requires short { length bytes.now ≤ LONGEST_BLOCK }
         ensures bytes { IfOk result (λ e. e.bytes ≡ bytes.now) }
         ensures cut { IfOk result (λ e. e.cut ≡ cut_of geometry.now) }
     {
@@ -96,7 +96,7 @@ impl Encoded {
     pub fn len(&self) -> u32
         ensures len { result ≡ length self.now.bytes }
         ensures some { 1 ≤ result }
-        ensures short { result ≤ 131072 }
+        ensures short { result ≤ LONGEST_BLOCK }
     {
         self.len
     }

@@ -8,6 +8,7 @@ ghost use Rattle.draid_block.specs.Blocks.{bytes_of, column_len, cut_of, stripe_
 ghost use Rattle.draid_block.specs.Search.{IsFront};
 
 use crate::shape::part_bytes;
+use draid_names::LONGEST_BLOCK;
 use draid_parity::Stripe;
 use draid_spec::Geometry;
 use sha2::{Digest, Sha256};
@@ -38,7 +39,7 @@ impl Front {
     /// Takes the next data column.
     pub fn take(&mut self, geometry: &Geometry, len: u32, column: &[u8])
         requires geometry { IsGeometry geometry.now }
-        requires short { len ≤ 131072 }
+        requires short { len ≤ LONGEST_BLOCK }
         requires more { self.old.count < geometry.now.spec.ndata }
         requires long { length column.now ≡ column_len (cut_of geometry.now) len }
         ensures front { (columns : List (List ℕ)) → IsFront (cut_of geometry.now) len columns self.old
@@ -55,7 +56,7 @@ impl Front {
     /// Takes the data columns of a stripe from the next one up to the one before `end`.
     pub fn take_before(&mut self, geometry: &Geometry, len: u32, stripe: &Stripe, end: u32)
         requires geometry { IsGeometry geometry.now }
-        requires short { len ≤ 131072 }
+        requires short { len ≤ LONGEST_BLOCK }
         requires shape { stripe.now ≡ stripe_of (cut_of geometry.now) len stripe.now.columns }
         requires order { self.old.count ≤ end }
         requires end { end ≤ geometry.now.spec.ndata }

@@ -11,6 +11,7 @@ ghost use Rattle.draid_block.specs.Solving.{IsFetched, read_of};
 use crate::front::Front;
 use crate::shape::part_bytes;
 use crate::solve::Fetched;
+use draid_names::LONGEST_BLOCK;
 use draid_parity::Stripe;
 use draid_spec::Geometry;
 use std::alloc::{AllocError, Global};
@@ -87,7 +88,7 @@ pub fn stripe_bytes(
     stripe: &Stripe,
 ) -> Result<Vec<u8>, AllocError>
     requires geometry { IsGeometry geometry.now }
-    requires short { len ≤ 131072 }
+    requires short { len ≤ LONGEST_BLOCK }
     requires shape { stripe.now ≡ stripe_of (cut_of geometry.now) len stripe.now.columns }
     ensures { IfOk result (λ v. v.items ≡ bytes_of (cut_of geometry.now) len stripe.now.columns) }
 {
@@ -116,7 +117,7 @@ fn read_column(columns: &[Option<Vec<u8>>], i: u32) -> &[u8]
 /// The digest of the block of `len` bytes with the columns that were read, where none is absent.
 pub fn read_digest(geometry: &Geometry, len: u32, columns: &[Option<Vec<u8>>]) -> [u8; 32]
     requires geometry { IsGeometry geometry.now }
-    requires short { len ≤ 131072 }
+    requires short { len ≤ LONGEST_BLOCK }
     requires count { length columns.now ≡ geometry.now.spec.parity + geometry.now.spec.ndata }
     requires long { (i : ℕ) → i < length columns.now → length (column_at (read_of columns.now) i)
         ≡ column_len (cut_of geometry.now) len }
@@ -141,7 +142,7 @@ pub fn read_bytes(
     columns: &[Option<Vec<u8>>],
 ) -> Result<Vec<u8>, AllocError>
     requires geometry { IsGeometry geometry.now }
-    requires short { len ≤ 131072 }
+    requires short { len ≤ LONGEST_BLOCK }
     requires count { length columns.now ≡ geometry.now.spec.parity + geometry.now.spec.ndata }
     requires long { (i : ℕ) → i < length columns.now → length (column_at (read_of columns.now) i)
         ≡ column_len (cut_of geometry.now) len }

@@ -4,6 +4,7 @@ ghost use Rattle.draid_spec.specs.Geometry.{IsGeometry};
 ghost use Rattle.draid_block.specs.Columns.{stripes_of, sectors_in};
 ghost use Rattle.draid_block.specs.Blocks.{cut_of, column_len};
 
+use draid_names::LONGEST_BLOCK;
 use draid_spec::Geometry;
 
 /// How many stripes a block of `len` bytes takes.
@@ -20,7 +21,7 @@ pub fn stripes_for(geometry: &Geometry, len: u32) -> u32
 #[tactic(auto, using(crate::proofs::Parts::short_column), unfolding(crate::specs::Blocks::column_len))]
 pub fn column_bytes(geometry: &Geometry, len: u32) -> u32
     requires geometry { IsGeometry geometry.now }
-    requires short { len ≤ 131072 }
+    requires short { len ≤ LONGEST_BLOCK }
     ensures { result ≡ column_len (cut_of geometry.now) len }
 {
     stripes_for(geometry, len) * geometry.props.sector
@@ -30,7 +31,7 @@ pub fn column_bytes(geometry: &Geometry, len: u32) -> u32
 #[tactic(auto, using(crate::proofs::Parts::short_part, crate::proofs::Parts::some_stripes), unfolding(crate::specs::Columns::sectors_in, crate::specs::Columns::full_columns, crate::specs::Columns::sectors_of))]
 pub fn part_bytes(geometry: &Geometry, len: u32, i: u32) -> usize
     requires geometry { IsGeometry geometry.now }
-    requires short { len ≤ 131072 }
+    requires short { len ≤ LONGEST_BLOCK }
     ensures { result ≡ sectors_in (cut_of geometry.now) len i * geometry.now.props.sector }
 {
     let stripes = stripes_for(geometry, len);

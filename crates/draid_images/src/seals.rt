@@ -15,7 +15,7 @@ ghost use Rattle.draid_world.specs.World.{arm_in, core_of, held_in, pass_of, sit
 
 use crate::copies::{Copying, copy_tables};
 use draid_machine::{ArmName, Held, Key, Stage};
-use draid_names::PassKind;
+use draid_names::{LAST_NUMBER, PassKind};
 use draid_passes::{is_block, lies_on_silent};
 use draid_steps::columns::log_missed;
 use draid_world::{Image, Site, Tables, World, WorldPass};
@@ -163,7 +163,7 @@ fn lost_errors(site: &Site, tables: &Tables, failed: &[u64], pass: &WorldPass) -
 fn capped(errors: u64, more: u64) -> u64
     ensures { result ≡ after.capped (errors + more) }
 {
-    errors.saturating_add(more).min((1 << 48) - 1)
+    errors.saturating_add(more).min(LAST_NUMBER)
 }
 
 /// The arms of a list that don't lie on a silent leaf.

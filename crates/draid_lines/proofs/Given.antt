@@ -1,5 +1,6 @@
 -- What is answered where the source tells, from what the held bytes have.
 use Rattle.std.proofs.Common.{◌≡◌, ◌≢◌, ℕ, ◌+◌, ◌<◌, ◌≤◌, ◌==◌, ◌⊎◌, List, [], ◌∷◌, ◌++◌, length, take, drop, min, All, Option, Some, None, Ok, Err, refl, sym, ap, ◌∙◌, subst, inl, inr, arith, append_assoc, length-append, length-take, append-nil}
+use Rattle.draid_names.specs.declared.numbers.TheConstants.{LONGEST_LINE}
 use Rattle.std.proofs.lemmas.List.{drop-append-le, drop-drop, take-append-le, take_all, drop_all, drop_min, nil_from_length}
 use Rattle.std.proofs.lemmas.List.Elements.{All-same}
 use Rattle.std.specs.Io.KnownBytes.{IsAtEnd, Keeps, prepend_known}
@@ -9,7 +10,7 @@ use Rattle.std.specs.declared.alloc.Global.{Global}
 use Rattle.std.proofs.lemmas.Bool.{cases_lt, cond-false, ne_eqb}
 use Rattle.draid_lines.specs.declared.lines.ReadFault.{ReadFault}
 use Rattle.draid_lines.specs.declared.lines.ReadFault.TheVariants.{SourceFault, TooLong, NoMemory}
-use Rattle.draid_lines.specs.Lines.{Answers, Cuts, Finds, IsTooLong, Takes, WhereKnown, is_end, lines_of, longest_after, longest_line, most_lines}
+use Rattle.draid_lines.specs.Lines.{Answers, Cuts, Finds, IsTooLong, Takes, WhereKnown, is_end, lines_of, longest_after, most_lines}
 use Rattle.draid_lines.proofs.Ends.{position-le, position-append_none, position-append_some, lines_first, lines_last, lines_none, no_end_before}
 
 keeps_more : (old mid new : Option (List ℕ)) → Keeps old mid → Keeps mid new → Keeps old new
@@ -30,7 +31,7 @@ length-before_first : (bytes : List ℕ) → length (before_first is_end bytes) 
 length-before_first bytes = omega (arith, length-take (position_or_len is_end bytes) bytes, position-le bytes)
 
 -- a line that may be given is not too long
-not_too_long : (given : ℕ) (bytes line : List ℕ) → before_first is_end bytes ≡ line → given < most_lines → length line ≤ longest_line → IsTooLong given bytes → ⊥
+not_too_long : (given : ℕ) (bytes line : List ℕ) → before_first is_end bytes ≡ line → given < most_lines → length line ≤ LONGEST_LINE → IsTooLong given bytes → ⊥
 not_too_long given bytes line same few short (inl long) = omega (arith, ap length same)
 not_too_long given bytes line same few short (inr more) = omega (arith, more.0)
 
@@ -68,7 +69,7 @@ held_or_at_end given len held left line finds cut = elim finds.enough [
   | inl some ↦ inl (omega (arith, finds.first))
   | inr more ↦ elim more [
     | inl long ↦
-        let limit : longest_after given ≡ longest_line = cond-false (given == most_lines) 0 longest_line (ne_eqb given most_lines (omega (arith, cut.2))) in
+        let limit : longest_after given ≡ LONGEST_LINE = cond-false (given == most_lines) 0 LONGEST_LINE (ne_eqb given most_lines (omega (arith, cut.2))) in
         inl (omega (arith, cut.3, ap length cut.0, length-before_first held, position-le held))
     | inr ended ↦ inr ended
   ]
@@ -97,7 +98,7 @@ given_line given len old held rest (Some xs) (Some ys) line takes finds cut behi
     subst S (sym behind) answers
 
 -- the line lacks the byte that ends it
-pub line_parts : (given : ℕ) (held : List ℕ) (line : Vec ℕ Global) → Cuts given held (Ok (Some line)) → (length line.items ≤ longest_line) × All (λ byte. byte ≢ 10) line.items × (given < most_lines)
+pub line_parts : (given : ℕ) (held : List ℕ) (line : Vec ℕ Global) → Cuts given held (Ok (Some line)) → (length line.items ≤ LONGEST_LINE) × All (λ byte. byte ≢ 10) line.items × (given < most_lines)
 line_parts given held line cut =
     (cut.3, All-same (λ byte. byte ≢ 10) line.items (before_first is_end held) cut.0 (no_end_before held), cut.2)
 

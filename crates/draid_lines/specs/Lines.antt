@@ -3,6 +3,7 @@ use Rattle.std.specs.List.{slice_split, before_first, position_or_len}
 use Rattle.std.specs.Io.KnownBytes.{IsAtEnd, Keeps, prepend_known}
 use Rattle.std.specs.declared.vec.Vec.{Vec}
 use Rattle.std.specs.declared.alloc.Global.{Global}
+use Rattle.draid_names.specs.declared.numbers.TheConstants.{LONGEST_LINE}
 use Rattle.draid_lines.specs.declared.lines.ReadFault.{ReadFault}
 use Rattle.draid_lines.specs.declared.lines.ReadFault.TheVariants.{SourceFault, TooLong, NoMemory}
 
@@ -20,10 +21,6 @@ lines_of_parts (part ∷ next ∷ parts) = part ∷ lines_of_parts (next ∷ par
 unfoldable pub lines_of : List ℕ → List (List ℕ)
 lines_of bytes = lines_of_parts (slice_split is_end bytes)
 
--- how many bytes a line may have, its end not counted
-abbrev pub longest_line : ℕ
-longest_line = 300_000
-
 -- how many lines an input may have
 abbrev pub most_lines : ℕ
 most_lines = 1_048_576
@@ -32,7 +29,7 @@ most_lines = 1_048_576
 -- may be.
 abbrev pub IsTooLong : ℕ → List ℕ → Type 0
 IsTooLong given bytes =
-    (longest_line < length (before_first is_end bytes)) ⊎ ((given ≡ most_lines) × (bytes ≢ []))
+    (LONGEST_LINE < length (before_first is_end bytes)) ⊎ ((given ≡ most_lines) × (bytes ≢ []))
 
 -- What is to come of an input: the bytes that were taken and not given yet, how many lines were given, and
 -- the refusal that was answered.
@@ -53,7 +50,7 @@ Answers given old new (Err NoMemory) = new ≡ old
 abbrev pub Cuts : ℕ → List ℕ → Result (Option (Vec ℕ Global)) ReadFault → Type 0
 Cuts given held (Ok None) = held ≡ []
 Cuts given held (Ok (Some line)) =
-    (line.items ≡ before_first is_end held) × (held ≢ []) × (given < most_lines) × (length line.items ≤ longest_line)
+    (line.items ≡ before_first is_end held) × (held ≢ []) × (given < most_lines) × (length line.items ≤ LONGEST_LINE)
 Cuts given held (Err (TooLong line)) = (line ≡ given + 1) × IsTooLong given held
 Cuts given held (Err SourceFault) = ⊥
 Cuts given held (Err NoMemory) = ⊤
@@ -71,7 +68,7 @@ pub record Takes (old new : List ℕ) (left left' : Option (List ℕ)) : Type 0 
 
 -- how many bytes are taken for the line behind so many
 abbrev pub longest_after : ℕ → ℕ
-longest_after given = if given == most_lines then 0 else longest_line
+longest_after given = if given == most_lines then 0 else LONGEST_LINE
 
 -- a fact of the bytes before and after, where they are known; what was known stays known
 abbrev pub WhereKnown : Option (List ℕ) → Option (List ℕ) → (List ℕ → List ℕ → Type 0) → Type 0

@@ -2,19 +2,16 @@ ghost use Rattle.std.specs.Prelude.{◌≡◌, ◌≢◌, ◌+◌, ◌<◌, ◌�
 ghost use Rattle.std.specs.List.{position_or_len};
 ghost use Rattle.std.specs.Io.KnownBytes.{IsAtEnd, prepend_known};
 ghost use Rattle.draid_names.specs.Faults.{Rose};
-ghost use Rattle.draid_lines.specs.Lines.{Answers, Cuts, Finds, Takes, WhereKnown, IsTooLong, is_end, longest_after, longest_line, most_lines};
+ghost use Rattle.draid_lines.specs.Lines.{Answers, Cuts, Finds, Takes, WhereKnown, IsTooLong, is_end, longest_after, most_lines};
 ghost use Rattle.draid_lines.specs.declared.lines.ReadFault.TheVariants.{SourceFault, TooLong};
 
 use crate::Source;
-use draid_names::Failed;
+use draid_names::{Failed, LONGEST_LINE};
 use std::alloc::{AllocError, Global};
 use std::marker::Model;
 
 /// How many bytes a source is asked for at a time.
 const CHUNK: usize = 8_192;
-
-/// The most bytes of a line, its end not counted.
-const LONGEST_LINE: usize = 300_000;
 
 /// The most lines of an input.
 const MOST_LINES: u64 = 1_048_576;
@@ -78,7 +75,7 @@ impl Lines {
 
         // Whether or not it tells.
         ensures line { IfOk result (λ next. IfSome next (λ line.
-            (length line.items ≤ longest_line) × All (λ byte. byte ≢ 10) line.items
+            (length line.items ≤ LONGEST_LINE) × All (λ byte. byte ≢ 10) line.items
             × (self.new.given ≡ self.old.given + 1) × (self.new.given ≤ most_lines))) }
         ensures end { result ≡ Ok None → (self.old.held ≡ []) × (self.new.held ≡ [])
             × (self.new.given ≡ self.old.given) × IsAtEnd (S.left source.new) }
@@ -124,7 +121,7 @@ fn next_line<S: Source>(
         (prepend_known (drop start.new held.new.items) (S.left source.new))
         (λ old new. Answers given old new result) }
     ensures line { IfOk result (λ next. IfSome next (λ line.
-        (length line.items ≤ longest_line) × All (λ byte. byte ≢ 10) line.items × (given < most_lines))) }
+        (length line.items ≤ LONGEST_LINE) × All (λ byte. byte ≢ 10) line.items × (given < most_lines))) }
     ensures end { result ≡ Ok None → (drop start.old held.old.items ≡ [])
         × (drop start.new held.new.items ≡ []) × IsAtEnd (S.left source.new) }
     ensures too_long { (line : ℕ) → result ≡ Err (TooLong line)

@@ -9,7 +9,7 @@ ghost use Rattle.draid_world.specs.World.{held_in, loan_of, site_layout, state_o
 
 use crate::failing::lendable;
 use crate::readings::read_columns;
-use draid_names::{NoMemory, PassKind};
+use draid_names::{LAST_NUMBER, NoMemory, PassKind};
 use draid_passes::{is_heal, next_stripe};
 use draid_world::{Lent, Site, World, WorldPass};
 use std::alloc::Global;
@@ -18,7 +18,7 @@ use std::alloc::Global;
 pub fn capped(errors: u64, more: u64) -> u64
     ensures { result ≡ after.capped (errors + more) }
 {
-    errors.saturating_add(more).min((1 << 48) - 1)
+    errors.saturating_add(more).min(LAST_NUMBER)
 }
 
 /// The errors of a lend in which these calls failed.

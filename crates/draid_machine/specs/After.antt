@@ -1,4 +1,5 @@
 use Rattle.std.specs.Prelude.{◌==◌, ◌+◌, ◌-◌, ◌^◌, ◌||◌, ◌&&◌, not, ℕ, Bool, true, false, nat_le, nat_lt, List, [], ◌∷◌, ◌++◌, Option, Some, None, filter, length, min, count_by, is_none, if◌then◌else◌}
+use Rattle.draid_names.specs.declared.numbers.TheConstants.{LAST_NUMBER}
 use Rattle.draid_names.specs.declared.pass_kind.PassKind.{PassKind}
 use Rattle.draid_names.specs.declared.pass_kind.PassKind.TheVariants.{Rebuild, Heal}
 use Rattle.draid_machine.specs.declared.names.Key.{Key}
@@ -47,7 +48,7 @@ cut_above last a = record a { log = (λ g. a.log g && nat_le g last) }
 
 -- a pass loses targets; errors stand still at their last number
 abbrev pub capped : ℕ → ℕ
-capped errors = min errors (2 ^ 48 - 1)
+capped errors = min errors LAST_NUMBER
 
 abbrev pub lose_targets : (ArmName → Bool) → ℕ → Pass → Pass
 lose_targets bad more p = record p { targets = filter (λ n. not (bad n)) p.targets; errors = capped (p.errors + more) }

@@ -1,4 +1,6 @@
 use Rattle.std.specs.Prelude.{◌≡◌, ◌==◌, ◌≢◌, ◌+◌, ◌-◌, ◌/◌, ◌^◌, ◌<◌, ◌≤◌, ◌⊎◌, ◌||◌, ◌&&◌, not, ℕ, Bool, true, false, nat_le, List, [], ◌∷◌, Option, Some, None, length, filter, Contains, if◌then◌else◌}
+use Rattle.draid_names.specs.Numbers.{most_held}
+use Rattle.draid_names.specs.declared.numbers.TheConstants.{LAST_NUMBER}
 use Rattle.draid_names.specs.declared.pass_kind.PassKind.{PassKind}
 use Rattle.draid_names.specs.declared.pass_kind.PassKind.TheVariants.{Rebuild, Heal}
 use Rattle.draid_machine.specs.declared.names.Key.{Key}
@@ -51,7 +53,7 @@ pub record IsDue (w : State) (group : ℕ) : Type 0 where
 pub record BeginStep (l : Layout) (w : State) (key : Key) (h : Held) (new : State) : Type 0 where
   pub enabled : IsEnabled w.core
   pub unused : w.core.held key ≡ None
-  pub few : HoldsFewer w.core 4096
+  pub few : HoldsFewer w.core (most_held 1)
   pub some : 0 < h.stripes
   pub fits : Fits l w.core h.first h.stripes
   pub lowest : (x : ℕ) → x < h.first → Fits l w.core x h.stripes → ⊥
@@ -184,7 +186,7 @@ pub record DetachStep (w : State) (slot : ℕ) (n : ArmName) (new : State) : Typ
 -- Close: the open group, below the last number, with none closing
 pub record CloseStep (w : State) (t : ℕ) (new : State) : Type 0 where
   pub open_group : w.open_group ≡ t
-  pub below : t < 2 ^ 48 - 1
+  pub below : t < LAST_NUMBER
   pub idle : w.closing ≡ None
   pub made : new ≡ close_state w t
 
@@ -219,13 +221,13 @@ pub record CommitStep (w : State) (t : ℕ) (new : State) : Type 0 where
 
 -- a rebuild wants a target and a group after the open one
 abbrev pub MayPlan : State → PassKind → List ArmName → Type 0
-MayPlan w Rebuild targets = (targets ≢ []) × (w.open_group < 2 ^ 48 - 1)
+MayPlan w Rebuild targets = (targets ≢ []) × (w.open_group < LAST_NUMBER)
 MayPlan w Heal targets = Unit {0}
 
 -- Plan
 pub record PlanStep (l : Layout) (w : State) (kind : PassKind) (new : State) : Type 0 where
   pub idle : w.core.pass ≡ None
-  pub last : w.core.last < 2 ^ 48 - 1
+  pub last : w.core.last < LAST_NUMBER
   pub may : MayPlan w kind (targets_of l w.core kind)
   pub made : new ≡ plan_state w kind (targets_of l w.core kind)
 

@@ -17,7 +17,7 @@ pub const LONGEST_BLOCK: u64 = 131_072;
 pub const LONGEST_LINE: usize = 300_000;
 
 /// How many blocks and tickets a metaslab may hold, by the version of the pool's format.
-pub fn most_held(version: u32) -> u32
+pub fn most_held(version: u32) -> usize
     ensures { result ≡ numbers.most_held version }
 {
     if version == 1 { 4096 } else { 8192 }

@@ -7,7 +7,7 @@ ghost use Rattle.draid_world.specs.World.{site_layout, state_of};
 
 use crate::logs::fill_logs;
 use crate::targets::targets_of;
-use draid_names::{NoMemory, PassKind};
+use draid_names::{LAST_NUMBER, NoMemory, PassKind};
 use draid_world::{Site, World, WorldPass};
 use std::alloc::Global;
 
@@ -16,12 +16,12 @@ fn plan_rebuild(alloc: Global, site: &Site, world: &mut World) -> Result<bool, N
     requires layout { IsLayout site.now.geometry site.now.perms }
     requires metaslab { site.now.metaslab < site.now.geometry.props.metaslabs }
     requires idle { world.old.tables.pass ≡ None }
-    requires last { world.old.tables.last < 2 ^ 48 - 1 }
+    requires last { world.old.tables.last < LAST_NUMBER }
     ensures legal { result ≡ Ok true → PlanStep (site_layout site.now) (state_of world.old) Rebuild (state_of world.new) }
     ensures illegal { result ≡ Ok false → (new : State) → PlanStep (site_layout site.now) (state_of world.old) Rebuild new → ⊥ }
 {
     let targets = targets_of(alloc, site, &world.tables, PassKind::Rebuild)?;
-    if targets.is_empty() || world.open_group >= (1 << 48) - 1 {
+    if targets.is_empty() || world.open_group >= LAST_NUMBER {
         return Ok(false);
     }
     let max = world.open_group + 1;
@@ -44,7 +44,7 @@ fn plan_heal(alloc: Global, site: &Site, world: &mut World) -> Result<bool, NoMe
     requires layout { IsLayout site.now.geometry site.now.perms }
     requires metaslab { site.now.metaslab < site.now.geometry.props.metaslabs }
     requires idle { world.old.tables.pass ≡ None }
-    requires last { world.old.tables.last < 2 ^ 48 - 1 }
+    requires last { world.old.tables.last < LAST_NUMBER }
     ensures legal { result ≡ Ok true → PlanStep (site_layout site.now) (state_of world.old) Heal (state_of world.new) }
     ensures never { result ≡ Ok false → ⊥ }
 {
@@ -69,7 +69,7 @@ pub fn plan(alloc: Global, site: &Site, world: &mut World, kind: PassKind) -> Re
     ensures legal { result ≡ Ok true → PlanStep (site_layout site.now) (state_of world.old) kind (state_of world.new) }
     ensures illegal { result ≡ Ok false → (new : State) → PlanStep (site_layout site.now) (state_of world.old) kind new → ⊥ }
 {
-    if world.tables.pass.is_some() || world.tables.last >= (1 << 48) - 1 {
+    if world.tables.pass.is_some() || world.tables.last >= LAST_NUMBER {
         return Ok(false);
     }
     match kind {

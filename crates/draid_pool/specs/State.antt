@@ -3,6 +3,8 @@ use Rattle.std.specs.Prelude.{◌≡◌, ◌≤◌, ◌<◌, ◌+◌, ◌-◌, �
 use Rattle.draid_spec.specs.Geometry.{child_sectors, metaslab_stripes, metaslab_sectors}
 use Rattle.std.specs.List.{AllZip, count_by, list_any}
 use Rattle.std.specs.List.Sorted.{IsStrictlyIncreasing}
+use Rattle.draid_names.specs.Numbers.{most_held}
+use Rattle.draid_names.specs.declared.numbers.TheConstants.{LAST_NUMBER}
 use Rattle.sha2.specs.Sha256.{sha256}
 use Rattle.draid_names.specs.Faults.{Rose}
 use Rattle.draid_names.specs.declared.room.Room.{Room}
@@ -69,13 +71,9 @@ HarmBoth old new P = MatchOption old (new ≡ None) (λ x. MatchOption new ⊥ (
 
 -- ---- the room for a new block
 
--- how many blocks a metaslab may hold
-abbrev pub most_held : ℕ
-most_held = 4096
-
 -- a metaslab that holds all that it may
 abbrev pub is_full : Metaslab → Bool
-is_full x = nat_eq x.held most_held
+is_full x = nat_eq x.held (most_held 1)
 
 -- the room that a metaslab has for a block of so many stripes: its longest run of free stripes within one group, and none where it is full
 pub record IsRoomOf (need : ℕ) (x : Metaslab) (room : Room) : Type 0 where
@@ -207,7 +205,7 @@ pub record HasNoSpace (bytes : List ℕ) (run disabled full worn : ℕ) (old new
 pub record IsLast (chosen : List Room → Option ℕ → Type 0) (bytes : List ℕ) (old new : State) : Type 0 where
   pub metaslab : ℕ
   pub goes : GoesTo chosen bytes metaslab old
-  pub last : 2 ^ 48 - 1 ≤ old.seq
+  pub last : LAST_NUMBER ≤ old.seq
   pub same : Stays old new
 
 -- Some run of metaslab m fitted, but more columns landed nowhere than there are parity columns. The pool keeps its blocks and free stripes.

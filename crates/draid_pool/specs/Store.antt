@@ -4,6 +4,7 @@ use Rattle.std.specs.List.{list_any}
 use Rattle.std.specs.List.Sorted.{IsStrictlyIncreasing}
 use Rattle.std.specs.declared.vec.Vec.{Vec}
 use Rattle.std.specs.declared.alloc.Global.{Global}
+use Rattle.draid_names.specs.Numbers.{most_held}
 use Rattle.sha2.specs.Sha256.{sha256}
 use Rattle.draid_names.specs.declared.pointer.Pointer.{Pointer}
 use Rattle.draid_names.specs.declared.room.Room.{Room}
@@ -22,7 +23,7 @@ use Rattle.draid_shard.specs.MetaslabLayout.{MetaslabLayout, leaf_of}
 use Rattle.draid_shard.specs.Columns.{EndsHarm, LeafRose, MoreBad, TellsBoth, is_missed}
 use Rattle.draid_shard.specs.Entry.{IsRoom, open_group}
 use Rattle.draid_shard.specs.Shard.{AddsLive, DropsLive, HasEntry, HoldsBlock, IsLive, KeepsOtherBlocks, NoneMore, SameLive, TakesLowest, Valid, free_of, held_of, logs_of, missed_of, part_of}
-use Rattle.draid_pool.specs.State.{most_held, stripes_for}
+use Rattle.draid_pool.specs.State.{stripes_for}
 use Rattle.draid_names.specs.declared.refusal.ObjectFault.{ObjectFault}
 use Rattle.draid_names.specs.declared.refusal.ObjectFault.TheVariants as object
 use Rattle.draid_pool.specs.declared.fault.DamageFault.{DamageFault}
@@ -45,7 +46,7 @@ pub record RoomIs {R : Type 0} (need : ℕ) (shard : Shard R) (room : Room) : Ty
 
 -- the shard holds all the blocks that it may
 abbrev pub has_all : {R : Type 0} → Shard R → Bool
-has_all shard = nat_eq (held_of shard) most_held
+has_all shard = nat_eq (held_of shard) (most_held 1)
 
 -- Just these of the columns below `next` landed nowhere: the count of faults of the leaf of each rose, and the group of the block's birth is in the logs of these
 -- leaves. No other log changed.

@@ -7,7 +7,7 @@ ghost use Rattle.draid_pool.specs.State.{Change};
 use crate::fault::SumFault;
 use crate::pool::Pool;
 use draid_block::{Fetched, Solve, solve_many};
-use draid_names::ObjectFault;
+use draid_names::{OBJECTS, ObjectFault};
 use draid_rack::Rack;
 use sha2::{Digest, Sha256};
 use std::thread::Threads;
@@ -26,7 +26,7 @@ pub(crate) struct Batch {
 /// Fetches the blocks of objects from `first` on, at most `count`, until they have bytes enough or an object gives none.
 fn fetch_batch<R: Rack>(pool: &mut Pool<R>, first: u64, count: u64) -> Batch
     requires some { 1 ≤ count }
-    requires range { first + count ≤ 2 ^ 32 }
+    requires range { first + count ≤ OBJECTS }
     requires represents { (changes : List Change) × Represents R.shape R.told pool.old changes }
     ensures step { (changes : List Change) → Represents R.shape R.told pool.old changes
         → Moves R.shape R.told R.faults (BatchIs first count result) (state_of R.told R.faults pool.old changes) pool.new }
@@ -62,7 +62,7 @@ fn fetch_batch<R: Rack>(pool: &mut Pool<R>, first: u64, count: u64) -> Batch
 
 /// Feeds the bytes of the objects from `first` on to a hasher, up to the first that can't be read.
 fn feed(hasher: &mut Sha256, first: u64, solves: &[Solve]) -> Result<(), SumFault>
-    requires range { first + length solves.now ≤ 2 ^ 32 }
+    requires range { first + length solves.now ≤ OBJECTS }
     ensures { FeedIs first solves.now hasher.old hasher.new result }
 {
     let mut object = first;
@@ -92,7 +92,7 @@ pub(crate) fn add_batch<R: Rack>(
     count: u64,
 ) -> Result<u64, SumFault>
     requires some { 1 ≤ count }
-    requires range { first + count ≤ 2 ^ 32 }
+    requires range { first + count ≤ OBJECTS }
     requires represents { (changes : List Change) × Represents R.shape R.told pool.old changes }
     ensures step { (changes : List Change) → Represents R.shape R.told pool.old changes
         → Moves R.shape R.told R.faults (AddIs first count hasher.old hasher.new result) (state_of R.told R.faults pool.old changes) pool.new }

@@ -13,7 +13,9 @@ use crate::room::{count_full, longest_run, rooms_of};
 use crate::store::{StoreFault, damage_sector, fetch_block, free_block, solve, store};
 use draid_block::{Encoded, Fetched};
 use draid_choose::Chooser;
-use draid_names::{LAST_NUMBER, NoMemory, ObjectFault, Pointer, Room, WriteFault};
+use draid_names::{
+    LAST_NUMBER, LONGEST_BLOCK, NUMBERS, NoMemory, OBJECTS, ObjectFault, Pointer, Room, WriteFault,
+};
 use draid_rack::Rack;
 use draid_shard::Shard;
 use draid_spec::Geometry;
@@ -21,9 +23,6 @@ use sha2::{Digest, Sha256};
 use std::alloc::Global;
 use std::collections::HashMap;
 use std::thread::Threads;
-
-/// The greatest number of a write.
-const LAST_WRITE: u64 = (1 << 48) - 1;
 
 /// An open pool: objects whose bytes lie in the blocks of its metaslabs.
 #[derive(Drop)]
@@ -57,9 +56,9 @@ impl<R: Rack> Pool<R> {
         bytes: &[u8],
     ) -> Result<(), WriteFault>
         requires chooser { IsChooser F.Fn chooser.now }
-        requires object { object < 2 ^ 32 }
+        requires object { object < OBJECTS }
         requires some { 1 ≤ length bytes.now }
-        requires short { length bytes.now ≤ 131072 }
+        requires short { length bytes.now ≤ LONGEST_BLOCK }
         requires represents { (changes : List Change) × Represents R.shape R.told self.old changes }
         ensures step { (changes : List Change) → Represents R.shape R.told self.old changes
             → Moves R.shape R.told R.faults (WriteIs (FnReturnsAt F.Fn chooser.now) object bytes.now result)
@@ -80,7 +79,7 @@ impl<R: Rack> Pool<R> {
                 worn: 0,
             });
         };
-        if self.seq >= LAST_WRITE {
+        if self.seq >= LAST_NUMBER {
             return Err(WriteFault::Last);
         }
         self.write_block(metaslab, object, &block)
@@ -88,10 +87,10 @@ impl<R: Rack> Pool<R> {
 
     /// Writes a block of an object to a metaslab that has room for it.
     fn write_block(&mut self, metaslab: u32, object: u64, block: &Encoded) -> Result<(), WriteFault>
-        requires object { object < 2 ^ 32 }
+        requires object { object < OBJECTS }
         requires cut { block.now.cut ≡ cut_of self.old.geometry }
         requires room { HasRoomAt self.old metaslab block.now.bytes }
-        requires last { self.old.seq + 1 < 2 ^ 48 }
+        requires last { self.old.seq + 1 < NUMBERS }
         requires represents { (changes : List Change) × Represents R.shape R.told self.old changes }
         ensures step { (changes : List Change) → Represents R.shape R.told self.old changes
             → Moves R.shape R.told R.faults (WriteInIs metaslab object block.now.bytes result)
@@ -184,7 +183,7 @@ impl<R: Rack> Pool<R> {
         first: u64,
         count: u64,
     ) -> Result<[u8; 32], SumFault>
-        requires range { first + count ≤ 2 ^ 32 }
+        requires range { first + count ≤ OBJECTS }
         requires represents { (changes : List Change) × Represents R.shape R.told self.old changes }
         ensures step { (changes : List Change) → Represents R.shape R.told self.old changes
             → Moves R.shape R.told R.faults (SumIs first count result) (state_of R.told R.faults self.old changes) self.new }

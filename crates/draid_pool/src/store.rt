@@ -9,7 +9,7 @@ ghost use Rattle.draid_shard.specs.Shard.{Carries, HoldsBlock, IsLive, IsUnused,
 
 use crate::fault::DamageFault;
 use draid_block::{Encoded, Fetched, SolveFault, solve_block};
-use draid_names::{NoMemory, ObjectFault, Pointer};
+use draid_names::{NUMBERS, NoMemory, OBJECTS, ObjectFault, Pointer};
 use draid_rack::Rack;
 use draid_shard::{BeginFault, FetchFault, Missed, Shard, Ticket};
 use draid_spec::Geometry;
@@ -61,9 +61,9 @@ pub(crate) fn store<R: Rack>(
     block: &Encoded,
 ) -> Result<Pointer, StoreFault>
     requires valid { Valid R.shape shard.old }
-    requires object { object < 2 ^ 32 }
+    requires object { object < OBJECTS }
     requires first { 1 ≤ seq }
-    requires last { seq < 2 ^ 48 }
+    requires last { seq < NUMBERS }
     requires unused { IsUnused shard.old object seq }
     requires cut { block.now.cut ≡ cut_of shard.old.geometry }
     requires room { HasRoom shard.old block.now.bytes }

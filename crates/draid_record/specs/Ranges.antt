@@ -1,5 +1,7 @@
 -- The values that a record can spell, part by part.
 use Rattle.std.specs.Prelude.{◌≡◌, ◌==◌, ◌<◌, ◌≤◌, ◌+◌, ◌-◌, ◌%◌, ◌^◌, ◌||◌, ◌&&◌, not, ⊤, ℕ, true, nat_lt, List, [], ◌∷◌, ◌++◌, length, slice_index_or, Option, None, Some}
+use Rattle.draid_names.specs.Numbers.{most_held}
+use Rattle.draid_names.specs.declared.numbers.TheConstants.{LONGEST_BLOCK, NUMBERS, OBJECTS}
 use Rattle.draid_names.specs.declared.arm.ArmAt.{ArmAt}
 use Rattle.draid_names.specs.declared.pass_kind.PassKind.{PassKind}
 use Rattle.draid_names.specs.declared.pass_kind.PassKind.TheVariants.{Rebuild, Heal}
@@ -12,7 +14,7 @@ use Rattle.draid_record.specs.Written.{bit, code_of, flags_of}
 -- runs of groups below 2^48 from `low` on, with a group between each two that is in none
 abbrev pub AreRuns : ℕ → List Run → Type 0
 AreRuns low [] = ⊤
-AreRuns low (r ∷ rs) = (low ≤ r.first) × (0 < r.len) × (r.first + r.len ≤ 2 ^ 48) × AreRuns (r.first + r.len + 1) rs
+AreRuns low (r ∷ rs) = (low ≤ r.first) × (0 < r.len) × (r.first + r.len ≤ NUMBERS) × AreRuns (r.first + r.len + 1) rs
 
 -- An arm of a slot of `count` arms: a leaf where it is the last and none came before; a leaf or a spare that there
 -- is, and that stands nowhere before; and no spare is offline.
@@ -53,9 +55,9 @@ least_running Heal = 1
 pub record IsPass (limits : Limits) (all : List (List ArmTold)) (pass : PassTold) : Type 0 where
   pub runs_if_heal : least_running pass.kind ≤ bit pass.running
   pub some_max : 1 ≤ pass.max
-  pub most_max : pass.max < 2 ^ 48
+  pub most_max : pass.max < NUMBERS
   pub place : pass.«at» ≤ limits.stripes
-  pub errors_small : pass.errors < 2 ^ 48
+  pub errors_small : pass.errors < NUMBERS
   pub few : length pass.targets ≤ arm_count all
   pub short : length pass.targets < 2 ^ 16
   pub targets_are : AreTargets all None pass.targets
@@ -66,9 +68,9 @@ IsPassOrNone limits all (Some pass) = IsPass limits all pass
 
 -- a block at or behind a stripe, within one group of the metaslab
 pub record IsBlock (limits : Limits) (low : ℕ) (b : Pointer) : Type 0 where
-  pub object_small : b.object < 2 ^ 32
+  pub object_small : b.object < OBJECTS
   pub some_seq : 1 ≤ b.seq
-  pub most_seq : b.seq < 2 ^ 48
+  pub most_seq : b.seq < NUMBERS
   pub metaslab_is : b.metaslab ≡ limits.metaslab
   pub behind_low : low ≤ b.first
   pub inside : b.first ≤ limits.stripes - 1
@@ -76,7 +78,7 @@ pub record IsBlock (limits : Limits) (low : ℕ) (b : Pointer) : Type 0 where
   pub in_group : b.stripes ≤ limits.height - b.first % limits.height
   pub stripes_small : b.stripes < 2 ^ 32
   pub some_len : 1 ≤ b.len
-  pub most_len : b.len ≤ 131072
+  pub most_len : b.len ≤ LONGEST_BLOCK
   pub whole : (b.stripes == stripes_of limits b.len) ≡ true
   pub some_birth : 1 ≤ b.birth
   pub most_birth : b.birth ≤ limits.group
@@ -91,13 +93,13 @@ pub record IsRanged (limits : Limits) (value : RecordTold) : Type 0 where
   pub metaslab_is : value.metaslab ≡ limits.metaslab
   pub metaslab_small : limits.metaslab < 2 ^ 16
   pub group_is : value.group ≡ limits.group
-  pub group_small : limits.group < 2 ^ 48
+  pub group_small : limits.group < NUMBERS
   pub children_are : length value.slots ≡ limits.children
   pub children_few : limits.children < 2 ^ 16
   pub slots_are : AreSlots limits [] value.slots
-  pub last_small : value.last_pass < 2 ^ 48
+  pub last_small : value.last_pass < NUMBERS
   pub pass_is : IsPassOrNone limits value.slots value.pass
-  pub stripes_small : limits.stripes ≤ 2 ^ 48
+  pub stripes_small : limits.stripes ≤ NUMBERS
   pub blocks_are : AreBlocks limits 0 value.blocks
-  pub few : length value.blocks ≤ 4096
+  pub few : length value.blocks ≤ most_held 1
   pub few_spaces : length (spaces_of value.blocks) < 2 ^ 32

@@ -4,6 +4,8 @@ use Rattle.std.specs.List.{list_any}
 use Rattle.std.specs.Option.{option_map}
 use Rattle.std.specs.declared.alloc.Global.{Global}
 use Rattle.std.specs.declared.vec.Vec.{Vec}
+use Rattle.draid_names.specs.Numbers.{most_held}
+use Rattle.draid_names.specs.declared.numbers.TheConstants.{LAST_NUMBER, LONGEST_BLOCK, NUMBERS, OBJECTS}
 use Rattle.draid_names.specs.declared.arm.Arm.{Arm}
 use Rattle.draid_names.specs.declared.arm.ArmAt.{ArmAt}
 use Rattle.draid_names.specs.declared.arm.ArmKind.{ArmKind}
@@ -29,8 +31,8 @@ use Rattle.draid_record.specs.Reading.{placed, read}
 -- a run of a log, by its first and its last group
 abbrev pub run : ℕ → Grammar Run
 run low = do
-  first ← number 8 low (2 ^ 48 - 1)
-  last ← number 8 first (2 ^ 48 - 1)
+  first ← number 8 low LAST_NUMBER
+  last ← number 8 first LAST_NUMBER
   Done (record { first = first; len = last + 1 - first })
 
 -- where the next run may begin
@@ -153,9 +155,9 @@ targets all = number 2 0 (arm_count all) >>= λ count. targets_of all count
 abbrev pub pass_head : Limits → PassKind → ℕ → Grammar PassTold
 pass_head limits kind least = do
   running ← number 1 least 1
-  max ← number 8 1 (2 ^ 48 - 1)
+  max ← number 8 1 LAST_NUMBER
   place ← number 8 0 limits.stripes
-  errors ← number 8 0 (2 ^ 48 - 1)
+  errors ← number 8 0 LAST_NUMBER
   Done (record { kind = kind; targets = []; max = max; «at» = place; errors = errors; running = running == 1 })
 
 abbrev pub pass_of : Limits → List (List ArmTold) → PassKind → ℕ → Grammar (Option PassTold)
@@ -195,11 +197,11 @@ stripes_of limits len = ((len + limits.sector - 1) / limits.sector + limits.ndat
 -- a block at or behind a stripe, within one group
 abbrev pub block : Limits → ℕ → Grammar Pointer
 block limits low = do
-  object ← number 8 0 (2 ^ 32 - 1)
-  seq ← number 8 1 (2 ^ 48 - 1)
+  object ← number 8 0 (OBJECTS - 1)
+  seq ← number 8 1 LAST_NUMBER
   first ← number 8 low (limits.stripes - 1)
   count ← number 4 1 (limits.height - first % limits.height)
-  len ← number 4 1 131072
+  len ← number 4 1 LONGEST_BLOCK
   whole ← check (count == stripes_of limits len) 8
   birth ← number 8 1 limits.group
   digest ← text 32
@@ -214,7 +216,7 @@ blocks_of limits count = many count (block limits) end_of 0
 
 -- the blocks behind their number
 abbrev pub blocks : Limits → Grammar (List Pointer)
-blocks limits = number 4 0 4096 >>= λ count. blocks_of limits count
+blocks limits = number 4 0 (most_held 1) >>= λ count. blocks_of limits count
 
 -- the runs of blocks of which the first begin at `first` and lie one behind the other up to a stripe
 abbrev pub spaces_from : ℕ → ℕ → List Pointer → List Run
@@ -254,7 +256,7 @@ head limits = do
   Done children
 
 abbrev pub last_pass : Grammar ℕ
-last_pass = number 8 0 (2 ^ 48 - 1) >>= λ last. Done last
+last_pass = number 8 0 LAST_NUMBER >>= λ last. Done last
 
 -- what stands behind the blocks, nothing: the space runs are those of the blocks
 abbrev pub behind_blocks : Limits → List (List ArmTold) → ℕ → Option PassTold → List Run → List Pointer → Grammar RecordTold
@@ -309,7 +311,7 @@ pub record AreLimits (limits : Limits) : Type 0 where
   pub some_data : 1 ≤ limits.ndata
   pub most_data : limits.ndata ≤ 2 ^ 32
   pub some_height : 1 ≤ limits.height
-  pub most_stripes : limits.stripes ≤ 2 ^ 48
+  pub most_stripes : limits.stripes ≤ NUMBERS
 
 -- what the ranges of a metaslab's record go by
 abbrev pub limits_of : Geometry → ℕ → ℕ → ℕ → Limits

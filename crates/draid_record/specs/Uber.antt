@@ -1,6 +1,7 @@
 -- The slots of the uberblock area.
 use Rattle.std.specs.Prelude.{◌≡◌, ◌==◌, ◌<◌, ◌≤◌, ◌-◌, ◌%◌, ◌^◌, ◌||◌, ℕ, Bool, true, nat_le, List, ◌++◌, Result, Ok, Err, is_ok}
 use Rattle.std.specs.Int.{is_power_of_two}
+use Rattle.draid_names.specs.declared.numbers.TheConstants.{LAST_NUMBER}
 use Rattle.draid_spec.specs.Geometry.{IsProps, geometry_of}
 use Rattle.draid_spec.specs.Spec.{IsSpec, have_of, need_of}
 use Rattle.draid_spec.specs.declared.layout.Props.{Props}
@@ -29,7 +30,7 @@ uber slot = do
   gate ← number 1 90 90
   magic ← number 4 1146770754 1146770754
   version ← number 2 1 1
-  group ← number 8 1 (2 ^ 48 - 2)
+  group ← number 8 1 (LAST_NUMBER - 1)
   even ← check (group % 2 == slot) 8
   parity ← number 1 1 3
   ndata ← number 1 1 255
@@ -44,7 +45,7 @@ uber slot = do
   slices ← number 4 1 1024
   layout ← check (gives_layout (record { parity = parity; ndata = ndata; children = children; spares = spares }) (seedless sector height metaslabs slices)) 4
   seed ← number 8 0 (2 ^ 64 - 1)
-  next_leaf ← number 8 children (2 ^ 48 - 1)
+  next_leaf ← number 8 children LAST_NUMBER
   Done (record {
     group = group;
     spec = record { parity = parity; ndata = ndata; children = children; spares = spares };
@@ -55,14 +56,14 @@ uber slot = do
 -- a value that a slot can spell
 pub record IsUber (body : UberBody) : Type 0 where
   pub group_above : 1 ≤ body.group
-  pub group_below : body.group ≤ 2 ^ 48 - 2
+  pub group_below : body.group ≤ LAST_NUMBER - 1
   pub spec_is : IsSpec body.spec
   pub wide : need_of body.spec ≤ have_of body.spec
   pub props_are : IsProps body.props
   pub layout : gives_layout body.spec (seedless body.props.sector body.props.height body.props.metaslabs body.props.slices) ≡ true
   pub seed_below : body.props.seed < 2 ^ 64
   pub leaf_above : body.spec.children ≤ body.next_leaf
-  pub leaf_below : body.next_leaf ≤ 2 ^ 48 - 1
+  pub leaf_below : body.next_leaf ≤ LAST_NUMBER
 
 -- what reading a text of so many bytes tells: the value, or the first fault by its place
 abbrev pub told : {A : Type 0} → ℕ → Result (A × List ℕ) Fault → Result A RecordFault

@@ -1,4 +1,5 @@
 ghost use Rattle.std.specs.Prelude.{◌≡◌, ◌+◌, ◌≤◌, ◌<◌, ◌^◌, ◌-◌, ◌∷◌, [], All, IfOk, length};
+ghost use Rattle.draid_names.specs.Numbers as numbers;
 ghost use Rattle.draid_names.specs.declared.pointer.Pointer.{Pointer};
 ghost use Rattle.draid_record.specs.Reading.{Gives, read};
 ghost use Rattle.draid_record.specs.Record as spec;
@@ -7,11 +8,9 @@ ghost use Rattle.draid_record.specs.Record.{AreLimits};
 use crate::fault::ReadError;
 use crate::field::{check, number, text};
 use crate::limits::Limits;
-use draid_names::Pointer;
+use draid_names::{LAST_NUMBER, LONGEST_BLOCK, OBJECTS, Pointer, most_held};
 use draid_ranges::Run;
 use std::alloc::Global;
-
-const LAST: u64 = (1 << 48) - 1;
 
 #[tactic(auto, unfolding(crate::specs::Reading::read))]
 fn space_run(bytes: &[u8]) -> Result<(Run, &[u8]), ReadError>
@@ -50,7 +49,7 @@ pub(crate) fn spaces(alloc: Global, bytes: &[u8]) -> Result<(Vec<Run>, &[u8]), R
 /// The stripes of a block of so many bytes.
 fn stripes_of(limits: &Limits, len: u64) -> u64
     requires limits { AreLimits limits.now }
-    requires len { len ≤ 131072 }
+    requires len { len ≤ LONGEST_BLOCK }
     ensures { result ≡ spec.stripes_of limits.now len }
 {
     let sectors = (len + limits.sector - 1) / limits.sector;
@@ -64,11 +63,11 @@ fn block<'a>(bytes: &'a [u8], limits: &Limits, low: u64) -> Result<(Pointer, &'a
     ensures block { Gives (λ x. (x.0, x.1.now)) result (read (spec.block limits.now low) bytes.now) }
     ensures range { IfOk result (λ x. x.0.first + x.0.stripes ≤ 2 ^ 49) }
 {
-    let (object, bytes) = number(bytes, 8, 0, u64::from(u32::MAX))?;
-    let (seq, bytes) = number(bytes, 8, 1, LAST)?;
+    let (object, bytes) = number(bytes, 8, 0, OBJECTS - 1)?;
+    let (seq, bytes) = number(bytes, 8, 1, LAST_NUMBER)?;
     let (first, bytes) = number(bytes, 8, low, limits.stripes.saturating_sub(1))?;
     let (stripes, bytes) = number(bytes, 4, 1, limits.height - first % limits.height)?;
-    let (len, bytes) = number(bytes, 4, 1, 131_072)?;
+    let (len, bytes) = number(bytes, 4, 1, LONGEST_BLOCK)?;
     check(stripes == stripes_of(limits, len), bytes.len() + 8)?;
     let (birth, bytes) = number(bytes, 8, 1, limits.group)?;
     let (front, bytes) = text(bytes, 32)?;
@@ -121,9 +120,9 @@ pub(crate) fn blocks<'a>(
     requires { AreLimits limits.now }
     ensures blocks { Gives (λ x. (x.0.items, x.1.now)) result (read (spec.blocks limits.now) bytes.now) }
     ensures range { IfOk result (λ x. All (λ (b : Pointer). b.first + b.stripes ≤ 2 ^ 49) x.0.items) }
-    ensures few { IfOk result (λ x. length x.0.items ≤ 4096) }
+    ensures few { IfOk result (λ x. length x.0.items ≤ numbers.most_held 1) }
 {
-    let (count, bytes) = number(bytes, 4, 0, 4096)?;
+    let (count, bytes) = number(bytes, 4, 0, most_held(1) as u64)?;
     blocks_of(alloc, bytes, limits, count)
 }
 

@@ -6,19 +6,18 @@ ghost use Rattle.draid_record.specs.Record as spec;
 use crate::fault::ReadError;
 use crate::field::number;
 use draid_dtl::Log;
+use draid_names::{LAST_NUMBER, NUMBERS};
 use draid_ranges::Run;
 use std::alloc::Global;
-
-const LAST_GROUP: u64 = (1 << 48) - 1;
 
 /// A run of groups from `low` on.
 #[tactic(auto, unfolding(crate::specs::Reading::read))]
 fn run(bytes: &[u8], low: u64) -> Result<(Run, &[u8]), ReadError>
     ensures run { Gives (λ x. (x.0, x.1.now)) result (read (spec.run low) bytes.now) }
-    ensures range { IfOk result (λ x. (low ≤ x.0.first) × (0 < x.0.len) × (x.0.first + x.0.len ≤ 2 ^ 48)) }
+    ensures range { IfOk result (λ x. (low ≤ x.0.first) × (0 < x.0.len) × (x.0.first + x.0.len ≤ NUMBERS)) }
 {
-    let (first, bytes) = number(bytes, 8, low, LAST_GROUP)?;
-    let (last, bytes) = number(bytes, 8, first, LAST_GROUP)?;
+    let (first, bytes) = number(bytes, 8, low, LAST_NUMBER)?;
+    let (last, bytes) = number(bytes, 8, first, LAST_NUMBER)?;
     let run = Run {
         first,
         len: last + 1 - first,

@@ -8,11 +8,9 @@ use crate::fault::ReadError;
 use crate::field::number;
 use crate::limits::Limits;
 use draid_dtl::Log;
-use draid_names::{Arm, ArmAt, PassKind};
+use draid_names::{Arm, ArmAt, LAST_NUMBER, PassKind};
 use draid_pass::Pass;
 use std::alloc::Global;
-
-const LAST: u64 = (1 << 48) - 1;
 
 /// How many arms there are.
 fn arm_count(all: &[Vec<(Arm, Log)>]) -> u64
@@ -123,9 +121,9 @@ fn pass_head<'a>(
     ensures number { IfOk result (λ x. x.0.number ≡ number_of) }
 {
     let (running, bytes) = number(bytes, 1, least, 1)?;
-    let (max, bytes) = number(bytes, 8, 1, LAST)?;
+    let (max, bytes) = number(bytes, 8, 1, LAST_NUMBER)?;
     let (at, bytes) = number(bytes, 8, 0, limits.stripes)?;
-    let (errors, bytes) = number(bytes, 8, 0, LAST)?;
+    let (errors, bytes) = number(bytes, 8, 0, LAST_NUMBER)?;
     let pass = Pass {
         number: number_of,
         kind,

@@ -12,14 +12,12 @@ use crate::field::{check, number};
 use crate::limits::Limits;
 use crate::pass::pass;
 use draid_dtl::Log;
-use draid_names::{Arm, Pointer};
+use draid_names::{Arm, LAST_NUMBER, Pointer};
 use draid_pass::Pass;
 use draid_spec::Geometry;
 use std::alloc::Global;
 
 pub(crate) const MAGIC: u64 = 0x445a_5243;
-
-const LAST: u64 = (1 << 48) - 1;
 
 /// What a metaslab's record of a group tells.
 #[derive(Drop)]
@@ -78,7 +76,7 @@ fn head<'a>(bytes: &'a [u8], limits: &Limits) -> Result<&'a [u8], ReadError>
 fn last_pass(bytes: &[u8]) -> Result<(u64, &[u8]), ReadError>
     ensures { Gives (λ x. (x.0, x.1.now)) result (read spec.last_pass bytes.now) }
 {
-    let (last, bytes) = number(bytes, 8, 0, LAST)?;
+    let (last, bytes) = number(bytes, 8, 0, LAST_NUMBER)?;
     Ok((last, bytes))
 }
 

@@ -5,6 +5,7 @@ ghost use Rattle.draid_record.specs.Uber as spec;
 
 use crate::fault::{Fault, RecordFault};
 use crate::field::{check, number, put};
+use draid_names::LAST_NUMBER;
 use draid_spec::{Props, Spec, geometry};
 
 /// What a slot of the uberblock area tells.
@@ -51,7 +52,7 @@ fn uber(bytes: &[u8], slot: u64) -> Result<(UberBody, &[u8]), Fault>
     let (_, bytes) = number(bytes, 1, GATE, GATE)?;
     let (_, bytes) = number(bytes, 4, MAGIC, MAGIC)?;
     let (_, bytes) = number(bytes, 2, 1, 1)?;
-    let (group, bytes) = number(bytes, 8, 1, (1 << 48) - 2)?;
+    let (group, bytes) = number(bytes, 8, 1, LAST_NUMBER - 1)?;
     check(group % 2 == slot, bytes.len() + 8)?;
     let (parity, bytes) = number(bytes, 1, 1, 3)?;
     let (ndata, bytes) = number(bytes, 1, 1, 255)?;
@@ -80,7 +81,7 @@ fn uber(bytes: &[u8], slot: u64) -> Result<(UberBody, &[u8]), Fault>
     };
     check(geometry(spec, props).is_ok(), bytes.len() + 4)?;
     let (seed, bytes) = number(bytes, 8, 0, u64::MAX)?;
-    let (next_leaf, bytes) = number(bytes, 8, children, (1 << 48) - 1)?;
+    let (next_leaf, bytes) = number(bytes, 8, children, LAST_NUMBER)?;
     props.seed = seed;
     Ok((
         UberBody {

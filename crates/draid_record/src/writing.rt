@@ -10,7 +10,7 @@ ghost use Rattle.draid_record.specs.Written as written;
 
 use crate::record::{MAGIC, Record};
 use draid_dtl::Log;
-use draid_names::{Arm, ArmAt, ArmKind, NoMemory, PassKind, Pointer};
+use draid_names::{Arm, ArmAt, ArmKind, NUMBERS, NoMemory, PassKind, Pointer};
 use draid_pass::Pass;
 use draid_ranges::Run;
 use std::alloc::Global;
@@ -35,7 +35,7 @@ fn bit(flag: bool) -> u64
 }
 
 fn put_run(out: &mut Vec<u8>, run: Run) -> Result<(), NoMemory>
-    requires { (0 < run.len) × (run.first + run.len ≤ 2 ^ 48) }
+    requires { (0 < run.len) × (run.first + run.len ≤ NUMBERS) }
     ensures { OnOk result (out.new.items ≡ out.old.items ++ written.run_bytes run) }
 {
     put(out, 8, run.first)?;

@@ -9,7 +9,6 @@ use Rattle.draid_reply.specs.declared.reply.Reply.TheVariants.{Filled, FillRefus
 use Rattle.draid_pool.specs.Answers.{WriteIs}
 use Rattle.draid_pool.specs.Pool.{Moves, state_of}
 use Rattle.draid_pool.specs.State.{State}
-use Rattle.draid_names.specs.declared.refusal.WriteFault.{WriteFault}
 use Rattle.draid_pool.specs.declared.pool.Pool.{Pool}
 use Rattle.draid_run.specs.State.{Fills, Step, content_of}
 

@@ -1,5 +1,6 @@
 -- What is read says how the words were spelled.
 use Rattle.std.proofs.Common.{◌≡◌, ℕ, ◌+◌, ◌-◌, ◌^◌, ◌<◌, ◌≤◌, ◌==◌, ◌&&◌, Bool, true, false, cond, find, nat_eq, nat_le, nat_lt, List, [], ◌∷◌, ◌++◌, length, drop, map, codes, Option, None, Some, Result, Ok, Err, refl, sym, ap, ◌∙◌, subst, inl, inr, arith}
+use Rattle.draid_names.specs.declared.numbers.TheConstants.{LONGEST_BLOCK}
 use Rattle.std.specs.Fmt.{decimal}
 use Rattle.std.specs.List.{starts_with}
 use Rattle.std.specs.Option.{ok_or}
@@ -15,7 +16,7 @@ use Rattle.draid_script.specs.declared.name.CommandName.{CommandName}
 use Rattle.draid_script.specs.Fault.{fault, ◌>>=◌}
 use Rattle.draid_script.specs.Field.{arm_at, block_at, count_at, number_at, number_in, spare_behind, within}
 use Rattle.draid_script.specs.Grammar.{limit_at, one_number, two_numbers}
-use Rattle.draid_script.specs.Line.{IsArmArgument, IsLimit, longest_block, most_objects}
+use Rattle.draid_script.specs.Line.{IsArmArgument, IsLimit, most_objects}
 use Rattle.draid_script.specs.Name.{all_names, arm_of, name_of, name_text}
 use Rattle.draid_script.specs.Word.{Placed, bytes_of, number_of}
 use Rattle.draid_script.specs.Writing.{optional}
@@ -93,11 +94,11 @@ limit_inv end (word ∷ []) limit gives =
 limit_inv end (word ∷ next ∷ words) limit gives = cc
 
 -- the bytes of a block are spelled in hex
-pub block_inv : (end : ℕ) (word : Placed) (bytes : List ℕ) → block_at end word ≡ Ok bytes → (bytes_of word.text ≡ Some bytes) × (length bytes ≤ longest_block)
+pub block_inv : (end : ℕ) (word : Placed) (bytes : List ℕ) → block_at end word ≡ Ok bytes → (bytes_of word.text ≡ Some bytes) × (length bytes ≤ LONGEST_BLOCK)
 block_inv end word bytes gives =
     let read = then_inv _ _ bytes gives in
-    let test = guard_inv (nat_le (length read.0) longest_block) read.0 bytes (fault 5 word.at) read.2 in
-    (or_inv (bytes_of word.text) _ read.0 read.1 ∙ ap (λ (b : List ℕ). Some b) test.1, omega (arith, leb-true (length read.0) longest_block test.0, ap length test.1))
+    let test = guard_inv (nat_le (length read.0) LONGEST_BLOCK) read.0 bytes (fault 5 word.at) read.2 in
+    (or_inv (bytes_of word.text) _ read.0 read.1 ∙ ap (λ (b : List ℕ). Some b) test.1, omega (arith, leb-true (length read.0) LONGEST_BLOCK test.0, ap length test.1))
 
 -- the first word of a command
 find_passes : {A : Type 0} (p : A → Bool) (xs : List A) (x : A) → find p xs ≡ Some x → p x ≡ true

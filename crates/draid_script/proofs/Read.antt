@@ -1,5 +1,6 @@
 -- A line that is taken is spelled as its command.
 use Rattle.std.proofs.Common.{◌≡◌, ℕ, ◌+◌, ◌^◌, ◌<◌, ◌≤◌, ◌⊎◌, true, cond, List, [], ◌∷◌, ◌++◌, length, get_or, codes, Option, None, Some, IfSome, unwrap_or, Result, Ok, Err, refl, sym, ap, ◌∙◌, subst, inl, inr, arith}
+use Rattle.draid_names.specs.declared.numbers.TheConstants.{LONGEST_BLOCK}
 use Rattle.std.specs.Fmt.{decimal}
 use Rattle.std.specs.List.{after_first, before_first, position_or_len, slice_split}
 use Rattle.std.specs.Result.{result_ok}
@@ -22,7 +23,7 @@ use Rattle.draid_script.specs.Fault.{fault, ◌>>=◌}
 use Rattle.draid_script.specs.Field.{arm_at, block_at, count_at, format_at, number_at, number_in, object_at, short_at}
 use Rattle.draid_script.specs.Grammar.{command_of, inside, lane_command_of, lane_name_at, lane_of, is_end_word, is_silent, limit_at, line_of, name_at, no_word, one_number, outside, two_numbers}
 use Rattle.draid_script.specs.Keys.{given_by, given_with, is_equals, key_in, keys_at, keys_in, new_value, nothing_given, value_in}
-use Rattle.draid_script.specs.Line.{Command, Silent, CreatePool, ImportPool, ExportPool, SyncPool, CancelPasses, CrashPool, WriteObject, FillObjects, ReadObject, FreeObject, SumObjects, TakeOffline, TakeOnline, DamageSector, AttachSpare, ReplaceDisk, DetachArm, RebuildPool, ScrubPool, RebalanceSlot, ShowStatus, OpenLanes, LaneCommand, InLane, SectionEnd, SilentLane, AreKeys, IsInRange, longest_block, most_lanes}
+use Rattle.draid_script.specs.Line.{Command, Silent, CreatePool, ImportPool, ExportPool, SyncPool, CancelPasses, CrashPool, WriteObject, FillObjects, ReadObject, FreeObject, SumObjects, TakeOffline, TakeOnline, DamageSector, AttachSpare, ReplaceDisk, DetachArm, RebuildPool, ScrubPool, RebalanceSlot, ShowStatus, OpenLanes, LaneCommand, InLane, SectionEnd, SilentLane, AreKeys, IsInRange, most_lanes}
 use Rattle.draid_script.specs.Name.{is_for_lanes, name_of, name_text}
 use Rattle.draid_script.specs.Shape.{AreSettings, AreWordsOf, GivesKey, GivesKeys, IsLaneText, IsLine}
 use Rattle.draid_script.specs.Word.{Placed, bytes_of, is_space, placed_from, words_of}
@@ -218,11 +219,11 @@ named_inv name.Fill end (a ∷ b ∷ c ∷ []) command gives = cc
 named_inv name.Fill end (a ∷ b ∷ c ∷ d ∷ []) command gives =
     let first = then_inv (object_at a) _ command gives in
     let count = then_inv (count_at first.0 b) _ command first.2 in
-    let len = then_inv (number_in 1 (longest_block + 1) c) _ command count.2 in
+    let len = then_inv (number_in 1 (LONGEST_BLOCK + 1) c) _ command count.2 in
     let seed = then_inv (number_at d) _ command len.2 in
     let one = in_inv 0 (2 ^ 32) a first.0 first.1 in
     let two = count_inv first.0 b count.0 count.1 in
-    let three = in_inv 1 (longest_block + 1) c len.0 len.1 in
+    let three = in_inv 1 (LONGEST_BLOCK + 1) c len.0 len.1 in
     let four = number_inv d seed.0 seed.1 in
     let e1 : a.text ≡ decimal first.0 = one.0 in
     let e2 : b.text ≡ decimal count.0 = two.0 in

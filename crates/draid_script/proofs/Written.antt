@@ -1,5 +1,6 @@
 -- What a writer writes is read again.
 use Rattle.std.proofs.Common.{true, ◌≡◌, ◌≢◌, ℕ, ◌+◌, ◌^◌, ◌<◌, ◌≤◌, ◌==◌, ◌&&◌, false, cond, nat_eq, nat_le, nat_lt, List, [], ◌∷◌, ◌++◌, length, get_or, codes, Option, None, Some, IfSome, Result, Ok, Err, refl, sym, ap, ◌∙◌, inl, inr, arith, append-nil}
+use Rattle.draid_names.specs.declared.numbers.TheConstants.{LONGEST_BLOCK}
 use Rattle.std.specs.Fmt.{decimal}
 use Rattle.std.specs.List.{AllByRecursion, join_with_byte, slice_split, starts_with}
 use Rattle.std.specs.Option.{ok_or}
@@ -21,7 +22,7 @@ use Rattle.draid_script.specs.Fault.{fault, ◌>>=◌}
 use Rattle.draid_script.specs.Field.{short_at, arm_at, block_at, count_at, hex_place, number_at, number_in, spare_behind, within}
 use Rattle.draid_script.specs.Grammar.{command_of, fill_of, is_silent, limit_at, line_of, one_number, outside, replace_of, sum_of, two_numbers, write_of}
 use Rattle.draid_script.specs.Keys.{given_by, given_with, keys_at, new_value, nothing_given}
-use Rattle.draid_script.specs.Line.{Command, Silent, CreatePool, ImportPool, ExportPool, SyncPool, CancelPasses, CrashPool, WriteObject, FillObjects, ReadObject, FreeObject, SumObjects, TakeOffline, TakeOnline, DamageSector, AttachSpare, ReplaceDisk, DetachArm, RebuildPool, ScrubPool, RebalanceSlot, ShowStatus, OpenLanes, AreKeys, AreObjects, IsArmArgument, IsInRange, IsLimit, longest_block, most_lanes, most_objects}
+use Rattle.draid_script.specs.Line.{Command, Silent, CreatePool, ImportPool, ExportPool, SyncPool, CancelPasses, CrashPool, WriteObject, FillObjects, ReadObject, FreeObject, SumObjects, TakeOffline, TakeOnline, DamageSector, AttachSpare, ReplaceDisk, DetachArm, RebuildPool, ScrubPool, RebalanceSlot, ShowStatus, OpenLanes, AreKeys, AreObjects, IsArmArgument, IsInRange, IsLimit, most_lanes, most_objects}
 use Rattle.draid_script.specs.Name.{arm_of, name_of, name_text}
 use Rattle.draid_script.specs.Shape.{AreSettings, AreWordsOf, GivesKey, GivesKeys, IsLine, texts_of}
 use Rattle.draid_script.specs.Word.{Placed, bytes_of, is_space, placed_from, words_of}
@@ -135,13 +136,13 @@ count_again first n at are =
     then_ok _ n _ (number_in_again 1 (most_objects + 1) n at are.0 (omega (arith, are.1)) (omega (arith, are.1)))
     ∙ cond-true (nat_le (first + n) (2 ^ 32)) (Ok n) (Err (fault 5 at)) (le-leb (first + n) (2 ^ 32) are.2)
 
-block_again : (end at : ℕ) (hex bytes : List ℕ) → bytes_of hex ≡ Some bytes → length bytes ≤ longest_block → block_at end (record { text = hex; at = at }) ≡ Ok bytes
+block_again : (end at : ℕ) (hex bytes : List ℕ) → bytes_of hex ≡ Some bytes → length bytes ≤ LONGEST_BLOCK → block_at end (record { text = hex; at = at }) ≡ Ok bytes
 block_again end at hex bytes spelled short =
     let word : Placed = record { text = hex; at = at } in
-    let bounded = λ (bs : List ℕ). cond (nat_le (length bs) longest_block) (Ok bs) (Err (fault 5 at)) in
+    let bounded = λ (bs : List ℕ). cond (nat_le (length bs) LONGEST_BLOCK) (Ok bs) (Err (fault 5 at)) in
     then_ok (ok_or (bytes_of hex) (fault 4 (hex_place end word))) bytes bounded
     (ap (λ (o : Option (List ℕ)). ok_or o (fault 4 (hex_place end word))) spelled)
-    ∙ cond-true (nat_le (length bytes) longest_block) (Ok bytes) (Err (fault 5 at)) (le-leb (length bytes) longest_block short)
+    ∙ cond-true (nat_le (length bytes) LONGEST_BLOCK) (Ok bytes) (Err (fault 5 at)) (le-leb (length bytes) LONGEST_BLOCK short)
 
 pub one_again : (limit end at n : ℕ) → n < limit → limit ≤ 2 ^ 64 → one_number limit end (placed_from at (decimal n ∷ [])) ≡ Ok n
 one_again limit end at n below small = number_in_again 0 limit n at (omega arith) below (omega arith)
@@ -164,14 +165,14 @@ sum_again end at first count are =
     then_ok _ first _ (number_in_again 0 (2 ^ 32) first _ (omega arith) (omega (arith, are.0, are.2)) (omega (arith, are.0, are.2)))
     ∙ then_ok _ count _ (count_again first count _ are)
 
-pub fill_again : (end at first count len seed : ℕ) → AreObjects first count → (1 ≤ len) × (len ≤ longest_block) → seed < 2 ^ 64 → fill_of end (placed_from at (decimal first ∷ decimal count ∷ decimal len ∷ decimal seed ∷ [])) ≡ Ok (FillObjects first count len seed)
+pub fill_again : (end at first count len seed : ℕ) → AreObjects first count → (1 ≤ len) × (len ≤ LONGEST_BLOCK) → seed < 2 ^ 64 → fill_of end (placed_from at (decimal first ∷ decimal count ∷ decimal len ∷ decimal seed ∷ [])) ≡ Ok (FillObjects first count len seed)
 fill_again end at first count len seed are is small =
     then_ok _ first _ (number_in_again 0 (2 ^ 32) first _ (omega arith) (omega (arith, are.0, are.2)) (omega (arith, are.0, are.2)))
     ∙ then_ok _ count _ (count_again first count _ are)
-    ∙ then_ok _ len _ (number_in_again 1 (longest_block + 1) len _ is.0 (omega (arith, is.1)) (omega (arith, is.1)))
+    ∙ then_ok _ len _ (number_in_again 1 (LONGEST_BLOCK + 1) len _ is.0 (omega (arith, is.1)) (omega (arith, is.1)))
     ∙ then_ok _ seed _ (number_at_again seed _ small)
 
-pub write_again : (end at object : ℕ) (hex bytes : List ℕ) → object < 2 ^ 32 → bytes_of hex ≡ Some bytes → length bytes ≤ longest_block → write_of end (placed_from at (decimal object ∷ hex ∷ [])) ≡ Ok (WriteObject object bytes)
+pub write_again : (end at object : ℕ) (hex bytes : List ℕ) → object < 2 ^ 32 → bytes_of hex ≡ Some bytes → length bytes ≤ LONGEST_BLOCK → write_of end (placed_from at (decimal object ∷ hex ∷ [])) ≡ Ok (WriteObject object bytes)
 write_again end at object hex bytes below spelled short =
     then_ok _ object _ (number_in_again 0 (2 ^ 32) object _ (omega arith) below (omega arith))
     ∙ then_ok _ bytes _ (block_again end _ hex bytes spelled short)

@@ -10,8 +10,9 @@ use Rattle.draid_script.specs.declared.line.StatusFormat.{StatusFormat}
 use Rattle.draid_script.specs.declared.line.StatusFormat.TheVariants.{Json}
 use Rattle.draid_script.specs.Fault.{fault, ◌>>=◌}
 use Rattle.draid_script.specs.Word.{Placed, number_of, bytes_of}
-use Rattle.draid_script.specs.Line.{longest_block, most_objects}
+use Rattle.draid_script.specs.Line.{most_objects}
 use Rattle.std.specs.Str.{bytes_eq}
+use Rattle.draid_names.specs.declared.numbers.TheConstants.{LONGEST_BLOCK, NUMBERS, OBJECTS}
 
 -- a number, of kind 3 where the word is none
 abbrev pub number_at : Placed → Result ℕ LineFault
@@ -29,13 +30,13 @@ short_at word = number_in 0 (2 ^ 32) word
 
 -- an object
 abbrev pub object_at : Placed → Result ℕ LineFault
-object_at word = number_in 0 (2 ^ 32) word
+object_at word = number_in 0 OBJECTS word
 
 -- how many objects from the first on
 abbrev pub count_at : ℕ → Placed → Result ℕ LineFault
 count_at first word = do
   count ← number_in 1 (most_objects + 1) word
-  if nat_le (first + count) (2 ^ 32) then Ok count else Err (fault 5 word.at)
+  if nat_le (first + count) OBJECTS then Ok count else Err (fault 5 word.at)
 
 -- The first byte that is no hex digit, else the end of the line.
 abbrev pub hex_place : ℕ → Placed → ℕ
@@ -47,7 +48,7 @@ hex_place end word =
 abbrev pub block_at : ℕ → Placed → Result (List ℕ) LineFault
 block_at end word = do
   bytes ← ok_or (bytes_of word.text) (fault 4 (hex_place end word))
-  if nat_le (length bytes) longest_block then Ok bytes else Err (fault 5 word.at)
+  if nat_le (length bytes) LONGEST_BLOCK then Ok bytes else Err (fault 5 word.at)
 
 -- what stands behind `draid` in the name of a spare: its parity, `-0-` and its number
 abbrev pub spare_behind : ℕ → List ℕ → Result ArmArgument LineFault
@@ -62,7 +63,7 @@ abbrev pub arm_at : Placed → Result ArmArgument LineFault
 arm_at word =
     if starts_with nat_eq word.text (codes "draid")
     then spare_behind word.at (drop 5 word.text)
-    else (number_in 0 (2 ^ 48) word >>= λ leaf. Ok (Leaf leaf))
+    else (number_in 0 NUMBERS word >>= λ leaf. Ok (Leaf leaf))
 
 -- the word `json`
 abbrev pub format_at : Placed → Result StatusFormat LineFault

@@ -1,11 +1,12 @@
 use Rattle.std.specs.Prelude.{ℕ, ◌^◌, ◌+◌, ◌==◌, Bool, true, List, [], ◌∷◌, length, codes, Option, None, Some, Result, Ok, Err, if◌then◌else◌}
 use Rattle.std.specs.Option.{ok_or}
 use Rattle.std.specs.Str.{bytes_eq}
+use Rattle.draid_names.specs.declared.numbers.TheConstants.{LONGEST_BLOCK, NUMBERS, OBJECTS}
 use Rattle.draid_script.specs.declared.fault.LineFault.{LineFault}
 use Rattle.draid_script.specs.declared.line.StatusFormat.TheVariants.{Text}
 use Rattle.draid_script.specs.declared.name.CommandName.{CommandName}
 use Rattle.draid_script.specs.declared.name.CommandName.TheVariants as name
-use Rattle.draid_script.specs.Line.{Command, Silent, CreatePool, ImportPool, ExportPool, SyncPool, CancelPasses, CrashPool, WriteObject, FillObjects, ReadObject, FreeObject, SumObjects, TakeOffline, TakeOnline, DamageSector, AttachSpare, ReplaceDisk, DetachArm, RebuildPool, ScrubPool, RebalanceSlot, ShowStatus, OpenLanes, LaneCommand, SectionEnd, SilentLane, InLane, longest_block, most_lanes}
+use Rattle.draid_script.specs.Line.{Command, Silent, CreatePool, ImportPool, ExportPool, SyncPool, CancelPasses, CrashPool, WriteObject, FillObjects, ReadObject, FreeObject, SumObjects, TakeOffline, TakeOnline, DamageSector, AttachSpare, ReplaceDisk, DetachArm, RebuildPool, ScrubPool, RebalanceSlot, ShowStatus, OpenLanes, LaneCommand, SectionEnd, SilentLane, InLane, most_lanes}
 use Rattle.draid_script.specs.Fault.{fault, ◌>>=◌}
 use Rattle.draid_script.specs.Field.{arm_at, block_at, count_at, format_at, number_at, number_in, object_at}
 use Rattle.draid_script.specs.Keys.{keys_at}
@@ -44,7 +45,7 @@ two_numbers limit limit' end _ = Err (fault 2 end)
 -- at most one number, from 1 to 2^48 - 1
 abbrev pub limit_at : ℕ → List Placed → Result (Option ℕ) LineFault
 limit_at end [] = Ok None
-limit_at end (word ∷ []) = number_in 1 (2 ^ 48) word >>= λ n. Ok (Some n)
+limit_at end (word ∷ []) = number_in 1 NUMBERS word >>= λ n. Ok (Some n)
 limit_at end _ = Err (fault 2 end)
 
 -- `write O HEX`
@@ -60,7 +61,7 @@ abbrev pub fill_of : ℕ → List Placed → Result Command LineFault
 fill_of end (first ∷ count ∷ len ∷ seed ∷ []) = do
   f ← object_at first
   c ← count_at f count
-  l ← number_in 1 (longest_block + 1) len
+  l ← number_in 1 (LONGEST_BLOCK + 1) len
   x ← number_at seed
   Ok (FillObjects f c l x)
 fill_of end _ = Err (fault 2 end)
@@ -80,7 +81,7 @@ replace_of end (slot ∷ []) = do
   Ok (ReplaceDisk s None)
 replace_of end (slot ∷ sectors ∷ []) = do
   s ← number_in 0 (2 ^ 32) slot
-  n ← number_in 0 (2 ^ 48) sectors
+  n ← number_in 0 NUMBERS sectors
   Ok (ReplaceDisk s (Some n))
 replace_of end _ = Err (fault 2 end)
 
@@ -128,23 +129,23 @@ crash_of end words = no_word end words >>= λ _. Ok CrashPool
 
 -- `read O`
 abbrev pub read_of : ℕ → List Placed → Result Command LineFault
-read_of end words = one_number (2 ^ 32) end words >>= λ object. Ok (ReadObject object)
+read_of end words = one_number OBJECTS end words >>= λ object. Ok (ReadObject object)
 
 -- `free O`
 abbrev pub free_of : ℕ → List Placed → Result Command LineFault
-free_of end words = one_number (2 ^ 32) end words >>= λ object. Ok (FreeObject object)
+free_of end words = one_number OBJECTS end words >>= λ object. Ok (FreeObject object)
 
 -- `offline L`
 abbrev pub offline_of : ℕ → List Placed → Result Command LineFault
-offline_of end words = one_number (2 ^ 48) end words >>= λ leaf. Ok (TakeOffline leaf)
+offline_of end words = one_number NUMBERS end words >>= λ leaf. Ok (TakeOffline leaf)
 
 -- `online L`
 abbrev pub online_of : ℕ → List Placed → Result Command LineFault
-online_of end words = one_number (2 ^ 48) end words >>= λ leaf. Ok (TakeOnline leaf)
+online_of end words = one_number NUMBERS end words >>= λ leaf. Ok (TakeOnline leaf)
 
 -- `damage L X`
 abbrev pub damage_of : ℕ → List Placed → Result Command LineFault
-damage_of end words = two_numbers (2 ^ 48) (2 ^ 26) end words >>= λ p. Ok (DamageSector p.0 p.1)
+damage_of end words = two_numbers NUMBERS (2 ^ 26) end words >>= λ p. Ok (DamageSector p.0 p.1)
 
 -- `spare S T`
 abbrev pub spare_of : ℕ → List Placed → Result Command LineFault

@@ -1,4 +1,5 @@
 use Rattle.std.specs.Prelude.{◌+◌, ◌<◌, ◌≤◌, ◌^◌, ⊤, ℕ, List, length, Option, IfSome}
+use Rattle.draid_names.specs.declared.numbers.TheConstants.{LONGEST_BLOCK, NUMBERS, OBJECTS}
 use Rattle.draid_script.specs.declared.line.Line.{Line}
 use Rattle.draid_script.specs.declared.line.Line.TheVariants as line
 use Rattle.draid_script.specs.declared.line.PoolKeys.{PoolKeys}
@@ -71,10 +72,7 @@ lane_command_in lane.End = SectionEnd
 lane_command_in lane.Nothing = SilentLane
 lane_command_in (lane.Lane number line) = InLane number (command_in line)
 
--- how many bytes a block may have, how many objects one command may name, and how many lanes a section has
-abbrev pub longest_block : ℕ
-longest_block = 131_072
-
+-- how many objects one command may name, and how many lanes a section has
 abbrev pub most_objects : ℕ
 most_objects = 65_536
 
@@ -83,14 +81,14 @@ most_lanes = 16
 
 -- Objects are below 2^32, and a block has 1 to 131,072 bytes.
 abbrev pub IsObject : ℕ → Type 0
-IsObject object = object < 2 ^ 32
+IsObject object = object < OBJECTS
 
 -- 1 to 65,536 objects from the first on
 abbrev pub AreObjects : ℕ → ℕ → Type 0
-AreObjects first count = (1 ≤ count) × (count ≤ most_objects) × (first + count ≤ 2 ^ 32)
+AreObjects first count = (1 ≤ count) × (count ≤ most_objects) × (first + count ≤ OBJECTS)
 
 abbrev pub IsBlockLength : ℕ → Type 0
-IsBlockLength len = (1 ≤ len) × (len ≤ longest_block)
+IsBlockLength len = (1 ≤ len) × (len ≤ LONGEST_BLOCK)
 
 -- the values of the keys of `create`
 pub record AreKeys (keys : PoolKeys) : Type 0 where
@@ -102,26 +100,26 @@ pub record AreKeys (keys : PoolKeys) : Type 0 where
 
 -- a leaf below 2^48, or a spare below 2^32 of a parity from 1 to 3
 abbrev pub IsArmArgument : ArmArgument → Type 0
-IsArmArgument (Leaf leaf) = leaf < 2 ^ 48
+IsArmArgument (Leaf leaf) = leaf < NUMBERS
 IsArmArgument (Spare parity spare) = (1 ≤ parity) × (parity ≤ 3) × (spare < 2 ^ 32)
 
 -- at most so many units, 1 to 2^48 - 1
 abbrev pub IsLimit : Option ℕ → Type 0
-IsLimit limit = IfSome limit (λ n. (1 ≤ n) × (n < 2 ^ 48))
+IsLimit limit = IfSome limit (λ n. (1 ≤ n) × (n < NUMBERS))
 
 -- the ranges of a command's numbers
 abbrev pub IsInRange : Command → Type 0
 IsInRange (CreatePool spec children keys) = (children < 2 ^ 32) × AreKeys keys
-IsInRange (WriteObject object bytes) = IsObject object × (1 ≤ length bytes) × (length bytes ≤ longest_block)
+IsInRange (WriteObject object bytes) = IsObject object × (1 ≤ length bytes) × (length bytes ≤ LONGEST_BLOCK)
 IsInRange (FillObjects first count len seed) = AreObjects first count × IsBlockLength len × (seed < 2 ^ 64)
 IsInRange (ReadObject object) = IsObject object
 IsInRange (FreeObject object) = IsObject object
 IsInRange (SumObjects first count) = AreObjects first count
-IsInRange (TakeOffline leaf) = leaf < 2 ^ 48
-IsInRange (TakeOnline leaf) = leaf < 2 ^ 48
-IsInRange (DamageSector leaf sector) = (leaf < 2 ^ 48) × (sector < 2 ^ 26)
+IsInRange (TakeOffline leaf) = leaf < NUMBERS
+IsInRange (TakeOnline leaf) = leaf < NUMBERS
+IsInRange (DamageSector leaf sector) = (leaf < NUMBERS) × (sector < 2 ^ 26)
 IsInRange (AttachSpare slot spare) = (slot < 2 ^ 32) × (spare < 2 ^ 32)
-IsInRange (ReplaceDisk slot sectors) = (slot < 2 ^ 32) × IfSome sectors (λ n. n < 2 ^ 48)
+IsInRange (ReplaceDisk slot sectors) = (slot < 2 ^ 32) × IfSome sectors (λ n. n < NUMBERS)
 IsInRange (DetachArm arm) = IsArmArgument arm
 IsInRange (RebuildPool limit) = IsLimit limit
 IsInRange (ScrubPool limit) = IsLimit limit

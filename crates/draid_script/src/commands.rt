@@ -5,13 +5,11 @@ ghost use Rattle.draid_script.specs.Grammar as spec;
 ghost use Rattle.draid_script.specs.Grammar.{command_of, limit_at, one_number, two_numbers};
 ghost use Rattle.draid_script.specs.Word.{placed};
 
-use crate::field::{
-    LEAVES, LONGEST_BLOCK, OBJECTS, arm, block, count, format, number, number_in, object,
-    short_number,
-};
+use crate::field::{arm, block, count, format, number, number_in, object, short_number};
 use crate::keys::keys;
 use crate::word::Word;
 use crate::{CommandName, Line, LineFault, ParseFault, StatusFormat};
+use draid_names::{LONGEST_BLOCK, NUMBERS, OBJECTS};
 use std::alloc::Global;
 
 /// The sectors of a leaf, counted through the metaslabs, are below this.
@@ -188,7 +186,7 @@ fn offline(end: u64, words: &[Word]) -> Result<Line, ParseFault>
     ensures value { Gives command_in result (spec.offline_of end (map placed words.now)) }
     ensures range { IfOk result (λ line. IsInRange (command_in line)) }
 {
-    let leaf = one_number(LEAVES, end, words)?;
+    let leaf = one_number(NUMBERS, end, words)?;
     Ok(Line::Offline { leaf })
 }
 
@@ -196,7 +194,7 @@ fn online(end: u64, words: &[Word]) -> Result<Line, ParseFault>
     ensures value { Gives command_in result (spec.online_of end (map placed words.now)) }
     ensures range { IfOk result (λ line. IsInRange (command_in line)) }
 {
-    let leaf = one_number(LEAVES, end, words)?;
+    let leaf = one_number(NUMBERS, end, words)?;
     Ok(Line::Online { leaf })
 }
 
@@ -204,7 +202,7 @@ fn damage(end: u64, words: &[Word]) -> Result<Line, ParseFault>
     ensures value { Gives command_in result (spec.damage_of end (map placed words.now)) }
     ensures range { IfOk result (λ line. IsInRange (command_in line)) }
 {
-    let (leaf, sector) = two_numbers(LEAVES, SECTORS, end, words)?;
+    let (leaf, sector) = two_numbers(NUMBERS, SECTORS, end, words)?;
     Ok(Line::Damage { leaf, sector })
 }
 
@@ -233,7 +231,7 @@ fn replace(end: u64, words: &[Word]) -> Result<Line, ParseFault>
         }
         [slot, sectors] => {
             let slot = short_number(slot)?;
-            let sectors = number_in(sectors, 0, 1 << 48)?;
+            let sectors = number_in(sectors, 0, NUMBERS)?;
             Ok(Line::Replace {
                 slot,
                 sectors: Some(sectors),
@@ -355,7 +353,7 @@ fn limit(end: u64, words: &[Word]) -> Result<Option<u64>, ParseFault>
     match words {
         [] => Ok(None),
         [word] => {
-            let limit = number_in(word, 1, 1 << 48)?;
+            let limit = number_in(word, 1, NUMBERS)?;
             Ok(Some(limit))
         }
         _ => Err(ParseFault::line(LineFault::COUNT, end)),

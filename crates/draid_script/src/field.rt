@@ -1,5 +1,5 @@
 ghost use Rattle.std.specs.Prelude.{◌≡◌, ◌+◌, ◌<◌, ◌≤◌, ◌^◌, IfOk, length};
-ghost use Rattle.draid_script.specs.Line.{IsArmArgument, longest_block, most_objects};
+ghost use Rattle.draid_script.specs.Line.{IsArmArgument, most_objects};
 ghost use Rattle.draid_script.specs.Fault.{Gives};
 ghost use Rattle.draid_script.specs.Field as spec;
 ghost use Rattle.draid_script.specs.Word.{placed};
@@ -7,19 +7,11 @@ ghost use Rattle.draid_script.specs.Word.{placed};
 use crate::text::{decimal, hex_bytes, is_hex};
 use crate::word::Word;
 use crate::{ArmArgument, LineFault, ParseFault, StatusFormat};
+use draid_names::{LONGEST_BLOCK, NUMBERS, OBJECTS};
 use std::alloc::Global;
-
-/// Objects have numbers below this.
-pub const OBJECTS: u64 = 1 << 32;
-
-/// Leaves have numbers below this.
-pub const LEAVES: u64 = 1 << 48;
 
 /// The most objects that one command names.
 const MOST_OBJECTS: u64 = 65_536;
-
-/// The most bytes of a block.
-pub const LONGEST_BLOCK: u64 = 131_072;
 
 const DRAID: &[u8] = b"draid";
 
@@ -59,16 +51,16 @@ pub fn short_number(word: &Word) -> Result<u32, ParseFault>
 /// An object.
 pub fn object(word: &Word) -> Result<u64, ParseFault>
     ensures value { Gives (λ n. n) result (spec.object_at (placed word.now)) }
-    ensures range { IfOk result (λ n. n < 2 ^ 32) }
+    ensures range { IfOk result (λ n. n < OBJECTS) }
 {
     number_in(word, 0, OBJECTS)
 }
 
 /// How many objects from `first` on: 1 to 65,536, and all of them below 2^32.
 pub fn count(first: u64, word: &Word) -> Result<u64, ParseFault>
-    requires { first < 2 ^ 32 }
+    requires { first < OBJECTS }
     ensures value { Gives (λ n. n) result (spec.count_at first (placed word.now)) }
-    ensures range { IfOk result (λ n. (1 ≤ n) × (n ≤ most_objects) × (first + n ≤ 2 ^ 32)) }
+    ensures range { IfOk result (λ n. (1 ≤ n) × (n ≤ most_objects) × (first + n ≤ OBJECTS)) }
 {
     let count = number_in(word, 1, MOST_OBJECTS + 1)?;
     if first + count <= OBJECTS {
@@ -81,7 +73,7 @@ pub fn count(first: u64, word: &Word) -> Result<u64, ParseFault>
 /// The bytes of a block, in a line that ends at `end`.
 pub fn block(alloc: Global, end: u64, word: &Word) -> Result<Vec<u8>, ParseFault>
     ensures value { Gives (λ bytes. bytes.items) result (spec.block_at end (placed word.now)) }
-    ensures range { IfOk result (λ bytes. (1 ≤ length bytes.items) × (length bytes.items ≤ longest_block)) }
+    ensures range { IfOk result (λ bytes. (1 ≤ length bytes.items) × (length bytes.items ≤ LONGEST_BLOCK)) }
 {
     match hex_bytes(alloc, word.text)? {
         Some(bytes) if bytes.len() as u64 <= LONGEST_BLOCK => Ok(bytes),
@@ -110,7 +102,7 @@ pub fn arm(word: &Word) -> Result<ArmArgument, ParseFault>
     match word.text.strip_prefix(DRAID) {
         Some(text) => spare(&Word { text, at: word.at }),
         None => {
-            let leaf = number_in(word, 0, LEAVES)?;
+            let leaf = number_in(word, 0, NUMBERS)?;
             Ok(ArmArgument::Leaf { leaf })
         }
     }

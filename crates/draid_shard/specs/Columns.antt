@@ -2,6 +2,7 @@ use Rattle.std.specs.Prelude.{◌≡◌, ◌<◌, ◌≤◌, ◌+◌, ◌*◌, �
 use Rattle.std.specs.List.Sorted.{IsStrictlyIncreasing}
 use Rattle.std.specs.declared.vec.Vec.{Vec}
 use Rattle.std.specs.declared.alloc.Global.{Global}
+use Rattle.draid_names.specs.declared.numbers.TheConstants.{NUMBERS}
 use Rattle.draid_names.specs.Faults.{Rose}
 use Rattle.draid_names.specs.declared.fault.Failed.{Failed}
 use Rattle.draid_parity.specs.Columns.{column_at}
@@ -21,7 +22,7 @@ pub record HasRun (shape : Shape) (leaf first rows size : ℕ) : Type 0 where
   pub there : MatchOption (shape.leaves leaf) ⊥ (λ n. first + rows ≤ n)
   pub whole : shape.bytes ≡ size
   pub some : 0 < size
-  pub low : first + rows < 2 ^ 48
+  pub low : first + rows < NUMBERS
   pub small : rows * size < 2 ^ 30
 
 -- the first rows of a column stand on a leaf, from this sector on

@@ -2,6 +2,8 @@ use Rattle.std.specs.Prelude.{◌≡◌, ◌<◌, ◌≤◌, ◌+◌, ◌%◌, �
 use Rattle.draid_spec.specs.Geometry.{metaslab_stripes}
 use Rattle.std.specs.Ordering.{nat_cmp}
 use Rattle.std.specs.BTreeMap.{BTreeMap, get, btree_map_len}
+use Rattle.draid_names.specs.Numbers.{most_held}
+use Rattle.draid_names.specs.declared.numbers.TheConstants.{LONGEST_BLOCK}
 use Rattle.draid_names.specs.declared.pointer.Pointer.{Pointer}
 use Rattle.draid_spec.specs.declared.layout.Geometry.{Geometry}
 use Rattle.draid_block.specs.Columns.{stripes_of}
@@ -31,7 +33,7 @@ pub record IsDue (group : ℕ) : Type 0 where
 -- what a pointer says of its block: its length and stripes fit together, and it was born in the open group or the next
 pub record IsBlock (geometry : Geometry) (pointer : Pointer) : Type 0 where
   pub some : 1 ≤ pointer.len
-  pub short : pointer.len ≤ 131072
+  pub short : pointer.len ≤ LONGEST_BLOCK
   pub stripes : pointer.stripes ≡ stripes_of (cut_of geometry) pointer.len
   pub born : IsDue pointer.birth
 
@@ -59,7 +61,7 @@ pub record Tables (geometry : Geometry) (space : Stripes) (blocks : BTreeMap ℕ
   pub total : space.total ≡ metaslab_stripes geometry
   pub enabled : space.disabled ≡ false
   pub count : space.held ≡ btree_map_len blocks
-  pub few : btree_map_len blocks ≤ 4096
+  pub few : btree_map_len blocks ≤ most_held 1
   pub placed : (k : ℕ) (e : Entry) → entry_at blocks k ≡ Some e → IsPlaced geometry (is_free space) k e.pointer
   pub apart : (j k : ℕ) (a b : Entry) → entry_at blocks j ≡ Some a → entry_at blocks k ≡ Some b → j < k → j + a.pointer.stripes ≤ k
   pub covered : (x : ℕ) → x < metaslab_stripes geometry → is_free space x ≡ false → HasStripe blocks x
@@ -90,11 +92,11 @@ pub record SetsEntry (old new : BTreeMap ℕ Entry) (at : ℕ) (entry : Option E
 -- A refusal for want of entries comes just where there are as many as there may be, and tells them. One for want of room says the greatest length of a free run
 -- within one group, which is too short.
 abbrev pub IsRefused : ℕ → (ℕ → Bool) → ℕ → ℕ → BeginFault → Type 0
-IsRefused held free height need (NoRoom largest) = (held < 4096) × IsLargest free height largest × (largest < need)
-IsRefused held free height need (Entries count) = (held ≡ 4096) × (count ≡ held)
+IsRefused held free height need (NoRoom largest) = (held < most_held 1) × IsLargest free height largest × (largest < need)
+IsRefused held free height need (Entries count) = (held ≡ most_held 1) × (count ≡ held)
 IsRefused held free height need NoMemory = Unit {0}
 
 -- the room that so many blocks and tickets leave: the longest free run within one group, none where they are as many as there may be
 pub record IsRoom (held : ℕ) (free : ℕ → Bool) (height run : ℕ) : Type 0 where
-  pub full : held ≡ 4096 → run ≡ 0
-  pub some : held < 4096 → IsLargest free height run
+  pub full : held ≡ most_held 1 → run ≡ 0
+  pub some : held < most_held 1 → IsLargest free height run

@@ -1,4 +1,5 @@
 ghost use Rattle.std.specs.Prelude.{◌≡◌, ◌<◌, ◌≤◌, ◌+◌, ◌||◌, ℕ, Some, None, IfOk, IfErr, OnErr, false, is_ok, if◌then◌else◌};
+ghost use Rattle.draid_names.specs.Numbers as numbers;
 ghost use Rattle.std.specs.BTreeMap.{btree_map_len};
 ghost use Rattle.draid_spec.specs.declared.layout.Geometry.{Geometry};
 ghost use Rattle.draid_metaslab.specs.Spaces.{Frees, is_free};
@@ -8,7 +9,7 @@ ghost use Rattle.draid_shard.specs.Shard.{TakesLowest};
 use crate::fault::BeginFault;
 use draid_machine::Stage;
 use draid_metaslab::{Space, SpaceFault};
-use draid_names::Pointer;
+use draid_names::{Pointer, most_held};
 use std::collections::BTreeMap;
 
 /// A block that has its stripes.
@@ -17,9 +18,6 @@ pub(crate) struct Entry {
     pub pointer: Pointer,
     pub stage: Stage,
 }
-
-/// How many blocks and tickets a metaslab may hold.
-pub(crate) const MOST_ENTRIES: usize = 4096;
 
 ghost use Rattle.draid_shard.specs.Entry.{IsBlock, IsEntered, IsRefused, SetsEntry, Tables, begun, entry_at, staged};
 
@@ -32,7 +30,7 @@ pub(crate) fn hold(
 ) -> Result<Pointer, BeginFault>
     requires enabled { space.old.disabled ≡ false }
     requires some { 0 < pointer.stripes }
-    requires few { btree_map_len blocks.old ≤ 4096 }
+    requires few { btree_map_len blocks.old ≤ numbers.most_held 1 }
     ensures placed { IfOk result (λ placed. placed ≡ record pointer { first = placed.first }) }
     ensures takes { IfOk result (λ placed. TakesLowest space.old.height (is_free space.old) (is_free space.new) placed.first pointer.stripes) }
     ensures entry { IfOk result (λ placed. SetsEntry blocks.old blocks.new placed.first (Some (begun placed))) }
@@ -46,7 +44,7 @@ pub(crate) fn hold(
         → btree_map_len blocks.new ≡ btree_map_len blocks.old + (if is_ok result then 1 else 0) }
     ensures same { OnErr result ((k : ℕ) → entry_at blocks.new k ≡ entry_at blocks.old k) }
 {
-    if blocks.len() == MOST_ENTRIES {
+    if blocks.len() == most_held(1) {
         return Err(BeginFault::Entries {
             held: blocks.len() as u32,
         });

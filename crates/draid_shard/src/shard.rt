@@ -1,4 +1,5 @@
 ghost use Rattle.std.specs.Prelude.{◌≡◌, ◌<◌, ◌≤◌, ◌+◌, ◌^◌, ◌||◌, ◌⊎◌, ℕ, List, [], Bool, true, false, Option, Some, None, All, IfOk, OnOk, OnErr, IfErr, IsTrue, ◌↔◌, length, max, nat_lt, is_ok, is_err, if◌then◌else◌};
+ghost use Rattle.draid_names.specs.Numbers as numbers;
 ghost use Rattle.draid_spec.specs.Geometry.{metaslab_stripes, metaslab_sectors};
 ghost use Rattle.draid_names.specs.declared.pointer.Pointer.{Pointer};
 ghost use Rattle.draid_block.specs.Blocks.{BlockValue, cut_of};
@@ -17,7 +18,7 @@ ghost use Rattle.draid_shard.specs.Machine.{Does, DoesNone, HasHistory, events_o
 ghost use Rattle.draid_shard.specs.MetaslabLayout.{IsMetaslabLayout, IsRun, MetaslabLayout, leaf_of, place_in};
 
 use crate::column::write_column;
-use crate::entry::{Entry, MOST_ENTRIES, hold, release, turn};
+use crate::entry::{Entry, hold, release, turn};
 use crate::event::{begin_event, key_of, put_event};
 use crate::fault::{BeginFault, FetchFault, Missed, NotLive};
 use crate::fetch::read_columns;
@@ -29,7 +30,7 @@ use draid_block::{Encoded, Fetched};
 use draid_machine::{Event, Stage};
 use draid_map::Place;
 use draid_metaslab::Space;
-use draid_names::{Failed, NoMemory, Pointer, Room};
+use draid_names::{Failed, NUMBERS, NoMemory, OBJECTS, Pointer, Room, most_held};
 use draid_perm::Perms;
 use draid_rack::Rack;
 use draid_slots::Slots;
@@ -115,7 +116,7 @@ impl<R: Rack> Shard<R> {
         ensures named { (result.metaslab ≡ self.now.number) × (result.need ≡ need) }
         ensures run { IsRoom (held_of self.now) (free_of self.now) self.now.geometry.props.height result.run }
     {
-        let run = if self.blocks.len() == MOST_ENTRIES {
+        let run = if self.blocks.len() == most_held(1) {
             0
         } else {
             self.space.largest()
@@ -129,9 +130,9 @@ impl<R: Rack> Shard<R> {
 
     /// Whether the metaslab holds all the blocks and tickets that it may.
     pub fn is_full(&self) -> bool
-        ensures { IsTrue result ↔ (held_of self.now ≡ 4096) }
+        ensures { IsTrue result ↔ (held_of self.now ≡ numbers.most_held 1) }
     {
-        self.blocks.len() == MOST_ENTRIES
+        self.blocks.len() == most_held(1)
     }
 
     /// Takes the lowest free run of stripes that the block fits, for a write of `seq` to `object`. The block is born in
@@ -144,9 +145,9 @@ impl<R: Rack> Shard<R> {
         floor: u64,
     ) -> Result<Ticket, BeginFault>
         requires valid { Valid R.shape self.old }
-        requires object { object < 2 ^ 32 }
+        requires object { object < OBJECTS }
         requires first { 1 ≤ seq }
-        requires last { seq < 2 ^ 48 }
+        requires last { seq < NUMBERS }
         requires unused { IsUnused self.old object seq }
         requires floor { floor ≤ open_group + 1 }
         requires cut { block.now.cut ≡ cut_of self.old.geometry }

@@ -6,7 +6,7 @@ use Rattle.std.proofs.lemmas.Bool.{cases_lt}
 use Rattle.std.proofs.lemmas.Bool.Decides.{nat_tests}
 use Rattle.std.proofs.lemmas.List.{places, get_or-set_same, get_or-set_other}
 use Rattle.draid_spec.specs.declared.layout.Geometry.{Geometry}
-use Rattle.draid_rack.specs.Rack.{Told, OnTold, Reads}
+use Rattle.draid_rack.specs.Rack.{Told, HasJust, OnTold, Reads}
 use Rattle.draid_rack.specs.Memory.{faults_of_memory, shape_of_memory, told_by_memory}
 use Rattle.draid_rack.specs.Moments as rack
 use Rattle.draid_rack.specs.declared.memory.MemoryRack.{MemoryRack}
@@ -69,9 +69,14 @@ made_as geometry made now is told shape counts = record {
   counts = λ who. counts who ∙ is.counts who;
 }
 
-pub made_rack : (geometry : Geometry) (rack : MemoryRack) → HasLeavesOf geometry (shape_of_memory rack) → ((l s : ℕ) → l < geometry.spec.children → s < metaslab_sectors geometry → Reads (told_by_memory rack) l s (replicate geometry.props.sector 0))
+pub made_rack : (geometry : Geometry) (rack : MemoryRack) (sectors : ℕ) → sectors ≡ metaslab_sectors geometry → HasJust (shape_of_memory rack) geometry.spec.children sectors geometry.props.sector
+    → ((l s : ℕ) → l < geometry.spec.children → s < sectors → Reads (told_by_memory rack) l s (replicate geometry.props.sector 0))
     → OnTold (told_by_memory rack) (λ x. (l s : ℕ) → x.soft l s ≡ false) → OnTold (told_by_memory rack) (λ x. (l s : ℕ) → x.harmed l s ≡ false) → ((who : Option ℕ) → faults_of_memory rack who ≡ 0) → IsMade geometry rack
-made_rack geometry rack leaves zeros firm unharmed counts = record { leaves = leaves; told = record { zeros = zeros; soft = firm; harmed = unharmed }; counts = counts }
+made_rack geometry rack sectors is leaves zeros firm unharmed counts = record {
+  leaves = subst (λ n. HasJust (shape_of_memory rack) geometry.spec.children n geometry.props.sector) is leaves;
+  told = record { zeros = subst (λ n. (l s : ℕ) → l < geometry.spec.children → s < n → Reads (told_by_memory rack) l s (replicate geometry.props.sector 0)) is zeros; soft = firm; harmed = unharmed };
+  counts = counts;
+}
 
 pub made_area_as : (bytes : List ℕ) (made now : MemoryArea) → device.told_by_memory made ≡ Some (begins bytes) → device.faults_of_memory made ≡ 0 → device.told_by_memory now ≡ device.told_by_memory made → device.faults_of_memory now ≡ device.faults_of_memory made → IsMadeArea bytes now
 made_area_as bytes made now begun none told count = record {

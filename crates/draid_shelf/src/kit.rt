@@ -5,4 +5,3 @@ pub struct Kit<R: Drop, A: Drop> {
     pub even: A,
     pub odd: A,
 }
-

@@ -1,6 +1,6 @@
 -- The slice of a sector, counted in the metaslab and through the pool.
-use Rattle.std.proofs.Common.{◌≡◌, ℕ, ◌+◌, ◌-◌, ◌*◌, ◌/◌, ◌<◌, ◌≤◌, ap, sym, ◌∙◌, arith}
-use Rattle.std.proofs.Math.Nat.{add_comm, add-mul-div_right, mul_assoc, mul-le-mul}
+use Rattle.std.proofs.Common.{◌≡◌, ℕ, ◌+◌, ◌-◌, ◌*◌, ◌/◌, ◌<◌, ◌≤◌, ap, ◌∙◌, arith}
+use Rattle.std.proofs.Math.Nat.{add_comm, add-mul-div_right, mul-le-mul}
 use Rattle.draid_map.specs.Place.{spare_child_of}
 use Rattle.draid_perm.specs.Perms.{child_of}
 use Rattle.draid_spec.specs.Geometry.{IsGeometry, metaslab_sectors}
@@ -17,6 +17,6 @@ layout_slot table spare sector is below =
     let product : 1 * 1 ≤ d = mul-le-mul rows height in
     let some : 0 < d = omega arith in
     let n = table.metaslab * table.geometry.props.slices in
-    let whole : table.metaslab * (table.geometry.props.slices * d) ≡ n * d = sym (mul_assoc table.metaslab table.geometry.props.slices d) in
+    let whole : table.metaslab * metaslab_sectors table.geometry ≡ n * d = grind arith in
     ap (λ q. child_of table.perms q (table.geometry.spec.children - 1 - spare))
     (ap (λ x. (x + sector) / d) whole ∙ ap (λ x. x / d) (add_comm (n * d) sector) ∙ add-mul-div_right sector n some ∙ add_comm (sector / d) n)

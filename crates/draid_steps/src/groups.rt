@@ -3,6 +3,7 @@ ghost use Rattle.draid_machine.specs.State.{State};
 ghost use Rattle.draid_machine.specs.Step.{CloseStep, CancelStep};
 ghost use Rattle.draid_world.specs.World.{state_of};
 
+use draid_names::LAST_NUMBER;
 use draid_world::World;
 
 /// Closes the open group, where that is legal.
@@ -11,7 +12,7 @@ pub fn close(world: &mut World, group: u64) -> bool
     ensures legal { result ≡ true → CloseStep (state_of world.old) group (state_of world.new) }
     ensures illegal { result ≡ false → (new : State) → CloseStep (state_of world.old) group new → ⊥ }
 {
-    if world.open_group != group || group >= (1 << 48) - 1 || world.closing.is_some() {
+    if world.open_group != group || group >= LAST_NUMBER || world.closing.is_some() {
         return false;
     }
     world.closing = Some(group);

@@ -47,8 +47,9 @@ fn next_place(site: &Site, tables: &Tables, first: u64, stripes: u32) -> u64
     ensures before { (x : ℕ) → first ≤ x → x < result → Fits (site_layout site.now) (core_of tables.now) x stripes → ⊥ }
 {
     let height = u64::from(site.geometry.props.height);
+    let all = site.geometry.metaslab_stripes();
     let end = first + u64::from(stripes);
-    if end > site.geometry.metaslab_stripes() || (end - 1) / height != first / height {
+    if end > all || (end - 1) / height != first / height {
         return first + 1;
     }
     match meeting(&tables.held, first, stripes) {

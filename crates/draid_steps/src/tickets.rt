@@ -1,4 +1,5 @@
 ghost use Rattle.std.specs.Prelude.{◌≡◌, ◌<◌, ◌^◌, true, false, IfOk};
+ghost use Rattle.draid_names.specs.Numbers as numbers;
 ghost use Rattle.draid_machine.specs.State.{State};
 ghost use Rattle.draid_machine.specs.Step.{BeginStep, HoldsFewer, IsEnabled};
 ghost use Rattle.draid_map.specs.Place.{IsLayout};
@@ -6,7 +7,7 @@ ghost use Rattle.draid_world.specs.World.{AreLow, core_of, site_layout, state_of
 
 use crate::room::is_lowest;
 use draid_machine::{Held, Key};
-use draid_names::PassKind;
+use draid_names::{PassKind, most_held};
 use draid_world::tables::{enter, find};
 use draid_world::{Site, Tables, World};
 use std::alloc::AllocError;
@@ -27,10 +28,10 @@ fn is_enabled(tables: &Tables) -> bool
 
 /// Whether there are fewer blocks and tickets than a metaslab may have.
 fn has_room(tables: &Tables) -> bool
-    ensures yes { result ≡ true → HoldsFewer (core_of tables.now) 4096 }
-    ensures no { result ≡ false → HoldsFewer (core_of tables.now) 4096 → ⊥ }
+    ensures yes { result ≡ true → HoldsFewer (core_of tables.now) (numbers.most_held 1) }
+    ensures no { result ≡ false → HoldsFewer (core_of tables.now) (numbers.most_held 1) → ⊥ }
 {
-    tables.held.len() < 4096
+    tables.held.len() < most_held(1)
 }
 
 /// Opens a ticket, where that is legal.

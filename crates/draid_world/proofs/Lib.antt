@@ -1,3 +1,4 @@
 pub mod Maps
 pub mod Readings
+pub mod Segments
 pub mod Sizes

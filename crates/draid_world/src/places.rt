@@ -10,6 +10,16 @@ use crate::arms::{first_leaf, leaf_answers, names_of};
 use crate::world::{Site, Tables};
 use draid_machine::ArmName;
 
+/// The number that a stripe of the metaslab has in the pool.
+fn pool_number(site: &Site, stripe: u64) -> u64
+    requires layout { IsLayout site.now.geometry site.now.perms }
+    requires metaslab { site.now.metaslab < site.now.geometry.props.metaslabs }
+    requires stripe { stripe < 2 ^ 49 }
+    ensures { result ≡ pool_stripe site.now.geometry site.now.metaslab stripe }
+{
+    u64::from(site.metaslab) * site.geometry.metaslab_stripes() + stripe
+}
+
 /// The slot on whose first leaf a spare keeps what belongs to a stripe.
 pub fn home(site: &Site, spare: u32, stripe: u64) -> u32
     requires layout { IsLayout site.now.geometry site.now.perms }
@@ -20,8 +30,7 @@ pub fn home(site: &Site, spare: u32, stripe: u64) -> u32
 {
     let height = u64::from(site.geometry.props.height);
     let groups = u64::from(site.geometry.ngroups);
-    let number = u64::from(site.metaslab) * site.geometry.metaslab_stripes() + stripe;
-    let slice = number / (height * groups);
+    let slice = pool_number(site, stripe) / (height * groups);
     site.perms
         .child(slice, site.geometry.spec.children - 1 - spare)
 }
@@ -92,7 +101,7 @@ pub fn slot_of(site: &Site, stripe: u64, column: u32) -> u32
 {
     let height = u64::from(site.geometry.props.height);
     let groups = u64::from(site.geometry.ngroups);
-    let number = u64::from(site.metaslab) * site.geometry.metaslab_stripes() + stripe;
+    let number = pool_number(site, stripe);
     let group = number / height % groups;
     let index = group * u64::from(site.geometry.g) + u64::from(column);
     let position = (index % u64::from(site.geometry.ndisks)) as u32;

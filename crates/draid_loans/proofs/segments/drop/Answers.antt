@@ -1,4 +1,4 @@
-use Rattle.draid_loans.proofs.Sets.{segment_removed}
+use Rattle.draid_world.proofs.Segments.{segment_removed}
 use Rattle.draid_loans.proofs.segments.drop.Goals as goal
 
 pub returns : goal.returns

@@ -1,5 +1,5 @@
 use Rattle.std.proofs.Common.{◌∙◌}
-use Rattle.draid_loans.proofs.Sets.{segments_at}
+use Rattle.draid_world.proofs.Segments.{segments_at}
 use Rattle.draid_loans.proofs.segments.has.Goals as goal
 
 pub returns : goal.returns

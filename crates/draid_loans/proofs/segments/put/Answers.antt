@@ -1,4 +1,4 @@
-use Rattle.draid_loans.proofs.Sets.{segment_added}
+use Rattle.draid_world.proofs.Segments.{segment_added}
 use Rattle.draid_loans.proofs.segments.put.Goals as goal
 
 pub returns : goal.returns

@@ -33,7 +33,7 @@ returns-in-Ok-insert-clause-tables c geometry t sized =
     (record { some = sized.some; short = sized.short; stripes = sized.stripes; born = sized.born })
     (rw c.from.ensures at c.in-Ok.ensures.taken) (sets_entry c.args.blocks.now c.insert.new.self c.in-Ok.first _ e.updates)
     (space_of geometry c.args.space.now c.allocate.new.self c.args.blocks.now _ t c.in-Ok.ensures.kept (omega (arith, len, count, held))
-    (let f = c.requires.few in let below = c.if-len-eq-MOST_ENTRIES.false in omega (arith, len, f, below)))
+    (let f = c.requires.few in let below = c.if-len-most_held.false in let most = c.most_held.ensures in omega (arith, len, f, below, most)))
 
 pub returns-in-Err-clause-tables : goal.returns-in-Err-clause-tables
 returns-in-Err-clause-tables c geometry t sized =

@@ -5,4 +5,4 @@ pub returns : goal.returns
 returns c =
     let e = c.in_ok-rack.ensures in
     let f = c.fuse_rack.ensures in
-    made_as c.args.geometry.now c.in_ok-rack.rack c.fuse_rack.new.rack (made_rack c.args.geometry.now c.in_ok-rack.rack e.just e.zeros e.firm e.unharmed e.counts) f.told f.shape f.counts
+    made_as c.args.geometry.now c.in_ok-rack.rack c.fuse_rack.new.rack (made_rack c.args.geometry.now c.in_ok-rack.rack c.metaslab_sectors.result c.metaslab_sectors.ensures.value e.just e.zeros e.firm e.unharmed e.counts) f.told f.shape f.counts

@@ -1,4 +1,4 @@
-use Rattle.std.proofs.Common.{◌≡◌, ◌+◌, ◌<◌, ◌≤◌, ◌/◌, ◌-◌, ◌*◌, ap, ap₂, subst}
+use Rattle.std.proofs.Common.{◌≡◌, ◌+◌, ◌<◌, ◌≤◌, ◌/◌, ◌-◌, ap, subst}
 use Rattle.draid_spec.specs.Geometry.{metaslab_stripes}
 use Rattle.draid_world.specs.World.{core_of, site_layout}
 use Rattle.draid_steps.proofs.Runs.{blocked, free_run}
@@ -12,9 +12,9 @@ returns-in-Some-clause-before c = λ x from less fits.
 
 pub returns-in-None-clause-fits : goal.returns-in-None-clause-fits
 returns-in-None-clause-fits c = λ same.
-    let n = c.from-3.ensures in
+    let n = c.from.ensures in
     record {
-      inside = (let fit = c.if-end-all.false in subst (λ s. s ≤ metaslab_stripes c.args.site.now.geometry) (ap (λ m. c.args.first + m) n) (subst (λ all. c.args.first + c.from-3.result ≤ all) (ap₂ (λ a b. a * b) (ap₂ (λ a b. a * b) c.from.ensures c.from-2.ensures) c.from-height.ensures) fit));
+      inside = (let fit = c.if-end-all.false in subst (λ s. s ≤ metaslab_stripes c.args.site.now.geometry) (ap (λ m. c.args.first + m) n) (subst (λ all. c.args.first + c.from.result ≤ all) c.metaslab_stripes-all.ensures.value fit));
       group = subst (λ h. (c.args.first + c.args.stripes - 1) / h ≡ c.args.first / h) c.from-height.ensures (subst (λ m. (c.args.first + m - 1) / c.from-height.result ≡ c.args.first / c.from-height.result) n c.if-end-height.false);
       free = free_run (core_of c.args.tables.now) c.args.first c.args.stripes c.in-None.ensures.none;
     }

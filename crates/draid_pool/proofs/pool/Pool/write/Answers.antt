@@ -36,8 +36,8 @@ returns-in_default-pick g c = record {
       (c.count_full.ensures ∙ ap (count_by has_all) c.as_slice-in_default-pick-2.ensures.value));
 }
 
-pub returns-then-self-ge-LAST_WRITE : goal.returns-then-self-ge-LAST_WRITE
-returns-then-self-ge-LAST_WRITE g c = record {
+pub returns-then-self-ge-LAST_NUMBER : goal.returns-then-self-ge-LAST_NUMBER
+returns-then-self-ge-LAST_NUMBER g c = record {
   step = λ changes is.
       (let zip = subst (λ (xs : List (Shard g.row.R.Denot)). AllZip (RoomIs c.from-need.result) xs c.in-Ok-rooms_of.rooms.items) c.as_slice.ensures.value c.in-Ok-rooms_of.ensures in
       let same = c.from-need.ensures ∙ (c.stripes.ensures.stripes ∙ (ap (λ (k : Cut). stripes_of k (length c.in-Ok.block.bytes)) c.in-Ok.ensures.cut ∙ ap (stripes_for c.args.self.now.geometry) c.in-Ok.ensures.bytes)) in
@@ -45,7 +45,7 @@ returns-then-self-ge-LAST_WRITE g c = record {
       let named = subst (λ (xs : List Room). chosen xs (Some c.in-Some.metaslab)) c.as_slice-2.ensures.value c.in-Some.ensures.answer in
       last_step g.R.Rack.shape g.R.Rack.told g.R.Rack.faults chosen c.args.self.now changes c.args.object c.args.bytes.now c.in-Some.metaslab is
       (goes_to g.R.Rack.shape g.R.Rack.told g.R.Rack.faults chosen c.args.self.now changes c.args.bytes.now c.in-Some.metaslab c.from-need.result c.in-Ok-rooms_of.rooms.items same zip named)
-      c.if-self-ge-LAST_WRITE.true);
+      c.if-self-ge-LAST_NUMBER.true);
 }
 
 pub write_block-requires-clause-room : goal.write_block-requires-clause-room
