@@ -34,8 +34,7 @@ pub fn stripes(site: &Site) -> u64
     ensures value { result ≡ (site_layout site.now).stripes }
     ensures few { result < NUMBERS }
 {
-    let props = &site.geometry.props;
-    u64::from(props.slices) * u64::from(site.geometry.ngroups) * u64::from(props.height)
+    site.geometry.metaslab_stripes()
 }
 
 /// A leaf that doesn't answer, or on which a call failed.
