@@ -1,4 +1,5 @@
 use Rattle.std.specs.Prelude.{◌≡◌, ◌⊎◌, ◌<◌, ◌^◌, ℕ, Some}
+use Rattle.draid_names.specs.declared.numbers.TheConstants.{NUMBERS}
 use Rattle.draid_machine.specs.State.{Image, State}
 use Rattle.draid_world.specs.World.{AreLow}
 
@@ -8,4 +9,4 @@ IsChosen w t image = ((w.image ≡ image) × (w.committed ≡ t)) ⊎ ((w.sealed
 
 -- an image of a group below 2^48, whose blocks begin at stripes below 2^48
 abbrev pub IsLowImage : Image → Type 0
-IsLowImage image = (image.group < 2 ^ 48) × AreLow image.core
+IsLowImage image = (image.group < NUMBERS) × AreLow image.core

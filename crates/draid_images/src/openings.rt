@@ -14,6 +14,7 @@ ghost use Rattle.draid_world.specs.World.{AreLow, core_of, held_in, image_of, na
 
 use crate::copies::{Copying, copy_tables};
 use draid_machine::{ArmName, Held, Key, Segment, Stage};
+use draid_names::NUMBERS;
 use draid_passes::is_block;
 use draid_steps::columns::{add_landed, add_segment};
 use draid_world::arms::{is_among, names_of};
@@ -40,7 +41,7 @@ fn is_at(site: &Site, order: &[Vec<ArmName>], name: ArmName, stripe: u64, leaf: 
 fn is_on(site: &Site, order: &[Vec<ArmName>], segment: &Segment, held: &Held) -> bool
     requires layout { IsLayout site.now.geometry site.now.perms }
     requires metaslab { site.now.metaslab < site.now.geometry.props.metaslabs }
-    requires first { held.now.first < 2 ^ 48 }
+    requires first { held.now.first < NUMBERS }
     ensures yes { result ≡ true → claims.is_on (site_layout site.now) (names_at order.now) segment.now held.now ≡ true }
     ensures no { result ≡ false → claims.is_on (site_layout site.now) (names_at order.now) segment.now held.now ≡ false }
 {
@@ -72,7 +73,7 @@ fn is_put(stage: Stage, column: u32) -> bool
 
 /// Whether a running pass without errors has passed a row of a block on one of its targets.
 fn is_passed(pass: &Option<WorldPass>, name: ArmName, held: &Held, row: u32) -> bool
-    requires first { held.now.first < 2 ^ 48 }
+    requires first { held.now.first < NUMBERS }
     ensures { result ≡ claims.passed (option_map pass_of pass.now) name held.now row }
 {
     match pass {
@@ -177,7 +178,7 @@ fn add_block(
 ) -> Result<(), AllocError>
     requires layout { IsLayout site.now.geometry site.now.perms }
     requires metaslab { site.now.metaslab < site.now.geometry.props.metaslabs }
-    requires first { held.now.first < 2 ^ 48 }
+    requires first { held.now.first < NUMBERS }
     ensures kept { OnOk result ((s : Segment) → names.has_segment set.old.keys s ≡ true → names.has_segment set.new.keys s ≡ true) }
     ensures added { OnOk result ((s : Segment) → key ≡ s.key → claims.is_on (site_layout site.now) (names_at order.now) s held.now ≡ true
         → names.has_segment set.new.keys s ≡ true) }

@@ -15,7 +15,7 @@ ghost use Rattle.draid_world.specs.World.{arm_in, core_of, held_in, pass_of, sit
 
 use crate::copies::{Copying, copy_tables};
 use draid_machine::{ArmName, Held, Key, Stage};
-use draid_names::{LAST_NUMBER, PassKind};
+use draid_names::{LAST_NUMBER, NUMBERS, PassKind};
 use draid_passes::{is_block, lies_on_silent};
 use draid_steps::columns::log_missed;
 use draid_world::{Image, Site, Tables, World, WorldPass};
@@ -120,7 +120,7 @@ fn log_silent(
 ) -> Result<(), AllocError>
     requires layout { IsLayout site.now.geometry site.now.perms }
     requires metaslab { site.now.metaslab < site.now.geometry.props.metaslabs }
-    requires group { group < 2 ^ 48 }
+    requires group { group < NUMBERS }
     ensures logs { OnOk result ((n : ArmName) → arm_in tables.new.arms.entries n
         ≡ after.each_arm (λ m. after.log_if (wrote && arms.lies_on (site_layout site.now) (core_of tables.old) (arms.is_silent (core_of tables.old) failed.now) m) group) (arm_in tables.old.arms.entries) n) }
     ensures rest { tables.new ≡ record tables.old { arms = tables.new.arms } }
@@ -227,7 +227,7 @@ fn seal_tables(
 ) -> Result<(), AllocError>
     requires layout { IsLayout site.now.geometry site.now.perms }
     requires metaslab { site.now.metaslab < site.now.geometry.props.metaslabs }
-    requires group { group < 2 ^ 48 }
+    requires group { group < NUMBERS }
     ensures { OnOk result (core_of tables.new ≡ after.sealed_core (site_layout site.now) (core_of tables.old) group failed.now wrote) }
 {
     let pass = lost_pass(alloc, site, tables, failed)?;
@@ -246,7 +246,7 @@ pub fn seal(
 ) -> Result<bool, AllocError>
     requires layout { IsLayout site.now.geometry site.now.perms }
     requires metaslab { site.now.metaslab < site.now.geometry.props.metaslabs }
-    requires group { group < 2 ^ 48 }
+    requires group { group < NUMBERS }
     ensures legal { IfOk result (λ b. b ≡ true → SealStep (site_layout site.now) (state_of world.old) group failed.now (state_of world.new)) }
     ensures illegal { IfOk result (λ b. b ≡ false → (new : State) → SealStep (site_layout site.now) (state_of world.old) group failed.now new → ⊥) }
 {

@@ -7,7 +7,7 @@ ghost use Rattle.draid_loans.specs.Blocks.{Adds, OnArm, OnColumn, OnNames};
 ghost use Rattle.draid_world.specs.World.{core_of, site_layout};
 
 use draid_machine::{ArmName, Held, Key, Segment};
-use draid_names::NoMemory;
+use draid_names::{NUMBERS, NoMemory};
 use draid_world::arms::names_of;
 use draid_world::places::{leaf_at, slot_of};
 use draid_world::{Site, Tables};
@@ -32,7 +32,7 @@ fn add_row(
 ) -> Result<(), NoMemory>
     requires layout { IsLayout site.now.geometry site.now.perms }
     requires metaslab { site.now.metaslab < site.now.geometry.props.metaslabs }
-    requires short { part.held.first + part.held.stripes < 2 ^ 48 }
+    requires short { part.held.first + part.held.stripes < NUMBERS }
     requires row { row < part.held.stripes }
     ensures { OnOk result (Adds (λ s. OnArm (site_layout site.now) (core_of tables.now).order part.key part.held part.column name s × (s.row ≡ row)) out.old.items out.new.items) }
 {
@@ -59,7 +59,7 @@ fn add_rows(
 ) -> Result<(), NoMemory>
     requires layout { IsLayout site.now.geometry site.now.perms }
     requires metaslab { site.now.metaslab < site.now.geometry.props.metaslabs }
-    requires short { part.held.first + part.held.stripes < 2 ^ 48 }
+    requires short { part.held.first + part.held.stripes < NUMBERS }
     ensures { OnOk result (Adds (OnArm (site_layout site.now) (core_of tables.now).order part.key part.held part.column name) out.old.items out.new.items) }
 {
     for row in 0..part.held.stripes {
@@ -78,7 +78,7 @@ fn add_names(
 ) -> Result<(), NoMemory>
     requires layout { IsLayout site.now.geometry site.now.perms }
     requires metaslab { site.now.metaslab < site.now.geometry.props.metaslabs }
-    requires short { part.held.first + part.held.stripes < 2 ^ 48 }
+    requires short { part.held.first + part.held.stripes < NUMBERS }
     ensures { OnOk result (Adds (OnNames (site_layout site.now) (core_of tables.now).order part.key part.held part.column names.now) out.old.items out.new.items) }
 {
     for at in 0..names.len() {
@@ -96,7 +96,7 @@ fn add_column(
 ) -> Result<(), NoMemory>
     requires layout { IsLayout site.now.geometry site.now.perms }
     requires metaslab { site.now.metaslab < site.now.geometry.props.metaslabs }
-    requires short { part.held.first + part.held.stripes < 2 ^ 48 }
+    requires short { part.held.first + part.held.stripes < NUMBERS }
     requires column { part.column < site.now.geometry.g }
     ensures { OnOk result (Adds (OnColumn (site_layout site.now) (core_of tables.now).order part.key part.held part.column) out.old.items out.new.items) }
 {
@@ -120,7 +120,7 @@ pub fn block_segments(
 ) -> Result<Vec<Segment>, NoMemory>
     requires layout { IsLayout site.now.geometry site.now.perms }
     requires metaslab { site.now.metaslab < site.now.geometry.props.metaslabs }
-    requires short { held.first + held.stripes < 2 ^ 48 }
+    requires short { held.first + held.stripes < NUMBERS }
     ensures { IfOk result (λ segments. (s : Segment) → has_segment segments.items s ≡ (key_eq key s.key && is_on (site_layout site.now) (core_of tables.now).order s held)) }
 {
     let mut out = Vec::new(alloc);

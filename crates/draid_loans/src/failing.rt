@@ -12,6 +12,7 @@ ghost use Rattle.draid_world.specs.World.{core_of, held_in, pass_of, site_layout
 
 use crate::sources::source;
 use draid_machine::{ArmName, Held, Key};
+use draid_names::NUMBERS;
 use draid_passes::{is_heal, is_lent};
 use draid_world::arms::{leaf_answers, names_of};
 use draid_world::places::{leaf_at, slot_of};
@@ -21,7 +22,7 @@ use draid_world::{Site, Tables, WorldPass};
 pub(crate) fn lies_at(site: &Site, tables: &Tables, name: ArmName, stripe: u64, leaf: u64) -> bool
     requires layout { IsLayout site.now.geometry site.now.perms }
     requires metaslab { site.now.metaslab < site.now.geometry.props.metaslabs }
-    requires stripe { stripe < 2 ^ 48 }
+    requires stripe { stripe < NUMBERS }
     ensures yes { result ≡ true → arms.leaf_at (site_layout site.now) (core_of tables.now).order name stripe ≡ Some leaf }
     ensures no { result ≡ false → arms.leaf_at (site_layout site.now) (core_of tables.now).order name stripe ≡ Some leaf → ⊥ }
 {
@@ -35,7 +36,7 @@ pub(crate) fn lies_at(site: &Site, tables: &Tables, name: ArmName, stripe: u64, 
 pub fn any_answers(site: &Site, tables: &Tables, names: &[ArmName], stripe: u64, leaf: u64) -> bool
     requires layout { IsLayout site.now.geometry site.now.perms }
     requires metaslab { site.now.metaslab < site.now.geometry.props.metaslabs }
-    requires stripe { stripe < 2 ^ 48 }
+    requires stripe { stripe < NUMBERS }
     ensures yes { result ≡ true → IsAnswering (site_layout site.now) (core_of tables.now) names.now stripe leaf }
     ensures no { result ≡ false → IsAnswering (site_layout site.now) (core_of tables.now) names.now stripe leaf → ⊥ }
 {
@@ -62,8 +63,8 @@ fn reads_at(
 ) -> bool
     requires layout { IsLayout site.now.geometry site.now.perms }
     requires metaslab { site.now.metaslab < site.now.geometry.props.metaslabs }
-    requires first { held.first < 2 ^ 48 }
-    requires stripe { stripe < 2 ^ 48 }
+    requires first { held.first < NUMBERS }
+    requires stripe { stripe < NUMBERS }
     requires column { column < site.now.geometry.g }
     ensures yes { result ≡ true → ReadsAt (site_layout site.now) (core_of tables.now) (pass_of pass.now) held stripe column leaf }
     ensures no { result ≡ false → ReadsAt (site_layout site.now) (core_of tables.now) (pass_of pass.now) held stripe column leaf → ⊥ }
@@ -89,8 +90,8 @@ fn reads_there(
 ) -> bool
     requires layout { IsLayout site.now.geometry site.now.perms }
     requires metaslab { site.now.metaslab < site.now.geometry.props.metaslabs }
-    requires first { held.first < 2 ^ 48 }
-    requires stripe { stripe < 2 ^ 48 }
+    requires first { held.first < NUMBERS }
+    requires stripe { stripe < NUMBERS }
     ensures yes { result ≡ true → ReadsThere (site_layout site.now) (core_of tables.now) (pass_of pass.now) held stripe leaf }
     ensures no { result ≡ false → ReadsThere (site_layout site.now) (core_of tables.now) (pass_of pass.now) held stripe leaf → ⊥ }
 {
@@ -113,8 +114,8 @@ fn reads_all(
 ) -> bool
     requires layout { IsLayout site.now.geometry site.now.perms }
     requires metaslab { site.now.metaslab < site.now.geometry.props.metaslabs }
-    requires first { held.first < 2 ^ 48 }
-    requires stripe { stripe < 2 ^ 48 }
+    requires first { held.first < NUMBERS }
+    requires stripe { stripe < NUMBERS }
     ensures yes { result ≡ true → AllRead (site_layout site.now) (core_of tables.now) (pass_of pass.now) held stripe leaves.now }
     ensures no { result ≡ false → AllRead (site_layout site.now) (core_of tables.now) (pass_of pass.now) held stripe leaves.now → ⊥ }
 {
@@ -137,7 +138,7 @@ fn may_lend(
 ) -> bool
     requires layout { IsLayout site.now.geometry site.now.perms }
     requires metaslab { site.now.metaslab < site.now.geometry.props.metaslabs }
-    requires short { held.first + held.stripes < 2 ^ 48 }
+    requires short { held.first + held.stripes < NUMBERS }
     ensures yes { result ≡ true → MayLend (site_layout site.now) (core_of tables.now) (pass_of pass.now) stripe failed.now held }
     ensures no { result ≡ false → MayLend (site_layout site.now) (core_of tables.now) (pass_of pass.now) stripe failed.now held → ⊥ }
 {

@@ -9,7 +9,7 @@ ghost use Rattle.draid_world.specs.World.{core_of, loan_of, name_at, pass_of, si
 
 use crate::failing::lies_at;
 use draid_machine::{ArmName, Held};
-use draid_names::PassKind;
+use draid_names::{NUMBERS, PassKind};
 use draid_passes::has_column;
 use draid_world::arms::leaf_answers;
 use draid_world::tables::find;
@@ -61,7 +61,7 @@ pub(crate) fn unsourced(site: &Site, loan: &Lent) -> u32
 fn keeps(site: &Site, tables: &Tables, name: ArmName, stripe: u64, leaf: u64) -> bool
     requires layout { IsLayout site.now.geometry site.now.perms }
     requires metaslab { site.now.metaslab < site.now.geometry.props.metaslabs }
-    requires stripe { stripe < 2 ^ 48 }
+    requires stripe { stripe < NUMBERS }
     ensures yes { result ≡ true → Keeps (site_layout site.now) (core_of tables.now) stripe leaf name }
     ensures no { result ≡ false → Keeps (site_layout site.now) (core_of tables.now) stripe leaf name → ⊥ }
 {
@@ -72,7 +72,7 @@ fn keeps(site: &Site, tables: &Tables, name: ArmName, stripe: u64, leaf: u64) ->
 fn mends_there(site: &Site, tables: &Tables, pass: &WorldPass, stripe: u64, leaf: u64) -> bool
     requires layout { IsLayout site.now.geometry site.now.perms }
     requires metaslab { site.now.metaslab < site.now.geometry.props.metaslabs }
-    requires stripe { stripe < 2 ^ 48 }
+    requires stripe { stripe < NUMBERS }
     ensures yes { result ≡ true → MendsThere (site_layout site.now) (core_of tables.now) (pass_of pass.now) stripe leaf }
     ensures no { result ≡ false → MendsThere (site_layout site.now) (core_of tables.now) (pass_of pass.now) stripe leaf → ⊥ }
 {
@@ -91,7 +91,7 @@ fn mends_there(site: &Site, tables: &Tables, pass: &WorldPass, stripe: u64, leaf
 fn may_mend(site: &Site, tables: &Tables, pass: &WorldPass, loan: &Lent, leaf: u64) -> bool
     requires layout { IsLayout site.now.geometry site.now.perms }
     requires metaslab { site.now.metaslab < site.now.geometry.props.metaslabs }
-    requires stripe { loan.now.stripe < 2 ^ 48 }
+    requires stripe { loan.now.stripe < NUMBERS }
     ensures yes { result ≡ true → MayMend (site_layout site.now) (core_of tables.now) (pass_of pass.now) (loan_of loan.now) leaf }
     ensures no { result ≡ false → MayMend (site_layout site.now) (core_of tables.now) (pass_of pass.now) (loan_of loan.now) leaf → ⊥ }
 {
@@ -109,7 +109,7 @@ pub(crate) fn may_mend_all(
 ) -> bool
     requires layout { IsLayout site.now.geometry site.now.perms }
     requires metaslab { site.now.metaslab < site.now.geometry.props.metaslabs }
-    requires stripe { loan.now.stripe < 2 ^ 48 }
+    requires stripe { loan.now.stripe < NUMBERS }
     ensures yes { result ≡ true → (leaf : ℕ) → has_number leaves.now leaf ≡ true → MayMend (site_layout site.now) (core_of tables.now) (pass_of pass.now) (loan_of loan.now) leaf }
     ensures no { result ≡ false → ((leaf : ℕ) → has_number leaves.now leaf ≡ true → MayMend (site_layout site.now) (core_of tables.now) (pass_of pass.now) (loan_of loan.now) leaf) → ⊥ }
 {

@@ -11,7 +11,7 @@ use crate::blocks::block_segments;
 use crate::landings::taken_from;
 use crate::segments::has;
 use draid_machine::{ArmName, Held, Segment};
-use draid_names::NoMemory;
+use draid_names::{NUMBERS, NoMemory};
 use draid_passes::has_column;
 use draid_world::arms::is_among;
 use draid_world::places::{answers, fails, leaf_at};
@@ -30,8 +30,8 @@ fn is_mended(
 ) -> bool
     requires layout { IsLayout site.now.geometry site.now.perms }
     requires metaslab { site.now.metaslab < site.now.geometry.props.metaslabs }
-    requires first { first < 2 ^ 48 }
-    requires stripe { stripe < 2 ^ 48 }
+    requires first { first < NUMBERS }
+    requires stripe { stripe < NUMBERS }
     ensures { result ≡ is_in_stripe (site_layout site.now) (core_of tables.now) targets.now first stripe segment }
 {
     first + u64::from(segment.row) == stripe
@@ -51,8 +51,8 @@ fn in_stripe(
 ) -> Result<Vec<Segment>, NoMemory>
     requires layout { IsLayout site.now.geometry site.now.perms }
     requires metaslab { site.now.metaslab < site.now.geometry.props.metaslabs }
-    requires first { first < 2 ^ 48 }
-    requires stripe { stripe < 2 ^ 48 }
+    requires first { first < NUMBERS }
+    requires stripe { stripe < NUMBERS }
     ensures { IfOk result (λ out. (s : Segment) → has_segment out.items s ≡ (has_segment all.now s && is_in_stripe (site_layout site.now) (core_of tables.now) targets.now first stripe s)) }
 {
     let mut out = Vec::new(alloc);
@@ -75,8 +75,8 @@ pub(crate) fn mended(
 ) -> Result<Vec<Segment>, NoMemory>
     requires layout { IsLayout site.now.geometry site.now.perms }
     requires metaslab { site.now.metaslab < site.now.geometry.props.metaslabs }
-    requires short { held.first + held.stripes < 2 ^ 48 }
-    requires stripe { loan.now.stripe < 2 ^ 48 }
+    requires short { held.first + held.stripes < NUMBERS }
+    requires stripe { loan.now.stripe < NUMBERS }
     ensures { IfOk result (λ out. (s : Segment) → has_segment out.items s ≡ after.is_mended (site_layout site.now) (core_of tables.now) (pass_of pass.now) (loan_of loan.now) held s) }
 {
     let all = block_segments(alloc, site, tables, loan.key, held)?;
@@ -102,7 +102,7 @@ pub(crate) fn landed(
 ) -> Result<Vec<Segment>, NoMemory>
     requires layout { IsLayout site.now.geometry site.now.perms }
     requires metaslab { site.now.metaslab < site.now.geometry.props.metaslabs }
-    requires stripe { stripe < 2 ^ 48 }
+    requires stripe { stripe < NUMBERS }
     ensures { IfOk result (λ out. (s : Segment) → has_segment out.items s ≡ (has_segment all.now s && not (arms.fails (site_layout site.now) (core_of tables.now) failed.now s.arm stripe))) }
 {
     let mut out = Vec::new(alloc);
@@ -125,7 +125,7 @@ fn is_aside_at(
 ) -> bool
     requires layout { IsLayout site.now.geometry site.now.perms }
     requires metaslab { site.now.metaslab < site.now.geometry.props.metaslabs }
-    requires stripe { loan.now.stripe < 2 ^ 48 }
+    requires stripe { loan.now.stripe < NUMBERS }
     ensures { result ≡ is_taken_aside (site_layout site.now) (core_of tables.now) (has_segment aside.now.keys) (loan_of loan.now) segment column (name_at loan.now.chosen.items column) }
 {
     let Some(arm) = taken_from(loan, column) else {
@@ -156,7 +156,7 @@ fn is_in_doubt(
 ) -> bool
     requires layout { IsLayout site.now.geometry site.now.perms }
     requires metaslab { site.now.metaslab < site.now.geometry.props.metaslabs }
-    requires stripe { loan.now.stripe < 2 ^ 48 }
+    requires stripe { loan.now.stripe < NUMBERS }
     ensures { result ≡ is_doubtful (site_layout site.now) (core_of tables.now) (has_segment aside.now.keys) (loan_of loan.now) segment }
 {
     if taken_from(loan, segment.column).is_some() {
@@ -181,7 +181,7 @@ pub(crate) fn doubted(
 ) -> Result<Vec<Segment>, NoMemory>
     requires layout { IsLayout site.now.geometry site.now.perms }
     requires metaslab { site.now.metaslab < site.now.geometry.props.metaslabs }
-    requires stripe { loan.now.stripe < 2 ^ 48 }
+    requires stripe { loan.now.stripe < NUMBERS }
     ensures { IfOk result (λ out. (s : Segment) → has_segment out.items s ≡ (has_segment all.now s && is_doubtful (site_layout site.now) (core_of tables.now) (has_segment aside.now.keys) (loan_of loan.now) s)) }
 {
     let mut out = Vec::new(alloc);
@@ -197,7 +197,7 @@ pub(crate) fn doubted(
 fn misses(site: &Site, tables: &Tables, failed: &[u64], name: ArmName, stripe: u64) -> bool
     requires layout { IsLayout site.now.geometry site.now.perms }
     requires metaslab { site.now.metaslab < site.now.geometry.props.metaslabs }
-    requires stripe { stripe < 2 ^ 48 }
+    requires stripe { stripe < NUMBERS }
     ensures { result ≡ after.misses_stripe (site_layout site.now) (core_of tables.now) stripe failed.now name }
 {
     has_column(site, tables, name, stripe)
@@ -215,7 +215,7 @@ pub fn kept(
 ) -> Result<Vec<ArmName>, NoMemory>
     requires layout { IsLayout site.now.geometry site.now.perms }
     requires metaslab { site.now.metaslab < site.now.geometry.props.metaslabs }
-    requires stripe { stripe < 2 ^ 48 }
+    requires stripe { stripe < NUMBERS }
     ensures { IfOk result (λ out. out.items ≡ filter (λ n. not (after.misses_stripe (site_layout site.now) (core_of tables.now) stripe failed.now n)) names.now) }
 {
     let mut out = Vec::new(alloc);

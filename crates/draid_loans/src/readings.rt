@@ -7,7 +7,7 @@ ghost use Rattle.draid_world.specs.World.{core_of, name_at, names_at, pass_of, s
 
 use crate::sources::chosen;
 use draid_machine::{ArmName, Held};
-use draid_names::NoMemory;
+use draid_names::{NUMBERS, NoMemory};
 use draid_passes::is_heal;
 use draid_world::arms::names_of;
 use draid_world::places::{answers, fails, slot_of};
@@ -32,7 +32,7 @@ fn answering(
 ) -> Result<Vec<ArmName>, NoMemory>
     requires layout { IsLayout site.now.geometry site.now.perms }
     requires metaslab { site.now.metaslab < site.now.geometry.props.metaslabs }
-    requires stripe { stripe < 2 ^ 48 }
+    requires stripe { stripe < NUMBERS }
     ensures { IfOk result (λ found. found.items ≡ filter (λ n. arms.answers (site_layout site.now) (core_of tables.now) n stripe && not (arms.fails (site_layout site.now) (core_of tables.now) failed.now n stripe)) names.now) }
 {
     let mut found = Vec::new(alloc);
@@ -74,8 +74,8 @@ fn read_for(
 ) -> Result<Vec<ArmName>, NoMemory>
     requires layout { IsLayout site.now.geometry site.now.perms }
     requires metaslab { site.now.metaslab < site.now.geometry.props.metaslabs }
-    requires first { held.first < 2 ^ 48 }
-    requires stripe { stripe < 2 ^ 48 }
+    requires first { held.first < NUMBERS }
+    requires stripe { stripe < NUMBERS }
     requires column { column < site.now.geometry.g }
     ensures { IfOk result (λ read. read.items ≡ step.arms_read (site_layout site.now) (core_of tables.now) (pass_of pass.now) held stripe failed.now column name) }
 {
@@ -98,8 +98,8 @@ pub(crate) fn read_columns(
 ) -> Result<Columns, NoMemory>
     requires layout { IsLayout site.now.geometry site.now.perms }
     requires metaslab { site.now.metaslab < site.now.geometry.props.metaslabs }
-    requires first { held.first < 2 ^ 48 }
-    requires stripe { stripe < 2 ^ 48 }
+    requires first { held.first < NUMBERS }
+    requires stripe { stripe < NUMBERS }
     ensures { IfOk result (λ columns. AreReadings (site_layout site.now) (core_of tables.now) (pass_of pass.now) held stripe failed.now site.now.geometry.g columns.read.items columns.chosen.items) }
 {
     let mut read = Vec::new(alloc);

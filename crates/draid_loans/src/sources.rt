@@ -7,6 +7,7 @@ ghost use Rattle.draid_loans.specs.Lending.{IsFrom, IsReady};
 ghost use Rattle.draid_world.specs.World.{core_of, pass_of, site_layout};
 
 use draid_machine::{ArmName, Held};
+use draid_names::NUMBERS;
 use draid_passes::is_heal;
 use draid_world::arms::names_of;
 use draid_world::places::{answers, fails, slot_of};
@@ -28,7 +29,7 @@ fn has_empty_log(tables: &Tables, name: ArmName) -> bool
 fn is_ready(site: &Site, tables: &Tables, name: ArmName, stripe: u64) -> bool
     requires layout { IsLayout site.now.geometry site.now.perms }
     requires metaslab { site.now.metaslab < site.now.geometry.props.metaslabs }
-    requires stripe { stripe < 2 ^ 48 }
+    requires stripe { stripe < NUMBERS }
     ensures yes { result ≡ true → IsReady (site_layout site.now) (core_of tables.now) stripe name }
     ensures no { result ≡ false → IsReady (site_layout site.now) (core_of tables.now) stripe name → ⊥ }
 {
@@ -39,7 +40,7 @@ fn is_ready(site: &Site, tables: &Tables, name: ArmName, stripe: u64) -> bool
 fn first_ready(site: &Site, tables: &Tables, names: &[ArmName], stripe: u64) -> Option<ArmName>
     requires layout { IsLayout site.now.geometry site.now.perms }
     requires metaslab { site.now.metaslab < site.now.geometry.props.metaslabs }
-    requires stripe { stripe < 2 ^ 48 }
+    requires stripe { stripe < NUMBERS }
     ensures { arms.IsFirst (IsReady (site_layout site.now) (core_of tables.now) stripe) names.now result }
 {
     for at in 0..names.len() {
@@ -54,7 +55,7 @@ fn first_ready(site: &Site, tables: &Tables, names: &[ArmName], stripe: u64) -> 
 pub(crate) fn source(site: &Site, tables: &Tables, stripe: u64, column: u32) -> Option<ArmName>
     requires layout { IsLayout site.now.geometry site.now.perms }
     requires metaslab { site.now.metaslab < site.now.geometry.props.metaslabs }
-    requires stripe { stripe < 2 ^ 48 }
+    requires stripe { stripe < NUMBERS }
     requires column { column < site.now.geometry.g }
     ensures { arms.IsSource (site_layout site.now) (core_of tables.now) stripe column result }
 {
@@ -73,8 +74,8 @@ fn from(
 ) -> Option<ArmName>
     requires layout { IsLayout site.now.geometry site.now.perms }
     requires metaslab { site.now.metaslab < site.now.geometry.props.metaslabs }
-    requires first { held.first < 2 ^ 48 }
-    requires stripe { stripe < 2 ^ 48 }
+    requires first { held.first < NUMBERS }
+    requires stripe { stripe < NUMBERS }
     requires column { column < site.now.geometry.g }
     ensures { IsFrom (site_layout site.now) (core_of tables.now) (pass_of pass.now) held stripe column result }
 {
@@ -96,8 +97,8 @@ pub(crate) fn chosen(
 ) -> Option<ArmName>
     requires layout { IsLayout site.now.geometry site.now.perms }
     requires metaslab { site.now.metaslab < site.now.geometry.props.metaslabs }
-    requires first { held.first < 2 ^ 48 }
-    requires stripe { stripe < 2 ^ 48 }
+    requires first { held.first < NUMBERS }
+    requires stripe { stripe < NUMBERS }
     requires column { column < site.now.geometry.g }
     ensures { IsChosen (site_layout site.now) (core_of tables.now) (pass_of pass.now) held stripe failed.now column result }
 {

@@ -13,7 +13,7 @@ use crate::lending::capped;
 use crate::mending::{doubted, kept, landed, mended};
 use crate::segments::{drop_all, put_all};
 use draid_machine::Held;
-use draid_names::{NoMemory, PassKind};
+use draid_names::{NUMBERS, NoMemory, PassKind};
 use draid_world::{Lent, Site, World, WorldPass};
 use std::alloc::Global;
 
@@ -29,8 +29,8 @@ fn mend_segments(
 ) -> Result<(), NoMemory>
     requires layout { IsLayout site.now.geometry site.now.perms }
     requires metaslab { site.now.metaslab < site.now.geometry.props.metaslabs }
-    requires short { held.first + held.stripes < 2 ^ 48 }
-    requires stripe { loan.now.stripe < 2 ^ 48 }
+    requires short { held.first + held.stripes < NUMBERS }
+    requires stripe { loan.now.stripe < NUMBERS }
     ensures { OnOk result (state_of world.new ≡ mended_state (site_layout site.now) (state_of world.old) (pass_of pass.now) (loan_of loan.now) held failed.now) }
 {
     let all = mended(alloc, site, &world.tables, pass, loan, held)?;
@@ -54,7 +54,7 @@ fn pass_after(
 ) -> Result<WorldPass, NoMemory>
     requires layout { IsLayout site.now.geometry site.now.perms }
     requires metaslab { site.now.metaslab < site.now.geometry.props.metaslabs }
-    requires stripe { stripe < 2 ^ 48 }
+    requires stripe { stripe < NUMBERS }
     ensures { IfOk result (λ next. pass_of next ≡ mended_pass (site_layout site.now) (core_of world.now.tables) (pass_of pass) stripe failed.now) }
 {
     let targets = kept(alloc, site, &world.tables, &pass.targets, stripe, failed)?;
@@ -80,7 +80,7 @@ fn landing_stripe(
 ) -> Option<Held>
     requires layout { IsLayout site.now.geometry site.now.perms }
     requires metaslab { site.now.metaslab < site.now.geometry.props.metaslabs }
-    requires stripe { IfSome world.now.loan (λ loan. loan.stripe < 2 ^ 48) }
+    requires stripe { IfSome world.now.loan (λ loan. loan.stripe < NUMBERS) }
     ensures some { IfSome result (λ h. MayLandStripe (site_layout site.now) (state_of world.now) pass serial failed.now h) }
     ensures none { IfNone result ((h : Held) → MayLandStripe (site_layout site.now) (state_of world.now) pass serial failed.now h → ⊥) }
 {
@@ -111,7 +111,7 @@ pub fn land_stripe(
     requires layout { IsLayout site.now.geometry site.now.perms }
     requires metaslab { site.now.metaslab < site.now.geometry.props.metaslabs }
     requires short { AreShort (held_in world.old.tables.held.entries) }
-    requires stripe { IfSome world.old.loan (λ loan. loan.stripe < 2 ^ 48) }
+    requires stripe { IfSome world.old.loan (λ loan. loan.stripe < NUMBERS) }
     ensures legal { result ≡ Ok true → LandStripeStep (site_layout site.now) (state_of world.old) pass serial failed.now (state_of world.new) }
     ensures illegal { result ≡ Ok false → (new : State) → LandStripeStep (site_layout site.now) (state_of world.old) pass serial failed.now new → ⊥ }
 {

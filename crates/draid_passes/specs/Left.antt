@@ -1,4 +1,5 @@
 use Rattle.std.specs.Prelude.{◌≡◌, ◌+◌, ◌<◌, ◌≤◌, ◌^◌, ◌&&◌, ℕ, true, false, nat_lt, min, max, Option, Some, None, if◌then◌else◌}
+use Rattle.draid_names.specs.declared.numbers.TheConstants.{NUMBERS}
 use Rattle.draid_machine.specs.declared.names.Key.{Key}
 use Rattle.draid_machine.specs.declared.names.Held.{Held}
 use Rattle.draid_machine.specs.Names.{is_block, takes}
@@ -8,7 +9,7 @@ use Rattle.draid_machine.specs.Step.{is_lent}
 
 -- blocks and tickets end at stripes below 2^48
 abbrev pub AreShort : (Key → Option Held) → Type 0
-AreShort held = (k : Key) (h : Held) → held k ≡ Some h → h.first + h.stripes < 2 ^ 48
+AreShort held = (k : Key) (h : Held) → held k ≡ Some h → h.first + h.stripes < NUMBERS
 
 -- no ticket, and no birth above a group
 pub record AreSettled (held : Key → Option Held) (group : ℕ) : Type 0 where

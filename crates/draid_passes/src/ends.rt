@@ -15,6 +15,7 @@ use crate::left::{is_heal, next_stripe};
 use crate::logs::excise_logs;
 use crate::lying::{lies_on, lies_on_silent};
 use draid_machine::ArmName;
+use draid_names::NUMBERS;
 use draid_world::arms::leaf_answers;
 use draid_world::{Site, Tables, World, WorldPass};
 
@@ -111,7 +112,7 @@ pub fn done(site: &Site, world: &mut World, failed: &[u64]) -> bool
     requires layout { IsLayout site.now.geometry site.now.perms }
     requires metaslab { site.now.metaslab < site.now.geometry.props.metaslabs }
     requires short { AreShort (held_in world.old.tables.held.entries) }
-    requires max { IfSome world.old.tables.pass (λ pass. pass.max < 2 ^ 48) }
+    requires max { IfSome world.old.tables.pass (λ pass. pass.max < NUMBERS) }
     ensures legal { result ≡ true → DoneStep (site_layout site.now) (state_of world.old) failed.now (state_of world.new) }
     ensures illegal { result ≡ false → (new : State) → DoneStep (site_layout site.now) (state_of world.old) failed.now new → ⊥ }
 {

@@ -5,7 +5,7 @@ ghost use Rattle.draid_passes.specs.Left.{AreShort, IsFirstLeft, NothingLeft, le
 ghost use Rattle.draid_world.specs.World.{held_in, pass_of};
 
 use draid_machine::{Held, Key, Stage};
-use draid_names::PassKind;
+use draid_names::{NUMBERS, PassKind};
 use draid_world::WorldPass;
 use std::collections::BTreeMap;
 
@@ -35,7 +35,7 @@ pub fn is_lent(pass: &WorldPass, held: Held) -> bool
 
 /// The first stripe of a block or a ticket that is left to lend.
 fn first_left(pass: &WorldPass, held: Held) -> Option<u64>
-    requires short { held.first + held.stripes < 2 ^ 48 }
+    requires short { held.first + held.stripes < NUMBERS }
     ensures { result ≡ left_of (pass_of pass.now) held }
 {
     let from = held.first.max(pass.next);

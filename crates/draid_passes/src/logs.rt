@@ -6,13 +6,13 @@ ghost use Rattle.draid_passes.specs.Logs.{changed_at};
 ghost use Rattle.draid_world.specs.World.{arm_in, arm_of};
 
 use draid_machine::ArmName;
-use draid_names::NoMemory;
+use draid_names::{NUMBERS, NoMemory};
 use draid_world::Arm;
 use std::collections::BTreeMap;
 
 /// Makes the log of an arm that of the groups from 1 to `last`.
 fn fill(arm: &mut Arm, last: u64) -> Result<(), NoMemory>
-    requires last { last < 2 ^ 48 }
+    requires last { last < NUMBERS }
     ensures { OnOk result (arm_of arm.new ≡ after.fill_if true last (arm_of arm.old)) }
 {
     arm.log.reserve(1)?;
@@ -22,7 +22,7 @@ fn fill(arm: &mut Arm, last: u64) -> Result<(), NoMemory>
 
 /// Fills the log of an arm, if there is one of that name.
 fn fill_at(arms: &mut BTreeMap<ArmName, Arm>, name: ArmName, last: u64) -> Result<(), NoMemory>
-    requires last { last < 2 ^ 48 }
+    requires last { last < NUMBERS }
     ensures { OnOk result ((n : ArmName) → arm_in arms.new.entries n ≡ changed_at (name_eq name n) (after.fill_if true last) (arm_in arms.old.entries n)) }
 {
     if let Some(arm) = arms.get_mut(&name) {
@@ -37,7 +37,7 @@ pub(crate) fn fill_logs(
     names: &[ArmName],
     last: u64,
 ) -> Result<(), NoMemory>
-    requires last { last < 2 ^ 48 }
+    requires last { last < NUMBERS }
     ensures { OnOk result ((n : ArmName) → arm_in arms.new.entries n ≡ after.map_arm (after.fill_if (has_name names.now n) last) (arm_in arms.old.entries n)) }
 {
     for at in 0..names.len() {
@@ -48,7 +48,7 @@ pub(crate) fn fill_logs(
 
 /// Takes the groups up to `upto` out of an arm's log.
 fn excise(arm: &mut Arm, upto: u64)
-    requires upto { upto < 2 ^ 48 }
+    requires upto { upto < NUMBERS }
     ensures { arm_of arm.new ≡ after.excise_if true upto (arm_of arm.old) }
 {
     arm.log.excise(upto);
@@ -57,7 +57,7 @@ fn excise(arm: &mut Arm, upto: u64)
 
 /// Takes the groups up to `upto` out of the log of an arm, if there is one of that name.
 fn excise_at(arms: &mut BTreeMap<ArmName, Arm>, name: ArmName, upto: u64)
-    requires upto { upto < 2 ^ 48 }
+    requires upto { upto < NUMBERS }
     ensures { (n : ArmName) → arm_in arms.new.entries n ≡ changed_at (name_eq name n) (after.excise_if true upto) (arm_in arms.old.entries n) }
 {
     if let Some(arm) = arms.get_mut(&name) {
@@ -67,7 +67,7 @@ fn excise_at(arms: &mut BTreeMap<ArmName, Arm>, name: ArmName, upto: u64)
 
 /// Takes the groups up to `upto` out of the logs of some arms.
 pub(crate) fn excise_logs(arms: &mut BTreeMap<ArmName, Arm>, names: &[ArmName], upto: u64)
-    requires upto { upto < 2 ^ 48 }
+    requires upto { upto < NUMBERS }
     ensures { (n : ArmName) → arm_in arms.new.entries n ≡ after.map_arm (after.excise_if (has_name names.now n) upto) (arm_in arms.old.entries n) }
 {
     for at in 0..names.len() {

@@ -5,6 +5,7 @@ ghost use Rattle.draid_passes.specs.Lying.{keeps_at};
 ghost use Rattle.draid_world.specs.World.{core_of, site_layout};
 
 use draid_machine::ArmName;
+use draid_names::NUMBERS;
 use draid_world::arms::{is_among, leaf_answers, names_of};
 use draid_world::places::{has_number, leaf_at, slot_of};
 use draid_world::{Site, Tables};
@@ -13,7 +14,7 @@ use draid_world::{Site, Tables};
 pub fn has_column(site: &Site, tables: &Tables, name: ArmName, stripe: u64) -> bool
     requires layout { IsLayout site.now.geometry site.now.perms }
     requires metaslab { site.now.metaslab < site.now.geometry.props.metaslabs }
-    requires stripe { stripe < 2 ^ 48 }
+    requires stripe { stripe < NUMBERS }
     ensures { result ≡ arms.has_column (site_layout site.now) (core_of tables.now) name stripe }
 {
     for column in 0..site.geometry.g {
@@ -31,10 +32,9 @@ pub fn has_column(site: &Site, tables: &Tables, name: ArmName, stripe: u64) -> b
 pub fn stripes(site: &Site) -> u64
     requires layout { IsLayout site.now.geometry site.now.perms }
     ensures value { result ≡ (site_layout site.now).stripes }
-    ensures few { result < 2 ^ 48 }
+    ensures few { result < NUMBERS }
 {
-    let props = &site.geometry.props;
-    u64::from(props.slices) * u64::from(site.geometry.ngroups) * u64::from(props.height)
+    site.geometry.metaslab_stripes()
 }
 
 /// A leaf that doesn't answer, or on which a call failed.
@@ -48,7 +48,7 @@ pub fn is_silent(tables: &Tables, failed: &[u64], leaf: u64) -> bool
 fn keeps_silent(site: &Site, tables: &Tables, failed: &[u64], name: ArmName, stripe: u64) -> bool
     requires layout { IsLayout site.now.geometry site.now.perms }
     requires metaslab { site.now.metaslab < site.now.geometry.props.metaslabs }
-    requires stripe { stripe < 2 ^ 48 }
+    requires stripe { stripe < NUMBERS }
     ensures { result ≡ keeps_at (site_layout site.now) (core_of tables.now) (arms.is_silent (core_of tables.now) failed.now) name stripe }
 {
     if !has_column(site, tables, name, stripe) {
@@ -81,7 +81,7 @@ pub fn lies_on_silent(site: &Site, tables: &Tables, failed: &[u64], name: ArmNam
 fn keeps_on(site: &Site, tables: &Tables, leaf: u64, name: ArmName, stripe: u64) -> bool
     requires layout { IsLayout site.now.geometry site.now.perms }
     requires metaslab { site.now.metaslab < site.now.geometry.props.metaslabs }
-    requires stripe { stripe < 2 ^ 48 }
+    requires stripe { stripe < NUMBERS }
     ensures { result ≡ keeps_at (site_layout site.now) (core_of tables.now) (λ m. m == leaf) name stripe }
 {
     if !has_column(site, tables, name, stripe) {

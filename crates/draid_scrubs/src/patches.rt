@@ -10,6 +10,7 @@ ghost use Rattle.draid_world.specs.World.{core_of, names_at, site_layout};
 
 use draid_loans::any_answers;
 use draid_machine::{ArmName, Held, Patched};
+use draid_names::NUMBERS;
 use draid_world::arms::{is_among, is_logged, is_same, names_of};
 use draid_world::places::{answers, fails, slot_of};
 use draid_world::{Site, Tables};
@@ -68,7 +69,7 @@ pub(crate) fn has_landed(patched: &[Patched], column: u32, arm: ArmName, row: u3
 fn arm_stands(site: &Site, tables: &Tables, held: Held, column: u32, arm: ArmName) -> bool
     requires layout { IsLayout site.now.geometry site.now.perms }
     requires metaslab { site.now.metaslab < site.now.geometry.props.metaslabs }
-    requires first { held.first < 2 ^ 48 }
+    requires first { held.first < NUMBERS }
     ensures yes { result ≡ true → ArmStands (site_layout site.now) (core_of tables.now) held column arm }
     ensures no { result ≡ false → ArmStands (site_layout site.now) (core_of tables.now) held column arm → ⊥ }
 {
@@ -91,7 +92,7 @@ fn row_stands(
 ) -> bool
     requires layout { IsLayout site.now.geometry site.now.perms }
     requires metaslab { site.now.metaslab < site.now.geometry.props.metaslabs }
-    requires first { held.first < 2 ^ 48 }
+    requires first { held.first < NUMBERS }
     ensures yes { result ≡ true → RowStands (site_layout site.now) (core_of tables.now) held failed.now patched.now part.now.column part.now.arm row }
     ensures no { result ≡ false → RowStands (site_layout site.now) (core_of tables.now) held failed.now patched.now part.now.column part.now.arm row → ⊥ }
 {
@@ -113,7 +114,7 @@ fn rows_stand(
 ) -> bool
     requires layout { IsLayout site.now.geometry site.now.perms }
     requires metaslab { site.now.metaslab < site.now.geometry.props.metaslabs }
-    requires first { held.first < 2 ^ 48 }
+    requires first { held.first < NUMBERS }
     ensures yes { result ≡ true → (r : ℕ) → has_number part.now.written.items r ≡ true → RowStands (site_layout site.now) (core_of tables.now) held failed.now patched.now part.now.column part.now.arm r }
     ensures no { result ≡ false → ((r : ℕ) → has_number part.now.written.items r ≡ true → RowStands (site_layout site.now) (core_of tables.now) held failed.now patched.now part.now.column part.now.arm r) → ⊥ }
 {
@@ -151,7 +152,7 @@ fn part_stands(
 ) -> bool
     requires layout { IsLayout site.now.geometry site.now.perms }
     requires metaslab { site.now.metaslab < site.now.geometry.props.metaslabs }
-    requires first { held.first < 2 ^ 48 }
+    requires first { held.first < NUMBERS }
     ensures yes { result ≡ true → PartStands (site_layout site.now) (core_of tables.now) held failed.now patched.now part.now }
     ensures no { result ≡ false → PartStands (site_layout site.now) (core_of tables.now) held failed.now patched.now part.now → ⊥ }
 {
@@ -168,7 +169,7 @@ pub(crate) fn parts_stand(
 ) -> bool
     requires layout { IsLayout site.now.geometry site.now.perms }
     requires metaslab { site.now.metaslab < site.now.geometry.props.metaslabs }
-    requires first { held.first < 2 ^ 48 }
+    requires first { held.first < NUMBERS }
     ensures yes { result ≡ true → EachPart (PartStands (site_layout site.now) (core_of tables.now) held failed.now patched.now) patched.now }
     ensures no { result ≡ false → EachPart (PartStands (site_layout site.now) (core_of tables.now) held failed.now patched.now) patched.now → ⊥ }
 {

@@ -13,7 +13,7 @@ use crate::patches::parts_stand;
 use crate::wholes::{all_patched, heals_all, is_whole};
 use draid_loans::{block_segments, capped, drop_all, kept, landing, put_all};
 use draid_machine::{Held, Patched};
-use draid_names::{NoMemory, PassKind};
+use draid_names::{NUMBERS, NoMemory, PassKind};
 use draid_world::{Lent, Site, Tables, World, WorldPass};
 use std::alloc::Global;
 
@@ -21,7 +21,7 @@ use std::alloc::Global;
 fn may_heal(site: &Site, tables: &Tables, held: Held, failed: &[u64], patched: &[Patched]) -> bool
     requires layout { IsLayout site.now.geometry site.now.perms }
     requires metaslab { site.now.metaslab < site.now.geometry.props.metaslabs }
-    requires first { held.first < 2 ^ 48 }
+    requires first { held.first < NUMBERS }
     ensures yes { result ≡ true → Patches (site_layout site.now) (core_of tables.now) held failed.now patched.now }
     ensures no { result ≡ false → Patches (site_layout site.now) (core_of tables.now) held failed.now patched.now → ⊥ }
 {
@@ -45,7 +45,7 @@ fn may_land(
 ) -> bool
     requires layout { IsLayout site.now.geometry site.now.perms }
     requires metaslab { site.now.metaslab < site.now.geometry.props.metaslabs }
-    requires first { held.first < 2 ^ 48 }
+    requires first { held.first < NUMBERS }
     ensures yes { result ≡ true → LandsBlock (site_layout site.now) (core_of tables.now) held failed.now patched.now unreadable }
     ensures no { result ≡ false → LandsBlock (site_layout site.now) (core_of tables.now) held failed.now patched.now unreadable → ⊥ }
 {
@@ -91,7 +91,7 @@ fn heal_whole(
 ) -> Result<(), NoMemory>
     requires layout { IsLayout site.now.geometry site.now.perms }
     requires metaslab { site.now.metaslab < site.now.geometry.props.metaslabs }
-    requires short { held.first + held.stripes < 2 ^ 48 }
+    requires short { held.first + held.stripes < NUMBERS }
     ensures { OnOk result (state_of world.new ≡ healed_state (site_layout site.now) (state_of world.old) (loan_of loan.now) held patched.now true) }
 {
     let all = block_segments(alloc, site, &world.tables, loan.key, held)?;
@@ -116,7 +116,7 @@ fn heal_part(
 ) -> Result<(), NoMemory>
     requires layout { IsLayout site.now.geometry site.now.perms }
     requires metaslab { site.now.metaslab < site.now.geometry.props.metaslabs }
-    requires short { held.first + held.stripes < 2 ^ 48 }
+    requires short { held.first + held.stripes < NUMBERS }
     ensures { OnOk result (state_of world.new ≡ healed_state (site_layout site.now) (state_of world.old) (loan_of loan.now) held patched.now false) }
 {
     let all = block_segments(alloc, site, &world.tables, loan.key, held)?;
@@ -138,7 +138,7 @@ fn pass_after(
 ) -> Result<WorldPass, NoMemory>
     requires layout { IsLayout site.now.geometry site.now.perms }
     requires metaslab { site.now.metaslab < site.now.geometry.props.metaslabs }
-    requires short { held.first + held.stripes < 2 ^ 48 }
+    requires short { held.first + held.stripes < NUMBERS }
     ensures { IfOk result (λ next. pass_of next ≡ healed_pass (site_layout site.now) (core_of world.now.tables) (pass_of pass) held failed.now) }
 {
     let targets = kept(
@@ -172,7 +172,7 @@ fn heal(
 ) -> Result<(), NoMemory>
     requires layout { IsLayout site.now.geometry site.now.perms }
     requires metaslab { site.now.metaslab < site.now.geometry.props.metaslabs }
-    requires short { held.first + held.stripes < 2 ^ 48 }
+    requires short { held.first + held.stripes < NUMBERS }
     ensures { OnOk result (state_of world.new ≡ healed_state (site_layout site.now) (state_of world.old) (loan_of loan.now) held patched.now whole) }
 {
     if whole {

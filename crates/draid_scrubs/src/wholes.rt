@@ -10,6 +10,7 @@ ghost use Rattle.draid_world.specs.World.{core_of, names_at, site_layout};
 use crate::patches::was_written;
 use draid_loans::any_answers;
 use draid_machine::{ArmName, Held, Patched};
+use draid_names::NUMBERS;
 use draid_world::arms::{is_logged, names_of};
 use draid_world::places::{answers, fails, slot_of};
 use draid_world::{Site, Tables};
@@ -18,7 +19,7 @@ use draid_world::{Site, Tables};
 fn heals_there(site: &Site, tables: &Tables, held: Held, leaf: u64) -> bool
     requires layout { IsLayout site.now.geometry site.now.perms }
     requires metaslab { site.now.metaslab < site.now.geometry.props.metaslabs }
-    requires first { held.first < 2 ^ 48 }
+    requires first { held.first < NUMBERS }
     ensures yes { result ≡ true → HealsThere (site_layout site.now) (core_of tables.now) held leaf }
     ensures no { result ≡ false → HealsThere (site_layout site.now) (core_of tables.now) held leaf → ⊥ }
 {
@@ -35,7 +36,7 @@ fn heals_there(site: &Site, tables: &Tables, held: Held, leaf: u64) -> bool
 pub(crate) fn heals_all(site: &Site, tables: &Tables, held: Held, leaves: &[u64]) -> bool
     requires layout { IsLayout site.now.geometry site.now.perms }
     requires metaslab { site.now.metaslab < site.now.geometry.props.metaslabs }
-    requires first { held.first < 2 ^ 48 }
+    requires first { held.first < NUMBERS }
     ensures yes { result ≡ true → (leaf : ℕ) → has_number leaves.now leaf ≡ true → HealsThere (site_layout site.now) (core_of tables.now) held leaf }
     ensures no { result ≡ false → ((leaf : ℕ) → has_number leaves.now leaf ≡ true → HealsThere (site_layout site.now) (core_of tables.now) held leaf) → ⊥ }
 {
@@ -71,7 +72,7 @@ fn is_patched(
 ) -> bool
     requires layout { IsLayout site.now.geometry site.now.perms }
     requires metaslab { site.now.metaslab < site.now.geometry.props.metaslabs }
-    requires first { held.first < 2 ^ 48 }
+    requires first { held.first < NUMBERS }
     ensures yes { result ≡ true → IsArmPatched (site_layout site.now) (core_of tables.now) held patched.now column arm }
     ensures no { result ≡ false → IsArmPatched (site_layout site.now) (core_of tables.now) held patched.now column arm → ⊥ }
 {
@@ -92,7 +93,7 @@ fn names_patched(
 ) -> bool
     requires layout { IsLayout site.now.geometry site.now.perms }
     requires metaslab { site.now.metaslab < site.now.geometry.props.metaslabs }
-    requires first { held.first < 2 ^ 48 }
+    requires first { held.first < NUMBERS }
     ensures yes { result ≡ true → AreOn (IsArmPatched (site_layout site.now) (core_of tables.now) held patched.now column) names.now }
     ensures no { result ≡ false → AreOn (IsArmPatched (site_layout site.now) (core_of tables.now) held patched.now column) names.now → ⊥ }
 {
@@ -108,7 +109,7 @@ fn names_patched(
 pub(crate) fn all_patched(site: &Site, tables: &Tables, held: Held, patched: &[Patched]) -> bool
     requires layout { IsLayout site.now.geometry site.now.perms }
     requires metaslab { site.now.metaslab < site.now.geometry.props.metaslabs }
-    requires first { held.first < 2 ^ 48 }
+    requires first { held.first < NUMBERS }
     ensures yes { result ≡ true → AreColumnsPatched (site_layout site.now) (core_of tables.now) held patched.now (site_layout site.now).columns }
     ensures no { result ≡ false → AreColumnsPatched (site_layout site.now) (core_of tables.now) held patched.now (site_layout site.now).columns → ⊥ }
 {
@@ -125,7 +126,7 @@ pub(crate) fn all_patched(site: &Site, tables: &Tables, held: Held, patched: &[P
 fn arm_is_whole(site: &Site, tables: &Tables, held: Held, failed: &[u64], arm: ArmName) -> bool
     requires layout { IsLayout site.now.geometry site.now.perms }
     requires metaslab { site.now.metaslab < site.now.geometry.props.metaslabs }
-    requires first { held.first < 2 ^ 48 }
+    requires first { held.first < NUMBERS }
     ensures yes { result ≡ true → IsArmWhole (site_layout site.now) (core_of tables.now) held failed.now arm }
     ensures no { result ≡ false → IsArmWhole (site_layout site.now) (core_of tables.now) held failed.now arm → ⊥ }
 {
@@ -145,7 +146,7 @@ fn names_are_whole(
 ) -> bool
     requires layout { IsLayout site.now.geometry site.now.perms }
     requires metaslab { site.now.metaslab < site.now.geometry.props.metaslabs }
-    requires first { held.first < 2 ^ 48 }
+    requires first { held.first < NUMBERS }
     ensures yes { result ≡ true → AreOn (IsArmWhole (site_layout site.now) (core_of tables.now) held failed.now) names.now }
     ensures no { result ≡ false → AreOn (IsArmWhole (site_layout site.now) (core_of tables.now) held failed.now) names.now → ⊥ }
 {
@@ -161,7 +162,7 @@ fn names_are_whole(
 pub(crate) fn is_whole(site: &Site, tables: &Tables, held: Held, failed: &[u64]) -> bool
     requires layout { IsLayout site.now.geometry site.now.perms }
     requires metaslab { site.now.metaslab < site.now.geometry.props.metaslabs }
-    requires first { held.first < 2 ^ 48 }
+    requires first { held.first < NUMBERS }
     ensures yes { result ≡ true → AreColumnsWhole (site_layout site.now) (core_of tables.now) held failed.now (site_layout site.now).columns }
     ensures no { result ≡ false → AreColumnsWhole (site_layout site.now) (core_of tables.now) held failed.now (site_layout site.now).columns → ⊥ }
 {

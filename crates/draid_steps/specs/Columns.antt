@@ -1,4 +1,5 @@
 use Rattle.std.specs.Prelude.{◌≡◌, ◌+◌, ◌==◌, ◌&&◌, ◌^◌, ◌<◌, ◌≤◌, not, ℕ, Bool, true, nat_lt, List, Some, if◌then◌else◌}
+use Rattle.draid_names.specs.declared.numbers.TheConstants.{NUMBERS}
 use Rattle.draid_machine.specs.declared.names.Key.{Key}
 use Rattle.draid_machine.specs.declared.names.ArmName.{ArmName}
 use Rattle.draid_machine.specs.declared.names.Stage.TheVariants.{Writing}
@@ -11,7 +12,7 @@ use Rattle.draid_machine.specs.Arms.{answers, fails, lies}
 
 -- births are below 2^48, and a ticket counts no more missed columns than were put
 abbrev pub AreCounted : Core → Type 0
-AreCounted q = (k : Key) (h : Held) → q.held k ≡ Some h → (h.birth < 2 ^ 48) × ((c m : ℕ) → h.stage ≡ Writing c m → m ≤ c)
+AreCounted q = (k : Key) (h : Held) → q.held k ≡ Some h → (h.birth < NUMBERS) × ((c m : ℕ) → h.stage ≡ Writing c m → m ≤ c)
 
 -- an arm on which a column has to land is among those on which it did, and no other
 abbrev pub lands_right : Layout → Core → ℕ → List ArmName → List ℕ → ArmName → Bool

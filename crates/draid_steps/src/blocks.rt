@@ -4,12 +4,13 @@ ghost use Rattle.draid_machine.specs.Step.{AbortStep, FinishStep, FreeStep};
 ghost use Rattle.draid_world.specs.World.{site_layout, state_of};
 
 use draid_machine::{Held, Key, Stage};
+use draid_names::NUMBERS;
 use draid_world::tables::{change, find, forget, forget_segments};
 use draid_world::{Site, World};
 
 /// Frees a live block in a group, where that is legal.
 pub fn free(world: &mut World, key: Key, group: u64) -> bool
-    requires group { world.old.open_group < 2 ^ 48 }
+    requires group { world.old.open_group < NUMBERS }
     ensures legal { result ≡ true → FreeStep (state_of world.old) key group (state_of world.new) }
     ensures illegal { result ≡ false → (new : State) → FreeStep (state_of world.old) key group new → ⊥ }
 {

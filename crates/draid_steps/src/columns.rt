@@ -12,6 +12,7 @@ ghost use Rattle.draid_steps.specs.Columns.{AreCounted, is_in_row, is_row, lands
 ghost use Rattle.draid_world.specs.World.{AreLow, arm_in, core_of, held_in, names_at, site_layout, slot_at, state_of};
 
 use draid_machine::{ArmName, Held, Key, Segment, Stage};
+use draid_names::NUMBERS;
 use draid_world::arms::{is_among, leaf_answers, names_of};
 use draid_world::places::{answers, fails, leaf_at, slot_of};
 use draid_world::tables::{change, find};
@@ -131,7 +132,7 @@ pub fn log_arm(
     name: ArmName,
     group: u64,
 ) -> Result<(), AllocError>
-    requires group { group < 2 ^ 48 }
+    requires group { group < NUMBERS }
     ensures { OnOk result ((n : ArmName) → arm_in arms.new.entries n ≡ each_arm (λ m. log_if (name_eq name m) group) (arm_in arms.old.entries) n) }
 {
     let Some(mut arm) = arms.remove(&name) else {
@@ -149,7 +150,7 @@ fn log_unless(
     name: ArmName,
     group: u64,
 ) -> Result<(), AllocError>
-    requires group { group < 2 ^ 48 }
+    requires group { group < NUMBERS }
     ensures { OnOk result ((n : ArmName) → arm_in arms.new.entries n
         ≡ each_arm (λ m. log_if (name_eq name m && not (has_name landed.now m)) group) (arm_in arms.old.entries) n) }
 {
@@ -166,7 +167,7 @@ pub fn log_missed(
     landed: &[ArmName],
     group: u64,
 ) -> Result<(), AllocError>
-    requires group { group < 2 ^ 48 }
+    requires group { group < NUMBERS }
     ensures { OnOk result ((n : ArmName) → arm_in arms.new.entries n
         ≡ each_arm (λ m. log_if (has_name names.now m && not (has_name landed.now m)) group) (arm_in arms.old.entries) n) }
 {
@@ -183,7 +184,7 @@ pub fn log_slot(
     landed: &[ArmName],
     group: u64,
 ) -> Result<(), AllocError>
-    requires group { group < 2 ^ 48 }
+    requires group { group < NUMBERS }
     ensures logs { OnOk result ((n : ArmName) → arm_in tables.new.arms.entries n
         ≡ each_arm (λ m. log_if (has_name (names_at tables.old.order.items slot) m && not (has_name landed.now m)) group) (arm_in tables.old.arms.entries) n) }
     ensures rest { tables.new ≡ record tables.old { arms = tables.new.arms } }
@@ -215,7 +216,7 @@ fn add_row(
 ) -> Result<(), AllocError>
     requires layout { IsLayout site.now.geometry site.now.perms }
     requires metaslab { site.now.metaslab < site.now.geometry.props.metaslabs }
-    requires first { held.now.first < 2 ^ 48 }
+    requires first { held.now.first < NUMBERS }
     ensures { OnOk result ((s : Segment) → has_segment segments.new.keys s
         ≡ (has_segment segments.old.keys s || is_in_row (site_layout site.now) (names_at order.now) part.key held.now part.column part.arm row s)) }
 {
@@ -244,7 +245,7 @@ pub fn add_rows(
 ) -> Result<(), AllocError>
     requires layout { IsLayout site.now.geometry site.now.perms }
     requires metaslab { site.now.metaslab < site.now.geometry.props.metaslabs }
-    requires first { held.now.first < 2 ^ 48 }
+    requires first { held.now.first < NUMBERS }
     ensures { OnOk result ((s : Segment) → has_segment segments.new.keys s
         ≡ (has_segment segments.old.keys s || is_row (site_layout site.now) (names_at order.now) part.key held.now part.column part.arm held.now.stripes s)) }
 {
@@ -266,7 +267,7 @@ pub fn add_landed(
 ) -> Result<(), AllocError>
     requires layout { IsLayout site.now.geometry site.now.perms }
     requires metaslab { site.now.metaslab < site.now.geometry.props.metaslabs }
-    requires first { held.now.first < 2 ^ 48 }
+    requires first { held.now.first < NUMBERS }
     ensures { OnOk result ((s : Segment) → has_segment segments.new.keys s
         ≡ (has_segment segments.old.keys s || list_any (λ n. is_row (site_layout site.now) (names_at order.now) key held.now column n held.now.stripes s) landed.now)) }
 {
@@ -292,7 +293,7 @@ fn may_land(
 ) -> bool
     requires layout { IsLayout site.now.geometry site.now.perms }
     requires metaslab { site.now.metaslab < site.now.geometry.props.metaslabs }
-    requires first { held.now.first < 2 ^ 48 }
+    requires first { held.now.first < NUMBERS }
     requires column { column < site.now.geometry.g }
     ensures yes { result ≡ true → MayLand (site_layout site.now) (core_of tables.now) held.now column landed.now failed.now }
     ensures no { result ≡ false → MayLand (site_layout site.now) (core_of tables.now) held.now column landed.now failed.now → ⊥ }
@@ -330,8 +331,8 @@ fn write_column(
 ) -> Result<(), AllocError>
     requires layout { IsLayout site.now.geometry site.now.perms }
     requires metaslab { site.now.metaslab < site.now.geometry.props.metaslabs }
-    requires first { held.now.first < 2 ^ 48 }
-    requires birth { held.now.birth < 2 ^ 48 }
+    requires first { held.now.first < NUMBERS }
+    requires birth { held.now.birth < NUMBERS }
     requires column { stage.0 < site.now.geometry.g }
     requires missed { stage.1 < 2 ^ 32 - 1 }
     requires there { IsSome (held_in world.old.tables.held.entries key) }

@@ -7,6 +7,7 @@ ghost use Rattle.draid_steps.specs.Reads.{IsRead, ReadsFrom};
 ghost use Rattle.draid_world.specs.World.{AreLow, core_of, site_layout, state_of};
 
 use draid_machine::{Held, Key, Stage};
+use draid_names::NUMBERS;
 use draid_world::places::leaf_at;
 use draid_world::reads::reading;
 use draid_world::tables::find;
@@ -16,7 +17,7 @@ use draid_world::{Site, Tables, World};
 fn reads_from(site: &Site, tables: &Tables, held: Held, column: u32, leaf: u64) -> bool
     requires layout { IsLayout site.now.geometry site.now.perms }
     requires metaslab { site.now.metaslab < site.now.geometry.props.metaslabs }
-    requires stripe { held.first < 2 ^ 48 }
+    requires stripe { held.first < NUMBERS }
     requires column { column < site.now.geometry.g }
     ensures yes { result ≡ true → ReadsFrom (site_layout site.now) (core_of tables.now) held column leaf }
     ensures no { result ≡ false → ReadsFrom (site_layout site.now) (core_of tables.now) held column leaf → ⊥ }
@@ -34,7 +35,7 @@ fn reads_from(site: &Site, tables: &Tables, held: Held, column: u32, leaf: u64) 
 fn is_read(site: &Site, tables: &Tables, held: Held, leaf: u64) -> bool
     requires layout { IsLayout site.now.geometry site.now.perms }
     requires metaslab { site.now.metaslab < site.now.geometry.props.metaslabs }
-    requires stripe { held.first < 2 ^ 48 }
+    requires stripe { held.first < NUMBERS }
     ensures yes { result ≡ true → IsRead (site_layout site.now) (core_of tables.now) held leaf }
     ensures no { result ≡ false → IsRead (site_layout site.now) (core_of tables.now) held leaf → ⊥ }
 {
@@ -50,7 +51,7 @@ fn is_read(site: &Site, tables: &Tables, held: Held, leaf: u64) -> bool
 fn are_read(site: &Site, tables: &Tables, held: Held, leaves: &[u64]) -> bool
     requires layout { IsLayout site.now.geometry site.now.perms }
     requires metaslab { site.now.metaslab < site.now.geometry.props.metaslabs }
-    requires stripe { held.first < 2 ^ 48 }
+    requires stripe { held.first < NUMBERS }
     ensures yes { result ≡ true → (leaf : ℕ) → has_number leaves.now leaf ≡ true → IsRead (site_layout site.now) (core_of tables.now) held leaf }
     ensures no { result ≡ false → ((leaf : ℕ) → has_number leaves.now leaf ≡ true → IsRead (site_layout site.now) (core_of tables.now) held leaf) → ⊥ }
 {

@@ -3,12 +3,12 @@ ghost use Rattle.draid_machine.specs.State.{State};
 ghost use Rattle.draid_machine.specs.Step.{CloseStep, CancelStep};
 ghost use Rattle.draid_world.specs.World.{state_of};
 
-use draid_names::LAST_NUMBER;
+use draid_names::{LAST_NUMBER, NUMBERS};
 use draid_world::World;
 
 /// Closes the open group, where that is legal.
 pub fn close(world: &mut World, group: u64) -> bool
-    requires group { world.old.open_group < 2 ^ 48 }
+    requires group { world.old.open_group < NUMBERS }
     ensures legal { result ≡ true → CloseStep (state_of world.old) group (state_of world.new) }
     ensures illegal { result ≡ false → (new : State) → CloseStep (state_of world.old) group new → ⊥ }
 {

@@ -6,13 +6,14 @@ ghost use Rattle.draid_steps.specs.Room.{first_meeting, meets};
 ghost use Rattle.draid_world.specs.World.{AreLow, core_of, held_in, site_layout};
 
 use draid_machine::{Held, Key};
+use draid_names::NUMBERS;
 use draid_world::{Site, Tables};
 use std::collections::BTreeMap;
 
 /// Whether a block or a ticket has a stripe of a run.
 fn is_meeting(held: &Held, first: u64, stripes: u32) -> bool
-    requires held { held.now.first < 2 ^ 48 }
-    requires first { first < 2 ^ 48 }
+    requires held { held.now.first < NUMBERS }
+    requires first { first < NUMBERS }
     ensures { result ≡ meets first stripes held.now }
 {
     held.first < first + u64::from(stripes)
@@ -22,8 +23,8 @@ fn is_meeting(held: &Held, first: u64, stripes: u32) -> bool
 
 /// A block or a ticket that has a stripe of a run.
 fn meeting(held: &BTreeMap<Key, Held>, first: u64, stripes: u32) -> Option<Held>
-    requires low { (k : Key) (h : Held) → held_in held.now.entries k ≡ Some h → h.first < 2 ^ 48 }
-    requires first { first < 2 ^ 48 }
+    requires low { (k : Key) (h : Held) → held_in held.now.entries k ≡ Some h → h.first < NUMBERS }
+    requires first { first < NUMBERS }
     ensures some { IfSome result (λ h. (k : Key) × (held_in held.now.entries k ≡ Some h) × (meets first stripes h ≡ true)) }
     ensures none { IfNone result ((k : Key) (h : Held) → held_in held.now.entries k ≡ Some h → meets first stripes h ≡ false) }
 {
@@ -40,7 +41,7 @@ fn next_place(site: &Site, tables: &Tables, first: u64, stripes: u32) -> u64
     requires layout { IsLayout site.now.geometry site.now.perms }
     requires low { AreLow (core_of tables.now) }
     requires some { 0 < stripes }
-    requires first { first < 2 ^ 48 }
+    requires first { first < NUMBERS }
     ensures from { first ≤ result }
     ensures upto { result < 2 ^ 49 }
     ensures fits { result ≡ first → Fits (site_layout site.now) (core_of tables.now) first stripes }
@@ -63,7 +64,7 @@ pub fn is_lowest(site: &Site, tables: &Tables, first: u64, stripes: u32) -> bool
     requires layout { IsLayout site.now.geometry site.now.perms }
     requires low { AreLow (core_of tables.now) }
     requires some { 0 < stripes }
-    requires first { first < 2 ^ 48 }
+    requires first { first < NUMBERS }
     ensures fits { result ≡ true → Fits (site_layout site.now) (core_of tables.now) first stripes }
     ensures lowest { result ≡ true → (x : ℕ) → x < first → Fits (site_layout site.now) (core_of tables.now) x stripes → ⊥ }
     ensures no { result ≡ false → Fits (site_layout site.now) (core_of tables.now) first stripes

@@ -18,6 +18,7 @@ ghost use Rattle.draid_world.specs.declared.world.Detached.{Detached};
 
 use draid_dtl::Log;
 use draid_machine::{ArmName, Held, Key};
+use draid_names::NUMBERS;
 use draid_world::arms::{is_among, is_known, is_same, names_of};
 use draid_world::{Arm, Detached, Site, Tables, World};
 use std::alloc::{AllocError, Global};
@@ -255,9 +256,9 @@ pub fn enter_arm(
 
 /// The greatest of a group and the births of blocks and tickets.
 fn last_group(held: &BTreeMap<Key, Held>, group: u64) -> u64
-    requires group { group < 2 ^ 48 }
-    requires births { (k : Key) (h : Held) → held_in held.now.entries k ≡ Some h → h.birth < 2 ^ 48 }
-    ensures below { result < 2 ^ 48 }
+    requires group { group < NUMBERS }
+    requires births { (k : Key) (h : Held) → held_in held.now.entries k ≡ Some h → h.birth < NUMBERS }
+    ensures below { result < NUMBERS }
     ensures from { group ≤ result }
     ensures births { (k : Key) (h : Held) → held_in held.now.entries k ≡ Some h → h.birth ≤ result }
     ensures one { (result ≡ group) ⊎ ((k : Key) × (h : Held) × (held_in held.now.entries k ≡ Some h) × (h.birth ≡ result)) }
@@ -288,7 +289,7 @@ pub fn detach(world: &mut World, slot: u32, name: ArmName) -> bool
 
 /// An arm that is fresh, and may have missed each group up to one.
 fn new_arm(alloc: Global, last: u64) -> Result<Arm, AllocError>
-    requires { last < 2 ^ 48 }
+    requires { last < NUMBERS }
     ensures { IfOk result (λ a. arm_of a ≡ fresh_arm last) }
 {
     let log = Log::upto(alloc, last)?;
@@ -308,7 +309,7 @@ pub fn attach(
     slot: u32,
     name: ArmName,
 ) -> Result<bool, AllocError>
-    requires group { world.old.open_group < 2 ^ 48 }
+    requires group { world.old.open_group < NUMBERS }
     requires counted { AreCounted (core_of world.old.tables) }
     ensures legal { IfOk result (λ b. b ≡ true → AttachStep (site_layout site.now) (state_of world.old) slot name (state_of world.new)) }
     ensures illegal { IfOk result (λ b. b ≡ false → (new : state.State) → AttachStep (site_layout site.now) (state_of world.old) slot name new → ⊥) }

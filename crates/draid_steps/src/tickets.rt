@@ -7,7 +7,7 @@ ghost use Rattle.draid_world.specs.World.{AreLow, core_of, site_layout, state_of
 
 use crate::room::is_lowest;
 use draid_machine::{Held, Key};
-use draid_names::{PassKind, most_held};
+use draid_names::{NUMBERS, PassKind, most_held};
 use draid_world::tables::{enter, find};
 use draid_world::{Site, Tables, World};
 use std::alloc::AllocError;
@@ -38,8 +38,8 @@ fn has_room(tables: &Tables) -> bool
 pub fn begin(site: &Site, world: &mut World, key: Key, held: Held) -> Result<bool, AllocError>
     requires layout { IsLayout site.now.geometry site.now.perms }
     requires low { AreLow (core_of world.old.tables) }
-    requires group { world.old.open_group < 2 ^ 48 }
-    requires first { held.first < 2 ^ 48 }
+    requires group { world.old.open_group < NUMBERS }
+    requires first { held.first < NUMBERS }
     ensures legal { IfOk result (λ b. b ≡ true → BeginStep (site_layout site.now) (state_of world.old) key held (state_of world.new)) }
     ensures illegal { IfOk result (λ b. b ≡ false → (new : State) → BeginStep (site_layout site.now) (state_of world.old) key held new → ⊥) }
 {

@@ -1,6 +1,7 @@
 use Rattle.std.specs.Prelude.{◌≡◌, ◌<◌, ◌^◌, ℕ, Bool, List, [], Option, Some, None, Vec, zero, suc, option_map, ◌∷◌, if◌then◌else◌}
 use Rattle.draid_machine.specs.Names.{key_eq, name_eq, has_segment}
 use Rattle.std.specs.Global.{Global}
+use Rattle.draid_names.specs.declared.numbers.TheConstants.{NUMBERS}
 use Rattle.draid_ranges.specs.Numbers.{has}
 use Rattle.draid_machine.specs.declared.names.Key.{Key}
 use Rattle.draid_machine.specs.declared.names.ArmName.{ArmName}
@@ -86,4 +87,4 @@ slot_at l x c = l.slot_of x c
 
 -- blocks and tickets begin at stripes below 2^48
 abbrev pub AreLow : state.Core → Type 0
-AreLow q = (k : Key) (h : Held) → q.held k ≡ Some h → h.first < 2 ^ 48
+AreLow q = (k : Key) (h : Held) → q.held k ≡ Some h → h.first < NUMBERS

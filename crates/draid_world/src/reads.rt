@@ -7,12 +7,13 @@ use crate::arms::{is_logged, names_of};
 use crate::places::{answers, slot_of};
 use crate::world::{Site, Tables};
 use draid_machine::{ArmName, Held};
+use draid_names::NUMBERS;
 
 /// The first arm of a list that answers at a stripe.
 fn first_answering(site: &Site, tables: &Tables, names: &[ArmName], stripe: u64) -> Option<ArmName>
     requires layout { IsLayout site.now.geometry site.now.perms }
     requires metaslab { site.now.metaslab < site.now.geometry.props.metaslabs }
-    requires stripe { stripe < 2 ^ 48 }
+    requires stripe { stripe < NUMBERS }
     ensures { result ≡ find (λ n. arms.answers (site_layout site.now) (core_of tables.now) n stripe) names.now }
 {
     for at in 0..names.len() {
@@ -33,7 +34,7 @@ fn first_clean(
 ) -> Option<ArmName>
     requires layout { IsLayout site.now.geometry site.now.perms }
     requires metaslab { site.now.metaslab < site.now.geometry.props.metaslabs }
-    requires stripe { stripe < 2 ^ 48 }
+    requires stripe { stripe < NUMBERS }
     ensures { result ≡ find (λ n. arms.answers (site_layout site.now) (core_of tables.now) n stripe && arms.is_clean (core_of tables.now) birth n) names.now }
 {
     for at in 0..names.len() {
@@ -48,7 +49,7 @@ fn first_clean(
 pub fn reading(site: &Site, tables: &Tables, held: Held, column: u32) -> Option<ArmName>
     requires layout { IsLayout site.now.geometry site.now.perms }
     requires metaslab { site.now.metaslab < site.now.geometry.props.metaslabs }
-    requires stripe { held.first < 2 ^ 48 }
+    requires stripe { held.first < NUMBERS }
     requires column { column < site.now.geometry.g }
     ensures { result ≡ arms.reading (site_layout site.now) (core_of tables.now) held column }
 {
