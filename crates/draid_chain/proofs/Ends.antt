@@ -2,7 +2,7 @@
 use Rattle.std.proofs.Common.{◌≡◌, ◌≢◌, ◌+◌, ◌-◌, ◌<◌, ◌≤◌, ◌⊎◌, inl, inr, ℕ, zero, suc, List, [], ◌∷◌, length, Option, Some, None, refl, sym, ap, ◌∙◌, subst, arith}
 use Rattle.std.specs.Option.{option_map_or}
 use Rattle.draid_names.specs.Spares.{AreOfOne, AreSpares, AreUsed, IsArm}
-use Rattle.draid_chain.specs.Chain.{EndsAt, chain_end, chain_spares}
+use Rattle.draid_chain.specs.Chain.{EndsAt, chain_end, chain_links}
 use Rattle.draid_chain.specs.Used.{Gains}
 use Rattle.draid_chain.proofs.Ways.{AreSpread, IsOff, IsWay, few_passed, one_start}
 
@@ -20,19 +20,30 @@ pub end_here : (slot_at : ℕ → ℕ) (first : ℕ → Option ℕ) (most spare 
 end_here slot_at first zero spare is = refl
 end_here slot_at first (suc most) spare is = ap (λ o. option_map_or (λ next. chain_end slot_at first most next) o (slot_at spare)) is
 
-pub spares_here : (slot_at : ℕ → ℕ) (first : ℕ → Option ℕ) (most spare : ℕ) → first (slot_at spare) ≡ None
-    → chain_spares slot_at first most spare ≡ 1
-spares_here slot_at first zero spare is = refl
-spares_here slot_at first (suc most) spare is = ap (λ o. option_map_or (λ next. chain_spares slot_at first most next + 1) o 1) is
+pub links_here : (slot_at : ℕ → ℕ) (first : ℕ → Option ℕ) (most spare : ℕ) → first (slot_at spare) ≡ None
+    → chain_links slot_at first most spare ≡ 1
+links_here slot_at first zero spare is = refl
+links_here slot_at first (suc most) spare is = ap (λ o. option_map_or (λ next. chain_links slot_at first most next + 1) o 1) is
 
 -- at another it goes on with that slot's first spare
 pub end_next : (slot_at : ℕ → ℕ) (first : ℕ → Option ℕ) (most spare next : ℕ) → first (slot_at spare) ≡ Some next
     → chain_end slot_at first (suc most) spare ≡ chain_end slot_at first most next
 end_next slot_at first most spare next is = ap (λ o. option_map_or (λ next. chain_end slot_at first most next) o (slot_at spare)) is
 
-spares_next : (slot_at : ℕ → ℕ) (first : ℕ → Option ℕ) (most spare next : ℕ) → first (slot_at spare) ≡ Some next
-    → chain_spares slot_at first (suc most) spare ≡ chain_spares slot_at first most next + 1
-spares_next slot_at first most spare next is = ap (λ o. option_map_or (λ next. chain_spares slot_at first most next + 1) o 1) is
+links_next : (slot_at : ℕ → ℕ) (first : ℕ → Option ℕ) (most spare next : ℕ) → first (slot_at spare) ≡ Some next
+    → chain_links slot_at first (suc most) spare ≡ chain_links slot_at first most next + 1
+links_next slot_at first most spare next is = ap (λ o. option_map_or (λ next. chain_links slot_at first most next + 1) o 1) is
+
+-- a chain ends at a slot
+pub end_below : (slot_at : ℕ → ℕ) (slots : ℕ) (first : ℕ → Option ℕ) (most spare : ℕ) → ((t : ℕ) → slot_at t < slots)
+    → chain_end slot_at first most spare < slots
+end_below slot_at slots first zero spare low = low spare
+end_below slot_at slots first (suc most) spare low = by_first (first (slot_at spare)) (λ next. end_below slot_at slots first most next low)
+  where
+    by_first : (o : Option ℕ) → ((next : ℕ) → chain_end slot_at first most next < slots)
+        → option_map_or (λ next. chain_end slot_at first most next) o (slot_at spare) < slots
+    by_first None rest = low spare
+    by_first (Some next) rest = rest next
 
 -- a chain ends where what is left of it does
 end_on : (slot_at : ℕ → ℕ) (spares spare last most all : ℕ) (first : ℕ → Option ℕ) (ws : List ℕ) → all ≡ length ws + most
@@ -44,17 +55,17 @@ end_on slot_at spares spare last most all first (b ∷ ws) sum way =
     end_on slot_at spares spare b (suc most) all first ws (omega (arith, sum)) way.1
     ∙ end_next slot_at first most b last way.0.1
 
-spares_on : (slot_at : ℕ → ℕ) (spares spare last most all : ℕ) (first : ℕ → Option ℕ) (ws : List ℕ) → all ≡ length ws + most
-    → IsWay slot_at spares first spare last ws → chain_spares slot_at first all spare ≡ chain_spares slot_at first most last + length ws
-spares_on slot_at spares spare last most all first [] sum way =
+links_on : (slot_at : ℕ → ℕ) (spares spare last most all : ℕ) (first : ℕ → Option ℕ) (ws : List ℕ) → all ≡ length ws + most
+    → IsWay slot_at spares first spare last ws → chain_links slot_at first all spare ≡ chain_links slot_at first most last + length ws
+links_on slot_at spares spare last most all first [] sum way =
     let same : all ≡ most = omega (arith, sum) in
-    let here : chain_spares slot_at first all spare ≡ chain_spares slot_at first most last
-    = ap (λ n. chain_spares slot_at first n spare) same ∙ ap (chain_spares slot_at first most) way in
+    let here : chain_links slot_at first all spare ≡ chain_links slot_at first most last
+    = ap (λ n. chain_links slot_at first n spare) same ∙ ap (chain_links slot_at first most) way in
     omega (arith, here)
-spares_on slot_at spares spare last most all first (b ∷ ws) sum way =
-    let rest : chain_spares slot_at first all spare ≡ chain_spares slot_at first (suc most) b + length ws
-    = spares_on slot_at spares spare b (suc most) all first ws (omega (arith, sum)) way.1 in
-    omega (arith, rest, spares_next slot_at first most b last way.0.1)
+links_on slot_at spares spare last most all first (b ∷ ws) sum way =
+    let rest : chain_links slot_at first all spare ≡ chain_links slot_at first (suc most) b + length ws
+    = links_on slot_at spares spare b (suc most) all first ws (omega (arith, sum)) way.1 in
+    omega (arith, rest, links_next slot_at first most b last way.0.1)
 
 -- the end of a way that can't go on
 pub record IsEnd (slot_at : ℕ → ℕ) (spares : ℕ) (first : ℕ → Option ℕ) (spare last : ℕ) (ws : List ℕ) : Type 0 where
@@ -71,15 +82,15 @@ end_is slot_at spares spare last first ws e =
     end_on slot_at spares spare last (spares - length ws) spares first ws sum e.way
     ∙ end_here slot_at first (spares - length ws) last e.over
 
-pub spares_are : (slot_at : ℕ → ℕ) (spares spare last : ℕ) (first : ℕ → Option ℕ) (ws : List ℕ) → IsEnd slot_at spares first spare last ws
-    → chain_spares slot_at first spares spare ≡ length ws + 1
-spares_are slot_at spares spare last first ws e =
+pub links_sum : (slot_at : ℕ → ℕ) (spares spare last : ℕ) (first : ℕ → Option ℕ) (ws : List ℕ) → IsEnd slot_at spares first spare last ws
+    → chain_links slot_at first spares spare ≡ length ws + 1
+links_sum slot_at spares spare last first ws e =
     let less : length ws < spares = e.few in
     let sum : spares ≡ length ws + (spares - length ws) = omega arith in
     omega (
       arith,
-      spares_on slot_at spares spare last (spares - length ws) spares first ws sum e.way,
-      spares_here slot_at first (spares - length ws) last e.over,
+      links_on slot_at spares spare last (spares - length ws) spares first ws sum e.way,
+      links_here slot_at first (spares - length ws) last e.over,
     )
 
 -- a way that goes on to the end of a chain

@@ -5,10 +5,10 @@ use Rattle.draid_perm.specs.declared.perms.Perms.{Perms}
 use Rattle.draid_perm.specs.Perms.{child_of, children_of}
 use Rattle.draid_perm.proofs.Children.{child_apart, child_below}
 use Rattle.draid_names.specs.Spares.{AreOfOne, AreSpares, AreUsed, IsArm}
-use Rattle.draid_chain.specs.Chain.{EndsAt, chain_end, chain_spares, holder_in, links_in, spare_slot, stands_before}
+use Rattle.draid_chain.specs.Chain.{EndsAt, chain_end, chain_links, holder_in, links_in, spare_slot, stands_before}
 use Rattle.draid_chain.specs.Used.{Gains, HasColumn}
 use Rattle.draid_chain.proofs.Ways.{AreSpread, IsOff}
-use Rattle.draid_chain.proofs.Ends.{HasEnd, end_as_before, end_at_spare, end_follows, end_here, end_is, ends_on, has_end, not_both, one_end, spares_are}
+use Rattle.draid_chain.proofs.Ends.{HasEnd, end_as_before, end_at_spare, end_below, end_follows, end_here, end_is, ends_on, has_end, not_both, one_end, links_sum}
 
 pub spread : (perms : Perms) (spares slice : ℕ) → spares < children_of perms → AreSpread (spare_slot perms slice) (children_of perms) spares
 spread perms spares slice few = record {
@@ -102,9 +102,9 @@ holder_is perms spares slice slot spare first column =
     (with_column perms spares slice slot column)
 
 pub links_are : (perms : Perms) (spares slice slot spare : ℕ) (first : ℕ → Option ℕ) → HasColumn perms spares slice slot
-    → links_in perms spares slice first slot spare ≡ chain_spares (spare_slot perms slice) first spares spare
+    → links_in perms spares slice first slot spare ≡ chain_links (spare_slot perms slice) first spares spare
 links_are perms spares slice slot spare first column =
-    ap (λ test. if test then chain_spares (spare_slot perms slice) first spares spare else 1)
+    ap (λ test. if test then chain_links (spare_slot perms slice) first spares spare else 1)
     (with_column perms spares slice slot column)
 
 pub holder_alone : (perms : Perms) (spares slice slot spare : ℕ) (first : ℕ → Option ℕ) → ¬ HasColumn perms spares slice slot
@@ -131,7 +131,7 @@ holder_ends perms spares slice slot spare first used column arm =
     let holder : holder_in perms spares slice first slot spare ≡ spare_slot perms slice e.last
     = holder_is perms spares slice slot spare first column ∙ end_is (spare_slot perms slice) spares spare e.last first e.ws e.ended in
     let links : links_in perms spares slice first slot spare ≡ length e.ws + 1
-    = links_are perms spares slice slot spare first column ∙ spares_are (spare_slot perms slice) spares spare e.last first e.ws e.ended in
+    = links_are perms spares slice slot spare first column ∙ links_sum (spare_slot perms slice) spares spare e.last first e.ws e.ended in
     (whole.0, omega (arith, count, links), subst (λ s. EndsAt (spare_slot perms slice) first spare whole.0 s) (sym holder) whole.1.1)
 
 pub holder_free : (perms : Perms) (spares slice slot spare : ℕ) (first : ℕ → Option ℕ) → AreUsed (children_of perms) spares first
@@ -147,7 +147,7 @@ pub few_links : (perms : Perms) (spares slice slot spare : ℕ) (first : ℕ →
 few_links perms spares slice slot spare first used column arm =
     let e : HasEnd (spare_slot perms slice) spares first spare = arm_end perms spares slice slot spare first used column arm in
     let less : length e.ws < spares = e.ended.few in
-    omega (arith, less, links_are perms spares slice slot spare first column, spares_are (spare_slot perms slice) spares spare e.last first e.ws e.ended)
+    omega (arith, less, links_are perms spares slice slot spare first column, links_sum (spare_slot perms slice) spares spare e.last first e.ws e.ended)
 
 -- of every slot the holder is the slot at the spare's position where that has no spare arm
 pub holder_stays : (perms : Perms) (spares slice slot spare : ℕ) (first : ℕ → Option ℕ) → first (spare_slot perms slice spare) ≡ None
@@ -226,3 +226,10 @@ pub holder_moves : (perms : Perms) (spares slice slot spare at new : ℕ) (befor
     → holder_in perms spares slice after slot spare ≢ at
 holder_moves perms spares slice slot spare at new before after gains used column arm same =
     not_both (after at) new (ap after (sym same) ∙ holder_free perms spares slice slot spare after used column arm) gains.with_it
+
+pub holder_below : (perms : Perms) (spares slice slot spare : ℕ) (first : ℕ → Option ℕ) → holder_in perms spares slice first slot spare < children_of perms
+holder_below perms spares slice slot spare first = by_test (stands_before perms slice (children_of perms - spares) slot)
+  where
+    by_test : (test : Bool) → (if test then chain_end (spare_slot perms slice) first spares spare else spare_slot perms slice spare) < children_of perms
+    by_test true = end_below (spare_slot perms slice) (children_of perms) first spares spare (λ t. child_below perms slice _)
+    by_test false = child_below perms slice _

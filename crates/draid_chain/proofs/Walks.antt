@@ -7,7 +7,7 @@ use Rattle.draid_names.specs.Spares.{AreUsed, IsArm}
 use Rattle.draid_chain.specs.Chain.{holder_in, links_in, spare_slot}
 use Rattle.draid_chain.specs.Used.{HasColumn}
 use Rattle.draid_chain.proofs.Ways.{IsWay, few_passed}
-use Rattle.draid_chain.proofs.Ends.{IsEnd, end_is, spares_are}
+use Rattle.draid_chain.proofs.Ends.{IsEnd, end_is, links_sum}
 use Rattle.draid_chain.proofs.Holders.{few_spares, holder_is, links_are, off, spread}
 
 -- a walk from a spare has come to a slot, at which the last of so many spares stands
@@ -62,4 +62,4 @@ module _ (perms : Perms) (n spares slice slot spare holder links : ℕ) (first :
   pub come_by_links : first holder ≡ None → links ≡ links_in perms spares slice first slot spare
   come_by_links none =
       come.count
-      ∙ sym (links_are perms spares slice slot spare first column ∙ spares_are (spare_slot perms slice) spares spare come.last first come.ws (end none))
+      ∙ sym (links_are perms spares slice slot spare first column ∙ links_sum (spare_slot perms slice) spares spare come.last first come.ws (end none))

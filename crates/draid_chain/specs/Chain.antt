@@ -18,20 +18,22 @@ stands_before perms slice zero slot = false
 stands_before perms slice (suc position) slot =
     (child_of perms slice position == slot) || stands_before perms slice position slot
 
--- The slot at which the chain of a spare ends, by the slot at each spare's position and each slot's first spare: the slot at the spare's position
--- or, where that has a spare arm, the slot at which the chain of its first one ends. At most so many links are followed.
+-- The slot at which the chain of a spare ends, by the slot at each spare's position and each slot's first spare: the slot at
+-- the spare's position or, where that has a spare arm, the slot at which the chain of its first one ends. At most so many
+-- further spares are passed.
 abbrev pub chain_end : (ℕ → ℕ) → (ℕ → Option ℕ) → ℕ → ℕ → ℕ
 chain_end slot_at first zero spare = slot_at spare
 chain_end slot_at first (suc most) spare =
     option_map_or (λ next. chain_end slot_at first most next) (first (slot_at spare)) (slot_at spare)
 
--- the spares of that chain, this one counted
-abbrev pub chain_spares : (ℕ → ℕ) → (ℕ → Option ℕ) → ℕ → ℕ → ℕ
-chain_spares slot_at first zero spare = 1
-chain_spares slot_at first (suc most) spare =
-    option_map_or (λ next. chain_spares slot_at first most next + 1) (first (slot_at spare)) 1
+-- the links of that chain: the spares that it passes, this one counted
+abbrev pub chain_links : (ℕ → ℕ) → (ℕ → Option ℕ) → ℕ → ℕ → ℕ
+chain_links slot_at first zero spare = 1
+chain_links slot_at first (suc most) spare =
+    option_map_or (λ next. chain_links slot_at first most next + 1) (first (slot_at spare)) 1
 
--- the same as a relation, without a bound: the chain of a spare ends at a slot without a spare arm, behind so many further spares
+-- the same as a relation, without a bound: behind so many further spares the chain of a spare ends at a slot, which has no
+-- spare arm
 abbrev pub EndsAt : (ℕ → ℕ) → (ℕ → Option ℕ) → ℕ → ℕ → ℕ → Type 0
 EndsAt slot_at first spare zero slot = (slot_at spare ≡ slot) × (first slot ≡ None)
 EndsAt slot_at first spare (suc further) slot =
@@ -43,10 +45,10 @@ holder_in perms spares slice first slot spare =
     if stands_before perms slice (children_of perms - spares) slot then chain_end (spare_slot perms slice) first spares spare
     else spare_slot perms slice spare
 
--- the spares that are passed on the way there
+-- the links of the chain from the arm to there
 abbrev pub links_in : Perms → ℕ → ℕ → (ℕ → Option ℕ) → ℕ → ℕ → ℕ
 links_in perms spares slice first slot spare =
-    if stands_before perms slice (children_of perms - spares) slot then chain_spares (spare_slot perms slice) first spares spare
+    if stands_before perms slice (children_of perms - spares) slot then chain_links (spare_slot perms slice) first spares spare
     else 1
 
 -- the same at a sector of the pool

@@ -45,6 +45,12 @@ pub fn chains_follow()
         → chain_end slot_at first spares spare ≡ chain_end slot_at first spares next }
 {}
 
+/// Law: a holder is a slot.
+pub fn holders_are_slots()
+    ensures { (perms : Perms) (spares slice slot spare : ℕ) (first : ℕ → Option ℕ)
+        → holder_in perms spares slice first slot spare < children_of perms }
+{}
+
 /// Law: no holder has a column in the slice, so that no column lies at a spare's place.
 pub fn holders_have_no_column()
     ensures { (perms : Perms) (spares slice slot spare other : ℕ) (first : ℕ → Option ℕ)
@@ -63,8 +69,8 @@ pub fn holders_differ()
         → holder_in perms spares slice first a t ≢ holder_in perms spares slice first b u }
 {}
 
-/// Law: what an earlier table of first spares and a later one lead to one place is one spare's. Of each of
-/// the two arms the other table must know, too, that it is no other slot's first spare.
+/// Law: where an earlier table of first spares and a later one lead two arms to one place, they are one
+/// spare. Each of them is first of no other slot in the other's table.
 pub fn chains_lead_back()
     ensures { (perms : Perms) (spares slice a b t u : ℕ) (earlier later : ℕ → Option ℕ)
         → AreSpares (children_of perms) spares earlier → AreSpares (children_of perms) spares later

@@ -6,6 +6,6 @@ mod laws;
 
 pub use chain::{holder, links};
 pub use laws::{
-    chains_end, chains_follow, chains_lead_back, chains_move, holders_differ,
+    chains_end, chains_follow, chains_lead_back, chains_move, holders_are_slots, holders_differ,
     holders_have_no_column, slices_have_one_holder,
 };
