@@ -2,7 +2,7 @@ ghost use Rattle.std.specs.Prelude.{◌≡◌, ◌<◌, ◌≤◌, ◌↔◌, Is
 ghost use Rattle.draid_spec.specs.Geometry.{IsGeometry};
 ghost use Rattle.draid_perm.specs.Perms.{children_of};
 ghost use Rattle.draid_names.specs.Spares.{AreUsed, IsArm};
-ghost use Rattle.draid_chain.specs.Chain.{holder_of, links_of, slice_at, spare_slot, stands_before};
+ghost use Rattle.draid_chain.specs.Chain.{holder_in, holder_of, links_in, links_of, slice_at, spare_slot, stands_before};
 ghost use Rattle.draid_chain.specs.Used.{HasColumn, first_in};
 
 use draid_perm::Perms;
@@ -36,7 +36,15 @@ pub fn holder(
     ensures slot { result ≡ holder_of geometry.now perms.now (first_in used.now) slot spare sector }
     ensures below { result < geometry.now.spec.children }
 {
-    chain(geometry, perms, used, slot, spare, sector).holder
+    chain(
+        geometry,
+        perms,
+        used,
+        slice_of(geometry, sector),
+        slot,
+        spare,
+    )
+    .holder
 }
 
 /// How many spares are passed on the way from a spare arm of a slot to its holder, itself counted.
@@ -57,30 +65,45 @@ pub fn links(
     ensures some { 1 ≤ result }
     ensures most { result ≤ geometry.now.spec.spares }
 {
-    chain(geometry, perms, used, slot, spare, sector).links
+    chain(
+        geometry,
+        perms,
+        used,
+        slice_of(geometry, sector),
+        slot,
+        spare,
+    )
+    .links
 }
 
-/// The chain of a spare arm at a sector: a slot without a column in the slice has none to follow.
+/// The slice that a sector lies in.
+fn slice_of(geometry: &Geometry, sector: u64) -> u64
+    requires { IsGeometry geometry.now }
+    ensures { result ≡ slice_at geometry.now sector }
+{
+    sector / (u64::from(geometry.rows) * u64::from(geometry.props.height))
+}
+
+/// The chain of a spare arm in a slice. Where its slot has no column there, it has one link.
 fn chain(
     geometry: &Geometry,
     perms: &Perms,
     used: &[Option<u32>],
+    slice: u64,
     slot: u32,
     spare: u32,
-    sector: u64,
 ) -> ChainEnd
     requires geometry { IsGeometry geometry.now }
     requires children { children_of perms.now ≡ geometry.now.spec.children }
     requires all { length used.now ≡ geometry.now.spec.children }
     requires used { AreUsed geometry.now.spec.children geometry.now.spec.spares (first_in used.now) }
     requires arm { IsArm geometry.now.spec.children geometry.now.spec.spares (first_in used.now) slot spare }
-    ensures holder { result.holder ≡ holder_of geometry.now perms.now (first_in used.now) slot spare sector }
+    ensures holder { result.holder ≡ holder_in perms.now geometry.now.spec.spares slice (first_in used.now) slot spare }
     ensures below { result.holder < geometry.now.spec.children }
-    ensures links { result.links ≡ links_of geometry.now perms.now (first_in used.now) slot spare sector }
+    ensures links { result.links ≡ links_in perms.now geometry.now.spec.spares slice (first_in used.now) slot spare }
     ensures some { 1 ≤ result.links }
     ensures most { result.links ≤ geometry.now.spec.spares }
 {
-    let slice = slice_of(geometry, sector);
     let mut holder = at_spare(geometry, perms, slice, spare);
     let mut links = 1;
     if !has_column(geometry, perms, slice, slot) {
@@ -91,14 +114,6 @@ fn chain(
         links += 1;
     }
     ChainEnd { holder, links }
-}
-
-/// The slice that a sector lies in.
-fn slice_of(geometry: &Geometry, sector: u64) -> u64
-    requires { IsGeometry geometry.now }
-    ensures { result ≡ slice_at geometry.now sector }
-{
-    sector / (u64::from(geometry.rows) * u64::from(geometry.props.height))
 }
 
 /// The slot at the position of a spare.

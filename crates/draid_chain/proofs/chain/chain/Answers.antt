@@ -1,5 +1,4 @@
-use Rattle.std.proofs.Common.{◌≡◌, ◌+◌, ◌≤◌, None, ap, ◌∙◌, arith, refl}
-use Rattle.draid_chain.specs.Chain.{holder_in, links_in}
+use Rattle.std.proofs.Common.{◌≡◌, ◌+◌, ◌≤◌, None, arith, refl}
 use Rattle.draid_chain.specs.Used.{first_in}
 use Rattle.draid_chain.proofs.Ends.{not_some}
 use Rattle.draid_chain.proofs.Walks.{come_by_links, come_to_holder, gone_on, links_most}
@@ -7,12 +6,12 @@ use Rattle.draid_chain.proofs.chain.chain.Goals as goal
 
 pub links-preserved : goal.links-preserved
 links-preserved c =
-    let come = gone_on c.args.perms.now c.args.geometry.now.spec.children c.args.geometry.now.spec.spares c.slice_of-slice.result c.args.spare
+    let come = gone_on c.args.perms.now c.args.geometry.now.spec.children c.args.geometry.now.spec.spares c.args.slice c.args.spare
     c.links.holder c.links.links c.in-Some.next c.at_spare-holder-in-Some.result (first_in c.args.used.now)
     c.requires.children c.requires.used c.links.invariant.come c.in-Some.is c.at_spare-holder-in-Some.ensures.slot in
     record {
       come = come;
-      most = links_most c.args.perms.now c.args.geometry.now.spec.children c.args.geometry.now.spec.spares c.slice_of-slice.result
+      most = links_most c.args.perms.now c.args.geometry.now.spec.children c.args.geometry.now.spec.spares c.args.slice
           c.args.slot c.args.spare c.at_spare-holder-in-Some.result (c.links.links + 1) (first_in c.args.used.now)
           c.requires.children c.requires.used (c.if-not-has_column.ensures.column.0 refl) c.requires.arm come;
     }
@@ -25,15 +24,13 @@ links-smaller c =
 pub returns-clause-holder : goal.returns-clause-holder
 returns-clause-holder c =
     let none : first_in c.args.used.now c.links.holder ≡ None = not_some _ c.in_default.not-Some in
-    come_to_holder c.args.perms.now c.args.geometry.now.spec.children c.args.geometry.now.spec.spares c.slice_of-slice.result
+    come_to_holder c.args.perms.now c.args.geometry.now.spec.children c.args.geometry.now.spec.spares c.args.slice
     c.args.slot c.args.spare c.links.holder c.links.links (first_in c.args.used.now)
     c.requires.children c.requires.used (c.if-not-has_column.ensures.column.0 refl) c.requires.arm c.links.invariant.come none
-    ∙ ap (λ q. holder_in c.args.perms.now c.args.geometry.now.spec.spares q (first_in c.args.used.now) c.args.slot c.args.spare) c.slice_of-slice.ensures
 
 pub returns-clause-links : goal.returns-clause-links
 returns-clause-links c =
     let none : first_in c.args.used.now c.links.holder ≡ None = not_some _ c.in_default.not-Some in
-    come_by_links c.args.perms.now c.args.geometry.now.spec.children c.args.geometry.now.spec.spares c.slice_of-slice.result
+    come_by_links c.args.perms.now c.args.geometry.now.spec.children c.args.geometry.now.spec.spares c.args.slice
     c.args.slot c.args.spare c.links.holder c.links.links (first_in c.args.used.now)
     c.requires.children c.requires.used (c.if-not-has_column.ensures.column.0 refl) c.requires.arm c.links.invariant.come none
-    ∙ ap (λ q. links_in c.args.perms.now c.args.geometry.now.spec.spares q (first_in c.args.used.now) c.args.slot c.args.spare) c.slice_of-slice.ensures
