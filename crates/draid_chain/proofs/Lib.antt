@@ -1,0 +1,4 @@
+pub mod Ends
+pub mod Holders
+pub mod Walks
+pub mod Ways
