@@ -44,16 +44,19 @@ pub record Adds {E : Type 0} (number : E → Option ℕ) (numbers : List Span) (
   pub behind : new ≡ old ++ added
   pub own : All (IsOwn number numbers) added
 
--- One turn took the operation from before to after, and the value to what it left. What the caller has seen is then all that the value stores, and what was added there is its own
-pub record Did {O T E : Type 0} (fact : T → Type 0) (events : T → List E) (number : E → Option ℕ) (relates : O → T → O → T → Type 0)
-    (before after : O) (old new : Caller E) : Type 0 where
+-- The caller's next hold, in which the stored events went from before to after. It has then seen all of them, and those that were added are its own
+pub record IsHold {E : Type 0} (number : E → Option ℕ) (old : Caller E) (before after : List E) (new : Caller E) : Type 0 where
+  pub follows : Follows number old.numbers before old.seen
+  pub adds : Adds number old.numbers before after
+  pub seen : new.seen ≡ after
+  pub own : new.own ≡ old.own ++ places (length before) (length after - length before)
+  pub numbers : new.numbers ≡ old.numbers
+  pub table : new.table ≡ old.table
+
+-- One hold took the operation from op to done, and the value, which met the fact, to what is left.
+pub record Did {O T E : Type 0} (fact : T → Type 0) (events : T → List E) (number : E → Option ℕ) (relates : O → T → O → T → Type 0) (op done : O) (old new : Caller E) : Type 0 where
   pub value : T
   pub left : T
   pub stood : fact value
-  pub related : relates before value after left
-  pub follows : Follows number old.numbers (events value) old.seen
-  pub adds : Adds number old.numbers (events value) (events left)
-  pub seen : new.seen ≡ events left
-  pub own : new.own ≡ old.own ++ places (length (events value)) (length (events left) - length (events value))
-  pub numbers : new.numbers ≡ old.numbers
-  pub table : new.table ≡ old.table
+  pub related : relates op value done left
+  pub hold : IsHold number old (events value) (events left) new
