@@ -1,2 +1,5 @@
+pub mod Holds
 mod Joins
+mod LaneCalls
+mod Lookups
 mod Splits
