@@ -1,3 +1,4 @@
 pub mod Calls
 pub mod Holds
+pub mod Lanes
 pub mod Passes
