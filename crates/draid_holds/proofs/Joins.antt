@@ -1,14 +1,14 @@
 -- Passes that are joined to one, the last one first.
-use Rattle.std.proofs.Common.{◌≡◌, ℕ, ◌+◌, ◌-◌, ◌<◌, ◌≤◌, ◌||◌, true, false, Bool, List, [], ◌∷◌, ◌++◌, length, sym, refl, ap, ◌∙◌, subst, arith, All}
+use Rattle.std.proofs.Common.{◌≡◌, ℕ, ◌+◌, ◌-◌, ◌≤◌, ◌||◌, true, false, Bool, List, [], ◌∷◌, ◌++◌, length, sym, refl, ap, ◌∙◌, subst, arith, All}
 use Rattle.std.proofs.lemmas.List.{append_assoc, append-nil}
-use Rattle.std.proofs.lemmas.List.Elements.{All-append, All-cons, All-head, All-nil, All-tail, All-weaker}
-use Rattle.std.proofs.lemmas.List.Sums.{sum_by-append, sum_by-cons, sum_by_push}
+use Rattle.std.proofs.lemmas.List.Elements.{All-cons, All-head, All-nil, All-tail, All-weaker}
+use Rattle.std.proofs.lemmas.List.Sums.{sum_by_push}
 use Rattle.draid_turn.specs.Calls.{Caller}
 use Rattle.draid_turn.specs.Lists.{StartsWith, merge, one_if, one_within, places, times}
-use Rattle.draid_turn.specs.Numbers.{HoldsAll, holds, number_limit}
+use Rattle.draid_turn.specs.Numbers.{holds}
 use Rattle.draid_turn.proofs.Ascending.{times_merge, times_places}
 use Rattle.draid_turn.proofs.Beginnings.{starts_further, starts_length, starts_self}
-use Rattle.draid_turn.proofs.Spans.{holds_append, one_if_true}
+use Rattle.draid_turn.proofs.Spans.{holds_append}
 use Rattle.draid_turn.proofs.Sums.{count_push}
 use Rattle.draid_holds.specs.Passes.{holders, makers}
 

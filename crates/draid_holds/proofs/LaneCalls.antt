@@ -1,5 +1,5 @@
 -- Laws of a lane's calls.
-use Rattle.std.proofs.Common.{◌≡◌, ◌≢◌, ℕ, ◌+◌, ◌<◌, ◌≤◌, List, [], ◌∷◌, ◌++◌, length, get_or, set, take, sym, refl, ap, ◌∙◌, subst, arith, Option, Some, All, length-set, get_or-set_other}
+use Rattle.std.proofs.Common.{◌≡◌, ℕ, ◌+◌, ◌<◌, ◌≤◌, List, [], ◌∷◌, ◌++◌, length, get_or, set, take, sym, refl, ap, ◌∙◌, subst, arith, Option, All, length-set, get_or-set_other}
 use Rattle.std.proofs.lemmas.List.{take_all, take_more, take_more_set}
 use Rattle.std.specs.List.{slice_get}
 use mathlib.Core.Logic.{dite}
@@ -7,7 +7,7 @@ use native.Mathlib.Decide.{ℕ_discrete}
 use Rattle.draid_turn.specs.Calls.{Caller, IsHold, Lock}
 use Rattle.draid_turn.specs.Lists.{StartsWith}
 use Rattle.draid_turn.proofs.Beginnings.{starts_further, starts_self}
-use Rattle.draid_holds.specs.Calls.{CallsMade, DidIn, MayCall, MayCallIn, MayCallLater}
+use Rattle.draid_holds.specs.Calls.{AreHolds, CallsMade, DidIn, MayCallIn, MayCallLater}
 use Rattle.draid_holds.specs.declared.calls.Call.{Call}
 use Rattle.draid_holds.proofs.Lookups.{get_set, get_set_other, some_same}
 
@@ -91,3 +91,17 @@ module _ {O T E : Type 0} (fact : T → T → Type 0) (events : T → List E) (n
     calling_end i dones new r le =
         let count = r.count in
         subst (λ (l : List (Call O) × List (Call O)). CallsMade fact events number relates locks l.0 l.1 old new) (λ k. (take_all i calls le k, take_all i dones (omega (arith, le, count)) k)) r.made
+
+module _ {O T E : Type 0} (fact : T → T → Type 0) (events : T → List E) (number : E → Option ℕ) (relates : O → T → O → T → Type 0) where
+  pub calls_hold : (locks : List (Lock T)) (calls dones : List (Call O)) (old new : List (Caller E)) → CallsMade fact events number relates locks calls dones old new → AreHolds number calls old new
+  calls_hold locks [] [] old new made = record { holds = []; turns = refl; went = made }
+  calls_hold locks (call ∷ calls) (done ∷ dones) old new made =
+      let rest = calls_hold locks calls dones made.0 new made.3 in
+      let did = made.2 in
+      record {
+        holds = record { turn = call.turn; hold = record { before = events did.did.value; after = events did.did.left } } ∷ rest.holds;
+        turns = λ k. call.turn ∷ rest.turns k;
+        went = (made.0, record { pass = did.pass; next = did.next; there = did.pass_is; is = did.is; was = did.did.hold }, rest.went);
+      }
+  calls_hold locks [] (done ∷ dones) old new made = absurd made
+  calls_hold locks (call ∷ calls) [] old new made = absurd made

@@ -3,4 +3,6 @@ mod Joins
 mod LaneCalls
 mod Lookups
 mod Parts
+mod Ran
 mod Splits
+mod Started

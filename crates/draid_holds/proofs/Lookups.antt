@@ -1,5 +1,5 @@
 -- What is at a place of a list in which one element was changed.
-use Rattle.std.proofs.Common.{◌≡◌, ◌≢◌, ℕ, ◌<◌, List, length, get_or, set, sym, ap, ◌∙◌, arith, Option, Some, None, length-set, get_or-set_same, get_or-set_other}
+use Rattle.std.proofs.Common.{◌≡◌, ◌≢◌, ℕ, List, set, ap, ◌∙◌, arith, Option, Some, None, length-set, get_or-set_same, get_or-set_other}
 use Rattle.std.proofs.lemmas.Option.{get_or_from_slice_get, slice_get-get_or, slice_get_within}
 use Rattle.std.specs.List.{slice_get}
 

@@ -1,6 +1,5 @@
 -- Passes that are split off one after another.
-use Rattle.std.proofs.Common.{◌≡◌, ℕ, zero, suc, ◌+◌, ◌<◌, ◌≤◌, ◌&&◌, not, true, false, Bool, List, [], ◌∷◌, ◌++◌, length, get_or, map, take, sym, refl, ap, ◌∙◌, subst, arith, All}
-use Rattle.std.specs.Prelude.{count_by, sum_by}
+use Rattle.std.proofs.Common.{◌≡◌, ℕ, ◌+◌, ◌<◌, ◌≤◌, ◌&&◌, not, true, List, [], ◌∷◌, ◌++◌, length, get_or, map, take, sym, refl, ap, ◌∙◌, arith}
 use Rattle.std.proofs.lemmas.List.{map_push, take_all, take_more}
 use Rattle.std.proofs.lemmas.List.Sums.{sum_by-take-le}
 use Rattle.std.specs.declared.vec.Vec.{Vec}
@@ -8,7 +7,7 @@ use Rattle.std.specs.declared.alloc.Global.{Global}
 use Rattle.draid_turn.specs.declared.span.Span.{Span}
 use Rattle.draid_turn.specs.Calls.{Caller, newcomer}
 use Rattle.draid_turn.specs.Lists.{one_if}
-use Rattle.draid_turn.specs.Numbers.{HoldsOther, HoldsSome, holds}
+use Rattle.draid_turn.specs.Numbers.{HoldsOther, holds}
 use Rattle.draid_turn.proofs.Spans.{not_true, one_if_true, ones_split, true_if_one}
 use Rattle.draid_turn.proofs.Sums.{count_push}
 use Rattle.draid_holds.specs.Passes.{KeepsOne, shares}

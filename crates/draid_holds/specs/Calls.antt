@@ -1,7 +1,8 @@
 -- Calls by a lane's passes, one for each of several turns.
-use Rattle.std.specs.Prelude.{◌≡◌, ℕ, List, [], ◌∷◌, Option, Some, slice_get, slice_set}
+use Rattle.std.specs.Prelude.{◌≡◌, ℕ, List, [], ◌∷◌, Option, Some, map, slice_get, slice_set}
 use Rattle.draid_turn.specs.Calls.{Adds, Caller, Did, Follows, Lock}
 use Rattle.draid_turn.specs.Lists.{StartsWith}
+use Rattle.draid_holds.specs.Holds.{HoldIn, LaneWent}
 use Rattle.draid_holds.specs.declared.calls.Call.{Call}
 
 module _ {O T E : Type 0} (fact : T → T → Type 0) (events : T → List E) (number : E → Option ℕ) (needs : O → T → Type 0) (relates : O → T → O → T → Type 0) where
@@ -44,3 +45,9 @@ module _ {O T E : Type 0} (fact : T → T → Type 0) (events : T → List E) (n
   CallsMade [] [] old new = new ≡ old
   CallsMade (call ∷ calls) (done ∷ dones) old new = (mid : List (Caller E)) × (done.turn ≡ call.turn) × DidIn call.turn call.op done.op old mid × CallsMade calls dones mid new
   CallsMade calls dones old new = ⊥
+
+-- the calls are holds of the lane, one for each, in the same turn
+pub record AreHolds {O E : Type 0} (number : E → Option ℕ) (calls : List (Call O)) (old new : List (Caller E)) : Type 0 where
+  pub holds : List (HoldIn E)
+  pub turns : map (λ (made : HoldIn E). made.turn) holds ≡ map (λ (call : Call O). call.turn) calls
+  pub went : LaneWent number old holds new

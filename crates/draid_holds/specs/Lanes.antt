@@ -1,10 +1,9 @@
 -- Lanes over one lock, each with a pass of its own.
-use Rattle.std.specs.Prelude.{◌≡◌, ◌<◌, ◌≤◌, ◌+◌, ℕ, List, Option, All, length, map, slice_index_or}
+use Rattle.std.specs.Prelude.{◌≡◌, ◌<◌, ◌+◌, ℕ, List, Option, All, length, map, slice_index_or}
 use Rattle.draid_turn.specs.Calls.{Caller, Lock}
-use Rattle.draid_turn.specs.Lists.{StartsWith, one_if, one_within, times}
-use Rattle.draid_turn.specs.Numbers.{holds, number_limit}
+use Rattle.draid_turn.specs.Lists.{StartsWith, one_within, times}
 use Rattle.draid_holds.specs.Holds.{Hold, Went}
-use Rattle.draid_holds.specs.Passes.{holders, makers}
+use Rattle.draid_holds.specs.Passes.{makers}
 use Rattle.draid_holds.specs.declared.lanes.Lane.{Lane}
 
 -- a lane's work was done by holds of its pass, one after another

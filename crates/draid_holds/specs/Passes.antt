@@ -1,11 +1,11 @@
 -- Passes that are split off one after another, and joined again.
-use Rattle.std.specs.Prelude.{◌≡◌, ℕ, Bool, true, List, All, count_by, sum_by}
+use Rattle.std.specs.Prelude.{◌≡◌, ℕ, true, List, count_by, sum_by}
 use Rattle.std.specs.declared.vec.Vec.{Vec}
 use Rattle.std.specs.declared.alloc.Global.{Global}
 use Rattle.draid_turn.specs.declared.span.Span.{Span}
 use Rattle.draid_turn.specs.Calls.{Caller}
 use Rattle.draid_turn.specs.Lists.{times}
-use Rattle.draid_turn.specs.Numbers.{HoldsSome, holds}
+use Rattle.draid_turn.specs.Numbers.{holds}
 
 -- how many of the lists of numbers have this one
 abbrev pub shares : ℕ → List (Vec Span Global) → ℕ

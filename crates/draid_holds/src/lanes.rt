@@ -47,10 +47,15 @@ pub fn run_lanes<T: Stand + Send, W: Work<T> + Send, R: Threads + Wait + Sync>(
     if count == 0 {
         return;
     }
-    thread::for_each_mut(rt, lanes, count, &|_, lane: &mut Lane<T, W>| {
-        let Lane { pass, work } = lane;
-        work.work(turn, pass);
-    });
+    thread::for_each_mut(
+        rt,
+        lanes,
+        count,
+        &|_, lane: &mut Lane<T, W>| {
+            let Lane { pass, work } = lane;
+            work.work(turn, pass);
+        },
+    );
 }
 
 /// The passes of the lanes, and their works.
@@ -70,4 +75,26 @@ fn part<T: Stand, W: Drop>(
         works.push_reserved(work);
     }
     (passes, works)
+}
+
+/// Runs the lanes, joins their passes to the first one, and closes the turn. `passes` and `works` have room for as many.
+pub fn run_and_close<T: Stand + Send + Drop, W: Work<T> + Send + Drop, R: Threads + Wait + Sync>(
+    rt: &R,
+    turn: Turn<T>,
+    first: Pass<T>,
+    mut lanes: Vec<Lane<T, W>>,
+    passes: Vec<Pass<T>>,
+    works: Vec<W>,
+) -> (T, Vec<W>)
+    requires own { first.table ≡ turn.table }
+    requires may { All (MayWork W.needs turn) lanes.items }
+    requires all { (n : ℕ) → n < number_limit → 1 ≤ one_if (holds n first.numbers) + holders n (map pass_of lanes.items) }
+    requires none { (passes.items ≡ []) × (works.items ≡ []) }
+    requires room { (length lanes.items ≤ vec_capacity passes) × (length lanes.items ≤ vec_capacity works) }
+    ensures fact { T.fact turn.first result.0 }
+    ensures ran { AllRan T.number W.relates first lanes.items (T.events turn.first) (T.events result.0) result.1.items }
+{
+    run_lanes(rt, &turn, &mut lanes);
+    let (passes, works) = part(lanes, passes, works);
+    (close_each(rt, turn, first, passes), works)
 }

@@ -1,8 +1,10 @@
 ghost use Rattle.std.specs.Prelude.{◌≡◌, ◌++◌, ℕ, List, Some, slice_get};
-ghost use Rattle.draid_turn.specs.Calls.{Caller};
+ghost use Rattle.draid_turn.specs.Calls.{Caller, Lock};
+ghost use Rattle.draid_holds.specs.Calls.{AreHolds, CallsMade};
+ghost use Rattle.draid_holds.specs.declared.calls.Call.{Call};
 ghost use Rattle.draid_holds.specs.Holds.{Comes, Hold, HoldIn, LaneWent, Went, WentAt};
 
-use draid_turn::Stand;
+use draid_turn::{Act, Stand};
 
 /// Law: a caller's holds stand in order in what it has seen at the end, each behind all that it had seen before it, and what they added is its own, hold by hold.
 #[tactic(auto, using(crate::proofs::Holds::went_comes))]
@@ -21,4 +23,11 @@ pub fn lanes_go_turn_by_turn<T: Stand>()
 #[tactic(auto, using(crate::proofs::Holds::went_on))]
 pub fn lanes_go_on<T: Stand>()
     ensures { (old mid new : List (Caller T.Event)) (front back : List (HoldIn T.Event)) → LaneWent T.number old front mid → LaneWent T.number mid back new → LaneWent T.number old (front ++ back) new }
+{}
+
+/// Law: calls that a lane made one after another are holds, one for each call.
+#[tactic(auto, using(crate::proofs::LaneCalls::calls_hold))]
+pub fn calls_are_holds<T: Stand, O: Act<T>>()
+    ensures { (locks : List (Lock T)) (calls dones : List (Call O)) (old new : List (Caller T.Event)) → CallsMade T.fact T.events T.number O.relates locks calls dones old new
+        → AreHolds T.number calls old new }
 {}

@@ -1,6 +1,6 @@
 use Rattle.std.proofs.Common.{rules, ap, ◌≡◌, ◌∙◌, [], length, vec_len}
 use Rattle.std.specs.Vec.Iter.{into_iter_items}
-use Rattle.draid_holds.proofs.Parts.{Parting, empty_of, parted_passes, parted_works, parting_more, parting_start, room_first, room_for, room_still}
+use Rattle.draid_holds.proofs.Parts.{empty_of, parted_passes, parted_works, parting_more, parting_start, room_first, room_for, room_still}
 use Rattle.draid_holds.proofs.lanes.part.Goals as goal
 
 pub lanes-init : goal.lanes-init

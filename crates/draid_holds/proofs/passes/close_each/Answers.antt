@@ -1,7 +1,6 @@
-use Rattle.std.proofs.Common.{◌≡◌, ◌∙◌, ℕ, ◌<◌, sym, subst, All}
-use Rattle.draid_turn.specs.Calls.{Caller}
+use Rattle.std.proofs.Common.{◌∙◌, sym}
 use Rattle.draid_turn.specs.Lists.{StartsWith}
-use Rattle.draid_turn.specs.Numbers.{HoldsAll, number_limit}
+use Rattle.draid_turn.specs.Numbers.{HoldsAll}
 use Rattle.std.proofs.lemmas.List.Elements.{All-weaker}
 use Rattle.draid_turn.proofs.Beginnings.{starts_further}
 use Rattle.draid_holds.proofs.Joins.{made_once}

@@ -1,5 +1,4 @@
-use Rattle.std.proofs.Common.{rules, ap, sym, subst, ◌≡◌, ◌∙◌, [], ◌∷◌, ◌++◌, List}
-use Rattle.draid_turn.specs.Calls.{Caller}
+use Rattle.std.proofs.Common.{rules, subst, ◌≡◌, ◌∙◌, []}
 use Rattle.draid_holds.proofs.Joins.{Joining, all_held, all_made, all_seen, joining_more, joining_own, joining_start}
 use Rattle.draid_holds.proofs.passes.join_each.Goals as goal
 

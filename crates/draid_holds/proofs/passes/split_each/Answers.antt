@@ -1,6 +1,5 @@
-use Rattle.std.proofs.Common.{rules, refl, sym, ap, ◌≡◌, ◌∙◌, ◌+◌, ◌<◌, ◌≤◌, [], ◌∷◌, ◌++◌, ℕ, List, length, not, ◌&&◌, subst, arith, true, vec_capacity, vec_len}
-use Rattle.draid_turn.specs.declared.span.Span.{Span}
-use Rattle.draid_turn.specs.Calls.{Caller, newcomer}
+use Rattle.std.proofs.Common.{refl, sym, ap, ◌∙◌, ◌+◌, length, not, ◌&&◌, subst, arith}
+use Rattle.draid_turn.specs.Calls.{newcomer}
 use Rattle.draid_turn.specs.Numbers.{HoldsOther, holds}
 use Rattle.draid_holds.proofs.Splits.{Splitting, all_left, all_split, splitting_held, splitting_more, splitting_other, splitting_start}
 use Rattle.draid_holds.proofs.passes.split_each.Goals as goal
