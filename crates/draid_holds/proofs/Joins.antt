@@ -1,0 +1,96 @@
+-- Passes that are joined to one, the last one first.
+use Rattle.std.proofs.Common.{◌≡◌, ℕ, ◌+◌, ◌-◌, ◌≤◌, ◌||◌, true, false, Bool, List, [], ◌∷◌, ◌++◌, length, sym, refl, ap, ◌∙◌, subst, arith, All}
+use Rattle.std.proofs.lemmas.List.{append_assoc, append-nil}
+use Rattle.std.proofs.lemmas.List.Elements.{All-cons, All-head, All-nil, All-tail, All-weaker}
+use Rattle.std.proofs.lemmas.List.Sums.{sum_by_push}
+use Rattle.draid_turn.specs.Calls.{Caller}
+use Rattle.draid_turn.specs.Lists.{StartsWith, merge, one_if, one_within, places, times}
+use Rattle.draid_turn.specs.Numbers.{holds}
+use Rattle.draid_turn.proofs.Ascending.{times_merge, times_places}
+use Rattle.draid_turn.proofs.Beginnings.{starts_further, starts_length, starts_self}
+use Rattle.draid_turn.proofs.Spans.{holds_append}
+use Rattle.draid_turn.proofs.Sums.{count_push}
+use Rattle.draid_holds.specs.Passes.{holders, makers}
+
+-- those that are done were joined to the first pass, and those that are left were not
+pub record Joining {E : Type 0} (start : Caller E) (all left : List (Caller E)) (first : Caller E) : Type 0 where
+  pub done : List (Caller E)
+  pub all_are : all ≡ left ++ done
+  pub table : first.table ≡ start.table
+  pub begins : StartsWith first.seen start.seen
+  pub seen : All (λ (pass : Caller E). StartsWith first.seen pass.seen) done
+  pub made : (x : ℕ) → times x first.own + makers x left ≡ times x start.own + makers x all
+  pub numbers : (n : ℕ) → 1 ≤ one_if (holds n start.numbers) + holders n all → 1 ≤ one_if (holds n first.numbers) + holders n left
+
+or_one : (a b : Bool) (rest : ℕ) → 1 ≤ one_if a + (rest + one_if b) → 1 ≤ one_if (a || b) + rest
+or_one true b rest h = omega arith
+or_one false b rest h = omega (arith, h)
+
+pub held_one : (b : Bool) → 1 ≤ one_if b + 0 → b ≡ true
+held_one true h = refl
+held_one false h = absurd (omega (arith, h))
+
+all_front : {X : Type 0} (P : X → Type 0) (xs ys : List X) → All P (xs ++ ys) → All P xs
+all_front P [] ys a = All-nil P
+all_front P (x ∷ xs) ys a = All-cons P x xs (All-head P x (xs ++ ys) a) (all_front P xs ys (All-tail P x (xs ++ ys) a))
+
+all_last : {X : Type 0} (P : X → Type 0) (xs : List X) (y : X) → All P (xs ++ y ∷ []) → P y
+all_last P [] y a = All-head P y [] a
+all_last P (x ∷ xs) y a = all_last P xs y (All-tail P x (xs ++ y ∷ []) a)
+
+module _ {E : Type 0} (start : Caller E) (all : List (Caller E)) where
+  pub joining_start : Joining start all all start
+  joining_start = record {
+    done = [];
+    all_are = sym (append-nil all);
+    table = refl;
+    begins = starts_self start.seen;
+    seen = All-nil (λ (pass : Caller E). StartsWith start.seen pass.seen);
+    made = λ x. refl;
+    numbers = λ n h. h;
+  }
+
+  -- the next pass is of the same lock
+  pub joining_own : (P : Caller E → Type 0) (left : List (Caller E)) (pass first : Caller E) → Joining start all (left ++ pass ∷ []) first → All P all → P pass
+  joining_own P left pass first r own = all_last P left pass (all_front P (left ++ pass ∷ []) r.done (subst (All P) r.all_are own))
+
+  pub joining_more : (left : List (Caller E)) (pass first first' : Caller E) → Joining start all (left ++ pass ∷ []) first → first'.table ≡ first.table → StartsWith first'.seen first.seen → StartsWith first'.seen pass.seen
+      → first'.own ≡ merge first.own pass.own → first'.numbers ≡ first.numbers ++ pass.numbers → Joining start all left first'
+  joining_more left pass first first' r table begins other own numbers = record {
+    done = pass ∷ r.done;
+    all_are = r.all_are ∙ append_assoc left (pass ∷ []) r.done;
+    table = table ∙ r.table;
+    begins = starts_further start.seen first.seen first'.seen r.begins begins;
+    seen = All-cons (λ (p : Caller E). StartsWith first'.seen p.seen) pass r.done other
+        (All-weaker (λ (p : Caller E). StartsWith first.seen p.seen) (λ (p : Caller E). StartsWith first'.seen p.seen) (λ p h. starts_further p.seen first.seen first'.seen h begins) r.done r.seen);
+    made = λ x.
+        let was = r.made x in
+        let last = sum_by_push (λ (p : Caller E). times x p.own) left pass in
+        let merged = times_merge x first.own pass.own in
+        let now_is : times x first'.own ≡ times x (merge first.own pass.own) = ap (times x) own in omega (arith, was, last, merged, now_is);
+    numbers = λ n h.
+        let was = r.numbers n h in
+        let last = count_push (λ (p : Caller E). holds n p.numbers) left pass in
+        let now_is : one_if (holds n first'.numbers) ≡ one_if (holds n first.numbers || holds n pass.numbers) = ap (λ ns. one_if (holds n ns)) numbers ∙ ap one_if (holds_append n first.numbers pass.numbers) in
+        let one = or_one (holds n first.numbers) (holds n pass.numbers) (holders n left) (omega (arith, was, last)) in omega (arith, now_is, one);
+  }
+
+  pub all_seen : (left : List (Caller E)) (first : Caller E) → Joining start all left first → left ≡ [] → All (λ (pass : Caller E). StartsWith first.seen pass.seen) all
+  all_seen left first r none = subst (All (λ (pass : Caller E). StartsWith first.seen pass.seen)) (sym (r.all_are ∙ ap (λ ps. ps ++ r.done) none)) r.seen
+
+  pub all_made : (left : List (Caller E)) (first : Caller E) → Joining start all left first → left ≡ [] → (x : ℕ) → times x first.own ≡ times x start.own + makers x all
+  all_made left first r none x = let was = r.made x in let zero_left : makers x left ≡ 0 = ap (makers x) none in omega (arith, was, zero_left)
+
+  pub all_held : (left : List (Caller E)) (first : Caller E) → Joining start all left first → left ≡ [] → (n : ℕ) → 1 ≤ one_if (holds n start.numbers) + holders n all → holds n first.numbers ≡ true
+  all_held left first r none n h =
+      let was = r.numbers n h in
+      let zero_left : holders n left ≡ 0 = ap (holders n) none in held_one (holds n first.numbers) (omega (arith, was, zero_left))
+
+-- the places of a pass that made all events since the opening
+pub made_once : {E : Type 0} (opened log : List E) (own : List ℕ) (x : ℕ) → StartsWith log opened → own ≡ places (length opened) (length log - length opened) → times x own ≡ one_within (length opened) (length log) x
+made_once opened log own x since is =
+    let le = starts_length log opened since in
+    let all = times_places x (length opened) (length log - length opened) in
+    let mine : times x own ≡ times x (places (length opened) (length log - length opened)) = ap (times x) is in
+    let end : one_within (length opened) (length opened + (length log - length opened)) x ≡ one_within (length opened) (length log) x = ap (λ k. one_within (length opened) k x) (omega (arith, le)) in
+    mine ∙ (all ∙ end)

@@ -1,0 +1,8 @@
+pub mod Holds
+mod Joins
+mod LaneCalls
+mod Lookups
+mod Parts
+mod Ran
+mod Splits
+mod Started

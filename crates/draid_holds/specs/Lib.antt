@@ -1,0 +1,5 @@
+pub mod All
+pub mod Calls
+pub mod Holds
+pub mod Lanes
+pub mod Passes

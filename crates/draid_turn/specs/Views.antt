@@ -1,0 +1,62 @@
+-- What a seat knows, and what it knows after each kind of step.
+use Rattle.std.specs.Prelude.{◌-◌, ◌++◌, ℕ, List, [], length}
+use Rattle.draid_turn.specs.declared.view.Stage.TheVariants.{Idle, Waiting, Holding}
+use Rattle.draid_turn.specs.declared.view.View.{View}
+use Rattle.draid_turn.specs.declared.span.Span.{Span}
+use Rattle.draid_turn.specs.Lists.{longer, merge, places, shorter}
+use Rattle.draid_turn.specs.Numbers.{all_numbers, without}
+
+module _ {E : Type 0} where
+  -- a seat between two calls
+  abbrev pub idle_view : List E → List ℕ → List Span → View E
+  idle_view seen own numbers = record { stage = Idle; seen = seen; heard = []; own = own; numbers = numbers }
+
+  -- the first seat of a table
+  abbrev pub first_view : List E → View E
+  first_view stored = idle_view stored [] all_numbers
+
+  -- the seat drew a ticket
+  abbrev pub waiting_view : ℕ → View E → View E
+  waiting_view ticket view = record { stage = Waiting ticket; seen = view.seen; heard = view.heard; own = view.own; numbers = view.numbers }
+
+  -- it has its turn and the value, and has seen all events that the value stores
+  abbrev pub holding_view : ℕ → List E → View E → View E
+  holding_view ticket stored view = record { stage = Holding ticket; seen = stored; heard = view.heard; own = view.own; numbers = view.numbers }
+
+  -- it has seen all events again, and those behind the ones that it had seen are its own
+  abbrev pub told_view : List E → View E → View E
+  told_view stored view = record {
+    stage = view.stage;
+    seen = stored;
+    heard = view.heard;
+    own = view.own ++ places (length view.seen) (length stored - length view.seen);
+    numbers = view.numbers;
+  }
+
+  -- it has given the value back
+  abbrev pub served_view : View E → View E
+  served_view view = record { stage = Idle; seen = view.seen; heard = view.heard; own = view.own; numbers = view.numbers }
+
+  -- a seat that gave numbers up, and the new seat that has them
+  abbrev pub giver_view : List Span → View E → View E
+  giver_view given view = record { stage = view.stage; seen = view.seen; heard = view.heard; own = view.own; numbers = without view.numbers given }
+
+  abbrev pub new_view : List Span → View E → View E
+  new_view given view = idle_view view.seen [] given
+
+  -- two seats as one, and the other one, which is spent
+  abbrev pub united_view : View E → View E → View E
+  united_view view other = record {
+    stage = Idle;
+    seen = longer view.seen other.seen;
+    heard = shorter view.seen other.seen;
+    own = merge view.own other.own;
+    numbers = view.numbers ++ other.numbers;
+  }
+
+  abbrev pub spent_view : View E
+  spent_view = idle_view [] [] []
+
+  -- it knows that it has seen what it heard
+  abbrev pub learned_view : View E → View E
+  learned_view view = record { stage = view.stage; seen = view.seen; heard = []; own = view.own; numbers = view.numbers }

@@ -1,0 +1,227 @@
+ghost use Rattle.std.specs.Prelude.{◌≡◌, ◌∷◌, ◌++◌, ◌-◌, ◌&&◌, true, [], ℕ, length, not, None, IfOk, IfErr};
+ghost use Rattle.draid_turn.specs.Calls.{Adds, Did, Follows, newcomer};
+ghost use Rattle.draid_turn.specs.Lists.{StartsWith, longer, merge, places};
+ghost use Rattle.draid_turn.specs.Numbers.{HoldsAll, HoldsOther, HoldsSome, all_numbers, holds};
+
+use crate::pass::Pass;
+use crate::rule::{
+    Draw, Given, Kept, Learn, Look, Serve, Served, Share, Stored, Take, Tell, Unite,
+};
+use crate::span::Span;
+use crate::stand::{Act, Stand};
+use crate::view::View;
+use atomic_table::{Seat, Table};
+use std::alloc::Global;
+use std::marker::{Brand, Model};
+use std::snapshot::Snapshot;
+use std::sync::Wait;
+use std::thread;
+
+/// There was no memory for a lock. The value comes back.
+#[derive(Drop)]
+pub struct Refused<T> {
+    pub value: T,
+}
+
+/// A value under a lock that is served in the order of tickets.
+#[derive(Drop)]
+pub struct Turn<T: Stand> {
+    table: Table<Option<T>, View<T::Event>, Snapshot<T>, Served, Global>,
+}
+
+impl<T: Stand> Model for Turn<T> {
+    ghost use Rattle.std.specs.Prelude.{◌≡◌};
+    ghost use Rattle.draid_turn.specs.Calls.{Lock};
+
+    ghost Value = { Lock T };
+
+    ghost view = { λ turn. record { table = turn.table.shared.table_id; first = turn.table.shared.key.value } };
+
+    ghost invariant = { λ turn. (turn.table.shared.table_id.words ≡ 3) × (turn.table.shared.table_id.slots ≡ 1) };
+}
+
+impl<T: Stand> Turn<T> {
+    ghost use Rattle.draid_turn.specs.declared.view.Stage.TheVariants.{Idle, Waiting};
+    ghost use Rattle.draid_turn.specs.Rule.{IsHolding};
+    ghost use Rattle.draid_turn.specs.Steps.{HasTaken};
+    ghost use Rattle.draid_turn.specs.Views.{giver_view, new_view, served_view, told_view, waiting_view};
+
+    /// Puts a value under a lock. The first pass has seen all that the value stores, did nothing, and holds all numbers.
+    pub fn new(alloc: Global, value: T) -> Result<(Turn<T>, Pass<T>), Refused<T>>
+        requires { T.fact value value }
+        ensures lock { IfOk result (λ made. made.0.first ≡ value) }
+        ensures pass { IfOk result (λ made. made.1 ≡ newcomer made.0.table (T.events value) all_numbers) }
+        ensures refused { IfErr result (λ refused. refused.value ≡ value) }
+    {
+        let Ok(mut slots) = Vec::with_capacity(alloc, 1) else {
+            return Err(Refused { value });
+        };
+        let first = Snapshot::of(&value);
+        let count = value.count();
+        slots.push_reserved(Some(value));
+        match Table::new(alloc, &[0, 0, count], slots, &first) {
+            Ok((table, seat)) => Ok((Turn { table }, Pass { seat, size: 0 })),
+            Err(refused) => {
+                let atomic_table::Refused { mut slots } = refused;
+                let slot = slots.pop().unwrap();
+                slots.destroy_empty();
+                Err(Refused {
+                    value: slot.unwrap(),
+                })
+            }
+        }
+    }
+
+    /// A second pass, which has seen as much, did nothing, and holds these numbers, which the first one gives up.
+    pub fn split(&self, pass: &mut Pass<T>, numbers: &[Span]) -> Pass<T>
+        requires own { pass.old.table ≡ self.now.table }
+        requires some { HoldsSome numbers.now }
+        requires held { (n : ℕ) → holds n numbers.now ≡ true → holds n pass.old.numbers ≡ true }
+        requires other { HoldsOther pass.old.numbers numbers.now }
+        ensures new { result ≡ newcomer pass.old.table pass.old.seen numbers.now }
+        ensures same { (pass.new.table ≡ pass.old.table) × (pass.new.seen ≡ pass.old.seen) × (pass.new.own ≡ pass.old.own) }
+        ensures left { (n : ℕ) → holds n pass.new.numbers ≡ (holds n pass.old.numbers && not (holds n numbers.now)) }
+    {
+        let seat = self.share::<Brand>(&mut pass.seat, numbers);
+        Pass { seat, size: 0 }
+    }
+
+    /// Waits for its turn, and runs the operation once in it.
+    pub fn call<O: Act<T>, R: Wait>(&self, rt: &R, pass: &mut Pass<T>, op: &mut O)
+        requires own { pass.old.table ≡ self.now.table }
+        // What it needs of the value follows from what is known of the value at this turn.
+        requires ready { (x : T) → T.fact self.now.first x → Follows T.number pass.old.numbers (T.events x) pass.old.seen → O.needs op.old x }
+        requires keeps { (x y : T) (after : O) → T.fact self.now.first x → O.needs op.old x → O.relates op.old x after y → T.fact self.now.first y }
+        requires adds { (x y : T) (after : O) → T.fact self.now.first x → O.needs op.old x → O.relates op.old x after y → Adds T.number pass.old.numbers (T.events x) (T.events y) }
+        ensures { Did (T.fact self.now.first) T.events T.number O.relates op.old op.new pass.old pass.new }
+    {
+        let ticket = self.draw(rt, &mut pass.seat);
+        let mut value = self.take_in_turn::<Brand, Brand, R>(rt, &mut pass.seat, ticket);
+        op.act(&mut value);
+        self.tell::<Brand>(&mut pass.seat, &value);
+        self.give_back(&mut pass.seat, value);
+    }
+
+    /// Takes another pass in: what either saw, did and holds.
+    pub fn join(&self, pass: &mut Pass<T>, other: Pass<T>)
+        requires own { (pass.old.table ≡ self.now.table) × (other.table ≡ self.now.table) }
+        ensures own { pass.new.table ≡ pass.old.table }
+        ensures seen { pass.new.seen ≡ longer pass.old.seen other.seen }
+        ensures begins { StartsWith pass.new.seen pass.old.seen × StartsWith pass.new.seen other.seen }
+        ensures made { pass.new.own ≡ merge pass.old.own other.own }
+        ensures numbers { pass.new.numbers ≡ pass.old.numbers ++ other.numbers }
+    {
+        let Pass {
+            seat: other,
+            size: _,
+        } = other;
+        self.table.shared.join_seat::<Unite>(&mut pass.seat, other);
+        self.table.shared.load::<Learn>(&mut pass.seat, 0);
+    }
+
+    /// Waits for a last turn, and takes the value out in it.
+    pub fn close<R: Wait>(self, rt: &R, pass: Pass<T>) -> T
+    where
+        T: Drop,
+        requires own { pass.table ≡ self.table }
+        ensures fact { T.fact self.first result }
+        ensures follows { Follows T.number pass.numbers (T.events result) pass.seen }
+        ensures since { StartsWith (T.events result) (T.events self.first) }
+        // Where the pass holds all numbers, the events since `new` are those that it did, each once.
+        ensures whole { HoldsAll pass.numbers → pass.own ≡ places (length (T.events self.first)) (length (T.events result) - length (T.events self.first)) }
+    {
+        let Pass { mut seat, size: _ } = pass;
+        let ticket = self.draw(rt, &mut seat);
+        self.take_in_turn::<Brand, Brand, R>(rt, &mut seat, ticket)
+    }
+
+    /// Draws a ticket. Where the last number was drawn it waits without end.
+    fn draw<R: Wait>(&self, rt: &R, seat: &mut Seat<Option<T>, View<T::Event>>) -> u64
+        requires own { seat.old.table_id ≡ self.now.table }
+        requires idle { (seat.old.me.0.stage ≡ Idle) × (seat.old.me.1 ≡ []) }
+        ensures own { seat.new.table_id ≡ seat.old.table_id }
+        ensures waiting { seat.new.me ≡ (waiting_view result seat.old.me.0, []) }
+    {
+        for _ in rt.forever() {
+            let next = self.table.shared.load::<Look>(seat, 0);
+            if next < u64::MAX {
+                let found = self
+                    .table
+                    .shared
+                    .compare_exchange::<Draw>(seat, 0, next, next + 1);
+                if found == next {
+                    return found;
+                }
+            }
+            thread::yield_now();
+        }
+        unreachable!()
+    }
+
+    /// Waits until the ticket is served, and takes the value.
+    fn take_in_turn<J: Stored<T::Event>, I: Kept<T>, R: Wait>(
+        &self,
+        rt: &R,
+        seat: &mut Seat<Option<T>, View<T::Event>>,
+        ticket: u64,
+    ) -> T
+        requires opened { (J.stored ≡ T.events self.now.first) × ((x : T) → T.fact self.now.first x → I.kept x) }
+        requires own { seat.old.table_id ≡ self.now.table }
+        requires waiting { (seat.old.me.0.stage ≡ Waiting ticket) × (seat.old.me.1 ≡ []) }
+        ensures own { seat.new.table_id ≡ seat.old.table_id }
+        ensures taken { HasTaken I.kept T.events T.number J.stored seat.old.me ticket seat.new.me result }
+    {
+        for _ in rt.forever() {
+            let served = self.table.shared.load::<Take<J, I>>(seat, 1);
+            if served == ticket {
+                return self.table.shared.exchange(seat, 0, None).unwrap();
+            }
+            thread::yield_now();
+        }
+        unreachable!()
+    }
+
+    /// Tells the table how many events the value stores.
+    fn tell<J: Stored<T::Event>>(&self, seat: &mut Seat<Option<T>, View<T::Event>>, value: &T)
+        requires stored { J.stored ≡ T.events value.now }
+        requires own { seat.old.table_id ≡ self.now.table }
+        requires adds { Adds T.number seat.old.me.0.numbers seat.old.me.0.seen (T.events value.now) }
+        requires some { HoldsSome seat.old.me.0.numbers }
+        requires holding { IsHolding seat.old.me.0.stage }
+        ensures own { seat.new.table_id ≡ seat.old.table_id }
+        ensures told { seat.new.me ≡ (told_view (T.events value.now) seat.old.me.0, seat.old.me.1) }
+    {
+        let count = value.count();
+        self.table.shared.store::<Tell<J>>(seat, 2, count);
+    }
+
+    /// Gives the value back, and serves the next ticket.
+    fn give_back(&self, seat: &mut Seat<Option<T>, View<T::Event>>, value: T)
+        requires own { seat.old.table_id ≡ self.now.table }
+        requires holding { IsHolding seat.old.me.0.stage × (seat.old.me.1 ≡ (0, None) ∷ []) }
+        requires all { T.events value ≡ seat.old.me.0.seen }
+        requires fact { T.fact self.now.first value }
+        ensures own { seat.new.table_id ≡ seat.old.table_id }
+        ensures served { seat.new.me ≡ (served_view seat.old.me.0, []) }
+    {
+        let empty = self.table.shared.exchange(seat, 0, Some(value));
+        let None = empty else { unreachable!() };
+        self.table.shared.fetch_add::<Serve>(seat, 1, 1);
+    }
+
+    /// A new seat, which has some of the numbers.
+    fn share<J: Given>(
+        &self,
+        seat: &mut Seat<Option<T>, View<T::Event>>,
+        numbers: &[Span],
+    ) -> Seat<Option<T>, View<T::Event>>
+        requires given { J.given ≡ numbers.now }
+        requires own { seat.old.table_id ≡ self.now.table }
+        requires held { (n : ℕ) → holds n numbers.now ≡ true → holds n seat.old.me.0.numbers ≡ true }
+        requires other { HoldsOther seat.old.me.0.numbers numbers.now }
+        ensures giver { (seat.new.table_id ≡ seat.old.table_id) × (seat.new.me ≡ (giver_view numbers.now seat.old.me.0, seat.old.me.1)) }
+        ensures new { (result.table_id ≡ seat.old.table_id) × (result.me ≡ (new_view numbers.now seat.old.me.0, [])) }
+    {
+        self.table.shared.split_seat::<Share<J>>(seat)
+    }
+}
