@@ -1,7 +1,7 @@
 use Rattle.std.proofs.Common.{rules}
 use Rattle.draid_area.specs.Area.{within}
 use Rattle.draid_area.proofs.Moments.{kept, leaves_written, told_flushed, told_on, told_writes}
-use Rattle.draid_area.proofs.tests.write_half.Goals as goal
+use Rattle.draid_tests_devices.proofs.area.write_half.Goals as goal
 
 pub returns-in_err-write-clause-others : goal.returns-in_err-write-clause-others
 returns-in_err-write-clause-others g c =

@@ -3,9 +3,9 @@ ghost use Rattle.draid_rack.specs.Rack.{Fits, HasJust, OnTold};
 ghost use Rattle.draid_rack.specs.Memory.{shape_of_memory, told_by_memory};
 ghost use Rattle.draid_rack.specs.Moments.{CrashKeepsOthers, KeptOthers, OnBoth};
 
-use crate::{MemoryRack, Rack};
 use draid_faults::{CrashRule, Fuse};
 use draid_names::{At, Failed};
+use draid_rack::{MemoryRack, Rack};
 use std::alloc::Global;
 use std::test::Fail;
 

@@ -3,7 +3,7 @@ use Rattle.std.proofs.lemmas.Bool.Decides.{nat_tests}
 use Rattle.draid_rack.specs.Rack.{Lands, Told, OnTold, IsOrderly, flushes}
 use Rattle.draid_rack.specs.Moments.{SparesTold, CrashKeepsOthers, KeptOthers, OnBoth}
 use Rattle.draid_rack.proofs.Moments.{kept, kept_by_crash, told_flushed, told_lands, told_on}
-use Rattle.draid_rack.proofs.tests.write_three.Goals as goal
+use Rattle.draid_tests_devices.proofs.rack.write_three.Goals as goal
 
 abbrev named : ℕ → ℕ → ℕ → Bool
 named leaf l s = l == leaf && nat_lt s 3

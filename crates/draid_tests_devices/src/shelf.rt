@@ -1,11 +1,11 @@
 ghost use Rattle.std.specs.Prelude.{◌≡◌, ◌<◌, IfOk};
 ghost use Rattle.draid_spec.specs.Geometry.{IsGeometry};
 
-use crate::{MemoryShelf, RackShelf, Shelf};
 use draid_area::Area;
 use draid_faults::CrashRule;
 use draid_names::Failed;
 use draid_rack::Rack;
+use draid_shelf::{MemoryShelf, RackShelf, Shelf};
 use draid_spec::{Geometry, Props, Spec, geometry};
 use std::test::Fail;
 

@@ -1,5 +1,5 @@
 use Rattle.std.proofs.Common.{rules, ◌≡◌, ◌∙◌, Result, Ok, Err, OnOk}
-use Rattle.draid_rack.proofs.tests.crash_with_harm.Goals as goal
+use Rattle.draid_tests_devices.proofs.rack.crash_with_harm.Goals as goal
 
 whole_of : {E : Type 0} {P : Type 0} (r : Result Unit E) → r ≡ Ok tt → OnOk r P → P
 whole_of (Ok u) is whole = whole

@@ -3,7 +3,7 @@ ghost use Rattle.draid_area.specs.Area.{within};
 ghost use Rattle.draid_area.specs.Memory.{size_of_memory};
 ghost use Rattle.draid_area.specs.Moments.{CrashKeeps, LeavesWritten, OnBoth};
 
-use crate::{Area, AreaFault, MemoryArea};
+use draid_area::{Area, AreaFault, MemoryArea};
 use draid_faults::{CrashRule, Fuse};
 use std::alloc::Global;
 use std::test::Fail;

@@ -1,9 +1,11 @@
 ghost use Rattle.std.specs.Prelude.{◌≡◌};
 ghost use Rattle.draid_spec.specs.Geometry.{IsGeometry};
 
-use super::*;
 use draid_dtl::Log;
 use draid_names::{Arm, ArmKind, NoMemory};
+use draid_record::{
+    Record, RecordFault, UberBody, read_record, read_uber, write_record, write_uber,
+};
 use draid_spec::{Geometry, Props, Spec, geometry, parse_spec};
 use std::alloc::Global;
 
