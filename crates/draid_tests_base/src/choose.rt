@@ -1,7 +1,7 @@
 ghost use Rattle.std.specs.Prelude.{◌≤◌, length};
 ghost use Rattle.draid_choose.specs.Rooms.{Picks};
 
-use crate::{Chooser, first_fit};
+use draid_choose::{Chooser, first_fit};
 use draid_names::Room;
 
 /// A room of this run for a block of two stripes.

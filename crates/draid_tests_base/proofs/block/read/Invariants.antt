@@ -1,7 +1,7 @@
 use Rattle.std.proofs.Common.{◌≡◌, length}
 use Rattle.std.specs.Prelude.{All, IfSome}
 use Rattle.draid_block.specs.Blocks.{column_len}
-use Rattle.draid_block.proofs.tests.read.Given as goal
+use Rattle.draid_tests_base.proofs.block.read.Given as goal
 
 abbrev pub invariant-loop-i : goal.invariant-loop-i
 invariant-loop-i l = record {

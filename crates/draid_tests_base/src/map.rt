@@ -1,4 +1,4 @@
-use super::*;
+use draid_map::{Owner, Place, owner, place, spare_child};
 use draid_perm::Perms;
 use draid_spec::{Props, SpecFault, geometry, parse_spec};
 

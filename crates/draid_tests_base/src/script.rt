@@ -1,8 +1,8 @@
-use crate::{
+use draid_names::Failed;
+use draid_script::{
     ArmName, CommandName, FillRefusal, Lines, MemorySink, MemorySource, ParseFault, ReadFault,
     Reply, Sink, SlotRefusal, SpecRefusal, SumRefusal, parse_lane, parse_line, reply_text,
 };
-use draid_names::Failed;
 use std::fmt::Debug;
 use std::test::Fail;
 
@@ -55,22 +55,29 @@ fn refuses_what_is_too_long(rt: HostRuntime) -> Result<(), Fail> {
     Ok(())
 }
 
-#[test]
-fn fails_at_the_listed_calls(rt: HostRuntime) -> Result<(), Fail> {
-    let mut source = source_of(&rt, b"ab\ncd", &[1])?;
+/// Whether the first line comes of a source whose second call fails, and what is told then and the next time.
+fn line_and_faults(rt: &HostRuntime) -> Result<(bool, [Option<ReadFault>; 2]), Fail> {
+    let mut source = source_of(rt, b"ab\ncd", &[1])?;
     let mut lines = Lines::new(rt.alloc());
     let line = lines.next(rt.alloc(), &mut source).unwrap_or(None);
-    assert_eq!(rt; line.as_deref(), Some(b"ab".as_slice()));
-    for _ in 0..2 {
-        let fault = lines.next(rt.alloc(), &mut source).err();
-        assert_eq!(rt; fault, Some(ReadFault::SourceFault));
-    }
+    let is_first = line.as_deref() == Some(b"ab".as_slice());
+    let fault = lines.next(rt.alloc(), &mut source).err();
+    let again = lines.next(rt.alloc(), &mut source).err();
+    Ok((is_first, [fault, again]))
+}
 
+/// What three calls of a sink answer of which the second fails, and whether it holds the bytes of the others.
+fn puts(rt: &HostRuntime) -> Result<([Result<(), Failed>; 3], bool), Fail> {
     let mut sink = MemorySink::new(rt.alloc(), Vec::from_slice(rt.alloc(), &[1])?);
-    assert_eq!(rt; sink.put(b"ab"), Ok(()));
-    assert_eq!(rt; sink.put(b"cd"), Err(Failed));
-    assert_eq!(rt; sink.put(b"ef"), Ok(()));
-    assert_eq!(rt; sink.held(), b"abef".as_slice());
+    let answers = [sink.put(b"ab"), sink.put(b"cd"), sink.put(b"ef")];
+    Ok((answers, sink.held() == b"abef".as_slice()))
+}
+
+#[test]
+fn fails_at_the_listed_calls(rt: HostRuntime) -> Result<(), Fail> {
+    let fault = Some(ReadFault::SourceFault);
+    assert_eq!(rt; line_and_faults(&rt)?, (true, [fault, fault]));
+    assert_eq!(rt; puts(&rt)?, ([Ok(()), Err(Failed), Ok(())], true));
     Ok(())
 }
 

@@ -1,4 +1,4 @@
-use super::*;
+use draid_spec::{Props, Spec, SpecFault, geometry, parse_spec, spare_name, spec_name};
 use std::test::Fail;
 
 const PROPS: Props = Props {

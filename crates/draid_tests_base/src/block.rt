@@ -3,7 +3,7 @@ ghost use Rattle.draid_spec.specs.Geometry.{IsGeometry};
 ghost use Rattle.draid_block.specs.Blocks.{column_len, cut_of};
 ghost use Rattle.draid_block.specs.Solving.{IsFetched};
 
-use super::*;
+use draid_block::{Encoded, Fetched, Solve, SolveFault, solve_block, solve_many};
 use draid_names::{NoMemory, Pointer};
 use draid_spec::{Geometry, Props, SpecFault, geometry, parse_spec};
 use std::alloc::{AllocError, Global};
@@ -166,25 +166,39 @@ fn is_solved_with(
     Ok(true)
 }
 
-// Three data columns, a block of four sectors: two stripes, of which the first data column has the
-// sectors 0 and 1, the second sector 2 and a zero sector, the third sector 3 and a zero sector.
+/// The data columns of two stripes: the first has the sectors 0 and 1, the second sector 2 and a zero sector, the third
+/// sector 3 and a zero sector.
+fn cut_in_three(alloc: Global, bytes: &[u8]) -> Result<Vec<u8>, AllocError>
+    requires { 1536 ≤ length bytes.now }
+{
+    let (front, last) = bytes.split_at(1536);
+    let mut columns = Vec::new(alloc);
+    columns.extend_from_slice(front)?;
+    columns.resize(2048, 0)?;
+    columns.extend_from_slice(last)?;
+    columns.resize(3072, 0)?;
+    Ok(columns)
+}
+
+// Three data columns, a block of four sectors.
 #[test]
 fn cuts_a_block(rt: HostRuntime) -> Result<(), Fail> {
     let alloc = rt.alloc();
     let geometry = layout(b"draid:3d", 4)?;
     let bytes = pattern(alloc, 2048)?;
     let block = Encoded::of(alloc, &geometry, &bytes)?;
-    assert_eq!(rt; (block.stripes(), block.len()), (2, 2048));
-    let (front, last) = bytes.split_at(1536);
-    let mut expected = Vec::new(alloc);
-    expected.extend_from_slice(front)?;
-    expected.resize(2048, 0)?;
-    expected.extend_from_slice(last)?;
-    expected.resize(3072, 0)?;
+    let expected = cut_in_three(alloc, &bytes)?;
     let columns = data_of(alloc, &geometry, &block)?;
-    assert!(rt; columns.as_slice() == expected.as_slice());
     let first = bytes[0] ^ bytes[1024] ^ bytes[1536];
-    assert_eq!(rt; block.column(0).first().copied(), Some(first));
+    assert!(rt; columns.as_slice() == expected.as_slice());
+    assert_eq!(rt;
+        (
+            block.stripes(),
+            block.len(),
+            block.column(0).first().copied()
+        ),
+        (2, 2048, Some(first))
+    );
     Ok(())
 }
 

@@ -1,7 +1,7 @@
 ghost use Rattle.std.specs.Prelude.{◌≤◌};
 ghost use Rattle.draid_perm.specs.Perms.{children_of};
 
-use super::*;
+use draid_perm::{Perms, shuffle};
 
 fn first_four(perms: &Perms, slice: u64) -> [u32; 4]
     requires { 4 ≤ children_of perms.now }
