@@ -8,8 +8,6 @@ mod leaves;
 mod memory;
 mod rack;
 mod sector;
-#[cfg(test)]
-mod tests;
 
 pub use draid_names::DeviceFault;
 pub use memory::MemoryRack;

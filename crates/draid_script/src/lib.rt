@@ -10,8 +10,6 @@ mod laws;
 mod line;
 mod name;
 mod parse;
-#[cfg(test)]
-mod tests;
 mod text;
 mod word;
 mod words;
