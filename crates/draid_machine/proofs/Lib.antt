@@ -3,6 +3,7 @@ pub mod Calm
 pub mod Follows
 pub mod Landings
 pub mod Layouts
+pub mod Others
 pub mod Owning
 pub mod Passes
 pub mod Places

@@ -1,11 +1,13 @@
-ghost use Rattle.std.specs.Prelude.{◌≡◌, List, ℕ, true};
+ghost use Rattle.std.specs.Prelude.{◌≡◌, List, ℕ, Some, true, false};
 ghost use Rattle.draid_spec.specs.declared.layout.Geometry.{Geometry};
 ghost use Rattle.draid_perm.specs.declared.perms.Perms.{Perms};
 ghost use Rattle.draid_map.specs.Place as places;
 ghost use Rattle.draid_machine.specs.Layout.{layout_of};
+ghost use Rattle.draid_machine.specs.Concerns.{is_freed, is_opening, object_of};
 ghost use Rattle.draid_machine.specs.Created.{IsReached, created};
 ghost use Rattle.draid_machine.specs.Step.{Run, Step};
 ghost use Rattle.draid_machine.specs.declared.event.Event.{Event};
+ghost use Rattle.draid_machine.specs.declared.names.Key.{Key};
 ghost use Rattle.draid_machine.specs.declared.names.Segment.{Segment};
 ghost use Rattle.draid_machine.specs.Images.{ImagesStand, LiesAt, Owned};
 ghost use Rattle.draid_machine.specs.Sound.{LogSound, LogsWithin, Sound};
@@ -51,6 +53,14 @@ pub fn events_have_one_result()
         → IsReached layout state → Step layout state event new → Step layout state event other → new ≡ other }
     ensures history { (layout : Layout) (new other : State) (events : List Event) → IsLayout layout
         → Run layout (created layout) events new → Run layout (created layout) events other → new ≡ other }
+{}
+
+/// Law: a legal event that is no opening leaves the tickets and live blocks of the objects that it doesn't
+/// concern as they are, and brings none of them. A freed block may go at a commit.
+pub fn events_leave_other_objects()
+    ensures { (layout : Layout) (state new : State) (event : Event) (key : Key) → Step layout state event new
+        → is_opening event ≡ false → (object_of event ≡ Some key.object → ⊥) → is_freed (state.core.held key) ≡ false
+        → new.core.held key ≡ state.core.held key }
 {}
 
 /// Law: each metaslab of a pool has a layout of which the laws on histories speak.
