@@ -1,6 +1,6 @@
 //! Tests of the crates that know no device: the arithmetic of parity, blocks and their columns, layouts, free space,
-//! logs of what was missed, the choice of metaslabs, and scripts. It offers nothing; a module is named after the crate
-//! that it tests.
+//! logs of what was missed, and the choice of metaslabs. It offers nothing; a module is named after the crate that it
+//! tests.
 
 #![tactic(auto)]
 
@@ -22,8 +22,6 @@ mod parity;
 mod perm;
 #[cfg(test)]
 mod ranges;
-#[cfg(test)]
-mod script;
 #[cfg(test)]
 mod spacemap;
 #[cfg(test)]

@@ -46,17 +46,40 @@ fn zeros(alloc: Global, failing: Vec<u64>) -> Result<MemoryArea, Fail>
     Ok(MemoryArea::new(alloc, bytes, failing)?)
 }
 
+type Written = Result<(), DeviceFault>;
+
+type Read = Result<[u8; 4], DeviceFault>;
+
+/// What two writes of halves, a read over their border and the length answer, where the calls 2 and 5 fail.
+fn half_by_half(alloc: Global) -> Result<([Written; 2], Read, u64), Fail> {
+    let mut area = zeros(alloc, vec![in alloc; 2, 5]?)?;
+    let second = write_half(&mut area, 512, &[1; 512]);
+    let first = write_half(&mut area, 0, &[2; 512]);
+    let border = read(&mut area, 510);
+    Ok(([second, first], border, area.length()))
+}
+
 #[test]
 fn the_calls_of_the_list_fail_alone(rt: HostRuntime) -> Result<(), Fail> {
-    let mut area = zeros(rt.alloc(), vec![in rt.alloc(); 2, 5]?)?;
-    assert_eq!(rt; write_half(&mut area, 512, &[1; 512]), Ok(()));
-    assert_eq!(rt;
-        write_half(&mut area, 0, &[2; 512]),
-        Err(DeviceFault::Failed)
-    );
-    assert_eq!(rt; read(&mut area, 510), Ok([0, 0, 1, 1]));
-    assert_eq!(rt; area.length(), 1024);
+    let answers = ([Ok(()), Err(DeviceFault::Failed)], Ok([0, 0, 1, 1]), 1024);
+    assert_eq!(rt; half_by_half(rt.alloc())?, answers);
     Ok(())
+}
+
+/// What is read after a crash by this rule of an area whose second half was flushed, and the length.
+fn left_of_halves(alloc: Global, rule: CrashRule) -> Result<([Read; 4], u64), Fail> {
+    let mut area = zeros(alloc, Vec::new(alloc))?;
+    write_half(&mut area, 512, &[1; 512])?;
+    area.write(0, &[2; 512])?;
+    area.crash(rule);
+    let length = area.length();
+    let left = [
+        read_some(&mut area, 0),
+        read_some(&mut area, 254),
+        read_some(&mut area, 512),
+        read_some(&mut area, 1020),
+    ];
+    Ok((left, length))
 }
 
 #[test]
@@ -67,42 +90,43 @@ fn a_crash_leaves_the_half_that_was_flushed(rt: HostRuntime) -> Result<(), Fail>
         (CrashRule::Torn, [253; 4], [253; 4]),
         (CrashRule::Half, [2; 4], [2, 2, 0, 0]),
     ] {
-        let mut area = zeros(rt.alloc(), Vec::new(rt.alloc()))?;
-        assert_eq!(rt; write_half(&mut area, 512, &[1; 512]), Ok(()));
-        assert_eq!(rt; area.write(0, &[2; 512]), Ok(()));
-        area.crash(rule);
-        assert_eq!(rt; area.length(), 1024);
-        assert_eq!(rt; read_some(&mut area, 0), Ok(front));
-        assert_eq!(rt; read_some(&mut area, 254), Ok(middle));
-        assert_eq!(rt; read_some(&mut area, 512), Ok([1; 4]));
-        assert_eq!(rt; read_some(&mut area, 1020), Ok([1; 4]));
+        let left = ([Ok(front), Ok(middle), Ok([1; 4]), Ok([1; 4])], 1024);
+        assert_eq!(rt; left_of_halves(rt.alloc(), rule)?, left);
     }
     Ok(())
+}
+
+/// The length after a crash by this rule, where four bytes were written behind the end.
+fn length_left(alloc: Global, rule: CrashRule) -> Result<u64, Fail> {
+    let mut area = zeros(alloc, Vec::new(alloc))?;
+    area.write(8, &[9; 4])?;
+    area.write(1024, &[7; 4])?;
+    area.crash(rule);
+    Ok(area.length())
 }
 
 #[test]
 fn a_crash_leaves_the_length_by_its_rule(rt: HostRuntime) -> Result<(), Fail> {
-    for (rule, length) in [(CrashRule::Old, 1024), (CrashRule::Half, 1028)] {
-        let mut area = zeros(rt.alloc(), Vec::new(rt.alloc()))?;
-        assert_eq!(rt; area.write(8, &[9; 4]), Ok(()));
-        assert_eq!(rt; area.write(1024, &[7; 4]), Ok(()));
-        area.crash(rule);
-        assert_eq!(rt; area.length(), length);
-    }
+    assert_eq!(rt; length_left(rt.alloc(), CrashRule::Old)?, 1024);
+    assert_eq!(rt; length_left(rt.alloc(), CrashRule::Half)?, 1028);
     Ok(())
+}
+
+/// What two writes of a half and a read answer behind a fuse of two calls, and a read after the crash.
+fn behind_a_fuse(alloc: Global) -> Result<([Written; 2], [Read; 2]), Fail> {
+    let mut area = zeros(alloc, Vec::new(alloc))?;
+    area.put_fuse(Fuse::new(alloc, 2)?);
+    let first = write_half(&mut area, 0, &[1; 512]);
+    let second = write_half(&mut area, 0, &[2; 512]);
+    let blown = read(&mut area, 0);
+    area.crash(CrashRule::New);
+    Ok(([first, second], [blown, read_some(&mut area, 0)]))
 }
 
 #[test]
 fn a_fuse_lets_just_its_calls_pass(rt: HostRuntime) -> Result<(), Fail> {
-    let mut area = zeros(rt.alloc(), Vec::new(rt.alloc()))?;
-    area.put_fuse(Fuse::new(rt.alloc(), 2)?);
-    assert_eq!(rt; write_half(&mut area, 0, &[1; 512]), Ok(()));
-    assert_eq!(rt;
-        write_half(&mut area, 0, &[2; 512]),
-        Err(DeviceFault::Failed)
-    );
-    assert_eq!(rt; read(&mut area, 0), Err(DeviceFault::Failed));
-    area.crash(CrashRule::New);
-    assert_eq!(rt; read_some(&mut area, 0), Ok([1; 4]));
+    let failed = DeviceFault::Failed;
+    let answers = ([Ok(()), Err(failed)], [Err(failed), Ok([1; 4])]);
+    assert_eq!(rt; behind_a_fuse(rt.alloc())?, answers);
     Ok(())
 }

@@ -104,20 +104,47 @@ fn flush<R: Rack>(rack: &mut R) -> Result<(), Failed>
     rack.flush(1)
 }
 
+type Done = Result<(), Failed>;
+
+type Read = Result<[u8; 4], Failed>;
+
+/// What writes and reads answer, where the calls 2 and 3 fail.
+fn calls(alloc: Global) -> Result<([Done; 2], [Read; 3]), Fail> {
+    let mut rack = small_rack(alloc, vec![in alloc; 2, 3]?)?;
+    let first = write(&mut rack, 2, [1; 4]);
+    let zeros = read(&mut rack, 1);
+    let second = write(&mut rack, 2, [5; 4]);
+    let failed = read(&mut rack, 2);
+    Ok(([first, second], [zeros, failed, read(&mut rack, 2)]))
+}
+
+/// The first leaf from 2 on once leaf 7 is added, and the sectors of leaf 1 once it is dropped.
+fn leaves(alloc: Global) -> Result<[Option<u64>; 2], Fail> {
+    let mut rack = small_rack(alloc, Vec::new(alloc))?;
+    rack.add_leaf(7, 2)?;
+    rack.drop_leaf(1);
+    Ok([rack.leaf_from(2), rack.sectors(1)])
+}
+
 #[test]
 fn the_calls_of_the_list_fail_alone(rt: HostRuntime) -> Result<(), Fail> {
-    let failing = vec![in rt.alloc(); 2, 3]?;
-    let mut rack = small_rack(rt.alloc(), failing)?;
-    assert_eq!(rt; write(&mut rack, 2, [1; 4]), Ok(()));
-    assert_eq!(rt; read(&mut rack, 1), Ok([0; 4]));
-    assert_eq!(rt; write(&mut rack, 2, [5; 4]), Err(Failed));
-    assert_eq!(rt; read(&mut rack, 2), Err(Failed));
-    assert_eq!(rt; read(&mut rack, 2), Ok([1; 4]));
-    rack.add_leaf(7, 2)?;
-    assert_eq!(rt; rack.leaf_from(2), Some(7));
-    rack.drop_leaf(1);
-    assert_eq!(rt; rack.sectors(1), None);
+    let answers = ([Ok(()), Err(Failed)], [Ok([0; 4]), Err(Failed), Ok([1; 4])]);
+    assert_eq!(rt; calls(rt.alloc())?, answers);
+    assert_eq!(rt; leaves(rt.alloc())?, [Some(7), None]);
     Ok(())
+}
+
+/// What is read after a crash by this rule of two sectors that were written and flushed, of which the second was written
+/// twice since.
+fn left_by(alloc: Global, rule: CrashRule) -> Result<[Read; 2], Fail> {
+    let mut rack = small_rack(alloc, Vec::new(alloc))?;
+    write(&mut rack, 0, [1, 2, 3, 4])?;
+    write(&mut rack, 1, [1, 2, 3, 4])?;
+    flush(&mut rack)?;
+    write(&mut rack, 1, [9; 4])?;
+    write(&mut rack, 1, [5, 6, 7, 8])?;
+    rack.crash(rule);
+    Ok([read(&mut rack, 0), read(&mut rack, 1)])
 }
 
 #[test]
@@ -128,55 +155,59 @@ fn a_crash_leaves_what_was_flushed_and_the_rest_by_its_rule(rt: HostRuntime) -> 
         (CrashRule::Torn, [250, 249, 248, 247]),
         (CrashRule::Half, [5, 6, 3, 4]),
     ] {
-        let mut rack = small_rack(rt.alloc(), Vec::new(rt.alloc()))?;
-        assert_eq!(rt; write(&mut rack, 0, [1, 2, 3, 4]), Ok(()));
-        assert_eq!(rt; write(&mut rack, 1, [1, 2, 3, 4]), Ok(()));
-        assert_eq!(rt; flush(&mut rack), Ok(()));
-        assert_eq!(rt; write(&mut rack, 1, [9; 4]), Ok(()));
-        assert_eq!(rt; write(&mut rack, 1, [5, 6, 7, 8]), Ok(()));
-        rack.crash(rule);
-        assert_eq!(rt; read(&mut rack, 0), Ok([1, 2, 3, 4]));
-        assert_eq!(rt; read(&mut rack, 1), Ok(left));
+        assert_eq!(rt; left_by(rt.alloc(), rule)?, [Ok([1, 2, 3, 4]), Ok(left)]);
     }
     Ok(())
 }
 
+/// What calls answer behind a fuse of two calls, and a read after the crash.
+fn behind_a_fuse(alloc: Global) -> Result<([Done; 3], [Read; 2]), Fail> {
+    let mut rack = small_rack(alloc, Vec::new(alloc))?;
+    rack.put_fuse(Fuse::new(alloc, 2)?);
+    let first = write(&mut rack, 0, [1; 4]);
+    let before = read(&mut rack, 0);
+    let second = write(&mut rack, 0, [2; 4]);
+    let flushed = flush(&mut rack);
+    rack.crash(CrashRule::New);
+    Ok(([first, second, flushed], [before, read(&mut rack, 0)]))
+}
+
 #[test]
 fn a_fuse_lets_just_its_calls_pass(rt: HostRuntime) -> Result<(), Fail> {
-    let mut rack = small_rack(rt.alloc(), Vec::new(rt.alloc()))?;
-    rack.put_fuse(Fuse::new(rt.alloc(), 2)?);
-    assert_eq!(rt; write(&mut rack, 0, [1; 4]), Ok(()));
-    assert_eq!(rt; read(&mut rack, 0), Ok([1; 4]));
-    assert_eq!(rt; write(&mut rack, 0, [2; 4]), Err(Failed));
-    assert_eq!(rt; flush(&mut rack), Err(Failed));
-    rack.crash(CrashRule::New);
-    assert_eq!(rt; read(&mut rack, 0), Ok([1; 4]));
+    let answers = ([Ok(()), Err(Failed), Err(Failed)], [Ok([1; 4]); 2]);
+    assert_eq!(rt; behind_a_fuse(rt.alloc())?, answers);
     Ok(())
 }
 
-#[test]
-fn damage_twice_gives_the_bytes_back(rt: HostRuntime) -> Result<(), Fail> {
-    let mut rack = small_rack(rt.alloc(), Vec::new(rt.alloc()))?;
-    assert_eq!(rt; write(&mut rack, 0, [1, 2, 3, 4]), Ok(()));
-    assert_eq!(rt; damage_twice(&mut rack), Ok(()));
-    assert_eq!(rt; read(&mut rack, 0), Ok([1, 2, 3, 4]));
-    assert_eq!(rt; spread_harm(&mut rack, &[1, 2, 3, 4]), Ok(()));
-    Ok(())
+/// What is read of a sector that was damaged twice. Harm is spread then, and settled.
+fn damaged(alloc: Global) -> Result<Read, Fail> {
+    let mut rack = small_rack(alloc, Vec::new(alloc))?;
+    write(&mut rack, 0, [1, 2, 3, 4])?;
+    damage_twice(&mut rack)?;
+    let back = read(&mut rack, 0);
+    spread_harm(&mut rack, &[1, 2, 3, 4])?;
+    Ok(back)
 }
 
-#[test]
-fn harm_outlasts_a_crash(rt: HostRuntime) -> Result<(), Fail> {
-    let mut rack = small_rack(rt.alloc(), Vec::new(rt.alloc()))?;
-    assert_eq!(rt; crash_with_harm(&mut rack, &[6; 4]), Ok(()));
-    assert_eq!(rt; read(&mut rack, 1), Ok([0; 4]));
-    Ok(())
+/// What is read of a sector that was mended from a harmed one and not flushed before a crash.
+fn harmed(alloc: Global) -> Result<Read, Fail> {
+    let mut rack = small_rack(alloc, Vec::new(alloc))?;
+    crash_with_harm(&mut rack, &[6; 4])?;
+    Ok(read(&mut rack, 1))
 }
 
-#[test]
-fn three_sectors_are_written(rt: HostRuntime) -> Result<(), Fail> {
-    let mut rack = small_rack(rt.alloc(), Vec::new(rt.alloc()))?;
-    assert_eq!(rt; write_three(&mut rack, 1, &[1, 2, 3, 4]), Ok(()));
+/// What is read of the last of three sectors that were written and flushed before a crash.
+fn third(alloc: Global) -> Result<Read, Fail> {
+    let mut rack = small_rack(alloc, Vec::new(alloc))?;
+    write_three(&mut rack, 1, &[1, 2, 3, 4])?;
     rack.crash(CrashRule::Torn);
-    assert_eq!(rt; read(&mut rack, 2), Ok([1, 2, 3, 4]));
+    Ok(read(&mut rack, 2))
+}
+
+#[test]
+fn harm_and_flushes_outlast_a_crash(rt: HostRuntime) -> Result<(), Fail> {
+    assert_eq!(rt; damaged(rt.alloc())?, Ok([1, 2, 3, 4]));
+    assert_eq!(rt; harmed(rt.alloc())?, Ok([0; 4]));
+    assert_eq!(rt; third(rt.alloc())?, Ok([1, 2, 3, 4]));
     Ok(())
 }

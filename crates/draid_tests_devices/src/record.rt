@@ -1,4 +1,4 @@
-ghost use Rattle.std.specs.Prelude.{◌≡◌};
+ghost use Rattle.std.specs.Prelude.{◌≡◌, IfOk};
 ghost use Rattle.draid_spec.specs.Geometry.{IsGeometry};
 
 use draid_dtl::Log;
@@ -6,7 +6,7 @@ use draid_names::{Arm, ArmKind, NoMemory};
 use draid_record::{
     Record, RecordFault, UberBody, read_record, read_uber, write_record, write_uber,
 };
-use draid_spec::{Geometry, Props, Spec, geometry, parse_spec};
+use draid_spec::{Geometry, Props, Spec, SpecFault, geometry, parse_spec};
 use std::alloc::Global;
 
 const PROPS: Props = Props {
@@ -86,54 +86,62 @@ fn bad(at: u64, kind: u8) -> Result<(usize, usize, bool, u64), RecordFault> {
     Err(RecordFault::Bad { at, kind })
 }
 
-#[test]
-fn a_record_is_told(rt: HostRuntime) {
-    let spec = parse_spec(b"draid1:2d:3c", 3).expect(&rt, "a spec");
-    let layout = geometry(spec, PROPS).expect(&rt, "a layout");
-    assert_eq!(rt; read(rt.alloc(), &RECORD, &layout), Ok((3, 0, false, 0)));
+/// The layout of that pool.
+fn small_geometry() -> Result<Geometry, SpecFault>
+    ensures { IfOk result IsGeometry }
+{
+    geometry(parse_spec(b"draid1:2d:3c", 3)?, PROPS)
 }
 
 #[test]
-fn faults_of_ranges_are_found(rt: HostRuntime) {
-    let spec = parse_spec(b"draid1:2d:3c", 3).expect(&rt, "a spec");
-    let layout = geometry(spec, PROPS).expect(&rt, "a layout");
-    let changes = [
-        (11, 1, 10),
-        (19, 2, 12),
-        (21, 4, 20),
-        (22, 0, 22),
-        (23, 2, 23),
-        (32, 4, 32),
-        (46, 0, 39),
-        (61, 3, 54),
-        (75, 3, 75),
-    ];
-    for (place, byte, at) in changes {
-        assert_eq!(rt; read_changed(rt.alloc(), place, byte, &layout), bad(at, 2));
-    }
-    assert_eq!(rt; read_changed(rt.alloc(), 79, 1, &layout), bad(80, 1));
+fn a_record_is_told(rt: HostRuntime) -> Result<(), SpecFault> {
+    let told = read(rt.alloc(), &RECORD, &small_geometry()?);
+    assert_eq!(rt; told, Ok((3, 0, false, 0)));
+    Ok(())
 }
 
 #[test]
-fn faults_of_lengths_are_found(rt: HostRuntime) {
-    let spec = parse_spec(b"draid1:2d:3c", 3).expect(&rt, "a spec");
-    let layout = geometry(spec, PROPS).expect(&rt, "a layout");
-    let cuts = [
-        (0, 0, 1),
-        (3, 0, 1),
-        (4, 4, 1),
-        (5, 4, 1),
-        (6, 6, 1),
-        (9, 6, 1),
-        (10, 6, 2),
-        (83, 6, 2),
-    ];
-    for (len, at, kind) in cuts {
-        assert_eq!(rt; read_cut(rt.alloc(), len, false, &layout), bad(at, kind));
+fn faults_of_ranges_are_found(rt: HostRuntime) -> Result<(), SpecFault> {
+    let layout = small_geometry()?;
+    for (place, byte, at, kind) in [
+        (11, 1, 10, 2),
+        (19, 2, 12, 2),
+        (21, 4, 20, 2),
+        (22, 0, 22, 2),
+        (23, 2, 23, 2),
+        (32, 4, 32, 2),
+        (46, 0, 39, 2),
+        (61, 3, 54, 2),
+        (75, 3, 75, 2),
+        (79, 1, 80, 1),
+    ] {
+        assert_eq!(rt;
+            read_changed(rt.alloc(), place, byte, &layout),
+            bad(at, kind)
+        );
     }
-    assert_eq!(rt; read_cut(rt.alloc(), 83, true, &layout), bad(80, 1));
-    assert_eq!(rt; read_cut(rt.alloc(), 12, true, &layout), bad(12, 1));
-    assert_eq!(rt; read_cut(rt.alloc(), 85, true, &layout), bad(84, 3));
+    Ok(())
+}
+
+#[test]
+fn faults_of_lengths_are_found(rt: HostRuntime) -> Result<(), SpecFault> {
+    let layout = small_geometry()?;
+    for (len, is_told, at, kind) in [
+        (0, false, 0, 1),
+        (3, false, 0, 1),
+        (4, false, 4, 1),
+        (5, false, 4, 1),
+        (6, false, 6, 1),
+        (9, false, 6, 1),
+        (10, false, 6, 2),
+        (83, false, 6, 2),
+        (83, true, 80, 1),
+        (12, true, 12, 1),
+        (85, true, 84, 3),
+    ] {
+        assert_eq!(rt; read_cut(rt.alloc(), len, is_told, &layout), bad(at, kind));
+    }
+    Ok(())
 }
 
 /// What that uberblock tells.
@@ -164,24 +172,25 @@ fn uber() -> [u8; 51] {
     write_uber(&body())
 }
 
-#[test]
-fn an_uberblock_is_written(rt: HostRuntime) {
-    assert_eq!(rt; uber().as_slice(), UBER.as_slice());
+/// That uberblock, with another byte at a place.
+fn uber_changed(place: usize, byte: u8) -> [u8; 51] {
+    let mut bytes = UBER;
+    if place < 51 {
+        bytes[place] = byte;
+    }
+    bytes
 }
 
 #[test]
-fn an_uberblock_is_told(rt: HostRuntime) {
-    assert_eq!(rt; read_uber(&UBER, 1), Ok(body()));
-    assert_eq!(rt;
-        read_uber(&UBER, 0),
-        Err(RecordFault::Bad { at: 7, kind: 2 })
-    );
-    let mut other = UBER;
-    other[17] = 33;
-    assert_eq!(rt;
-        read_uber(&other, 1),
-        Err(RecordFault::Bad { at: 17, kind: 2 })
-    );
+fn an_uberblock_is_written_and_told(rt: HostRuntime) {
+    assert_eq!(rt; uber().as_slice(), UBER.as_slice());
+    for (place, slot, told) in [
+        (51, 1, Ok(body())),
+        (51, 0, Err(RecordFault::Bad { at: 7, kind: 2 })),
+        (17, 1, Err(RecordFault::Bad { at: 17, kind: 2 })),
+    ] {
+        assert_eq!(rt; read_uber(&uber_changed(place, 33), slot), told);
+    }
 }
 
 /// A slot with the leaf of this number, which missed nothing.

@@ -7,6 +7,7 @@ use draid_names::Failed;
 use draid_rack::Rack;
 use draid_shelf::{MemoryShelf, RackShelf, Shelf};
 use draid_spec::{Geometry, Props, Spec, geometry};
+use std::alloc::Global;
 use std::test::Fail;
 
 /// Four children, two metaslabs of three slices of eight sectors on each child.
@@ -53,16 +54,37 @@ fn read<R: Rack>(rack: &mut R, sector: u64) -> Result<u8, Failed>
     Ok(bytes[0])
 }
 
+/// A shelf of which these calls fail: of each rack, of those that make or take devices, and of each area.
+fn shelf_failing(alloc: Global, failing: [&[u64]; 3]) -> Result<MemoryShelf, Fail> {
+    let [racks, own, areas] = failing;
+    let mut shelf = MemoryShelf::new(alloc, Vec::from_slice(alloc, racks)?);
+    let own = Vec::from_slice(alloc, own)?;
+    shelf.fail(own, Vec::from_slice(alloc, areas)?);
+    Ok(shelf)
+}
+
+/// How many sectors leaf 3 of a rack has, and its first leaf from 4 on. The rack is taken and given back.
+fn use_rack<H: RackShelf>(shelf: &mut H) -> Result<[Option<u64>; 2], Fail> {
+    let rack = shelf.take(1)?;
+    let seen = [rack.sectors(3), rack.leaf_from(4)];
+    shelf.give(1, rack);
+    Ok(seen)
+}
+
+/// Whether the racks of metaslabs 1 and 2 are there.
+fn has_racks<H: RackShelf>(shelf: &mut H) -> [bool; 2] {
+    [shelf.take(1).is_ok(), shelf.take(2).is_ok()]
+}
+
 #[test]
 fn racks_alone_are_given_and_taken(rt: HostRuntime) -> Result<(), Fail> {
-    let mut shelf = MemoryShelf::new(rt.alloc(), Vec::new(rt.alloc()));
+    let mut shelf = shelf_failing(rt.alloc(), [&[]; 3])?;
     RackShelf::make(&mut shelf, rt.alloc(), &small_geometry()?)?;
-    let mut rack = RackShelf::take(&mut shelf, 1)?;
-    assert_eq!(rt; rack.sectors(3), Some(24));
-    assert_eq!(rt; rack.leaf_from(4), None);
-    RackShelf::give(&mut shelf, 1, rack);
-    assert!(rt; RackShelf::take(&mut shelf, 1).is_ok());
-    assert!(rt; RackShelf::take(&mut shelf, 2).is_err());
+    let seen = use_rack(&mut shelf)?;
+    assert_eq!(rt;
+        (seen, has_racks(&mut shelf)),
+        ([Some(24), None], [true, false])
+    );
     Ok(())
 }
 
@@ -99,6 +121,26 @@ fn found<H: Shelf>(shelf: &mut H, geometry: &Geometry) -> Option<(u8, u8, u64)>
     Some((flushed, soft, kit.odd.length()))
 }
 
+/// Whether a pool is there before it is made, and behind it; and what a crash by this rule leaves, looked at twice.
+fn left_by(
+    alloc: Global,
+    geometry: &Geometry,
+    rule: CrashRule,
+) -> Result<([bool; 2], [Option<(u8, u8, u64)>; 2]), Fail>
+    requires geometry { IsGeometry geometry.now }
+    requires sector { geometry.now.props.sector ≡ 512 }
+{
+    let mut shelf = shelf_failing(alloc, [&[]; 3])?;
+    let before = shelf.has_pool();
+    shelf.crash_by(rule);
+    Shelf::make(&mut shelf, alloc, geometry)?;
+    let made = shelf.has_pool();
+    use_devices(&mut shelf, geometry)?;
+    shelf.crash();
+    let left = [found(&mut shelf, geometry), found(&mut shelf, geometry)];
+    Ok(([before, made], left))
+}
+
 #[test]
 fn a_crash_reaches_all_that_was_given_back(rt: HostRuntime) -> Result<(), Fail> {
     let geometry = small_geometry()?;
@@ -106,15 +148,8 @@ fn a_crash_reaches_all_that_was_given_back(rt: HostRuntime) -> Result<(), Fail> 
         return Ok(());
     }
     for (rule, left) in [(CrashRule::Old, (7, 0, 0)), (CrashRule::New, (7, 8, 3))] {
-        let mut shelf = MemoryShelf::new(rt.alloc(), Vec::new(rt.alloc()));
-        assert!(rt; !shelf.has_pool());
-        shelf.crash_by(rule);
-        Shelf::make(&mut shelf, rt.alloc(), &geometry)?;
-        assert!(rt; shelf.has_pool());
-        use_devices(&mut shelf, &geometry)?;
-        shelf.crash();
-        assert_eq!(rt; found(&mut shelf, &geometry), Some(left));
-        assert_eq!(rt; found(&mut shelf, &geometry), None);
+        let wanted = ([false, true], [Some(left), None]);
+        assert_eq!(rt; left_by(rt.alloc(), &geometry, rule)?, wanted);
     }
     Ok(())
 }
@@ -134,31 +169,44 @@ fn flush_both<H: Shelf>(shelf: &mut H, geometry: &Geometry) -> Result<[bool; 4],
     Ok(failed)
 }
 
+/// Which flushes failed behind a fuse of three calls, and which after a crash.
+fn fused(alloc: Global, geometry: &Geometry) -> Result<[[bool; 4]; 2], Fail>
+    requires { IsGeometry geometry.now }
+{
+    let mut shelf = shelf_failing(alloc, [&[]; 3])?;
+    Shelf::make(&mut shelf, alloc, geometry)?;
+    shelf.put_fuse(alloc, 3)?;
+    let behind = flush_both(&mut shelf, geometry)?;
+    shelf.crash();
+    Ok([behind, flush_both(&mut shelf, geometry)?])
+}
+
 #[test]
 fn the_devices_share_a_fuse_that_a_crash_takes_out(rt: HostRuntime) -> Result<(), Fail> {
-    let geometry = small_geometry()?;
-    let mut shelf = MemoryShelf::new(rt.alloc(), Vec::new(rt.alloc()));
-    Shelf::make(&mut shelf, rt.alloc(), &geometry)?;
-    shelf.put_fuse(rt.alloc(), 3)?;
-    assert_eq!(rt;
-        flush_both(&mut shelf, &geometry)?,
-        [false, false, false, true]
-    );
-    shelf.crash();
-    assert_eq!(rt; flush_both(&mut shelf, &geometry)?, [false; 4]);
+    let failed = [[false, false, false, true], [false; 4]];
+    assert_eq!(rt; fused(rt.alloc(), &small_geometry()?)?, failed);
     Ok(())
+}
+
+/// Which of two calls that make the devices and three that take the area of the uberblock are done.
+fn made_and_taken<H: Shelf>(shelf: &mut H, alloc: Global, geometry: &Geometry) -> [bool; 5]
+    requires { IsGeometry geometry.now }
+{
+    [
+        shelf.make(alloc, geometry).is_ok(),
+        shelf.make(alloc, geometry).is_ok(),
+        shelf.take_uber().is_ok(),
+        shelf.take_uber().is_ok(),
+        shelf.take_uber().is_ok(),
+    ]
 }
 
 #[test]
 fn the_shelf_fails_by_its_list_and_for_what_it_does_not_hold(rt: HostRuntime) -> Result<(), Fail> {
-    let mut shelf = MemoryShelf::new(rt.alloc(), Vec::new(rt.alloc()));
-    shelf.fail(vec![in rt.alloc(); 0, 2]?, Vec::new(rt.alloc()));
     let geometry = small_geometry()?;
-    assert!(rt; Shelf::make(&mut shelf, rt.alloc(), &geometry).is_err());
-    Shelf::make(&mut shelf, rt.alloc(), &geometry)?;
-    assert!(rt; shelf.take_uber().is_err());
-    assert!(rt; shelf.take_uber().is_ok());
-    assert!(rt; shelf.take_uber().is_err());
+    let mut shelf = shelf_failing(rt.alloc(), [&[], &[0, 2], &[]])?;
+    let done = made_and_taken(&mut shelf, rt.alloc(), &geometry);
+    assert_eq!(rt; done, [false, true, false, true, false]);
     Ok(())
 }
 
@@ -178,12 +226,9 @@ fn flush_twice<H: Shelf>(shelf: &mut H, geometry: &Geometry) -> Result<[bool; 4]
 #[test]
 fn the_devices_fail_by_their_lists(rt: HostRuntime) -> Result<(), Fail> {
     let geometry = small_geometry()?;
-    let mut shelf = MemoryShelf::new(rt.alloc(), vec![in rt.alloc(); 0]?);
-    shelf.fail(Vec::new(rt.alloc()), vec![in rt.alloc(); 1]?);
+    let mut shelf = shelf_failing(rt.alloc(), [&[0], &[], &[1]])?;
     Shelf::make(&mut shelf, rt.alloc(), &geometry)?;
-    assert_eq!(rt;
-        flush_twice(&mut shelf, &geometry)?,
-        [true, false, false, true]
-    );
+    let failed = flush_twice(&mut shelf, &geometry)?;
+    assert_eq!(rt; failed, [true, false, false, true]);
     Ok(())
 }
