@@ -7,8 +7,6 @@ mod laws;
 mod lists;
 mod slot;
 mod slots;
-#[cfg(test)]
-mod tests;
 
 pub use fault::SlotFault;
 pub use laws::spares_lie_by_the_layout;
