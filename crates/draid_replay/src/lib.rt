@@ -5,8 +5,6 @@
 mod events;
 mod history;
 mod laws;
-#[cfg(test)]
-mod tests;
 
 pub use events::advance;
 pub use history::{ReplayFault, replay};

@@ -7,8 +7,6 @@ mod fill;
 mod replies;
 mod serve;
 mod status;
-#[cfg(test)]
-mod tests;
 mod top;
 
 pub use status::Status;

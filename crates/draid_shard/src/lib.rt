@@ -12,8 +12,6 @@ mod laws;
 mod layout;
 mod log;
 mod shard;
-#[cfg(test)]
-mod tests;
 mod ticket;
 
 pub use fault::{BeginFault, FetchFault, Missed, NotLive};

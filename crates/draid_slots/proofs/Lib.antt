@@ -6,4 +6,3 @@ pub mod OneSlot
 pub mod Refusals
 pub mod Spares
 pub mod Tables
-pub mod Told

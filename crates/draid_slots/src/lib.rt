@@ -6,8 +6,6 @@ mod laws;
 mod lists;
 mod slot;
 mod slots;
-#[cfg(test)]
-mod tests;
 
 pub use draid_names::SlotFault;
 pub use laws::spares_lie_by_the_layout;

@@ -1,6 +1,6 @@
 use Rattle.std.proofs.Common.{◌≡◌}
 use Rattle.draid_shard.specs.Shard.{Carries, NoneMore, Valid, part_of}
-use Rattle.draid_shard.proofs.tests.write_columns.Given as goal
+use Rattle.draid_tests_machine.proofs.shard.write_columns.Given as goal
 
 abbrev pub invariant-loop-column : goal.invariant-loop-column
 invariant-loop-column g l = let rack = g.R.Rack in record {

@@ -1,6 +1,6 @@
 use Rattle.std.specs.Prelude.{All}
 use Rattle.draid_replay.specs.Within.{IsSmallEvent}
-use Rattle.draid_replay.proofs.tests.add_write.Given as goal
+use Rattle.draid_tests_machine.proofs.replay.add_write.Given as goal
 
 -- the events so far have numbers in their ranges
 abbrev pub invariant-loop-column : goal.invariant-loop-column

@@ -1,6 +1,6 @@
 use Rattle.std.proofs.Common.{◌+◌, ◌<◌, ◌≤◌, ℕ, length, slice_index_or}
 use Rattle.draid_names.specs.declared.room.Room.{Room}
-use Rattle.draid_run.proofs.tests.last_fit.Given as goal
+use Rattle.draid_tests_pool.proofs.run.last_fit.Given as goal
 
 -- none of the rooms behind is large enough
 abbrev pub invariant-loop-k : goal.invariant-loop-k

@@ -3,10 +3,10 @@ ghost use Rattle.draid_slots.specs.Changes.{new_arm};
 ghost use Rattle.draid_slots.specs.Table.{arms_listed};
 ghost use Rattle.draid_map.specs.Place.{IsLayout};
 
-use super::*;
 use draid_dtl::Log;
 use draid_names::{Arm, ArmAt, ArmKind, At, NoMemory};
 use draid_perm::Perms;
+use draid_slots::{ReadArm, SlotFault, Slots};
 use draid_spec::{Geometry, Props, geometry, parse_spec};
 use std::alloc::Global;
 

@@ -3,11 +3,11 @@ ghost use Rattle.draid_map.specs.Place.{IsLayout};
 ghost use Rattle.draid_world.specs.World.{state_of};
 ghost use Rattle.draid_replay.specs.Within.{IsSmallEvent, IsWithin};
 
-use crate::{ReplayFault, replay};
 use draid_dtl::Log;
 use draid_machine::{ArmName, Event, FewArms, FewLeaves, Key};
 use draid_names::{NoMemory, PassKind};
 use draid_perm::Perms;
+use draid_replay::{ReplayFault, replay};
 use draid_spec::{Geometry, Props, geometry, parse_spec};
 use draid_world::places::slot_of;
 use draid_world::{Arm, Image, Site, Tables, World};

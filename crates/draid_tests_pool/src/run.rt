@@ -1,0 +1,324 @@
+ghost use Rattle.std.specs.Prelude.{◌≤◌, length};
+ghost use Rattle.draid_choose.specs.Rooms.{IsChooser, Picks, most_rooms};
+
+use draid_choose::{Chooser, first_fit};
+use draid_names::Room;
+use draid_run::{Status, run};
+use draid_lines::{MemorySink, MemorySource};
+use draid_shelf::MemoryShelf;
+use std::alloc::{AllocError, Global};
+use std::test::Fail;
+use std::thread::Threads;
+
+const CREATE: &str = "create draid1:2d:3c:0s 3 sector=512 height=8 metaslabs=1 slices=4\n";
+
+const CREATED: &str = "create draid1:2d:3c:0s-0 stripes=32\n";
+
+/// Which calls of the devices fail, by their numbers.
+#[derive(Clone, Copy, Debug)]
+struct Failing {
+    rack: &'static [u64],
+    source: &'static [u64],
+    sink: &'static [u64],
+}
+
+const NONE: Failing = Failing {
+    rack: &[],
+    source: &[],
+    sink: &[],
+};
+
+/// Runs a script that follows the line that creates the pool, with the first metaslab that has room for a block, and gives
+/// the status and what was printed.
+fn run_words<R: AllocGlobal + Threads + Sync>(
+    rt: &R,
+    word: &str,
+    script: Vec<u8>,
+    failing: &Failing,
+) -> Result<(Status, Vec<u8>), AllocError> {
+    let chooser = Chooser::new(
+        |rooms: &[Room]| -> Option<u32>
+            requires { length rooms.now ≤ most_rooms }
+            ensures { Picks rooms.now result }
+        { first_fit(rooms) },
+    );
+    run_chosen(rt, word, script, failing, &chooser)
+}
+
+/// The same with another choice of metaslabs.
+fn run_chosen<R: AllocGlobal + Threads + Sync, F: Fn(&[Room]) -> Option<u32>>(
+    rt: &R,
+    word: &str,
+    script: Vec<u8>,
+    failing: &Failing,
+    chooser: &Chooser<F>,
+) -> Result<(Status, Vec<u8>), AllocError>
+    requires { IsChooser F.Fn chooser.now }
+{
+    let alloc = rt.alloc();
+    let words = vec![in alloc; String::from_str(alloc, word)?]?;
+    let mut shelf = MemoryShelf::new(alloc, Vec::from_slice(alloc, failing.rack)?);
+    let mut source = MemorySource::new(script, Vec::from_slice(alloc, failing.source)?);
+    let mut sink = MemorySink::new(alloc, Vec::from_slice(alloc, failing.sink)?);
+    let status = run(rt, &words, &mut shelf, &mut source, &mut sink, chooser);
+    Ok((status, Vec::from_slice(alloc, sink.held())?))
+}
+
+/// The line that creates the pool, and these.
+fn created(alloc: Global, lines: &str) -> Result<Vec<u8>, AllocError> {
+    let mut script = Vec::from_slice(alloc, CREATE.as_bytes())?;
+    script.extend_from_slice(lines.as_bytes())?;
+    Ok(script)
+}
+
+/// Adds a line that writes `len` zero bytes to an object.
+fn add_write(script: &mut Vec<u8>, object: u64, len: usize) -> Result<(), AllocError> {
+    let alloc = *script.allocator();
+    let front = format!(in alloc; "write {object} ")?;
+    script.extend_from_slice(front.as_bytes())?;
+    let zeros = vec![in alloc; b'0'; len]?;
+    script.extend_from_slice(&zeros)?;
+    script.extend_from_slice(&zeros)?;
+    script.extend_from_slice(b"\n")
+}
+
+/// Whether a run behind the line that creates the pool is done and prints these replies, where these calls of the rack fail.
+fn replies_over<R: AllocGlobal + Threads + Sync>(
+    rt: &R,
+    lines: &str,
+    rack: &'static [u64],
+    replies: &str,
+) -> Result<bool, AllocError> {
+    let failing = Failing { rack, ..NONE };
+    let (ended, printed) = run_words(rt, "session", created(rt.alloc(), lines)?, &failing)?;
+    let mut wanted = Vec::from_slice(rt.alloc(), CREATED.as_bytes())?;
+    wanted.extend_from_slice(replies.as_bytes())?;
+    Ok(ended == Status::Done && printed == wanted)
+}
+
+/// Lines, the calls of the rack that fail, and the replies. A block of one stripe is written by three calls and read by
+/// three. Earlier bytes stay where a write misses too many columns, and no object behind one without bytes is summed.
+const FAILING_RACKS: [(&str, &[u64], &str); 11] = [
+    (ONE, &[0], SOLVED),
+    (ONE, &[1], SOLVED),
+    (ONE, &[2], SOLVED),
+    (ONE, &[3], SOLVED),
+    (ONE, &[4], SOLVED),
+    (
+        ONE,
+        &[1, 5],
+        "write 7 ok\nread 7 unreadable absent=1 tried=1\n",
+    ),
+    (ONE, &[0, 2], "write 7 missed columns=2\nread 7 no object\n"),
+    (
+        ONE,
+        &[3, 5],
+        "write 7 ok\nread 7 unreadable absent=2 tried=0\n",
+    ),
+    (
+        "write 7 aa\nwrite 7 bb\nread 7\n",
+        &[3, 5],
+        "write 7 ok\nwrite 7 missed columns=2\nread 7 1 aa\n",
+    ),
+    (
+        "write 1 aa\nwrite 3 cc\nsum 1 3\nread 3\n",
+        &[9, 11],
+        "write 1 ok\nwrite 3 ok\nsum 2 no object\nread 3 unreadable absent=2 tried=0\n",
+    ),
+    (
+        "write 1 aa\nwrite 2 bb\nwrite 3 cc\nsum 1 4\n",
+        &[12, 14],
+        "write 1 ok\nwrite 2 ok\nwrite 3 ok\nsum 2 unreadable absent=2 tried=0\n",
+    ),
+];
+
+const ONE: &str = "write 7 aa\nread 7\n";
+
+const SOLVED: &str = "write 7 ok\nread 7 1 aa\n";
+
+#[test]
+fn calls_of_the_rack_fail(rt: HostRuntime) -> Result<(), Fail> {
+    for (lines, rack, replies) in FAILING_RACKS {
+        assert!(rt; replies_over(&rt, lines, rack, replies)?, "{lines}");
+    }
+    Ok(())
+}
+
+/// Whether a run comes to this status and prints this.
+fn comes_to<R: AllocGlobal + Threads + Sync>(
+    rt: &R,
+    word: &str,
+    script: Vec<u8>,
+    failing: &Failing,
+    wanted: (Status, &str),
+) -> Result<bool, AllocError> {
+    let (ended, printed) = run_words(rt, word, script, failing)?;
+    Ok(ended == wanted.0 && printed.as_slice() == wanted.1.as_bytes())
+}
+
+#[test]
+fn devices_of_the_script_fail(rt: HostRuntime) -> Result<(), Fail> {
+    let unread = Failing {
+        source: &[0],
+        ..NONE
+    };
+    let script = created(rt.alloc(), "")?;
+    let wanted = (Status::SourceFault, "source fault\n");
+    assert!(rt; comes_to(&rt, "session", script, &unread, wanted)?);
+    let unheard = Failing { sink: &[1], ..NONE };
+    let script = created(rt.alloc(), ONE)?;
+    let wanted = (Status::SinkFault, CREATED);
+    assert!(rt; comes_to(&rt, "session", script, &unheard, wanted)?);
+    Ok(())
+}
+
+#[test]
+fn other_words_and_long_lines_end_a_run(rt: HostRuntime) -> Result<(), Fail> {
+    let script = created(rt.alloc(), "")?;
+    let usage = "usage: dzpool session [--dir DIR] or dzpool workload NUMBER\n";
+    assert!(rt; comes_to(&rt, "frob", script, &NONE, (Status::Usage, usage))?);
+    let long = vec![in rt.alloc(); b'a'; 300_001]?;
+    let wanted = (Status::TooLong { line: 1 }, "line 1 too long\n");
+    assert!(rt; comes_to(&rt, "session", long, &NONE, wanted)?);
+    Ok(())
+}
+
+/// The place of the last room that is large enough.
+fn last_fit(rooms: &[Room]) -> Option<u32>
+    requires { length rooms.now ≤ most_rooms }
+    ensures { Picks rooms.now result }
+{
+    for k in 0..rooms.len() {
+        let at = rooms.len() - 1 - k;
+        if rooms[at].run >= rooms[at].need {
+            return Some(at as u32);
+        }
+    }
+    None
+}
+
+// As the example of metaslabs that fill, where the first metaslab is chosen.
+#[test]
+fn metaslabs_fill_from_the_last(rt: HostRuntime) -> Result<(), Fail> {
+    let alloc = rt.alloc();
+    let lines =
+        "create draid1:2d:3c:0s 3 sector=512 height=8 metaslabs=2 slices=1\nfill 1 17 1024 1\nread 17\nfree 1\nfree 1\nsum 2 1\n";
+    let replies =
+        "create draid1:2d:3c:0s-0 stripes=16\nfill 1 written=16 no space run=0 disabled=0 full=0 worn=0\nread 17 no object\nfree 1 ok\nfree 1 no object\nsum 2 1 ba5bad6f19de8198fe601d1177afed48d27c6040506ed8c814cff891de30a0be\n";
+    let script = Vec::from_slice(alloc, lines.as_bytes())?;
+    let last = Chooser::new(
+        |rooms: &[Room]| -> Option<u32>
+            requires { length rooms.now ≤ most_rooms }
+            ensures { Picks rooms.now result }
+        { last_fit(rooms) },
+    );
+    let (ended, printed) = run_chosen(&rt, "session", script, &NONE, &last)?;
+    assert_eq!(rt; ended, Status::Done);
+    assert_eq!(rt; printed.as_slice(), replies.as_bytes());
+    Ok(())
+}
+
+/// Adds lines that damage the first sectors of a leaf.
+fn add_damage(script: &mut Vec<u8>, leaf: u64, sectors: u64) -> Result<(), AllocError> {
+    let alloc = *script.allocator();
+    for sector in 0..sectors {
+        let line = format!(in alloc; "damage {leaf} {sector}\n")?;
+        script.extend_from_slice(line.as_bytes())?;
+    }
+    Ok(())
+}
+
+/// Blocks of zero bytes: their lengths and the ends of what `sum` prints of them.
+const ZEROS: [(usize, &str); 3] = [
+    (
+        1,
+        "sum 7 1 6e340b9cffb37a989ca544e6bb780a2c78901d3fb33738768511a30617afa01d\n",
+    ),
+    (
+        4_096,
+        "sum 7 1 ad7facb2586fc6e966c004d7d1d16b024f5805ff7cb47c7a85dabd8b48892ca7\n",
+    ),
+    (
+        131_072,
+        "sum 7 1 fa43239bcee7b97ca62f007cc68487560a39e19f74f3dde7486db3f98df8e471\n",
+    ),
+];
+
+/// Whether blocks are read where all sectors of the leaves of these bits are damaged.
+fn reads_over<R: AllocGlobal + Threads + Sync>(
+    rt: &R,
+    create: &str,
+    leaves: u32,
+) -> Result<bool, AllocError> {
+    let alloc = rt.alloc();
+    for (len, sum) in ZEROS {
+        let mut script = Vec::from_slice(alloc, create.as_bytes())?;
+        add_write(&mut script, 7, len)?;
+        for leaf in 0..14 {
+            if leaves >> leaf & 1 == 1 {
+                add_damage(&mut script, leaf, 48)?;
+            }
+        }
+        script.extend_from_slice(b"sum 7 1\n")?;
+        let (ended, printed) = run_words(rt, "session", script, &NONE)?;
+        if ended != Status::Done || !printed.ends_with(sum.as_bytes()) {
+            return Ok(false);
+        }
+    }
+    Ok(true)
+}
+
+/// Whether blocks are read whichever leaves of so many are damaged, as many as there are parity columns.
+fn reads_over_any<R: AllocGlobal + Threads + Sync>(
+    rt: &R,
+    create: &str,
+    children: u32,
+    parity: u32,
+) -> Result<bool, AllocError>
+    requires { children ≤ 14 }
+{
+    for leaves in 0..1u32 << children {
+        if leaves.count_ones() == parity && !reads_over(rt, create, leaves)? {
+            return Ok(false);
+        }
+    }
+    Ok(true)
+}
+
+#[test]
+fn any_one_leaf_may_be_damaged(rt: HostRuntime) -> Result<(), Fail> {
+    let create = "create draid1:8d:14c:2s 14 metaslabs=1 height=16 slices=1\n";
+    assert!(rt; reads_over_any(&rt, create, 14, 1)?);
+    Ok(())
+}
+
+#[test]
+fn any_two_leaves_may_be_damaged(rt: HostRuntime) -> Result<(), Fail> {
+    let create = "create draid2:4d:11c:1s 11 metaslabs=1 slices=1\n";
+    assert!(rt; reads_over_any(&rt, create, 11, 2)?);
+    Ok(())
+}
+
+#[test]
+fn any_three_leaves_may_be_damaged(rt: HostRuntime) -> Result<(), Fail> {
+    let create = "create draid3:3d:8c 8 metaslabs=1 height=16 slices=1\n";
+    assert!(rt; reads_over_any(&rt, create, 8, 3)?);
+    Ok(())
+}
+
+// Each byte of a script in turn is another one: the run ends, with no fault or at a line.
+#[test]
+fn no_byte_breaks_a_run(rt: HostRuntime) -> Result<(), Fail> {
+    let alloc = rt.alloc();
+    let script = created(alloc, "write 7 aa\ndamage 0 0\nread 7\nsum 7 1\n")?;
+    for at in 0..script.len() {
+        for byte in [0, 255] {
+            let mut other = script.clone()?;
+            other[at] = byte;
+            let (ended, _) = run_words(&rt, "session", other, &NONE)?;
+            let code = ended.code();
+            assert!(rt; code == 0 || code == 2);
+        }
+    }
+    Ok(())
+}
