@@ -1,4 +1,4 @@
-ghost use Rattle.std.specs.Prelude.{◌≡◌, ◌+◌, ◌<◌, ◌≤◌, ◌^◌, ◌&&◌, not, true, false, ℕ, Some, List, IfOk, OnOk, count_by, filter, is_some, option_map};
+ghost use Rattle.std.specs.Prelude.{◌≡◌, ◌+◌, ◌<◌, ◌≤◌, ◌&&◌, not, true, false, ℕ, Some, List, IfOk, OnOk, count_by, filter, is_some, option_map};
 ghost use Rattle.std.specs.List.{list_all, list_any};
 ghost use Rattle.draid_images.specs.Seals.{is_early, is_written};
 ghost use Rattle.draid_machine.specs.After as after;

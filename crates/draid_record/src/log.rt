@@ -1,4 +1,4 @@
-ghost use Rattle.std.specs.Prelude.{◌≡◌, ◌+◌, ◌<◌, ◌≤◌, ◌^◌, IfOk};
+ghost use Rattle.std.specs.Prelude.{◌≡◌, ◌+◌, ◌<◌, ◌≤◌, IfOk};
 ghost use Rattle.draid_ranges.specs.Runs.{AreApart};
 ghost use Rattle.draid_record.specs.Reading.{Gives, read};
 ghost use Rattle.draid_record.specs.Record as spec;

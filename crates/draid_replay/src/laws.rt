@@ -1,4 +1,4 @@
-ghost use Rattle.std.specs.Prelude.{◌<◌, ◌^◌};
+ghost use Rattle.std.specs.Prelude.{◌<◌};
 ghost use Rattle.draid_machine.specs.Step.{Step};
 ghost use Rattle.draid_machine.specs.State.{Layout, State};
 ghost use Rattle.draid_machine.specs.declared.event.Event.{Event};
