@@ -1,4 +1,4 @@
-ghost use Rattle.std.specs.Prelude.{◌≡◌, ◌+◌, ◌&&◌, ◌<◌, ◌^◌, OnOk, IfOk};
+ghost use Rattle.std.specs.Prelude.{◌≡◌, ◌+◌, ◌&&◌, ◌<◌, OnOk, IfOk};
 ghost use Rattle.draid_machine.specs.Claims.{is_on};
 ghost use Rattle.draid_machine.specs.Names.{has_segment, key_eq};
 ghost use Rattle.draid_machine.specs.declared.names.Segment.{Segment};

@@ -1,4 +1,4 @@
-ghost use Rattle.std.specs.Prelude.{◌≡◌, ◌<◌, ◌^◌, ◌&&◌, not, filter, IfOk, length};
+ghost use Rattle.std.specs.Prelude.{◌≡◌, ◌<◌, ◌&&◌, not, filter, IfOk, length};
 ghost use Rattle.draid_machine.specs.Arms as arms;
 ghost use Rattle.draid_machine.specs.Step as step;
 ghost use Rattle.draid_map.specs.Place.{IsLayout};

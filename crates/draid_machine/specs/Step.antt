@@ -1,4 +1,4 @@
-use Rattle.std.specs.Prelude.{◌≡◌, ◌==◌, ◌≢◌, ◌+◌, ◌-◌, ◌/◌, ◌^◌, ◌<◌, ◌≤◌, ◌⊎◌, ◌||◌, ◌&&◌, not, ℕ, Bool, true, false, nat_le, List, [], ◌∷◌, Option, Some, None, length, filter, Contains, if◌then◌else◌}
+use Rattle.std.specs.Prelude.{◌≡◌, ◌==◌, ◌≢◌, ◌+◌, ◌-◌, ◌/◌, ◌<◌, ◌≤◌, ◌⊎◌, ◌||◌, ◌&&◌, not, ℕ, Bool, true, false, nat_le, List, [], ◌∷◌, Option, Some, None, length, filter, Contains, if◌then◌else◌}
 use Rattle.draid_names.specs.Numbers.{most_held}
 use Rattle.draid_names.specs.declared.numbers.TheConstants.{LAST_NUMBER}
 use Rattle.draid_names.specs.declared.pass_kind.PassKind.{PassKind}

@@ -1,4 +1,4 @@
-ghost use Rattle.std.specs.Prelude.{◌≡◌, ◌+◌, ◌<◌, ◌≤◌, ◌*◌, ◌^◌};
+ghost use Rattle.std.specs.Prelude.{◌≡◌, ◌+◌, ◌<◌, ◌*◌};
 ghost use Rattle.draid_spec.specs.Geometry.{child_sectors, pool_stripes};
 ghost use Rattle.draid_map.specs.Owner.{Owns};
 ghost use Rattle.draid_map.specs.Place.{IsLayout, place_of, spare_child_of};

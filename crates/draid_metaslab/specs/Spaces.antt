@@ -1,9 +1,8 @@
-use Rattle.std.specs.Prelude.{◌≡◌, ◌+◌, ◌*◌, ◌^◌, ◌<◌, ◌≤◌, ◌&&◌, ⊤, ℕ, Bool, true, nat_le, nat_lt, List, All, length}
+use Rattle.std.specs.Prelude.{◌≡◌, ◌+◌, ◌^◌, ◌<◌, ◌≤◌, ◌&&◌, ⊤, ℕ, Bool, true, nat_le, nat_lt, List, All, length}
 use Rattle.std.specs.List.{list_any}
 use Rattle.draid_ranges.specs.declared.run.Run.{Run}
 use Rattle.draid_ranges.specs.Numbers.{Numbers, has}
 use Rattle.draid_ranges.specs.Runs.{has_in, in_run}
-use Rattle.draid_spec.specs.declared.layout.Geometry.{Geometry}
 use Rattle.draid_metaslab.specs.declared.space.Deferred.{Deferred}
 use Rattle.draid_metaslab.specs.declared.fault.SpaceFault.{SpaceFault}
 use Rattle.draid_metaslab.specs.declared.fault.SpaceFault.TheVariants.{NoRoom, NoMemory}

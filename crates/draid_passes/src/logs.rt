@@ -1,4 +1,4 @@
-ghost use Rattle.std.specs.Prelude.{◌≡◌, ◌<◌, ◌^◌, true, OnOk};
+ghost use Rattle.std.specs.Prelude.{◌≡◌, ◌<◌, true, OnOk};
 ghost use Rattle.draid_machine.specs.After as after;
 ghost use Rattle.draid_machine.specs.Names.{has_name, name_eq};
 ghost use Rattle.draid_machine.specs.declared.names.ArmName.{ArmName};

@@ -1,4 +1,4 @@
-ghost use Rattle.std.specs.Prelude.{◌≡◌, ◌==◌, ◌<◌, ◌^◌, ◌&&◌, ◌||◌, not};
+ghost use Rattle.std.specs.Prelude.{◌≡◌, ◌==◌, ◌<◌, ◌&&◌, ◌||◌, not};
 ghost use Rattle.draid_machine.specs.Arms as arms;
 ghost use Rattle.draid_map.specs.Place.{IsLayout};
 ghost use Rattle.draid_passes.specs.Lying.{keeps_at};

@@ -1,5 +1,5 @@
 -- What a pool is to those who use it, and what its calls do to it.
-use Rattle.std.specs.Prelude.{◌≡◌, ◌≤◌, ◌<◌, ◌+◌, ◌-◌, ◌^◌, ◌/◌, ◌%◌, ◌==◌, ◌||◌, ◌&&◌, ⊤, ℕ, Bool, true, false, List, [], ◌∷◌, Option, Some, None, MatchOption, All, length, option_map, slice_get, slice_set, flat_map, nat_eq, nat_lt, max, if◌then◌else◌}
+use Rattle.std.specs.Prelude.{◌≡◌, ◌≤◌, ◌<◌, ◌+◌, ◌-◌, ◌/◌, ◌%◌, ◌==◌, ◌||◌, ◌&&◌, ⊤, ℕ, Bool, true, false, List, [], ◌∷◌, Option, Some, None, MatchOption, All, length, option_map, slice_get, slice_set, flat_map, nat_eq, nat_lt, max, if◌then◌else◌}
 use Rattle.draid_spec.specs.Geometry.{child_sectors, metaslab_stripes, metaslab_sectors}
 use Rattle.std.specs.List.{AllZip, count_by, list_any}
 use Rattle.std.specs.List.Sorted.{IsStrictlyIncreasing}

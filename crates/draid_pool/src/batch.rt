@@ -1,5 +1,5 @@
 //! Sums of many objects: their blocks are fetched and solved in batches.
-ghost use Rattle.std.specs.Prelude.{◌≡◌, ◌≤◌, ◌+◌, ◌^◌, List, length};
+ghost use Rattle.std.specs.Prelude.{◌≡◌, ◌≤◌, ◌+◌, List, length};
 ghost use Rattle.draid_pool.specs.Batches.{AddIs, BatchIs, FeedIs};
 ghost use Rattle.draid_pool.specs.Pool.{Moves, Represents, state_of};
 ghost use Rattle.draid_pool.specs.State.{Change};

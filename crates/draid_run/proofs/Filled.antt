@@ -1,5 +1,5 @@
 -- Objects that were given contents one after another.
-use Rattle.std.proofs.Common.{◌≡◌, ◌∙◌, ◌<◌, ◌+◌, ℕ, suc, List, ◌++◌, Option, Result, Ok, Err, arith, refl, sym, ap, subst, length, take, drop}
+use Rattle.std.proofs.Common.{◌≡◌, ◌∙◌, ◌<◌, ◌+◌, ℕ, suc, List, ◌++◌, Option, Result, Ok, Err, arith, refl, ap, subst, length, take, drop}
 use Rattle.std.proofs.lemmas.List.{append-nil, drop_all, take_all}
 use Rattle.draid_names.specs.declared.room.Room.{Room}
 use Rattle.draid_rack.specs.Rack.{Shape, Told}

@@ -37,14 +37,6 @@ same_spec spec props layout is =
     sym (ap (λ (g : Geometry). g.spec) (by_checks (checked_width spec) (checked_props props) (nat_lt 67108864 (total_of props (layout_of spec props).rows)) _ (layout_of spec props) layout is))
 
 module _ {R : Type 0} (shape : R → Shape) (told : R → Option Told) (faults : R → Option ℕ → ℕ) where
-  -- the spec can't be read
-  pub unread : (text : List ℕ) (children : ℕ) (keys : PoolKeys) (why : SpecFault) (pool : Option (Pool R)) → spec_by text children ≡ Err why → pool ≡ None → PlainTurned shape told faults (CreatePool text children keys) None (Some (CreateRefused why)) pool
-  unread text children keys why pool none closed = rw closed (record {
-    changes = [];
-    desk = refl;
-    turns = (ap (layout_from keys) none, refl);
-  })
-
   pub made : (text : List ℕ) (children : ℕ) (keys : PoolKeys) (spec : Spec) (m : Made) (result : Result Made PoolFault) (pool : Option (Pool R)) → spec_by text children ≡ Ok spec
       → result ≡ Ok m → OpensBy shape told faults spec (props_of keys) result pool
       → PlainTurned shape told faults (CreatePool text children keys) None (Some (Created m.name m.stripes)) pool

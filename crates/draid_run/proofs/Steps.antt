@@ -12,7 +12,7 @@ use Rattle.draid_pool.specs.Pool.{Moves, Represents, state_of}
 use Rattle.draid_pool.specs.State.{Change, State}
 use Rattle.draid_pool.specs.declared.pool.Pool.{Pool}
 use Rattle.draid_run.specs.Session.{IsDesk, state_in}
-use Rattle.draid_run.specs.State.{Plain, PlainTurns, Turns}
+use Rattle.draid_run.specs.State.{PlainTurns, Turns}
 
 module _ {R : Type 0} (shape : R → Shape) (told : R → Option Told) (faults : R → Option ℕ → ℕ) where
   -- what an answer says, said otherwise

@@ -1,4 +1,4 @@
-ghost use Rattle.std.specs.Prelude.{◌≡◌, ◌+◌, ◌<◌, ◌^◌, ℕ, true, false};
+ghost use Rattle.std.specs.Prelude.{◌≡◌, ◌+◌, ◌<◌, ℕ, true, false};
 ghost use Rattle.draid_machine.specs.After as after;
 ghost use Rattle.draid_machine.specs.Names.{has_name, has_number};
 ghost use Rattle.draid_machine.specs.Step.{HealsThere};

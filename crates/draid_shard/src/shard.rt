@@ -1,4 +1,4 @@
-ghost use Rattle.std.specs.Prelude.{◌≡◌, ◌<◌, ◌≤◌, ◌+◌, ◌^◌, ◌||◌, ◌⊎◌, ℕ, List, [], Bool, true, false, Option, Some, None, All, IfOk, OnOk, OnErr, IfErr, IsTrue, ◌↔◌, length, max, nat_lt, is_ok, is_err, if◌then◌else◌};
+ghost use Rattle.std.specs.Prelude.{◌≡◌, ◌<◌, ◌≤◌, ◌+◌, ◌||◌, ◌⊎◌, ℕ, List, [], Bool, true, false, Option, Some, None, All, IfOk, OnOk, OnErr, IfErr, IsTrue, ◌↔◌, length, max, nat_lt, is_ok, is_err, if◌then◌else◌};
 ghost use Rattle.draid_names.specs.Numbers as numbers;
 ghost use Rattle.draid_spec.specs.Geometry.{metaslab_stripes, metaslab_sectors};
 ghost use Rattle.draid_names.specs.declared.pointer.Pointer.{Pointer};

@@ -1,4 +1,4 @@
-use Rattle.std.specs.Prelude.{◌≡◌, ◌<◌, ◌*◌, ⊤, ℕ, Option, Some, MatchOption, replicate}
+use Rattle.std.specs.Prelude.{◌≡◌, ◌<◌, ⊤, ℕ, Option, Some, MatchOption, replicate}
 use Rattle.draid_spec.specs.declared.layout.Geometry.{Geometry}
 use Rattle.draid_spec.specs.Geometry.{metaslab_sectors}
 use Rattle.draid_rack.specs.Rack.{Shape, Told, HasJust, IsCalm, OnTold}

@@ -1,4 +1,4 @@
-ghost use Rattle.std.specs.Prelude.{◌≡◌, ◌<◌, ◌^◌, true, false, ℕ};
+ghost use Rattle.std.specs.Prelude.{◌≡◌, ◌<◌, true, false, ℕ};
 ghost use Rattle.draid_machine.specs.Names.{has_number};
 ghost use Rattle.draid_machine.specs.State.{State};
 ghost use Rattle.draid_machine.specs.Step.{FetchStep};

@@ -2,7 +2,7 @@ use Rattle.draid_rack.specs.Leaves.{told_of, view_at}
 use Rattle.draid_rack.specs.Rack.{adds}
 use Rattle.draid_rack.proofs.Sound.{long_added, long_kept, tick_later, up_to_added, up_to_kept}
 use Rattle.draid_rack.proofs.Tells.{shape_added, told_added}
-use Rattle.draid_rack.proofs.Moments.{goes_adds, elapsed_change, elapsed_same}
+use Rattle.draid_rack.proofs.Moments.{goes_adds, elapsed_change}
 use Rattle.draid_rack.proofs.memory.MemoryRackRack.add_leaf.Goals as goal
 
 pub invariant_of-self-in-Break-branch-2 : goal.invariant_of-self-in-Break-branch-2
