@@ -1,5 +1,5 @@
 -- Calls by a lane's passes, one for each of several turns.
-use Rattle.std.specs.Prelude.{◌≡◌, ℕ, List, [], ◌∷◌, Option, Some, map, slice_get, slice_set}
+use Rattle.std.specs.Prelude.{◌≡◌, All, ℕ, List, [], ◌∷◌, Option, Some, map, slice_get, slice_set}
 use Rattle.draid_turn.specs.Calls.{Caller, Did, Lock, MayCall}
 use Rattle.draid_turn.specs.Lists.{StartsWith}
 use Rattle.draid_holds.specs.Holds.{HoldIn, LaneWent}
@@ -21,6 +21,10 @@ module _ {O T E : Type 0} (fact : T → T → Type 0) (events : T → List E) (n
     pub lock_is : slice_get locks turn ≡ Some lock
     pub pass_is : slice_get passes turn ≡ Some pass
     pub may : (later : Caller E) → later.table ≡ pass.table → later.numbers ≡ pass.numbers → StartsWith later.seen pass.seen → MayCall fact events number needs relates op lock later
+
+  -- each of the calls may be made, whatever the lane has seen by then
+  abbrev pub AllMayCall : List (Lock T) → List (Caller E) → List (Call O) → Type 0
+  AllMayCall locks passes calls = All (λ (call : Call O). MayCallLater call.op call.turn locks passes) calls
 
 module _ {O T E : Type 0} (fact : T → T → Type 0) (events : T → List E) (number : E → Option ℕ) (relates : O → T → O → T → Type 0) (locks : List (Lock T)) where
   -- the operation was called at one of the turns; the other passes are as they were

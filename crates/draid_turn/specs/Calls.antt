@@ -8,7 +8,8 @@ use Rattle.draid_turn.specs.Lists.{places_added}
 use Rattle.draid_turn.specs.Numbers.{HoldsSome, IsForeign, IsOwn}
 use Rattle.draid_turn.specs.Views.{idle_view}
 
--- a caller: its lock, the events that it has seen, the places in the history of those that it made, and the numbers that it holds
+-- a caller: its lock, the events that it has seen, the places in the history of those that it made, and the numbers
+-- that it holds
 pub record Caller (E : Type 0) : Type 0 where
   pub table : TableId
   pub seen : List E
@@ -44,14 +45,19 @@ pub record Adds {E : Type 0} (number : E → Option ℕ) (numbers : List Span) (
   pub behind : new ≡ old ++ added
   pub own : All (IsOwn number numbers) added
 
--- The conditions of a call: the pass is of this lock; what the operation needs follows from what is known of the value in this turn; it keeps the fact; and it only adds events, each of a number that the pass holds, or of none
-pub record MayCall {O T E : Type 0} (fact : T → T → Type 0) (events : T → List E) (number : E → Option ℕ) (needs : O → T → Type 0) (relates : O → T → O → T → Type 0) (op : O) (lock : Lock T) (pass : Caller E) : Type 0 where
+-- The conditions of a call: the pass is of this lock; what the operation needs follows from what is known of the value
+-- in this turn; it keeps the fact; and it only adds events, each of a number that the pass holds, or of none
+pub record MayCall {O T E : Type 0} (fact : T → T → Type 0) (events : T → List E) (number : E → Option ℕ) (needs : O → T → Type 0)
+    (relates : O → T → O → T → Type 0) (op : O) (lock : Lock T) (pass : Caller E) : Type 0 where
   pub own : pass.table ≡ lock.table
   pub ready : (x : T) → fact lock.first x → Follows number pass.numbers (events x) pass.seen → needs op x
-  pub keeps : (x y : T) (after : O) → fact lock.first x → needs op x → relates op x after y → fact lock.first y
-  pub adds : (x y : T) (after : O) → fact lock.first x → needs op x → relates op x after y → Adds number pass.numbers (events x) (events y)
+  pub keeps : (x y : T) (after : O) → fact lock.first x → needs op x → relates op x after y
+      → fact lock.first y
+  pub adds : (x y : T) (after : O) → fact lock.first x → needs op x → relates op x after y
+      → Adds number pass.numbers (events x) (events y)
 
--- The caller's next hold, in which the stored events went from before to after. It has then seen all of them, and those that were added are its own
+-- The caller's next hold, in which the stored events went from before to after. It has then seen all of them, and those
+-- that were added are its own
 pub record IsHold {E : Type 0} (number : E → Option ℕ) (old : Caller E) (before after : List E) (new : Caller E) : Type 0 where
   pub follows : Follows number old.numbers before old.seen
   pub adds : Adds number old.numbers before after
@@ -61,7 +67,8 @@ pub record IsHold {E : Type 0} (number : E → Option ℕ) (old : Caller E) (bef
   pub table : new.table ≡ old.table
 
 -- One hold took the operation from op to done, and the value, which met the fact, to what is left.
-pub record Did {O T E : Type 0} (fact : T → Type 0) (events : T → List E) (number : E → Option ℕ) (relates : O → T → O → T → Type 0) (op done : O) (old new : Caller E) : Type 0 where
+pub record Did {O T E : Type 0} (fact : T → Type 0) (events : T → List E) (number : E → Option ℕ)
+    (relates : O → T → O → T → Type 0) (op done : O) (old new : Caller E) : Type 0 where
   pub value : T
   pub left : T
   pub stood : fact value
