@@ -7,8 +7,8 @@ ghost use Rattle.draid_turn.specs.Numbers.{HoldsSome};
 ghost use Rattle.draid_holds.specs.Passes.{shares};
 
 use crate::log::{Log, Put, Putting};
-use draid_holds::run_all;
-use draid_turn::{Span, Turn};
+use draid_holds::{Call, make_calls, run_all};
+use draid_turn::{Pass, Span, Turn};
 use std::alloc::{AllocError, Global};
 use std::test::Fail;
 
@@ -89,5 +89,47 @@ fn two_passes_have_one_history(rt: HostRuntime) -> Result<(), Fail> {
     let log = turn.close(&rt, first);
     assert_eq!(rt; (one.is_in, two.is_in), (true, true));
     assert_eq!(rt; log.entries.as_slice(), [2, 1].as_slice());
+    Ok(())
+}
+
+/// An empty log under a lock.
+fn lock(alloc: Global) -> Result<(Turn<Log>, Pass<Log>), AllocError>
+    ensures { IfOk result (λ made. made.1.table ≡ made.0.table) }
+{
+    let log = Log {
+        entries: Vec::new(alloc),
+    };
+    match Turn::new(alloc, log) {
+        Ok(made) => Ok(made),
+        Err(_) => Err(AllocError),
+    }
+}
+
+fn call(turn: usize, entry: u64) -> Call<Put>
+    ensures { result.turn ≡ turn }
+{
+    let op = Put {
+        entry,
+        is_in: false,
+    };
+    Call { turn, op }
+}
+
+#[test]
+fn a_lane_calls_in_two_turns(rt: HostRuntime) -> Result<(), Fail> {
+    let (left, left_pass) = lock(rt.alloc())?;
+    let (right, right_pass) = lock(rt.alloc())?;
+    let mut passes = Vec::with_capacity(rt.alloc(), 2)?;
+    passes.push_reserved(left_pass);
+    passes.push_reserved(right_pass);
+    let mut calls = Vec::with_capacity(rt.alloc(), 3)?;
+    calls.push_reserved(call(1, 5));
+    calls.push_reserved(call(0, 6));
+    calls.push_reserved(call(1, 7));
+    make_calls(&rt, &[left, right], &mut passes, &mut calls);
+    for call in &calls {
+        assert!(rt; call.op.is_in);
+    }
+    assert_eq!(rt; calls.len(), 3);
     Ok(())
 }
