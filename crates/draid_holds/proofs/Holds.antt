@@ -41,6 +41,11 @@ module _ {E : Type 0} (number : E → Option ℕ) where
         table = rest.table ∙ is.table;
       }
 
+  -- one hold more
+  pub went_more : (old mid new : Caller E) (holds : List (Hold E)) (hold : Hold E) → Went number old holds mid → IsHold number mid hold.before hold.after new → Went number old (holds ++ hold ∷ []) new
+  went_more old mid new [] hold is next = (new, subst (λ c. IsHold number c hold.before hold.after new) is next, refl)
+  went_more old mid new (first ∷ holds) hold went next = (went.0, went.1, went_more went.0 mid new holds hold went.2 next)
+
   pub went_on : (old mid new : List (Caller E)) (front back : List (HoldIn E)) → LaneWent number old front mid → LaneWent number mid back new → LaneWent number old (front ++ back) new
   went_on old mid new [] back is went = subst (λ c. LaneWent number c back new) is went
   went_on old mid new (made ∷ front) back before went = (before.0, before.1, went_on before.0 mid new front back before.2 went)

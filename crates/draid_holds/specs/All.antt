@@ -6,6 +6,7 @@ use Rattle.draid_turn.specs.declared.span.Span.{Span}
 use Rattle.draid_turn.specs.Calls.{Caller, Lock, newcomer}
 use Rattle.draid_holds.specs.Holds.{Hold}
 use Rattle.draid_holds.specs.Lanes.{AllRan, pass_of, work_of}
+use Rattle.draid_holds.specs.Passes.{newcomers}
 use Rattle.draid_holds.specs.declared.lanes.Lane.{Lane}
 
 -- each work may begin by a new pass that holds its numbers
@@ -18,5 +19,5 @@ pub record RanAll (T : Type 0) {W E : Type 0} (number : E → Option ℕ) (relat
   pub lanes : List (Lane T W E)
   pub idle : first.own ≡ []
   pub works : map work_of lanes ≡ before
-  pub passes : map pass_of lanes ≡ map (λ (list : Vec Span Global). newcomer first.table opened list.items) lists
+  pub passes : map pass_of lanes ≡ newcomers (newcomer first.table opened first.numbers) lists
   pub ran : AllRan number relates first lanes opened log after

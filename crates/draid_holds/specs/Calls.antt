@@ -1,33 +1,30 @@
 -- Calls by a lane's passes, one for each of several turns.
-use Rattle.std.specs.Prelude.{◌≡◌, ℕ, List, [], ◌∷◌, Option, Some, map, slice_get, slice_set}
-use Rattle.draid_turn.specs.Calls.{Adds, Caller, Did, Follows, Lock}
+use Rattle.std.specs.Prelude.{◌≡◌, All, ℕ, List, [], ◌∷◌, Option, Some, map, slice_get, slice_set}
+use Rattle.draid_turn.specs.Calls.{Caller, Did, Lock, MayCall}
 use Rattle.draid_turn.specs.Lists.{StartsWith}
 use Rattle.draid_holds.specs.Holds.{HoldIn, LaneWent}
 use Rattle.draid_holds.specs.declared.calls.Call.{Call}
 
 module _ {O T E : Type 0} (fact : T → T → Type 0) (events : T → List E) (number : E → Option ℕ) (needs : O → T → Type 0) (relates : O → T → O → T → Type 0) where
-  -- the conditions of a call of the operation by a pass of this lock
-  pub record MayCall (op : O) (lock : Lock T) (pass : Caller E) : Type 0 where
-    pub own : pass.table ≡ lock.table
-    pub ready : (x : T) → fact lock.first x → Follows number pass.numbers (events x) pass.seen → needs op x
-    pub keeps : (x y : T) (after : O) → fact lock.first x → needs op x → relates op x after y → fact lock.first y
-    pub adds : (x y : T) (after : O) → fact lock.first x → needs op x → relates op x after y → Adds number pass.numbers (events x) (events y)
-
-  -- they hold at one of several turns
+  -- the operation may be called at one of several turns
   pub record MayCallIn (op : O) (turn : ℕ) (locks : List (Lock T)) (passes : List (Caller E)) : Type 0 where
     pub lock : Lock T
     pub pass : Caller E
     pub lock_is : slice_get locks turn ≡ Some lock
     pub pass_is : slice_get passes turn ≡ Some pass
-    pub may : MayCall op lock pass
+    pub may : MayCall fact events number needs relates op lock pass
 
-  -- they hold there, whatever the pass has seen by then
+  -- it may be called there, whatever the pass has seen by then
   pub record MayCallLater (op : O) (turn : ℕ) (locks : List (Lock T)) (passes : List (Caller E)) : Type 0 where
     pub lock : Lock T
     pub pass : Caller E
     pub lock_is : slice_get locks turn ≡ Some lock
     pub pass_is : slice_get passes turn ≡ Some pass
-    pub may : (later : Caller E) → later.table ≡ pass.table → later.numbers ≡ pass.numbers → StartsWith later.seen pass.seen → MayCall op lock later
+    pub may : (later : Caller E) → later.table ≡ pass.table → later.numbers ≡ pass.numbers → StartsWith later.seen pass.seen → MayCall fact events number needs relates op lock later
+
+  -- each of the calls may be made, whatever the lane has seen by then
+  abbrev pub AllMayCall : List (Lock T) → List (Caller E) → List (Call O) → Type 0
+  AllMayCall locks passes calls = All (λ (call : Call O). MayCallLater call.op call.turn locks passes) calls
 
 module _ {O T E : Type 0} (fact : T → T → Type 0) (events : T → List E) (number : E → Option ℕ) (relates : O → T → O → T → Type 0) (locks : List (Lock T)) where
   -- the operation was called at one of the turns; the other passes are as they were

@@ -1,7 +1,7 @@
 -- Holds, one after another: of one lock, and of several.
-use Rattle.std.specs.Prelude.{◌≡◌, ◌-◌, ◌++◌, ⊤, ℕ, nat_eq, List, [], ◌∷◌, length, Option, Some, All, slice_get, slice_set, if◌then◌else◌}
+use Rattle.std.specs.Prelude.{◌≡◌, ◌++◌, ⊤, ℕ, nat_eq, List, [], ◌∷◌, Option, Some, All, slice_get, slice_set, if◌then◌else◌}
 use Rattle.draid_turn.specs.Calls.{Caller, IsHold}
-use Rattle.draid_turn.specs.Lists.{StartsWith, places}
+use Rattle.draid_turn.specs.Lists.{StartsWith, places_added}
 
 -- a hold: the stored events before it and after it
 pub record Hold (E : Type 0) : Type 0 where
@@ -16,7 +16,7 @@ pub record HoldIn (E : Type 0) : Type 0 where
 module _ {E : Type 0} where
   -- the places in the history of what a hold added
   abbrev pub added : Hold E → List ℕ
-  added hold = places (length hold.before) (length hold.after - length hold.before)
+  added hold = places_added hold.before hold.after
 
   abbrev pub all_added : List (Hold E) → List ℕ
   all_added [] = []

@@ -1,9 +1,9 @@
 -- Lanes over one lock, each with a pass of its own.
-use Rattle.std.specs.Prelude.{◌≡◌, ◌<◌, ◌+◌, ℕ, List, Option, All, length, map, slice_index_or}
+use Rattle.std.specs.Prelude.{◌≡◌, ◌<◌, ◌+◌, ℕ, List, Option, length, map, slice_index_or}
 use Rattle.draid_turn.specs.Calls.{Caller, Lock}
 use Rattle.draid_turn.specs.Lists.{StartsWith, one_within, times}
 use Rattle.draid_holds.specs.Holds.{Hold, Went}
-use Rattle.draid_holds.specs.Passes.{makers}
+use Rattle.draid_holds.specs.Passes.{AllSeen, makers}
 use Rattle.draid_holds.specs.declared.lanes.Lane.{Lane}
 
 -- a lane's work was done by holds of its pass, one after another
@@ -30,12 +30,13 @@ module _ {T W E : Type 0} where
   abbrev pub EachWorked : (E → Option ℕ) → (W → List (Hold E) → W → Type 0) → List (Lane T W E) → List (Lane T W E) → Type 0
   EachWorked number relates old new = (i : ℕ) (d : Lane T W E) → i < length old → LaneWorked number relates (slice_index_or old i d) (slice_index_or new i d)
 
-  -- All lanes ran. Each did its work by its own holds, in its order; these stand in the history; and each place of the history since the opening is just one lane's, or the first pass's
+  -- All lanes ran. Each did its work by its own holds, in its order; these stand in the history; and each place of the
+  -- history since the opening is just one lane's, or the first pass's
   pub record AllRan (number : E → Option ℕ) (relates : W → List (Hold E) → W → Type 0) (first : Caller E) (old : List (Lane T W E)) (opened log : List E) (works : List W) : Type 0 where
     pub new : List (Lane T W E)
     pub count : length new ≡ length old
     pub works_are : works ≡ map work_of new
     pub worked : EachWorked number relates old new
     pub since : StartsWith log opened
-    pub seen : All (λ (caller : Caller E). StartsWith log caller.seen) (map pass_of new)
+    pub seen : AllSeen log (map pass_of new)
     pub single : (x : ℕ) → times x first.own + makers x (map pass_of new) ≡ one_within (length opened) (length log) x

@@ -1,11 +1,11 @@
 -- Passes that are split off one after another, and joined again.
-use Rattle.std.specs.Prelude.{◌≡◌, ℕ, true, List, count_by, sum_by}
+use Rattle.std.specs.Prelude.{◌≡◌, ℕ, true, List, All, count_by, map, sum_by}
 use Rattle.std.specs.declared.vec.Vec.{Vec}
 use Rattle.std.specs.declared.alloc.Global.{Global}
 use Rattle.draid_turn.specs.declared.span.Span.{Span}
-use Rattle.draid_turn.specs.Calls.{Caller}
-use Rattle.draid_turn.specs.Lists.{times}
-use Rattle.draid_turn.specs.Numbers.{holds}
+use Rattle.draid_turn.specs.Calls.{Caller, Lock, newcomer}
+use Rattle.draid_turn.specs.Lists.{StartsWith, times}
+use Rattle.draid_turn.specs.Numbers.{HoldsSome, holds}
 
 -- how many of the lists of numbers have this one
 abbrev pub shares : ℕ → List (Vec Span Global) → ℕ
@@ -17,6 +17,22 @@ holders {E} n callers = count_by (λ (caller : Caller E). holds n caller.numbers
 
 abbrev pub makers : {E : Type 0} → ℕ → List (Caller E) → ℕ
 makers {E} x callers = sum_by (λ (caller : Caller E). times x caller.own) callers
+
+-- each of the lists has a number
+abbrev pub EachHoldsSome : List (Vec Span Global) → Type 0
+EachHoldsSome lists = All (λ (numbers : Vec Span Global). HoldsSome numbers.items) lists
+
+-- for each list a caller that has seen as much as the first one, did nothing, and holds its numbers
+abbrev pub newcomers : {E : Type 0} → Caller E → List (Vec Span Global) → List (Caller E)
+newcomers {E} first lists = map (λ (numbers : Vec Span Global). newcomer first.table first.seen numbers.items) lists
+
+-- the callers are of this lock
+abbrev pub AreOf : {T E : Type 0} → Lock T → List (Caller E) → Type 0
+AreOf {T} {E} lock callers = All (λ (caller : Caller E). caller.table ≡ lock.table) callers
+
+-- the log begins with what each of the callers has seen
+abbrev pub AllSeen : {E : Type 0} → List E → List (Caller E) → Type 0
+AllSeen {E} log callers = All (λ (caller : Caller E). StartsWith log caller.seen) callers
 
 -- there is a number that is held and in none of the lists
 pub record KeepsOne (held : List Span) (lists : List (Vec Span Global)) : Type 0 where

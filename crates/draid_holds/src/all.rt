@@ -7,7 +7,7 @@ ghost use Rattle.draid_turn.specs.Lists.{one_if, one_within};
 ghost use Rattle.draid_turn.specs.Numbers.{HoldsSome, all_numbers, holds, number_limit};
 ghost use Rattle.draid_holds.specs.All.{AllMayWork, RanAll};
 ghost use Rattle.draid_holds.specs.Lanes.{pass_of, work_of};
-ghost use Rattle.draid_holds.specs.Passes.{KeepsOne, shares};
+ghost use Rattle.draid_holds.specs.Passes.{EachHoldsSome, KeepsOne, newcomers, shares};
 
 use crate::lanes::{Lane, Work, run_and_close};
 use draid_turn::{Pass, Refused, Span, Stand, Turn};
@@ -34,10 +34,10 @@ fn split_lanes<T: Stand, W: Drop>(
     requires none { lanes.items ≡ [] }
     requires count { length works.items ≡ length numbers.now }
     requires room { length numbers.now ≤ vec_capacity lanes }
-    requires some { All (λ (list : Vec Span Global). HoldsSome list.items) numbers.now }
+    requires some { EachHoldsSome numbers.now }
     requires apart { (n : ℕ) → shares n numbers.now ≤ one_if (holds n first.old.numbers) }
     requires other { KeepsOne first.old.numbers numbers.now }
-    ensures passes { map pass_of result.items ≡ map (λ (list : Vec Span Global). newcomer first.old.table first.old.seen list.items) numbers.now }
+    ensures passes { map pass_of result.items ≡ newcomers first.old numbers.now }
     ensures works { map work_of result.items ≡ works.items }
     ensures own { (first.new.table ≡ first.old.table) × (first.new.own ≡ first.old.own) }
     ensures left { (n : ℕ) → one_if (holds n first.new.numbers) + shares n numbers.now ≡ one_if (holds n first.old.numbers) }
@@ -55,7 +55,8 @@ fn rooms<T: Stand, W: Drop>(
     count: usize,
 ) -> Result<(Vec<Lane<T, W>>, Vec<Pass<T>>, Vec<W>), AllocError>
     ensures none { IfOk result (λ rooms. (rooms.0.items ≡ []) × (rooms.1.items ≡ []) × (rooms.2.items ≡ [])) }
-    ensures room { IfOk result (λ rooms. (count ≤ vec_capacity rooms.0) × (count ≤ vec_capacity rooms.1) × (count ≤ vec_capacity rooms.2)) }
+    ensures room { IfOk result (λ rooms. (count ≤ vec_capacity rooms.0)
+        × (count ≤ vec_capacity rooms.1) × (count ≤ vec_capacity rooms.2)) }
 {
     let lanes = Vec::with_capacity(alloc, count)?;
     let passes = Vec::with_capacity(alloc, count)?;
@@ -74,20 +75,23 @@ fn run_split<T: Stand + Send + Drop, W: Work<T> + Send + Drop, R: Threads + Wait
 ) -> (T, Vec<W>)
     requires first { first ≡ newcomer turn.table (T.events turn.first) all_numbers }
     requires count { length works.items ≡ length numbers.now }
-    requires some { All (λ (list : Vec Span Global). HoldsSome list.items) numbers.now }
+    requires some { EachHoldsSome numbers.now }
     requires apart { (n : ℕ) → shares n numbers.now ≤ one_within 0 (number_limit - 1) n }
     requires may { AllMayWork W.needs (T.events turn.first) numbers.now works.items turn }
     requires none { (rooms.0.items ≡ []) × (rooms.1.items ≡ []) × (rooms.2.items ≡ []) }
-    requires room { (length works.items ≤ vec_capacity rooms.0) × (length works.items ≤ vec_capacity rooms.1) × (length works.items ≤ vec_capacity rooms.2) }
+    requires room { (length works.items ≤ vec_capacity rooms.0)
+        × (length works.items ≤ vec_capacity rooms.1) × (length works.items ≤ vec_capacity rooms.2) }
     ensures fact { T.fact turn.first result.0 }
-    ensures ran { RanAll T T.number W.relates numbers.now works.items result.1.items (T.events turn.first) (T.events result.0) }
+    ensures ran { RanAll T T.number W.relates numbers.now works.items result.1.items
+        (T.events turn.first) (T.events result.0) }
 {
     let (lanes, passes, done) = rooms;
     let lanes = split_lanes(&turn, &mut first, numbers, works, lanes);
     run_and_close(rt, turn, first, lanes, passes, done)
 }
 
-/// Puts the value under a lock, runs the works in lanes of their own, and gives the value back. Each list has the numbers of the work at its place.
+/// Puts the value under a lock, runs the works in lanes of their own, and gives the value back. Each
+/// list has the numbers of the work at its place.
 pub fn run_all<T: Stand + Send + Drop, W: Work<T> + Send + Drop, R: Threads + Wait + Sync>(
     rt: &R,
     alloc: Global,
@@ -97,12 +101,14 @@ pub fn run_all<T: Stand + Send + Drop, W: Work<T> + Send + Drop, R: Threads + Wa
 ) -> Result<(T, Vec<W>), Unstarted<T, W>>
     requires fact { T.fact value value }
     requires count { length works.items ≡ length numbers.now }
-    requires some { All (λ (list : Vec Span Global). HoldsSome list.items) numbers.now }
+    requires some { EachHoldsSome numbers.now }
     // No number is in two lists, and the greatest is in none.
     requires apart { (n : ℕ) → shares n numbers.now ≤ one_within 0 (number_limit - 1) n }
-    requires may { (lock : Lock T) → lock.first ≡ value → AllMayWork W.needs (T.events value) numbers.now works.items lock }
+    requires may { (lock : Lock T) → lock.first ≡ value
+        → AllMayWork W.needs (T.events value) numbers.now works.items lock }
     ensures fact { IfOk result (λ done. T.fact value done.0) }
-    ensures ran { IfOk result (λ done. RanAll T T.number W.relates numbers.now works.items done.1.items (T.events value) (T.events done.0)) }
+    ensures ran { IfOk result (λ done. RanAll T T.number W.relates numbers.now works.items done.1.items
+        (T.events value) (T.events done.0)) }
     ensures refused { IfErr result (λ left. (left.value ≡ value) × (left.works ≡ works)) }
 {
     let Ok(rooms) = rooms(alloc, works.len()) else {

@@ -1,5 +1,4 @@
-ghost use Rattle.std.specs.Prelude.{All};
-ghost use Rattle.draid_holds.specs.Calls.{CallsMade, DidIn, MayCallIn, MayCallLater};
+ghost use Rattle.draid_holds.specs.Calls.{AllMayCall, CallsMade, DidIn, MayCallIn};
 ghost use Rattle.draid_holds.specs.declared.calls.Call.{Call};
 
 use draid_turn::{Act, Pass, Stand, Turn};
@@ -21,7 +20,8 @@ pub fn call_in<T: Stand, O: Act<T>, R: Wait>(
     op: &mut O,
 )
     requires { MayCallIn T.fact T.events T.number O.needs O.relates op.old turn turns.now passes.old.items }
-    ensures { DidIn T.fact T.events T.number O.relates turns.now turn op.old op.new passes.old.items passes.new.items }
+    ensures { DidIn T.fact T.events T.number O.relates turns.now turn op.old op.new
+        passes.old.items passes.new.items }
 {
     turns[turn].call(rt, &mut passes[turn], op);
 }
@@ -33,8 +33,9 @@ pub fn make_calls<T: Stand, O: Act<T>, R: Wait>(
     passes: &mut Vec<Pass<T>>,
     calls: &mut Vec<Call<O>>,
 )
-    requires { All (λ (call : Call O). MayCallLater T.fact T.events T.number O.needs O.relates call.op call.turn turns.now passes.old.items) calls.old.items }
-    ensures { CallsMade T.fact T.events T.number O.relates turns.now calls.old.items calls.new.items passes.old.items passes.new.items }
+    requires { AllMayCall T.fact T.events T.number O.needs O.relates turns.now passes.old.items calls.old.items }
+    ensures { CallsMade T.fact T.events T.number O.relates turns.now calls.old.items calls.new.items
+        passes.old.items passes.new.items }
 {
     'calls: for i in 0..calls.len() {
         let Call { turn, op } = &mut calls[i];

@@ -5,7 +5,7 @@ ghost use Rattle.draid_turn.specs.declared.span.Span.{Span};
 ghost use Rattle.draid_turn.specs.Calls.{Caller, newcomer};
 ghost use Rattle.draid_turn.specs.Lists.{StartsWith, one_if, one_within, times};
 ghost use Rattle.draid_turn.specs.Numbers.{HoldsSome, holds, number_limit};
-ghost use Rattle.draid_holds.specs.Passes.{KeepsOne, holders, makers, shares};
+ghost use Rattle.draid_holds.specs.Passes.{AllSeen, AreOf, EachHoldsSome, KeepsOne, holders, makers, newcomers, shares};
 
 use draid_turn::{Pass, Span, Stand, Turn};
 use std::sync::Wait;
@@ -20,11 +20,11 @@ pub fn split_each<T: Stand>(
     requires own { first.old.table ≡ turn.now.table }
     requires none { passes.items ≡ [] }
     requires room { length numbers.now ≤ vec_capacity passes }
-    requires some { All (λ (list : Vec Span Global). HoldsSome list.items) numbers.now }
+    requires some { EachHoldsSome numbers.now }
     // No number is in two lists, and each is the first pass's, which keeps one.
     requires apart { (n : ℕ) → shares n numbers.now ≤ one_if (holds n first.old.numbers) }
     requires other { KeepsOne first.old.numbers numbers.now }
-    ensures new { result.items ≡ map (λ (list : Vec Span Global). newcomer first.old.table first.old.seen list.items) numbers.now }
+    ensures new { result.items ≡ newcomers first.old numbers.now }
     ensures same { (first.new.table ≡ first.old.table) × (first.new.seen ≡ first.old.seen) × (first.new.own ≡ first.old.own) }
     ensures left { (n : ℕ) → one_if (holds n first.new.numbers) + shares n numbers.now ≡ one_if (holds n first.old.numbers) }
 {
@@ -37,10 +37,10 @@ pub fn split_each<T: Stand>(
 /// Joins the passes to the first one.
 pub fn join_each<T: Stand>(turn: &Turn<T>, first: &mut Pass<T>, mut passes: Vec<Pass<T>>)
     requires own { first.old.table ≡ turn.now.table }
-    requires each { All (λ (pass : Caller T.Event). pass.table ≡ turn.now.table) passes.items }
+    requires each { AreOf turn.now passes.items }
     ensures own { first.new.table ≡ first.old.table }
     ensures begins { StartsWith first.new.seen first.old.seen }
-    ensures seen { All (λ (pass : Caller T.Event). StartsWith first.new.seen pass.seen) passes.items }
+    ensures seen { AllSeen first.new.seen passes.items }
     ensures made { (x : ℕ) → times x first.new.own ≡ times x first.old.own + makers x passes.items }
     ensures numbers { (n : ℕ) → 1 ≤ one_if (holds n first.old.numbers) + holders n passes.items → holds n first.new.numbers ≡ true }
 {
@@ -49,7 +49,8 @@ pub fn join_each<T: Stand>(turn: &Turn<T>, first: &mut Pass<T>, mut passes: Vec<
     }
 }
 
-/// Joins the passes to the first one, and closes the turn. Where together they hold all numbers, each new event is just one pass's.
+/// Joins the passes to the first one, and closes the turn. Since together they hold all numbers, each
+/// new event is just one pass's.
 pub fn close_each<T: Stand + Drop, R: Wait>(
     rt: &R,
     turn: Turn<T>,
@@ -57,12 +58,13 @@ pub fn close_each<T: Stand + Drop, R: Wait>(
     passes: Vec<Pass<T>>,
 ) -> T
     requires own { first.table ≡ turn.table }
-    requires each { All (λ (pass : Caller T.Event). pass.table ≡ turn.table) passes.items }
+    requires each { AreOf turn passes.items }
     requires all { (n : ℕ) → n < number_limit → 1 ≤ one_if (holds n first.numbers) + holders n passes.items }
     ensures fact { T.fact turn.first result }
     ensures since { StartsWith (T.events result) (T.events turn.first) }
-    ensures seen { All (λ (pass : Caller T.Event). StartsWith (T.events result) pass.seen) passes.items }
-    ensures single { (x : ℕ) → times x first.own + makers x passes.items ≡ one_within (length (T.events turn.first)) (length (T.events result)) x }
+    ensures seen { AllSeen (T.events result) passes.items }
+    ensures single { (x : ℕ) → times x first.own + makers x passes.items
+        ≡ one_within (length (T.events turn.first)) (length (T.events result)) x }
 {
     join_each(&turn, &mut first, passes);
     turn.close(rt, first)

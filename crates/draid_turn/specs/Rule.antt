@@ -1,4 +1,5 @@
--- The rule of the lock's table, in three parts. Word 0 is the next ticket, word 1 the one that is served, and word 2 the number of stored events.
+-- The rule of the lock's table, in three parts. Word 0 is the next ticket, word 1 the one that is served, and word 2 the
+-- number of stored events.
 use Rattle.std.specs.Prelude.{◌≡◌, ◌≤◌, ◌<◌, ◌+◌, ◌⊎◌, ◌^◌, ◌++◌, ⊤, ℕ, Bool, true, false, List, [], length, nat_eq, slice_index, Option, Some, All, count_by, sum_by}
 use mathlib.Core.Option.{some}
 use lib.ListN.{get_elem?}
@@ -53,8 +54,8 @@ module _ {T E : Type 0} (fact : T → Type 0) (events : T → List E) where
     pub holding : who.stage ≡ Holding ticket
     pub whole : who.seen ≡ log
 
-  -- Part one, the tickets and where the value is. Each ticket from the served one to the last one drawn is just one seat's, the seat that has its turn has the
-  -- served one, and the log begins with what each seat has seen
+  -- Part one, the tickets and where the value is. Each ticket from the served one to the last one drawn is just one
+  -- seat's, the seat that has its turn has the served one, and the log begins with what each seat has seen
   pub record TurnsInOrder (log : List E) (s : State (Option T) (View E)) : Type 0 where
     pub wide : length s.words ≡ 3
     pub deep : length s.homes ≡ 1
@@ -68,13 +69,15 @@ module _ {T E : Type 0} (fact : T → Type 0) (events : T → List E) where
     pub heard : Each (λ (view : View E). StartsWith log view.heard) s.views
     pub slot : AtHome log s ⊎ Away log s
 
--- Part two, the places. Each place of the log since the lock was made is just one seat's, and each seat lists its own in ascending order
+-- Part two, the places. Each place of the log since the lock was made is just one seat's, and each seat lists its own in
+-- ascending order
 pub record PlacesOnce {E : Type 0} (opened log : List E) (views : List (View E)) : Type 0 where
   pub since : StartsWith log opened
   pub single : (x : ℕ) → sum_by (λ (view : View E). times x view.own) views ≡ one_within (length opened) (length log) x
   pub ascending : Each (λ (view : View E). Ascends view.own) views
 
--- Part three, the numbers. None is held by two seats, a seat that holds none made nothing, and no event that a seat hasn't seen concerns a number that it holds
+-- Part three, the numbers. None is held by two seats, a seat that holds none made nothing, and no event that a seat
+-- hasn't seen concerns a number that it holds
 pub record NumbersOnce {E : Type 0} (number : E → Option ℕ) (log : List E) (views : List (View E)) : Type 0 where
   pub apart : (n : ℕ) → count_by (λ (view : View E). holds n view.numbers) views ≤ one_within 0 number_limit n
   pub made_none : Each (λ (view : View E). HoldsNone view.numbers → view.own ≡ []) views

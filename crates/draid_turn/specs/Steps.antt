@@ -1,10 +1,10 @@
 -- What each kind of step tells the caller that makes it.
-use Rattle.std.specs.Prelude.{◌≡◌, ◌-◌, ◌∷◌, ℕ, List, [], length, Option, Some, None}
+use Rattle.std.specs.Prelude.{◌≡◌, ◌∷◌, ℕ, List, [], Option, Some, None}
 use Rattle.atomic_table.specs.Table.{Me, Step, rest}
 use Rattle.draid_turn.specs.declared.view.Stage.TheVariants.{Waiting}
 use Rattle.draid_turn.specs.declared.view.View.{View}
 use Rattle.draid_turn.specs.Calls.{Follows}
-use Rattle.draid_turn.specs.Lists.{StartsWith, places}
+use Rattle.draid_turn.specs.Lists.{StartsWith, places_added}
 use Rattle.draid_turn.specs.Numbers.{HoldsAll}
 use Rattle.draid_turn.specs.Views.{holding_view, learned_view, served_view, told_view, waiting_view}
 
@@ -32,7 +32,7 @@ module _ {T E : Type 0} (fact : T → Type 0) (events : T → List E) (number : 
     pub kept : fact value
     pub follows : Follows number old.0.numbers (events value) old.0.seen
     pub since : StartsWith (events value) opened
-    pub made_all : HoldsAll old.0.numbers → old.0.own ≡ places (length opened) (length (events value) - length opened)
+    pub made_all : HoldsAll old.0.numbers → old.0.own ≡ places_added opened (events value)
     pub view_is : new.0 ≡ holding_view ticket (events value) old.0
     pub slot_is : new.1 ≡ (0, Some value) ∷ old.1
 
@@ -46,4 +46,4 @@ module _ {T E : Type 0} (fact : T → Type 0) (events : T → List E) (number : 
     pub kept : fact value
     pub follows : Follows number old.0.numbers (events value) old.0.seen
     pub since : StartsWith (events value) opened
-    pub made_all : HoldsAll old.0.numbers → old.0.own ≡ places (length opened) (length (events value) - length opened)
+    pub made_all : HoldsAll old.0.numbers → old.0.own ≡ places_added opened (events value)

@@ -1,9 +1,9 @@
 -- What a seat knows, and what it knows after each kind of step.
-use Rattle.std.specs.Prelude.{◌-◌, ◌++◌, ℕ, List, [], length}
+use Rattle.std.specs.Prelude.{◌++◌, ℕ, List, []}
 use Rattle.draid_turn.specs.declared.view.Stage.TheVariants.{Idle, Waiting, Holding}
 use Rattle.draid_turn.specs.declared.view.View.{View}
 use Rattle.draid_turn.specs.declared.span.Span.{Span}
-use Rattle.draid_turn.specs.Lists.{longer, merge, places, shorter}
+use Rattle.draid_turn.specs.Lists.{longer, merge, places_added, shorter}
 use Rattle.draid_turn.specs.Numbers.{all_numbers, without}
 
 module _ {E : Type 0} where
@@ -29,7 +29,7 @@ module _ {E : Type 0} where
     stage = view.stage;
     seen = stored;
     heard = view.heard;
-    own = view.own ++ places (length view.seen) (length stored - length view.seen);
+    own = view.own ++ places_added view.seen stored;
     numbers = view.numbers;
   }
 

@@ -1,4 +1,5 @@
-//! A lock that is served in order, over a value that stores events. What callers add stands in one history, each event once and each caller's in its order.
+//! A lock that is served in order, over a value that stores events. What callers add stands in one
+//! history, each event once and each caller's in its order.
 
 #![tactic(auto)]
 

@@ -3,7 +3,8 @@ use crate::view::View;
 use atomic_table::Seat;
 use std::marker::Model;
 
-/// A caller's token: what it has seen, where in the history its events stand, and the numbers that it holds, of which there is at least one.
+/// A caller's token: what it has seen, where in the history its events stand, and the numbers that it
+/// holds, of which there is at least one.
 #[derive(Drop)]
 pub struct Pass<T: Stand> {
     pub(crate) seat: Seat<Option<T>, View<T::Event>>,

@@ -8,7 +8,8 @@ use atomic_table::{Join, Play, Split, TableRule};
 use std::marker::{Brand, PhantomData};
 use std::snapshot::Snapshot;
 
-/// The rule of the lock's table. Word 0 is the next ticket, word 1 the one that is served, word 2 the number of stored events; the slot has the value.
+/// The rule of the lock's table. Word 0 is the next ticket, word 1 the one that is served, word 2 the
+/// number of stored events; the slot has the value.
 pub(crate) struct Served;
 
 impl<T: Stand> TableRule<Option<T>, View<T::Event>, Snapshot<T>> for Served {

@@ -1,6 +1,6 @@
 ghost use Rattle.std.specs.Prelude.{◌≡◌, ◌∷◌, ◌++◌, ◌-◌, ◌&&◌, true, [], ℕ, length, not, None, IfOk, IfErr};
-ghost use Rattle.draid_turn.specs.Calls.{Adds, Did, Follows, newcomer};
-ghost use Rattle.draid_turn.specs.Lists.{StartsWith, longer, merge, places};
+ghost use Rattle.draid_turn.specs.Calls.{Adds, Did, Follows, MayCall, newcomer};
+ghost use Rattle.draid_turn.specs.Lists.{StartsWith, longer, merge, places_added};
 ghost use Rattle.draid_turn.specs.Numbers.{HoldsAll, HoldsOther, HoldsSome, all_numbers, holds};
 
 use crate::pass::Pass;
@@ -88,11 +88,7 @@ impl<T: Stand> Turn<T> {
 
     /// Waits for its turn, and runs the operation once in it.
     pub fn call<O: Act<T>, R: Wait>(&self, rt: &R, pass: &mut Pass<T>, op: &mut O)
-        requires own { pass.old.table ≡ self.now.table }
-        // What it needs of the value follows from what is known of the value at this turn.
-        requires ready { (x : T) → T.fact self.now.first x → Follows T.number pass.old.numbers (T.events x) pass.old.seen → O.needs op.old x }
-        requires keeps { (x y : T) (after : O) → T.fact self.now.first x → O.needs op.old x → O.relates op.old x after y → T.fact self.now.first y }
-        requires adds { (x y : T) (after : O) → T.fact self.now.first x → O.needs op.old x → O.relates op.old x after y → Adds T.number pass.old.numbers (T.events x) (T.events y) }
+        requires { MayCall T.fact T.events T.number O.needs O.relates op.old self.now pass.old }
         ensures { Did (T.fact self.now.first) T.events T.number O.relates op.old op.new pass.old pass.new }
     {
         let ticket = self.draw(rt, &mut pass.seat);
@@ -128,7 +124,7 @@ impl<T: Stand> Turn<T> {
         ensures follows { Follows T.number pass.numbers (T.events result) pass.seen }
         ensures since { StartsWith (T.events result) (T.events self.first) }
         // Where the pass holds all numbers, the events since `new` are those that it did, each once.
-        ensures whole { HoldsAll pass.numbers → pass.own ≡ places (length (T.events self.first)) (length (T.events result) - length (T.events self.first)) }
+        ensures whole { HoldsAll pass.numbers → pass.own ≡ places_added (T.events self.first) (T.events result) }
     {
         let Pass { mut seat, size: _ } = pass;
         let ticket = self.draw(rt, &mut seat);

@@ -1,0 +1,3 @@
+mod Moves
+mod OwnNumbers
+mod TwoTurns
