@@ -8,7 +8,7 @@ use Rattle.draid_names.specs.Spares.{AreOfOne, AreSpares, AreUsed, IsArm}
 use Rattle.draid_chain.specs.Chain.{EndsAt, chain_end, chain_links, holder_in, links_in, spare_slot, stands_before}
 use Rattle.draid_chain.specs.Used.{Gains, HasColumn}
 use Rattle.draid_chain.proofs.Ways.{AreSpread, IsOff}
-use Rattle.draid_chain.proofs.Ends.{HasEnd, end_as_before, end_at_spare, end_below, end_follows, end_here, end_is, ends_on, has_end, not_both, one_end, links_sum}
+use Rattle.draid_chain.proofs.Ends.{EndsSomewhere, HasEnd, end_as_before, end_below, end_follows, end_here, end_is, ends_on, ends_somewhere, has_end, not_both, one_end, links_sum}
 
 pub spread : (perms : Perms) (spares slice : ℕ) → spares < children_of perms → AreSpread (spare_slot perms slice) (children_of perms) spares
 spread perms spares slice few = record {
@@ -176,11 +176,11 @@ holder_no_column perms spares slice slot spare other first are low column same =
   where
     by_test : (test : Bool) → stands_before perms slice (children_of perms - spares) slot ≡ test → ⊥
     by_test true is =
-        let e = end_at_spare (spare_slot perms slice) (children_of perms) spares spare first
+        let e : EndsSomewhere (spare_slot perms slice) spares first spare = ends_somewhere (spare_slot perms slice) (children_of perms) spares spare first
         (spread perms spares slice (few_spares perms spares slice other column)) are low in
         let end : holder_in perms spares slice first slot spare ≡ chain_end (spare_slot perms slice) first spares spare
         = ap (λ b. if b then chain_end (spare_slot perms slice) first spares spare else spare_slot perms slice spare) is in
-        off perms spares slice other column e.0 e.2 (sym (end ∙ e.4) ∙ same)
+        off perms spares slice other column e.last e.low (sym (end ∙ e.end) ∙ same)
     by_test false is =
         let here : holder_in perms spares slice first slot spare ≡ spare_slot perms slice spare
         = ap (λ b. if b then chain_end (spare_slot perms slice) first spares spare else spare_slot perms slice spare) is in
