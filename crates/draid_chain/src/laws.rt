@@ -89,7 +89,7 @@ pub fn slices_have_one_holder()
 {}
 
 /// Law: where a slot gets its first spare arm, or loses the only one that it has, just those spare arms move
-/// whose holder without it is that slot.
+/// whose holder without it is that slot. The same arms move where its first spare arm is exchanged.
 pub fn chains_move()
     ensures stay { (perms : Perms) (spares slice slot spare at new : ℕ) (before after : ℕ → Option ℕ)
         → Gains before after at new → holder_in perms spares slice before slot spare ≢ at
@@ -98,4 +98,13 @@ pub fn chains_move()
         → Gains before after at new → AreUsed (children_of perms) spares after
         → HasColumn perms spares slice slot → IsArm (children_of perms) spares after slot spare
         → holder_in perms spares slice after slot spare ≢ at }
+    ensures exchange { (perms : Perms) (spares slice slot spare at one two : ℕ) (without first second : ℕ → Option ℕ)
+        → Gains without first at one → Gains without second at two → one ≢ two
+        → AreUsed (children_of perms) spares first → AreUsed (children_of perms) spares second
+        → HasColumn perms spares slice slot
+        → IsArm (children_of perms) spares first slot spare
+        → IsArm (children_of perms) spares second slot spare
+        → holder_in perms spares slice without slot spare ≡ at
+        → holder_in perms spares slice first slot spare
+        ≢ holder_in perms spares slice second slot spare }
 {}
