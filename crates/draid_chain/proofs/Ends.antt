@@ -4,7 +4,7 @@ use Rattle.std.specs.Option.{option_map_or}
 use Rattle.draid_names.specs.Spares.{AreOfOne, AreSpares, AreUsed, IsArm}
 use Rattle.draid_chain.specs.Chain.{EndsAt, chain_end, chain_links}
 use Rattle.draid_chain.specs.Used.{Gains}
-use Rattle.draid_chain.proofs.Ways.{AreSpread, IsOff, IsWay, few_passed, one_start}
+use Rattle.draid_chain.proofs.Ways.{AreSpread, IsOff, IsWay, NoneLeads, few_passed, one_start}
 
 pub not_both : (o : Option ℕ) (spare : ℕ) → o ≡ None → o ≢ Some spare
 not_both None spare one two = grind arith
@@ -46,7 +46,7 @@ end_below slot_at slots first (suc most) spare low = by_first (first (slot_at sp
     by_first (Some next) rest = rest next
 
 -- a chain ends where what is left of it does
-end_on : (slot_at : ℕ → ℕ) (spares spare last most all : ℕ) (first : ℕ → Option ℕ) (ws : List ℕ) → all ≡ length ws + most
+pub end_on : (slot_at : ℕ → ℕ) (spares spare last most all : ℕ) (first : ℕ → Option ℕ) (ws : List ℕ) → all ≡ length ws + most
     → IsWay slot_at spares first spare last ws → chain_end slot_at first all spare ≡ chain_end slot_at first most last
 end_on slot_at spares spare last most all first [] sum way =
     let same : all ≡ most = omega (arith, sum) in
@@ -119,7 +119,8 @@ come slot_at slots spares spare zero first spread are low =
     record { last = spare; ws = []; low = low; way = refl; short = omega arith; over = inr refl }
 come slot_at slots spares spare (suc most) first spread are low = on (come slot_at slots spares spare most first spread are low)
   where
-    go_on : (c : HasCome slot_at spares first spare most) → length c.ws ≡ most → (o : Option ℕ) → first (slot_at c.last) ≡ o → HasCome slot_at spares first spare (suc most)
+    go_on : (c : HasCome slot_at spares first spare most) → length c.ws ≡ most → (o : Option ℕ) → first (slot_at c.last) ≡ o
+        → HasCome slot_at spares first spare (suc most)
     go_on c cut None is = record { last = c.last; ws = c.ws; low = c.low; way = c.way; short = omega (arith, cut); over = inl is }
     go_on c cut (Some next) is = record {
       last = next;
@@ -130,8 +131,11 @@ come slot_at slots spares spare (suc most) first spread are low = on (come slot_
       over = inr (ap suc cut);
     }
 
-    by_over : (c : HasCome slot_at spares first spare most) → (first (slot_at c.last) ≡ None) ⊎ (length c.ws ≡ most) → HasCome slot_at spares first spare (suc most)
-    by_over c (inl none) = record { last = c.last; ws = c.ws; low = c.low; way = c.way; short = let h : length c.ws ≤ most = c.short in omega arith; over = inl none }
+    by_over : (c : HasCome slot_at spares first spare most) → (first (slot_at c.last) ≡ None) ⊎ (length c.ws ≡ most)
+        → HasCome slot_at spares first spare (suc most)
+    by_over c (inl none) =
+        let short : length c.ws ≤ most = c.short in
+        record { last = c.last; ws = c.ws; low = c.low; way = c.way; short = omega arith; over = inl none }
     by_over c (inr cut) = go_on c cut (first (slot_at c.last)) refl
 
     on : HasCome slot_at spares first spare most → HasCome slot_at spares first spare (suc most)
@@ -158,32 +162,39 @@ has_end slot_at slots spares slot spare first spread used off arm = by_over (com
     by_over c = record { last = c.last; ws = c.ws; ended = record { low = c.low; way = c.way; over = over c c.over; few = few c } }
 
 -- each chain, even one that is cut off, ends where some spare stands
-pub end_at_spare : (slot_at : ℕ → ℕ) (slots spares spare : ℕ) (first : ℕ → Option ℕ) → AreSpread slot_at slots spares → AreSpares slots spares first
-    → spare < spares → (last : ℕ) × (ws : List ℕ) × (last < spares) × IsWay slot_at spares first spare last ws × (chain_end slot_at first spares spare ≡ slot_at last)
-end_at_spare slot_at slots spares spare first spread are low = by_come (come slot_at slots spares spare spares first spread are low)
-  where
-    end : (c : HasCome slot_at spares first spare spares) → (first (slot_at c.last) ≡ None) ⊎ (length c.ws ≡ spares) → chain_end slot_at first spares spare ≡ slot_at c.last
-    end c (inl none) =
-        let short : length c.ws ≤ spares = c.short in
-        end_on slot_at spares spare c.last (spares - length c.ws) spares first c.ws (omega arith) c.way
-        ∙ end_here slot_at first (spares - length c.ws) c.last none
-    end c (inr cut) = end_on slot_at spares spare c.last 0 spares first c.ws (omega (arith, cut)) c.way
+pub record EndsSomewhere (slot_at : ℕ → ℕ) (spares : ℕ) (first : ℕ → Option ℕ) (most spare : ℕ) : Type 0 where
+  pub last : ℕ
+  pub ws : List ℕ
+  pub low : last < spares
+  pub way : IsWay slot_at spares first spare last ws
+  pub end : chain_end slot_at first most spare ≡ slot_at last
 
-    by_come : HasCome slot_at spares first spare spares
-        → (last : ℕ) × (ws : List ℕ) × (last < spares) × IsWay slot_at spares first spare last ws × (chain_end slot_at first spares spare ≡ slot_at last)
-    by_come c = (c.last, c.ws, c.low, c.way, end c c.over)
+pub ends_somewhere : (slot_at : ℕ → ℕ) (slots spares most spare : ℕ) (first : ℕ → Option ℕ) → AreSpread slot_at slots spares
+    → AreSpares slots spares first → spare < spares → EndsSomewhere slot_at spares first most spare
+ends_somewhere slot_at slots spares most spare first spread are low = by_come (come slot_at slots spares spare most first spread are low)
+  where
+    end : (c : HasCome slot_at spares first spare most) → (first (slot_at c.last) ≡ None) ⊎ (length c.ws ≡ most)
+        → chain_end slot_at first most spare ≡ slot_at c.last
+    end c (inl none) =
+        let short : length c.ws ≤ most = c.short in
+        end_on slot_at spares spare c.last (most - length c.ws) most first c.ws (omega arith) c.way
+        ∙ end_here slot_at first (most - length c.ws) c.last none
+    end c (inr cut) = end_on slot_at spares spare c.last 0 most first c.ws (omega (arith, cut)) c.way
+
+    by_come : HasCome slot_at spares first spare most → EndsSomewhere slot_at spares first most spare
+    by_come c = record { last = c.last; ws = c.ws; low = c.low; way = c.way; end = end c c.over }
 
 -- where two chains end at one slot, also by two tables, they are of one spare
-pub one_end : (slot_at : ℕ → ℕ) (slots spares a b t u : ℕ) (earlier later : ℕ → Option ℕ) → AreSpread slot_at slots spares
-    → AreSpares slots spares earlier → AreSpares slots spares later → AreOfOne slots earlier later
-    → IsOff slot_at spares a → IsArm slots spares later a t → IsOff slot_at spares b → IsArm slots spares earlier b u
-    → chain_end slot_at earlier spares t ≡ chain_end slot_at later spares u → t ≡ u
-one_end slot_at slots spares a b t u earlier later spread ea la one fa ia fb ib same =
-    let e = end_at_spare slot_at slots spares t earlier spread ea ia.spare_is in
-    let l = end_at_spare slot_at slots spares u later spread la ib.spare_is in
-    let last : e.0 ≡ l.0 = spread.apart e.0 l.0 e.2 l.2 (sym e.4 ∙ (same ∙ l.4)) in
-    one_start slot_at slots spares a b t u l.0 earlier later e.1 l.1 spread one fa ia fb ib
-    (subst (λ y. IsWay slot_at spares earlier t y e.1) last e.3) l.3
+pub one_end : (slot_at : ℕ → ℕ) (slots spares m n t u : ℕ) (earlier later : ℕ → Option ℕ) → AreSpread slot_at slots spares
+    → AreSpares slots spares earlier → AreSpares slots spares later → AreOfOne slots earlier later → t < spares → u < spares
+    → NoneLeads slot_at spares later t → NoneLeads slot_at spares earlier u
+    → chain_end slot_at earlier m t ≡ chain_end slot_at later n u → t ≡ u
+one_end slot_at slots spares m n t u earlier later spread ea la one low less nt nu same =
+    let e : EndsSomewhere slot_at spares earlier m t = ends_somewhere slot_at slots spares m t earlier spread ea low in
+    let l : EndsSomewhere slot_at spares later n u = ends_somewhere slot_at slots spares n u later spread la less in
+    let last : e.last ≡ l.last = spread.apart e.last l.last e.low l.low (sym e.end ∙ (same ∙ l.end)) in
+    one_start slot_at slots spares t u l.last earlier later e.ws l.ws spread one nt nu
+    (subst (λ y. IsWay slot_at spares earlier t y e.ws) last e.way) l.way
 
 -- one link more changes nothing where a chain has ended
 end_stays : (slot_at : ℕ → ℕ) (first : ℕ → Option ℕ) (most spare : ℕ) → first (chain_end slot_at first most spare) ≡ None

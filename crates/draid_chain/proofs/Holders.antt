@@ -7,8 +7,8 @@ use Rattle.draid_perm.proofs.Children.{child_apart, child_below}
 use Rattle.draid_names.specs.Spares.{AreOfOne, AreSpares, AreUsed, IsArm}
 use Rattle.draid_chain.specs.Chain.{EndsAt, chain_end, chain_links, holder_in, links_in, spare_slot, stands_before}
 use Rattle.draid_chain.specs.Used.{Gains, HasColumn}
-use Rattle.draid_chain.proofs.Ways.{AreSpread, IsOff}
-use Rattle.draid_chain.proofs.Ends.{HasEnd, end_as_before, end_at_spare, end_below, end_follows, end_here, end_is, ends_on, has_end, not_both, one_end, links_sum}
+use Rattle.draid_chain.proofs.Ways.{AreSpread, IsOff, no_lead}
+use Rattle.draid_chain.proofs.Ends.{EndsSomewhere, HasEnd, end_as_before, end_below, end_follows, end_here, end_is, ends_on, ends_somewhere, has_end, not_both, one_end, links_sum}
 
 pub spread : (perms : Perms) (spares slice : ℕ) → spares < children_of perms → AreSpread (spare_slot perms slice) (children_of perms) spares
 spread perms spares slice few = record {
@@ -176,11 +176,11 @@ holder_no_column perms spares slice slot spare other first are low column same =
   where
     by_test : (test : Bool) → stands_before perms slice (children_of perms - spares) slot ≡ test → ⊥
     by_test true is =
-        let e = end_at_spare (spare_slot perms slice) (children_of perms) spares spare first
+        let e : EndsSomewhere (spare_slot perms slice) spares first spares spare = ends_somewhere (spare_slot perms slice) (children_of perms) spares spares spare first
         (spread perms spares slice (few_spares perms spares slice other column)) are low in
         let end : holder_in perms spares slice first slot spare ≡ chain_end (spare_slot perms slice) first spares spare
         = ap (λ b. if b then chain_end (spare_slot perms slice) first spares spare else spare_slot perms slice spare) is in
-        off perms spares slice other column e.0 e.2 (sym (end ∙ e.4) ∙ same)
+        off perms spares slice other column e.last e.low (sym (end ∙ e.end) ∙ same)
     by_test false is =
         let here : holder_in perms spares slice first slot spare ≡ spare_slot perms slice spare
         = ap (λ b. if b then chain_end (spare_slot perms slice) first spares spare else spare_slot perms slice spare) is in
@@ -193,9 +193,10 @@ pub holders_same : (perms : Perms) (spares slice a b t u : ℕ) (earlier later :
     → HasColumn perms spares slice b → IsArm (children_of perms) spares earlier b u
     → holder_in perms spares slice earlier a t ≡ holder_in perms spares slice later b u → t ≡ u
 holders_same perms spares slice a b t u earlier later ea la one ca ia cb ib same =
-    one_end (spare_slot perms slice) (children_of perms) spares a b t u earlier later
-    (spread perms spares slice (few_spares perms spares slice a ca)) ea la one
-    (off perms spares slice a ca) ia (off perms spares slice b cb) ib
+    let stand : AreSpread (spare_slot perms slice) (children_of perms) spares = spread perms spares slice (few_spares perms spares slice a ca) in
+    one_end (spare_slot perms slice) (children_of perms) spares spares spares t u earlier later stand ea la one ia.spare_is ib.spare_is
+    (no_lead (spare_slot perms slice) (children_of perms) spares a t later stand (off perms spares slice a ca) ia)
+    (no_lead (spare_slot perms slice) (children_of perms) spares b u earlier stand (off perms spares slice b cb) ib)
     (sym (holder_is perms spares slice a t earlier ca) ∙ (same ∙ holder_is perms spares slice b u later cb))
 
 pub holders_apart : (perms : Perms) (spares slice a b t u : ℕ) (first : ℕ → Option ℕ) → AreUsed (children_of perms) spares first

@@ -21,25 +21,27 @@ IsWay slot_at spares first spare last [] = spare ≡ last
 IsWay slot_at spares first spare last (before ∷ rest) =
     ((before < spares) × (first (slot_at before) ≡ Some last)) × IsWay slot_at spares first spare before rest
 
+-- no slot at which a spare stands has this one first
+abbrev pub NoneLeads : (ℕ → ℕ) → ℕ → (ℕ → Option ℕ) → ℕ → Type 0
+NoneLeads slot_at spares first spare = (before : ℕ) → before < spares → first (slot_at before) ≢ Some spare
+
 -- nothing leads to an arm of a slot on which no spare stands
-no_lead : (slot_at : ℕ → ℕ) (slots spares slot spare before : ℕ) (first : ℕ → Option ℕ) → AreSpread slot_at slots spares
-    → IsOff slot_at spares slot → IsArm slots spares first slot spare → before < spares → first (slot_at before) ≢ Some spare
-no_lead slot_at slots spares slot spare before first spread off arm there is =
+pub no_lead : (slot_at : ℕ → ℕ) (slots spares slot spare : ℕ) (first : ℕ → Option ℕ) → AreSpread slot_at slots spares
+    → IsOff slot_at spares slot → IsArm slots spares first slot spare → NoneLeads slot_at spares first spare
+no_lead slot_at slots spares slot spare first spread off arm before there is =
     off before there (arm.only (slot_at before) (spread.low before) is)
 
 -- where two ways come to one spare, also by two tables, they begin with one spare
-pub one_start : (slot_at : ℕ → ℕ) (slots spares a b t u last : ℕ) (earlier later : ℕ → Option ℕ) (ws xs : List ℕ)
+pub one_start : (slot_at : ℕ → ℕ) (slots spares t u last : ℕ) (earlier later : ℕ → Option ℕ) (ws xs : List ℕ)
     → AreSpread slot_at slots spares → AreOfOne slots earlier later
-    → IsOff slot_at spares a → IsArm slots spares later a t → IsOff slot_at spares b → IsArm slots spares earlier b u
+    → NoneLeads slot_at spares later t → NoneLeads slot_at spares earlier u
     → IsWay slot_at spares earlier t last ws → IsWay slot_at spares later u last xs → t ≡ u
-one_start slot_at slots spares a b t u last earlier later [] [] spread one fa ia fb ib p q = p ∙ sym q
-one_start slot_at slots spares a b t u last earlier later [] (x ∷ xs) spread one fa ia fb ib p q =
-    absurd (no_lead slot_at slots spares a t x later spread fa ia q.0.0 (q.0.1 ∙ ap Some (sym p)))
-one_start slot_at slots spares a b t u last earlier later (w ∷ ws) [] spread one fa ia fb ib p q =
-    absurd (no_lead slot_at slots spares b u w earlier spread fb ib p.0.0 (p.0.1 ∙ ap Some (sym q)))
-one_start slot_at slots spares a b t u last earlier later (w ∷ ws) (x ∷ xs) spread one fa ia fb ib p q =
+one_start slot_at slots spares t u last earlier later [] [] spread one nt nu p q = p ∙ sym q
+one_start slot_at slots spares t u last earlier later [] (x ∷ xs) spread one nt nu p q = absurd (nt x q.0.0 (q.0.1 ∙ ap Some (sym p)))
+one_start slot_at slots spares t u last earlier later (w ∷ ws) [] spread one nt nu p q = absurd (nu w p.0.0 (p.0.1 ∙ ap Some (sym q)))
+one_start slot_at slots spares t u last earlier later (w ∷ ws) (x ∷ xs) spread one nt nu p q =
     let same : w ≡ x = spread.apart w x p.0.0 q.0.0 (one (slot_at w) (slot_at x) last (spread.low w) (spread.low x) p.0.1 q.0.1) in
-    one_start slot_at slots spares a b t u w earlier later ws xs spread one fa ia fb ib p.1
+    one_start slot_at slots spares t u w earlier later ws xs spread one nt nu p.1
     (subst (λ y. IsWay slot_at spares later u y xs) (sym same) q.1)
 
 differ : (x y : ℕ) → x ≢ y → eqb x y ≡ false
@@ -54,7 +56,7 @@ not_passed : (slot_at : ℕ → ℕ) (slots spares slot spare last w x : ℕ) (f
     → IsWay slot_at spares first spare last ws → w < spares → first (slot_at w) ≡ Some x
     → AllByRecursion (λ y. eqb w y ≡ false) ws → AllByRecursion (λ y. eqb x y ≡ false) (last ∷ ws)
 not_passed slot_at slots spares slot spare last w x first [] spread used off arm way there is others =
-    (differ x last (λ same. no_lead slot_at slots spares slot spare w first spread off arm there (is ∙ ap Some (same ∙ sym way))), tt)
+    (differ x last (λ same. no_lead slot_at slots spares slot spare first spread off arm w there (is ∙ ap Some (same ∙ sym way))), tt)
 not_passed slot_at slots spares slot spare last w x first (b ∷ ws) spread used off arm way there is others = (
   differ x last (λ same. differs w b others.0
       (spread.apart w b there way.0.0 (used.apart (slot_at w) (slot_at b) last (spread.low w) (spread.low b) (is ∙ ap Some same) way.0.1))),

@@ -15,11 +15,12 @@ struct ChainEnd {
     links: u32,
 }
 
-/// The slot on whose first leaf a spare arm of a slot keeps a sector. `used` has each slot's first spare.
+/// The slot on whose first leaf a spare arm of a slot keeps a sector. `used` has each slot's first
+/// spare.
 ///
-/// It is the slot at the spare's position of the sector's slice. Where that slot has a spare arm itself,
-/// and the arm's own slot a column in the slice, it is the slot to which the first spare there leads in
-/// the same way.
+/// It is the slot at the spare's position of the sector's slice. Where that slot has a spare arm
+/// itself, and the arm's own slot a column in the slice, it is the slot to which the first spare
+/// there leads in the same way.
 pub fn holder(
     geometry: &Geometry,
     perms: &Perms,
@@ -32,7 +33,8 @@ pub fn holder(
     requires children { children_of perms.now ≡ geometry.now.spec.children }
     requires all { length used.now ≡ geometry.now.spec.children }
     requires used { AreUsed geometry.now.spec.children geometry.now.spec.spares (first_in used.now) }
-    requires arm { IsArm geometry.now.spec.children geometry.now.spec.spares (first_in used.now) slot spare }
+    requires arm { IsArm geometry.now.spec.children geometry.now.spec.spares (first_in used.now)
+        slot spare }
     ensures slot { result ≡ holder_of geometry.now perms.now (first_in used.now) slot spare sector }
     ensures below { result < geometry.now.spec.children }
 {
@@ -60,7 +62,8 @@ pub fn links(
     requires children { children_of perms.now ≡ geometry.now.spec.children }
     requires all { length used.now ≡ geometry.now.spec.children }
     requires used { AreUsed geometry.now.spec.children geometry.now.spec.spares (first_in used.now) }
-    requires arm { IsArm geometry.now.spec.children geometry.now.spec.spares (first_in used.now) slot spare }
+    requires arm { IsArm geometry.now.spec.children geometry.now.spec.spares (first_in used.now)
+        slot spare }
     ensures count { result ≡ links_of geometry.now perms.now (first_in used.now) slot spare sector }
     ensures some { 1 ≤ result }
     ensures most { result ≤ geometry.now.spec.spares }
@@ -97,10 +100,13 @@ fn chain(
     requires children { children_of perms.now ≡ geometry.now.spec.children }
     requires all { length used.now ≡ geometry.now.spec.children }
     requires used { AreUsed geometry.now.spec.children geometry.now.spec.spares (first_in used.now) }
-    requires arm { IsArm geometry.now.spec.children geometry.now.spec.spares (first_in used.now) slot spare }
-    ensures holder { result.holder ≡ holder_in perms.now geometry.now.spec.spares slice (first_in used.now) slot spare }
+    requires arm { IsArm geometry.now.spec.children geometry.now.spec.spares (first_in used.now)
+        slot spare }
+    ensures holder { result.holder
+        ≡ holder_in perms.now geometry.now.spec.spares slice (first_in used.now) slot spare }
     ensures below { result.holder < geometry.now.spec.children }
-    ensures links { result.links ≡ links_in perms.now geometry.now.spec.spares slice (first_in used.now) slot spare }
+    ensures links { result.links
+        ≡ links_in perms.now geometry.now.spec.spares slice (first_in used.now) slot spare }
     ensures some { 1 ≤ result.links }
     ensures most { result.links ≤ geometry.now.spec.spares }
 {

@@ -1,4 +1,5 @@
-//! Where a distributed spare keeps its slot's sectors, when the slot that it borrows from has a spare in its turn.
+//! Where a distributed spare keeps its slot's sectors, when the slot that it borrows from has a spare
+//! in its turn.
 #![tactic(auto)]
 
 mod chain;

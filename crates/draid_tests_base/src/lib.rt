@@ -1,11 +1,13 @@
-//! Tests of the crates that know no device: the arithmetic of parity, blocks and their columns, layouts, free space,
-//! logs of what was missed, and the choice of metaslabs. It offers nothing; a module is named after the crate that it
-//! tests.
+//! Tests of the crates that know no device: the arithmetic of parity, blocks and their columns, layouts, chains of
+//! spares, free space, logs of what was missed, and the choice of metaslabs. It offers nothing; a module is named
+//! after the crate that it tests.
 
 #![tactic(auto)]
 
 #[cfg(test)]
 mod block;
+#[cfg(test)]
+mod chain;
 #[cfg(test)]
 mod choose;
 #[cfg(test)]
