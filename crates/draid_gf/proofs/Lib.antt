@@ -4,3 +4,4 @@ pub mod Product
 pub mod Laws
 pub mod Powers
 pub mod Kernels
+pub mod LaneLemmas

@@ -6,6 +6,7 @@
 #![tactic(auto)]
 
 mod element;
+mod factor;
 mod kernel;
 mod law;
 mod table;
