@@ -1,11 +1,12 @@
 -- Columns to which others are added, vector by vector and byte by byte.
-use Rattle.std.proofs.Common.{◌≡◌, ℕ, ◌+◌, ◌-◌, ◌<◌, ◌≤◌, ◌∙◌, List, length, set, get_or, bit_xor, refl, sym, ap, subst, inl, inr, arith, length-set, get_or-set_same, get_or-set_other}
+use Rattle.std.proofs.Common.{◌≡◌, ℕ, ◌+◌, ◌-◌, ◌<◌, ◌≤◌, ◌∙◌, List, length, map, set, get_or, bit_xor, refl, sym, ap, subst, inl, inr, arith, length-set, get_or-set_same, get_or-set_other}
 use Rattle.std.specs.Prelude.{slice_index}
 use Rattle.std.specs.Simd.Lanes.{zip2, put_chunk, chunk}
 use Rattle.std.proofs.lemmas.Bool.{cases_lt}
 use Rattle.std.proofs.lemmas.Grind.{same_number_lists}
 use Rattle.std.proofs.lemmas.Simd.{length-zip2, get_or-zip2, length-put_chunk, get_or-put_chunk_below, get_or-put_chunk_at, get_or-put_chunk_above, length-chunk, get_or-chunk}
 use Rattle.draid_gf.specs.Lanes.{HasLanes, IsAdded}
+use Rattle.draid_gf.proofs.LaneLemmas.{HasLanes-map}
 
 pub added_none : (f : ℕ → ℕ → ℕ) (from old : List ℕ) (at : ℕ) → at ≤ length old → IsAdded f from old old at at
 added_none f from old at inside = record {
@@ -19,7 +20,7 @@ added_none f from old at inside = record {
 
 -- a vector more
 pub vector_added : (f : ℕ → ℕ → ℕ) (from old now sums : List ℕ) (first at : ℕ) → at + 32 ≤ length now → IsAdded f from old now first at
-    → HasLanes sums (λ k. f (slice_index now (at + k)) (slice_index from (at + k)))
+    → HasLanes 32 sums (λ k. f (slice_index now (at + k)) (slice_index from (at + k)))
     → IsAdded f from old (put_chunk at now sums) first (at + 32)
 vector_added f from old now sums first at room was lanes =
     let same = was.long in
@@ -84,8 +85,8 @@ added_whole f g from old front new at same alike was second =
 
 -- the lanes of two columns at a place, added
 pub sums_lanes : (g : ℕ → ℕ) (now from products : List ℕ) (at : ℕ) → at + 32 ≤ length now
-    → HasLanes products (λ k. g (slice_index from (at + k)))
-    → HasLanes (zip2 bit_xor (chunk at 32 now) products) (λ k. bit_xor (slice_index now (at + k)) (g (slice_index from (at + k))))
+    → HasLanes 32 products (λ k. g (slice_index from (at + k)))
+    → HasLanes 32 (zip2 bit_xor (chunk at 32 now) products) (λ k. bit_xor (slice_index now (at + k)) (g (slice_index from (at + k))))
 sums_lanes g now from products at room lanes =
     let xs = chunk at 32 now in
     let wide = lanes.long in
@@ -98,13 +99,14 @@ sums_lanes g now from products at room lanes =
           ∙ ap (bit_xor (slice_index now (at + k))) (lanes.each k low);
     }
 
-pub chunk_lanes : (from : List ℕ) (at : ℕ) → at + 32 ≤ length from → HasLanes (chunk at 32 from) (λ k. slice_index from (at + k))
+pub chunk_lanes : (from : List ℕ) (at : ℕ) → at + 32 ≤ length from → HasLanes 32 (chunk at 32 from) (λ k. slice_index from (at + k))
 chunk_lanes from at room = record { long = length-chunk at 32 from room; each = λ k low. get_or-chunk at 32 from k 0 low }
 
 pub times_lanes : (g : ℕ → ℕ) (from products : List ℕ) (at : ℕ) → at + 32 ≤ length from
-    → HasLanes products (λ k. g (slice_index (chunk at 32 from) k)) → HasLanes products (λ k. g (slice_index from (at + k)))
-times_lanes g from products at room lanes =
-    record { long = lanes.long; each = λ k low. lanes.each k low ∙ ap g (get_or-chunk at 32 from k 0 low) }
+    → products ≡ map g (chunk at 32 from) → HasLanes 32 products (λ k. g (slice_index from (at + k)))
+times_lanes g from products at room is =
+    subst (λ xs. HasLanes 32 xs (λ k. g (slice_index from (at + k)))) (sym is)
+    (HasLanes-map 32 g (chunk at 32 from) (λ k. slice_index from (at + k)) (chunk_lanes from at room))
 
 -- a place more of a list of values
 pub one_listed : (f : ℕ → ℕ) (xs : List ℕ) (i x : ℕ) → i < length xs → ((k : ℕ) → k < i → get_or xs k 0 ≡ f k) → x ≡ f i

@@ -3,5 +3,5 @@ pub mod Linear
 pub mod Product
 pub mod Laws
 pub mod Powers
-pub mod Kernels
 pub mod LaneLemmas
+pub mod Kernels

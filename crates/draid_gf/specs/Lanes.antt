@@ -1,10 +1,10 @@
--- Columns of bytes, 32 places at a time.
+-- Columns of bytes, several places at a time.
 use Rattle.std.specs.Prelude.{◌≡◌, ℕ, ◌<◌, ◌≤◌, List, length, slice_index}
 
--- v has 32 lanes, and lane k holds f k
-pub record HasLanes (v : List ℕ) (f : ℕ → ℕ) : Type 0 where
-  pub long : length v ≡ 32
-  pub each : (k : ℕ) → k < 32 → slice_index v k ≡ f k
+-- v has `count` lanes, and lane k holds f k
+pub record HasLanes (count : ℕ) (v : List ℕ) (f : ℕ → ℕ) : Type 0 where
+  pub long : length v ≡ count
+  pub each : (k : ℕ) → k < count → slice_index v k ≡ f k
 
 -- the places from `first` up to `end` hold f of what they held and of what `from` holds, and the others stay
 pub record IsAdded (f : ℕ → ℕ → ℕ) (from old new : List ℕ) (first end : ℕ) : Type 0 where

@@ -22,7 +22,7 @@ pub fn mul_into(to: &mut [u8], by: u8, from: &[u8])
     requires { length to.old ≡ length from.now }
     ensures { to.new ≡ zip2 (λ t f. bit_xor t (field_product by f)) to.old from.now }
 {
-    let at = mul_vectors(to, Factor::new(by), from);
+    let at = mul_vectors(to, &Factor::new(by), from);
     mul_bytes(to, by, from, at);
 }
 
@@ -40,9 +40,9 @@ fn xor_vectors(to: &mut [u8], from: &[u8]) -> usize
     at
 }
 
-fn mul_vectors(to: &mut [u8], factor: Factor, from: &[u8]) -> usize
+fn mul_vectors(to: &mut [u8], factor: &Factor, from: &[u8]) -> usize
     requires { length to.old ≡ length from.now }
-    ensures { IsAdded (λ t f. bit_xor t (field_product factor.by f)) from.now to.old to.new 0 result }
+    ensures { IsAdded (λ t f. bit_xor t (field_product factor.now f)) from.now to.old to.new 0 result }
 {
     let mut at = 0;
     'vectors: while to.len() - at >= 32 {

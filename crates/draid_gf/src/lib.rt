@@ -12,5 +12,6 @@ mod law;
 mod table;
 
 pub use element::{inv, mul, pow2};
+pub use factor::Factor;
 pub use kernel::{mul_into, xor_into};
 pub use law::field_laws;

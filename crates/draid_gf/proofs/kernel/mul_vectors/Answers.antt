@@ -10,6 +10,6 @@ vectors-preserved c =
     let same = c.vectors.invariant.long in
     let both = c.requires in
     let room : at + 32 ≤ length c.vectors.to = omega (arith, left) in
-    vector_added (λ t f. bit_xor t (field_product c.args.factor.by f)) c.args.from.now c.args.to.now c.vectors.to _ 0 at room c.vectors.invariant
-    (sums_lanes (field_product c.args.factor.by) c.vectors.to c.args.from.now c.times-products.result at room
-    (times_lanes (field_product c.args.factor.by) c.args.from.now c.times-products.result at (omega arith) c.times-products.ensures))
+    vector_added (λ t f. bit_xor t (field_product c.args.factor.now f)) c.args.from.now c.args.to.now c.vectors.to _ 0 at room c.vectors.invariant
+    (sums_lanes (field_product c.args.factor.now) c.vectors.to c.args.from.now c.times-products.result at room
+    (times_lanes (field_product c.args.factor.now) c.args.from.now c.times-products.result at (omega arith) c.times-products.ensures))
