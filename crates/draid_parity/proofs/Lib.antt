@@ -6,3 +6,4 @@ pub mod Missing
 pub mod Vandermonde
 pub mod OneSolution
 pub mod StripeLemmas
+pub mod RowLemmas

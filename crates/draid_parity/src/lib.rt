@@ -4,6 +4,7 @@
 
 mod column;
 mod restore;
+mod rows;
 mod solve;
 mod stripe;
 mod sums;
