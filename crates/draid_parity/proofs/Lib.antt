@@ -7,3 +7,5 @@ pub mod Vandermonde
 pub mod OneSolution
 pub mod StripeLemmas
 pub mod RowLemmas
+pub mod Horner
+pub mod RowsLemmas

@@ -3,10 +3,12 @@
 #![tactic(auto)]
 
 mod column;
+mod encode;
 mod restore;
 mod rows;
 mod solve;
 mod stripe;
 mod sums;
+mod sums2;
 
 pub use stripe::Stripe;
