@@ -1,8 +1,8 @@
 -- Bytes of neighbouring rows.
-use Rattle.std.proofs.Common.{◌≡◌, ℕ, zero, suc, ◌+◌, ◌*◌, ◌%◌, ◌^◌, ◌<◌, ◌≤◌, ◌∙◌, ◌⊎◌, inl, inr, List, [], ◌∷◌, length, map, get_or, set, bit_xor, cond, leb, replicate, refl, sym, ap, ap₂, subst, arith, w8, Fits, Bool}
+use Rattle.std.proofs.Common.{◌≡◌, ℕ, zero, suc, ◌+◌, ◌*◌, ◌%◌, ◌^◌, ◌<◌, ◌≤◌, ◌∙◌, ◌⊎◌, inl, inr, List, [], ◌∷◌, ◌++◌, length, map, take, drop, get_or, set, bit_xor, cond, leb, replicate, refl, sym, ap, ap₂, subst, arith, w8, Fits, Bool}
 use Rattle.std.specs.Simd.Lanes.{chunk, put_chunk, zip2, sel_l, top, Each1}
 use Rattle.std.proofs.lemmas.Bool.{cases_lt}
-use Rattle.std.proofs.lemmas.List.{get_or_past}
+use Rattle.std.proofs.lemmas.List.{get_or_past, take_all, take-append-drop, length-drop, map-append}
 use Rattle.std.proofs.lemmas.Simd.{get_or-chunk, length-chunk, zip2_of_maps, zip2_splat, zip2_splat_left, tops_compared}
 use Rattle.draid_gf.specs.Field.{field_product, polynomial_product, polynomial_sum, remainder, IsByte}
 use Rattle.draid_gf.proofs.Computed.{same_at}
@@ -44,3 +44,11 @@ twice_lanes n v long fits =
     zip2_of_maps bit_xor (λ x. x * 2 ^ 1 % 256) (λ x. cond (leb 128 x) 29 0) v (zip2_splat (λ a b. a * 2 ^ b % 256) v n 1 long)
     (ap (λ ms. sel_l ms (replicate n 29) (replicate n 0)) high ∙ sel_l_splats (λ x. leb 128 x) n 29 0 v long)
     ∙ map_same (λ x. bit_xor (x * 2 ^ 1 % 256) (cond (leb 128 x) 29 0)) (field_product 2) doubled v fits
+
+-- ---- two halves of a vector
+pub halves_mapped : (f : ℕ → ℕ) (v low high low_result high_result : List ℕ) → length v ≡ 64 → low ≡ chunk 0 32 v → high ≡ chunk 32 32 v
+    → low_result ≡ map f low → high_result ≡ map f high → low_result ++ high_result ≡ map f v
+halves_mapped f v low high low_result high_result long low_is high_is first second =
+    ap₂ (λ xs ys. xs ++ ys) (first ∙ ap (map f) low_is) (second ∙ ap (map f) high_is)
+    ∙ sym (map-append f (chunk 0 32 v) (chunk 32 32 v))
+    ∙ ap (map f) (ap (λ ys. take 32 v ++ ys) (take_all 32 (drop 32 v) (let rest = length-drop 32 v in omega arith)) ∙ take-append-drop 32 v)

@@ -38,7 +38,7 @@ fn encode_vectors(columns: &mut Vec<Column>, parity: usize) -> usize
     ensures sums { (k : ℕ) → k < parity → HasSumBefore result parity columns.new.items k }
 {
     if parity < 3 {
-        encode_rows::<u8x32>(columns, parity, 0)
+        encode_rows::<u8x64>(columns, parity, 0)
     } else {
         encode_rows::<u8x32>(columns, parity, 0)
     }

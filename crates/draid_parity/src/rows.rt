@@ -1,6 +1,6 @@
 //! Bytes of neighbouring rows of a column: one, or those of a vector. The kernels are written once
 //! for both; at single bytes they are the plain loops.
-ghost use Rattle.std.specs.Prelude.{◌≡◌, ◌∷◌, ℕ, ◌+◌, ◌<◌, ◌≤◌, List, [], bit_xor, length, map, slice_index};
+ghost use Rattle.std.specs.Prelude.{◌≡◌, ◌∷◌, ◌++◌, ℕ, ◌+◌, ◌<◌, ◌≤◌, List, [], bit_xor, length, map, slice_index};
 ghost use Rattle.std.specs.Simd.Lanes.{chunk, put_chunk, zip2};
 ghost use Rattle.draid_gf.specs.Field.{field_product, IsByte};
 
@@ -10,6 +10,7 @@ use std::simd::prelude::*;
 pub trait Rows: Copy {
     /// How many rows.
     ghost COUNT: { ℕ };
+
     ghost bytes: { Self → List ℕ };
 
     const COUNT: usize;
@@ -38,6 +39,7 @@ pub trait Rows: Copy {
 
 impl Rows for u8 {
     ghost COUNT = { 1 };
+
     ghost bytes = { λ byte. byte ∷ [] };
 
     const COUNT: usize = 1;
@@ -70,6 +72,7 @@ impl Rows for u8 {
 
 impl Rows for u8x32 {
     ghost COUNT = { 32 };
+
     ghost bytes = { λ lanes. lanes };
 
     const COUNT: usize = 32;
@@ -100,4 +103,69 @@ impl Rows for u8x32 {
     fn times(self, factor: &Factor) -> u8x32 {
         factor.times(self)
     }
+}
+
+impl Rows for u8x64 {
+    ghost COUNT = { 64 };
+
+    ghost bytes = { λ lanes. lanes };
+
+    const COUNT: usize = 64;
+
+    #[inline(always)]
+    fn load(from: &[u8], at: usize) -> u8x64 {
+        u8x64::from_slice(&from[at..])
+    }
+
+    #[inline(always)]
+    fn store(self, to: &mut [u8], at: usize) {
+        self.copy_to_slice(&mut to[at..]);
+    }
+
+    #[inline(always)]
+    fn plus(self, other: u8x64) -> u8x64 {
+        self ^ other
+    }
+
+    // What leaves the byte comes back as x^4 + x^3 + x^2 + 1.
+    #[inline(always)]
+    fn twice(self) -> u8x64 {
+        let leaves = self.simd_ge(u8x64::splat(0x80));
+        (self << u8x64::splat(1)) ^ leaves.select(u8x64::splat(0x1d), u8x64::splat(0))
+    }
+
+    #[inline(always)]
+    fn times(self, factor: &Factor) -> u8x64 {
+        let low = factor.times(first_half(self));
+        let high = factor.times(second_half(self));
+        joined(low, high)
+    }
+}
+
+#[inline(always)]
+fn joined(low: u8x32, high: u8x32) -> u8x64
+    ensures { result ≡ low ++ high }
+{
+    low.shuffle(
+        high,
+        [
+            0, 1, 2, 3, 4, 5, 6, 7, 8, 9, 10, 11, 12, 13, 14, 15, 16, 17, 18, 19, 20, 21, 22, 23,
+            24, 25, 26, 27, 28, 29, 30, 31, 32, 33, 34, 35, 36, 37, 38, 39, 40, 41, 42, 43, 44, 45,
+            46, 47, 48, 49, 50, 51, 52, 53, 54, 55, 56, 57, 58, 59, 60, 61, 62, 63,
+        ],
+    )
+}
+
+#[inline(always)]
+fn first_half(lanes: u8x64) -> u8x32
+    ensures { result ≡ chunk 0 32 lanes }
+{
+    lanes.extract::<0, 32>()
+}
+
+#[inline(always)]
+fn second_half(lanes: u8x64) -> u8x32
+    ensures { result ≡ chunk 32 32 lanes }
+{
+    lanes.extract::<32, 32>()
 }
