@@ -9,3 +9,4 @@ pub mod StripeLemmas
 pub mod RowLemmas
 pub mod Horner
 pub mod RowsLemmas
+pub mod PairLemmas

@@ -5,13 +5,15 @@ use Rattle.std.specs.Simd.Lanes.{put_chunk}
 use Rattle.std.proofs.lemmas.Bool.{cases_lt, cases_order}
 use Rattle.std.proofs.lemmas.List.{get_or_past}
 use Rattle.std.proofs.lemmas.Simd.{length-put_chunk, get_or-put_chunk_below, get_or-put_chunk_at}
+use Rattle.std.proofs.lemmas.Grind.{same_number_lists}
+use Rattle.draid_gf.specs.Field.{IsByte}
 use Rattle.draid_gf.specs.Lanes.{HasLanes}
 use Rattle.draid_parity.specs.Codeword.{parity_sum}
-use Rattle.draid_parity.specs.Columns.{AreColumns, HasSum, byte_row, column_at}
-use Rattle.draid_parity.specs.Rows.{PutsRows, SetsSums, HasSumBefore}
+use Rattle.draid_parity.specs.Columns.{AreColumns, HasSum, IsColumn, byte_row, column_at}
+use Rattle.draid_parity.specs.Rows.{PutsRows, SetsSums, HasSumBefore, IsOneOf, IsSolvedBefore, SolvesRows}
 use Rattle.draid_parity.proofs.OneSolution.{same_columns}
 use Rattle.draid_parity.proofs.StripeLemmas.{weighted_sum-zeros}
-use Rattle.draid_parity.proofs.WeightedSums.{data_row-at}
+use Rattle.draid_parity.proofs.WeightedSums.{data_row-at, data_row-length}
 
 pub puts_rows : (at n k : ℕ) (rows : List ℕ) (old : List (List ℕ)) (before after : List ℕ) → k < length old → at + n ≤ length (column_at old k) → length rows ≡ n
     → before ≡ column_at old k → after ≡ put_chunk at before rows → PutsRows at n k rows old (set old k after)
@@ -94,3 +96,52 @@ sums_whole parity len at k columns below long far sum = λ j. elim (cases_lt j l
     | inl lt ↦ let same = long i lt in get_or_past (column_at columns i) j 0 (omega (arith, same))
     | inr past ↦ ap (λ c. slice_index c j) (get_or_past columns i [] past)
   ]
+
+-- ---- solved rows
+pub neither : (i x y : ℕ) → i ≢ x → i ≢ y → IsOneOf (x ∷ y ∷ []) i → ⊥
+neither i x y not_x not_y (inl e) = not_x e
+neither i x y not_x not_y (inr (inl e)) = not_y e
+neither i x y not_x not_y (inr (inr none)) = none
+
+same_row : (parity j : ℕ) (old new : List (List ℕ)) → length new ≡ length old → ((i : ℕ) → slice_index (column_at new i) j ≡ slice_index (column_at old i) j)
+    → byte_row j (drop parity new) ≡ byte_row j (drop parity old)
+same_row parity j old new count same =
+    same_number_lists (byte_row j (drop parity new)) (byte_row j (drop parity old))
+    (data_row-length j parity new ∙ ap (λ n. n - parity) count ∙ sym (data_row-length j parity old))
+    (λ i below. data_row-at j parity new i ∙ same (parity + i) ∙ sym (data_row-at j parity old i))
+
+pub solved_more : (parity at n : ℕ) (sums lost : List ℕ) (old new : List (List ℕ)) → SolvesRows parity at n sums lost old new
+    → IsSolvedBefore parity at sums lost old → IsSolvedBefore parity (at + n) sums lost new
+solved_more parity at n sums lost old new solves was = record {
+  bytes = λ i j one low. elim (cases_lt j at) [
+    | inl under ↦ subst IsByte (sym (solves.below i j under)) (was.bytes i j one under)
+    | inr over ↦
+        let m = j - at in
+        let place : at + m ≡ j = omega arith in
+        subst (λ r. IsByte (slice_index (column_at new i) r)) place (solves.bytes i m one (omega arith))
+  ];
+  solved = λ k one j low. elim (cases_lt j at) [
+    | inl under ↦
+        solves.below k j under ∙ was.solved k one j under
+        ∙ ap (parity_sum k) (sym (same_row parity j old new solves.count (λ i. solves.below i j under)))
+    | inr over ↦
+        let m = j - at in
+        let place : at + m ≡ j = omega arith in
+        subst (λ r. slice_index (column_at new k) r ≡ parity_sum k (byte_row r (drop parity new))) place (solves.solved k m one (omega arith))
+  ];
+}
+
+-- all rows are solved
+pub solved_whole : (parity len at k : ℕ) (sums lost : List ℕ) (columns : List (List ℕ)) → k < length columns → AreColumns len columns → len ≤ at
+    → IsSolvedBefore parity at sums lost columns → IsOneOf sums k → HasSum parity columns k
+solved_whole parity len at k sums lost columns below long far solved one = sums_whole parity len at k columns below long far (solved.solved k one)
+
+pub solved_column : (parity len at x : ℕ) (sums lost : List ℕ) (columns : List (List ℕ)) → x < length columns → AreColumns len columns → len ≤ at
+    → IsSolvedBefore parity at sums lost columns → IsOneOf lost x → IsColumn len (column_at columns x)
+solved_column parity len at x sums lost columns below long far solved one = record {
+  whole = long x below;
+  bytes = λ j. elim (cases_lt j len) [
+    | inl lt ↦ solved.bytes x j one (omega arith)
+    | inr ge ↦ let same = long x below in let none = get_or_past (column_at columns x) j 0 (omega (arith, same)) in omega (arith, none)
+  ];
+}

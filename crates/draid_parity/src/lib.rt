@@ -4,6 +4,7 @@
 
 mod column;
 mod encode;
+mod pair;
 mod restore;
 mod rows;
 mod solve;

@@ -5,7 +5,8 @@ ghost use Rattle.draid_gf.specs.Field.{IsByte};
 ghost use Rattle.draid_parity.specs.Columns.{AreColumns, ChosenSums, HasSum, IsChosen, IsColumn, SolvesColumns, column_at, present_below};
 
 use crate::column::Column;
-use crate::restore::{restore_one, restore_three, restore_two};
+use crate::pair::restore_two;
+use crate::restore::{restore_one, restore_three};
 use crate::sums::encode_sum;
 use std::alloc::Global;
 
@@ -102,7 +103,6 @@ fn solve_data(
             let l = next_present(missing, k + 1, parity as u32);
             restore_two(
                 columns,
-                alloc,
                 parity,
                 k as usize,
                 l as usize,
