@@ -6,8 +6,6 @@
 mod area;
 mod cells;
 mod memory;
-#[cfg(test)]
-mod tests;
 
 pub use area::{Area, AreaFault};
 pub use memory::MemoryArea;

@@ -6,7 +6,6 @@ pub mod Held
 pub mod One
 pub mod Order
 pub mod Parts
-pub mod Rows
 pub mod Sets
 pub mod Sizes
 pub mod Solves

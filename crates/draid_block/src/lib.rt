@@ -11,8 +11,6 @@ mod many;
 mod search;
 mod shape;
 mod solve;
-#[cfg(test)]
-mod tests;
 
 pub use encoded::Encoded;
 pub use laws::{answers_are_one, columns_are_one, sets_are_in_order};

@@ -4,8 +4,6 @@
 
 mod chooser;
 mod first;
-#[cfg(test)]
-mod tests;
 
 pub use chooser::Chooser;
 pub use first::first_fit;

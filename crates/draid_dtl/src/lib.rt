@@ -4,8 +4,6 @@
 
 mod log;
 mod missed;
-#[cfg(test)]
-mod tests;
 
 pub use log::Log;
 pub use missed::{group, mirror};

@@ -41,24 +41,3 @@ pub fn leave(rule: CrashRule, was: &mut [u8], written: &[u8])
         }
     }
 }
-
-#[cfg(test)]
-mod tests {
-    use super::*;
-    use std::test::Fail;
-
-    #[test]
-    fn leaves_by_the_rule(rt: HostRuntime) -> Result<(), Fail> {
-        for (rule, left) in [
-            (CrashRule::Old, [1, 2, 3]),
-            (CrashRule::New, [4, 5, 6]),
-            (CrashRule::Torn, [251, 250, 249]),
-            (CrashRule::Half, [4, 2, 3]),
-        ] {
-            let mut bytes = [1, 2, 3];
-            leave(rule, &mut bytes, &[4, 5, 6]);
-            assert_eq!(rt; bytes, left);
-        }
-        Ok(())
-    }
-}

@@ -43,34 +43,3 @@ fn double(a: u8) -> u8
 {
     (a << 1) ^ (a >> 7) * 0x1d
 }
-
-#[cfg(test)]
-mod tests {
-    use super::*;
-
-    // The products of the worked rows, and values of H. P. Anvin, "The mathematics of RAID-6".
-    #[test]
-    fn known_values(rt: HostRuntime) {
-        for (a, b, product) in [
-            (2, 0x80, 0x1d),
-            (4, 0x80, 0x3a),
-            (2, 0x8e, 1),
-            (0, 7, 0),
-            (1, 0xff, 0xff),
-        ] {
-            assert_eq!(rt; mul(a, b), product, "{a} times {b}");
-        }
-        assert_eq!(rt; inv(0x02), 0x8e);
-        assert_eq!(rt; inv(1), 1);
-        for (e, power) in [
-            (0, 1),
-            (7, 0x80),
-            (8, 0x1d),
-            (254, 0x8e),
-            (255, 1),
-            (u32::MAX, 1),
-        ] {
-            assert_eq!(rt; pow2(e), power, "2 to the {e}");
-        }
-    }
-}

@@ -5,8 +5,6 @@ mod laws;
 mod places;
 mod sectors;
 mod spot;
-#[cfg(test)]
-mod tests;
 
 pub use laws::{
     columns_lie_on_children, metaslabs_lie_apart, places_lie_apart, runs_lie_in_order,

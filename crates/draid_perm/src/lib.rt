@@ -4,8 +4,6 @@
 mod exchange;
 mod laws;
 mod perms;
-#[cfg(test)]
-mod tests;
 mod words;
 
 pub use exchange::shuffle;

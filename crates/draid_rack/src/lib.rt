@@ -8,8 +8,6 @@ mod leaves;
 mod memory;
 mod rack;
 mod sector;
-#[cfg(test)]
-mod tests;
 
 pub use memory::MemoryRack;
 pub use rack::{AddFault, Rack};

@@ -7,8 +7,6 @@ mod merge;
 mod room;
 mod run;
 mod set;
-#[cfg(test)]
-mod tests;
 
 pub use run::Run;
 pub use set::RangeSet;

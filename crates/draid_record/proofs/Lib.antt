@@ -4,7 +4,6 @@ pub mod Laws
 pub mod Loop
 pub mod Ranged
 pub mod Read
-pub mod Sample
 pub mod UberWritten
 pub mod Whole
 pub mod WholeWritten

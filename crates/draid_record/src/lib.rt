@@ -11,8 +11,6 @@ mod limits;
 mod log;
 mod pass;
 mod record;
-#[cfg(test)]
-mod tests;
 mod uber;
 mod writing;
 

@@ -15,8 +15,6 @@ mod refusal;
 mod reply;
 mod sink;
 mod source;
-#[cfg(test)]
-mod tests;
 mod text;
 mod texts;
 mod word;

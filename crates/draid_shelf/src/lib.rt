@@ -10,8 +10,6 @@ mod places;
 mod plan;
 mod racks;
 mod shelf;
-#[cfg(test)]
-mod tests;
 
 pub use kit::{Kit, ShelfFault};
 pub use memory::MemoryShelf;

@@ -135,23 +135,3 @@ fn allocations(alloc: Global, runs: &[Run]) -> Result<Vec<Record>, AllocError>
     }
     Ok(records)
 }
-
-#[cfg(test)]
-mod tests {
-    use super::*;
-    use std::test::Fail;
-
-    #[test]
-    fn a_map_is_replayed_and_condensed(rt: HostRuntime) -> Result<(), Fail> {
-        let mut map = SpaceMap::new(rt.alloc());
-        map.reserve(3)?;
-        map.alloc(Run { first: 0, len: 4 })?;
-        map.free(Run { first: 1, len: 1 })?;
-        let runs = [Run { first: 0, len: 1 }, Run { first: 2, len: 2 }];
-        assert_eq!(rt; map.replay(rt.alloc())?.runs(), runs.as_slice());
-        map.condense(rt.alloc())?;
-        assert_eq!(rt; map.replay(rt.alloc())?.runs(), runs.as_slice());
-        assert_eq!(rt; map.records.len(), 2);
-        Ok(())
-    }
-}

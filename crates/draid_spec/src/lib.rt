@@ -6,8 +6,6 @@ mod layout;
 mod names;
 mod numbers;
 mod spec;
-#[cfg(test)]
-mod tests;
 mod text;
 
 pub use laws::{layout_is_given, text_is_read};

@@ -1,5 +1,0 @@
-use Rattle.std.proofs.Common.{◌≡◌}
-use Rattle.draid_parity.proofs.stripe.tests.comes_back.Given as goal
-
-abbrev pub invariant-loop-i : goal.invariant-loop-i
-invariant-loop-i l = record { parity : l.stripe.parity ≡ 3; ndata : l.stripe.ndata ≡ 5 }

@@ -1,5 +1,0 @@
-use Rattle.draid_record.proofs.Sample.{sample_ranged}
-use Rattle.draid_record.proofs.tests.uber.Goals as goal
-
-pub write_uber-requires : goal.write_uber-requires
-write_uber-requires c = sample_ranged c.body.result c.body.ensures

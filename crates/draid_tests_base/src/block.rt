@@ -1,0 +1,265 @@
+ghost use Rattle.std.specs.Prelude.{◌≡◌, ◌≤◌, ◌<◌, ◌+◌, IfOk, IfSome, length};
+ghost use Rattle.draid_spec.specs.Geometry.{IsGeometry};
+ghost use Rattle.draid_block.specs.Blocks.{column_len, cut_of};
+ghost use Rattle.draid_block.specs.Solving.{IsFetched};
+
+use draid_block::{Encoded, Fetched, Solve, SolveFault, solve_block, solve_many};
+use draid_names::{NoMemory, Pointer};
+use draid_spec::{Geometry, Props, SpecFault, geometry, parse_spec};
+use std::alloc::{AllocError, Global};
+use std::test::Fail;
+
+const PROPS: Props = Props {
+    sector: 512,
+    height: 8,
+    metaslabs: 1,
+    slices: 4,
+    seed: 1,
+};
+
+/// How many sets of missing columns are tried with three data columns: of g columns, a of them
+/// absent, the sum over k of the numbers of ways to choose k - a of the other g - a.
+fn sets(parity: u32, absent: u32) -> u64 {
+    match (parity, absent) {
+        (1, 0) => 1 + 4,
+        (2, 0) => 1 + 5 + 10,
+        (3, 0) => 1 + 6 + 15 + 20,
+        (2, 1) => 1 + 4,
+        (3, 1) => 1 + 5 + 10,
+        (3, 2) => 1 + 4,
+        (1, 1) | (2, 2) | (3, 3) => 1,
+        _ => 0,
+    }
+}
+
+fn layout(text: &[u8], children: u32) -> Result<Geometry, SpecFault>
+    ensures { IfOk result IsGeometry }
+{
+    geometry(parse_spec(text, children)?, PROPS)
+}
+
+/// Bytes that differ from sector to sector and within a sector.
+fn pattern(alloc: Global, len: usize) -> Result<Vec<u8>, AllocError>
+    requires { len ≤ 131072 }
+    ensures { IfOk result (λ v. length v.items ≡ len) }
+{
+    let mut bytes = vec![in alloc; 0; len]?;
+    for i in 0..bytes.len() {
+        bytes[i] = ((i % 251 + i / 512) % 256) as u8;
+    }
+    Ok(bytes)
+}
+
+/// Column `i` as it is read: nothing where its bit says that it is absent, and with another byte
+/// where its bit says that it is wrong.
+fn read_column(
+    alloc: Global,
+    block: &Encoded,
+    i: u32,
+    absent: u32,
+    wrong: u32,
+) -> Result<Option<Vec<u8>>, AllocError>
+    requires there { i < block.now.cut.parity + block.now.cut.ndata }
+    requires few { i < 32 }
+    ensures { IfOk result (λ c. IfSome c (λ v. length v.items
+        ≡ column_len block.now.cut (length block.now.bytes))) }
+{
+    if absent >> i & 1 == 1 {
+        return Ok(None);
+    }
+    let mut bytes = Vec::from_slice(alloc, block.column(i))?;
+    let at = i as usize;
+    if wrong >> i & 1 == 1 && at < bytes.len() {
+        bytes[at] ^= 1;
+    }
+    Ok(Some(bytes))
+}
+
+/// What is read of a block, of which the columns of these bits are absent and wrong.
+#[tactic(auto, using(crate::proofs::Rows::are_long))]
+fn read(
+    alloc: Global,
+    geometry: &Geometry,
+    block: &Encoded,
+    absent: u32,
+    wrong: u32,
+) -> Result<Fetched, AllocError>
+    requires geometry { IsGeometry geometry.now }
+    requires cut { block.now.cut ≡ cut_of geometry.now }
+    ensures { IfOk result (IsFetched (cut_of geometry.now)) }
+{
+    let mut columns = Vec::new(alloc);
+    for i in 0..geometry.spec.parity + geometry.spec.ndata {
+        columns.push(read_column(alloc, block, i, absent, wrong)?)?;
+    }
+    let pointer = Pointer {
+        object: 7,
+        seq: 1,
+        metaslab: 0,
+        first: 0,
+        stripes: block.stripes(),
+        len: block.len(),
+        birth: 2,
+        digest: block.digest(),
+    };
+    Ok(Fetched { pointer, columns })
+}
+
+/// The data columns of a block, one after another.
+fn data_of(alloc: Global, geometry: &Geometry, block: &Encoded) -> Result<Vec<u8>, AllocError>
+    requires geometry { IsGeometry geometry.now }
+    requires cut { block.now.cut ≡ cut_of geometry.now }
+{
+    let mut bytes = Vec::new(alloc);
+    for i in 0..geometry.spec.ndata {
+        bytes.extend_from_slice(block.column(geometry.spec.parity + i))?;
+    }
+    Ok(bytes)
+}
+
+/// Whether a block is solved to its bytes exactly where at most as many columns as the parity are
+/// absent or wrong, and all sets were tried where more are.
+fn is_solved(
+    alloc: Global,
+    geometry: &Geometry,
+    bytes: &[u8],
+    absent: u32,
+    wrong: u32,
+) -> Result<bool, NoMemory>
+    requires geometry { IsGeometry geometry.now }
+    requires some { 1 ≤ length bytes.now }
+    requires short { length bytes.now ≤ 131072 }
+{
+    let block = Encoded::of(alloc, geometry, bytes)?;
+    let fetched = read(alloc, geometry, &block, absent, wrong)?;
+    let readable = (absent | wrong).count_ones() <= geometry.spec.parity;
+    Ok(match solve_block(alloc, geometry, &fetched) {
+        Ok(found) => readable && found.as_slice() == bytes,
+        Err(
+            SolveFault::Unreadable {
+                absent: many,
+                tried,
+            },
+        ) => {
+            !readable && many == absent.count_ones() && tried == sets(geometry.spec.parity, many)
+        }
+        Err(SolveFault::NoMemory) => false,
+    })
+}
+
+/// Whether a block of three sectors is solved so whichever of `columns` columns are wrong.
+fn is_solved_with(
+    alloc: Global,
+    geometry: &Geometry,
+    columns: u32,
+    absent: u32,
+) -> Result<bool, NoMemory>
+    requires geometry { IsGeometry geometry.now }
+    requires columns { columns ≤ 6 }
+{
+    let bytes = pattern(alloc, 1536)?;
+    for wrong in 0..1 << columns {
+        if wrong & absent == 0 && !is_solved(alloc, geometry, &bytes, absent, wrong)? {
+            return Ok(false);
+        }
+    }
+    Ok(true)
+}
+
+/// The data columns of two stripes: the first has the sectors 0 and 1, the second sector 2 and a zero sector, the third
+/// sector 3 and a zero sector.
+fn cut_in_three(alloc: Global, bytes: &[u8]) -> Result<Vec<u8>, AllocError>
+    requires { 1536 ≤ length bytes.now }
+{
+    let (front, last) = bytes.split_at(1536);
+    let mut columns = Vec::new(alloc);
+    columns.extend_from_slice(front)?;
+    columns.resize(2048, 0)?;
+    columns.extend_from_slice(last)?;
+    columns.resize(3072, 0)?;
+    Ok(columns)
+}
+
+// Three data columns, a block of four sectors.
+#[test]
+fn cuts_a_block(rt: HostRuntime) -> Result<(), Fail> {
+    let alloc = rt.alloc();
+    let geometry = layout(b"draid:3d", 4)?;
+    let bytes = pattern(alloc, 2048)?;
+    let block = Encoded::of(alloc, &geometry, &bytes)?;
+    let expected = cut_in_three(alloc, &bytes)?;
+    let columns = data_of(alloc, &geometry, &block)?;
+    let first = bytes[0] ^ bytes[1024] ^ bytes[1536];
+    assert!(rt; columns.as_slice() == expected.as_slice());
+    assert_eq!(rt;
+        (
+            block.stripes(),
+            block.len(),
+            block.column(0).first().copied()
+        ),
+        (2, 2048, Some(first))
+    );
+    Ok(())
+}
+
+#[test]
+fn any_columns_come_back(rt: HostRuntime) -> Result<(), Fail> {
+    for absent in 0..16 {
+        let geometry = layout(b"draid1:3d", 4)?;
+        assert!(rt;
+            is_solved_with(rt.alloc(), &geometry, 4, absent)?,
+            "{absent}"
+        );
+    }
+    for absent in 0..32 {
+        let geometry = layout(b"draid2:3d", 5)?;
+        assert!(rt;
+            is_solved_with(rt.alloc(), &geometry, 5, absent)?,
+            "{absent}"
+        );
+    }
+    for absent in 0..64 {
+        let geometry = layout(b"draid3:3d", 6)?;
+        assert!(rt;
+            is_solved_with(rt.alloc(), &geometry, 6, absent)?,
+            "{absent}"
+        );
+    }
+    Ok(())
+}
+
+#[test]
+fn blocks_of_any_size_come_back(rt: HostRuntime) -> Result<(), Fail> {
+    let geometry = layout(b"draid2:3d", 5)?;
+    for len in [1, 511, 512, 513, 131_071, 131_072] {
+        let bytes = pattern(rt.alloc(), len)?;
+        assert!(rt; is_solved(rt.alloc(), &geometry, &bytes, 0, 0)?, "{len}");
+        assert!(rt;
+            is_solved(rt.alloc(), &geometry, &bytes, 0b01100, 0)?,
+            "{len}"
+        );
+    }
+    Ok(())
+}
+
+#[test]
+fn many_blocks_are_solved_in_order(rt: HostRuntime) -> Result<(), Fail> {
+    let alloc = rt.alloc();
+    let geometry = layout(b"draid:3d", 4)?;
+    let bytes = pattern(alloc, 1000)?;
+    let block = Encoded::of(alloc, &geometry, &bytes)?;
+    let mut blocks = Vec::new(alloc);
+    blocks.push(read(alloc, &geometry, &block, 0, 0b0010)?)?;
+    blocks.push(read(alloc, &geometry, &block, 0b0011, 0)?)?;
+    blocks.push(read(alloc, &geometry, &block, 0b0100, 0)?)?;
+    let mut expected = Vec::new(alloc);
+    expected.push(Solve::Bytes(Vec::from_slice(alloc, &bytes)?))?;
+    expected.push(Solve::Unreadable {
+        absent: 2,
+        tried: 0,
+    })?;
+    expected.push(Solve::Bytes(bytes))?;
+    let answers = solve_many(&rt, alloc, &geometry, &blocks)?;
+    assert!(rt; answers.as_slice() == expected.as_slice());
+    Ok(())
+}

@@ -1,0 +1,28 @@
+//! Tests of the crates that know no device: the arithmetic of parity, blocks and their columns, layouts, free space,
+//! logs of what was missed, and the choice of metaslabs. It offers nothing; a module is named after the crate that it
+//! tests.
+
+#![tactic(auto)]
+
+#[cfg(test)]
+mod block;
+#[cfg(test)]
+mod choose;
+#[cfg(test)]
+mod dtl;
+#[cfg(test)]
+mod gf;
+#[cfg(test)]
+mod map;
+#[cfg(test)]
+mod metaslab;
+#[cfg(test)]
+mod parity;
+#[cfg(test)]
+mod perm;
+#[cfg(test)]
+mod ranges;
+#[cfg(test)]
+mod spacemap;
+#[cfg(test)]
+mod spec;

@@ -1,0 +1,234 @@
+ghost use Rattle.std.specs.Prelude.{◌≡◌, ◌<◌, IfOk};
+ghost use Rattle.draid_spec.specs.Geometry.{IsGeometry};
+
+use draid_area::Area;
+use draid_faults::CrashRule;
+use draid_names::Failed;
+use draid_rack::Rack;
+use draid_shelf::{MemoryShelf, RackShelf, Shelf};
+use draid_spec::{Geometry, Props, Spec, geometry};
+use std::alloc::Global;
+use std::test::Fail;
+
+/// Four children, two metaslabs of three slices of eight sectors on each child.
+fn small_geometry() -> Result<Geometry, Fail>
+    ensures { IfOk result IsGeometry }
+{
+    let spec = Spec {
+        parity: 1,
+        ndata: 2,
+        children: 4,
+        spares: 1,
+    };
+    let props = Props {
+        sector: 512,
+        height: 8,
+        metaslabs: 2,
+        slices: 3,
+        seed: 1,
+    };
+    Ok(geometry(spec, props)?)
+}
+
+/// Writes a sector of leaf 0, where it is there.
+fn write<R: Rack>(rack: &mut R, sector: u64, byte: u8) -> Result<(), Failed>
+    requires { (R.shape rack.old).bytes ≡ 512 }
+    ensures { (R.shape rack.new).bytes ≡ 512 }
+{
+    match rack.sectors(0) {
+        Some(sectors) if sector < sectors => rack.write(0, sector, &[byte; 512]),
+        _ => Err(Failed),
+    }
+}
+
+/// The first byte of a sector of leaf 0, where it is there.
+fn read<R: Rack>(rack: &mut R, sector: u64) -> Result<u8, Failed>
+    requires { (R.shape rack.old).bytes ≡ 512 }
+    ensures { (R.shape rack.new).bytes ≡ 512 }
+{
+    let mut bytes = [9; 512];
+    match rack.sectors(0) {
+        Some(sectors) if sector < sectors => rack.read(0, sector, &mut bytes)?,
+        _ => return Err(Failed),
+    }
+    Ok(bytes[0])
+}
+
+/// A shelf of which these calls fail: of each rack, of those that make or take devices, and of each area.
+fn shelf_failing(alloc: Global, failing: [&[u64]; 3]) -> Result<MemoryShelf, Fail> {
+    let [racks, own, areas] = failing;
+    let mut shelf = MemoryShelf::new(alloc, Vec::from_slice(alloc, racks)?);
+    let own = Vec::from_slice(alloc, own)?;
+    shelf.fail(own, Vec::from_slice(alloc, areas)?);
+    Ok(shelf)
+}
+
+/// How many sectors leaf 3 of a rack has, and its first leaf from 4 on. The rack is taken and given back.
+fn use_rack<H: RackShelf>(shelf: &mut H) -> Result<[Option<u64>; 2], Fail> {
+    let rack = shelf.take(1)?;
+    let seen = [rack.sectors(3), rack.leaf_from(4)];
+    shelf.give(1, rack);
+    Ok(seen)
+}
+
+/// Whether the racks of metaslabs 1 and 2 are there.
+fn has_racks<H: RackShelf>(shelf: &mut H) -> [bool; 2] {
+    [shelf.take(1).is_ok(), shelf.take(2).is_ok()]
+}
+
+#[test]
+fn racks_alone_are_given_and_taken(rt: HostRuntime) -> Result<(), Fail> {
+    let mut shelf = shelf_failing(rt.alloc(), [&[]; 3])?;
+    RackShelf::make(&mut shelf, rt.alloc(), &small_geometry()?)?;
+    let seen = use_rack(&mut shelf)?;
+    assert_eq!(rt;
+        (seen, has_racks(&mut shelf)),
+        ([Some(24), None], [true, false])
+    );
+    Ok(())
+}
+
+/// Flushes leaf 0, where it is there.
+fn flush<R: Rack>(rack: &mut R) -> Result<(), Failed>
+    ensures { R.shape rack.new ≡ R.shape rack.old }
+{
+    match rack.sectors(0) {
+        Some(_) => rack.flush(0),
+        None => Err(Failed),
+    }
+}
+
+/// Writes two sectors and a record of metaslab 1, of which the first sector is flushed, and gives its devices back.
+fn use_devices<H: Shelf>(shelf: &mut H, geometry: &Geometry) -> Result<(), Fail>
+    requires { geometry.now.props.sector ≡ 512 }
+{
+    let mut kit = shelf.take(1, geometry)?;
+    write(&mut kit.rack, 23, 7)?;
+    flush(&mut kit.rack)?;
+    write(&mut kit.rack, 22, 8)?;
+    kit.odd.write(0, &[1, 2, 3])?;
+    shelf.give(1, kit);
+    Ok(())
+}
+
+/// What the two sectors read, and how long the record is, where the shelf has them.
+fn found<H: Shelf>(shelf: &mut H, geometry: &Geometry) -> Option<(u8, u8, u64)>
+    requires { geometry.now.props.sector ≡ 512 }
+{
+    let mut kit = shelf.take(1, geometry).ok()?;
+    let flushed = read(&mut kit.rack, 23).ok()?;
+    let soft = read(&mut kit.rack, 22).ok()?;
+    Some((flushed, soft, kit.odd.length()))
+}
+
+/// Whether a pool is there before it is made, and behind it; and what a crash by this rule leaves, looked at twice.
+fn left_by(
+    alloc: Global,
+    geometry: &Geometry,
+    rule: CrashRule,
+) -> Result<([bool; 2], [Option<(u8, u8, u64)>; 2]), Fail>
+    requires geometry { IsGeometry geometry.now }
+    requires sector { geometry.now.props.sector ≡ 512 }
+{
+    let mut shelf = shelf_failing(alloc, [&[]; 3])?;
+    let before = shelf.has_pool();
+    shelf.crash_by(rule);
+    Shelf::make(&mut shelf, alloc, geometry)?;
+    let made = shelf.has_pool();
+    use_devices(&mut shelf, geometry)?;
+    shelf.crash();
+    let left = [found(&mut shelf, geometry), found(&mut shelf, geometry)];
+    Ok(([before, made], left))
+}
+
+#[test]
+fn a_crash_reaches_all_that_was_given_back(rt: HostRuntime) -> Result<(), Fail> {
+    let geometry = small_geometry()?;
+    if geometry.props.sector != 512 {
+        return Ok(());
+    }
+    for (rule, left) in [(CrashRule::Old, (7, 0, 0)), (CrashRule::New, (7, 8, 3))] {
+        let wanted = ([false, true], [Some(left), None]);
+        assert_eq!(rt; left_by(rt.alloc(), &geometry, rule)?, wanted);
+    }
+    Ok(())
+}
+
+/// Takes the area of the uberblock, and flushes it and an area of metaslab 0 one after another; which of these calls failed.
+fn flush_both<H: Shelf>(shelf: &mut H, geometry: &Geometry) -> Result<[bool; 4], Fail> {
+    let mut uber = shelf.take_uber()?;
+    let mut kit = shelf.take(0, geometry)?;
+    let failed = [
+        uber.flush().is_err(),
+        kit.even.flush().is_err(),
+        uber.flush().is_err(),
+        kit.even.flush().is_err(),
+    ];
+    shelf.give_uber(uber);
+    shelf.give(0, kit);
+    Ok(failed)
+}
+
+/// Which flushes failed behind a fuse of three calls, and which after a crash.
+fn fused(alloc: Global, geometry: &Geometry) -> Result<[[bool; 4]; 2], Fail>
+    requires { IsGeometry geometry.now }
+{
+    let mut shelf = shelf_failing(alloc, [&[]; 3])?;
+    Shelf::make(&mut shelf, alloc, geometry)?;
+    shelf.put_fuse(alloc, 3)?;
+    let behind = flush_both(&mut shelf, geometry)?;
+    shelf.crash();
+    Ok([behind, flush_both(&mut shelf, geometry)?])
+}
+
+#[test]
+fn the_devices_share_a_fuse_that_a_crash_takes_out(rt: HostRuntime) -> Result<(), Fail> {
+    let failed = [[false, false, false, true], [false; 4]];
+    assert_eq!(rt; fused(rt.alloc(), &small_geometry()?)?, failed);
+    Ok(())
+}
+
+/// Which of two calls that make the devices and three that take the area of the uberblock are done.
+fn made_and_taken<H: Shelf>(shelf: &mut H, alloc: Global, geometry: &Geometry) -> [bool; 5]
+    requires { IsGeometry geometry.now }
+{
+    [
+        shelf.make(alloc, geometry).is_ok(),
+        shelf.make(alloc, geometry).is_ok(),
+        shelf.take_uber().is_ok(),
+        shelf.take_uber().is_ok(),
+        shelf.take_uber().is_ok(),
+    ]
+}
+
+#[test]
+fn the_shelf_fails_by_its_list_and_for_what_it_does_not_hold(rt: HostRuntime) -> Result<(), Fail> {
+    let geometry = small_geometry()?;
+    let mut shelf = shelf_failing(rt.alloc(), [&[], &[0, 2], &[]])?;
+    let done = made_and_taken(&mut shelf, rt.alloc(), &geometry);
+    assert_eq!(rt; done, [false, true, false, true, false]);
+    Ok(())
+}
+
+/// Flushes leaf 0 and a record of metaslab 0 twice each; which of these calls failed.
+fn flush_twice<H: Shelf>(shelf: &mut H, geometry: &Geometry) -> Result<[bool; 4], Fail> {
+    let mut kit = shelf.take(0, geometry)?;
+    let failed = [
+        flush(&mut kit.rack).is_err(),
+        kit.even.flush().is_err(),
+        flush(&mut kit.rack).is_err(),
+        kit.even.flush().is_err(),
+    ];
+    shelf.give(0, kit);
+    Ok(failed)
+}
+
+#[test]
+fn the_devices_fail_by_their_lists(rt: HostRuntime) -> Result<(), Fail> {
+    let geometry = small_geometry()?;
+    let mut shelf = shelf_failing(rt.alloc(), [&[0], &[], &[1]])?;
+    Shelf::make(&mut shelf, rt.alloc(), &geometry)?;
+    let failed = flush_twice(&mut shelf, &geometry)?;
+    assert_eq!(rt; failed, [true, false, false, true]);
+    Ok(())
+}

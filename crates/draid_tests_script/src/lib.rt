@@ -1,0 +1,7 @@
+//! Tests of scripts: their sources and sinks, their lines, and the texts of replies. It offers nothing; the module is named
+//! after the crate that it tests.
+
+#![tactic(auto)]
+
+#[cfg(test)]
+mod script;

@@ -1,0 +1,618 @@
+use draid_names::Failed;
+use draid_script::{
+    ArmName, CommandName, FillRefusal, Lines, MemorySink, MemorySource, ParseFault, ReadFault,
+    Reply, Sink, SlotRefusal, SpecRefusal, SumRefusal, parse_lane, parse_line, reply_text,
+};
+use std::fmt::Debug;
+use std::test::Fail;
+
+fn source_of(rt: &HostRuntime, text: &[u8], failing: &[u64]) -> Result<MemorySource, Fail> {
+    Ok(MemorySource::new(
+        Vec::from_slice(rt.alloc(), text)?,
+        Vec::from_slice(rt.alloc(), failing)?,
+    ))
+}
+
+#[test]
+fn gives_each_line_and_the_end(rt: HostRuntime) -> Result<(), Fail> {
+    for (text, wants) in [
+        (b"".as_slice(), [None, None, None, None]),
+        (b"ab\n\ncd", [Some("ab"), Some(""), Some("cd"), None]),
+        (b"ab\ncd\n", [Some("ab"), Some("cd"), None, None]),
+    ] {
+        let mut source = source_of(&rt, text, &[])?;
+        let mut lines = Lines::new(rt.alloc());
+        for want in wants {
+            let line = lines.next(rt.alloc(), &mut source).unwrap_or(None);
+            assert_eq!(rt; line.as_deref(), want.map(|line| line.as_bytes()));
+        }
+    }
+    Ok(())
+}
+
+#[test]
+fn refuses_what_is_too_long(rt: HostRuntime) -> Result<(), Fail> {
+    let mut text = vec![in rt.alloc(); b'#'; 600_002]?;
+    text[300_000] = b'\n';
+    let mut source = source_of(&rt, &text, &[])?;
+    let mut lines = Lines::new(rt.alloc());
+    let first = lines.next(rt.alloc(), &mut source).unwrap_or(None);
+    assert_eq!(rt; first.map(|line| line.len()), Some(300_000));
+    for _ in 0..2 {
+        let fault = lines.next(rt.alloc(), &mut source).err();
+        assert_eq!(rt; fault, Some(ReadFault::TooLong { line: 2 }));
+    }
+
+    let ends = vec![in rt.alloc(); b'\n'; 1_048_577]?;
+    let mut source = source_of(&rt, &ends, &[])?;
+    let mut lines = Lines::new(rt.alloc());
+    for _ in 0..1_048_576 {
+        let line = lines.next(rt.alloc(), &mut source).unwrap_or(None);
+        assert_eq!(rt; line.map(|line| line.len()), Some(0));
+    }
+    let fault = lines.next(rt.alloc(), &mut source).err();
+    assert_eq!(rt; fault, Some(ReadFault::TooLong { line: 1_048_577 }));
+    Ok(())
+}
+
+/// Whether the first line comes of a source whose second call fails, and what is told then and the next time.
+fn line_and_faults(rt: &HostRuntime) -> Result<(bool, [Option<ReadFault>; 2]), Fail> {
+    let mut source = source_of(rt, b"ab\ncd", &[1])?;
+    let mut lines = Lines::new(rt.alloc());
+    let line = lines.next(rt.alloc(), &mut source).unwrap_or(None);
+    let is_first = line.as_deref() == Some(b"ab".as_slice());
+    let fault = lines.next(rt.alloc(), &mut source).err();
+    let again = lines.next(rt.alloc(), &mut source).err();
+    Ok((is_first, [fault, again]))
+}
+
+/// What three calls of a sink answer of which the second fails, and whether it holds the bytes of the others.
+fn puts(rt: &HostRuntime) -> Result<([Result<(), Failed>; 3], bool), Fail> {
+    let mut sink = MemorySink::new(rt.alloc(), Vec::from_slice(rt.alloc(), &[1])?);
+    let answers = [sink.put(b"ab"), sink.put(b"cd"), sink.put(b"ef")];
+    Ok((answers, sink.held() == b"abef".as_slice()))
+}
+
+#[test]
+fn fails_at_the_listed_calls(rt: HostRuntime) -> Result<(), Fail> {
+    let fault = Some(ReadFault::SourceFault);
+    assert_eq!(rt; line_and_faults(&rt)?, (true, [fault, fault]));
+    assert_eq!(rt; puts(&rt)?, ([Ok(()), Err(Failed), Ok(())], true));
+    Ok(())
+}
+
+/// What was read, as a text.
+fn said<T: Debug + Drop>(rt: &HostRuntime, read: Result<T, ParseFault>) -> Result<String, Fail> {
+    let said = match read {
+        Ok(line) => format!(in rt.alloc(); "{line:?}")?,
+        Err(ParseFault::Line(fault)) => {
+            format!(in rt.alloc(); "kind {} at {}", fault.kind, fault.at)?
+        }
+        Err(ParseFault::NoMemory) => String::from_str(rt.alloc(), "no memory")?,
+    };
+    Ok(said)
+}
+
+#[test]
+fn reads_lines(rt: HostRuntime) -> Result<(), Fail> {
+    for (text, want) in [
+        ("", "Nothing"),
+        ("#create", "Nothing"),
+        (
+            "create draid:2s 14 seed=7 height=16",
+            "Create { spec: [100, 114, 97, 105, 100, 58, 50, 115], children: 14, keys: PoolKeys { sector: 4096, height: 16, metaslabs: 4, slices: 16, seed: 7 } }",
+        ),
+        ("import", "Import"),
+        ("write 7 6A6b", "Write { object: 7, bytes: [106, 107] }"),
+        (
+            "fill 1 5 1024 18446744073709551615",
+            "Fill { first: 1, count: 5, len: 1024, seed: 18446744073709551615 }",
+        ),
+        ("sum 4294967295 1", "Sum { first: 4294967295, count: 1 }"),
+        ("damage 3 67108863", "Damage { leaf: 3, sector: 67108863 }"),
+        ("spare 3 0", "Spare { slot: 3, spare: 0 }"),
+        ("replace 3", "Replace { slot: 3, sectors: None }"),
+        ("replace 3 100", "Replace { slot: 3, sectors: Some(100) }"),
+        ("detach 3", "Detach { arm: Leaf { leaf: 3 } }"),
+        (
+            "detach draid2-0-10",
+            "Detach { arm: Spare { parity: 2, spare: 10 } }",
+        ),
+        ("rebuild", "Rebuild { limit: None }"),
+        ("scrub 1", "Scrub { limit: Some(1) }"),
+        ("status json", "Status { format: Json }"),
+        ("lanes 16", "Lanes { count: 16 }"),
+        ("frob", "kind 1 at 0"),
+        (" read 7", "kind 1 at 0"),
+        ("read", "kind 2 at 4"),
+        ("read  7", "kind 2 at 7"),
+        ("read x", "kind 3 at 5"),
+        ("read 07", "kind 3 at 5"),
+        ("read +7", "kind 3 at 5"),
+        ("read 4294967296", "kind 5 at 5"),
+        ("write 7 6g", "kind 4 at 9"),
+        ("write 7 abc", "kind 4 at 11"),
+        ("write 7 ", "kind 4 at 8"),
+        ("fill 4294967295 2 1 1", "kind 5 at 16"),
+        ("fill 1 65537 x 1", "kind 5 at 7"),
+        ("create s 3 height", "kind 3 at 11"),
+        ("create s 3 seed=1 seed=2", "kind 3 at 18"),
+        ("create s 3 slices=4294967296", "kind 5 at 11"),
+        ("detach draid4-0-0", "kind 3 at 7"),
+        ("detach draid2-0-01", "kind 3 at 7"),
+        ("status xml", "kind 3 at 7"),
+        ("lanes 17", "kind 5 at 6"),
+        ("end", "kind 6 at 0"),
+        ("end x", "kind 6 at 0"),
+    ] {
+        let read = parse_line(rt.alloc(), text.as_bytes());
+        assert_eq!(rt; said(&rt, read)?.as_str(), want, "at {text}");
+    }
+    let mut text = String::from_str(rt.alloc(), "write 7 ")?;
+    for _ in 0..131_073 {
+        text.push_str("0f")?;
+    }
+    let read = parse_line(rt.alloc(), text.as_bytes());
+    assert_eq!(rt; said(&rt, read)?.as_str(), "kind 5 at 8");
+    Ok(())
+}
+
+#[test]
+fn reads_lines_of_sections(rt: HostRuntime) -> Result<(), Fail> {
+    for (text, want) in [
+        ("", "Nothing"),
+        ("# a", "Nothing"),
+        ("end", "End"),
+        ("3 read 1", "Lane { lane: 3, line: Read { object: 1 } }"),
+        ("x read 1", "kind 3 at 0"),
+        ("end x", "kind 3 at 0"),
+        ("9 read 1", "kind 5 at 0"),
+        ("0", "kind 2 at 1"),
+        ("0 ", "kind 1 at 2"),
+        ("0 frob", "kind 1 at 2"),
+        ("0 crash", "kind 6 at 2"),
+        ("0 end", "kind 6 at 2"),
+        ("0 read", "kind 2 at 6"),
+        ("0 read x", "kind 3 at 7"),
+    ] {
+        let read = parse_lane(rt.alloc(), text.as_bytes(), 4);
+        assert_eq!(rt; said(&rt, read)?.as_str(), want, "at {text}");
+    }
+    Ok(())
+}
+
+fn name_of(rt: &HostRuntime, name: &str) -> Result<String, Fail> {
+    Ok(String::from_str(rt.alloc(), name)?)
+}
+
+fn printed(rt: &HostRuntime, reply: Reply) -> Vec<u8> {
+    reply_text(rt.alloc(), &reply).unwrap_or(Vec::new(rt.alloc()))
+}
+
+#[test]
+fn prints_replies_of_objects(rt: HostRuntime) -> Result<(), Fail> {
+    for (reply, want) in [
+        (
+            Reply::Created {
+                name: name_of(&rt, "draid2-0-0")?,
+                stripes: 2,
+            },
+            "create draid2-0-0 stripes=2\n",
+        ),
+        (
+            Reply::Imported {
+                name: name_of(&rt, "draid2-0-0")?,
+                group: 2,
+                objects: 3,
+            },
+            "import draid2-0-0 group=2 objects=3\n",
+        ),
+        (Reply::Exported { group: 2 }, "export group=2\n"),
+        (Reply::ExportWorn, "export worn\n"),
+        (Reply::ExportLast, "export last\n"),
+        (Reply::Written { object: 2 }, "write 2 ok\n"),
+        (
+            Reply::NoSpace {
+                object: 2,
+                run: 3,
+                disabled: 4,
+                full: 5,
+                worn: 6,
+            },
+            "write 2 no space run=3 disabled=4 full=5 worn=6\n",
+        ),
+        (
+            Reply::Missed {
+                object: 2,
+                columns: 3,
+            },
+            "write 2 missed columns=3\n",
+        ),
+        (Reply::WriteLast { object: 2 }, "write 2 last\n"),
+        (
+            Reply::Filled {
+                first: 2,
+                written: 3,
+            },
+            "fill 2 written=3\n",
+        ),
+        (Reply::NoObject { object: 2 }, "read 2 no object\n"),
+        (
+            Reply::Unreadable {
+                object: 2,
+                absent: 3,
+                tried: 4,
+            },
+            "read 2 unreadable absent=3 tried=4\n",
+        ),
+        (Reply::ReadWorn { object: 2 }, "read 2 worn\n"),
+        (Reply::Freed { object: 2 }, "free 2 ok\n"),
+        (Reply::FreeNoObject { object: 2 }, "free 2 no object\n"),
+        (Reply::Synced { group: 2, thin: 3 }, "sync group=2 thin=3\n"),
+        (Reply::SyncWorn, "sync worn\n"),
+        (Reply::SyncLast, "sync last\n"),
+        (Reply::OfflineDone { leaf: 2 }, "offline 2 ok\n"),
+        (Reply::OfflineRefused { leaf: 2 }, "offline 2 refused 1\n"),
+        (Reply::OfflineWorn { leaf: 2 }, "offline 2 worn\n"),
+        (Reply::OnlineDone { leaf: 2 }, "online 2 ok\n"),
+        (Reply::OnlineRefused { leaf: 2 }, "online 2 refused 1\n"),
+        (Reply::OnlineWorn { leaf: 2 }, "online 2 worn\n"),
+        (Reply::Damaged { leaf: 2, sector: 3 }, "damage 2 3 ok\n"),
+        (
+            Reply::DamageRefused { leaf: 2, sector: 3 },
+            "damage 2 3 refused 1\n",
+        ),
+        (
+            Reply::DamageFailed { leaf: 2, sector: 3 },
+            "damage 2 3 failed\n",
+        ),
+    ] {
+        let text = printed(&rt, reply);
+        assert_eq!(rt; text.as_slice(), want.as_bytes(), "at {want}");
+    }
+    Ok(())
+}
+
+#[test]
+fn prints_replies_of_arms(rt: HostRuntime) -> Result<(), Fail> {
+    for (reply, want) in [
+        (
+            Reply::DamageWorn { leaf: 2, sector: 3 },
+            "damage 2 3 worn\n",
+        ),
+        (
+            Reply::Spared {
+                slot: 2,
+                name: name_of(&rt, "draid2-0-0")?,
+            },
+            "spare 2 draid2-0-0 ok\n",
+        ),
+        (Reply::SpareWorn { slot: 2 }, "spare 2 worn\n"),
+        (
+            Reply::Replaced { slot: 2, leaf: 3 },
+            "replace 2 leaf=3 ok\n",
+        ),
+        (Reply::ReplaceWorn { slot: 2 }, "replace 2 worn\n"),
+        (Reply::RebuildNothing, "rebuild nothing\n"),
+        (
+            Reply::RebuildRefused {
+                metaslab: 2,
+                number: 3,
+            },
+            "rebuild refused 6 metaslab=2 number=3\n",
+        ),
+        (Reply::RebuildWorn, "rebuild worn\n"),
+        (Reply::RebuildLast, "rebuild last\n"),
+        (
+            Reply::ScrubRefused {
+                metaslab: 2,
+                number: 3,
+            },
+            "scrub refused 6 metaslab=2 number=3\n",
+        ),
+        (Reply::ScrubWorn, "scrub worn\n"),
+        (Reply::ScrubLast, "scrub last\n"),
+        (Reply::RebalanceWorn { slot: 2 }, "rebalance 2 worn\n"),
+        (Reply::RebalanceLast { slot: 2 }, "rebalance 2 last\n"),
+        (Reply::Cancelled { passes: 2 }, "cancel 2\n"),
+        (Reply::Crashed, "crash\n"),
+        (Reply::LanesClash { object: 2 }, "lanes clash object=2\n"),
+        (Reply::LanesClashMend, "lanes clash mend\n"),
+        (
+            Reply::NoPool {
+                command: CommandName::Read,
+            },
+            "read no pool\n",
+        ),
+        (
+            Reply::PoolOpen {
+                command: CommandName::Create,
+            },
+            "create pool open\n",
+        ),
+        (
+            Reply::NoMemory {
+                command: CommandName::Write,
+            },
+            "write no memory\n",
+        ),
+        (
+            Reply::CreateRefused {
+                why: SpecRefusal::NotDraid,
+            },
+            "create refused 1\n",
+        ),
+        (
+            Reply::CreateRefused {
+                why: SpecRefusal::Parity,
+            },
+            "create refused 2\n",
+        ),
+        (
+            Reply::CreateRefused {
+                why: SpecRefusal::Number { at: 6 },
+            },
+            "create refused 3 at=6\n",
+        ),
+        (
+            Reply::CreateRefused {
+                why: SpecRefusal::Repeated { letter: b'd' },
+            },
+            "create refused 4 letter=d\n",
+        ),
+        (
+            Reply::CreateRefused {
+                why: SpecRefusal::Children {
+                    said: 11,
+                    given: 10,
+                },
+            },
+            "create refused 5 said=11 given=10\n",
+        ),
+        (
+            Reply::CreateRefused {
+                why: SpecRefusal::Width { need: 10, have: 8 },
+            },
+            "create refused 6 need=10 have=8\n",
+        ),
+    ] {
+        let text = printed(&rt, reply);
+        assert_eq!(rt; text.as_slice(), want.as_bytes(), "at {want}");
+    }
+    Ok(())
+}
+
+#[test]
+fn prints_refusals(rt: HostRuntime) -> Result<(), Fail> {
+    for (reply, want) in [
+        (
+            Reply::CreateRefused {
+                why: SpecRefusal::Limit {
+                    which: b'h',
+                    value: 7,
+                },
+            },
+            "create refused 7 which=h value=7\n",
+        ),
+        (
+            Reply::FillRefused {
+                first: 1,
+                written: 4,
+                why: FillRefusal::NoSpace {
+                    run: 1,
+                    disabled: 2,
+                    full: 3,
+                    worn: 4,
+                },
+            },
+            "fill 1 written=4 no space run=1 disabled=2 full=3 worn=4\n",
+        ),
+        (
+            Reply::FillRefused {
+                first: 1,
+                written: 4,
+                why: FillRefusal::Missed { columns: 2 },
+            },
+            "fill 1 written=4 missed columns=2\n",
+        ),
+        (
+            Reply::FillRefused {
+                first: 1,
+                written: 4,
+                why: FillRefusal::Last,
+            },
+            "fill 1 written=4 last\n",
+        ),
+        (
+            Reply::FillRefused {
+                first: 1,
+                written: 4,
+                why: FillRefusal::NoMemory,
+            },
+            "fill 1 written=4 no memory\n",
+        ),
+        (
+            Reply::SumRefused {
+                object: 7,
+                why: SumRefusal::NoObject,
+            },
+            "sum 7 no object\n",
+        ),
+        (
+            Reply::SumRefused {
+                object: 7,
+                why: SumRefusal::Unreadable {
+                    absent: 1,
+                    tried: 2,
+                },
+            },
+            "sum 7 unreadable absent=1 tried=2\n",
+        ),
+        (
+            Reply::SumRefused {
+                object: 7,
+                why: SumRefusal::Worn,
+            },
+            "sum 7 worn\n",
+        ),
+        (
+            Reply::SpareRefused {
+                slot: 4,
+                why: SlotRefusal::NoSuch,
+            },
+            "spare 4 refused 1\n",
+        ),
+        (
+            Reply::ReplaceRefused {
+                slot: 4,
+                why: SlotRefusal::SpareBusy { by: 3 },
+            },
+            "replace 4 refused 2 by=3\n",
+        ),
+        (
+            Reply::RebalanceRefused {
+                slot: 4,
+                why: SlotRefusal::SpareInUse { spare: 0 },
+            },
+            "rebalance 4 refused 3 spare=0\n",
+        ),
+        (
+            Reply::SpareRefused {
+                slot: 4,
+                why: SlotRefusal::LogNotEmpty { groups: 8 },
+            },
+            "spare 4 refused 4 groups=8\n",
+        ),
+        (
+            Reply::ReplaceRefused {
+                slot: 4,
+                why: SlotRefusal::LastArm,
+            },
+            "replace 4 refused 5\n",
+        ),
+        (
+            Reply::RebalanceRefused {
+                slot: 4,
+                why: SlotRefusal::PassRunning {
+                    metaslab: 0,
+                    number: 1,
+                },
+            },
+            "rebalance 4 refused 6 metaslab=0 number=1\n",
+        ),
+        (
+            Reply::SpareRefused {
+                slot: 4,
+                why: SlotRefusal::TooSmall {
+                    need: 1536,
+                    have: 100,
+                },
+            },
+            "spare 4 refused 7 need=1536 have=100\n",
+        ),
+        (
+            Reply::ReplaceRefused {
+                slot: 4,
+                why: SlotRefusal::Full { arms: 3 },
+            },
+            "replace 4 refused 8 arms=3\n",
+        ),
+        (
+            Reply::RebalanceRefused {
+                slot: 4,
+                why: SlotRefusal::Last,
+            },
+            "rebalance 4 refused 9\n",
+        ),
+        (
+            Reply::DetachRefused {
+                arm: ArmName::Leaf { leaf: 3 },
+                why: SlotRefusal::LastArm,
+            },
+            "detach 3 refused 5\n",
+        ),
+        (
+            Reply::Detached {
+                arm: ArmName::Spare {
+                    parity: 2,
+                    spare: 0,
+                },
+                group: 9,
+            },
+            "detach draid2-0-0 ok group=9\n",
+        ),
+        (
+            Reply::DetachWorn {
+                arm: ArmName::Leaf { leaf: 3 },
+            },
+            "detach 3 worn\n",
+        ),
+        (
+            Reply::DetachLast {
+                arm: ArmName::Leaf { leaf: 3 },
+            },
+            "detach 3 last\n",
+        ),
+        (
+            Reply::Rebuilt {
+                from: 3,
+                stripes: 2,
+                errors: 0,
+                paused: false,
+            },
+            "rebuild from=3 stripes=2 errors=0 done\n",
+        ),
+        (
+            Reply::Scrubbed {
+                from: 0,
+                blocks: 1,
+                repaired: 2,
+                errors: 0,
+                paused: true,
+            },
+            "scrub from=0 blocks=1 repaired=2 errors=0 paused\n",
+        ),
+        (
+            Reply::Rebalanced {
+                slot: 0,
+                blocks: 1,
+                repaired: 1,
+                errors: 0,
+                group: Some(4),
+            },
+            "rebalance 0 blocks=1 repaired=1 errors=0 detached group=4\n",
+        ),
+        (
+            Reply::Rebalanced {
+                slot: 0,
+                blocks: 1,
+                repaired: 1,
+                errors: 2,
+                group: None,
+            },
+            "rebalance 0 blocks=1 repaired=1 errors=2 kept\n",
+        ),
+    ] {
+        let text = printed(&rt, reply);
+        assert_eq!(rt; text.as_slice(), want.as_bytes(), "at {want}");
+    }
+    Ok(())
+}
+
+#[test]
+fn prints_bytes(rt: HostRuntime) -> Result<(), Fail> {
+    let bytes = Vec::from_slice(rt.alloc(), b"hello\xfa")?;
+    let text = printed(&rt, Reply::Contents { object: 7, bytes });
+    assert_eq!(rt; text.as_slice(), b"read 7 6 68656c6c6ffa\n".as_slice());
+    let text = printed(
+        &rt,
+        Reply::Summed {
+            first: 7,
+            count: 1,
+            digest: [0xa1; 32],
+        },
+    );
+    assert_eq!(rt; text.len(), 73);
+    assert!(&rt; text.starts_with(b"sum 7 1 a1a1"));
+    Ok(())
+}
