@@ -112,15 +112,16 @@ pub pair_solved : (parity k l x y j node between over_first over_second s t d1 d
     → d1 ≡ field_product over_first (bit_xor s (second_part node between s t)) → d2 ≡ field_product over_second (second_part node between s t)
     → Adds x j d1 old mid → Adds y j d2 mid new
     → (rest_of parity new k j ≡ 0) × (rest_of parity new l j ≡ 0)
-pair_solved parity k l x y j node between over_first over_second s t d1 d2 old mid new order kind present missing x_y below pair s_is t_is s_byte t_byte d1_is d2_is first second =
-    (after k (omega arith) (omega arith) ∙ ap (λ r. bit_xor (bit_xor r (weigh k e d1)) (weigh k f d2)) (sym s_is)
-    ∙ ap₂ (λ p q. bit_xor (bit_xor s p) q) first_weight second_weight
-    ∙ xor_assoc s a b ∙ xor_none s (bit_xor a b) (sym solved.sum0),
-    after l kind present ∙ ap (λ r. bit_xor (bit_xor r (weigh l e d1)) (weigh l f d2)) (sym t_is)
-    ∙ ap₂ (λ p q. bit_xor (bit_xor t p) q)
-    (split_power ((l - k) * e) (k * e) (l * e) d1 (exponents e) d1_byte ∙ ap₂ field_product (sym pair.power) first_weight)
-    (split_power ((l - k) * f) (k * f) (l * f) d2 (exponents f) d2_byte ∙ ap (field_product v1) second_weight)
-    ∙ xor_assoc t (field_product node a) (field_product v1 b) ∙ xor_none t (bit_xor (field_product node a) (field_product v1 b)) (sym solved.sum1))
+pair_solved parity k l x y j node between over_first over_second s t d1 d2 old mid new order kind present missing x_y below pair s_is t_is s_byte t_byte d1_is d2_is first second = (
+  after k (omega arith) (omega arith) ∙ ap (λ r. bit_xor (bit_xor r (weigh k e d1)) (weigh k f d2)) (sym s_is)
+      ∙ ap₂ (λ p q. bit_xor (bit_xor s p) q) first_weight second_weight
+      ∙ xor_assoc s a b ∙ xor_none s (bit_xor a b) (sym solved.sum0),
+  after l kind present ∙ ap (λ r. bit_xor (bit_xor r (weigh l e d1)) (weigh l f d2)) (sym t_is)
+      ∙ ap₂ (λ p q. bit_xor (bit_xor t p) q)
+      (split_power ((l - k) * e) (k * e) (l * e) d1 (exponents e) d1_byte ∙ ap₂ field_product (sym pair.power) first_weight)
+      (split_power ((l - k) * f) (k * f) (l * f) d2 (exponents f) d2_byte ∙ ap (field_product v1) second_weight)
+      ∙ xor_assoc t (field_product node a) (field_product v1 b) ∙ xor_none t (bit_xor (field_product node a) (field_product v1 b)) (sym solved.sum1),
+)
   where
     e : ℕ
     e = length old - 1 - x

@@ -4,8 +4,8 @@ ghost use Rattle.draid_parity.specs.Columns.{AreColumns, HasSum, column_at};
 ghost use Rattle.draid_parity.specs.Rows.{HasSumBefore, PutsRows, SetsSums};
 
 use crate::column::Column;
+use crate::fused::{one_sum, three_sums, two_sums};
 use crate::rows::Rows;
-use crate::sums2::{one_sum, three_sums, two_sums};
 use std::simd::prelude::*;
 
 /// Sets each parity column to its sum.

@@ -4,12 +4,12 @@
 
 mod column;
 mod encode;
+mod fused;
 mod pair;
 mod restore;
 mod rows;
 mod solve;
 mod stripe;
 mod sums;
-mod sums2;
 
 pub use stripe::Stripe;

@@ -7,8 +7,8 @@ ghost use Rattle.draid_parity.specs.Rows.{AddsRows, IsSolvedBefore, SolvesPair, 
 
 use crate::column::Column;
 use crate::encode::put_rows;
+use crate::fused::two_sums;
 use crate::rows::Rows;
-use crate::sums2::two_sums;
 use draid_gf::{Factor, inv, pow2};
 use std::simd::prelude::*;
 
@@ -38,13 +38,25 @@ fn parts<V: Rows>(low: V, high: V, k: usize, pair: &Pair) -> (V, V)
     if k == 0 {
         (first, second)
     } else {
-        (first.times(&pair.over_first), second.times(&pair.over_second))
+        (
+            first.times(&pair.over_first),
+            second.times(&pair.over_second),
+        )
     }
 }
 
 // Solves the rows from `at` on.
 #[inline(always)]
-fn solve_at<V: Rows>(columns: &mut Vec<Column>, parity: usize, at: usize, k: usize, l: usize, x: usize, y: usize, pair: &Pair)
+fn solve_at<V: Rows>(
+    columns: &mut Vec<Column>,
+    parity: usize,
+    at: usize,
+    k: usize,
+    l: usize,
+    x: usize,
+    y: usize,
+    pair: &Pair,
+)
     requires kind { parity ≤ 3 }
     requires present { k < l }
     requires both_present { l < parity }
@@ -96,7 +108,16 @@ fn add_rows<V: Rows>(columns: &mut Vec<Column>, x: usize, at: usize, rows: V)
 
 // Goes on from row `from` as far as whole vectors go, and says how far that is.
 #[inline(always)]
-fn solve_rows<V: Rows>(columns: &mut Vec<Column>, parity: usize, from: usize, k: usize, l: usize, x: usize, y: usize, pair: &Pair) -> usize
+fn solve_rows<V: Rows>(
+    columns: &mut Vec<Column>,
+    parity: usize,
+    from: usize,
+    k: usize,
+    l: usize,
+    x: usize,
+    y: usize,
+    pair: &Pair,
+) -> usize
     requires step { 1 ≤ V.COUNT }
     requires kind { parity ≤ 3 }
     requires present { k < l }
@@ -168,7 +189,15 @@ fn pair_of(k: usize, l: usize, e: usize, f: usize) -> Pair
 }
 
 // The sums are known where each call is made, so that the loop over the columns never asks which.
-fn solve_vectors(columns: &mut Vec<Column>, parity: usize, k: usize, l: usize, x: usize, y: usize, pair: &Pair) -> usize
+fn solve_vectors(
+    columns: &mut Vec<Column>,
+    parity: usize,
+    k: usize,
+    l: usize,
+    x: usize,
+    y: usize,
+    pair: &Pair,
+) -> usize
     requires kind { parity ≤ 3 }
     requires present { k < l }
     requires both_present { l < parity }

@@ -1,6 +1,6 @@
 use Rattle.std.proofs.Common.{◌≡◌, arith}
 use Rattle.draid_parity.proofs.Horner.{horner0, horner1, horner2}
-use Rattle.draid_parity.proofs.sums2.horner.Goals as goal
+use Rattle.draid_parity.proofs.fused.horner.Goals as goal
 
 pub returns-in-0 : goal.returns-in-0
 returns-in-0 g c =

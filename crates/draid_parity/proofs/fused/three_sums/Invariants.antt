@@ -2,7 +2,7 @@ use Rattle.std.proofs.Common.{ℕ, ◌+◌, ◌-◌, ◌^◌, take, drop}
 use Rattle.draid_gf.specs.Lanes.{HasLanes}
 use Rattle.draid_parity.specs.Codeword.{weighted_sum}
 use Rattle.draid_parity.specs.Columns.{byte_row}
-use Rattle.draid_parity.proofs.sums2.three_sums.Given as goal
+use Rattle.draid_parity.proofs.fused.three_sums.Given as goal
 
 abbrev pub invariant-loop-i : goal.invariant-loop-i
 invariant-loop-i g l =

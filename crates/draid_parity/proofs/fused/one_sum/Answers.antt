@@ -4,7 +4,7 @@ use Rattle.std.proofs.lemmas.List.{get_or_default}
 use Rattle.draid_parity.specs.Codeword.{weighted_sum}
 use Rattle.draid_parity.specs.Columns.{byte_row}
 use Rattle.draid_parity.proofs.Horner.{first_lanes, next_lanes, whole_lanes, power_byte, weighted_sum-byte}
-use Rattle.draid_parity.proofs.sums2.one_sum.Goals as goal
+use Rattle.draid_parity.proofs.fused.one_sum.Goals as goal
 
 pub loop-i-init : goal.loop-i-init
 loop-i-init g c =

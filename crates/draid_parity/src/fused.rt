@@ -1,8 +1,8 @@
 //! The sums P, Q and R of the data columns, for neighbouring rows at once.
-ghost use Rattle.std.specs.Prelude.{◌≡◌, ℕ, ◌+◌, ◌^◌, ◌<◌, ◌≤◌, bit_xor, drop, length};
+ghost use Rattle.std.specs.Prelude.{◌≡◌, ℕ, ◌+◌, ◌-◌, ◌^◌, ◌<◌, ◌≤◌, bit_xor, drop, length, take};
 ghost use Rattle.draid_gf.specs.Field.{field_product, IsByte};
 ghost use Rattle.draid_gf.specs.Lanes.{HasLanes};
-ghost use Rattle.draid_parity.specs.Codeword.{parity_sum};
+ghost use Rattle.draid_parity.specs.Codeword.{parity_sum, weighted_sum};
 ghost use Rattle.draid_parity.specs.Columns.{byte_row, column_at};
 
 use crate::column::Column;
@@ -48,14 +48,47 @@ pub fn two_sums<V: Rows>(columns: &[Column], parity: usize, at: usize, k: u32, l
     ensures first { HasLanes V.COUNT (V.bytes result.0) (λ j. parity_sum k (byte_row (at + j) (drop parity columns.now))) }
     ensures second { HasLanes V.COUNT (V.bytes result.1) (λ j. parity_sum l (byte_row (at + j) (drop parity columns.now))) }
 {
+    let (first, second, i) = paired_sums::<V>(columns, parity, at, k, l);
+    if i < columns.len() {
+        let row = columns[i].rows(at);
+        (horner(first, k, row), horner(second, l, row))
+    } else {
+        (first, second)
+    }
+}
+
+// The same of all data columns, or all but the last, and how many columns were read: two a round.
+#[inline(always)]
+fn paired_sums<V: Rows>(
+    columns: &[Column],
+    parity: usize,
+    at: usize,
+    k: u32,
+    l: u32,
+) -> (V, V, usize)
+    requires kind { k < 3 }
+    requires other { l < 3 }
+    requires some { parity < length columns.now }
+    requires inside { (i : ℕ) → i < length columns.now → at + V.COUNT ≤ length (column_at columns.now i) }
+    ensures first { HasLanes V.COUNT (V.bytes result.0) (λ j. weighted_sum (2 ^ k) (take (result.2 - parity) (byte_row (at + j) (drop parity columns.now)))) }
+    ensures second { HasLanes V.COUNT (V.bytes result.1) (λ j. weighted_sum (2 ^ l) (take (result.2 - parity) (byte_row (at + j) (drop parity columns.now)))) }
+    ensures some { parity < result.2 }
+    ensures inside { result.2 ≤ length columns.now }
+    ensures past { length columns.now ≤ result.2 + 1 }
+{
     let mut first = columns[parity].rows::<V>(at);
     let mut second = first;
-    for i in parity + 1..columns.len() {
+    let mut i = parity + 1;
+    'pairs: while columns.len() - i >= 2 {
         let row = columns[i].rows(at);
         first = horner(first, k, row);
         second = horner(second, l, row);
+        let row = columns[i + 1].rows(at);
+        first = horner(first, k, row);
+        second = horner(second, l, row);
+        i += 2;
     }
-    (first, second)
+    (first, second, i)
 }
 
 /// P, Q and R.
