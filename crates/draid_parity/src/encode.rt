@@ -15,7 +15,8 @@ pub fn encode_columns(columns: &mut Vec<Column>, parity: usize)
     requires some { parity < vec_len columns.old }
     requires columns { AreColumns (length (column_at columns.old.items 0)) columns.old.items }
 
-    ensures stays { (i : ℕ) → parity ≤ i → column_at columns.new.items i ≡ column_at columns.old.items i }
+    ensures stays { (i : ℕ) → parity ≤ i → column_at columns.new.items i
+        ≡ column_at columns.old.items i }
     ensures count { vec_len columns.new ≡ vec_len columns.old }
     ensures columns { AreColumns (length (column_at columns.old.items 0)) columns.new.items }
     ensures sums { (k : ℕ) → k < parity → HasSum parity columns.new.items k }
@@ -31,7 +32,8 @@ fn encode_vectors(columns: &mut Vec<Column>, parity: usize) -> usize
     requires some { parity < vec_len columns.old }
     requires columns { AreColumns (length (column_at columns.old.items 0)) columns.old.items }
 
-    ensures stays { (i : ℕ) → parity ≤ i → column_at columns.new.items i ≡ column_at columns.old.items i }
+    ensures stays { (i : ℕ) → parity ≤ i → column_at columns.new.items i
+        ≡ column_at columns.old.items i }
     ensures count { vec_len columns.new ≡ vec_len columns.old }
     ensures columns { AreColumns (length (column_at columns.old.items 0)) columns.new.items }
     ensures inside { result ≤ length (column_at columns.old.items 0) }
@@ -54,7 +56,8 @@ fn encode_rows<V: Rows>(columns: &mut Vec<Column>, parity: usize, from: usize) -
     requires from { from ≤ length (column_at columns.old.items 0) }
     requires front { (k : ℕ) → k < parity → HasSumBefore from parity columns.old.items k }
 
-    ensures stays { (i : ℕ) → parity ≤ i → column_at columns.new.items i ≡ column_at columns.old.items i }
+    ensures stays { (i : ℕ) → parity ≤ i → column_at columns.new.items i
+        ≡ column_at columns.old.items i }
     ensures count { vec_len columns.new ≡ vec_len columns.old }
     ensures columns { AreColumns (length (column_at columns.old.items 0)) columns.new.items }
     ensures inside { result ≤ length (column_at columns.old.items 0) }
@@ -75,7 +78,8 @@ fn encode_at<V: Rows>(columns: &mut Vec<Column>, parity: usize, at: usize)
     requires some_parity { 1 ≤ parity }
     requires kind { parity ≤ 3 }
     requires some { parity < vec_len columns.old }
-    requires inside { (i : ℕ) → i < vec_len columns.old → at + V.COUNT ≤ length (column_at columns.old.items i) }
+    requires inside { (i : ℕ) → i < vec_len columns.old
+        → at + V.COUNT ≤ length (column_at columns.old.items i) }
     ensures { SetsSums parity parity at V.COUNT columns.old.items columns.new.items }
 {
     match parity {
@@ -88,7 +92,8 @@ fn encode_at<V: Rows>(columns: &mut Vec<Column>, parity: usize, at: usize)
 #[inline(always)]
 fn encode_one<V: Rows>(columns: &mut Vec<Column>, at: usize)
     requires some { 1 < vec_len columns.old }
-    requires inside { (i : ℕ) → i < vec_len columns.old → at + V.COUNT ≤ length (column_at columns.old.items i) }
+    requires inside { (i : ℕ) → i < vec_len columns.old
+        → at + V.COUNT ≤ length (column_at columns.old.items i) }
     ensures { SetsSums 1 1 at V.COUNT columns.old.items columns.new.items }
 {
     let p = one_sum::<V>(columns, 1, at, 0);
@@ -98,7 +103,8 @@ fn encode_one<V: Rows>(columns: &mut Vec<Column>, at: usize)
 #[inline(always)]
 fn encode_two<V: Rows>(columns: &mut Vec<Column>, at: usize)
     requires some { 2 < vec_len columns.old }
-    requires inside { (i : ℕ) → i < vec_len columns.old → at + V.COUNT ≤ length (column_at columns.old.items i) }
+    requires inside { (i : ℕ) → i < vec_len columns.old
+        → at + V.COUNT ≤ length (column_at columns.old.items i) }
     ensures { SetsSums 2 2 at V.COUNT columns.old.items columns.new.items }
 {
     let (p, q) = two_sums::<V>(columns, 2, at, 0, 1);
@@ -109,7 +115,8 @@ fn encode_two<V: Rows>(columns: &mut Vec<Column>, at: usize)
 #[inline(always)]
 fn encode_three<V: Rows>(columns: &mut Vec<Column>, at: usize)
     requires some { 3 < vec_len columns.old }
-    requires inside { (i : ℕ) → i < vec_len columns.old → at + V.COUNT ≤ length (column_at columns.old.items i) }
+    requires inside { (i : ℕ) → i < vec_len columns.old
+        → at + V.COUNT ≤ length (column_at columns.old.items i) }
     ensures { SetsSums 3 3 at V.COUNT columns.old.items columns.new.items }
 {
     let (p, q, r) = three_sums::<V>(columns, at);

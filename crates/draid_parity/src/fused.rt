@@ -28,8 +28,10 @@ fn horner<V: Rows>(sum: V, k: u32, row: V) -> V
 pub fn one_sum<V: Rows>(columns: &[Column], parity: usize, at: usize, k: u32) -> V
     requires kind { k < 3 }
     requires some { parity < length columns.now }
-    requires inside { (i : ℕ) → i < length columns.now → at + V.COUNT ≤ length (column_at columns.now i) }
-    ensures { HasLanes V.COUNT (V.bytes result) (λ j. parity_sum k (byte_row (at + j) (drop parity columns.now))) }
+    requires inside { (i : ℕ) → i < length columns.now
+        → at + V.COUNT ≤ length (column_at columns.now i) }
+    ensures { HasLanes V.COUNT (V.bytes result)
+        (λ j. parity_sum k (byte_row (at + j) (drop parity columns.now))) }
 {
     let mut sum = columns[parity].rows::<V>(at);
     for i in parity + 1..columns.len() {
@@ -44,9 +46,12 @@ pub fn two_sums<V: Rows>(columns: &[Column], parity: usize, at: usize, k: u32, l
     requires kind { k < 3 }
     requires other { l < 3 }
     requires some { parity < length columns.now }
-    requires inside { (i : ℕ) → i < length columns.now → at + V.COUNT ≤ length (column_at columns.now i) }
-    ensures first { HasLanes V.COUNT (V.bytes result.0) (λ j. parity_sum k (byte_row (at + j) (drop parity columns.now))) }
-    ensures second { HasLanes V.COUNT (V.bytes result.1) (λ j. parity_sum l (byte_row (at + j) (drop parity columns.now))) }
+    requires inside { (i : ℕ) → i < length columns.now
+        → at + V.COUNT ≤ length (column_at columns.now i) }
+    ensures first { HasLanes V.COUNT (V.bytes result.0)
+        (λ j. parity_sum k (byte_row (at + j) (drop parity columns.now))) }
+    ensures second { HasLanes V.COUNT (V.bytes result.1)
+        (λ j. parity_sum l (byte_row (at + j) (drop parity columns.now))) }
 {
     let (first, second, i) = paired_sums::<V>(columns, parity, at, k, l);
     if i < columns.len() {
@@ -69,9 +74,12 @@ fn paired_sums<V: Rows>(
     requires kind { k < 3 }
     requires other { l < 3 }
     requires some { parity < length columns.now }
-    requires inside { (i : ℕ) → i < length columns.now → at + V.COUNT ≤ length (column_at columns.now i) }
-    ensures first { HasLanes V.COUNT (V.bytes result.0) (λ j. weighted_sum (2 ^ k) (take (result.2 - parity) (byte_row (at + j) (drop parity columns.now)))) }
-    ensures second { HasLanes V.COUNT (V.bytes result.1) (λ j. weighted_sum (2 ^ l) (take (result.2 - parity) (byte_row (at + j) (drop parity columns.now)))) }
+    requires inside { (i : ℕ) → i < length columns.now
+        → at + V.COUNT ≤ length (column_at columns.now i) }
+    ensures first { HasLanes V.COUNT (V.bytes result.0) (λ j. weighted_sum (2 ^ k)
+        (take (result.2 - parity) (byte_row (at + j) (drop parity columns.now)))) }
+    ensures second { HasLanes V.COUNT (V.bytes result.1) (λ j. weighted_sum (2 ^ l)
+        (take (result.2 - parity) (byte_row (at + j) (drop parity columns.now)))) }
     ensures some { parity < result.2 }
     ensures inside { result.2 ≤ length columns.now }
     ensures past { length columns.now ≤ result.2 + 1 }
@@ -95,10 +103,14 @@ fn paired_sums<V: Rows>(
 #[inline(always)]
 pub fn three_sums<V: Rows>(columns: &[Column], at: usize) -> (V, V, V)
     requires some { 3 < length columns.now }
-    requires inside { (i : ℕ) → i < length columns.now → at + V.COUNT ≤ length (column_at columns.now i) }
-    ensures first { HasLanes V.COUNT (V.bytes result.0) (λ j. parity_sum 0 (byte_row (at + j) (drop 3 columns.now))) }
-    ensures second { HasLanes V.COUNT (V.bytes result.1) (λ j. parity_sum 1 (byte_row (at + j) (drop 3 columns.now))) }
-    ensures third { HasLanes V.COUNT (V.bytes result.2) (λ j. parity_sum 2 (byte_row (at + j) (drop 3 columns.now))) }
+    requires inside { (i : ℕ) → i < length columns.now
+        → at + V.COUNT ≤ length (column_at columns.now i) }
+    ensures first { HasLanes V.COUNT (V.bytes result.0)
+        (λ j. parity_sum 0 (byte_row (at + j) (drop 3 columns.now))) }
+    ensures second { HasLanes V.COUNT (V.bytes result.1)
+        (λ j. parity_sum 1 (byte_row (at + j) (drop 3 columns.now))) }
+    ensures third { HasLanes V.COUNT (V.bytes result.2)
+        (λ j. parity_sum 2 (byte_row (at + j) (drop 3 columns.now))) }
 {
     let mut first = columns[3].rows::<V>(at);
     let mut second = first;

@@ -27,11 +27,15 @@ struct Pair {
 fn parts<V: Rows>(low: V, high: V, k: usize, pair: &Pair) -> (V, V)
     requires plain { k ≡ 0 → (pair.now.over_first ≡ 1) × (pair.now.over_second ≡ 1) }
     requires byte { IsByte pair.now.between }
-    ensures first { (s t : ℕ → ℕ) → HasLanes V.COUNT (V.bytes low) s → HasLanes V.COUNT (V.bytes high) t
+    ensures first { (s t : ℕ → ℕ) → HasLanes V.COUNT (V.bytes low) s
+        → HasLanes V.COUNT (V.bytes high) t
         → ((j : ℕ) → j < V.COUNT → IsByte (s j))
-        → HasLanes V.COUNT (V.bytes result.0) (λ j. field_product pair.now.over_first (bit_xor (s j) (second_part pair.now.node pair.now.between (s j) (t j)))) }
-    ensures second { (s t : ℕ → ℕ) → HasLanes V.COUNT (V.bytes low) s → HasLanes V.COUNT (V.bytes high) t
-        → HasLanes V.COUNT (V.bytes result.1) (λ j. field_product pair.now.over_second (second_part pair.now.node pair.now.between (s j) (t j))) }
+        → HasLanes V.COUNT (V.bytes result.0) (λ j. field_product pair.now.over_first
+        (bit_xor (s j) (second_part pair.now.node pair.now.between (s j) (t j)))) }
+    ensures second { (s t : ℕ → ℕ) → HasLanes V.COUNT (V.bytes low) s
+        → HasLanes V.COUNT (V.bytes high) t
+        → HasLanes V.COUNT (V.bytes result.1) (λ j. field_product pair.now.over_second
+        (second_part pair.now.node pair.now.between (s j) (t j))) }
 {
     let second = high.plus(low.times(&pair.node)).times(&pair.between);
     let first = low.plus(second);
@@ -63,7 +67,8 @@ fn solve_at<V: Rows>(
     requires missing { parity ≤ x }
     requires both_missing { x < y }
     requires in_range { y < vec_len columns.old }
-    requires inside { (i : ℕ) → i < vec_len columns.old → at + V.COUNT ≤ length (column_at columns.old.items i) }
+    requires inside { (i : ℕ) → i < vec_len columns.old
+        → at + V.COUNT ≤ length (column_at columns.old.items i) }
     requires plain { k ≡ 0 → (pair.now.over_first ≡ 1) × (pair.now.over_second ≡ 1) }
     requires pair { SolvesPair k l (length columns.old.items - 1 - x) (length columns.old.items - 1 - y)
         pair.now.node pair.now.between pair.now.over_first pair.now.over_second }
@@ -82,9 +87,12 @@ fn rests<V: Rows>(columns: &[Column], parity: usize, at: usize, k: usize, l: usi
     requires present { k < parity }
     requires both_present { l < parity }
     requires some { parity < length columns.now }
-    requires inside { (i : ℕ) → i < length columns.now → at + V.COUNT ≤ length (column_at columns.now i) }
-    ensures first { HasLanes V.COUNT (V.bytes result.0) (λ j. rest_of parity columns.now k (at + j)) }
-    ensures second { HasLanes V.COUNT (V.bytes result.1) (λ j. rest_of parity columns.now l (at + j)) }
+    requires inside { (i : ℕ) → i < length columns.now
+        → at + V.COUNT ≤ length (column_at columns.now i) }
+    ensures first { HasLanes V.COUNT (V.bytes result.0)
+        (λ j. rest_of parity columns.now k (at + j)) }
+    ensures second { HasLanes V.COUNT (V.bytes result.1)
+        (λ j. rest_of parity columns.now l (at + j)) }
     ensures first_bytes { (j : ℕ) → j < V.COUNT → IsByte (rest_of parity columns.now k (at + j)) }
     ensures second_bytes { (j : ℕ) → j < V.COUNT → IsByte (rest_of parity columns.now l (at + j)) }
 {
@@ -132,7 +140,8 @@ fn solve_rows<V: Rows>(
     requires pair { SolvesPair k l (length columns.old.items - 1 - x) (length columns.old.items - 1 - y)
         pair.now.node pair.now.between pair.now.over_first pair.now.over_second }
 
-    ensures stays { (i : ℕ) → i ≢ x → i ≢ y → column_at columns.new.items i ≡ column_at columns.old.items i }
+    ensures stays { (i : ℕ) → i ≢ x → i ≢ y → column_at columns.new.items i
+        ≡ column_at columns.old.items i }
     ensures count { vec_len columns.new ≡ vec_len columns.old }
     ensures columns { AreColumns (length (column_at columns.old.items 0)) columns.new.items }
     ensures inside { result ≤ length (column_at columns.old.items 0) }
@@ -159,7 +168,8 @@ pub fn restore_two(columns: &mut Vec<Column>, parity: usize, k: usize, l: usize,
     requires few { vec_len columns.old ≤ parity + 255 }
     requires columns { AreColumns (length (column_at columns.old.items 0)) columns.old.items }
 
-    ensures stays { (i : ℕ) → i ≢ x → i ≢ y → column_at columns.new.items i ≡ column_at columns.old.items i }
+    ensures stays { (i : ℕ) → i ≢ x → i ≢ y → column_at columns.new.items i
+        ≡ column_at columns.old.items i }
     ensures count { vec_len columns.new ≡ vec_len columns.old }
     ensures first { IsColumn (length (column_at columns.old.items 0)) (column_at columns.new.items x) }
     ensures second { IsColumn (length (column_at columns.old.items 0)) (column_at columns.new.items y) }
@@ -209,7 +219,8 @@ fn solve_vectors(
     requires pair { SolvesPair k l (length columns.old.items - 1 - x) (length columns.old.items - 1 - y)
         pair.now.node pair.now.between pair.now.over_first pair.now.over_second }
 
-    ensures stays { (i : ℕ) → i ≢ x → i ≢ y → column_at columns.new.items i ≡ column_at columns.old.items i }
+    ensures stays { (i : ℕ) → i ≢ x → i ≢ y → column_at columns.new.items i
+        ≡ column_at columns.old.items i }
     ensures count { vec_len columns.new ≡ vec_len columns.old }
     ensures columns { AreColumns (length (column_at columns.old.items 0)) columns.new.items }
     ensures inside { result ≤ length (column_at columns.old.items 0) }
