@@ -1,5 +1,4 @@
-use Rattle.std.proofs.Common.{◌≡◌, ℕ, ◌+◌, ◌<◌, ◌∙◌, sym, ap, subst, length, arith}
-use Rattle.draid_parity.specs.Columns.{column_at}
+use Rattle.std.proofs.Common.{◌+◌, ◌∙◌, sym, subst, arith}
 use Rattle.draid_parity.specs.Rows.{HasSumBefore}
 use Rattle.draid_parity.proofs.RowsLemmas.{sums_more}
 use Rattle.draid_parity.proofs.encode.encode_rows.Goals as goal

@@ -1,4 +1,4 @@
-use Rattle.std.proofs.Common.{ℕ, ◌+◌, ◌-◌, ◌^◌, ◌<◌, ◌≤◌, take, drop, length}
+use Rattle.std.proofs.Common.{◌+◌, ◌-◌, ◌^◌, ◌<◌, ◌≤◌, take, drop, length}
 use Rattle.draid_gf.specs.Lanes.{HasLanes}
 use Rattle.draid_parity.specs.Codeword.{weighted_sum}
 use Rattle.draid_parity.specs.Columns.{byte_row}

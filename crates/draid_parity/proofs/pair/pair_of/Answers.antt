@@ -1,4 +1,4 @@
-use Rattle.std.proofs.Common.{◌≡◌, ◌≢◌, ◌-◌, ◌*◌, ◌∙◌, bit_xor, sym, ap, ap₂, subst, arith}
+use Rattle.std.proofs.Common.{◌≢◌, ◌-◌, ◌∙◌, bit_xor, sym, ap₂, subst, arith}
 use Rattle.draid_gf.specs.Field.{field_product, IsByte}
 use Rattle.draid_gf.proofs.Laws.{same_from_xor}
 use Rattle.draid_gf.proofs.Powers.{powers_differ}

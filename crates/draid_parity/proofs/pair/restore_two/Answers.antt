@@ -1,4 +1,4 @@
-use Rattle.std.proofs.Common.{◌<◌, ◌≤◌, ◌≡◌, [], ◌∷◌, refl, inl, inr, subst, length, arith}
+use Rattle.std.proofs.Common.{◌<◌, ◌≤◌, [], ◌∷◌, refl, inl, inr, subst, length, arith}
 use Rattle.draid_parity.specs.Columns.{IsColumn, column_at}
 use Rattle.draid_parity.proofs.RowsLemmas.{solved_whole, solved_column}
 use Rattle.draid_parity.proofs.pair.restore_two.Goals as goal

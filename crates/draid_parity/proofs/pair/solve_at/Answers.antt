@@ -1,4 +1,4 @@
-use Rattle.std.proofs.Common.{◌≡◌, ◌<◌, ◌+◌, length, arith}
+use Rattle.std.proofs.Common.{◌<◌, ◌+◌, length, arith}
 use Rattle.draid_parity.specs.Columns.{rest_of}
 use Rattle.draid_parity.proofs.PairLemmas.{solves_pair_seen}
 use Rattle.draid_parity.proofs.pair.solve_at.Goals as goal

@@ -1,4 +1,4 @@
-use Rattle.std.proofs.Common.{◌≡◌, ◌≢◌, ℕ, ◌+◌, ◌<◌, ◌∙◌, [], ◌∷◌, sym, subst, length, inl, inr, arith}
+use Rattle.std.proofs.Common.{◌+◌, ◌∙◌, [], ◌∷◌, sym, subst, arith}
 use Rattle.draid_parity.specs.Rows.{IsSolvedBefore}
 use Rattle.draid_parity.proofs.RowsLemmas.{solved_more, neither}
 use Rattle.draid_parity.proofs.pair.solve_rows.Goals as goal

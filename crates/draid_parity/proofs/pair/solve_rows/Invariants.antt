@@ -1,4 +1,4 @@
-use Rattle.std.proofs.Common.{◌≡◌, ◌≢◌, ℕ, ◌-◌, ◌<◌, ◌≤◌, [], ◌∷◌, length}
+use Rattle.std.proofs.Common.{◌≡◌, ◌≢◌, ℕ, ◌-◌, ◌≤◌, [], ◌∷◌, length}
 use Rattle.draid_parity.specs.Columns.{AreColumns, column_at}
 use Rattle.draid_parity.specs.Rows.{IsSolvedBefore}
 use Rattle.draid_parity.proofs.pair.solve_rows.Given as goal
