@@ -1,12 +1,12 @@
 -- The product of the field is linear in each factor, and is a byte.
-use Rattle.std.proofs.Common.{◌≡◌, ℕ, zero, suc, ◌+◌, ◌*◌, ◌^◌, ◌<◌, true, ◌==◌, bit_xor, refl}
+use Rattle.std.proofs.Common.{◌≡◌, ℕ, zero, suc, ◌+◌, ◌*◌, ◌^◌, ◌<◌, ◌%◌, ◌∙◌, true, ◌==◌, bit_xor, refl, sym, ap, subst, arith}
 use Rattle.std.specs.Prelude.{nat_lt}
 use borrow.Author.Tests.{ltb-true}
 use Rattle.std.specs.Int.{bit_at}
 use Rattle.std.proofs.lemmas.Nat.Bits.{bit_at-lt}
 use Rattle.draid_gf.specs.Field.{polynomial_sum, polynomial_product, remainder, field_product, modulus, IsByte}
 use Rattle.draid_gf.proofs.Computed.{passes_below, passes_at, same_at}
-use Rattle.draid_gf.proofs.Linear.{IsLinear, linear_both, linear_sum, linear_zero, linear_same, linear_byte, sum-linear, coefficient-linear, shifted-linear, scaled-linear}
+use Rattle.draid_gf.proofs.Linear.{IsLinear, linear_both, linear_sum, linear_zero, linear_same, linear_byte, sum-linear, sum-same, coefficient-linear, shifted-linear, scaled-linear}
 
 pub polynomial_product-left : (b : ℕ) → IsLinear (λ a. polynomial_product a b)
 unfolding polynomial_product
@@ -103,3 +103,30 @@ field_product-associative a b c a_byte b_byte c_byte =
     (λ y. linear_both (field_product (2 ^ i)) (field_product y) (field_product-right (2 ^ i)) (field_product-right y))
     (λ j j_below k k_below. associative_at i j k i_below j_below k_below) b c b_byte c_byte)
     a a_byte
+
+-- a product has no more of a number than its low byte
+low_bits : (e x : ℕ) → e < 8 → bit_at (x % 256) e ≡ bit_at x e
+low_bits zero x below = omega arith
+low_bits (suc zero) x below = omega arith
+low_bits (suc (suc zero)) x below = omega arith
+low_bits (suc (suc (suc zero))) x below = omega arith
+low_bits (suc (suc (suc (suc zero)))) x below = omega arith
+low_bits (suc (suc (suc (suc (suc zero))))) x below = omega arith
+low_bits (suc (suc (suc (suc (suc (suc zero)))))) x below = omega arith
+low_bits (suc (suc (suc (suc (suc (suc (suc zero))))))) x below = omega arith
+low_bits (suc (suc (suc (suc (suc (suc (suc (suc e)))))))) x below = absurd (omega arith)
+
+pub field_product-low : (a x : ℕ) → field_product a (x % 256) ≡ field_product a x
+unfolding field_product polynomial_product
+field_product-low a x =
+    ap (remainder 7)
+    (sum-same (λ e. bit_at (x % 256) e * (a * 2 ^ e)) (λ e. bit_at x e * (a * 2 ^ e)) 8 (λ e below. ap (λ b. b * (a * 2 ^ e)) (low_bits e x below)))
+
+pub product_byte : (a x : ℕ) → IsByte a → IsByte (field_product a x)
+product_byte a x byte = subst IsByte (field_product-low a x) (field_product-byte a (x % 256) byte (omega arith))
+
+pub product-associative : (a b x : ℕ) → IsByte a → IsByte b → field_product (field_product a b) x ≡ field_product a (field_product b x)
+product-associative a b x a_byte b_byte =
+    sym (field_product-low (field_product a b) x)
+    ∙ field_product-associative a b (x % 256) a_byte b_byte (omega arith)
+    ∙ ap (field_product a) (field_product-low b x)

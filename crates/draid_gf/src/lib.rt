@@ -6,10 +6,12 @@
 #![tactic(auto)]
 
 mod element;
+mod factor;
 mod kernel;
 mod law;
 mod table;
 
 pub use element::{inv, mul, pow2};
+pub use factor::Factor;
 pub use kernel::{mul_into, xor_into};
 pub use law::field_laws;

@@ -6,3 +6,7 @@ pub mod Missing
 pub mod Vandermonde
 pub mod OneSolution
 pub mod StripeLemmas
+pub mod RowLemmas
+pub mod Horner
+pub mod RowsLemmas
+pub mod PairLemmas

@@ -98,7 +98,7 @@ weighted_sum-xor c (a ∷ news) (b ∷ wholes) same =
     ∙ xor_swap (field_product p a) (field_product p b) (weighted_sum c news) (weighted_sum c wholes)
     ∙ ap (λ n. bit_xor (bit_xor (field_product p a) (weighted_sum c news)) (bit_xor (field_product (field_power c n) b) (weighted_sum c wholes))) long
 
-same_columns : (xs ys : List (List ℕ)) → length xs ≡ length ys → ((i : ℕ) → i < length xs → column_at xs i ≡ column_at ys i) → xs ≡ ys
+pub same_columns : (xs ys : List (List ℕ)) → length xs ≡ length ys → ((i : ℕ) → i < length xs → column_at xs i ≡ column_at ys i) → xs ≡ ys
 same_columns [] [] same each = refl
 same_columns [] (y ∷ ys) same each = absurd (omega arith)
 same_columns (x ∷ xs) [] same each = absurd (omega arith)

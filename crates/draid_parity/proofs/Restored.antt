@@ -5,10 +5,9 @@ use Rattle.std.specs.Int.Bits.{xor_assoc}
 use Rattle.draid_gf.specs.Field.{field_product, field_power, IsByte}
 use Rattle.draid_gf.proofs.Product.{field_product-associative, one-field_product}
 use Rattle.draid_gf.proofs.Powers.{field_power-byte, powers_differ, table_power}
-use Rattle.std.proofs.Math.Nat.{add-mul}
 use Rattle.draid_gf.specs.declared.table.TheConstants.{POWERS}
 use Rattle.draid_parity.specs.Columns.{column_at, rest_of, HasSum}
-use Rattle.draid_parity.specs.Equations.{SolvesTwo, SolvesThree}
+use Rattle.draid_parity.specs.Equations.{SolvesThree}
 use Rattle.draid_parity.proofs.Algebra.{divided, field_power-add, xor_none}
 use Rattle.draid_parity.proofs.WeightedSums.{rest_of-set, HasSum-from-rest}
 
@@ -74,38 +73,6 @@ split_power a b n x sum byte =
     ap (λ m. field_product (field_power 2 m) x) (sym sum)
     ∙ ap (λ p. field_product p x) (sym (field_power-add 2 a b (omega arith)))
     ∙ field_product-associative (field_power 2 a) (field_power 2 b) x (power_byte a) (power_byte b) byte
-
-pub restored_two : (parity : ℕ) (base : List (List ℕ)) (k l x y v0 v1 : ℕ) (t0 t1 y0 y1 first second : List ℕ)
-    → k < l → l < 3 → l < parity → parity ≤ x → x < y → y < length base → column_at base x ≡ [] → column_at base y ≡ []
-    → ((j : ℕ) → slice_index t0 j ≡ rest_of parity base k j) → ((j : ℕ) → slice_index t1 j ≡ rest_of parity base l j)
-    → v0 ≡ field_power 2 ((l - k) * (length base - 1 - x)) → v1 ≡ field_power 2 ((l - k) * (length base - 1 - y))
-    → ((j : ℕ) → SolvesTwo v0 v1 (slice_index t0 j) (slice_index t1 j) (slice_index y0 j) (slice_index y1 j))
-    → ((j : ℕ) → field_product (field_power 2 (k * (length base - 1 - x))) (slice_index first j) ≡ slice_index y0 j)
-    → ((j : ℕ) → field_product (field_power 2 (k * (length base - 1 - y))) (slice_index second j) ≡ slice_index y1 j)
-    → ((j : ℕ) → IsByte (slice_index first j)) → ((j : ℕ) → IsByte (slice_index second j))
-    → HasSum parity (set (set base x first) y second) k × HasSum parity (set (set base x first) y second) l
-restored_two parity base k l x y v0 v1 t0 t1 y0 y1 first second order kind present missing x_y below x_out y_out left0 left1 v0_is v1_is solved scaled0 scaled1 bytes0 bytes1 =
-    let e = length base - 1 - x in
-    let f = length base - 1 - y in (
-      HasSum-from-rest parity (set (set base x first) y second) k
-          (λ j.
-          rest_of_two parity base k j x y first second (omega arith) (omega arith) missing x_y below x_out y_out
-          ∙ xor_none (rest_of parity base k j) _
-          (sym (left0 j) ∙ sym (solved j).sum0 ∙ sym (ap₂ bit_xor (scaled0 j) (scaled1 j)))),
-      HasSum-from-rest parity (set (set base x first) y second) l
-          (λ j.
-          rest_of_two parity base l j x y first second kind present missing x_y below x_out y_out
-          ∙ xor_none (rest_of parity base l j) _
-          (sym (left1 j) ∙ sym (solved j).sum1
-          ∙ sym (ap₂ bit_xor
-          (split_power ((l - k) * e) (k * e) (l * e) (slice_index first j) (exponents e) (bytes0 j)
-          ∙ ap₂ field_product (sym v0_is) (scaled0 j))
-          (split_power ((l - k) * f) (k * f) (l * f) (slice_index second j) (exponents f) (bytes1 j)
-          ∙ ap₂ field_product (sym v1_is) (scaled1 j))))),
-    )
-  where
-    exponents : (e : ℕ) → (l - k) * e + k * e ≡ l * e
-    exponents e = let turn : (l - k) + k ≡ l = omega arith in sym (add-mul (l - k) k e) ∙ ap (λ m. m * e) turn
 
 -- ---- three columns
 rest_of_three : (base : List (List ℕ)) (k j x y z : ℕ) (first second third : List ℕ)

@@ -16,7 +16,7 @@ codeword-from_sums parity columns sums j = λ k below.
     byte_row-at j columns k ∙ sums k below j ∙ ap (parity_sum k) (sym (drop-map (λ c. slice_index c j) parity columns))
 
 -- ---- past the end of the columns all is zero, the sums too
-weighted_sum-zeros : (c : ℕ) (xs : List ℕ) → ((i : ℕ) → get_or xs i 0 ≡ 0) → weighted_sum c xs ≡ 0
+pub weighted_sum-zeros : (c : ℕ) (xs : List ℕ) → ((i : ℕ) → get_or xs i 0 ≡ 0) → weighted_sum c xs ≡ 0
 unfolding weighted_sum
 weighted_sum-zeros c [] none = refl
 weighted_sum-zeros c (x ∷ xs) none =

@@ -2,3 +2,4 @@ pub mod Codeword
 pub mod Columns
 pub mod Equations
 pub mod Lending
+pub mod Rows

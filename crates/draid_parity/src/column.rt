@@ -1,9 +1,12 @@
 //! One column of a stripe.
-ghost use Rattle.std.specs.Prelude.{◌≡◌, ℕ, ◌<◌, ◌^◌, List, [], bit_xor, length, slice_index, replicate, IfOk};
+ghost use Rattle.std.specs.Prelude.{◌≡◌, ℕ, ◌+◌, ◌<◌, ◌≤◌, ◌^◌, List, [], bit_xor, length, slice_index, replicate, IfOk};
 ghost use Rattle.std.specs.Borrow.{sem};
 ghost use Rattle.draid_parity.specs.Lending.{LendsBytes};
+ghost use Rattle.std.specs.Simd.Lanes.{put_chunk};
 ghost use Rattle.draid_gf.specs.Field.{field_product, IsByte};
+ghost use Rattle.draid_gf.specs.Lanes.{HasLanes};
 
+use crate::rows::Rows;
 use draid_gf::{mul, mul_into, xor_into};
 use std::alloc::{AllocError, Global};
 use std::marker::Model;
@@ -60,6 +63,26 @@ impl Column {
         self.bytes.len()
     }
 
+    /// The bytes from `at` on, as many as `V` has rows.
+    #[inline(always)]
+    pub fn rows<V: Rows>(&self, at: usize) -> V
+        requires { at + V.COUNT ≤ length self.now }
+        ensures lanes { HasLanes V.COUNT (V.bytes result) (λ j. slice_index self.now (at + j)) }
+        ensures bytes { (j : ℕ) → IsByte (slice_index (V.bytes result) j) }
+    {
+        V::load(&self.bytes, at)
+    }
+
+    /// Puts bytes there.
+    #[inline(always)]
+    pub fn put<V: Rows>(&mut self, at: usize, rows: V)
+        requires inside { at + V.COUNT ≤ length self.old }
+        requires count { length (V.bytes rows) ≡ V.COUNT }
+        ensures { self.new ≡ put_chunk at self.old (V.bytes rows) }
+    {
+        put_bytes(&mut self.bytes, at, rows);
+    }
+
     /// Sets each byte to 0.
     pub fn clear(&mut self)
         ensures bytes { (j : ℕ) → slice_index self.new j ≡ 0 }
@@ -95,6 +118,15 @@ impl Column {
     {
         scale_bytes(&mut self.bytes, by);
     }
+}
+
+#[inline(always)]
+fn put_bytes<V: Rows>(to: &mut [u8], at: usize, rows: V)
+    requires inside { at + V.COUNT ≤ length to.old }
+    requires count { length (V.bytes rows) ≡ V.COUNT }
+    ensures { to.new ≡ put_chunk at to.old (V.bytes rows) }
+{
+    rows.store(to, at);
 }
 
 fn copy_bytes(to: &mut [u8], from: &[u8])

@@ -3,7 +3,11 @@
 #![tactic(auto)]
 
 mod column;
+mod encode;
+mod fused;
+mod pair;
 mod restore;
+mod rows;
 mod solve;
 mod stripe;
 mod sums;

@@ -71,45 +71,6 @@ pub fn restore_one(columns: &mut Vec<Column>, alloc: Global, parity: usize, k: u
     columns[x] = first;
 }
 
-/// Solves data columns `x` and `y` from parity columns `k` and `l`.
-pub fn restore_two(
-    columns: &mut Vec<Column>,
-    alloc: Global,
-    parity: usize,
-    k: usize,
-    l: usize,
-    x: usize,
-    y: usize,
-)
-    requires kind { parity ≤ 3 }
-    requires present { k < l }
-    requires both_present { l < parity }
-    requires missing { parity ≤ x }
-    requires both_missing { x < y }
-    requires in_range { y < vec_len columns.old }
-    requires few { vec_len columns.old ≤ parity + 255 }
-    requires columns { AreColumns (length (column_at columns.old.items x)) columns.old.items }
-
-    ensures stays { (i : ℕ) → i ≢ x → i ≢ y → column_at columns.new.items i ≡ column_at columns.old.items i }
-    ensures count { vec_len columns.new ≡ vec_len columns.old }
-    ensures first { IsColumn (length (column_at columns.old.items x)) (column_at columns.new.items x) }
-    ensures second { IsColumn (length (column_at columns.old.items x)) (column_at columns.new.items y) }
-    ensures sums { HasSum parity columns.new.items k × HasSum parity columns.new.items l }
-{
-    let e = (columns.len() - 1 - x) as u32;
-    let f = (columns.len() - 1 - y) as u32;
-    let mut first = mem::replace(&mut columns[x], Column::none(alloc));
-    let mut second = mem::replace(&mut columns[y], Column::none(alloc));
-    set_rest(&mut first, columns, parity, k);
-    set_rest(&mut second, columns, parity, l);
-    let step = (l - k) as u32;
-    solve_two(&mut first, &mut second, pow2(step * e), pow2(step * f));
-    first.scale(inv(pow2(k as u32 * e)));
-    second.scale(inv(pow2(k as u32 * f)));
-    columns[x] = first;
-    columns[y] = second;
-}
-
 /// Solves data columns `x`, `y` and `z` from P, Q and R.
 pub fn restore_three(columns: &mut Vec<Column>, alloc: Global, x: usize, y: usize, z: usize)
     requires missing { 3 ≤ x }

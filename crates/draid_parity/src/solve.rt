@@ -5,26 +5,10 @@ ghost use Rattle.draid_gf.specs.Field.{IsByte};
 ghost use Rattle.draid_parity.specs.Columns.{AreColumns, ChosenSums, HasSum, IsChosen, IsColumn, SolvesColumns, column_at, present_below};
 
 use crate::column::Column;
-use crate::restore::{restore_one, restore_three, restore_two};
+use crate::pair::restore_two;
+use crate::restore::{restore_one, restore_three};
 use crate::sums::encode_sum;
 use std::alloc::Global;
-
-/// Sets each parity column to its sum.
-pub fn encode_columns(columns: &mut Vec<Column>, alloc: Global, parity: usize)
-    requires kind { parity ≤ 3 }
-    requires some { parity ≤ vec_len columns.old }
-    requires few { vec_len columns.old ≤ parity + 255 }
-    requires columns { AreColumns (length (column_at columns.old.items 0)) columns.old.items }
-
-    ensures stays { (i : ℕ) → parity ≤ i → column_at columns.new.items i ≡ column_at columns.old.items i }
-    ensures count { vec_len columns.new ≡ vec_len columns.old }
-    ensures columns { AreColumns (length (column_at columns.old.items 0)) columns.new.items }
-    ensures sums { (k : ℕ) → k < parity → HasSum parity columns.new.items k }
-{
-    for k in 0..parity {
-        encode_sum(columns, alloc, parity, k);
-    }
-}
 
 /// Sets the missing columns from the others.
 pub fn solve_columns(columns: &mut Vec<Column>, alloc: Global, parity: usize, missing: &[u32])
@@ -119,7 +103,6 @@ fn solve_data(
             let l = next_present(missing, k + 1, parity as u32);
             restore_two(
                 columns,
-                alloc,
                 parity,
                 k as usize,
                 l as usize,

@@ -6,7 +6,8 @@ ghost use Rattle.draid_parity.specs.Columns.{Completes, IsEncoded, IsSolution, I
 ghost use Rattle.draid_parity.specs.Lending.{LendsColumn};
 
 use crate::column::Column;
-use crate::solve::{encode_columns, solve_columns};
+use crate::encode::encode_columns;
+use crate::solve::solve_columns;
 use std::alloc::{AllocError, Global};
 use std::marker::Model;
 
@@ -83,7 +84,7 @@ impl Stripe {
         ensures shape { self.new ≡ record self.old { columns = self.new.columns } }
         ensures stripe { IsStripe self.new }
     {
-        encode_columns(&mut self.columns, self.alloc, self.parity as usize);
+        encode_columns(&mut self.columns, self.parity as usize);
     }
 
     /// Sets the missing columns, whose numbers ascend and are at most as many as the parity, to those

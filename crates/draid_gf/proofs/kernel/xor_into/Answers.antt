@@ -1,8 +1,8 @@
-use Rattle.std.proofs.Common.{arith, bit_xor}
-use Rattle.draid_gf.proofs.Kernels.{zip2_from_places}
+use Rattle.std.proofs.Common.{bit_xor, refl}
+use Rattle.draid_gf.proofs.Kernels.{added_whole}
 use Rattle.draid_gf.proofs.kernel.xor_into.Goals as goal
 
 pub returns : goal.returns
 returns c =
-    zip2_from_places bit_xor c.args.to.now c.args.from.now c.loop-i.to c.requires c.loop-i.auto.to
-    (λ k below. c.loop-i.invariant.added k (omega arith))
+    added_whole bit_xor bit_xor c.args.from.now c.args.to.now c.xor_vectors-at.new.to c.xor_bytes.new.to c.xor_vectors-at.result c.requires refl
+    c.xor_vectors-at.ensures c.xor_bytes.ensures

@@ -1,0 +1,125 @@
+//! The sums P, Q and R of the data columns, for neighbouring rows at once.
+ghost use Rattle.std.specs.Prelude.{◌≡◌, ℕ, ◌+◌, ◌-◌, ◌^◌, ◌<◌, ◌≤◌, bit_xor, drop, length, take};
+ghost use Rattle.draid_gf.specs.Field.{field_product, IsByte};
+ghost use Rattle.draid_gf.specs.Lanes.{HasLanes};
+ghost use Rattle.draid_parity.specs.Codeword.{parity_sum, weighted_sum};
+ghost use Rattle.draid_parity.specs.Columns.{byte_row, column_at};
+
+use crate::column::Column;
+use crate::rows::Rows;
+
+// One more column by Horner's rule: 2^k times the sum, and `row`.
+#[inline(always)]
+fn horner<V: Rows>(sum: V, k: u32, row: V) -> V
+    requires { k < 3 }
+    ensures { (f g : ℕ → ℕ) → HasLanes V.COUNT (V.bytes sum) f → ((j : ℕ) → IsByte (f j))
+        → HasLanes V.COUNT (V.bytes row) g
+        → HasLanes V.COUNT (V.bytes result) (λ j. bit_xor (field_product (2 ^ k) (f j)) (g j)) }
+{
+    match k {
+        0 => sum.plus(row),
+        1 => sum.twice().plus(row),
+        _ => sum.twice().twice().plus(row),
+    }
+}
+
+/// Sum `k` of the data columns in the rows from `at` on.
+#[inline(always)]
+pub fn one_sum<V: Rows>(columns: &[Column], parity: usize, at: usize, k: u32) -> V
+    requires kind { k < 3 }
+    requires some { parity < length columns.now }
+    requires inside { (i : ℕ) → i < length columns.now
+        → at + V.COUNT ≤ length (column_at columns.now i) }
+    ensures { HasLanes V.COUNT (V.bytes result)
+        (λ j. parity_sum k (byte_row (at + j) (drop parity columns.now))) }
+{
+    let mut sum = columns[parity].rows::<V>(at);
+    for i in parity + 1..columns.len() {
+        sum = horner(sum, k, columns[i].rows(at));
+    }
+    sum
+}
+
+/// Sums `k` and `l`.
+#[inline(always)]
+pub fn two_sums<V: Rows>(columns: &[Column], parity: usize, at: usize, k: u32, l: u32) -> (V, V)
+    requires kind { k < 3 }
+    requires other { l < 3 }
+    requires some { parity < length columns.now }
+    requires inside { (i : ℕ) → i < length columns.now
+        → at + V.COUNT ≤ length (column_at columns.now i) }
+    ensures first { HasLanes V.COUNT (V.bytes result.0)
+        (λ j. parity_sum k (byte_row (at + j) (drop parity columns.now))) }
+    ensures second { HasLanes V.COUNT (V.bytes result.1)
+        (λ j. parity_sum l (byte_row (at + j) (drop parity columns.now))) }
+{
+    let (first, second, i) = paired_sums::<V>(columns, parity, at, k, l);
+    if i < columns.len() {
+        let row = columns[i].rows(at);
+        (horner(first, k, row), horner(second, l, row))
+    } else {
+        (first, second)
+    }
+}
+
+// The same of all data columns, or all but the last, and how many columns were read: two a round.
+#[inline(always)]
+fn paired_sums<V: Rows>(
+    columns: &[Column],
+    parity: usize,
+    at: usize,
+    k: u32,
+    l: u32,
+) -> (V, V, usize)
+    requires kind { k < 3 }
+    requires other { l < 3 }
+    requires some { parity < length columns.now }
+    requires inside { (i : ℕ) → i < length columns.now
+        → at + V.COUNT ≤ length (column_at columns.now i) }
+    ensures first { HasLanes V.COUNT (V.bytes result.0) (λ j. weighted_sum (2 ^ k)
+        (take (result.2 - parity) (byte_row (at + j) (drop parity columns.now)))) }
+    ensures second { HasLanes V.COUNT (V.bytes result.1) (λ j. weighted_sum (2 ^ l)
+        (take (result.2 - parity) (byte_row (at + j) (drop parity columns.now)))) }
+    ensures some { parity < result.2 }
+    ensures inside { result.2 ≤ length columns.now }
+    ensures past { length columns.now ≤ result.2 + 1 }
+{
+    let mut first = columns[parity].rows::<V>(at);
+    let mut second = first;
+    let mut i = parity + 1;
+    'pairs: while columns.len() - i >= 2 {
+        let row = columns[i].rows(at);
+        first = horner(first, k, row);
+        second = horner(second, l, row);
+        let row = columns[i + 1].rows(at);
+        first = horner(first, k, row);
+        second = horner(second, l, row);
+        i += 2;
+    }
+    (first, second, i)
+}
+
+/// P, Q and R.
+#[inline(always)]
+pub fn three_sums<V: Rows>(columns: &[Column], at: usize) -> (V, V, V)
+    requires some { 3 < length columns.now }
+    requires inside { (i : ℕ) → i < length columns.now
+        → at + V.COUNT ≤ length (column_at columns.now i) }
+    ensures first { HasLanes V.COUNT (V.bytes result.0)
+        (λ j. parity_sum 0 (byte_row (at + j) (drop 3 columns.now))) }
+    ensures second { HasLanes V.COUNT (V.bytes result.1)
+        (λ j. parity_sum 1 (byte_row (at + j) (drop 3 columns.now))) }
+    ensures third { HasLanes V.COUNT (V.bytes result.2)
+        (λ j. parity_sum 2 (byte_row (at + j) (drop 3 columns.now))) }
+{
+    let mut first = columns[3].rows::<V>(at);
+    let mut second = first;
+    let mut third = first;
+    for i in 4..columns.len() {
+        let row = columns[i].rows(at);
+        first = horner(first, 0, row);
+        second = horner(second, 1, row);
+        third = horner(third, 2, row);
+    }
+    (first, second, third)
+}
