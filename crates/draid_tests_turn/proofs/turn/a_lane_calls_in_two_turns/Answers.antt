@@ -28,4 +28,4 @@ make_calls-requires g c =
     (All-cons (λ (call : Call Put). call.turn < 2) two (three ∷ []) (omega (arith, second))
     (All-cons (λ (call : Call Put). call.turn < 2) three [] (omega (arith, third)) (All-nil (λ (call : Call Put). call.turn < 2)))) in
     subst (λ (z : List (Caller ℕ) × List (Call Put)). AllMayCall Anything events_of no_number NeedsNothing Puts (l ∷ r ∷ []) z.0 z.1) (λ k. (sym passes k, sym calls k))
-    (two_may l r p q (one ∷ two ∷ three ∷ []) c.in_ok-left.ensures c.in_ok-right.ensures below)
+    (two_may l r p q (one ∷ two ∷ three ∷ []) c.in_ok-left.ensures.own c.in_ok-right.ensures.own below)
