@@ -1,7 +1,7 @@
-use Rattle.std.proofs.Common.{◌≡◌, ◌∙◌, ◌+◌, ◌≤◌, ℕ, ap, sym, subst, arith}
+use Rattle.std.proofs.Common.{◌≡◌, ◌∙◌, ◌≤◌, ap, sym, subst, arith}
 use Rattle.draid_turn.specs.Lists.{one_if}
 use Rattle.draid_turn.specs.Numbers.{all_numbers, holds}
-use Rattle.draid_holds.specs.Passes.{AreOf, KeepsOne, holders, newcomers, shares}
+use Rattle.draid_holds.specs.Passes.{AreOf, KeepsOne, holders, shares}
 use Rattle.draid_tests_turn.proofs.Apart.{all_held, keeps_two, new_are_of, new_holders, two_fit}
 use Rattle.draid_tests_turn.proofs.turn.passes_are_split_off_and_joined.Goals as goal
 
