@@ -17,7 +17,7 @@ pub enum Status {
     SourceFault,
     /// The sink failed (4).
     SinkFault,
-    /// A line could not be held, or a reply or the pool could not be made, for want of memory (5).
+    /// A line or the text of a reply could not be held for want of memory (5).
     NoMemory,
     /// This line has more than 300,000 bytes, or is more than the 1,048,576 lines of a script (6).
     TooLong { line: u64 },
