@@ -1,3 +1,4 @@
+mod Apart
 mod Moves
 mod OwnNumbers
 mod TwoTurns

@@ -3,11 +3,11 @@ ghost use Rattle.std.specs.declared.vec.Vec.{Vec};
 ghost use Rattle.std.specs.declared.alloc.Global.{Global};
 ghost use Rattle.draid_turn.specs.declared.span.Span.{Span};
 ghost use Rattle.draid_turn.specs.Lists.{one_within};
-ghost use Rattle.draid_turn.specs.Numbers.{HoldsSome};
+ghost use Rattle.draid_turn.specs.Numbers.{HoldsSome, all_numbers};
 ghost use Rattle.draid_holds.specs.Passes.{shares};
 
 use crate::log::{Log, Put, Putting};
-use draid_holds::{Call, make_calls, run_all};
+use draid_holds::{Call, close_each, make_calls, run_all, split_each};
 use draid_turn::{Pass, Span, Turn};
 use std::alloc::{AllocError, Global};
 use std::test::Fail;
@@ -94,7 +94,8 @@ fn two_passes_have_one_history(rt: HostRuntime) -> Result<(), Fail> {
 
 /// An empty log under a lock.
 fn lock(alloc: Global) -> Result<(Turn<Log>, Pass<Log>), AllocError>
-    ensures { IfOk result (λ made. made.1.table ≡ made.0.table) }
+    ensures own { IfOk result (λ made. made.1.table ≡ made.0.table) }
+    ensures all { IfOk result (λ made. made.1.numbers ≡ all_numbers) }
 {
     let log = Log {
         entries: Vec::new(alloc),
@@ -131,5 +132,17 @@ fn a_lane_calls_in_two_turns(rt: HostRuntime) -> Result<(), Fail> {
         assert!(rt; call.op.is_in);
     }
     assert_eq!(rt; calls.len(), 3);
+    Ok(())
+}
+
+#[test]
+fn passes_are_split_off_and_joined(rt: HostRuntime) -> Result<(), Fail> {
+    let (turn, mut first) = lock(rt.alloc())?;
+    let numbers = own_numbers(rt.alloc(), 2)?;
+    let room = Vec::with_capacity(rt.alloc(), 2)?;
+    let passes = split_each(&turn, &mut first, &numbers, room);
+    assert_eq!(rt; passes.len(), 2);
+    let log = close_each(&rt, turn, first, passes);
+    assert!(rt; log.entries.is_empty());
     Ok(())
 }
