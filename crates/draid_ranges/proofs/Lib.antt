@@ -1,6 +1,7 @@
 pub mod Answered
 pub mod Counts
 pub mod Cuts
+pub mod Halves
 pub mod Hulls
 pub mod Maximal
 pub mod Meets

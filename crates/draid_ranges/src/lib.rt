@@ -3,10 +3,13 @@
 #![tactic(auto)]
 
 mod edit;
+mod find;
 mod merge;
 mod room;
 mod run;
 mod set;
+mod steps;
 
 pub use run::Run;
 pub use set::RangeSet;
+pub use steps::Steps;

@@ -1,13 +1,16 @@
-ghost use Rattle.std.specs.Prelude.{◌≡◌, ◌+◌, ◌-◌, ◌<◌, ◌≤◌, ◌^◌, ◌||◌, ◌&&◌, not, ℕ, false, vec_len, vec_capacity, OnOk, OnErr, IfOk, IsOk, nat_le, IfSome, IfNone};
+ghost use Rattle.std.specs.Prelude.{◌≡◌, ◌+◌, ◌-◌, ◌*◌, ◌<◌, ◌≤◌, ◌^◌, ◌||◌, ◌&&◌, not, ℕ, false, length, vec_len, vec_capacity, OnOk, OnErr, IfOk, IsOk, nat_le, IfSome, IfNone};
 ghost use Rattle.draid_ranges.specs.Numbers.{AreRuns, Has, IsRoom, Numbers, count_below, has};
 ghost use Rattle.draid_ranges.specs.Runs.{AreApart, has_in, is_between};
 
 use crate::Run;
 use crate::edit::{absorb, ending_before, keep_sides, put, shorten};
+use crate::find::{find, find_from};
 use crate::merge::{met, united};
 use crate::room::{lowest_room, total};
+use crate::steps::Steps;
 use std::alloc::{AllocError, Global};
-use std::marker::Model;
+use std::marker::{Brand, Model};
+use std::sync::ledger::{Blank, Ledger};
 
 /// A set of numbers below 2^48.
 #[derive(Drop)]
@@ -100,7 +103,16 @@ impl RangeSet {
     pub fn contains(&self, x: u64) -> bool
         ensures { result ≡ has self.now x }
     {
-        self.runs.iter().any(|run| run.contains(x))
+        find_from::<Brand>(&self.runs, x, Blank::new(1))
+    }
+
+    /// The same. A step is one comparison of `x` with one run.
+    pub fn contains_in<L: Ledger>(&self, x: u64, steps: &mut Steps<L>) -> bool
+        ensures found { result ≡ has self.now x }
+        ensures later { steps.old ≤ steps.new }
+        ensures cost { 2 ^ (steps.new - steps.old) ≤ 2 * length self.now.runs + 1 }
+    {
+        find(&self.runs, x, steps)
     }
 
     /// What either set has.

@@ -1,4 +1,4 @@
-use Rattle.std.specs.Prelude.{◌≡◌, ◌+◌, ◌^◌, ◌<◌, ◌≤◌, ℕ, Bool, true, false, List, [], ◌∷◌, map, if◌then◌else◌}
+use Rattle.std.specs.Prelude.{◌≡◌, ◌+◌, ◌*◌, ◌^◌, ◌<◌, ◌≤◌, ℕ, Bool, true, false, List, [], ◌∷◌, length, map, if◌then◌else◌}
 use Rattle.draid_ranges.specs.declared.run.Run.{Run}
 use Rattle.draid_ranges.specs.Numbers.{AreRuns, Has, Numbers}
 use Rattle.draid_ranges.specs.Runs.{in_run}
@@ -33,6 +33,10 @@ pub record IsSpan (run : Run) : Type 0 where
 abbrev pub allocation : Run → Record
 allocation run = record { run = run; allocates = true }
 
+-- the record that frees a run
+abbrev pub freeing : Run → Record
+freeing run = record { run = run; allocates = false }
+
 -- the map has one allocation for each maximal run of what was allocated, in ascending order
 pub record IsCondensed (old new : Records) : Type 0 where
   pub set : Numbers
@@ -40,3 +44,17 @@ pub record IsCondensed (old new : Records) : Type 0 where
   pub members : Has set (is_allocated old)
   pub maximal : AreRuns set runs
   pub records : new.records ≡ map allocation runs
+
+-- so many records are more than twice as many as the runs, and 64
+abbrev pub IsLong : ℕ → ℕ → Type 0
+IsLong records runs = 2 * runs + 64 < records
+
+-- the map has one allocation for each maximal run where it was long for that many runs, and else its
+-- records as they were
+pub record IsShortened (old new : Records) : Type 0 where
+  pub set : Numbers
+  pub runs : List Run
+  pub members : Has set (is_allocated old)
+  pub maximal : AreRuns set runs
+  pub long : IsLong (length old.records) (length runs) → new.records ≡ map allocation runs
+  pub short : length old.records ≤ 2 * length runs + 64 → new.records ≡ old.records

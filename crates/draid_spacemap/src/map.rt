@@ -1,8 +1,8 @@
-ghost use Rattle.std.specs.Prelude.{◌≡◌, ◌+◌, ◌-◌, ◌<◌, ◌≤◌, ◌^◌, ◌||◌, ◌&&◌, not, ℕ, true, false, All, IfOk, IsOk, OnOk, OnErr, map, if◌then◌else◌, vec_len, vec_capacity};
+ghost use Rattle.std.specs.Prelude.{◌≡◌, ◌↔◌, ◌+◌, ◌-◌, ◌<◌, ◌≤◌, ◌^◌, ◌||◌, ◌&&◌, not, ℕ, true, false, [], ◌∷◌, ◌++◌, All, IfOk, IsOk, IsTrue, OnOk, OnErr, map, if◌then◌else◌, vec_len, vec_capacity};
 ghost use Rattle.draid_ranges.specs.Numbers.{Has, has};
 ghost use Rattle.draid_ranges.specs.Runs.{in_run};
 ghost use Rattle.draid_spacemap.specs.declared.map.Record.{Record};
-ghost use Rattle.draid_spacemap.specs.Records.{Allocates, IsCondensed, IsSpan, Records, allocation, is_allocated, is_allocated_by};
+ghost use Rattle.draid_spacemap.specs.Records.{Allocates, IsCondensed, IsLong, IsShortened, IsSpan, Records, allocation, freeing, is_allocated, is_allocated_by};
 
 use draid_ranges::{RangeSet, Run};
 use std::alloc::{AllocError, Global};
@@ -39,12 +39,20 @@ impl SpaceMap {
         }
     }
 
-    /// Makes room for so many records.
-    pub fn reserve(&mut self, changes: u32) -> Result<(), AllocError>
+    /// Makes room for so many records. Condenses first where the map is long for what is allocated.
+    pub fn reserve(&mut self, alloc: Global, changes: u32) -> Result<(), AllocError>
         ensures same { Allocates self.new (is_allocated self.old) }
+        ensures short { OnOk result (IsShortened self.old self.new) }
         ensures room { OnOk result (changes ≤ self.new.room) }
         ensures kept { self.old.room ≤ self.new.room }
+        ensures refused { OnErr result (self.new ≡ self.old) }
     {
+        let set = replayed(alloc, &self.records)?;
+        if is_long(self.records.len(), set.runs().len()) {
+            let spare = self.records.capacity() - self.records.len();
+            self.records = allocations(alloc, set.runs(), spare.max(changes as usize))?;
+            return Ok(());
+        }
         self.records.reserve(changes as usize)
     }
 
@@ -54,6 +62,8 @@ impl SpaceMap {
         requires free { (x : ℕ) → in_run run x ≡ true → is_allocated self.old x ≡ false }
         ensures ok { OnOk result (Allocates self.new (λ x. is_allocated self.old x || in_run run x)) }
         ensures err { OnErr result (Allocates self.new (is_allocated self.old)) }
+        ensures record { OnOk result (self.new.records ≡ self.old.records ++ allocation run ∷ []) }
+        ensures refused { OnErr result (self.new.records ≡ self.old.records) }
         ensures room { 0 < self.old.room → IsOk result }
         ensures left { self.old.room ≤ self.new.room + 1 }
     {
@@ -70,6 +80,8 @@ impl SpaceMap {
         requires allocated { (x : ℕ) → in_run run x ≡ true → is_allocated self.old x ≡ true }
         ensures ok { OnOk result (Allocates self.new (λ x. is_allocated self.old x && not (in_run run x))) }
         ensures err { OnErr result (Allocates self.new (is_allocated self.old)) }
+        ensures record { OnOk result (self.new.records ≡ self.old.records ++ freeing run ∷ []) }
+        ensures refused { OnErr result (self.new.records ≡ self.old.records) }
         ensures room { 0 < self.old.room → IsOk result }
         ensures left { self.old.room ≤ self.new.room + 1 }
     {
@@ -87,13 +99,16 @@ impl SpaceMap {
         replayed(alloc, &self.records)
     }
 
-    /// Leaves one allocation for each maximal run of what is allocated.
+    /// Leaves one allocation for each maximal run of what is allocated, and the room.
     pub fn condense(&mut self, alloc: Global) -> Result<(), AllocError>
         ensures same { Allocates self.new (is_allocated self.old) }
         ensures condensed { OnOk result (IsCondensed self.old self.new) }
+        ensures kept { self.old.room ≤ self.new.room }
+        ensures refused { OnErr result (self.new ≡ self.old) }
     {
         let set = replayed(alloc, &self.records)?;
-        self.records = allocations(alloc, set.runs())?;
+        let spare = self.records.capacity() - self.records.len();
+        self.records = allocations(alloc, set.runs(), spare)?;
         Ok(())
     }
 }
@@ -122,9 +137,17 @@ fn apply(set: &mut RangeSet, entry: Record) -> Result<(), AllocError>
     }
 }
 
-/// An allocation for each run.
-fn allocations(alloc: Global, runs: &[Run]) -> Result<Vec<Record>, AllocError>
-    ensures { IfOk result (λ records. records.items ≡ map allocation runs.now) }
+/// Whether so many records are more than twice as many as the runs, and 64.
+fn is_long(records: usize, runs: usize) -> bool
+    ensures { IsTrue result ↔ IsLong records runs }
+{
+    records > runs.saturating_mul(2).saturating_add(64)
+}
+
+/// An allocation for each run, and room for so many records behind.
+fn allocations(alloc: Global, runs: &[Run], spare: usize) -> Result<Vec<Record>, AllocError>
+    ensures items { IfOk result (λ records. records.items ≡ map allocation runs.now) }
+    ensures room { IfOk result (λ records. vec_len records + spare ≤ vec_capacity records) }
 {
     let mut records = Vec::with_capacity(alloc, runs.len())?;
     for run in runs {
@@ -133,5 +156,6 @@ fn allocations(alloc: Global, runs: &[Run]) -> Result<Vec<Record>, AllocError>
             allocates: true,
         })?;
     }
+    records.reserve(spare)?;
     Ok(records)
 }

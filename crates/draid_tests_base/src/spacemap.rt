@@ -6,7 +6,7 @@ use std::test::Fail;
 /// Whether a map of which these runs are allocated is replayed to them, before and after it is condensed.
 fn replayed_twice(alloc: Global) -> Result<[bool; 2], AllocError> {
     let mut map = SpaceMap::new(alloc);
-    map.reserve(3)?;
+    map.reserve(alloc, 3)?;
     map.alloc(Run { first: 0, len: 4 })?;
     map.free(Run { first: 1, len: 1 })?;
     let runs = [Run { first: 0, len: 1 }, Run { first: 2, len: 2 }];

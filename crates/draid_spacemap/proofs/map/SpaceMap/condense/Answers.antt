@@ -7,13 +7,13 @@ use Rattle.draid_spacemap.proofs.map.SpaceMap.condense.Goals as goal
 pub invariant_of-self : goal.invariant_of-self
 invariant_of-self c =
     let S : List Record → Type 0 = λ records. All (λ (entry : Record). IsSpan entry.run) records in
-    subst S (sym c.in_ok-self-inside.ensures) (all_spans c.runs.result.now c.in_ok-set.set c.runs.ensures.maximal)
+    subst S (sym c.in_ok-self-inside.ensures.items) (all_spans c.runs.result.now c.in_ok-set.set c.runs.ensures.maximal)
 
 pub returns-clause-same : goal.returns-clause-same
 returns-clause-same c =
     let P : Records → Type 0 = λ m. (x : ℕ) → is_allocated_by false c.in_ok-self-inside.field-0.items x ≡ is_allocated m x in
     subst P c.self.view_is (λ x.
-    ap (λ records. is_allocated_by false records x) c.in_ok-self-inside.ensures
+    ap (λ records. is_allocated_by false records x) c.in_ok-self-inside.ensures.items
     ∙ allocated_runs c.runs.result.now false x
     ∙ sym (c.runs.ensures.maximal.members x)
     ∙ c.in_ok-set.ensures x
