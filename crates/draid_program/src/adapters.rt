@@ -1,7 +1,7 @@
 ghost use Rattle.std.specs.Prelude.{None};
 
-use draid_names::Failed;
 use draid_lines::{Sink, Source};
+use draid_names::Failed;
 use std::io::{Read, Write};
 
 /// A reader as a source. It tells nothing of its bytes.

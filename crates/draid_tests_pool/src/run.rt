@@ -2,9 +2,9 @@ ghost use Rattle.std.specs.Prelude.{◌≤◌, length};
 ghost use Rattle.draid_choose.specs.Rooms.{IsChooser, Picks, most_rooms};
 
 use draid_choose::{Chooser, first_fit};
+use draid_lines::{MemorySink, MemorySource};
 use draid_names::Room;
 use draid_run::{Status, run};
-use draid_lines::{MemorySink, MemorySource};
 use draid_shelf::MemoryShelf;
 use std::alloc::{AllocError, Global};
 use std::test::Fail;
