@@ -13,6 +13,7 @@ pub fn add_opening(script: &mut String, number: u64) -> Result<(), AllocError>
 }
 
 /// What each lane writes.
+#[tactic(auto, using(crate::proofs::Lines::adds_each, crate::proofs::Lines::adds_none))]
 pub fn add_fills(script: &mut String, number: u64, words: &[u64; 21]) -> Result<(), AllocError>
     ensures { OnOk result (AddsLines (string_bytes script.old) (fills number words.now) (string_bytes script.new)) }
 {
@@ -39,6 +40,7 @@ pub fn add_section_end(script: &mut String) -> Result<(), AllocError>
 }
 
 /// The objects that are freed.
+#[tactic(auto, using(crate::proofs::Lines::adds_each, crate::proofs::Lines::adds_none))]
 pub fn add_frees(script: &mut String, words: &[u64; 21]) -> Result<(), AllocError>
     ensures { OnOk result (AddsLines (string_bytes script.old) (frees words.now) (string_bytes script.new)) }
 {
@@ -74,6 +76,7 @@ pub fn add_sums(script: &mut String) -> Result<(), AllocError>
 }
 
 /// Every tenth object.
+#[tactic(auto, using(crate::proofs::Lines::adds_each, crate::proofs::Lines::adds_none))]
 pub fn add_reads(script: &mut String) -> Result<(), AllocError>
     ensures { OnOk result (AddsLines (string_bytes script.old) reads (string_bytes script.new)) }
 {

@@ -16,6 +16,7 @@ pub fn workload(alloc: Global, number: u64) -> Result<Vec<u8>, NoMemory>
     Ok(script.into_bytes())
 }
 
+#[tactic(auto, using(crate::proofs::Lines::adds_more), unfolding(crate::specs::Workload::lines_of))]
 fn text(alloc: Global, number: u64) -> Result<String, AllocError>
     ensures { IfOk result (λ script. string_bytes script ≡ script_of number) }
 {
