@@ -1,9 +1,8 @@
-//! Tests of texts: what `status` prints, and the script of a workload. It offers nothing; the modules are named after the
-//! crates that they test.
+//! Tests of texts: what `status` prints, and the script of a workload. It offers nothing.
 
 #![tactic(auto)]
 
 #[cfg(test)]
-mod gen;
-#[cfg(test)]
 mod report;
+#[cfg(test)]
+mod workloads;
