@@ -1,5 +1,5 @@
 use draid_gen::workload;
-use sha2::Sha256;
+use sha2::{Digest, Sha256};
 use std::test::Fail;
 
 /// The lines of the workload 1 up to the restore, by a model of the generator in another language.
