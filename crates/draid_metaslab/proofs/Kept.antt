@@ -6,7 +6,8 @@ use Rattle.std.proofs.lemmas.List.Sums.{length-filter}
 use Rattle.draid_ranges.specs.Numbers.{Numbers, has}
 use Rattle.draid_ranges.specs.Runs.{in_run}
 use Rattle.draid_metaslab.specs.declared.space.Deferred.{Deferred}
-use Rattle.draid_metaslab.specs.Spaces.{IsSound, IsSpan, is_due, is_later}
+use Rattle.draid_spacemap.specs.Records.{Records}
+use Rattle.draid_metaslab.specs.Spaces.{IsMapped, IsSound, IsSpan, is_due, is_later}
 
 due_or_later : (group : ℕ) (entry : Deferred) → nat_le entry.group group ≡ not (is_later group entry)
 due_or_later group entry = grind (arith, nat_tests)
@@ -31,11 +32,14 @@ due_inside (entry ∷ deferred) total group x spans h =
     (λ t. in_span entry total group x (spans 0 entry (omega arith)) t)
     (λ t. due_inside deferred total group x (λ k d l. spans (suc k) d (omega arith)) t)
 
-pub committed : (height total held capacity group more : ℕ) (free new : Numbers) (deferred kept : List Deferred) → IsSound height total held capacity free deferred
+pub committed : (height total held capacity group more : ℕ) (free new : Numbers) (map after : Records) (deferred kept : List Deferred)
+    → IsSound height total held capacity free map deferred
     → ((x : ℕ) → has new x ≡ (has free x || is_due group deferred x)) → free.room ≤ new.room + count_by (λ (entry : Deferred). nat_le entry.group group) deferred
-    → kept ≡ filter (is_later group) deferred → capacity ≤ more → IsSound height total held more new kept
-committed height total held capacity group more free new deferred kept s members left is wide =
+    → IsMapped total new after → map.room ≤ after.room + count_by (λ (entry : Deferred). nat_le entry.group group) deferred
+    → kept ≡ filter (is_later group) deferred → capacity ≤ more → IsSound height total held more new after kept
+committed height total held capacity group more free new map after deferred kept s members left mapped unused is wide =
     let room = s.room in
+    let records = s.records in
     let places = s.places in
     let parts = parts_of group deferred in
     let len : length kept ≡ length (filter (is_later group) deferred) = ap length is in
@@ -46,6 +50,8 @@ committed height total held capacity group more free new deferred kept s members
       inside = λ x h. either (x < total) (has free x) (is_due group deferred x) (sym (members x) ∙ h) (s.inside x) (due_inside deferred total group x s.spans);
       spans = let P : List Deferred → Type 0 = λ ys. All (λ (entry : Deferred). IsSpan total entry.run.first entry.run.len) ys in subst P (sym is)
           (All-filter (is_later group) (λ (entry : Deferred). IsSpan total entry.run.first entry.run.len) deferred s.spans);
+      mapped = mapped;
       room = omega arith;
+      records = omega arith;
       places = omega arith;
     }

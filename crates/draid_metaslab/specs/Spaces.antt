@@ -1,8 +1,9 @@
-use Rattle.std.specs.Prelude.{◌≡◌, ◌+◌, ◌^◌, ◌<◌, ◌≤◌, ◌&&◌, ⊤, ℕ, Bool, true, nat_le, nat_lt, List, All, length}
+use Rattle.std.specs.Prelude.{◌≡◌, ◌+◌, ◌^◌, ◌<◌, ◌≤◌, ◌&&◌, not, ⊤, ℕ, Bool, true, nat_le, nat_lt, List, All, length}
 use Rattle.std.specs.List.{list_any}
 use Rattle.draid_ranges.specs.declared.run.Run.{Run}
 use Rattle.draid_ranges.specs.Numbers.{Numbers, has}
 use Rattle.draid_ranges.specs.Runs.{has_in, in_run}
+use Rattle.draid_spacemap.specs.Records.{Records, is_allocated}
 use Rattle.draid_metaslab.specs.declared.space.Deferred.{Deferred}
 use Rattle.draid_metaslab.specs.declared.fault.SpaceFault.{SpaceFault}
 use Rattle.draid_metaslab.specs.declared.fault.SpaceFault.TheVariants.{NoRoom, NoMemory}
@@ -49,12 +50,18 @@ abbrev pub IsRefused : Stripes → ℕ → SpaceFault → Type 0
 IsRefused space stripes (NoRoom largest) = IsLargest (is_free space) space.height largest × (largest < stripes)
 IsRefused space stripes NoMemory = ⊤
 
+-- of the stripes below a number just those that aren't free are allocated by the map
+abbrev pub IsMapped : ℕ → Numbers → Records → Type 0
+IsMapped total free map = (x : ℕ) → x < total → is_allocated map x ≡ not (has free x)
+
 -- the facts of the fields, with the capacity of the list of what is deferred
-pub record IsSound (height total held capacity : ℕ) (free : Numbers) (deferred : List Deferred) : Type 0 where
+pub record IsSound (height total held capacity : ℕ) (free : Numbers) (map : Records) (deferred : List Deferred) : Type 0 where
   pub some : 0 < height
   pub small : height ≤ 2 ^ 12
   pub most : total ≤ 2 ^ 48
   pub inside : (x : ℕ) → has free x ≡ true → x < total
   pub spans : All (λ (entry : Deferred). IsSpan total entry.run.first entry.run.len) deferred
+  pub mapped : IsMapped total free map
   pub room : held + length deferred ≤ free.room
+  pub records : held + length deferred ≤ map.room
   pub places : length deferred + held ≤ capacity

@@ -1,14 +1,16 @@
 ghost use Rattle.std.specs.Prelude.{◌≡◌, ◌+◌, ◌-◌, ◌*◌, ◌<◌, ◌≤◌, ◌^◌, ◌||◌, ◌&&◌, ◌++◌, ◌∷◌, [], not, ℕ, true, false, All, filter, length, IfOk, IfErr, OnOk, OnErr, nat_lt, vec_len, vec_capacity};
-ghost use Rattle.draid_metaslab.specs.Spaces.{Frees, IsKept, IsRefused, IsSound, IsSpan, Stripes, is_due, is_free, is_later};
+ghost use Rattle.draid_metaslab.specs.Spaces.{Frees, IsKept, IsMapped, IsRefused, IsSound, IsSpan, Stripes, is_due, is_free, is_later};
 ghost use Rattle.draid_metaslab.specs.Spots.{IsLargest, IsLowest};
 ghost use Rattle.draid_ranges.specs.Numbers.{Has, Numbers, count_below, has};
-ghost use Rattle.draid_ranges.specs.Runs.{has_in, is_between};
+ghost use Rattle.draid_ranges.specs.Runs.{has_in, in_run, is_between};
+ghost use Rattle.draid_spacemap.specs.Records.{Allocates, is_allocated};
 ghost use Rattle.draid_spec.specs.Geometry.{IsGeometry, metaslab_stripes};
 
 use crate::SpaceFault;
-use crate::due::free_all_due;
+use crate::due::{free_all_due, free_run};
 use crate::spot::lowest_spot;
 use draid_ranges::{RangeSet, Run};
+use draid_spacemap::SpaceMap;
 use draid_spec::Geometry;
 use std::alloc::{AllocError, Global};
 use std::marker::Model;
@@ -23,9 +25,12 @@ pub struct Deferred {
 /// The free stripes of a metaslab, and the runs that come back later.
 #[derive(Drop)]
 pub struct Space {
+    alloc: Global,
     height: u64,
     total: u64,
     free: RangeSet,
+    /// What was allocated and freed, one record each.
+    map: SpaceMap,
     deferred: Vec<Deferred>,
     /// How many runs are out and not deferred. There is room in memory for each to come back.
     held: u32,
@@ -37,7 +42,7 @@ impl Model for Space {
 
     ghost view = { λ s. record { height = s.height; total = s.total; free = s.free.runs; deferred = s.deferred.items; held = s.held; disabled = s.disabled } };
 
-    ghost invariant = { λ s. IsSound s.height s.total s.held (vec_capacity s.deferred) s.free s.deferred.items };
+    ghost invariant = { λ s. IsSound s.height s.total s.held (vec_capacity s.deferred) s.free s.map s.deferred.items };
 }
 
 impl Space {
@@ -56,12 +61,16 @@ impl Space {
         };
         let mut free = untaken(alloc, total, taken)?;
         free.reserve(held)?;
+        let mut map = taken_map(alloc, taken)?;
+        map.reserve(alloc, held)?;
         let mut deferred = Vec::new(alloc);
         deferred.reserve(taken.len())?;
         Ok(Space {
+            alloc,
             height: u64::from(geometry.props.height),
             total,
             free,
+            map,
             deferred,
             held,
             disabled: false,
@@ -88,7 +97,19 @@ impl Space {
             Err(largest) => return Err(SpaceFault::NoRoom { largest }),
         };
         make_room(&mut self.free, &mut self.deferred, self.held)?;
-        self.free.remove(first, first + stripes - 1)?;
+        make_records(
+            self.alloc,
+            &mut self.map,
+            self.held as usize + self.deferred.len() + 2,
+        )?;
+        take_run(
+            &mut self.free,
+            &mut self.map,
+            Run {
+                first,
+                len: stripes,
+            },
+        );
         self.held += 1;
         Ok(first)
     }
@@ -102,9 +123,14 @@ impl Space {
         ensures deferred { self.new.deferred ≡ self.old.deferred }
         ensures kept { IsKept self.old self.new }
     {
-        let Ok(()) = self.free.insert(first, first + stripes - 1) else {
-            unreachable!()
-        };
+        free_run(
+            &mut self.free,
+            &mut self.map,
+            Run {
+                first,
+                len: stripes,
+            },
+        );
         self.held -= 1;
     }
 
@@ -134,7 +160,7 @@ impl Space {
         ensures held { self.new.held ≡ self.old.held }
         ensures kept { IsKept self.old self.new }
     {
-        free_all_due(&mut self.free, &self.deferred, group);
+        free_all_due(&mut self.free, &mut self.map, &self.deferred, group);
         self.deferred.retain(|entry| entry.group > group);
     }
 
@@ -162,6 +188,13 @@ impl Space {
         }
     }
 
+    /// What was allocated and freed, as records: they allocate just the stripes that aren't free.
+    pub fn map(&self) -> &SpaceMap
+        ensures { (x : ℕ) → x < self.now.total → is_allocated result.now x ≡ not (is_free self.now x) }
+    {
+        &self.map
+    }
+
     /// How many stripes are free.
     pub fn free_stripes(&self) -> u64
         ensures { result ≡ count_below (is_free self.now) (2 ^ 48) }
@@ -185,6 +218,52 @@ fn make_room(free: &mut RangeSet, deferred: &mut Vec<Deferred>, held: u32) -> Re
     };
     free.reserve(changes)?;
     deferred.reserve(held as usize + 1)
+}
+
+/// Makes the room for so many more records, and for as many again, so that room is seldom made.
+fn make_records(alloc: Global, map: &mut SpaceMap, records: usize) -> Result<(), AllocError>
+    requires records { records < 2 ^ 60 }
+    ensures same { Allocates map.new (is_allocated map.old) }
+    ensures room { OnOk result (records ≤ map.new.room) }
+    ensures left { map.old.room ≤ map.new.room }
+{
+    if records <= map.room() {
+        return Ok(());
+    }
+    let Ok(changes) = u32::try_from(2 * records) else {
+        return Err(AllocError);
+    };
+    map.reserve(alloc, changes)
+}
+
+/// Takes a run of free stripes, and writes that down.
+fn take_run(free: &mut RangeSet, map: &mut SpaceMap, run: Run)
+    requires span { IsSpan (2 ^ 48) run.first run.len }
+    requires room { 0 < free.old.room }
+    requires records { 0 < map.old.room }
+    ensures members { Has free.new (λ x. has free.old x && not (in_run run x)) }
+    ensures left { free.old.room ≤ free.new.room + 1 }
+    ensures mapped { (total : ℕ) → IsMapped total free.old map.old → IsMapped total free.new map.new }
+    ensures unused { map.old.room ≤ map.new.room + 1 }
+{
+    let Ok(()) = free.remove(run.first, run.first + run.len - 1) else {
+        unreachable!()
+    };
+    let Ok(()) = map.alloc(run) else {
+        unreachable!()
+    };
+}
+
+/// An allocation for each run.
+fn taken_map(alloc: Global, taken: &[Run]) -> Result<SpaceMap, AllocError>
+    requires taken { All (λ (run : Run). IsSpan (2 ^ 48) run.first run.len) taken.now }
+    ensures { IfOk result (λ map. Allocates map (has_in taken.now)) }
+{
+    let mut map = SpaceMap::new(alloc);
+    for run in taken {
+        map.alloc(*run)?;
+    }
+    Ok(map)
 }
 
 /// All stripes but those of the runs.

@@ -56,10 +56,16 @@ impl SpaceMap {
         self.records.reserve(changes as usize)
     }
 
-    /// Allocates a run that is wholly free.
+    /// How many more records there is room for.
+    pub fn room(&self) -> usize
+        ensures { result ≡ self.now.room }
+    {
+        self.records.capacity() - self.records.len()
+    }
+
+    /// Allocates a run.
     pub fn alloc(&mut self, run: Run) -> Result<(), AllocError>
         requires span { IsSpan run }
-        requires free { (x : ℕ) → in_run run x ≡ true → is_allocated self.old x ≡ false }
         ensures ok { OnOk result (Allocates self.new (λ x. is_allocated self.old x || in_run run x)) }
         ensures err { OnErr result (Allocates self.new (is_allocated self.old)) }
         ensures record { OnOk result (self.new.records ≡ self.old.records ++ allocation run ∷ []) }
@@ -74,10 +80,9 @@ impl SpaceMap {
         Ok(())
     }
 
-    /// Frees a run that is wholly allocated.
+    /// Frees a run.
     pub fn free(&mut self, run: Run) -> Result<(), AllocError>
         requires span { IsSpan run }
-        requires allocated { (x : ℕ) → in_run run x ≡ true → is_allocated self.old x ≡ true }
         ensures ok { OnOk result (Allocates self.new (λ x. is_allocated self.old x && not (in_run run x))) }
         ensures err { OnErr result (Allocates self.new (is_allocated self.old)) }
         ensures record { OnOk result (self.new.records ≡ self.old.records ++ freeing run ∷ []) }
