@@ -79,6 +79,28 @@ pub fn links(
     .links
 }
 
+/// The slot on whose first leaf a spare arm of a slot keeps a slice of the pool.
+pub fn slice_holder(
+    geometry: &Geometry,
+    perms: &Perms,
+    used: &[Option<u32>],
+    slice: u64,
+    slot: u32,
+    spare: u32,
+) -> u32
+    requires geometry { IsGeometry geometry.now }
+    requires children { children_of perms.now ≡ geometry.now.spec.children }
+    requires all { length used.now ≡ geometry.now.spec.children }
+    requires used { AreUsed geometry.now.spec.children geometry.now.spec.spares (first_in used.now) }
+    requires arm { IsArm geometry.now.spec.children geometry.now.spec.spares (first_in used.now)
+        slot spare }
+    ensures slot { result
+        ≡ holder_in perms.now geometry.now.spec.spares slice (first_in used.now) slot spare }
+    ensures below { result < geometry.now.spec.children }
+{
+    chain(geometry, perms, used, slice, slot, spare).holder
+}
+
 /// The slice that a sector lies in.
 fn slice_of(geometry: &Geometry, sector: u64) -> u64
     requires { IsGeometry geometry.now }
@@ -133,8 +155,8 @@ fn at_spare(geometry: &Geometry, perms: &Perms, slice: u64, spare: u32) -> u32
     perms.child(slice, geometry.spec.children - 1 - spare)
 }
 
-/// Whether a slot has a column in a slice. Otherwise it stands at a spare's position.
-fn has_column(geometry: &Geometry, perms: &Perms, slice: u64, slot: u32) -> bool
+/// Whether a slot has a column in a slice of the pool. Otherwise it stands at a spare's position.
+pub fn has_column(geometry: &Geometry, perms: &Perms, slice: u64, slot: u32) -> bool
     requires geometry { IsGeometry geometry.now }
     requires children { children_of perms.now ≡ geometry.now.spec.children }
     requires slot { slot < geometry.now.spec.children }

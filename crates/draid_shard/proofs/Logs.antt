@@ -22,7 +22,7 @@ pub own_there : (part : MetaslabLayout) (slots : SlotTable) (leaf : ℕ) → Are
 own_there part slots leaf own below = let one = ap (λ arms. length arms) (own.arms leaf below) in omega (arith, one)
 
 -- new slots with room
-pub new_own : (part : MetaslabLayout) (old new : SlotTable) → IsOf old part.geometry part.perms part.number → IsNew part.geometry.spec.children old → Keeps old new → HasRoom new 2 → AreOwn part new
+pub new_own : (part : MetaslabLayout) (old new : SlotTable) → IsOf old part.geometry part.perms part.number → IsNew part.geometry.spec.children old → Keeps old new → HasRoom new 2 0 → AreOwn part new
 new_own part old new is_of is_new keeps room = record {
   is_of = record {
     geometry_is = keeps.same.geometry_is ∙ is_of.geometry_is;

@@ -27,7 +27,7 @@ pub(crate) fn own_slots(
     ensures empty { IfOk result (λ slots. (leaf group : ℕ) → logs_in slots leaf group ≡ false) }
 {
     let mut slots = Slots::new(alloc, geometry, perms, number)?;
-    slots.reserve(alloc, BIRTH_GROUPS)?;
+    slots.reserve(alloc, BIRTH_GROUPS, 0)?;
     Ok(slots)
 }
 

@@ -1,8 +1,11 @@
 pub mod Slices
+pub mod Lasting
 pub mod Mapped
 pub mod Moves
 pub mod Names
 pub mod OneSlot
 pub mod Refusals
+pub mod Rooms
+pub mod Settled
 pub mod Spares
 pub mod Tables

@@ -50,12 +50,12 @@ one_log_more logs slot here log n at l was many = elim (cases_eq at.slot slot) [
       ap (λ ls. get_or ls at.arm no_log) (get_or-set_other logs slot at.slot (here ++ log ∷ []) [] differs) ∙ sym (ap (λ b. cond b log (log_in logs at)) test)
 ]
 
-pub attached : (geometry : Geometry) (perms : Perms) (metaslab : ℕ) (slots : List Slot) (detached : List Detached) (next places slot : ℕ) (old new : Slot) (arm : Arm) (log : Numbers) (upto : ℕ)
+pub attached : (geometry : Geometry) (perms : Perms) (metaslab : ℕ) (slots : List Slot) (detached : List Detached) (next left : List ℕ) (room places slot : ℕ) (old new : Slot) (arm : Arm) (log : Numbers) (upto : ℕ)
     → slot < length slots → get_or (map arms_in slots) slot [] ≡ arms_in old → get_or (map logs_in slots) slot [] ≡ logs_in old → length (logs_in old) ≡ length (arms_in old)
     → arms_in new ≡ arms_in old ++ record arm { fresh = true } ∷ [] → logs_in new ≡ logs_in old ++ log ∷ []
-    → ((x : ℕ) → has log x ≡ is_between 1 (upto + 1) x) → next ≤ log.room + 1
-    → Attaches (table_of geometry perms metaslab slots detached next places) (table_of geometry perms metaslab (set slots slot new) detached 0 places) slot arm upto
-attached geometry perms metaslab slots detached next places slot old new arm log upto l arms_are logs_are paired arms logs groups room =
+    → ((x : ℕ) → has log x ≡ is_between 1 (upto + 1) x) → next ≡ left ++ room ∷ [] → room ≤ log.room + 1
+    → Attaches (table_of geometry perms metaslab slots detached next places) (table_of geometry perms metaslab (set slots slot new) detached left places) slot arm upto
+attached geometry perms metaslab slots detached next left room places slot old new arm log upto l arms_are logs_are paired arms logs groups taken used =
     record {
       same = record { geometry_is = refl; perms_are = refl; metaslab_is = refl };
       here = ap (λ all. get_or all slot []) (map-set arms_in slots slot new) ∙ get_or-set_same (map arms_in slots) slot (arms_in new) [] (omega (arith, length-map slots arms_in))
@@ -63,11 +63,15 @@ attached geometry perms metaslab slots detached next places slot old new arm log
       others = λ other differs. ap (λ all. get_or all other []) (map-set arms_in slots slot new) ∙ get_or-set_other (map arms_in slots) slot other (arms_in new) [] differs;
       logged = λ at group. ap (λ ls. has ls group) (log_now at) ∙ has_either _ log (log_in (map logs_in slots) at) (is_between 1 (upto + 1)) group (groups group);
       room = λ at there. at_old at there ((at.slot == slot) && (at.arm == length (get_or (map arms_in slots) slot []))) refl (log_now at);
-      new_room = λ at here last. (let test : ((at.slot == slot) && (at.arm == length (get_or (map arms_in slots) slot []))) ≡ true = grind (arith, nat_tests) in
-          let now = ap (λ (ls : Numbers). ls.room) (log_now at ∙ ap (λ b. cond b log (log_in (map logs_in slots) at)) test) in
-          omega arith);
       detached_stay = refl;
-      next_used = refl;
+      next_used = record {
+        room = room;
+        taken = taken;
+        used = (let at : ArmAt = record { slot = slot; arm = length (get_or (map arms_in slots) slot []) } in
+            let test : ((at.slot == slot) && (at.arm == length (get_or (map arms_in slots) slot []))) ≡ true = grind (arith, nat_tests) in
+            let now = ap (λ (ls : Numbers). ls.room) (log_now at ∙ ap (λ b. cond b log (log_in (map logs_in slots) at)) test) in
+            omega arith);
+      };
       places_stay = refl;
     } where
       log_now : (at : ArmAt) → log_in (map logs_in (set slots slot new)) at
@@ -113,9 +117,9 @@ one_log_less logs at here other l was there = elim (cases_eq other.slot at.slot)
       ∙ sym (ap (λ k. get_or (get_or logs other.slot []) k no_log) place)
 ]
 
-pub detached_from : (geometry : Geometry) (perms : Perms) (metaslab : ℕ) (slots : List Slot) (detached gone : List Detached) (next places left : ℕ) (at : ArmAt) (old new : Slot) (arm : Arm) (group : ℕ)
+pub detached_from : (geometry : Geometry) (perms : Perms) (metaslab : ℕ) (slots : List Slot) (detached gone : List Detached) (next : List ℕ) (places left : ℕ) (at : ArmAt) (old new : Slot) (arm : Arm) (group : ℕ)
     → IsPlace slots at old → arms_in new ≡ remove (arms_in old) at.arm → logs_in new ≡ remove (logs_in old) at.arm → arm ≡ get_or (arms_in old) at.arm arm
-    → gone ≡ detached ++ record { kind = arm.kind; number = arm.number; slot = at.slot; group = group } ∷ [] → left + 1 ≡ places
+    → gone ≡ detached ++ record { kind = arm.kind; number = arm.number; slot = at.slot; group = group; offline = arm.offline } ∷ [] → left + 1 ≡ places
     → Detaches (table_of geometry perms metaslab slots detached next places) (table_of geometry perms metaslab (set slots at.slot new) gone next left) at group
 detached_from geometry perms metaslab slots detached gone next places left at old new arm group place arms logs is went less =
     record {
@@ -127,7 +131,7 @@ detached_from geometry perms metaslab slots detached gone next places left at ol
       logged = λ other number. ap (λ (ls : Numbers). has ls number) (log_now other);
       room = λ other. ap (λ (ls : Numbers). ls.room) (log_now other);
       gone = λ it found. (let same = some_same arm it (sym (arm_found slots at old arm place is) ∙ found) in
-          went ∙ ap (λ (a : Arm). detached ++ record { kind = a.kind; number = a.number; slot = at.slot; group = group } ∷ []) same);
+          went ∙ ap (λ (a : Arm). detached ++ record { kind = a.kind; number = a.number; slot = at.slot; group = group; offline = a.offline } ∷ []) same);
       next_stays = refl;
       places_less = less;
     } where

@@ -5,34 +5,32 @@ use Rattle.std.proofs.lemmas.Bool.{false≢true}
 use Rattle.std.proofs.lemmas.List.Edits.{length-remove}
 use Rattle.draid_names.specs.declared.arm.Arm.{Arm}
 use Rattle.draid_names.specs.declared.arm.ArmAt.{ArmAt}
+use Rattle.draid_names.specs.declared.arm.ArmKind.{ArmKind}
 use Rattle.draid_names.specs.declared.arm.ArmKind.TheVariants.{Leaf, Spare}
 use Rattle.draid_perm.specs.declared.perms.Perms.{Perms}
 use Rattle.draid_ranges.specs.Numbers.{Numbers}
 use Rattle.draid_spec.specs.declared.layout.Geometry.{Geometry}
 use Rattle.draid_slots.specs.declared.slot.Detached.{Detached}
 use Rattle.draid_slots.specs.declared.slot.Slot.{Slot}
-use Rattle.draid_slots.specs.Faults.{IsIdle, IsKnown, IsLeafAt, IsLeastCount, IsLeastLogged, IsQuiet, NoneElsewhere}
-use Rattle.draid_slots.specs.Table.{SlotTable, arm_at, arms_in, count_of, has_leaf, holds_spare, is_leaf, is_leaf_kind, is_spare_kind, logs_in, no_log, table_of}
+use Rattle.draid_slots.specs.Faults.{IsIdle, IsKnown, IsLeastCount, IsLeastLogged}
+use Rattle.draid_slots.specs.Table.{SlotTable, arms_in, count_of, has_leaf, holds_spare, is_leaf, is_leaf_kind, is_spare_kind, logs_in, no_log, table_of}
 use Rattle.draid_slots.proofs.Tables.{IsPlace}
 
--- a spare that is there and idle, or a leaf that no other slot's spare keeps out
+-- an arm of a slot that is there: a leaf, or a spare that is there and idle
 pub comes : (table : SlotTable) (slot : ℕ) (arm : Arm) → slot < table.geometry.spec.children
-    → ((arm.kind ≡ Spare) × (arm.number < table.geometry.spec.spares) × ((slot : ℕ) → holds_spare table arm.number slot ≡ false)) ⊎ ((arm.kind ≡ Leaf) × NoneElsewhere table slot)
-    → IsKnown table slot arm × IsIdle table arm × IsQuiet table slot arm
-comes table slot arm within (inl spare) =
-    (record { slot_there = within; spare_there = λ h. spare.1 }, (λ h. spare.2), (λ h. absurd (false≢true (sym (ap is_leaf_kind spare.0) ∙ h))))
+    → ((is_leaf arm ≡ false) × (arm.number < table.geometry.spec.spares) × ((slot : ℕ) → holds_spare table arm.number slot ≡ false)) ⊎ (is_leaf arm ≡ true)
+    → IsKnown table slot arm × IsIdle table arm
+comes table slot arm within (inl spare) = (record { slot_there = within; spare_there = λ h. spare.1 }, (λ h. spare.2))
 comes table slot arm within (inr leaf) = (
-  record { slot_there = within; spare_there = λ h. absurd (false≢true (sym (ap is_spare_kind leaf.0) ∙ h)) },
-  (λ h. absurd (false≢true (sym (ap is_spare_kind leaf.0) ∙ h))),
-  (λ h. leaf.1),
-)
+  record { slot_there = within; spare_there = λ h. absurd (no_spare arm.kind leaf h) },
+  (λ h. absurd (no_spare arm.kind leaf h)),
+) where
+  no_spare : (kind : ArmKind) → is_leaf_kind kind ≡ true → is_spare_kind kind ≡ true → ⊥
+  no_spare Leaf leaf h = false≢true h
+  no_spare Spare leaf h = false≢true leaf
 
 pub some_same : {X : Type 0} (x y : X) → Some x ≡ Some y → x ≡ y
 some_same x y is = cc
-
--- the arm at a place is no leaf
-pub no_leaf : (table : SlotTable) (at : ArmAt) (arm : Arm) → arm_at table at ≡ Some arm → is_leaf arm ≡ false → ¬ (IsLeafAt table at)
-no_leaf table at arm found other is = false≢true (sym other ∙ ap is_leaf (some_same arm is.0 (sym found ∙ is.1)) ∙ is.2)
 
 -- a list has something beside a place where it has a leaf there
 some_beside : (xs : List Arm) (k : ℕ) → k < length xs → has_leaf (remove xs k) ≡ true → 1 < length xs
@@ -46,7 +44,7 @@ pub one_beside : (xs : List Arm) (k n : ℕ) → k < length xs → has_leaf (rem
 one_beside xs zero n there leaf same none = none 1 (λ e. absurd (omega arith)) (omega (arith, some_beside xs zero there leaf))
 one_beside xs (suc k) n there leaf same none = none 0 (λ e. absurd (omega arith)) (omega arith)
 
-pub least_logged : (geometry : Geometry) (perms : Perms) (metaslab : ℕ) (slots : List Slot) (detached : List Detached) (next places : ℕ) (at : ArmAt) (slot : Slot) (logs : List Numbers) (groups : ℕ)
+pub least_logged : (geometry : Geometry) (perms : Perms) (metaslab : ℕ) (slots : List Slot) (detached : List Detached) (next : List ℕ) (places : ℕ) (at : ArmAt) (slot : Slot) (logs : List Numbers) (groups : ℕ)
     → IsPlace slots at slot → logs ≡ logs_in slot → IsLeastCount logs at.arm (length logs) groups → IsLeastLogged (table_of geometry perms metaslab slots detached next places) at groups
 least_logged geometry perms metaslab slots detached next places at slot logs groups place are is =
     let same : length logs ≡ length (arms_in slot) = (let paired = place.paired in ap length are ∙ paired.same) in

@@ -109,6 +109,19 @@ one_more geometry arms detached slot arm l short pooled idle are =
           let parts = spare_test spare arm it in
           false≢true (sym (idle parts.0 other) ∙ ap (λ n. holds_in arms detached n other) parts.1 ∙ held)
 
+-- with one more arm no spare that is an arm was another slot's
+pub more_once : (geometry : Geometry) (arms : List (List Arm)) (detached : List Detached) (slot : ℕ) (arm : Arm) → slot < length arms
+    → (is_spare_kind arm.kind ≡ true → (other : ℕ) → holds_in arms detached arm.number other ≡ false) → AreSlots geometry arms detached → (spare a b : ℕ)
+    → has_spare (get_or (set arms slot (get_or arms slot [] ++ arm ∷ [])) a []) spare ≡ true → has_spare (get_or arms b []) spare ≡ true → b ≡ a
+more_once geometry arms detached slot arm l idle are spare a b h g =
+    let b_held : holds_in arms detached spare b ≡ true = left (has_spare (get_or arms b []) spare) _ g in
+    elim (held_more arms detached slot arm l spare a (left (has_spare (get_or (set arms slot (get_or arms slot [] ++ arm ∷ [])) a []) spare) _ h)) [
+      | inl a_held ↦ are.once spare b a b_held a_held
+      | inr a_new ↦
+          let parts = spare_test spare arm a_new.1 in
+          absurd (false≢true (sym (idle parts.0 b) ∙ ap (λ n. holds_in arms detached n b) parts.1 ∙ b_held))
+    ]
+
 -- ---- one arm less
 
 any_removed : (p : Arm → Bool) (xs : List Arm) (k : ℕ) → list_any p (remove xs k) ≡ true → list_any p xs ≡ true
@@ -123,7 +136,7 @@ any_gone p xs a h =
     (λ t. inr (either (p a ≡ true) (p a) false t (λ y. y) (λ f. absurd (false≢true f))))
 
 abbrev pub gone_of : Arm → ℕ → ℕ → Detached
-gone_of arm slot group = record { kind = arm.kind; number = arm.number; slot = slot; group = group }
+gone_of arm slot group = record { kind = arm.kind; number = arm.number; slot = slot; group = group; offline = arm.offline }
 
 gone_test : (arm : Arm) (slot group spare other : ℕ) → (is_spare_kind arm.kind && ((arm.number == spare) && (slot == other))) ≡ true → (slot ≡ other) × (is_spare_of spare arm ≡ true)
 gone_test arm slot group spare other h = (grind (arith, nat_tests), grind (arith, nat_tests))
@@ -171,6 +184,13 @@ one_less geometry arms detached slot k group arm l there is leaf are =
       each = All-set (IsSlot geometry.spec.spares) arms slot _ (less_slot geometry.spec.spares (get_or arms slot []) k (are.each slot [] l) there leaf) are.each;
       once = λ spare a b h g. are.once spare a b (held_less arms detached slot k group arm l there is spare a h) (held_less arms detached slot k group arm l there is spare b g);
     }
+
+pub less_once : (geometry : Geometry) (arms : List (List Arm)) (detached : List Detached) (slot k group : ℕ) (arm : Arm) → slot < length arms → k < length (get_or arms slot [])
+    → arm ≡ get_or (get_or arms slot []) k arm → AreSlots geometry arms detached → (spare a b : ℕ)
+    → has_spare (get_or (set arms slot (remove (get_or arms slot []) k)) a []) spare ≡ true → has_spare (get_or arms b []) spare ≡ true → b ≡ a
+less_once geometry arms detached slot k group arm l there is are spare a b h g =
+    are.once spare b a (left (has_spare (get_or arms b []) spare) _ g)
+    (held_less arms detached slot k group arm l there is spare a (left (has_spare (get_or (set arms slot (remove (get_or arms slot []) k)) a []) spare) _ h))
 
 -- ---- spares that other slots have
 

@@ -61,7 +61,7 @@ kept_log geometry perms metaslab slots detached i old new kept was paired same =
       sound = subst S (sym (arms_kept slots i old new was same)) kept.sound;
     }
 
-pub sets_log : (geometry : Geometry) (perms : Perms) (metaslab : ℕ) (slots : List Slot) (detached : List Detached) (next places : ℕ) (at : ArmAt) (old new : Slot) (log : Numbers)
+pub sets_log : (geometry : Geometry) (perms : Perms) (metaslab : ℕ) (slots : List Slot) (detached : List Detached) (next : List ℕ) (places : ℕ) (at : ArmAt) (old new : Slot) (log : Numbers)
     → IsPlace slots at old → old ≡ get_or slots at.slot old → arms_in new ≡ arms_in old → logs_in new ≡ set (logs_in old) at.arm log
     → SetsLog (table_of geometry perms metaslab slots detached next places) (table_of geometry perms metaslab (set slots at.slot new) detached next places) at log
 sets_log geometry perms metaslab slots detached next places at old new log place was arms logs =

@@ -1,5 +1,5 @@
 use Rattle.std.specs.Prelude.{◌≡◌, ◌≢◌, ◌==◌, ◌<◌, ◌≤◌, ◌+◌, ◌&&◌, ℕ, Bool, true, false, Some, List, []}
-use Rattle.std.specs.Prelude.{length, slice_index_or, nat_le, nat_lt, filter, remove, if◌then◌else◌, ◌++◌, ◌∷◌}
+use Rattle.std.specs.Prelude.{All, length, slice_index_or, nat_le, nat_lt, filter, remove, if◌then◌else◌, ◌++◌, ◌∷◌}
 use Rattle.std.specs.Option.{option_map}
 use Rattle.draid_names.specs.declared.arm.Arm.{Arm}
 use Rattle.draid_names.specs.declared.arm.ArmAt.{ArmAt}
@@ -42,7 +42,8 @@ pub record Keeps (old new : SlotTable) : Type 0 where
 -- there is no less room in memory
 pub record IsRoomier (old new : SlotTable) : Type 0 where
   pub logs : (at : ArmAt) → room_at old at ≤ room_at new at
-  pub next : old.next ≤ new.next
+  pub count : length old.next ≤ length new.next
+  pub next : (k : ℕ) → slice_index_or old.next k 0 ≤ slice_index_or new.next k 0
   pub places : old.places ≤ new.places
 
 -- The log of the arm at a place has just the groups that pass the test. Other logs stay, and so do arms and what
@@ -85,6 +86,12 @@ switched_arm leaf value arm = if is_leaf_of leaf arm then record arm { offline =
 abbrev pub switched : ℕ → Bool → ArmAt → Arm → Arm
 switched leaf value at arm = switched_arm leaf value arm
 
+-- The last of some logs was taken, of which one change took the room for one at most.
+pub record TakesRoom (old new : List ℕ) (left : ℕ) : Type 0 where
+  pub room : ℕ
+  pub taken : old ≡ new ++ room ∷ []
+  pub used : room ≤ left + 1
+
 -- A slot has one more arm, the last, which is fresh and missed the groups from 1 to `upto`. All else stays.
 pub record Attaches (old new : SlotTable) (slot : ℕ) (arm : Arm) (upto : ℕ) : Type 0 where
   pub same : IsSame old new
@@ -93,9 +100,8 @@ pub record Attaches (old new : SlotTable) (slot : ℕ) (arm : Arm) (upto : ℕ) 
   pub logged : (at : ArmAt) (group : ℕ) → is_logged new at group
       ≡ (if (at.slot == slot) && (at.arm == length (arms_of old slot)) then is_between 1 (upto + 1) group else is_logged old at group)
   pub room : (at : ArmAt) → IsThere old at → room_at new at ≡ room_at old at
-  pub new_room : (at : ArmAt) → at.slot ≡ slot → at.arm ≡ length (arms_of old slot) → old.next ≤ room_at new at + 1
   pub detached_stay : new.detached ≡ old.detached
-  pub next_used : new.next ≡ 0
+  pub next_used : TakesRoom old.next new.next (room_at new (record { slot = slot; arm = length (arms_of old slot) }))
   pub places_stay : new.places ≡ old.places
 
 -- where the arm at a place stood before one of its slot went
@@ -110,7 +116,7 @@ pub record Detaches (old new : SlotTable) (at : ArmAt) (group : ℕ) : Type 0 wh
   pub logged : (other : ArmAt) (number : ℕ) → is_logged new other number ≡ is_logged old (behind at other) number
   pub room : (other : ArmAt) → room_at new other ≡ room_at old (behind at other)
   pub gone : (arm : Arm) → arm_at old at ≡ Some arm
-      → new.detached ≡ old.detached ++ record { kind = arm.kind; number = arm.number; slot = at.slot; group = group } ∷ []
+      → new.detached ≡ old.detached ++ record { kind = arm.kind; number = arm.number; slot = at.slot; group = group; offline = arm.offline } ∷ []
   pub next_stays : new.next ≡ old.next
   pub places_less : new.places + 1 ≡ old.places
 
@@ -123,11 +129,12 @@ pub record Commits (old new : SlotTable) (group : ℕ) : Type 0 where
   pub next_stays : new.next ≡ old.next
   pub places_more : old.places ≤ new.places
 
--- room for so many changes of each log, for one more arm with so many of its own, and for one detachment
-pub record HasRoom (table : SlotTable) (changes : ℕ) : Type 0 where
+-- room for so many changes of each log, for so many more arms, each with so many of its own, and for as many detachments
+pub record HasRoom (table : SlotTable) (changes arms : ℕ) : Type 0 where
   pub logs : (at : ArmAt) → IsThere table at → changes ≤ room_at table at
-  pub arm : changes < table.next
-  pub place : 0 < table.places
+  pub arms_come : arms ≤ length table.next
+  pub arm_logs : All (λ (room : ℕ). changes < room) table.next
+  pub places : arms ≤ table.places
 
 -- the logs of a slot have the same groups, no less room, and those before `upto` room for so many changes
 pub record AreGrown (old new : List Numbers) (upto changes : ℕ) : Type 0 where

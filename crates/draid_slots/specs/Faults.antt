@@ -1,25 +1,10 @@
-use Rattle.std.specs.Prelude.{◌≡◌, ◌≢◌, ◌<◌, ◌≤◌, ◌⊎◌, ℕ, true, false, Some, List, [], length, remove, slice_index_or}
+use Rattle.std.specs.Prelude.{◌≡◌, ◌≢◌, ◌<◌, ◌≤◌, ◌⊎◌, ℕ, true, false, List, length, remove, slice_index_or}
 use Rattle.draid_names.specs.declared.arm.Arm.{Arm}
 use Rattle.draid_names.specs.declared.arm.ArmAt.{ArmAt}
 use Rattle.draid_names.specs.declared.refusal.SlotFault.{SlotFault}
 use Rattle.draid_names.specs.declared.refusal.SlotFault.TheVariants.{NoSuch, SpareBusy, SpareInUse, LogNotEmpty, LastArm, PassRunning, TooSmall, Full, Last}
 use Rattle.draid_ranges.specs.Numbers.{Numbers}
-use Rattle.draid_slots.specs.Table.{SlotTable, IsThere, arm_at, arms_of, count_at, count_of, no_log, has_leaf, has_spare, holds_spare, is_leaf, is_spare_kind}
-
--- another slot has this spare as an arm
-abbrev pub IsElsewhereIn : List (List Arm) → ℕ → ℕ → Type 0
-IsElsewhereIn arms slot spare = (other : ℕ) × (other ≢ slot) × (has_spare (slice_index_or arms other []) spare ≡ true)
-
-abbrev pub IsElsewhere : SlotTable → ℕ → ℕ → Type 0
-IsElsewhere table slot spare = IsElsewhereIn table.arms slot spare
-
--- the least spare that another slot has as an arm
-pub record IsLeastElsewhere (table : SlotTable) (slot spare : ℕ) : Type 0 where
-  pub elsewhere : IsElsewhere table slot spare
-  pub least : (other : ℕ) → IsElsewhere table slot other → spare ≤ other
-
-abbrev pub NoneElsewhere : SlotTable → ℕ → Type 0
-NoneElsewhere table slot = (spare : ℕ) → ¬ (IsElsewhere table slot spare)
+use Rattle.draid_slots.specs.Table.{SlotTable, IsThere, arms_of, count_at, count_of, no_log, has_leaf, holds_spare, is_spare_kind}
 
 -- ---- attaching
 
@@ -32,15 +17,10 @@ pub record IsKnown (table : SlotTable) (slot : ℕ) (arm : Arm) : Type 0 where
 abbrev pub IsIdle : SlotTable → Arm → Type 0
 IsIdle table arm = is_spare_kind arm.kind ≡ true → (slot : ℕ) → holds_spare table arm.number slot ≡ false
 
--- a leaf comes only while no other slot has a spare
-abbrev pub IsQuiet : SlotTable → ℕ → Arm → Type 0
-IsQuiet table slot arm = is_leaf arm ≡ true → NoneElsewhere table slot
-
 -- what an attachment needs
 pub record MayAttach (table : SlotTable) (slot : ℕ) (arm : Arm) : Type 0 where
   pub known : IsKnown table slot arm
   pub idle : IsIdle table arm
-  pub quiet : IsQuiet table slot arm
   pub some_room : length (arms_of table slot) < 3
 
 -- the first of these that is broken, with its values
@@ -48,10 +28,9 @@ abbrev pub IsAttachRefused : SlotTable → ℕ → Arm → SlotFault → Type 0
 IsAttachRefused table slot arm NoSuch = ¬ (IsKnown table slot arm)
 IsAttachRefused table slot arm (SpareBusy by) =
     IsKnown table slot arm × (is_spare_kind arm.kind ≡ true) × (holds_spare table arm.number by ≡ true)
-IsAttachRefused table slot arm (SpareInUse spare) =
-    IsKnown table slot arm × (is_leaf arm ≡ true) × IsLeastElsewhere table slot spare
+IsAttachRefused table slot arm (SpareInUse spare) = ⊥
 IsAttachRefused table slot arm (Full arms) =
-    IsKnown table slot arm × IsIdle table arm × IsQuiet table slot arm
+    IsKnown table slot arm × IsIdle table arm
     × (3 ≤ length (arms_of table slot)) × (arms ≡ length (arms_of table slot))
 IsAttachRefused table slot arm LastArm = ⊥
 IsAttachRefused table slot arm (LogNotEmpty groups) = ⊥
@@ -65,14 +44,7 @@ IsSpareRefused table spare fault =
     ((fault ≡ NoSuch) × (table.geometry.spec.spares ≤ spare))
     ⊎ ((by : ℕ) × (fault ≡ SpareBusy by) × (spare < table.geometry.spec.spares) × (holds_spare table spare by ≡ true))
 
--- why a leaf can't come or go: another slot has a spare
-abbrev pub IsLeafRefused : SlotTable → ℕ → SlotFault → Type 0
-IsLeafRefused table slot fault = (spare : ℕ) × (fault ≡ SpareInUse spare) × IsLeastElsewhere table slot spare
-
 -- ---- detaching
-
-abbrev pub IsLeafAt : SlotTable → ArmAt → Type 0
-IsLeafAt table at = (arm : Arm) × (arm_at table at ≡ Some arm) × (is_leaf arm ≡ true)
 
 -- another arm of the slot
 abbrev pub IsBeside : SlotTable → ArmAt → ℕ → Type 0
@@ -91,18 +63,15 @@ pub record IsLeastLogged (table : SlotTable) (at : ArmAt) (groups : ℕ) : Type 
 pub record MayDetach (table : SlotTable) (at : ArmAt) : Type 0 where
   pub there : IsThere table at
   pub leaf_beside : HasLeafBeside table at
-  pub quiet : IsLeafAt table at → NoneElsewhere table at.slot
   pub missed_none : IsLeastLogged table at 0
 
 -- the first of these that is broken, with its values
 abbrev pub IsDetachRefused : SlotTable → ArmAt → SlotFault → Type 0
 IsDetachRefused table at NoSuch = ¬ (IsThere table at)
 IsDetachRefused table at LastArm = IsThere table at × ¬ (HasLeafBeside table at)
-IsDetachRefused table at (SpareInUse spare) =
-    IsThere table at × HasLeafBeside table at × IsLeafAt table at × IsLeastElsewhere table at.slot spare
+IsDetachRefused table at (SpareInUse spare) = ⊥
 IsDetachRefused table at (LogNotEmpty groups) =
-    IsThere table at × HasLeafBeside table at × (IsLeafAt table at → NoneElsewhere table at.slot)
-    × (0 < groups) × IsLeastLogged table at groups
+    IsThere table at × HasLeafBeside table at × (0 < groups) × IsLeastLogged table at groups
 IsDetachRefused table at (SpareBusy by) = ⊥
 IsDetachRefused table at (Full arms) = ⊥
 IsDetachRefused table at (PassRunning metaslab number) = ⊥

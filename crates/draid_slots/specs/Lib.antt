@@ -1,4 +1,5 @@
 pub mod Changes
 pub mod Faults
+pub mod Moves
 pub mod Reading
 pub mod Table

@@ -1,10 +1,10 @@
-use Rattle.std.specs.Prelude.{◌≡◌, ◌+◌, ◌-◌, ◌*◌, ◌/◌, ◌<◌, ◌&&◌, not, ℕ, Bool, true, false, Option, None, Some, List, [], ◌∷◌, length, if◌then◌else◌}
+use Rattle.std.specs.Prelude.{◌≡◌, ◌+◌, ◌*◌, ◌/◌, ◌<◌, ◌&&◌, not, ℕ, Bool, true, false, Option, None, Some, List, [], ◌∷◌, length, if◌then◌else◌}
 use Rattle.draid_names.specs.declared.arm.Arm.{Arm}
 use Rattle.draid_names.specs.declared.arm.ArmAt.{ArmAt}
-use Rattle.draid_perm.specs.Perms.{child_of}
+use Rattle.draid_chain.specs.Chain.{holder_in}
 use Rattle.draid_spec.specs.declared.layout.Geometry.{Geometry}
 use Rattle.draid_slots.specs.declared.slot.ReadArm.{ReadArm}
-use Rattle.draid_slots.specs.Table.{SlotTable, arm_at, arms_of, is_leaf, is_logged}
+use Rattle.draid_slots.specs.Table.{SlotTable, arm_at, arms_of, first_spares, is_leaf, is_logged}
 
 -- Slices and sectors are those of the metaslab, counted from 0.
 
@@ -12,10 +12,14 @@ use Rattle.draid_slots.specs.Table.{SlotTable, arm_at, arms_of, is_leaf, is_logg
 abbrev pub slice_of : Geometry → ℕ → ℕ
 slice_of geometry sector = sector / (geometry.rows * geometry.props.height)
 
--- the slot whose first leaf keeps a slice for a spare: the one at the spare's position, spares from the last on
-abbrev pub spare_slot : SlotTable → ℕ → ℕ → ℕ
-spare_slot table spare slice =
-    child_of table.perms (table.metaslab * table.geometry.props.slices + slice) (table.geometry.spec.children - 1 - spare)
+-- the same slice, counted through the pool
+abbrev pub pool_slice : SlotTable → ℕ → ℕ
+pool_slice table slice = table.metaslab * table.geometry.props.slices + slice
+
+-- the slot whose first leaf keeps a slice for a spare arm of a slot: the one to which the chain of its spare leads
+abbrev pub spare_slot : SlotTable → ℕ → ℕ → ℕ → ℕ
+spare_slot table slot spare slice =
+    holder_in table.perms table.geometry.spec.spares (pool_slice table slice) (first_spares table) slot spare
 
 -- the first leaf of some arms
 abbrev pub first_leaf : List Arm → Option Arm
@@ -23,12 +27,13 @@ first_leaf [] = None
 first_leaf (arm ∷ arms) = if is_leaf arm then Some arm else first_leaf arms
 
 -- the leaf that holds an arm's sectors of a slice: the arm itself, or for a spare the one that keeps the slice
-abbrev pub holder_of : SlotTable → ℕ → Option Arm → Option Arm
-holder_of table slice None = None
-holder_of table slice (Some arm) = if is_leaf arm then Some arm else first_leaf (arms_of table (spare_slot table arm.number slice))
+abbrev pub holder_of : SlotTable → ℕ → ℕ → Option Arm → Option Arm
+holder_of table slot slice None = None
+holder_of table slot slice (Some arm) =
+    if is_leaf arm then Some arm else first_leaf (arms_of table (spare_slot table slot arm.number slice))
 
 abbrev pub holder : SlotTable → ArmAt → ℕ → Option Arm
-holder table at slice = holder_of table slice (arm_at table at)
+holder table at slice = holder_of table at.slot slice (arm_at table at)
 
 abbrev pub is_online : Option Arm → Bool
 is_online None = false

@@ -1,4 +1,4 @@
-use Rattle.std.specs.Prelude.{◌≡◌, ◌==◌, ◌<◌, ◌≤◌, ◌^◌, ◌||◌, ◌&&◌, ℕ, Bool, true, false, Option, None, Some, List, [], map, All, length, slice_get, slice_index_or, vec_capacity}
+use Rattle.std.specs.Prelude.{◌≡◌, ◌==◌, ◌<◌, ◌≤◌, ◌^◌, ◌||◌, ◌&&◌, not, if◌then◌else◌, ℕ, Bool, true, false, Option, None, Some, List, [], ◌∷◌, map, All, length, slice_get, slice_index_or, vec_capacity}
 use Rattle.std.specs.List.{list_any}
 use Rattle.std.specs.declared.alloc.Global.{Global}
 use Rattle.std.specs.declared.vec.Vec.{Vec}
@@ -15,8 +15,7 @@ use Rattle.draid_slots.specs.declared.slot.Slot.{Slot}
 
 -- What contracts see of the slots of a metaslab: the pool's layout and the metaslab's number; of each slot its
 -- arms in the order of attachment and the log of each; the arms that were detached in groups that aren't
--- committed; and the room in memory: of the log that one more arm gets, 0 where there is none, and for how many
--- more detachments.
+-- committed; and the room in memory: of the log of each arm that may still come, and for how many more detachments.
 pub record SlotTable : Type 0 where
   pub geometry : Geometry
   pub perms : Perms
@@ -24,7 +23,7 @@ pub record SlotTable : Type 0 where
   pub arms : List (List Arm)
   pub logs : List (List Numbers)
   pub detached : List Detached
-  pub next : ℕ
+  pub next : List ℕ
   pub places : ℕ
 
 -- ---- arms and logs by slot and arm
@@ -94,6 +93,10 @@ has_leaf arms = list_any is_leaf arms
 abbrev pub has_spare : List Arm → ℕ → Bool
 has_spare arms spare = list_any (is_spare_of spare) arms
 
+-- there is an arm, of this kind and number
+abbrev pub IsArmOf : ArmKind → ℕ → Option Arm → Type 0
+IsArmOf kind number found = (arm : Arm) × (found ≡ Some arm) × (arm.kind ≡ kind) × (arm.number ≡ number)
+
 -- whether a spare was detached from a slot in a group that isn't committed
 abbrev pub was_spare_of : List Detached → ℕ → ℕ → Bool
 was_spare_of detached spare slot = list_any (λ (gone : Detached). is_spare_kind gone.kind && ((gone.number == spare) && (gone.slot == slot))) detached
@@ -105,6 +108,20 @@ holds_in arms detached spare slot = has_spare (slice_index_or arms slot []) spar
 
 abbrev pub holds_spare : SlotTable → ℕ → ℕ → Bool
 holds_spare table spare slot = holds_in table.arms table.detached spare slot
+
+-- the first spare of some arms
+abbrev pub first_spare : List Arm → Option ℕ
+first_spare [] = None
+first_spare (arm ∷ arms) = if is_spare_kind arm.kind then Some arm.number else first_spare arms
+
+-- the first spare of each slot
+abbrev pub first_spares : SlotTable → ℕ → Option ℕ
+first_spares table slot = first_spare (arms_of table slot)
+
+-- whether a leaf was an arm, answered as it was detached, and its detachment isn't committed
+abbrev pub is_leaving_online : SlotTable → ℕ → Bool
+is_leaving_online table leaf =
+    list_any (λ (gone : Detached). is_leaf_kind gone.kind && ((gone.number == leaf) && not gone.offline)) table.detached
 
 -- whether a leaf was an arm, and its detachment isn't committed
 abbrev pub is_leaving : SlotTable → ℕ → Bool
@@ -152,12 +169,12 @@ pub record AreKept (geometry : Geometry) (perms : Perms) (metaslab : ℕ) (slots
   pub paired : All IsPaired slots
   pub sound : AreOf geometry perms metaslab (map arms_in slots) detached
 
-abbrev pub next_room : Option Numbers → ℕ
-next_room None = 0
-next_room (Some log) = log.room
+-- the room of each log of an arm that may still come
+abbrev pub next_rooms : List Numbers → List ℕ
+next_rooms logs = map (λ (log : Numbers). log.room) logs
 
 -- what contracts see of the fields
-abbrev pub table_of : Geometry → Perms → ℕ → List Slot → List Detached → ℕ → ℕ → SlotTable
+abbrev pub table_of : Geometry → Perms → ℕ → List Slot → List Detached → List ℕ → ℕ → SlotTable
 table_of geometry perms metaslab slots detached next places =
     record {
       geometry = geometry;

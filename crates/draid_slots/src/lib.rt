@@ -4,10 +4,12 @@
 
 mod laws;
 mod lists;
+mod moved;
 mod slot;
 mod slots;
 
 pub use draid_names::SlotFault;
 pub use laws::spares_lie_by_the_layout;
+pub use moved::Moved;
 pub use slot::{Detached, ReadArm};
 pub use slots::Slots;

@@ -1,14 +1,14 @@
-ghost use Rattle.std.specs.Prelude.{◌≡◌, ◌≢◌, ◌+◌, ◌<◌, ◌≤◌, ◌∷◌, ◌↔◌, [], ℕ, ◌^◌, All, None, true, false, map, length, IfOk, OnOk, IfSome, IfNone, IsTrue, slice_index_or};
+ghost use Rattle.std.specs.Prelude.{◌≡◌, ◌≢◌, ◌+◌, ◌<◌, ◌≤◌, ◌∷◌, ◌↔◌, [], ℕ, ◌^◌, All, None, true, false, map, length, IfOk, OnOk, IfSome, IfNone, IsTrue, slice_get, slice_index_or};
 ghost use Rattle.draid_names.specs.declared.arm.ArmAt.{ArmAt};
 ghost use Rattle.draid_ranges.specs.Numbers.{has};
 ghost use Rattle.draid_slots.specs.Changes.{AreAllGrown, AreReserved, new_arm, switched_arm};
-ghost use Rattle.draid_slots.specs.Faults.{IsElsewhereIn};
-ghost use Rattle.draid_slots.specs.Table.{IsPaired, arms_in, arms_listed, log_in, logs_in, logs_listed, next_room, was_spare_of};
+ghost use Rattle.draid_slots.specs.declared.slot.Slot.{Slot};
+ghost use Rattle.draid_slots.specs.Table.{IsArmOf, IsPaired, arms_in, arms_listed, log_in, logs_in, logs_listed, no_log, was_spare_of};
 ghost use Rattle.draid_slots.specs.Table as table;
 
-use crate::slot::{Detached, Slot, has_spare, new_slot, reserve_logs, slot_of, switch};
+use crate::slot::{Detached, Slot, has_spare, new_slot, place_of, reserve_logs, slot_of, switch};
 use draid_dtl::Log;
-use draid_names::{Arm, ArmKind, NoMemory};
+use draid_names::{Arm, ArmAt, ArmKind, NoMemory};
 use std::alloc::Global;
 
 /// The slots of a new pool.
@@ -56,22 +56,23 @@ pub(crate) fn reserve_slots(slots: &mut Vec<Slot>, changes: u32) -> Result<(), N
     Ok(())
 }
 
-/// Makes room for so many changes of the log of an arm that is still to come.
+/// Makes room for so many changes of the log of each of so many arms that are still to come.
 pub(crate) fn reserve_next(
     alloc: Global,
-    next: &mut Option<Log>,
+    next: &mut Vec<Log>,
     changes: u32,
+    arms: usize,
 ) -> Result<(), NoMemory>
-    ensures kept { next_room next.old ≤ next_room next.new }
-    ensures room { OnOk result (changes ≤ next_room next.new) }
+    ensures count { length next.old.items ≤ length next.new.items }
+    ensures kept { (k : ℕ) → (slice_index_or next.old.items k no_log).room ≤ (slice_index_or next.new.items k no_log).room }
+    ensures arms { OnOk result (arms ≤ length next.new.items) }
+    ensures room { OnOk result ((k : ℕ) → k < length next.new.items → changes ≤ (slice_index_or next.new.items k no_log).room) }
 {
-    match next {
-        Some(log) => log.reserve(changes)?,
-        None => {
-            let mut log = Log::new(alloc);
-            log.reserve(changes)?;
-            *next = Some(log);
-        }
+    reserve_logs(next, changes)?;
+    for _more in 0..arms.saturating_sub(next.len()) {
+        let mut log = Log::new(alloc);
+        log.reserve(changes)?;
+        next.push(log)?;
     }
     Ok(())
 }
@@ -102,16 +103,22 @@ pub(crate) fn slot_with(slots: &[Slot], spare: u32) -> Option<u32>
     None
 }
 
-/// Whether a slot beside this one has a spare as an arm.
-pub(crate) fn is_elsewhere(slots: &[Slot], slot: u32, spare: u32) -> bool
-    ensures { IsTrue result ↔ IsElsewhereIn (map arms_in slots.now) slot spare }
+/// The place of the arm of this kind and number.
+pub(crate) fn find_arm(slots: &[Slot], kind: ArmKind, number: u64) -> Option<ArmAt>
+    requires few { length slots.now < 2 ^ 32 }
+    requires arms { All (λ (slot : Slot). length (arms_in slot) ≤ 3) slots.now }
+    ensures found { IfSome result (λ at. IsArmOf kind number (slice_get (slice_index_or (map arms_in slots.now) at.slot []) at.arm)) }
+    ensures none { IfNone result ((at : ArmAt) → ¬ (IsArmOf kind number (slice_get (slice_index_or (map arms_in slots.now) at.slot []) at.arm))) }
 {
-    for other in 0..slots.len() {
-        if other != slot as usize && has_spare(&slots[other].arms, spare) {
-            return true;
+    for slot in 0..slots.len() {
+        if let Some(arm) = place_of(&slots[slot].arms, kind, number) {
+            return Some(ArmAt {
+                slot: slot as u32,
+                arm,
+            });
         }
     }
-    false
+    None
 }
 
 /// The slot from which a spare was detached, while that isn't committed.

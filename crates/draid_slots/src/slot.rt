@@ -1,9 +1,10 @@
-ghost use Rattle.std.specs.Prelude.{◌≡◌, ◌≢◌, ◌==◌, ◌+◌, ◌<◌, ◌≤◌, ◌∷◌, ◌++◌, [], ℕ, Some, true, false, All, map, remove, length, IfOk, OnOk, IfSome, IfNone, IsTrue, ◌↔◌, slice_index_or, vec_len, vec_capacity};
+ghost use Rattle.std.specs.Prelude.{◌≡◌, ◌≢◌, ◌==◌, ◌+◌, ◌*◌, ◌^◌, ◌<◌, ◌≤◌, ◌∷◌, ◌++◌, [], ℕ, Some, true, false, All, map, remove, length, IfOk, OnOk, IfSome, IfNone, IsTrue, ◌↔◌, slice_get, slice_index_or, vec_len, vec_capacity};
 ghost use Rattle.draid_ranges.specs.Numbers.{has};
 ghost use Rattle.draid_slots.specs.Changes.{AreGrown, new_arm, switched_arm};
 ghost use Rattle.draid_slots.specs.Faults.{IsLeastCount};
 ghost use Rattle.draid_slots.specs.Reading as reading;
-ghost use Rattle.draid_slots.specs.Table.{IsPaired, arms_in, logs_in, no_log};
+ghost use Rattle.draid_names.specs.declared.arm.Arm.{Arm};
+ghost use Rattle.draid_slots.specs.Table.{IsArmOf, IsPaired, arms_in, logs_in, no_log};
 ghost use Rattle.draid_slots.specs.Table as table;
 
 use draid_dtl::Log;
@@ -29,6 +30,8 @@ pub struct Detached {
     pub slot: u32,
     /// The open group of its detachment.
     pub group: u64,
+    /// Whether it was a leaf that was offline then.
+    pub offline: bool,
 }
 
 /// The arm of a slot that a column is read from.
@@ -156,6 +159,33 @@ pub(crate) fn first_leaf(arms: &[Arm]) -> Arm
         }
     }
     unreachable!()
+}
+
+/// The first spare of the arms.
+pub(crate) fn first_spare(arms: &[Arm]) -> Option<u32>
+    requires { All (λ (arm : Arm). table.is_spare_kind arm.kind ≡ true → arm.number < 2 ^ 32) arms.now }
+    ensures { result ≡ table.first_spare arms.now }
+{
+    for arm in arms {
+        if matches!(arm.kind, ArmKind::Spare) {
+            return Some(arm.number as u32);
+        }
+    }
+    None
+}
+
+/// The place of the arm of this kind and number.
+pub(crate) fn place_of(arms: &[Arm], kind: ArmKind, number: u64) -> Option<u32>
+    requires { length arms.now ≤ 3 }
+    ensures found { IfSome result (λ at. (at < length arms.now) × IsArmOf kind number (slice_get arms.now at)) }
+    ensures none { IfNone result ((at : ℕ) → ¬ (IsArmOf kind number (slice_get arms.now at))) }
+{
+    for at in 0..arms.len() {
+        if arms[at].kind == kind && arms[at].number == number {
+            return Some(at as u32);
+        }
+    }
+    None
 }
 
 /// Whether the arms have this spare.

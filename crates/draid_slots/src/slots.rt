@@ -1,4 +1,4 @@
-ghost use Rattle.std.specs.Prelude.{◌≡◌, ◌≢◌, ◌==◌, ◌+◌, ◌-◌, ◌*◌, ◌<◌, ◌≤◌, ◌^◌, ◌||◌, ◌&&◌, ◌∷◌, [], ℕ, All, Some, true, false, map, filter, length, nat_lt, IfOk, IfErr, OnOk, OnErr, IfSome, IfNone, IsSomeAnd, slice_index_or, vec_len, vec_capacity};
+ghost use Rattle.std.specs.Prelude.{◌≡◌, ◌≢◌, ◌==◌, ◌+◌, ◌-◌, ◌*◌, ◌<◌, ◌≤◌, ◌^◌, ◌||◌, ◌&&◌, ◌∷◌, ◌↔◌, [], ℕ, All, Some, None, IsTrue, true, false, map, filter, length, nat_lt, IfOk, IfErr, OnOk, OnErr, IfSome, IfNone, IsSomeAnd, slice_index_or, vec_len, vec_capacity};
 ghost use Rattle.draid_spec.specs.Geometry.{metaslab_sectors};
 ghost use Rattle.draid_map.specs.Place.{IsLayout};
 ghost use Rattle.draid_names.specs.declared.arm.Arm.{Arm};
@@ -6,19 +6,24 @@ ghost use Rattle.draid_names.specs.declared.arm.ArmAt.{ArmAt};
 ghost use Rattle.draid_ranges.specs.Numbers.{has};
 ghost use Rattle.draid_ranges.specs.Runs.{is_between};
 ghost use Rattle.draid_slots.specs.declared.slot.Slot.{Slot};
-ghost use Rattle.draid_slots.specs.Changes.{Attaches, ChangesArms, ChangesLog, Commits, Detaches, HasRoom, IsNew, IsOf, IsRoomier, Keeps, SetsLog, freshened, switched};
-ghost use Rattle.draid_slots.specs.Faults.{IsAttachRefused, IsDetachRefused, IsLeafRefused, IsLeastElsewhere, IsSpareRefused, MayAttach, MayDetach, NoneElsewhere};
-ghost use Rattle.draid_slots.specs.Reading.{IsFirst, IsNone, IsRead, answers, answers_in, holder, is_clean_in, slice_of};
-ghost use Rattle.draid_slots.specs.Table.{AreKept, AreSlots, IsPaired, IsThere, SlotTable, arms_listed, arms_of, holds_spare, is_leaving, is_logged, log_at, logs_listed, next_room, room_at, table_of};
+ghost use Rattle.draid_slots.specs.Changes.{Attaches, ChangesArms, ChangesLog, Commits, Detaches, HasRoom, IsNew, IsOf, IsRoomier, IsSame, Keeps, SetsLog, freshened, switched};
+ghost use Rattle.draid_slots.specs.Faults.{IsAttachRefused, IsDetachRefused, IsSpareRefused, MayAttach, MayDetach};
+ghost use Rattle.draid_names.specs.Spares.{AreUsed, IsArm};
+ghost use Rattle.draid_chain.specs.Chain.{holder_in};
+ghost use Rattle.draid_chain.specs.Used.{first_in};
+ghost use Rattle.draid_slots.specs.Moves.{ArePlaces, HasMoved, Lies, LiesElsewhere, ArmsWere, has_moved};
+ghost use Rattle.draid_slots.specs.Reading.{IsFirst, IsNone, IsRead, answers, answers_in, holder, is_clean_in, pool_slice, slice_of};
+ghost use Rattle.draid_slots.specs.Table.{AreKept, AreSlots, IsArmOf, IsPaired, IsThere, SlotTable, arm_at, arms_listed, arms_of, has_spare, holds_spare, is_leaving, is_leaving_online, is_logged, log_at, logs_listed, next_rooms, room_at, table_of};
 
 use crate::lists::{
-    is_elsewhere, last_slot_of, new_slots, reserve_next, reserve_slots, slot_with, slots_of,
-    switch_all,
+    find_arm, last_slot_of, new_slots, reserve_next, reserve_slots, slot_with, slots_of, switch_all,
 };
+use crate::moved::{MOST_SPARES, Moved, Places, places_of};
 use crate::slot::{
     Detached, MOST_ARMS, ReadArm, Slot, add_arm, first_leaf, has_leaf_beside, is_leaf, least_count,
     remove_arm,
 };
+use draid_chain::{has_column, slice_holder};
 use draid_dtl::Log;
 use draid_names::{Arm, ArmAt, ArmKind, At, NoMemory, SlotFault};
 use draid_perm::Perms;
@@ -34,14 +39,14 @@ pub struct Slots {
     metaslab: u32,
     slots: Vec<Slot>,
     detached: Vec<Detached>,
-    /// The log of an arm that is still to come.
-    next: Option<Log>,
+    /// The logs of arms that are still to come.
+    next: Vec<Log>,
 }
 
 impl Model for Slots {
     ghost Value = { SlotTable };
 
-    ghost view = { λ s. table_of s.geometry s.perms s.metaslab s.slots.items s.detached.items (next_room s.next) (vec_capacity s.detached - vec_len s.detached) };
+    ghost view = { λ s. table_of s.geometry s.perms s.metaslab s.slots.items s.detached.items (next_rooms s.next.items) (vec_capacity s.detached - vec_len s.detached) };
 
     ghost invariant = { λ s. AreKept s.geometry s.perms s.metaslab s.slots.items s.detached.items };
 }
@@ -67,7 +72,7 @@ impl Slots {
             metaslab,
             slots,
             detached: Vec::new(alloc),
-            next: None,
+            next: Vec::new(alloc),
         })
     }
 
@@ -94,22 +99,24 @@ impl Slots {
             metaslab,
             slots,
             detached: Vec::new(alloc),
-            next: None,
+            next: Vec::new(alloc),
         })
     }
 
-    /// Makes room for so many changes of each log, for one more arm with as many, and for one detachment.
-    pub fn reserve(&mut self, alloc: Global, changes: u32) -> Result<(), NoMemory>
+    /// Makes room for so many changes of each log, for so many more arms with as many each, and for as many
+    /// detachments.
+    #[tactic(auto, using(crate::proofs::Rooms::rooms_kept, crate::proofs::Rooms::some_rooms))]
+    pub fn reserve(&mut self, alloc: Global, changes: u32, arms: u32) -> Result<(), NoMemory>
         ensures kept { Keeps self.old self.new }
         ensures roomier { IsRoomier self.old self.new }
-        ensures room { OnOk result (HasRoom self.new changes) }
+        ensures room { OnOk result (HasRoom self.new changes arms) }
     {
         let Some(more) = changes.checked_add(1) else {
             return Err(NoMemory);
         };
         reserve_slots(&mut self.slots, changes)?;
-        self.detached.reserve(1)?;
-        reserve_next(alloc, &mut self.next, more)?;
+        self.detached.reserve(arms as usize)?;
+        reserve_next(alloc, &mut self.next, more, arms as usize)?;
         Ok(())
     }
 
@@ -181,6 +188,23 @@ impl Slots {
         last_slot_of(&self.detached, spare)
     }
 
+    /// Where the arm of this kind and number is.
+    pub fn find(&self, kind: ArmKind, number: u64) -> Option<ArmAt>
+        ensures found { IfSome result (λ at. IsArmOf kind number (arm_at self.now at)) }
+        ensures none { IfNone result ((at : ArmAt) → ¬ (IsArmOf kind number (arm_at self.now at))) }
+    {
+        find_arm(&self.slots, kind, number)
+    }
+
+    /// Whether a leaf was an arm, wasn't offline as it was detached, and its detachment isn't committed.
+    pub fn leaving_online(&self, leaf: u64) -> bool
+        ensures { result ≡ is_leaving_online self.now leaf }
+    {
+        self.detached.iter().any(|gone| matches!(gone.kind, ArmKind::Leaf)
+            && gone.number == leaf
+            && !gone.offline)
+    }
+
     /// Whether a leaf was an arm and its detachment isn't committed.
     pub fn leaving(&self, leaf: u64) -> bool
         ensures { result ≡ is_leaving self.now leaf }
@@ -250,16 +274,52 @@ impl Slots {
     }
 
     /// Gives a slot one more arm, which is fresh and missed the groups from 1 to `upto`. The room for it is used up.
-    pub fn attach(&mut self, slot: u32, arm: Arm, upto: u64) -> Result<(), SlotFault>
+    /// Answers which spares keep sectors elsewhere from then on.
+    pub fn attach(&mut self, slot: u32, arm: Arm, upto: u64) -> Result<Moved, SlotFault>
         requires range { upto < 2 ^ 48 }
-        requires room { 0 < self.old.next }
+        requires room { 0 < length self.old.next }
+        requires log { All (λ (room : ℕ). 0 < room) self.old.next }
         ensures allowed { OnOk result (MayAttach self.old slot arm) }
         ensures attached { OnOk result (Attaches self.old self.new slot arm upto) }
+        ensures moved { IfOk result (λ moved. (spare : ℕ) → (has_moved moved spare ≡ true) ↔ HasMoved self.old self.new spare) }
+        ensures refused { IfErr result (IsAttachRefused self.old slot arm) }
+        ensures same { OnErr result (self.new ≡ self.old) }
+    {
+        let before = self.places();
+        self.add(slot, arm, upto)?;
+        Ok(self.moved_since(&before))
+    }
+
+    /// Takes an arm out of its slot, in the open group `group`. Answers which spares keep sectors elsewhere from then on.
+    pub fn detach(&mut self, at: ArmAt, group: u64) -> Result<Moved, SlotFault>
+        requires room { 0 < self.old.places }
+        ensures allowed { OnOk result (MayDetach self.old at) }
+        ensures detached { OnOk result (Detaches self.old self.new at group) }
+        ensures moved { IfOk result (λ moved. (spare : ℕ) → (has_moved moved spare ≡ true) ↔ HasMoved self.old self.new spare) }
+        ensures refused { IfErr result (IsDetachRefused self.old at) }
+        ensures same { OnErr result (self.new ≡ self.old) }
+    {
+        let before = self.places();
+        self.take(at, group)?;
+        Ok(self.moved_since(&before))
+    }
+}
+
+impl Slots {
+    /// Gives a slot one more arm.
+    fn add(&mut self, slot: u32, arm: Arm, upto: u64) -> Result<(), SlotFault>
+        requires range { upto < 2 ^ 48 }
+        requires room { 0 < length self.old.next }
+        requires log { All (λ (room : ℕ). 0 < room) self.old.next }
+        ensures allowed { OnOk result (MayAttach self.old slot arm) }
+        ensures attached { OnOk result (Attaches self.old self.new slot arm upto) }
+        ensures count { OnOk result (length self.new.arms ≡ length self.old.arms) }
+        ensures chains { OnOk result (ArmsWere self.old self.new) }
         ensures refused { IfErr result (IsAttachRefused self.old slot arm) }
         ensures same { OnErr result (self.new ≡ self.old) }
     {
         self.may_attach(slot, arm)?;
-        let Some(mut log) = self.next.take() else {
+        let Some(mut log) = self.next.pop() else {
             unreachable!()
         };
         log.fill(upto);
@@ -271,11 +331,13 @@ impl Slots {
         Ok(())
     }
 
-    /// Takes an arm out of its slot, in the open group `group`.
-    pub fn detach(&mut self, at: ArmAt, group: u64) -> Result<(), SlotFault>
+    /// Takes an arm out of its slot.
+    fn take(&mut self, at: ArmAt, group: u64) -> Result<(), SlotFault>
         requires room { 0 < self.old.places }
         ensures allowed { OnOk result (MayDetach self.old at) }
         ensures detached { OnOk result (Detaches self.old self.new at group) }
+        ensures count { OnOk result (length self.new.arms ≡ length self.old.arms) }
+        ensures chains { OnOk result (ArmsWere self.old self.new) }
         ensures refused { IfErr result (IsDetachRefused self.old at) }
         ensures same { OnErr result (self.new ≡ self.old) }
     {
@@ -286,6 +348,7 @@ impl Slots {
             number: arm.number,
             slot: at.slot,
             group,
+            offline: arm.offline,
         });
         Ok(())
     }
@@ -302,10 +365,105 @@ impl Slots {
         if is_leaf(arm) {
             return arm;
         }
-        let before = u64::from(self.metaslab) * u64::from(self.geometry.props.slices);
-        let position = self.geometry.spec.children - 1 - arm.number as u32;
-        let child = self.perms.child(before + slice, position);
+        let places = self.places();
+        let child = self.spare_slot(&places, at.slot, arm.number as u32, slice);
         first_leaf(&self.slots[child as usize].arms)
+    }
+
+    /// The first spare and the first leaf of each slot.
+    fn places(&self) -> Places
+        ensures places { ArePlaces self.now.arms result }
+        ensures used { AreUsed self.now.geometry.spec.children self.now.geometry.spec.spares (first_in result.used) }
+        ensures arms { (slot spare : ℕ) → has_spare (arms_of self.now slot) spare ≡ true
+            → IsArm self.now.geometry.spec.children self.now.geometry.spec.spares (first_in result.used) slot spare }
+        ensures past { (k : ℕ) → self.now.geometry.spec.children ≤ k → first_in result.used k ≡ None }
+    {
+        places_of(&self.slots)
+    }
+
+    /// The slot whose first leaf keeps a slice for a spare arm of a slot.
+    fn spare_slot(&self, places: &Places, slot: u32, spare: u32, slice: u64) -> u32
+        requires used { AreUsed self.now.geometry.spec.children self.now.geometry.spec.spares (first_in places.now.used) }
+        requires arm { IsArm self.now.geometry.spec.children self.now.geometry.spec.spares (first_in places.now.used) slot spare }
+        requires past { (k : ℕ) → self.now.geometry.spec.children ≤ k → first_in places.now.used k ≡ None }
+        requires slice { slice < self.now.geometry.props.slices }
+        ensures slot { result ≡ holder_in self.now.perms self.now.geometry.spec.spares (pool_slice self.now slice) (first_in places.now.used) slot spare }
+        ensures below { result < self.now.geometry.spec.children }
+    {
+        let children = self.geometry.spec.children as usize;
+        let before = u64::from(self.metaslab) * u64::from(self.geometry.props.slices);
+        slice_holder(
+            &self.geometry,
+            &self.perms,
+            &places.used[..children],
+            before + slice,
+            slot,
+            spare,
+        )
+    }
+
+    /// The spares that keep sectors elsewhere than by what was kept of the slots' arms.
+    fn moved_since(&self, before: &Places) -> Moved
+        requires used { AreUsed self.now.geometry.spec.children self.now.geometry.spec.spares (first_in before.now.used) }
+        requires arm { (slot spare : ℕ) → has_spare (arms_of self.now slot) spare ≡ true
+            → IsArm self.now.geometry.spec.children self.now.geometry.spec.spares (first_in before.now.used) slot spare }
+        requires past { (k : ℕ) → self.now.geometry.spec.children ≤ k → first_in before.now.used k ≡ None }
+        ensures { (old : SlotTable) → IsSame old self.now → length old.arms ≡ length self.now.arms
+            → ArePlaces old.arms before.now
+            → (spare : ℕ) → (has_moved result spare ≡ true) ↔ HasMoved old self.now spare }
+    {
+        let now = self.places();
+        let mut moved = Moved {
+            spares: [false; MOST_SPARES],
+        };
+        for spare in 0..self.geometry.spec.spares {
+            moved.spares[spare as usize] = self.moves(before, &now, spare);
+        }
+        moved
+    }
+
+    /// Whether a spare arm keeps a column of its slot elsewhere by one of two such lists than by the other.
+    fn moves(&self, before: &Places, now: &Places, spare: u32) -> bool
+        requires before { AreUsed self.now.geometry.spec.children self.now.geometry.spec.spares (first_in before.now.used) }
+        requires before_arm { (slot : ℕ) → has_spare (arms_of self.now slot) spare ≡ true
+            → IsArm self.now.geometry.spec.children self.now.geometry.spec.spares (first_in before.now.used) slot spare }
+        requires before_past { (k : ℕ) → self.now.geometry.spec.children ≤ k → first_in before.now.used k ≡ None }
+        requires now { AreUsed self.now.geometry.spec.children self.now.geometry.spec.spares (first_in now.now.used) }
+        requires now_arm { (slot : ℕ) → has_spare (arms_of self.now slot) spare ≡ true
+            → IsArm self.now.geometry.spec.children self.now.geometry.spec.spares (first_in now.now.used) slot spare }
+        requires now_past { (k : ℕ) → self.now.geometry.spec.children ≤ k → first_in now.now.used k ≡ None }
+        ensures moves { result ≡ true → Lies before.now now.now self.now spare }
+        ensures stays { result ≡ false → ¬ (Lies before.now now.now self.now spare) }
+    {
+        let Some(slot) = slot_with(&self.slots, spare) else {
+            return false;
+        };
+        for slice in 0..u64::from(self.geometry.props.slices) {
+            if self.moves_in(before, now, slot, spare, slice) {
+                return true;
+            }
+        }
+        false
+    }
+
+    /// Whether a spare arm of a slot keeps the slot's column of a slice elsewhere by one of two such lists than by the other.
+    fn moves_in(&self, before: &Places, now: &Places, slot: u32, spare: u32, slice: u64) -> bool
+        requires before { AreUsed self.now.geometry.spec.children self.now.geometry.spec.spares (first_in before.now.used) }
+        requires before_arm { IsArm self.now.geometry.spec.children self.now.geometry.spec.spares (first_in before.now.used) slot spare }
+        requires before_past { (k : ℕ) → self.now.geometry.spec.children ≤ k → first_in before.now.used k ≡ None }
+        requires now { AreUsed self.now.geometry.spec.children self.now.geometry.spec.spares (first_in now.now.used) }
+        requires now_arm { IsArm self.now.geometry.spec.children self.now.geometry.spec.spares (first_in now.now.used) slot spare }
+        requires now_past { (k : ℕ) → self.now.geometry.spec.children ≤ k → first_in now.now.used k ≡ None }
+        requires slice { slice < self.now.geometry.props.slices }
+        ensures { IsTrue result ↔ LiesElsewhere before.now now.now self.now slot spare slice }
+    {
+        let first = u64::from(self.metaslab) * u64::from(self.geometry.props.slices);
+        if !has_column(&self.geometry, &self.perms, first + slice, slot) {
+            return false;
+        }
+        let old = self.spare_slot(before, slot, spare, slice);
+        let new = self.spare_slot(now, slot, spare, slice);
+        before.leaves[old as usize] != now.leaves[new as usize]
     }
 
     /// The first arm of a slot that answers in a slice.
@@ -339,19 +497,6 @@ impl Slots {
         None
     }
 
-    /// The least spare that another slot has as an arm.
-    fn least_elsewhere(&self, slot: u32) -> Option<u32>
-        ensures least { IfSome result (IsLeastElsewhere self.now slot) }
-        ensures none { IfNone result (NoneElsewhere self.now slot) }
-    {
-        for spare in 0..self.geometry.spec.spares {
-            if is_elsewhere(&self.slots, slot, spare) {
-                return Some(spare);
-            }
-        }
-        None
-    }
-
     /// Ok where an arm may be attached to a slot.
     fn may_attach(&self, slot: u32, arm: Arm) -> Result<(), SlotFault>
         ensures allowed { OnOk result (MayAttach self.now slot arm) }
@@ -360,9 +505,8 @@ impl Slots {
         if slot >= self.geometry.spec.children {
             return Err(SlotFault::NoSuch);
         }
-        match arm.kind {
-            ArmKind::Spare => self.is_idle(arm.number)?,
-            ArmKind::Leaf => self.is_quiet(slot)?,
+        if !is_leaf(arm) {
+            self.is_idle(arm.number)?;
         }
         let arms = self.arms(slot).len();
         if arms >= MOST_ARMS {
@@ -386,17 +530,6 @@ impl Slots {
         }
     }
 
-    /// Ok where no other slot has a spare as an arm.
-    fn is_quiet(&self, slot: u32) -> Result<(), SlotFault>
-        ensures quiet { OnOk result (NoneElsewhere self.now slot) }
-        ensures refused { IfErr result (IsLeafRefused self.now slot) }
-    {
-        match self.least_elsewhere(slot) {
-            Some(spare) => Err(SlotFault::SpareInUse { spare }),
-            None => Ok(()),
-        }
-    }
-
     /// Ok where an arm may be detached.
     fn may_detach(&self, at: ArmAt) -> Result<(), SlotFault>
         ensures allowed { OnOk result (MayDetach self.now at) }
@@ -411,9 +544,6 @@ impl Slots {
         }
         if !has_leaf_beside(&slot.arms, at.arm as usize) {
             return Err(SlotFault::LastArm);
-        }
-        if is_leaf(slot.arms[at.arm as usize]) {
-            self.is_quiet(at.slot)?;
         }
         match least_count(&slot.logs, at.arm as usize) {
             Some(0) => Ok(()),

@@ -6,7 +6,7 @@ ghost use Rattle.draid_map.specs.Place.{IsLayout};
 use draid_dtl::Log;
 use draid_names::{Arm, ArmAt, ArmKind, At, NoMemory};
 use draid_perm::Perms;
-use draid_slots::{ReadArm, SlotFault, Slots};
+use draid_slots::{Moved, ReadArm, SlotFault, Slots};
 use draid_spec::{Geometry, Props, geometry, parse_spec};
 use std::alloc::Global;
 
@@ -41,15 +41,27 @@ fn attach(
     alloc: Global,
     slot: u32,
     arm: Arm,
-) -> Result<Result<(), SlotFault>, NoMemory> {
-    slots.reserve(alloc, 2)?;
+) -> Result<Result<Moved, SlotFault>, NoMemory> {
+    slots.reserve(alloc, 2, 1)?;
     Ok(slots.attach(slot, arm, 4))
 }
 
 /// Detaches an arm in group 5, with room made for it.
-fn detach(slots: &mut Slots, alloc: Global, at: ArmAt) -> Result<Result<(), SlotFault>, NoMemory> {
-    slots.reserve(alloc, 2)?;
+fn detach(
+    slots: &mut Slots,
+    alloc: Global,
+    at: ArmAt,
+) -> Result<Result<Moved, SlotFault>, NoMemory> {
+    slots.reserve(alloc, 2, 1)?;
     Ok(slots.detach(at, 5))
+}
+
+/// Whether an arm came or went, without the spares that moved.
+fn done(answer: Result<Moved, SlotFault>) -> Result<(), SlotFault> {
+    match answer {
+        Ok(_) => Ok(()),
+        Err(fault) => Err(fault),
+    }
 }
 
 /// The answers to attachments, one after another: a spare, the spare again elsewhere, a leaf elsewhere, a
@@ -63,13 +75,13 @@ fn attached(
 {
     let mut slots = Slots::new(alloc, layout, perms, 0)?;
     Ok([
-        attach(&mut slots, alloc, 1, arm(ArmKind::Spare, 0))?,
-        attach(&mut slots, alloc, 2, arm(ArmKind::Spare, 0))?,
-        attach(&mut slots, alloc, 2, arm(ArmKind::Leaf, 4))?,
-        attach(&mut slots, alloc, 1, arm(ArmKind::Leaf, 4))?,
-        attach(&mut slots, alloc, 1, arm(ArmKind::Leaf, 5))?,
-        attach(&mut slots, alloc, 1, arm(ArmKind::Spare, 1))?,
-        attach(&mut slots, alloc, 4, arm(ArmKind::Leaf, 5))?,
+        done(attach(&mut slots, alloc, 1, arm(ArmKind::Spare, 0))?),
+        done(attach(&mut slots, alloc, 2, arm(ArmKind::Spare, 0))?),
+        done(attach(&mut slots, alloc, 2, arm(ArmKind::Leaf, 4))?),
+        done(attach(&mut slots, alloc, 1, arm(ArmKind::Leaf, 5))?),
+        done(attach(&mut slots, alloc, 1, arm(ArmKind::Leaf, 6))?),
+        done(attach(&mut slots, alloc, 1, arm(ArmKind::Spare, 1))?),
+        done(attach(&mut slots, alloc, 4, arm(ArmKind::Leaf, 6))?),
     ])
 }
 
@@ -83,13 +95,64 @@ fn detached(
     requires { IsLayout layout perms }
 {
     let mut slots = Slots::new(alloc, layout, perms, 0)?;
-    let only = detach(&mut slots, alloc, at(0, 0))?;
-    let none = detach(&mut slots, alloc, at(0, 1))?;
+    let only = done(detach(&mut slots, alloc, at(0, 0))?);
+    let none = done(detach(&mut slots, alloc, at(0, 1))?);
     let _ = attach(&mut slots, alloc, 1, arm(ArmKind::Spare, 0))?;
-    let spare = detach(&mut slots, alloc, at(1, 1))?;
+    let spare = done(detach(&mut slots, alloc, at(1, 1))?);
     let _ = attach(&mut slots, alloc, 2, arm(ArmKind::Leaf, 4))?;
-    let missed = detach(&mut slots, alloc, at(2, 0))?;
+    let missed = done(detach(&mut slots, alloc, at(2, 0))?);
     Ok([only, none, spare, missed])
+}
+
+/// What became of a spare whose sectors lay on a slot that got a spare in its turn: where sector 0 of its slot
+/// lay before and lies then, whether it moved, and whether the other spare did.
+fn chained(
+    alloc: Global,
+    layout: Geometry,
+    perms: Perms,
+) -> Result<Option<([u64; 2], [bool; 2])>, NoMemory>
+    requires { IsLayout layout perms }
+{
+    if layout.spec.children != 5 || layout.spec.spares != 2 {
+        return Ok(None);
+    }
+    let spared = perms.child(0, 0);
+    let keeper = perms.child(0, 4);
+    let mut slots = Slots::new(alloc, layout, perms, 0)?;
+    let _ = attach(&mut slots, alloc, spared, arm(ArmKind::Spare, 0))?;
+    if slots.arms(spared).len() < 2 || layout.rows == 0 {
+        return Ok(None);
+    }
+    let before = slots.place(at(spared, 1), 0).leaf;
+    let Ok(moved) = attach(&mut slots, alloc, keeper, arm(ArmKind::Spare, 1))? else {
+        return Ok(None);
+    };
+    if slots.arms(spared).len() < 2 {
+        return Ok(None);
+    }
+    let after = slots.place(at(spared, 1), 0).leaf;
+    Ok(Some(([before, after], [moved.has(0), moved.has(1)])))
+}
+
+/// Whether a leaf that leaves was online as it was detached, for a leaf that was and for one that wasn't; and where a
+/// leaf and one that isn't there are found.
+fn left(
+    alloc: Global,
+    layout: Geometry,
+    perms: Perms,
+    offline: bool,
+) -> Result<(bool, [Option<ArmAt>; 2]), NoMemory>
+    requires { IsLayout layout perms }
+{
+    let mut slots = Slots::new(alloc, layout, perms, 0)?;
+    let _ = attach(&mut slots, alloc, 1, arm(ArmKind::Leaf, 4))?;
+    slots.set_offline(4, offline);
+    let found = slots.find(ArmKind::Leaf, 4);
+    let _ = detach(&mut slots, alloc, at(1, 1))?;
+    Ok((
+        slots.leaving_online(4),
+        [found, slots.find(ArmKind::Spare, 0)],
+    ))
 }
 
 /// Whether the spare is busy before the commit of its detachment and behind it, and whether a leaf is
@@ -123,7 +186,7 @@ fn read(
 {
     let mut slots = Slots::new(alloc, layout, perms, 0)?;
     let _ = attach(&mut slots, alloc, 1, arm(ArmKind::Leaf, 4))?;
-    slots.reserve(alloc, 2)?;
+    slots.reserve(alloc, 2, 1)?;
     if layout.spec.children < 2 || slots.arms(1).len() < 2 {
         return Ok(None);
     }
@@ -148,7 +211,7 @@ fn logged(
     requires { IsLayout layout perms }
 {
     let mut slots = Slots::new(alloc, layout, perms, 0)?;
-    slots.reserve(alloc, 2)?;
+    slots.reserve(alloc, 2, 1)?;
     if layout.spec.children < 2 || slots.arms(1).is_empty() {
         return Ok(None);
     }
@@ -245,13 +308,12 @@ fn arms_come_and_go(rt: HostRuntime) {
     let spec = parse_spec(b"draid1:2d:1s", 4).expect(&rt, "a spec");
     let layout = geometry(spec, PROPS).expect(&rt, "a layout");
     let perms = Perms::new(layout.spec.children, layout.props.seed);
-    let in_use = SlotFault::SpareInUse { spare: 0 };
     assert_eq!(rt;
         attached(alloc, layout, perms),
         Ok([
             Ok(()),
             Err(SlotFault::SpareBusy { by: 1 }),
-            Err(in_use),
+            Ok(()),
             Ok(()),
             Err(SlotFault::Full { arms: 3 }),
             Err(SlotFault::NoSuch),
@@ -271,6 +333,22 @@ fn arms_come_and_go(rt: HostRuntime) {
         committed(alloc, layout, perms),
         Ok(([None, Some(1), Some(1), None], false))
     );
+}
+
+#[test]
+fn a_spare_moves_on_where_its_keeper_is_spared(rt: HostRuntime) {
+    let alloc = rt.alloc();
+    let spec = parse_spec(b"draid1:2d:2s", 5).expect(&rt, "a spec");
+    let layout = geometry(spec, PROPS).expect(&rt, "a layout");
+    let perms = Perms::new(layout.spec.children, layout.props.seed);
+    let leaf = |position: u32| u64::from(perms.child(0, position));
+    assert_eq!(rt;
+        chained(alloc, layout, perms),
+        Ok(Some(([leaf(4), leaf(3)], [true, false])))
+    );
+    let four = Some(at(1, 1));
+    assert_eq!(rt; left(alloc, layout, perms, false), Ok((true, [four, None])));
+    assert_eq!(rt; left(alloc, layout, perms, true), Ok((false, [four, None])));
 }
 
 #[test]

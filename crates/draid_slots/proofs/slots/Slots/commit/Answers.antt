@@ -3,7 +3,7 @@ use Rattle.std.specs.Prelude.{filter, nat_lt, vec_len, vec_capacity}
 use Rattle.std.proofs.lemmas.Fn.{filter_same}
 use Rattle.draid_slots.specs.declared.slot.Detached.{Detached}
 use Rattle.draid_slots.specs.Changes.{Commits}
-use Rattle.draid_slots.specs.Table.{AreKept, SlotTable, arms_in, next_room, table_of}
+use Rattle.draid_slots.specs.Table.{AreKept, SlotTable, arms_in, next_rooms, table_of}
 use Rattle.draid_slots.proofs.Spares.{later_only}
 use Rattle.draid_slots.proofs.slots.Slots.commit.Goals as goal
 
@@ -21,7 +21,7 @@ invariant_of-self c =
 pub returns : goal.returns
 returns c =
     let s = c.self.inside in
-    let now : SlotTable = table_of s.geometry s.perms s.metaslab s.slots.items c.retain.new.self.items (next_room s.next) (vec_capacity c.retain.new.self - vec_len c.retain.new.self) in
+    let now : SlotTable = table_of s.geometry s.perms s.metaslab s.slots.items c.retain.new.self.items (next_rooms s.next.items) (vec_capacity c.retain.new.self - vec_len c.retain.new.self) in
     let C : SlotTable → Type 0 = λ t. Commits t now c.args.group in
     subst C c.self.view_is (record {
       same = record { geometry_is = refl; perms_are = refl; metaslab_is = refl };

@@ -5,7 +5,7 @@ use Rattle.std.proofs.lemmas.List.{length-set}
 use Rattle.draid_ranges.specs.Numbers.{Numbers, has}
 use Rattle.draid_slots.specs.declared.slot.Slot.{Slot}
 use Rattle.draid_slots.specs.Changes.{ChangesLog}
-use Rattle.draid_slots.specs.Table.{IsThere, SlotTable, is_logged, next_room, table_of}
+use Rattle.draid_slots.specs.Table.{IsThere, SlotTable, is_logged, next_rooms, table_of}
 use Rattle.draid_slots.proofs.Tables.{IsPlace, changes_log, its_place, kept_log, log_found, sets_log}
 use Rattle.draid_slots.proofs.slots.Slots.excise.Goals as goal
 
@@ -26,7 +26,7 @@ returns c =
     let before : Numbers = c.index_mut-2.result.now in
     let log : Numbers = c.excise.new.self in
     let new : Slot = record { arms = old.arms; logs = with_item old.logs c.args.at.arm log } in
-    let now : SlotTable = table_of s.geometry s.perms s.metaslab (set s.slots.items c.args.at.slot new) s.detached.items (next_room s.next) (vec_capacity s.detached - vec_len s.detached) in
+    let now : SlotTable = table_of s.geometry s.perms s.metaslab (set s.slots.items c.args.at.slot new) s.detached.items (next_rooms s.next.items) (vec_capacity s.detached - vec_len s.detached) in
     let T : SlotTable → Type 0 = λ t. IsThere t c.args.at in
     let C : SlotTable → Type 0 = λ t. ChangesLog t now c.args.at (λ x. is_logged t c.args.at x && nat_lt c.args.upto x) in
     let place : IsPlace s.slots.items c.args.at old = its_place s.slots.items c.args.at old c.self.invariant.paired (subst T (sym c.self.view_is) c.requires.there) c.index_mut.ensures.value in
@@ -34,5 +34,5 @@ returns c =
     let left = c.excise.ensures.left in
     let had = ap (λ (l : Numbers). l.room) was in
     subst C c.self.view_is (changes_log _ now c.args.at log _
-    (sets_log s.geometry s.perms s.metaslab s.slots.items s.detached.items (next_room s.next) (vec_capacity s.detached - vec_len s.detached) c.args.at old new log place c.index_mut.ensures.value refl refl)
+    (sets_log s.geometry s.perms s.metaslab s.slots.items s.detached.items (next_rooms s.next.items) (vec_capacity s.detached - vec_len s.detached) c.args.at old new log place c.index_mut.ensures.value refl refl)
     (λ x. c.excise.ensures.members x ∙ sym (ap (λ l. has l x && nat_lt c.args.upto x) was)) (omega arith))

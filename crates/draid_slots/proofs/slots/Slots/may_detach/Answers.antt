@@ -1,14 +1,12 @@
-use Rattle.std.proofs.Common.{◌≡◌, ◌<◌, ◌-◌, ℕ, [], true, Some, length, arith, sym, ap, ◌∙◌, subst}
+use Rattle.std.proofs.Common.{◌≡◌, ◌<◌, ◌-◌, ℕ, [], true, length, arith, sym, ap, ◌∙◌, subst}
 use Rattle.std.specs.Prelude.{remove, vec_len, vec_capacity}
 use Rattle.std.proofs.lemmas.List.{get_or-map, length-map}
-use Rattle.draid_names.specs.declared.arm.Arm.{Arm}
 use Rattle.draid_names.specs.declared.refusal.SlotFault.TheVariants.{LogNotEmpty}
 use Rattle.draid_slots.specs.declared.slot.Slot.{Slot}
-use Rattle.draid_slots.specs.Faults.{IsDetachRefused, MayDetach, HasLeafBeside, IsLeafAt, IsLeastLogged, NoneElsewhere}
-use Rattle.draid_slots.specs.Table.{IsPaired, IsThere, SlotTable, arm_at, arms_in, arms_of, has_leaf, next_room, table_of}
-use Rattle.draid_slots.proofs.Refusals.{least_logged, no_leaf, one_beside}
-use Rattle.draid_slots.proofs.Tables.{IsPlace, arm_found, its_place}
-use Rattle.draid_slots.proofs.slots.Slots.may_detach.Goals.{then-is_leaf+in_ok-is_quiet, else-is_leaf}
+use Rattle.draid_slots.specs.Faults.{IsDetachRefused, MayDetach, HasLeafBeside, IsLeastLogged}
+use Rattle.draid_slots.specs.Table.{IsPaired, IsThere, SlotTable, arms_in, arms_of, has_leaf, next_rooms, table_of}
+use Rattle.draid_slots.proofs.Refusals.{least_logged, one_beside}
+use Rattle.draid_slots.proofs.Tables.{IsPlace, its_place}
 use Rattle.draid_slots.proofs.slots.Slots.may_detach.Goals as goal
 
 pub unreachable-requires : goal.unreachable-requires
@@ -28,48 +26,34 @@ returns-in-Some-eq0-clause-allowed c =
     let s = c.self.inside in
     let slots = s.slots.items in
     let slot : Slot = c.index-slot.result.now in
-    let arm : Arm = c.index.result.now in
-    let t : SlotTable = table_of s.geometry s.perms s.metaslab slots s.detached.items (next_room s.next) (vec_capacity s.detached - vec_len s.detached) in
+    let t : SlotTable = table_of s.geometry s.perms s.metaslab slots s.detached.items (next_rooms s.next.items) (vec_capacity s.detached - vec_len s.detached) in
     let many = c.self.invariant.sound.slots.children in
     let within : c.args.at.slot < length slots = omega (arith, length-map slots arms_in) in
     let arms : arms_of t c.args.at.slot ≡ slot.arms.items = get_or-map arms_in slots c.args.at.slot slot [] within ∙ ap arms_in (sym c.index-slot.ensures) in
     let there : IsThere t c.args.at = omega (arith, ap length arms) in
     let place : IsPlace slots c.args.at slot = its_place slots c.args.at slot c.self.invariant.paired there c.index-slot.ensures in
-    let found : arm_at t c.args.at ≡ Some arm = arm_found slots c.args.at slot arm place c.index.ensures in
     let beside : HasLeafBeside t c.args.at =
     ap (λ arms. has_leaf (remove arms c.args.at.arm)) (arms ∙ sym c.deref.ensures.value) ∙ sym c.has_leaf_beside.ensures ∙ c.if-not-has_leaf_beside.false in
-    let N : SlotTable → Type 0 = λ t. NoneElsewhere t c.args.at.slot in
-    let quiet : IsLeafAt t c.args.at → NoneElsewhere t c.args.at.slot = elim c.if-is_leaf.branch [
-      | then-is_leaf+in_ok-is_quiet w ↦ λ is. subst N (sym c.self.view_is) w.in_ok-is_quiet.ensures.quiet
-      | else-is_leaf w ↦ λ is. absurd (no_leaf t c.args.at arm found (sym c.is_leaf.ensures ∙ w.if-is_leaf.false) is)
-    ] in
     let M : SlotTable → Type 0 = λ t. MayDetach t c.args.at in
     let L : ℕ → Type 0 = λ n. IsLeastLogged t c.args.at n in
-    let least = least_logged s.geometry s.perms s.metaslab slots s.detached.items (next_room s.next) (vec_capacity s.detached - vec_len s.detached) c.args.at slot
+    let least = least_logged s.geometry s.perms s.metaslab slots s.detached.items (next_rooms s.next.items) (vec_capacity s.detached - vec_len s.detached) c.args.at slot
     c.deref-2.result.now c.in-Some-eq0.field-0 place c.deref-2.ensures.value c.in-Some-eq0.ensures.least in
-    subst M c.self.view_is (record { there = there; leaf_beside = beside; quiet = quiet; missed_none = subst L c.in-Some-eq0.field-0-test least })
+    subst M c.self.view_is (record { there = there; leaf_beside = beside; missed_none = subst L c.in-Some-eq0.field-0-test least })
 
 pub returns-in-Some-clause-refused : goal.returns-in-Some-clause-refused
 returns-in-Some-clause-refused c =
     let s = c.self.inside in
     let slots = s.slots.items in
     let slot : Slot = c.index-slot.result.now in
-    let arm : Arm = c.index.result.now in
-    let t : SlotTable = table_of s.geometry s.perms s.metaslab slots s.detached.items (next_room s.next) (vec_capacity s.detached - vec_len s.detached) in
+    let t : SlotTable = table_of s.geometry s.perms s.metaslab slots s.detached.items (next_rooms s.next.items) (vec_capacity s.detached - vec_len s.detached) in
     let many = c.self.invariant.sound.slots.children in
     let within : c.args.at.slot < length slots = omega (arith, length-map slots arms_in) in
     let arms : arms_of t c.args.at.slot ≡ slot.arms.items = get_or-map arms_in slots c.args.at.slot slot [] within ∙ ap arms_in (sym c.index-slot.ensures) in
     let there : IsThere t c.args.at = omega (arith, ap length arms) in
     let place : IsPlace slots c.args.at slot = its_place slots c.args.at slot c.self.invariant.paired there c.index-slot.ensures in
-    let found : arm_at t c.args.at ≡ Some arm = arm_found slots c.args.at slot arm place c.index.ensures in
     let beside : HasLeafBeside t c.args.at =
     ap (λ arms. has_leaf (remove arms c.args.at.arm)) (arms ∙ sym c.deref.ensures.value) ∙ sym c.has_leaf_beside.ensures ∙ c.if-not-has_leaf_beside.false in
-    let N : SlotTable → Type 0 = λ t. NoneElsewhere t c.args.at.slot in
-    let quiet : IsLeafAt t c.args.at → NoneElsewhere t c.args.at.slot = elim c.if-is_leaf.branch [
-      | then-is_leaf+in_ok-is_quiet w ↦ λ is. subst N (sym c.self.view_is) w.in_ok-is_quiet.ensures.quiet
-      | else-is_leaf w ↦ λ is. absurd (no_leaf t c.args.at arm found (sym c.is_leaf.ensures ∙ w.if-is_leaf.false) is)
-    ] in
     let M : SlotTable → Type 0 = λ t. IsDetachRefused t c.args.at (LogNotEmpty c.in-Some.groups) in
-    let least = least_logged s.geometry s.perms s.metaslab slots s.detached.items (next_room s.next) (vec_capacity s.detached - vec_len s.detached) c.args.at slot
+    let least = least_logged s.geometry s.perms s.metaslab slots s.detached.items (next_rooms s.next.items) (vec_capacity s.detached - vec_len s.detached) c.args.at slot
     c.deref-2.result.now c.in-Some.groups place c.deref-2.ensures.value c.in-Some.ensures.least in
-    subst M c.self.view_is (there, beside, quiet, (let nonzero = c.in-Some.groups-test.1 in omega arith), least)
+    subst M c.self.view_is (there, beside, (let nonzero = c.in-Some.groups-test.1 in omega arith), least)

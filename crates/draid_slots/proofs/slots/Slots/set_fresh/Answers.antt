@@ -6,7 +6,7 @@ use Rattle.std.proofs.lemmas.List.Elements.{All-set}
 use Rattle.draid_names.specs.declared.arm.Arm.{Arm}
 use Rattle.draid_slots.specs.declared.slot.Slot.{Slot}
 use Rattle.draid_slots.specs.Changes.{ChangesArms, freshened}
-use Rattle.draid_slots.specs.Table.{AreOf, IsPaired, IsThere, SlotTable, arms_in, next_room, table_of}
+use Rattle.draid_slots.specs.Table.{AreOf, IsPaired, IsThere, SlotTable, arms_in, next_rooms, table_of}
 use Rattle.draid_slots.proofs.Names.{freshened_name, one_freshened, one_named, slots_kept}
 use Rattle.draid_slots.proofs.OneSlot.{logs_kept}
 use Rattle.draid_slots.proofs.Tables.{IsPlace, its_place}
@@ -49,7 +49,7 @@ returns c =
     let T : SlotTable → Type 0 = λ t. IsThere t c.args.at in
     let place : IsPlace slots c.args.at old = its_place slots c.args.at old c.self.invariant.paired (subst T (sym c.self.view_is) c.requires.there) c.index_mut.ensures.value in
     let within : c.args.at.slot < length (map arms_in slots) = (let below = place.slot_within in omega (arith, below, length-map slots arms_in)) in
-    let now : SlotTable = table_of s.geometry s.perms s.metaslab (set slots c.args.at.slot new) s.detached.items (next_room s.next) (vec_capacity s.detached - vec_len s.detached) in
+    let now : SlotTable = table_of s.geometry s.perms s.metaslab (set slots c.args.at.slot new) s.detached.items (next_rooms s.next.items) (vec_capacity s.detached - vec_len s.detached) in
     let C : SlotTable → Type 0 = λ t. ChangesArms t now (freshened c.args.at c.args.fresh) in
     subst C c.self.view_is (record {
       same = record { geometry_is = refl; perms_are = refl; metaslab_is = refl };

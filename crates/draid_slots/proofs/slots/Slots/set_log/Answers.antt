@@ -5,7 +5,7 @@ use Rattle.std.proofs.lemmas.List.{length-set}
 use Rattle.draid_ranges.specs.Numbers.{Numbers}
 use Rattle.draid_slots.specs.declared.slot.Slot.{Slot}
 use Rattle.draid_slots.specs.Changes.{SetsLog}
-use Rattle.draid_slots.specs.Table.{IsThere, SlotTable, next_room, table_of}
+use Rattle.draid_slots.specs.Table.{IsThere, SlotTable, next_rooms, table_of}
 use Rattle.draid_slots.proofs.Tables.{IsPlace, its_place, kept_log, sets_log}
 use Rattle.draid_slots.proofs.slots.Slots.set_log.Goals as goal
 
@@ -25,8 +25,8 @@ returns c =
     let old : Slot = c.index_mut.result.now in
     let log : Numbers = c.args.log in
     let new : Slot = record { arms = old.arms; logs = with_item old.logs c.args.at.arm log } in
-    let now : SlotTable = table_of s.geometry s.perms s.metaslab (set s.slots.items c.args.at.slot new) s.detached.items (next_room s.next) (vec_capacity s.detached - vec_len s.detached) in
+    let now : SlotTable = table_of s.geometry s.perms s.metaslab (set s.slots.items c.args.at.slot new) s.detached.items (next_rooms s.next.items) (vec_capacity s.detached - vec_len s.detached) in
     let T : SlotTable → Type 0 = λ t. IsThere t c.args.at in
     let C : SlotTable → Type 0 = λ t. SetsLog t now c.args.at log in
     let place : IsPlace s.slots.items c.args.at old = its_place s.slots.items c.args.at old c.self.invariant.paired (subst T (sym c.self.view_is) c.requires.there) c.index_mut.ensures.value in
-    subst C c.self.view_is (sets_log s.geometry s.perms s.metaslab s.slots.items s.detached.items (next_room s.next) (vec_capacity s.detached - vec_len s.detached) c.args.at old new log place c.index_mut.ensures.value refl refl)
+    subst C c.self.view_is (sets_log s.geometry s.perms s.metaslab s.slots.items s.detached.items (next_rooms s.next.items) (vec_capacity s.detached - vec_len s.detached) c.args.at old new log place c.index_mut.ensures.value refl refl)

@@ -2,7 +2,7 @@ use Rattle.std.proofs.Common.{◌-◌, [], List, map, get_or, refl, sym, ap, ◌
 use Rattle.std.specs.Prelude.{slice_get, vec_len, vec_capacity}
 use Rattle.draid_names.specs.declared.arm.Arm.{Arm}
 use Rattle.draid_slots.specs.Changes.{ChangesArms, switched}
-use Rattle.draid_slots.specs.Table.{AreOf, SlotTable, arms_in, next_room, table_of}
+use Rattle.draid_slots.specs.Table.{AreOf, SlotTable, arms_in, next_rooms, table_of}
 use Rattle.draid_slots.proofs.Names.{all_switched, arms_switched, slots_kept}
 use Rattle.draid_slots.proofs.slots.Slots.set_offline.Goals as goal
 
@@ -26,7 +26,7 @@ pub returns : goal.returns
 returns c =
     let s = c.self.inside in
     let slots = s.slots.items in
-    let now : SlotTable = table_of s.geometry s.perms s.metaslab c.switch_all.new.slots.items s.detached.items (next_room s.next) (vec_capacity s.detached - vec_len s.detached) in
+    let now : SlotTable = table_of s.geometry s.perms s.metaslab c.switch_all.new.slots.items s.detached.items (next_rooms s.next.items) (vec_capacity s.detached - vec_len s.detached) in
     let C : SlotTable → Type 0 = λ t. ChangesArms t now (switched c.args.leaf c.args.offline) in
     subst C c.self.view_is (record {
       same = record { geometry_is = refl; perms_are = refl; metaslab_is = refl };

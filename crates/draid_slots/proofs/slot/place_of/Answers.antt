@@ -1,0 +1,11 @@
+use Rattle.std.proofs.Common.{length, arith, sym, ◌∙◌, inl, inr}
+use Rattle.std.proofs.lemmas.Bool.{cases_lt}
+use Rattle.std.proofs.lemmas.Option.{slice_get_past}
+use Rattle.draid_slots.proofs.Settled.{none_some}
+use Rattle.draid_slots.proofs.slot.place_of.Goals as goal
+
+pub returns-clause-none : goal.returns-clause-none
+returns-clause-none c = λ at h. elim (cases_lt at (length c.args.arms.now)) [
+  | inl below ↦ c.loop-at.invariant at (omega arith) h
+  | inr past ↦ none_some _ h.0 (sym (slice_get_past c.args.arms.now at past) ∙ h.1)
+]

@@ -1,0 +1,20 @@
+use Rattle.std.proofs.Common.{◌≡◌, ◌<◌, ℕ, [], true, List, map, get_or, arith, sym, subst}
+use Rattle.draid_slots.specs.declared.slot.Slot.{Slot}
+use Rattle.draid_slots.specs.Moves.{LiesElsewhere}
+use Rattle.draid_slots.specs.Table.{SlotTable, arms_in, arms_of, has_spare}
+use Rattle.draid_slots.proofs.Spares.{held_left}
+use Rattle.draid_slots.proofs.slots.Slots.moves.Goals as goal
+
+pub returns-clause-stays : goal.returns-clause-stays
+returns-clause-stays c = λ same lies.
+    let s = c.self.inside in
+    let H : SlotTable → Type 0 = λ t. has_spare (arms_of t lies.slot) c.args.spare ≡ true in
+    let B : SlotTable → Type 0 = λ t. lies.slice < t.geometry.props.slices in
+    let F : List Slot → Type 0 = λ slots. has_spare (get_or (map arms_in slots) c.in-Some.slot []) c.args.spare ≡ true in
+    let there = held_left (map arms_in s.slots.items) s.detached.items c.args.spare lies.slot (subst H (sym c.self.view_is) lies.arm_is) in
+    let here = held_left (map arms_in s.slots.items) s.detached.items c.args.spare c.in-Some.slot (subst F c.deref.ensures.value c.in-Some.ensures.has) in
+    let one : lies.slot ≡ c.in-Some.slot = c.self.invariant.sound.slots.once c.args.spare lies.slot c.in-Some.slot there here in
+    let below : lies.slice < s.geometry.props.slices = subst B (sym c.self.view_is) lies.slice_is in
+    let L : ℕ → Type 0 = λ slot. LiesElsewhere c.args.before.now c.args.now.now c.args.self.now slot c.args.spare lies.slice in
+    let end = c.from-slice-end.ensures in
+    c.loop-slice.invariant lies.slice (omega arith) (subst L one lies.elsewhere)
