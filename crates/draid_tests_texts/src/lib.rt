@@ -1,0 +1,6 @@
+//! Tests of the texts of `status`. It offers nothing.
+
+#![tactic(auto)]
+
+#[cfg(test)]
+mod report;
