@@ -1,6 +1,8 @@
-//! Tests of the texts of `status`. It offers nothing.
+//! Tests of texts: what `status` prints, and the script of a workload. It offers nothing.
 
 #![tactic(auto)]
 
 #[cfg(test)]
 mod report;
+#[cfg(test)]
+mod workloads;
