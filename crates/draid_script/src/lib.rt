@@ -22,3 +22,4 @@ pub use laws::{
 pub use line::{ArmArgument, LaneLine, Line, PoolKeys, StatusFormat};
 pub use name::CommandName;
 pub use parse::{parse_lane, parse_line};
+pub use text::decimal;

@@ -1,0 +1,2 @@
+mod Enumerated
+mod Floats
