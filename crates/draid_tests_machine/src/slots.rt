@@ -16,6 +16,7 @@ const PROPS: Props = Props {
     metaslabs: 1,
     slices: 1,
     seed: 1,
+    version: 1,
 };
 
 fn at(slot: u32, arm: u32) -> ArmAt
@@ -213,7 +214,7 @@ fn recorded(alloc: Global, layout: Geometry, perms: Perms) -> Result<Option<Read
 
 #[test]
 fn a_record_tells_of_arms(rt: HostRuntime) {
-    let spec = parse_spec(b"draid1:1d", 2).expect(&rt, "a spec");
+    let spec = parse_spec(b"draid1:1d", 2, 1).expect(&rt, "a spec");
     let layout = geometry(spec, PROPS).expect(&rt, "a layout");
     let perms = Perms::new(layout.spec.children, layout.props.seed);
     let first = ReadArm {
@@ -226,7 +227,7 @@ fn a_record_tells_of_arms(rt: HostRuntime) {
 #[test]
 fn logs_change(rt: HostRuntime) {
     let alloc = rt.alloc();
-    let spec = parse_spec(b"draid1:2d:1s", 4).expect(&rt, "a spec");
+    let spec = parse_spec(b"draid1:2d:1s", 4, 1).expect(&rt, "a spec");
     let layout = geometry(spec, PROPS).expect(&rt, "a layout");
     let perms = Perms::new(layout.spec.children, layout.props.seed);
     assert_eq!(rt;
@@ -242,7 +243,7 @@ fn logs_change(rt: HostRuntime) {
 #[test]
 fn arms_come_and_go(rt: HostRuntime) {
     let alloc = rt.alloc();
-    let spec = parse_spec(b"draid1:2d:1s", 4).expect(&rt, "a spec");
+    let spec = parse_spec(b"draid1:2d:1s", 4, 1).expect(&rt, "a spec");
     let layout = geometry(spec, PROPS).expect(&rt, "a layout");
     let perms = Perms::new(layout.spec.children, layout.props.seed);
     let in_use = SlotFault::SpareInUse { spare: 0 };
@@ -276,7 +277,7 @@ fn arms_come_and_go(rt: HostRuntime) {
 #[test]
 fn the_reading_arm_is_the_first_clean_one(rt: HostRuntime) {
     let alloc = rt.alloc();
-    let spec = parse_spec(b"draid1:2d:1s", 4).expect(&rt, "a spec");
+    let spec = parse_spec(b"draid1:2d:1s", 4, 1).expect(&rt, "a spec");
     let layout = geometry(spec, PROPS).expect(&rt, "a layout");
     let perms = Perms::new(layout.spec.children, layout.props.seed);
     let read_from = |arm: u32, clean: bool| Some(ReadArm { arm, clean });
