@@ -46,7 +46,10 @@ fn texts_are_read(rt: HostRuntime) {
         parse_spec(b"draid:2d:2d", 9, 1),
         Err(SpecFault::Repeated { letter: b'd' })
     );
-    assert_eq!(rt; parse_spec(b"draid:2", 9, 1), Err(SpecFault::Number { at: 7 }));
+    assert_eq!(rt;
+        parse_spec(b"draid:2", 9, 1),
+        Err(SpecFault::Number { at: 7 })
+    );
 }
 
 #[test]
