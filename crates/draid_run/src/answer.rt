@@ -93,7 +93,7 @@ fn open_pool<H: RackShelf>(
     spec: Spec,
     props: Props,
 ) -> Result<Made, PoolFault>
-    requires spec { IsSpec spec }
+    requires spec { IsSpec props.version spec }
     requires closed { pool.old ≡ None }
     ensures opened { OpensBy H.R.shape H.R.told H.R.faults spec props result pool.new }
 {
