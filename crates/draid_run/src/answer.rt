@@ -36,6 +36,7 @@ fn props(keys: PoolKeys) -> Props
         metaslabs: keys.metaslabs,
         slices: keys.slices,
         seed: keys.seed,
+        version: keys.version,
     }
 }
 
@@ -65,7 +66,7 @@ fn create<H: RackShelf>(
             command: CommandName::Create,
         };
     }
-    let spec = match parse_spec(text, children) {
+    let spec = match parse_spec(text, children, keys.version) {
         Ok(spec) => spec,
         Err(why) => return Reply::CreateRefused { why },
     };
