@@ -27,22 +27,34 @@ first_below {gives} {fails} absent size (suc k) n f =
     rw (e, size_more absent (size + k) n) (first_left _ _ (first_below absent size k n f))
 
 -- ---- there are few sets
-few_from : (size first n : ℕ) → length (sets_from size first n) ≤ 2 ^ n
+-- a set of one member more has a first member and the others: for each of n columns as many sets as there are of the others
+few_at : (size first n each : ℕ) → ((f m : ℕ) → m ≤ 64 → length (sets_from size f m) ≤ each) → n ≤ 64
+    → length (sets_from (suc size) first n) ≤ n * each
 unfolding sets_from
-few_from zero first zero = omega arith
-few_from zero first (suc n) = let e = few_from zero first n in omega (arith, e, pow-suc 2 n)
-few_from (suc size) first zero = omega arith
-few_from (suc size) first (suc n) =
-    let left = few_from size (first + 1) n in
-    let right = few_from (suc size) (first + 1) n in
+few_at size first zero each others below = omega arith
+few_at size first (suc n) each others below =
+    let left = others (first + 1) n (omega arith) in
+    let right = few_at size (first + 1) n each others (omega arith) in
     let sum = length-append (map (λ (set : List ℕ). first ∷ set) (sets_from size (first + 1) n)) (sets_from (suc size) (first + 1) n) in
     let same = length-map (sets_from size (first + 1) n) (λ (set : List ℕ). first ∷ set) in
-    omega (arith, left, right, sum, same, pow-suc 2 n)
+    omega (arith, left, right, sum, same, suc-mul n each)
 
-few_below : (k n : ℕ) → length (sets_below k n) ≤ k * 2 ^ n
+few_from : (size first n : ℕ) → n ≤ 64 → length (sets_from size first n) ≤ 64 ^ size
+unfolding sets_from
+few_from zero first n below = omega arith
+few_from (suc size) first n below =
+    let at = few_at size first n (64 ^ size) (few_from size) below in
+    let most = mul-le-mul_right (64 ^ size) below in
+    omega (arith, at, most, pow-suc 64 size)
+
+few_below : (k n : ℕ) → k ≤ 4 → n ≤ 64 → length (sets_below k n) ≤ k * 64 ^ 3
 unfolding sets_below
-few_below zero n = omega arith
-few_below (suc k) n = omega (arith, few_below k n, few_from k 0 n, length-append (sets_below k n) (sets_from k 0 n), suc-mul k (2 ^ n))
+few_below zero n few below = omega arith
+few_below (suc k) n few below =
+    let some : 0 < 64 = omega arith in
+    let size : k ≤ 3 = omega arith in
+    let power = pow-le-pow_right {n = 64} some {i = k} {j = 3} size in
+    omega (arith, few_below k n (omega arith) below, few_from k 0 n below, power, length-append (sets_below k n) (sets_from k 0 n), suc-mul k (64 ^ 3))
 
 few_covering : (absent : List ℕ) (sets : List (List ℕ)) → length (covering absent sets) ≤ length sets
 few_covering absent [] = omega arith
@@ -51,19 +63,14 @@ few_covering absent (set ∷ sets) = cases (covers absent set) (few_covering abs
   cases true h = omega arith
   cases false h = omega arith
 
-power_few : (n : ℕ) → n ≤ 32 → 2 ^ n ≤ 2 ^ 32
-power_few n h = let some : 0 < 2 = omega arith in pow-le-pow_right {n = 2} some {i = n} {j = 32} h
-
-pub few_sets : (absent : List ℕ) (k n : ℕ) → k ≤ 4 → n ≤ 32 → length (covering absent (sets_below k n)) < 2 ^ 64
+pub few_sets : (absent : List ℕ) (k n : ℕ) → k ≤ 4 → n ≤ 64 → length (covering absent (sets_below k n)) < 2 ^ 64
 few_sets absent k n few below =
     let a = few_covering absent (sets_below k n) in
-    let b = few_below k n in
-    let c = mul-le-mul_right (2 ^ n) few in
-    let d = power_few n below in
-    omega (arith, a, b, c, d)
+    let b = few_below k n few below in
+    omega (arith, a, b)
 
 -- ---- the tries of one size more
-pub size_room : (absent begun : List ℕ) (before tried size n : ℕ) → begun ≡ [] → before ≡ 0 → tried ≡ before + length (covering absent (sets_below size n)) → size ≤ 3 → n ≤ 32
+pub size_room : (absent begun : List ℕ) (before tried size n : ℕ) → begun ≡ [] → before ≡ 0 → tried ≡ before + length (covering absent (sets_below size n)) → size ≤ 3 → n ≤ 64
     → tried + length (covering absent (sets_after begun size 0 (n - 0))) < 2 ^ 64
 size_room absent begun before tried size n nothing none counted few below =
     let e : n - 0 ≡ n = omega arith in

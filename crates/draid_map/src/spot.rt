@@ -13,7 +13,7 @@ impl Spot {
     /// Where a number lies, over slices of so many bands.
     pub fn of(number: u64, bands: u64, height: u64) -> Spot
         requires some_bands { 0 < bands }
-        requires few_bands { bands ≤ 32 }
+        requires few_bands { bands ≤ 64 }
         requires some_height { 0 < height }
         requires low { height ≤ 4096 }
         ensures slice { result.slice ≡ number / (height * bands) }
@@ -31,7 +31,7 @@ impl Spot {
     pub fn number(self, bands: u64, height: u64) -> u64
         requires slice { self.slice < 65536 }
         requires band { self.band < bands }
-        requires bands { bands ≤ 32 }
+        requires bands { bands ≤ 64 }
         requires height { height ≤ 4096 }
         requires offset { self.offset < height }
         ensures { result ≡ (self.slice * bands + self.band) * height + self.offset }

@@ -4,6 +4,7 @@
 
 mod arm;
 mod fault;
+mod journal;
 mod numbers;
 mod pass_kind;
 mod pointer;
@@ -12,6 +13,7 @@ mod room;
 
 pub use arm::{Arm, ArmAt, ArmKind, At};
 pub use fault::{DeviceFault, Failed, NoMemory};
+pub use journal::{Cause, Did, Entry};
 pub use numbers::{LAST_NUMBER, LONGEST_BLOCK, LONGEST_LINE, NUMBERS, OBJECTS, most_held};
 pub use pass_kind::PassKind;
 pub use pointer::Pointer;

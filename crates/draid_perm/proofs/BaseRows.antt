@@ -15,26 +15,26 @@ use Rattle.draid_perm.proofs.Permuted.{permuted}
 -- the rows so far, the row that the next one starts as, and the state of the generator
 pub record AreSoFar (n seed count : ℕ) (row state : List ℕ) (rows : List (List ℕ)) : Type 0 where
   pub start : take n row ≡ row_start n seed count
-  pub size : length row ≡ 32
+  pub size : length row ≡ 64
   pub now : state ≡ after (count * (n - 1)) (seeded seed)
   pub moved : IsPermutation (range_with_len 0 n) (take n row)
   pub all : length rows ≡ 16
   pub made : (k : ℕ) → k < count → take n (slice_index_or rows k []) ≡ base_row n seed k
   pub mixed : (k : ℕ) → k < count → IsPermuted n (slice_index_or rows k [])
 
--- the first n of the first 32 numbers
+-- the first n of the first 64 numbers
 take-range : (a n more : ℕ) → take n (range_with_len a (n + more)) ≡ range_with_len a n
 take-range a zero more = refl
 take-range a (suc n) more =
     let one : suc n + more ≡ suc (n + more) = omega arith in
     ap (λ k. take (suc n) (range_with_len a k)) one ∙ ap (λ xs. a ∷ xs) (take-range (a + 1) n more)
 
-pub none_so_far : (n seed : ℕ) (row state : List ℕ) (rows : List (List ℕ)) → n ≤ 32 → row ≡ range_with_len 0 32 → state ≡ seeded seed → length rows ≡ 16
+pub none_so_far : (n seed : ℕ) (row state : List ℕ) (rows : List (List ℕ)) → n ≤ 64 → row ≡ range_with_len 0 64 → state ≡ seeded seed → length rows ≡ 16
     → AreSoFar n seed 0 row state rows
 unfolding row_start
 none_so_far n seed row state rows most is now all =
-    let rest : n + (32 - n) ≡ 32 = omega arith in
-    let front : take n row ≡ range_with_len 0 n = ap (take n) (is ∙ ap (range_with_len 0) (sym rest)) ∙ take-range 0 n (32 - n) in
+    let rest : n + (64 - n) ≡ 64 = omega arith in
+    let front : take n row ≡ range_with_len 0 n = ap (take n) (is ∙ ap (range_with_len 0) (sym rest)) ∙ take-range 0 n (64 - n) in
     let none : 0 * (n - 1) ≡ 0 = omega arith in
     let P : List ℕ → Type 0 = λ xs. IsPermutation (range_with_len 0 n) xs in
     record {
@@ -51,9 +51,9 @@ none_so_far n seed row state rows most is now all =
 last_or_below : (k count : ℕ) → k < count + 1 → (k < count) ⊎ (k ≡ count)
 last_or_below k count below = grind arith
 
-pub more_so_far : (n seed count : ℕ) (row next state later : List ℕ) (rows : List (List ℕ)) → count < 16 → 2 ≤ n → n ≤ 32
+pub more_so_far : (n seed count : ℕ) (row next state later : List ℕ) (rows : List (List ℕ)) → count < 16 → 2 ≤ n → n ≤ 64
     → take n next ≡ shuffled (first_words plus_plus (n - 1) state) (take n row)
-    → IsPermutation (take n row) (take n next) → later ≡ after (n - 1) state → length next ≡ 32
+    → IsPermutation (take n row) (take n next) → later ≡ after (n - 1) state → length next ≡ 64
     → AreSoFar n seed count row state rows → AreSoFar n seed (count + 1) next later (slice_set rows count next)
 unfolding row_start
 more_so_far n seed count row next state later rows within least most front moves steps size s =

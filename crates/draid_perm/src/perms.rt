@@ -9,21 +9,21 @@ use crate::words::base_rows;
 #[derive(Clone, Copy, Debug, PartialEq, Eq)]
 pub struct Perms {
     n: u32,
-    rows: [[u8; 32]; 16],
+    rows: [[u8; 64]; 16],
     ghost least: { 2 ≤ n },
-    ghost most: { n ≤ 32 },
+    ghost most: { n ≤ 64 },
     ghost permuted: { (row : ℕ) → row < 16 → IsPermuted n (slice_index_or rows row []) },
 }
 
 impl Perms {
     ghost use Rattle.draid_perm.specs.Perms.{AreSeeded, child_of, children_of};
 
-    /// The permutations of 2 to 32 children that a seed gives. Each of the 16 base rows is shuffled from
+    /// The permutations of 2 to 64 children that a seed gives. Each of the 16 base rows is shuffled from
     /// the one before, the first from the order of the children, by the words of
     /// `Xoroshiro128PlusPlus::seed_from_u64(seed)`.
     pub fn new(n: u32, seed: u64) -> Perms
         requires least { 2 ≤ n }
-        requires most { n ≤ 32 }
+        requires most { n ≤ 64 }
         ensures { AreSeeded result n seed }
     {
         let rows = base_rows(n as usize, seed);

@@ -13,15 +13,15 @@ use rand_core::utils::NextWord;
 use rand_xoshiro::Xoroshiro128PlusPlus;
 
 /// The base rows of n children by a seed. What stands behind the first n items of a row has no meaning.
-pub(crate) fn base_rows(n: usize, seed: u64) -> [[u8; 32]; 16]
+pub(crate) fn base_rows(n: usize, seed: u64) -> [[u8; 64]; 16]
     requires least { 2 ≤ n }
-    requires most { n ≤ 32 }
+    requires most { n ≤ 64 }
     ensures rows { (row : ℕ) → row < 16 → take n (slice_index_or result row []) ≡ base_row n seed row }
     ensures permuted { (row : ℕ) → row < 16 → IsPermuted n (slice_index_or result row []) }
 {
     let mut rng = Xoroshiro128PlusPlus::seed_from_u64(seed);
     let mut row = in_order();
-    let mut rows = [[0; 32]; 16];
+    let mut rows = [[0; 64]; 16];
     for r in 0..16 {
         shuffle_front(&mut row, n, &mut rng);
         rows[r] = row;
@@ -30,19 +30,20 @@ pub(crate) fn base_rows(n: usize, seed: u64) -> [[u8; 32]; 16]
 }
 
 /// The children in order.
-fn in_order() -> [u8; 32]
-    ensures { result ≡ range_with_len 0 32 }
+fn in_order() -> [u8; 64]
+    ensures { result ≡ range_with_len 0 64 }
 {
     [
         0, 1, 2, 3, 4, 5, 6, 7, 8, 9, 10, 11, 12, 13, 14, 15, 16, 17, 18, 19, 20, 21, 22, 23, 24,
-        25, 26, 27, 28, 29, 30, 31,
+        25, 26, 27, 28, 29, 30, 31, 32, 33, 34, 35, 36, 37, 38, 39, 40, 41, 42, 43, 44, 45, 46, 47,
+        48, 49, 50, 51, 52, 53, 54, 55, 56, 57, 58, 59, 60, 61, 62, 63,
     ]
 }
 
 /// Shuffles the first n items of a row by the next words.
-fn shuffle_front(row: &mut [u8; 32], n: usize, rng: &mut Xoroshiro128PlusPlus)
+fn shuffle_front(row: &mut [u8; 64], n: usize, rng: &mut Xoroshiro128PlusPlus)
     requires least { 1 ≤ n }
-    requires most { n ≤ 32 }
+    requires most { n ≤ 64 }
     ensures front { take n row.new ≡ shuffled (first_words plus_plus (n - 1) rng.old) (take n row.old) }
     ensures permutation { IsPermutation (take n row.old) (take n row.new) }
     ensures state { rng.new ≡ after (n - 1) rng.old }
@@ -50,15 +51,15 @@ fn shuffle_front(row: &mut [u8; 32], n: usize, rng: &mut Xoroshiro128PlusPlus)
     shuffle_next(&mut row[..n], rng);
 }
 
-/// Shuffles a row of at most 32 items by the next words of a generator.
+/// Shuffles a row of at most 64 items by the next words of a generator.
 fn shuffle_next(row: &mut [u8], rng: &mut Xoroshiro128PlusPlus)
     requires some { 1 ≤ length row.old }
-    requires most { length row.old ≤ 32 }
+    requires most { length row.old ≤ 64 }
     ensures row { row.new ≡ shuffled (first_words plus_plus (length row.old - 1) rng.old) row.old }
     ensures permutation { IsPermutation row.old row.new }
     ensures state { rng.new ≡ after (length row.old - 1) rng.old }
 {
-    let mut words = [0; 31];
+    let mut words = [0; 63];
     let words = &mut words[..row.len() - 1];
     fill_words(rng, words);
     shuffle(row, words);

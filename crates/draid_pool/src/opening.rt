@@ -74,7 +74,7 @@ pub fn create<H: RackShelf>(
     spec: Spec,
     props: Props,
 ) -> Result<Pool<H::R>, PoolFault>
-    requires spec { IsSpec spec }
+    requires spec { IsSpec props.version spec }
     ensures answer { CreateIs H.R.shape H.R.told H.R.faults spec props result }
     ensures back { GivesBack spec props result (H.holds shelf.old) (H.holds shelf.new) (H.counts shelf.new) }
 {

@@ -17,8 +17,8 @@ use Rattle.draid_world.specs.declared.world.World.{World}
 
 pub stripes_few : (geometry : Geometry) → IsGeometry geometry → metaslab_stripes geometry < 2 ^ 48
 stripes_few geometry is =
-    let groups : geometry.ngroups ≤ 32 = (let a = is.slice.most_groups in let b = is.disks in let d = is.spec.most_children in omega (arith, a, b, d)) in
-    let most : metaslab_stripes geometry ≤ 1024 * 32 * 4096 = mul-le-mul (mul-le-mul is.props.most_slices groups) is.props.most_height in
+    let groups : geometry.ngroups ≤ 64 = (let a = is.slice.most_groups in let b = is.disks in let d = is.spec.most_children in omega (arith, a, b, d)) in
+    let most : metaslab_stripes geometry ≤ 1024 * 64 * 4096 = mul-le-mul (mul-le-mul is.props.most_slices groups) is.props.most_height in
     omega (arith, most)
 
 run_more : (l : Layout) (w mid new : State) (es : List Event) (e : Event) → Run l w es mid → Step l mid e new → Run l w (es ++ e ∷ []) new

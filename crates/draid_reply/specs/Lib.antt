@@ -1,1 +1,2 @@
+pub mod Agent
 pub mod Reply

@@ -13,12 +13,18 @@ use Rattle.draid_names.specs.declared.refusal.WriteFault.TheVariants as fill
 use Rattle.draid_names.specs.declared.refusal.ObjectFault.{ObjectFault}
 use Rattle.draid_names.specs.declared.refusal.ObjectFault.TheVariants as sum
 use Rattle.draid_reply.specs.declared.reply.Reply.{Reply}
-use Rattle.draid_reply.specs.declared.reply.Reply.TheVariants.{NoPool, PoolOpen, NoMemory, Created, CreateRefused, Imported, Exported, ExportWorn, ExportLast, Written, NoSpace, Missed, WriteLast, Filled, FillRefused, Contents, NoObject, Unreadable, ReadWorn, Summed, SumRefused, Freed, FreeNoObject, Synced, SyncWorn, SyncLast, OfflineDone, OfflineRefused, OfflineWorn, OnlineDone, OnlineRefused, OnlineWorn, Damaged, DamageRefused, DamageFailed, DamageWorn, Spared, SpareRefused, SpareWorn, Replaced, ReplaceRefused, ReplaceWorn, Detached, DetachRefused, DetachWorn, DetachLast, Rebuilt, RebuildNothing, RebuildRefused, RebuildWorn, RebuildLast, Scrubbed, ScrubRefused, ScrubWorn, ScrubLast, Rebalanced, RebalanceRefused, RebalanceWorn, RebalanceLast, Cancelled, Crashed, LanesClash, LanesClashMend}
+use Rattle.draid_reply.specs.declared.reply.Reply.TheVariants.{NoPool, PoolOpen, NoMemory, Worn, Last, PassThere, NoCheckpoint, Created, CreateRefused, Imported, Exported, Written, NoSpace, Missed, WriteLast, Filled, FillRefused, Contents, NoObject, Unreadable, ReadWorn, Summed, SumRefused, Freed, FreeNoObject, Synced, OfflineDone, OfflineRefused, OfflineWorn, OnlineDone, OnlineRefused, OnlineWorn, Damaged, DamageRefused, DamageFailed, DamageWorn, Spared, SpareRefused, SpareWorn, Replaced, ReplaceRefused, ReplaceWorn, Detached, DetachRefused, DetachWorn, DetachLast, Rebuilt, RebuildNothing, Scrubbed, Rebalanced, RebalanceRefused, RebalanceWorn, RebalanceLast, Cancelled, Crashed, LanesClash, LanesClashMend, LanesCheckpoint, Upgraded, UpgradeAlready, AgentIdle, Acted, Journal, Checkpointed, CheckpointThere, Rewound, Discarded}
 use Rattle.draid_script.specs.Name.{arm_of, name_text}
+use Rattle.draid_reply.specs.Agent.{acted_of, journal_of}
 
 -- the first word of a command, and what is said of it
 abbrev pub said_of : CommandName → List ℕ → List ℕ
 said_of command words = name_text command ++ words
+
+-- a metaslab has a pass that the command may not find
+abbrev pub pass_there_of : CommandName → ℕ → ℕ → List ℕ
+pass_there_of command metaslab number =
+    name_text command ++ (codes " refused 6 metaslab=" ++ (decimal metaslab ++ (codes " number=" ++ (decimal number ++ codes "\n"))))
 
 -- the number of a refusal, and its values
 abbrev pub spec_fault_of : SpecFault → List ℕ
@@ -118,12 +124,14 @@ unfoldable pub text_of : Reply → List ℕ
 text_of (NoPool command) = said_of command (codes " no pool\n")
 text_of (PoolOpen command) = said_of command (codes " pool open\n")
 text_of (NoMemory command) = said_of command (codes " no memory\n")
+text_of (Worn command) = said_of command (codes " worn\n")
+text_of (Last command) = said_of command (codes " last\n")
+text_of (PassThere command metaslab number) = pass_there_of command metaslab number
+text_of (NoCheckpoint command) = said_of command (codes " none\n")
 text_of (Created name stripes) = codes "create " ++ (string_bytes name ++ (codes " stripes=" ++ (decimal stripes ++ codes "\n")))
 text_of (CreateRefused why) = create_refused_of why
 text_of (Imported name group objects) = codes "import " ++ (string_bytes name ++ (codes " group=" ++ (decimal group ++ (codes " objects=" ++ (decimal objects ++ codes "\n")))))
 text_of (Exported group) = codes "export group=" ++ (decimal group ++ codes "\n")
-text_of ExportWorn = codes "export worn\n"
-text_of ExportLast = codes "export last\n"
 text_of (Written object) = codes "write " ++ (decimal object ++ codes " ok\n")
 text_of (NoSpace object run disabled full worn) = codes "write " ++ (decimal object ++ (codes " no space run=" ++ (decimal run ++ (codes " disabled=" ++ (decimal disabled ++ (codes " full=" ++ (decimal full ++ (codes " worn=" ++ (decimal worn ++ codes "\n")))))))))
 text_of (Missed object columns) = codes "write " ++ (decimal object ++ (codes " missed columns=" ++ (decimal columns ++ codes "\n")))
@@ -139,8 +147,6 @@ text_of (SumRefused object why) = sum_refused_of object why
 text_of (Freed object) = codes "free " ++ (decimal object ++ codes " ok\n")
 text_of (FreeNoObject object) = codes "free " ++ (decimal object ++ codes " no object\n")
 text_of (Synced group thin) = codes "sync group=" ++ (decimal group ++ (codes " thin=" ++ (decimal thin ++ codes "\n")))
-text_of SyncWorn = codes "sync worn\n"
-text_of SyncLast = codes "sync last\n"
 text_of (OfflineDone leaf) = codes "offline " ++ (decimal leaf ++ codes " ok\n")
 text_of (OfflineRefused leaf) = codes "offline " ++ (decimal leaf ++ codes " refused 1\n")
 text_of (OfflineWorn leaf) = codes "offline " ++ (decimal leaf ++ codes " worn\n")
@@ -163,13 +169,7 @@ text_of (DetachWorn arm) = detach_stopped_of arm (codes "worn")
 text_of (DetachLast arm) = detach_stopped_of arm (codes "last")
 text_of (Rebuilt from stripes errors paused) = rebuilt_of from stripes errors paused
 text_of RebuildNothing = codes "rebuild nothing\n"
-text_of (RebuildRefused metaslab number) = codes "rebuild refused 6 metaslab=" ++ (decimal metaslab ++ (codes " number=" ++ (decimal number ++ codes "\n")))
-text_of RebuildWorn = codes "rebuild worn\n"
-text_of RebuildLast = codes "rebuild last\n"
 text_of (Scrubbed from blocks repaired errors paused) = scrubbed_of from blocks repaired errors paused
-text_of (ScrubRefused metaslab number) = codes "scrub refused 6 metaslab=" ++ (decimal metaslab ++ (codes " number=" ++ (decimal number ++ codes "\n")))
-text_of ScrubWorn = codes "scrub worn\n"
-text_of ScrubLast = codes "scrub last\n"
 text_of (Rebalanced slot blocks repaired errors group) = rebalanced_of slot blocks repaired errors group
 text_of (RebalanceRefused slot why) = slot_refused_of name.Rebalance slot why
 text_of (RebalanceWorn slot) = codes "rebalance " ++ (decimal slot ++ codes " worn\n")
@@ -178,3 +178,13 @@ text_of (Cancelled passes) = codes "cancel " ++ (decimal passes ++ codes "\n")
 text_of Crashed = codes "crash\n"
 text_of (LanesClash object) = codes "lanes clash object=" ++ (decimal object ++ codes "\n")
 text_of LanesClashMend = codes "lanes clash mend\n"
+text_of LanesCheckpoint = codes "lanes checkpoint\n"
+text_of (Upgraded group) = codes "upgrade version=2 group=" ++ (decimal group ++ codes "\n")
+text_of UpgradeAlready = codes "upgrade already\n"
+text_of AgentIdle = codes "agent idle\n"
+text_of (Acted parity entries errors) = acted_of parity entries.items errors
+text_of (Journal parity entries) = journal_of parity entries.items
+text_of (Checkpointed group) = codes "checkpoint group=" ++ (decimal group ++ codes "\n")
+text_of (CheckpointThere group) = codes "checkpoint refused group=" ++ (decimal group ++ codes "\n")
+text_of (Rewound group objects) = codes "rewind group=" ++ (decimal group ++ (codes " objects=" ++ (decimal objects ++ codes "\n")))
+text_of (Discarded freed group) = codes "discard freed=" ++ (decimal freed ++ (codes " group=" ++ (decimal group ++ codes "\n")))

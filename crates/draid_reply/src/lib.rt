@@ -2,7 +2,8 @@
 
 #![tactic(auto)]
 
+mod agent;
 mod reply;
 mod texts;
 
-pub use reply::{Reply, reply_text};
+pub use reply::{AgentErrors, Reply, reply_text};

@@ -1,11 +1,12 @@
 ghost use Rattle.std.specs.Prelude.{◌≡◌, IfOk, string_bytes};
 ghost use Rattle.draid_reply.specs.Reply.{text_of};
 
+use crate::agent::{acted, journal};
 use crate::texts::{
     contents, create_refused, detach_refused, detach_stopped, detached, fill_refused, name_said,
-    rebalanced, rebuilt, scrubbed, slot_refused, sum_refused, summed,
+    pass_there, rebalanced, rebuilt, scrubbed, slot_refused, sum_refused, summed,
 };
-use draid_names::{NoMemory, ObjectFault, SlotFault, WriteFault};
+use draid_names::{Entry, NoMemory, ObjectFault, SlotFault, WriteFault};
 use draid_script::{ArmArgument, CommandName};
 use draid_spec::SpecFault;
 use std::alloc::{AllocError, Global};
@@ -23,6 +24,25 @@ pub enum Reply {
     },
     /// The command was refused for want of memory.
     NoMemory {
+        command: CommandName,
+    },
+    /// A metaslab has too many events for a command on the whole pool: `export`, which leaves the pool open, `sync`,
+    /// `rebuild`, `scrub`, `upgrade`, `agent`, `checkpoint`, `rewind` or `discard`.
+    Worn {
+        command: CommandName,
+    },
+    /// No further group or pass can be numbered for such a command.
+    Last {
+        command: CommandName,
+    },
+    /// A metaslab has a pass that such a command may not find: one of the other kind, or any of an `agent`.
+    PassThere {
+        command: CommandName,
+        metaslab: u32,
+        number: u64,
+    },
+    /// There is no checkpoint to which to `rewind`, or which to `discard`.
+    NoCheckpoint {
         command: CommandName,
     },
     /// A pool of this name was created, with so many stripes.
@@ -44,10 +64,6 @@ pub enum Reply {
     Exported {
         group: u64,
     },
-    /// A metaslab has too many events, and the pool stays open.
-    ExportWorn,
-    /// No further group can be numbered, and the pool stays open.
-    ExportLast,
     /// The object has the bytes of the `write`.
     Written {
         object: u64,
@@ -125,10 +141,6 @@ pub enum Reply {
         group: u64,
         thin: u64,
     },
-    /// A metaslab has too many events for a `sync`.
-    SyncWorn,
-    /// No further group can be numbered.
-    SyncLast,
     /// The leaf answers no more.
     OfflineDone {
         leaf: u64,
@@ -228,15 +240,6 @@ pub enum Reply {
     },
     /// There is nothing to rebuild.
     RebuildNothing,
-    /// A metaslab has a pass of the other kind.
-    RebuildRefused {
-        metaslab: u32,
-        number: u64,
-    },
-    /// A metaslab has too many events.
-    RebuildWorn,
-    /// No further group or pass can be numbered.
-    RebuildLast,
     /// So many blocks were scrubbed, from this stripe of the pool on, and so many columns rewritten.
     Scrubbed {
         from: u64,
@@ -245,15 +248,6 @@ pub enum Reply {
         errors: u64,
         paused: bool,
     },
-    /// A metaslab has a pass of the other kind.
-    ScrubRefused {
-        metaslab: u32,
-        number: u64,
-    },
-    /// A metaslab has too many events.
-    ScrubWorn,
-    /// No further group or pass can be numbered.
-    ScrubLast,
     /// So many blocks were scrubbed. The other arms of the slot have left it, committed with this group, or are kept.
     Rebalanced {
         slot: u32,
@@ -287,6 +281,53 @@ pub enum Reply {
     },
     /// Two lanes have a `rebuild` or a `scrub`.
     LanesClashMend,
+    /// No section runs while there is a checkpoint.
+    LanesCheckpoint,
+    /// The pool has version 2, committed with this group.
+    Upgraded {
+        group: u64,
+    },
+    /// The pool was asked for version 2 before.
+    UpgradeAlready,
+    /// No slot was due.
+    AgentIdle,
+    /// What each slot that was due got, and the errors of the rebuild and the scrub, where a spare was attached. The
+    /// parity is that of the pool.
+    Acted {
+        parity: u32,
+        entries: Vec<Entry>,
+        errors: Option<AgentErrors>,
+    },
+    /// The entries of this session. The parity is that of the pool.
+    Journal {
+        parity: u32,
+        entries: Vec<Entry>,
+    },
+    /// The objects are remembered as they are, committed with this group.
+    Checkpointed {
+        group: u64,
+    },
+    /// There is a checkpoint, of this group.
+    CheckpointThere {
+        group: u64,
+    },
+    /// The objects are those of the checkpoint, so many, committed with this group.
+    Rewound {
+        group: u64,
+        objects: u64,
+    },
+    /// The checkpoint is forgotten, and so many blocks were freed, committed with this group.
+    Discarded {
+        freed: u64,
+        group: u64,
+    },
+}
+
+/// The errors of the two passes that an `agent` makes.
+#[derive(Clone, Copy, Debug, PartialEq, Eq)]
+pub struct AgentErrors {
+    pub rebuild: u64,
+    pub scrub: u64,
 }
 
 /// The line that the reply is printed as, its end included.
@@ -303,6 +344,14 @@ fn text(alloc: Global, reply: &Reply) -> Result<String, AllocError>
         Reply::NoPool { command } => name_said(alloc, *command, " no pool"),
         Reply::PoolOpen { command } => name_said(alloc, *command, " pool open"),
         Reply::NoMemory { command } => name_said(alloc, *command, " no memory"),
+        Reply::Worn { command } => name_said(alloc, *command, " worn"),
+        Reply::Last { command } => name_said(alloc, *command, " last"),
+        Reply::PassThere {
+            command,
+            metaslab,
+            number,
+        } => pass_there(alloc, *command, *metaslab, *number),
+        Reply::NoCheckpoint { command } => name_said(alloc, *command, " none"),
         Reply::Created { name, stripes } => format!(in alloc; "create {name} stripes={stripes}\n"),
         Reply::CreateRefused { why } => create_refused(alloc, *why),
         Reply::Imported {
@@ -311,8 +360,6 @@ fn text(alloc: Global, reply: &Reply) -> Result<String, AllocError>
             objects,
         } => format!(in alloc; "import {name} group={group} objects={objects}\n"),
         Reply::Exported { group } => format!(in alloc; "export group={group}\n"),
-        Reply::ExportWorn => format!(in alloc; "export worn\n"),
-        Reply::ExportLast => format!(in alloc; "export last\n"),
         Reply::Written { object } => format!(in alloc; "write {object} ok\n"),
         Reply::NoSpace {
             object,
@@ -350,8 +397,6 @@ fn text(alloc: Global, reply: &Reply) -> Result<String, AllocError>
         Reply::Freed { object } => format!(in alloc; "free {object} ok\n"),
         Reply::FreeNoObject { object } => format!(in alloc; "free {object} no object\n"),
         Reply::Synced { group, thin } => format!(in alloc; "sync group={group} thin={thin}\n"),
-        Reply::SyncWorn => format!(in alloc; "sync worn\n"),
-        Reply::SyncLast => format!(in alloc; "sync last\n"),
         Reply::OfflineDone { leaf } => format!(in alloc; "offline {leaf} ok\n"),
         Reply::OfflineRefused { leaf } => format!(in alloc; "offline {leaf} refused 1\n"),
         Reply::OfflineWorn { leaf } => format!(in alloc; "offline {leaf} worn\n"),
@@ -388,11 +433,6 @@ fn text(alloc: Global, reply: &Reply) -> Result<String, AllocError>
             paused,
         } => rebuilt(alloc, *from, *stripes, *errors, *paused),
         Reply::RebuildNothing => format!(in alloc; "rebuild nothing\n"),
-        Reply::RebuildRefused { metaslab, number } => format!(in alloc;
-            "rebuild refused 6 metaslab={metaslab} number={number}\n"
-        ),
-        Reply::RebuildWorn => format!(in alloc; "rebuild worn\n"),
-        Reply::RebuildLast => format!(in alloc; "rebuild last\n"),
         Reply::Scrubbed {
             from,
             blocks,
@@ -400,11 +440,6 @@ fn text(alloc: Global, reply: &Reply) -> Result<String, AllocError>
             errors,
             paused,
         } => scrubbed(alloc, *from, *blocks, *repaired, *errors, *paused),
-        Reply::ScrubRefused { metaslab, number } => format!(in alloc;
-            "scrub refused 6 metaslab={metaslab} number={number}\n"
-        ),
-        Reply::ScrubWorn => format!(in alloc; "scrub worn\n"),
-        Reply::ScrubLast => format!(in alloc; "scrub last\n"),
         Reply::Rebalanced {
             slot,
             blocks,
@@ -424,5 +459,23 @@ fn text(alloc: Global, reply: &Reply) -> Result<String, AllocError>
         Reply::Crashed => format!(in alloc; "crash\n"),
         Reply::LanesClash { object } => format!(in alloc; "lanes clash object={object}\n"),
         Reply::LanesClashMend => format!(in alloc; "lanes clash mend\n"),
+        Reply::LanesCheckpoint => format!(in alloc; "lanes checkpoint\n"),
+        Reply::Upgraded { group } => format!(in alloc; "upgrade version=2 group={group}\n"),
+        Reply::UpgradeAlready => format!(in alloc; "upgrade already\n"),
+        Reply::AgentIdle => format!(in alloc; "agent idle\n"),
+        Reply::Acted {
+            parity,
+            entries,
+            errors,
+        } => acted(alloc, *parity, entries, *errors),
+        Reply::Journal { parity, entries } => journal(alloc, *parity, entries),
+        Reply::Checkpointed { group } => format!(in alloc; "checkpoint group={group}\n"),
+        Reply::CheckpointThere { group } => format!(in alloc; "checkpoint refused group={group}\n"),
+        Reply::Rewound { group, objects } => format!(in alloc;
+            "rewind group={group} objects={objects}\n"
+        ),
+        Reply::Discarded { freed, group } => format!(in alloc;
+            "discard freed={freed} group={group}\n"
+        ),
     }
 }

@@ -1,6 +1,6 @@
 ghost use Rattle.std.specs.Prelude.{◌≡◌, ◌++◌, IfOk, codes, string_bytes};
 ghost use Rattle.draid_script.specs.Name.{arm_of};
-ghost use Rattle.draid_reply.specs.Reply.{contents_of, create_refused_of, detach_refused_of, detach_stopped_of, detached_of, write_fault_of, fill_refused_of, others_of, pause_of, rebalanced_of, rebuilt_of, said_of, scrubbed_of, slot_fault_of, slot_refused_of, spec_fault_of, sum_refused_of, summed_of};
+ghost use Rattle.draid_reply.specs.Reply.{contents_of, create_refused_of, detach_refused_of, detach_stopped_of, detached_of, write_fault_of, fill_refused_of, others_of, pass_there_of, pause_of, rebalanced_of, rebuilt_of, said_of, scrubbed_of, slot_fault_of, slot_refused_of, spec_fault_of, sum_refused_of, summed_of};
 
 use draid_names::{ObjectFault, SlotFault, WriteFault};
 use draid_script::{ArmArgument, CommandName};
@@ -13,6 +13,19 @@ pub fn name_said(alloc: Global, command: CommandName, words: &str) -> Result<Str
 {
     let name = command.text();
     format!(in alloc; "{name}{words}\n")
+}
+
+/// A metaslab has a pass that the command may not find.
+pub fn pass_there(
+    alloc: Global,
+    command: CommandName,
+    metaslab: u32,
+    number: u64,
+) -> Result<String, AllocError>
+    ensures { IfOk result (λ text. string_bytes text ≡ pass_there_of command metaslab number) }
+{
+    let name = command.text();
+    format!(in alloc; "{name} refused 6 metaslab={metaslab} number={number}\n")
 }
 
 pub fn create_refused(alloc: Global, why: SpecFault) -> Result<String, AllocError>

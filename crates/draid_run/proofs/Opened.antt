@@ -5,7 +5,7 @@ use Rattle.std.specs.Result.{result_and}
 use Rattle.draid_spec.specs.declared.layout.Geometry.{Geometry}
 use Rattle.draid_spec.specs.declared.layout.Props.{Props}
 use Rattle.draid_spec.specs.declared.spec.Spec.{Spec}
-use Rattle.draid_spec.specs.Geometry.{checked_props, geometry_of, layout_of, total_of}
+use Rattle.draid_spec.specs.Geometry.{checked_props, checked_version, geometry_of, layout_of, total_of}
 use Rattle.draid_spec.specs.Name.{spec_name_of}
 use Rattle.draid_spec.specs.Spec.{checked_width}
 use Rattle.draid_spec.specs.Text.{spec_by}
@@ -26,18 +26,19 @@ use Rattle.draid_run.specs.State.{layout_from, props_of}
 use Rattle.draid_run.specs.declared.answer.Made.{Made}
 
 -- what stands behind all checks is what passed them
-by_checks : (a b : Result Unit SpecFault) (big : Bool) (f : SpecFault) (l layout : Geometry) → result_and a (result_and b (if big then Err f else Ok l)) ≡ Ok layout → l ≡ layout
-by_checks (Ok u) (Ok v) false f l layout is = cc
-by_checks (Ok u) (Ok v) true f l layout is = absurd (cc)
-by_checks (Ok u) (Err e) big f l layout is = absurd (cc)
-by_checks (Err e) b big f l layout is = absurd (cc)
+by_checks : (a b c : Result Unit SpecFault) (big : Bool) (f : SpecFault) (l layout : Geometry) → result_and a (result_and b (result_and c (if big then Err f else Ok l))) ≡ Ok layout → l ≡ layout
+by_checks (Ok u) (Ok v) (Ok w) false f l layout is = cc
+by_checks (Ok u) (Ok v) (Ok w) true f l layout is = absurd (cc)
+by_checks (Ok u) (Ok v) (Err e) big f l layout is = absurd (cc)
+by_checks (Ok u) (Err e) c big f l layout is = absurd (cc)
+by_checks (Err e) b c big f l layout is = absurd (cc)
 
 same_spec : (spec : Spec) (props : Props) (layout : Geometry) → geometry_of spec props ≡ Ok layout → layout.spec ≡ spec
 same_spec spec props layout is =
-    sym (ap (λ (g : Geometry). g.spec) (by_checks (checked_width spec) (checked_props props) (nat_lt 67108864 (total_of props (layout_of spec props).rows)) _ (layout_of spec props) layout is))
+    sym (ap (λ (g : Geometry). g.spec) (by_checks (checked_version props.version) (checked_width spec) (checked_props props) (nat_lt 67108864 (total_of props (layout_of spec props).rows)) _ (layout_of spec props) layout is))
 
 module _ {R : Type 0} (shape : R → Shape) (told : R → Option Told) (faults : R → Option ℕ → ℕ) where
-  pub made : (text : List ℕ) (children : ℕ) (keys : PoolKeys) (spec : Spec) (m : Made) (result : Result Made PoolFault) (pool : Option (Pool R)) → spec_by text children ≡ Ok spec
+  pub made : (text : List ℕ) (children : ℕ) (keys : PoolKeys) (spec : Spec) (m : Made) (result : Result Made PoolFault) (pool : Option (Pool R)) → spec_by text children keys.version ≡ Ok spec
       → result ≡ Ok m → OpensBy shape told faults spec (props_of keys) result pool
       → PlainTurned shape told faults (CreatePool text children keys) None (Some (Created m.name m.stripes)) pool
   made text children keys spec m result pool read said opens = at pool (subst (λ r. OpensBy shape told faults spec (props_of keys) r pool) said opens) where
@@ -57,7 +58,7 @@ module _ {R : Type 0} (shape : R → Shape) (told : R → Option Told) (faults :
               };
         }
 
-  pub refused : (text : List ℕ) (children : ℕ) (keys : PoolKeys) (spec : Spec) (why : SpecFault) (result : Result Made PoolFault) (pool : Option (Pool R)) → spec_by text children ≡ Ok spec → result ≡ Err (fault.Spec why) → OpensBy shape told faults spec (props_of keys) result pool
+  pub refused : (text : List ℕ) (children : ℕ) (keys : PoolKeys) (spec : Spec) (why : SpecFault) (result : Result Made PoolFault) (pool : Option (Pool R)) → spec_by text children keys.version ≡ Ok spec → result ≡ Err (fault.Spec why) → OpensBy shape told faults spec (props_of keys) result pool
       → PlainTurned shape told faults (CreatePool text children keys) None (Some (CreateRefused why)) pool
   refused text children keys spec why result pool read said opens =
       let o = subst (λ r. OpensBy shape told faults spec (props_of keys) r pool) said opens in
@@ -67,7 +68,7 @@ module _ {R : Type 0} (shape : R → Shape) (told : R → Option Told) (faults :
         turns = (ap (layout_from keys) read ∙ o.0, refl);
       })
 
-  pub no_memory : (text : List ℕ) (children : ℕ) (keys : PoolKeys) (spec : Spec) (result : Result Made PoolFault) (pool : Option (Pool R)) → spec_by text children ≡ Ok spec → result ≡ Err fault.NoMemory → OpensBy shape told faults spec (props_of keys) result pool
+  pub no_memory : (text : List ℕ) (children : ℕ) (keys : PoolKeys) (spec : Spec) (result : Result Made PoolFault) (pool : Option (Pool R)) → spec_by text children keys.version ≡ Ok spec → result ≡ Err fault.NoMemory → OpensBy shape told faults spec (props_of keys) result pool
       → PlainTurned shape told faults (CreatePool text children keys) None (Some (NoMemory name.Create)) pool
   no_memory text children keys spec result pool read said opens =
       let o = subst (λ r. OpensBy shape told faults spec (props_of keys) r pool) said opens in

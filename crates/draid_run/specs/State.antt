@@ -24,7 +24,7 @@ use Rattle.draid_reply.specs.declared.reply.Reply.TheVariants.{NoPool, PoolOpen,
 
 -- the properties that the keys of `create` name
 abbrev pub props_of : PoolKeys → Props
-props_of keys = record { sector = keys.sector; height = keys.height; metaslabs = keys.metaslabs; slices = keys.slices; seed = keys.seed }
+props_of keys = record { sector = keys.sector; height = keys.height; metaslabs = keys.metaslabs; slices = keys.slices; seed = keys.seed; version = keys.version }
 
 -- the layout of a spec with these keys, if the spec was read
 abbrev pub layout_from : PoolKeys → Result Spec SpecFault → Result Geometry SpecFault
@@ -33,7 +33,7 @@ layout_from keys (Err why) = Err why
 
 -- the layout that `create` asks for
 abbrev pub layout_by : List ℕ → ℕ → PoolKeys → Result Geometry SpecFault
-layout_by text children keys = layout_from keys (spec_by text children)
+layout_by text children keys = layout_from keys (spec_by text children keys.version)
 
 -- there is such a layout
 pub record HasLayout (text : List ℕ) (children : ℕ) (keys : PoolKeys) : Type 0 where

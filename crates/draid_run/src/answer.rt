@@ -36,6 +36,7 @@ fn props(keys: PoolKeys) -> Props
         metaslabs: keys.metaslabs,
         slices: keys.slices,
         seed: keys.seed,
+        version: keys.version,
     }
 }
 
@@ -65,7 +66,7 @@ fn create<H: RackShelf>(
             command: CommandName::Create,
         };
     }
-    let spec = match parse_spec(text, children) {
+    let spec = match parse_spec(text, children, keys.version) {
         Ok(spec) => spec,
         Err(why) => return Reply::CreateRefused { why },
     };
@@ -93,7 +94,7 @@ fn open_pool<H: RackShelf>(
     spec: Spec,
     props: Props,
 ) -> Result<Made, PoolFault>
-    requires spec { IsSpec spec }
+    requires spec { IsSpec props.version spec }
     requires closed { pool.old ≡ None }
     ensures opened { OpensBy H.R.shape H.R.told H.R.faults spec props result pool.new }
 {

@@ -21,9 +21,9 @@ use Rattle.draid_script.specs.declared.name.CommandName.{CommandName}
 use Rattle.draid_script.specs.declared.name.CommandName.TheVariants as name
 use Rattle.draid_script.specs.Fault.{fault, ◌>>=◌}
 use Rattle.draid_script.specs.Field.{arm_at, block_at, count_at, format_at, number_at, number_in, object_at, short_at}
-use Rattle.draid_script.specs.Grammar.{command_of, inside, lane_command_of, lane_name_at, lane_of, is_end_word, is_silent, limit_at, line_of, name_at, no_word, one_number, outside, two_numbers}
+use Rattle.draid_script.specs.Grammar.{command_of, inside, lane_command_of, lane_name_at, lane_of, is_end_word, is_silent, limit_at, line_of, name_at, alone, one_number, outside, two_numbers}
 use Rattle.draid_script.specs.Keys.{given_by, given_with, is_equals, key_in, keys_at, keys_in, new_value, nothing_given, value_in}
-use Rattle.draid_script.specs.Line.{Command, Silent, CreatePool, ImportPool, ExportPool, SyncPool, CancelPasses, CrashPool, WriteObject, FillObjects, ReadObject, FreeObject, SumObjects, TakeOffline, TakeOnline, DamageSector, AttachSpare, ReplaceDisk, DetachArm, RebuildPool, ScrubPool, RebalanceSlot, ShowStatus, OpenLanes, LaneCommand, InLane, SectionEnd, SilentLane, AreKeys, IsInRange, most_lanes}
+use Rattle.draid_script.specs.Line.{Command, Silent, CreatePool, ImportPool, ExportPool, SyncPool, CancelPasses, CrashPool, WriteObject, FillObjects, ReadObject, FreeObject, SumObjects, TakeOffline, TakeOnline, DamageSector, AttachSpare, ReplaceDisk, DetachArm, RebuildPool, ScrubPool, RebalanceSlot, ShowStatus, OpenLanes, UpgradePool, RunAgent, ShowJournal, TakeCheckpoint, RewindPool, DiscardCheckpoint, LaneCommand, InLane, SectionEnd, SilentLane, AreKeys, IsInRange, most_lanes}
 use Rattle.draid_script.specs.Name.{is_for_lanes, name_of, name_text}
 use Rattle.draid_script.specs.Shape.{AreSettings, AreWordsOf, GivesKey, GivesKeys, IsLaneText, IsLine}
 use Rattle.draid_script.specs.Word.{Placed, bytes_of, is_space, placed_from, words_of}
@@ -81,6 +81,7 @@ given_inv given word next gives =
     let metaslabs : Option ℕ → Given = λ v. record given { metaslabs = v } in
     let slices : Option ℕ → Given = λ v. record given { slices = v } in
     let seed : Option ℕ → Given = λ v. record given { seed = v } in
+    let version : Option ℕ → Given = λ v. record given { version = v } in
     elim (key_inv (codes "sector") word next given.sector sector short_at (2 ^ 32) _ (omega arith) (short_inv (value_in word)) gives) [
       | inl is ↦ (is.0, inl (is.1, is.2, is.3, is.4))
       | inr gives ↦ elim (key_inv (codes "height") word next given.height height short_at (2 ^ 32) _ (omega arith) (short_inv (value_in word)) gives) [
@@ -90,8 +91,11 @@ given_inv given word next gives =
           | inr gives ↦ elim (key_inv (codes "slices") word next given.slices slices short_at (2 ^ 32) _ (omega arith) (short_inv (value_in word)) gives) [
             | inl is ↦ (is.0, inr (inr (inr (inl (is.1, is.2, is.3, is.4)))))
             | inr gives ↦ elim (key_inv (codes "seed") word next given.seed seed number_at (2 ^ 64) _ (omega arith) (number_inv (value_in word)) gives) [
-              | inl is ↦ (is.0, inr (inr (inr (inr (is.1, is.2, is.3, is.4)))))
-              | inr gives ↦ cc
+              | inl is ↦ (is.0, inr (inr (inr (inr (inl (is.1, is.2, is.3, is.4))))))
+              | inr gives ↦ elim (key_inv (codes "version") word next given.version version short_at (2 ^ 32) _ (omega arith) (short_inv (value_in word)) gives) [
+                | inl is ↦ (is.0, inr (inr (inr (inr (inr (is.1, is.2, is.3, is.4))))))
+                | inr gives ↦ cc
+              ]
             ]
           ]
         ]
@@ -121,25 +125,24 @@ same_command n command other words may same are =
     let P : Command → Type 0 = λ c. IsNamed n c words in
     subst P same' (are.0, are.1, may)
 
-pub no_word_inv : (end : ℕ) (words : List Placed) (u : Unit {0}) → no_word end words ≡ Ok u → texts words ≡ []
-no_word_inv end [] u gives = refl
-no_word_inv end (word ∷ words) u gives = cc
-
 -- settings are in their ranges
 abbrev GivenRange : Given → Type 0
-GivenRange given = IfSome given.sector (λ n. n < 2 ^ 32) × IfSome given.height (λ n. n < 2 ^ 32) × IfSome given.metaslabs (λ n. n < 2 ^ 32) × IfSome given.slices (λ n. n < 2 ^ 32) × IfSome given.seed (λ n. n < 2 ^ 64)
+GivenRange given = IfSome given.sector (λ n. n < 2 ^ 32) × IfSome given.height (λ n. n < 2 ^ 32) × IfSome given.metaslabs (λ n. n < 2 ^ 32) × IfSome given.slices (λ n. n < 2 ^ 32) × IfSome given.seed (λ n. n < 2 ^ 64) × IfSome given.version (λ n. n < 2 ^ 32)
 
 one_range : (word : List ℕ) (old new : Given) → GivenRange old → GivesKey word old new → GivenRange new
 one_range word old new range gives =
     elim gives.1 [
-      | inl is ↦ subst GivenRange (sym is.3) (is.1, range.1, range.2, range.3, range.4)
+      | inl is ↦ subst GivenRange (sym is.3) (is.1, range.1, range.2, range.3, range.4, range.5)
       | inr gives ↦ elim gives [
-        | inl is ↦ subst GivenRange (sym is.3) (range.0, is.1, range.2, range.3, range.4)
+        | inl is ↦ subst GivenRange (sym is.3) (range.0, is.1, range.2, range.3, range.4, range.5)
         | inr gives ↦ elim gives [
-          | inl is ↦ subst GivenRange (sym is.3) (range.0, range.1, is.1, range.3, range.4)
+          | inl is ↦ subst GivenRange (sym is.3) (range.0, range.1, is.1, range.3, range.4, range.5)
           | inr gives ↦ elim gives [
-            | inl is ↦ subst GivenRange (sym is.3) (range.0, range.1, range.2, is.1, range.4)
-            | inr is ↦ subst GivenRange (sym is.3) (range.0, range.1, range.2, range.3, is.1)
+            | inl is ↦ subst GivenRange (sym is.3) (range.0, range.1, range.2, is.1, range.4, range.5)
+            | inr gives ↦ elim gives [
+              | inl is ↦ subst GivenRange (sym is.3) (range.0, range.1, range.2, range.3, is.1, range.5)
+              | inr is ↦ subst GivenRange (sym is.3) (range.0, range.1, range.2, range.3, range.4, is.1)
+            ]
           ]
         ]
       ]
@@ -155,7 +158,7 @@ or_default (Some n) d limit is below = is
 
 keys_range : (words : List (List ℕ)) (keys : PoolKeys) → AreSettings words keys → AreKeys keys
 keys_range words keys settings =
-    let range = all_range words nothing_given settings.0 (tt, tt, tt, tt, tt) settings.1 in
+    let range = all_range words nothing_given settings.0 (tt, tt, tt, tt, tt, tt) settings.1 in
     let given = settings.0 in
     let are : AreKeys (keys_in settings.0) = record {
       sector = or_default given.sector 4096 (2 ^ 32) range.0 (omega arith);
@@ -163,6 +166,7 @@ keys_range words keys settings =
       metaslabs = or_default given.metaslabs 4 (2 ^ 32) range.2 (omega arith);
       slices = or_default given.slices 16 (2 ^ 32) range.3 (omega arith);
       seed = or_default given.seed 1 (2 ^ 64) range.4 (omega arith);
+      version = or_default given.version 1 (2 ^ 32) range.5 (omega arith);
     } in
     let P : PoolKeys → Type 0 = λ k. AreKeys k in
     subst P (sym settings.2) are
@@ -178,12 +182,9 @@ some_bytes [] bytes spelled = cc
 some_bytes (digit ∷ digits) bytes spelled =
     decodes_some (digit ∷ digits) bytes (decoded_inv (decode_of (digit ∷ digits)) bytes spelled) (omega arith)
 
-alone_inv : (n : CommandName) (command other : Command) (end : ℕ) (words : List Placed) (text : List ℕ) → (is_for_lanes n ≡ true → IsForLanes command) → (no_word end words >>= λ _. Ok command) ≡ Ok other → AreWordsOf command (text ∷ []) × IsInRange command → IsNamed n other (text ∷ texts words)
-alone_inv n command other end words text may gives are =
-    let read = then_inv (no_word end words) (λ _. Ok command) other gives in
-    let none : texts words ≡ [] = no_word_inv end words read.0 read.1 in
-    let P : List (List ℕ) → Type 0 = λ ws. AreWordsOf command (text ∷ ws) × IsInRange command in
-    same_command n command other (text ∷ texts words) may read.2 (subst P (sym none) are)
+alone_inv : (n : CommandName) (command other : Command) (end : ℕ) (words : List Placed) (text : List ℕ) → (is_for_lanes n ≡ true → IsForLanes command) → alone command end words ≡ Ok other → AreWordsOf command (text ∷ []) × IsInRange command → IsNamed n other (text ∷ texts words)
+alone_inv n command other end [] text may gives are = same_command n command other (text ∷ []) may gives are
+alone_inv n command other end (word ∷ words) text may gives are = cc
 
 -- a command is read from words that are spelled so
 pub named_inv : (n : CommandName) (end : ℕ) (words : List Placed) (command : Command) → command_of n end words ≡ Ok command → IsNamed n command (name_text n ∷ texts words)
@@ -316,6 +317,23 @@ named_inv name.Lanes end (word ∷ []) command gives =
     let spelled = in_inv 1 (most_lanes + 1) word read.0 read.1 in
     same_command name.Lanes (OpenLanes read.0) command _ (λ may. cc) read.2 (ap (λ (t : List ℕ). codes "lanes" ∷ t ∷ []) spelled.0, (spelled.1, omega (arith, spelled.2)))
 named_inv name.Lanes end (word ∷ more ∷ words) command gives = cc
+named_inv name.Upgrade end words command gives = alone_inv name.Upgrade UpgradePool command end words (codes "upgrade") (λ may. cc) gives (refl, tt)
+named_inv name.Agent end [] command gives = cc
+named_inv name.Agent end (word ∷ []) command gives =
+    elim (cases_Bool (bytes_eq word.text (codes "log"))) [
+      | inl log ↦
+          let text : word.text ≡ codes "log" = (bytes_eq-Decides word.text (codes "log")).0 log in
+          same_command name.Agent ShowJournal command _ (λ may. cc) (sym (cond-true (bytes_eq word.text (codes "log")) _ _ log) ∙ gives)
+          (ap (λ (t : List ℕ). codes "agent" ∷ t ∷ []) text, tt)
+      | inr other ↦
+          let read = then_inv (number_in 1 (2 ^ 32) word) (λ least. Ok (RunAgent least)) command (sym (cond-false (bytes_eq word.text (codes "log")) (Ok ShowJournal) _ other) ∙ gives) in
+          let spelled = in_inv 1 (2 ^ 32) word read.0 read.1 in
+          same_command name.Agent (RunAgent read.0) command _ (λ may. cc) read.2 (ap (λ (t : List ℕ). codes "agent" ∷ t ∷ []) spelled.0, (spelled.1, spelled.2))
+    ]
+named_inv name.Agent end (word ∷ more ∷ words) command gives = cc
+named_inv name.Checkpoint end words command gives = alone_inv name.Checkpoint TakeCheckpoint command end words (codes "checkpoint") (λ may. cc) gives (refl, tt)
+named_inv name.Rewind end words command gives = alone_inv name.Rewind RewindPool command end words (codes "rewind") (λ may. cc) gives (refl, tt)
+named_inv name.Discard end words command gives = alone_inv name.Discard DiscardCheckpoint command end words (codes "discard") (λ may. cc) gives (refl, tt)
 
 -- a line that is taken outside a section
 outside_inv : (end : ℕ) (words : List Placed) (command : Command) → outside end words ≡ Ok command → AreWordsOf command (texts words) × IsInRange command

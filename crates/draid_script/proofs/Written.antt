@@ -20,9 +20,10 @@ use Rattle.draid_script.specs.declared.name.CommandName.{CommandName}
 use Rattle.draid_script.specs.declared.name.CommandName.TheVariants as name
 use Rattle.draid_script.specs.Fault.{fault, ◌>>=◌}
 use Rattle.draid_script.specs.Field.{short_at, arm_at, block_at, count_at, hex_place, number_at, number_in, spare_behind, within}
-use Rattle.draid_script.specs.Grammar.{command_of, fill_of, is_silent, limit_at, line_of, one_number, outside, replace_of, sum_of, two_numbers, write_of}
+use Rattle.std.specs.Str.{bytes_eq}
+use Rattle.draid_script.specs.Grammar.{agent_of, command_of, fill_of, is_silent, limit_at, line_of, one_number, outside, replace_of, sum_of, two_numbers, write_of}
 use Rattle.draid_script.specs.Keys.{given_by, given_with, keys_at, new_value, nothing_given}
-use Rattle.draid_script.specs.Line.{Command, Silent, CreatePool, ImportPool, ExportPool, SyncPool, CancelPasses, CrashPool, WriteObject, FillObjects, ReadObject, FreeObject, SumObjects, TakeOffline, TakeOnline, DamageSector, AttachSpare, ReplaceDisk, DetachArm, RebuildPool, ScrubPool, RebalanceSlot, ShowStatus, OpenLanes, AreKeys, AreObjects, IsArmArgument, IsInRange, IsLimit, most_lanes, most_objects}
+use Rattle.draid_script.specs.Line.{Command, Silent, CreatePool, ImportPool, ExportPool, SyncPool, CancelPasses, CrashPool, WriteObject, FillObjects, ReadObject, FreeObject, SumObjects, TakeOffline, TakeOnline, DamageSector, AttachSpare, ReplaceDisk, DetachArm, RebuildPool, ScrubPool, RebalanceSlot, ShowStatus, OpenLanes, UpgradePool, RunAgent, ShowJournal, TakeCheckpoint, RewindPool, DiscardCheckpoint, AreKeys, AreObjects, IsArmArgument, IsInRange, IsLimit, most_lanes, most_objects}
 use Rattle.draid_script.specs.Name.{arm_of, name_of, name_text}
 use Rattle.draid_script.specs.Shape.{AreSettings, AreWordsOf, GivesKey, GivesKeys, IsLine, texts_of}
 use Rattle.draid_script.specs.Word.{Placed, bytes_of, is_space, placed_from, words_of}
@@ -57,6 +58,11 @@ name_word name.Scrub = literal_word (name_text name.Scrub) refl
 name_word name.Rebalance = literal_word (name_text name.Rebalance) refl
 name_word name.Status = literal_word (name_text name.Status) refl
 name_word name.Lanes = literal_word (name_text name.Lanes) refl
+name_word name.Upgrade = literal_word (name_text name.Upgrade) refl
+name_word name.Agent = literal_word (name_text name.Agent) refl
+name_word name.Checkpoint = literal_word (name_text name.Checkpoint) refl
+name_word name.Rewind = literal_word (name_text name.Rewind) refl
+name_word name.Discard = literal_word (name_text name.Discard) refl
 
 not_silent : (n : CommandName) (rest : List ℕ) → is_silent (name_text n ++ rest) ≡ false
 not_silent name.Create rest = refl
@@ -81,6 +87,11 @@ not_silent name.Scrub rest = refl
 not_silent name.Rebalance rest = refl
 not_silent name.Status rest = refl
 not_silent name.Lanes rest = refl
+not_silent name.Upgrade rest = refl
+not_silent name.Agent rest = refl
+not_silent name.Checkpoint rest = refl
+not_silent name.Rewind rest = refl
+not_silent name.Discard rest = refl
 
 outside_named : (n : CommandName) (end at : ℕ) (words : List Placed) → outside end (record { text = name_text n; at = at } ∷ words) ≡ command_of n end words
 unfolding name_of
@@ -106,6 +117,11 @@ outside_named name.Scrub end at words = refl
 outside_named name.Rebalance end at words = refl
 outside_named name.Status end at words = refl
 outside_named name.Lanes end at words = refl
+outside_named name.Upgrade end at words = refl
+outside_named name.Agent end at words = refl
+outside_named name.Checkpoint end at words = refl
+outside_named name.Rewind end at words = refl
+outside_named name.Discard end at words = refl
 
 pub joined_front : (text : List ℕ) (texts : List (List ℕ)) → (rest : List ℕ) × (join_with_byte 32 (text ∷ texts) ≡ text ++ rest)
 joined_front text [] = ([], sym (append-nil text))
@@ -212,6 +228,22 @@ arm_word (Spare parity spare) is =
     (All-append (λ byte. is_space byte ≡ false) (decimal parity) _ (decimal_word parity (omega (arith, is.1)))
     (All-append (λ byte. is_space byte ≡ false) (codes "-0-") (decimal spare) (literal_word (codes "-0-") refl) (decimal_word spare (omega (arith, is.2)))))
 
+-- a number isn't the word `log`
+not_log : (n : ℕ) → n < 2 ^ 64 → bytes_eq (decimal n) (codes "log") ≡ false
+not_log n small =
+    let numeral = (decimal_is_IsNumeral n small).0 in
+    let digit = digit_at (decimal n) 0 numeral.1 numeral.0 in
+    differs (decimal n) numeral.0 (omega (arith, digit.1))
+  where
+    differs : (text : List ℕ) → 0 < length text → get_or text 0 0 ≢ 108 → bytes_eq text (codes "log") ≡ false
+    differs [] some other = let none : ⊥ = omega arith in absurd none
+    differs (byte ∷ bytes) some other = and_left (byte == 108) _ (ne_eqb byte 108 other)
+
+agent_again : (at least : ℕ) → 1 ≤ least → least < 2 ^ 32 → agent_of 0 (placed_from at (decimal least ∷ [])) ≡ Ok (RunAgent least)
+agent_again at least some below =
+    cond-false (bytes_eq (decimal least) (codes "log")) _ _ (not_log least (omega arith))
+    ∙ then_ok _ least _ (number_in_again 1 (2 ^ 32) least at some below (omega arith))
+
 -- one more key
 pub key_given : (read : Result ℕ LineFault) (n : ℕ) (set : Option ℕ → Given) → read ≡ Ok n → ((read >>= λ n. Ok (Some n)) >>= λ value. Ok (set value)) ≡ Ok (set (Some n))
 key_given read n set gives = ap (λ (r : Result ℕ LineFault). (r >>= λ n. Ok (Some n)) >>= λ value. Ok (set value)) gives
@@ -228,6 +260,7 @@ given_again word old new at gives =
     let metaslabs : Option ℕ → Given = λ o. record old { metaslabs = o } in
     let slices : Option ℕ → Given = λ o. record old { slices = o } in
     let seed : Option ℕ → Given = λ o. record old { seed = o } in
+    let version : Option ℕ → Given = λ o. record old { version = o } in
     let short = λ (below : gives.0 < 2 ^ 32). number_in_again 0 (2 ^ 32) gives.0 at (omega arith) below (omega (arith, below)) in
     elim gives.1 [
       | inl is ↦ ap read is.0 ∙ ap (λ (o : Option ℕ). new_value short_at o value >>= λ x. Ok (sector x)) is.2 ∙ key_given _ v sector (short is.1) ∙ ap (λ (g : Given). Ok g) (sym is.3)
@@ -237,7 +270,10 @@ given_again word old new at gives =
           | inl is ↦ ap read is.0 ∙ ap (λ (o : Option ℕ). new_value short_at o value >>= λ x. Ok (metaslabs x)) is.2 ∙ key_given _ v metaslabs (short is.1) ∙ ap (λ (g : Given). Ok g) (sym is.3)
           | inr more ↦ elim more [
             | inl is ↦ ap read is.0 ∙ ap (λ (o : Option ℕ). new_value short_at o value >>= λ x. Ok (slices x)) is.2 ∙ key_given _ v slices (short is.1) ∙ ap (λ (g : Given). Ok g) (sym is.3)
-            | inr is ↦ ap read is.0 ∙ ap (λ (o : Option ℕ). new_value number_at o value >>= λ x. Ok (seed x)) is.2 ∙ key_given _ v seed (number_at_again gives.0 at is.1) ∙ ap (λ (g : Given). Ok g) (sym is.3)
+            | inr more ↦ elim more [
+              | inl is ↦ ap read is.0 ∙ ap (λ (o : Option ℕ). new_value number_at o value >>= λ x. Ok (seed x)) is.2 ∙ key_given _ v seed (number_at_again gives.0 at is.1) ∙ ap (λ (g : Given). Ok g) (sym is.3)
+              | inr is ↦ ap read is.0 ∙ ap (λ (o : Option ℕ). new_value short_at o value >>= λ x. Ok (version x)) is.2 ∙ key_given _ v version (short is.1) ∙ ap (λ (g : Given). Ok g) (sym is.3)
+            ]
           ]
         ]
       ]
@@ -255,27 +291,7 @@ keys_again at words keys are =
 
 -- all keys, in their order
 settings_are : (keys : PoolKeys) → AreKeys keys → AreSettings (settings keys) keys
-settings_are keys are = (
-  record { sector = Some keys.sector; height = Some keys.height; metaslabs = Some keys.metaslabs; slices = Some keys.slices; seed = Some keys.seed },
-  (
-    record { sector = Some keys.sector; height = None; metaslabs = None; slices = None; seed = None },
-    (keys.sector, inl (refl, are.sector, refl, refl)),
-    (
-      record { sector = Some keys.sector; height = Some keys.height; metaslabs = None; slices = None; seed = None },
-      (keys.height, inr (inl (refl, are.height, refl, refl))),
-      (
-        record { sector = Some keys.sector; height = Some keys.height; metaslabs = Some keys.metaslabs; slices = None; seed = None },
-        (keys.metaslabs, inr (inr (inl (refl, are.metaslabs, refl, refl)))),
-        (
-          record { sector = Some keys.sector; height = Some keys.height; metaslabs = Some keys.metaslabs; slices = Some keys.slices; seed = None },
-          (keys.slices, inr (inr (inr (inl (refl, are.slices, refl, refl))))),
-          (record { sector = Some keys.sector; height = Some keys.height; metaslabs = Some keys.metaslabs; slices = Some keys.slices; seed = Some keys.seed }, (keys.seed, inr (inr (inr (inr (refl, are.seed, refl, refl))))), refl),
-        ),
-      ),
-    ),
-  ),
-  refl,
-)
+settings_are keys are = (record { sector = Some keys.sector; height = Some keys.height; metaslabs = Some keys.metaslabs; slices = Some keys.slices; seed = Some keys.seed; version = Some keys.version }, (record { sector = Some keys.sector; height = None; metaslabs = None; slices = None; seed = None; version = None }, (keys.sector, inl (refl, are.sector, refl, refl)), (record { sector = Some keys.sector; height = Some keys.height; metaslabs = None; slices = None; seed = None; version = None }, (keys.height, inr (inl (refl, are.height, refl, refl))), (record { sector = Some keys.sector; height = Some keys.height; metaslabs = Some keys.metaslabs; slices = None; seed = None; version = None }, (keys.metaslabs, inr (inr (inl (refl, are.metaslabs, refl, refl)))), (record { sector = Some keys.sector; height = Some keys.height; metaslabs = Some keys.metaslabs; slices = Some keys.slices; seed = None; version = None }, (keys.slices, inr (inr (inr (inl (refl, are.slices, refl, refl))))), (record { sector = Some keys.sector; height = Some keys.height; metaslabs = Some keys.metaslabs; slices = Some keys.slices; seed = Some keys.seed; version = None }, (keys.seed, inr (inr (inr (inr (inl (refl, are.seed, refl, refl)))))), (record { sector = Some keys.sector; height = Some keys.height; metaslabs = Some keys.metaslabs; slices = Some keys.slices; seed = Some keys.seed; version = Some keys.version }, (keys.version, inr (inr (inr (inr (inr ((refl, are.version, refl, refl))))))), refl)))))), refl)
 
 setting_word : (key : List ℕ) (value : ℕ) → IsWord key → value < 2 ^ 64 → IsWord (setting key value)
 setting_word key value word small =
@@ -291,7 +307,10 @@ settings_words keys are = (
       setting_word (codes "metaslabs") keys.metaslabs (literal_word (codes "metaslabs") refl) (omega (arith, are.metaslabs)),
       (
         setting_word (codes "slices") keys.slices (literal_word (codes "slices") refl) (omega (arith, are.slices)),
-        (setting_word (codes "seed") keys.seed (literal_word (codes "seed") refl) are.seed, tt),
+        (
+          setting_word (codes "seed") keys.seed (literal_word (codes "seed") refl) are.seed,
+          (setting_word (codes "version") keys.version (literal_word (codes "version") refl) (omega (arith, are.version)), tt),
+        ),
       ),
     ),
   ),
@@ -364,6 +383,19 @@ words_line text (ShowStatus Json) spelled is =
 words_line text (OpenLanes count) spelled is =
     line_by_words text name.Lanes (decimal count ∷ []) spelled
     ∙ then_ok _ count _ (number_in_again 1 (most_lanes + 1) count _ is.0 (omega (arith, is.1)) (omega (arith, is.1)))
+words_line text UpgradePool spelled is =
+    line_by_words text name.Upgrade [] spelled
+words_line text (RunAgent least) spelled is =
+    line_by_words text name.Agent (decimal least ∷ []) spelled
+    ∙ agent_again _ least is.0 is.1
+words_line text ShowJournal spelled is =
+    line_by_words text name.Agent (codes "log" ∷ []) spelled
+words_line text TakeCheckpoint spelled is =
+    line_by_words text name.Checkpoint [] spelled
+words_line text RewindPool spelled is =
+    line_by_words text name.Rewind [] spelled
+words_line text DiscardCheckpoint spelled is =
+    line_by_words text name.Discard [] spelled
 
 silent_line : (text : List ℕ) → is_silent text ≡ true → line_of text ≡ Ok Silent
 unfolding line_of
@@ -402,6 +434,12 @@ written_words_are (RebalanceSlot slot) is = (name_word name.Rebalance, (decimal_
 written_words_are (ShowStatus Text) is = (name_word name.Status, tt)
 written_words_are (ShowStatus Json) is = (name_word name.Status, (literal_word (codes "json") refl, tt))
 written_words_are (OpenLanes count) is = (name_word name.Lanes, (decimal_word count (omega (arith, is.1)), tt))
+written_words_are UpgradePool is = (name_word name.Upgrade, tt)
+written_words_are (RunAgent least) is = (name_word name.Agent, (decimal_word least (omega (arith, is.1)), tt))
+written_words_are ShowJournal is = (name_word name.Agent, (literal_word (codes "log") refl, tt))
+written_words_are TakeCheckpoint is = (name_word name.Checkpoint, tt)
+written_words_are RewindPool is = (name_word name.Rewind, tt)
+written_words_are DiscardCheckpoint is = (name_word name.Discard, tt)
 
 -- what is written is spelled so, where the words of a line are those that are written
 pub spelled_so : (command : Command) (words : List (List ℕ)) → IsWritable command → words ≡ written_words command → AreWordsOf command words
@@ -428,6 +466,12 @@ spelled_so (ScrubPool limit) words is same = same
 spelled_so (RebalanceSlot slot) words is same = same
 spelled_so (ShowStatus format) words is same = same
 spelled_so (OpenLanes count) words is same = same
+spelled_so UpgradePool words is same = same
+spelled_so (RunAgent least) words is same = same
+spelled_so ShowJournal words is same = same
+spelled_so TakeCheckpoint words is same = same
+spelled_so RewindPool words is same = same
+spelled_so DiscardCheckpoint words is same = same
 
 pub in_range : (command : Command) → IsWritable command → IsInRange command
 in_range (CreatePool spec children keys) is = is.0
@@ -453,6 +497,12 @@ in_range (ScrubPool limit) is = is
 in_range (RebalanceSlot slot) is = is
 in_range (ShowStatus format) is = is
 in_range (OpenLanes count) is = is
+in_range UpgradePool is = is
+in_range (RunAgent least) is = is
+in_range ShowJournal is = is
+in_range TakeCheckpoint is = is
+in_range RewindPool is = is
+in_range DiscardCheckpoint is = is
 
 pub split_written : (texts : List (List ℕ)) → AllByRecursion IsWord texts → 0 < length texts → texts_of (join_with_byte 32 texts) ≡ texts
 split_written [] are some = let no : ⊥ = omega arith in absurd no
@@ -488,3 +538,9 @@ line_again (RebalanceSlot slot) is = line_from (RebalanceSlot slot) is (omega ar
 line_again (ShowStatus Text) is = line_from (ShowStatus Text) is (omega arith)
 line_again (ShowStatus Json) is = line_from (ShowStatus Json) is (omega arith)
 line_again (OpenLanes count) is = line_from (OpenLanes count) is (omega arith)
+line_again UpgradePool is = line_from UpgradePool is (omega arith)
+line_again (RunAgent least) is = line_from (RunAgent least) is (omega arith)
+line_again ShowJournal is = line_from ShowJournal is (omega arith)
+line_again TakeCheckpoint is = line_from TakeCheckpoint is (omega arith)
+line_again RewindPool is = line_from RewindPool is (omega arith)
+line_again DiscardCheckpoint is = line_from DiscardCheckpoint is (omega arith)

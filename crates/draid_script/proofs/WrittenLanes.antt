@@ -43,6 +43,11 @@ lane_named name.Scrub at may = refl
 lane_named name.Rebalance at may = cc
 lane_named name.Status at may = cc
 lane_named name.Lanes at may = cc
+lane_named name.Upgrade at may = cc
+lane_named name.Agent at may = cc
+lane_named name.Checkpoint at may = cc
+lane_named name.Rewind at may = cc
+lane_named name.Discard at may = cc
 
 -- a text that begins with a digit is no comment, and isn't `end`
 loud : (digits rest : List ℕ) → 0 < length digits → 48 ≤ get_or digits 0 0 → is_silent (digits ++ rest) ≡ false

@@ -6,7 +6,7 @@ use Rattle.draid_script.specs.declared.fault.LineFault.{LineFault}
 use Rattle.draid_script.specs.declared.line.StatusFormat.TheVariants.{Text}
 use Rattle.draid_script.specs.declared.name.CommandName.{CommandName}
 use Rattle.draid_script.specs.declared.name.CommandName.TheVariants as name
-use Rattle.draid_script.specs.Line.{Command, Silent, CreatePool, ImportPool, ExportPool, SyncPool, CancelPasses, CrashPool, WriteObject, FillObjects, ReadObject, FreeObject, SumObjects, TakeOffline, TakeOnline, DamageSector, AttachSpare, ReplaceDisk, DetachArm, RebuildPool, ScrubPool, RebalanceSlot, ShowStatus, OpenLanes, LaneCommand, SectionEnd, SilentLane, InLane, most_lanes}
+use Rattle.draid_script.specs.Line.{Command, Silent, CreatePool, ImportPool, ExportPool, SyncPool, CancelPasses, CrashPool, WriteObject, FillObjects, ReadObject, FreeObject, SumObjects, TakeOffline, TakeOnline, DamageSector, AttachSpare, ReplaceDisk, DetachArm, RebuildPool, ScrubPool, RebalanceSlot, ShowStatus, OpenLanes, UpgradePool, RunAgent, ShowJournal, TakeCheckpoint, RewindPool, DiscardCheckpoint, LaneCommand, SectionEnd, SilentLane, InLane, most_lanes}
 use Rattle.draid_script.specs.Fault.{fault, ◌>>=◌}
 use Rattle.draid_script.specs.Field.{arm_at, block_at, count_at, format_at, number_at, number_in, object_at}
 use Rattle.draid_script.specs.Keys.{keys_at}
@@ -24,10 +24,10 @@ create_of end (spec ∷ children ∷ words) = do
   Ok (CreatePool spec.text number keys)
 create_of end _ = Err (fault 2 end)
 
--- no word
-abbrev pub no_word : ℕ → List Placed → Result Unit LineFault
-no_word end [] = Ok tt
-no_word end _ = Err (fault 2 end)
+-- a command without further words
+abbrev pub alone : Command → ℕ → List Placed → Result Command LineFault
+alone command end [] = Ok command
+alone command end _ = Err (fault 2 end)
 
 -- one number below a limit
 abbrev pub one_number : ℕ → ℕ → List Placed → Result ℕ LineFault
@@ -107,25 +107,12 @@ lanes_of end (word ∷ []) = do
   Ok (OpenLanes count)
 lanes_of end _ = Err (fault 2 end)
 
--- `import`
-abbrev pub import_of : ℕ → List Placed → Result Command LineFault
-import_of end words = no_word end words >>= λ _. Ok ImportPool
-
--- `export`
-abbrev pub export_of : ℕ → List Placed → Result Command LineFault
-export_of end words = no_word end words >>= λ _. Ok ExportPool
-
--- `sync`
-abbrev pub sync_of : ℕ → List Placed → Result Command LineFault
-sync_of end words = no_word end words >>= λ _. Ok SyncPool
-
--- `cancel`
-abbrev pub cancel_of : ℕ → List Placed → Result Command LineFault
-cancel_of end words = no_word end words >>= λ _. Ok CancelPasses
-
--- `crash`
-abbrev pub crash_of : ℕ → List Placed → Result Command LineFault
-crash_of end words = no_word end words >>= λ _. Ok CrashPool
+-- `agent N` and `agent log`
+abbrev pub agent_of : ℕ → List Placed → Result Command LineFault
+agent_of end (word ∷ []) =
+    if bytes_eq word.text (codes "log") then Ok ShowJournal
+    else (number_in 1 (2 ^ 32) word >>= λ least. Ok (RunAgent least))
+agent_of end _ = Err (fault 2 end)
 
 -- `read O`
 abbrev pub read_of : ℕ → List Placed → Result Command LineFault
@@ -166,11 +153,11 @@ rebalance_of end words = one_number (2 ^ 32) end words >>= λ slot. Ok (Rebalanc
 -- a command by its first word and the words behind it
 unfoldable pub command_of : CommandName → ℕ → List Placed → Result Command LineFault
 command_of name.Create end words = create_of end words
-command_of name.Import end words = import_of end words
-command_of name.Export end words = export_of end words
-command_of name.Sync end words = sync_of end words
-command_of name.Cancel end words = cancel_of end words
-command_of name.Crash end words = crash_of end words
+command_of name.Import end words = alone ImportPool end words
+command_of name.Export end words = alone ExportPool end words
+command_of name.Sync end words = alone SyncPool end words
+command_of name.Cancel end words = alone CancelPasses end words
+command_of name.Crash end words = alone CrashPool end words
 command_of name.Write end words = write_of end words
 command_of name.Fill end words = fill_of end words
 command_of name.Read end words = read_of end words
@@ -187,6 +174,11 @@ command_of name.Scrub end words = scrub_of end words
 command_of name.Rebalance end words = rebalance_of end words
 command_of name.Status end words = status_of end words
 command_of name.Lanes end words = lanes_of end words
+command_of name.Upgrade end words = alone UpgradePool end words
+command_of name.Agent end words = agent_of end words
+command_of name.Checkpoint end words = alone TakeCheckpoint end words
+command_of name.Rewind end words = alone RewindPool end words
+command_of name.Discard end words = alone DiscardCheckpoint end words
 
 -- the first word, of kind 1 where it is unknown
 abbrev pub name_at : Placed → Result CommandName LineFault

@@ -36,6 +36,8 @@ given_with given word =
     then (new_value short_at given.slices (value_in word) >>= λ value. Ok (record given { slices = value }))
     else if bytes_eq (key_in word) (codes "seed")
     then (new_value number_at given.seed (value_in word) >>= λ value. Ok (record given { seed = value }))
+    else if bytes_eq (key_in word) (codes "version")
+    then (new_value short_at given.version (value_in word) >>= λ value. Ok (record given { version = value }))
     else Err (fault 3 word.at)
 
 abbrev pub given_by : Given → List Placed → Result Given LineFault
@@ -43,7 +45,7 @@ given_by given [] = Ok given
 given_by given (word ∷ words) = given_with given word >>= λ more. given_by more words
 
 abbrev pub nothing_given : Given
-nothing_given = record { sector = None; height = None; metaslabs = None; slices = None; seed = None }
+nothing_given = record { sector = None; height = None; metaslabs = None; slices = None; seed = None; version = None }
 
 -- the values, with the default where a key isn't given
 abbrev pub keys_in : Given → PoolKeys
@@ -53,6 +55,7 @@ keys_in given = record {
   metaslabs = unwrap_or given.metaslabs 4;
   slices = unwrap_or given.slices 16;
   seed = unwrap_or given.seed 1;
+  version = unwrap_or given.version 1;
 }
 
 abbrev pub keys_at : List Placed → Result PoolKeys LineFault

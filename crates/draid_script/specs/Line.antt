@@ -34,6 +34,12 @@ pub data Command : Type 0 where
   RebalanceSlot : ℕ → Command
   ShowStatus : StatusFormat → Command
   OpenLanes : ℕ → Command
+  UpgradePool : Command
+  RunAgent : ℕ → Command
+  ShowJournal : Command
+  TakeCheckpoint : Command
+  RewindPool : Command
+  DiscardCheckpoint : Command
 
 -- what the line asks for, without where its bytes lie in memory
 abbrev pub command_in : Line → Command
@@ -60,6 +66,12 @@ command_in (line.Scrub limit) = ScrubPool limit
 command_in (line.Rebalance slot) = RebalanceSlot slot
 command_in (line.Status format) = ShowStatus format
 command_in (line.Lanes count) = OpenLanes count
+command_in line.Upgrade = UpgradePool
+command_in (line.Agent least) = RunAgent least
+command_in line.AgentLog = ShowJournal
+command_in line.Checkpoint = TakeCheckpoint
+command_in line.Rewind = RewindPool
+command_in line.Discard = DiscardCheckpoint
 
 -- What a line of a section asks for.
 pub data LaneCommand : Type 0 where
@@ -97,6 +109,7 @@ pub record AreKeys (keys : PoolKeys) : Type 0 where
   pub metaslabs : keys.metaslabs < 2 ^ 32
   pub slices : keys.slices < 2 ^ 32
   pub seed : keys.seed < 2 ^ 64
+  pub version : keys.version < 2 ^ 32
 
 -- a leaf below 2^48, or a spare below 2^32 of a parity from 1 to 3
 abbrev pub IsArmArgument : ArmArgument → Type 0
@@ -125,6 +138,7 @@ IsInRange (RebuildPool limit) = IsLimit limit
 IsInRange (ScrubPool limit) = IsLimit limit
 IsInRange (RebalanceSlot slot) = slot < 2 ^ 32
 IsInRange (OpenLanes count) = (1 ≤ count) × (count ≤ most_lanes)
+IsInRange (RunAgent least) = (1 ≤ least) × (least < 2 ^ 32)
 IsInRange _ = ⊤
 
 -- a line of a section of so many lanes

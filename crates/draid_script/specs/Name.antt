@@ -5,7 +5,7 @@ use Rattle.std.specs.Str.{bytes_eq}
 use Rattle.draid_script.specs.declared.line.ArmArgument.{ArmArgument}
 use Rattle.draid_script.specs.declared.line.ArmArgument.TheVariants as arm
 use Rattle.draid_script.specs.declared.name.CommandName.{CommandName}
-use Rattle.draid_script.specs.declared.name.CommandName.TheVariants.{Create, Import, Export, Sync, Cancel, Crash, Write, Fill, Read, Free, Sum, Offline, Online, Damage, Spare, Replace, Detach, Rebuild, Scrub, Rebalance, Status, Lanes}
+use Rattle.draid_script.specs.declared.name.CommandName.TheVariants.{Create, Import, Export, Sync, Cancel, Crash, Write, Fill, Read, Free, Sum, Offline, Online, Damage, Spare, Replace, Detach, Rebuild, Scrub, Rebalance, Status, Lanes, Upgrade, Agent, Checkpoint, Rewind, Discard}
 
 -- the first word of a command
 abbrev pub name_text : CommandName → List ℕ
@@ -31,9 +31,14 @@ name_text Scrub = codes "scrub"
 name_text Rebalance = codes "rebalance"
 name_text Status = codes "status"
 name_text Lanes = codes "lanes"
+name_text Upgrade = codes "upgrade"
+name_text Agent = codes "agent"
+name_text Checkpoint = codes "checkpoint"
+name_text Rewind = codes "rewind"
+name_text Discard = codes "discard"
 
 abbrev pub all_names : List CommandName
-all_names = Create ∷ Import ∷ Export ∷ Sync ∷ Cancel ∷ Crash ∷ Write ∷ Fill ∷ Read ∷ Free ∷ Sum ∷ Offline ∷ Online ∷ Damage ∷ Spare ∷ Replace ∷ Detach ∷ Rebuild ∷ Scrub ∷ Rebalance ∷ Status ∷ Lanes ∷ []
+all_names = Create ∷ Import ∷ Export ∷ Sync ∷ Cancel ∷ Crash ∷ Write ∷ Fill ∷ Read ∷ Free ∷ Sum ∷ Offline ∷ Online ∷ Damage ∷ Spare ∷ Replace ∷ Detach ∷ Rebuild ∷ Scrub ∷ Rebalance ∷ Status ∷ Lanes ∷ Upgrade ∷ Agent ∷ Checkpoint ∷ Rewind ∷ Discard ∷ []
 
 -- the command whose first word the text is
 unfoldable pub name_of : List ℕ → Option CommandName

@@ -16,7 +16,8 @@ GivesKey word old new = (value : ℕ) × (
     ⊎ ((word ≡ setting (codes "height") value) × (value < 2 ^ 32) × (old.height ≡ None) × (new ≡ record old { height = Some value }))
     ⊎ ((word ≡ setting (codes "metaslabs") value) × (value < 2 ^ 32) × (old.metaslabs ≡ None) × (new ≡ record old { metaslabs = Some value }))
     ⊎ ((word ≡ setting (codes "slices") value) × (value < 2 ^ 32) × (old.slices ≡ None) × (new ≡ record old { slices = Some value }))
-    ⊎ ((word ≡ setting (codes "seed") value) × (value < 2 ^ 64) × (old.seed ≡ None) × (new ≡ record old { seed = Some value })))
+    ⊎ ((word ≡ setting (codes "seed") value) × (value < 2 ^ 64) × (old.seed ≡ None) × (new ≡ record old { seed = Some value }))
+    ⊎ ((word ≡ setting (codes "version") value) × (value < 2 ^ 32) × (old.version ≡ None) × (new ≡ record old { version = Some value })))
 
 -- such words, one after another
 abbrev pub GivesKeys : List (List ℕ) → Given → Given → Type 0

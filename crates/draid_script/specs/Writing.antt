@@ -4,7 +4,7 @@ use Rattle.std.specs.Fmt.{decimal}
 use Rattle.hex.specs.Hex.{encode_lower, IsBytes}
 use Rattle.draid_script.specs.declared.line.PoolKeys.{PoolKeys}
 use Rattle.draid_script.specs.declared.line.StatusFormat.TheVariants.{Text, Json}
-use Rattle.draid_script.specs.Line.{Command, Silent, CreatePool, ImportPool, ExportPool, SyncPool, CancelPasses, CrashPool, WriteObject, FillObjects, ReadObject, FreeObject, SumObjects, TakeOffline, TakeOnline, DamageSector, AttachSpare, ReplaceDisk, DetachArm, RebuildPool, ScrubPool, RebalanceSlot, ShowStatus, OpenLanes, IsInRange}
+use Rattle.draid_script.specs.Line.{Command, Silent, CreatePool, ImportPool, ExportPool, SyncPool, CancelPasses, CrashPool, WriteObject, FillObjects, ReadObject, FreeObject, SumObjects, TakeOffline, TakeOnline, DamageSector, AttachSpare, ReplaceDisk, DetachArm, RebuildPool, ScrubPool, RebalanceSlot, ShowStatus, OpenLanes, UpgradePool, RunAgent, ShowJournal, TakeCheckpoint, RewindPool, DiscardCheckpoint, IsInRange}
 use Rattle.draid_script.specs.Name.{arm_of}
 
 -- a word `key=value`
@@ -14,7 +14,8 @@ setting key value = key ++ (61 ∷ decimal value)
 abbrev pub settings : PoolKeys → List (List ℕ)
 settings keys =
     setting (codes "sector") keys.sector ∷ setting (codes "height") keys.height ∷ setting (codes "metaslabs") keys.metaslabs
-    ∷ setting (codes "slices") keys.slices ∷ setting (codes "seed") keys.seed ∷ []
+    ∷ setting (codes "slices") keys.slices ∷ setting (codes "seed") keys.seed
+    ∷ setting (codes "version") keys.version ∷ []
 
 -- a word that may be left out
 abbrev pub optional : Option ℕ → List (List ℕ)
@@ -47,6 +48,12 @@ written_words (RebalanceSlot slot) = codes "rebalance" ∷ decimal slot ∷ []
 written_words (ShowStatus Text) = codes "status" ∷ []
 written_words (ShowStatus Json) = codes "status" ∷ codes "json" ∷ []
 written_words (OpenLanes count) = codes "lanes" ∷ decimal count ∷ []
+written_words UpgradePool = codes "upgrade" ∷ []
+written_words (RunAgent least) = codes "agent" ∷ decimal least ∷ []
+written_words ShowJournal = codes "agent" ∷ codes "log" ∷ []
+written_words TakeCheckpoint = codes "checkpoint" ∷ []
+written_words RewindPool = codes "rewind" ∷ []
+written_words DiscardCheckpoint = codes "discard" ∷ []
 
 -- the line that a writer would write: the words, joined by single spaces
 abbrev pub written_line : Command → List ℕ

@@ -18,6 +18,8 @@ const SECTORS: u64 = 1 << 26;
 /// Slots and spares have numbers below this.
 const SLOTS: u64 = 1 << 32;
 
+const LOG: &[u8] = b"log";
+
 /// The most lanes of a section.
 const MOST_LANES: u64 = 16;
 
@@ -34,11 +36,11 @@ pub fn command(
 {
     match name {
         CommandName::Create => create(alloc, end, words),
-        CommandName::Import => import(end, words),
-        CommandName::Export => export(end, words),
-        CommandName::Sync => sync(end, words),
-        CommandName::Cancel => cancel(end, words),
-        CommandName::Crash => crash(end, words),
+        CommandName::Import => alone(end, words, Line::Import),
+        CommandName::Export => alone(end, words, Line::Export),
+        CommandName::Sync => alone(end, words, Line::Sync),
+        CommandName::Cancel => alone(end, words, Line::Cancel),
+        CommandName::Crash => alone(end, words, Line::Crash),
         CommandName::Write => write(alloc, end, words),
         CommandName::Fill => fill(end, words),
         CommandName::Read => read(end, words),
@@ -55,6 +57,11 @@ pub fn command(
         CommandName::Rebalance => rebalance(end, words),
         CommandName::Status => status(end, words),
         CommandName::Lanes => lanes(end, words),
+        CommandName::Upgrade => alone(end, words, Line::Upgrade),
+        CommandName::Agent => agent(end, words),
+        CommandName::Checkpoint => alone(end, words, Line::Checkpoint),
+        CommandName::Rewind => alone(end, words, Line::Rewind),
+        CommandName::Discard => alone(end, words, Line::Discard),
     }
 }
 
@@ -75,46 +82,6 @@ fn create(alloc: Global, end: u64, words: &[Word]) -> Result<Line, ParseFault>
         }
         _ => Err(ParseFault::line(LineFault::COUNT, end)),
     }
-}
-
-fn import(end: u64, words: &[Word]) -> Result<Line, ParseFault>
-    ensures value { Gives command_in result (spec.import_of end (map placed words.now)) }
-    ensures range { IfOk result (λ line. IsInRange (command_in line)) }
-{
-    no_word(end, words)?;
-    Ok(Line::Import)
-}
-
-fn export(end: u64, words: &[Word]) -> Result<Line, ParseFault>
-    ensures value { Gives command_in result (spec.export_of end (map placed words.now)) }
-    ensures range { IfOk result (λ line. IsInRange (command_in line)) }
-{
-    no_word(end, words)?;
-    Ok(Line::Export)
-}
-
-fn sync(end: u64, words: &[Word]) -> Result<Line, ParseFault>
-    ensures value { Gives command_in result (spec.sync_of end (map placed words.now)) }
-    ensures range { IfOk result (λ line. IsInRange (command_in line)) }
-{
-    no_word(end, words)?;
-    Ok(Line::Sync)
-}
-
-fn cancel(end: u64, words: &[Word]) -> Result<Line, ParseFault>
-    ensures value { Gives command_in result (spec.cancel_of end (map placed words.now)) }
-    ensures range { IfOk result (λ line. IsInRange (command_in line)) }
-{
-    no_word(end, words)?;
-    Ok(Line::Cancel)
-}
-
-fn crash(end: u64, words: &[Word]) -> Result<Line, ParseFault>
-    ensures value { Gives command_in result (spec.crash_of end (map placed words.now)) }
-    ensures range { IfOk result (λ line. IsInRange (command_in line)) }
-{
-    no_word(end, words)?;
-    Ok(Line::Crash)
 }
 
 fn write(alloc: Global, end: u64, words: &[Word]) -> Result<Line, ParseFault>
@@ -309,12 +276,28 @@ fn lanes(end: u64, words: &[Word]) -> Result<Line, ParseFault>
     }
 }
 
-/// No word.
-fn no_word(end: u64, words: &[Word]) -> Result<(), ParseFault>
-    ensures { Gives (λ u. u) result (spec.no_word end (map placed words.now)) }
+fn agent(end: u64, words: &[Word]) -> Result<Line, ParseFault>
+    ensures value { Gives command_in result (spec.agent_of end (map placed words.now)) }
+    ensures range { IfOk result (λ line. IsInRange (command_in line)) }
 {
     match words {
-        [] => Ok(()),
+        [word] if word.text == LOG => Ok(Line::AgentLog),
+        [word] => {
+            let least = number_in(word, 1, SLOTS)?;
+            Ok(Line::Agent { least })
+        }
+        _ => Err(ParseFault::line(LineFault::COUNT, end)),
+    }
+}
+
+/// A command without further words.
+fn alone(end: u64, words: &[Word], line: Line) -> Result<Line, ParseFault>
+    requires { IsInRange (command_in line) }
+    ensures value { Gives command_in result (spec.alone (command_in line) end (map placed words.now)) }
+    ensures range { IfOk result (λ line. IsInRange (command_in line)) }
+{
+    match words {
+        [] => Ok(line),
         _ => Err(ParseFault::line(LineFault::COUNT, end)),
     }
 }

@@ -20,6 +20,8 @@ const SLICES: &[u8] = b"slices";
 
 const SEED: &[u8] = b"seed";
 
+const VERSION: &[u8] = b"version";
+
 /// The values of the keys that were given so far.
 #[derive(Clone, Copy, Debug, Default)]
 pub struct Given {
@@ -28,6 +30,7 @@ pub struct Given {
     pub metaslabs: Option<u32>,
     pub slices: Option<u32>,
     pub seed: Option<u64>,
+    pub version: Option<u32>,
 }
 
 impl Given {
@@ -57,6 +60,10 @@ impl Given {
             let seed = new_number(self.seed, &value)?;
             return Ok(Given { seed, ..self });
         }
+        if key == VERSION {
+            let version = new_short(self.version, &value)?;
+            return Ok(Given { version, ..self });
+        }
         Err(ParseFault::line(LineFault::NUMBER, word.at))
     }
 
@@ -70,6 +77,7 @@ impl Given {
             metaslabs: self.metaslabs.unwrap_or(4),
             slices: self.slices.unwrap_or(16),
             seed: self.seed.unwrap_or(1),
+            version: self.version.unwrap_or(1),
         }
     }
 }

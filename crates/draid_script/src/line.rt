@@ -93,6 +93,21 @@ pub enum Line {
     Lanes {
         count: u32,
     },
+    /// `upgrade`: the pool gets version 2.
+    Upgrade,
+    /// `agent N`: each slot whose only leaf is offline, or has at least so many groups in its log, gets a spare, as
+    /// long as one is free. 1 to 2^32 - 1.
+    Agent {
+        least: u64,
+    },
+    /// `agent log`: what did the agent do in this session?
+    AgentLog,
+    /// `checkpoint`: the objects are remembered as they are.
+    Checkpoint,
+    /// `rewind`: the objects are again what they were at the checkpoint.
+    Rewind,
+    /// `discard`: the checkpoint is forgotten.
+    Discard,
 }
 
 /// The values of the keys of `create`, with the default where the line has none.
@@ -108,6 +123,8 @@ pub struct PoolKeys {
     pub slices: u32,
     /// `seed` of the base rows; 1 by default.
     pub seed: u64,
+    /// `version` of the pool's format; 1 by default.
+    pub version: u32,
 }
 
 /// An arm as `detach` names it.

@@ -26,10 +26,15 @@ pub enum CommandName {
     Rebalance,
     Status,
     Lanes,
+    Upgrade,
+    Agent,
+    Checkpoint,
+    Rewind,
+    Discard,
 }
 
 /// All of them.
-const NAMES: [CommandName; 22] = [
+const NAMES: [CommandName; 27] = [
     CommandName::Create,
     CommandName::Import,
     CommandName::Export,
@@ -52,6 +57,11 @@ const NAMES: [CommandName; 22] = [
     CommandName::Rebalance,
     CommandName::Status,
     CommandName::Lanes,
+    CommandName::Upgrade,
+    CommandName::Agent,
+    CommandName::Checkpoint,
+    CommandName::Rewind,
+    CommandName::Discard,
 ];
 
 impl CommandName {
@@ -93,6 +103,11 @@ impl CommandName {
             CommandName::Rebalance => "rebalance",
             CommandName::Status => "status",
             CommandName::Lanes => "lanes",
+            CommandName::Upgrade => "upgrade",
+            CommandName::Agent => "agent",
+            CommandName::Checkpoint => "checkpoint",
+            CommandName::Rewind => "rewind",
+            CommandName::Discard => "discard",
         }
     }
 

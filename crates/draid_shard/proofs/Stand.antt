@@ -19,11 +19,11 @@ use Rattle.draid_shard.proofs.Places.{apart, child_there, follows, sector_below}
 pub first_there : (geometry : Geometry) (first stripes : ℕ) → IsRun geometry first stripes → first < metaslab_stripes geometry
 first_there geometry first stripes run = let a = run.some in let b = run.inside in omega (arith, a, b)
 
-few_sectors : (geometry : Geometry) → IsGeometry geometry → metaslab_sectors geometry ≤ 2 ^ 27
+few_sectors : (geometry : Geometry) → IsGeometry geometry → metaslab_sectors geometry ≤ 2 ^ 28
 few_sectors geometry is =
-    let rows : geometry.rows ≤ 32 = (let a = is.slice.most_rows in let w = is.width in let d = is.disks in let c = is.spec.most_children in omega (arith, a, w, d, c)) in
-    let two : geometry.props.slices * geometry.rows ≤ 1024 * 32 = mul-le-mul is.props.most_slices rows in
-    let three : geometry.props.slices * geometry.rows * geometry.props.height ≤ 1024 * 32 * 4096 = mul-le-mul two is.props.most_height in
+    let rows : geometry.rows ≤ 64 = (let a = is.slice.most_rows in let w = is.width in let d = is.disks in let c = is.spec.most_children in omega (arith, a, w, d, c)) in
+    let two : geometry.props.slices * geometry.rows ≤ 1024 * 64 = mul-le-mul is.props.most_slices rows in
+    let three : geometry.props.slices * geometry.rows * geometry.props.height ≤ 1024 * 64 * 4096 = mul-le-mul two is.props.most_height in
     omega (arith, three)
 
 small_rows : (geometry : Geometry) (first stripes : ℕ) → IsGeometry geometry → IsRun geometry first stripes → stripes * geometry.props.sector < 2 ^ 30

@@ -7,7 +7,7 @@ use Rattle.draid_spec.specs.declared.spec.Spec.{Spec}
 use Rattle.draid_spec.specs.declared.layout.Props.{Props}
 use Rattle.draid_spec.specs.declared.layout.Geometry.{Geometry}
 use Rattle.draid_spec.specs.Spec.{need_of, have_of, checked_width}
-use Rattle.draid_spec.specs.Geometry.{FillsRows, IsGeometry, IsProps, geometry_of, layout_of, checked_props, checked_layout, ngroups_of, rows_of, total_of}
+use Rattle.draid_spec.specs.Geometry.{FillsRows, IsGeometry, IsProps, IsVersion, geometry_of, layout_of, checked_props, checked_version, checked_layout, ngroups_of, rows_of, total_of}
 use Rattle.draid_spec.proofs.Multiples.{lcm_unique}
 
 groups_are : (g d k r : ℕ) → 1 ≤ g → 1 ≤ d → FillsRows g d k r → k ≡ ngroups_of g d
@@ -20,6 +20,9 @@ rows_are g d k r some_g some_d is =
 
 props_pass : (props : Props) → IsProps props → checked_props props ≡ Ok tt
 props_pass props is = grind (arith, nat_tests)
+
+version_passes : (version : ℕ) → IsVersion version → checked_version version ≡ Ok tt
+version_passes version is = grind (arith, nat_tests)
 
 width_passes : (spec : Spec) → need_of spec ≤ have_of spec → checked_width spec ≡ Ok tt
 width_passes spec fits = grind (arith, nat_tests)
@@ -47,7 +50,9 @@ pub given_layout : (layout : Geometry) → IsGeometry layout → geometry_of lay
 given_layout layout is =
     let width : checked_width layout.spec ≡ Ok tt = width_passes layout.spec (omega arith) in
     let props : checked_props layout.props ≡ Ok tt = props_pass layout.props is.props in
+    let version : checked_version layout.props.version ≡ Ok tt = version_passes layout.props.version is.version in
     let next : Result Unit SpecFault → Result Geometry SpecFault → Result Geometry SpecFault = λ r s. result_and r s in
-    ap (λ r. next r (next (checked_props layout.props) (checked_layout (layout_of layout.spec layout.props)))) width
+    ap (λ r. next r (next (checked_width layout.spec) (next (checked_props layout.props) (checked_layout (layout_of layout.spec layout.props))))) version
+    ∙ (ap (λ r. next r (next (checked_props layout.props) (checked_layout (layout_of layout.spec layout.props)))) width
     ∙ (ap (λ r. next r (checked_layout (layout_of layout.spec layout.props))) props
-    ∙ (ap (λ l. checked_layout l) (layout_is layout is) ∙ layout_passes layout is.total))
+    ∙ (ap (λ l. checked_layout l) (layout_is layout is) ∙ layout_passes layout is.total)))

@@ -54,9 +54,9 @@ name_text spec small =
 named : Spec → Said
 named spec = record { parity = spec.parity; ndata = Some spec.ndata; children = Some spec.children; spares = Some spec.spares }
 
-name_said : (spec : Spec) → IsSpec spec → said_of (parts_of spec) ≡ Ok (named spec)
+name_said : (spec : Spec) (version : ℕ) → IsSpec version spec → said_of (parts_of spec) ≡ Ok (named spec)
 unfolding parts_of argument named
-name_said spec is =
+name_said spec version is =
     let value : (n : ℕ) → n ≤ 999999999 → digits_value 10 (decimal n) ≡ n = λ n small. (decimal_is_IsNumeral n (omega arith)).1 in
     let says : ℕ → ℕ → ℕ → Result Said SpecFault = λ d c s. Ok (record { parity = spec.parity; ndata = Some d; children = Some c; spares = Some s }) in
     ap (λ d. says d (digits_value 10 (decimal spec.children)) (digits_value 10 (decimal spec.spares))) (value spec.ndata is.most_data)
@@ -66,38 +66,38 @@ name_said spec is =
 children_pass : (n : ℕ) → checked_children (Some n) n ≡ Ok tt
 children_pass n = grind (arith, nat_tests)
 
-limits_pass : (spec : Spec) → IsSpec spec → checked_limits (named spec) spec.children ≡ Ok tt
+limits_pass : (spec : Spec) (version : ℕ) → IsSpec version spec → checked_limits (named spec) spec.children version ≡ Ok tt
 unfolding named
-limits_pass spec is = grind (arith, nat_tests)
+limits_pass spec version is = grind (arith, nat_tests)
 
 width_passes : (spec : Spec) → need_of spec ≤ have_of spec → checked_width spec ≡ Ok tt
 width_passes spec fits = grind (arith, nat_tests)
 
-name_checked : (spec : Spec) → IsSpec spec → need_of spec ≤ have_of spec → spec_checked (named spec) spec.children ≡ Ok spec
+name_checked : (spec : Spec) (version : ℕ) → IsSpec version spec → need_of spec ≤ have_of spec → spec_checked (named spec) spec.children version ≡ Ok spec
 unfolding named
-name_checked spec is fits =
-    let limits : checked_limits (named spec) spec.children ≡ Ok tt = limits_pass spec is in
+name_checked spec version is fits =
+    let limits : checked_limits (named spec) spec.children version ≡ Ok tt = limits_pass spec version is in
     let all : Result Unit SpecFault → Result Unit SpecFault → Result Unit SpecFault → Result Spec SpecFault
     = λ r s t. result_and r (result_and s (result_and t (Ok spec))) in
-    ap (λ r. all r (checked_limits (named spec) spec.children) (checked_width spec)) (children_pass spec.children)
+    ap (λ r. all r (checked_limits (named spec) spec.children version) (checked_width spec)) (children_pass spec.children)
     ∙ (ap (λ s. all (Ok tt) s (checked_width spec)) limits
     ∙ ap (λ t. all (Ok tt) (Ok tt) t) (width_passes spec fits))
 
-parts_are : (spec : Spec) → IsSpec spec → IsParts (parts_of spec)
+parts_are : (spec : Spec) (version : ℕ) → IsSpec version spec → IsParts (parts_of spec)
 unfolding parts_of
-parts_are spec ranges = record {
+parts_are spec version ranges = record {
   parity = (ranges.some_parity, ranges.most_parity);
   arguments = (is_argument spec.ndata 100 ranges.most_data refl, (is_argument spec.children 99 (omega arith) refl, (is_argument spec.spares 115 (omega arith) refl, tt)));
 }
 
-name_read : (spec : Spec) (name : List ℕ) → name ≡ spec_name_of spec → IsSpec spec → need_of spec ≤ have_of spec → spec_by name spec.children ≡ Ok spec
-name_read spec name is ranges fits =
-    let parts : IsParts (parts_of spec) = parts_are spec ranges in
+name_read : (spec : Spec) (name : List ℕ) → name ≡ spec_name_of spec → (version : ℕ) → IsSpec version spec → need_of spec ≤ have_of spec → spec_by name spec.children version ≡ Ok spec
+name_read spec name is version ranges fits =
+    let parts : IsParts (parts_of spec) = parts_are spec version ranges in
     let said : said_by name ≡ Ok (named spec)
-    = ap (λ text. said_by text) (is ∙ name_text spec ranges.most_parity) ∙ (text_read (parts_of spec) parts ∙ name_said spec ranges) in
-    ap (λ r. meant r spec.children) said ∙ name_checked spec ranges fits
+    = ap (λ text. said_by text) (is ∙ name_text spec ranges.most_parity) ∙ (text_read (parts_of spec) parts ∙ name_said spec version ranges) in
+    ap (λ r. meant r spec.children version) said ∙ name_checked spec version ranges fits
 
 pub names_read : (spec : Spec) (r : Result (String Global) AllocError) → IfOk r (λ name. string_bytes name ≡ spec_name_of spec)
-    → IfOk r (λ name. IsSpec spec → need_of spec ≤ have_of spec → spec_by (string_bytes name) spec.children ≡ Ok spec)
+    → IfOk r (λ name. (version : ℕ) → IsSpec version spec → need_of spec ≤ have_of spec → spec_by (string_bytes name) spec.children version ≡ Ok spec)
 names_read spec (Ok name) is = name_read spec (string_bytes name) is
 names_read spec (Err error) is = tt

@@ -46,10 +46,19 @@ checked_layout layout =
     let total = total_of layout.props layout.rows in
     if nat_lt 67108864 total then Err (Limit 122 total) else Ok layout
 
--- the layout, where the width, the properties and the sectors are in range, looked at in this order
+-- the version of a pool's format is 1 or 2: v
+abbrev pub checked_version : ℕ → Result Unit SpecFault
+checked_version version = if version == 1 || version == 2 then Ok tt else Err (Limit 118 version)
+
+-- the layout, where the version, the width, the properties and the sectors are in range, looked at in this order
 abbrev pub geometry_of : Spec → Props → Result Geometry SpecFault
 geometry_of spec props =
-    result_and (checked_width spec) (result_and (checked_props props) (checked_layout (layout_of spec props)))
+    result_and (checked_version props.version) (result_and (checked_width spec)
+    (result_and (checked_props props) (checked_layout (layout_of spec props))))
+
+-- a version of a pool's format
+abbrev pub IsVersion : ℕ → Type 0
+IsVersion version = (version ≡ 1) ⊎ (version ≡ 2)
 
 -- properties in their ranges
 pub record IsProps (props : Props) : Type 0 where
@@ -73,7 +82,8 @@ pub record FillsRows (g ndisks ngroups rows : ℕ) : Type 0 where
 
 -- what holds of a layout that `geometry` gives, and of no other
 pub record IsGeometry (geometry : Geometry) : Type 0 where
-  pub spec : IsSpec geometry.spec
+  pub version : IsVersion geometry.props.version
+  pub spec : IsSpec geometry.props.version geometry.spec
   pub props : IsProps geometry.props
   pub columns : geometry.g ≡ geometry.spec.parity + geometry.spec.ndata
   pub disks : geometry.ndisks + geometry.spec.spares ≡ geometry.spec.children

@@ -4,7 +4,7 @@ use Rattle.draid_spec.specs.declared.spec.Spec.{Spec}
 use Rattle.draid_spec.specs.declared.spec.SpecFault.{SpecFault}
 use Rattle.draid_spec.specs.declared.spec.SpecFault.TheVariants.{Repeated, Children, Limit}
 use Rattle.draid_spec.specs.declared.text.Said.{Said}
-use Rattle.draid_spec.specs.Spec.{checked_width}
+use Rattle.draid_spec.specs.Spec.{checked_width, most_children}
 
 -- before any argument
 abbrev pub nothing_said : ℕ → Said
@@ -51,16 +51,16 @@ abbrev pub checked_children : Option ℕ → ℕ → Result Unit SpecFault
 checked_children None given = Ok tt
 checked_children (Some said) given = if said == given then Ok tt else Err (Children said given)
 
--- the children, the spares and the data that are said are in their limits: c, s, d
-abbrev pub checked_limits : Said → ℕ → Result Unit SpecFault
-checked_limits said given =
-    if not (nat_le 2 given && nat_le given 32) then Err (Limit 99 given)
+-- the children by the version, the spares and the data that are said are in their limits: c, s, d
+abbrev pub checked_limits : Said → ℕ → ℕ → Result Unit SpecFault
+checked_limits said given version =
+    if not (nat_le 2 given && nat_le given (most_children version)) then Err (Limit 99 given)
     else if nat_lt 4 (unwrap_or said.spares 0) then Err (Limit 115 (unwrap_or said.spares 0))
     else if unwrap_or said.ndata 8 == 0 then Err (Limit 100 0)
     else Ok tt
 
 -- the spec, where the number of children, the limits and the width are right, looked at in this order
-abbrev pub spec_checked : Said → ℕ → Result Spec SpecFault
-spec_checked said given =
-    result_and (checked_children said.children given) (result_and (checked_limits said given)
+abbrev pub spec_checked : Said → ℕ → ℕ → Result Spec SpecFault
+spec_checked said given version =
+    result_and (checked_children said.children given) (result_and (checked_limits said given version)
     (result_and (checked_width (spec_of said given)) (Ok (spec_of said given))))

@@ -58,14 +58,14 @@ after_name (c ∷ rest) =
 abbrev pub said_by : List ℕ → Result Said SpecFault
 said_by text = if starts_with nat_eq text (codes "draid") then after_name (drop 5 text) else Err NotDraid
 
--- the spec that is meant by what is said, for so many children
-abbrev pub meant : Result Said SpecFault → ℕ → Result Spec SpecFault
-meant (Ok said) given = spec_checked said given
-meant (Err fault) given = Err fault
+-- the spec that is meant by what is said, for so many children and a version
+abbrev pub meant : Result Said SpecFault → ℕ → ℕ → Result Spec SpecFault
+meant (Ok said) given version = spec_checked said given version
+meant (Err fault) given version = Err fault
 
--- the spec that a text names for so many children
-abbrev pub spec_by : List ℕ → ℕ → Result Spec SpecFault
-spec_by text given = meant (said_by text) given
+-- the spec that a text names for so many children and a version
+abbrev pub spec_by : List ℕ → ℕ → ℕ → Result Spec SpecFault
+spec_by text given version = meant (said_by text) given version
 
 -- how many letters stand
 abbrev pub letters_of : Said → ℕ

@@ -14,23 +14,23 @@ impl Geometry {
         u64::from(self.props.metaslabs) * self.metaslab_stripes()
     }
 
-    /// The stripes of a metaslab, at most 2^27.
+    /// The stripes of a metaslab, at most 2^28.
     pub fn metaslab_stripes(&self) -> u64
         requires { IsGeometry self.now }
         ensures value { result ≡ geometry.metaslab_stripes self.now }
         ensures some { 0 < result }
-        ensures most { result ≤ 2 ^ 27 }
+        ensures most { result ≤ 2 ^ 28 }
     {
         let slices = u64::from(self.props.slices);
         slices * u64::from(self.ngroups) * u64::from(self.props.height)
     }
 
-    /// The sectors that a metaslab has of each child, at most 2^27.
+    /// The sectors that a metaslab has of each child, at most 2^28.
     pub fn metaslab_sectors(&self) -> u64
         requires { IsGeometry self.now }
         ensures value { result ≡ geometry.metaslab_sectors self.now }
         ensures some { 0 < result }
-        ensures most { result ≤ 2 ^ 27 }
+        ensures most { result ≤ 2 ^ 28 }
     {
         let slices = u64::from(self.props.slices);
         slices * u64::from(self.rows) * u64::from(self.props.height)

@@ -13,6 +13,8 @@ pub struct Props {
     pub slices: u32,
     /// The seed of the permutations.
     pub seed: u64,
+    /// The version of the pool's format at its creation, 1 or 2.
+    pub version: u32,
 }
 
 /// A pool's layout: its spec, its properties, and the numbers that follow from them.

@@ -1,7 +1,8 @@
 ghost use Rattle.std.specs.Prelude.{◌≡◌, ◌+◌, ◌<◌, ◌≤◌, ◌*◌, ◌^◌, IfOk, OnOk};
 ghost use Rattle.draid_spec.specs.Multiple.{IsLeastCommonMultiple, lcm};
+ghost use Rattle.draid_spec.specs.Spec as spec;
 ghost use Rattle.draid_spec.specs.Spec.{IsSpec, need_of, have_of, checked_width};
-ghost use Rattle.draid_spec.specs.Geometry.{FillsRows, IsGeometry, IsProps, geometry_of, checked_props, ngroups_of, rows_of, total_of};
+ghost use Rattle.draid_spec.specs.Geometry.{FillsRows, IsGeometry, IsProps, IsVersion, geometry_of, checked_props, checked_version, ngroups_of, rows_of, total_of};
 
 use crate::layout::{Geometry, Props};
 use crate::spec::{Spec, SpecFault};
@@ -10,13 +11,14 @@ use crate::spec::{Spec, SpecFault};
 const MOST_SECTORS: u64 = 67_108_864;
 
 /// The layout of a pool, in the manner of OpenZFS's `vdev_draid.c`. A slice has so many groups and rows
-/// that the groups fill the rows. The width is looked at first, then the sector, the height, the
-/// metaslabs, the slices and the sectors of a child.
+/// that the groups fill the rows. The version is looked at first, then the width, the sector, the
+/// height, the metaslabs, the slices and the sectors of a child.
 pub fn geometry(spec: Spec, props: Props) -> Result<Geometry, SpecFault>
-    requires { IsSpec spec }
+    requires { IsSpec props.version spec }
     ensures exact { result ≡ geometry_of spec props }
     ensures whole { IfOk result IsGeometry }
 {
+    check_version(props.version)?;
     check_width(spec)?;
     check_props(props)?;
     let g = spec.ndata + spec.parity;
@@ -45,11 +47,31 @@ pub fn geometry(spec: Spec, props: Props) -> Result<Geometry, SpecFault>
 fn group_count(g: u32, ndisks: u32) -> u32
     requires some { 0 < g }
     requires width { g ≤ ndisks }
-    requires most { ndisks ≤ 32 }
+    requires most { ndisks ≤ 64 }
     ensures value { result ≡ ngroups_of g ndisks }
     ensures slice { FillsRows g ndisks result (rows_of g ndisks) }
 {
     least_common_multiple(g, ndisks) / g
+}
+
+/// The most children of a pool, by the version of its format.
+pub(crate) fn most_children(version: u32) -> u32
+    ensures value { result ≡ spec.most_children version }
+    ensures most { result ≤ 64 }
+    ensures first { version ≡ 1 → result ≡ 32 }
+{
+    if version == 1 { 32 } else { 64 }
+}
+
+/// Refuses a version other than 1 and 2.
+fn check_version(version: u32) -> Result<(), SpecFault>
+    ensures exact { result ≡ checked_version version }
+    ensures known { OnOk result (IsVersion version) }
+{
+    if version != 1 && version != 2 {
+        return Err(limit(b'v', version));
+    }
+    Ok(())
 }
 
 /// Refuses a stripe with more columns than there are children beside the spares.
@@ -101,7 +123,7 @@ pub(crate) fn total_sectors(props: Props, rows: u32) -> u64
     requires metaslabs { props.metaslabs ≤ 64 }
     requires slices { props.slices ≤ 1024 }
     requires height { props.height ≤ 4096 }
-    requires rows { rows ≤ 32 }
+    requires rows { rows ≤ 64 }
     ensures { result ≡ total_of props rows }
 {
     u64::from(props.metaslabs) * u64::from(props.slices) * u64::from(rows) * u64::from(props.height)

@@ -5,7 +5,7 @@ pub struct Spec {
     pub parity: u32,
     /// The data columns of a stripe.
     pub ndata: u32,
-    /// The children of the vdev, 2 to 32.
+    /// The children of the vdev, 2 to 32 in version 1 and 2 to 64 in version 2.
     pub children: u32,
     /// The distributed spares, at most 4.
     pub spares: u32,
@@ -26,7 +26,7 @@ pub enum SpecFault {
     Children { said: u32, given: u32 },
     /// A stripe has more columns than there are children beside the spares.
     Width { need: u32, have: u32 },
-    /// A number is out of its range: `c` children, `s` spares, `d` data columns, `b` bytes of a
-    /// sector, `h` height, `m` metaslabs, `l` slices of a metaslab, `z` sectors of a child.
+    /// A number is out of its range: `c` children, `s` spares, `d` data columns, `v` version, `b` bytes of
+    /// a sector, `h` height, `m` metaslabs, `l` slices of a metaslab, `z` sectors of a child.
     Limit { which: u8, value: u64 },
 }

@@ -3,7 +3,7 @@ ghost use Rattle.draid_spec.specs.Spec.{IsSpec, need_of, have_of};
 ghost use Rattle.draid_spec.specs.Said.{IsSaid, adding, checked_children, checked_limits, is_letter, spec_of, spec_checked};
 ghost use Rattle.draid_spec.specs.Text.{IsReading, arguments, letters_of, opened, read_byte, said_by, spec_by, with_digit};
 
-use crate::numbers::{check_width, limit};
+use crate::numbers::{check_width, limit, most_children};
 use crate::spec::{Spec, SpecFault};
 
 /// What a text says: the parity, and the number that stands before each letter.
@@ -32,14 +32,14 @@ pub struct Reading {
 /// Reads the text of a spec for so many children: `draid`, a digit for the parity, and arguments as
 /// `:4d` in any order. Without them the parity is 1, there are no spares, and the data columns are 8
 /// or as many as are left. The text is looked at from left to right, then the number of children that
-/// it says, the limits (`c`, `s`, `d`), and the width.
-pub fn parse_spec(text: &[u8], given: u32) -> Result<Spec, SpecFault>
-    ensures exact { result ≡ spec_by text.now given }
-    ensures ranges { IfOk result IsSpec }
+/// it says, the limits (`c`, `s`, `d`), and the width. Version 1 has at most 32 children, any other 64.
+pub fn parse_spec(text: &[u8], given: u32, version: u32) -> Result<Spec, SpecFault>
+    ensures exact { result ≡ spec_by text.now given version }
+    ensures ranges { IfOk result (IsSpec version) }
     ensures width { IfOk result (λ spec. need_of spec ≤ have_of spec) }
     ensures children { IfOk result (λ spec. spec.children ≡ given) }
 {
-    check(read_text(text)?, given)
+    check(read_text(text)?, given, version)
 }
 
 /// Reads what the text says.
@@ -77,16 +77,16 @@ fn read_arguments(parity: u32, from: u32, text: &[u8]) -> Result<Said, SpecFault
     }
 }
 
-/// The spec that is meant for so many children.
-fn check(said: Said, given: u32) -> Result<Spec, SpecFault>
+/// The spec that is meant for so many children and a version.
+fn check(said: Said, given: u32, version: u32) -> Result<Spec, SpecFault>
     requires { IsSaid said }
-    ensures exact { result ≡ spec_checked said given }
-    ensures ranges { IfOk result IsSpec }
+    ensures exact { result ≡ spec_checked said given version }
+    ensures ranges { IfOk result (IsSpec version) }
     ensures width { IfOk result (λ spec. need_of spec ≤ have_of spec) }
     ensures children { IfOk result (λ spec. spec.children ≡ given) }
 {
     said.check_children(given)?;
-    said.check_limits(given)?;
+    said.check_limits(given, version)?;
     let spec = said.spec(given);
     check_width(spec)?;
     Ok(spec)
@@ -193,15 +193,16 @@ impl Said {
         }
     }
 
-    /// Refuses the first number that is out of its limits.
-    fn check_limits(self, given: u32) -> Result<(), SpecFault>
-        ensures exact { result ≡ checked_limits self given }
+    /// Refuses the first number that is out of its limits for a version.
+    fn check_limits(self, given: u32, version: u32) -> Result<(), SpecFault>
+        ensures exact { result ≡ checked_limits self given version }
         ensures least { OnOk result (2 ≤ given) }
-        ensures most { OnOk result (given ≤ 32) }
+        ensures most { OnOk result (given ≤ 64) }
+        ensures first { version ≡ 1 → OnOk result (given ≤ 32) }
         ensures spares { OnOk result ((spec_of self given).spares ≤ 4) }
         ensures data { OnOk result (1 ≤ (spec_of self given).ndata) }
     {
-        if given < 2 || given > 32 {
+        if given < 2 || given > most_children(version) {
             return Err(limit(b'c', given));
         }
         let spares = self.spares.unwrap_or(0);

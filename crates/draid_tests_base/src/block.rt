@@ -15,6 +15,7 @@ const PROPS: Props = Props {
     metaslabs: 1,
     slices: 4,
     seed: 1,
+    version: 1,
 };
 
 /// How many sets of missing columns are tried with three data columns: of g columns, a of them
@@ -35,7 +36,7 @@ fn sets(parity: u32, absent: u32) -> u64 {
 fn layout(text: &[u8], children: u32) -> Result<Geometry, SpecFault>
     ensures { IfOk result IsGeometry }
 {
-    geometry(parse_spec(text, children)?, PROPS)
+    geometry(parse_spec(text, children, 1)?, PROPS)
 }
 
 /// Bytes that differ from sector to sector and within a sector.

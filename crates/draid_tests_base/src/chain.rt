@@ -14,6 +14,7 @@ const PROPS: Props = Props {
     metaslabs: 1,
     slices: 8,
     seed: 1,
+    version: 1,
 };
 
 fn holder_and_links(
@@ -39,7 +40,7 @@ fn holder_and_links(
 // Slice 0 has the slots 4, 2, 3, 1, 0 at its positions: spare 0 stands on slot 0, spare 1 on slot 1.
 #[test]
 fn chains_end_at_free_slots(rt: HostRuntime) -> Result<(), SpecFault> {
-    let layout = geometry(parse_spec(b"draid1:2d:5c:2s", 5)?, PROPS)?;
+    let layout = geometry(parse_spec(b"draid1:2d:5c:2s", 5, 1)?, PROPS)?;
     assert_eq!(rt; layout.spec.children, 5);
     assert_eq!(rt; layout.spec.spares, 2);
     let perms = Perms::new(layout.spec.children, layout.props.seed);
@@ -59,7 +60,7 @@ fn chains_end_at_free_slots(rt: HostRuntime) -> Result<(), SpecFault> {
 // By a second program, which follows the published code of the generator. A slice has one row here.
 #[test]
 fn chains_pass_all_spares(rt: HostRuntime) -> Result<(), SpecFault> {
-    let layout = geometry(parse_spec(b"draid1:1d:8c:4s", 8)?, PROPS)?;
+    let layout = geometry(parse_spec(b"draid1:1d:8c:4s", 8, 1)?, PROPS)?;
     assert_eq!(rt; layout.spec.children, 8);
     assert_eq!(rt; layout.spec.spares, 4);
     assert_eq!(rt; layout.rows, 1);

@@ -8,11 +8,12 @@ const PROPS: Props = Props {
     metaslabs: 4,
     slices: 16,
     seed: 1,
+    version: 1,
 };
 
 #[test]
 fn sectors_have_their_owners(rt: HostRuntime) -> Result<(), SpecFault> {
-    let layout = geometry(parse_spec(b"draid:2s", 14)?, PROPS)?;
+    let layout = geometry(parse_spec(b"draid:2s", 14, 1)?, PROPS)?;
     let perms = Perms::new(layout.spec.children, layout.props.seed);
     assert_eq!(rt; layout.spec.children, 14);
     assert_eq!(rt; layout.spec.spares, 2);

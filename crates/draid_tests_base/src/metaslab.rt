@@ -40,8 +40,9 @@ fn stripes_go_out_and_come_back(rt: HostRuntime) {
         metaslabs: 1,
         slices: 2,
         seed: 1,
+        version: 1,
     };
-    let spec = parse_spec(b"draid1:2d:3c", 3).expect(&rt, "a spec");
+    let spec = parse_spec(b"draid1:2d:3c", 3, 1).expect(&rt, "a spec");
     let layout = geometry(spec, props).expect(&rt, "a layout");
     assert_eq!(rt; out_and_back(rt.alloc(), &layout), Ok((0, 16)));
     assert_eq!(rt;

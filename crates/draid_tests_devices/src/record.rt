@@ -15,6 +15,7 @@ const PROPS: Props = Props {
     metaslabs: 1,
     slices: 4,
     seed: 1,
+    version: 1,
 };
 
 /// The record of metaslab 0 of a new pool of three disks.
@@ -90,7 +91,7 @@ fn bad(at: u64, kind: u8) -> Result<(usize, usize, bool, u64), RecordFault> {
 fn small_geometry() -> Result<Geometry, SpecFault>
     ensures { IfOk result IsGeometry }
 {
-    geometry(parse_spec(b"draid1:2d:3c", 3)?, PROPS)
+    geometry(parse_spec(b"draid1:2d:3c", 3, 1)?, PROPS)
 }
 
 #[test]

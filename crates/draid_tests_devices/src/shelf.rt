@@ -26,6 +26,7 @@ fn small_geometry() -> Result<Geometry, Fail>
         metaslabs: 2,
         slices: 3,
         seed: 1,
+        version: 1,
     };
     Ok(geometry(spec, props)?)
 }

@@ -361,8 +361,9 @@ fn every_kind_of_event_is_done(rt: HostRuntime) -> Result<(), Fail> {
         metaslabs: 1,
         slices: 1,
         seed: 1,
+        version: 1,
     };
-    let spec = parse_spec(b"draid1:2d:1s", 4).expect(&rt, "a spec");
+    let spec = parse_spec(b"draid1:2d:1s", 4, 1).expect(&rt, "a spec");
     let layout: Geometry = geometry(spec, props).expect(&rt, "a layout");
     let site = Site {
         perms: Perms::new(layout.spec.children, layout.props.seed),
@@ -385,8 +386,9 @@ fn histories_go_to_their_first_illegal_event(rt: HostRuntime) -> Result<(), Fail
         metaslabs: 1,
         slices: 1,
         seed: 1,
+        version: 1,
     };
-    let spec = parse_spec(b"draid1:2d", 3).expect(&rt, "a spec");
+    let spec = parse_spec(b"draid1:2d", 3, 1).expect(&rt, "a spec");
     let layout: Geometry = geometry(spec, props).expect(&rt, "a layout");
     let site = Site {
         perms: Perms::new(layout.spec.children, layout.props.seed),

@@ -145,8 +145,9 @@ fn first_layout() -> Result<Geometry, SpecFault>
         metaslabs: 1,
         slices: 4,
         seed: 1,
+        version: 1,
     };
-    geometry(parse_spec(b"draid1:2d:3c", 3)?, props)
+    geometry(parse_spec(b"draid1:2d:3c", 3, 1)?, props)
 }
 
 /// Where a block of a whole group begins.

@@ -16,6 +16,7 @@ const PROPS: Props = Props {
     metaslabs: 1,
     slices: 1,
     seed: 1,
+    version: 1,
 };
 
 fn at(slot: u32, arm: u32) -> ArmAt
@@ -276,7 +277,7 @@ fn recorded(alloc: Global, layout: Geometry, perms: Perms) -> Result<Option<Read
 
 #[test]
 fn a_record_tells_of_arms(rt: HostRuntime) {
-    let spec = parse_spec(b"draid1:1d", 2).expect(&rt, "a spec");
+    let spec = parse_spec(b"draid1:1d", 2, 1).expect(&rt, "a spec");
     let layout = geometry(spec, PROPS).expect(&rt, "a layout");
     let perms = Perms::new(layout.spec.children, layout.props.seed);
     let first = ReadArm {
@@ -289,7 +290,7 @@ fn a_record_tells_of_arms(rt: HostRuntime) {
 #[test]
 fn logs_change(rt: HostRuntime) {
     let alloc = rt.alloc();
-    let spec = parse_spec(b"draid1:2d:1s", 4).expect(&rt, "a spec");
+    let spec = parse_spec(b"draid1:2d:1s", 4, 1).expect(&rt, "a spec");
     let layout = geometry(spec, PROPS).expect(&rt, "a layout");
     let perms = Perms::new(layout.spec.children, layout.props.seed);
     assert_eq!(rt;
@@ -305,7 +306,7 @@ fn logs_change(rt: HostRuntime) {
 #[test]
 fn arms_come_and_go(rt: HostRuntime) {
     let alloc = rt.alloc();
-    let spec = parse_spec(b"draid1:2d:1s", 4).expect(&rt, "a spec");
+    let spec = parse_spec(b"draid1:2d:1s", 4, 1).expect(&rt, "a spec");
     let layout = geometry(spec, PROPS).expect(&rt, "a layout");
     let perms = Perms::new(layout.spec.children, layout.props.seed);
     assert_eq!(rt;
@@ -354,7 +355,7 @@ fn a_spare_moves_on_where_its_keeper_is_spared(rt: HostRuntime) {
 #[test]
 fn the_reading_arm_is_the_first_clean_one(rt: HostRuntime) {
     let alloc = rt.alloc();
-    let spec = parse_spec(b"draid1:2d:1s", 4).expect(&rt, "a spec");
+    let spec = parse_spec(b"draid1:2d:1s", 4, 1).expect(&rt, "a spec");
     let layout = geometry(spec, PROPS).expect(&rt, "a layout");
     let perms = Perms::new(layout.spec.children, layout.props.seed);
     let read_from = |arm: u32, clean: bool| Some(ReadArm { arm, clean });

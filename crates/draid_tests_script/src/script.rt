@@ -1,6 +1,6 @@
 use draid_lines::{Lines, MemorySink, MemorySource, ReadFault, Sink};
-use draid_names::{Failed, ObjectFault, SlotFault, WriteFault};
-use draid_reply::{Reply, reply_text};
+use draid_names::{Cause, Did, Entry, Failed, ObjectFault, SlotFault, WriteFault};
+use draid_reply::{AgentErrors, Reply, reply_text};
 use draid_script::{ArmArgument, CommandName, ParseFault, parse_lane, parse_line};
 use draid_spec::SpecFault;
 use std::fmt::Debug;
@@ -100,7 +100,7 @@ fn reads_lines(rt: HostRuntime) -> Result<(), Fail> {
         ("#create", "Nothing"),
         (
             "create draid:2s 14 seed=7 height=16",
-            "Create { spec: [100, 114, 97, 105, 100, 58, 50, 115], children: 14, keys: PoolKeys { sector: 4096, height: 16, metaslabs: 4, slices: 16, seed: 7 } }",
+            "Create { spec: [100, 114, 97, 105, 100, 58, 50, 115], children: 14, keys: PoolKeys { sector: 4096, height: 16, metaslabs: 4, slices: 16, seed: 7, version: 1 } }",
         ),
         ("import", "Import"),
         ("write 7 6A6b", "Write { object: 7, bytes: [106, 107] }"),
@@ -122,6 +122,17 @@ fn reads_lines(rt: HostRuntime) -> Result<(), Fail> {
         ("scrub 1", "Scrub { limit: Some(1) }"),
         ("status json", "Status { format: Json }"),
         ("lanes 16", "Lanes { count: 16 }"),
+        (
+            "create s 3 version=2",
+            "Create { spec: [115], children: 3, keys: PoolKeys { sector: 4096, height: 8, metaslabs: 4, slices: 16, seed: 1, version: 2 } }",
+        ),
+        ("upgrade", "Upgrade"),
+        ("agent 1", "Agent { least: 1 }"),
+        ("agent 4294967295", "Agent { least: 4294967295 }"),
+        ("agent log", "AgentLog"),
+        ("checkpoint", "Checkpoint"),
+        ("rewind", "Rewind"),
+        ("discard", "Discard"),
         ("frob", "kind 1 at 0"),
         (" read 7", "kind 1 at 0"),
         ("read", "kind 2 at 4"),
@@ -142,6 +153,15 @@ fn reads_lines(rt: HostRuntime) -> Result<(), Fail> {
         ("detach draid2-0-01", "kind 3 at 7"),
         ("status xml", "kind 3 at 7"),
         ("lanes 17", "kind 5 at 6"),
+        ("create s 3 version=4294967296", "kind 5 at 11"),
+        ("create s 3 version=1 version=1", "kind 3 at 21"),
+        ("upgrade 2", "kind 2 at 9"),
+        ("agent", "kind 2 at 5"),
+        ("agent 0", "kind 5 at 6"),
+        ("agent 4294967296", "kind 5 at 6"),
+        ("agent logs", "kind 3 at 6"),
+        ("agent 1 log", "kind 2 at 11"),
+        ("rewind 1", "kind 2 at 8"),
         ("end", "kind 6 at 0"),
         ("end x", "kind 6 at 0"),
     ] {
@@ -171,6 +191,9 @@ fn reads_lines_of_sections(rt: HostRuntime) -> Result<(), Fail> {
         ("0 ", "kind 1 at 2"),
         ("0 frob", "kind 1 at 2"),
         ("0 crash", "kind 6 at 2"),
+        ("0 upgrade", "kind 6 at 2"),
+        ("0 agent log", "kind 6 at 2"),
+        ("0 checkpoint 1", "kind 6 at 2"),
         ("0 end", "kind 6 at 2"),
         ("0 read", "kind 2 at 6"),
         ("0 read x", "kind 3 at 7"),
@@ -208,8 +231,18 @@ fn prints_replies_of_objects(rt: HostRuntime) -> Result<(), Fail> {
             "import draid2-0-0 group=2 objects=3\n",
         ),
         (Reply::Exported { group: 2 }, "export group=2\n"),
-        (Reply::ExportWorn, "export worn\n"),
-        (Reply::ExportLast, "export last\n"),
+        (
+            Reply::Worn {
+                command: CommandName::Export,
+            },
+            "export worn\n",
+        ),
+        (
+            Reply::Last {
+                command: CommandName::Sync,
+            },
+            "sync last\n",
+        ),
         (Reply::Written { object: 2 }, "write 2 ok\n"),
         (
             Reply::NoSpace {
@@ -249,8 +282,6 @@ fn prints_replies_of_objects(rt: HostRuntime) -> Result<(), Fail> {
         (Reply::Freed { object: 2 }, "free 2 ok\n"),
         (Reply::FreeNoObject { object: 2 }, "free 2 no object\n"),
         (Reply::Synced { group: 2, thin: 3 }, "sync group=2 thin=3\n"),
-        (Reply::SyncWorn, "sync worn\n"),
-        (Reply::SyncLast, "sync last\n"),
         (Reply::OfflineDone { leaf: 2 }, "offline 2 ok\n"),
         (Reply::OfflineRefused { leaf: 2 }, "offline 2 refused 1\n"),
         (Reply::OfflineWorn { leaf: 2 }, "offline 2 worn\n"),
@@ -295,23 +326,13 @@ fn prints_replies_of_arms(rt: HostRuntime) -> Result<(), Fail> {
         (Reply::ReplaceWorn { slot: 2 }, "replace 2 worn\n"),
         (Reply::RebuildNothing, "rebuild nothing\n"),
         (
-            Reply::RebuildRefused {
+            Reply::PassThere {
+                command: CommandName::Rebuild,
                 metaslab: 2,
                 number: 3,
             },
             "rebuild refused 6 metaslab=2 number=3\n",
         ),
-        (Reply::RebuildWorn, "rebuild worn\n"),
-        (Reply::RebuildLast, "rebuild last\n"),
-        (
-            Reply::ScrubRefused {
-                metaslab: 2,
-                number: 3,
-            },
-            "scrub refused 6 metaslab=2 number=3\n",
-        ),
-        (Reply::ScrubWorn, "scrub worn\n"),
-        (Reply::ScrubLast, "scrub last\n"),
         (Reply::RebalanceWorn { slot: 2 }, "rebalance 2 worn\n"),
         (Reply::RebalanceLast { slot: 2 }, "rebalance 2 last\n"),
         (Reply::Cancelled { passes: 2 }, "cancel 2\n"),
@@ -592,6 +613,119 @@ fn prints_refusals(rt: HostRuntime) -> Result<(), Fail> {
             },
             "rebalance 0 blocks=1 repaired=1 errors=2 kept\n",
         ),
+    ] {
+        let text = printed(&rt, reply);
+        assert_eq!(rt; text.as_slice(), want.as_bytes(), "at {want}");
+    }
+    Ok(())
+}
+
+/// An entry of the agent's journal.
+fn entry(number: u64, slot: u32, cause: Cause, did: Did) -> Entry {
+    Entry {
+        number,
+        slot,
+        cause,
+        did,
+    }
+}
+
+/// What the agent did: a spare for one slot, none for another.
+fn entries(rt: &HostRuntime) -> Result<Vec<Entry>, Fail> {
+    let entries = [
+        entry(1, 3, Cause::Offline, Did::Spared { spare: 0 }),
+        entry(2, 5, Cause::Logged { groups: 7 }, Did::NoneFree),
+    ];
+    Ok(Vec::from_slice(rt.alloc(), &entries)?)
+}
+
+#[test]
+fn prints_replies_of_the_agent(rt: HostRuntime) -> Result<(), Fail> {
+    let none = Vec::new(rt.alloc());
+    for (reply, want) in [
+        (Reply::AgentIdle, "agent idle\n"),
+        (
+            Reply::Acted {
+                parity: 2,
+                entries: entries(&rt)?,
+                errors: Some(AgentErrors {
+                    rebuild: 0,
+                    scrub: 1,
+                }),
+            },
+            "agent 3=draid2-0-0 5=none rebuild errors=0 scrub errors=1\n",
+        ),
+        (
+            Reply::Acted {
+                parity: 1,
+                entries: entries(&rt)?,
+                errors: None,
+            },
+            "agent 3=draid1-0-0 5=none\n",
+        ),
+        (
+            Reply::PassThere {
+                command: CommandName::Agent,
+                metaslab: 2,
+                number: 3,
+            },
+            "agent refused 6 metaslab=2 number=3\n",
+        ),
+        (
+            Reply::Journal {
+                parity: 2,
+                entries: entries(&rt)?,
+            },
+            "agent 1 slot 3 offline spared draid2-0-0\nagent 2 slot 5 logged=7 none\nend\n",
+        ),
+        (
+            Reply::Journal {
+                parity: 2,
+                entries: none,
+            },
+            "end\n",
+        ),
+    ] {
+        let text = printed(&rt, reply);
+        assert_eq!(rt; text.as_slice(), want.as_bytes(), "at {want}");
+    }
+    Ok(())
+}
+
+#[test]
+fn prints_replies_of_checkpoints(rt: HostRuntime) -> Result<(), Fail> {
+    for (reply, want) in [
+        (Reply::Upgraded { group: 2 }, "upgrade version=2 group=2\n"),
+        (Reply::UpgradeAlready, "upgrade already\n"),
+        (Reply::Checkpointed { group: 2 }, "checkpoint group=2\n"),
+        (
+            Reply::CheckpointThere { group: 2 },
+            "checkpoint refused group=2\n",
+        ),
+        (
+            Reply::Rewound {
+                group: 4,
+                objects: 1,
+            },
+            "rewind group=4 objects=1\n",
+        ),
+        (
+            Reply::NoCheckpoint {
+                command: CommandName::Rewind,
+            },
+            "rewind none\n",
+        ),
+        (
+            Reply::Discarded { freed: 1, group: 3 },
+            "discard freed=1 group=3\n",
+        ),
+        (
+            Reply::Worn {
+                command: CommandName::Discard,
+            },
+            "discard worn\n",
+        ),
+        (Reply::LanesCheckpoint, "lanes checkpoint\n"),
     ] {
         let text = printed(&rt, reply);
         assert_eq!(rt; text.as_slice(), want.as_bytes(), "at {want}");

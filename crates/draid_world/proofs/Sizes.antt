@@ -10,9 +10,9 @@ use Rattle.draid_machine.specs.State.{Layout}
 use Rattle.draid_machine.specs.Arms.{leaf_at, first_leaf}
 
 pub few_stripes : (geometry : Geometry) (metaslab : ℕ) → IsGeometry geometry → metaslab < geometry.props.metaslabs
-    → metaslab * metaslab_stripes geometry ≤ 64 * (1024 * 32 * 4096)
+    → metaslab * metaslab_stripes geometry ≤ 64 * (1024 * 64 * 4096)
 few_stripes geometry metaslab is less =
-    let groups : geometry.ngroups ≤ 32 = (let a = is.slice.most_groups in let b = is.disks in let d = is.spec.most_children in omega (arith, a, b, d)) in
+    let groups : geometry.ngroups ≤ 64 = (let a = is.slice.most_groups in let b = is.disks in let d = is.spec.most_children in omega (arith, a, b, d)) in
     let metaslabs : metaslab ≤ 64 = (let a = is.props.most_metaslabs in omega (arith, a, less)) in
     mul-le-mul metaslabs (mul-le-mul (mul-le-mul is.props.most_slices groups) is.props.most_height)
 

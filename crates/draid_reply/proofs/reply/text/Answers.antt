@@ -15,6 +15,22 @@ pub returns-in-NoMemory : goal.returns-in-NoMemory
 unfolding text_of
 returns-in-NoMemory c = rw c.in-NoMemory.is c.name_said-in-NoMemory.ensures
 
+pub returns-in-Worn : goal.returns-in-Worn
+unfolding text_of
+returns-in-Worn c = rw c.in-Worn.is c.name_said-in-Worn.ensures
+
+pub returns-in-Last : goal.returns-in-Last
+unfolding text_of
+returns-in-Last c = rw c.in-Last.is c.name_said-in-Last.ensures
+
+pub returns-in-PassThere : goal.returns-in-PassThere
+unfolding text_of
+returns-in-PassThere c = rw c.in-PassThere.is c.pass_there.ensures
+
+pub returns-in-NoCheckpoint : goal.returns-in-NoCheckpoint
+unfolding text_of
+returns-in-NoCheckpoint c = rw c.in-NoCheckpoint.is c.name_said-in-NoCheckpoint.ensures
+
 pub returns-in-Created : goal.returns-in-Created
 unfolding text_of
 returns-in-Created c = rw c.in-Created.is c.format.ensures.ok
@@ -30,14 +46,6 @@ returns-in-Imported c = rw c.in-Imported.is c.format-in-Imported.ensures.ok
 pub returns-in-Exported : goal.returns-in-Exported
 unfolding text_of
 returns-in-Exported c = rw c.in-Exported.is c.format-in-Exported.ensures.ok
-
-pub returns-in-ExportWorn : goal.returns-in-ExportWorn
-unfolding text_of
-returns-in-ExportWorn c = rw c.in-ExportWorn.is c.format-in-ExportWorn.ensures.ok
-
-pub returns-in-ExportLast : goal.returns-in-ExportLast
-unfolding text_of
-returns-in-ExportLast c = rw c.in-ExportLast.is c.format-in-ExportLast.ensures.ok
 
 pub returns-in-Written : goal.returns-in-Written
 unfolding text_of
@@ -98,14 +106,6 @@ returns-in-FreeNoObject c = rw c.in-FreeNoObject.is c.format-in-FreeNoObject.ens
 pub returns-in-Synced : goal.returns-in-Synced
 unfolding text_of
 returns-in-Synced c = rw c.in-Synced.is c.format-in-Synced.ensures.ok
-
-pub returns-in-SyncWorn : goal.returns-in-SyncWorn
-unfolding text_of
-returns-in-SyncWorn c = rw c.in-SyncWorn.is c.format-in-SyncWorn.ensures.ok
-
-pub returns-in-SyncLast : goal.returns-in-SyncLast
-unfolding text_of
-returns-in-SyncLast c = rw c.in-SyncLast.is c.format-in-SyncLast.ensures.ok
 
 pub returns-in-OfflineDone : goal.returns-in-OfflineDone
 unfolding text_of
@@ -195,33 +195,9 @@ pub returns-in-RebuildNothing : goal.returns-in-RebuildNothing
 unfolding text_of
 returns-in-RebuildNothing c = rw c.in-RebuildNothing.is c.format-in-RebuildNothing.ensures.ok
 
-pub returns-in-RebuildRefused : goal.returns-in-RebuildRefused
-unfolding text_of
-returns-in-RebuildRefused c = rw c.in-RebuildRefused.is c.format-in-RebuildRefused.ensures.ok
-
-pub returns-in-RebuildWorn : goal.returns-in-RebuildWorn
-unfolding text_of
-returns-in-RebuildWorn c = rw c.in-RebuildWorn.is c.format-in-RebuildWorn.ensures.ok
-
-pub returns-in-RebuildLast : goal.returns-in-RebuildLast
-unfolding text_of
-returns-in-RebuildLast c = rw c.in-RebuildLast.is c.format-in-RebuildLast.ensures.ok
-
 pub returns-in-Scrubbed : goal.returns-in-Scrubbed
 unfolding text_of
 returns-in-Scrubbed c = rw c.in-Scrubbed.is c.scrubbed.ensures
-
-pub returns-in-ScrubRefused : goal.returns-in-ScrubRefused
-unfolding text_of
-returns-in-ScrubRefused c = rw c.in-ScrubRefused.is c.format-in-ScrubRefused.ensures.ok
-
-pub returns-in-ScrubWorn : goal.returns-in-ScrubWorn
-unfolding text_of
-returns-in-ScrubWorn c = rw c.in-ScrubWorn.is c.format-in-ScrubWorn.ensures.ok
-
-pub returns-in-ScrubLast : goal.returns-in-ScrubLast
-unfolding text_of
-returns-in-ScrubLast c = rw c.in-ScrubLast.is c.format-in-ScrubLast.ensures.ok
 
 pub returns-in-Rebalanced : goal.returns-in-Rebalanced
 unfolding text_of
@@ -254,3 +230,43 @@ returns-in-LanesClash c = rw c.in-LanesClash.is c.format-in-LanesClash.ensures.o
 pub returns-in-LanesClashMend : goal.returns-in-LanesClashMend
 unfolding text_of
 returns-in-LanesClashMend c = rw c.in-LanesClashMend.is c.format-in-LanesClashMend.ensures.ok
+
+pub returns-in-LanesCheckpoint : goal.returns-in-LanesCheckpoint
+unfolding text_of
+returns-in-LanesCheckpoint c = rw c.in-LanesCheckpoint.is c.format-in-LanesCheckpoint.ensures.ok
+
+pub returns-in-Upgraded : goal.returns-in-Upgraded
+unfolding text_of
+returns-in-Upgraded c = rw c.in-Upgraded.is c.format-in-Upgraded.ensures.ok
+
+pub returns-in-UpgradeAlready : goal.returns-in-UpgradeAlready
+unfolding text_of
+returns-in-UpgradeAlready c = rw c.in-UpgradeAlready.is c.format-in-UpgradeAlready.ensures.ok
+
+pub returns-in-AgentIdle : goal.returns-in-AgentIdle
+unfolding text_of
+returns-in-AgentIdle c = rw c.in-AgentIdle.is c.format-in-AgentIdle.ensures.ok
+
+pub returns-in-Checkpointed : goal.returns-in-Checkpointed
+unfolding text_of
+returns-in-Checkpointed c = rw c.in-Checkpointed.is c.format-in-Checkpointed.ensures.ok
+
+pub returns-in-CheckpointThere : goal.returns-in-CheckpointThere
+unfolding text_of
+returns-in-CheckpointThere c = rw c.in-CheckpointThere.is c.format-in-CheckpointThere.ensures.ok
+
+pub returns-in-Rewound : goal.returns-in-Rewound
+unfolding text_of
+returns-in-Rewound c = rw c.in-Rewound.is c.format-in-Rewound.ensures.ok
+
+pub returns-in-Discarded : goal.returns-in-Discarded
+unfolding text_of
+returns-in-Discarded c = rw c.in-Discarded.is c.format-in-Discarded.ensures.ok
+
+pub returns-in-Acted : goal.returns-in-Acted
+unfolding text_of
+returns-in-Acted c = rw (c.in-Acted.is, ← c.deref-in-Acted.ensures.value) c.acted.ensures
+
+pub returns-in-Journal : goal.returns-in-Journal
+unfolding text_of
+returns-in-Journal c = rw (c.in-Journal.is, ← c.deref-in-Journal.ensures.value) c.journal.ensures
