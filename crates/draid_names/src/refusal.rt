@@ -5,8 +5,6 @@ pub enum SlotFault {
     NoSuch,
     /// 2: the spare is an arm of slot `by`, or was one and its detachment isn't committed.
     SpareBusy { by: u32 },
-    /// 3: another slot has a spare as an arm; `spare` is the least such.
-    SpareInUse { spare: u32 },
     /// 4: each other arm of the slot missed some group; `groups` is the least number of groups that one did.
     LogNotEmpty { groups: u64 },
     /// 5: the slot would have no leaf left.

@@ -39,7 +39,6 @@ spec_fault_of (spec.Limit which value) = codes "7 which=" ++ (encode_utf8 which 
 abbrev pub slot_fault_of : SlotFault → List ℕ
 slot_fault_of slot.NoSuch = codes "1"
 slot_fault_of (slot.SpareBusy by) = codes "2 by=" ++ decimal by
-slot_fault_of (slot.SpareInUse spare) = codes "3 spare=" ++ decimal spare
 slot_fault_of (slot.LogNotEmpty groups) = codes "4 groups=" ++ decimal groups
 slot_fault_of slot.LastArm = codes "5"
 slot_fault_of (slot.PassRunning metaslab number) = codes "6 metaslab=" ++ (decimal metaslab ++ (codes " number=" ++ decimal number))

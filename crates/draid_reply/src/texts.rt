@@ -76,7 +76,6 @@ fn slot_fault(alloc: Global, why: SlotFault) -> Result<String, AllocError>
     match why {
         SlotFault::NoSuch => String::from_str(alloc, "1"),
         SlotFault::SpareBusy { by } => format!(in alloc; "2 by={by}"),
-        SlotFault::SpareInUse { spare } => format!(in alloc; "3 spare={spare}"),
         SlotFault::LogNotEmpty { groups } => format!(in alloc; "4 groups={groups}"),
         SlotFault::LastArm => String::from_str(alloc, "5"),
         SlotFault::PassRunning { metaslab, number } => {

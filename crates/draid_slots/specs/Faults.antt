@@ -2,7 +2,7 @@ use Rattle.std.specs.Prelude.{◌≡◌, ◌≢◌, ◌<◌, ◌≤◌, ◌⊎�
 use Rattle.draid_names.specs.declared.arm.Arm.{Arm}
 use Rattle.draid_names.specs.declared.arm.ArmAt.{ArmAt}
 use Rattle.draid_names.specs.declared.refusal.SlotFault.{SlotFault}
-use Rattle.draid_names.specs.declared.refusal.SlotFault.TheVariants.{NoSuch, SpareBusy, SpareInUse, LogNotEmpty, LastArm, PassRunning, TooSmall, Full, Last}
+use Rattle.draid_names.specs.declared.refusal.SlotFault.TheVariants.{NoSuch, SpareBusy, LogNotEmpty, LastArm, PassRunning, TooSmall, Full, Last}
 use Rattle.draid_ranges.specs.Numbers.{Numbers}
 use Rattle.draid_slots.specs.Table.{SlotTable, IsThere, arms_of, count_at, count_of, no_log, has_leaf, holds_spare, is_spare_kind}
 
@@ -28,7 +28,6 @@ abbrev pub IsAttachRefused : SlotTable → ℕ → Arm → SlotFault → Type 0
 IsAttachRefused table slot arm NoSuch = ¬ (IsKnown table slot arm)
 IsAttachRefused table slot arm (SpareBusy by) =
     IsKnown table slot arm × (is_spare_kind arm.kind ≡ true) × (holds_spare table arm.number by ≡ true)
-IsAttachRefused table slot arm (SpareInUse spare) = ⊥
 IsAttachRefused table slot arm (Full arms) =
     IsKnown table slot arm × IsIdle table arm
     × (3 ≤ length (arms_of table slot)) × (arms ≡ length (arms_of table slot))
@@ -69,7 +68,6 @@ pub record MayDetach (table : SlotTable) (at : ArmAt) : Type 0 where
 abbrev pub IsDetachRefused : SlotTable → ArmAt → SlotFault → Type 0
 IsDetachRefused table at NoSuch = ¬ (IsThere table at)
 IsDetachRefused table at LastArm = IsThere table at × ¬ (HasLeafBeside table at)
-IsDetachRefused table at (SpareInUse spare) = ⊥
 IsDetachRefused table at (LogNotEmpty groups) =
     IsThere table at × HasLeafBeside table at × (0 < groups) × IsLeastLogged table at groups
 IsDetachRefused table at (SpareBusy by) = ⊥

@@ -491,13 +491,6 @@ fn prints_refusals(rt: HostRuntime) -> Result<(), Fail> {
             "replace 4 refused 2 by=3\n",
         ),
         (
-            Reply::RebalanceRefused {
-                slot: 4,
-                why: SlotFault::SpareInUse { spare: 0 },
-            },
-            "rebalance 4 refused 3 spare=0\n",
-        ),
-        (
             Reply::SpareRefused {
                 slot: 4,
                 why: SlotFault::LogNotEmpty { groups: 8 },
