@@ -1,4 +1,5 @@
-use Rattle.std.proofs.Common.{◌≡◌, ◌<◌, ℕ, [], true, List, map, get_or, arith, sym, subst}
+use Rattle.std.proofs.Common.{◌≡◌, ◌<◌, ℕ, [], true, List, map, get_or, arith, sym, ◌∙◌, subst, inl, inr}
+use Rattle.std.proofs.lemmas.Bool.{cases_eq, false≢true}
 use Rattle.draid_slots.specs.declared.slot.Slot.{Slot}
 use Rattle.draid_slots.specs.Moves.{LiesElsewhere}
 use Rattle.draid_slots.specs.Table.{SlotTable, arms_in, arms_of, has_spare}
@@ -18,3 +19,11 @@ returns-clause-stays c = λ same lies.
     let L : ℕ → Type 0 = λ slot. LiesElsewhere c.args.before.now c.args.now.now c.args.self.now slot c.args.spare lies.slice in
     let end = c.from-slice-end.ensures in
     c.loop-slice.invariant lies.slice (omega arith) (subst L one lies.elsewhere)
+
+pub loop-slice-preserved : goal.loop-slice-preserved
+loop-slice-preserved c = λ slice below lies. elim (cases_eq slice c.loop-slice.slice) [
+  | inl same ↦
+      let L : ℕ → Type 0 = λ n. LiesElsewhere c.args.before.now c.args.now.now c.args.self.now c.in-Some.slot c.args.spare n in
+      false≢true (sym c.if-moves_in.false ∙ c.moves_in.ensures.1 (subst L same lies))
+  | inr other ↦ c.loop-slice.invariant slice (omega arith) lies
+]
