@@ -1,10 +1,11 @@
-ghost use Rattle.std.specs.Prelude.{◌≡◌, ◌≤◌, ◌↔◌, ◌+◌, ◌-◌, ◌^◌, min, ℕ, None, IsTrue, false};
+ghost use Rattle.std.specs.Prelude.{◌≡◌, ◌≤◌, ◌↔◌, ◌+◌, ◌-◌, ◌^◌, min, ℕ, None, IsTrue, OnOk, false, true};
 ghost use Rattle.draid_names.specs.Faults.{Rose};
-ghost use Rattle.draid_faults.specs.Calls.{failing_calls, is_fused, next_call};
-ghost use Rattle.draid_shelf.specs.Memory.{HoldsKit, counts_at, held_at, held_by, shape_at};
+ghost use Rattle.draid_faults.specs.Calls.{is_fused, next_call};
+ghost use Rattle.draid_shelf.specs.Memory.{FusesAll, HoldsKit, HoldsNothing, area_count, check_counts, counts_at, held_at, held_by, kit_counts, shape_at};
 
 use crate::devices::Devices;
-use crate::places::{empty_places, fuse_areas, fuse_racks, racks_of};
+use crate::place::Place;
+use crate::places::{empty_places, fuse_all, put_on, racks_of};
 use crate::plan::Plan;
 use crate::racks::RackShelf;
 use crate::shelf::METASLABS;
@@ -30,61 +31,93 @@ pub struct MemoryShelf {
 
 impl MemoryShelf {
     ghost use Rattle.draid_names.specs.declared.fault.DeviceFault.{DeviceFault};
-    ghost use Rattle.draid_shelf.specs.Failing.{calls_of, held_by_memory, shelf_failing};
+    ghost use Rattle.draid_shelf.specs.Failing.{IsPlace, KeepsPlan, calls_of, fails_at, held_by_memory, is_planned, lists_of, next_at, no_lists, rule_of, shelf_faults, uber_size_of};
 
-    /// An empty shelf. Of each rack that it makes, the calls with the numbers in `failing` fail. A crash leaves what was
-    /// written.
-    pub fn new(alloc: Global, failing: Vec<u64>) -> MemoryShelf
+    /// An empty shelf, of which no call fails. By the rule a crash leaves what wasn't flushed.
+    pub fn new(alloc: Global, rule: CrashRule) -> MemoryShelf
+        ensures nothing { HoldsNothing result.devices }
         ensures empty { (m : ℕ) → held_by_memory result m ≡ None }
-        ensures list { shelf_failing result ≡ failing.items }
+        ensures faults { shelf_faults result ≡ 0 }
+        ensures next { next_call (calls_of result) ≡ 0 }
+        ensures lists { lists_of result ≡ no_lists }
+        ensures fuse { is_planned result ≡ false }
+        ensures rule { rule_of result ≡ rule }
     {
         MemoryShelf {
             devices: Devices {
                 racks: empty_places(),
                 evens: empty_places(),
                 odds: empty_places(),
+                check_even: None,
+                check_odd: None,
                 uber: None,
             },
             plan: Plan {
-                racks: failing,
-                areas: Vec::new(alloc),
+                racks: empty_places(),
+                evens: empty_places(),
+                odds: empty_places(),
+                check_even: None,
+                check_odd: None,
+                uber: None,
                 fuse: None,
             },
             calls: Calls::new(Vec::new(alloc)),
             faults: 0,
-            rule: CrashRule::New,
+            rule,
         }
     }
 
-    /// Of the calls that make or take devices, those with the numbers in `own` fail, and of each area that is made those with
-    /// the numbers in `areas`.
-    pub fn fail(&mut self, own: Vec<u64>, areas: Vec<u64>)
-        ensures told { held_by self.new.devices ≡ held_by self.old.devices }
-        ensures next { next_call (calls_of self.new) ≡ 0 }
-        ensures failing { failing_calls (calls_of self.new) ≡ own.items }
+    /// At this place the calls with these numbers fail: of the shelf itself from its next call on, of a device
+    /// once it is made.
+    pub fn fail(&mut self, place: Place, calls: Vec<u64>)
+        requires { IsPlace place }
+        ensures devices { self.new.devices ≡ self.old.devices }
+        ensures lists { lists_of self.new ≡ fails_at place calls.items (lists_of self.old) }
+        ensures next { next_call (calls_of self.new) ≡ next_at place (next_call (calls_of self.old)) }
+        ensures faults { shelf_faults self.new ≡ shelf_faults self.old }
+        ensures rule { rule_of self.new ≡ rule_of self.old }
+        ensures fuse { is_planned self.new ≡ is_planned self.old }
     {
-        self.calls = Calls::new(own);
-        self.plan.areas = areas;
+        match place {
+            Place::Own => self.calls = Calls::new(calls),
+            Place::Rack(metaslab) => put_on(&mut self.plan.racks, metaslab as usize, calls),
+            Place::Even(metaslab) => put_on(&mut self.plan.evens, metaslab as usize, calls),
+            Place::Odd(metaslab) => put_on(&mut self.plan.odds, metaslab as usize, calls),
+            Place::CheckEven => self.plan.check_even = Some(calls),
+            Place::CheckOdd => self.plan.check_odd = Some(calls),
+            Place::Uber => self.plan.uber = Some(calls),
+        }
     }
 
     /// By this rule a crash leaves what wasn't flushed.
     pub fn crash_by(&mut self, rule: CrashRule)
-        ensures { held_by self.new.devices ≡ held_by self.old.devices }
+        ensures devices { self.new.devices ≡ self.old.devices }
+        ensures rule { rule_of self.new ≡ rule }
+        ensures lists { lists_of self.new ≡ lists_of self.old }
+        ensures next { next_call (calls_of self.new) ≡ next_call (calls_of self.old) }
+        ensures faults { shelf_faults self.new ≡ shelf_faults self.old }
+        ensures fuse { is_planned self.new ≡ is_planned self.old }
     {
         self.rule = rule;
     }
 
     /// Gives the racks and areas that are held or made from now on a fuse of so many calls, which they share.
     pub fn put_fuse(&mut self, alloc: Global, calls: u64) -> Result<(), AllocError>
-        ensures { held_by self.new.devices ≡ held_by self.old.devices }
+        ensures all { OnOk result (FusesAll self.old.devices self.new.devices) }
+        ensures fuse { OnOk result (is_planned self.new ≡ true) }
+        ensures told { held_by self.new.devices ≡ held_by self.old.devices }
+        ensures leaves { (m : ℕ) → shape_at self.new.devices.racks m ≡ shape_at self.old.devices.racks m }
+        ensures uber { uber_size_of self.new ≡ uber_size_of self.old }
+        ensures counts { (m : ℕ) → kit_counts self.new.devices m ≡ kit_counts self.old.devices m }
+        ensures check_counts { check_counts self.new.devices ≡ check_counts self.old.devices }
+        ensures uber_count { area_count self.new.devices.uber ≡ area_count self.old.devices.uber }
+        ensures faults { shelf_faults self.new ≡ shelf_faults self.old }
+        ensures next { next_call (calls_of self.new) ≡ next_call (calls_of self.old) }
+        ensures lists { lists_of self.new ≡ lists_of self.old }
+        ensures rule { rule_of self.new ≡ rule_of self.old }
     {
         let fuse = Fuse::new(alloc, calls)?;
-        fuse_racks(&mut self.devices.racks, &fuse)?;
-        fuse_areas(&mut self.devices.evens, &fuse)?;
-        fuse_areas(&mut self.devices.odds, &fuse)?;
-        if let Some(area) = &mut self.devices.uber {
-            area.put_fuse(fuse.share()?);
-        }
+        fuse_all(&mut self.devices, &fuse)?;
         self.plan.fuse = Some(fuse);
         Ok(())
     }
@@ -97,6 +130,8 @@ impl MemoryShelf {
         ensures risen { self.new.faults ≡ min (self.old.faults + 1) (2 ^ 64 - 1) }
         ensures devices { self.new.devices ≡ self.old.devices }
         ensures calls { self.new.calls ≡ self.old.calls }
+        ensures plan { self.new.plan ≡ self.old.plan }
+        ensures rule { self.new.rule ≡ self.old.rule }
     {
         self.faults = self.faults.saturating_add(1);
         DeviceFault::Failed
@@ -131,7 +166,7 @@ impl RackShelf for MemoryShelf {
     ghost counts = { λ shelf. counts_at shelf.devices.racks };
 
     fn make(&mut self, alloc: Global, geometry: &Geometry) -> Result<(), NoMemory> {
-        self.devices.racks = racks_of(alloc, geometry, &self.plan)?;
+        self.devices.racks = racks_of(alloc, geometry, &self.plan.racks, &self.plan.fuse)?;
         Ok(())
     }
 
