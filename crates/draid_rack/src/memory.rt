@@ -130,7 +130,7 @@ impl MemoryRack {
 
 impl Rack for MemoryRack {
     ghost use Rattle.draid_names.specs.declared.fault.DeviceFault.{DeviceFault};
-    ghost use Rattle.draid_rack.specs.Memory.{DamagesFlushed, Flushes, KeepsFlushed, calls_of, faults_of_memory, reads_of, shape_of_memory, told_by_memory};
+    ghost use Rattle.draid_rack.specs.Memory.{DamagesFlushed, Flushes, KeepsFlushed, KeepsFlushedBut, calls_of, faults_of_memory, reads_of, shape_of_memory, told_by_memory};
 
     ghost shape = { shape_of_memory };
 
@@ -239,6 +239,8 @@ impl Rack for MemoryRack {
         ensures shape { shape_of_memory self.new ≡ shape_of_memory self.old }
         ensures later { (w : Option ℕ) → faults_of_memory self.old w ≤ faults_of_memory self.new w }
         ensures exact { (w : Option ℕ) → faults_of_memory self.new w ≡ faults_of_memory self.old w }
+        ensures flushed { KeepsFlushed self.old self.new }
+        ensures calls { calls_of self.new ≡ calls_of self.old }
     {
         self.clock = later(self.clock);
         settle_sector(&mut self.leaves, leaf, sector);
@@ -285,6 +287,8 @@ impl Rack for MemoryRack {
             ≡ (if l == leaf then 0 else faults_of_memory self.old (Some l))) }
         ensures same_counts { OnErr result ((l : ℕ) → faults_of_memory self.new (Some l)
             ≡ faults_of_memory self.old (Some l)) }
+        ensures flushed { KeepsFlushedBut leaf self.old self.new }
+        ensures unflushed { OnErr result (KeepsFlushed self.old self.new) }
         ensures calls { CountsCall (IsErrOf result DeviceFault.Failed) (calls_of self.old) (calls_of self.new) }
     {
         if self.calls.fails() {
@@ -305,6 +309,8 @@ impl Rack for MemoryRack {
         ensures later { CountsOthers leaf (faults_of_memory self.old) (faults_of_memory self.new) }
         ensures exact { (w : Option ℕ) → (w ≡ Some leaf → ⊥) → faults_of_memory self.new w ≡ faults_of_memory self.old w }
         ensures gone { faults_of_memory self.new (Some leaf) ≡ 0 }
+        ensures flushed { KeepsFlushedBut leaf self.old self.new }
+        ensures calls { calls_of self.new ≡ calls_of self.old }
     {
         self.clock = later(self.clock);
         remove_leaf(&mut self.leaves, leaf);
