@@ -3,7 +3,7 @@ use Rattle.std.proofs.lemmas.Bool.Decides.{nat_tests}
 use Rattle.std.proofs.lemmas.List.{ext_get_or}
 use Rattle.std.specs.List.{splice}
 use Rattle.draid_area.specs.Area.{Content, Writes, OnTold, IsOrderly, MayLeave, last_clock, tick, within, writes, flushes}
-use Rattle.draid_area.specs.Moments.{Stays, Goes, Between, CrashKeeps, LeavesWritten, Elapses, ElapsesTold, ChangesOnly, ChangesOnlyTold, OnBoth}
+use Rattle.draid_area.specs.Moments.{Stays, Goes, Between, CrashKeeps, CrashesTold, IsCrashOutcome, LeavesWritten, Elapses, ElapsesTold, ChangesOnly, ChangesOnlyTold, OnBoth}
 use Rattle.draid_area.proofs.Splices.{length-splice, splice_outside}
 
 pub goes_self : (x : Content) → Goes x x
@@ -177,3 +177,41 @@ elapsed_on None (Some y) q a b = absurd (cc)
 elapsed_on (Some x) None q a b = absurd a
 elapsed_on (Some x) (Some y) None a b = absurd b
 elapsed_on (Some x) (Some y) (Some z) a b = elapses x z (goes_on x y z a.goes b.goes)
+
+-- ---- what crashes leave
+pub unwritten : (named : ℕ → Bool) (x y : Content) (left : List ℕ) (i d : ℕ) → ChangesOnly named x y → MayLeave y left → named i ≡ false → x.soft i ≡ false → slice_index_or left i d ≡ slice_index_or x.bytes i d
+unwritten named x y left i d only may out firm = may.same i d (stays_false (x.soft i) (y.soft i) (only.soft i out) firm) ∙ only.bytes i d out
+
+pub crash_left : (x y : Content) (left : List ℕ) → IsCrashOutcome x y → MayLeave y left → MayLeave x left
+crash_left x y left out may = record {
+  same = λ i d firm. may.same i d (out.soft i) ∙ out.left.same i d firm;
+  least = (let a = out.left.least in omega (arith, a, out.firm, may.least));
+  most = (let a = out.left.most in omega (arith, a, may.most));
+}
+
+pub crash_read : (x y : Content) (left : List ℕ) → IsCrashOutcome x y → MayLeave y left → left ≡ y.bytes
+crash_read x y left out may = leaves_all y left out.soft out.firm may
+
+pub crash_outcome : (x y z : Content) → IsCrashOutcome x y → IsCrashOutcome y z → IsCrashOutcome x z
+crash_outcome x y z a b = record {
+  left = crash_left x y z.bytes a b.left;
+  firm = b.firm;
+  soft = b.soft;
+  since = λ i. b.since i ∙ a.since i;
+  clock = b.clock ∙ a.clock;
+}
+
+pub crash_told : (x y z : Option Content) → CrashesTold x y → CrashesTold y z → CrashesTold x z
+crash_told None None z a b = b
+crash_told None (Some y) z a b = absurd (cc)
+crash_told (Some x) None z a b = absurd a
+crash_told (Some x) (Some y) None a b = absurd b
+crash_told (Some x) (Some y) (Some z) a b = crash_outcome x y z a b
+
+pub crash_orderly : (x y : Content) → IsCrashOutcome x y → IsOrderly x → IsOrderly y
+crash_orderly x y out early i = let e = early i in let s = out.since i in omega (arith, e, s, out.clock)
+
+pub told_more : (few more : ℕ → Bool) (o p : Option Content) → ((i : ℕ) → more i ≡ false → few i ≡ false) → ChangesOnlyTold few o p → ChangesOnlyTold more o p
+told_more few more None p fewer a = a
+told_more few more (Some x) None fewer a = absurd a
+told_more few more (Some x) (Some y) fewer a = only_more few more x y fewer a

@@ -1,5 +1,5 @@
 -- The parts of an area in memory fit together after each call.
-use Rattle.std.proofs.Common.{arith, refl, inl, inr, ◌≡◌, ◌≤◌, ◌<◌, ◌+◌, ◌-◌, ◌∙◌, sym, ap, subst, ℕ, Bool, true, false, List, [], ◌∷◌, ◌++◌, length, take, replicate, slice_index_or, if◌then◌else◌}
+use Rattle.std.proofs.Common.{arith, refl, inl, inr, nat_lt, ◌&&◌, ◌≡◌, ◌≤◌, ◌<◌, ◌+◌, ◌-◌, ◌∙◌, sym, ap, subst, ℕ, Bool, true, false, List, [], ◌∷◌, ◌++◌, length, take, replicate, slice_index_or, if◌then◌else◌}
 use Rattle.std.proofs.lemmas.Bool.Decides.{nat_tests}
 use Rattle.std.proofs.lemmas.Bool.{cases_lt}
 use Rattle.std.proofs.lemmas.List.{places}
@@ -9,7 +9,7 @@ use Rattle.draid_faults.specs.declared.crash.CrashRule.{CrashRule}
 use Rattle.draid_faults.specs.declared.crash.CrashRule.TheVariants.{Old, New, Torn, Half}
 use Rattle.draid_area.specs.declared.cells.Span.{Span}
 use Rattle.draid_area.specs.Area.{within}
-use Rattle.draid_area.specs.Cells.{AreInside, IsSound, LeavesByte, byte_at, covers, length_by, told_by}
+use Rattle.draid_area.specs.Cells.{AreInside, IsSound, LeavesByte, byte_at, covers, is_soft, is_torn, length_by, told_by, torn_by}
 use Rattle.draid_area.specs.Moments.{IsCrashOutcome}
 use Rattle.draid_area.proofs.Clocks.{clock_grown, covers_more}
 use Rattle.draid_area.proofs.Splices.{length-splice, splice_outside}
@@ -87,6 +87,9 @@ sound_flushed bytes flushed long same = record {
   inside = λ k d low. absurd (omega (arith, low));
 }
 
+pub sound_begun : (bytes flushed : List ℕ) (firm : ℕ) (none : List Span) → flushed ≡ bytes → firm ≡ length bytes → none ≡ [] → IsSound bytes flushed firm none
+sound_begun bytes flushed firm none same is empty = rw (same, is, empty) (sound_flushed bytes bytes (omega arith) (λ i. refl))
+
 pub sound_cut : (cut left : List ℕ) (kept : ℕ) → kept ≤ length left → cut ≡ take kept left → IsSound cut cut kept []
 sound_cut cut left kept short is = record {
   kept = rw is (grind (arith, places));
@@ -97,6 +100,51 @@ sound_cut cut left kept short is = record {
 }
 
 -- ---- a crash
+not_covered : (c t : Bool) → (if c then true else t) ≡ false → c ≡ false
+not_covered true t is = absurd (cc)
+not_covered false t is = refl
+
+not_torn : (c t : Bool) → (if c then true else t) ≡ false → t ≡ false
+not_torn true t is = absurd (cc)
+not_torn false t is = is
+
+-- a byte that spans and failed writes left
+torn_left : (rule : CrashRule) (was written mid : ℕ) → LeavesByte rule was written mid → LeavesByte rule was written (torn_by rule written mid)
+torn_left Old was written mid is = is
+torn_left New was written mid is = is
+torn_left Torn was written mid is = refl
+torn_left Half was written mid is = is
+
+torn_same : (rule : CrashRule) (was written mid : ℕ) → mid ≡ was → was ≡ written → LeavesByte rule was written (torn_by rule written mid)
+torn_same Old was written mid is same = is
+torn_same New was written mid is same = is ∙ same
+torn_same Torn was written mid is same = refl
+torn_same Half was written mid is same = inl is
+
+left_torn : (rule : CrashRule) (c t : Bool) (was written mid left : ℕ) → (if c then true else t) ≡ true → (c ≡ true → LeavesByte rule was written mid) → (c ≡ false → mid ≡ was) → (c ≡ false → was ≡ written)
+    → left ≡ (if t then torn_by rule written mid else mid) → LeavesByte rule was written left
+left_torn rule true true was written mid left there done other same is = rw is (torn_left rule was written mid (done refl))
+left_torn rule true false was written mid left there done other same is = rw is (done refl)
+left_torn rule false true was written mid left there done other same is = rw is (torn_same rule was written mid (other refl) (same refl))
+left_torn rule false false was written mid left there done other same is = absurd (cc)
+
+-- of a byte that is there
+there_now : (i n : ℕ) (t : Bool) (x y left : ℕ) → i < n → left ≡ (if nat_lt i n && t then x else y) → left ≡ (if t then x else y)
+there_now i n t x y left low is = let e : nat_lt i n ≡ true = grind (arith, nat_tests) in is ∙ rw e refl
+
+module _ (rule : CrashRule) (bytes flushed mid left : List ℕ) (firm : ℕ) (spans : List Span) (torn : List Bool) (s : IsSound bytes flushed firm spans)
+    (torn_is : (i : ℕ) → byte_at left i ≡ (if nat_lt i (length bytes) && is_torn torn i then torn_by rule (byte_at bytes i) (byte_at mid i) else byte_at mid i))
+    (same : (i : ℕ) → covers spans i ≡ false → byte_at mid i ≡ byte_at flushed i) where
+  pub soft_left : ((i : ℕ) → covers spans i ≡ true → LeavesByte rule (byte_at flushed i) (byte_at bytes i) (byte_at mid i)) → (i : ℕ) → i < length bytes → is_soft spans torn i ≡ true → LeavesByte rule (byte_at flushed i) (byte_at bytes i) (byte_at left i)
+  soft_left done i low there = left_torn rule (covers spans i) (is_torn torn i) (byte_at flushed i) (byte_at bytes i) (byte_at mid i) (byte_at left i) there (done i) (same i) (s.same i)
+      (there_now i (length bytes) (is_torn torn i) (torn_by rule (byte_at bytes i) (byte_at mid i)) (byte_at mid i) (byte_at left i) low (torn_is i))
+
+  pub firm_left : (i : ℕ) → i < length bytes → is_soft spans torn i ≡ false → byte_at left i ≡ byte_at flushed i
+  firm_left i low out =
+      let e = not_torn (covers spans i) (is_torn torn i) out in
+      there_now i (length bytes) (is_torn torn i) (torn_by rule (byte_at bytes i) (byte_at mid i)) (byte_at mid i) (byte_at left i) low (torn_is i)
+      ∙ (rw e refl ∙ same i (not_covered (covers spans i) (is_torn torn i) out))
+
 pub length_least : (rule : CrashRule) (firm len : ℕ) → firm ≤ len → firm ≤ length_by rule firm len
 length_least Old firm len le = omega arith
 length_least New firm len le = le
@@ -115,24 +163,26 @@ read_inside xs ys kept i d low long_x long_y is = grind (arith, places)
 read_past : (xs ys : List ℕ) (kept i d : ℕ) → kept ≤ i → kept ≤ length xs → length ys ≤ i → slice_index_or (take kept xs) i d ≡ slice_index_or ys i d
 read_past xs ys kept i d high long past = grind (arith, places)
 
-pub is_outcome : (rule : CrashRule) (bytes flushed left cut since : List ℕ) (firm kept clock : ℕ) (spans none : List Span) → IsSound bytes flushed firm spans → length left ≡ length flushed
-    → ((i : ℕ) → covers spans i ≡ false → byte_at left i ≡ byte_at flushed i) → kept ≡ length_by rule firm (length bytes) → cut ≡ take kept left → none ≡ []
-    → IsCrashOutcome (told_by bytes firm spans since clock) (told_by cut kept none since clock)
-is_outcome rule bytes flushed left cut since firm kept clock spans none s long same by is empty =
+pub is_outcome : (rule : CrashRule) (bytes flushed left cut since : List ℕ) (firm kept clock : ℕ) (spans none : List Span) (torn calm : List Bool) → IsSound bytes flushed firm spans → length left ≡ length flushed
+    → ((i : ℕ) → i < length bytes → is_soft spans torn i ≡ false → byte_at left i ≡ byte_at flushed i) → kept ≡ length_by rule firm (length bytes) → cut ≡ take kept left → none ≡ [] → ((i : ℕ) → is_torn calm i ≡ false)
+    → IsCrashOutcome (told_by bytes firm spans torn since clock) (told_by cut kept none calm since clock)
+is_outcome rule bytes flushed left cut since firm kept clock spans none torn calm s long same by is empty calms =
     let least = length_least rule firm (length bytes) s.kept in
     let most = length_most rule firm (length bytes) s.kept in
     let length_cut : length cut ≡ kept = length_taken cut left kept (omega (arith, long, by, most, s.long)) is in
     record {
       left = record {
         same = λ i d out. elim (cases_lt i kept) [
-          | inl low ↦ ap (λ xs. slice_index_or xs i d) is ∙ read_inside left bytes kept i d low (omega (arith, long, by, most, s.long)) (omega (arith, by, most)) (same i out ∙ s.same i out)
-          | inr high ↦ ap (λ xs. slice_index_or xs i d) is ∙ read_past left bytes kept i d high (omega (arith, long, by, most, s.long)) (past i (omega (arith, by, least, high)) out)
+          | inl low ↦ ap (λ xs. slice_index_or xs i d) is ∙ read_inside left bytes kept i d low (omega (arith, long, by, most, s.long)) (omega (arith, by, most)) (same i (omega (arith, low, by, most)) out ∙ s.same i (not_covered (covers spans i) (is_torn torn i) out))
+          | inr high ↦ ap (λ xs. slice_index_or xs i d) is ∙ read_past left bytes kept i d high (omega (arith, long, by, most, s.long)) (past i (omega (arith, by, least, high)) (not_covered (covers spans i) (is_torn torn i) out))
         ];
         least = omega (arith, length_cut, by, least);
         most = omega (arith, length_cut, by, most);
       };
       firm = sym length_cut;
-      soft = λ i. ap (λ xs. covers xs i) empty;
+      soft = λ i. rw empty (calms i);
+      since = λ i. refl;
+      clock = refl;
     }
   where
     length_taken : (xs ys : List ℕ) (n : ℕ) → n ≤ length ys → xs ≡ take n ys → length xs ≡ n
@@ -148,13 +198,13 @@ is_outcome rule bytes flushed left cut since firm kept clock spans none s long s
     ]
 
 -- what it reads after a crash by this rule
-pub left_by_rule : (rule : CrashRule) (bytes flushed left cut : List ℕ) (firm kept : ℕ) (spans : List Span) → IsSound bytes flushed firm spans → length left ≡ length flushed
-    → ((i : ℕ) → covers spans i ≡ true → LeavesByte rule (byte_at flushed i) (byte_at bytes i) (byte_at left i)) → kept ≡ length_by rule firm (length bytes) → cut ≡ take kept left
-    → (length cut ≡ length_by rule firm (length bytes)) × ((i : ℕ) → i < length cut → covers spans i ≡ true → LeavesByte rule (byte_at flushed i) (byte_at bytes i) (byte_at cut i))
-left_by_rule rule bytes flushed left cut firm kept spans s long leaves by is =
+pub left_by_rule : (rule : CrashRule) (bytes flushed left cut : List ℕ) (firm kept : ℕ) (spans : List Span) (torn : List Bool) → IsSound bytes flushed firm spans → length left ≡ length flushed
+    → ((i : ℕ) → i < length bytes → is_soft spans torn i ≡ true → LeavesByte rule (byte_at flushed i) (byte_at bytes i) (byte_at left i)) → kept ≡ length_by rule firm (length bytes) → cut ≡ take kept left
+    → (length cut ≡ length_by rule firm (length bytes)) × ((i : ℕ) → i < length cut → is_soft spans torn i ≡ true → LeavesByte rule (byte_at flushed i) (byte_at bytes i) (byte_at cut i))
+left_by_rule rule bytes flushed left cut firm kept spans torn s long leaves by is =
     let most = length_most rule firm (length bytes) s.kept in
     let size = cut_long cut left kept (omega (arith, long, by, most, s.long)) is in
-    (size ∙ by, (λ i low there. subst (λ b. LeavesByte rule (byte_at flushed i) (byte_at bytes i) b) (sym (cut_byte cut left kept i (omega (arith, low, size)) (omega (arith, long, by, most, s.long)) is)) (leaves i there)))
+    (size ∙ by, (λ i low there. subst (λ b. LeavesByte rule (byte_at flushed i) (byte_at bytes i) b) (sym (cut_byte cut left kept i (omega (arith, low, size)) (omega (arith, long, by, most, s.long)) is)) (leaves i (omega (arith, low, size, by, most)) there)))
   where
     cut_long : (xs ys : List ℕ) (n : ℕ) → n ≤ length ys → xs ≡ take n ys → length xs ≡ n
     cut_long xs ys n low e = rw e (grind (arith, places))

@@ -33,6 +33,14 @@ writes at bytes x = record {
   clock = tick x.clock;
 }
 
+-- a write of n bytes from here on failed, and left those that stand there
+abbrev pub tears : ℕ → ℕ → Content → Content
+tears at n x = writes at (slice_range x.bytes at (at + n)) x
+
+-- a write found no memory: nothing changed but the clock
+abbrev pub waits : Content → Content
+waits x = record { bytes = x.bytes; firm = x.firm; soft = x.soft; since = x.since; clock = tick x.clock }
+
 abbrev pub flushes : Content → Content
 flushes x = record {
   bytes = x.bytes;

@@ -1,4 +1,4 @@
-use Rattle.std.specs.Prelude.{◌≡◌, ◌≤◌, ◌<◌, ◌+◌, ℕ, Bool, true, false, List, All, length, slice_index_or, ◌⊎◌, ◌-◌}
+use Rattle.std.specs.Prelude.{◌≡◌, ◌≤◌, ◌<◌, ◌+◌, ℕ, Bool, true, false, List, All, length, slice_index_or, ◌⊎◌, ◌-◌, if◌then◌else◌}
 use Rattle.std.specs.List.{list_any}
 use Rattle.draid_faults.specs.declared.crash.CrashRule.{CrashRule}
 use Rattle.draid_faults.specs.declared.crash.CrashRule.TheVariants.{Old, New, Torn, Half}
@@ -20,12 +20,20 @@ clock_at since i = slice_index_or since i 0
 abbrev pub AreUpTo : ℕ → List ℕ → Type 0
 AreUpTo clock since = (i : ℕ) → clock_at since i ≤ clock
 
+-- a write failed at this offset
+abbrev pub is_torn : List Bool → ℕ → Bool
+is_torn torn i = slice_index_or torn i false
+
+-- it was written since the last flush, or a write failed there
+abbrev pub is_soft : List Span → List Bool → ℕ → Bool
+is_soft spans torn i = if covers spans i then true else is_torn torn i
+
 -- what an area of these parts tells
-abbrev pub told_by : List ℕ → ℕ → List Span → List ℕ → ℕ → Content
-told_by bytes firm unflushed since clock = record {
+abbrev pub told_by : List ℕ → ℕ → List Span → List Bool → List ℕ → ℕ → Content
+told_by bytes firm unflushed torn since clock = record {
   bytes = bytes;
   firm = firm;
-  soft = covers unflushed;
+  soft = is_soft unflushed torn;
   since = clock_at since;
   clock = clock;
 }
@@ -43,6 +51,11 @@ pub record IsSound (bytes flushed : List ℕ) (firm : ℕ) (unflushed : List Spa
   pub grown : (i : ℕ) → firm ≤ i → i < length bytes → covers unflushed i ≡ true
   pub inside : AreInside (length bytes) unflushed
 
+-- there is a mark and a clock for each byte
+pub record HasMarks (bytes : List ℕ) (torn : List Bool) (since : List ℕ) : Type 0 where
+  pub marks : length bytes ≤ length torn
+  pub clocks : length bytes ≤ length since
+
 -- how long an area is after a crash, which was so long at the last flush and is so long
 abbrev pub length_by : CrashRule → ℕ → ℕ → ℕ
 length_by Old firm len = firm
@@ -55,3 +68,8 @@ LeavesByte Old was written left = left ≡ was
 LeavesByte New was written left = left ≡ written
 LeavesByte Torn was written left = left ≡ 255 - written
 LeavesByte Half was written left = (left ≡ was) ⊎ (left ≡ written)
+
+-- what a crash by this rule makes of the byte that a failed write left, in place of the one that comes of the writes before it
+abbrev pub torn_by : CrashRule → ℕ → ℕ → ℕ
+torn_by Torn written mid = 255 - written
+torn_by rule written mid = mid

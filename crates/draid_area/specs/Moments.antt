@@ -70,11 +70,14 @@ OnBoth old new P = MatchOption old ⊤ (λ x. MatchOption new ⊤ (λ y. P x y))
 abbrev pub ChangesOnlyTold : (ℕ → Bool) → Option Content → Option Content → Type 0
 ChangesOnlyTold named old new = MatchOption old (new ≡ None) (λ x. MatchOption new ⊥ (λ y. ChangesOnly named x y))
 
--- an area after a crash: it reads what the crash left, and all of it outlasts a further one
+-- an area after a crash: it reads what the crash left, all of it outlasts a further one, and the clocks stand where they
+-- stood
 pub record IsCrashOutcome (x y : Content) : Type 0 where
   pub left : MayLeave x y.bytes
   pub firm : y.firm ≡ length y.bytes
   pub soft : (i : ℕ) → y.soft i ≡ false
+  pub since : (i : ℕ) → y.since i ≡ x.since i
+  pub clock : y.clock ≡ x.clock
 
 -- what was told is told, after a crash
 abbrev pub CrashesTold : Option Content → Option Content → Type 0

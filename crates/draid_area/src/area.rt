@@ -1,5 +1,5 @@
-ghost use Rattle.std.specs.Prelude.{◌≡◌, ◌≤◌, ◌+◌, max, ℕ, Option, OnOk, OnErr, length, option_map};
-ghost use Rattle.draid_area.specs.Area.{Content, Reads, Writes, Counts, OnTold, IsOrderly, IsOfSize, flushes};
+ghost use Rattle.std.specs.Prelude.{◌≡◌, ◌≤◌, ◌+◌, max, ℕ, Option, OnOk, OnErr, IsErrOf, length, option_map};
+ghost use Rattle.draid_area.specs.Area.{Content, Reads, Writes, Counts, OnTold, IsOrderly, IsOfSize, flushes, waits};
 ghost use Rattle.draid_area.specs.Moments.{ElapsesTold};
 
 use draid_names::DeviceFault;
@@ -9,6 +9,8 @@ use draid_names::DeviceFault;
 /// A call raises the area's clock before it changes a byte. That is what is trusted of a real device, so
 /// that a state in the middle of a write counts as one after it began.
 pub trait Area: Drop {
+    ghost use Rattle.draid_names.specs.declared.fault.DeviceFault.{DeviceFault};
+
     /// How many bytes the area has.
     ghost size: { Self → ℕ };
 
@@ -32,7 +34,8 @@ pub trait Area: Drop {
         ensures size { size self.new ≡ size self.old }
         ensures cause { Counts result (faults self.old) (faults self.new) };
 
-    /// Writes `bytes` from `at` on, also over the end. A failed write leaves other bytes there, but no more.
+    /// Writes `bytes` from `at` on, also over the end. A failed write leaves other bytes there, but no more. Want of
+    /// memory changes nothing but the clock.
     fn write(&mut self, at: u64, bytes: &[u8]) -> Result<(), DeviceFault>
         requires place { at ≤ size self.old }
         ensures told { Writes at bytes.now result (told self.old) (told self.new) }
@@ -40,6 +43,8 @@ pub trait Area: Drop {
         ensures size { OnOk result (size self.new ≡ max (size self.old) (at + length bytes.now)) }
         ensures grown { size self.old ≤ size self.new }
         ensures bounded { size self.new ≤ max (size self.old) (at + length bytes.now) }
+        ensures waits { IsErrOf result DeviceFault.NoMemory → told self.new ≡ option_map waits (told self.old) }
+        ensures same { IsErrOf result DeviceFault.NoMemory → size self.new ≡ size self.old }
         ensures cause { Counts result (faults self.old) (faults self.new) };
 
     /// Makes what was written outlast a crash. Where it fails, nothing changes.

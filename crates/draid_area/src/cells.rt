@@ -1,6 +1,6 @@
-ghost use Rattle.std.specs.Prelude.{◌≡◌, ◌+◌, ◌-◌, ◌^◌, min, ◌≤◌, ◌++◌, ℕ, true, false, if◌then◌else◌, OnOk, OnErr, length, replicate, slice_range, take};
+ghost use Rattle.std.specs.Prelude.{◌≡◌, ◌+◌, ◌-◌, ◌^◌, ◌&&◌, min, nat_lt, ◌≤◌, ◌++◌, ℕ, true, false, if◌then◌else◌, OnOk, OnErr, length, replicate, slice_index_or, slice_range, take};
 ghost use Rattle.std.specs.List.{splice};
-ghost use Rattle.draid_area.specs.Cells.{AreInside, LeavesByte, byte_at, clock_at, covers, length_by};
+ghost use Rattle.draid_area.specs.Cells.{AreInside, LeavesByte, byte_at, covers, is_torn, length_by, torn_by};
 ghost use Rattle.draid_area.specs.Area.{tick, within};
 ghost use Rattle.draid_faults.specs.Crash.{left_by};
 
@@ -42,28 +42,42 @@ pub(crate) fn grow<T: Copy>(cells: &mut Vec<T>, len: usize, value: T) -> Result<
     Ok(())
 }
 
-/// Makes room for the clocks of `len` offsets.
-pub(crate) fn reach(since: &mut Vec<u64>, len: usize) -> Result<(), AllocError>
-    ensures same { (i : ℕ) → clock_at since.new.items i ≡ clock_at since.old.items i }
-    ensures long { OnOk result (len ≤ length since.new.items) }
+/// Makes room for what is kept of each of `len` offsets. Where nothing is, that stands for `value`.
+pub(crate) fn reach<T: Copy>(cells: &mut Vec<T>, len: usize, value: T) -> Result<(), AllocError>
+    ensures same { (i : ℕ) → slice_index_or cells.new.items i value ≡ slice_index_or cells.old.items i value }
+    ensures long { OnOk result (len ≤ length cells.new.items) }
+    ensures kept { length cells.old.items ≤ length cells.new.items }
 {
-    grow(since, len, 0)
+    grow(cells, len, value)
 }
 
-fn fill(since: &mut Vec<u64>, start: usize, len: usize, clock: u64)
-    requires { start + len ≤ length since.old.items }
-    ensures { since.new.items ≡ splice since.old.items start (start + len) (replicate len clock) }
+/// Sets what is kept of each of `len` offsets.
+pub(crate) fn mark<T: Copy>(cells: &mut Vec<T>, start: usize, len: usize, value: T)
+    requires { start + len ≤ length cells.old.items }
+    ensures here { (i : ℕ) (d : T) → slice_index_or cells.new.items i d
+        ≡ (if within start len i then value else slice_index_or cells.old.items i d) }
+    ensures long { length cells.new.items ≡ length cells.old.items }
 {
-    since[start..start + len].fill(clock);
+    for i in start..start + len {
+        cells[i] = value;
+    }
 }
 
-/// Sets the clocks of `len` offsets.
-pub(crate) fn mark(since: &mut Vec<u64>, start: usize, len: usize, clock: u64)
-    requires { start + len ≤ length since.old.items }
-    ensures { (i : ℕ) → clock_at since.new.items i
-        ≡ (if within start len i then clock else clock_at since.old.items i) }
+/// Takes all marks of failed writes away.
+pub(crate) fn calm(torn: &mut Vec<bool>)
+    ensures none { (i : ℕ) → is_torn torn.new.items i ≡ false }
+    ensures long { length torn.new.items ≡ length torn.old.items }
 {
-    fill(since, start, len, clock);
+    let len = torn.len();
+    mark(torn, 0, len, false);
+}
+
+/// How many of `n` bytes from `start` on there are.
+pub(crate) fn standing(bytes: &[u8], start: usize, n: usize) -> usize
+    requires { start ≤ length bytes.now }
+    ensures { result ≡ length (slice_range bytes.now start (start + n)) }
+{
+    n.min(bytes.len() - start)
 }
 
 pub(crate) fn overwrite(cells: &mut Vec<u8>, start: usize, bytes: &[u8])
@@ -146,5 +160,36 @@ pub(crate) fn leave_spans(flushed: &mut Vec<u8>, bytes: &[u8], spans: &[Span], r
 {
     for k in 0..spans.len() {
         leave_span(flushed, bytes, spans[k], rule);
+    }
+}
+
+/// Makes each byte that a failed write left its complement.
+fn complement_torn(flushed: &mut Vec<u8>, bytes: &[u8], torn: &[bool])
+    requires long { length bytes.now ≤ length flushed.old.items }
+    requires marks { length bytes.now ≤ length torn.now }
+    ensures long { length flushed.new.items ≡ length flushed.old.items }
+    ensures bytes { (k : ℕ) → byte_at flushed.new.items k
+        ≡ (if nat_lt k (length bytes.now) && is_torn torn.now k then 255 - byte_at bytes.now k
+        else byte_at flushed.old.items k) }
+{
+    for i in 0..bytes.len() {
+        if torn[i] {
+            flushed[i] = 255 - bytes[i];
+        }
+    }
+}
+
+/// Makes each byte that a failed write left what a crash leaves of it.
+pub(crate) fn leave_torn(flushed: &mut Vec<u8>, bytes: &[u8], torn: &[bool], rule: CrashRule)
+    requires long { length bytes.now ≤ length flushed.old.items }
+    requires marks { length bytes.now ≤ length torn.now }
+    ensures long { length flushed.new.items ≡ length flushed.old.items }
+    ensures bytes { (k : ℕ) → byte_at flushed.new.items k
+        ≡ (if nat_lt k (length bytes.now) && is_torn torn.now k
+        then torn_by rule (byte_at bytes.now k) (byte_at flushed.old.items k) else byte_at flushed.old.items k) }
+{
+    match rule {
+        CrashRule::Torn => complement_torn(flushed, bytes, torn),
+        _ => {}
     }
 }

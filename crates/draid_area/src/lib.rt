@@ -5,8 +5,10 @@
 
 mod area;
 mod cells;
+mod laws;
 mod memory;
 
 pub use area::Area;
 pub use draid_names::DeviceFault;
+pub use laws::{changes_follow_one_another, crashes_follow_one_another, crashes_keep_what_is_firm};
 pub use memory::MemoryArea;

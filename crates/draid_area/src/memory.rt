@@ -1,12 +1,13 @@
 ghost use Rattle.std.specs.Prelude.{◌≡◌, ◌+◌, ◌≤◌, max, ℕ, Some, false, true, IfOk, IsErr, IsErrOf, OnOk, OnErr, length, option_map, refl};
 ghost use Rattle.draid_faults.specs.Calls.{CountsCall, CountsJust, failing_calls, is_fused, next_call};
-ghost use Rattle.draid_area.specs.Area.{Reads, Writes, Counts, begins, flushes};
-ghost use Rattle.draid_area.specs.Cells.{AreUpTo, IsSound};
+ghost use Rattle.draid_area.specs.Area.{Reads, Writes, Counts, begins, flushes, tears, waits};
+ghost use Rattle.draid_area.specs.Cells.{AreUpTo, HasMarks, IsSound};
 ghost use Rattle.draid_area.specs.Moments.{CrashesTold, ElapsesTold};
 
 use crate::area::Area;
 use crate::cells::{
-    Span, cut, grow, keep_spans, later, leave_spans, length_left, mark, overwrite, reach, risen,
+    Span, calm, cut, grow, keep_spans, later, leave_spans, leave_torn, length_left, mark,
+    overwrite, reach, risen, standing,
 };
 use draid_faults::{Calls, CrashRule, Fuse};
 use draid_names::DeviceFault;
@@ -23,7 +24,9 @@ pub struct MemoryArea {
     firm: usize,
     /// What was written since the last flush.
     unflushed: Vec<Span>,
-    /// The clock at the last write of each offset; none stands for 0.
+    /// Where a write failed since the last flush.
+    torn: Vec<bool>,
+    /// The clock at the last write of each offset.
     since: Vec<u64>,
     clock: u64,
     /// How often a call has failed.
@@ -31,6 +34,7 @@ pub struct MemoryArea {
     calls: Calls,
     ghost orderly: { AreUpTo clock since.items },
     ghost sound: { IsSound bytes.items flushed.items firm unflushed.items },
+    ghost marked: { HasMarks bytes.items torn.items since.items },
 }
 
 impl MemoryArea {
@@ -45,12 +49,14 @@ impl MemoryArea {
         ensures failing { IfOk result (λ area. failing_calls (calls_of area) ≡ failing.items) }
         ensures fused { IfOk result (λ area. is_fused (calls_of area) ≡ false) }
     {
+        let len = bytes.len();
         Ok(MemoryArea {
             flushed: bytes.clone()?,
-            firm: bytes.len(),
+            firm: len,
             bytes,
             unflushed: Vec::new(alloc),
-            since: Vec::new(alloc),
+            torn: vec![in alloc; false; len]?,
+            since: vec![in alloc; 0; len]?,
             clock: 0,
             faults: 0,
             calls: Calls::new(failing),
@@ -80,10 +86,12 @@ impl MemoryArea {
         ensures fused { is_fused (calls_of self.new) ≡ false }
     {
         leave_spans(&mut self.flushed, &self.bytes, &self.unflushed, rule);
+        leave_torn(&mut self.flushed, &self.bytes, &self.torn, rule);
         let kept = length_left(rule, self.firm, self.bytes.len());
         cut(&mut self.bytes, &mut self.flushed, kept);
         self.firm = kept;
         self.unflushed.clear();
+        calm(&mut self.torn);
         self.calls.take_fuse();
     }
 }
@@ -142,18 +150,27 @@ impl Area for MemoryArea {
         ensures flushed { KeepsFlushed self.old self.new }
         ensures calls { CountsCall (IsErrOf result DeviceFault.Failed) (calls_of self.old) (calls_of self.new) }
 
-        // A write that failed changed no byte.
-        ensures same { OnErr result (self.new.bytes.items ≡ self.old.bytes.items) }
+        // A write that failed changed no byte. Those that stand where it was to be are soft.
+        ensures unwritten { OnErr result (self.new.bytes.items ≡ self.old.bytes.items) }
+        ensures torn { IsErrOf result DeviceFault.Failed → told_by_memory self.new
+            ≡ option_map (tears at (length bytes.now)) (told_by_memory self.old) }
+        ensures waits { IsErrOf result DeviceFault.NoMemory → told_by_memory self.new
+            ≡ option_map waits (told_by_memory self.old) }
+        ensures same { IsErrOf result DeviceFault.NoMemory → size_of_memory self.new ≡ size_of_memory self.old }
     {
+        let start = at as usize;
+        let end = start + bytes.len();
         self.clock = later(self.clock);
         if self.calls.fails() {
+            let left = standing(&self.bytes, start, bytes.len());
+            mark(&mut self.torn, start, left, true);
+            mark(&mut self.since, start, left, self.clock);
             self.faults = risen(self.faults);
             return Err(DeviceFault::Failed);
         }
-        let start = at as usize;
-        let end = start + bytes.len();
         self.unflushed.reserve(1)?;
-        reach(&mut self.since, end)?;
+        reach(&mut self.since, end, 0)?;
+        reach(&mut self.torn, end, false)?;
         grow(&mut self.flushed, end, 0)?;
         grow(&mut self.bytes, end, 0)?;
         let span = Span {
@@ -187,6 +204,7 @@ impl Area for MemoryArea {
         keep_spans(&mut self.flushed, &self.bytes, &self.unflushed);
         self.firm = self.bytes.len();
         self.unflushed.clear();
+        calm(&mut self.torn);
         Ok(())
     }
 }

@@ -11,7 +11,7 @@ use adapters::{Input, Output};
 use draid_choose::{Chooser, first_fit};
 use draid_names::Room;
 use draid_run::{Status, run};
-use draid_shelf::MemoryShelf;
+use draid_shelf::{CrashRule, MemoryShelf};
 use std::process::ExitCode;
 use std::{env, io};
 
@@ -21,7 +21,7 @@ fn words(rt: &HostRuntime) -> io::Result<Vec<String>> {
 }
 
 fn main(rt: HostRuntime) -> ExitCode {
-    let mut shelf = MemoryShelf::new(rt.alloc(), Vec::new(rt.alloc()));
+    let mut shelf = MemoryShelf::new(rt.alloc(), CrashRule::New);
     let mut source = Input::new(rt.stdin());
     let mut sink = Output::new(rt.stdout());
     let chooser = Chooser::new(

@@ -1,9 +1,14 @@
 -- How the counts of failures go.
-use Rattle.std.proofs.Common.{arith, refl, ap, ◌∙◌, ◌≡◌, ◌≤◌, ◌+◌, ◌-◌, ◌^◌, min, true, ℕ, Option, Some, None, Err}
+use Rattle.std.proofs.Common.{arith, refl, ap, ◌∙◌, ◌≡◌, ◌≤◌, ◌+◌, ◌-◌, ◌^◌, min, true, ℕ, Option, Some, None, Result, Ok, Err, OnErr}
 use Rattle.std.specs.BTreeMap.{BTreeMap}
 use Rattle.draid_rack.specs.declared.leaf.Leaf.{Leaf}
 use Rattle.draid_rack.specs.Leaves.{CountsFault, faults_by, faults_in, leaf_at}
 use Rattle.draid_rack.specs.Rack.{Counts, CountsOnly}
+
+-- a fact that holds also where the answer is Err
+pub on_err : {T E : Type 0} (r : Result T E) (P : Type 0) → P → OnErr r P
+on_err (Ok v) P is = tt
+on_err (Err e) P is = is
 
 -- the count of one leaf rose
 pub record Rises (leaf : ℕ) (old new : BTreeMap ℕ Leaf) : Type 0 where

@@ -9,7 +9,7 @@ use Rattle.draid_faults.specs.Crash.{left_by}
 use Rattle.draid_faults.specs.declared.crash.CrashRule.{CrashRule}
 use Rattle.draid_faults.specs.declared.crash.CrashRule.TheVariants.{Old, New, Torn, Half}
 use Rattle.draid_rack.specs.declared.leaf.Leaf.{Leaf}
-use Rattle.draid_rack.specs.Leaves.{AreLong, Changes, bytes_of, harmed_of, leaf_at, soft_of, told_of, view_at, view_in}
+use Rattle.draid_rack.specs.Leaves.{AreLong, Changes, bytes_of, harmed_of, leaf_at, since_of, soft_of, told_of, view_at, view_in}
 use Rattle.draid_rack.specs.Sectors.{View, IsLong, crashed, left_of}
 use Rattle.draid_rack.specs.Moments.{IsCrashOutcome}
 
@@ -53,12 +53,18 @@ none_soft : (rule : CrashRule) (o : Option View) → soft_of (option_map (crashe
 none_soft rule None = refl
 none_soft rule (Some x) = refl
 
-pub is_outcome : (rule : CrashRule) (len clock t : ℕ) (old new : BTreeMap ℕ Leaf) → AreLong len old → Changes (λ _ _. true) (crashed rule) old new → IsCrashOutcome (told_of (view_at old) clock) (told_of (view_at new) t)
-is_outcome rule len clock t old new long h = record {
+same_since : (rule : CrashRule) (o : Option View) → since_of (option_map (crashed rule) o) ≡ since_of o
+same_since rule None = refl
+same_since rule (Some x) = refl
+
+pub is_outcome : (rule : CrashRule) (len clock : ℕ) (old new : BTreeMap ℕ Leaf) → AreLong len old → Changes (λ _ _. true) (crashed rule) old new → IsCrashOutcome (told_of (view_at old) clock) (told_of (view_at new) clock)
+is_outcome rule len clock old new long h = record {
   firm = λ l s is. ap bytes_of (h.views l s) ∙ firm rule (view_at old l s) is;
   long = λ l s. ap (λ o. option_map length (bytes_of o)) (h.views l s) ∙ same_length rule len (view_at old l s) (long l s);
   harmed = λ l s. ap harmed_of (h.views l s) ∙ same_harm rule (view_at old l s);
   soft = λ l s. ap soft_of (h.views l s) ∙ none_soft rule (view_at old l s);
+  since = λ l s. ap since_of (h.views l s) ∙ same_since rule (view_at old l s);
+  clock = refl;
 }
 
 pub leaves_by_rule : (rule : CrashRule) (o : Option View) → bytes_of (option_map (crashed rule) o) ≡ option_map (left_of rule) o

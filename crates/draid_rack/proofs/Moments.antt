@@ -1,7 +1,7 @@
-use Rattle.std.proofs.Common.{arith, refl, subst, ◌∙◌, ◌≡◌, ◌≤◌, ◌<◌, ◌==◌, ◌&&◌, ℕ, Bool, true, false, List, Option, Some, None, Result, Ok, Err, OnOk, OnErr, IsTrue, option_map, nat_lt}
+use Rattle.std.proofs.Common.{arith, refl, subst, ◌∙◌, ◌≡◌, ◌≤◌, ◌<◌, ◌==◌, ◌&&◌, ℕ, Bool, true, false, List, Option, Some, None, Result, Ok, Err, OnOk, OnErr, IsTrue, option_map, nat_lt, if◌then◌else◌}
 use Rattle.std.proofs.lemmas.Bool.Decides.{nat_tests}
-use Rattle.draid_rack.specs.Rack.{Told, Lands, OnTold, IsOrderly, adds, damages, drops, flushes, lands, last_clock, settles, tick}
-use Rattle.draid_rack.specs.Moments.{Stays, Goes, Between, Keeps, KeptOthers, Elapses, ElapsesTold, ChangesOnly, ChangesOnlyTold, OnBoth, IsCrashOutcome, CrashKeepsOthers}
+use Rattle.draid_rack.specs.Rack.{Told, Lands, OnTold, IsOfShape, IsOrderly, Shape, adds, damages, drops, flushes, lands, last_clock, settles, tick}
+use Rattle.draid_rack.specs.Moments.{Stays, Goes, Between, Keeps, KeptOthers, Elapses, ElapsesTold, ChangesOnly, ChangesOnlyTold, Leaves, LeavesTold, OnBoth, IsCrashOutcome, CrashKeepsOthers, CrashesTold}
 
 pub goes_on : (x y z : Told) → Goes x y → Goes y z → Goes x z
 goes_on x y z a b = record {
@@ -257,3 +257,115 @@ elapsed_on None (Some y) q a b = absurd (cc)
 elapsed_on (Some x) None q a b = absurd a
 elapsed_on (Some x) (Some y) None a b = absurd b
 elapsed_on (Some x) (Some y) (Some z) a b = elapses x z (goes_on x y z a.goes b.goes)
+
+-- ---- harm elsewhere
+pub leaves_self : (named : ℕ → ℕ → Bool) (x : Told) → Leaves named x x
+leaves_self named x = record { only = only_self named x; harm = λ l s out. refl }
+
+pub leaves_on : (named : ℕ → ℕ → Bool) (x y z : Told) → Leaves named x y → Leaves named y z → Leaves named x z
+leaves_on named x y z a b = record { only = only_on named x y z a.only b.only; harm = λ l s out. b.harm l s out ∙ a.harm l s out }
+
+pub leaves_more : (few more : ℕ → ℕ → Bool) (x y : Told) → ((l s : ℕ) → more l s ≡ false → few l s ≡ false) → Leaves few x y → Leaves more x y
+leaves_more few more x y fewer a = record { only = only_more few more x y fewer a.only; harm = λ l s out. a.harm l s (fewer l s out) }
+
+pub leaves_lands : (named : ℕ → ℕ → Bool) (l s : ℕ) (bytes : List ℕ) (harm : Bool) (x : Told) → named l s ≡ true → Leaves named x (lands l s bytes harm x)
+leaves_lands named l s bytes harm x is = record { only = only_lands named l s bytes harm x is; harm = λ m q out. grind (arith, nat_tests) }
+
+pub leaves_flushes : (named : ℕ → ℕ → Bool) (l : ℕ) (x : Told) → Leaves named x (flushes l x)
+leaves_flushes named l x = record { only = only_flushes named l x; harm = λ m q out. refl }
+
+pub leaves_settles : (named : ℕ → ℕ → Bool) (l s : ℕ) (x : Told) → named l s ≡ true → Leaves named x (settles l s x)
+leaves_settles named l s x is = record { only = only_settles named l s x; harm = λ m q out. grind (arith, nat_tests) }
+
+pub leaves_damages : (named : ℕ → ℕ → Bool) (l s : ℕ) (x : Told) → named l s ≡ true → Leaves named x (damages l s x)
+leaves_damages named l s x is = record { only = only_damages named l s x is; harm = λ m q out. grind (arith, nat_tests) }
+
+pub leaves_adds : (named : ℕ → ℕ → Bool) (bytes l n : ℕ) (x : Told) → ((s : ℕ) → named l s ≡ true) → Leaves named x (adds bytes l n x)
+leaves_adds named bytes l n x all = record { only = only_adds named bytes l n x all; harm = λ m q out. rw (other_leaf named l m q all out) refl }
+
+pub leaves_drops : (named : ℕ → ℕ → Bool) (l : ℕ) (x : Told) → ((s : ℕ) → named l s ≡ true) → Leaves named x (drops l x)
+leaves_drops named l x all = record { only = only_drops named l x all; harm = λ m q out. rw (other_leaf named l m q all out) refl }
+
+pub left_same : (named : ℕ → ℕ → Bool) (o p : Option Told) → p ≡ o → LeavesTold named o p
+left_same named None p is = is
+left_same named (Some x) p is = rw is (leaves_self named x)
+
+pub left_on : (named : ℕ → ℕ → Bool) (o p q : Option Told) → LeavesTold named o p → LeavesTold named p q → LeavesTold named o q
+left_on named None None q a b = b
+left_on named None (Some y) q a b = absurd (cc)
+left_on named (Some x) None q a b = absurd a
+left_on named (Some x) (Some y) None a b = absurd b
+left_on named (Some x) (Some y) (Some z) a b = leaves_on named x y z a b
+
+pub left_more : (few more : ℕ → ℕ → Bool) (o p : Option Told) → ((l s : ℕ) → more l s ≡ false → few l s ≡ false) → LeavesTold few o p → LeavesTold more o p
+left_more few more None p fewer a = a
+left_more few more (Some x) None fewer a = absurd a
+left_more few more (Some x) (Some y) fewer a = leaves_more few more x y fewer a
+
+pub left_only : (named : ℕ → ℕ → Bool) (o p : Option Told) → LeavesTold named o p → ChangesOnlyTold named o p
+left_only named None p a = a
+left_only named (Some x) None a = absurd a
+left_only named (Some x) (Some y) a = a.only
+
+pub left_change : (named : ℕ → ℕ → Bool) (f : Told → Told) → ((x : Told) → Leaves named x (f x)) → (o p : Option Told) → p ≡ option_map f o → LeavesTold named o p
+left_change named f leaves None p is = is
+left_change named f leaves (Some x) p is = rw is (leaves x)
+
+left_answer : {E : Type 0} (named : ℕ → ℕ → Bool) (f : Told → Told) → ((x : Told) → Leaves named x (f x)) → (r : Result Unit E) (o p : Option Told) → OnOk r (p ≡ option_map f o) → OnErr r (p ≡ o) → LeavesTold named o p
+left_answer named f leaves (Ok u) o p ok err = left_change named f leaves o p ok
+left_answer named f leaves (Err e) o p ok err = left_same named o p err
+
+pub left_lands : {E : Type 0} (named : ℕ → ℕ → Bool) (l s : ℕ) (bytes : List ℕ) (harm : Told → Bool) (r : Result Unit E) (o p : Option Told) → named l s ≡ true → Lands l s bytes harm r o p → LeavesTold named o p
+left_lands named l s bytes harm r None p is w = w.told
+left_lands named l s bytes harm r (Some x) p is w = rw w.told (leaves_lands named l s w.stands (harm x) x is)
+
+pub left_flushes : {E : Type 0} (named : ℕ → ℕ → Bool) (l : ℕ) (r : Result Unit E) (o p : Option Told) → OnOk r (p ≡ option_map (flushes l) o) → OnErr r (p ≡ o) → LeavesTold named o p
+left_flushes named l r o p ok err = left_answer named (flushes l) (leaves_flushes named l) r o p ok err
+
+pub left_settles : (named : ℕ → ℕ → Bool) (l s : ℕ) (o p : Option Told) → named l s ≡ true → p ≡ option_map (settles l s) o → LeavesTold named o p
+left_settles named l s o p is told = left_change named (settles l s) (λ x. leaves_settles named l s x is) o p told
+
+pub left_damages : {E : Type 0} (named : ℕ → ℕ → Bool) (l s : ℕ) (r : Result Unit E) (o p : Option Told) → named l s ≡ true → OnOk r (p ≡ option_map (damages l s) o) → OnErr r (p ≡ o) → LeavesTold named o p
+left_damages named l s r o p is ok err = left_answer named (damages l s) (λ x. leaves_damages named l s x is) r o p ok err
+
+pub left_adds : {E : Type 0} (named : ℕ → ℕ → Bool) (bytes l n : ℕ) (r : Result Unit E) (o p : Option Told) → ((s : ℕ) → named l s ≡ true) → OnOk r (p ≡ option_map (adds bytes l n) o) → OnErr r (p ≡ o) → LeavesTold named o p
+left_adds named bytes l n r o p all ok err = left_answer named (adds bytes l n) (λ x. leaves_adds named bytes l n x all) r o p ok err
+
+pub left_drops : (named : ℕ → ℕ → Bool) (l : ℕ) (o p : Option Told) → ((s : ℕ) → named l s ≡ true) → p ≡ option_map (drops l) o → LeavesTold named o p
+left_drops named l o p all is = left_change named (drops l) (λ x. leaves_drops named l x all) o p is
+
+-- ---- what crashes leave
+pub crash_unwritten : (named : ℕ → ℕ → Bool) (x y left : Told) → ChangesOnly named x y → IsCrashOutcome y left → (l s : ℕ) → named l s ≡ false → x.soft l s ≡ false → left.reads l s ≡ x.reads l s
+crash_unwritten named x y left only out l s other firm = out.firm l s (stays_false (x.soft l s) (y.soft l s) (only.soft l s other) firm) ∙ only.reads l s other
+
+flushed_here : (l m : ℕ) (soft : ℕ → ℕ → Bool) (s : ℕ) → m ≡ l → (if m == l then false else soft m s) ≡ false
+flushed_here l m soft s is = grind (arith, nat_tests)
+
+pub crash_flushed : (l s : ℕ) (x left : Told) → IsCrashOutcome (flushes l x) left → left.reads l s ≡ x.reads l s
+crash_flushed l s x left out = out.firm l s (flushed_here l l x.soft s refl)
+
+pub crash_outcome : (x y z : Told) → IsCrashOutcome x y → IsCrashOutcome y z → IsCrashOutcome x z
+crash_outcome x y z a b = record {
+  firm = λ l s firm. b.firm l s (a.soft l s) ∙ a.firm l s firm;
+  long = λ l s. b.long l s ∙ a.long l s;
+  harmed = λ l s. b.harmed l s ∙ a.harmed l s;
+  soft = b.soft;
+  since = λ l s. b.since l s ∙ a.since l s;
+  clock = b.clock ∙ a.clock;
+}
+
+pub crash_told : (x y z : Option Told) → CrashesTold x y → CrashesTold y z → CrashesTold x z
+crash_told None None z a b = b
+crash_told None (Some y) z a b = absurd (cc)
+crash_told (Some x) None z a b = absurd a
+crash_told (Some x) (Some y) None a b = absurd b
+crash_told (Some x) (Some y) (Some z) a b = crash_outcome x y z a b
+
+pub crash_read : (x y z : Told) → IsCrashOutcome x y → IsCrashOutcome y z → (l s : ℕ) → z.reads l s ≡ y.reads l s
+crash_read x y z a b l s = b.firm l s (a.soft l s)
+
+pub crash_orderly : (x y : Told) → IsCrashOutcome x y → IsOrderly x → IsOrderly y
+crash_orderly x y out early l s = let e = early l s in let t = out.since l s in omega (arith, e, t, out.clock)
+
+pub crash_shaped : (shape : Shape) (x y : Told) → IsCrashOutcome x y → IsOfShape shape x → IsOfShape shape y
+crash_shaped shape x y out shaped l s = out.long l s ∙ shaped l s

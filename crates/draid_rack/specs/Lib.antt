@@ -3,3 +3,4 @@ pub mod Memory
 pub mod Moments
 pub mod Rack
 pub mod Sectors
+pub mod Shaped

@@ -30,6 +30,10 @@ kept_of rack l s = option_map (λ (x : View). x.kept) (view_at rack.leaves l s)
 abbrev pub KeepsFlushed : MemoryRack → MemoryRack → Type 0
 KeepsFlushed old new = (l s : ℕ) → kept_of new l s ≡ kept_of old l s
 
+-- what was flushed on the other leaves stays
+abbrev pub KeepsFlushedBut : ℕ → MemoryRack → MemoryRack → Type 0
+KeepsFlushedBut leaf old new = (l s : ℕ) → (l ≡ leaf → ⊥) → kept_of new l s ≡ kept_of old l s
+
 -- what the sectors of a leaf read is flushed
 abbrev pub Flushes : ℕ → MemoryRack → MemoryRack → Type 0
 Flushes leaf old new = (l s : ℕ) → kept_of new l s ≡ (if l == leaf then reads_of old l s else kept_of old l s)

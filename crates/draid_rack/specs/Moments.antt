@@ -52,6 +52,16 @@ pub record ChangesOnly (named : ℕ → ℕ → Bool) (x y : Told) : Type 0 wher
   pub soft : (l s : ℕ) → named l s ≡ false → IsTrue (y.soft l s) → IsTrue (x.soft l s)
   pub harmed : (l s : ℕ) → named l s ≡ false → IsTrue (y.harmed l s) → IsTrue (x.harmed l s)
 
+-- Another state, in which only the sectors named were changed, and harm elsewhere is as it was. Softness may have ended
+-- elsewhere.
+pub record Leaves (named : ℕ → ℕ → Bool) (x y : Told) : Type 0 where
+  pub only : ChangesOnly named x y
+  pub harm : (l s : ℕ) → named l s ≡ false → y.harmed l s ≡ x.harmed l s
+
+-- what was told is told, and this is known of it
+abbrev pub LeavesTold : (ℕ → ℕ → Bool) → Option Told → Option Told → Type 0
+LeavesTold named old new = MatchOption old (new ≡ None) (λ x. MatchOption new ⊥ (λ y. Leaves named x y))
+
 -- before and after, where they are told
 abbrev pub OnBoth : Option Told → Option Told → (Told → Told → Type 0) → Type 0
 OnBoth old new P = MatchOption old ⊤ (λ x. MatchOption new ⊤ (λ y. P x y))
@@ -61,12 +71,14 @@ abbrev pub ChangesOnlyTold : (ℕ → ℕ → Bool) → Option Told → Option T
 ChangesOnlyTold named old new = MatchOption old (new ≡ None) (λ x. MatchOption new ⊥ (λ y. ChangesOnly named x y))
 
 -- What a crash may leave of what a rack told: what isn't soft stays; what is soft reads any bytes of the
--- same length; harm stays, and nothing is soft.
+-- same length; harm stays, nothing is soft, and the clocks stand where they stood.
 pub record IsCrashOutcome (x y : Told) : Type 0 where
   pub firm : (l s : ℕ) → x.soft l s ≡ false → y.reads l s ≡ x.reads l s
   pub long : (l s : ℕ) → option_map length (y.reads l s) ≡ option_map length (x.reads l s)
   pub harmed : (l s : ℕ) → y.harmed l s ≡ x.harmed l s
   pub soft : (l s : ℕ) → y.soft l s ≡ false
+  pub since : (l s : ℕ) → y.since l s ≡ x.since l s
+  pub clock : y.clock ≡ x.clock
 
 -- what was told is told, after a crash
 abbrev pub CrashesTold : Option Told → Option Told → Type 0

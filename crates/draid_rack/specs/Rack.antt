@@ -1,4 +1,4 @@
-use Rattle.std.specs.Prelude.{◌≡◌, ◌<◌, ◌≤◌, ⊤, ◌==◌, ◌&&◌, ◌+◌, ◌-◌, ◌^◌, ℕ, Bool, true, false, List, Option, Some, None, Result, MatchOption, OnOk, OnErr, option_map, map, replicate, nat_lt, if◌then◌else◌}
+use Rattle.std.specs.Prelude.{◌≡◌, ◌<◌, ◌≤◌, ⊤, ◌==◌, ◌&&◌, ◌+◌, ◌-◌, ◌^◌, ℕ, Bool, true, false, List, Option, Some, None, Result, MatchOption, OnOk, OnErr, option_map, unwrap_or, length, map, replicate, nat_lt, if◌then◌else◌}
 use Rattle.std.specs.List.{list_any}
 use Rattle.draid_names.specs.Faults.{Rose}
 use Rattle.draid_faults.specs.Calls.{CountsJust}
@@ -13,6 +13,10 @@ pub record Shape : Type 0 where
 pub record Fits (shape : Shape) (leaf sector len : ℕ) : Type 0 where
   pub there : MatchOption (shape.leaves leaf) ⊥ (λ n. sector < n)
   pub whole : len ≡ shape.bytes
+
+-- this sector of this leaf is there
+abbrev pub has_sector : Shape → ℕ → ℕ → Bool
+has_sector shape leaf sector = unwrap_or (option_map (λ n. nat_lt sector n) (shape.leaves leaf)) false
 
 -- just the leaves below a number are there, each of so many sectors of this length
 pub record HasJust (shape : Shape) (leaves sectors bytes : ℕ) : Type 0 where
@@ -152,6 +156,10 @@ pub record CountsOnly (who : Option ℕ) (failed : Type 0) (old new : Option ℕ
 -- No count but that of this leaf, which came or went, falls.
 abbrev pub CountsOthers : ℕ → (Option ℕ → ℕ) → (Option ℕ → ℕ) → Type 0
 CountsOthers leaf old new = (w : Option ℕ) → (w ≡ Some leaf → ⊥) → old w ≤ new w
+
+-- each sector that is there reads bytes of a sector's length, and nothing else reads anything
+abbrev pub IsOfShape : Shape → Told → Type 0
+IsOfShape shape x = (l s : ℕ) → option_map length (x.reads l s) ≡ (if has_sector shape l s then Some shape.bytes else None)
 
 -- no sector's clock is later than the rack's
 abbrev pub IsOrderly : Told → Type 0

@@ -3,6 +3,7 @@
 
 #![tactic(auto)]
 
+mod laws;
 mod leaf;
 mod leaves;
 mod memory;
@@ -10,5 +11,9 @@ mod rack;
 mod sector;
 
 pub use draid_names::DeviceFault;
+pub use laws::{
+    calls_leave_the_rest, calls_that_leave_chain, crashes_follow_one_another,
+    crashes_keep_what_is_firm, shapes_say_what_is_there,
+};
 pub use memory::MemoryRack;
 pub use rack::Rack;

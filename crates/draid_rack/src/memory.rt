@@ -3,6 +3,7 @@ ghost use Rattle.draid_names.specs.Faults.{Rose};
 ghost use Rattle.draid_faults.specs.Calls.{CountsCall, CountsJust, failing_calls, is_fused, next_call};
 ghost use Rattle.draid_rack.specs.Leaves.{AreLong, AreUpTo};
 ghost use Rattle.draid_rack.specs.Moments.{CrashesTold, ElapsesTold};
+ghost use Rattle.draid_rack.specs.Shaped.{shaped_by};
 ghost use Rattle.draid_rack.specs.Rack.{Fits, HasJust, Lands, Reads, Counts, CountsOnly, CountsOthers, OnTold, adds, damages, drops, flushes, settles, taints, with_leaf};
 
 use crate::leaf::Leaf;
@@ -129,7 +130,7 @@ impl MemoryRack {
 
 impl Rack for MemoryRack {
     ghost use Rattle.draid_names.specs.declared.fault.DeviceFault.{DeviceFault};
-    ghost use Rattle.draid_rack.specs.Memory.{DamagesFlushed, Flushes, KeepsFlushed, calls_of, faults_of_memory, reads_of, shape_of_memory, told_by_memory};
+    ghost use Rattle.draid_rack.specs.Memory.{DamagesFlushed, Flushes, KeepsFlushed, KeepsFlushedBut, calls_of, faults_of_memory, reads_of, shape_of_memory, told_by_memory};
 
     ghost shape = { shape_of_memory };
 
@@ -138,6 +139,8 @@ impl Rack for MemoryRack {
     ghost told = { told_by_memory };
 
     ghost orderly = { λ rack. rack.orderly };
+
+    ghost shaped = { λ rack. shaped_by rack.bytes rack.leaves rack.clock rack.whole };
 
     fn read(&mut self, leaf: u64, sector: u64, into: &mut [u8]) -> Result<(), Failed>
         requires place { Fits (shape_of_memory self.old) leaf sector (length into.old) }
@@ -236,6 +239,8 @@ impl Rack for MemoryRack {
         ensures shape { shape_of_memory self.new ≡ shape_of_memory self.old }
         ensures later { (w : Option ℕ) → faults_of_memory self.old w ≤ faults_of_memory self.new w }
         ensures exact { (w : Option ℕ) → faults_of_memory self.new w ≡ faults_of_memory self.old w }
+        ensures flushed { KeepsFlushed self.old self.new }
+        ensures calls { calls_of self.new ≡ calls_of self.old }
     {
         self.clock = later(self.clock);
         settle_sector(&mut self.leaves, leaf, sector);
@@ -273,14 +278,17 @@ impl Rack for MemoryRack {
             (shape_of_memory self.new ≡ with_leaf leaf (Some sectors) (shape_of_memory self.old)) }
         ensures same { OnErr result (shape_of_memory self.new ≡ shape_of_memory self.old) }
         ensures later { CountsOthers leaf (faults_of_memory self.old) (faults_of_memory self.new) }
+        ensures kept { OnErr result (faults_of_memory self.old (Some leaf) ≤ faults_of_memory self.new (Some leaf)) }
         ensures cause { IsErrOf result DeviceFault.Failed → Rose (faults_of_memory self.old None)
             (faults_of_memory self.new None) }
         ensures exact { CountsJust (IsErrOf result DeviceFault.Failed) (faults_of_memory self.old None)
             (faults_of_memory self.new None) }
         ensures begun { OnOk result ((l : ℕ) → faults_of_memory self.new (Some l)
             ≡ (if l == leaf then 0 else faults_of_memory self.old (Some l))) }
-        ensures kept { OnErr result ((l : ℕ) → faults_of_memory self.new (Some l)
+        ensures same_counts { OnErr result ((l : ℕ) → faults_of_memory self.new (Some l)
             ≡ faults_of_memory self.old (Some l)) }
+        ensures flushed { KeepsFlushedBut leaf self.old self.new }
+        ensures unflushed { OnErr result (KeepsFlushed self.old self.new) }
         ensures calls { CountsCall (IsErrOf result DeviceFault.Failed) (calls_of self.old) (calls_of self.new) }
     {
         if self.calls.fails() {
@@ -301,6 +309,8 @@ impl Rack for MemoryRack {
         ensures later { CountsOthers leaf (faults_of_memory self.old) (faults_of_memory self.new) }
         ensures exact { (w : Option ℕ) → (w ≡ Some leaf → ⊥) → faults_of_memory self.new w ≡ faults_of_memory self.old w }
         ensures gone { faults_of_memory self.new (Some leaf) ≡ 0 }
+        ensures flushed { KeepsFlushedBut leaf self.old self.new }
+        ensures calls { calls_of self.new ≡ calls_of self.old }
     {
         self.clock = later(self.clock);
         remove_leaf(&mut self.leaves, leaf);

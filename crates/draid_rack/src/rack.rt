@@ -1,7 +1,7 @@
 ghost use Rattle.std.specs.Prelude.{◌≡◌, ◌≤◌, ◌<◌, ℕ, Option, Some, None, false, OnOk, OnErr, IsErrOf, IfSome, IfNone, IsSome, length, option_map};
 ghost use Rattle.draid_names.specs.Faults.{Rose};
 ghost use Rattle.draid_rack.specs.Moments.{ElapsesTold};
-ghost use Rattle.draid_rack.specs.Rack.{Shape, Told, Fits, Lands, Reads, Counts, CountsOthers, IsOrderly, OnTold, adds, damages, drops, flushes, settles, taints, with_leaf};
+ghost use Rattle.draid_rack.specs.Rack.{Shape, Told, Fits, Lands, Reads, Counts, CountsOthers, IsOfShape, IsOrderly, OnTold, adds, damages, drops, flushes, settles, taints, with_leaf};
 
 use draid_names::{At, DeviceFault, Failed};
 
@@ -93,6 +93,7 @@ pub trait Rack: Drop {
         ensures shape { OnOk result (shape self.new ≡ with_leaf leaf (Some sectors) (shape self.old)) }
         ensures same { OnErr result (shape self.new ≡ shape self.old) }
         ensures later { CountsOthers leaf (faults self.old) (faults self.new) }
+        ensures kept { OnErr result (faults self.old (Some leaf) ≤ faults self.new (Some leaf)) }
         ensures cause { IsErrOf result DeviceFault.Failed → Rose (faults self.old None) (faults self.new None) };
 
     /// Gives up a leaf, if it is there.
@@ -114,4 +115,7 @@ pub trait Rack: Drop {
 
     /// No sector's clock is later than the rack's.
     ghost orderly: { (rack : Self) → OnTold (told rack) IsOrderly };
+
+    /// Just the sectors that are there read something, each bytes of a sector's length.
+    ghost shaped: { (rack : Self) → OnTold (told rack) (IsOfShape (shape rack)) };
 }

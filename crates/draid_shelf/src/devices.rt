@@ -7,5 +7,7 @@ pub(crate) struct Devices {
     pub racks: [Option<MemoryRack>; 64],
     pub evens: [Option<MemoryArea>; 64],
     pub odds: [Option<MemoryArea>; 64],
+    pub check_even: Option<MemoryArea>,
+    pub check_odd: Option<MemoryArea>,
     pub uber: Option<MemoryArea>,
 }

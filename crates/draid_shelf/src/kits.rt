@@ -1,19 +1,16 @@
-ghost use Rattle.std.specs.Prelude.{◌≡◌, ◌<◌, ⊤, ℕ, Option, Some, IfOk, IsErr, IsErrOf, IsSome, IsSomeAnd, MatchOption, OnOk, OnErr};
+ghost use Rattle.std.specs.Prelude.{◌≡◌, ◌<◌, ⊤, ℕ, Option, Some, None, false, IfOk, IsErr, IsErrOf, IsSome, IsSomeAnd, MatchOption, OnOk, OnErr};
 ghost use Rattle.draid_spec.specs.Geometry.{IsGeometry};
 ghost use Rattle.draid_rack.specs.Memory.{faults_of_memory, shape_of_memory, told_by_memory};
 ghost use Rattle.draid_area.specs.Memory.{size_of_memory};
 ghost use Rattle.draid_area.specs.Memory as device;
 ghost use Rattle.draid_faults.specs.Calls.{CountsJust};
 ghost use Rattle.draid_shelf.specs.Shelf.{HasLeavesOf, IsKnown, SameOthers, most_metaslabs};
-ghost use Rattle.draid_shelf.specs.Kits.{FailsJust, IsNewPool, IsUncounted, NeedsKit, NeedsUber, ShelfCounts, gives_kit, kit_of, takes_kit, takes_uber, uber_bytes};
-ghost use Rattle.draid_shelf.specs.Memory.{HoldsKit, area_count, content_of, held_by, kit_counts, shape_at};
+ghost use Rattle.draid_shelf.specs.Kits.{Both, CrashedHeld, FailsJust, IsNewPool, IsUncounted, NeedsChecks, NeedsKit, NeedsUber, ShelfCounts, checks_of, gives_checks, gives_kit, gives_uber, kit_of, takes_checks, takes_kit, takes_uber, uber_bytes};
+ghost use Rattle.draid_shelf.specs.Memory.{CrashesAll, HoldsChecks, HoldsKit, PutsAreas, PutsKit, area_at, area_count, check_counts, content_of, held_by, kit_counts, rack_at, shape_at};
 
-use crate::devices::Devices;
 use crate::kit::Kit;
 use crate::memory::MemoryShelf;
-use crate::places::{
-    UBER, area_of, areas_of, crash_area, crash_areas, crash_racks, put_on, racks_of, take_from,
-};
+use crate::places::{crash_all, devices_of, put_on, take_from};
 use crate::shelf::{METASLABS, Shelf};
 use draid_area::MemoryArea;
 use draid_names::DeviceFault;
@@ -23,7 +20,7 @@ use std::alloc::Global;
 
 impl Shelf for MemoryShelf {
     ghost use Rattle.draid_names.specs.declared.fault.DeviceFault.{DeviceFault};
-    ghost use Rattle.draid_shelf.specs.Failing.{calls_of, told_of, uber_size_of};
+    ghost use Rattle.draid_shelf.specs.Failing.{KeepsPlan, MakesBy, calls_of, is_planned, lists_of, rule_of, told_of, uber_size_of};
 
     type R = MemoryRack;
 
@@ -34,6 +31,8 @@ impl Shelf for MemoryShelf {
     ghost faults = { λ shelf. shelf.faults };
 
     ghost counts = { λ shelf. kit_counts shelf.devices };
+
+    ghost check_counts = { λ shelf. check_counts shelf.devices };
 
     ghost uber_count = { λ shelf. area_count shelf.devices.uber };
 
@@ -53,8 +52,22 @@ impl Shelf for MemoryShelf {
         ensures uber { OnOk result (uber_size_of self.new ≡ Some uber_bytes) }
         ensures counts { OnOk result ((m : ℕ) → m < geometry.now.props.metaslabs
             → IsUncounted (kit_counts self.new.devices m)) }
+        ensures check_counts { OnOk result (check_counts self.new.devices ≡ record { even = 0; odd = 0 }) }
         ensures uber_count { OnOk result (area_count self.new.devices.uber ≡ 0) }
         ensures err { OnErr result (told_of self.new ≡ told_of self.old) }
+        ensures err_leaves { OnErr result
+            ((m : ℕ) → shape_at self.new.devices.racks m ≡ shape_at self.old.devices.racks m) }
+        ensures err_uber { OnErr result (uber_size_of self.new ≡ uber_size_of self.old) }
+        ensures err_counts { OnErr result
+            ((m : ℕ) → kit_counts self.new.devices m ≡ kit_counts self.old.devices m) }
+        ensures err_check_counts { OnErr result
+            (check_counts self.new.devices ≡ check_counts self.old.devices) }
+        ensures err_uber_count { OnErr result
+            (area_count self.new.devices.uber ≡ area_count self.old.devices.uber) }
+        ensures all { OnOk result
+            (MakesBy geometry.now (lists_of self.old) (is_planned self.old) self.new.devices) }
+        ensures kept { OnErr result (self.new.devices ≡ self.old.devices) }
+        ensures plan { KeepsPlan self.old self.new }
         ensures cause { ShelfCounts result self.old.faults self.new.faults }
         ensures risen { CountsJust (IsErrOf result DeviceFault.Failed) self.old.faults self.new.faults }
         ensures exact { FailsJust ⊤ (IsErrOf result DeviceFault.Failed) (calls_of self.old) (calls_of self.new) }
@@ -63,16 +76,8 @@ impl Shelf for MemoryShelf {
             return Err(self.failed());
         }
         let metaslabs = geometry.props.metaslabs;
-        let racks = racks_of(alloc, geometry, &self.plan)?;
-        let evens = areas_of(alloc, metaslabs, &self.plan)?;
-        let odds = areas_of(alloc, metaslabs, &self.plan)?;
-        let uber = area_of(alloc, UBER, &self.plan)?;
-        self.devices = Devices {
-            racks,
-            evens,
-            odds,
-            uber: Some(uber),
-        };
+        let devices = devices_of(alloc, geometry, &self.plan)?;
+        self.devices = devices;
         Ok(())
     }
 
@@ -83,7 +88,14 @@ impl Shelf for MemoryShelf {
         ensures count { IfOk result (λ area. device.faults_of_memory area ≡ area_count self.old.devices.uber) }
         ensures leaves { (m : ℕ) → shape_at self.new.devices.racks m ≡ shape_at self.old.devices.racks m }
         ensures counts { (m : ℕ) → kit_counts self.new.devices m ≡ kit_counts self.old.devices m }
+        ensures check_counts { check_counts self.new.devices ≡ check_counts self.old.devices }
         ensures err { OnErr result (told_of self.new ≡ told_of self.old) }
+        ensures err_size { OnErr result (uber_size_of self.new ≡ uber_size_of self.old) }
+        ensures err_count { OnErr result (area_count self.new.devices.uber ≡ area_count self.old.devices.uber) }
+        ensures moved { IfOk result (λ area. (self.old.devices.uber ≡ Some area)
+            × PutsAreas self.old.devices.check_even self.old.devices.check_odd None self.old.devices self.new.devices) }
+        ensures kept { OnErr result (self.new.devices ≡ self.old.devices) }
+        ensures plan { KeepsPlan self.old self.new }
         ensures needs { NeedsUber result (told_of self.old) }
         ensures cause { ShelfCounts result self.old.faults self.new.faults }
         ensures device { IsErr result → IsErrOf result DeviceFault.Failed }
@@ -123,7 +135,18 @@ impl Shelf for MemoryShelf {
         ensures counts { SameOthers metaslab (kit_counts self.old.devices) (kit_counts self.new.devices) }
         ensures uber { uber_size_of self.new ≡ uber_size_of self.old }
         ensures uber_count { area_count self.new.devices.uber ≡ area_count self.old.devices.uber }
+        ensures check_counts { check_counts self.new.devices ≡ check_counts self.old.devices }
         ensures err { OnErr result (told_of self.new ≡ told_of self.old) }
+        ensures err_leaves { OnErr result
+            (shape_at self.new.devices.racks metaslab ≡ shape_at self.old.devices.racks metaslab) }
+        ensures err_counts { OnErr result
+            (kit_counts self.new.devices metaslab ≡ kit_counts self.old.devices metaslab) }
+        ensures moved { IfOk result (λ kit. (rack_at self.old.devices.racks metaslab ≡ Some kit.rack)
+            × (area_at self.old.devices.evens metaslab ≡ Some kit.even)
+            × (area_at self.old.devices.odds metaslab ≡ Some kit.odd)
+            × PutsKit metaslab None None None self.old.devices self.new.devices) }
+        ensures kept { OnErr result (self.new.devices ≡ self.old.devices) }
+        ensures plan { KeepsPlan self.old self.new }
         ensures needs { NeedsKit metaslab result (told_of self.old) }
         ensures cause { ShelfCounts result self.old.faults self.new.faults }
         ensures device { IsErr result → IsErrOf result DeviceFault.Failed }
@@ -144,7 +167,57 @@ impl Shelf for MemoryShelf {
         }
     }
 
-    fn give_uber(&mut self, area: MemoryArea) {
+    fn take_check(&mut self) -> Result<(MemoryArea, MemoryArea), DeviceFault>
+        ensures areas { IfOk result (λ areas. checks_of (device.told_by_memory areas.0) (device.told_by_memory areas.1)
+            ≡ (held_by self.old.devices).checks) }
+        ensures told { OnOk result (told_of self.new ≡ takes_checks (told_of self.old)) }
+        ensures even_count { IfOk result (λ areas. device.faults_of_memory areas.0
+            ≡ (check_counts self.old.devices).even) }
+        ensures odd_count { IfOk result (λ areas. device.faults_of_memory areas.1
+            ≡ (check_counts self.old.devices).odd) }
+        ensures leaves { (m : ℕ) → shape_at self.new.devices.racks m ≡ shape_at self.old.devices.racks m }
+        ensures counts { (m : ℕ) → kit_counts self.new.devices m ≡ kit_counts self.old.devices m }
+        ensures uber { uber_size_of self.new ≡ uber_size_of self.old }
+        ensures uber_count { area_count self.new.devices.uber ≡ area_count self.old.devices.uber }
+        ensures needs { NeedsChecks result (told_of self.old) }
+        ensures err { OnErr result (told_of self.new ≡ told_of self.old) }
+        ensures err_counts { OnErr result (check_counts self.new.devices ≡ check_counts self.old.devices) }
+        ensures moved { IfOk result (λ areas. (self.old.devices.check_even ≡ Some areas.0)
+            × (self.old.devices.check_odd ≡ Some areas.1)
+            × PutsAreas None None self.old.devices.uber self.old.devices self.new.devices) }
+        ensures kept { OnErr result (self.new.devices ≡ self.old.devices) }
+        ensures plan { KeepsPlan self.old self.new }
+        ensures cause { ShelfCounts result self.old.faults self.new.faults }
+        ensures device { IsErr result → IsErrOf result DeviceFault.Failed }
+        ensures risen { CountsJust (IsErrOf result DeviceFault.Failed) self.old.faults self.new.faults }
+        ensures exact { FailsJust (HoldsChecks self.old.devices) (IsErrOf result DeviceFault.Failed)
+            (calls_of self.old) (calls_of self.new) }
+    {
+        let is_missing = self.devices.check_even.is_none() || self.devices.check_odd.is_none();
+        if self.calls.fails() || is_missing {
+            return Err(self.failed());
+        }
+        match (
+            self.devices.check_even.take(),
+            self.devices.check_odd.take(),
+        ) {
+            (Some(even), Some(odd)) => Ok((even, odd)),
+            _ => unreachable!(),
+        }
+    }
+
+    fn give_uber(&mut self, area: MemoryArea)
+        ensures told { told_of self.new ≡ gives_uber (device.told_by_memory area) (told_of self.old) }
+        ensures count { area_count self.new.devices.uber ≡ device.faults_of_memory area }
+        ensures leaves { (m : ℕ) → shape_at self.new.devices.racks m ≡ shape_at self.old.devices.racks m }
+        ensures counts { (m : ℕ) → kit_counts self.new.devices m ≡ kit_counts self.old.devices m }
+        ensures check_counts { check_counts self.new.devices ≡ check_counts self.old.devices }
+        ensures faults { self.new.faults ≡ self.old.faults }
+        ensures moved { PutsAreas self.old.devices.check_even self.old.devices.check_odd (Some area)
+            self.old.devices self.new.devices }
+        ensures plan { KeepsPlan self.old self.new }
+        ensures calls { calls_of self.new ≡ calls_of self.old }
+    {
         self.devices.uber = Some(area);
     }
 
@@ -162,7 +235,12 @@ impl Shelf for MemoryShelf {
         ensures counts { SameOthers metaslab (kit_counts self.old.devices) (kit_counts self.new.devices) }
         ensures uber { uber_size_of self.new ≡ uber_size_of self.old }
         ensures uber_count { area_count self.new.devices.uber ≡ area_count self.old.devices.uber }
+        ensures check_counts { check_counts self.new.devices ≡ check_counts self.old.devices }
         ensures faults { self.new.faults ≡ self.old.faults }
+        ensures moved { PutsKit metaslab (Some kit.rack) (Some kit.even) (Some kit.odd) self.old.devices
+            self.new.devices }
+        ensures plan { KeepsPlan self.old self.new }
+        ensures calls { calls_of self.new ≡ calls_of self.old }
     {
         let place = metaslab as usize;
         let Kit { rack, even, odd } = kit;
@@ -171,11 +249,38 @@ impl Shelf for MemoryShelf {
         put_on(&mut self.devices.odds, place, odd);
     }
 
-    fn crash(&mut self) {
-        crash_racks(&mut self.devices.racks, self.rule);
-        crash_areas(&mut self.devices.evens, self.rule);
-        crash_areas(&mut self.devices.odds, self.rule);
-        crash_area(&mut self.devices.uber, self.rule);
+    fn give_check(&mut self, even: MemoryArea, odd: MemoryArea)
+        ensures told { told_of self.new ≡ gives_checks (checks_of (device.told_by_memory even)
+            (device.told_by_memory odd)) (told_of self.old) }
+        ensures counts { check_counts self.new.devices
+            ≡ record { even = device.faults_of_memory even; odd = device.faults_of_memory odd } }
+        ensures leaves { (m : ℕ) → shape_at self.new.devices.racks m ≡ shape_at self.old.devices.racks m }
+        ensures kits { (m : ℕ) → kit_counts self.new.devices m ≡ kit_counts self.old.devices m }
+        ensures uber { uber_size_of self.new ≡ uber_size_of self.old }
+        ensures uber_count { area_count self.new.devices.uber ≡ area_count self.old.devices.uber }
+        ensures faults { self.new.faults ≡ self.old.faults }
+        ensures moved { PutsAreas (Some even) (Some odd) self.old.devices.uber self.old.devices self.new.devices }
+        ensures plan { KeepsPlan self.old self.new }
+        ensures calls { calls_of self.new ≡ calls_of self.old }
+    {
+        self.devices.check_even = Some(even);
+        self.devices.check_odd = Some(odd);
+    }
+
+    fn crash(&mut self)
+        ensures told { Both CrashedHeld (told_of self.old) (told_of self.new) }
+        ensures leaves { (m : ℕ) → shape_at self.new.devices.racks m ≡ shape_at self.old.devices.racks m }
+        ensures counts { (m : ℕ) → kit_counts self.new.devices m ≡ kit_counts self.old.devices m }
+        ensures check_counts { check_counts self.new.devices ≡ check_counts self.old.devices }
+        ensures uber_count { area_count self.new.devices.uber ≡ area_count self.old.devices.uber }
+        ensures faults { self.new.faults ≡ self.old.faults }
+        ensures exact { CrashesAll (rule_of self.old) self.old.devices self.new.devices }
+        ensures rule { rule_of self.new ≡ rule_of self.old }
+        ensures lists { lists_of self.new ≡ lists_of self.old }
+        ensures fuse { is_planned self.new ≡ false }
+        ensures calls { calls_of self.new ≡ calls_of self.old }
+    {
+        crash_all(&mut self.devices, self.rule);
         self.plan.fuse = None;
     }
 }

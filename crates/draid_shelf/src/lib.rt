@@ -6,13 +6,16 @@ mod devices;
 mod kit;
 mod kits;
 mod memory;
+mod place;
 mod places;
 mod plan;
 mod racks;
 mod shelf;
 
+pub use draid_faults::CrashRule;
 pub use draid_names::DeviceFault;
 pub use kit::Kit;
 pub use memory::MemoryShelf;
+pub use place::Place;
 pub use racks::RackShelf;
 pub use shelf::{METASLABS, Shelf};

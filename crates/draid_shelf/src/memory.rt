@@ -1,10 +1,14 @@
-ghost use Rattle.std.specs.Prelude.{◌≡◌, ◌≤◌, ◌↔◌, ◌+◌, ◌-◌, ◌^◌, min, ℕ, None, IsTrue, false};
+ghost use Rattle.std.specs.Prelude.{◌≡◌, ◌<◌, ◌≤◌, ◌↔◌, ◌+◌, ◌-◌, ◌^◌, min, ℕ, Option, Some, None, IsTrue, IfOk, IsSomeAnd, OnOk, OnErr, false, true};
 ghost use Rattle.draid_names.specs.Faults.{Rose};
-ghost use Rattle.draid_faults.specs.Calls.{failing_calls, is_fused, next_call};
-ghost use Rattle.draid_shelf.specs.Memory.{HoldsKit, counts_at, held_at, held_by, shape_at};
+ghost use Rattle.draid_faults.specs.Calls.{is_fused, next_call};
+ghost use Rattle.draid_spec.specs.Geometry.{IsGeometry};
+ghost use Rattle.draid_rack.specs.Memory.{faults_of_memory, shape_of_memory, told_by_memory};
+ghost use Rattle.draid_shelf.specs.Shelf.{HasLeavesOf, IsKnown, SameOthers, TellsCalm, TellsZeros, most_metaslabs};
+ghost use Rattle.draid_shelf.specs.Memory.{AreMade, FusesAll, HoldsKit, HoldsNothing, area_count, check_counts, counts_at, held_at, held_by, kit_counts, list_at, rack_at, shape_at};
 
 use crate::devices::Devices;
-use crate::places::{empty_places, fuse_areas, fuse_racks, racks_of};
+use crate::place::Place;
+use crate::places::{empty_places, fuse_all, put_on, racks_of};
 use crate::plan::Plan;
 use crate::racks::RackShelf;
 use crate::shelf::METASLABS;
@@ -30,61 +34,93 @@ pub struct MemoryShelf {
 
 impl MemoryShelf {
     ghost use Rattle.draid_names.specs.declared.fault.DeviceFault.{DeviceFault};
-    ghost use Rattle.draid_shelf.specs.Failing.{calls_of, held_by_memory, shelf_failing};
+    ghost use Rattle.draid_shelf.specs.Failing.{IsPlace, KeepsPlan, calls_of, fails_at, held_by_memory, is_planned, lists_of, next_at, no_lists, rule_of, shelf_faults, uber_size_of};
 
-    /// An empty shelf. Of each rack that it makes, the calls with the numbers in `failing` fail. A crash leaves what was
-    /// written.
-    pub fn new(alloc: Global, failing: Vec<u64>) -> MemoryShelf
+    /// An empty shelf, of which no call fails. By the rule a crash leaves what wasn't flushed.
+    pub fn new(alloc: Global, rule: CrashRule) -> MemoryShelf
+        ensures nothing { HoldsNothing result.devices }
         ensures empty { (m : ℕ) → held_by_memory result m ≡ None }
-        ensures list { shelf_failing result ≡ failing.items }
+        ensures faults { shelf_faults result ≡ 0 }
+        ensures next { next_call (calls_of result) ≡ 0 }
+        ensures lists { lists_of result ≡ no_lists }
+        ensures fuse { is_planned result ≡ false }
+        ensures rule { rule_of result ≡ rule }
     {
         MemoryShelf {
             devices: Devices {
                 racks: empty_places(),
                 evens: empty_places(),
                 odds: empty_places(),
+                check_even: None,
+                check_odd: None,
                 uber: None,
             },
             plan: Plan {
-                racks: failing,
-                areas: Vec::new(alloc),
+                racks: empty_places(),
+                evens: empty_places(),
+                odds: empty_places(),
+                check_even: None,
+                check_odd: None,
+                uber: None,
                 fuse: None,
             },
             calls: Calls::new(Vec::new(alloc)),
             faults: 0,
-            rule: CrashRule::New,
+            rule,
         }
     }
 
-    /// Of the calls that make or take devices, those with the numbers in `own` fail, and of each area that is made those with
-    /// the numbers in `areas`.
-    pub fn fail(&mut self, own: Vec<u64>, areas: Vec<u64>)
-        ensures told { held_by self.new.devices ≡ held_by self.old.devices }
-        ensures next { next_call (calls_of self.new) ≡ 0 }
-        ensures failing { failing_calls (calls_of self.new) ≡ own.items }
+    /// At this place the calls with these numbers fail: of the shelf itself from its next call on, of a device
+    /// once it is made.
+    pub fn fail(&mut self, place: Place, calls: Vec<u64>)
+        requires { IsPlace place }
+        ensures devices { self.new.devices ≡ self.old.devices }
+        ensures lists { lists_of self.new ≡ fails_at place calls.items (lists_of self.old) }
+        ensures next { next_call (calls_of self.new) ≡ next_at place (next_call (calls_of self.old)) }
+        ensures faults { shelf_faults self.new ≡ shelf_faults self.old }
+        ensures rule { rule_of self.new ≡ rule_of self.old }
+        ensures fuse { is_planned self.new ≡ is_planned self.old }
     {
-        self.calls = Calls::new(own);
-        self.plan.areas = areas;
+        match place {
+            Place::Own => self.calls = Calls::new(calls),
+            Place::Rack(metaslab) => put_on(&mut self.plan.racks, metaslab as usize, calls),
+            Place::Even(metaslab) => put_on(&mut self.plan.evens, metaslab as usize, calls),
+            Place::Odd(metaslab) => put_on(&mut self.plan.odds, metaslab as usize, calls),
+            Place::CheckEven => self.plan.check_even = Some(calls),
+            Place::CheckOdd => self.plan.check_odd = Some(calls),
+            Place::Uber => self.plan.uber = Some(calls),
+        }
     }
 
     /// By this rule a crash leaves what wasn't flushed.
     pub fn crash_by(&mut self, rule: CrashRule)
-        ensures { held_by self.new.devices ≡ held_by self.old.devices }
+        ensures devices { self.new.devices ≡ self.old.devices }
+        ensures rule { rule_of self.new ≡ rule }
+        ensures lists { lists_of self.new ≡ lists_of self.old }
+        ensures next { next_call (calls_of self.new) ≡ next_call (calls_of self.old) }
+        ensures faults { shelf_faults self.new ≡ shelf_faults self.old }
+        ensures fuse { is_planned self.new ≡ is_planned self.old }
     {
         self.rule = rule;
     }
 
     /// Gives the racks and areas that are held or made from now on a fuse of so many calls, which they share.
     pub fn put_fuse(&mut self, alloc: Global, calls: u64) -> Result<(), AllocError>
-        ensures { held_by self.new.devices ≡ held_by self.old.devices }
+        ensures all { OnOk result (FusesAll self.old.devices self.new.devices) }
+        ensures fuse { OnOk result (is_planned self.new ≡ true) }
+        ensures told { held_by self.new.devices ≡ held_by self.old.devices }
+        ensures leaves { (m : ℕ) → shape_at self.new.devices.racks m ≡ shape_at self.old.devices.racks m }
+        ensures uber { uber_size_of self.new ≡ uber_size_of self.old }
+        ensures counts { (m : ℕ) → kit_counts self.new.devices m ≡ kit_counts self.old.devices m }
+        ensures check_counts { check_counts self.new.devices ≡ check_counts self.old.devices }
+        ensures uber_count { area_count self.new.devices.uber ≡ area_count self.old.devices.uber }
+        ensures faults { shelf_faults self.new ≡ shelf_faults self.old }
+        ensures next { next_call (calls_of self.new) ≡ next_call (calls_of self.old) }
+        ensures lists { lists_of self.new ≡ lists_of self.old }
+        ensures rule { rule_of self.new ≡ rule_of self.old }
     {
         let fuse = Fuse::new(alloc, calls)?;
-        fuse_racks(&mut self.devices.racks, &fuse)?;
-        fuse_areas(&mut self.devices.evens, &fuse)?;
-        fuse_areas(&mut self.devices.odds, &fuse)?;
-        if let Some(area) = &mut self.devices.uber {
-            area.put_fuse(fuse.share()?);
-        }
+        fuse_all(&mut self.devices, &fuse)?;
         self.plan.fuse = Some(fuse);
         Ok(())
     }
@@ -97,6 +133,8 @@ impl MemoryShelf {
         ensures risen { self.new.faults ≡ min (self.old.faults + 1) (2 ^ 64 - 1) }
         ensures devices { self.new.devices ≡ self.old.devices }
         ensures calls { self.new.calls ≡ self.old.calls }
+        ensures plan { self.new.plan ≡ self.old.plan }
+        ensures rule { self.new.rule ≡ self.old.rule }
     {
         self.faults = self.faults.saturating_add(1);
         DeviceFault::Failed
@@ -122,6 +160,8 @@ impl MemoryShelf {
 }
 
 impl RackShelf for MemoryShelf {
+    ghost use Rattle.draid_shelf.specs.Failing.{KeepsPlan, is_planned};
+
     type R = MemoryRack;
 
     ghost made = { λ shelf. shape_at shelf.devices.racks };
@@ -130,19 +170,62 @@ impl RackShelf for MemoryShelf {
 
     ghost counts = { λ shelf. counts_at shelf.devices.racks };
 
-    fn make(&mut self, alloc: Global, geometry: &Geometry) -> Result<(), NoMemory> {
-        self.devices.racks = racks_of(alloc, geometry, &self.plan)?;
+    fn make(&mut self, alloc: Global, geometry: &Geometry) -> Result<(), NoMemory>
+        requires { IsGeometry geometry.now }
+        ensures made { OnOk result ((m : ℕ) → m < geometry.now.props.metaslabs
+            → IsSomeAnd (shape_at self.new.devices.racks m) (HasLeavesOf geometry.now)) }
+        ensures zeros { OnOk result ((m : ℕ) → m < geometry.now.props.metaslabs
+            → TellsZeros (held_at self.new.devices.racks m) geometry.now) }
+        ensures calm { OnOk result ((m : ℕ) → m < geometry.now.props.metaslabs
+            → TellsCalm (held_at self.new.devices.racks m)) }
+        ensures counts { OnOk result ((m : ℕ) (who : Option ℕ) → m < geometry.now.props.metaslabs
+            → counts_at self.new.devices.racks m who ≡ 0) }
+        ensures err { OnErr result
+            ((m : ℕ) → held_at self.new.devices.racks m ≡ held_at self.old.devices.racks m) }
+        ensures all { OnOk result (AreMade geometry.now (list_at self.old.plan.racks) (is_planned self.old)
+            geometry.now.props.metaslabs self.new.devices.racks) }
+        ensures kept { OnErr result (self.new.devices ≡ self.old.devices) }
+        ensures plan { KeepsPlan self.old self.new }
+    {
+        self.devices.racks = racks_of(alloc, geometry, &self.plan.racks, &self.plan.fuse)?;
         Ok(())
     }
 
-    fn take(&mut self, metaslab: u32) -> Result<MemoryRack, NoMemory> {
+    fn take(&mut self, metaslab: u32) -> Result<MemoryRack, NoMemory>
+        ensures leaves { IfOk result (λ rack.
+            IsKnown (shape_at self.old.devices.racks metaslab) (shape_of_memory rack)) }
+        ensures told { IfOk result (λ rack. told_by_memory rack ≡ held_at self.old.devices.racks metaslab) }
+        ensures counts { IfOk result (λ rack. (who : Option ℕ)
+            → faults_of_memory rack who ≡ counts_at self.old.devices.racks metaslab who) }
+        ensures made { SameOthers metaslab (shape_at self.old.devices.racks) (shape_at self.new.devices.racks) }
+        ensures holds { SameOthers metaslab (held_at self.old.devices.racks) (held_at self.new.devices.racks) }
+        ensures others { SameOthers metaslab (counts_at self.old.devices.racks)
+            (counts_at self.new.devices.racks) }
+        ensures err { OnErr result
+            ((m : ℕ) → held_at self.new.devices.racks m ≡ held_at self.old.devices.racks m) }
+        ensures err_counts { OnErr result
+            ((m : ℕ) → counts_at self.new.devices.racks m ≡ counts_at self.old.devices.racks m) }
+        ensures moved { IfOk result (λ rack. rack_at self.old.devices.racks metaslab ≡ Some rack) }
+        ensures plan { KeepsPlan self.old self.new }
+    {
         if metaslab >= METASLABS {
             return Err(NoMemory);
         }
         self.devices.racks[metaslab as usize].take().ok_or(NoMemory)
     }
 
-    fn give(&mut self, metaslab: u32, rack: MemoryRack) {
+    fn give(&mut self, metaslab: u32, rack: MemoryRack)
+        requires { metaslab < most_metaslabs }
+        ensures told { held_at self.new.devices.racks metaslab ≡ told_by_memory rack }
+        ensures counts { (who : Option ℕ) → counts_at self.new.devices.racks metaslab who
+            ≡ faults_of_memory rack who }
+        ensures made { SameOthers metaslab (shape_at self.old.devices.racks) (shape_at self.new.devices.racks) }
+        ensures holds { SameOthers metaslab (held_at self.old.devices.racks) (held_at self.new.devices.racks) }
+        ensures others { SameOthers metaslab (counts_at self.old.devices.racks)
+            (counts_at self.new.devices.racks) }
+        ensures moved { rack_at self.new.devices.racks metaslab ≡ Some rack }
+        ensures plan { KeepsPlan self.old self.new }
+    {
         self.devices.racks[metaslab as usize] = Some(rack);
     }
 }

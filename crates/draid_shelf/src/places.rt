@@ -1,10 +1,10 @@
-ghost use Rattle.std.specs.Prelude.{◌≡◌, ◌<◌, ◌==◌, ℕ, Option, Some, None, IfOk, if◌then◌else◌, slice_index_or, replicate};
+ghost use Rattle.std.specs.Prelude.{◌≡◌, ◌<◌, ◌≤◌, ◌==◌, ℕ, List, Option, Some, None, false, IfOk, OnOk, OnErr, if◌then◌else◌, is_some, slice_index_or, replicate};
 ghost use Rattle.draid_spec.specs.Geometry.{IsGeometry};
-ghost use Rattle.draid_rack.specs.Memory.{faults_of_memory, shape_of_memory, told_by_memory};
-ghost use Rattle.draid_area.specs.Memory as device;
-ghost use Rattle.draid_shelf.specs.Memory.{AreEmpty, AreMade, CrashedArea, CrashesAreas, CrashesRacks, IsMade, IsMadeArea, area_at, content_of, held_at};
+ghost use Rattle.draid_spec.specs.declared.layout.Geometry.{Geometry};
+ghost use Rattle.draid_shelf.specs.Memory.{AreEmpty, AreMade, CrashedArea, CrashesAll, CrashesAreas, CrashesRacks, FusedArea, FusesAll, FusesAreas, FusesRacks, IsMade, IsMadeArea, KeepsAll, KeepsArea, KeepsAreas, KeepsRacks, MakesAll, list_at, list_of};
 
-use crate::plan::Plan;
+use crate::devices::Devices;
+use crate::plan::{Numbers, Plan};
 use draid_area::MemoryArea;
 use draid_faults::{CrashRule, Fuse};
 use draid_names::NoMemory;
@@ -13,7 +13,7 @@ use draid_spec::Geometry;
 use std::alloc::{AllocError, Global};
 
 /// How many bytes the area of the uberblock has.
-pub(crate) const UBER: usize = 1024;
+const UBER: usize = 1024;
 
 /// Nothing on any of these places.
 pub(crate) fn empty_places<T: Drop>() -> [Option<T>; 64]
@@ -41,42 +41,58 @@ pub(crate) fn put_on<T: Drop>(places: &mut [Option<T>; 64], place: usize, item: 
     places[place] = Some(item);
 }
 
-/// Gives a rack the plan's fuse, if there is one.
-fn fuse_rack(rack: &mut MemoryRack, plan: &Plan) -> Result<(), AllocError>
-    ensures told { told_by_memory rack.new ≡ told_by_memory rack.old }
-    ensures shape { shape_of_memory rack.new ≡ shape_of_memory rack.old }
-    ensures counts { (who : Option ℕ) → faults_of_memory rack.new who ≡ faults_of_memory rack.old who }
+/// The numbers of a list.
+fn numbers(alloc: Global, list: &Numbers) -> Result<Vec<u64>, AllocError>
+    ensures { IfOk result (λ numbers. numbers.items ≡ list_of list.now) }
 {
-    if let Some(fuse) = &plan.fuse {
-        rack.put_fuse(fuse.share()?);
+    match list {
+        Some(numbers) => numbers.clone(),
+        None => Ok(Vec::new(alloc)),
     }
+}
+
+/// Gives a rack that was made the fuse, if there is one.
+fn fuse_new_rack(rack: &mut MemoryRack, fuse: &Option<Fuse>) -> Result<(), AllocError>
+    ensures { OnOk result ((geometry : Geometry) (list : List ℕ) → IsMade geometry list false rack.old
+        → IsMade geometry list (is_some fuse.now) rack.new) }
+{
+    let Some(fuse) = fuse else {
+        return Ok(());
+    };
+    rack.put_fuse(fuse.share()?);
     Ok(())
 }
 
-/// Gives an area the plan's fuse, if there is one.
-fn fuse_area(area: &mut MemoryArea, plan: &Plan) -> Result<(), AllocError>
-    ensures told { device.told_by_memory area.new ≡ device.told_by_memory area.old }
-    ensures count { device.faults_of_memory area.new ≡ device.faults_of_memory area.old }
+/// Gives an area that was made the fuse, if there is one.
+fn fuse_new_area(area: &mut MemoryArea, fuse: &Option<Fuse>) -> Result<(), AllocError>
+    ensures { OnOk result ((bytes list : List ℕ) → IsMadeArea bytes list false area.old
+        → IsMadeArea bytes list (is_some fuse.now) area.new) }
 {
-    if let Some(fuse) = &plan.fuse {
-        area.put_fuse(fuse.share()?);
-    }
+    let Some(fuse) = fuse else {
+        return Ok(());
+    };
+    area.put_fuse(fuse.share()?);
     Ok(())
 }
 
 /// A rack for one metaslab.
-fn rack_of(alloc: Global, geometry: &Geometry, plan: &Plan) -> Result<MemoryRack, NoMemory>
+fn rack_of(
+    alloc: Global,
+    geometry: &Geometry,
+    list: &Numbers,
+    fuse: &Option<Fuse>,
+) -> Result<MemoryRack, NoMemory>
     requires { IsGeometry geometry.now }
-    ensures { IfOk result (IsMade geometry.now) }
+    ensures { IfOk result (IsMade geometry.now (list_of list.now) (is_some fuse.now)) }
 {
     let mut rack = MemoryRack::new(
         alloc,
         geometry.spec.children,
         geometry.metaslab_sectors(),
         geometry.props.sector,
-        plan.racks.clone()?,
+        numbers(alloc, list)?,
     )?;
-    fuse_rack(&mut rack, plan)?;
+    fuse_new_rack(&mut rack, fuse)?;
     Ok(rack)
 }
 
@@ -84,47 +100,56 @@ fn rack_of(alloc: Global, geometry: &Geometry, plan: &Plan) -> Result<MemoryRack
 pub(crate) fn racks_of(
     alloc: Global,
     geometry: &Geometry,
-    plan: &Plan,
+    lists: &[Numbers; 64],
+    fuse: &Option<Fuse>,
 ) -> Result<[Option<MemoryRack>; 64], NoMemory>
     requires { IsGeometry geometry.now }
-    ensures { IfOk result (AreMade geometry.now geometry.now.props.metaslabs) }
+    ensures { IfOk result (AreMade geometry.now (list_at lists.now) (is_some fuse.now) geometry.now.props.metaslabs) }
 {
     let mut racks = empty_places();
     for metaslab in 0..geometry.props.metaslabs {
-        racks[metaslab as usize] = Some(rack_of(alloc, geometry, plan)?);
+        let place = metaslab as usize;
+        racks[place] = Some(rack_of(alloc, geometry, &lists[place], fuse)?);
     }
     Ok(racks)
 }
 
 /// An area of so many zero bytes.
-pub(crate) fn area_of(alloc: Global, bytes: usize, plan: &Plan) -> Result<MemoryArea, NoMemory>
-    ensures { IfOk result (IsMadeArea (replicate bytes 0)) }
+fn area_of(
+    alloc: Global,
+    bytes: usize,
+    list: &Numbers,
+    fuse: &Option<Fuse>,
+) -> Result<MemoryArea, NoMemory>
+    ensures { IfOk result (IsMadeArea (replicate bytes 0) (list_of list.now) (is_some fuse.now)) }
 {
     let zeros = vec![in alloc; 0; bytes]?;
-    let mut area = MemoryArea::new(alloc, zeros, plan.areas.clone()?)?;
-    fuse_area(&mut area, plan)?;
+    let mut area = MemoryArea::new(alloc, zeros, numbers(alloc, list)?)?;
+    fuse_new_area(&mut area, fuse)?;
     Ok(area)
 }
 
 /// An empty area for each metaslab.
-pub(crate) fn areas_of(
+fn areas_of(
     alloc: Global,
     metaslabs: u32,
-    plan: &Plan,
+    lists: &[Numbers; 64],
+    fuse: &Option<Fuse>,
 ) -> Result<[Option<MemoryArea>; 64], NoMemory>
     requires { metaslabs < 65 }
-    ensures { IfOk result (AreEmpty metaslabs) }
+    ensures { IfOk result (AreEmpty (list_at lists.now) (is_some fuse.now) metaslabs) }
 {
     let mut areas = empty_places();
     for metaslab in 0..metaslabs {
-        areas[metaslab as usize] = Some(area_of(alloc, 0, plan)?);
+        let place = metaslab as usize;
+        areas[place] = Some(area_of(alloc, 0, &lists[place], fuse)?);
     }
     Ok(areas)
 }
 
 /// Gives each rack a crash.
-pub(crate) fn crash_racks(racks: &mut [Option<MemoryRack>; 64], rule: CrashRule)
-    ensures { CrashesRacks 64 racks.old racks.new }
+fn crash_racks(racks: &mut [Option<MemoryRack>; 64], rule: CrashRule)
+    ensures { CrashesRacks rule 64 racks.old racks.new }
 {
     for place in 0..64 {
         if let Some(rack) = &mut racks[place] {
@@ -134,8 +159,8 @@ pub(crate) fn crash_racks(racks: &mut [Option<MemoryRack>; 64], rule: CrashRule)
 }
 
 /// Gives an area a crash, if it is there.
-pub(crate) fn crash_area(area: &mut Option<MemoryArea>, rule: CrashRule)
-    ensures { CrashedArea area.old area.new }
+fn crash_area(area: &mut Option<MemoryArea>, rule: CrashRule)
+    ensures { CrashedArea rule area.old area.new }
 {
     if let Some(area) = area {
         area.crash(rule);
@@ -143,8 +168,8 @@ pub(crate) fn crash_area(area: &mut Option<MemoryArea>, rule: CrashRule)
 }
 
 /// Gives each area a crash.
-pub(crate) fn crash_areas(areas: &mut [Option<MemoryArea>; 64], rule: CrashRule)
-    ensures { CrashesAreas 64 areas.old areas.new }
+fn crash_areas(areas: &mut [Option<MemoryArea>; 64], rule: CrashRule)
+    ensures { CrashesAreas rule 64 areas.old areas.new }
 {
     for place in 0..64 {
         if let Some(area) = &mut areas[place] {
@@ -153,12 +178,10 @@ pub(crate) fn crash_areas(areas: &mut [Option<MemoryArea>; 64], rule: CrashRule)
     }
 }
 
-/// Gives each rack a fuse that they share.
-pub(crate) fn fuse_racks(
-    racks: &mut [Option<MemoryRack>; 64],
-    fuse: &Fuse,
-) -> Result<(), AllocError>
-    ensures { (m : ℕ) → held_at racks.new m ≡ held_at racks.old m }
+/// Gives each rack a fuse that they share. Where that fails, those on the first places have it.
+fn fuse_racks(racks: &mut [Option<MemoryRack>; 64], fuse: &Fuse) -> Result<(), AllocError>
+    ensures ok { OnOk result (FusesRacks 64 racks.old racks.new) }
+    ensures kept { KeepsRacks racks.old racks.new }
 {
     for place in 0..64 {
         if let Some(rack) = &mut racks[place] {
@@ -168,12 +191,21 @@ pub(crate) fn fuse_racks(
     Ok(())
 }
 
-/// Gives each area a fuse that they share.
-pub(crate) fn fuse_areas(
-    areas: &mut [Option<MemoryArea>; 64],
-    fuse: &Fuse,
-) -> Result<(), AllocError>
-    ensures { (m : ℕ) → content_of (area_at areas.new m) ≡ content_of (area_at areas.old m) }
+/// Gives an area a fuse, if it is there.
+fn fuse_area(area: &mut Option<MemoryArea>, fuse: &Fuse) -> Result<(), AllocError>
+    ensures ok { OnOk result (FusedArea area.old area.new) }
+    ensures kept { KeepsArea area.old area.new }
+{
+    if let Some(area) = area {
+        area.put_fuse(fuse.share()?);
+    }
+    Ok(())
+}
+
+/// Gives each area a fuse that they share. Where that fails, those on the first places have it.
+fn fuse_areas(areas: &mut [Option<MemoryArea>; 64], fuse: &Fuse) -> Result<(), AllocError>
+    ensures ok { OnOk result (FusesAreas 64 areas.old areas.new) }
+    ensures kept { KeepsAreas areas.old areas.new }
 {
     for place in 0..64 {
         if let Some(area) = &mut areas[place] {
@@ -181,4 +213,51 @@ pub(crate) fn fuse_areas(
         }
     }
     Ok(())
+}
+
+/// Gives all devices a fuse that they share. Where that fails, some of them have it.
+pub(crate) fn fuse_all(devices: &mut Devices, fuse: &Fuse) -> Result<(), AllocError>
+    ensures ok { OnOk result (FusesAll devices.old devices.new) }
+    ensures kept { KeepsAll devices.old devices.new }
+{
+    fuse_racks(&mut devices.racks, fuse)?;
+    fuse_areas(&mut devices.evens, fuse)?;
+    fuse_areas(&mut devices.odds, fuse)?;
+    fuse_area(&mut devices.check_even, fuse)?;
+    fuse_area(&mut devices.check_odd, fuse)?;
+    fuse_area(&mut devices.uber, fuse)
+}
+
+/// Gives all devices a crash.
+pub(crate) fn crash_all(devices: &mut Devices, rule: CrashRule)
+    ensures { CrashesAll rule devices.old devices.new }
+{
+    crash_racks(&mut devices.racks, rule);
+    crash_areas(&mut devices.evens, rule);
+    crash_areas(&mut devices.odds, rule);
+    crash_area(&mut devices.check_even, rule);
+    crash_area(&mut devices.check_odd, rule);
+    crash_area(&mut devices.uber, rule);
+}
+
+/// The devices of a new pool.
+pub(crate) fn devices_of(
+    alloc: Global,
+    geometry: &Geometry,
+    plan: &Plan,
+) -> Result<Devices, NoMemory>
+    requires { IsGeometry geometry.now }
+    ensures { IfOk result (MakesAll geometry.now (list_at plan.now.racks) (list_at plan.now.evens)
+        (list_at plan.now.odds) (list_of plan.now.check_even) (list_of plan.now.check_odd)
+        (list_of plan.now.uber) (is_some plan.now.fuse)) }
+{
+    let metaslabs = geometry.props.metaslabs;
+    Ok(Devices {
+        racks: racks_of(alloc, geometry, &plan.racks, &plan.fuse)?,
+        evens: areas_of(alloc, metaslabs, &plan.evens, &plan.fuse)?,
+        odds: areas_of(alloc, metaslabs, &plan.odds, &plan.fuse)?,
+        check_even: Some(area_of(alloc, 0, &plan.check_even, &plan.fuse)?),
+        check_odd: Some(area_of(alloc, 0, &plan.check_odd, &plan.fuse)?),
+        uber: Some(area_of(alloc, UBER, &plan.uber, &plan.fuse)?),
+    })
 }

@@ -2,7 +2,7 @@ ghost use Rattle.std.specs.Prelude.{◌≡◌, ◌<◌, ◌↔◌, ℕ, Option, 
 ghost use Rattle.draid_spec.specs.Geometry.{IsGeometry};
 ghost use Rattle.draid_rack.specs.Rack.{Shape};
 ghost use Rattle.draid_shelf.specs.Shelf.{HasLeavesOf, IsKnown, SameOthers, most_metaslabs};
-ghost use Rattle.draid_shelf.specs.Kits.{Both, CrashedHeld, Held, IsNewPool, IsUncounted, KitCounts, NeedsKit, NeedsUber, OnHeld, ShelfCounts, gives_kit, gives_uber, kit_of, takes_kit, takes_uber, uber_bytes};
+ghost use Rattle.draid_shelf.specs.Kits.{Both, CheckCounts, CrashedHeld, Held, IsNewPool, IsUncounted, KitCounts, NeedsChecks, NeedsKit, NeedsUber, OnHeld, ShelfCounts, checks_of, gives_checks, gives_kit, gives_uber, kit_of, takes_checks, takes_kit, takes_uber, uber_bytes};
 
 use crate::kit::Kit;
 use draid_area::Area;
@@ -14,7 +14,7 @@ use std::alloc::Global;
 /// How many metaslabs a shelf has places for.
 pub const METASLABS: u32 = 64;
 
-/// A shelf of devices: the area of the uberblock, and a kit for each metaslab. A pool takes them for a run, and gives
+/// A shelf of devices: the area of the uberblock, those of the check records, and a kit for each metaslab. A pool takes them for a run, and gives
 /// them back.
 pub trait Shelf {
     type R: Rack + Send;
@@ -27,8 +27,11 @@ pub trait Shelf {
     /// How often making and taking has failed. The count stands still at 2^64 - 1.
     ghost faults: { Self → ℕ };
 
-    /// How often calls on the devices of each metaslab have failed, and those on the area of the uberblock.
+    /// How often calls on the devices of each metaslab have failed, those on the areas of the check records, and those
+    /// on the area of the uberblock.
     ghost counts: { Self → ℕ → KitCounts };
+
+    ghost check_counts: { Self → CheckCounts };
 
     ghost uber_count: { Self → ℕ };
 
@@ -41,8 +44,8 @@ pub trait Shelf {
     fn has_pool(&self) -> bool
         ensures { OnHeld (told self.now) (λ held. IsTrue result ↔ IsSome held.uber) };
 
-    /// Makes the devices of a new pool: leaves of zeros, empty areas of records, and the area of the uberblock, of 1,024
-    /// zero bytes. An earlier pool is given up.
+    /// Makes the devices of a new pool: leaves of zeros, empty areas of records and of check records, and the area of the
+    /// uberblock, of 1,024 zero bytes. An earlier pool is given up, where it succeeds.
     fn make(&mut self, alloc: Global, geometry: &Geometry) -> Result<(), DeviceFault>
         requires { IsGeometry geometry.now }
         ensures told { OnOk result (OnHeld (told self.new) (IsNewPool geometry.now)) }
@@ -51,8 +54,14 @@ pub trait Shelf {
         ensures uber { OnOk result (uber_size self.new ≡ Some uber_bytes) }
         ensures counts { OnOk result
             ((m : ℕ) → m < geometry.now.props.metaslabs → IsUncounted (counts self.new m)) }
+        ensures check_counts { OnOk result (check_counts self.new ≡ record { even = 0; odd = 0 }) }
         ensures uber_count { OnOk result (uber_count self.new ≡ 0) }
         ensures err { OnErr result (told self.new ≡ told self.old) }
+        ensures err_leaves { OnErr result ((m : ℕ) → leaves self.new m ≡ leaves self.old m) }
+        ensures err_uber { OnErr result (uber_size self.new ≡ uber_size self.old) }
+        ensures err_counts { OnErr result ((m : ℕ) → counts self.new m ≡ counts self.old m) }
+        ensures err_check_counts { OnErr result (check_counts self.new ≡ check_counts self.old) }
+        ensures err_uber_count { OnErr result (uber_count self.new ≡ uber_count self.old) }
         ensures cause { ShelfCounts result (faults self.old) (faults self.new) };
 
     /// Takes the area of the uberblock.
@@ -63,8 +72,11 @@ pub trait Shelf {
         ensures count { IfOk result (λ area. Self.A.faults area ≡ uber_count self.old) }
         ensures leaves { (m : ℕ) → leaves self.new m ≡ leaves self.old m }
         ensures counts { (m : ℕ) → counts self.new m ≡ counts self.old m }
+        ensures check_counts { check_counts self.new ≡ check_counts self.old }
         ensures needs { NeedsUber result (told self.old) }
         ensures err { OnErr result (told self.new ≡ told self.old) }
+        ensures err_size { OnErr result (uber_size self.new ≡ uber_size self.old) }
+        ensures err_count { OnErr result (uber_count self.new ≡ uber_count self.old) }
         ensures cause { ShelfCounts result (faults self.old) (faults self.new) };
 
     /// Takes the devices of a metaslab, whose sectors have the geometry's length.
@@ -86,8 +98,27 @@ pub trait Shelf {
         ensures counts { SameOthers metaslab (counts self.old) (counts self.new) }
         ensures uber { uber_size self.new ≡ uber_size self.old }
         ensures uber_count { uber_count self.new ≡ uber_count self.old }
+        ensures check_counts { check_counts self.new ≡ check_counts self.old }
         ensures needs { NeedsKit metaslab result (told self.old) }
         ensures err { OnErr result (told self.new ≡ told self.old) }
+        ensures err_leaves { OnErr result (leaves self.new metaslab ≡ leaves self.old metaslab) }
+        ensures err_counts { OnErr result (counts self.new metaslab ≡ counts self.old metaslab) }
+        ensures cause { ShelfCounts result (faults self.old) (faults self.new) };
+
+    /// Takes the areas of the check records of even and of odd groups.
+    fn take_check(&mut self) -> Result<(Self::A, Self::A), DeviceFault>
+        ensures areas { IfOk result (λ areas. OnHeld (told self.old) (λ held.
+            checks_of (Self.A.told areas.0) (Self.A.told areas.1) ≡ held.checks)) }
+        ensures told { OnOk result (told self.new ≡ takes_checks (told self.old)) }
+        ensures even_count { IfOk result (λ areas. Self.A.faults areas.0 ≡ (check_counts self.old).even) }
+        ensures odd_count { IfOk result (λ areas. Self.A.faults areas.1 ≡ (check_counts self.old).odd) }
+        ensures leaves { (m : ℕ) → leaves self.new m ≡ leaves self.old m }
+        ensures counts { (m : ℕ) → counts self.new m ≡ counts self.old m }
+        ensures uber { uber_size self.new ≡ uber_size self.old }
+        ensures uber_count { uber_count self.new ≡ uber_count self.old }
+        ensures needs { NeedsChecks result (told self.old) }
+        ensures err { OnErr result (told self.new ≡ told self.old) }
+        ensures err_counts { OnErr result (check_counts self.new ≡ check_counts self.old) }
         ensures cause { ShelfCounts result (faults self.old) (faults self.new) };
 
     /// Puts the area of the uberblock back, in place of one that is held.
@@ -96,6 +127,7 @@ pub trait Shelf {
         ensures count { uber_count self.new ≡ Self.A.faults area }
         ensures leaves { (m : ℕ) → leaves self.new m ≡ leaves self.old m }
         ensures counts { (m : ℕ) → counts self.new m ≡ counts self.old m }
+        ensures check_counts { check_counts self.new ≡ check_counts self.old }
         ensures faults { faults self.new ≡ faults self.old };
 
     /// Puts the devices of a metaslab back, in place of those that are held.
@@ -111,6 +143,17 @@ pub trait Shelf {
         ensures counts { SameOthers metaslab (counts self.old) (counts self.new) }
         ensures uber { uber_size self.new ≡ uber_size self.old }
         ensures uber_count { uber_count self.new ≡ uber_count self.old }
+        ensures check_counts { check_counts self.new ≡ check_counts self.old }
+        ensures faults { faults self.new ≡ faults self.old };
+
+    /// Puts the areas of the check records back, in place of those that are held.
+    fn give_check(&mut self, even: Self::A, odd: Self::A)
+        ensures told { told self.new ≡ gives_checks (checks_of (Self.A.told even) (Self.A.told odd)) (told self.old) }
+        ensures counts { check_counts self.new ≡ record { even = Self.A.faults even; odd = Self.A.faults odd } }
+        ensures leaves { (m : ℕ) → leaves self.new m ≡ leaves self.old m }
+        ensures kits { (m : ℕ) → counts self.new m ≡ counts self.old m }
+        ensures uber { uber_size self.new ≡ uber_size self.old }
+        ensures uber_count { uber_count self.new ≡ uber_count self.old }
         ensures faults { faults self.new ≡ faults self.old };
 
     /// Gives all that is held a crash.
@@ -118,6 +161,7 @@ pub trait Shelf {
         ensures told { Both CrashedHeld (told self.old) (told self.new) }
         ensures leaves { (m : ℕ) → leaves self.new m ≡ leaves self.old m }
         ensures counts { (m : ℕ) → counts self.new m ≡ counts self.old m }
+        ensures check_counts { check_counts self.new ≡ check_counts self.old }
         ensures uber_count { uber_count self.new ≡ uber_count self.old }
         ensures faults { faults self.new ≡ faults self.old };
 }

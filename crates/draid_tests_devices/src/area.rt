@@ -112,21 +112,23 @@ fn a_crash_leaves_the_length_by_its_rule(rt: HostRuntime) -> Result<(), Fail> {
     Ok(())
 }
 
-/// What two writes of a half and a read answer behind a fuse of two calls, and a read after the crash.
-fn behind_a_fuse(alloc: Global) -> Result<([Written; 2], [Read; 2]), Fail> {
+/// What two writes of a half and a read answer behind a fuse of two calls, and a read after a crash by this rule.
+fn behind_a_fuse(alloc: Global, rule: CrashRule) -> Result<([Written; 2], [Read; 2]), Fail> {
     let mut area = zeros(alloc, Vec::new(alloc))?;
     area.put_fuse(Fuse::new(alloc, 2)?);
     let first = write_half(&mut area, 0, &[1; 512]);
     let second = write_half(&mut area, 0, &[2; 512]);
     let blown = read(&mut area, 0);
-    area.crash(CrashRule::New);
+    area.crash(rule);
     Ok(([first, second], [blown, read_some(&mut area, 0)]))
 }
 
 #[test]
 fn a_fuse_lets_just_its_calls_pass(rt: HostRuntime) -> Result<(), Fail> {
     let failed = DeviceFault::Failed;
-    let answers = ([Ok(()), Err(failed)], [Err(failed), Ok([1; 4])]);
-    assert_eq!(rt; behind_a_fuse(rt.alloc())?, answers);
+    for (rule, left) in [(CrashRule::New, 1), (CrashRule::Torn, 254)] {
+        let answers = ([Ok(()), Err(failed)], [Err(failed), Ok([left; 4])]);
+        assert_eq!(rt; behind_a_fuse(rt.alloc(), rule)?, answers);
+    }
     Ok(())
 }

@@ -1,11 +1,12 @@
 ghost use Rattle.std.specs.Prelude.{◌≡◌, ◌<◌, IfOk};
+ghost use Rattle.draid_shelf.specs.Failing.{IsPlace};
 ghost use Rattle.draid_spec.specs.Geometry.{IsGeometry};
 
 use draid_area::Area;
 use draid_faults::CrashRule;
 use draid_names::Failed;
 use draid_rack::Rack;
-use draid_shelf::{MemoryShelf, RackShelf, Shelf};
+use draid_shelf::{MemoryShelf, Place, RackShelf, Shelf};
 use draid_spec::{Geometry, Props, Spec, geometry};
 use std::alloc::Global;
 use std::test::Fail;
@@ -55,12 +56,12 @@ fn read<R: Rack>(rack: &mut R, sector: u64) -> Result<u8, Failed>
     Ok(bytes[0])
 }
 
-/// A shelf of which these calls fail: of each rack, of those that make or take devices, and of each area.
-fn shelf_failing(alloc: Global, failing: [&[u64]; 3]) -> Result<MemoryShelf, Fail> {
-    let [racks, own, areas] = failing;
-    let mut shelf = MemoryShelf::new(alloc, Vec::from_slice(alloc, racks)?);
-    let own = Vec::from_slice(alloc, own)?;
-    shelf.fail(own, Vec::from_slice(alloc, areas)?);
+/// A shelf of which the calls with these numbers fail at one place.
+fn shelf_failing(alloc: Global, place: Place, calls: &[u64]) -> Result<MemoryShelf, Fail>
+    requires { IsPlace place }
+{
+    let mut shelf = MemoryShelf::new(alloc, CrashRule::New);
+    shelf.fail(place, Vec::from_slice(alloc, calls)?);
     Ok(shelf)
 }
 
@@ -79,7 +80,7 @@ fn has_racks<H: RackShelf>(shelf: &mut H) -> [bool; 2] {
 
 #[test]
 fn racks_alone_are_given_and_taken(rt: HostRuntime) -> Result<(), Fail> {
-    let mut shelf = shelf_failing(rt.alloc(), [&[]; 3])?;
+    let mut shelf = MemoryShelf::new(rt.alloc(), CrashRule::Old);
     RackShelf::make(&mut shelf, rt.alloc(), &small_geometry()?)?;
     let seen = use_rack(&mut shelf)?;
     assert_eq!(rt;
@@ -131,7 +132,7 @@ fn left_by(
     requires geometry { IsGeometry geometry.now }
     requires sector { geometry.now.props.sector ≡ 512 }
 {
-    let mut shelf = shelf_failing(alloc, [&[]; 3])?;
+    let mut shelf = MemoryShelf::new(alloc, CrashRule::Torn);
     let before = shelf.has_pool();
     shelf.crash_by(rule);
     Shelf::make(&mut shelf, alloc, geometry)?;
@@ -174,7 +175,7 @@ fn flush_both<H: Shelf>(shelf: &mut H, geometry: &Geometry) -> Result<[bool; 4],
 fn fused(alloc: Global, geometry: &Geometry) -> Result<[[bool; 4]; 2], Fail>
     requires { IsGeometry geometry.now }
 {
-    let mut shelf = shelf_failing(alloc, [&[]; 3])?;
+    let mut shelf = MemoryShelf::new(alloc, CrashRule::New);
     Shelf::make(&mut shelf, alloc, geometry)?;
     shelf.put_fuse(alloc, 3)?;
     let behind = flush_both(&mut shelf, geometry)?;
@@ -205,31 +206,92 @@ fn made_and_taken<H: Shelf>(shelf: &mut H, alloc: Global, geometry: &Geometry) -
 #[test]
 fn the_shelf_fails_by_its_list_and_for_what_it_does_not_hold(rt: HostRuntime) -> Result<(), Fail> {
     let geometry = small_geometry()?;
-    let mut shelf = shelf_failing(rt.alloc(), [&[], &[0, 2], &[]])?;
+    let mut shelf = shelf_failing(rt.alloc(), Place::Own, &[0, 2])?;
     let done = made_and_taken(&mut shelf, rt.alloc(), &geometry);
     assert_eq!(rt; done, [false, true, false, true, false]);
     Ok(())
 }
 
-/// Flushes leaf 0 and a record of metaslab 0 twice each; which of these calls failed.
-fn flush_twice<H: Shelf>(shelf: &mut H, geometry: &Geometry) -> Result<[bool; 4], Fail> {
+/// Flushes leaf 0 and the records of metaslab 0, the check records and the uberblock; which of these calls failed.
+fn flush_all<H: Shelf>(shelf: &mut H, geometry: &Geometry) -> Result<[bool; 6], Fail> {
+    let mut uber = shelf.take_uber()?;
+    let (mut check_even, mut check_odd) = shelf.take_check()?;
     let mut kit = shelf.take(0, geometry)?;
     let failed = [
         flush(&mut kit.rack).is_err(),
         kit.even.flush().is_err(),
-        flush(&mut kit.rack).is_err(),
-        kit.even.flush().is_err(),
+        kit.odd.flush().is_err(),
+        check_even.flush().is_err(),
+        check_odd.flush().is_err(),
+        uber.flush().is_err(),
     ];
     shelf.give(0, kit);
+    shelf.give_check(check_even, check_odd);
+    shelf.give_uber(uber);
     Ok(failed)
 }
 
+/// Which of these calls failed, and which of them when made again, where the first one at this place fails.
+fn failed_at(alloc: Global, geometry: &Geometry, place: Place) -> Result<[[bool; 6]; 2], Fail>
+    requires geometry { IsGeometry geometry.now }
+    requires place { IsPlace place }
+{
+    let mut shelf = shelf_failing(alloc, place, &[0])?;
+    Shelf::make(&mut shelf, alloc, geometry)?;
+    let first = flush_all(&mut shelf, geometry)?;
+    Ok([first, flush_all(&mut shelf, geometry)?])
+}
+
+/// The same for each place, and for one of another metaslab.
+fn failed_at_each(alloc: Global, geometry: &Geometry) -> Result<[[[bool; 6]; 2]; 7], Fail>
+    requires { IsGeometry geometry.now }
+{
+    Ok([
+        failed_at(alloc, geometry, Place::Rack(0))?,
+        failed_at(alloc, geometry, Place::Even(0))?,
+        failed_at(alloc, geometry, Place::Odd(0))?,
+        failed_at(alloc, geometry, Place::CheckEven)?,
+        failed_at(alloc, geometry, Place::CheckOdd)?,
+        failed_at(alloc, geometry, Place::Uber)?,
+        failed_at(alloc, geometry, Place::Even(1))?,
+    ])
+}
+
 #[test]
-fn the_devices_fail_by_their_lists(rt: HostRuntime) -> Result<(), Fail> {
+fn each_place_fails_by_its_own_list(rt: HostRuntime) -> Result<(), Fail> {
+    let mut wanted = [[[false; 6]; 2]; 7];
+    for place in 0..6 {
+        wanted[place][0][place] = true;
+    }
+    assert_eq!(rt; failed_at_each(rt.alloc(), &small_geometry()?)?, wanted);
+    Ok(())
+}
+
+/// Writes a check record that isn't flushed, gives the areas a crash, and answers how long they are then, and whether
+/// they are there a second time.
+fn checks_left(
+    alloc: Global,
+    geometry: &Geometry,
+    rule: CrashRule,
+) -> Result<([u64; 2], bool), Fail>
+    requires { IsGeometry geometry.now }
+{
+    let mut shelf = MemoryShelf::new(alloc, rule);
+    Shelf::make(&mut shelf, alloc, geometry)?;
+    let (even, mut odd) = shelf.take_check()?;
+    odd.write(0, &[1, 2, 3])?;
+    shelf.give_check(even, odd);
+    shelf.crash();
+    let (even, odd) = shelf.take_check()?;
+    Ok(([even.length(), odd.length()], shelf.take_check().is_ok()))
+}
+
+#[test]
+fn check_records_are_given_taken_and_crash(rt: HostRuntime) -> Result<(), Fail> {
     let geometry = small_geometry()?;
-    let mut shelf = shelf_failing(rt.alloc(), [&[0], &[], &[1]])?;
-    Shelf::make(&mut shelf, rt.alloc(), &geometry)?;
-    let failed = flush_twice(&mut shelf, &geometry)?;
-    assert_eq!(rt; failed, [true, false, false, true]);
+    for (rule, odd) in [(CrashRule::Old, 0), (CrashRule::New, 3)] {
+        let left = checks_left(rt.alloc(), &geometry, rule)?;
+        assert_eq!(rt; left, ([0, odd], false));
+    }
     Ok(())
 }

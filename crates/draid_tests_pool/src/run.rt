@@ -5,7 +5,7 @@ use draid_choose::{Chooser, first_fit};
 use draid_lines::{MemorySink, MemorySource};
 use draid_names::Room;
 use draid_run::{Status, run};
-use draid_shelf::MemoryShelf;
+use draid_shelf::{CrashRule, MemoryShelf, Place};
 use std::alloc::{AllocError, Global};
 use std::test::Fail;
 use std::thread::Threads;
@@ -57,7 +57,10 @@ fn run_chosen<R: AllocGlobal + Threads + Sync, F: Fn(&[Room]) -> Option<u32>>(
 {
     let alloc = rt.alloc();
     let words = vec![in alloc; String::from_str(alloc, word)?]?;
-    let mut shelf = MemoryShelf::new(alloc, Vec::from_slice(alloc, failing.rack)?);
+    let mut shelf = MemoryShelf::new(alloc, CrashRule::New);
+    for metaslab in 0..64 {
+        shelf.fail(Place::Rack(metaslab), Vec::from_slice(alloc, failing.rack)?);
+    }
     let mut source = MemorySource::new(script, Vec::from_slice(alloc, failing.source)?);
     let mut sink = MemorySink::new(alloc, Vec::from_slice(alloc, failing.sink)?);
     let status = run(rt, &words, &mut shelf, &mut source, &mut sink, chooser);

@@ -1,5 +1,6 @@
-use Rattle.draid_shelf.specs.Memory.{AreMade}
+use Rattle.std.specs.Prelude.{is_some}
+use Rattle.draid_shelf.specs.Memory.{AreMade, list_at}
 use Rattle.draid_shelf.proofs.places.racks_of.Given as goal
 
 abbrev pub invariant-loop-metaslab : goal.invariant-loop-metaslab
-invariant-loop-metaslab l = AreMade l.geometry l.metaslab l.racks
+invariant-loop-metaslab l = AreMade l.geometry (list_at l.lists) (is_some l.fuse) l.metaslab l.racks

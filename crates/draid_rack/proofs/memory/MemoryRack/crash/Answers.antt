@@ -12,7 +12,7 @@ invariant_of-self c = record {
 }
 
 pub returns-clause-told : goal.returns-clause-told
-returns-clause-told c = is_outcome _ _ _ _ c.args.self.now.leaves c.crash_leaves.new.leaves c.args.self.now.whole c.crash_leaves.ensures
+returns-clause-told c = is_outcome _ _ _ c.args.self.now.leaves c.crash_leaves.new.leaves c.args.self.now.whole c.crash_leaves.ensures
 
 pub returns-clause-exact : goal.returns-clause-exact
 returns-clause-exact c = λ l s. ap bytes_of (c.crash_leaves.ensures.views l s) ∙ leaves_by_rule _ _

@@ -1,4 +1,6 @@
-use Rattle.draid_rack.specs.Leaves.{told_of, view_at}
+use Rattle.std.proofs.Common.{arith, ap, ◌≤◌}
+use Rattle.draid_rack.proofs.Counted.{on_err}
+use Rattle.draid_rack.specs.Leaves.{faults_in, leaf_at, told_of, view_at}
 use Rattle.draid_rack.specs.Rack.{adds}
 use Rattle.draid_rack.proofs.Sound.{long_added, long_kept, tick_later, up_to_added, up_to_kept}
 use Rattle.draid_rack.proofs.Tells.{shape_added, told_added}
@@ -30,3 +32,9 @@ returns-clause-shape c =
 
 pub returns-clause-moments : goal.returns-clause-moments
 returns-clause-moments c = elapsed_change (adds c.args.self.now.bytes c.args.leaf c.args.sectors) (goes_adds c.args.self.now.bytes c.args.leaf c.args.sectors) (told_of (view_at c.args.self.now.leaves) c.args.self.now.clock) _ (returns-clause-ok c)
+
+pub returns-in_err-insert_leaf-clause-kept : goal.returns-in_err-insert_leaf-clause-kept
+returns-in_err-insert_leaf-clause-kept c =
+    let same = ap (λ o. faults_in o) (c.in_err-insert_leaf.ensures.err c.args.leaf) in
+    let kept : faults_in (leaf_at c.args.self.now.leaves c.args.leaf) ≤ faults_in (leaf_at c.insert_leaf.new.leaves c.args.leaf) = omega (arith, same) in
+    on_err c.from_residual-in_err-insert_leaf.result _ kept

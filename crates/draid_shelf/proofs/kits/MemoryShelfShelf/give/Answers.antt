@@ -4,7 +4,7 @@ use Rattle.draid_shelf.proofs.Holdings.{held_set, set_here}
 use Rattle.draid_shelf.proofs.kits.MemoryShelfShelf.give.Goals as goal
 
 pub returns-clause-told : goal.returns-clause-told
-returns-clause-told c = held_set c.args.metaslab (Some c.args.kit.rack) (Some c.args.kit.even) (Some c.args.kit.odd) c.args.self.now.devices _ c.put_on.ensures c.put_on-2.ensures c.put_on-3.ensures refl
+returns-clause-told c = held_set c.args.metaslab (Some c.args.kit.rack) (Some c.args.kit.even) (Some c.args.kit.odd) c.args.self.now.devices _ c.put_on.ensures c.put_on-2.ensures c.put_on-3.ensures refl refl refl
 
 pub returns-clause-rack_count : goal.returns-clause-rack_count
 returns-clause-rack_count c = λ who. ap (λ x. counts_by x who) (set_here _ _ (Some c.args.kit.rack) c.args.metaslab (c.put_on.ensures c.args.metaslab))
