@@ -1,4 +1,4 @@
-use Rattle.std.proofs.Common.{◌≡◌, ℕ, List, Result, Ok, Err, sym, ap, subst, ◌∙◌}
+use Rattle.std.proofs.Common.{◌≡◌, ℕ, List, Result, Ok, Err, ap, subst, ◌∙◌}
 use Rattle.std.proofs.lemmas.Result.{err_from_is_err_and}
 use Rattle.draid_names.specs.declared.numbers.TheConstants.{LAST_NUMBER}
 use Rattle.draid_spec.specs.declared.layout.Props.{Props}
@@ -6,7 +6,6 @@ use Rattle.draid_spec.specs.declared.spec.Spec.{Spec}
 use Rattle.draid_record.specs.declared.fault.Fault.{Fault}
 use Rattle.draid_record.specs.declared.fault.ReadError.TheVariants as errors
 use Rattle.draid_record.specs.declared.uber.UberBody.{UberBody}
-use Rattle.draid_record.specs.Grammar.{Done}
 use Rattle.draid_record.specs.Reading.{number_at, read, then_read}
 use Rattle.draid_record.specs.Uber as grammar
 use Rattle.draid_record.specs.Uber.{uber}
