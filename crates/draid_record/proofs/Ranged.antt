@@ -6,6 +6,7 @@ use Rattle.std.proofs.lemmas.Bool.Decides.{nat_tests}
 use Rattle.std.proofs.lemmas.List.{append-nil}
 use Rattle.std.proofs.lemmas.List.Concat.{flat_map-cons}
 use Rattle.byteorder.specs.Endian.{big_bytes}
+use Rattle.draid_names.specs.Numbers.{most_held}
 use Rattle.draid_names.specs.declared.arm.ArmAt.{ArmAt}
 use Rattle.draid_names.specs.declared.arm.ArmKind.{ArmKind}
 use Rattle.draid_names.specs.declared.arm.ArmKind.TheVariants as arms
@@ -18,7 +19,7 @@ use Rattle.draid_record.specs.Grammar.{Grammar, Done, ◌>>=◌, Spells, many}
 use Rattle.draid_record.specs.Ranges.{AreArms, AreBlocks, AreRuns, AreSlots, AreTargets, IsArm, IsBlock, IsPass, IsPassOrNone, IsRanged, IsSlot, least_running}
 use Rattle.draid_record.specs.Record as spec
 use Rattle.draid_record.specs.Record.{ArmTold, PassTold, RecordTold}
-use Rattle.draid_record.specs.Written.{arm_bytes, bit, block_bytes, blocks_bytes, body_bytes, code_of, flags_of, log_bytes, pass_bytes, pass_code, run_bytes, slot_bytes, space_bytes, spaces_bytes, target_bytes}
+use Rattle.draid_record.specs.Written.{IsRecord, arm_bytes, bit, block_bytes, blocks_bytes, body_bytes, code_of, flags_of, log_bytes, pass_bytes, pass_code, run_bytes, slot_bytes, space_bytes, spaces_bytes, target_bytes}
 use Rattle.draid_record.proofs.Laws.{spells_then}
 
 -- each item is spelled, by the state that those before it led to
@@ -394,24 +395,31 @@ last_spelled : (last : ℕ) → last < 2 ^ 48 → Spells spec.last_pass (big_byt
 unfolding Spells
 last_spelled last small = (last, [], refl, omega arith, omega arith, omega arith, (refl, refl))
 
-blocks_are_spelled : (limits : Limits) (list : List Pointer) → length list ≤ 4096 → EachSpells (spec.block limits) spec.end_of block_bytes 0 list → Spells (spec.blocks limits) (blocks_bytes list) list
+few_held : (version : ℕ) → most_held version ≤ 8192
+few_held version = grind (arith, nat_tests)
+
+blocks_are_spelled : (limits : Limits) (list : List Pointer) → length list ≤ most_held limits.version → EachSpells (spec.block limits) spec.end_of block_bytes 0 list → Spells (spec.blocks limits) (blocks_bytes list) list
 unfolding Spells
 blocks_are_spelled limits list few each =
-    (length list, flat_map block_bytes list, refl, omega arith, omega arith, few, many_spelled (spec.block limits) spec.end_of block_bytes 0 list each)
+    (length list, flat_map block_bytes list, refl, omega (arith, few, few_held limits.version), omega arith, few, many_spelled (spec.block limits) spec.end_of block_bytes 0 list each)
 
-end_spelled : (limits : Limits) (value : RecordTold) → value.metaslab ≡ limits.metaslab → value.group ≡ limits.group
+end_spelled : (limits : Limits) (value : RecordTold) → value.version ≡ limits.version → value.metaslab ≡ limits.metaslab → value.group ≡ limits.group
     → Spells (spec.behind_blocks limits value.slots value.last_pass value.pass (spec.spaces_of value.blocks) value.blocks) [] value
 unfolding Spells
-end_spelled limits value m g = (
+end_spelled limits value v m g = (
   same_self (spec.spaces_of value.blocks),
-  (refl, ap₂ (λ a b. record { metaslab = a; group = b; slots = value.slots; last_pass = value.last_pass; pass = value.pass; blocks = value.blocks }) m g),
+  (
+    refl,
+    ap₂ (λ a b. record { version = value.version; metaslab = a; group = b; slots = value.slots; last_pass = value.last_pass; pass = value.pass; blocks = value.blocks }) m g
+        ∙ ap (λ n. record { version = n; metaslab = limits.metaslab; group = limits.group; slots = value.slots; last_pass = value.last_pass; pass = value.pass; blocks = value.blocks }) v,
+  ),
 )
 
 joined6 : (h s l p r b : List ℕ) → ((((h ++ s) ++ l) ++ p) ++ r) ++ b ≡ h ++ (s ++ (l ++ (p ++ (r ++ b))))
 joined6 h s l p r b = simp append_assoc
 
-pub ranged_spelled : (limits : Limits) (value : RecordTold) → IsRanged limits value → Spells (spec.body limits) (body_bytes value) value
-ranged_spelled limits value is =
+body_spelled : (limits : Limits) (value : RecordTold) → IsRanged limits value → Spells (spec.body limits) (body_bytes value) value
+body_spelled limits value is =
     let S = value.slots in
     let la = value.last_pass in
     let P = value.pass in
@@ -425,7 +433,7 @@ ranged_spelled limits value is =
     let BB = blocks_bytes bs in
     let M : ℕ → Type 0 = λ n. Spells (many n (spec.slot limits) spec.with_last []) SB S in
     let slots : Spells (spec.slots limits) SB S = subst M is.children_are (many_spelled (spec.slot limits) spec.with_last slot_bytes [] S (slots_spelled limits [] S is.slots_are)) in
-    let e7 = end_spelled limits value is.metaslab_is is.group_is in
+    let e7 = end_spelled limits value is.version_is is.metaslab_is is.group_is in
     let e6 = spells_then (spec.blocks limits) (λ list. spec.behind_blocks limits S la P R list) BB [] bs value
     (blocks_are_spelled limits bs is.few (blocks_spelled limits 0 bs is.stripes_small is.group_small is.blocks_are)) e7 in
     let e5 = spells_then spec.spaces (λ runs. spec.behind_spaces limits S la P runs) RB (BB ++ []) R value (spaces_spelled R is.few_spaces (spaces_small limits bs is.stripes_small is.blocks_are)) e6 in
@@ -440,3 +448,6 @@ ranged_spelled limits value is =
     let A : ℕ → Type 0 = λ m. Spells (spec.body limits) (((((((big_bytes 2 m ++ big_bytes 8 limits.group) ++ big_bytes 2 limits.children) ++ SB) ++ LB) ++ PB) ++ RB) ++ BB) value in
     subst N (sym is.children_are) (subst G (sym is.group_is) (subst A (sym is.metaslab_is)
     (subst B (ap (λ b. H ++ (SB ++ (LB ++ (PB ++ (RB ++ b))))) (append-nil BB) ∙ sym (joined6 H SB LB PB RB BB)) e1)))
+
+pub ranged_spelled : (limits : Limits) (value : RecordTold) → IsRanged limits value → IsRecord limits value
+ranged_spelled limits value is = record { version_is = is.version_is; version_small = is.version_small; fields_are = body_spelled limits value is }

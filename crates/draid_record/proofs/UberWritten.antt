@@ -3,6 +3,7 @@ use Rattle.std.proofs.Common.{◌≡◌, ℕ, ◌%◌, ◌≤◌, true, List, []
 use Rattle.std.specs.Prelude.{◌==◌, ◌||◌}
 use Rattle.std.proofs.lemmas.Bool.Decides.{nat_tests}
 use Rattle.byteorder.specs.Endian.{big_bytes}
+use Rattle.draid_spec.specs.Spec.{most_children}
 use Rattle.draid_record.specs.declared.uber.UberBody.{UberBody}
 use Rattle.draid_record.specs.Grammar.{Spells}
 use Rattle.draid_record.specs.Uber.{IsUber, is_wide, uber}
@@ -20,7 +21,7 @@ abbrev pub spec_fields : UberBody → List (ℕ × ℕ)
 spec_fields body = (1, body.spec.parity) ∷ (1, body.spec.ndata) ∷ (1, body.spec.children) ∷ (1, body.spec.spares) ∷ props_fields body
 
 abbrev pub uber_fields : UberBody → List (ℕ × ℕ)
-uber_fields body = (1, 90) ∷ (4, 1146770754) ∷ (2, 1) ∷ (8, body.group) ∷ spec_fields body
+uber_fields body = (1, 90) ∷ (4, 1146770754) ∷ (2, body.props.version) ∷ (8, body.group) ∷ spec_fields body
 
 pub uber_spelled : (body : UberBody) → IsUber body → Spells (uber (body.group % 2)) (fields_bytes (uber_fields body)) body
 unfolding Spells uber
@@ -28,7 +29,8 @@ uber_spelled body is =
     let s = is.spec_is in
     let p = is.props_are in
     let wide = is.wide in
-    let most_children = s.most_children in
+    let most = s.most_children in
+    let first = s.first_children in
     let some_children = s.some_children in
     let group_above = is.group_above in
     let group_below = is.group_below in
@@ -38,24 +40,30 @@ uber_spelled body is =
       | inl is ↦ (omega arith, omega arith, grind (arith, nat_tests))
       | inr is ↦ (omega arith, omega arith, grind (arith, nat_tests))
     ] in
+    let version : (1 ≤ body.props.version) × (body.props.version ≤ 2) × (body.spec.children ≤ most_children body.props.version) = elim is.version_is [
+      | inl is ↦ (omega arith, omega arith, grind (arith, nat_tests))
+      | inr is ↦ (omega arith, omega arith, grind (arith, nat_tests))
+    ] in
+    let version_above = version.0 in
+    let version_below = version.1 in
     let seed = is.seed_below in
     let leaf_above = is.leaf_above in
     let leaf_below = is.leaf_below in (
       90,
-      fields_bytes ((4, 1146770754) ∷ (2, 1) ∷ (8, body.group) ∷ (1, body.spec.parity) ∷ (1, body.spec.ndata) ∷ (1, body.spec.children) ∷ (1, body.spec.spares) ∷ (4, body.props.sector) ∷ (4, body.props.height) ∷ (4, body.props.metaslabs) ∷ (4, body.props.slices) ∷ (8, body.props.seed) ∷ (8, body.next_leaf) ∷ []),
+      fields_bytes ((4, 1146770754) ∷ (2, body.props.version) ∷ (8, body.group) ∷ (1, body.spec.parity) ∷ (1, body.spec.ndata) ∷ (1, body.spec.children) ∷ (1, body.spec.spares) ∷ (4, body.props.sector) ∷ (4, body.props.height) ∷ (4, body.props.metaslabs) ∷ (4, body.props.slices) ∷ (8, body.props.seed) ∷ (8, body.next_leaf) ∷ []),
       refl,
       omega arith,
       omega arith,
       omega arith,
       (
         1146770754,
-        fields_bytes ((2, 1) ∷ (8, body.group) ∷ (1, body.spec.parity) ∷ (1, body.spec.ndata) ∷ (1, body.spec.children) ∷ (1, body.spec.spares) ∷ (4, body.props.sector) ∷ (4, body.props.height) ∷ (4, body.props.metaslabs) ∷ (4, body.props.slices) ∷ (8, body.props.seed) ∷ (8, body.next_leaf) ∷ []),
+        fields_bytes ((2, body.props.version) ∷ (8, body.group) ∷ (1, body.spec.parity) ∷ (1, body.spec.ndata) ∷ (1, body.spec.children) ∷ (1, body.spec.spares) ∷ (4, body.props.sector) ∷ (4, body.props.height) ∷ (4, body.props.metaslabs) ∷ (4, body.props.slices) ∷ (8, body.props.seed) ∷ (8, body.next_leaf) ∷ []),
         refl,
         omega arith,
         omega arith,
         omega arith,
         (
-          1,
+          body.props.version,
           fields_bytes ((8, body.group) ∷ (1, body.spec.parity) ∷ (1, body.spec.ndata) ∷ (1, body.spec.children) ∷ (1, body.spec.spares) ∷ (4, body.props.sector) ∷ (4, body.props.height) ∷ (4, body.props.metaslabs) ∷ (4, body.props.slices) ∷ (8, body.props.seed) ∷ (8, body.next_leaf) ∷ []),
           refl,
           omega arith,
@@ -90,7 +98,7 @@ uber_spelled body is =
                     refl,
                     omega arith,
                     omega arith,
-                    omega arith,
+                    version.2,
                     (
                       body.spec.spares,
                       fields_bytes ((4, body.props.sector) ∷ (4, body.props.height) ∷ (4, body.props.metaslabs) ∷ (4, body.props.slices) ∷ (8, body.props.seed) ∷ (8, body.next_leaf) ∷ []),

@@ -32,9 +32,9 @@ record IsFront (area len : ℕ) (bytes : List ℕ) : Type 0 where
   least : 10 ≤ len
   most : len ≤ area
 
-front_is : (area len : ℕ) (bytes : List ℕ) → Spells (front area) bytes len → IsFront area len bytes
+front_is : (limits : Limits) (area len : ℕ) (bytes : List ℕ) → Spells (front limits area) bytes len → IsFront area len bytes
 unfolding Spells
-front_is area len bytes is =
+front_is limits area len bytes is =
     let a = is.2 in
     let b = is.6.2 in
     let c = is.6.6.2 in
@@ -61,12 +61,12 @@ front_is area len bytes is =
 
 pub whole_only : (limits : Limits) (area : List ℕ) (value : RecordTold) → Spelled limits area value → record_of limits area ≡ Ok value
 whole_only limits area value is =
-    let f = front_is (length area) is.len is.head_bytes is.front_is in
+    let f = front_is limits (length area) is.len is.head_bytes is.front_is in
     let ten = f.ten in
     let whole = is.whole in
     let long : length is.text_bytes ≡ is.len - 10 = omega arith in
-    ap (λ a. fronted limits (length area) (read (front (length area)) a)) is.parts
-    ∙ ap (fronted limits (length area)) (read_again (front (length area)) is.head_bytes (is.text_bytes ++ is.more) is.len is.front_is)
+    ap (λ a. fronted limits (length area) (read (front limits (length area)) a)) is.parts
+    ∙ ap (fronted limits (length area)) (read_again (front limits (length area)) is.head_bytes (is.text_bytes ++ is.more) is.len is.front_is)
     ∙ ap (λ text. ended is.len (read (body limits) text)) (take_at is.text_bytes is.more (is.len - 10) long)
     ∙ ap (λ text. ended is.len (read (body limits) text)) (sym (append-nil is.text_bytes))
     ∙ ap (ended is.len) (read_again (body limits) is.text_bytes [] value is.fields_are)
@@ -80,13 +80,13 @@ same_value x y e = cc
 
 pub whole_found : (limits : Limits) (area : List ℕ) (value : RecordTold) → IsBytes area → record_of limits area ≡ Ok value → Spelled limits area value
 unfolding done
-whole_found limits area value fits is = at_front (read (front (length area)) area) refl is
+whole_found limits area value fits is = at_front (read (front limits (length area)) area) refl is
   where
-    at_body : (len : ℕ) (rest : List ℕ) → Takes (front (length area)) area rest len → (r : Result (RecordTold × List ℕ) Fault) → read (body limits) (take (len - 10) rest) ≡ r → ended len r ≡ Ok value → Spelled limits area value
+    at_body : (len : ℕ) (rest : List ℕ) → Takes (front limits (length area)) area rest len → (r : Result (RecordTold × List ℕ) Fault) → read (body limits) (take (len - 10) rest) ≡ r → ended len r ≡ Ok value → Spelled limits area value
     at_body len rest t (Err f) e h = absurd cc
     at_body len rest t (Ok (v, byte ∷ left)) e h = absurd cc
     at_body len rest t (Ok (v, [])) e h =
-        let f = front_is (length area) len t.front t.spelled in
+        let f = front_is limits (length area) len t.front t.spelled in
         let ten = f.ten in
         let least = f.least in
         let most = f.most in
@@ -105,9 +105,9 @@ whole_found limits area value fits is = at_front (read (front (length area)) are
           fields_are = subst (λ (x : RecordTold). Spells (body limits) b.front x) (same_value v value h) b.spelled;
         }
 
-    at_front : (r : Result (ℕ × List ℕ) Fault) → read (front (length area)) area ≡ r → fronted limits (length area) r ≡ Ok value → Spelled limits area value
+    at_front : (r : Result (ℕ × List ℕ) Fault) → read (front limits (length area)) area ≡ r → fronted limits (length area) r ≡ Ok value → Spelled limits area value
     at_front (Err f) e h = absurd cc
-    at_front (Ok x) e h = at_body x.0 x.1 (read_takes (front (length area)) area x fits e) (read (body limits) (take (x.0 - 10) x.1)) refl h
+    at_front (Ok x) e h = at_body x.0 x.1 (read_takes (front limits (length area)) area x fits e) (read (body limits) (take (x.0 - 10) x.1)) refl h
 
 pub is_spelled : (limits : Limits) (area : List ℕ) (result : Result Record RecordFault) → IsBytes area → Answers result (record_of limits area) → IfOk result (λ it. Spelled limits area (told_record it))
 is_spelled limits area (Ok it) fits is = whole_found limits area (told_record it) fits is

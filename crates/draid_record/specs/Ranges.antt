@@ -90,6 +90,8 @@ AreBlocks limits low (b ∷ rest) = IsBlock limits low b × AreBlocks limits (b.
 
 -- a value in the ranges of a record
 pub record IsRanged (limits : Limits) (value : RecordTold) : Type 0 where
+  pub version_is : value.version ≡ limits.version
+  pub version_small : value.version < 2 ^ 16
   pub metaslab_is : value.metaslab ≡ limits.metaslab
   pub metaslab_small : limits.metaslab < 2 ^ 16
   pub group_is : value.group ≡ limits.group
@@ -101,5 +103,5 @@ pub record IsRanged (limits : Limits) (value : RecordTold) : Type 0 where
   pub pass_is : IsPassOrNone limits value.slots value.pass
   pub stripes_small : limits.stripes ≤ NUMBERS
   pub blocks_are : AreBlocks limits 0 value.blocks
-  pub few : length value.blocks ≤ most_held 1
+  pub few : length value.blocks ≤ most_held limits.version
   pub few_spaces : length (spaces_of value.blocks) < 2 ^ 32

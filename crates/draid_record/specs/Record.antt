@@ -216,7 +216,7 @@ blocks_of limits count = many count (block limits) end_of 0
 
 -- the blocks behind their number
 abbrev pub blocks : Limits → Grammar (List Pointer)
-blocks limits = number 4 0 (most_held 1) >>= λ count. blocks_of limits count
+blocks limits = number 4 0 (most_held limits.version) >>= λ count. blocks_of limits count
 
 -- the runs of blocks of which the first begin at `first` and lie one behind the other up to a stripe
 abbrev pub spaces_from : ℕ → ℕ → List Pointer → List Run
@@ -240,6 +240,7 @@ same_runs (a ∷ as_) [] = false
 
 -- a record without what holds it in memory
 pub record RecordTold : Type 0 where
+  pub version : ℕ
   pub metaslab : ℕ
   pub group : ℕ
   pub slots : List (List ArmTold)
@@ -262,7 +263,7 @@ last_pass = number 8 0 LAST_NUMBER >>= λ last. Done last
 abbrev pub behind_blocks : Limits → List (List ArmTold) → ℕ → Option PassTold → List Run → List Pointer → Grammar RecordTold
 behind_blocks limits all last running runs list =
     check (same_runs runs (spaces_of list)) (8 + 16 * length runs + 72 * length list) >>= λ kept.
-    Done (record { metaslab = limits.metaslab; group = limits.group; slots = all; last_pass = last; pass = running; blocks = list })
+    Done (record { version = limits.version; metaslab = limits.metaslab; group = limits.group; slots = all; last_pass = last; pass = running; blocks = list })
 
 abbrev pub behind_spaces : Limits → List (List ArmTold) → ℕ → Option PassTold → List Run → Grammar RecordTold
 behind_spaces limits all last running runs = blocks limits >>= λ list. behind_blocks limits all last running runs list
@@ -283,9 +284,9 @@ behind_head limits = slots limits >>= λ all. behind_slots limits all
 abbrev pub body : Limits → Grammar RecordTold
 body limits = head limits >>= λ children. behind_head limits
 
--- what stands before the length
-abbrev pub front : ℕ → Grammar ℕ
-front area = number 4 1146769987 1146769987 >>= λ magic. number 2 1 1 >>= λ version. number 4 10 area >>= λ len. Done len
+-- what stands before the fields: `DZRC`, the version, and the length
+abbrev pub front : Limits → ℕ → Grammar ℕ
+front limits area = number 4 1146769987 1146769987 >>= λ magic. number 2 limits.version limits.version >>= λ version. number 4 10 area >>= λ len. Done len
 
 -- ---- what is held in memory, as it is told
 
@@ -302,7 +303,7 @@ abbrev pub told_pass : Pass → PassTold
 told_pass pass = record { kind = pass.kind; targets = pass.targets.items; max = pass.max; «at» = pass.«at»; errors = pass.errors; running = pass.running }
 
 abbrev pub told_record : Record → RecordTold
-told_record it = record { metaslab = it.metaslab; group = it.group; slots = told_slots it.slots.items; last_pass = it.last_pass; pass = option_map told_pass it.pass; blocks = it.blocks.items }
+told_record it = record { version = it.version; metaslab = it.metaslab; group = it.group; slots = told_slots it.slots.items; last_pass = it.last_pass; pass = option_map told_pass it.pass; blocks = it.blocks.items }
 
 -- limits that a layout gives
 pub record AreLimits (limits : Limits) : Type 0 where
@@ -317,6 +318,7 @@ pub record AreLimits (limits : Limits) : Type 0 where
 abbrev pub limits_of : Geometry → ℕ → ℕ → ℕ → Limits
 limits_of geometry metaslab group next_leaf =
     record {
+      version = geometry.props.version;
       children = geometry.spec.children;
       spares = geometry.spec.spares;
       next_leaf = next_leaf;
@@ -343,7 +345,7 @@ fronted limits area (Ok (len, rest)) = ended len (read (body limits) (take (len 
 
 -- what an area tells: the record, or its first fault
 abbrev pub record_of : Limits → List ℕ → Result RecordTold RecordFault
-record_of limits area = fronted limits (length area) (read (front (length area)) area)
+record_of limits area = fronted limits (length area) (read (front limits (length area)) area)
 
 -- An area begins with the bytes of a record: its front, which says the length, and the fields behind. Bytes behind
 -- the length may follow.
@@ -353,7 +355,7 @@ pub record Spelled (limits : Limits) (area : List ℕ) (value : RecordTold) : Ty
   pub text_bytes : List ℕ
   pub more : List ℕ
   pub parts : area ≡ head_bytes ++ (text_bytes ++ more)
-  pub front_is : Spells (front (length area)) head_bytes len
+  pub front_is : Spells (front limits (length area)) head_bytes len
   pub whole : length head_bytes + length text_bytes ≡ len
   pub fields_are : Spells (body limits) text_bytes value
 

@@ -70,17 +70,20 @@ body_bytes value =
     ++ pass_bytes value.pass ++ spaces_bytes (spaces_of value.blocks) ++ blocks_bytes value.blocks
 
 -- what stands before them
-abbrev pub front_bytes : ℕ → List ℕ
-front_bytes len = big_bytes 4 1146769987 ++ big_bytes 2 1 ++ big_bytes 4 len
+abbrev pub front_bytes : ℕ → ℕ → List ℕ
+front_bytes version len = big_bytes 4 1146769987 ++ big_bytes 2 version ++ big_bytes 4 len
 
 abbrev pub record_bytes : RecordTold → List ℕ
-record_bytes value = front_bytes (length (body_bytes value) + 10) ++ body_bytes value
+record_bytes value = front_bytes value.version (length (body_bytes value) + 10) ++ body_bytes value
 
 -- the bytes are those of the record, and their number fits the length
 pub record IsWhole (bytes : List ℕ) (value : RecordTold) : Type 0 where
   pub bytes_are : bytes ≡ record_bytes value
   pub short : length (body_bytes value) + 10 < 2 ^ 32
 
--- the value is in the ranges of a record's fields: the grammar spells it by these bytes
-abbrev pub IsRecord : Limits → RecordTold → Type 0
-IsRecord limits value = Spells (body limits) (body_bytes value) value
+-- the value is in the ranges of a record's fields: the version is the one that is asked for, and the grammar spells the
+-- fields behind the length by these bytes
+pub record IsRecord (limits : Limits) (value : RecordTold) : Type 0 where
+  pub version_is : value.version ≡ limits.version
+  pub version_small : value.version < 2 ^ 16
+  pub fields_are : Spells (body limits) (body_bytes value) value

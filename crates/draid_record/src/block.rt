@@ -120,9 +120,9 @@ pub(crate) fn blocks<'a>(
     requires { AreLimits limits.now }
     ensures blocks { Gives (λ x. (x.0.items, x.1.now)) result (read (spec.blocks limits.now) bytes.now) }
     ensures range { IfOk result (λ x. All (λ (b : Pointer). b.first + b.stripes ≤ 2 ^ 49) x.0.items) }
-    ensures few { IfOk result (λ x. length x.0.items ≤ numbers.most_held 1) }
+    ensures few { IfOk result (λ x. length x.0.items ≤ numbers.most_held limits.now.version) }
 {
-    let (count, bytes) = number(bytes, 4, 0, most_held(1) as u64)?;
+    let (count, bytes) = number(bytes, 4, 0, most_held(limits.version) as u64)?;
     blocks_of(alloc, bytes, limits, count)
 }
 

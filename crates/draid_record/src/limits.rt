@@ -1,6 +1,8 @@
 /// What the ranges of a record's fields go by.
 #[derive(Clone, Copy, Debug, PartialEq, Eq)]
 pub(crate) struct Limits {
+    /// The version of the uberblock.
+    pub version: u32,
     pub children: u32,
     pub spares: u64,
     /// The number of the next new leaf.

@@ -22,6 +22,8 @@ pub(crate) const MAGIC: u64 = 0x445a_5243;
 /// What a metaslab's record of a group tells.
 #[derive(Drop)]
 pub struct Record {
+    /// The version of the pool's format in which the record is.
+    pub version: u32,
     pub metaslab: u32,
     pub group: u64,
     /// For each child slot its arms in the order of attachment, with their logs.
@@ -34,8 +36,8 @@ pub struct Record {
     pub blocks: Vec<Pointer>,
 }
 
-/// The record of a metaslab and a group at the front of an area, where leaves have numbers below
-/// `next_leaf`. Bytes behind its length aren't read.
+/// The record of a metaslab and a group at the front of an area, in the version of the layout, where leaves have
+/// numbers below `next_leaf`. Bytes behind its length aren't read.
 pub fn read_record(
     alloc: Global,
     bytes: &[u8],
@@ -99,6 +101,7 @@ fn body<'a>(
     let back = 8 + 16 * runs.len() + 72 * list.len();
     check(are_spaces(&runs, &list), bytes.len() + back)?;
     let record = Record {
+        version: limits.version,
         metaslab: limits.metaslab,
         group: limits.group,
         slots,
@@ -116,6 +119,7 @@ fn limits(geometry: &Geometry, metaslab: u32, group: u64, next_leaf: u64) -> Lim
     ensures sound { AreLimits result }
 {
     Limits {
+        version: geometry.props.version,
         children: geometry.spec.children,
         spares: u64::from(geometry.spec.spares),
         next_leaf,
@@ -130,14 +134,15 @@ fn limits(geometry: &Geometry, metaslab: u32, group: u64, next_leaf: u64) -> Lim
 
 /// The length of the whole record, and the bytes behind it.
 #[tactic(auto, unfolding(crate::specs::Reading::read))]
-fn front(bytes: &[u8]) -> Result<(u64, &[u8]), Fault>
-    ensures front { Tells (λ x. (x.0, x.1.now)) result (read (spec.front (length bytes.now)) bytes.now) }
+fn front<'a>(bytes: &'a [u8], limits: &Limits) -> Result<(u64, &'a [u8]), Fault>
+    ensures front { Tells (λ x. (x.0, x.1.now)) result (read (spec.front limits.now (length bytes.now)) bytes.now) }
     ensures range { IfOk result (λ x. (10 ≤ x.0) × (x.0 ≤ length bytes.now)) }
     ensures rest { IfOk result (λ x. length x.1.now + 10 ≡ length bytes.now) }
 {
     let area = bytes.len() as u64;
     let (_, bytes) = number(bytes, 4, MAGIC, MAGIC)?;
-    let (_, bytes) = number(bytes, 2, 1, 1)?;
+    let version = u64::from(limits.version);
+    let (_, bytes) = number(bytes, 2, version, version)?;
     number(bytes, 4, 10, area)
 }
 
@@ -165,7 +170,7 @@ fn told(alloc: Global, area: &[u8], limits: &Limits) -> Result<Record, RecordFau
     ensures told { spec.Answers result (spec.record_of limits.now area.now) }
     ensures number { IfOk result (λ it. IfSome it.pass (λ pass. pass.number ≡ it.last_pass)) }
 {
-    match front(area) {
+    match front(area, limits) {
         Ok((len, rest)) => fields(alloc, &rest[..len as usize - 10], len as usize, limits),
         Err(fault) => Err(fault.within(area.len())),
     }

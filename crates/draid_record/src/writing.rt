@@ -235,7 +235,7 @@ fn whole(alloc: Global, value: &Record) -> Result<Vec<u8>, NoMemory>
     }
     let mut out = Vec::with_capacity(alloc, fields.len() + 10)?;
     put(&mut out, 4, MAGIC)?;
-    put(&mut out, 2, 1)?;
+    put(&mut out, 2, u64::from(value.version))?;
     put(&mut out, 4, (fields.len() + 10) as u64)?;
     out.extend_from_slice(&fields)?;
     Ok(out)

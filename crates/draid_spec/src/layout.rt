@@ -13,7 +13,7 @@ pub struct Props {
     pub slices: u32,
     /// The seed of the permutations.
     pub seed: u64,
-    /// The version of the pool's format at its creation, 1 or 2.
+    /// The version of the pool's format, 1 or 2.
     pub version: u32,
 }
 

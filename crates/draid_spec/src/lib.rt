@@ -12,6 +12,6 @@ mod text;
 pub use laws::{layout_is_given, text_is_read};
 pub use layout::{Geometry, Props};
 pub use names::{spare_name, spec_name};
-pub use numbers::geometry;
+pub use numbers::{geometry, most_children};
 pub use spec::{Spec, SpecFault};
 pub use text::parse_spec;

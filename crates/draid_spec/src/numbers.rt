@@ -55,7 +55,7 @@ fn group_count(g: u32, ndisks: u32) -> u32
 }
 
 /// The most children of a pool, by the version of its format.
-pub(crate) fn most_children(version: u32) -> u32
+pub fn most_children(version: u32) -> u32
     ensures value { result ≡ spec.most_children version }
     ensures most { result ≤ 64 }
     ensures first { version ≡ 1 → result ≡ 32 }

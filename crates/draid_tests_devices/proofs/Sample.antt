@@ -10,7 +10,7 @@ abbrev sample : UberBody
 sample = record {
   group = 1;
   spec = record { parity = 1; ndata = 2; children = 3; spares = 0 };
-  props = record { sector = 512; height = 8; metaslabs = 1; slices = 4; seed = 1 };
+  props = record { sector = 512; height = 8; metaslabs = 1; slices = 4; seed = 1; version = 1 };
   next_leaf = 3;
 }
 
@@ -19,6 +19,7 @@ unfolding ones lcm
 is_ranged = record {
   group_above = omega arith;
   group_below = omega arith;
+  version_is = inl refl;
   spec_is = record {
     some_parity = omega arith;
     most_parity = omega arith;
@@ -26,6 +27,7 @@ is_ranged = record {
     most_data = omega arith;
     some_children = omega arith;
     most_children = omega arith;
+    first_children = λ _. omega arith;
     most_spares = omega arith;
   };
   wide = omega arith;

@@ -151,7 +151,7 @@ fn body() -> UberBody
         ≡ record {
           group = 1;
           spec = record { parity = 1; ndata = 2; children = 3; spares = 0 };
-          props = record { sector = 512; height = 8; metaslabs = 1; slices = 4; seed = 1 };
+          props = record { sector = 512; height = 8; metaslabs = 1; slices = 4; seed = 1; version = 1 };
           next_leaf = 3;
         } }
 {
@@ -189,9 +189,59 @@ fn an_uberblock_is_written_and_told(rt: HostRuntime) {
         (51, 1, Ok(body())),
         (51, 0, Err(RecordFault::Bad { at: 7, kind: 2 })),
         (17, 1, Err(RecordFault::Bad { at: 17, kind: 2 })),
+        (6, 1, Err(RecordFault::Bad { at: 5, kind: 2 })),
     ] {
         assert_eq!(rt; read_uber(&uber_changed(place, 33), slot), told);
     }
+}
+
+/// That uberblock in version 2, with so many children and this next leaf.
+fn second(children: u8, next_leaf: u8) -> [u8; 51] {
+    let mut bytes = UBER;
+    bytes[6] = 2;
+    bytes[17] = children;
+    bytes[50] = next_leaf;
+    bytes
+}
+
+#[test]
+fn an_uberblock_of_version_two_is_told(rt: HostRuntime) {
+    let mut wide = body();
+    wide.spec.children = 64;
+    wide.props.version = 2;
+    wide.next_leaf = 64;
+    for (children, next_leaf, told) in [
+        (64, 64, Ok(wide)),
+        (65, 65, Err(RecordFault::Bad { at: 17, kind: 2 })),
+        (64, 63, Err(RecordFault::Bad { at: 43, kind: 2 })),
+    ] {
+        assert_eq!(rt; read_uber(&second(children, next_leaf), 1), told);
+    }
+}
+
+/// What is told of the record with this version, by a layout of another or the same one.
+fn read_version(
+    alloc: Global,
+    version: u8,
+    layout: &Geometry,
+) -> Result<(usize, usize, bool, u64), RecordFault>
+    requires { IsGeometry layout.now }
+{
+    read_changed(alloc, 5, version, layout)
+}
+
+#[test]
+fn a_record_is_told_by_the_version(rt: HostRuntime) -> Result<(), SpecFault> {
+    let first = small_geometry()?;
+    let props = Props {
+        version: 2,
+        ..PROPS
+    };
+    let second = geometry(parse_spec(b"draid1:2d:3c", 3, 2)?, props)?;
+    assert_eq!(rt; read_version(rt.alloc(), 2, &second), Ok((3, 0, false, 0)));
+    assert_eq!(rt; read_version(rt.alloc(), 1, &second), bad(4, 2));
+    assert_eq!(rt; read_version(rt.alloc(), 2, &first), bad(4, 2));
+    Ok(())
 }
 
 /// A slot with the leaf of this number, which missed nothing.
@@ -213,6 +263,7 @@ fn written(alloc: Global) -> Result<Vec<u8>, NoMemory> {
         slots.push(leaf(alloc, number)?)?;
     }
     let record = Record {
+        version: 1,
         metaslab: 0,
         group: 1,
         slots,

@@ -75,7 +75,7 @@ returns-in_err-check-clause-body c =
     ∙ after_ok (spec.pass c.args.limits.now (told_slots c.in_ok-slots.slots.items)) (λ (running : Option PassTold). spec.behind_pass c.args.limits.now (told_slots c.in_ok-slots.slots.items) c.in_ok-last_pass.last_pass running) c.in_ok-last_pass.bytes.now c.in_ok-pass.bytes.now (option_map told_pass c.in_ok-pass.pass) (subst PASSOK (ap told_slots c.deref.ensures.value) c.in_ok-pass.ensures.pass)
     ∙ after_ok spec.spaces (λ (runs : List Run). spec.behind_spaces c.args.limits.now (told_slots c.in_ok-slots.slots.items) c.in_ok-last_pass.last_pass (option_map told_pass c.in_ok-pass.pass) runs) c.in_ok-pass.bytes.now c.in_ok-runs.bytes.now c.in_ok-runs.runs.items c.in_ok-runs.ensures.runs
     ∙ after_ok (spec.blocks c.args.limits.now) (λ (list : List Pointer). spec.behind_blocks c.args.limits.now (told_slots c.in_ok-slots.slots.items) c.in_ok-last_pass.last_pass (option_map told_pass c.in_ok-pass.pass) c.in_ok-runs.runs.items list) c.in_ok-runs.bytes.now c.in_ok-list.bytes.now c.in_ok-list.list.items c.in_ok-list.ensures.blocks
-    ∙ check_fails (spec.same_runs c.in_ok-runs.runs.items (spec.spaces_of c.in_ok-list.list.items)) (8 + 16 * length c.in_ok-runs.runs.items + 72 * length c.in_ok-list.list.items) (record { metaslab = c.args.limits.now.metaslab; group = c.args.limits.now.group; slots = (told_slots c.in_ok-slots.slots.items); last_pass = c.in_ok-last_pass.last_pass; pass = (option_map told_pass c.in_ok-pass.pass); blocks = c.in_ok-list.list.items }) c.in_ok-list.bytes.now (sym kept ∙ c.in_err-check.ensures.err) in
+    ∙ check_fails (spec.same_runs c.in_ok-runs.runs.items (spec.spaces_of c.in_ok-list.list.items)) (8 + 16 * length c.in_ok-runs.runs.items + 72 * length c.in_ok-list.list.items) (record { version = c.args.limits.now.version; metaslab = c.args.limits.now.metaslab; group = c.args.limits.now.group; slots = (told_slots c.in_ok-slots.slots.items); last_pass = c.in_ok-last_pass.last_pass; pass = (option_map told_pass c.in_ok-pass.pass); blocks = c.in_ok-list.list.items }) c.in_ok-list.bytes.now (sym kept ∙ c.in_err-check.ensures.err) in
     let left : length c.in_ok-list.bytes.now + (8 + 16 * c.len.result + 72 * c.len-2.result) ≡ length c.in_ok-list.bytes.now + (8 + 16 * length c.in_ok-runs.runs.items + 72 * length c.in_ok-list.list.items) =
     omega (arith, c.len.ensures, c.len-2.ensures, c.in_ok-runs.runs.ok.0, c.in_ok-list.list.ok.0) in
     rw (p.1, p.2) (before ∙ ap (λ n. Err (range n)) (sym left) ∙ ap Err (sym c.in_err-check.ensures.fault))
@@ -91,4 +91,4 @@ returns-clause-body c =
     ∙ after_ok (spec.pass c.args.limits.now (told_slots c.in_ok-slots.slots.items)) (λ (running : Option PassTold). spec.behind_pass c.args.limits.now (told_slots c.in_ok-slots.slots.items) c.in_ok-last_pass.last_pass running) c.in_ok-last_pass.bytes.now c.in_ok-pass.bytes.now (option_map told_pass c.in_ok-pass.pass) (subst PASSOK (ap told_slots c.deref.ensures.value) c.in_ok-pass.ensures.pass)
     ∙ after_ok spec.spaces (λ (runs : List Run). spec.behind_spaces c.args.limits.now (told_slots c.in_ok-slots.slots.items) c.in_ok-last_pass.last_pass (option_map told_pass c.in_ok-pass.pass) runs) c.in_ok-pass.bytes.now c.in_ok-runs.bytes.now c.in_ok-runs.runs.items c.in_ok-runs.ensures.runs
     ∙ after_ok (spec.blocks c.args.limits.now) (λ (list : List Pointer). spec.behind_blocks c.args.limits.now (told_slots c.in_ok-slots.slots.items) c.in_ok-last_pass.last_pass (option_map told_pass c.in_ok-pass.pass) c.in_ok-runs.runs.items list) c.in_ok-runs.bytes.now c.in_ok-list.bytes.now c.in_ok-list.list.items c.in_ok-list.ensures.blocks
-    ∙ check_passes (spec.same_runs c.in_ok-runs.runs.items (spec.spaces_of c.in_ok-list.list.items)) (8 + 16 * length c.in_ok-runs.runs.items + 72 * length c.in_ok-list.list.items) (record { metaslab = c.args.limits.now.metaslab; group = c.args.limits.now.group; slots = (told_slots c.in_ok-slots.slots.items); last_pass = c.in_ok-last_pass.last_pass; pass = (option_map told_pass c.in_ok-pass.pass); blocks = c.in_ok-list.list.items }) c.in_ok-list.bytes.now (sym kept ∙ c.in_ok-check.ensures.ok)
+    ∙ check_passes (spec.same_runs c.in_ok-runs.runs.items (spec.spaces_of c.in_ok-list.list.items)) (8 + 16 * length c.in_ok-runs.runs.items + 72 * length c.in_ok-list.list.items) (record { version = c.args.limits.now.version; metaslab = c.args.limits.now.metaslab; group = c.args.limits.now.group; slots = (told_slots c.in_ok-slots.slots.items); last_pass = c.in_ok-last_pass.last_pass; pass = (option_map told_pass c.in_ok-pass.pass); blocks = c.in_ok-list.list.items }) c.in_ok-list.bytes.now (sym kept ∙ c.in_ok-check.ensures.ok)
