@@ -10,7 +10,7 @@ use Rattle.draid_lines.specs.Sink.{AppendsFront}
 use Rattle.draid_reply.specs.declared.reply.Reply.{Reply}
 use Rattle.draid_pool.specs.Close.{HoldsPool}
 use Rattle.draid_pool.specs.State.{Change, State}
-use Rattle.draid_run.specs.Script.{Ends, EndsWithLine, HasRun, IsSession, Prints, RunIs, Shows}
+use Rattle.draid_run.specs.Script.{Ends, EndsWithLine, HasRun, IsRefused, IsSession, Prints, RunIs, Shows}
 use Rattle.draid_run.specs.Session.{IsDesk, state_in}
 use Rattle.draid_run.specs.Serve.{PrintsReplies, Served}
 use Rattle.draid_run.specs.Status.{HasNumber, last_text}
@@ -105,37 +105,61 @@ module _ {R : Type 0} (shape : R → Shape) (told : R → Option Told) (faults :
     replies = is.replies;
     shown = is.shown;
     ended = ended;
-    usage = (λ e. absurd (other e), λ wrong. absurd (wrong session));
+    usage = λ e taken. other e;
+    refused = λ wrong. absurd (wrong session);
     runs = is.runs;
     ends = is.ends;
     shows = is.shows;
     prints = prints_all status ended _ start mid new is.prints last;
   }
 
-  -- a run whose words aren't those of a session
-  pub run_refused : (words : List (List ℕ)) (status : Status) (input old new : Option (List ℕ)) (held : ℕ → Option Told) (counts : ℕ → Option ℕ → ℕ) → (IsSession words → ⊥) → EndsWithLine Usage status old new
+  -- a run that does nothing but print its last line
+  run_of_none : (words : List (List ℕ)) (status meant : Status) (input old new : Option (List ℕ)) (held : ℕ → Option Told) (counts : ℕ → Option ℕ → ℕ)
+      → (meant ≡ Usage → IsSession words → ⊥) → IsRefused meant [] → ((known : Option (List ℕ)) → MatchOption known ⊤ (Ends meant None [])) → Shows meant [] []
+      → (HasNumber meant → ⊥) → EndsWithLine meant status old new
       → RunIs chosen words status input old new held counts
-  run_refused words status input old new held counts wrong ended = elim ended.is [
+  run_of_none words status meant input old new held counts wrong refused ends shows plain line = elim line.is [
     | inl same ↦ record {
       last = None;
       session = record {
         lines = [];
         replies = [];
         shown = [];
-        ended = Usage;
-        usage = (λ _. wrong, λ _. refl);
+        ended = meant;
+        usage = wrong;
+        refused = λ _. refused;
         runs = refl;
-        ends = ends_nothing input;
-        shows = refl;
-        prints = subst (λ m. Prints status m (last_text m) old new) same ended.prints;
+        ends = ends input;
+        shows = shows;
+        prints = subst (λ m. Prints status m (last_text m) old new) same line.prints;
       };
       shelf = tt;
     }
-    | inr none ↦ absurd none.1
-  ] where
-    ends_nothing : (known : Option (List ℕ)) → MatchOption known ⊤ (Ends Usage None [])
-    ends_nothing None = tt
-    ends_nothing (Some bytes) = refl
+    | inr none ↦ absurd (plain none.1)
+  ]
+
+  -- a run whose words aren't those of a session
+  pub run_refused : (words : List (List ℕ)) (status : Status) (input old new : Option (List ℕ)) (held : ℕ → Option Told) (counts : ℕ → Option ℕ → ℕ) → (IsSession words → ⊥) → EndsWithLine Usage status old new
+      → RunIs chosen words status input old new held counts
+  run_refused words status input old new held counts wrong =
+      run_of_none words status Usage input old new held counts (λ e. wrong) (inl refl) ends_nothing refl (λ number. number)
+    where
+      ends_nothing : (known : Option (List ℕ)) → MatchOption known ⊤ (Ends Usage None [])
+      ends_nothing None = tt
+      ends_nothing (Some bytes) = refl
+
+  -- a run whose words can't be read for want of memory
+  pub run_unread : (words : List (List ℕ)) (status : Status) (input old new : Option (List ℕ)) (held : ℕ → Option Told) (counts : ℕ → Option ℕ → ℕ) → EndsWithLine NoMemory status old new
+      → RunIs chosen words status input old new held counts
+  run_unread words status input old new held counts =
+      run_of_none words status NoMemory input old new held counts (λ e. absurd (not_usage e)) (inr (refl, refl)) ends_nothing (inl refl) (λ number. number)
+    where
+      ends_nothing : (known : Option (List ℕ)) → MatchOption known ⊤ (Ends NoMemory None [])
+      ends_nothing None = tt
+      ends_nothing (Some bytes) = (lines_of bytes, refl)
+
+      not_usage : NoMemory ≡ Usage → ⊥
+      not_usage e = cc e
 
   -- a run of a session: what was served, the last line, and the pool on the shelf
   pub run_served : (words : List (List ℕ)) (status ended : Status) (input start mid new : Option (List ℕ)) (pool : Option (Pool R)) (held : ℕ → Option Told) (counts : ℕ → Option ℕ → ℕ)

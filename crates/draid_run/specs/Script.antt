@@ -1,4 +1,4 @@
-use Rattle.std.specs.Prelude.{◌≡◌, ◌+◌, ◌⊎◌, ◌↔◌, ⊤, ℕ, List, [], ◌∷◌, ◌++◌, Option, Some, None, MatchOption, length, codes, flat_map}
+use Rattle.std.specs.Prelude.{◌≡◌, ◌+◌, ◌⊎◌, ⊤, ℕ, List, [], ◌∷◌, ◌++◌, Option, Some, None, MatchOption, length, flat_map}
 use Rattle.std.specs.Io.KnownBytes.{Appends}
 use Rattle.draid_names.specs.declared.room.Room.{Room}
 use Rattle.draid_rack.specs.Rack.{Told}
@@ -6,6 +6,7 @@ use Rattle.draid_script.specs.Grammar.{line_of}
 use Rattle.draid_lines.specs.Lines.{IsTooLong, lines_of}
 use Rattle.draid_reply.specs.Reply.{text_of}
 use Rattle.draid_lines.specs.Sink.{AppendsFront}
+use Rattle.draid_words.specs.Mode.{OfSession, asked}
 use Rattle.draid_reply.specs.declared.reply.Reply.{Reply}
 use Rattle.draid_pool.specs.Close.{HoldsPool}
 use Rattle.draid_pool.specs.State.{State}
@@ -52,9 +53,13 @@ pub record EndsWithLine (ended status : Status) (old new : Option (List ℕ)) : 
   pub is : (meant ≡ ended) ⊎ ((meant ≡ NoMemory) × HasNumber ended)
   pub prints : Prints status meant (last_text meant) old new
 
--- the one list of words that the program takes
+-- the words that the program takes: those that ask for a session in memory
 abbrev pub IsSession : List (List ℕ) → Type 0
-IsSession words = words ≡ codes "session" ∷ []
+IsSession words = asked words ≡ Some (OfSession None)
+
+-- how a run ends that does nothing: by the words, or since they can't be read for want of memory
+abbrev pub IsRefused : Status → List (List ℕ) → Type 0
+IsRefused ended lines = (ended ≡ Usage) ⊎ ((ended ≡ NoMemory) × (lines ≡ []))
 
 -- A run: some lines were answered by replies, one after another; it ended for a cause; and the sink got the replies' texts and the last line.
 pub record HasRun (chosen : List Room → Option ℕ → Type 0) (words : List (List ℕ)) (status : Status) (input : Option (List ℕ)) (old new : Option (List ℕ)) (last : Option State) : Type 0 where
@@ -62,7 +67,8 @@ pub record HasRun (chosen : List Room → Option ℕ → Type 0) (words : List (
   pub replies : List (Option Reply)
   pub shown : List (Option Reply)
   pub ended : Status
-  pub usage : (ended ≡ Usage) ↔ (IsSession words → ⊥)
+  pub usage : ended ≡ Usage → IsSession words → ⊥
+  pub refused : (IsSession words → ⊥) → IsRefused ended lines
   pub runs : Runs chosen None lines replies last
   pub ends : MatchOption input ⊤ (Ends ended last lines)
   pub shows : Shows ended replies shown

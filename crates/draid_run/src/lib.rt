@@ -8,6 +8,7 @@ mod replies;
 mod serve;
 mod status;
 mod top;
+mod words;
 
 pub use status::Status;
 pub use top::run;

@@ -9,7 +9,7 @@ use std::alloc::Global;
 pub enum Status {
     /// The script was read to its end (0).
     Done,
-    /// The words aren't `session` (1).
+    /// The words don't ask for a session in memory (1).
     Usage,
     /// This line, counted from 1, is refused by a fault of this kind at this place (2).
     Line { line: u64, kind: u8, at: u64 },
@@ -17,7 +17,7 @@ pub enum Status {
     SourceFault,
     /// The sink failed (4).
     SinkFault,
-    /// A line or the text of a reply could not be held for want of memory (5).
+    /// The words, a line or the text of a reply could not be held for want of memory (5).
     NoMemory,
     /// This line has more than 300,000 bytes, or is more than the 1,048,576 lines of a script (6).
     TooLong { line: u64 },

@@ -1,19 +1,21 @@
-ghost use Rattle.std.specs.Prelude.{◌≡◌, ◌↔◌, ◌≤◌, ◌⊎◌, ⊤, List, MatchOption, IsTrue, map, string_bytes};
+ghost use Rattle.std.specs.Prelude.{◌≡◌, ◌≤◌, ◌⊎◌, ⊤, List, MatchOption, map, string_bytes};
 ghost use Rattle.std.specs.Fn.{FnReturnsAt};
 ghost use Rattle.draid_choose.specs.Rooms.{IsChooser};
 ghost use Rattle.draid_names.specs.Faults.{Rose};
 ghost use Rattle.draid_run.specs.Session.{IsDesk, state_in};
 ghost use Rattle.draid_pool.specs.Close.{HoldsPool};
 ghost use Rattle.draid_pool.specs.State.{Change};
-ghost use Rattle.draid_run.specs.Script.{EndsWithLine, IsSession, Prints, RunIs};
+ghost use Rattle.draid_run.specs.Script.{EndsWithLine, Prints, RunIs};
 
 use crate::serve::serve;
 use crate::status::{Status, fixed_line, numbered_line};
+use crate::words::take_words;
 use draid_choose::Chooser;
 use draid_lines::{Sink, Source};
 use draid_names::Room;
 use draid_pool::{Pool, close};
 use draid_shelf::RackShelf;
+use draid_words::WordsFault;
 use std::alloc::Global;
 use std::thread::Threads;
 
@@ -47,16 +49,6 @@ fn end_run<K: Sink>(alloc: Global, sink: &mut K, ended: Status) -> Status
             fixed_line(Status::NoMemory).as_bytes(),
             Status::NoMemory,
         ),
-    }
-}
-
-/// Whether the words are exactly `session`.
-fn is_session(words: &[String]) -> bool
-    ensures { IsTrue result ↔ IsSession (map string_bytes words.now) }
-{
-    match words {
-        [word] => word.as_str() == "session",
-        _ => false,
     }
 }
 
@@ -94,8 +86,10 @@ pub fn run<
     ensures sink_fault { result ≡ Status.SinkFault → Rose (K.faults sink.old) (K.faults sink.new) }
 {
     let alloc = rt.alloc();
-    if !is_session(words) {
-        return end_run(alloc, sink, Status::Usage);
+    match take_words(alloc, words) {
+        Ok(()) => {}
+        Err(WordsFault::Usage) => return end_run(alloc, sink, Status::Usage),
+        Err(WordsFault::NoMemory) => return end_run(alloc, sink, Status::NoMemory),
     }
     let mut pool = None;
     let ended = serve(rt, alloc, shelf, &mut pool, chooser, source, sink);

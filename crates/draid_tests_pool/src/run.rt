@@ -32,7 +32,7 @@ const NONE: Failing = Failing {
 /// the status and what was printed.
 fn run_words<R: AllocGlobal + Threads + Sync>(
     rt: &R,
-    word: &str,
+    line: &str,
     script: Vec<u8>,
     failing: &Failing,
 ) -> Result<(Status, Vec<u8>), AllocError> {
@@ -42,13 +42,13 @@ fn run_words<R: AllocGlobal + Threads + Sync>(
             ensures { Picks rooms.now result }
         { first_fit(rooms) },
     );
-    run_chosen(rt, word, script, failing, &chooser)
+    run_chosen(rt, line, script, failing, &chooser)
 }
 
 /// The same with another choice of metaslabs.
 fn run_chosen<R: AllocGlobal + Threads + Sync, F: Fn(&[Room]) -> Option<u32>>(
     rt: &R,
-    word: &str,
+    line: &str,
     script: Vec<u8>,
     failing: &Failing,
     chooser: &Chooser<F>,
@@ -56,7 +56,10 @@ fn run_chosen<R: AllocGlobal + Threads + Sync, F: Fn(&[Room]) -> Option<u32>>(
     requires { IsChooser F.Fn chooser.now }
 {
     let alloc = rt.alloc();
-    let words = vec![in alloc; String::from_str(alloc, word)?]?;
+    let mut words = Vec::new(alloc);
+    for word in line.split(' ') {
+        words.push(String::from_str(alloc, word)?)?;
+    }
     let mut shelf = MemoryShelf::new(alloc, CrashRule::New);
     for metaslab in 0..64 {
         shelf.fail(Place::Rack(metaslab), Vec::from_slice(alloc, failing.rack)?);
@@ -150,12 +153,12 @@ fn calls_of_the_rack_fail(rt: HostRuntime) -> Result<(), Fail> {
 /// Whether a run comes to this status and prints this.
 fn comes_to<R: AllocGlobal + Threads + Sync>(
     rt: &R,
-    word: &str,
+    line: &str,
     script: Vec<u8>,
     failing: &Failing,
     wanted: (Status, &str),
 ) -> Result<bool, AllocError> {
-    let (ended, printed) = run_words(rt, word, script, failing)?;
+    let (ended, printed) = run_words(rt, line, script, failing)?;
     Ok(ended == wanted.0 && printed.as_slice() == wanted.1.as_bytes())
 }
 
@@ -175,11 +178,28 @@ fn devices_of_the_script_fail(rt: HostRuntime) -> Result<(), Fail> {
     Ok(())
 }
 
+/// Words that ask for nothing, and words that ask for what isn't built.
+const REFUSED: [&str; 6] = [
+    "workload",
+    "workload 1 2",
+    "session 1",
+    "workload x",
+    "workload 1",
+    "session --dir pool",
+];
+
 #[test]
 fn other_words_and_long_lines_end_a_run(rt: HostRuntime) -> Result<(), Fail> {
     let script = created(rt.alloc(), "")?;
     let usage = "usage: dzpool session [--dir DIR] or dzpool workload NUMBER\n";
     assert!(rt; comes_to(&rt, "frob", script, &NONE, (Status::Usage, usage))?);
+    for words in REFUSED {
+        let script = created(rt.alloc(), "")?;
+        assert!(rt;
+            comes_to(&rt, words, script, &NONE, (Status::Usage, usage))?,
+            "{words}"
+        );
+    }
     let long = vec![in rt.alloc(); b'a'; 300_001]?;
     let wanted = (Status::TooLong { line: 1 }, "line 1 too long\n");
     assert!(rt; comes_to(&rt, "session", long, &NONE, wanted)?);

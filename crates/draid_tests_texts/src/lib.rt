@@ -1,8 +1,10 @@
-//! Tests of texts: what `status` prints, and the script of a workload. It offers nothing.
+//! Tests of texts: what `status` prints, the script of a workload, and the words of the command line. It offers nothing.
 
 #![tactic(auto)]
 
 #[cfg(test)]
 mod report;
+#[cfg(test)]
+mod words;
 #[cfg(test)]
 mod workloads;

@@ -14,7 +14,12 @@ fn json_of(rt: &HostRuntime, view: &View) -> Result<String, Fail> {
 
 fn arm(rt: &HostRuntime, kind: ArmKind, number: u64, name: &str) -> Result<ArmView, Fail> {
     Ok(ArmView {
-        arm: Arm { kind, number, offline: false, fresh: false },
+        arm: Arm {
+            kind,
+            number,
+            offline: false,
+            fresh: false,
+        },
         spare_name: String::from_str(rt.alloc(), name)?,
         logged: 0,
     })
@@ -36,16 +41,28 @@ fn small_pool(rt: HostRuntime) -> Result<(), Fail> {
         open_group: 2,
         objects: 0,
         slots,
-        metaslabs: vec![in rt.alloc(); MetaslabView { free: 32, blocks: 0, pass: None }]?,
+        metaslabs: vec![in rt.alloc();
+            MetaslabView {
+                free: 32,
+                blocks: 0,
+                pass: None
+            },
+        ]?,
     };
-    assert_eq!(rt; text_of(&rt, &view)?.as_str(), "pool draid1:2d:3c:0s-0 group=1 open=2 objects=0
+    assert_eq!(rt;
+        text_of(&rt, &view)?.as_str(),
+        "pool draid1:2d:3c:0s-0 group=1 open=2 objects=0
 slot 0 leaf 0 online logged=0
 slot 1 leaf 1 online logged=0
 slot 2 leaf 2 online logged=0
 metaslab 0 free=32 blocks=0 none
 end
-");
-    assert_eq!(rt; json_of(&rt, &view)?.as_str(), "{\"group\":1,\"metaslabs\":[{\"blocks\":0,\"free\":32,\"number\":0,\"pass\":null}],\"name\":\"draid1:2d:3c:0s-0\",\"objects\":0,\"open\":2,\"slots\":[[{\"kind\":\"leaf\",\"logged\":0,\"number\":0,\"offline\":false}],[{\"kind\":\"leaf\",\"logged\":0,\"number\":1,\"offline\":false}],[{\"kind\":\"leaf\",\"logged\":0,\"number\":2,\"offline\":false}]]}\n");
+"
+    );
+    assert_eq!(rt;
+        json_of(&rt, &view)?.as_str(),
+        "{\"group\":1,\"metaslabs\":[{\"blocks\":0,\"free\":32,\"number\":0,\"pass\":null}],\"name\":\"draid1:2d:3c:0s-0\",\"objects\":0,\"open\":2,\"slots\":[[{\"kind\":\"leaf\",\"logged\":0,\"number\":0,\"offline\":false}],[{\"kind\":\"leaf\",\"logged\":0,\"number\":1,\"offline\":false}],[{\"kind\":\"leaf\",\"logged\":0,\"number\":2,\"offline\":false}]]}\n"
+    );
     Ok(())
 }
 
@@ -59,8 +76,18 @@ fn repaired(rt: &HostRuntime) -> Result<View, Fail> {
     let mut replaced = leaf(rt, 3)?;
     replaced.arm.fresh = true;
     replaced.logged = 12;
-    let rebuild = PassView { number: 1, kind: PassKind::Rebuild, at: 5, errors: 0 };
-    let scrub = PassView { number: 2, kind: PassKind::Heal, at: 281_474_976_710_655, errors: 3 };
+    let rebuild = PassView {
+        number: 1,
+        kind: PassKind::Rebuild,
+        at: 5,
+        errors: 0,
+    };
+    let scrub = PassView {
+        number: 2,
+        kind: PassKind::Heal,
+        at: 281_474_976_710_655,
+        errors: 3,
+    };
     let mut slots = Vec::new(rt.alloc());
     slots.push(vec![in rt.alloc(); lost, spare]?)?;
     slots.push(vec![in rt.alloc(); replaced]?)?;
@@ -71,9 +98,21 @@ fn repaired(rt: &HostRuntime) -> Result<View, Fail> {
         objects: 400,
         slots,
         metaslabs: vec![in rt.alloc();
-            MetaslabView { free: 3, blocks: 40, pass: Some(rebuild) },
-            MetaslabView { free: 0, blocks: 4096, pass: Some(scrub) },
-            MetaslabView { free: 64, blocks: 0, pass: None }
+            MetaslabView {
+                free: 3,
+                blocks: 40,
+                pass: Some(rebuild)
+            },
+            MetaslabView {
+                free: 0,
+                blocks: 4096,
+                pass: Some(scrub)
+            },
+            MetaslabView {
+                free: 64,
+                blocks: 0,
+                pass: None
+            },
         ]?,
     })
 }
@@ -81,7 +120,9 @@ fn repaired(rt: &HostRuntime) -> Result<View, Fail> {
 #[test]
 fn arms_and_passes(rt: HostRuntime) -> Result<(), Fail> {
     let view = repaired(&rt)?;
-    assert_eq!(rt; text_of(&rt, &view)?.as_str(), "pool draid2:2d:6c:1s-0 group=9 open=11 objects=400
+    assert_eq!(rt;
+        text_of(&rt, &view)?.as_str(),
+        "pool draid2:2d:6c:1s-0 group=9 open=11 objects=400
 slot 0 leaf 0 offline logged=7
 slot 0 spare draid2-0-0 online logged=0
 slot 1 leaf 3 online logged=12
@@ -89,13 +130,17 @@ metaslab 0 free=3 blocks=40 rebuild 1 at=5 errors=0
 metaslab 1 free=0 blocks=4096 scrub 2 at=281474976710655 errors=3
 metaslab 2 free=64 blocks=0 none
 end
-");
+"
+    );
     Ok(())
 }
 
 #[test]
 fn arms_and_passes_as_json(rt: HostRuntime) -> Result<(), Fail> {
     let view = repaired(&rt)?;
-    assert_eq!(rt; json_of(&rt, &view)?.as_str(), "{\"group\":9,\"metaslabs\":[{\"blocks\":40,\"free\":3,\"number\":0,\"pass\":{\"at\":5,\"errors\":0,\"kind\":\"rebuild\",\"number\":1}},{\"blocks\":4096,\"free\":0,\"number\":1,\"pass\":{\"at\":281474976710655,\"errors\":3,\"kind\":\"scrub\",\"number\":2}},{\"blocks\":0,\"free\":64,\"number\":2,\"pass\":null}],\"name\":\"draid2:2d:6c:1s-0\",\"objects\":400,\"open\":11,\"slots\":[[{\"kind\":\"leaf\",\"logged\":7,\"number\":0,\"offline\":true},{\"kind\":\"spare\",\"logged\":0,\"number\":0,\"offline\":false}],[{\"kind\":\"leaf\",\"logged\":12,\"number\":3,\"offline\":false}]]}\n");
+    assert_eq!(rt;
+        json_of(&rt, &view)?.as_str(),
+        "{\"group\":9,\"metaslabs\":[{\"blocks\":40,\"free\":3,\"number\":0,\"pass\":{\"at\":5,\"errors\":0,\"kind\":\"rebuild\",\"number\":1}},{\"blocks\":4096,\"free\":0,\"number\":1,\"pass\":{\"at\":281474976710655,\"errors\":3,\"kind\":\"scrub\",\"number\":2}},{\"blocks\":0,\"free\":64,\"number\":2,\"pass\":null}],\"name\":\"draid2:2d:6c:1s-0\",\"objects\":400,\"open\":11,\"slots\":[[{\"kind\":\"leaf\",\"logged\":7,\"number\":0,\"offline\":true},{\"kind\":\"spare\",\"logged\":0,\"number\":0,\"offline\":false}],[{\"kind\":\"leaf\",\"logged\":12,\"number\":3,\"offline\":false}]]}\n"
+    );
     Ok(())
 }

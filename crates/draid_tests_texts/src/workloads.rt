@@ -47,9 +47,18 @@ fn begins_with_the_pool(rt: HostRuntime) -> Result<(), Fail> {
 #[test]
 fn agrees_with_a_model(rt: HostRuntime) -> Result<(), Fail> {
     for (number, digest) in [
-        (1, "4b60f0e773485ca8e372859477e6f48ce97423484e90a34c92c2be37d91cbec0"),
-        (2, "ac6d1f5fe4cdd0060cb23362f02958aa6412f4e456a3aad17a7e17fc855de441"),
-        (u64::MAX, "c074934199be34578131dd767852ff116c381d571f36f018234d6274c1a832c6"),
+        (
+            1,
+            "4b60f0e773485ca8e372859477e6f48ce97423484e90a34c92c2be37d91cbec0",
+        ),
+        (
+            2,
+            "ac6d1f5fe4cdd0060cb23362f02958aa6412f4e456a3aad17a7e17fc855de441",
+        ),
+        (
+            u64::MAX,
+            "c074934199be34578131dd767852ff116c381d571f36f018234d6274c1a832c6",
+        ),
     ] {
         let script = workload(rt.alloc(), number).unwrap_or(Vec::new(rt.alloc()));
         let found = hex::encode(rt.alloc(), &Sha256::digest(&script))?;
