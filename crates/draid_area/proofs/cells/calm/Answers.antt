@@ -1,4 +1,4 @@
-use Rattle.std.proofs.Common.{◌∙◌, ap, rules, ◌≡◌, ℕ, false, length, slice_index_or, if◌then◌else◌}
+use Rattle.std.proofs.Common.{◌∙◌, ap, rules, ◌≡◌, false, length, slice_index_or, if◌then◌else◌}
 use Rattle.draid_area.specs.Area.{within}
 use Rattle.draid_area.proofs.Clocks.{calmed}
 use Rattle.draid_area.proofs.cells.calm.Goals as goal

@@ -1,4 +1,4 @@
-use Rattle.std.proofs.Common.{◌≡◌, ◌-◌, ◌&&◌, ℕ, nat_le, nat_lt, length, slice_index_or, if◌then◌else◌}
+use Rattle.std.proofs.Common.{◌≡◌, ◌&&◌, ℕ, nat_le, nat_lt, length, slice_index_or, if◌then◌else◌}
 use Rattle.draid_area.proofs.cells.mark.Given as goal
 
 abbrev pub invariant-loop-i : goal.invariant-loop-i

@@ -1,5 +1,4 @@
-use Rattle.std.proofs.Common.{rules, ap, ◌≡◌, ◌∙◌, ◌<◌, ◌&&◌, nat_lt, ℕ, List, Bool, true, false, length, subst, if◌then◌else◌}
-use Rattle.draid_area.specs.declared.cells.Span.{Span}
+use Rattle.std.proofs.Common.{rules, ap, ◌≡◌, ◌∙◌, ◌&&◌, nat_lt, ℕ, true, false, length, if◌then◌else◌}
 use Rattle.draid_area.specs.Cells.{LeavesByte, byte_at, covers, is_torn, length_by, torn_by}
 use Rattle.draid_area.proofs.Sound.{firm_left, is_outcome, left_by_rule, soft_left}
 use Rattle.draid_area.proofs.memory.MemoryArea.crash.Goals as goal
