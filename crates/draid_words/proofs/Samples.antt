@@ -1,6 +1,6 @@
 -- What some words ask for, by computing.
-use Rattle.std.proofs.Common.{◌≡◌, ◌∙◌, refl, sym, ap, inl, inr, ℕ, ◌≤◌, ◌<◌, List, [], ◌∷◌, ◌++◌, None, Some, option_map, codes, arith, length, get_or, subst}
-use Rattle.std.proofs.lemmas.Bool.{cases_eq}
+use Rattle.std.proofs.Common.{◌≡◌, ◌≢◌, ◌∙◌, refl, sym, ap, inl, inr, ℕ, ◌≤◌, ◌<◌, List, [], ◌∷◌, ◌++◌, None, Some, option_map, codes, arith, length, get_or, subst}
+use Rattle.std.proofs.lemmas.Bool.{cases_eq, ne_eqb}
 use Rattle.std.specs.Fmt.{decimal}
 use Rattle.std.proofs.lemmas.Fmt.{decimal_is_IsNumeral}
 use Rattle.std.proofs.lemmas.Str.Parse.{digit_at}
@@ -155,3 +155,12 @@ workload text number is =
     subst (λ (word : List ℕ). asked (codes "workload" ∷ word ∷ []) ≡ option_map OfWorkload (number_of word)) (sym spelled.1)
     (taken_text (decimal number) (omega (arith, numeral.0)) (omega (arith, digit.0)) (omega (arith, digit.0)))
     ∙ ap (option_map OfWorkload) is
+
+-- a folder as a word of its own, which begins with no hyphen
+pub apart : (first : ℕ) (rest : List ℕ) → first ≢ 45 → asked (codes "session" ∷ codes "--dir" ∷ (first ∷ rest) ∷ []) ≡ Some (OfSession (Some (first ∷ rest)))
+unfolding clap_on_literals asked
+apart first rest other = let plain = ne_eqb first 45 other in simp (plain) refl
+
+pub apart_before : (first : ℕ) (rest : List ℕ) → first ≢ 45 → asked (codes "--dir" ∷ (first ∷ rest) ∷ codes "session" ∷ []) ≡ Some (OfSession (Some (first ∷ rest)))
+unfolding clap_on_literals asked
+apart_before first rest other = let plain = ne_eqb first 45 other in simp (plain) refl

@@ -1,11 +1,16 @@
-ghost use Rattle.std.specs.Prelude.{◌≡◌, ◌∷◌, ◌++◌, [], ℕ, List, None, Some, codes};
+ghost use Rattle.std.specs.Prelude.{◌≡◌, ◌≢◌, ◌∷◌, ◌++◌, [], ℕ, List, None, Some, codes};
 ghost use Rattle.draid_script.specs.Word.{number_of};
 ghost use Rattle.draid_words.specs.Mode.{OfSession, OfWorkload, asked};
 
-/// Law: a session is in memory, or in a folder that stands behind it or before it.
+/// Law: a session is in memory, or in a folder that stands behind it or before it, in one word with `--dir`, or in a word
+/// of its own where that begins with no hyphen.
 pub fn sessions_are_taken()
     ensures memory { asked (codes "session" ∷ []) ≡ Some (OfSession None) }
     ensures folder { (dir : List ℕ) → asked (codes "session" ∷ (codes "--dir=" ++ dir) ∷ []) ≡ Some (OfSession (Some dir)) }
+    ensures apart { (first : ℕ) (rest : List ℕ) → first ≢ 45
+        → asked (codes "session" ∷ codes "--dir" ∷ (first ∷ rest) ∷ []) ≡ Some (OfSession (Some (first ∷ rest))) }
+    ensures apart_before { (first : ℕ) (rest : List ℕ) → first ≢ 45
+        → asked (codes "--dir" ∷ (first ∷ rest) ∷ codes "session" ∷ []) ≡ Some (OfSession (Some (first ∷ rest))) }
     ensures before { (dir : List ℕ) → asked ((codes "--dir=" ++ dir) ∷ codes "session" ∷ []) ≡ Some (OfSession (Some dir)) }
 {}
 
