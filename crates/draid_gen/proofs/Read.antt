@@ -1,5 +1,5 @@
 -- The lines of a workload are read as what they say.
-use Rattle.std.proofs.Common.{◌≡◌, ℕ, ◌+◌, ◌*◌, ◌%◌, ◌<◌, ◌≤◌, ◌^◌, List, [], ◌∷◌, ◌++◌, codes, None, Some, Ok, refl, sym, ap, ◌∙◌, false, inr, arith, slice_index, All}
+use Rattle.std.proofs.Common.{◌≡◌, ℕ, ◌+◌, ◌*◌, ◌%◌, ◌<◌, ◌≤◌, ◌^◌, List, [], ◌∷◌, ◌++◌, codes, None, Some, Ok, refl, sym, ap, ◌∙◌, false, inl, inr, arith, slice_index, All}
 use Rattle.std.specs.Fmt.{decimal}
 use Rattle.std.proofs.lemmas.Fmt.{decimal_digit, decimal_step}
 use Rattle.std.specs.List.{range_with_len}
@@ -75,13 +75,13 @@ create_is number small =
           record nothing_given { seed = Some number },
           (
             record nothing_given { seed = Some number },
-            (number, inr (inr (inr (inr (refl, small, refl, refl))))),
+            (number, inr (inr (inr (inr (inl (refl, small, refl, refl)))))),
             refl,
           ),
           refl,
         ),
       ),
-      (omega arith, record { sector = omega arith; height = omega arith; metaslabs = omega arith; slices = omega arith; seed = small }),
+      (omega arith, record { sector = omega arith; height = omega arith; metaslabs = omega arith; slices = omega arith; seed = small; version = omega arith }),
     )
 
 opening_read : OutsideLaw → ExactLaw → (number : ℕ) → number < 2 ^ 64 → All IsReadAs (opening number)
