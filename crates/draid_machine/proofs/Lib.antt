@@ -2,7 +2,6 @@ pub mod Bounds
 pub mod Calm
 pub mod Follows
 pub mod Landings
-pub mod Layouts
 pub mod Others
 pub mod Owning
 pub mod Passes
