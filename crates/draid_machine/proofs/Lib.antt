@@ -2,6 +2,8 @@ pub mod Bounds
 pub mod Calm
 pub mod Follows
 pub mod Landings
+pub mod Listing
+pub mod Moves
 pub mod Others
 pub mod Owning
 pub mod Passes
