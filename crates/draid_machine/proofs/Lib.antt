@@ -12,6 +12,8 @@ pub mod Rows
 pub mod Sample
 pub mod Seals
 pub mod Small
+pub mod Spares
 pub mod Standing
+pub mod Staying
 pub mod Tickets
 pub mod Unique

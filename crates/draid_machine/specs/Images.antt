@@ -107,12 +107,15 @@ pub record AsideSound (l : Layout) (w : State) : Type 0 where
   pub held : (s : Segment) → w.aside s ≡ true → (h : Held) × (w.core.held s.key ≡ Some h)
   pub place : (s : Segment) → w.aside s ≡ true → (is_at l w.core s ≡ true) ⊎ ((g : ℕ) × (w.kept s ≡ Some g))
 
+-- a spare that is an arm, or was one, is one of the layout's, and never offline
+abbrev pub SparesFit : Layout → Core → Type 0
+SparesFit l q = (t : ℕ) (a : Arm) → q.arm (Spare t) ≡ Some a → (t < l.spares) × (a.offline ≡ false)
+
 pub record Owned (l : Layout) (w : State) : Type 0 where
   pub listed : AreListed w.core
   pub gone : (n : ArmName) (a : Arm) (g : Gone) → w.core.arm n ≡ Some a → a.gone ≡ Some g → g.group ≤ w.open_group
-  -- a spare that is an arm, or was one, is one of the layout's
-  pub spares : (t : ℕ) (a : Arm) → w.core.arm (Spare t) ≡ Some a → t < l.spares
-  pub images : (img : Image) → IsImage w img → AreListed img.core
+  pub spares : SparesFit l w.core
+  pub images : (img : Image) → IsImage w img → AreListed img.core × SparesFit l img.core
   pub present : (s : Segment) → w.present s ≡ true → IsOwned l w s
   pub kept : KeptSound w
   pub aside : AsideSound l w
