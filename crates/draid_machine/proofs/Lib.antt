@@ -3,6 +3,7 @@ pub mod Calm
 pub mod Follows
 pub mod Landings
 pub mod Listing
+pub mod Losing
 pub mod Moves
 pub mod Others
 pub mod Owning
