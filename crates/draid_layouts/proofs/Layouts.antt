@@ -179,7 +179,7 @@ module _ (geometry : Geometry) (perms : Perms) (metaslab : ℕ) (lay : place.IsL
 
   rows : (x y c : ℕ) → x / geometry.props.height ≡ y / geometry.props.height
       → (layout_of geometry perms metaslab).sector_of x c + y ≡ (layout_of geometry perms metaslab).sector_of y c + x
-  unfolding (local, base)
+  unfolding local base
   rows x y c e =
       let k = pool_stripe geometry metaslab x in
       let m = pool_stripe geometry metaslab y in

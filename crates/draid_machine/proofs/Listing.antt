@@ -339,8 +339,7 @@ module _ (l : Layout) (lay : IsLayout l) where
       on : Stays w.core.arm (set_arm w.core.arm n (Some (record a { offline = offline })))
       on m b e here = elim (bool_cases (name_eq n m)) [
         | inl is ↦
-            let same : b ≡ a = some_same (w.core.arm m) b a e (subst (λ x. w.core.arm x ≡ Some a) (name_true n m is) found) in
-            (
+            let same : b ≡ a = some_same (w.core.arm m) b a e (subst (λ x. w.core.arm x ≡ Some a) (name_true n m is) found) in (
               record a { offline = offline },
               subst (λ x. set_arm w.core.arm n (Some (record a { offline = offline })) x ≡ Some (record a { offline = offline })) (name_true n m is) (arm_at w.core.arm n (Some (record a { offline = offline }))),
               ap (λ (x : Arm). x.gone) (sym same) ∙ here,
