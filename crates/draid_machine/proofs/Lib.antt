@@ -2,7 +2,9 @@ pub mod Bounds
 pub mod Calm
 pub mod Follows
 pub mod Landings
-pub mod Layouts
+pub mod Listing
+pub mod Losing
+pub mod Moves
 pub mod Others
 pub mod Owning
 pub mod Passes
@@ -11,6 +13,8 @@ pub mod Rows
 pub mod Sample
 pub mod Seals
 pub mod Small
+pub mod Spares
 pub mod Standing
+pub mod Staying
 pub mod Tickets
 pub mod Unique
