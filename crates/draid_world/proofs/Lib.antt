@@ -1,3 +1,4 @@
+pub mod Chains
 pub mod Maps
 pub mod Readings
 pub mod Segments

@@ -96,6 +96,18 @@ pub fn first_leaf(names: &[ArmName]) -> Option<u64>
     None
 }
 
+/// The first spare of a list.
+pub fn first_spare(names: &[ArmName]) -> Option<u32>
+    ensures { result ≡ arms.first_spare names.now }
+{
+    for at in 0..names.len() {
+        if let ArmName::Spare { spare } = names[at] {
+            return Some(spare);
+        }
+    }
+    None
+}
+
 /// Whether a leaf is there and isn't offline.
 pub fn leaf_answers(tables: &Tables, leaf: u64) -> bool
     ensures { result ≡ arms.leaf_answers (core_of tables.now) leaf }

@@ -1,12 +1,12 @@
 ghost use Rattle.std.specs.Prelude.{◌≡◌, ◌+◌, ◌*◌, ◌<◌, ◌^◌, ℕ, ◌-◌};
 ghost use Rattle.draid_machine.specs.Arms as arms;
 ghost use Rattle.draid_machine.specs.Names as names;
-ghost use Rattle.draid_machine.specs.Layout.{pool_stripe, slice_of};
+ghost use Rattle.draid_chain.specs.Chain.{spare_slot};
+ghost use Rattle.draid_layouts.specs.Layout.{pool_stripe, slice_in};
 ghost use Rattle.draid_map.specs.Place.{IsLayout};
-ghost use Rattle.draid_perm.specs.Perms.{child_of};
-ghost use Rattle.draid_world.specs.World.{core_of, names_at, site_layout, slot_at};
+ghost use Rattle.draid_world.specs.World.{core_of, home_at, names_at, site_layout, slot_at};
 
-use crate::arms::{first_leaf, leaf_answers, names_of};
+use crate::arms::{first_leaf, first_spare, leaf_answers, names_of};
 use crate::world::{Site, Tables};
 use draid_machine::ArmName;
 
@@ -20,19 +20,42 @@ fn pool_number(site: &Site, stripe: u64) -> u64
     u64::from(site.metaslab) * site.geometry.metaslab_stripes() + stripe
 }
 
-/// The slot on whose first leaf a spare keeps what belongs to a stripe.
-pub fn home(site: &Site, spare: u32, stripe: u64) -> u32
+/// The slice of the pool that a stripe lies in.
+fn slice_of(site: &Site, stripe: u64) -> u64
     requires layout { IsLayout site.now.geometry site.now.perms }
     requires metaslab { site.now.metaslab < site.now.geometry.props.metaslabs }
     requires stripe { stripe < 2 ^ 49 }
-    requires spare { spare < site.now.geometry.spec.spares }
-    ensures { result ≡ child_of site.now.perms (slice_of site.now.geometry (pool_stripe site.now.geometry site.now.metaslab stripe)) (site.now.geometry.spec.children - 1 - spare) }
+    ensures { result ≡ slice_in site.now.geometry site.now.metaslab stripe }
 {
     let height = u64::from(site.geometry.props.height);
-    let groups = u64::from(site.geometry.ngroups);
-    let slice = pool_number(site, stripe) / (height * groups);
-    site.perms
-        .child(slice, site.geometry.spec.children - 1 - spare)
+    pool_number(site, stripe) / (height * u64::from(site.geometry.ngroups))
+}
+
+/// The slot at a spare's position of a slice.
+fn slot_at_spare(site: &Site, slice: u64, spare: u32) -> u32
+    requires layout { IsLayout site.now.geometry site.now.perms }
+    ensures { result ≡ spare_slot site.now.perms slice spare }
+{
+    let last = site.geometry.spec.children - 1;
+    site.perms.child(slice, last.saturating_sub(spare))
+}
+
+/// The slot on whose first leaf a spare keeps what belongs to a stripe: the one at which its chain of spares ends.
+pub fn home(site: &Site, order: &[Vec<ArmName>], spare: u32, stripe: u64) -> u32
+    requires layout { IsLayout site.now.geometry site.now.perms }
+    requires metaslab { site.now.metaslab < site.now.geometry.props.metaslabs }
+    requires stripe { stripe < 2 ^ 49 }
+    ensures { result ≡ home_at (site_layout site.now) (names_at order.now) spare stripe }
+{
+    let slice = slice_of(site, stripe);
+    let mut slot = slot_at_spare(site, slice, spare);
+    for _passed in 0..site.geometry.spec.spares {
+        match first_spare(names_of(order, slot as usize)) {
+            Some(next) => slot = slot_at_spare(site, slice, next),
+            None => return slot,
+        }
+    }
+    slot
 }
 
 /// The leaf on which an arm keeps what belongs to a stripe.
@@ -48,7 +71,7 @@ pub fn leaf_at(site: &Site, order: &[Vec<ArmName>], name: ArmName, stripe: u64) 
             if spare >= site.geometry.spec.spares {
                 return None;
             }
-            first_leaf(names_of(order, home(site, spare, stripe) as usize))
+            first_leaf(names_of(order, home(site, order, spare, stripe) as usize))
         }
     }
 }
