@@ -1,5 +1,6 @@
 pub mod Bounds
 pub mod Calm
+pub mod Fitted
 pub mod Follows
 pub mod Landings
 pub mod Listing
@@ -9,6 +10,7 @@ pub mod Others
 pub mod Owning
 pub mod Passes
 pub mod Places
+pub mod Ranges
 pub mod Rows
 pub mod Sample
 pub mod Seals

@@ -261,7 +261,7 @@ module _ (l : Layout) (lay : IsLayout l) where
     pub arms : ArmsFit l w
     pub segments : SegmentsFit l w
 
-  step_all : (w : State) (e : Event) (new : State) → Step l w e new → AllFits w → AllFits new
+  pub step_all : (w : State) (e : Event) (new : State) → Step l w e new → AllFits w → AllFits new
   step_all w e new x s = record {
     listed = step_listed l lay w e new x s.listed;
     sound = step_sound l lay w e new x s.listed.core s.sound;
@@ -274,7 +274,7 @@ module _ (l : Layout) (lay : IsLayout l) where
   run_all w [] new is s = subst (λ v. AllFits v) (sym is) s
   run_all w (e ∷ es) new r s = run_all r.0 es new r.2 (step_all w e r.0 r.1 s)
 
-  created_fit : (version : ℕ) → AllFits (created l version)
+  pub created_fit : (version : ℕ) → AllFits (created l version)
   created_fit version = record {
     listed = created_all l lay version;
     sound = created_sound l lay version;

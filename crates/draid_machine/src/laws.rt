@@ -5,6 +5,7 @@ ghost use Rattle.draid_machine.specs.Step.{Run, Step};
 ghost use Rattle.draid_machine.specs.declared.event.Event.{Event};
 ghost use Rattle.draid_machine.specs.declared.names.Key.{Key};
 ghost use Rattle.draid_machine.specs.declared.names.Segment.{Segment};
+ghost use Rattle.draid_machine.specs.Fitting.{Fitting, KeepsLogs};
 ghost use Rattle.draid_machine.specs.Images.{ImagesStand, IsThere, LiesAt, Owned};
 ghost use Rattle.draid_machine.specs.Sound.{LogSound, LogsWithin, Sound};
 ghost use Rattle.draid_machine.specs.State.{IsLayout, Layout, State};
@@ -41,6 +42,22 @@ pub fn segments_lie_apart()
         → IsLayout layout → IsReached layout state
         → IsThere layout state one → IsThere layout state other
         → LiesAt layout state.core one leaf sector → LiesAt layout state.core other leaf sector → one ≡ other }
+{}
+
+/// Law: after every legal history of a new metaslab, it and its images can be written as records: numbers
+/// are in range, a pass has the last number, stands within the metaslab, and has its targets in the order of
+/// the slots; each slot has a leaf and at most three arms; versions are 1 or 2, and no more is held than
+/// they allow.
+pub fn every_state_fits()
+    ensures { (layout : Layout) (state : State) → IsLayout layout → IsReached layout state
+        → Fitting layout state }
+{}
+
+/// Law: a legal event takes a group out of an arm's log only where a pass ends without errors that had the
+/// arm among its targets, where the arm comes to lie elsewhere, or where the metaslab is opened again.
+pub fn logs_are_kept()
+    ensures { (layout : Layout) (state new : State) (event : Event) → IsLayout layout
+        → IsReached layout state → Step layout state event new → KeepsLogs layout state event new }
 {}
 
 /// Law: in each state that a legal history gives, a legal event has one result, and so has the history.

@@ -1,0 +1,4 @@
+use Rattle.draid_machine.proofs.laws.logs_are_kept.Goals as goal
+
+pub returns : goal.returns
+returns c = ?
