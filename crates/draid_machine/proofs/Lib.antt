@@ -4,6 +4,7 @@ pub mod Fitted
 pub mod Follows
 pub mod Landings
 pub mod Listing
+pub mod Logs
 pub mod Losing
 pub mod Moves
 pub mod Others

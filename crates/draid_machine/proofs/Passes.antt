@@ -216,7 +216,7 @@ module _ (l : Layout) (lay : IsLayout l) where
   pub lost_same : (bad : ArmName → Bool) (p : Pass) → SamePass p (lose_some bad p)
   lost_same bad p = lose_same bad (lost_errors p.kind bad p.targets) p
 
-  ended_same : (q : Core) (p : Pass) (failed : List ℕ) → SamePass p (ended_pass l q p failed)
+  pub ended_same : (q : Core) (p : Pass) (failed : List ℕ) → SamePass p (ended_pass l q p failed)
   ended_same q p failed = by (is_heal p.kind)
     where
       by : (b : Bool) → SamePass p (if b then p else lose_some (lies_on l q (is_silent q failed)) p)
