@@ -162,16 +162,26 @@ module _ (l : Layout) (lay : IsLayout l) where
         replan_cases l (λ v. Fitting l v) r (has_moved l w.core q) w.core.pass
         (λ none. fit_on l w r refl refl refl refl s.open_group (record { held = s.core.held; order = order; last = s.core.last; pass = λ p e. absurd (none_some w.core.pass p none e) }) s)
         (λ p pass kind. fit_on l w (record r { core = record r.core { pass = Some (lose_targets (has_moved l w.core q) 0 p) } }) refl refl refl refl s.open_group
-        (record { held = s.core.held; order = order; last = s.core.last; pass = λ v e. subst (PassFits l q.order w.core.last) (some_injective (lose_targets (has_moved l w.core q) 0 p) v e)
-          (lost_fits l q.order w.core.last 0 (has_moved l w.core q) p (still_fits p pass)) }) s)
+        (record {
+          held = s.core.held;
+          order = order;
+          last = s.core.last;
+          pass = λ v e. subst (PassFits l q.order w.core.last) (some_injective (lose_targets (has_moved l w.core q) 0 p) v e)
+              (lost_fits l q.order w.core.last 0 (has_moved l w.core q) p (still_fits p pass));
+        }) s)
         (λ p pass kind.
         let number = (s.core.pass p pass).number in
         let numbers = may p pass kind in
         let less = numbers.0 in
         let ts = targets_of l r.core Rebuild in
         fit_on l w (plan_state r Rebuild ts) refl refl refl refl s.open_group
-        (record { held = s.core.held; order = order; last = omega (arith, number, less); pass = λ v e. subst (PassFits l q.order (w.core.last + 1)) (some_injective (planned_pass r Rebuild ts) v e)
-          (plan_fits l r Rebuild ts q.order (filter_own (is_target l r.core Rebuild) (arms_below q.order l.slots)) (λ e. numbers.1) low) }) s)
+        (record {
+          held = s.core.held;
+          order = order;
+          last = omega (arith, number, less);
+          pass = λ v e. subst (PassFits l q.order (w.core.last + 1)) (some_injective (planned_pass r Rebuild ts) v e)
+              (plan_fits l r Rebuild ts q.order (filter_own (is_target l r.core Rebuild) (arms_below q.order l.slots)) (λ e. numbers.1) low);
+        }) s)
 
   detach_fits : (w : State) (slot : ℕ) (n : ArmName) (a : Arm) (last : ℕ) → has_name (w.core.order slot) n ≡ true → LeavesLeaf w.core slot n → w.core.pass ≡ None → Fitting l w → Fitting l (detach_state l w slot n a last)
   detach_fits w slot n a last listed leaves idle s =
@@ -189,7 +199,7 @@ module _ (l : Layout) (lay : IsLayout l) where
     versions = record {
       committed = s.versions.committed;
       asked = inr refl;
-      least = elim s.versions.committed [ | inl e ↦ omega (arith, e) | inr e ↦ omega (arith, e) ];
+      least = elim s.versions.committed [ inl e ↦ omega (arith, e) | inr e ↦ omega (arith, e) ];
       image = s.versions.image;
       sealed = λ img e. absurd (none_some w.sealed img unsealed e);
     };

@@ -3,6 +3,7 @@ pub mod Calm
 pub mod Fitted
 pub mod Follows
 pub mod Landings
+pub mod Lent
 pub mod Listing
 pub mod Logs
 pub mod Losing

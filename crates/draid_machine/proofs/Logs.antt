@@ -99,9 +99,9 @@ module _ (l : Layout) where
       went : (c : Arm) → r.core.arm m ≡ Some c → c.log g ≡ false → has_moved l w.core q m ≡ true
       went c z f = elim (rearranged_logs w last (attached_core w.core slot n last) m a c g (set_logs w.core.arm n _ (λ d k found. absurd (none_some (w.core.arm n) d unused found))) x
           (found_or_not ((attached_core w.core slot n last).arm m)) z t) [
-        | inl moved ↦ moved
-        | inr has ↦ absurd_test (c.log g) has f
-      ]
+            | inl moved ↦ moved
+            | inr has ↦ absurd_test (c.log g) has f
+          ]
 
       unfilled : (d c : Arm) → c ≡ fill_if (has_name (targets_of l r.core Rebuild) m) (w.open_group + 1) d → c.log g ≡ false → d.log g ≡ false
       unfilled d c is f = elim (bool_cases (d.log g)) [

@@ -5,10 +5,10 @@ ghost use Rattle.draid_machine.specs.Step.{Run, Step};
 ghost use Rattle.draid_machine.specs.declared.event.Event.{Event};
 ghost use Rattle.draid_machine.specs.declared.names.Key.{Key};
 ghost use Rattle.draid_machine.specs.declared.names.Segment.{Segment};
-ghost use Rattle.draid_machine.specs.Fitting.{Fitting, KeepsLogs};
+ghost use Rattle.draid_machine.specs.Fitting.{Fitting, KeepsLogs, LoanReads};
 ghost use Rattle.draid_machine.specs.Images.{ImagesStand, IsThere, LiesAt, Owned};
 ghost use Rattle.draid_machine.specs.Sound.{LogSound, LogsWithin, Sound};
-ghost use Rattle.draid_machine.specs.State.{IsLayout, Layout, State};
+ghost use Rattle.draid_machine.specs.State.{IsLayout, Layout, Loan, State};
 
 /// Law: after every legal history of a new metaslab, with failures, passes, loans that are out, crashes
 /// and openings anywhere, its logs are sound.
@@ -51,6 +51,13 @@ pub fn segments_lie_apart()
 pub fn every_state_fits()
     ensures { (layout : Layout) (state : State) → IsLayout layout → IsReached layout state
         → Fitting layout state }
+{}
+
+/// Law: after every legal history of a new metaslab, the arms that the loan that counts was read from are
+/// arms of their columns' slots, and what a rebuild copies from is present.
+pub fn loans_read_what_is_there()
+    ensures { (layout : Layout) (state : State) (loan : Loan) → IsLayout layout → IsReached layout state
+        → state.loan ≡ Some loan → LoanReads layout state loan }
 {}
 
 /// Law: a legal event takes a group out of an arm's log only where a pass ends without errors that had the
