@@ -1,5 +1,6 @@
 pub mod Bounds
 pub mod Calm
+pub mod Chained
 pub mod Fitted
 pub mod Follows
 pub mod Landings

@@ -297,18 +297,18 @@ module _ (l : Layout) (lay : IsLayout l) where
     abbrev q : Core
     q = attached_core w.core slot n last
 
-    abbrev new : Arm
-    new = record { offline = false; fresh = true; log = up_to last; gone = None }
+    abbrev new_one : Arm
+    new_one = record { offline = false; fresh = true; log = up_to last; gone = None }
 
     renewed : (o : Option Pass) → TargetsListed q.order o → AreListed (record (renewed_core l w.core last q) { pass = o })
     renewed o targets = each_listed (record q { pass = None }) (λ m. renew_if (has_moved l w.core q m) last) w.core.held o w.core.last (λ m a. refl) targets
-        (attach_listed l lay w slot n new refl unused s.core)
+        (attach_listed l lay w slot n new_one refl unused s.core)
 
     left_ones : (p : Pass) → w.core.pass ≡ Some p → TargetsListed q.order (Some (lose_targets (has_moved l w.core q) 0 p))
     left_ones p pass r m e t =
         let kept = has_filter (λ x. not (has_moved l w.core q x)) p.targets m (subst (λ (x : Pass). has_name x.targets m ≡ true) (sym (some_injective (lose_targets (has_moved l w.core q) 0 p) r e)) t) in
         let z = s.core.targets p m pass kept.0 in
-        (z.0, stays_listed l lay w slot n new refl unused s.core z.0 m z.1)
+        (z.0, stays_listed l lay w slot n new_one refl unused s.core z.0 m z.1)
 
     attached_listed : Listed (attach_state l w slot n last)
     attached_listed =

@@ -154,8 +154,8 @@ module _ (l : Layout) (lay : IsLayout l) where
     abbrev joined : Core
     joined = attached_core w.core slot n last
 
-    abbrev new : Arm
-    new = record { offline = false; fresh = true; log = up_to last; gone = None }
+    abbrev new_one : Arm
+    new_one = record { offline = false; fresh = true; log = up_to last; gone = None }
 
     other : (m : ArmName) (a : Arm) → w.core.arm m ≡ Some a → name_eq n m ≡ false
     other m a e = elim (bool_cases (name_eq n m)) [
@@ -164,10 +164,10 @@ module _ (l : Layout) (lay : IsLayout l) where
     ]
 
     attached_slots : (g c : ℕ) (m : ArmName) → g ≤ w.open_group → HadSlot w.core g c m → HadSlot (record w.core { arm = joined.arm; order = joined.order }) g c m
-    attached_slots g c m upto (inl here) = inl (stays_listed l lay w slot n new refl unused listed c m here)
+    attached_slots g c m upto (inl here) = inl (stays_listed l lay w slot n new_one refl unused listed c m here)
     attached_slots g c m upto (inr x) =
         let was : WasArm w.core c m = x.0 in
-        inr (record { a = was.a; g = was.g; found = arm_other w.core.arm n m (Some new) (other m was.a was.found) ∙ was.found; gone = was.gone; slot_is = was.slot_is }, x.1)
+        inr (record { a = was.a; g = was.g; found = arm_other w.core.arm n m (Some new_one) (other m was.a was.found) ∙ was.found; gone = was.gone; slot_is = was.slot_is }, x.1)
 
     attach_segments : SegmentsFit l (attach_state l w slot n last)
     attach_segments =
