@@ -1,31 +1,29 @@
 -- So every legal history keeps that a state and its images can be written as records.
-use Rattle.std.proofs.Common.{◌≡◌, ◌+◌, ◌-◌, ◌<◌, ◌≤◌, ◌⊎◌, ◌&&◌, ◌==◌, not, ℕ, Bool, true, false, nat_le, nat_lt, List, [], ◌∷◌, ◌++◌, Option, Some, None, filter, length, refl, sym, ◌∙◌, ap, subst, inl, inr, arith, if◌then◌else◌}
+use Rattle.std.proofs.Common.{◌≡◌, ◌+◌, ◌<◌, ◌≤◌, not, ℕ, Bool, true, false, nat_le, nat_lt, List, [], ◌∷◌, Option, Some, None, filter, length, refl, sym, ◌∙◌, ap, subst, inl, inr, arith, if◌then◌else◌}
 use Rattle.std.proofs.lemmas.Bool.{true≢false}
-use Rattle.std.proofs.lemmas.Bool.Decides.{nat_tests}
 use Rattle.draid_names.specs.Numbers.{most_held}
 use Rattle.draid_names.specs.declared.numbers.TheConstants.{LAST_NUMBER}
 use Rattle.draid_names.specs.declared.pass_kind.PassKind.{PassKind}
 use Rattle.draid_names.specs.declared.pass_kind.PassKind.TheVariants.{Rebuild, Heal}
 use Rattle.draid_machine.specs.declared.names.Key.{Key}
 use Rattle.draid_machine.specs.declared.names.ArmName.{ArmName}
-use Rattle.draid_machine.specs.declared.names.ArmName.TheVariants.{Leaf, Spare}
-use Rattle.draid_machine.specs.declared.names.Stage.{Stage}
+use Rattle.draid_machine.specs.declared.names.ArmName.TheVariants.{Leaf}
 use Rattle.draid_machine.specs.declared.names.Stage.TheVariants.{Writing, Live, Freed}
 use Rattle.draid_machine.specs.declared.names.Held.{Held}
 use Rattle.draid_machine.specs.declared.names.Segment.{Segment}
 use Rattle.draid_machine.specs.declared.event.Patched.{Patched}
 use Rattle.draid_machine.specs.declared.event.Event.{Event}
 use Rattle.draid_machine.specs.declared.event.Event.TheVariants.{Begin, Put, Finish, Abort, Free, Fetch, Damage, Offline, Online, Attach, Detach, Upgrade, Close, Seal, Commit, Plan, Ready, Lend, LandStripe, LandBlock, Done, Cancel, Reopen}
-use Rattle.draid_machine.specs.Names.{name_eq, has_name, is_leaf, is_nil, takes}
+use Rattle.draid_machine.specs.Names.{name_eq, has_name, is_nil, takes}
 use Rattle.draid_machine.specs.State.{Layout, IsLayout, Arm, Pass, Core, Loan, Image, State}
 use Rattle.draid_machine.specs.Arms.{lies_on, is_silent, has_moved, targets_of, is_target, arms_below}
-use Rattle.draid_machine.specs.After.{set_order, begin_state, put_state, gone_state, live_state, finish_state, free_state, switch_state, attached_core, detached_core, renewed_core, rearranged_state, attach_state, detach_state, upgrade_state, close_state, lose_some, lose_targets, lost_errors, capped, map_pass, image_of, sealed_core, seal_state, is_freed_block, commit_state, planned_pass, plan_state, ready_state, lend_errors, lend_state, unsourced, misses_stripe, pass_over, mend_state, land_stripe_state, misses_block, heal_state, land_block_state, ended_pass, done_state, cancel_state, reopen_state}
+use Rattle.draid_machine.specs.After.{begin_state, put_state, gone_state, live_state, finish_state, free_state, switch_state, attached_core, rearranged_state, attach_state, detach_state, upgrade_state, close_state, lose_some, lose_targets, lost_errors, capped, image_of, sealed_core, seal_state, is_freed_block, commit_state, planned_pass, plan_state, ready_state, lend_errors, lend_state, unsourced, misses_stripe, pass_over, mend_state, land_stripe_state, misses_block, heal_state, land_block_state, ended_pass, done_state, cancel_state, reopen_state}
 use Rattle.draid_machine.specs.Created.{created, created_core, IsReached}
-use Rattle.draid_machine.specs.Images.{IsImage, ImagesStand, AreListed}
+use Rattle.draid_machine.specs.Images.{IsImage, AreListed}
 use Rattle.draid_machine.specs.Sound.{Sound}
-use Rattle.draid_machine.specs.Fitting.{HeldFits, IsOnce, OrderFits, PassFits, CoreFits, IsVersion, VersionsFit, Fitting}
-use Rattle.draid_machine.specs.Step.{IsLast, MayPlan, MayReplan, LeavesLeaf, Step, Run}
-use Rattle.draid_machine.proofs.Small.{some_injective, some_same, none_some, both_true, either_true, bool_cases, absurd_test, true_left, mapped_pass, kept_some, name_refl, is_below, below}
+use Rattle.draid_machine.specs.Fitting.{HeldFits, IsOnce, OrderFits, PassFits, CoreFits, IsVersion, Fitting}
+use Rattle.draid_machine.specs.Step.{MayPlan, MayReplan, LeavesLeaf, Step, Run}
+use Rattle.draid_machine.proofs.Small.{some_injective, some_same, none_some, both_true, bool_cases, absurd_test, true_left, mapped_pass, kept_some, name_refl, is_below, below}
 use Rattle.draid_machine.proofs.Seals.{sealed_held}
 use Rattle.draid_machine.proofs.Moves.{replan_cases}
 use Rattle.draid_machine.proofs.Listing.{opened_image}

@@ -1,12 +1,11 @@
 -- Every legal event keeps what is said of the loan that counts: the arms that it read are listed, and a rebuild's sources are present.
-use Rattle.std.proofs.Common.{◌≡◌, ◌+◌, ◌-◌, ◌/◌, ◌<◌, ◌≤◌, ◌⊎◌, ◌&&◌, ◌||◌, ◌==◌, not, ℕ, Bool, true, false, nat_le, nat_lt, List, [], ◌∷◌, Option, Some, None, filter, find, cond, refl, sym, ◌∙◌, ap, subst, inl, inr, arith, if◌then◌else◌}
+use Rattle.std.proofs.Common.{◌≡◌, ◌+◌, ◌-◌, ◌/◌, ◌<◌, ◌≤◌, ◌⊎◌, ◌&&◌, ◌==◌, not, ℕ, Bool, true, false, nat_le, nat_lt, List, [], ◌∷◌, Option, Some, None, filter, find, cond, refl, sym, ◌∙◌, ap, subst, inl, inr, arith, if◌then◌else◌}
 use Rattle.std.proofs.lemmas.Bool.{true≢false}
 use Rattle.std.proofs.lemmas.Bool.Decides.{nat_tests}
 use Rattle.draid_names.specs.declared.pass_kind.PassKind.{PassKind}
-use Rattle.draid_names.specs.declared.pass_kind.PassKind.TheVariants.{Rebuild, Heal}
+use Rattle.draid_names.specs.declared.pass_kind.PassKind.TheVariants.{Rebuild}
 use Rattle.draid_machine.specs.declared.names.Key.{Key}
 use Rattle.draid_machine.specs.declared.names.ArmName.{ArmName}
-use Rattle.draid_machine.specs.declared.names.ArmName.TheVariants.{Leaf}
 use Rattle.draid_machine.specs.declared.names.Stage.{Stage}
 use Rattle.draid_machine.specs.declared.names.Stage.TheVariants.{Writing, Live, Freed}
 use Rattle.draid_machine.specs.declared.names.Held.{Held}
@@ -14,17 +13,16 @@ use Rattle.draid_machine.specs.declared.names.Segment.{Segment}
 use Rattle.draid_machine.specs.declared.event.Patched.{Patched}
 use Rattle.draid_machine.specs.declared.event.Event.{Event}
 use Rattle.draid_machine.specs.declared.event.Event.TheVariants.{Begin, Put, Finish, Abort, Free, Fetch, Damage, Offline, Online, Attach, Detach, Upgrade, Close, Seal, Commit, Plan, Ready, Lend, LandStripe, LandBlock, Done, Cancel, Reopen}
-use Rattle.draid_machine.specs.Names.{key_eq, name_eq, has_name, is_block, is_heal, is_nil, takes}
+use Rattle.draid_machine.specs.Names.{key_eq, name_eq, has_name, is_block, is_heal, is_nil}
 use Rattle.draid_machine.specs.State.{Layout, IsLayout, Arm, Pass, Core, Loan, Image, State}
-use Rattle.draid_machine.specs.Arms.{answers, fails, is_clean, logged, passes, leaf_at, lies_on, is_silent, else_some, reading, IsFirst, IsSource, HasEmptyLog, has_moved, targets_of}
-use Rattle.draid_machine.specs.Claims.{is_at}
+use Rattle.draid_machine.specs.Arms.{answers, fails, is_clean, logged, passes, leaf_at, lies_on, is_silent, else_some, IsFirst, IsSource, HasEmptyLog, has_moved}
 use Rattle.draid_machine.specs.After.{set_held, lose_some, gone_state, live_state, finish_state, attached_core, rearranged_state, attach_state, is_freed_block, keep_loan, is_kept_by, stays, commit_state, lend_state, capped, lend_errors, unsourced, pass_over, mend_state, land_stripe_state, land_block_state}
 use Rattle.draid_machine.specs.Created.{IsReached, created}
 use Rattle.draid_machine.specs.Fitting.{LoanReads}
 use Rattle.draid_machine.specs.Images.{AreListed}
-use Rattle.draid_machine.specs.Sound.{LoanFits, Sound}
-use Rattle.draid_machine.specs.Step.{IsNext, IsChosen, unless_failed, to_list, arms_read, LendStep, Step, Run}
-use Rattle.draid_machine.proofs.Small.{some_injective, some_same, none_some, both_true, either_true, bool_cases, absurd_test, not_false, true_left, true_right, key_true, key_refl, held_cases, mapped_pass, kept_some, kept_if, has_filter, name_true, is_low, is_below, equal, name_refl}
+use Rattle.draid_machine.specs.Sound.{Sound}
+use Rattle.draid_machine.specs.Step.{unless_failed, to_list, LendStep, Step, Run}
+use Rattle.draid_machine.proofs.Small.{some_injective, some_same, none_some, both_true, either_true, bool_cases, absurd_test, true_left, true_right, key_true, held_cases, mapped_pass, kept_some, kept_if, has_filter, name_true, is_low, is_below, equal, name_refl}
 use Rattle.draid_machine.proofs.Moves.{replan_cases}
 use Rattle.draid_machine.proofs.Owning.{put_block}
 use Rattle.draid_machine.proofs.Losing.{AllFits, step_all, created_fit}

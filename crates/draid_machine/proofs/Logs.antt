@@ -1,7 +1,7 @@
 -- A legal event takes groups out of a log only at the end of a pass, where the arm moves, or by an opening.
-use Rattle.std.proofs.Common.{◌≡◌, ◌+◌, ◌<◌, ◌≤◌, ◌⊎◌, ◌&&◌, ◌||◌, ◌==◌, not, ℕ, Bool, true, false, nat_le, nat_lt, List, Option, Some, None, refl, sym, ◌∙◌, ap, subst, inl, inr, arith, if◌then◌else◌}
+use Rattle.std.proofs.Common.{◌≡◌, ◌+◌, ◌≤◌, ◌⊎◌, ◌&&◌, ◌==◌, not, ℕ, Bool, true, false, nat_le, nat_lt, List, Option, Some, None, refl, sym, ◌∙◌, ap, subst, inl, inr, if◌then◌else◌}
 use Rattle.std.proofs.lemmas.Bool.{true≢false}
-use Rattle.draid_names.specs.declared.pass_kind.PassKind.TheVariants.{Rebuild, Heal}
+use Rattle.draid_names.specs.declared.pass_kind.PassKind.TheVariants.{Rebuild}
 use Rattle.draid_machine.specs.declared.names.Key.{Key}
 use Rattle.draid_machine.specs.declared.names.ArmName.{ArmName}
 use Rattle.draid_machine.specs.declared.names.ArmName.TheVariants.{Leaf, Spare}
@@ -10,7 +10,7 @@ use Rattle.draid_machine.specs.declared.event.Patched.{Patched}
 use Rattle.draid_machine.specs.declared.event.Event.{Event}
 use Rattle.draid_machine.specs.declared.event.Event.TheVariants.{Begin, Put, Finish, Abort, Free, Fetch, Damage, Offline, Online, Attach, Detach, Upgrade, Close, Seal, Commit, Plan, Ready, Lend, LandStripe, LandBlock, Done, Cancel, Reopen}
 use Rattle.draid_machine.specs.Concerns.{is_opening}
-use Rattle.draid_machine.specs.Names.{name_eq, has_name, is_heal, up_to}
+use Rattle.draid_machine.specs.Names.{has_name, is_heal}
 use Rattle.draid_machine.specs.State.{Layout, IsLayout, Arm, Pass, Core, Loan, State}
 use Rattle.draid_machine.specs.Arms.{lies_on, is_silent, has_moved, targets_of}
 use Rattle.draid_machine.specs.After.{set_arm, each_arm, log_if, fill_if, excise_if, renew_if, lose_targets, gone_state, live_state, finish_state, switch_state, attached_core, detached_core, rearranged_state, attach_state, detach_state, seal_state, is_gone_arm, plan_state, unsourced, pass_over, mend_state, land_stripe_state, land_block_state, ended_pass, done_state}
@@ -18,7 +18,7 @@ use Rattle.draid_machine.specs.Created.{IsReached}
 use Rattle.draid_machine.specs.Fitting.{MadeGood, KeepsLogs}
 use Rattle.draid_machine.specs.Sound.{LogsWithin}
 use Rattle.draid_machine.specs.Step.{Step}
-use Rattle.draid_machine.proofs.Small.{some_injective, some_same, none_some, both_true, true_both, bool_cases, absurd_test, true_left, arm_cases, mapped_arm, kept_some, low, is_low, is_equal, name_true}
+use Rattle.draid_machine.proofs.Small.{some_injective, some_same, none_some, both_true, true_both, bool_cases, absurd_test, true_left, arm_cases, mapped_arm, kept_some, low, is_low, is_equal}
 use Rattle.draid_machine.proofs.Passes.{ended_same}
 use Rattle.draid_machine.proofs.Moves.{replan_cases}
 use Rattle.draid_machine.proofs.Bounds.{every_log}

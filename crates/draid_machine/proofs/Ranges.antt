@@ -1,24 +1,21 @@
 -- Every legal event keeps that a state and its images can be written as records.
-use Rattle.std.proofs.Common.{◌≡◌, ◌+◌, ◌-◌, ◌<◌, ◌≤◌, ◌⊎◌, ◌&&◌, ◌||◌, ◌==◌, not, ℕ, zero, suc, Bool, true, false, nat_lt, List, [], ◌∷◌, ◌++◌, Option, Some, None, Contains, filter, cond, length, length-append, min, refl, sym, ◌∙◌, ap, subst, inl, inr, arith, if◌then◌else◌}
+use Rattle.std.proofs.Common.{◌≡◌, ◌+◌, ◌<◌, ◌≤◌, ◌&&◌, ◌||◌, ◌==◌, not, ℕ, zero, suc, Bool, true, false, List, [], ◌∷◌, ◌++◌, Option, Some, None, filter, cond, length, length-append, refl, sym, ◌∙◌, ap, subst, inl, inr, arith, if◌then◌else◌}
 use Rattle.std.proofs.lemmas.Bool.{true≢false}
 use Rattle.std.proofs.lemmas.Bool.Decides.{nat_tests}
 use Rattle.std.proofs.lemmas.List.Elements.{Contains-append_left, Contains-append_right}
-use Rattle.draid_names.specs.Numbers.{most_held}
 use Rattle.draid_names.specs.declared.numbers.TheConstants.{LAST_NUMBER}
-use Rattle.draid_names.specs.declared.pass_kind.PassKind.{PassKind}
-use Rattle.draid_names.specs.declared.pass_kind.PassKind.TheVariants.{Rebuild, Heal}
 use Rattle.draid_machine.specs.declared.names.Key.{Key}
 use Rattle.draid_machine.specs.declared.names.ArmName.{ArmName}
 use Rattle.draid_machine.specs.declared.names.ArmName.TheVariants.{Leaf, Spare}
 use Rattle.draid_machine.specs.declared.names.Stage.{Stage}
 use Rattle.draid_machine.specs.declared.names.Held.{Held}
-use Rattle.draid_machine.specs.Names.{name_eq, has_name, is_leaf, is_heal}
-use Rattle.draid_machine.specs.State.{Layout, Pass, Core, Loan, Image, State}
+use Rattle.draid_machine.specs.Names.{name_eq, has_name, is_leaf}
+use Rattle.draid_machine.specs.State.{Layout, Core}
 use Rattle.draid_machine.specs.Arms.{arms_below}
-use Rattle.draid_machine.specs.After.{set_held, set_order, capped, lose_targets}
-use Rattle.draid_machine.specs.Fitting.{HeldFits, IsOnce, OrderFits, PassFits}
-use Rattle.draid_machine.specs.Step.{HoldsFewer, LeavesLeaf}
-use Rattle.draid_machine.proofs.Small.{some_injective, some_same, none_some, either_true, bool_cases, absurd_test, not_true, not_false, true_left, true_right, held_cases, has_append, has_filter, filter_has, name_true, name_refl}
+use Rattle.draid_machine.specs.After.{set_held, set_order, capped}
+use Rattle.draid_machine.specs.Fitting.{HeldFits, IsOnce, OrderFits}
+use Rattle.draid_machine.specs.Step.{HoldsFewer}
+use Rattle.draid_machine.proofs.Small.{some_injective, none_some, either_true, bool_cases, absurd_test, not_false, true_left, true_right, held_cases, has_append, has_filter, filter_has, name_true, name_refl}
 
 -- ---- blocks and tickets
 pub held_more : (few more : ℕ) (held : Key → Option Held) → few ≤ more → HeldFits few held → HeldFits more held

@@ -1,6 +1,6 @@
-use Rattle.std.proofs.Common.{◌≡◌, ◌⊎◌, ◌+◌, ℕ, Option, Some, refl, sym, ap, subst, ◌∙◌, inl, inr}
+use Rattle.std.proofs.Common.{◌≡◌, ◌⊎◌, ℕ, Some, refl, sym, ap, subst, ◌∙◌, inl, inr}
 use Rattle.draid_machine.specs.State.{Image, Layout, State}
-use Rattle.draid_machine.specs.After.{commit_state, image_of, sealed_core, seal_state, reopen_state}
+use Rattle.draid_machine.specs.After.{image_of, sealed_core}
 use Rattle.draid_machine.specs.Images.{IsImage}
 use Rattle.draid_machine.specs.Sound.{Sound}
 use Rattle.draid_machine.proofs.Small.{some_injective}
