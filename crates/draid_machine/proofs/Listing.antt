@@ -1,14 +1,11 @@
 -- Every legal event keeps that the slots' orders have just the arms that aren't detached, each once, and that targets are among them.
-use Rattle.std.proofs.Common.{◌≡◌, ◌+◌, ◌<◌, ◌≤◌, ◌≢◌, ◌⊎◌, ◌&&◌, ◌==◌, not, ℕ, zero, suc, Bool, true, false, nat_le, nat_lt, List, [], ◌∷◌, ◌++◌, Option, Some, None, filter, refl, sym, ◌∙◌, ap, subst, inl, inr, arith, if◌then◌else◌}
+use Rattle.std.proofs.Common.{◌≡◌, ◌+◌, ◌<◌, ◌⊎◌, ◌&&◌, ◌==◌, not, ℕ, zero, suc, Bool, true, false, nat_lt, List, [], ◌∷◌, ◌++◌, Option, Some, None, filter, refl, sym, ◌∙◌, ap, subst, inl, inr, if◌then◌else◌}
 use Rattle.std.proofs.lemmas.Bool.{true≢false}
-use Rattle.std.proofs.lemmas.Bool.Decides.{nat_tests}
 use Rattle.draid_names.specs.declared.pass_kind.PassKind.{PassKind}
 use Rattle.draid_names.specs.declared.pass_kind.PassKind.TheVariants.{Rebuild, Heal}
 use Rattle.draid_machine.specs.declared.names.Key.{Key}
 use Rattle.draid_machine.specs.declared.names.ArmName.{ArmName}
 use Rattle.draid_machine.specs.declared.names.ArmName.TheVariants.{Leaf, Spare}
-use Rattle.draid_machine.specs.declared.names.Stage.{Stage}
-use Rattle.draid_machine.specs.declared.names.Stage.TheVariants.{Writing, Live, Freed}
 use Rattle.draid_machine.specs.declared.names.Held.{Held}
 use Rattle.draid_machine.specs.declared.names.Segment.{Segment}
 use Rattle.draid_machine.specs.declared.event.Patched.{Patched}
@@ -18,10 +15,10 @@ use Rattle.draid_machine.specs.Names.{name_eq, has_name, is_heal, up_to}
 use Rattle.draid_machine.specs.State.{Layout, IsLayout, Gone, Arm, Pass, Core, Loan, Image, State}
 use Rattle.draid_machine.specs.Arms.{lies_on, is_silent, has_moved, targets_of, is_target, arms_below, is_here}
 use Rattle.draid_machine.specs.After.{set_arm, set_order, each_arm, map_arm, map_pass, log_if, fill_if, excise_if, cut_above, renew_if, lose_some, lose_targets, begin_state, put_state, gone_state, live_state, finish_state, free_state, switch_state, attached_core, detached_core, renewed_core, rearranged_state, attach_state, detach_state, upgrade_state, close_state, keep_if, seal_held, seal_arm, image_of, sealed_core, seal_state, is_gone_by, is_gone_arm, commit_state, planned_pass, plan_state, ready_state, lend_state, unsourced, misses_stripe, pass_over, mend_state, land_stripe_state, misses_block, heal_state, land_block_state, ended_pass, done_state, cancel_state, reopen_state}
-use Rattle.draid_machine.specs.Created.{created, created_core, created_arm, new_arm, IsReached}
+use Rattle.draid_machine.specs.Created.{created, created_core, created_arm, new_arm}
 use Rattle.draid_machine.specs.Images.{IsImage, AreListed}
 use Rattle.draid_machine.specs.Step.{Step}
-use Rattle.draid_machine.proofs.Small.{some_injective, some_same, none_some, both_true, either_true, bool_cases, absurd_test, not_true, not_false, true_left, true_right, key_true, held_at, held_other, arm_at, arm_other, arm_cases, mapped_arm, mapped_pass, kept_some, kept_if, has_append, has_filter, filter_has, name_true, name_refl, name_other, four_true, equal, is_equal, is_below, below}
+use Rattle.draid_machine.proofs.Small.{some_injective, some_same, none_some, either_true, bool_cases, absurd_test, not_true, not_false, true_left, true_right, arm_at, arm_other, arm_cases, mapped_arm, mapped_pass, kept_some, kept_if, has_append, has_filter, filter_has, name_true, name_refl, equal, is_equal, is_below, below}
 use Rattle.draid_machine.proofs.Calm.{order_cases}
 use Rattle.draid_machine.proofs.Seals.{sealed_arm}
 use Rattle.draid_machine.proofs.Moves.{replan_cases}
@@ -297,18 +294,18 @@ module _ (l : Layout) (lay : IsLayout l) where
     abbrev q : Core
     q = attached_core w.core slot n last
 
-    abbrev new : Arm
-    new = record { offline = false; fresh = true; log = up_to last; gone = None }
+    abbrev new_one : Arm
+    new_one = record { offline = false; fresh = true; log = up_to last; gone = None }
 
     renewed : (o : Option Pass) → TargetsListed q.order o → AreListed (record (renewed_core l w.core last q) { pass = o })
     renewed o targets = each_listed (record q { pass = None }) (λ m. renew_if (has_moved l w.core q m) last) w.core.held o w.core.last (λ m a. refl) targets
-        (attach_listed l lay w slot n new refl unused s.core)
+        (attach_listed l lay w slot n new_one refl unused s.core)
 
     left_ones : (p : Pass) → w.core.pass ≡ Some p → TargetsListed q.order (Some (lose_targets (has_moved l w.core q) 0 p))
     left_ones p pass r m e t =
         let kept = has_filter (λ x. not (has_moved l w.core q x)) p.targets m (subst (λ (x : Pass). has_name x.targets m ≡ true) (sym (some_injective (lose_targets (has_moved l w.core q) 0 p) r e)) t) in
         let z = s.core.targets p m pass kept.0 in
-        (z.0, stays_listed l lay w slot n new refl unused s.core z.0 m z.1)
+        (z.0, stays_listed l lay w slot n new_one refl unused s.core z.0 m z.1)
 
     attached_listed : Listed (attach_state l w slot n last)
     attached_listed =

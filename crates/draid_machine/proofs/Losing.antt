@@ -1,9 +1,7 @@
 -- An arm joins a slot or leaves it: what loses its place is kept. So every legal history keeps what is said of segments.
-use Rattle.std.proofs.Common.{◌≡◌, ◌+◌, ◌<◌, ◌≤◌, ◌⊎◌, ◌&&◌, ◌||◌, ◌==◌, not, ℕ, Bool, true, false, nat_lt, List, [], ◌∷◌, ◌++◌, Option, Some, None, is_some, filter, refl, sym, ◌∙◌, ap, subst, inl, inr, arith, if◌then◌else◌}
+use Rattle.std.proofs.Common.{◌≡◌, ◌+◌, ◌<◌, ◌≤◌, ◌⊎◌, ◌&&◌, ◌||◌, ◌==◌, not, ℕ, Bool, true, false, nat_lt, List, [], ◌∷◌, Option, Some, None, is_some, refl, sym, ◌∙◌, ap, subst, inl, inr, arith, if◌then◌else◌}
 use Rattle.std.proofs.lemmas.Bool.{true≢false}
-use Rattle.draid_names.specs.declared.pass_kind.PassKind.{PassKind}
-use Rattle.draid_names.specs.declared.pass_kind.PassKind.TheVariants.{Rebuild, Heal}
-use Rattle.draid_machine.specs.declared.names.Key.{Key}
+use Rattle.draid_names.specs.declared.pass_kind.PassKind.TheVariants.{Rebuild}
 use Rattle.draid_machine.specs.declared.names.ArmName.{ArmName}
 use Rattle.draid_machine.specs.declared.names.ArmName.TheVariants.{Leaf, Spare}
 use Rattle.draid_machine.specs.declared.names.Stage.TheVariants.{Freed}
@@ -12,18 +10,18 @@ use Rattle.draid_machine.specs.declared.names.Segment.{Segment}
 use Rattle.draid_machine.specs.declared.event.Event.{Event}
 use Rattle.draid_machine.specs.declared.event.Event.TheVariants.{Begin, Put, Finish, Abort, Free, Fetch, Damage, Offline, Online, Attach, Detach, Upgrade, Close, Seal, Commit, Plan, Ready, Lend, LandStripe, LandBlock, Done, Cancel, Reopen}
 use Rattle.draid_machine.specs.Names.{name_eq, has_name, is_block, up_to}
-use Rattle.draid_machine.specs.State.{Layout, IsLayout, Gone, Arm, Pass, Core, Loan, Image, State}
+use Rattle.draid_machine.specs.State.{Layout, IsLayout, Gone, Arm, Pass, Core, Loan, State}
 use Rattle.draid_machine.specs.Arms.{lies, passes, first_leaf, first_spare, first_spares, has_moved, targets_of}
 use Rattle.draid_machine.specs.Claims.{is_on, is_at}
-use Rattle.draid_machine.specs.After.{set_arm, set_order, renew_if, attached_core, detached_core, renewed_core, loses_place, kept_after, rearranged_state, attach_state, detach_state, lose_targets, plan_state, ready_state, lend_state, ended_pass}
+use Rattle.draid_machine.specs.After.{set_arm, renew_if, attached_core, detached_core, renewed_core, loses_place, kept_after, rearranged_state, attach_state, detach_state, lose_targets, ended_pass}
 use Rattle.draid_machine.specs.Created.{created, IsReached}
-use Rattle.draid_machine.specs.Images.{IsImage, ImagesStand, AreListed, WasArm, HadSlot, KeptOn, IsKept, IsOwned, Owned}
-use Rattle.draid_machine.specs.Sound.{LoanFits, Sound}
+use Rattle.draid_machine.specs.Images.{ImagesStand, AreListed, WasArm, HadSlot, KeptOn, IsKept, IsOwned, Owned}
+use Rattle.draid_machine.specs.Sound.{Sound}
 use Rattle.draid_machine.specs.Step.{Step, Run}
-use Rattle.draid_machine.proofs.Small.{some_injective, some_same, none_some, both_true, true_both, either_true, bool_cases, absurd_test, not_false, true_left, true_right, four_true, name_true, name_refl, arm_at, arm_other, equal, is_equal, is_below}
+use Rattle.draid_machine.proofs.Small.{some_injective, some_same, none_some, both_true, either_true, bool_cases, absurd_test, true_left, true_right, four_true, name_true, arm_at, arm_other, equal, is_equal, is_below}
 use Rattle.draid_machine.proofs.Tickets.{rebuild_heal}
 use Rattle.draid_machine.proofs.Moves.{replan_cases}
-use Rattle.draid_machine.proofs.Listing.{Listed, step_listed, created_all, opened_image, stays_listed, keeps_listed}
+use Rattle.draid_machine.proofs.Listing.{Listed, step_listed, created_all, stays_listed, keeps_listed}
 use Rattle.draid_machine.proofs.Rows.{step_sound, created_sound}
 use Rattle.draid_machine.proofs.Standing.{step_stands, created_stands}
 use Rattle.draid_machine.proofs.Spares.{ArmsFit, step_fits, created_fits}
@@ -154,8 +152,8 @@ module _ (l : Layout) (lay : IsLayout l) where
     abbrev joined : Core
     joined = attached_core w.core slot n last
 
-    abbrev new : Arm
-    new = record { offline = false; fresh = true; log = up_to last; gone = None }
+    abbrev new_one : Arm
+    new_one = record { offline = false; fresh = true; log = up_to last; gone = None }
 
     other : (m : ArmName) (a : Arm) → w.core.arm m ≡ Some a → name_eq n m ≡ false
     other m a e = elim (bool_cases (name_eq n m)) [
@@ -164,10 +162,10 @@ module _ (l : Layout) (lay : IsLayout l) where
     ]
 
     attached_slots : (g c : ℕ) (m : ArmName) → g ≤ w.open_group → HadSlot w.core g c m → HadSlot (record w.core { arm = joined.arm; order = joined.order }) g c m
-    attached_slots g c m upto (inl here) = inl (stays_listed l lay w slot n new refl unused listed c m here)
+    attached_slots g c m upto (inl here) = inl (stays_listed l lay w slot n new_one refl unused listed c m here)
     attached_slots g c m upto (inr x) =
         let was : WasArm w.core c m = x.0 in
-        inr (record { a = was.a; g = was.g; found = arm_other w.core.arm n m (Some new) (other m was.a was.found) ∙ was.found; gone = was.gone; slot_is = was.slot_is }, x.1)
+        inr (record { a = was.a; g = was.g; found = arm_other w.core.arm n m (Some new_one) (other m was.a was.found) ∙ was.found; gone = was.gone; slot_is = was.slot_is }, x.1)
 
     attach_segments : SegmentsFit l (attach_state l w slot n last)
     attach_segments =
@@ -261,7 +259,7 @@ module _ (l : Layout) (lay : IsLayout l) where
     pub arms : ArmsFit l w
     pub segments : SegmentsFit l w
 
-  step_all : (w : State) (e : Event) (new : State) → Step l w e new → AllFits w → AllFits new
+  pub step_all : (w : State) (e : Event) (new : State) → Step l w e new → AllFits w → AllFits new
   step_all w e new x s = record {
     listed = step_listed l lay w e new x s.listed;
     sound = step_sound l lay w e new x s.listed.core s.sound;
@@ -274,7 +272,7 @@ module _ (l : Layout) (lay : IsLayout l) where
   run_all w [] new is s = subst (λ v. AllFits v) (sym is) s
   run_all w (e ∷ es) new r s = run_all r.0 es new r.2 (step_all w e r.0 r.1 s)
 
-  created_fit : (version : ℕ) → AllFits (created l version)
+  pub created_fit : (version : ℕ) → AllFits (created l version)
   created_fit version = record {
     listed = created_all l lay version;
     sound = created_sound l lay version;

@@ -1,5 +1,5 @@
 -- An arm joins a slot or leaves it, and spares come to lie elsewhere.
-use Rattle.std.proofs.Common.{◌≡◌, ◌+◌, ◌<◌, ◌≤◌, ◌⊎◌, ◌&&◌, ◌==◌, not, ℕ, Bool, true, false, List, [], ◌∷◌, ◌++◌, Option, Some, None, filter, refl, sym, ◌∙◌, ap, subst, inl, inr, arith, if◌then◌else◌}
+use Rattle.std.proofs.Common.{◌≡◌, ◌+◌, ◌<◌, ◌≤◌, ◌⊎◌, ◌&&◌, ◌==◌, not, ℕ, Bool, true, false, List, [], ◌∷◌, ◌++◌, Option, Some, None, refl, sym, ◌∙◌, ap, subst, inl, inr, arith}
 use Rattle.std.proofs.lemmas.Bool.{true≢false}
 use Rattle.draid_names.specs.declared.pass_kind.PassKind.{PassKind}
 use Rattle.draid_names.specs.declared.pass_kind.PassKind.TheVariants.{Rebuild, Heal}
@@ -8,13 +8,13 @@ use Rattle.draid_machine.specs.declared.names.ArmName.TheVariants.{Leaf, Spare}
 use Rattle.draid_machine.specs.declared.names.Held.{Held}
 use Rattle.draid_machine.specs.declared.names.Segment.{Segment}
 use Rattle.draid_machine.specs.Names.{name_eq, has_name, any_below, is_block, up_to}
-use Rattle.draid_machine.specs.State.{Layout, IsLayout, Gone, Arm, Pass, Core, State}
+use Rattle.draid_machine.specs.State.{Layout, IsLayout, Arm, Pass, Core, State}
 use Rattle.draid_machine.specs.Arms.{lies, passes, leaf_at, has_column, same_leaf, has_moved, targets_of}
 use Rattle.draid_machine.specs.Claims.{passed}
-use Rattle.draid_machine.specs.After.{set_order, renew_if, renewed_core, rearranged_state, attached_core, detached_core, lose_targets, plan_state, replan, replan_kind, attach_state, detach_state}
+use Rattle.draid_machine.specs.After.{renew_if, renewed_core, rearranged_state, attached_core, detached_core, lose_targets, plan_state, replan, replan_kind, attach_state, detach_state}
 use Rattle.draid_machine.specs.Sound.{IsClaimed, Sound}
 use Rattle.draid_machine.specs.Step.{IsLast}
-use Rattle.draid_machine.proofs.Small.{some_injective, some_same, none_some, both_true, true_both, either_true, absurd_test, not_true, not_false, any_at, arm_cases, mapped_arm, has_append, has_filter, no_errors, is_equal, bool_cases}
+use Rattle.draid_machine.proofs.Small.{some_injective, none_some, either_true, absurd_test, not_true, any_at, arm_cases, mapped_arm, has_append, has_filter, no_errors, is_equal, bool_cases}
 use Rattle.draid_machine.proofs.Follows.{from_passed, to_passed}
 use Rattle.draid_machine.proofs.Calm.{order_cases, detach_listed}
 use Rattle.draid_machine.proofs.Tickets.{rebuild_heal}

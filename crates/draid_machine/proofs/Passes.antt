@@ -1,21 +1,20 @@
 -- The events of a pass but its landings.
-use Rattle.std.proofs.Common.{◌≡◌, ◌+◌, ◌<◌, ◌≤◌, ◌⊎◌, ◌&&◌, ◌||◌, ◌==◌, not, ℕ, Bool, true, false, nat_le, List, [], ◌∷◌, ◌++◌, Option, Some, None, refl, sym, ◌∙◌, ap, subst, inl, inr, arith, if◌then◌else◌}
+use Rattle.std.proofs.Common.{◌≡◌, ◌+◌, ◌<◌, ◌≤◌, ◌⊎◌, ◌&&◌, ◌||◌, ◌==◌, not, ℕ, Bool, true, false, nat_le, List, Option, Some, None, refl, sym, ◌∙◌, ap, subst, inl, inr, arith, if◌then◌else◌}
 use Rattle.std.proofs.lemmas.Bool.{true≢false}
 use Rattle.std.proofs.lemmas.Bool.Decides.{nat_tests}
 use Rattle.draid_names.specs.declared.pass_kind.PassKind.{PassKind}
 use Rattle.draid_names.specs.declared.pass_kind.PassKind.TheVariants.{Rebuild, Heal}
 use Rattle.draid_machine.specs.declared.names.Key.{Key}
 use Rattle.draid_machine.specs.declared.names.ArmName.{ArmName}
-use Rattle.draid_machine.specs.declared.names.ArmName.TheVariants.{Leaf, Spare}
 use Rattle.draid_machine.specs.declared.names.Held.{Held}
-use Rattle.draid_machine.specs.Names.{name_eq, has_name, is_leaf, is_block, takes, is_heal, up_to}
+use Rattle.draid_machine.specs.Names.{has_name, is_block, takes, is_heal, up_to}
 use Rattle.draid_machine.specs.State.{Layout, IsLayout, Arm, Pass, Core, Loan, State}
-use Rattle.draid_machine.specs.Arms.{first_leaf, lies_on, is_silent}
+use Rattle.draid_machine.specs.Arms.{lies_on, is_silent}
 use Rattle.draid_machine.specs.Claims.{passed}
 use Rattle.draid_machine.specs.After.{fill_if, excise_if, lose_targets, lose_some, lost_errors, capped, planned_pass, plan_state, ready_state, lend_errors, lend_state, ended_pass, done_state}
 use Rattle.draid_machine.specs.Sound.{CoreSound, LoanFits, Sound}
 use Rattle.draid_machine.specs.Step.{is_lent, IsNext}
-use Rattle.draid_machine.proofs.Small.{some_injective, some_same, none_some, both_true, true_both, either_true, bool_cases, absurd_test, true_right, arm_cases, mapped_arm, has_append, has_filter, no_errors}
+use Rattle.draid_machine.proofs.Small.{some_injective, some_same, none_some, both_true, true_both, bool_cases, absurd_test, true_right, mapped_arm, has_filter, no_errors}
 use Rattle.draid_machine.proofs.Follows.{SamePass, Follows, from_passed, to_passed}
 use Rattle.draid_machine.proofs.Calm.{calm, same_held, same_pass}
 use Rattle.draid_machine.proofs.Tickets.{rebuild_heal, no_ticket}
@@ -216,7 +215,7 @@ module _ (l : Layout) (lay : IsLayout l) where
   pub lost_same : (bad : ArmName → Bool) (p : Pass) → SamePass p (lose_some bad p)
   lost_same bad p = lose_same bad (lost_errors p.kind bad p.targets) p
 
-  ended_same : (q : Core) (p : Pass) (failed : List ℕ) → SamePass p (ended_pass l q p failed)
+  pub ended_same : (q : Core) (p : Pass) (failed : List ℕ) → SamePass p (ended_pass l q p failed)
   ended_same q p failed = by (is_heal p.kind)
     where
       by : (b : Bool) → SamePass p (if b then p else lose_some (lies_on l q (is_silent q failed)) p)

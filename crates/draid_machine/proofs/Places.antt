@@ -1,5 +1,5 @@
 -- Two segments that are present, or at a place, don't lie on one sector.
-use Rattle.std.proofs.Common.{◌≡◌, ◌+◌, ◌<◌, ◌⊎◌, ℕ, true, Option, Some, refl, sym, ◌∙◌, ap, subst, inl, inr, arith, nat_lt}
+use Rattle.std.proofs.Common.{◌≡◌, ◌+◌, ◌<◌, ℕ, true, Some, refl, sym, ◌∙◌, ap, subst, inl, inr, arith, nat_lt}
 use Rattle.std.proofs.lemmas.Bool.Decides.{nat_tests}
 use Rattle.draid_names.specs.Spares.{AreOfOne, AreSpares, IsArm}
 use Rattle.draid_machine.specs.declared.names.ArmName.{ArmName}

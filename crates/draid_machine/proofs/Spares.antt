@@ -1,5 +1,5 @@
 -- Every legal event keeps that no arm is detached in a group that comes later than the open one, and that spares are the layout's and never offline.
-use Rattle.std.proofs.Common.{◌≡◌, ◌+◌, ◌<◌, ◌≤◌, ◌⊎◌, ◌&&◌, ◌||◌, ◌==◌, not, ℕ, Bool, true, false, nat_lt, List, [], ◌∷◌, Option, Some, None, refl, sym, ◌∙◌, ap, subst, inl, inr, arith, if◌then◌else◌}
+use Rattle.std.proofs.Common.{◌≡◌, ◌+◌, ◌<◌, ◌≤◌, ◌&&◌, ◌==◌, not, ℕ, Bool, true, false, nat_lt, List, Option, Some, None, refl, sym, ◌∙◌, ap, subst, inl, inr, arith, if◌then◌else◌}
 use Rattle.std.proofs.lemmas.Bool.{true≢false}
 use Rattle.draid_names.specs.declared.pass_kind.PassKind.TheVariants.{Rebuild}
 use Rattle.draid_machine.specs.declared.names.Key.{Key}
@@ -10,12 +10,12 @@ use Rattle.draid_machine.specs.declared.names.Segment.{Segment}
 use Rattle.draid_machine.specs.declared.event.Patched.{Patched}
 use Rattle.draid_machine.specs.declared.event.Event.{Event}
 use Rattle.draid_machine.specs.declared.event.Event.TheVariants.{Begin, Put, Finish, Abort, Free, Fetch, Damage, Offline, Online, Attach, Detach, Upgrade, Close, Seal, Commit, Plan, Ready, Lend, LandStripe, LandBlock, Done, Cancel, Reopen}
-use Rattle.draid_machine.specs.Names.{name_eq, has_name, is_heal, up_to}
+use Rattle.draid_machine.specs.Names.{has_name, is_heal, up_to}
 use Rattle.draid_machine.specs.State.{Layout, IsLayout, Gone, Arm, Pass, Core, Loan, Image, State}
 use Rattle.draid_machine.specs.Arms.{lies_on, is_silent, has_moved, targets_of}
-use Rattle.draid_machine.specs.After.{set_arm, each_arm, log_if, fill_if, excise_if, cut_above, renew_if, lose_targets, begin_state, put_state, gone_state, live_state, finish_state, free_state, switch_state, attached_core, detached_core, renewed_core, rearranged_state, attach_state, detach_state, upgrade_state, close_state, image_of, sealed_core, seal_state, is_gone_arm, commit_state, planned_pass, plan_state, ready_state, lend_state, unsourced, pass_over, mend_state, land_stripe_state, heal_state, land_block_state, ended_pass, done_state, cancel_state, reopen_state}
-use Rattle.draid_machine.specs.Created.{created, created_core, created_arm, new_arm}
-use Rattle.draid_machine.specs.Images.{IsImage, ImageStands, SparesFit}
+use Rattle.draid_machine.specs.After.{set_arm, each_arm, log_if, fill_if, excise_if, cut_above, renew_if, begin_state, put_state, gone_state, live_state, finish_state, free_state, switch_state, attached_core, detached_core, renewed_core, rearranged_state, attach_state, detach_state, upgrade_state, close_state, image_of, sealed_core, seal_state, is_gone_arm, commit_state, plan_state, ready_state, lend_state, unsourced, pass_over, mend_state, land_stripe_state, heal_state, land_block_state, ended_pass, done_state, cancel_state, reopen_state}
+use Rattle.draid_machine.specs.Created.{created, created_core}
+use Rattle.draid_machine.specs.Images.{IsImage, SparesFit}
 use Rattle.draid_machine.specs.Step.{IsArmName, Step}
 use Rattle.draid_machine.proofs.Small.{some_injective, none_some, arm_cases, mapped_arm, kept_some}
 use Rattle.draid_machine.proofs.Seals.{sealed_arm}

@@ -1,8 +1,6 @@
 -- What is present, kept and aside stays so where a state comes from another with no slot's order changed.
-use Rattle.std.proofs.Common.{◌≡◌, ◌+◌, ◌<◌, ◌≤◌, ◌⊎◌, ◌&&◌, ℕ, Bool, true, false, nat_lt, List, Option, Some, None, refl, sym, ◌∙◌, ap, subst, inl, inr, arith}
-use Rattle.std.proofs.lemmas.Bool.{true≢false}
+use Rattle.std.proofs.Common.{◌≡◌, ◌+◌, ◌<◌, ◌≤◌, ◌⊎◌, ◌&&◌, ℕ, true, nat_lt, List, Option, Some, None, refl, sym, ◌∙◌, ap, subst, inl, inr, arith}
 use Rattle.draid_names.specs.declared.pass_kind.PassKind.TheVariants.{Rebuild}
-use Rattle.draid_machine.specs.declared.names.Key.{Key}
 use Rattle.draid_machine.specs.declared.names.ArmName.{ArmName}
 use Rattle.draid_machine.specs.declared.names.ArmName.TheVariants.{Leaf, Spare}
 use Rattle.draid_machine.specs.declared.names.Held.{Held}
@@ -11,7 +9,7 @@ use Rattle.draid_machine.specs.Names.{has_name, is_put}
 use Rattle.draid_machine.specs.State.{Layout, Arm, Pass, Core, State}
 use Rattle.draid_machine.specs.Arms.{lies}
 use Rattle.draid_machine.specs.Claims.{is_on, is_at, is_at_held}
-use Rattle.draid_machine.specs.Images.{WasArm, HadSlot, LayOn, KeptOn, IsKept, IsOwned, KeptSound, AsideSound}
+use Rattle.draid_machine.specs.Images.{WasArm, HadSlot, KeptOn, IsOwned, KeptSound, AsideSound}
 use Rattle.draid_machine.proofs.Small.{absurd_test, four_true, is_below}
 
 -- ---- what is kept of segments
