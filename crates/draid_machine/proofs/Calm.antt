@@ -1,21 +1,19 @@
 -- The events that add nothing: they follow from the state before them.
-use Rattle.std.proofs.Common.{◌≡◌, ◌+◌, ◌<◌, ◌≤◌, ◌⊎◌, ◌==◌, not, ℕ, Bool, true, false, nat_lt, List, [], ◌∷◌, Option, Some, None, filter, refl, sym, ◌∙◌, ap, subst, inl, inr, arith, if◌then◌else◌}
-use Rattle.std.proofs.lemmas.Bool.{true≢false}
+use Rattle.std.proofs.Common.{◌≡◌, ◌+◌, ◌<◌, ◌≤◌, ◌⊎◌, ◌==◌, ◌||◌, not, ℕ, Bool, true, false, nat_lt, List, Option, Some, None, filter, refl, sym, ◌∙◌, ap, subst, inl, inr, arith, if◌then◌else◌}
 use Rattle.std.proofs.lemmas.Bool.Decides.{nat_tests}
 use Rattle.draid_machine.specs.declared.names.Key.{Key}
 use Rattle.draid_machine.specs.declared.names.ArmName.{ArmName}
-use Rattle.draid_machine.specs.declared.names.ArmName.TheVariants.{Leaf, Spare}
 use Rattle.draid_machine.specs.declared.names.Stage.TheVariants.{Live, Freed}
 use Rattle.draid_machine.specs.declared.names.Held.{Held}
 use Rattle.draid_machine.specs.declared.names.Segment.{Segment}
-use Rattle.draid_machine.specs.Names.{key_eq, name_eq, has_name, is_leaf, is_block, is_put}
+use Rattle.draid_machine.specs.Names.{key_eq, name_eq, has_name, is_block, is_put}
 use Rattle.draid_machine.specs.State.{Layout, IsLayout, Arm, Pass, Core, Loan, Image, State}
-use Rattle.draid_machine.specs.Arms.{lies, passes, first_leaf}
-use Rattle.draid_machine.specs.After.{set_held, set_arm, set_order, without_key, gone_state, free_state, switch_state, detach_state, close_state, commit_state, cancel_state, is_freed_block, is_gone_arm, keep_loan, stays}
+use Rattle.draid_machine.specs.Arms.{lies}
+use Rattle.draid_machine.specs.Claims.{IsOn, is_at, is_at_held}
+use Rattle.draid_machine.specs.After.{set_held, set_arm, set_order, without_key, gone_state, free_state, switch_state, close_state, commit_state, cancel_state, is_freed_block, is_gone_arm, is_kept_by, keep_loan, not_kept, stays}
 use Rattle.draid_machine.specs.Sound.{IsClaimed, CoreSound, LoanFits, GroupsSound, Sound}
-use Rattle.draid_machine.specs.Step.{NoSpareElsewhere}
-use Rattle.draid_machine.proofs.Small.{some_injective, some_same, none_some, true_both, bool_cases, absurd_test, not_true, not_false, key_true, held_at, held_other, held_cases, arm_cases, kept_some, kept_if, has_filter}
-use Rattle.draid_machine.proofs.Follows.{SameHeld, SamePass, IsAway, Keeps, Follows, keeps_of, claimed_before, core_follows, loan_follows}
+use Rattle.draid_machine.proofs.Small.{some_injective, some_same, none_some, true_both, true_four, true_right, below, bool_cases, absurd_test, not_true, not_false, key_true, held_at, held_other, held_cases, arm_cases, kept_some, kept_if, has_filter}
+use Rattle.draid_machine.proofs.Follows.{SameHeld, SamePass, Keeps, Follows, keeps_of, claimed_before, core_follows, loan_follows}
 
 pub same_held : (h : Held) → SameHeld h h
 same_held h = record { run = record { first = refl; stripes = refl; birth = refl; block = refl }; put = λ c z. z }
@@ -36,12 +34,19 @@ groups_keep o c cl i s q q' f g = record {
 pub groups_follow : (l : Layout) (o c : ℕ) (cl : Option ℕ) (i : Image) (s : Option Image) (q q' : Core) → Follows l q q' → GroupsSound o c cl i s q.held → GroupsSound o c cl i s q'.held
 groups_follow l o c cl i s q q' f = groups_keep o c cl i s q q' (keeps_of l q q' f)
 
+-- a segment that lies where its arm keeps it is at a place
+pub at_place : (l : Layout) (q : Core) (s : Segment) (h : Held) (a : Arm) → IsOn l q s h a → is_at l q s ≡ true
+at_place l q s h a on =
+    ap (is_at_held l q.order s) on.held
+    ∙ true_four (has_name (q.order (l.slot_of h.first s.column)) s.arm) (nat_lt s.column l.columns) (nat_lt s.row h.stripes) (lies l q.order s.arm (h.first + s.row) s.leaf)
+    on.listed (below s.column l.columns on.column) (below s.row h.stripes on.row) on.lies
+
 module _ (l : Layout) (lay : IsLayout l) where
-  pub calm : (w : State) (q' : Core) (loan' : Option Loan) (serial' : ℕ) (present' aside' : Segment → Bool) → Sound l w → Follows l w.core q'
+  pub calm : (w : State) (q' : Core) (loan' : Option Loan) (serial' : ℕ) (present' aside' : Segment → Bool) (kept' : Segment → Option ℕ) → Sound l w → Follows l w.core q'
       → ((n : Loan) → loan' ≡ Some n → LoanFits q' n)
       → ((s : Segment) → IsClaimed l w.core s → IsClaimed l q' s → w.present s ≡ true → present' s ≡ true)
-      → Sound l (record w { core = q'; loan = loan'; serial = serial'; present = present'; aside = aside' })
-  calm w q' loan' serial' present' aside' s f loan covered = record {
+      → Sound l (record w { core = q'; loan = loan'; serial = serial'; present = present'; aside = aside'; kept = kept' })
+  calm w q' loan' serial' present' aside' kept' s f loan covered = record {
     core = core_follows l w.core q' f w.committed (w.open_group + 1) s.core;
     groups = groups_follow l w.open_group w.committed w.closing w.image w.sealed w.core q' f s.groups;
     loan = loan;
@@ -57,7 +62,7 @@ module _ (l : Layout) (lay : IsLayout l) where
     held = f;
     arm = λ n a e. (a, e, λ g z. z);
     listed = λ c n z. z;
-    lies = λ c x n leaf away listed z. z;
+    lies = λ c x n leaf listed z. z;
     pass = λ p e. (p, e, same_pass p);
   }
 
@@ -87,7 +92,7 @@ module _ (l : Layout) (lay : IsLayout l) where
       let held' = set_held w.core.held k None in
       let q' : Core = record w.core { held = held' } in
       let f : Follows l w.core q' = follows_held w.core held' (dropped w.core k) in
-      calm w q' w.loan w.serial (without_key k w.present) (without_key k w.aside) s f
+      calm w q' w.loan w.serial (without_key k w.present) (without_key k w.aside) (not_kept k w.kept) s f
       (λ n e. loan_follows l w.core q' f n (λ p z. (p, z)) (λ i hi. (i, held_other w.core.held k n.key None (elsewhere w.core k h n found ticket (s.loan n e)) ∙ hi)) (s.loan n e))
       (λ g b c here. true_both (w.present g) (not (key_eq k g.key)) here (not_false (key_eq k g.key) (no_key w.core k g.key c.h c.on.held)))
 
@@ -116,7 +121,7 @@ module _ (l : Layout) (lay : IsLayout l) where
       let held' = set_held w.core.held k (Some i) in
       let q' : Core = record w.core { held = held' } in
       let f : Follows l w.core q' = follows_held w.core held' (λ j h' e. replaced w.core k j h i h' found (freed_same h group live) e) in
-      calm w q' w.loan w.serial w.present w.aside s f
+      calm w q' w.loan w.serial w.present w.aside w.kept s f
       (λ n e. loan_follows l w.core q' f n (λ p z. (p, z)) (λ b hb. still_held w.core k n.key i b hb) (s.loan n e))
       (λ g b c here. here)
 
@@ -127,7 +132,7 @@ module _ (l : Layout) (lay : IsLayout l) where
     held = λ k h e. (h, e, same_held h);
     arm = f;
     listed = λ c n z. z;
-    lies = λ c x n leaf away listed z. z;
+    lies = λ c x n leaf listed z. z;
     pass = λ p e. (p, e, same_pass p);
   }
 
@@ -144,46 +149,11 @@ module _ (l : Layout) (lay : IsLayout l) where
       let arm' = set_arm w.core.arm n (Some b) in
       let q' : Core = record w.core { arm = arm' } in
       let f : Follows l w.core q' = follows_arms w.core arm' (λ m a' e. switched w.core n m a b a' found (λ g t. t) e) in
-      calm w q' w.loan w.serial w.present w.aside s f
+      calm w q' w.loan w.serial w.present w.aside w.kept s f
       (λ m e. loan_follows l w.core q' f m (λ p z. (p, z)) (λ i z. (i, z)) (s.loan m e))
       (λ g b c here. here)
 
-  -- the arm of a slot leaves it
-  first_stays : (t : ℕ) (ns : List ArmName) → first_leaf (filter (λ m. not (name_eq (Spare t) m)) ns) ≡ first_leaf ns
-  first_stays t [] = refl
-  first_stays t (Leaf m ∷ ns) = refl
-  first_stays t (Spare u ∷ ns) = by (t == u) (first_stays t ns)
-    where
-      by : (b : Bool) → first_leaf (filter (λ m. not (name_eq (Spare t) m)) ns) ≡ first_leaf ns
-          → first_leaf (if not b then Spare u ∷ filter (λ m. not (name_eq (Spare t) m)) ns else filter (λ m. not (name_eq (Spare t) m)) ns) ≡ first_leaf ns
-      by true rest = rest
-      by false rest = rest
-
-  same_order : (f : ℕ → List ArmName) (slot d : ℕ) (v : List ArmName) → (slot ≡ d → first_leaf v ≡ first_leaf (f slot)) → first_leaf (set_order f slot v d) ≡ first_leaf (f d)
-  same_order f slot d v same = by (slot == d) refl
-    where
-      by : (b : Bool) → (slot == d) ≡ b → first_leaf (if b then v else f d) ≡ first_leaf (f d)
-      by true is = let e : slot ≡ d = grind (arith, nat_tests) in same e ∙ ap (λ x. first_leaf (f x)) e
-      by false is = refl
-
-  -- the arms of other slots stay where they are
-  pub still_lies : (q : Core) (slot : ℕ) (n : ArmName) (v : List ArmName) → NoSpareElsewhere q slot n → (is_leaf n ≡ false → first_leaf v ≡ first_leaf (q.order slot))
-      → (c x : ℕ) (m : ArmName) (leaf : ℕ) → IsAway l c x → has_name (q.order c) m ≡ true
-      → lies l (set_order q.order slot v) m x leaf ≡ true → lies l q.order m x leaf ≡ true
-  still_lies q slot n v none same c x (Leaf k) leaf far listed e = e
-  still_lies q slot n v none same c x (Spare t) leaf far listed e = by (nat_lt t l.spares) refl e
-    where
-      first : t < l.spares → slot ≡ l.home t x → first_leaf v ≡ first_leaf (q.order slot)
-      first spare e = elim (bool_cases (is_leaf n)) [
-        | inl z ↦ absurd (far t spare (sym e ∙ sym (none z c t listed)))
-        | inr z ↦ same z
-      ]
-
-      by : (b : Bool) → nat_lt t l.spares ≡ b → passes (if b then first_leaf (set_order q.order slot v (l.home t x)) else None) (λ m. m == leaf) ≡ true
-          → passes (if b then first_leaf (q.order (l.home t x)) else None) (λ m. m == leaf) ≡ true
-      by true is e = subst (λ o. passes o (λ m. m == leaf) ≡ true) (same_order q.order slot (l.home t x) v (first (grind (arith, nat_tests)))) e
-      by false is e = e
-
+  -- the arms of a slot change
   pub order_cases : (f : ℕ → List ArmName) (slot c : ℕ) (v : List ArmName) (m : ArmName) → has_name (set_order f slot v c) m ≡ true
       → ((slot ≡ c) × (has_name v m ≡ true)) ⊎ (has_name (f c) m ≡ true)
   order_cases f slot c v m e = by (slot == c) refl e
@@ -192,32 +162,11 @@ module _ (l : Layout) (lay : IsLayout l) where
       by true is e = inl (grind (arith, nat_tests), e)
       by false is e = inr e
 
-  filtered_first : (n : ArmName) (ns : List ArmName) → is_leaf n ≡ false → first_leaf (filter (λ m. not (name_eq n m)) ns) ≡ first_leaf ns
-  filtered_first (Leaf k) ns e = absurd (true≢false e)
-  filtered_first (Spare t) ns e = first_stays t ns
-
   pub detach_listed : (q : Core) (slot c : ℕ) (n m : ArmName) → has_name (set_order q.order slot (filter (λ m. not (name_eq n m)) (q.order slot)) c) m ≡ true → has_name (q.order c) m ≡ true
   detach_listed q slot c n m e = elim (order_cases q.order slot c (filter (λ m. not (name_eq n m)) (q.order slot)) m e) [
     | inl z ↦ subst (λ x. has_name (q.order x) m ≡ true) z.0 (has_filter (λ m. not (name_eq n m)) (q.order slot) m z.1).0
     | inr z ↦ z
   ]
-
-  pub detach_sound : (w : State) (slot : ℕ) (n : ArmName) (a : Arm) → w.core.arm n ≡ Some a → NoSpareElsewhere w.core slot n → Sound l w → Sound l (detach_state w slot n a)
-  detach_sound w slot n a found none s =
-      let b : Arm = record a { gone = Some (record { slot = slot; group = w.open_group }) } in
-      let arm' = set_arm w.core.arm n (Some b) in
-      let v = filter (λ m. not (name_eq n m)) (w.core.order slot) in
-      let q' : Core = record w.core { arm = arm'; order = set_order w.core.order slot v } in
-      let f : Follows l w.core q' = record {
-        held = λ k h e. (h, e, same_held h);
-        arm = λ m a' e. switched w.core n m a b a' found (λ g t. t) e;
-        listed = λ c m z. detach_listed w.core slot c n m z;
-        lies = λ c x m leaf far listed z. still_lies w.core slot n v none (λ e. filtered_first n (w.core.order slot) e) c x m leaf far (detach_listed w.core slot c n m listed) z;
-        pass = λ p e. (p, e, same_pass p);
-      } in
-      calm w q' w.loan w.serial w.present w.aside s f
-      (λ m e. loan_follows l w.core q' f m (λ p z. (p, z)) (λ i z. (i, z)) (s.loan m e))
-      (λ g b c here. here)
 
   -- ---- groups
   pub close_sound : (w : State) (t : ℕ) → w.open_group ≡ t → w.closing ≡ None → Sound l w → Sound l (close_state w t)
@@ -241,6 +190,7 @@ module _ (l : Layout) (lay : IsLayout l) where
       raise_top committed top top' q more c = record {
         apart = c.apart;
         runs = c.runs;
+        inside = c.inside;
         some = c.some;
         births = λ k h e. let b = c.births k h e in omega (arith, b, more);
         tickets = c.tickets;
@@ -258,16 +208,16 @@ module _ (l : Layout) (lay : IsLayout l) where
         held = λ k h e. (h, e, same_held h);
         arm = λ n a e. (a, e, λ g z. z);
         listed = λ c n z. z;
-        lies = λ c x n leaf far listed z. z;
+        lies = λ c x n leaf listed z. z;
         pass = λ p e. absurd (none_some None p refl e);
       } in
-      calm w q' None w.serial w.present w.aside s f (λ n e. absurd (none_some None n refl e)) (λ g b c here. here)
+      calm w q' None w.serial w.present w.aside w.kept s f (λ n e. absurd (none_some None n refl e)) (λ g b c here. here)
 
   -- ---- a group is committed
   kept_block : (t : ℕ) (q : Core) (k : Key) (h' : Held) → (if is_freed_block t (q.held k) then None else q.held k) ≡ Some h' → (is_freed_block t (q.held k) ≡ false) × (q.held k ≡ Some h')
   kept_block t q k h' e = kept_some (is_freed_block t (q.held k)) (q.held k) h' e
 
-  pub commit_sound : (w : State) (t : ℕ) (img : Image) → w.closing ≡ Some t → w.sealed ≡ Some img → Sound l w → Sound l (commit_state w t img)
+  pub commit_sound : (w : State) (t : ℕ) (img : Image) → w.closing ≡ Some t → w.sealed ≡ Some img → Sound l w → Sound l (commit_state l w t img)
   commit_sound w t img closing sealed s =
       let held' : Key → Option Held = λ k. if is_freed_block t (w.core.held k) then None else w.core.held k in
       let arm' : ArmName → Option Arm = λ n. if is_gone_arm t (w.core.arm n) then None else w.core.arm n in
@@ -279,7 +229,7 @@ module _ (l : Layout) (lay : IsLayout l) where
         held = λ k h' e. (h', (kept_block t w.core k h' e).1, same_held h');
         arm = λ n a' e. (a', (kept_some (is_gone_arm t (w.core.arm n)) (w.core.arm n) a' e).1, λ g z. z);
         listed = λ c n z. z;
-        lies = λ c x n leaf far listed z. z;
+        lies = λ c x n leaf listed z. z;
         pass = λ p e. (p, e, same_pass p);
       } in
       let tickets : (k : Key) (h : Held) → q'.held k ≡ Some h → is_block h.stage ≡ false → t < h.birth =
@@ -289,6 +239,7 @@ module _ (l : Layout) (lay : IsLayout l) where
         core = record {
           apart = c.apart;
           runs = c.runs;
+          inside = c.inside;
           some = c.some;
           births = c.births;
           tickets = tickets;
@@ -308,10 +259,10 @@ module _ (l : Layout) (lay : IsLayout l) where
         loan = λ n e. loan_kept w.loan n e refl f;
         covered = λ x cl.
             let b = claimed_before l w.core q' f w.committed (w.open_group + 1) x lay s.core cl in
-            true_both (w.present x) (stays t w.core x) (s.covered x b)
-            (true_both (not (is_freed_block t (w.core.held x.key))) (not (is_gone_arm t (w.core.arm x.arm)))
+            true_both (w.present x) (stays l t w x) (s.covered x b)
+            (true_both (not (is_freed_block t (w.core.held x.key))) (not (is_kept_by t (w.kept x)) || is_at l w.core x)
             (not_false (is_freed_block t (w.core.held x.key)) (kept_block t w.core x.key cl.h cl.on.held).0)
-            (not_false (is_gone_arm t (w.core.arm x.arm)) (kept_some (is_gone_arm t (w.core.arm x.arm)) (w.core.arm x.arm) cl.a cl.on.arm).0));
+            (true_right (not (is_kept_by t (w.kept x))) (is_at l w.core x) (at_place l w.core x b.h b.a b.on)));
         image = s.sealed img sealed;
         sealed = λ i e. absurd (none_some None i refl e);
       }

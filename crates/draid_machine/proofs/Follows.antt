@@ -1,5 +1,5 @@
 -- What came from another state with nothing new: the same runs and births, logs no shorter, fewer blocks, arms and targets.
-use Rattle.std.proofs.Common.{◌≡◌, ◌+◌, ◌/◌, ◌<◌, ◌≤◌, ◌&&◌, ◌==◌, ◌≢◌, ℕ, Bool, true, false, nat_le, nat_lt, Option, Some, None, refl, sym, ◌∙◌, ap, subst, inl, inr, arith}
+use Rattle.std.proofs.Common.{◌≡◌, ◌+◌, ◌/◌, ◌<◌, ◌≤◌, ◌&&◌, ◌==◌, ℕ, Bool, true, false, nat_le, nat_lt, Option, Some, None, refl, sym, ◌∙◌, ap, subst, inl, inr, arith}
 use Rattle.std.proofs.lemmas.Bool.{true≢false}
 use Rattle.std.proofs.lemmas.Bool.Decides.{nat_tests}
 use Rattle.draid_machine.specs.declared.names.Key.{Key}
@@ -33,11 +33,6 @@ pub record SamePass (p p' : Pass) : Type 0 where
   pub errors : p'.errors ≡ 0 → p.errors ≡ 0
   pub targets : (n : ArmName) → has_name p'.targets n ≡ true → has_name p.targets n ≡ true
 
--- no spare of the layout keeps a stripe on a slot
-
-abbrev pub IsAway : Layout → ℕ → ℕ → Type 0
-IsAway l slot x = (t : ℕ) → t < l.spares → l.home t x ≢ slot
-
 -- the same blocks and tickets, or fewer
 pub record Keeps (q q' : Core) : Type 0 where
   pub held : (k : Key) (h' : Held) → q'.held k ≡ Some h' → (h : Held) × (q.held k ≡ Some h) × SameRun h h'
@@ -48,7 +43,7 @@ pub record Follows (l : Layout) (q q' : Core) : Type 0 where
   pub held : (k : Key) (h' : Held) → q'.held k ≡ Some h' → (h : Held) × (q.held k ≡ Some h) × SameHeld h h'
   pub arm : (n : ArmName) (a' : Arm) → q'.arm n ≡ Some a' → (a : Arm) × (q.arm n ≡ Some a) × ((g : ℕ) → a.log g ≡ true → a'.log g ≡ true)
   pub listed : (c : ℕ) (n : ArmName) → has_name (q'.order c) n ≡ true → has_name (q.order c) n ≡ true
-  pub lies : (c x : ℕ) (n : ArmName) (leaf : ℕ) → IsAway l c x → has_name (q'.order c) n ≡ true → lies l q'.order n x leaf ≡ true → lies l q.order n x leaf ≡ true
+  pub lies : (c x : ℕ) (n : ArmName) (leaf : ℕ) → has_name (q'.order c) n ≡ true → lies l q'.order n x leaf ≡ true → lies l q.order n x leaf ≡ true
   pub pass : (p' : Pass) → q'.pass ≡ Some p' → (p : Pass) × (q.pass ≡ Some p) × SamePass p p'
 
 -- ---- what passes on
@@ -58,13 +53,6 @@ takes_same h h' x s t = rw (sym s.first, sym s.stripes) t
 
 pub takes_on : (h h' : Held) (x : ℕ) → SameRun h h' → takes h x ≡ true → takes h' x ≡ true
 takes_on h h' x s t = rw (s.first, s.stripes) t
-
-pub away_from : (l : Layout) (x y c : ℕ) → IsLayout l → x / l.height ≡ y / l.height → c < l.columns → IsAway l (l.slot_of y c) x
-away_from l x y c lay same column = λ t spare e. lay.apart x x c c t column column spare refl (e ∙ sym (lay.steady x y c same))
-
-pub away : (l : Layout) (committed top : ℕ) (q : Core) (k : Key) (h : Held) (c r : ℕ) → IsLayout l → CoreSound l committed top q → q.held k ≡ Some h → c < l.columns → r < h.stripes
-    → IsAway l (l.slot_of h.first c) (h.first + r)
-away l committed top q k h c r lay s held column row = away_from l (h.first + r) h.first c lay (s.runs k h r held row) column
 
 pub record HasPassed (o : Option Pass) (n : ArmName) (h : Held) (row : ℕ) : Type 0 where
   pub p : Pass
@@ -142,7 +130,7 @@ module _ (l : Layout) (q q' : Core) (f : Follows l q q') where
           listed = f.listed (l.slot_of h.first s.column) s.arm listed';
           column = c.on.column;
           row = row;
-          lies = f.lies (l.slot_of h.first s.column) (h.first + s.row) s.arm s.leaf (away l committed top q s.key h s.column s.row lay sound b.1 c.on.column row) listed' lies';
+          lies = f.lies (l.slot_of h.first s.column) (h.first + s.row) s.arm s.leaf listed' lies';
         };
         put = b.2.put s.column c.put;
         why = elim c.why [
@@ -163,6 +151,7 @@ module _ (l : Layout) (q q' : Core) (f : Keeps q q') where
         let b = f.held k h hk in
         let z = s.runs k b.0 r b.1 (subst (λ m. r < m) b.2.stripes less) in
         subst (λ m. (m + r) / l.height ≡ m / l.height) (sym b.2.first) z;
+    inside = λ k h hk. (let b = f.held k h hk in let z = s.inside k b.0 b.1 in let first = b.2.first in let stripes = b.2.stripes in omega (arith, z, first, stripes));
     some = λ k h hk. let b = f.held k h hk in subst (λ m. 1 ≤ m) (sym b.2.birth) (s.some k b.0 b.1);
     births = λ k h hk. let b = f.held k h hk in subst (λ m. m ≤ top) (sym b.2.birth) (s.births k b.0 b.1);
     tickets = λ k h hk ticket. let b = f.held k h hk in subst (λ m. committed < m) (sym b.2.birth) (s.tickets k b.0 b.1 (sym b.2.block ∙ ticket));

@@ -1,18 +1,20 @@
 -- An event leaves the tickets and live blocks of the objects that it doesn't concern.
 use mathlib.Core.Bool.{true≢false}
-use Rattle.std.proofs.Common.{◌≡◌, ◌+◌, ℕ, Bool, true, false, Option, Some, None, refl, sym, ◌∙◌, ap, nat_lt, if◌then◌else◌, ⊎_elim}
+use Rattle.std.proofs.Common.{◌≡◌, ◌+◌, ℕ, Bool, true, false, Option, Some, None, refl, ◌∙◌, ap, nat_lt, if◌then◌else◌, ⊎_elim}
 use Rattle.draid_machine.specs.declared.names.Key.{Key}
 use Rattle.draid_machine.specs.declared.names.Stage.{Stage}
 use Rattle.draid_machine.specs.declared.names.Stage.TheVariants.{Writing, Live, Freed}
 use Rattle.draid_machine.specs.declared.names.Held.{Held}
 use Rattle.draid_machine.specs.declared.event.Event.{Event}
-use Rattle.draid_machine.specs.declared.event.Event.TheVariants.{Begin, Put, Finish, Abort, Free, Fetch, Damage, Offline, Online, Attach, Detach, Close, Seal, Commit, Plan, Ready, Lend, LandStripe, LandBlock, Done, Cancel, Reopen}
+use Rattle.draid_machine.specs.declared.event.Event.TheVariants.{Begin, Put, Finish, Abort, Free, Fetch, Damage, Offline, Online, Attach, Detach, Upgrade, Close, Seal, Commit, Plan, Ready, Lend, LandStripe, LandBlock, Done, Cancel, Reopen}
 use Rattle.draid_machine.specs.Concerns.{is_freed, is_freed_stage, is_opening, object_of}
 use Rattle.draid_machine.specs.Names.{is_freed_by, key_eq}
 use Rattle.draid_machine.specs.State.{Layout, State}
-use Rattle.draid_machine.specs.After.{gone_state, live_state, is_freed_block, pass_over, mend_state, heal_state, unsourced}
+use Rattle.draid_machine.specs.Arms.{has_moved}
+use Rattle.draid_machine.specs.After.{attached_core, rearranged_state, gone_state, live_state, is_freed_block, pass_over, mend_state, heal_state, unsourced}
 use Rattle.draid_machine.specs.Step.{Step}
 use Rattle.draid_machine.proofs.Small.{bool_cases, held_other, key_true}
+use Rattle.draid_machine.proofs.Moves.{replan_cases}
 
 -- a key of another object is another key
 other_key : (mine key : Key) → (Some mine.object ≡ Some key.object → ⊥) → key_eq mine key ≡ false
@@ -52,7 +54,10 @@ others_stay l w new (Damage leaf sector failed) key s o n f = held_in key s.made
 others_stay l w new (Offline leaf) key s o n f = held_in key s.made
 others_stay l w new (Online leaf) key s o n f = held_in key s.made
 others_stay l w new (Attach slot arm) key s o n f = held_in key s.made
+    ∙ replan_cases l (λ v. v.core.held key ≡ w.core.held key) (rearranged_state l w s.last (attached_core w.core slot arm s.last)) (has_moved l w.core (attached_core w.core slot arm s.last)) w.core.pass
+    (λ none. refl) (λ p pass kind. refl) (λ p pass kind. refl)
 others_stay l w new (Detach slot arm) key s o n f = held_in key s.made
+others_stay l w new Upgrade key s o n f = held_in key s.made
 others_stay l w new (Close group) key s o n f = held_in key s.made
 others_stay l w new (Seal group failed) key s o n f = held_in key s.made
 others_stay l w new (Commit group) key s o n f = held_in key s.made ∙ stays_at_commit group (w.core.held key) f

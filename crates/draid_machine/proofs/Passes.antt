@@ -1,99 +1,33 @@
--- The events of a pass but its landings, and the arm that joins a slot.
-use Rattle.std.proofs.Common.{◌≡◌, ◌+◌, ◌<◌, ◌≤◌, ◌⊎◌, ◌&&◌, ◌||◌, ◌==◌, not, ℕ, Bool, true, false, nat_le, List, [], ◌∷◌, ◌++◌, Option, Some, None, refl, sym, ◌∙◌, ap, subst, inl, inr, arith, if◌then◌else◌}
+-- The events of a pass but its landings.
+use Rattle.std.proofs.Common.{◌≡◌, ◌+◌, ◌<◌, ◌≤◌, ◌⊎◌, ◌&&◌, ◌||◌, ◌==◌, not, ℕ, Bool, true, false, nat_le, List, Option, Some, None, refl, sym, ◌∙◌, ap, subst, inl, inr, arith, if◌then◌else◌}
 use Rattle.std.proofs.lemmas.Bool.{true≢false}
 use Rattle.std.proofs.lemmas.Bool.Decides.{nat_tests}
 use Rattle.draid_names.specs.declared.pass_kind.PassKind.{PassKind}
 use Rattle.draid_names.specs.declared.pass_kind.PassKind.TheVariants.{Rebuild, Heal}
 use Rattle.draid_machine.specs.declared.names.Key.{Key}
 use Rattle.draid_machine.specs.declared.names.ArmName.{ArmName}
-use Rattle.draid_machine.specs.declared.names.ArmName.TheVariants.{Leaf, Spare}
 use Rattle.draid_machine.specs.declared.names.Held.{Held}
-use Rattle.draid_machine.specs.Names.{name_eq, has_name, is_leaf, is_block, takes, is_heal, up_to}
+use Rattle.draid_machine.specs.Names.{has_name, is_block, takes, is_heal, up_to}
 use Rattle.draid_machine.specs.State.{Layout, IsLayout, Arm, Pass, Core, Loan, State}
-use Rattle.draid_machine.specs.Arms.{first_leaf, lies_on, is_silent}
+use Rattle.draid_machine.specs.Arms.{lies_on, is_silent}
 use Rattle.draid_machine.specs.Claims.{passed}
-use Rattle.draid_machine.specs.After.{set_order, fill_if, excise_if, lose_targets, lose_some, lost_errors, capped, attach_state, planned_pass, plan_state, ready_state, lend_errors, lend_state, ended_pass, done_state}
+use Rattle.draid_machine.specs.After.{fill_if, excise_if, lose_targets, lose_some, lost_errors, capped, planned_pass, plan_state, ready_state, lend_errors, lend_state, ended_pass, done_state}
 use Rattle.draid_machine.specs.Sound.{CoreSound, LoanFits, Sound}
-use Rattle.draid_machine.specs.Step.{NoSpareElsewhere, IsLast, is_lent, IsNext}
-use Rattle.draid_machine.proofs.Small.{some_injective, some_same, none_some, both_true, true_both, either_true, bool_cases, absurd_test, true_right, arm_cases, mapped_arm, has_append, has_filter, no_errors}
-use Rattle.draid_machine.proofs.Follows.{away_from, SamePass, Follows, from_passed, to_passed}
-use Rattle.draid_machine.proofs.Calm.{calm, same_held, same_pass, still_lies, order_cases}
+use Rattle.draid_machine.specs.Step.{is_lent, IsNext}
+use Rattle.draid_machine.proofs.Small.{some_injective, some_same, none_some, both_true, true_both, bool_cases, absurd_test, true_right, mapped_arm, has_filter, no_errors}
+use Rattle.draid_machine.proofs.Follows.{SamePass, Follows, from_passed, to_passed}
+use Rattle.draid_machine.proofs.Calm.{calm, same_held, same_pass}
 use Rattle.draid_machine.proofs.Tickets.{rebuild_heal, no_ticket}
 
-filled : (last birth : ℕ) → 1 ≤ birth → birth ≤ last → up_to last birth ≡ true
+pub filled : (last birth : ℕ) → 1 ≤ birth → birth ≤ last → up_to last birth ≡ true
 filled last birth some low = grind (arith, nat_tests)
 
 no_pass : (l : Layout) (o : Option Pass) (n : ArmName) (h : Held) (row : ℕ) → o ≡ None → passed o n h row ≡ true → ⊥
 no_pass l o n h row none e = let z = from_passed o n h row e in none_some o z.p none z.pass
 
 module _ (l : Layout) (lay : IsLayout l) where
-  no_loan : (w : State) (n : Loan) → Sound l w → w.core.pass ≡ None → w.loan ≡ Some n → ⊥
+  pub no_loan : (w : State) (n : Loan) → Sound l w → w.core.pass ≡ None → w.loan ≡ Some n → ⊥
   no_loan w n s idle e = let z = s.loan n e in none_some w.core.pass z.p idle z.pass
-
-  -- ---- Attach
-  append_first : (n : ArmName) (ns : List ArmName) → is_leaf n ≡ false → first_leaf (ns ++ n ∷ []) ≡ first_leaf ns
-  append_first (Leaf k) ns e = absurd (true≢false e)
-  append_first (Spare t) ns e = of ns
-    where
-      of : (ns : List ArmName) → first_leaf (ns ++ Spare t ∷ []) ≡ first_leaf ns
-      of [] = refl
-      of (Leaf m ∷ ns) = refl
-      of (Spare u ∷ ns) = of ns
-
-  module _ (w : State) (slot : ℕ) (n : ArmName) (last : ℕ) (idle : w.core.pass ≡ None) (still : NoSpareElsewhere w.core slot n) (last_is : IsLast w last) (s : Sound l w) where
-    attached_listed : (c : ℕ) (m : ArmName) → name_eq n m ≡ false → has_name (set_order w.core.order slot (w.core.order slot ++ n ∷ []) c) m ≡ true → has_name (w.core.order c) m ≡ true
-    attached_listed c m other e = elim (order_cases l lay w.core.order slot c (w.core.order slot ++ n ∷ []) m e) [
-      | inl z ↦ subst (λ x. has_name (w.core.order x) m ≡ true) z.0 (elim (either_true (has_name (w.core.order slot) m) (has_name (n ∷ []) m) (sym (has_append (w.core.order slot) (n ∷ []) m) ∙ z.1)) [
-        | inl old ↦ old
-        | inr new ↦ absurd_test (has_name (n ∷ []) m) new (rw other refl)
-      ])
-      | inr z ↦ z
-    ]
-
-    pub attach_sound : Sound l (attach_state w slot n last)
-    attach_sound = record {
-      core = record {
-        apart = s.core.apart;
-        runs = s.core.runs;
-        some = s.core.some;
-        births = s.core.births;
-        tickets = s.core.tickets;
-        targets = λ p m a k h pass. absurd (none_some w.core.pass p idle pass);
-        quiet = s.core.quiet;
-        planned = s.core.planned;
-        heal = s.core.heal;
-      };
-      groups = s.groups;
-      loan = λ m e. absurd (no_loan w m s idle e);
-      covered = λ g c. elim (arm_cases w.core.arm n g.arm (Some (record { offline = false; fresh = true; log = up_to last; gone = None })) c.a c.on.arm) [
-        | inl z ↦
-            let new : Arm = record { offline = false; fresh = true; log = up_to last; gone = None } in
-            let logged : c.a.log c.h.birth ≡ true = subst (λ (a : Arm). a.log c.h.birth ≡ true) (some_injective new c.a z.1) (filled last c.h.birth (s.core.some g.key c.h c.on.held) (last_is.births g.key c.h c.on.held)) in
-            elim c.why [
-              | inl clean ↦ absurd_test (c.a.log c.h.birth) logged clean
-              | inr y ↦ absurd (no_pass l w.core.pass g.arm c.h g.row idle y.1)
-            ]
-        | inr z ↦
-            let listed = attached_listed (l.slot_of c.h.first g.column) g.arm z.0 c.on.listed in
-            s.covered g (record {
-              h = c.h;
-              a = c.a;
-              on = record {
-                held = c.on.held;
-                arm = z.1;
-                listed = listed;
-                column = c.on.column;
-                row = c.on.row;
-                lies = still_lies l lay w.core slot n (w.core.order slot ++ n ∷ []) still (append_first n (w.core.order slot)) (l.slot_of c.h.first g.column) (c.h.first + g.row) g.arm g.leaf
-                    (away_from l (c.h.first + g.row) c.h.first g.column lay (s.core.runs g.key c.h g.row c.on.held c.on.row) c.on.column) listed c.on.lies;
-              };
-              put = c.put;
-              why = c.why;
-            })
-      ];
-      image = s.image;
-      sealed = s.sealed;
-    }
 
   -- ---- Plan
   plan_next : (w : State) (kind : PassKind) (targets : List ArmName) → (planned_pass w kind targets).next ≡ 0
@@ -133,6 +67,7 @@ module _ (l : Layout) (lay : IsLayout l) where
         core = record {
           apart = s.core.apart;
           runs = s.core.runs;
+          inside = s.core.inside;
           some = s.core.some;
           births = s.core.births;
           tickets = s.core.tickets;
@@ -193,6 +128,7 @@ module _ (l : Layout) (lay : IsLayout l) where
         core = record {
           apart = s.core.apart;
           runs = s.core.runs;
+          inside = s.core.inside;
           some = s.core.some;
           births = s.core.births;
           tickets = s.core.tickets;
@@ -241,7 +177,7 @@ module _ (l : Layout) (lay : IsLayout l) where
     held = λ k h e. (h, e, same_held h);
     arm = λ n a e. (a, e, λ g z. z);
     listed = λ c n z. z;
-    lies = λ c x n leaf far listed z. z;
+    lies = λ c x n leaf listed z. z;
     pass = f;
   }
 
@@ -251,7 +187,7 @@ module _ (l : Layout) (lay : IsLayout l) where
       let q' : Core = record w.core { pass = Some new } in
       let same : SamePass p new = record { kind = refl; max = refl; next = refl; running = refl; errors = λ e. no_errors p.errors (lend_errors p.kind failed) e; targets = λ m z. z } in
       let f : Follows l w.core q' = follows_pass w.core (Some new) (λ r e. (p, pass, subst (λ x. SamePass p x) (some_injective new r e) same)) in
-      calm l lay w q' (Some n) (w.serial + 1) w.present w.aside s f
+      calm l lay w q' (Some n) (w.serial + 1) w.present w.aside w.kept s f
       (λ m e. subst (λ x. LoanFits q' x) (some_injective n m e) (record {
         p = new;
         h = h;
@@ -279,7 +215,7 @@ module _ (l : Layout) (lay : IsLayout l) where
   pub lost_same : (bad : ArmName → Bool) (p : Pass) → SamePass p (lose_some bad p)
   lost_same bad p = lose_same bad (lost_errors p.kind bad p.targets) p
 
-  ended_same : (q : Core) (p : Pass) (failed : List ℕ) → SamePass p (ended_pass l q p failed)
+  pub ended_same : (q : Core) (p : Pass) (failed : List ℕ) → SamePass p (ended_pass l q p failed)
   ended_same q p failed = by (is_heal p.kind)
     where
       by : (b : Bool) → SamePass p (if b then p else lose_some (lies_on l q (is_silent q failed)) p)
@@ -307,6 +243,7 @@ module _ (l : Layout) (lay : IsLayout l) where
         core = record {
           apart = s.core.apart;
           runs = s.core.runs;
+          inside = s.core.inside;
           some = s.core.some;
           births = s.core.births;
           tickets = s.core.tickets;

@@ -31,18 +31,25 @@ sample = record {
   sectors = 8;
   slot_of = λ x c. c + 1;
   sector_of = λ x c. x;
-  home = λ t x. 0;
+  home = λ first t x. 0;
 }
 
 sample_is : IsLayout sample
 sample_is = record {
   tall = omega arith;
   steady = λ x y c e. refl;
+  steady_home = λ first x y t e. refl;
+  rows = λ x y c e. omega arith;
+  slots = λ x c column. omega (arith, column);
+  homes = λ first x t. omega arith;
   inside = λ x c less column. less;
   one_column = λ x y c d column column' slot sector. (sector, omega (arith, slot));
-  apart = λ x y c d t column column' spare sector e. omega (arith, e);
-  one_spare = λ x y c d t u column column' spare spare' sector e. omega (arith, spare, spare');
+  apart = λ first x y c d t are column column' spare sector e. omega (arith, e);
+  one_spare = λ earlier later x y c d t u are are' one column column' sector arm arm' e. same_number t u arm.spare_is arm'.spare_is;
 }
+  where
+    same_number : (t u : ℕ) → t < 1 → u < 1 → t ≡ u
+    same_number t u less less' = omega (arith, less, less')
 
 abbrev key : Key
 key = record { object = 7; seq = 1 }
@@ -52,7 +59,7 @@ block st = record { first = 0; stripes = 1; len = 1; birth = 2; digest = []; sta
 
 -- ---- a write
 abbrev w0 : State
-w0 = created sample
+w0 = created sample 1
 
 abbrev w1 : State
 w1 = begin_state w0 key (block (Writing 0 0))
@@ -155,7 +162,7 @@ abbrev w7 : State
 w7 = seal_state sample w6 2 [] true
 
 abbrev w8 : State
-w8 = commit_state w7 2 (image_of 2 (sealed_core sample w6.core 2 [] true))
+w8 = commit_state sample w7 2 (image_of 2 1 (sealed_core sample w6.core 2 [] true))
 
 s6 : CloseStep w5 2 w6
 s6 = record { open_group = refl; below = omega arith; idle = refl; made = refl }
@@ -170,7 +177,7 @@ only5 k h e = elim (bool_cases (key_eq key k)) [
   | inr f ↦ let is : w5.core.held k ≡ None = rw f refl in absurd (none_some (w5.core.held k) h is e)
 ]
 
-only_commit : (w : State) (t : ℕ) (img : Image) → Only w → Only (commit_state w t img)
+only_commit : (w : State) (t : ℕ) (img : Image) → Only w → Only (commit_state sample w t img)
 only_commit w t img only k h e = only k h (kept_some (is_freed_block t (w.core.held k)) (w.core.held k) h e).1
 
 no_ticket : (w : State) → Only w → {P : Type 0} → (k : Key) (h : Held) → w.core.held k ≡ Some h → is_block h.stage ≡ false → P
@@ -188,11 +195,11 @@ s7 = record {
   made = refl;
 }
 
-s8 : CommitStep w7 2 w8
-s8 = record { image = image_of 2 (sealed_core sample w6.core 2 [] true); closing = refl; sealed = refl; made = refl }
+s8 : CommitStep sample w7 2 w8
+s8 = record { image = image_of 2 1 (sealed_core sample w6.core 2 [] true); closing = refl; sealed = refl; made = refl }
 
 only8 : Only w8
-only8 = only_commit w7 2 (image_of 2 (sealed_core sample w6.core 2 [] true)) only5
+only8 = only_commit w7 2 (image_of 2 1 (sealed_core sample w6.core 2 [] true)) only5
 
 -- ---- its leaf goes offline, and a spare takes its place
 abbrev arm_of : Option Arm → Arm
@@ -203,7 +210,7 @@ abbrev w9 : State
 w9 = switch_state w8 (Leaf 1) (arm_of (w8.core.arm (Leaf 1))) true
 
 abbrev w10 : State
-w10 = attach_state w9 1 (Spare 0) 3
+w10 = attach_state sample w9 1 (Spare 0) 3
 
 s9 : SwitchStep w8 1 true w9
 s9 = record { a = arm_of (w8.core.arm (Leaf 1)); there = record { slot = 1; listed = refl; found = refl }; made = refl }
@@ -213,10 +220,9 @@ s10 = record {
   last = 3;
   slot_is = omega arith;
   arm_is = omega arith;
-  idle = refl;
   unused = refl;
-  still = λ e. absurd (true≢false (sym e));
   room = omega arith;
+  may = λ p e. absurd (none_some None p refl e);
   last_is = record { one = inl refl; open_group = omega arith; births = λ k h e. low3 h (only8 k h e) };
   made = refl;
 }
@@ -245,7 +251,7 @@ abbrev w13 : State
 w13 = seal_state sample w12 3 [] false
 
 abbrev w14 : State
-w14 = commit_state w13 3 (image_of 3 (sealed_core sample w12.core 3 [] false))
+w14 = commit_state sample w13 3 (image_of 3 1 (sealed_core sample w12.core 3 [] false))
 
 s12 : CloseStep w11 3 w12
 s12 = record { open_group = refl; below = omega arith; idle = refl; made = refl }
@@ -265,11 +271,11 @@ s13 = record {
   made = refl;
 }
 
-s14 : CommitStep w13 3 w14
-s14 = record { image = image_of 3 (sealed_core sample w12.core 3 [] false); closing = refl; sealed = refl; made = refl }
+s14 : CommitStep sample w13 3 w14
+s14 = record { image = image_of 3 1 (sealed_core sample w12.core 3 [] false); closing = refl; sealed = refl; made = refl }
 
 only14 : Only w14
-only14 = only_commit w13 3 (image_of 3 (sealed_core sample w12.core 3 [] false)) only8
+only14 = only_commit w13 3 (image_of 3 1 (sealed_core sample w12.core 3 [] false)) only8
 
 abbrev pass_of : Option Pass → Pass
 pass_of None = record { number = 0; kind = Heal; targets = []; max = 0; next = 0; errors = 0; running = true }
@@ -394,19 +400,23 @@ rebuilt = (refl, refl, refl)
 
 -- ---- the spare is detached, and the metaslab opened from its record
 abbrev w19 : State
-w19 = detach_state w18 1 (Spare 0) (arm_of (w18.core.arm (Spare 0)))
+w19 = detach_state sample w18 1 (Spare 0) (arm_of (w18.core.arm (Spare 0))) 4
 
-s19 : DetachStep w18 1 (Spare 0) w19
+s19 : DetachStep sample w18 1 (Spare 0) w19
 s19 = record {
   a = arm_of (w18.core.arm (Spare 0));
+  last = 4;
   listed = refl;
   found = refl;
   idle = refl;
   leaves = λ e. absurd (true≢false (sym e));
-  still = λ e. absurd (true≢false (sym e));
   other = record { other = Leaf 1; listed = refl; differs = refl; empty = λ g. refl };
+  last_is = record { one = inl refl; open_group = omega arith; births = λ k h e. low4 h (only14 k h e) };
   made = refl;
 }
+  where
+    low4 : (h : Held) → h ≡ block Live → h.birth ≤ 4
+    low4 h e = let b = ap (λ (x : Held). x.birth) e in omega (arith, b)
 
 abbrev w20 : State
 w20 = close_state w19 4
@@ -415,10 +425,10 @@ abbrev w21 : State
 w21 = seal_state sample w20 4 [] false
 
 abbrev image21 : Image
-image21 = image_of 4 (sealed_core sample w20.core 4 [] false)
+image21 = image_of 4 1 (sealed_core sample w20.core 4 [] false)
 
 abbrev w22 : State
-w22 = commit_state w21 4 image21
+w22 = commit_state sample w21 4 image21
 
 s20 : CloseStep w19 4 w20
 s20 = record { open_group = refl; below = omega arith; idle = refl; made = refl }
@@ -435,7 +445,7 @@ s21 = record {
   made = refl;
 }
 
-s22 : CommitStep w21 4 w22
+s22 : CommitStep sample w21 4 w22
 s22 = record { image = image21; closing = refl; sealed = refl; made = refl }
 
 abbrev w23 : State
@@ -619,8 +629,8 @@ s34 : CancelStep w25 (cancel_state w25)
 s34 = record { p = pass_of w25.core.pass; pass = refl; made = refl }
 
 -- ---- and what isn't legal
-no_commit : (new : State) → CommitStep (created sample) 2 new → ⊥
+no_commit : (new : State) → CommitStep sample (created sample 1) 2 new → ⊥
 no_commit new x = none_some None 2 refl x.closing
 
-no_landing : (new : State) → LandStripeStep sample (created sample) 1 1 [] new → ⊥
+no_landing : (new : State) → LandStripeStep sample (created sample 1) 1 1 [] new → ⊥
 no_landing new x = none_some None x.p refl x.counts.pass_is

@@ -1,5 +1,5 @@
 -- Every legal event keeps what the committed and a sealed image stand on.
-use Rattle.std.proofs.Common.{◌≡◌, ◌+◌, ◌<◌, ◌≤◌, ◌⊎◌, ◌&&◌, ◌==◌, not, ℕ, Bool, true, false, nat_le, nat_lt, List, [], ◌∷◌, Option, Some, None, refl, sym, ◌∙◌, ap, subst, inl, inr, arith, if◌then◌else◌}
+use Rattle.std.proofs.Common.{◌≡◌, ◌+◌, ◌<◌, ◌≤◌, ◌⊎◌, ◌&&◌, ◌||◌, ◌==◌, not, ℕ, Bool, true, false, nat_le, nat_lt, List, [], ◌∷◌, Option, Some, None, refl, sym, ◌∙◌, ap, subst, inl, inr, arith, if◌then◌else◌}
 use Rattle.std.proofs.lemmas.Bool.{true≢false}
 use Rattle.std.proofs.lemmas.Bool.Decides.{nat_tests}
 use Rattle.draid_names.specs.declared.pass_kind.PassKind.{PassKind}
@@ -13,18 +13,21 @@ use Rattle.draid_machine.specs.declared.names.Held.{Held}
 use Rattle.draid_machine.specs.declared.names.Segment.{Segment}
 use Rattle.draid_machine.specs.declared.event.Patched.{Patched}
 use Rattle.draid_machine.specs.declared.event.Event.{Event}
-use Rattle.draid_machine.specs.declared.event.Event.TheVariants.{Begin, Put, Finish, Abort, Free, Fetch, Damage, Offline, Online, Attach, Detach, Close, Seal, Commit, Plan, Ready, Lend, LandStripe, LandBlock, Done, Cancel, Reopen}
+use Rattle.draid_machine.specs.declared.event.Event.TheVariants.{Begin, Put, Finish, Abort, Free, Fetch, Damage, Offline, Online, Attach, Detach, Upgrade, Close, Seal, Commit, Plan, Ready, Lend, LandStripe, LandBlock, Done, Cancel, Reopen}
 use Rattle.draid_machine.specs.Names.{key_eq, name_eq, is_nil, has_name, is_block, is_freed_by, is_put, takes, is_heal}
 use Rattle.draid_machine.specs.State.{Layout, IsLayout, Gone, Arm, Pass, Core, Loan, Image, State}
-use Rattle.draid_machine.specs.Arms.{lies, answers, fails, lies_on, is_silent, targets_of, is_here}
-use Rattle.draid_machine.specs.Claims.{is_on, passed, claims}
-use Rattle.draid_machine.specs.After.{set_held, set_arm, each_arm, map_arm, log_if, fill_if, excise_if, cut_above, lose_some, without_key, begin_state, put_state, gone_state, live_state, finish_state, free_state, switch_state, attach_state, detach_state, close_state, keep_if, seal_held, seal_arm, image_of, sealed_core, seal_state, is_freed_block, is_gone_by, is_gone_arm, stays, commit_state, planned_pass, plan_state, ready_state, lend_state, unsourced, misses_stripe, is_mended, pass_over, mend_state, land_stripe_state, has_healed, misses_block, heal_state, land_block_state, ended_pass, done_state, cancel_state, reopen_state}
+use Rattle.draid_machine.specs.Arms.{lies, answers, fails, lies_on, is_silent, has_moved, targets_of, is_here}
+use Rattle.draid_machine.specs.Claims.{is_on, is_at, is_at_held, passed, claims}
+use Rattle.draid_machine.specs.After.{set_held, set_arm, each_arm, map_arm, log_if, fill_if, excise_if, cut_above, lose_some, without_key, begin_state, put_state, gone_state, live_state, finish_state, free_state, switch_state, attached_core, detached_core, loses_place, kept_after, renew_if, lose_targets, not_kept, rearranged_state, attach_state, detach_state, upgrade_state, close_state, keep_if, seal_held, seal_arm, image_of, sealed_core, seal_state, is_freed_block, is_gone_by, is_gone_arm, is_kept_by, stays, commit_state, planned_pass, plan_state, ready_state, lend_state, unsourced, misses_stripe, is_mended, pass_over, mend_state, land_stripe_state, has_healed, misses_block, heal_state, land_block_state, ended_pass, done_state, cancel_state, reopen_state}
 use Rattle.draid_machine.specs.Created.{created, created_core, created_arm, new_arm, IsReached}
 use Rattle.draid_machine.specs.Sound.{IsClaimed, ImageSound, Sound}
-use Rattle.draid_machine.specs.Images.{IsImage, IsOwnPass, ImageStands, ImagesStand}
+use Rattle.draid_machine.specs.Images.{IsImage, IsOwnPass, ImageStands, ImagesStand, AreListed}
 use Rattle.draid_machine.specs.Step.{Step, Run}
-use Rattle.draid_machine.proofs.Small.{some_injective, some_same, none_some, both_true, true_both, bool_cases, absurd_test, not_false, true_left, key_true, arm_at, arm_other, mapped_pass, kept_if, has_filter, name_true, four_true, is_equal}
+use Rattle.draid_machine.proofs.Small.{some_injective, some_same, none_some, both_true, true_both, bool_cases, absurd_test, not_false, true_left, true_right, key_true, held_at, held_other, kept_some, arm_at, arm_other, mapped_pass, kept_if, has_filter, name_true, four_true, is_equal}
 use Rattle.draid_machine.proofs.Follows.{from_passed}
+use Rattle.draid_machine.proofs.Calm.{at_place}
+use Rattle.draid_machine.proofs.Moves.{replan_cases}
+use Rattle.draid_machine.proofs.Listing.{Listed, step_listed, created_all}
 use Rattle.draid_machine.proofs.Tickets.{rebuild_heal}
 use Rattle.draid_machine.proofs.Seals.{sealed_held, sealed_arm, from_claims}
 use Rattle.draid_machine.proofs.Rows.{step_sound, created_sound}
@@ -43,6 +46,13 @@ pub record Forward (l : Layout) (img : Image) (w w' : State) : Type 0 where
   pub arms : (n : ArmName) (b : Arm) → w.core.arm n ≡ Some b → is_gone_by img.group b.gone ≡ false → (b' : Arm) × (w'.core.arm n ≡ Some b') × (is_gone_by img.group b'.gone ≡ false)
   pub rebuild : (p' : Pass) → w'.core.pass ≡ Some p' → p'.kind ≡ Rebuild → p'.max ≤ img.group + 1 → (p : Pass) × (w.core.pass ≡ Some p) × Onward p p'
   pub claimed : (s : Segment) → claims l img.core s ≡ true → w.present s ≡ true → w'.present s ≡ true
+  pub kept : (s : Segment) (g : ℕ) → claims l img.core s ≡ true → ((n : ℕ) → w.kept s ≡ Some n → (img.group < n) ⊎ (is_at l w.core s ≡ true))
+      → w'.kept s ≡ Some g → (img.group < g) ⊎ (is_at l w'.core s ≡ true)
+
+-- what was at a place is at one, and nothing more is kept
+still_at : {A B C : Type 0} → (B → C) → A ⊎ B → A ⊎ C
+still_at f (inl less) = inl less
+still_at f (inr place) = inr (f place)
 
 onward_same : (p : Pass) → p.kind ≡ Rebuild → Onward p p
 onward_same p e = record { rebuild = e; number = refl; max = refl; next = omega arith; targets = λ n z. z }
@@ -98,6 +108,7 @@ module _ (l : Layout) (lay : IsLayout l) where
     here = s.here;
     runs = s.runs;
     claimed = λ g c. f.claimed g c (s.claimed g c);
+    kept = λ g n c e. f.kept g n c (λ m was. s.kept g m c was) e;
   }
 
   -- an event that leaves the images as they are
@@ -113,16 +124,35 @@ module _ (l : Layout) (lay : IsLayout l) where
       before img (inr e) = inr (sym sealed ∙ e)
 
   -- only blocks and tickets change
-  held_forward : (w : State) (img : Image) (k : Key) (v : Option Held) (present' aside' : Segment → Bool) → seal_held img.group v ≡ seal_held img.group (w.core.held k)
+  held_forward : (w : State) (img : Image) (k : Key) (v : Option Held) (present' aside' : Segment → Bool) (kept' : Segment → Option ℕ) → seal_held img.group v ≡ seal_held img.group (w.core.held k)
       → ((s : Segment) → claims l img.core s ≡ true → w.present s ≡ true → present' s ≡ true)
-      → Forward l img w (record w { core = record w.core { held = set_held w.core.held k v }; present = present'; aside = aside' })
-  held_forward w img k v present' aside' same kept = record {
+      → ((s : Segment) (g : ℕ) → kept' s ≡ Some g → w.kept s ≡ Some g)
+      → ((s : Segment) → claims l img.core s ≡ true → is_at l w.core s ≡ true → is_at l (record w.core { held = set_held w.core.held k v }) s ≡ true)
+      → Forward l img w (record w { core = record w.core { held = set_held w.core.held k v }; present = present'; aside = aside'; kept = kept' })
+  held_forward w img k v present' aside' kept' same stays fewer place = record {
     group = omega arith;
     blocks = set_blocks img.group w.core.held k v same;
     arms = λ n b e here. (b, e, here);
     rebuild = λ p pass kind max. (p, pass, onward_same p kind);
-    claimed = kept;
+    claimed = stays;
+    kept = λ g n c was e. still_at (place g c) (was n (fewer g n e));
   }
+
+  -- a place speaks of a block's run alone
+  staged_at : (q : Core) (k : Key) (h : Held) (st : Stage) (g : Segment) → q.held k ≡ Some h → is_at l q g ≡ true → is_at l (record q { held = set_held q.held k (Some (record h { stage = st })) }) g ≡ true
+  staged_at q k h st g found e = elim (bool_cases (key_eq k g.key)) [
+    | inl t ↦
+        let at : q.held g.key ≡ Some h = subst (λ x. q.held x ≡ Some h) (key_true k g.key t) found in
+        let on : is_on l q.order g h ≡ true = subst (λ o. is_at_held l q.order g o ≡ true) at e in
+        let now : set_held q.held k (Some (record h { stage = st })) g.key ≡ Some (record h { stage = st })
+        = subst (λ x. set_held q.held k (Some (record h { stage = st })) x ≡ Some (record h { stage = st })) (key_true k g.key t) (held_at q.held k (Some (record h { stage = st }))) in
+        subst (λ o. is_at_held l q.order g o ≡ true) (sym now) on
+    | inr f ↦ subst (λ o. is_at_held l q.order g o ≡ true) (sym (held_other q.held k g.key (Some (record h { stage = st })) f)) e
+  ]
+
+  -- a place of another key stays
+  other_at : (q : Core) (k : Key) (v : Option Held) (g : Segment) → key_eq k g.key ≡ false → is_at l q g ≡ true → is_at l (record q { held = set_held q.held k v }) g ≡ true
+  other_at q k v g other e = subst (λ o. is_at_held l q.order g o ≡ true) (sym (held_other q.held k g.key v other)) e
 
   -- what an image claims is of no ticket
   claims_block : (w : State) (img : Image) (k : Key) (h : Held) (g : Segment) → ImageStands l w img → w.core.held k ≡ Some h → is_block h.stage ≡ false → claims l img.core g ≡ true → key_eq k g.key ≡ false
@@ -138,8 +168,10 @@ module _ (l : Layout) (lay : IsLayout l) where
 
   gone_stands : (w : State) (k : Key) (h : Held) → w.core.held k ≡ Some h → is_block h.stage ≡ false → ImagesStand l w → ImagesStand l (gone_state w k)
   gone_stands w k h found ticket s = onward w (gone_state w k) refl refl
-      (λ img is stands. held_forward w img k None (without_key k w.present) (without_key k w.aside) (sym (ap (seal_held img.group) found ∙ seal_ticket img.group h ticket))
-      (λ g c here. true_both (w.present g) (not (key_eq k g.key)) here (not_false (key_eq k g.key) (claims_block w img k h g stands found ticket c))))
+      (λ img is stands. held_forward w img k None (without_key k w.present) (without_key k w.aside) (not_kept k w.kept) (sym (ap (seal_held img.group) found ∙ seal_ticket img.group h ticket))
+      (λ g c here. true_both (w.present g) (not (key_eq k g.key)) here (not_false (key_eq k g.key) (claims_block w img k h g stands found ticket c)))
+      (λ g n e. (kept_some (key_eq k g.key) (w.kept g) n e).1)
+      (λ g c e. other_at w.core k None g (claims_block w img k h g stands found ticket c) e))
       s.runs s
 
   -- tickets are born above the group of an image
@@ -152,21 +184,22 @@ module _ (l : Layout) (lay : IsLayout l) where
 
   live_stands : (w : State) (k : Key) (h : Held) → w.core.held k ≡ Some h → is_block h.stage ≡ false → Sound l w → ImagesStand l w → ImagesStand l (live_state w k h)
   live_stands w k h found ticket sound s = onward w (live_state w k h) refl refl
-      (λ img is stands. held_forward w img k (Some (record h { stage = Live })) w.present w.aside
+      (λ img is stands. held_forward w img k (Some (record h { stage = Live })) w.present w.aside w.kept
       (seal_late img.group (record h { stage = Live }) (born_late w img k h sound is found ticket) ∙ sym (ap (seal_held img.group) found ∙ seal_ticket img.group h ticket))
-      (λ g c here. here))
+      (λ g c here. here) (λ g n e. e) (λ g c e. staged_at w.core k h Live g found e))
       s.runs s
 
   -- only arms change
-  arms_forward : (w : State) (img : Image) (q' : Core) → ((k : Key) → q'.held k ≡ w.core.held k) → q'.pass ≡ w.core.pass
-      → ((n : ArmName) (b : Arm) → w.core.arm n ≡ Some b → is_gone_by img.group b.gone ≡ false → (b' : Arm) × (q'.arm n ≡ Some b') × (is_gone_by img.group b'.gone ≡ false))
-      → Forward l img w (record w { core = q' })
-  arms_forward w img q' held pass arms = record {
+  arms_forward : (w : State) (img : Image) (arm' : ArmName → Option Arm)
+      → ((n : ArmName) (b : Arm) → w.core.arm n ≡ Some b → is_gone_by img.group b.gone ≡ false → (b' : Arm) × (arm' n ≡ Some b') × (is_gone_by img.group b'.gone ≡ false))
+      → Forward l img w (record w { core = record w.core { arm = arm' } })
+  arms_forward w img arm' arms = record {
     group = omega arith;
-    blocks = λ k. ap (seal_held img.group) (held k);
+    blocks = λ k. refl;
     arms = arms;
-    rebuild = λ p e kind max. (p, sym pass ∙ e, onward_same p kind);
+    rebuild = λ p e kind max. (p, e, onward_same p kind);
     claimed = λ g c here. here;
+    kept = λ g n c was e. was n e;
   }
 
   set_gone : (w : State) (t : ℕ) (n : ArmName) (v : Arm) → is_gone_by t v.gone ≡ false
@@ -188,18 +221,39 @@ module _ (l : Layout) (lay : IsLayout l) where
 
   switch_stands : (w : State) (n : ArmName) (a : Arm) (offline : Bool) → w.core.arm n ≡ Some a → ImagesStand l w → ImagesStand l (switch_state w n a offline)
   switch_stands w n a offline found s = onward w (switch_state w n a offline) refl refl
-      (λ img is stands. arms_forward w img (switch_state w n a offline).core (λ k. refl) refl (λ m b e here. set_switched w img.group n a offline found m b e here))
+      (λ img is stands. arms_forward w img (switch_state w n a offline).core.arm (λ m b e here. set_switched w img.group n a offline found m b e here))
       s.runs s
 
-  attach_stands : (w : State) (slot : ℕ) (n : ArmName) (last : ℕ) → ImagesStand l w → ImagesStand l (attach_state w slot n last)
-  attach_stands w slot n last s = onward w (attach_state w slot n last) refl refl
-      (λ img is stands. arms_forward w img (attach_state w slot n last).core (λ k. refl) refl (λ m b e here. set_gone w img.group n _ refl m b e here))
-      s.runs s
+  -- other arms: what loses its place is kept for the open group, which is above an image's
+  loses_cases : (w : State) (q : Core) (g : Segment) (n : ℕ) → kept_after l w q g ≡ Some n → (n ≡ w.open_group) ⊎ ((loses_place l w q g ≡ false) × (w.kept g ≡ Some n))
+  loses_cases w q g n e = by (loses_place l w q g) refl e
+    where
+      by : (b : Bool) → loses_place l w q g ≡ b → (if b then Some w.open_group else w.kept g) ≡ Some n → (n ≡ w.open_group) ⊎ ((loses_place l w q g ≡ false) × (w.kept g ≡ Some n))
+      by true is e = inl (sym (some_injective w.open_group n e))
+      by false is e = inr (is, e)
 
-  detach_stands : (w : State) (slot : ℕ) (n : ArmName) (a : Arm) → ImagesStand l w → ImagesStand l (detach_state w slot n a)
-  detach_stands w slot n a s = onward w (detach_state w slot n a) refl refl
-      (λ img is stands. arms_forward w img (detach_state w slot n a).core (λ k. refl) refl
-      (λ m b e here. set_gone w img.group n (record a { gone = Some (record { slot = slot; group = w.open_group }) }) (past w.open_group img.group stands.group) m b e here))
+  stays_at : (a b c : Bool) → (a && b && not c) ≡ false → a ≡ true → b ≡ true → c ≡ true
+  stays_at a b true e x y = refl
+  stays_at a b false e x y = absurd (true≢false (sym (true_both (a && b) true (true_both a b x y) refl) ∙ e))
+
+  rearranged_stands : (w : State) (last : ℕ) (arm' : ArmName → Option Arm) (order' : ℕ → List ArmName)
+      → ((img : Image) → ImageStands l w img → (n : ArmName) (b : Arm) → w.core.arm n ≡ Some b → is_gone_by img.group b.gone ≡ false
+      → (b' : Arm) × (arm' n ≡ Some b') × (is_gone_by img.group b'.gone ≡ false))
+      → ImagesStand l w → ImagesStand l (rearranged_state l w last (record w.core { arm = arm'; order = order' }))
+  rearranged_stands w last arm' order' arms s =
+      let q : Core = record w.core { arm = arm'; order = order' } in
+      onward w (rearranged_state l w last q) refl refl
+      (λ img is stands. record {
+        group = omega arith;
+        blocks = λ k. refl;
+        arms = λ n b e here. let z = arms img stands n b e here in mapped (λ m. renew_if (has_moved l w.core q m) last) arm' img.group (λ m a. refl) n z.0 z.1 z.2;
+        rebuild = λ p e kind max. (p, e, onward_same p kind);
+        claimed = λ g c here. here;
+        kept = λ g n c was e. elim (loses_cases w q g n e) [
+          | inl at ↦ inl (subst (λ x. img.group < x) (sym at) stands.group)
+          | inr z ↦ still_at (λ place. stays_at (w.present g) (is_at l w.core g) (is_at l q g) z.0 (stands.claimed g c) place) (was n z.1)
+        ];
+      })
       s.runs s
 
   -- the pass changes, and perhaps logs
@@ -214,6 +268,7 @@ module _ (l : Layout) (lay : IsLayout l) where
     arms = arms;
     rebuild = rebuild;
     claimed = claimed;
+    kept = λ g n c was e. was n e;
   }
 
   no_rebuild : {A : Type 0} (p : Pass) → None ≡ Some p → A
@@ -254,6 +309,7 @@ module _ (l : Layout) (lay : IsLayout l) where
     rebuild = λ r e rebuild low.
         (p, pass, subst (λ x. Onward p x) (some_injective p' r e) (record { rebuild = sym kind ∙ ap (λ (x : Pass). x.kind) (some_injective p' r e) ∙ rebuild; number = number; max = max; next = next; targets = targets }));
     claimed = claimed;
+    kept = λ g n c was e. was n e;
   }
 
   goes_runs : (w : State) (p p' : Pass) → w.core.pass ≡ Some p → p'.kind ≡ p.kind → p'.max ≡ p.max → p'.running ≡ p.running → ImagesStand l w
@@ -285,13 +341,18 @@ module _ (l : Layout) (lay : IsLayout l) where
 
   begin_stands : (w : State) (k : Key) (h : Held) → w.core.held k ≡ None → is_block h.stage ≡ false → ImagesStand l w → ImagesStand l (begin_state w k h)
   begin_stands w k h unused ticket s = onward w (begin_state w k h) refl refl
-      (λ img is stands. held_forward w img k (Some h) w.present w.aside (seal_ticket img.group h ticket ∙ sym (ap (seal_held img.group) unused)) (λ g c here. here))
+      (λ img is stands. held_forward w img k (Some h) w.present w.aside w.kept (seal_ticket img.group h ticket ∙ sym (ap (seal_held img.group) unused)) (λ g c here. here) (λ g n e. e)
+      (λ g c e. other_at w.core k (Some h) g (elim (bool_cases (key_eq k g.key)) [
+        | inl t ↦ absurd_test (is_at l w.core g) e (ap (is_at_held l w.core.order g) (subst (λ x. w.core.held x ≡ None) (key_true k g.key t) unused))
+        | inr f ↦ f
+      ]) e))
       s.runs s
 
   free_stands : (w : State) (k : Key) (h : Held) (group : ℕ) → w.core.held k ≡ Some h → h.stage ≡ Live → w.open_group ≤ group → ImagesStand l w → ImagesStand l (free_state w k h group)
   free_stands w k h group found live due s = onward w (free_state w k h group) refl refl
-      (λ img is stands. held_forward w img k (Some (record h { stage = Freed group })) w.present w.aside
-      (seal_freed img.group h group live (let a = stands.group in omega (arith, a, due)) ∙ sym (ap (seal_held img.group) found)) (λ g c here. here))
+      (λ img is stands. held_forward w img k (Some (record h { stage = Freed group })) w.present w.aside w.kept
+      (seal_freed img.group h group live (let a = stands.group in omega (arith, a, due)) ∙ sym (ap (seal_held img.group) found)) (λ g c here. here) (λ g n e. e)
+      (λ g c e. staged_at w.core k h (Freed group) g found e))
       s.runs s
 
   put_stands : (w : State) (k : Key) (landed : List ArmName) (h : Held) (c m : ℕ) → w.core.held k ≡ Some h → h.stage ≡ Writing c m → ImagesStand l w → ImagesStand l (put_state l w k landed h c m)
@@ -302,6 +363,7 @@ module _ (l : Layout) (lay : IsLayout l) where
         arms = mapped (λ n. log_if (has_name (w.core.order (l.slot_of h.first c)) n && not (has_name landed n)) h.birth) w.core.arm img.group (λ n a. refl);
         rebuild = λ p pass kind max. (p, pass, onward_same p kind);
         claimed = λ g e here. true_left (w.present g) _ here;
+        kept = λ g n e was z. still_at (staged_at w.core k h (Writing (c + 1) (if is_nil landed then m + 1 else m)) g found) (was n z);
       })
       s.runs s
 
@@ -313,8 +375,42 @@ module _ (l : Layout) (lay : IsLayout l) where
         arms = λ n b e here. (b, e, here);
         rebuild = λ p pass kind max. (p, pass, onward_same p kind);
         claimed = λ g c here. here;
+        kept = λ g n c was z. was n z;
       })
       s.runs s
+
+  upgrade_stands : (w : State) → ImagesStand l w → ImagesStand l (upgrade_state w)
+  upgrade_stands w s = onward w (upgrade_state w) refl refl
+      (λ img e stands. record {
+        group = omega arith;
+        blocks = λ k. refl;
+        arms = λ n b e here. (b, e, here);
+        rebuild = λ p pass kind max. (p, pass, onward_same p kind);
+        claimed = λ g c here. here;
+        kept = λ g n c was z. was n z;
+      })
+      s.runs s
+
+  attach_stands : (w : State) (slot : ℕ) (n : ArmName) (last : ℕ) → ImagesStand l w → ImagesStand l (attach_state l w slot n last)
+  attach_stands w slot n last s =
+      let q = attached_core w.core slot n last in
+      let r = rearranged_state l w last q in
+      let all : ImagesStand l r = rearranged_stands w last q.arm q.order (λ img stands m b e here. set_gone w img.group n _ refl m b e here) s in
+      replan_cases l (λ v. ImagesStand l v) r (has_moved l w.core q) w.core.pass (λ none. all)
+      (λ p pass kind. onward r (record r { core = record r.core { pass = Some (lose_targets (has_moved l w.core q) 0 p) } }) refl refl
+      (λ img is stands. pass_forward r img r.core.arm (Some (lose_targets (has_moved l w.core q) 0 p)) r.core.last r.serial r.loan r.present r.aside (λ m b e here. (b, e, here))
+      (λ v e rebuild max. scrub v (lose_targets (has_moved l w.core q) 0 p) kind e rebuild) (λ g c here. here))
+      (λ v e rebuild running. scrub v (lose_targets (has_moved l w.core q) 0 p) kind e rebuild) all)
+      (λ p pass kind. plan_stands r Rebuild (targets_of l r.core Rebuild) all)
+    where
+      scrub : {A : Type 0} (v p' : Pass) → p'.kind ≡ Heal → Some p' ≡ Some v → v.kind ≡ Rebuild → A
+      scrub v p' kind e rebuild = rebuild_heal v.kind rebuild (ap (λ (x : Pass). x.kind) (sym (some_injective p' v e)) ∙ kind)
+
+  detach_stands : (w : State) (slot : ℕ) (n : ArmName) (a : Arm) (last : ℕ) → ImagesStand l w → ImagesStand l (detach_state l w slot n a last)
+  detach_stands w slot n a last s =
+      let q = detached_core w.core slot n a w.open_group in
+      rearranged_stands w last q.arm q.order
+      (λ img stands m b e here. set_gone w img.group n (record a { gone = Some (record { slot = slot; group = w.open_group }) }) (past w.open_group img.group stands.group) m b e here) s
 
   lend_stands : (w : State) (p : Pass) (n : Loan) (failed : List ℕ) → w.core.pass ≡ Some p → ImagesStand l w → ImagesStand l (lend_state w p n failed)
   lend_stands w p n failed pass s = onward w (lend_state w p n failed) refl refl
@@ -449,8 +545,8 @@ module _ (l : Layout) (lay : IsLayout l) where
   passed_stage (Some p) n h st row e = e
 
   -- what an image of a state claims, the state claims
-  image_claims : (t : ℕ) (q : Core) (g : Segment) → IsClaimed l (image_of t q).core g → IsClaimed l q g
-  image_claims t q g c =
+  image_claims : (t version : ℕ) (q : Core) (g : Segment) → IsClaimed l (image_of t version q).core g → IsClaimed l q g
+  image_claims t version q g c =
       let z = sealed_held t (q.held g.key) c.h c.on.held in
       let put = put_block z.h.stage g.column z.block in
       record {
@@ -503,7 +599,10 @@ module _ (l : Layout) (lay : IsLayout l) where
           let same = z.2.max in
           omega (arith, m, same)
 
-      sealed_stands : ImageStands l (seal_state l w t failed wrote) (image_of t (sealed_core l w.core t failed wrote))
+      now : (g : Segment) → claims l (image_of t w.asked (sealed_core l w.core t failed wrote)).core g ≡ true → IsClaimed l (sealed_core l w.core t failed wrote) g
+      now g c = image_claims t w.asked (sealed_core l w.core t failed wrote) g (from_claims l (image_of t w.asked (sealed_core l w.core t failed wrote)).core g c)
+
+      sealed_stands : ImageStands l (seal_state l w t failed wrote) (image_of t w.asked (sealed_core l w.core t failed wrote))
       sealed_stands = record {
         group = (let a = (sound.groups.closing_is t closing).1 in omega (arith, a));
         blocks = λ k. refl;
@@ -511,7 +610,8 @@ module _ (l : Layout) (lay : IsLayout l) where
         here = λ n a e. sealed_here ((sealed_core l w.core t failed wrote).arm n) a e;
         rebuild = λ p e kind max. record { own = p; pass = e; rebuild = kind; number = refl; max = refl; next = omega arith; targets = λ n z. z };
         runs = λ p e kind running. (let a = runs p e kind running in let b = (sound.groups.closing_is t closing).0 in omega (arith, a, b));
-        claimed = λ g c. new.covered g (image_claims t (sealed_core l w.core t failed wrote) g (from_claims l (image_of t (sealed_core l w.core t failed wrote)).core g c));
+        claimed = λ g c. new.covered g (now g c);
+        kept = λ g n c e. let z = now g c in inr (at_place l (sealed_core l w.core t failed wrote) g z.h z.a z.on);
       }
 
       of : (img : Image) → IsImage (seal_state l w t failed wrote) img → ImageStands l (seal_state l w t failed wrote) img
@@ -521,8 +621,9 @@ module _ (l : Layout) (lay : IsLayout l) where
         arms = mapped (λ n. log_if (wrote && lies_on l w.core (is_silent w.core failed) n) t) w.core.arm img.group (λ n a. refl);
         rebuild = λ p e kind max. let z = lost_onward w t failed wrote p e kind in (z.0, z.1, z.2);
         claimed = λ g c here. here;
+        kept = λ g n c was e. was n e;
       })
-      of img (inr e) = subst (λ i. ImageStands l (seal_state l w t failed wrote) i) (some_injective (image_of t (sealed_core l w.core t failed wrote)) img e) sealed_stands
+      of img (inr e) = subst (λ i. ImageStands l (seal_state l w t failed wrote) i) (some_injective (image_of t w.asked (sealed_core l w.core t failed wrote)) img e) sealed_stands
 
   commit_blocks : (t : ℕ) (o : Option Held) → seal_held t (if is_freed_block t o then None else o) ≡ seal_held t o
   commit_blocks t None = refl
@@ -544,7 +645,7 @@ module _ (l : Layout) (lay : IsLayout l) where
       of true e = absurd (true≢false e)
       of false e = refl
 
-  commit_stands : (w : State) (t : ℕ) (img : Image) → w.closing ≡ Some t → w.sealed ≡ Some img → Sound l w → ImagesStand l w → ImagesStand l (commit_state w t img)
+  commit_stands : (w : State) (t : ℕ) (img : Image) → w.closing ≡ Some t → w.sealed ≡ Some img → Sound l w → ImagesStand l w → ImagesStand l (commit_state l w t img)
   commit_stands w t img closing sealed sound s = record {
     each = λ i is. of i is;
     runs = λ p e kind running. (let a = s.runs p e kind running in let b = (sound.groups.closing_is t closing).0 in omega (arith, a, b));
@@ -556,22 +657,32 @@ module _ (l : Layout) (lay : IsLayout l) where
       stands : ImageStands l w img
       stands = s.each img (inr sealed)
 
-      kept : (g : Segment) → claims l img.core g ≡ true → stays t w.core g ≡ true
-      kept g e =
+      not_freed : (g : Segment) → claims l img.core g ≡ true → is_freed_block t (w.core.held g.key) ≡ false
+      not_freed g e =
           let c = from_claims l img.core g e in
           let z = sealed_held img.group (w.core.held g.key) c.h (sym (stands.blocks g.key) ∙ c.on.held) in
-          let a = stands.arms g.arm c.a c.on.arm in
-          true_both (not (is_freed_block t (w.core.held g.key))) (not (is_gone_arm t (w.core.arm g.arm)))
-          (not_false (is_freed_block t (w.core.held g.key)) (subst (λ o. is_freed_block t o ≡ false) (sym z.found) (subst (λ x. is_freed_by x z.h.stage ≡ false) group z.stays)))
-          (not_false (is_gone_arm t (w.core.arm g.arm)) (subst (λ o. is_gone_arm t o ≡ false) (sym a.1) (subst (λ x. is_gone_by x a.0.gone ≡ false) group a.2)))
+          subst (λ o. is_freed_block t o ≡ false) (sym z.found) (subst (λ x. is_freed_by x z.h.stage ≡ false) group z.stays)
 
-      of : (i : Image) → IsImage (commit_state w t img) i → ImageStands l (commit_state w t img) i
-      of i (inl e) = subst (λ x. ImageStands l (commit_state w t img) x) e (forward w (commit_state w t img) img stands (record {
+      unless_later : (g : Segment) (o : Option ℕ) → ((n : ℕ) → o ≡ Some n → (img.group < n) ⊎ (is_at l w.core g ≡ true)) → (not (is_kept_by t o) || is_at l w.core g) ≡ true
+      unless_later g None f = refl
+      unless_later g (Some n) f = elim (f n refl) [
+        | inl less ↦ true_left (not (nat_le n t)) (is_at l w.core g) (not_false (nat_le n t) (past n t (subst (λ x. x < n) group less)))
+        | inr place ↦ true_right (not (nat_le n t)) (is_at l w.core g) place
+      ]
+
+      it_stays : (g : Segment) → claims l img.core g ≡ true → stays l t w g ≡ true
+      it_stays g e =
+          true_both (not (is_freed_block t (w.core.held g.key))) (not (is_kept_by t (w.kept g)) || is_at l w.core g)
+          (not_false (is_freed_block t (w.core.held g.key)) (not_freed g e)) (unless_later g (w.kept g) (λ n is. stands.kept g n e is))
+
+      of : (i : Image) → IsImage (commit_state l w t img) i → ImageStands l (commit_state l w t img) i
+      of i (inl e) = subst (λ x. ImageStands l (commit_state l w t img) x) e (forward w (commit_state l w t img) img stands (record {
         group = omega arith;
         blocks = λ k. subst (λ x. seal_held x (if is_freed_block t (w.core.held k) then None else w.core.held k) ≡ seal_held x (w.core.held k)) (sym group) (commit_blocks t (w.core.held k));
         arms = λ n b e here. (b, commit_arm t (w.core.arm n) b e (subst (λ x. is_gone_by x b.gone ≡ false) group here), here);
         rebuild = λ p pass kind max. (p, pass, onward_same p kind);
-        claimed = λ g c here. true_both (w.present g) (stays t w.core g) here (kept g c);
+        claimed = λ g c here. true_both (w.present g) (stays l t w g) here (it_stays g c);
+        kept = λ g n c was e. still_at (λ place. rw (not_freed g c) place) (was n (kept_some (is_freed_block t (w.core.held g.key) || is_kept_by t (w.kept g)) (w.kept g) n e).1);
       }))
       of i (inr e) = absurd (none_some None i refl e)
 
@@ -607,6 +718,7 @@ module _ (l : Layout) (lay : IsLayout l) where
         rebuild = λ p e kind max. record { own = p; pass = e; rebuild = kind; number = refl; max = refl; next = omega arith; targets = λ n z. z };
         runs = stands.runs;
         claimed = λ g c. c;
+        kept = λ g n c e. absurd (none_some None n refl e);
       })
       of i (inr e) = absurd (none_some None i refl e)
 
@@ -622,50 +734,52 @@ module _ (l : Layout) (lay : IsLayout l) where
   is_image w img t (inl z) = inl z.0
   is_image w img t (inr z) = inr z.0
 
-  pub step_stands : (w : State) (e : Event) (new : State) → Step l w e new → Sound l w → ImagesStand l w → ImagesStand l new
-  step_stands w (Begin key first stripes len birth digest) new x sound s = subst (λ v. ImagesStand l v) (sym x.made) (begin_stands w key _ x.unused refl s)
-  step_stands w (Put key landed failed) new x sound s = subst (λ v. ImagesStand l v) (sym x.made) (put_stands w key landed x.h x.c x.m x.found x.stage s)
-  step_stands w (Finish key) new x sound s = subst (λ v. ImagesStand l v) (sym x.made) (finish_stands w key x.h x.m x.found (ap is_block x.stage) sound s)
-  step_stands w (Abort key) new x sound s = subst (λ v. ImagesStand l v) (sym x.made) (gone_stands w key x.h x.found x.ticket s)
-  step_stands w (Free key group) new x sound s = subst (λ v. ImagesStand l v) (sym x.made) (free_stands w key x.h group x.found x.live x.due.from s)
-  step_stands w (Fetch key failed) new x sound s = subst (λ v. ImagesStand l v) (sym x.made) s
-  step_stands w (Damage leaf sector failed) new x sound s = subst (λ v. ImagesStand l v) (sym x.made) s
-  step_stands w (Offline leaf) new x sound s = subst (λ v. ImagesStand l v) (sym x.made) (switch_stands w (Leaf leaf) x.a true x.there.found s)
-  step_stands w (Online leaf) new x sound s = subst (λ v. ImagesStand l v) (sym x.made) (switch_stands w (Leaf leaf) x.a false x.there.found s)
-  step_stands w (Attach slot arm) new x sound s = subst (λ v. ImagesStand l v) (sym x.made) (attach_stands w slot arm x.last s)
-  step_stands w (Detach slot arm) new x sound s = subst (λ v. ImagesStand l v) (sym x.made) (detach_stands w slot arm x.a s)
-  step_stands w (Close group) new x sound s = subst (λ v. ImagesStand l v) (sym x.made) (close_stands w group x.open_group s)
-  step_stands w (Seal group failed) new x sound s =
+  pub step_stands : (w : State) (e : Event) (new : State) → Step l w e new → AreListed w.core → Sound l w → ImagesStand l w → ImagesStand l new
+  step_stands w (Begin key first stripes len birth digest) new x listed sound s = subst (λ v. ImagesStand l v) (sym x.made) (begin_stands w key _ x.unused refl s)
+  step_stands w (Put key landed failed) new x listed sound s = subst (λ v. ImagesStand l v) (sym x.made) (put_stands w key landed x.h x.c x.m x.found x.stage s)
+  step_stands w (Finish key) new x listed sound s = subst (λ v. ImagesStand l v) (sym x.made) (finish_stands w key x.h x.m x.found (ap is_block x.stage) sound s)
+  step_stands w (Abort key) new x listed sound s = subst (λ v. ImagesStand l v) (sym x.made) (gone_stands w key x.h x.found x.ticket s)
+  step_stands w (Free key group) new x listed sound s = subst (λ v. ImagesStand l v) (sym x.made) (free_stands w key x.h group x.found x.live x.due.from s)
+  step_stands w (Fetch key failed) new x listed sound s = subst (λ v. ImagesStand l v) (sym x.made) s
+  step_stands w (Damage leaf sector failed) new x listed sound s = subst (λ v. ImagesStand l v) (sym x.made) s
+  step_stands w (Offline leaf) new x listed sound s = subst (λ v. ImagesStand l v) (sym x.made) (switch_stands w (Leaf leaf) x.a true x.there.found s)
+  step_stands w (Online leaf) new x listed sound s = subst (λ v. ImagesStand l v) (sym x.made) (switch_stands w (Leaf leaf) x.a false x.there.found s)
+  step_stands w (Attach slot arm) new x listed sound s = subst (λ v. ImagesStand l v) (sym x.made) (attach_stands w slot arm x.last s)
+  step_stands w (Detach slot arm) new x listed sound s = subst (λ v. ImagesStand l v) (sym x.made) (detach_stands w slot arm x.a x.last s)
+  step_stands w Upgrade new x listed sound s = subst (λ v. ImagesStand l v) (sym x.made) (upgrade_stands w s)
+  step_stands w (Close group) new x listed sound s = subst (λ v. ImagesStand l v) (sym x.made) (close_stands w group x.open_group s)
+  step_stands w (Seal group failed) new x listed sound s =
       subst (λ v. ImagesStand l v) (sym x.made)
-      (seal_stands w group failed.items x.wrote x.closing sound (subst (λ v. Sound l v) x.made (step_sound l lay w (Seal group failed) new x sound)) s)
-  step_stands w (Commit group) new x sound s = subst (λ v. ImagesStand l v) (sym x.made) (commit_stands w group x.image x.closing x.sealed sound s)
-  step_stands w (Plan kind) new x sound s = subst (λ v. ImagesStand l v) (sym x.made) (plan_stands w kind (targets_of l w.core kind) s)
-  step_stands w Ready new x sound s = subst (λ v. ImagesStand l v) (sym x.made) (ready_stands w x.p x.pass x.committed s)
-  step_stands w (Lend failed) new x sound s = subst (λ v. ImagesStand l v) (sym x.made) (lend_stands w x.p x.n failed.items x.pass s)
-  step_stands w (LandStripe pass serial failed) new x sound s =
+      (seal_stands w group failed.items x.wrote x.closing sound (subst (λ v. Sound l v) x.made (step_sound l lay w (Seal group failed) new x listed sound)) s)
+  step_stands w (Commit group) new x listed sound s = subst (λ v. ImagesStand l v) (sym x.made) (commit_stands w group x.image x.closing x.sealed sound s)
+  step_stands w (Plan kind) new x listed sound s = subst (λ v. ImagesStand l v) (sym x.made) (plan_stands w kind (targets_of l w.core kind) s)
+  step_stands w Ready new x listed sound s = subst (λ v. ImagesStand l v) (sym x.made) (ready_stands w x.p x.pass x.committed s)
+  step_stands w (Lend failed) new x listed sound s = subst (λ v. ImagesStand l v) (sym x.made) (lend_stands w x.p x.n failed.items x.pass s)
+  step_stands w (LandStripe pass serial failed) new x listed sound s =
       subst (λ v. ImagesStand l v) (sym x.made) (stripe_stands w x.p x.n x.h failed.items x.counts.pass_is x.counts.loan x.counts.found sound s x.rebuild)
-  step_stands w (LandBlock pass serial failed patched unreadable) new x sound s =
+  step_stands w (LandBlock pass serial failed patched unreadable) new x listed sound s =
       subst (λ v. ImagesStand l v) (sym x.made) (block_stands w x.p x.n x.h failed.items x.counts.pass_is x.counts.loan x.counts.found sound s patched.items unreadable x.whole)
-  step_stands w (Done failed) new x sound s = subst (λ v. ImagesStand l v) (sym x.made) (done_stands w (ended_pass l w.core x.p failed.items) s)
-  step_stands w Cancel new x sound s = subst (λ v. ImagesStand l v) (sym x.made) (cancel_stands w s)
-  step_stands w (Reopen group doubtful) new x sound s = subst (λ v. ImagesStand l v) (sym x.made) (reopen_stands w x.image doubtful.items (is_image w x.image group x.one) s)
+  step_stands w (Done failed) new x listed sound s = subst (λ v. ImagesStand l v) (sym x.made) (done_stands w (ended_pass l w.core x.p failed.items) s)
+  step_stands w Cancel new x listed sound s = subst (λ v. ImagesStand l v) (sym x.made) (cancel_stands w s)
+  step_stands w (Reopen group doubtful) new x listed sound s = subst (λ v. ImagesStand l v) (sym x.made) (reopen_stands w x.image doubtful.items (is_image w x.image group x.one) s)
 
-  pub run_stands : (w : State) (es : List Event) (new : State) → Run l w es new → Sound l w → ImagesStand l w → ImagesStand l new
-  run_stands w [] new is sound s = subst (λ v. ImagesStand l v) (sym is) s
-  run_stands w (e ∷ es) new r sound s = run_stands r.0 es new r.2 (step_sound l lay w e r.0 r.1 sound) (step_stands w e r.0 r.1 sound s)
+  pub run_stands : (w : State) (es : List Event) (new : State) → Run l w es new → Listed w → Sound l w → ImagesStand l w → ImagesStand l new
+  run_stands w [] new is listed sound s = subst (λ v. ImagesStand l v) (sym is) s
+  run_stands w (e ∷ es) new r listed sound s =
+      run_stands r.0 es new r.2 (step_listed l lay w e r.0 r.1 listed) (step_sound l lay w e r.0 r.1 listed.core sound) (step_stands w e r.0 r.1 listed.core sound s)
 
   pub created_here : (n : ArmName) (a : Arm) → created_arm l n ≡ Some a → a.gone ≡ None
   created_here (Leaf m) a e = subst (λ (x : Arm). x.gone ≡ None) (kept_if (nat_lt m l.slots) new_arm a e).1 refl
   created_here (Spare t) a e = absurd (none_some None a refl e)
 
-  pub created_stands : ImagesStand l (created l)
-  created_stands = record {
+  pub created_stands : (version : ℕ) → ImagesStand l (created l version)
+  created_stands version = record {
     each = λ img is. of img is;
     runs = λ p e. absurd (none_some None p refl e);
   }
     where
-      of : (img : Image) → IsImage (created l) img → ImageStands l (created l) img
-      of img (inl e) = subst (λ i. ImageStands l (created l) i) e (record {
+      of : (img : Image) → IsImage (created l version) img → ImageStands l (created l version) img
+      of img (inl e) = subst (λ i. ImageStands l (created l version) i) e (record {
         group = omega arith;
         blocks = λ k. refl;
         arms = λ n a e. (a, e, here_alone 1 a.gone (created_here n a e));
@@ -673,8 +787,9 @@ module _ (l : Layout) (lay : IsLayout l) where
         rebuild = λ p e. absurd (none_some None p refl e);
         runs = λ p e. absurd (none_some None p refl e);
         claimed = λ g c. let z = from_claims l (created_core l) g c in absurd (none_some None z.h refl z.on.held);
+        kept = λ g n c e. absurd (none_some None n refl e);
       })
       of img (inr e) = absurd (none_some None img refl e)
 
 pub every_image : (l : Layout) (w : State) → IsLayout l → IsReached l w → ImagesStand l w
-every_image l w lay r = run_stands l lay (created l) r.events w r.run (created_sound l lay) (created_stands l lay)
+every_image l w lay r = run_stands l lay (created l r.version) r.events w r.run (created_all l lay r.version) (created_sound l lay r.version) (created_stands l lay r.version)

@@ -8,7 +8,7 @@ use Rattle.draid_machine.specs.declared.names.Stage.{Stage}
 use Rattle.draid_machine.specs.declared.names.Stage.TheVariants.{Writing, Live, Freed}
 use Rattle.draid_machine.specs.declared.names.Held.{Held}
 use Rattle.draid_machine.specs.declared.event.Event.{Event}
-use Rattle.draid_machine.specs.declared.event.Event.TheVariants.{Begin, Put, Finish, Abort, Free, Fetch, Damage, Offline, Online, Attach, Detach, Close, Seal, Commit, Plan, Ready, Lend, LandStripe, LandBlock, Done, Cancel, Reopen}
+use Rattle.draid_machine.specs.declared.event.Event.TheVariants.{Begin, Put, Finish, Abort, Free, Fetch, Damage, Offline, Online, Attach, Detach, Upgrade, Close, Seal, Commit, Plan, Ready, Lend, LandStripe, LandBlock, Done, Cancel, Reopen}
 use Rattle.draid_machine.specs.Names.{is_heal, takes}
 use Rattle.draid_machine.specs.State.{Layout, IsLayout, Pass, Core, Loan, Image, State}
 use Rattle.draid_machine.specs.Arms.{IsFirst}
@@ -17,6 +17,7 @@ use Rattle.draid_machine.specs.Sound.{CoreSound, Sound}
 use Rattle.draid_machine.specs.Step.{IsLast, IsWhole, IsNext, IsChosen, unless_failed, arms_read, Counts, LendStep, Step, Run}
 use Rattle.draid_machine.specs.Created.{created, IsReached}
 use Rattle.draid_machine.proofs.Small.{some_same}
+use Rattle.draid_machine.proofs.Listing.{Listed, step_listed, created_all}
 use Rattle.draid_machine.proofs.Rows.{step_sound, created_sound, reached_sound}
 
 -- ---- parts
@@ -174,11 +175,15 @@ module _ (l : Layout) where
   one_result w (Damage leaf sector failed) new other s x y = x.made ∙ sym y.made
   one_result w (Offline leaf) new other s x y = x.made ∙ ap (λ a. switch_state w (Leaf leaf) a true) (some_same (w.core.arm (Leaf leaf)) x.a y.a x.there.found y.there.found) ∙ sym y.made
   one_result w (Online leaf) new other s x y = x.made ∙ ap (λ a. switch_state w (Leaf leaf) a false) (some_same (w.core.arm (Leaf leaf)) x.a y.a x.there.found y.there.found) ∙ sym y.made
-  one_result w (Attach slot arm) new other s x y = x.made ∙ ap (λ v. attach_state w slot arm v) (one_last w x.last y.last x.last_is y.last_is) ∙ sym y.made
-  one_result w (Detach slot arm) new other s x y = x.made ∙ ap (λ a. detach_state w slot arm a) (some_same (w.core.arm arm) x.a y.a x.found y.found) ∙ sym y.made
+  one_result w (Attach slot arm) new other s x y = x.made ∙ ap (λ v. attach_state l w slot arm v) (one_last w x.last y.last x.last_is y.last_is) ∙ sym y.made
+  one_result w (Detach slot arm) new other s x y =
+      let arms = some_same (w.core.arm arm) x.a y.a x.found y.found in
+      let lasts = one_last w x.last y.last x.last_is y.last_is in
+      x.made ∙ (λ i. detach_state l w slot arm (arms i) (lasts i)) ∙ sym y.made
+  one_result w Upgrade new other s x y = x.made ∙ sym y.made
   one_result w (Close group) new other s x y = x.made ∙ sym y.made
   one_result w (Seal group failed) new other s x y = x.made ∙ ap (λ b. seal_state l w group failed.items b) (same_test x.wrote y.wrote x.writes x.no_writes y.writes y.no_writes) ∙ sym y.made
-  one_result w (Commit group) new other s x y = x.made ∙ ap (λ i. commit_state w group i) (some_same w.sealed x.image y.image x.sealed y.sealed) ∙ sym y.made
+  one_result w (Commit group) new other s x y = x.made ∙ ap (λ i. commit_state l w group i) (some_same w.sealed x.image y.image x.sealed y.sealed) ∙ sym y.made
   one_result w (Plan kind) new other s x y = x.made ∙ sym y.made
   one_result w Ready new other s x y = x.made ∙ ap (λ p. ready_state w p) (some_same w.core.pass x.p y.p x.pass y.pass) ∙ sym y.made
   one_result w (Lend failed) new other s x y =
@@ -200,14 +205,14 @@ module _ (l : Layout) where
   one_result w Cancel new other s x y = x.made ∙ sym y.made
   one_result w (Reopen group doubtful) new other s x y = x.made ∙ ap (λ i. reopen_state l w i doubtful.items) (one_image w group x.image y.image s x.one y.one) ∙ sym y.made
 
-one_run : (l : Layout) (lay : IsLayout l) (w : State) (es : List Event) (new other : State) → Sound l w → Run l w es new → Run l w es other → new ≡ other
-one_run l lay w [] new other s x y = x ∙ sym y
-one_run l lay w (e ∷ es) new other s x y =
+one_run : (l : Layout) (lay : IsLayout l) (w : State) (es : List Event) (new other : State) → Listed w → Sound l w → Run l w es new → Run l w es other → new ≡ other
+one_run l lay w [] new other listed s x y = x ∙ sym y
+one_run l lay w (e ∷ es) new other listed s x y =
     let same = one_result l w e x.0 y.0 s x.1 y.1 in
-    one_run l lay x.0 es new other (step_sound l lay w e x.0 x.1 s) x.2 (subst (λ v. Run l v es other) (sym same) y.2)
+    one_run l lay x.0 es new other (step_listed l lay w e x.0 x.1 listed) (step_sound l lay w e x.0 x.1 listed.core s) x.2 (subst (λ v. Run l v es other) (sym same) y.2)
 
 pub one_event : (l : Layout) (w : State) (e : Event) (new other : State) → IsLayout l → IsReached l w → Step l w e new → Step l w e other → new ≡ other
 one_event l w e new other lay r x y = one_result l w e new other (reached_sound l lay w r) x y
 
-pub one_history : (l : Layout) (es : List Event) (new other : State) → IsLayout l → Run l (created l) es new → Run l (created l) es other → new ≡ other
-one_history l es new other lay x y = one_run l lay (created l) es new other (created_sound l lay) x y
+pub one_history : (l : Layout) (version : ℕ) (es : List Event) (new other : State) → IsLayout l → Run l (created l version) es new → Run l (created l version) es other → new ≡ other
+one_history l version es new other lay x y = one_run l lay (created l version) es new other (created_all l lay version) (created_sound l lay version) x y

@@ -1,4 +1,4 @@
-use Rattle.std.specs.Prelude.{◌==◌, ◌+◌, ◌-◌, ◌||◌, ◌&&◌, not, ℕ, Bool, true, false, nat_le, nat_lt, List, [], ◌∷◌, ◌++◌, Option, Some, None, filter, length, min, count_by, is_none, if◌then◌else◌}
+use Rattle.std.specs.Prelude.{◌==◌, ◌+◌, ◌||◌, ◌&&◌, not, ℕ, Bool, true, false, nat_le, nat_lt, List, [], ◌∷◌, ◌++◌, Option, Some, None, filter, length, min, count_by, is_none, is_some, if◌then◌else◌}
 use Rattle.draid_names.specs.declared.numbers.TheConstants.{LAST_NUMBER}
 use Rattle.draid_names.specs.declared.pass_kind.PassKind.{PassKind}
 use Rattle.draid_names.specs.declared.pass_kind.PassKind.TheVariants.{Rebuild, Heal}
@@ -10,8 +10,8 @@ use Rattle.draid_machine.specs.declared.names.Segment.{Segment}
 use Rattle.draid_machine.specs.declared.event.Patched.{Patched}
 use Rattle.draid_machine.specs.Names.{key_eq, name_eq, has_name, has_number, has_segment, is_nil, any_below, count_below, up_to, is_heal, is_block, is_freed_by}
 use Rattle.draid_machine.specs.State.{Layout, Gone, Arm, Pass, Core, Loan, Image, State}
-use Rattle.draid_machine.specs.Arms.{answers, fails, lies_on, leaf_at, passes, is_here, is_clean, is_silent, has_column}
-use Rattle.draid_machine.specs.Claims.{is_on, claims}
+use Rattle.draid_machine.specs.Arms.{answers, fails, lies_on, leaf_at, passes, is_here, is_clean, is_silent, has_column, has_moved, targets_of}
+use Rattle.draid_machine.specs.Claims.{is_on, is_at, claims}
 
 -- ---- parts
 
@@ -60,6 +60,10 @@ map_pass f (Some p) = Some (f p)
 abbrev pub without_key : Key → (Segment → Bool) → Segment → Bool
 without_key k f s = f s && not (key_eq k s.key)
 
+-- what goes isn't kept either
+abbrev pub not_kept : Key → (Segment → Option ℕ) → Segment → Option ℕ
+not_kept k f s = if key_eq k s.key then None else f s
+
 -- ---- tickets and blocks
 
 abbrev pub begin_state : State → Key → Held → State
@@ -81,7 +85,7 @@ put_state l w k landed h c m =
 
 -- a ticket goes with its segments
 abbrev pub gone_state : State → Key → State
-gone_state w k = record w { core = record w.core { held = set_held w.core.held k None }; present = without_key k w.present; aside = without_key k w.aside }
+gone_state w k = record w { core = record w.core { held = set_held w.core.held k None }; present = without_key k w.present; aside = without_key k w.aside; kept = not_kept k w.kept }
 
 abbrev pub live_state : State → Key → Held → State
 live_state w k h = record w { core = record w.core { held = set_held w.core.held k (Some (record h { stage = Live })) } }
@@ -98,23 +102,49 @@ free_state w k h group = record w { core = record w.core { held = set_held w.cor
 abbrev pub switch_state : State → ArmName → Arm → Bool → State
 switch_state w n a offline = record w { core = record w.core { arm = set_arm w.core.arm n (Some (record a { offline = offline })) } }
 
-abbrev pub attach_state : State → ℕ → ArmName → ℕ → State
-attach_state w slot n last =
-    record w {
-      core = record w.core {
-        arm = set_arm w.core.arm n (Some (record { offline = false; fresh = true; log = up_to last; gone = None }));
-        order = set_order w.core.order slot (w.core.order slot ++ n ∷ []);
-      };
+-- a slot gets an arm, as its last; a slot loses an arm, which stays until its group is committed
+abbrev pub attached_core : Core → ℕ → ArmName → ℕ → Core
+attached_core q slot n last =
+    record q {
+      arm = set_arm q.arm n (Some (record { offline = false; fresh = true; log = up_to last; gone = None }));
+      order = set_order q.order slot (q.order slot ++ n ∷ []);
     }
 
-abbrev pub detach_state : State → ℕ → ArmName → Arm → State
-detach_state w slot n a =
-    record w {
-      core = record w.core {
-        arm = set_arm w.core.arm n (Some (record a { gone = Some (record { slot = slot; group = w.open_group }) }));
-        order = set_order w.core.order slot (filter (λ m. not (name_eq n m)) (w.core.order slot));
-      };
+abbrev pub detached_core : Core → ℕ → ArmName → Arm → ℕ → Core
+detached_core q slot n a group =
+    record q {
+      arm = set_arm q.arm n (Some (record a { gone = Some (record { slot = slot; group = group }) }));
+      order = set_order q.order slot (filter (λ m. not (name_eq n m)) (q.order slot));
     }
+
+-- each spare that has moved gets the log 1..=last and is fresh
+abbrev pub renew_if : Bool → ℕ → Arm → Arm
+renew_if b last a = record a { log = (λ g. if b then up_to last g else a.log g); fresh = a.fresh || b }
+
+abbrev pub renewed_core : Layout → Core → ℕ → Core → Core
+renewed_core l before last q = record q { arm = each_arm (λ n. renew_if (has_moved l before q n) last) q.arm }
+
+-- a segment that was at a place and isn't now is kept for the group that is open; what is aside stays so at a place or kept
+abbrev pub loses_place : Layout → State → Core → Segment → Bool
+loses_place l w q s = w.present s && is_at l w.core s && not (is_at l q s)
+
+abbrev pub kept_after : Layout → State → Core → Segment → Option ℕ
+kept_after l w q s = if loses_place l w q s then Some w.open_group else w.kept s
+
+abbrev pub aside_left : Layout → State → Core → Segment → Bool
+aside_left l w q s = w.aside s && (is_at l q s || is_some (kept_after l w q s))
+
+-- other arms than before: no loan counts
+abbrev pub rearranged_state : Layout → State → ℕ → Core → State
+rearranged_state l w last q = record w { core = renewed_core l w.core last q; loan = None; kept = kept_after l w q; aside = aside_left l w q }
+
+abbrev pub detach_state : Layout → State → ℕ → ArmName → Arm → ℕ → State
+detach_state l w slot n a last = rearranged_state l w last (detached_core w.core slot n a w.open_group)
+
+-- ---- versions
+
+abbrev pub upgrade_state : State → State
+upgrade_state w = record w { asked = 2 }
 
 -- ---- groups
 
@@ -133,8 +163,8 @@ abbrev pub seal_arm : Option Arm → Option Arm
 seal_arm None = None
 seal_arm (Some a) = keep_if (is_here (Some a)) a
 
-abbrev pub image_of : ℕ → Core → Image
-image_of t q = record { group = t; core = record q { held = (λ k. seal_held t (q.held k)); arm = (λ n. seal_arm (q.arm n)) } }
+abbrev pub image_of : ℕ → ℕ → Core → Image
+image_of t version q = record { group = t; version = version; core = record q { held = (λ k. seal_held t (q.held k)); arm = (λ n. seal_arm (q.arm n)) } }
 
 -- the arms that lie on a silent leaf get the group into their logs where a block was written in it; a pass loses such targets, and for a
 -- rebuild each counts an error
@@ -153,9 +183,10 @@ sealed_core l q t failed wrote =
 abbrev pub seal_state : Layout → State → ℕ → List ℕ → Bool → State
 seal_state l w t failed wrote =
     let q = sealed_core l w.core t failed wrote in
-    record w { core = q; sealed = Some (image_of t q) }
+    record w { core = q; sealed = Some (image_of t w.asked q) }
 
--- what was freed or detached up to the group goes with its segments
+-- what was freed or detached up to the group goes; so do the segments of what was freed, and those kept for a group up to this one that are at no
+-- place
 abbrev pub is_freed_block : ℕ → Option Held → Bool
 is_freed_block t None = false
 is_freed_block t (Some h) = is_freed_by t h.stage
@@ -172,13 +203,21 @@ abbrev pub keep_loan : (Key → Bool) → Option Loan → Option Loan
 keep_loan gone None = None
 keep_loan gone (Some n) = keep_if (not (gone n.key)) n
 
-abbrev pub stays : ℕ → Core → Segment → Bool
-stays t q s = not (is_freed_block t (q.held s.key)) && not (is_gone_arm t (q.arm s.arm))
+abbrev pub is_kept_by : ℕ → Option ℕ → Bool
+is_kept_by t None = false
+is_kept_by t (Some g) = nat_le g t
 
-abbrev pub commit_state : State → ℕ → Image → State
-commit_state w t img =
+abbrev pub stays : Layout → ℕ → State → Segment → Bool
+stays l t w s = not (is_freed_block t (w.core.held s.key)) && (not (is_kept_by t (w.kept s)) || is_at l w.core s)
+
+abbrev pub still_kept : ℕ → State → Segment → Option ℕ
+still_kept t w s = if is_freed_block t (w.core.held s.key) || is_kept_by t (w.kept s) then None else w.kept s
+
+abbrev pub commit_state : Layout → State → ℕ → Image → State
+commit_state l w t img =
     record w {
       committed = t;
+      version = img.version;
       closing = None;
       sealed = None;
       image = img;
@@ -187,8 +226,9 @@ commit_state w t img =
         arm = (λ n. if is_gone_arm t (w.core.arm n) then None else w.core.arm n);
       };
       loan = keep_loan (λ k. is_freed_block t (w.core.held k)) w.loan;
-      present = (λ s. w.present s && stays t w.core s);
-      aside = (λ s. w.aside s && stays t w.core s);
+      present = (λ s. w.present s && stays l t w s);
+      aside = (λ s. w.aside s && stays l t w s);
+      kept = still_kept t w;
     }
 
 -- ---- the pass
@@ -209,6 +249,20 @@ plan_state w kind targets =
         last = w.core.last + 1;
       };
     }
+
+-- at an attachment a rebuild is planned again, and a scrub loses the targets that have moved
+abbrev pub replan_kind : Layout → State → (ArmName → Bool) → Pass → PassKind → State
+replan_kind l w moved p Rebuild = plan_state w Rebuild (targets_of l w.core Rebuild)
+replan_kind l w moved p Heal = record w { core = record w.core { pass = Some (lose_targets moved 0 p) } }
+
+abbrev pub replan : Layout → State → (ArmName → Bool) → Option Pass → State
+replan l w moved None = w
+replan l w moved (Some p) = replan_kind l w moved p p.kind
+
+abbrev pub attach_state : Layout → State → ℕ → ArmName → ℕ → State
+attach_state l w slot n last =
+    let q = attached_core w.core slot n last in
+    replan l (rearranged_state l w last q) (has_moved l w.core q) w.core.pass
 
 abbrev pub ready_state : State → Pass → State
 ready_state w p = record w { core = record w.core { pass = Some (record p { running = true }) } }
@@ -292,12 +346,12 @@ abbrev pub misses_block : Layout → Core → Held → List ℕ → ArmName → 
 misses_block l q h failed n = has_column l q n h.first && (not (answers l q n h.first) || fails l q failed n h.first)
 
 -- A whole landing ends the doubt on clean arms and on what landed, and casts it on the block's other segments on arms that aren't clean and on
--- those that stay for an image alone. Any other landing casts it on what it wrote.
+-- those at no place, which stay for an image alone. Any other landing casts it on what it wrote.
 abbrev pub aside_after : Layout → State → Loan → Held → List Patched → Bool → Segment → Bool
 aside_after l w n h patched true s =
     if not (key_eq n.key s.key) then w.aside s
     else if is_on l w.core.order s h then not (is_clean w.core h.birth s.arm || has_healed l w.core n h patched s)
-    else w.aside s || (w.present s && not (is_here (w.core.arm s.arm)))
+    else w.aside s || w.present s
 aside_after l w n h patched false s = w.aside s || is_written l w.core n h patched s
 
 abbrev pub heal_state : Layout → State → Pass → Loan → Held → List ℕ → List Patched → Bool → State
@@ -337,6 +391,8 @@ reopen_state l w img doubtful =
       open_group = img.group + 1;
       closing = None;
       committed = img.group;
+      version = img.version;
+      asked = img.version;
       core = record img.core { arm = each_arm (λ n. cut_above img.group) img.core.arm };
       serial = 0;
       loan = None;
@@ -344,4 +400,5 @@ reopen_state l w img doubtful =
       sealed = None;
       present = claims l img.core;
       aside = (λ s. (w.aside s || has_segment doubtful s) && claims l img.core s);
+      kept = (λ s. None);
     }

@@ -13,10 +13,19 @@ first_leaf [] = None
 first_leaf (Leaf m ∷ ns) = Some m
 first_leaf (Spare t ∷ ns) = first_leaf ns
 
+-- the first spare of a slot, and of each slot
+abbrev pub first_spare : List ArmName → Option ℕ
+first_spare [] = None
+first_spare (Leaf m ∷ ns) = first_spare ns
+first_spare (Spare t ∷ ns) = Some t
+
+abbrev pub first_spares : (ℕ → List ArmName) → ℕ → Option ℕ
+first_spares order slot = first_spare (order slot)
+
 -- the leaf on which an arm keeps what belongs to a stripe
 abbrev pub leaf_at : Layout → (ℕ → List ArmName) → ArmName → ℕ → Option ℕ
 leaf_at l order (Leaf m) x = Some m
-leaf_at l order (Spare t) x = if nat_lt t l.spares then first_leaf (order (l.home t x)) else None
+leaf_at l order (Spare t) x = if nat_lt t l.spares then first_leaf (order (l.home (first_spares order) t x)) else None
 
 abbrev pub passes : Option ℕ → (ℕ → Bool) → Bool
 passes None p = false
@@ -87,6 +96,19 @@ has_column l q n x = any_below l.columns (λ c. has_name (q.order (l.slot_of x c
 abbrev pub lies_on : Layout → Core → (ℕ → Bool) → ArmName → Bool
 lies_on l q bad (Leaf m) = bad m
 lies_on l q bad (Spare t) = any_below l.stripes (λ x. has_column l q (Spare t) x && passes (leaf_at l q.order (Spare t) x) bad)
+
+-- whether two leaves, where there are any, are one
+abbrev pub same_leaf : Option ℕ → Option ℕ → Bool
+same_leaf None None = true
+same_leaf None (Some n) = false
+same_leaf (Some m) None = false
+same_leaf (Some m) (Some n) = m == n
+
+-- an arm has come to lie elsewhere: a spare that keeps a stripe, of which its slot has a column, on another leaf than before
+abbrev pub has_moved : Layout → Core → Core → ArmName → Bool
+has_moved l before q (Leaf m) = false
+has_moved l before q (Spare t) =
+    any_below l.stripes (λ x. has_column l q (Spare t) x && not (same_leaf (leaf_at l before.order (Spare t) x) (leaf_at l q.order (Spare t) x)))
 
 -- a leaf that doesn't answer or on which a call failed
 abbrev pub is_silent : Core → List ℕ → ℕ → Bool

@@ -26,6 +26,14 @@ abbrev pub is_on : Layout → (ℕ → List ArmName) → Segment → Held → Bo
 is_on l order s h =
     has_name (order (l.slot_of h.first s.column)) s.arm && nat_lt s.column l.columns && nat_lt s.row h.stripes && lies l order s.arm (h.first + s.row) s.leaf
 
+-- a segment is at a place: of a block or a ticket, on an arm that keeps it there now
+abbrev pub is_at_held : Layout → (ℕ → List ArmName) → Segment → Option Held → Bool
+is_at_held l order s None = false
+is_at_held l order s (Some h) = is_on l order s h
+
+abbrev pub is_at : Layout → Core → Segment → Bool
+is_at l q s = is_at_held l q.order s (q.held s.key)
+
 abbrev pub claimed : Layout → Core → Segment → Option Held → Option Arm → Bool
 claimed l q s None a = false
 claimed l q s (Some h) None = false

@@ -1,4 +1,4 @@
-use Rattle.std.specs.Prelude.{false, nat_lt, List, [], ◌∷◌, Option, Some, None, if◌then◌else◌}
+use Rattle.std.specs.Prelude.{◌≡◌, ◌⊎◌, ℕ, false, nat_lt, List, [], ◌∷◌, Option, Some, None, if◌then◌else◌}
 use Rattle.draid_machine.specs.declared.names.ArmName.{ArmName}
 use Rattle.draid_machine.specs.declared.names.ArmName.TheVariants.{Leaf, Spare}
 use Rattle.draid_machine.specs.declared.event.Event.{Event}
@@ -22,21 +22,26 @@ created_core l = record {
   last = 0;
 }
 
-abbrev pub created : Layout → State
-created l = record {
+abbrev pub created : Layout → ℕ → State
+created l version = record {
   open_group = 2;
   closing = None;
   committed = 1;
+  version = version;
+  asked = version;
   core = created_core l;
   serial = 0;
   loan = None;
-  image = record { group = 1; core = created_core l };
+  image = record { group = 1; version = version; core = created_core l };
   sealed = None;
   present = λ s. false;
   aside = λ s. false;
+  kept = λ s. None;
 }
 
--- a state that a legal history gives
+-- a state that a legal history of a new metaslab gives, of version 1 or 2
 pub record IsReached (l : Layout) (w : State) : Type 0 where
+  pub version : ℕ
+  pub one : (version ≡ 1) ⊎ (version ≡ 2)
   pub events : List Event
-  pub run : Run l (created l) events w
+  pub run : Run l (created l version) events w

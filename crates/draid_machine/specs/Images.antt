@@ -1,13 +1,13 @@
-use Rattle.std.specs.Prelude.{◌≡◌, ◌+◌, ◌<◌, ◌≤◌, ◌⊎◌, ℕ, true, false, Some, None}
+use Rattle.std.specs.Prelude.{◌≡◌, ◌+◌, ◌<◌, ◌≤◌, ◌⊎◌, ℕ, true, false, Option, Some, None}
 use Rattle.draid_names.specs.declared.pass_kind.PassKind.TheVariants.{Rebuild}
 use Rattle.draid_machine.specs.declared.names.Key.{Key}
 use Rattle.draid_machine.specs.declared.names.ArmName.{ArmName}
 use Rattle.draid_machine.specs.declared.names.ArmName.TheVariants.{Leaf, Spare}
 use Rattle.draid_machine.specs.declared.names.Held.{Held}
 use Rattle.draid_machine.specs.declared.names.Segment.{Segment}
-use Rattle.draid_machine.specs.Names.{has_name}
+use Rattle.draid_machine.specs.Names.{has_name, is_put}
 use Rattle.draid_machine.specs.State.{Layout, Gone, Arm, Pass, Core, Image, State}
-use Rattle.draid_machine.specs.Claims.{claims}
+use Rattle.draid_machine.specs.Claims.{claims, is_at}
 use Rattle.draid_machine.specs.After.{seal_held, is_gone_by}
 
 -- the committed image, or the sealed one
@@ -35,8 +35,9 @@ pub record ImageStands (l : Layout) (w : State) (img : Image) : Type 0 where
   -- a rebuild that its group lets run is its own, and no other runs
   pub rebuild : (p : Pass) → w.core.pass ≡ Some p → p.kind ≡ Rebuild → p.max ≤ img.group + 1 → IsOwnPass img p
   pub runs : (p : Pass) → img.core.pass ≡ Some p → p.kind ≡ Rebuild → p.running ≡ true → p.max ≤ img.group + 1
-  -- what it claims is present
+  -- what it claims is present; where that is kept, it is at a place by now, or it stays until a later group is committed
   pub claimed : (s : Segment) → claims l img.core s ≡ true → w.present s ≡ true
+  pub kept : (s : Segment) (g : ℕ) → claims l img.core s ≡ true → w.kept s ≡ Some g → (img.group < g) ⊎ (is_at l w.core s ≡ true)
 
 pub record ImagesStand (l : Layout) (w : State) : Type 0 where
   pub each : (img : Image) → IsImage w img → ImageStands l w img
@@ -62,34 +63,66 @@ pub record WasArm (q : Core) (slot : ℕ) (n : ArmName) : Type 0 where
 abbrev pub HasSlot : Core → ℕ → ArmName → Type 0
 HasSlot q slot n = (has_name (q.order slot) n ≡ true) ⊎ WasArm q slot n
 
--- a leaf left a slot no earlier than a spare was detached
-pub record LeftAfter (q : Core) (slot leaf spare : ℕ) : Type 0 where
-  pub was : WasArm q slot (Leaf leaf)
-  pub a : Arm
-  pub g : Gone
-  pub found : q.arm (Spare spare) ≡ Some a
-  pub gone : a.gone ≡ Some g
-  pub before : g.group ≤ was.g.group
+-- an arm of a slot, still or until a detachment for which a group or a later one was open
+abbrev pub HadSlot : Core → ℕ → ℕ → ArmName → Type 0
+HadSlot q group slot n = (has_name (q.order slot) n ≡ true) ⊎ ((was : WasArm q slot n) × (group ≤ was.g.group))
 
--- a leaf arm keeps its segments on itself, a spare on a leaf of the slot on whose first leaf it keeps that stripe
-abbrev pub KeepsOn : Layout → Core → ArmName → ℕ → ℕ → Type 0
-KeepsOn l q (Leaf m) x leaf = leaf ≡ m
-KeepsOn l q (Spare t) x leaf = (t < l.spares) × ((has_name (q.order (l.home t x)) (Leaf leaf) ≡ true) ⊎ LeftAfter q (l.home t x) leaf t)
+-- a spare kept a stripe on a leaf: by some table of first spares, and both those spares and the leaf were arms until a group or longer
+pub record LayOn (l : Layout) (q : Core) (group spare x leaf : ℕ) : Type 0 where
+  pub there : spare < l.spares
+  pub first : ℕ → Option ℕ
+  pub owners : (slot t : ℕ) → first slot ≡ Some t → HadSlot q group slot (Spare t)
+  pub leaf_of : HadSlot q group (l.home first spare x) (Leaf leaf)
 
--- a segment of a block or a ticket on an arm of its column's slot
-pub record IsOwned (l : Layout) (q : Core) (s : Segment) : Type 0 where
+-- a leaf arm keeps its segments on itself, a spare where it lay until a group
+abbrev pub KeptOn : Layout → Core → ℕ → ArmName → ℕ → ℕ → Type 0
+KeptOn l q group (Leaf m) x leaf = leaf ≡ m
+KeptOn l q group (Spare t) x leaf = LayOn l q group t x leaf
+
+-- a segment of a block or a ticket is kept, where an arm of its column's slot had it as it lost its place
+pub record IsKept (l : Layout) (w : State) (s : Segment) (h : Held) : Type 0 where
+  pub group : ℕ
+  pub kept : w.kept s ≡ Some group
+  pub arm : HadSlot w.core group (l.slot_of h.first s.column) s.arm
+  pub on : KeptOn l w.core group s.arm (h.first + s.row) s.leaf
+
+-- a segment of a block, or of a column that a ticket has put; it is at a place, or kept
+pub record IsOwned (l : Layout) (w : State) (s : Segment) : Type 0 where
   pub h : Held
-  pub held : q.held s.key ≡ Some h
+  pub held : w.core.held s.key ≡ Some h
   pub column : s.column < l.columns
   pub row : s.row < h.stripes
-  pub arm : HasSlot q (l.slot_of h.first s.column) s.arm
-  pub keeps : KeepsOn l q s.arm (h.first + s.row) s.leaf
+  pub put : is_put h.stage s.column ≡ true
+  pub place : (is_at l w.core s ≡ true) ⊎ IsKept l w s h
+
+-- what is kept is present; its group is open or closing, and is before the max of a rebuild, so that none is kept while one runs
+pub record KeptSound (w : State) : Type 0 where
+  pub present : (s : Segment) (g : ℕ) → w.kept s ≡ Some g → w.present s ≡ true
+  pub later : (s : Segment) (g : ℕ) → w.kept s ≡ Some g → w.committed < g
+  pub upto : (s : Segment) (g : ℕ) → w.kept s ≡ Some g → g ≤ w.open_group
+  pub rebuild : (p : Pass) (s : Segment) (g : ℕ) → w.core.pass ≡ Some p → p.kind ≡ Rebuild → w.kept s ≡ Some g → g < p.max
+
+-- what is aside is of a block or a ticket, and at a place or kept
+pub record AsideSound (l : Layout) (w : State) : Type 0 where
+  pub held : (s : Segment) → w.aside s ≡ true → (h : Held) × (w.core.held s.key ≡ Some h)
+  pub place : (s : Segment) → w.aside s ≡ true → (is_at l w.core s ≡ true) ⊎ ((g : ℕ) × (w.kept s ≡ Some g))
+
+-- a spare that is an arm, or was one, is one of the layout's, and never offline
+abbrev pub SparesFit : Layout → Core → Type 0
+SparesFit l q = (t : ℕ) (a : Arm) → q.arm (Spare t) ≡ Some a → (t < l.spares) × (a.offline ≡ false)
 
 pub record Owned (l : Layout) (w : State) : Type 0 where
   pub listed : AreListed w.core
   pub gone : (n : ArmName) (a : Arm) (g : Gone) → w.core.arm n ≡ Some a → a.gone ≡ Some g → g.group ≤ w.open_group
-  pub images : (img : Image) → IsImage w img → AreListed img.core
-  pub present : (s : Segment) → w.present s ≡ true → IsOwned l w.core s
+  pub spares : SparesFit l w.core
+  pub images : (img : Image) → IsImage w img → AreListed img.core × SparesFit l img.core
+  pub present : (s : Segment) → w.present s ≡ true → IsOwned l w s
+  pub kept : KeptSound w
+  pub aside : AsideSound l w
+
+-- a segment is there: present, or at a place
+abbrev pub IsThere : Layout → State → Segment → Type 0
+IsThere l w s = (w.present s ≡ true) ⊎ (is_at l w.core s ≡ true)
 
 -- where a segment of a block or a ticket lies: on a leaf, at a sector of the metaslab
 pub record LiesAt (l : Layout) (q : Core) (s : Segment) (leaf sector : ℕ) : Type 0 where

@@ -45,6 +45,7 @@ pub record IsClaimed (l : Layout) (q : Core) (s : Segment) : Type 0 where
 pub record CoreSound (l : Layout) (committed top : ℕ) (q : Core) : Type 0 where
   pub apart : (k j : Key) (h i : Held) (x : ℕ) → q.held k ≡ Some h → q.held j ≡ Some i → takes h x ≡ true → takes i x ≡ true → k ≡ j
   pub runs : (k : Key) (h : Held) (r : ℕ) → q.held k ≡ Some h → r < h.stripes → (h.first + r) / l.height ≡ h.first / l.height
+  pub inside : (k : Key) (h : Held) → q.held k ≡ Some h → h.first + h.stripes ≤ l.stripes
   pub some : (k : Key) (h : Held) → q.held k ≡ Some h → 1 ≤ h.birth
   pub births : (k : Key) (h : Held) → q.held k ≡ Some h → h.birth ≤ top
   pub tickets : (k : Key) (h : Held) → q.held k ≡ Some h → is_block h.stage ≡ false → committed < h.birth

@@ -1,4 +1,5 @@
-use Rattle.std.specs.Prelude.{◌≡◌, ◌/◌, ◌<◌, ◌≢◌, ℕ, Bool, List, Option}
+use Rattle.std.specs.Prelude.{◌≡◌, ◌+◌, ◌/◌, ◌<◌, ◌≢◌, ℕ, Bool, List, Option}
+use Rattle.draid_names.specs.Spares.{AreOfOne, AreSpares, IsArm}
 use Rattle.draid_names.specs.declared.pass_kind.PassKind.{PassKind}
 use Rattle.draid_machine.specs.declared.names.Key.{Key}
 use Rattle.draid_machine.specs.declared.names.ArmName.{ArmName}
@@ -20,19 +21,28 @@ pub record Layout : Type 0 where
   pub slot_of : ℕ → ℕ → ℕ
   -- the sector of the metaslab at which that column lies on each arm of the slot
   pub sector_of : ℕ → ℕ → ℕ
-  -- the slot on whose first leaf a spare keeps what belongs to a stripe
-  pub home : ℕ → ℕ → ℕ
+  -- the slot on whose first leaf a spare keeps what belongs to a stripe, by each slot's first spare
+  pub home : (ℕ → Option ℕ) → ℕ → ℕ → ℕ
 
--- The stripes that lie together have one slot for a column. Each column has a sector of its own on its slot; no spare keeps a sector on a slot
--- that has a column there, and no two spares keep it on one slot.
+-- The stripes that lie together have one slot for a column and one for a spare, and a column's sectors follow each other as the stripes do. Each
+-- column has a sector of its own on its slot, and no spare keeps a sector on a slot that has a column there. Where two slots have columns at one
+-- sector, two spares of theirs keep it on two slots; so they do where one spare's place goes by an earlier table of first spares and the other's
+-- by a later one, and neither is first of another slot in the table by which the other lies.
 pub record IsLayout (l : Layout) : Type 0 where
   pub tall : 0 < l.height
   pub steady : (x y column : ℕ) → x / l.height ≡ y / l.height → l.slot_of x column ≡ l.slot_of y column
+  pub steady_home : (first : ℕ → Option ℕ) (x y spare : ℕ) → x / l.height ≡ y / l.height → l.home first spare x ≡ l.home first spare y
+  pub rows : (x y column : ℕ) → x / l.height ≡ y / l.height → l.sector_of x column + y ≡ l.sector_of y column + x
+  pub slots : (x column : ℕ) → column < l.columns → l.slot_of x column < l.slots
+  pub homes : (first : ℕ → Option ℕ) (x spare : ℕ) → l.home first spare x < l.slots
   pub inside : (x column : ℕ) → x < l.stripes → column < l.columns → l.sector_of x column < l.sectors
   pub one_column : (x y c d : ℕ) → c < l.columns → d < l.columns → l.slot_of x c ≡ l.slot_of y d → l.sector_of x c ≡ l.sector_of y d → (x ≡ y) × (c ≡ d)
-  pub apart : (x y c d spare : ℕ) → c < l.columns → d < l.columns → spare < l.spares → l.sector_of x c ≡ l.sector_of y d → l.home spare x ≢ l.slot_of y d
-  pub one_spare : (x y c d spare other : ℕ) → c < l.columns → d < l.columns → spare < l.spares → other < l.spares → l.sector_of x c ≡ l.sector_of y d
-      → l.home spare x ≡ l.home other y → spare ≡ other
+  pub apart : (first : ℕ → Option ℕ) (x y c d spare : ℕ) → AreSpares l.slots l.spares first → c < l.columns → d < l.columns → spare < l.spares
+      → l.sector_of x c ≡ l.sector_of y d → l.home first spare x ≢ l.slot_of y d
+  pub one_spare : (earlier later : ℕ → Option ℕ) (x y c d spare other : ℕ) → AreSpares l.slots l.spares earlier → AreSpares l.slots l.spares later
+      → AreOfOne l.slots earlier later → c < l.columns → d < l.columns → l.sector_of x c ≡ l.sector_of y d
+      → IsArm l.slots l.spares later (l.slot_of x c) spare → IsArm l.slots l.spares earlier (l.slot_of y d) other
+      → l.home earlier spare x ≡ l.home later other y → spare ≡ other
 
 -- A detached arm whose detachment isn't committed: its slot, and the group that was open then.
 pub record Gone : Type 0 where
@@ -72,9 +82,10 @@ pub record Loan : Type 0 where
   pub read : ℕ → List ArmName
   pub chosen : ℕ → Option ArmName
 
--- What the record of a group says.
+-- What the record of a group says, and in which version.
 pub record Image : Type 0 where
   pub group : ℕ
+  pub version : ℕ
   pub core : Core
 
 -- A metaslab without its bytes.
@@ -82,6 +93,9 @@ pub record State : Type 0 where
   pub open_group : ℕ
   pub closing : Option ℕ
   pub committed : ℕ
+  -- the version of the committed group, and the one that the next seal is to have
+  pub version : ℕ
+  pub asked : ℕ
   pub core : Core
   -- the last number of a loan, and the loan that counts
   pub serial : ℕ
@@ -92,3 +106,5 @@ pub record State : Type 0 where
   -- the segments that were written and still stand, and those whose bytes are in doubt
   pub present : Segment → Bool
   pub aside : Segment → Bool
+  -- the segments that have lost their place stay for the images alone; with each the group that was open as it lost it
+  pub kept : Segment → Option ℕ

@@ -11,11 +11,11 @@ use Rattle.draid_machine.specs.declared.names.Held.{Held}
 use Rattle.draid_machine.specs.declared.names.Segment.{Segment}
 use Rattle.draid_machine.specs.declared.event.Patched.{Patched}
 use Rattle.draid_machine.specs.declared.event.Event.{Event}
-use Rattle.draid_machine.specs.declared.event.Event.TheVariants.{Begin, Put, Finish, Abort, Free, Fetch, Damage, Offline, Online, Attach, Detach, Close, Seal, Commit, Plan, Ready, Lend, LandStripe, LandBlock, Done, Cancel, Reopen}
+use Rattle.draid_machine.specs.declared.event.Event.TheVariants.{Begin, Put, Finish, Abort, Free, Fetch, Damage, Offline, Online, Attach, Detach, Upgrade, Close, Seal, Commit, Plan, Ready, Lend, LandStripe, LandBlock, Done, Cancel, Reopen}
 use Rattle.draid_machine.specs.Names.{name_eq, has_name, has_number, is_leaf, is_heal, is_block, is_freed_by, takes}
 use Rattle.draid_machine.specs.State.{Layout, Arm, Pass, Core, Loan, Image, State}
 use Rattle.draid_machine.specs.Arms.{answers, fails, leaf_at, lies_on, leaf_answers, is_clean, has_column, reading, IsSource, HasEmptyLog, targets_of}
-use Rattle.draid_machine.specs.After.{begin_state, put_state, gone_state, finish_state, free_state, switch_state, attach_state, detach_state, close_state, seal_state, commit_state, plan_state, ready_state, lend_state, unsourced, land_stripe_state, was_written, has_landed, land_block_state, ended_pass, done_state, cancel_state, reopen_state}
+use Rattle.draid_machine.specs.After.{begin_state, put_state, gone_state, finish_state, free_state, switch_state, attach_state, detach_state, upgrade_state, close_state, seal_state, commit_state, plan_state, ready_state, lend_state, unsourced, land_stripe_state, was_written, has_landed, land_block_state, ended_pass, done_state, cancel_state, reopen_state}
 
 -- ---- room
 
@@ -53,7 +53,7 @@ pub record IsDue (w : State) (group : ℕ) : Type 0 where
 pub record BeginStep (l : Layout) (w : State) (key : Key) (h : Held) (new : State) : Type 0 where
   pub enabled : IsEnabled w.core
   pub unused : w.core.held key ≡ None
-  pub few : HoldsFewer w.core (most_held 1)
+  pub few : HoldsFewer w.core (most_held w.version)
   pub some : 0 < h.stripes
   pub fits : Fits l w.core h.first h.stripes
   pub lowest : (x : ℕ) → x < h.first → Fits l w.core x h.stripes → ⊥
@@ -137,27 +137,26 @@ abbrev pub IsArmName : Layout → ArmName → Type 0
 IsArmName l (Leaf m) = Unit {0}
 IsArmName l (Spare t) = t < l.spares
 
--- a leaf comes and goes only while no other slot has a spare
-abbrev pub NoSpareElsewhere : Core → ℕ → ArmName → Type 0
-NoSpareElsewhere q slot n = is_leaf n ≡ true → (c t : ℕ) → has_name (q.order c) (Spare t) ≡ true → c ≡ slot
-
 -- the open group, or the greatest birth where that is greater
 pub record IsLast (w : State) (last : ℕ) : Type 0 where
   pub one : (last ≡ w.open_group) ⊎ ((k : Key) × (h : Held) × (w.core.held k ≡ Some h) × (h.birth ≡ last))
   pub open_group : w.open_group ≤ last
   pub births : (k : Key) (h : Held) → w.core.held k ≡ Some h → h.birth ≤ last
 
+-- a rebuild, if there is one, can be planned again
+abbrev pub MayReplan : State → Type 0
+MayReplan w = (p : Pass) → w.core.pass ≡ Some p → p.kind ≡ Rebuild → (p.number < LAST_NUMBER) × (w.open_group < LAST_NUMBER)
+
 -- Attach: a slot and an arm that are there, the arm in no slot and in no detachment that isn't committed, and room for a third at most
 pub record AttachStep (l : Layout) (w : State) (slot : ℕ) (n : ArmName) (new : State) : Type 0 where
   pub last : ℕ
   pub slot_is : slot < l.slots
   pub arm_is : IsArmName l n
-  pub idle : w.core.pass ≡ None
   pub unused : w.core.arm n ≡ None
-  pub still : NoSpareElsewhere w.core slot n
   pub room : length (w.core.order slot) < 3
+  pub may : MayReplan w
   pub last_is : IsLast w last
-  pub made : new ≡ attach_state w slot n last
+  pub made : new ≡ attach_state l w slot n last
 
 -- a leaf leaves another leaf in its slot
 abbrev pub LeavesLeaf : Core → ℕ → ArmName → Type 0
@@ -171,15 +170,24 @@ pub record HasOther (q : Core) (slot : ℕ) (n : ArmName) : Type 0 where
   pub empty : HasEmptyLog q other
 
 -- Detach
-pub record DetachStep (w : State) (slot : ℕ) (n : ArmName) (new : State) : Type 0 where
+pub record DetachStep (l : Layout) (w : State) (slot : ℕ) (n : ArmName) (new : State) : Type 0 where
   pub a : Arm
+  pub last : ℕ
   pub listed : has_name (w.core.order slot) n ≡ true
   pub found : w.core.arm n ≡ Some a
   pub idle : w.core.pass ≡ None
   pub leaves : LeavesLeaf w.core slot n
-  pub still : NoSpareElsewhere w.core slot n
   pub other : HasOther w.core slot n
-  pub made : new ≡ detach_state w slot n a
+  pub last_is : IsLast w last
+  pub made : new ≡ detach_state l w slot n a last
+
+-- ---- versions
+
+-- Upgrade: version 1 is asked for, and no group is closing
+pub record UpgradeStep (w : State) (new : State) : Type 0 where
+  pub asked : w.asked ≡ 1
+  pub idle : w.closing ≡ None
+  pub made : new ≡ upgrade_state w
 
 -- ---- groups
 
@@ -211,11 +219,11 @@ pub record SealStep (l : Layout) (w : State) (t : ℕ) (failed : List ℕ) (new 
   pub made : new ≡ seal_state l w t failed wrote
 
 -- Commit: the sealed group
-pub record CommitStep (w : State) (t : ℕ) (new : State) : Type 0 where
+pub record CommitStep (l : Layout) (w : State) (t : ℕ) (new : State) : Type 0 where
   pub image : Image
   pub closing : w.closing ≡ Some t
   pub sealed : w.sealed ≡ Some image
-  pub made : new ≡ commit_state w t image
+  pub made : new ≡ commit_state l w t image
 
 -- ---- the pass
 
@@ -411,10 +419,11 @@ Step l w (Damage leaf sector failed) new = DamageStep l w leaf sector new
 Step l w (Offline leaf) new = SwitchStep w leaf true new
 Step l w (Online leaf) new = SwitchStep w leaf false new
 Step l w (Attach slot arm) new = AttachStep l w slot arm new
-Step l w (Detach slot arm) new = DetachStep w slot arm new
+Step l w (Detach slot arm) new = DetachStep l w slot arm new
+Step l w Upgrade new = UpgradeStep w new
 Step l w (Close group) new = CloseStep w group new
 Step l w (Seal group failed) new = SealStep l w group failed.items new
-Step l w (Commit group) new = CommitStep w group new
+Step l w (Commit group) new = CommitStep l w group new
 Step l w (Plan kind) new = PlanStep l w kind new
 Step l w Ready new = ReadyStep w new
 Step l w (Lend failed) new = LendStep l w failed.items new

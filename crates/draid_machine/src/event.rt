@@ -71,6 +71,8 @@ pub enum Event {
         slot: u32,
         arm: ArmName,
     },
+    /// Version 2 is asked for, from the next transaction group on.
+    Upgrade,
     /// The open transaction group is closed.
     Close {
         group: u64,

@@ -1,3 +1,6 @@
+pub mod Chains
+pub mod Joining
+pub mod Keeping
 pub mod Maps
 pub mod Readings
 pub mod Segments

@@ -23,7 +23,7 @@ at_segment s t = by s.key t.key s.column t.column s.arm t.arm s.leaf t.leaf s.ro
     by k j c d (Spare a) (Leaf b) x y r q = grind (arith, nat_tests)
     by k j c d (Spare a) (Spare b) x y r q = grind (arith, nat_tests)
 
-turn_segment : (s t : Segment) → segment_eq s t ≡ segment_eq t s
+pub turn_segment : (s t : Segment) → segment_eq s t ≡ segment_eq t s
 turn_segment s t = by s.arm t.arm
   where
     turn_name : (n m : ArmName) → name_eq n m ≡ name_eq m n

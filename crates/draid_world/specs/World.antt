@@ -1,13 +1,15 @@
-use Rattle.std.specs.Prelude.{◌≡◌, ◌<◌, ◌^◌, ℕ, Bool, List, [], Option, Some, None, Vec, zero, suc, option_map, ◌∷◌, if◌then◌else◌}
-use Rattle.draid_machine.specs.Names.{key_eq, name_eq, has_segment}
+use Rattle.std.specs.Prelude.{◌≡◌, ◌<◌, ℕ, Bool, List, [], Option, Some, None, Vec, zero, suc, option_map, ◌∷◌, if◌then◌else◌}
+use Rattle.draid_machine.specs.Names.{key_eq, name_eq, segment_eq, has_segment}
 use Rattle.std.specs.Global.{Global}
 use Rattle.draid_names.specs.declared.numbers.TheConstants.{NUMBERS}
 use Rattle.draid_ranges.specs.Numbers.{has}
 use Rattle.draid_machine.specs.declared.names.Key.{Key}
 use Rattle.draid_machine.specs.declared.names.ArmName.{ArmName}
 use Rattle.draid_machine.specs.declared.names.Held.{Held}
+use Rattle.draid_machine.specs.declared.names.Segment.{Segment}
 use Rattle.draid_machine.specs.State as state
-use Rattle.draid_machine.specs.Layout.{layout_of}
+use Rattle.draid_machine.specs.Arms.{first_spares}
+use Rattle.draid_layouts.specs.Layout.{layout_of}
 use Rattle.draid_world.specs.declared.world.Site.{Site}
 use Rattle.draid_world.specs.declared.world.Arm.{Arm}
 use Rattle.draid_world.specs.declared.world.Detached.{Detached}
@@ -32,6 +34,11 @@ abbrev pub arm_in : List (ArmName × Arm) → ArmName → Option state.Arm
 arm_in [] n = None
 arm_in (e ∷ es) n = if name_eq e.0 n then Some (arm_of e.1) else arm_in es n
 
+-- the group for which a segment is kept
+abbrev pub kept_in : List (Segment × ℕ) → Segment → Option ℕ
+kept_in [] s = None
+kept_in (e ∷ es) s = if segment_eq e.0 s then Some e.1 else kept_in es s
+
 -- the arms of a slot, of a column
 abbrev pub names_at : List (Vec ArmName Global) → ℕ → List ArmName
 names_at [] c = []
@@ -53,7 +60,7 @@ abbrev pub core_of : Tables → state.Core
 core_of t = record { held = held_in t.held.entries; arm = arm_in t.arms.entries; order = names_at t.order.items; pass = option_map pass_of t.pass; last = t.last }
 
 abbrev pub image_of : Image → state.Image
-image_of i = record { group = i.group; core = core_of i.tables }
+image_of i = record { group = i.group; version = i.version; core = core_of i.tables }
 
 -- the state that a world is
 abbrev pub state_of : World → state.State
@@ -61,6 +68,8 @@ state_of w = record {
   open_group = w.open_group;
   closing = w.closing;
   committed = w.committed;
+  version = w.version;
+  asked = w.asked;
   core = core_of w.tables;
   serial = w.serial;
   loan = option_map loan_of w.loan;
@@ -68,6 +77,7 @@ state_of w = record {
   sealed = option_map image_of w.sealed;
   present = has_segment w.present.keys;
   aside = has_segment w.aside.keys;
+  kept = kept_in w.kept.entries;
 }
 
 -- the layout of a metaslab
@@ -80,6 +90,10 @@ offline_arm a offline = record a { offline = offline }
 
 abbrev pub switched : state.Arm → Bool → state.Arm
 switched a offline = record a { offline = offline }
+
+-- the slot on whose first leaf a spare keeps what belongs to a stripe, by the arms of each slot
+abbrev pub home_at : state.Layout → (ℕ → List ArmName) → ℕ → ℕ → ℕ
+home_at l order spare x = l.home (first_spares order) spare x
 
 -- the slot that has a column of a stripe
 abbrev pub slot_at : state.Layout → ℕ → ℕ → ℕ

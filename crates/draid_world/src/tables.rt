@@ -1,10 +1,10 @@
 ghost use Rattle.std.specs.Prelude.{◌≡◌, ◌&&◌, not, Some, None, true, IsSome, IfOk, OnOk};
 ghost use Rattle.std.specs.BTreeMap.{Updates, get};
-ghost use Rattle.draid_machine.specs.After.{set_held};
+ghost use Rattle.draid_machine.specs.After.{not_kept, set_held};
 ghost use Rattle.draid_machine.specs.Names.{has_segment, key_eq};
 ghost use Rattle.draid_machine.specs.declared.names.Key.{Key};
 ghost use Rattle.draid_machine.specs.declared.names.Segment.{Segment};
-ghost use Rattle.draid_world.specs.World.{held_in};
+ghost use Rattle.draid_world.specs.World.{held_in, kept_in};
 
 use draid_machine::{Held, Key, Segment};
 use std::alloc::AllocError;
@@ -60,4 +60,18 @@ pub fn forget_segments(segments: &mut BTreeSet<Segment>, key: Key)
     ensures { (s : Segment) → has_segment segments.new.keys s ≡ (has_segment segments.old.keys s && not (key_eq key s.key)) }
 {
     segments.retain(|segment| segment.key != key);
+}
+
+/// Forgets for which group segments of a key are kept.
+pub fn forget_kept(kept: &mut BTreeMap<Segment, u64>, key: Key)
+    ensures { (s : Segment) → kept_in kept.new.entries s ≡ not_kept key (kept_in kept.old.entries) s }
+{
+    kept.retain(|segment, _| segment.key != key);
+}
+
+/// The group for which a segment is kept.
+pub fn kept_for(kept: &BTreeMap<Segment, u64>, segment: Segment) -> Option<u64>
+    ensures { result ≡ kept_in kept.now.entries segment }
+{
+    kept.get(&segment).copied()
 }

@@ -66,6 +66,8 @@ pub struct Tables {
 #[derive(Drop)]
 pub struct Image {
     pub group: u64,
+    /// The version that its record has.
+    pub version: u32,
     pub tables: Tables,
 }
 
@@ -84,6 +86,10 @@ pub struct World {
     pub open_group: u64,
     pub closing: Option<u64>,
     pub committed: u64,
+    /// The version of the committed group.
+    pub version: u32,
+    /// The version that the next sealed group gets.
+    pub asked: u32,
     pub tables: Tables,
     /// The last number of a loan.
     pub serial: u64,
@@ -92,4 +98,6 @@ pub struct World {
     pub sealed: Option<Image>,
     pub present: BTreeSet<Segment>,
     pub aside: BTreeSet<Segment>,
+    /// Segments that lost their place stay for the images, each for the group that was open then.
+    pub kept: BTreeMap<Segment, u64>,
 }
