@@ -10,6 +10,7 @@ use Rattle.draid_machine.specs.declared.names.ArmName.TheVariants.{Leaf, Spare}
 use Rattle.draid_machine.specs.declared.names.Stage.{Stage}
 use Rattle.draid_machine.specs.declared.names.Stage.TheVariants.{Writing, Live}
 use Rattle.draid_machine.specs.declared.names.Held.{Held}
+use Rattle.draid_machine.specs.declared.names.Segment.{Segment}
 use Rattle.draid_machine.specs.Names.{key_eq, has_name, is_block, takes}
 use Rattle.draid_machine.specs.State.{Layout, IsLayout, Arm, Pass, Loan, Image, State}
 use Rattle.draid_machine.specs.Arms.{answers, fails, is_clean, logged, is_fresh, HasEmptyLog, targets_of}
@@ -447,6 +448,13 @@ s21 = record {
 
 s22 : CommitStep sample w21 4 w22
 s22 = record { image = image21; closing = refl; sealed = refl; made = refl }
+
+-- the spare's segment was kept from the detachment on, and went with the commit of the group that was open then
+abbrev segment : Segment
+segment = record { key = key; column = 0; arm = Spare 0; leaf = 0; row = 0 }
+
+kept_meanwhile : (w18.kept segment ≡ None) × (w19.kept segment ≡ Some 4) × (w21.present segment ≡ true) × (w22.present segment ≡ false) × (w22.kept segment ≡ None)
+kept_meanwhile = (refl, refl, refl, refl, refl)
 
 abbrev w23 : State
 w23 = reopen_state sample w22 image21 []

@@ -5,6 +5,7 @@ use Rattle.std.proofs.Math.Nat.{mod-lt}
 use Rattle.std.proofs.lemmas.Bool.{cases_lt}
 use Rattle.std.proofs.lemmas.Bool.Decides.{nat_tests}
 use Rattle.std.specs.BTreeMap.{BTreeMap, btree_map_len}
+use Rattle.draid_names.specs.Numbers.{most_held}
 use Rattle.draid_names.specs.declared.pointer.Pointer.{Pointer}
 use Rattle.draid_spec.specs.declared.layout.Geometry.{Geometry}
 use Rattle.draid_map.proofs.Radix.{its_digits}
@@ -19,10 +20,10 @@ use Rattle.draid_machine.specs.declared.names.Stage.TheVariants.{Writing, Live, 
 use Rattle.draid_machine.specs.After.{begin_state, free_state, gone_state, live_state, set_held}
 use Rattle.draid_machine.specs.Arms.{answers, is_clean, leaf_answers, reading, else_some}
 use Rattle.draid_machine.specs.Created.{created}
-use Rattle.draid_machine.specs.Layout.{layout_of}
-use Rattle.draid_machine.specs.Names.{has_name, has_number, name_eq}
+use Rattle.draid_layouts.specs.Layout.{layout_of}
+use Rattle.draid_machine.specs.Names.{has_name, has_number, key_eq, name_eq}
 use Rattle.draid_machine.specs.State.{Arm, Core, Layout, State}
-use Rattle.draid_machine.specs.Step.{AbortStep, BeginStep, DamageStep, FetchStep, FinishStep, Fits, FreeStep, IsTaken as TakesStripe}
+use Rattle.draid_machine.specs.Step.{AbortStep, BeginStep, DamageStep, FetchStep, FinishStep, Fits, FreeStep, HoldsFewer, IsTaken as TakesStripe}
 use Rattle.draid_machine.proofs.Small.{name_true, name_refl, none_some}
 use Rattle.draid_shard.specs.declared.entry.Entry.{Entry}
 use Rattle.draid_shard.specs.declared.shard.Shard.{Shard}
@@ -30,29 +31,33 @@ use Rattle.draid_shard.specs.declared.ticket.Ticket.{Ticket}
 use Rattle.draid_shard.specs.MetaslabLayout.{IsMetaslabLayout, IsRun, MetaslabLayout, leaf_of, place_in}
 use Rattle.draid_shard.specs.Entry.{IsDue, SetsEntry, open_group, Tables, begun, entry_at, opened, staged}
 use Rattle.draid_shard.specs.Logs.{logs_in}
-use Rattle.draid_shard.specs.Machine.{HoldsSame, IsIn, StepsTo, arm_in, arm_with, held_at, key_of, layout_in, leaves_of}
+use Rattle.draid_shard.specs.Machine.{HoldsSame, IsIn, StepsTo, arm_in, arm_with, held_at, key_of, layout_in, leaves_of, version_in}
 use Rattle.draid_shard.specs.Shard.{IsUnused, part_of}
 use Rattle.draid_shard.proofs.Held.{StandFirst, few_held, holds_less, holds_more, holds_still, holds_turned}
 use Rattle.draid_shard.proofs.Places.{child_there}
 use Rattle.draid_shard.proofs.Tables.{entry_run}
 
 -- ---- a shard of the same metaslab, whose table and logs the state has then
-pub still_in : {R : Type 0} (old new : Shard R) (w : State) (held : Key → Option Held) (arm : ArmName → Option Arm) (present aside : Segment → Bool)
+pub still_in : {R : Type 0} (old new : Shard R) (w : State) (held : Key → Option Held) (arm : ArmName → Option Arm) (present aside : Segment → Bool) (kept : Segment → Option ℕ)
     → part_of new ≡ part_of old → IsIn old w → HoldsSame new.blocks held → ((n : ArmName) → arm n ≡ arm_in old.geometry.spec.children (logs_in new.slots) n)
-    → IsIn new (record w { core = record w.core { held = held; arm = arm }; present = present; aside = aside })
-still_in old new w held arm present aside part is_in same arms = record {
+    → ((s : Segment) → kept s ≡ None)
+    → IsIn new (record w { core = record w.core { held = held; arm = arm }; present = present; aside = aside; kept = kept })
+still_in old new w held arm present aside kept part is_in same arms none = record {
   held = same;
   arms = λ n. arms n ∙ ap (λ (p : MetaslabLayout). arm_in p.geometry.spec.children (logs_in new.slots) n) (sym part);
-  order = is_in.order ∙ ap (λ (p : MetaslabLayout). (created (layout_in p)).core.order) (sym part);
+  order = is_in.order ∙ ap (λ (p : MetaslabLayout). (created (layout_in p) version_in).core.order) (sym part);
   pass = is_in.pass;
   last = is_in.last;
   open_group_is = is_in.open_group_is;
   closing = is_in.closing;
   committed = is_in.committed;
+  version = is_in.version;
+  asked = is_in.asked;
   serial = is_in.serial;
   loan = is_in.loan;
-  image = is_in.image ∙ ap (λ (p : MetaslabLayout). (created (layout_in p)).image) (sym part);
+  image = is_in.image ∙ ap (λ (p : MetaslabLayout). (created (layout_in p) version_in).image) (sym part);
   sealed = is_in.sealed;
+  kept = none;
 }
 
 -- the logs are as they were
@@ -61,7 +66,7 @@ same_arms old new w is_in same n = is_in.arms n ∙ ap (λ logs. arm_in old.geom
 
 -- nothing changed in the tables
 pub unmoved_in : {R : Type 0} (old new : Shard R) (w : State) → part_of new ≡ part_of old → logs_in new.slots ≡ logs_in old.slots → HoldsSame new.blocks w.core.held → IsIn old w → IsIn new w
-unmoved_in old new w part logs held is_in = still_in old new w w.core.held w.core.arm w.present w.aside part is_in held (same_arms old new w is_in logs)
+unmoved_in old new w part logs held is_in = still_in old new w w.core.held w.core.arm w.present w.aside w.kept part is_in held (same_arms old new w is_in logs) is_in.kept
 
 -- ---- the one arm of a slot
 own_order : {R : Type 0} (shard : Shard R) (w : State) (slot : ℕ) → IsIn shard w → slot < shard.geometry.spec.children → w.core.order slot ≡ Leaf slot ∷ []
@@ -172,7 +177,7 @@ begins old new w p part some t u lowest due sets free few unused logs is_in = re
   stepped = record {
     enabled = λ pass is. absurd (none_some w.core.pass pass is_in.pass is);
     unused = none;
-    few = few_held w.core old.blocks 4096 is_in.held few;
+    few = subst (λ version. HoldsFewer w.core (most_held version)) (sym is_in.version) (few_held w.core old.blocks 4096 is_in.held few);
     some = run.some;
     fits = record {
       inside = run.inside;
@@ -186,8 +191,8 @@ begins old new w p part some t u lowest due sets free few unused logs is_in = re
     birth = record { from = (let at = is_in.open_group_is in let from = due.from in omega (arith, at, from)); upto = (let at = is_in.open_group_is in let upto = due.upto in omega (arith, at, upto)) };
     made = refl;
   };
-  is_in = still_in old new w (set_held w.core.held (key_of p) (Some (held_at (begun p)))) w.core.arm w.present w.aside part is_in
-      (holds_more old.blocks new.blocks w.core.held p is_in.held sets free none) (same_arms old new w is_in logs);
+  is_in = still_in old new w (set_held w.core.held (key_of p) (Some (held_at (begun p)))) w.core.arm w.present w.aside w.kept part is_in
+      (holds_more old.blocks new.blocks w.core.held p is_in.held sets free none) (same_arms old new w is_in logs) is_in.kept;
 } where
   run : IsRun old.geometry p.first p.stripes
   run = subst (λ (at : MetaslabLayout). IsRun at.geometry p.first p.stripes) part (entry_run new.geometry new.space new.blocks p.first (begun p) u sets.here)
@@ -220,18 +225,22 @@ finishes old new w ticket part t is_open all few sets logs is_in = record {
     made = (let test : nat_lt old.geometry.spec.parity ticket.missed ≡ false = grind (arith, nat_tests, few) in
         ap (λ b. if b then gone_state w (key_of ticket.pointer) else live_state w (key_of ticket.pointer) (held_at (opened ticket))) (sym test));
   };
-  is_in = still_in old new w (set_held w.core.held (key_of ticket.pointer) (Some (held_at (staged Live ticket.pointer)))) w.core.arm w.present w.aside part is_in
+  is_in = still_in old new w (set_held w.core.held (key_of ticket.pointer) (Some (held_at (staged Live ticket.pointer)))) w.core.arm w.present w.aside w.kept part is_in
       (holds_turned old.blocks new.blocks w.core.held ticket.pointer (Writing ticket.next ticket.missed) Live is_in.held (stand_first old.geometry old.space old.blocks t) is_open sets)
-      (same_arms old new w is_in logs);
+      (same_arms old new w is_in logs) is_in.kept;
 }
 
 gone_in : {R : Type 0} (old new : Shard R) (w : State) (ticket : Ticket) → part_of new ≡ part_of old → Tables old.geometry old.space old.blocks
     → entry_at old.blocks ticket.pointer.first ≡ Some (opened ticket) → SetsEntry old.blocks new.blocks ticket.pointer.first None → logs_in new.slots ≡ logs_in old.slots → IsIn old w
     → IsIn new (gone_state w (key_of ticket.pointer))
 gone_in old new w ticket part t is_open sets logs is_in =
-    still_in old new w (set_held w.core.held (key_of ticket.pointer) None) w.core.arm _ _ part is_in
+    still_in old new w (set_held w.core.held (key_of ticket.pointer) None) w.core.arm _ _ _ part is_in
     (holds_less old.blocks new.blocks w.core.held ticket.pointer (Writing ticket.next ticket.missed) is_in.held (stand_first old.geometry old.space old.blocks t) is_open sets)
-    (same_arms old new w is_in logs)
+    (same_arms old new w is_in logs) (λ s. none (key_eq (key_of ticket.pointer) s.key) (w.kept s) (is_in.kept s))
+  where
+    none : (b : Bool) (o : Option ℕ) → o ≡ None → (if b then None else o) ≡ None
+    none true o e = refl
+    none false o e = e
 
 pub misses : {R : Type 0} (old new : Shard R) (w : State) (ticket : Ticket) → part_of new ≡ part_of old → Tables old.geometry old.space old.blocks
     → entry_at old.blocks ticket.pointer.first ≡ Some (opened ticket) → ticket.next ≡ old.geometry.g → old.geometry.spec.parity < ticket.missed
@@ -271,8 +280,8 @@ frees old new w p group part t is_live due sets logs is_in = record {
     due = record { from = (let at = is_in.open_group_is in let from = due.from in omega (arith, at, from)); upto = (let at = is_in.open_group_is in let upto = due.upto in omega (arith, at, upto)) };
     made = refl;
   };
-  is_in = still_in old new w (set_held w.core.held (key_of p) (Some (held_at (staged (Freed group) p)))) w.core.arm w.present w.aside part is_in
-      (holds_turned old.blocks new.blocks w.core.held p Live (Freed group) is_in.held (stand_first old.geometry old.space old.blocks t) is_live sets) (same_arms old new w is_in logs);
+  is_in = still_in old new w (set_held w.core.held (key_of p) (Some (held_at (staged (Freed group) p)))) w.core.arm w.present w.aside w.kept part is_in
+      (holds_turned old.blocks new.blocks w.core.held p Live (Freed group) is_in.held (stand_first old.geometry old.space old.blocks t) is_live sets) (same_arms old new w is_in logs) is_in.kept;
 }
 
 -- a group of the greater of the open one and a floor
@@ -345,7 +354,7 @@ damages old new w leaf sector part same there inside logs is_in = record {
 
 -- ---- create
 pub created_in : {R : Type 0} (shard : Shard R) → ((k : ℕ) → entry_at shard.blocks k ≡ None) → ((leaf group : ℕ) → logs_in shard.slots leaf group ≡ false)
-    → IsIn shard (created (layout_of shard.geometry shard.perms shard.number))
+    → IsIn shard (created (layout_of shard.geometry shard.perms shard.number) version_in)
 created_in shard none empty = record {
   held = record { listed = λ k e there. absurd (none_some (entry_at shard.blocks k) e (none k) there); only = λ key h is. absurd (none_some None h refl is) };
   arms = arms;
@@ -355,11 +364,14 @@ created_in shard none empty = record {
   open_group_is = refl;
   closing = refl;
   committed = refl;
+  version = refl;
+  asked = refl;
   serial = refl;
   loan = refl;
   image = refl;
   sealed = refl;
+  kept = λ s. refl;
 } where
-  arms : (n : ArmName) → (created (layout_of shard.geometry shard.perms shard.number)).core.arm n ≡ arm_in shard.geometry.spec.children (logs_in shard.slots) n
+  arms : (n : ArmName) → (created (layout_of shard.geometry shard.perms shard.number) version_in).core.arm n ≡ arm_in shard.geometry.spec.children (logs_in shard.slots) n
   arms (Leaf leaf) = λ i. if nat_lt leaf shard.geometry.spec.children then Some (arm_with (λ g. sym (empty leaf g) i)) else None
   arms (Spare spare) = refl

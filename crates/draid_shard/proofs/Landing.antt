@@ -253,7 +253,7 @@ module _ {R : Type 0} (old new : Shard R) (w : State) (before now : Ticket) (par
       fail = λ m none. absurd (cc);
       made = refl;
     };
-    is_in = still_in old new w _ _ _ w.aside part is_in (held before.missed count) (arms (Leaf leaf ∷ []) (λ m g. nothing (logs_of old m g) (has_name (Leaf leaf ∷ []) (Leaf m)) (g == before.pointer.birth) ∙ ap (λ f. f m g) (sym logs)));
+    is_in = still_in old new w _ _ _ w.aside w.kept part is_in (held before.missed count) (arms (Leaf leaf ∷ []) (λ m g. nothing (logs_of old m g) (has_name (Leaf leaf ∷ []) (Leaf m)) (g == before.pointer.birth) ∙ ap (λ f. f m g) (sym logs))) is_in.kept;
   } where
     one : (n : ArmName) → n ≡ Leaf leaf → has_name (Leaf leaf ∷ []) n ≡ (answers l w.core n before.pointer.first && not (fails l w.core [] n before.pointer.first))
     one n same = subst (λ (m : ArmName). has_name (Leaf leaf ∷ []) m ≡ (answers l w.core m before.pointer.first && not (fails l w.core [] m before.pointer.first))) (sym same)
@@ -284,7 +284,7 @@ module _ {R : Type 0} (old new : Shard R) (w : State) (before now : Ticket) (par
       });
       made = refl;
     };
-    is_in = still_in old new w _ _ _ w.aside part is_in (held (before.missed + 1) count) (arms [] (λ m g. turned (logs_of old m g) m g ∙ sym (logs m g)));
+    is_in = still_in old new w _ _ _ w.aside w.kept part is_in (held (before.missed + 1) count) (arms [] (λ m g. turned (logs_of old m g) m g ∙ sym (logs m g))) is_in.kept;
   } where
     is_number : (leaf == leaf) ≡ true
     is_number = grind (arith, nat_tests)

@@ -5,8 +5,9 @@ use Rattle.draid_machine.specs.declared.names.Key.{Key}
 use Rattle.draid_machine.specs.declared.names.ArmName.{ArmName}
 use Rattle.draid_machine.specs.declared.names.ArmName.TheVariants.{Leaf, Spare}
 use Rattle.draid_machine.specs.declared.names.Held.{Held}
+use Rattle.draid_machine.specs.declared.names.Segment.{Segment}
 use Rattle.draid_machine.specs.Created.{created}
-use Rattle.draid_machine.specs.Layout.{layout_of}
+use Rattle.draid_layouts.specs.Layout.{layout_of}
 use Rattle.draid_machine.specs.declared.event.Event.{Event}
 use Rattle.draid_machine.specs.State.{Arm, Layout, State}
 use Rattle.draid_machine.specs.Step.{Run, Step}
@@ -20,6 +21,10 @@ use Rattle.draid_shard.specs.MetaslabLayout.{MetaslabLayout, leaf_of}
 -- the layout by which the events of a metaslab are told
 abbrev pub layout_in : MetaslabLayout → Layout
 layout_in part = layout_of part.geometry part.perms part.number
+
+-- the version of a metaslab's first group, which is the only one so far
+abbrev pub version_in : ℕ
+version_in = 1
 
 -- by what a block is known
 abbrev pub key_of : Pointer → Key
@@ -61,16 +66,19 @@ arm_in children logs (Spare spare) = None
 pub record IsIn {R : Type 0} (shard : Shard R) (w : State) : Type 0 where
   pub held : HoldsSame shard.blocks w.core.held
   pub arms : (n : ArmName) → w.core.arm n ≡ arm_in shard.geometry.spec.children (logs_in shard.slots) n
-  pub order : w.core.order ≡ (created (layout_of shard.geometry shard.perms shard.number)).core.order
+  pub order : w.core.order ≡ (created (layout_of shard.geometry shard.perms shard.number) version_in).core.order
   pub pass : w.core.pass ≡ None
   pub last : w.core.last ≡ 0
   pub open_group_is : w.open_group ≡ 2
   pub closing : w.closing ≡ None
   pub committed : w.committed ≡ 1
+  pub version : w.version ≡ version_in
+  pub asked : w.asked ≡ version_in
   pub serial : w.serial ≡ 0
   pub loan : w.loan ≡ None
-  pub image : w.image ≡ (created (layout_of shard.geometry shard.perms shard.number)).image
+  pub image : w.image ≡ (created (layout_of shard.geometry shard.perms shard.number) version_in).image
   pub sealed : w.sealed ≡ None
+  pub kept : (s : Segment) → w.kept s ≡ None
 
 -- One event took the state to one for which the shard stands then.
 pub record StepsTo {R : Type 0} (step : State → Type 0) (shard : Shard R) : Type 0 where
@@ -95,7 +103,7 @@ pub record DoesNone {R : Type 0} (old new : Shard R) : Type 0 where
 -- the events since the opening are a legal history of a new metaslab, and lead to a state for which the shard stands
 pub record HasHistory {R : Type 0} (shard : Shard R) : Type 0 where
   pub state : State
-  pub run : Run (layout_of shard.geometry shard.perms shard.number) (created (layout_of shard.geometry shard.perms shard.number)) (events_of shard) state
+  pub run : Run (layout_of shard.geometry shard.perms shard.number) (created (layout_of shard.geometry shard.perms shard.number) version_in) (events_of shard) state
   pub is_in : IsIn shard state
 
 -- the leaves on which these columns of a block lie

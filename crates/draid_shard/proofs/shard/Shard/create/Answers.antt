@@ -1,8 +1,9 @@
 use Rattle.std.proofs.Common.{rules, ◌≡◌, ℕ, None, refl, sym, subst, arith}
 use Rattle.draid_machine.specs.Created.{created}
-use Rattle.draid_machine.specs.Layout.{layout_of}
+use Rattle.draid_layouts.specs.Layout.{layout_of}
 use Rattle.draid_machine.specs.Step.{Run}
 use Rattle.draid_shard.specs.Entry.{entry_at}
+use Rattle.draid_shard.specs.Machine.{version_in}
 use Rattle.draid_shard.proofs.Events.{created_in}
 use Rattle.draid_shard.proofs.Owed.{owes_none}
 use Rattle.draid_shard.proofs.shard.Shard.create.Goals as goal
@@ -22,7 +23,7 @@ returns-clause-history g c =
     let l = layout_of c.args.geometry c.args.perms c.args.number in
     let none : (k : ℕ) → entry_at c.new-3.result k ≡ None = search rules in
     record {
-      state = created l;
-      run = subst (λ es. Run l (created l) es (created l)) (sym c.new-2.ensures.events) refl;
+      state = created l version_in;
+      run = subst (λ es. Run l (created l version_in) es (created l version_in)) (sym c.new-2.ensures.events) refl;
       is_in = created_in _ none c.in-Ok-own_slots.ensures.empty;
     }
