@@ -1,5 +1,5 @@
 -- Which segments are kept, and for which group.
-use Rattle.std.proofs.Common.{◌≡◌, ◌==◌, ◌&&◌, not, ℕ, zero, Bool, true, false, List, [], ◌∷◌, Option, Some, None, filter, cond, if◌then◌else◌, refl, sym, ◌∙◌, ap, subst, Ordering, arith}
+use Rattle.std.proofs.Common.{◌≡◌, ◌==◌, ◌&&◌, not, ℕ, zero, Bool, true, false, List, [], ◌∷◌, Option, Some, None, filter, cond, if◌then◌else◌, refl, sym, ◌∙◌, ap, subst, arith}
 use Rattle.std.specs.Ordering.{eq_by_cmp}
 use Rattle.std.specs.Map.{keys_of, lookup}
 use Rattle.std.specs.Map.Calls.{RetainsPairs}

@@ -1,4 +1,5 @@
 pub mod Chains
+pub mod Joining
 pub mod Keeping
 pub mod Maps
 pub mod Readings

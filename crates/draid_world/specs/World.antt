@@ -1,4 +1,4 @@
-use Rattle.std.specs.Prelude.{◌≡◌, ◌<◌, ◌^◌, ℕ, Bool, List, [], Option, Some, None, Vec, zero, suc, option_map, ◌∷◌, if◌then◌else◌}
+use Rattle.std.specs.Prelude.{◌≡◌, ◌<◌, ℕ, Bool, List, [], Option, Some, None, Vec, zero, suc, option_map, ◌∷◌, if◌then◌else◌}
 use Rattle.draid_machine.specs.Names.{key_eq, name_eq, segment_eq, has_segment}
 use Rattle.std.specs.Global.{Global}
 use Rattle.draid_names.specs.declared.numbers.TheConstants.{NUMBERS}

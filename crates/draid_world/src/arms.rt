@@ -1,4 +1,4 @@
-ghost use Rattle.std.specs.Prelude.{◌≡◌, ◌<◌, true, false, Some, None, IfSome, IfNone, is_some, IsSome, ℕ, length};
+ghost use Rattle.std.specs.Prelude.{◌≡◌, ◌<◌, true, false, Some, None, IfSome, IfNone, OnOk, is_some, IsSome, ℕ, length};
 ghost use Rattle.std.specs.BTreeMap.{Updates, get};
 ghost use Rattle.draid_machine.specs.After.{set_arm};
 ghost use Rattle.draid_machine.specs.Arms as arms;
@@ -6,10 +6,11 @@ ghost use Rattle.draid_machine.specs.State as state;
 ghost use Rattle.draid_machine.specs.declared.names.ArmName.{ArmName};
 ghost use Rattle.draid_world.specs.declared.world.Arm.{Arm};
 ghost use Rattle.draid_machine.specs.Names.{has_name, name_eq};
-ghost use Rattle.draid_world.specs.World.{arm_in, core_of, names_at, offline_arm, switched};
+ghost use Rattle.draid_world.specs.World.{arm_in, arm_of, core_of, names_at, offline_arm, switched};
 
 use crate::world::{Arm, Tables};
 use draid_machine::ArmName;
+use std::alloc::AllocError;
 use std::collections::BTreeMap;
 
 /// Whether two names are one.
@@ -64,6 +65,18 @@ pub fn is_known(arms: &BTreeMap<ArmName, Arm>, name: ArmName) -> bool
     ensures { result ≡ is_some (arm_in arms.now.entries name) }
 {
     arms.contains_key(&name)
+}
+
+/// An arm becomes known.
+pub fn enter_arm(
+    arms: &mut BTreeMap<ArmName, Arm>,
+    name: ArmName,
+    arm: Arm,
+) -> Result<(), AllocError>
+    ensures { OnOk result ((n : ArmName) → arm_in arms.new.entries n ≡ set_arm (arm_in arms.old.entries) name (Some (arm_of arm)) n) }
+{
+    arms.insert(name, arm)?;
+    Ok(())
 }
 
 /// Sets whether a leaf that is known is offline.

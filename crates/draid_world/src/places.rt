@@ -1,14 +1,17 @@
-ghost use Rattle.std.specs.Prelude.{◌≡◌, ◌+◌, ◌*◌, ◌<◌, ◌^◌, ℕ, ◌-◌};
+ghost use Rattle.std.specs.Prelude.{◌≡◌, ◌+◌, ◌*◌, ◌<◌, ◌^◌, ℕ, ◌-◌, true, false};
 ghost use Rattle.draid_machine.specs.Arms as arms;
+ghost use Rattle.draid_machine.specs.Claims as claims;
 ghost use Rattle.draid_machine.specs.Names as names;
 ghost use Rattle.draid_chain.specs.Chain.{spare_slot};
 ghost use Rattle.draid_layouts.specs.Layout.{pool_stripe, slice_in};
 ghost use Rattle.draid_map.specs.Place.{IsLayout};
-ghost use Rattle.draid_world.specs.World.{core_of, home_at, names_at, site_layout, slot_at};
+ghost use Rattle.draid_world.specs.World.{AreLow, core_of, home_at, names_at, site_layout, slot_at};
 
-use crate::arms::{first_leaf, first_spare, leaf_answers, names_of};
+use crate::arms::{first_leaf, first_spare, is_among, leaf_answers, names_of};
+use crate::tables::find;
 use crate::world::{Site, Tables};
-use draid_machine::ArmName;
+use draid_machine::{ArmName, Held, Segment};
+use draid_names::NUMBERS;
 
 /// The number that a stripe of the metaslab has in the pool.
 fn pool_number(site: &Site, stripe: u64) -> u64
@@ -129,4 +132,54 @@ pub fn slot_of(site: &Site, stripe: u64, column: u32) -> u32
     let index = group * u64::from(site.geometry.g) + u64::from(column);
     let position = (index % u64::from(site.geometry.ndisks)) as u32;
     site.perms.child(number / (height * groups), position)
+}
+
+/// Whether a leaf is the one on which an arm keeps what belongs to a stripe.
+pub fn is_at(site: &Site, order: &[Vec<ArmName>], name: ArmName, stripe: u64, leaf: u64) -> bool
+    requires layout { IsLayout site.now.geometry site.now.perms }
+    requires metaslab { site.now.metaslab < site.now.geometry.props.metaslabs }
+    requires stripe { stripe < 2 ^ 49 }
+    ensures { result ≡ arms.lies (site_layout site.now) (names_at order.now) name stripe leaf }
+{
+    match leaf_at(site, order, name, stripe) {
+        Some(found) => found == leaf,
+        None => false,
+    }
+}
+
+/// Whether a segment is one of a block or a ticket, where its arm keeps it now.
+pub fn is_on(site: &Site, order: &[Vec<ArmName>], segment: &Segment, held: &Held) -> bool
+    requires layout { IsLayout site.now.geometry site.now.perms }
+    requires metaslab { site.now.metaslab < site.now.geometry.props.metaslabs }
+    requires first { held.now.first < NUMBERS }
+    ensures yes { result ≡ true → claims.is_on (site_layout site.now) (names_at order.now) segment.now held.now ≡ true }
+    ensures no { result ≡ false → claims.is_on (site_layout site.now) (names_at order.now) segment.now held.now ≡ false }
+{
+    if segment.column >= site.geometry.g || segment.row >= held.stripes {
+        return false;
+    }
+    let slot = slot_of(site, held.first, segment.column) as usize;
+    if !is_among(names_of(order, slot), segment.arm) {
+        return false;
+    }
+    is_at(
+        site,
+        order,
+        segment.arm,
+        held.first + u64::from(segment.row),
+        segment.leaf,
+    )
+}
+
+/// Whether a segment is at a place: where its arm keeps now what belongs to its block or ticket.
+pub fn is_at_place(site: &Site, tables: &Tables, segment: &Segment) -> bool
+    requires layout { IsLayout site.now.geometry site.now.perms }
+    requires metaslab { site.now.metaslab < site.now.geometry.props.metaslabs }
+    requires low { AreLow (core_of tables.now) }
+    ensures { result ≡ claims.is_at (site_layout site.now) (core_of tables.now) segment.now }
+{
+    match find(&tables.held, segment.key) {
+        Some(held) => is_on(site, &tables.order, segment, &held),
+        None => false,
+    }
 }

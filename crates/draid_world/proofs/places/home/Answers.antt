@@ -2,7 +2,7 @@ use Rattle.std.proofs.Common.{◌≡◌, ◌-◌, ◌+◌, Some, None, arith, sy
 use Rattle.draid_chain.specs.Chain.{chain_end, spare_slot}
 use Rattle.draid_machine.specs.Arms.{first_spare, first_spares}
 use Rattle.draid_world.specs.World.{names_at}
-use Rattle.draid_world.proofs.Chains.{end_from, end_is, ended, further, passed_all}
+use Rattle.draid_world.proofs.Chains.{end_from, end_is, ended, further}
 use Rattle.draid_world.proofs.places.home.Goals as goal
 
 pub loop-passed-init : goal.loop-passed-init
