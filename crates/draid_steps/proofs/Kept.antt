@@ -1,5 +1,5 @@
 -- What is left of the tables after a commit.
-use Rattle.std.proofs.Common.{◌≡◌, ◌==◌, ◌&&◌, not, ℕ, zero, Bool, true, false, List, [], ◌∷◌, Option, Some, None, filter, cond, if◌then◌else◌, refl, sym, ◌∙◌, ap, ap₂, subst, Ordering, arith}
+use Rattle.std.proofs.Common.{◌≡◌, ◌&&◌, ◌||◌, not, ℕ, zero, nat_le, nat_lt, Bool, true, false, List, [], ◌∷◌, Option, Some, None, filter, cond, if◌then◌else◌, refl, sym, ◌∙◌, ap, subst, Ordering, arith}
 use Rattle.std.specs.Ordering.{eq_by_cmp}
 use Rattle.std.specs.Map.{keys_of}
 use Rattle.std.specs.Map.Calls.{RetainsPairs}
@@ -15,11 +15,12 @@ use Rattle.draid_machine.specs.declared.names.ArmName.{ArmName}
 use Rattle.draid_machine.specs.declared.names.ArmName.TheVariants.{Leaf, Spare}
 use Rattle.draid_machine.specs.declared.names.Held.{Held}
 use Rattle.draid_machine.specs.declared.names.Segment.{Segment}
-use Rattle.draid_machine.specs.Names.{key_eq, name_eq, segment_eq}
+use Rattle.draid_machine.specs.Names.{key_eq, name_eq}
 use Rattle.draid_machine.specs.State as state
-use Rattle.draid_machine.specs.After.{stays, is_freed_block, is_gone_arm}
-use Rattle.draid_machine.proofs.Small.{both_true, key_true, name_true}
-use Rattle.draid_world.specs.World.{held_in, arm_in, arm_of}
+use Rattle.draid_machine.specs.After.{is_freed_block, is_gone_arm, is_kept_by}
+use Rattle.draid_machine.proofs.Small.{name_true}
+use Rattle.draid_world.specs.World.{held_in, arm_in, arm_of, kept_in}
+use Rattle.draid_world.proofs.Keeping.{AreSegmentsApart, kept_by, left_by_group, same_one}
 use Rattle.draid_world.specs.declared.world.Arm.{Arm}
 use Rattle.draid_steps.proofs.Entries.{AreApart}
 
@@ -28,18 +29,32 @@ pub retained : {F K X : Type 0} (T : F → K → X → Bool → X → F → Type
     → (es kept : List (K × X)) → RetainsPairs T f es kept → kept ≡ filter p es
 retained T f p step es kept r = filter_from_retain_pairs T (λ g. g ≡ f) p (λ g k v b w g' i t. step k v b w g' (subst (λ x. T x k v b w g') i t)) f es kept refl r
 
-pub same_parts : (t s : Segment) → segment_eq t s ≡ true → (t.key ≡ s.key) × (t.arm ≡ s.arm)
-same_parts t s e =
-    let a = both_true (key_eq t.key s.key && (t.column == s.column) && name_eq t.arm s.arm && (t.leaf == s.leaf)) (t.row == s.row) e in
-    let b = both_true (key_eq t.key s.key && (t.column == s.column) && name_eq t.arm s.arm) (t.leaf == s.leaf) a.0 in
-    let d = both_true (key_eq t.key s.key && (t.column == s.column)) (name_eq t.arm s.arm) b.0 in
-    let f = both_true (key_eq t.key s.key) (t.column == s.column) d.0 in
-    (key_true t.key s.key f.0, name_true t.arm s.arm d.1)
+-- what is kept of unfreed blocks for later groups
+abbrev pub keeps_on : (Key → Option Held) → ℕ → Segment → ℕ → Bool
+keeps_on held group s last = not (is_freed_block group (held s.key)) && nat_lt group last
 
-pub same_stays : (group : ℕ) (q : state.Core) (t s : Segment) → segment_eq t s ≡ true → stays group q t ≡ stays group q s
-same_stays group q t s e =
-    let z = same_parts t s e in
-    ap₂ (λ (k : Key) (n : ArmName). not (is_freed_block group (q.held k)) && not (is_gone_arm group (q.arm n))) z.0 z.1
+pub kept_on : (held : Key → Option Held) (group : ℕ) (es : List (Segment × ℕ)) (s : Segment) → AreSegmentsApart es
+    → kept_in (filter (λ e. keeps_on held group e.0 e.1) es) s ≡ (if is_freed_block group (held s.key) || is_kept_by group (kept_in es s) then None else kept_in es s)
+kept_on held group es s apart = left_by_group (keeps_on held group) es s apart (λ t g e. ap (λ (x : Segment). keeps_on held group x g) (same_one t s e)) ∙ by (kept_in es s)
+  where
+    bits : (f : Bool) (g : ℕ) → (if not f && nat_lt group g then Some g else None) ≡ (if f || nat_le g group then None else Some g)
+    bits true g = refl
+    bits false g = let turned : nat_lt group g ≡ not (nat_le g group) = grind (arith, nat_tests) in ap (λ b. if b then Some g else None) turned ∙ picked (nat_le g group)
+      where
+        picked : (b : Bool) → (if not b then Some g else None) ≡ (if b then None else Some g)
+        picked true = refl
+        picked false = refl
+
+    no_group : Option ℕ
+    no_group = None
+
+    none : (f : Bool) → no_group ≡ (if f || false then no_group else no_group)
+    none true = refl
+    none false = refl
+
+    by : (o : Option ℕ) → kept_by (keeps_on held group s) o ≡ (if is_freed_block group (held s.key) || is_kept_by group o then None else o)
+    by None = none (is_freed_block group (held s.key))
+    by (Some g) = bits (is_freed_block group (held s.key)) g
 
 -- a block that is gone is found no more, and any other as before
 pub held_kept : (group : ℕ) (es : List (Key × Held)) (k : Key) → AreApart es

@@ -2,7 +2,6 @@ pub mod Entries
 pub mod Kept
 pub mod Lists
 pub mod Logs
-pub mod Orders
 pub mod Runs
 pub mod Segments
 pub mod Written

@@ -1,4 +1,3 @@
 pub mod Columns
 pub mod Reads
 pub mod Room
-pub mod Slots

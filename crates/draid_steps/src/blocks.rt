@@ -5,7 +5,7 @@ ghost use Rattle.draid_world.specs.World.{site_layout, state_of};
 
 use draid_machine::{Held, Key, Stage};
 use draid_names::NUMBERS;
-use draid_world::tables::{change, find, forget, forget_segments};
+use draid_world::tables::{change, find, forget, forget_kept, forget_segments};
 use draid_world::{Site, World};
 
 /// Frees a live block in a group, where that is legal.
@@ -43,6 +43,7 @@ pub fn abort(world: &mut World, key: Key) -> bool
     forget(&mut world.tables.held, key);
     forget_segments(&mut world.present, key);
     forget_segments(&mut world.aside, key);
+    forget_kept(&mut world.kept, key);
     true
 }
 
@@ -64,6 +65,7 @@ pub fn finish(site: &Site, world: &mut World, key: Key) -> bool
         forget(&mut world.tables.held, key);
         forget_segments(&mut world.present, key);
         forget_segments(&mut world.aside, key);
+        forget_kept(&mut world.kept, key);
         return true;
     }
     let live = Held {

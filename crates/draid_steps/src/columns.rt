@@ -14,7 +14,7 @@ ghost use Rattle.draid_world.specs.World.{AreLow, arm_in, core_of, held_in, name
 use draid_machine::{ArmName, Held, Key, Segment, Stage};
 use draid_names::NUMBERS;
 use draid_world::arms::{is_among, leaf_answers, names_of};
-use draid_world::places::{answers, fails, leaf_at, slot_of};
+use draid_world::places::{answers, fails, is_at, leaf_at, slot_of};
 use draid_world::tables::{change, find};
 use draid_world::{Arm, Site, Tables, World};
 use std::alloc::AllocError;
@@ -81,19 +81,6 @@ fn are_right(
         }
     }
     true
-}
-
-/// Whether a leaf is the one on which an arm keeps what belongs to a stripe.
-fn is_at(site: &Site, order: &[Vec<ArmName>], name: ArmName, stripe: u64, leaf: u64) -> bool
-    requires layout { IsLayout site.now.geometry site.now.perms }
-    requires metaslab { site.now.metaslab < site.now.geometry.props.metaslabs }
-    requires stripe { stripe < 2 ^ 49 }
-    ensures { result ≡ arms.lies (site_layout site.now) (names_at order.now) name stripe leaf }
-{
-    match leaf_at(site, order, name, stripe) {
-        Some(found) => found == leaf,
-        None => false,
-    }
 }
 
 /// Whether some arm of a list lies on a leaf.

@@ -1,16 +1,20 @@
-ghost use Rattle.std.specs.Prelude.{◌≡◌, ◌&&◌, true, false, Some, None, if◌then◌else◌};
+ghost use Rattle.std.specs.Prelude.{◌≡◌, ◌<◌, ◌&&◌, ◌||◌, true, false, Some, None, IfOk, OnOk, option_map, if◌then◌else◌};
 ghost use Rattle.draid_machine.specs.After as after;
-ghost use Rattle.draid_machine.specs.Names.{has_segment};
+ghost use Rattle.draid_machine.specs.Names.{has_segment, segment_eq};
 ghost use Rattle.draid_machine.specs.State.{State};
 ghost use Rattle.draid_machine.specs.Step.{CommitStep};
 ghost use Rattle.draid_machine.specs.declared.names.ArmName.{ArmName};
 ghost use Rattle.draid_machine.specs.declared.names.Key.{Key};
 ghost use Rattle.draid_machine.specs.declared.names.Segment.{Segment};
-ghost use Rattle.draid_world.specs.World.{arm_in, arm_of, core_of, held_in, state_of};
+ghost use Rattle.draid_map.specs.Place.{IsLayout};
+ghost use Rattle.draid_world.specs.World.{AreLow, arm_in, arm_of, core_of, held_in, kept_in, loan_of, site_layout, state_of};
 
+use crate::columns::add_segment;
 use draid_machine::{ArmName, Held, Key, Segment, Stage};
-use draid_world::tables::find;
-use draid_world::{Arm, Tables, World};
+use draid_world::places::is_at_place;
+use draid_world::tables::{find, kept_for};
+use draid_world::{Arm, Lent, Site, Tables, World};
+use std::alloc::{AllocError, Global};
 use std::collections::{BTreeMap, BTreeSet};
 
 /// Whether a block is freed in a group up to one.
@@ -43,23 +47,77 @@ fn is_key_freed(tables: &Tables, key: Key, group: u64) -> bool
     }
 }
 
-/// Whether a name's arm was detached in a group up to one.
-fn is_name_gone(tables: &Tables, name: ArmName, group: u64) -> bool
-    ensures { result ≡ after.is_gone_arm group (arm_in tables.now.arms.entries name) }
+/// Whether a segment is kept for a group up to one.
+fn is_kept_by(kept: &BTreeMap<Segment, u64>, segment: Segment, group: u64) -> bool
+    ensures { result ≡ after.is_kept_by group (kept_in kept.now.entries segment) }
 {
-    match tables.arms.get(&name) {
-        Some(arm) => is_gone(arm, group),
+    match kept_for(kept, segment) {
+        Some(found) => found <= group,
         None => false,
     }
 }
 
-/// Keeps the segments of what wasn't freed or detached in a group up to one.
-fn keep_segments(tables: &Tables, segments: &mut BTreeSet<Segment>, group: u64)
-    ensures { (s : Segment) → has_segment segments.new.keys s ≡ (has_segment segments.old.keys s && after.stays group (core_of tables.now) s) }
+/// Whether a segment stays as a group is committed.
+fn is_staying(site: &Site, world: &World, segment: &Segment, group: u64) -> bool
+    requires layout { IsLayout site.now.geometry site.now.perms }
+    requires metaslab { site.now.metaslab < site.now.geometry.props.metaslabs }
+    requires low { AreLow (core_of world.now.tables) }
+    ensures { result ≡ after.stays (site_layout site.now) group (state_of world.now) segment.now }
 {
-    segments.retain(|segment| {
-        !is_key_freed(tables, segment.key, group) && !is_name_gone(tables, segment.arm, group)
-    });
+    if is_key_freed(&world.tables, segment.key, group) {
+        return false;
+    }
+    !is_kept_by(&world.kept, *segment, group) || is_at_place(site, &world.tables, segment)
+}
+
+/// A segment joins a set, if it stays as a group is committed.
+fn add_staying(
+    site: &Site,
+    world: &World,
+    set: &mut BTreeSet<Segment>,
+    segment: Segment,
+    group: u64,
+) -> Result<(), AllocError>
+    requires layout { IsLayout site.now.geometry site.now.perms }
+    requires metaslab { site.now.metaslab < site.now.geometry.props.metaslabs }
+    requires low { AreLow (core_of world.now.tables) }
+    ensures { OnOk result ((s : Segment) → has_segment set.new.keys s
+        ≡ ((segment_eq segment s && after.stays (site_layout site.now) group (state_of world.now) s) || has_segment set.old.keys s)) }
+{
+    if !is_staying(site, world, &segment, group) {
+        return Ok(());
+    }
+    add_segment(set, segment)
+}
+
+/// The segments of a set that stay as a group is committed.
+fn staying_of(
+    alloc: Global,
+    site: &Site,
+    world: &World,
+    set: &BTreeSet<Segment>,
+    group: u64,
+) -> Result<BTreeSet<Segment>, AllocError>
+    requires layout { IsLayout site.now.geometry site.now.perms }
+    requires metaslab { site.now.metaslab < site.now.geometry.props.metaslabs }
+    requires low { AreLow (core_of world.now.tables) }
+    ensures { IfOk result (λ staying. (s : Segment) → has_segment staying.keys s
+        ≡ (has_segment set.now.keys s && after.stays (site_layout site.now) group (state_of world.now) s)) }
+{
+    let mut staying = BTreeSet::new(alloc);
+    for segment in set.iter() {
+        add_staying(site, world, &mut staying, *segment, group)?;
+    }
+    Ok(staying)
+}
+
+/// Segments of freed blocks, and those kept for groups up to one, are kept no more.
+fn drop_kept(tables: &Tables, kept: &mut BTreeMap<Segment, u64>, group: u64)
+    ensures { (s : Segment) → kept_in kept.new.entries s
+        ≡ (if after.is_freed_block group (held_in tables.now.held.entries s.key) || after.is_kept_by group (kept_in kept.old.entries s) then None
+        else kept_in kept.old.entries s) }
+{
+    kept.retain(|segment, last| !is_key_freed(tables, segment.key, group) && *last > group);
 }
 
 /// Drops the blocks freed in groups up to one.
@@ -76,30 +134,45 @@ fn drop_gone(arms: &mut BTreeMap<ArmName, Arm>, group: u64)
     arms.retain(|_, arm| !is_gone(arm, group));
 }
 
-/// Commits the sealed group, where that is legal.
-pub fn commit(world: &mut World, group: u64) -> bool
-    ensures legal { result ≡ true → CommitStep (state_of world.old) group (state_of world.new) }
-    ensures illegal { result ≡ false → (new : State) → CommitStep (state_of world.old) group new → ⊥ }
+/// The loan counts no more, if its block is freed in a group up to one.
+fn end_loan(tables: &Tables, loan: &mut Option<Lent>, group: u64)
+    ensures { option_map loan_of loan.new
+        ≡ after.keep_loan (λ k. after.is_freed_block group (held_in tables.now.held.entries k)) (option_map loan_of loan.old) }
 {
-    if world.closing != Some(group) {
-        return false;
-    }
-    let Some(image) = world.sealed.take() else {
-        return false;
-    };
-    keep_segments(&world.tables, &mut world.present, group);
-    keep_segments(&world.tables, &mut world.aside, group);
-    let lent = match &world.loan {
-        Some(loan) => !is_key_freed(&world.tables, loan.key, group),
+    let ends = match loan {
+        Some(lent) => is_key_freed(tables, lent.key, group),
         None => false,
     };
-    if !lent {
-        world.loan = None;
+    if ends {
+        *loan = None;
     }
+}
+
+/// Commits the sealed group, where that is legal.
+pub fn commit(alloc: Global, site: &Site, world: &mut World, group: u64) -> Result<bool, AllocError>
+    requires layout { IsLayout site.now.geometry site.now.perms }
+    requires metaslab { site.now.metaslab < site.now.geometry.props.metaslabs }
+    requires low { AreLow (core_of world.old.tables) }
+    ensures legal { IfOk result (λ b. b ≡ true → CommitStep (site_layout site.now) (state_of world.old) group (state_of world.new)) }
+    ensures illegal { IfOk result (λ b. b ≡ false → (new : State) → CommitStep (site_layout site.now) (state_of world.old) group new → ⊥) }
+{
+    if world.closing != Some(group) || world.sealed.is_none() {
+        return Ok(false);
+    }
+    let present = staying_of(alloc, site, world, &world.present, group)?;
+    let aside = staying_of(alloc, site, world, &world.aside, group)?;
+    let Some(image) = world.sealed.take() else {
+        return Ok(false);
+    };
+    end_loan(&world.tables, &mut world.loan, group);
+    drop_kept(&world.tables, &mut world.kept, group);
     drop_freed(&mut world.tables.held, group);
     drop_gone(&mut world.tables.arms, group);
     world.committed = group;
+    world.version = image.version;
     world.closing = None;
     world.image = image;
-    true
+    world.present = present;
+    world.aside = aside;
+    Ok(true)
 }

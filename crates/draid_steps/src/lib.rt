@@ -9,5 +9,4 @@ pub mod fetch;
 pub mod groups;
 pub mod leaves;
 mod room;
-pub mod slots;
 pub mod tickets;

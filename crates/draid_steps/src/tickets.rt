@@ -26,12 +26,12 @@ fn is_enabled(tables: &Tables) -> bool
     }
 }
 
-/// Whether there are fewer blocks and tickets than a metaslab may have.
-fn has_room(tables: &Tables) -> bool
-    ensures yes { result ≡ true → HoldsFewer (core_of tables.now) (numbers.most_held 1) }
-    ensures no { result ≡ false → HoldsFewer (core_of tables.now) (numbers.most_held 1) → ⊥ }
+/// Whether there are fewer blocks and tickets than a metaslab may have in a version.
+fn has_room(tables: &Tables, version: u32) -> bool
+    ensures yes { result ≡ true → HoldsFewer (core_of tables.now) (numbers.most_held version) }
+    ensures no { result ≡ false → HoldsFewer (core_of tables.now) (numbers.most_held version) → ⊥ }
 {
-    tables.held.len() < most_held(1)
+    tables.held.len() < most_held(version)
 }
 
 /// Opens a ticket, where that is legal.
@@ -44,7 +44,10 @@ pub fn begin(site: &Site, world: &mut World, key: Key, held: Held) -> Result<boo
     ensures illegal { IfOk result (λ b. b ≡ false → (new : State) → BeginStep (site_layout site.now) (state_of world.old) key held new → ⊥) }
 {
     let tables = &world.tables;
-    if !is_enabled(tables) || !has_room(tables) || find(&tables.held, key).is_some() {
+    if !is_enabled(tables) || !has_room(tables, world.version) {
+        return Ok(false);
+    }
+    if find(&tables.held, key).is_some() {
         return Ok(false);
     }
     if held.stripes == 0 || held.birth < world.open_group || held.birth > world.open_group + 1 {
