@@ -1,5 +1,6 @@
 -- Legal events keep numbers in their ranges.
 use Rattle.std.proofs.Common.{◌≡◌, ◌+◌, ◌<◌, ◌≤◌, ◌^◌, ℕ, Bool, true, false, List, Option, Some, None, nat_lt, if◌then◌else◌, refl, sym, ap, subst, inl, inr, arith}
+use Rattle.draid_names.specs.declared.numbers.TheConstants.{LAST_NUMBER}
 use Rattle.draid_names.specs.declared.pass_kind.PassKind.{PassKind}
 use Rattle.draid_names.specs.declared.pass_kind.PassKind.TheVariants.{Rebuild, Heal}
 use Rattle.draid_machine.specs.declared.names.Key.{Key}
@@ -8,10 +9,11 @@ use Rattle.draid_machine.specs.declared.names.Stage.{Stage}
 use Rattle.draid_machine.specs.declared.names.Stage.TheVariants.{Writing, Live, Freed}
 use Rattle.draid_machine.specs.declared.names.Held.{Held}
 use Rattle.draid_machine.specs.declared.event.Event.{Event}
-use Rattle.draid_machine.specs.declared.event.Event.TheVariants.{Begin, Put, Finish, Abort, Free, Fetch, Damage, Offline, Online, Attach, Detach, Close, Seal, Commit, Plan, Ready, Lend, LandStripe, LandBlock, Done, Cancel, Reopen}
+use Rattle.draid_machine.specs.declared.event.Event.TheVariants.{Begin, Put, Finish, Abort, Free, Fetch, Damage, Offline, Online, Attach, Detach, Upgrade, Close, Seal, Commit, Plan, Ready, Lend, LandStripe, LandBlock, Done, Cancel, Reopen}
 use Rattle.draid_machine.specs.Names.{key_eq, is_nil}
 use Rattle.draid_machine.specs.State.{Layout, Pass, Loan, Image, State}
-use Rattle.draid_machine.specs.After.{set_held, seal_held, keep_loan, is_freed_block, seal_state, sealed_core, commit_state, planned_pass, plan_state, finish_state, land_stripe_state, land_block_state, unsourced}
+use Rattle.draid_machine.specs.Arms.{has_moved, targets_of}
+use Rattle.draid_machine.specs.After.{attach_state, attached_core, rearranged_state, replan, replan_kind, lose_targets, set_held, seal_held, keep_loan, is_freed_block, seal_state, sealed_core, commit_state, planned_pass, plan_state, finish_state, land_stripe_state, land_block_state, unsourced}
 use Rattle.draid_machine.specs.Step.{Step, MayPlan}
 use Rattle.draid_machine.proofs.Small.{some_injective, none_some, mapped_pass, kept_some, kept_if, both_true, is_below}
 use Rattle.draid_replay.specs.Within.{IsSmall, AreSmall, IsSmallPass, IsSmallImage, AreWithin, IsWithin, IsSmallEvent}
@@ -112,8 +114,8 @@ seal_within l w t failed wrote s closing = record {
     passes : IsSmallPass (sealed_core l w.core t failed wrote).pass
     passes p is = let z = mapped_pass _ w.core.pass p is in subst (λ (x : Pass). x.max < 2 ^ 48) (sym z.2) (s.passes z.0 z.1)
 
-commit_within : (w : State) (t : ℕ) (image : Image) → IsWithin w → w.closing ≡ Some t → w.sealed ≡ Some image → IsWithin (commit_state w t image)
-commit_within w t image s closing sealed = record {
+commit_within : (l : Layout) (w : State) (t : ℕ) (image : Image) → IsWithin w → w.closing ≡ Some t → w.sealed ≡ Some image → IsWithin (commit_state l w t image)
+commit_within l w t image s closing sealed = record {
   opens = s.opens;
   closes = no_number;
   commits = (let c = s.closes t closing in omega (arith, c));
@@ -157,6 +159,23 @@ passed_within w q loan s max lends = record {
 ended_within : (w : State) (loan : Option Loan) → IsWithin w → ((n : Loan) → loan ≡ Some n → n.stripe < 2 ^ 48) → AreWithin w.open_group w.closing w.committed w.core.held None loan w.image w.sealed
 ended_within w loan s lends = record { opens = s.opens; closes = s.closes; commits = s.commits; holds = s.holds; passes = no_pass; lends = lends; opened = s.opened; seals = s.seals }
 
+-- no loan counts any more
+rearranged_within : (w : State) → IsWithin w → AreWithin w.open_group w.closing w.committed w.core.held w.core.pass None w.image w.sealed
+rearranged_within w s = record { opens = s.opens; closes = s.closes; commits = s.commits; holds = s.holds; passes = s.passes; lends = no_loan; opened = s.opened; seals = s.seals }
+
+-- a pass that is planned again, or loses targets
+replanned_within : (l : Layout) (w : State) (moved : ArmName → Bool) (o : Option Pass) → IsWithin w → IsSmallPass o → ((p : Pass) → o ≡ Some p → p.kind ≡ Rebuild → w.open_group < LAST_NUMBER)
+    → IsWithin (replan l w moved o)
+replanned_within l w moved None s small low = s
+replanned_within l w moved (Some p) s small low = by p.kind refl
+  where
+    max : (targets : List ArmName) → w.open_group < LAST_NUMBER → (planned_pass w Rebuild targets).max < 2 ^ 48
+    max targets below = omega (arith, below)
+
+    by : (kind : PassKind) → p.kind ≡ kind → IsWithin (replan_kind l w moved p kind)
+    by Rebuild at = passed_within w (planned_pass w Rebuild (targets_of l w.core Rebuild)) w.loan s (max (targets_of l w.core Rebuild) (low p refl at)) s.lends
+    by Heal at = passed_within w (lose_targets moved 0 p) w.loan s (small p refl) s.lends
+
 held_within : (w : State) (f : Key → Option Held) → IsWithin w → AreSmall f → AreWithin w.open_group w.closing w.committed f w.core.pass w.loan w.image w.sealed
 held_within w f s all = record { opens = s.opens; closes = s.closes; commits = s.commits; holds = all; passes = s.passes; lends = s.lends; opened = s.opened; seals = s.seals }
 
@@ -198,8 +217,12 @@ kept l w new (Fetch key failed) few s small step = to w new step.made s
 kept l w new (Damage leaf sector failed) few s small step = to w new step.made s
 kept l w new (Offline leaf) few s small step = to _ new step.made s
 kept l w new (Online leaf) few s small step = to _ new step.made s
-kept l w new (Attach slot arm) few s small step = to _ new step.made s
-kept l w new (Detach slot arm) few s small step = to _ new step.made s
+kept l w new (Attach slot arm) few s small step =
+    let q = attached_core w.core slot arm step.last in
+    to (attach_state l w slot arm step.last) new step.made
+    (replanned_within l (rearranged_state l w step.last q) (has_moved l w.core q) w.core.pass (rearranged_within w s) s.passes (λ p at rebuild. (step.may p at rebuild).1))
+kept l w new (Detach slot arm) few s small step = to _ new step.made (rearranged_within w s)
+kept l w new Upgrade few s small step = to _ new step.made s
 kept l w new (Close group) few s small step =
     let below = step.below in
     to _ new step.made (record {
@@ -213,7 +236,7 @@ kept l w new (Close group) few s small step =
       seals = s.seals;
     })
 kept l w new (Seal group failed) few s small step = to (seal_state l w group failed.items step.wrote) new step.made (seal_within l w group failed.items step.wrote s step.closing)
-kept l w new (Commit group) few s small step = to (commit_state w group step.image) new step.made (commit_within w group step.image s step.closing step.sealed)
+kept l w new (Commit group) few s small step = to (commit_state l w group step.image) new step.made (commit_within l w group step.image s step.closing step.sealed)
 kept l w new (Plan kind) few s small step = to _ new step.made (plan_within w kind _ s step.may)
 kept l w new Ready few s small step = to _ new step.made (passed_within w _ w.loan s (s.passes step.p step.pass) s.lends)
 kept l w new (Lend failed) few s small step =

@@ -1,10 +1,10 @@
-use Rattle.std.specs.Prelude.{◌≡◌, ◌+◌, ◌<◌, ◌≤◌, ◌^◌, ℕ, Option, Some}
+use Rattle.std.specs.Prelude.{◌≡◌, ◌+◌, ◌<◌, ◌≤◌, ℕ, Option, Some}
 use Rattle.draid_names.specs.declared.numbers.TheConstants.{NUMBERS}
 use Rattle.draid_machine.specs.declared.names.Key.{Key}
 use Rattle.draid_machine.specs.declared.names.Stage.TheVariants.{Writing}
 use Rattle.draid_machine.specs.declared.names.Held.{Held}
 use Rattle.draid_machine.specs.declared.event.Event.{Event}
-use Rattle.draid_machine.specs.declared.event.Event.TheVariants.{Begin, Put, Finish, Abort, Free, Fetch, Damage, Offline, Online, Attach, Detach, Close, Seal, Commit, Plan, Ready, Lend, LandStripe, LandBlock, Done, Cancel, Reopen}
+use Rattle.draid_machine.specs.declared.event.Event.TheVariants.{Begin, Put, Finish, Abort, Free, Fetch, Damage, Offline, Online, Attach, Detach, Upgrade, Close, Seal, Commit, Plan, Ready, Lend, LandStripe, LandBlock, Done, Cancel, Reopen}
 use Rattle.draid_machine.specs.State.{Pass, Loan, Image, State}
 
 -- a block or a ticket ends below stripe 2^48 and is born below group 2^48; a ticket counts no more missed columns than were put
@@ -52,6 +52,7 @@ IsSmallEvent (Offline leaf) = Unit {0}
 IsSmallEvent (Online leaf) = Unit {0}
 IsSmallEvent (Attach slot arm) = Unit {0}
 IsSmallEvent (Detach slot arm) = Unit {0}
+IsSmallEvent Upgrade = Unit {0}
 IsSmallEvent (Close group) = group < NUMBERS
 IsSmallEvent (Seal group failed) = group < NUMBERS
 IsSmallEvent (Commit group) = group < NUMBERS
