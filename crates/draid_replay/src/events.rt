@@ -23,7 +23,7 @@ use draid_world::{Site, World};
 use std::alloc::Global;
 
 /// Does what an event says, where that is legal.
-#[tactic(auto, using(crate::proofs::Needs::low, crate::proofs::Needs::counted, crate::proofs::Needs::short, crate::proofs::Needs::image_low, crate::proofs::Needs::sealed_low, crate::proofs::Needs::max_small, crate::proofs::Needs::stripe_small))]
+#[tactic(auto, using(crate::proofs::Needs::low, crate::proofs::Needs::counted, crate::proofs::Needs::short, crate::proofs::Needs::image_low, crate::proofs::Needs::sealed_low, crate::proofs::Needs::max_small, crate::proofs::Needs::numbered, crate::proofs::Needs::stripe_small))]
 pub fn advance(
     alloc: Global,
     site: &Site,
@@ -72,8 +72,8 @@ pub fn advance(
         Event::Damage { leaf, sector, .. } => Ok(may_damage(site, world, *leaf, *sector)),
         Event::Offline { leaf } => Ok(switch(world, *leaf, true)),
         Event::Online { leaf } => Ok(switch(world, *leaf, false)),
-        Event::Attach { slot, arm } => Ok(attach(alloc, site, world, *slot, *arm)?),
-        Event::Detach { slot, arm } => Ok(detach(alloc, site, world, *slot, *arm)?),
+        Event::Attach { slot, arm } => attach(alloc, site, world, *slot, *arm),
+        Event::Detach { slot, arm } => detach(alloc, site, world, *slot, *arm),
         Event::Upgrade => Ok(upgrade(world)),
         Event::Close { group } => Ok(close(world, *group)),
         Event::Seal { group, failed } => Ok(seal(alloc, site, world, *group, failed)?),
