@@ -67,7 +67,9 @@ fn is_staying(site: &Site, world: &World, segment: &Segment, group: u64) -> bool
     if is_key_freed(&world.tables, segment.key, group) {
         return false;
     }
-    !is_kept_by(&world.kept, *segment, group) || is_at_place(site, &world.tables, segment)
+    let tables = &world.tables;
+    !is_kept_by(&world.kept, *segment, group)
+        || is_at_place(site, &tables.order, &tables.held, segment)
 }
 
 /// A segment joins a set, if it stays as a group is committed.

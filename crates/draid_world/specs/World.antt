@@ -100,5 +100,8 @@ abbrev pub slot_at : state.Layout → ℕ → ℕ → ℕ
 slot_at l x c = l.slot_of x c
 
 -- blocks and tickets begin at stripes below 2^48
+abbrev pub AreAllLow : (Key → Option Held) → Type 0
+AreAllLow held = (k : Key) (h : Held) → held k ≡ Some h → h.first < NUMBERS
+
 abbrev pub AreLow : state.Core → Type 0
-AreLow q = (k : Key) (h : Held) → q.held k ≡ Some h → h.first < NUMBERS
+AreLow q = AreAllLow q.held

@@ -1,4 +1,4 @@
-ghost use Rattle.std.specs.Prelude.{◌≡◌, ◌<◌, true, false, Some, None, IfSome, IfNone, OnOk, is_some, IsSome, ℕ, length};
+ghost use Rattle.std.specs.Prelude.{◌≡◌, ◌<◌, true, false, Some, None, IfSome, IfNone, IfOk, OnOk, is_some, IsSome, ℕ, length};
 ghost use Rattle.std.specs.BTreeMap.{Updates, get};
 ghost use Rattle.draid_machine.specs.After.{set_arm};
 ghost use Rattle.draid_machine.specs.Arms as arms;
@@ -10,7 +10,7 @@ ghost use Rattle.draid_world.specs.World.{arm_in, arm_of, core_of, names_at, off
 
 use crate::world::{Arm, Tables};
 use draid_machine::ArmName;
-use std::alloc::AllocError;
+use std::alloc::{AllocError, Global};
 use std::collections::BTreeMap;
 
 /// Whether two names are one.
@@ -45,6 +45,18 @@ pub fn names_of(order: &[Vec<ArmName>], slot: usize) -> &[ArmName]
     } else {
         &[]
     }
+}
+
+/// The copy of the arms of each slot.
+pub fn copy_order(order: &[Vec<ArmName>], alloc: Global) -> Result<Vec<Vec<ArmName>>, AllocError>
+    ensures { IfOk result (λ copy. (c : ℕ) → names_at copy.items c ≡ names_at order.now c) }
+{
+    let mut copy = Vec::new(alloc);
+    for at in 0..order.len() {
+        let names = Vec::from_slice(alloc, names_of(order, at))?;
+        copy.push(names)?;
+    }
+    Ok(copy)
 }
 
 /// The slot that has an arm.

@@ -5,13 +5,14 @@ ghost use Rattle.draid_machine.specs.Names as names;
 ghost use Rattle.draid_chain.specs.Chain.{spare_slot};
 ghost use Rattle.draid_layouts.specs.Layout.{pool_stripe, slice_in};
 ghost use Rattle.draid_map.specs.Place.{IsLayout};
-ghost use Rattle.draid_world.specs.World.{AreLow, core_of, home_at, names_at, site_layout, slot_at};
+ghost use Rattle.draid_world.specs.World.{AreAllLow, core_of, held_in, home_at, names_at, site_layout, slot_at};
 
 use crate::arms::{first_leaf, first_spare, is_among, leaf_answers, names_of};
 use crate::tables::find;
 use crate::world::{Site, Tables};
-use draid_machine::{ArmName, Held, Segment};
+use draid_machine::{ArmName, Held, Key, Segment};
 use draid_names::NUMBERS;
+use std::collections::BTreeMap;
 
 /// The number that a stripe of the metaslab has in the pool.
 fn pool_number(site: &Site, stripe: u64) -> u64
@@ -172,14 +173,19 @@ pub fn is_on(site: &Site, order: &[Vec<ArmName>], segment: &Segment, held: &Held
 }
 
 /// Whether a segment is at a place: where its arm keeps now what belongs to its block or ticket.
-pub fn is_at_place(site: &Site, tables: &Tables, segment: &Segment) -> bool
+pub fn is_at_place(
+    site: &Site,
+    order: &[Vec<ArmName>],
+    held: &BTreeMap<Key, Held>,
+    segment: &Segment,
+) -> bool
     requires layout { IsLayout site.now.geometry site.now.perms }
     requires metaslab { site.now.metaslab < site.now.geometry.props.metaslabs }
-    requires low { AreLow (core_of tables.now) }
-    ensures { result ≡ claims.is_at (site_layout site.now) (core_of tables.now) segment.now }
+    requires low { AreAllLow (held_in held.now.entries) }
+    ensures { result ≡ claims.is_at_held (site_layout site.now) (names_at order.now) segment.now (held_in held.now.entries segment.now.key) }
 {
-    match find(&tables.held, segment.key) {
-        Some(held) => is_on(site, &tables.order, segment, &held),
+    match find(held, segment.key) {
+        Some(held) => is_on(site, order, segment, &held),
         None => false,
     }
 }
