@@ -7,8 +7,7 @@ ghost use Rattle.draid_world.specs.World.{arm_in, arm_of, core_of, held_in, name
 
 use draid_dtl::Log;
 use draid_machine::{ArmName, Held, Key, Stage};
-use draid_steps::slots::enter_arm;
-use draid_world::arms::names_of;
+use draid_world::arms::{enter_arm, names_of};
 use draid_world::tables::enter;
 use draid_world::{Arm, Tables, WorldPass};
 use std::alloc::{AllocError, Global};

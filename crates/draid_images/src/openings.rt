@@ -22,7 +22,7 @@ use draid_world::places::{leaf_at, slot_of};
 use draid_world::tables::find;
 use draid_world::{Site, Tables, World, WorldPass};
 use std::alloc::{AllocError, Global};
-use std::collections::BTreeSet;
+use std::collections::{BTreeMap, BTreeSet};
 
 /// Whether a leaf is the one on which an arm keeps what belongs to a stripe.
 fn is_at(site: &Site, order: &[Vec<ArmName>], name: ArmName, stripe: u64, leaf: u64) -> bool
@@ -294,17 +294,21 @@ fn open(
 {
     let image = &world.image;
     let last = image.group;
+    let version = image.version;
     let tables = copy_tables(&image.tables, Copying::Opening { group: last }, alloc)?;
     let present = all_claimed(alloc, site, &image.tables)?;
     let aside = both_claimed(alloc, site, &image.tables, &world.aside, doubtful)?;
     world.open_group = last + 1;
     world.closing = None;
     world.committed = last;
+    world.version = version;
+    world.asked = version;
     world.tables = tables;
     world.serial = 0;
     world.loan = None;
     world.sealed = None;
     world.present = present;
     world.aside = aside;
+    world.kept = BTreeMap::new(alloc);
     Ok(())
 }

@@ -262,6 +262,10 @@ pub fn seal(
     let wrote = has_written(&world.tables.held, group);
     seal_tables(alloc, site, &mut world.tables, failed, group, wrote)?;
     let tables = copy_tables(&world.tables, Copying::Sealing { group }, alloc)?;
-    world.sealed = Some(Image { group, tables });
+    world.sealed = Some(Image {
+        group,
+        version: world.asked,
+        tables,
+    });
     Ok(true)
 }

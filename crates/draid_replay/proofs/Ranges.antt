@@ -1,5 +1,6 @@
 -- Legal events keep numbers in their ranges.
 use Rattle.std.proofs.Common.{◌≡◌, ◌+◌, ◌<◌, ◌≤◌, ◌^◌, ℕ, Bool, true, false, List, Option, Some, None, nat_lt, if◌then◌else◌, refl, sym, ap, subst, inl, inr, arith}
+use Rattle.draid_names.specs.declared.numbers.TheConstants.{LAST_NUMBER}
 use Rattle.draid_names.specs.declared.pass_kind.PassKind.{PassKind}
 use Rattle.draid_names.specs.declared.pass_kind.PassKind.TheVariants.{Rebuild, Heal}
 use Rattle.draid_machine.specs.declared.names.Key.{Key}
@@ -8,13 +9,14 @@ use Rattle.draid_machine.specs.declared.names.Stage.{Stage}
 use Rattle.draid_machine.specs.declared.names.Stage.TheVariants.{Writing, Live, Freed}
 use Rattle.draid_machine.specs.declared.names.Held.{Held}
 use Rattle.draid_machine.specs.declared.event.Event.{Event}
-use Rattle.draid_machine.specs.declared.event.Event.TheVariants.{Begin, Put, Finish, Abort, Free, Fetch, Damage, Offline, Online, Attach, Detach, Close, Seal, Commit, Plan, Ready, Lend, LandStripe, LandBlock, Done, Cancel, Reopen}
+use Rattle.draid_machine.specs.declared.event.Event.TheVariants.{Begin, Put, Finish, Abort, Free, Fetch, Damage, Offline, Online, Attach, Detach, Upgrade, Close, Seal, Commit, Plan, Ready, Lend, LandStripe, LandBlock, Done, Cancel, Reopen}
 use Rattle.draid_machine.specs.Names.{key_eq, is_nil}
 use Rattle.draid_machine.specs.State.{Layout, Pass, Loan, Image, State}
-use Rattle.draid_machine.specs.After.{set_held, seal_held, keep_loan, is_freed_block, seal_state, sealed_core, commit_state, planned_pass, plan_state, finish_state, land_stripe_state, land_block_state, unsourced}
+use Rattle.draid_machine.specs.Arms.{has_moved, targets_of}
+use Rattle.draid_machine.specs.After.{attach_state, attached_core, rearranged_state, replan, replan_kind, lose_targets, set_held, seal_held, keep_loan, is_freed_block, seal_state, sealed_core, commit_state, planned_pass, plan_state, finish_state, land_stripe_state, land_block_state, unsourced}
 use Rattle.draid_machine.specs.Step.{Step, MayPlan}
 use Rattle.draid_machine.proofs.Small.{some_injective, none_some, mapped_pass, kept_some, kept_if, both_true, is_below}
-use Rattle.draid_replay.specs.Within.{IsSmall, AreSmall, IsSmallPass, IsSmallImage, AreWithin, IsWithin, IsSmallEvent}
+use Rattle.draid_replay.specs.Within.{IsSmall, AreSmall, IsLastPass, IsSmallPass, IsSmallImage, AreWithin, IsWithin, IsSmallEvent}
 
 -- ---- blocks and tickets
 held_set : (f : Key → Option Held) (k : Key) (h : Held) → AreSmall f → IsSmall h → AreSmall (set_held f k (Some h))
@@ -90,11 +92,11 @@ no_image i is = absurd (none_some None i refl is)
 no_loan : (n : Loan) → None ≡ Some n → n.stripe < 2 ^ 48
 no_loan n is = absurd (none_some None n refl is)
 
-no_pass : (p : Pass) → None ≡ Some p → p.max < 2 ^ 48
-no_pass p is = absurd (none_some None p refl is)
+no_pass : (last : ℕ) → IsSmallPass None last
+no_pass last p is = absurd (none_some None p refl is)
 
-some_pass : (p : Pass) → p.max < 2 ^ 48 → IsSmallPass (Some p)
-some_pass p small r is = subst (λ (x : Pass). x.max < 2 ^ 48) (some_injective p r is) small
+some_pass : (p : Pass) (last : ℕ) → IsLastPass last p → IsSmallPass (Some p) last
+some_pass p last small r is = subst (IsLastPass last) (some_injective p r is) small
 
 -- ---- kinds of event
 seal_within : (l : Layout) (w : State) (t : ℕ) (failed : List ℕ) (wrote : Bool) → IsWithin w → w.closing ≡ Some t → IsWithin (seal_state l w t failed wrote)
@@ -109,11 +111,14 @@ seal_within l w t failed wrote s closing = record {
   seals = λ i is. subst IsSmallImage (some_injective _ i is) (record { group = s.closes t closing; held = sealed_small t w.core.held s.holds; pass = passes });
 }
   where
-    passes : IsSmallPass (sealed_core l w.core t failed wrote).pass
-    passes p is = let z = mapped_pass _ w.core.pass p is in subst (λ (x : Pass). x.max < 2 ^ 48) (sym z.2) (s.passes z.0 z.1)
+    passes : IsSmallPass (sealed_core l w.core t failed wrote).pass w.core.last
+    passes p is =
+        let z = mapped_pass _ w.core.pass p is in
+        let small = s.passes z.0 z.1 in
+        subst (IsLastPass w.core.last) (sym z.2) (record { number = small.number; max = small.max })
 
-commit_within : (w : State) (t : ℕ) (image : Image) → IsWithin w → w.closing ≡ Some t → w.sealed ≡ Some image → IsWithin (commit_state w t image)
-commit_within w t image s closing sealed = record {
+commit_within : (l : Layout) (w : State) (t : ℕ) (image : Image) → IsWithin w → w.closing ≡ Some t → w.sealed ≡ Some image → IsWithin (commit_state l w t image)
+commit_within l w t image s closing sealed = record {
   opens = s.opens;
   closes = no_number;
   commits = (let c = s.closes t closing in omega (arith, c));
@@ -130,37 +135,54 @@ plan_within w kind targets s may = record {
   closes = s.closes;
   commits = s.commits;
   holds = s.holds;
-  passes = some_pass (planned_pass w kind targets) (by kind may);
+  passes = by kind may;
   lends = s.lends;
   opened = s.opened;
   seals = s.seals;
 }
   where
-    by : (kind : PassKind) → MayPlan w kind targets → (planned_pass w kind targets).max < 2 ^ 48
-    by Rebuild may = let low = may.1 in omega (arith, low)
-    by Heal may = s.commits
+    by : (kind : PassKind) → MayPlan w kind targets → IsSmallPass (Some (planned_pass w kind targets)) (w.core.last + 1)
+    by Rebuild may = let low = may.1 in some_pass (planned_pass w Rebuild targets) (w.core.last + 1) (record { number = refl; max = omega (arith, low) })
+    by Heal may = some_pass (planned_pass w Heal targets) (w.core.last + 1) (record { number = refl; max = s.commits })
 
 -- a pass with another place, other targets or errors
-passed_within : (w : State) (q : Pass) (loan : Option Loan) → IsWithin w → q.max < 2 ^ 48 → ((n : Loan) → loan ≡ Some n → n.stripe < 2 ^ 48)
-    → AreWithin w.open_group w.closing w.committed w.core.held (Some q) loan w.image w.sealed
-passed_within w q loan s max lends = record {
+passed_within : (w : State) (q : Pass) (last : ℕ) (loan : Option Loan) → IsWithin w → IsLastPass last q → ((n : Loan) → loan ≡ Some n → n.stripe < 2 ^ 48)
+    → AreWithin w.open_group w.closing w.committed w.core.held (Some q) last loan w.image w.sealed
+passed_within w q last loan s small lends = record {
   opens = s.opens;
   closes = s.closes;
   commits = s.commits;
   holds = s.holds;
-  passes = some_pass q max;
+  passes = some_pass q last small;
   lends = lends;
   opened = s.opened;
   seals = s.seals;
 }
 
-ended_within : (w : State) (loan : Option Loan) → IsWithin w → ((n : Loan) → loan ≡ Some n → n.stripe < 2 ^ 48) → AreWithin w.open_group w.closing w.committed w.core.held None loan w.image w.sealed
-ended_within w loan s lends = record { opens = s.opens; closes = s.closes; commits = s.commits; holds = s.holds; passes = no_pass; lends = lends; opened = s.opened; seals = s.seals }
+ended_within : (w : State) (loan : Option Loan) → IsWithin w → ((n : Loan) → loan ≡ Some n → n.stripe < 2 ^ 48) → AreWithin w.open_group w.closing w.committed w.core.held None w.core.last loan w.image w.sealed
+ended_within w loan s lends = record { opens = s.opens; closes = s.closes; commits = s.commits; holds = s.holds; passes = no_pass w.core.last; lends = lends; opened = s.opened; seals = s.seals }
 
-held_within : (w : State) (f : Key → Option Held) → IsWithin w → AreSmall f → AreWithin w.open_group w.closing w.committed f w.core.pass w.loan w.image w.sealed
+-- no loan counts any more
+rearranged_within : (w : State) → IsWithin w → AreWithin w.open_group w.closing w.committed w.core.held w.core.pass w.core.last None w.image w.sealed
+rearranged_within w s = record { opens = s.opens; closes = s.closes; commits = s.commits; holds = s.holds; passes = s.passes; lends = no_loan; opened = s.opened; seals = s.seals }
+
+-- a pass that is planned again, or loses targets
+replanned_within : (l : Layout) (w : State) (moved : ArmName → Bool) (o : Option Pass) → IsWithin w → IsSmallPass o w.core.last → ((p : Pass) → o ≡ Some p → p.kind ≡ Rebuild → w.open_group < LAST_NUMBER)
+    → IsWithin (replan l w moved o)
+replanned_within l w moved None s small low = s
+replanned_within l w moved (Some p) s small low = by p.kind refl
+  where
+    again : (targets : List ArmName) → w.open_group < LAST_NUMBER → IsLastPass (w.core.last + 1) (planned_pass w Rebuild targets)
+    again targets below = record { number = refl; max = omega (arith, below) }
+
+    by : (kind : PassKind) → p.kind ≡ kind → IsWithin (replan_kind l w moved p kind)
+    by Rebuild at = passed_within w (planned_pass w Rebuild (targets_of l w.core Rebuild)) (w.core.last + 1) w.loan s (again (targets_of l w.core Rebuild) (low p refl at)) s.lends
+    by Heal at = passed_within w (lose_targets moved 0 p) w.core.last w.loan s (let q = small p refl in record { number = q.number; max = q.max }) s.lends
+
+held_within : (w : State) (f : Key → Option Held) → IsWithin w → AreSmall f → AreWithin w.open_group w.closing w.committed f w.core.pass w.core.last w.loan w.image w.sealed
 held_within w f s all = record { opens = s.opens; closes = s.closes; commits = s.commits; holds = all; passes = s.passes; lends = s.lends; opened = s.opened; seals = s.seals }
 
-opened_within : (i : Image) → IsSmallImage i → AreWithin (i.group + 1) None i.group i.core.held i.core.pass None i None
+opened_within : (i : Image) → IsSmallImage i → AreWithin (i.group + 1) None i.group i.core.held i.core.pass i.core.last None i None
 opened_within i small = record {
   opens = small.group;
   closes = no_number;
@@ -198,8 +220,12 @@ kept l w new (Fetch key failed) few s small step = to w new step.made s
 kept l w new (Damage leaf sector failed) few s small step = to w new step.made s
 kept l w new (Offline leaf) few s small step = to _ new step.made s
 kept l w new (Online leaf) few s small step = to _ new step.made s
-kept l w new (Attach slot arm) few s small step = to _ new step.made s
-kept l w new (Detach slot arm) few s small step = to _ new step.made s
+kept l w new (Attach slot arm) few s small step =
+    let q = attached_core w.core slot arm step.last in
+    to (attach_state l w slot arm step.last) new step.made
+    (replanned_within l (rearranged_state l w step.last q) (has_moved l w.core q) w.core.pass (rearranged_within w s) s.passes (λ p at rebuild. (step.may p at rebuild).1))
+kept l w new (Detach slot arm) few s small step = to _ new step.made (rearranged_within w s)
+kept l w new Upgrade few s small step = to _ new step.made s
 kept l w new (Close group) few s small step =
     let below = step.below in
     to _ new step.made (record {
@@ -213,22 +239,22 @@ kept l w new (Close group) few s small step =
       seals = s.seals;
     })
 kept l w new (Seal group failed) few s small step = to (seal_state l w group failed.items step.wrote) new step.made (seal_within l w group failed.items step.wrote s step.closing)
-kept l w new (Commit group) few s small step = to (commit_state w group step.image) new step.made (commit_within w group step.image s step.closing step.sealed)
+kept l w new (Commit group) few s small step = to (commit_state l w group step.image) new step.made (commit_within l w group step.image s step.closing step.sealed)
 kept l w new (Plan kind) few s small step = to _ new step.made (plan_within w kind _ s step.may)
-kept l w new Ready few s small step = to _ new step.made (passed_within w _ w.loan s (s.passes step.p step.pass) s.lends)
+kept l w new Ready few s small step = to _ new step.made (passed_within w _ w.core.last w.loan s (let q = s.passes step.p step.pass in record { number = q.number; max = q.max }) s.lends)
 kept l w new (Lend failed) few s small step =
     let next = step.next in
     let short = (s.holds step.n.key step.h next.found).short in
     let below = is_below step.n.stripe (step.h.first + step.h.stripes) (both_true _ (nat_lt step.n.stripe (step.h.first + step.h.stripes)) next.taken).1 in
-    to _ new step.made (passed_within w _ (Some step.n) s (s.passes step.p step.pass) (λ n is. subst (λ (x : Loan). x.stripe < 2 ^ 48) (some_injective step.n n is) (omega (arith, short, below))))
+    to _ new step.made (passed_within w _ w.core.last (Some step.n) s (let q = s.passes step.p step.pass in record { number = q.number; max = q.max }) (λ n is. subst (λ (x : Loan). x.stripe < 2 ^ 48) (some_injective step.n n is) (omega (arith, short, below))))
 kept l w new (LandStripe pass serial failed) few s small step =
-    let max = s.passes step.p step.counts.pass_is in
+    let q = s.passes step.p step.counts.pass_is in
     to (land_stripe_state l w step.p step.n step.h failed.items) new step.made
-    (if_within (nat_lt l.parity (unsourced l step.n)) _ _ (passed_within w _ None s max no_loan) (passed_within w _ None s max no_loan))
+    (if_within (nat_lt l.parity (unsourced l step.n)) _ _ (passed_within w _ w.core.last None s (record { number = q.number; max = q.max }) no_loan) (passed_within w _ w.core.last None s (record { number = q.number; max = q.max }) no_loan))
 kept l w new (LandBlock pass serial failed patched unreadable) few s small step =
-    let max = s.passes step.p step.counts.pass_is in
+    let q = s.passes step.p step.counts.pass_is in
     to (land_block_state l w step.p step.n step.h failed.items patched.items unreadable step.whole) new step.made
-    (if_within unreadable _ _ (passed_within w _ None s max no_loan) (passed_within w _ None s max no_loan))
+    (if_within unreadable _ _ (passed_within w _ w.core.last None s (record { number = q.number; max = q.max }) no_loan) (passed_within w _ w.core.last None s (record { number = q.number; max = q.max }) no_loan))
 kept l w new (Done failed) few s small step = to _ new step.made (ended_within w w.loan s s.lends)
 kept l w new Cancel few s small step = to _ new step.made (ended_within w None s no_loan)
 kept l w new (Reopen group doubtful) few s small step = to _ new step.made (elim step.one [

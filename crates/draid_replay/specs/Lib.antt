@@ -1,2 +1,3 @@
+pub mod Creation
 pub mod History
 pub mod Within

@@ -5,6 +5,7 @@ ghost use Rattle.draid_map.specs.Place.{IsLayout};
 ghost use Rattle.draid_replay.specs.Within.{IsSmallEvent, IsWithin};
 ghost use Rattle.draid_world.specs.World.{site_layout, state_of};
 
+use draid_arms::{attach, detach};
 use draid_images::{reopen, seal};
 use draid_loans::{land_stripe, lend};
 use draid_machine::{Event, Held, Stage};
@@ -15,15 +16,14 @@ use draid_steps::blocks::{abort, finish, free};
 use draid_steps::columns::put;
 use draid_steps::commits::commit;
 use draid_steps::fetch::may_fetch;
-use draid_steps::groups::{cancel, close};
+use draid_steps::groups::{cancel, close, upgrade};
 use draid_steps::leaves::{may_damage, switch};
-use draid_steps::slots::{attach, detach};
 use draid_steps::tickets::begin;
 use draid_world::{Site, World};
 use std::alloc::Global;
 
 /// Does what an event says, where that is legal.
-#[tactic(auto, using(crate::proofs::Needs::low, crate::proofs::Needs::counted, crate::proofs::Needs::short, crate::proofs::Needs::image_low, crate::proofs::Needs::sealed_low, crate::proofs::Needs::max_small, crate::proofs::Needs::stripe_small))]
+#[tactic(auto, using(crate::proofs::Needs::low, crate::proofs::Needs::counted, crate::proofs::Needs::short, crate::proofs::Needs::image_low, crate::proofs::Needs::sealed_low, crate::proofs::Needs::max_small, crate::proofs::Needs::numbered, crate::proofs::Needs::stripe_small))]
 pub fn advance(
     alloc: Global,
     site: &Site,
@@ -72,11 +72,12 @@ pub fn advance(
         Event::Damage { leaf, sector, .. } => Ok(may_damage(site, world, *leaf, *sector)),
         Event::Offline { leaf } => Ok(switch(world, *leaf, true)),
         Event::Online { leaf } => Ok(switch(world, *leaf, false)),
-        Event::Attach { slot, arm } => Ok(attach(alloc, site, world, *slot, *arm)?),
-        Event::Detach { slot, arm } => Ok(detach(world, *slot, *arm)),
+        Event::Attach { slot, arm } => attach(alloc, site, world, *slot, *arm),
+        Event::Detach { slot, arm } => detach(alloc, site, world, *slot, *arm),
+        Event::Upgrade => Ok(upgrade(world)),
         Event::Close { group } => Ok(close(world, *group)),
         Event::Seal { group, failed } => Ok(seal(alloc, site, world, *group, failed)?),
-        Event::Commit { group } => Ok(commit(world, *group)),
+        Event::Commit { group } => Ok(commit(alloc, site, world, *group)?),
         Event::Plan { kind } => plan(alloc, site, world, *kind),
         Event::Ready => Ok(ready(world)),
         Event::Lend { failed } => lend(alloc, site, world, failed),

@@ -1,4 +1,5 @@
 ghost use Rattle.std.specs.Prelude.{◌≡◌, ◌+◌, ◌-◌, ◌<◌, ◌^◌, ℕ, All, Err, IfOk, length};
+ghost use Rattle.draid_machine.specs.Created.{IsReached};
 ghost use Rattle.draid_machine.specs.Step.{Run};
 ghost use Rattle.draid_map.specs.Place.{IsLayout};
 ghost use Rattle.draid_replay.specs.declared.history.ReplayFault.TheVariants.{NotLegal};
@@ -32,6 +33,8 @@ pub fn replay(
     requires serial { start.serial + length events.now < 2 ^ 64 - 1 }
     requires small { All IsSmallEvent events.now }
     ensures ok { IfOk result (λ world. Run (site_layout site.now) (state_of start) events.now (state_of world)) }
+    ensures reached { IsReached (site_layout site.now) (state_of start)
+        → IfOk result (λ world. IsReached (site_layout site.now) (state_of world)) }
     ensures not_legal { (at : ℕ) → result ≡ Err (NotLegal at) → IsFirstIllegal (site_layout site.now) (state_of start) events.now at }
 {
     let mut world = start;

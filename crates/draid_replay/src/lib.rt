@@ -5,7 +5,9 @@
 mod events;
 mod history;
 mod laws;
+mod new;
 
 pub use events::advance;
 pub use history::{ReplayFault, replay};
 pub use laws::numbers_stay_small;
+pub use new::new_world;

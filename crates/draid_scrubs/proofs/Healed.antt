@@ -19,35 +19,31 @@ not_not true = refl
 not_not false = refl
 
 -- doubt after a whole landing: the block's other segments join, what the block has goes, and what isn't clean and didn't land joins again
-pub whole_bits : (a k on p here clean landed : Bool)
-    → (((a || (p && (k && not here))) && not (k && on)) || ((k && on) && (not clean && not landed)))
-    ≡ (if not k then a else if on then not (clean || ((k && on) && landed)) else a || (p && not here))
-whole_bits true false on p here clean landed = refl
-whole_bits false false on true here clean landed = refl
-whole_bits false false on false here clean landed = refl
-whole_bits true true true p here true landed = refl
-whole_bits true true true p here false true = refl
-whole_bits true true true p here false false = refl
-whole_bits false true true true true true landed = refl
-whole_bits false true true true true false true = refl
-whole_bits false true true true true false false = refl
-whole_bits false true true true false true landed = refl
-whole_bits false true true true false false true = refl
-whole_bits false true true true false false false = refl
-whole_bits false true true false here true landed = refl
-whole_bits false true true false here false true = refl
-whole_bits false true true false here false false = refl
-whole_bits true true false p here clean landed = refl
-whole_bits false true false true true clean landed = refl
-whole_bits false true false true false clean landed = refl
-whole_bits false true false false here clean landed = refl
+pub whole_bits : (a k on p clean landed : Bool)
+    → (((a || (p && k)) && not (k && on)) || ((k && on) && (not clean && not landed)))
+    ≡ (if not k then a else if on then not (clean || ((k && on) && landed)) else a || p)
+whole_bits true false on p clean landed = refl
+whole_bits false false on true clean landed = refl
+whole_bits false false on false clean landed = refl
+whole_bits true true true p true landed = refl
+whole_bits true true true p false true = refl
+whole_bits true true true p false false = refl
+whole_bits false true true true true landed = refl
+whole_bits false true true true false true = refl
+whole_bits false true true true false false = refl
+whole_bits false true true false true landed = refl
+whole_bits false true true false false true = refl
+whole_bits false true true false false false = refl
+whole_bits true true false p clean landed = refl
+whole_bits false true false true clean landed = refl
+whole_bits false true false false clean landed = refl
 
-pub whole_set : (a k on p here logged landed stay all doubts one two three : Bool) → stay ≡ (p && (k && not here)) → all ≡ (k && on) → doubts ≡ (all && (logged && not landed)) → one ≡ (a || stay)
+pub whole_set : (a k on p logged landed present all doubts one two three : Bool) → present ≡ (p && k) → all ≡ (k && on) → doubts ≡ (all && (logged && not landed)) → one ≡ (a || present)
     → two ≡ (one && not all) → three ≡ (two || doubts)
-    → three ≡ (if not k then a else if on then not (not logged || ((k && on) && landed)) else a || (p && not here))
-whole_set a k on p here logged landed stay all doubts one two three s l d x y z =
+    → three ≡ (if not k then a else if on then not (not logged || ((k && on) && landed)) else a || p)
+whole_set a k on p logged landed present all doubts one two three s l d x y z =
     z ∙ ap₂ (λ u v. u || v) (y ∙ ap₂ (λ u v. u && not v) (x ∙ ap (λ b. a || b) s) l) (d ∙ ap₂ (λ u v. u && (v && not landed)) l (not_not logged))
-    ∙ whole_bits a k on p here (not logged) landed
+    ∙ whole_bits a k on p (not logged) landed
 
 loan_same : (o : Option Lent) (loan : Lent) (n : Loan) → o ≡ Some loan → option_map loan_of o ≡ Some n → n ≡ loan_of loan
 loan_same o loan n is e = some_injective n (loan_of loan) (sym e ∙ ap (option_map loan_of) is)

@@ -1,12 +1,7 @@
--- Segments that stay, and arms that are there.
-use Rattle.std.proofs.Common.{◌≡◌, ◌&&◌, ◌||◌, ◌++◌, not, Bool, true, false, List, [], ◌∷◌, Option, Some, None, is_some, option_map, refl, sym, ◌∙◌, ap, subst}
-use Rattle.std.proofs.lemmas.Bool.{true≢false}
+-- Segments of a set for which a test holds.
+use Rattle.std.proofs.Common.{◌≡◌, ◌&&◌, ◌||◌, ◌++◌, Bool, true, false, List, [], ◌∷◌, refl, sym, ◌∙◌, ap, subst}
 use Rattle.draid_machine.specs.declared.names.Segment.{Segment}
 use Rattle.draid_machine.specs.Names.{has_segment, segment_eq}
-use Rattle.draid_machine.specs.Arms.{is_here}
-use Rattle.draid_world.specs.declared.world.Arm.{Arm}
-use Rattle.draid_world.specs.declared.world.Detached.{Detached}
-use Rattle.draid_world.specs.World.{arm_of, gone_of}
 use Rattle.draid_loans.proofs.Sets.{segment_true, segments_append}
 
 pub stay_skip : (test : Segment → Bool) (out left rest : List Segment) (x s : Segment) → left ≡ x ∷ rest → test x ≡ false
@@ -45,12 +40,3 @@ stay_all o left s t whole is e = sym (ap (λ ys. o || (has_segment ys s && t)) i
     or_false : (b : Bool) → (b || false) ≡ b
     or_false true = refl
     or_false false = refl
-
-pub here_some : (a : Arm) (r : Bool) → is_some a.gone ≡ not r → r ≡ is_here (Some (arm_of a))
-here_some a r e = of a.gone r e
-  where
-    of : (g : Option Detached) (r : Bool) → is_some g ≡ not r → r ≡ elim (option_map gone_of g) as (λ g. Bool) [ None ↦ true | Some g ↦ false ]
-    of None true e = refl
-    of None false e = absurd (true≢false (sym e))
-    of (Some g) true e = absurd (true≢false e)
-    of (Some g) false e = refl

@@ -1,13 +1,12 @@
 ghost use Rattle.std.specs.Prelude.{◌≡◌, ◌+◌, ◌<◌, ◌^◌, ◌&&◌, ◌||◌, not, true, false, IfOk};
 ghost use Rattle.draid_machine.specs.After as after;
-ghost use Rattle.draid_machine.specs.Arms as arms;
 ghost use Rattle.draid_machine.specs.Names.{has_segment, key_eq};
 ghost use Rattle.draid_machine.specs.declared.names.Segment.{Segment};
-ghost use Rattle.draid_scrubs.specs.Healing.{is_dubious, is_staying};
-ghost use Rattle.draid_world.specs.World.{arm_in, core_of};
+ghost use Rattle.draid_scrubs.specs.Healing.{is_dubious};
+ghost use Rattle.draid_world.specs.World.{core_of};
 
 use crate::patches::{has_landed, was_written};
-use draid_machine::{ArmName, Held, Key, Patched, Segment};
+use draid_machine::{Key, Patched, Segment};
 use draid_names::NoMemory;
 use draid_world::Tables;
 use draid_world::arms::is_logged;
@@ -75,35 +74,24 @@ pub(crate) fn doubted(
     Ok(out)
 }
 
-/// Whether an arm is there, and wasn't detached.
-fn is_here(tables: &Tables, name: ArmName) -> bool
-    ensures { result ≡ arms.is_here (arm_in tables.now.arms.entries name) }
+/// Whether a segment is of a block.
+fn is_of(key: Key, segment: Segment) -> bool
+    ensures { result ≡ key_eq key segment.key }
 {
-    match tables.arms.get(&name) {
-        Some(arm) => arm.gone.is_none(),
-        None => false,
-    }
+    segment.key == key
 }
 
-/// Whether a segment of a block stays for an image alone.
-fn stays(tables: &Tables, key: Key, segment: Segment) -> bool
-    ensures { result ≡ is_staying (core_of tables.now) key segment }
-{
-    segment.key == key && !is_here(tables, segment.arm)
-}
-
-/// The segments of a set that are of a block and stay for an image alone.
-pub(crate) fn staying(
+/// The segments of a set that are of a block.
+pub(crate) fn of_block(
     alloc: Global,
-    tables: &Tables,
     present: &BTreeSet<Segment>,
     key: Key,
 ) -> Result<Vec<Segment>, NoMemory>
-    ensures { IfOk result (λ out. (s : Segment) → has_segment out.items s ≡ (has_segment present.now.keys s && is_staying (core_of tables.now) key s)) }
+    ensures { IfOk result (λ out. (s : Segment) → has_segment out.items s ≡ (has_segment present.now.keys s && key_eq key s.key)) }
 {
     let mut out = Vec::new(alloc);
     for segment in present {
-        if stays(tables, key, *segment) {
+        if is_of(key, *segment) {
             out.push(*segment)?;
         }
     }

@@ -8,7 +8,7 @@ ghost use Rattle.draid_passes.specs.Left.{AreShort};
 ghost use Rattle.draid_scrubs.specs.Scrubs.{MayLandBlock, healed_pass, healed_state};
 ghost use Rattle.draid_world.specs.World.{core_of, held_in, loan_of, pass_of, site_layout, state_of};
 
-use crate::healing::{doubted, landed, staying, written};
+use crate::healing::{doubted, landed, of_block, written};
 use crate::patches::parts_stand;
 use crate::wholes::{all_patched, heals_all, is_whole};
 use draid_loans::{block_segments, capped, drop_all, kept, landing, put_all};
@@ -97,8 +97,8 @@ fn heal_whole(
     let all = block_segments(alloc, site, &world.tables, loan.key, held)?;
     let good = landed(alloc, patched, &all)?;
     let doubts = doubted(alloc, &world.tables, held.birth, patched, &all)?;
-    let stay = staying(alloc, &world.tables, &world.present, loan.key)?;
-    put_all(&mut world.aside, &stay)?;
+    let present = of_block(alloc, &world.present, loan.key)?;
+    put_all(&mut world.aside, &present)?;
     drop_all(&mut world.aside, &all);
     put_all(&mut world.aside, &doubts)?;
     put_all(&mut world.present, &good)?;

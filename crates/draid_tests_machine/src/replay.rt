@@ -1,87 +1,38 @@
-ghost use Rattle.std.specs.Prelude.{◌≡◌, ◌<◌, ◌^◌, [], None, IfOk, OnOk, All, length};
+ghost use Rattle.std.specs.Prelude.{◌≡◌, ◌<◌, ◌^◌, IfOk, OnOk, All, length};
 ghost use Rattle.draid_map.specs.Place.{IsLayout};
-ghost use Rattle.draid_world.specs.World.{state_of};
-ghost use Rattle.draid_replay.specs.Within.{IsSmallEvent, IsWithin};
+ghost use Rattle.draid_replay.specs.Within.{IsSmallEvent};
 
-use draid_dtl::Log;
 use draid_machine::{ArmName, Event, FewArms, FewLeaves, Key};
 use draid_names::{NoMemory, PassKind};
 use draid_perm::Perms;
-use draid_replay::{ReplayFault, replay};
+use draid_replay::{ReplayFault, new_world, replay};
 use draid_spec::{Geometry, Props, geometry, parse_spec};
-use draid_world::places::slot_of;
-use draid_world::{Arm, Image, Site, Tables, World};
+use draid_world::places::{home, slot_of};
+use draid_world::{Site, World};
 use std::alloc::Global;
-use std::collections::{BTreeMap, BTreeSet};
 use std::test::Fail;
 
-/// A leaf for each slot, and no block.
-fn new_tables(alloc: Global, slots: u32) -> Result<Tables, NoMemory>
-    ensures blocks { IfOk result (λ tables. tables.held.entries ≡ []) }
-    ensures pass { IfOk result (λ tables. tables.pass ≡ None) }
+/// What becomes of a new metaslab of version 1 by these events, or the fault.
+fn world_after(alloc: Global, site: &Site, events: &[Event]) -> Result<World, ReplayFault>
+    requires layout { IsLayout site.now.geometry site.now.perms }
+    requires metaslab { site.now.metaslab < site.now.geometry.props.metaslabs }
+    requires small { All IsSmallEvent events.now }
+    requires few { length events.now < 2 ^ 32 }
 {
-    let mut arms = BTreeMap::new(alloc);
-    let mut order = Vec::new(alloc);
-    for slot in 0..slots {
-        let name = ArmName::Leaf {
-            leaf: u64::from(slot),
-        };
-        let arm = Arm {
-            offline: false,
-            fresh: false,
-            log: Log::new(alloc),
-            gone: None,
-        };
-        arms.insert(name, arm)?;
-        let mut names = Vec::new(alloc);
-        names.push(name)?;
-        order.push(names)?;
-    }
-    Ok(Tables {
-        held: BTreeMap::new(alloc),
-        arms,
-        order,
-        pass: None,
-        last: 0,
-    })
-}
-
-/// A new metaslab of so many slots.
-#[tactic(auto, using(crate::proofs::New::new_within))]
-fn new_world(alloc: Global, slots: u32) -> Result<World, NoMemory>
-    ensures within { IfOk result (λ world. IsWithin (state_of world)) }
-    ensures serial { IfOk result (λ world. world.serial ≡ 0) }
-{
-    let tables = new_tables(alloc, slots)?;
-    let image = Image {
-        group: 1,
-        tables: new_tables(alloc, slots)?,
+    let Ok(world) = new_world(alloc, site, 1) else {
+        return Err(ReplayFault::NoMemory);
     };
-    Ok(World {
-        open_group: 2,
-        closing: None,
-        committed: 1,
-        tables,
-        serial: 0,
-        loan: None,
-        image,
-        sealed: None,
-        present: BTreeSet::new(alloc),
-        aside: BTreeSet::new(alloc),
-    })
+    replay(alloc, site, world, events)
 }
 
-/// What becomes of a new metaslab by these events: its open group, or the fault.
+/// The open group behind these events of a new metaslab, or the fault.
 fn open_group_after(alloc: Global, site: &Site, events: &[Event]) -> Result<u64, ReplayFault>
     requires layout { IsLayout site.now.geometry site.now.perms }
     requires metaslab { site.now.metaslab < site.now.geometry.props.metaslabs }
     requires small { All IsSmallEvent events.now }
     requires few { length events.now < 2 ^ 32 }
 {
-    let Ok(world) = new_world(alloc, site.geometry.spec.children) else {
-        return Err(ReplayFault::NoMemory);
-    };
-    let world = replay(alloc, site, world, events)?;
+    let world = world_after(alloc, site, events)?;
     Ok(world.open_group)
 }
 
@@ -353,6 +304,133 @@ fn open_group_behind_all(alloc: Global, site: &Site, commits: bool) -> Result<u6
     }
 }
 
+/// A rebuild is planned, and runs behind a group.
+fn add_ready(alloc: Global, events: &mut Vec<Event>, group: u64) -> Result<(), NoMemory>
+    requires group { group < 2 ^ 48 }
+    requires before { All IsSmallEvent events.old.items }
+    ensures behind { OnOk result (All IsSmallEvent events.new.items) }
+{
+    add(
+        events,
+        Event::Plan {
+            kind: PassKind::Rebuild,
+        },
+    )?;
+    add_group(alloc, events, group, true)?;
+    add(events, Event::Ready)
+}
+
+/// The block's stripe is lent, comes back in a pass, and this ends.
+fn add_stripe(
+    alloc: Global,
+    events: &mut Vec<Event>,
+    pass: u64,
+    serial: u64,
+) -> Result<(), NoMemory>
+    requires before { All IsSmallEvent events.old.items }
+    ensures behind { OnOk result (All IsSmallEvent events.new.items) }
+{
+    add(
+        events,
+        Event::Lend {
+            failed: Vec::new(alloc),
+        },
+    )?;
+    add(
+        events,
+        Event::LandStripe {
+            pass,
+            serial,
+            failed: Vec::new(alloc),
+        },
+    )?;
+    add(
+        events,
+        Event::Done {
+            failed: Vec::new(alloc),
+        },
+    )
+}
+
+/// Version 2 is asked for, a block is written, and a spare is rebuilt behind group 3.
+fn add_spare(alloc: Global, site: &Site, events: &mut Vec<Event>) -> Result<(), NoMemory>
+    requires layout { IsLayout site.now.geometry site.now.perms }
+    requires metaslab { site.now.metaslab < site.now.geometry.props.metaslabs }
+    requires columns { 0 < site.now.geometry.g }
+    requires before { All IsSmallEvent events.old.items }
+    ensures behind { OnOk result (All IsSmallEvent events.new.items) }
+{
+    let slot = slot_of(site, 0, 0);
+    let arm = ArmName::Spare { spare: 0 };
+    add(events, Event::Upgrade)?;
+    add_write(alloc, site, events)?;
+    add(events, Event::Attach { slot, arm })?;
+    add_ready(alloc, events, 3)?;
+    add_stripe(alloc, events, 1, 1)
+}
+
+/// A second spare takes the place of the leaf on which the first one lies, so that this one moves. While both are
+/// rebuilt, with the block's stripe lent, a leaf joins: the rebuild begins again, and the stripe comes back in a pass.
+fn add_chain(
+    alloc: Global,
+    site: &Site,
+    events: &mut Vec<Event>,
+    pass: u64,
+) -> Result<(), NoMemory>
+    requires layout { IsLayout site.now.geometry site.now.perms }
+    requires metaslab { site.now.metaslab < site.now.geometry.props.metaslabs }
+    requires columns { 1 < site.now.geometry.g }
+    requires before { All IsSmallEvent events.old.items }
+    ensures behind { OnOk result (All IsSmallEvent events.new.items) }
+{
+    let slot = home(site, &[], 0, 0);
+    let arm = ArmName::Spare { spare: 1 };
+    add(events, Event::Attach { slot, arm })?;
+    add_ready(alloc, events, 4)?;
+    add(
+        events,
+        Event::Lend {
+            failed: Vec::new(alloc),
+        },
+    )?;
+    let slot = slot_of(site, 0, 1);
+    let arm = ArmName::Leaf { leaf: 9 };
+    add(events, Event::Attach { slot, arm })?;
+    add_group(alloc, events, 5, true)?;
+    add(events, Event::Ready)?;
+    add_stripe(alloc, events, pass, 3)
+}
+
+/// A history of an upgrade, a chain of two spares, and a rebuild that begins again; its last stripe comes back in a pass.
+fn chain(alloc: Global, site: &Site, pass: u64) -> Result<Vec<Event>, NoMemory>
+    requires layout { IsLayout site.now.geometry site.now.perms }
+    requires metaslab { site.now.metaslab < site.now.geometry.props.metaslabs }
+    requires columns { 1 < site.now.geometry.g }
+    ensures { IfOk result (λ events. All IsSmallEvent events.items) }
+{
+    let mut events = Vec::new(alloc);
+    add_spare(alloc, site, &mut events)?;
+    add_chain(alloc, site, &mut events, pass)?;
+    Ok(events)
+}
+
+/// The open group and the version behind that history.
+fn chain_end(alloc: Global, site: &Site, pass: u64) -> Result<(u64, u32), ReplayFault>
+    requires layout { IsLayout site.now.geometry site.now.perms }
+    requires metaslab { site.now.metaslab < site.now.geometry.props.metaslabs }
+{
+    if site.geometry.g < 2 {
+        return Err(ReplayFault::NoMemory);
+    }
+    match chain(alloc, site, pass) {
+        Ok(events) if events.len() < 100 => {
+            let world = world_after(alloc, site, &events)?;
+            Ok((world.open_group, world.version))
+        }
+        _ => Err(ReplayFault::NoMemory),
+    }
+}
+
 #[test]
 fn every_kind_of_event_is_done(rt: HostRuntime) -> Result<(), Fail> {
     let props = Props {
@@ -399,6 +477,31 @@ fn histories_go_to_their_first_illegal_event(rt: HostRuntime) -> Result<(), Fail
     assert_eq!(rt;
         answers(rt.alloc(), &site),
         [Ok(2), not_legal(0), not_legal(0), Ok(3), not_legal(1)]
+    );
+    Ok(())
+}
+
+#[test]
+fn an_attachment_begins_a_rebuild_again(rt: HostRuntime) -> Result<(), Fail> {
+    let props = Props {
+        sector: 512,
+        height: 8,
+        metaslabs: 1,
+        slices: 1,
+        seed: 1,
+        version: 1,
+    };
+    let spec = parse_spec(b"draid1:2d:2s", 5, 1).expect(&rt, "a spec");
+    let layout: Geometry = geometry(spec, props).expect(&rt, "a layout");
+    let site = Site {
+        perms: Perms::new(layout.spec.children, layout.props.seed),
+        geometry: layout,
+        metaslab: 0,
+    };
+    assert_eq!(rt; chain_end(rt.alloc(), &site, 3), Ok((6, 2)));
+    assert_eq!(rt;
+        chain_end(rt.alloc(), &site, 2),
+        Err(ReplayFault::NotLegal { at: 33 })
     );
     Ok(())
 }

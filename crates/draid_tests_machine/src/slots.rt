@@ -339,7 +339,7 @@ fn arms_come_and_go(rt: HostRuntime) {
 #[test]
 fn a_spare_moves_on_where_its_keeper_is_spared(rt: HostRuntime) {
     let alloc = rt.alloc();
-    let spec = parse_spec(b"draid1:2d:2s", 5).expect(&rt, "a spec");
+    let spec = parse_spec(b"draid1:2d:2s", 5, 1).expect(&rt, "a spec");
     let layout = geometry(spec, PROPS).expect(&rt, "a layout");
     let perms = Perms::new(layout.spec.children, layout.props.seed);
     let leaf = |position: u32| u64::from(perms.child(0, position));

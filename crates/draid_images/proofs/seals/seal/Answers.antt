@@ -33,6 +33,6 @@ returns-clause-legal c = λ e.
       fail = λ leaf has. online_arm (arm_in w.tables.arms.entries (Leaf leaf)) (all_numbers test c.args.failed.now (sym c.are_online.ensures ∙ c.if-not-are_online.false) leaf has);
       made = λ i. record (state_of w) {
         core = c.in_ok-seal_tables.ensures i;
-        sealed = Some (record { group = t; core = (c.in_ok-tables.ensures ∙ ap (copied_core (Sealing t)) c.in_ok-seal_tables.ensures) i });
+        sealed = Some (record { group = t; version = w.asked; core = (c.in_ok-tables.ensures ∙ ap (copied_core (Sealing t)) c.in_ok-seal_tables.ensures) i });
       };
     }

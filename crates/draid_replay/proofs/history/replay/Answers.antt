@@ -3,7 +3,7 @@ use Rattle.draid_machine.specs.declared.event.Event.{Event}
 use Rattle.draid_machine.specs.Step.{Step}
 use Rattle.draid_world.specs.World.{site_layout, state_of}
 use Rattle.draid_replay.specs.History.{IsFirstIllegal}
-use Rattle.draid_replay.proofs.Histories.{any_default, goes_on, same_place, stripes_few}
+use Rattle.draid_replay.proofs.Histories.{any_default, ends, goes_on, reached_more, same_place, stripes_few}
 use Rattle.draid_replay.proofs.history.replay.Goals as goal
 
 pub returns-in-Ok-false-clause-not_legal : goal.returns-in-Ok-false-clause-not_legal
@@ -28,3 +28,10 @@ loop-at-preserved c =
     goes_on l (state_of c.args.start) now new c.args.events.now c.loop-at.at _ (stripes_few c.args.site.now.geometry c.requires.layout.geometry_is) c.loop-at-test.true
     (c.requires.small c.loop-at.at _ c.loop-at-test.true) c.loop-at.invariant
     (subst (λ (x : Event). Step l now x new) c.index-events-at.is (c.advance.ensures.legal yes_it_is))
+
+pub returns-clause-reached : goal.returns-clause-reached
+returns-clause-reached c =
+    let l = site_layout c.args.site.now in
+    let w = state_of c.args.start in
+    let now = state_of c.loop-at.world in
+    reached_more l w now c.args.events.now (ends l w now c.args.events.now c.loop-at.at c.loop-at-test.false c.loop-at.invariant)
