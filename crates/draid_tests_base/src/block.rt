@@ -57,11 +57,11 @@ fn read_column(
     alloc: Global,
     block: &Encoded,
     i: u32,
-    absent: u32,
-    wrong: u32,
+    absent: u64,
+    wrong: u64,
 ) -> Result<Option<Vec<u8>>, AllocError>
     requires there { i < block.now.cut.parity + block.now.cut.ndata }
-    requires few { i < 32 }
+    requires few { i < 64 }
     ensures { IfOk result (λ c. IfSome c (λ v. length v.items
         ≡ column_len block.now.cut (length block.now.bytes))) }
 {
@@ -82,8 +82,8 @@ fn read(
     alloc: Global,
     geometry: &Geometry,
     block: &Encoded,
-    absent: u32,
-    wrong: u32,
+    absent: u64,
+    wrong: u64,
 ) -> Result<Fetched, AllocError>
     requires geometry { IsGeometry geometry.now }
     requires cut { block.now.cut ≡ cut_of geometry.now }
@@ -124,8 +124,8 @@ fn is_solved(
     alloc: Global,
     geometry: &Geometry,
     bytes: &[u8],
-    absent: u32,
-    wrong: u32,
+    absent: u64,
+    wrong: u64,
 ) -> Result<bool, NoMemory>
     requires geometry { IsGeometry geometry.now }
     requires some { 1 ≤ length bytes.now }
@@ -153,13 +153,13 @@ fn is_solved_with(
     alloc: Global,
     geometry: &Geometry,
     columns: u32,
-    absent: u32,
+    absent: u64,
 ) -> Result<bool, NoMemory>
     requires geometry { IsGeometry geometry.now }
     requires columns { columns ≤ 6 }
 {
     let bytes = pattern(alloc, 1536)?;
-    for wrong in 0..1 << columns {
+    for wrong in 0..1_u64 << columns {
         if wrong & absent == 0 && !is_solved(alloc, geometry, &bytes, absent, wrong)? {
             return Ok(false);
         }
