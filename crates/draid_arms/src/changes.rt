@@ -109,8 +109,7 @@ fn plan_rebuild(alloc: Global, site: &Site, world: &mut World) -> Result<(), NoM
     Ok(())
 }
 
-/// A rebuild is planned again; a scrub loses the targets that moved. A rebuild whose number isn't the last, as it is in every state that is
-/// reached, may find no further number, and is refused like want of memory.
+/// A rebuild is planned again; a scrub loses the targets that moved.
 fn replan(alloc: Global, site: &Site, world: &mut World, moved: &[ArmName]) -> Result<(), NoMemory>
     requires layout { IsLayout site.now.geometry site.now.perms }
     requires metaslab { site.now.metaslab < site.now.geometry.props.metaslabs }
@@ -136,7 +135,8 @@ fn replan(alloc: Global, site: &Site, world: &mut World, moved: &[ArmName]) -> R
     }
 }
 
-/// Puts an arm into a slot, where that is legal.
+/// Puts an arm into a slot, where that is legal. In each state that is reached a rebuild has the last number; where it hasn't, and there is no
+/// number after the last, the answer is `NoMemory`.
 pub fn attach(
     alloc: Global,
     site: &Site,
