@@ -15,7 +15,7 @@ use Rattle.draid_machine.specs.After.{set_order}
 use Rattle.draid_machine.proofs.Small.{is_equal, name_refl, name_true, key_refl, some_injective, true_left, true_right, both_true, not_true, not_false}
 use Rattle.draid_world.specs.World.{arm_of, gone_of, held_in, names_at}
 use Rattle.draid_world.specs.declared.world.Arm.{Arm}
-use Rattle.draid_steps.specs.Slots.{is_other_leaf, IsLeafLeft, fresh_arm, greatest}
+use Rattle.draid_arms.specs.Rules.{is_other_leaf, IsLeafLeft, fresh_arm, greatest}
 use Rattle.draid_steps.proofs.Entries.{AreApart}
 use Rattle.draid_steps.proofs.Lists.{any_of_names, name_passes}
 
@@ -43,11 +43,7 @@ place_has_name [] i d less = absurd (omega (arith, less))
 place_has_name (x ∷ xs) zero d less = true_left (name_eq x x) (has_name xs x) (name_refl x)
 place_has_name (x ∷ xs) (suc i) d less = true_right (name_eq x (get_or xs i d)) (has_name xs (get_or xs i d)) (place_has_name xs i d (omega (arith, less)))
 
--- ---- spares and leaves
-pub a_spare : (n : ArmName) → not (is_leaf n) ≡ true → (t : ℕ) × (n ≡ Spare t)
-a_spare (Leaf m) e = absurd (true≢false (sym e))
-a_spare (Spare t) e = (t, refl)
-
+-- ---- leaves
 pub a_leaf : (n : ArmName) → is_leaf n ≡ true → (m : ℕ) × (n ≡ Leaf m)
 a_leaf (Leaf m) e = (m, refl)
 a_leaf (Spare t) e = absurd (true≢false (sym e))

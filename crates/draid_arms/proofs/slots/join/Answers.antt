@@ -1,8 +1,8 @@
 use Rattle.std.proofs.Common.{◌∙◌}
 use Rattle.draid_world.specs.World.{names_at}
 use Rattle.draid_world.proofs.Maps.{on_ok}
-use Rattle.draid_steps.proofs.Orders.{order_pushed}
-use Rattle.draid_steps.proofs.slots.join.Goals as goal
+use Rattle.draid_arms.proofs.Orders.{order_pushed}
+use Rattle.draid_arms.proofs.slots.join.Goals as goal
 
 pub returns : goal.returns
 returns c =

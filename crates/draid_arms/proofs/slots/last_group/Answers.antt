@@ -1,8 +1,8 @@
 use Rattle.std.proofs.Common.{◌∙◌, ◌<◌, ◌≤◌, ◌^◌, subst, sym, ap, inl, inr}
-use Rattle.draid_steps.specs.Slots.{greatest}
+use Rattle.draid_arms.specs.Rules.{greatest}
 use Rattle.draid_steps.proofs.Entries.{ordered_apart}
-use Rattle.draid_steps.proofs.Orders.{greatest_from, greatest_birth, greatest_is, greatest_below}
-use Rattle.draid_steps.proofs.slots.last_group.Goals as goal
+use Rattle.draid_arms.proofs.Orders.{greatest_from, greatest_birth, greatest_is, greatest_below}
+use Rattle.draid_arms.proofs.slots.last_group.Goals as goal
 
 pub returns-clause-below : goal.returns-clause-below
 returns-clause-below c =

@@ -4,8 +4,8 @@ use Rattle.draid_machine.specs.Names.{name_eq}
 use Rattle.draid_machine.specs.After.{set_order}
 use Rattle.draid_world.specs.World.{names_at}
 use Rattle.draid_world.proofs.Maps.{names_here, names_past}
-use Rattle.draid_steps.proofs.Orders.{names_set, order_same}
-use Rattle.draid_steps.proofs.slots.leave.Goals as goal
+use Rattle.draid_arms.proofs.Orders.{names_set, order_same}
+use Rattle.draid_arms.proofs.slots.leave.Goals as goal
 
 pub returns-then-slot-len : goal.returns-then-slot-len
 returns-then-slot-len c = λ k.

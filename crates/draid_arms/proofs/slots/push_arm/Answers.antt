@@ -2,8 +2,8 @@ use Rattle.std.proofs.Common.{◌≡◌, ◌∙◌, ◌++◌, ◌∷◌, [], ap,
 use Rattle.draid_machine.specs.After.{set_order}
 use Rattle.draid_world.specs.World.{names_at}
 use Rattle.draid_world.proofs.Maps.{names_here}
-use Rattle.draid_steps.proofs.Orders.{names_set}
-use Rattle.draid_steps.proofs.slots.push_arm.Goals as goal
+use Rattle.draid_arms.proofs.Orders.{names_set}
+use Rattle.draid_arms.proofs.slots.push_arm.Goals as goal
 
 pub returns : goal.returns
 returns c = λ k.

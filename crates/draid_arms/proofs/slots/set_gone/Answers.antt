@@ -3,7 +3,7 @@ use Rattle.draid_machine.specs.State as state
 use Rattle.draid_machine.specs.After.{set_arm}
 use Rattle.draid_world.specs.World.{arm_in, arm_of, gone_of}
 use Rattle.draid_world.proofs.Maps.{is_some_arm, mapped_some, arm_lookup, arm_updated}
-use Rattle.draid_steps.proofs.slots.set_gone.Goals as goal
+use Rattle.draid_arms.proofs.slots.set_gone.Goals as goal
 
 pub write_gone-requires : goal.write_gone-requires
 write_gone-requires c = record { there = is_some_arm c.args.arms.now.entries c.args.name c.requires.there }

@@ -2,7 +2,7 @@ use Rattle.std.proofs.Common.{rules, Bool, not}
 use Rattle.std.proofs.lemmas.Fn.{filter_same}
 use Rattle.draid_machine.specs.declared.names.ArmName.{ArmName}
 use Rattle.draid_machine.specs.Names.{name_eq}
-use Rattle.draid_steps.proofs.slots.take_out.Goals as goal
+use Rattle.draid_arms.proofs.slots.take_out.Goals as goal
 
 pub returns : goal.returns
 returns c =

@@ -1,7 +1,7 @@
 use Rattle.std.proofs.Common.{◌∙◌, ap}
 use Rattle.draid_world.specs.World.{names_at}
-use Rattle.draid_steps.proofs.Orders.{names_empty, longer}
-use Rattle.draid_steps.proofs.slots.widen.Goals as goal
+use Rattle.draid_arms.proofs.Orders.{names_empty, longer}
+use Rattle.draid_arms.proofs.slots.widen.Goals as goal
 
 pub loop-number-preserved : goal.loop-number-preserved
 loop-number-preserved c =

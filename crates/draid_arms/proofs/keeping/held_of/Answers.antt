@@ -1,0 +1,13 @@
+use Rattle.std.proofs.Common.{◌∙◌, ◌||◌, is_some}
+use Rattle.draid_machine.specs.Claims.{is_at}
+use Rattle.draid_machine.specs.Names.{has_segment}
+use Rattle.draid_world.specs.World.{core_of, kept_in, site_layout}
+use Rattle.draid_world.proofs.Joining.{next_joined}
+use Rattle.draid_arms.proofs.keeping.held_of.Goals as goal
+
+pub loop-segment-preserved : goal.loop-segment-preserved
+loop-segment-preserved c = λ s.
+    next_joined c.loop-segment.segment-iterator c.next.new.self c.in-Some.segment.now s
+    (is_at (site_layout c.args.site.now) (core_of c.args.tables.now) s || is_some (kept_in c.args.kept.now.entries s))
+    (has_segment c.loop-segment.left.keys s) (has_segment c.add_held.new.set.keys s) c.in-Some.ensures.steps (c.in_ok-add_held.ensures s)
+    ∙ c.loop-segment.invariant s

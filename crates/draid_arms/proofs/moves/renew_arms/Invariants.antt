@@ -1,0 +1,10 @@
+use Rattle.std.proofs.Common.{◌≡◌, take}
+use Rattle.draid_machine.specs.declared.names.ArmName.{ArmName}
+use Rattle.draid_machine.specs.After.{map_arm, renew_if}
+use Rattle.draid_machine.specs.Names.{has_name}
+use Rattle.draid_world.specs.World.{arm_in}
+use Rattle.draid_arms.proofs.moves.renew_arms.Given as goal
+
+abbrev pub invariant-loop-at : goal.invariant-loop-at
+invariant-loop-at l =
+    (n : ArmName) → arm_in l.arms.entries n ≡ map_arm (renew_if (has_name (take l.at l.names) n) l.last) (arm_in l.fn.arms.entries n)
