@@ -7,7 +7,7 @@ ghost use Rattle.draid_world.specs.World.{arm_in, arm_of, core_of, held_in, name
 
 use draid_dtl::Log;
 use draid_machine::{ArmName, Held, Key, Stage};
-use draid_world::arms::{enter_arm, names_of};
+use draid_world::arms::{copy_order, enter_arm};
 use draid_world::tables::enter;
 use draid_world::{Arm, Tables, WorldPass};
 use std::alloc::{AllocError, Global};
@@ -123,18 +123,6 @@ fn copy_arms(
     for (name, arm) in table.iter() {
         let arm = copy_arm(arm, copying, alloc)?;
         put_arm(&mut copy, *name, arm)?;
-    }
-    Ok(copy)
-}
-
-/// The copy of the arms of each slot.
-fn copy_order(order: &[Vec<ArmName>], alloc: Global) -> Result<Vec<Vec<ArmName>>, AllocError>
-    ensures { IfOk result (λ copy. (c : ℕ) → names_at copy.items c ≡ names_at order.now c) }
-{
-    let mut copy = Vec::new(alloc);
-    for at in 0..order.len() {
-        let names = Vec::from_slice(alloc, names_of(order, at))?;
-        copy.push(names)?;
     }
     Ok(copy)
 }
