@@ -1,5 +1,5 @@
 -- Segments that have to be there.
-use Rattle.std.proofs.Common.{◌≡◌, ◌==◌, ◌+◌, ◌<◌, ◌&&◌, ◌||◌, not, ℕ, Bool, true, false, nat_lt, List, ◌∷◌, Option, Some, None, drop, length, get_or, refl, sym, ◌∙◌, ap, ap₂, subst}
+use Rattle.std.proofs.Common.{◌≡◌, ◌==◌, ◌+◌, ◌<◌, ◌&&◌, ◌||◌, not, ℕ, Bool, true, false, nat_lt, List, Option, Some, None, drop, length, get_or, refl, sym, ◌∙◌, ap, ap₂, subst}
 use Rattle.std.specs.List.{list_any}
 use Rattle.std.proofs.lemmas.Bool.{true≢false}
 use Rattle.std.proofs.lemmas.List.{drop_more}
@@ -11,9 +11,10 @@ use Rattle.draid_machine.specs.Names.{key_eq, name_eq, has_name, segment_eq, has
 use Rattle.draid_machine.specs.State.{Layout, Core, Arm}
 use Rattle.draid_machine.specs.Arms.{lies}
 use Rattle.draid_machine.specs.Claims.{is_on, passed, claimed, claims}
-use Rattle.draid_machine.proofs.Small.{both_true, true_both, key_true, name_true, is_equal, equal, key_refl, name_refl}
+use Rattle.draid_machine.proofs.Small.{both_true, true_both, equal, key_refl, name_refl}
 use Rattle.draid_steps.specs.Columns.{is_row}
 use Rattle.draid_steps.proofs.Lists.{name_passes}
+use Rattle.draid_world.proofs.Joining.{one_more}
 
 pub claim_by : (l : Layout) (q : Core) (s : Segment) (h : Held) (a : Arm) → q.held s.key ≡ Some h → q.arm s.arm ≡ Some a → is_on l q.order s h ≡ true → is_put h.stage s.column ≡ true
     → (not (a.log h.birth) || (is_block h.stage && passed q.pass s.arm h s.row)) ≡ claims l q s
@@ -48,49 +49,11 @@ claim_is_on l q s is = by (q.held s.key) refl (q.arm s.arm) is
           (both_true (is_on l q.order s h && is_put h.stage s.column) (not (a.log h.birth) || (is_block h.stage && passed q.pass s.arm h s.row)) is).0).0,
     )
 
-pub same_segment : (t s : Segment) → segment_eq t s ≡ true → t ≡ s
-same_segment t s e =
-    let a = both_true (key_eq t.key s.key && (t.column == s.column) && name_eq t.arm s.arm && (t.leaf == s.leaf)) (t.row == s.row) e in
-    let b = both_true (key_eq t.key s.key && (t.column == s.column) && name_eq t.arm s.arm) (t.leaf == s.leaf) a.0 in
-    let d = both_true (key_eq t.key s.key && (t.column == s.column)) (name_eq t.arm s.arm) b.0 in
-    let f = both_true (key_eq t.key s.key) (t.column == s.column) d.0 in
-    λ i. record { key = key_true t.key s.key f.0 i; column = is_equal t.column s.column f.1 i; arm = name_true t.arm s.arm d.1 i; leaf = is_equal t.leaf s.leaf b.1 i; row = is_equal t.row s.row a.1 i }
-
--- a segment that is tested joins a set
-pub not_added : (test : Segment → Bool) (t s : Segment) (b : Bool) → test t ≡ false → b ≡ ((segment_eq t s && test s) || b)
-not_added test t s b no_test = bits (segment_eq t s) (test s) b (λ e. sym (ap test (same_segment t s e)) ∙ no_test)
-  where
-    bits : (e c b : Bool) → (e ≡ true → c ≡ false) → b ≡ ((e && c) || b)
-    bits true true b f = absurd (true≢false (f refl))
-    bits true false b f = refl
-    bits false c b f = refl
-
-pub is_added : (test : Segment → Bool) (t s : Segment) (b : Bool) → test t ≡ true → (segment_eq t s || b) ≡ ((segment_eq t s && test s) || b)
-is_added test t s b passes = bits (segment_eq t s) (test s) b (λ e. sym (ap test (same_segment t s e)) ∙ passes)
-  where
-    bits : (e c b : Bool) → (e ≡ true → c ≡ true) → (e || b) ≡ ((e && c) || b)
-    bits true true b f = refl
-    bits true false b f = absurd (true≢false (sym (f refl)))
-    bits false c b f = refl
-
-pub one_more : (e c o d : Bool) → (((e && c) || o) || (d && c)) ≡ (o || ((e || d) && c))
-one_more true true true d = refl
-one_more true true false d = refl
-one_more true false true d = refl
-one_more true false false true = refl
-one_more true false false false = refl
-one_more false c true d = refl
-one_more false c false d = refl
-
 pub next_of_list : (ss : List Segment) (at : ℕ) (d s : Segment) (c o new : Bool) → at < length ss → new ≡ ((segment_eq (get_or ss at d) s && c) || o)
     → (new || (has_segment (drop (at + 1) ss) s && c)) ≡ (o || (has_segment (drop at ss) s && c))
 next_of_list ss at d s c o new less is =
     ap (λ b. b || (has_segment (drop (at + 1) ss) s && c)) is ∙ one_more (segment_eq (get_or ss at d) s) c o (has_segment (drop (at + 1) ss) s)
     ∙ ap (λ ts. o || (has_segment ts s && c)) (sym (drop_more ss at d less))
-
-pub next_of_set : (left rest : List Segment) (t s : Segment) (c o new : Bool) → left ≡ t ∷ rest → new ≡ ((segment_eq t s && c) || o) → (new || (has_segment rest s && c)) ≡ (o || (has_segment left s && c))
-next_of_set left rest t s c o new at is =
-    ap (λ b. b || (has_segment rest s && c)) is ∙ one_more (segment_eq t s) c o (has_segment rest s) ∙ ap (λ ts. o || (has_segment ts s && c)) (sym at)
 
 -- a segment of a column on an arm of its slot
 pub on_row : (l : Layout) (order : ℕ → List ArmName) (k : Key) (h : Held) (column : ℕ) (ns : List ArmName) (s : Segment) → k ≡ s.key → s.column ≡ column → ns ≡ order (l.slot_of h.first column)

@@ -1,12 +1,12 @@
 -- Tables that are copied entry by entry.
-use Rattle.std.proofs.Common.{◌≡◌, ◌++◌, ◌<◌, ℕ, zero, suc, Bool, true, false, List, [], ◌∷◌, Option, Some, None, Vec, Global, length, if◌then◌else◌, refl, sym, ◌∙◌, ap, subst, arith}
+use Rattle.std.proofs.Common.{◌≡◌, Bool, true, false, List, [], ◌∷◌, Option, Some, None, if◌then◌else◌, refl, sym, ◌∙◌, ap, subst}
 use Rattle.std.proofs.lemmas.Bool.{true≢false}
 use Rattle.draid_machine.specs.declared.names.Key.{Key}
 use Rattle.draid_machine.specs.declared.names.ArmName.{ArmName}
 use Rattle.draid_machine.specs.declared.names.Held.{Held}
 use Rattle.draid_machine.specs.Names.{key_eq, name_eq}
 use Rattle.draid_machine.specs.State as state
-use Rattle.draid_world.specs.World.{held_in, arm_in, arm_of, names_at}
+use Rattle.draid_world.specs.World.{held_in, arm_in, arm_of}
 use Rattle.draid_world.specs.declared.world.Arm.{Arm}
 use Rattle.draid_steps.proofs.Entries.{AreApart}
 use Rattle.draid_steps.proofs.Kept.{AreArmsApart}
@@ -155,13 +155,3 @@ arms_step m all left rest old new n a is c put = record {
     by j false other =
         ap (λ x. else_arm x (copied_arm m (arm_in rest j))) (put j ∙ away (copied_arm m (Some (arm_of a))) j other)
         ∙ ap (λ o. else_arm (old j) (copied_arm m o)) (sym (in_left j other)) ∙ c.whole j
-
--- ---- lists of lists
-pub names_before : (xs : List (Vec ArmName Global)) (v : Vec ArmName Global) (c : ℕ) → c < length xs → names_at (xs ++ v ∷ []) c ≡ names_at xs c
-names_before [] v c less = absurd (omega (arith, less))
-names_before (x ∷ xs) v zero less = refl
-names_before (x ∷ xs) v (suc c) less = names_before xs v c (omega (arith, less))
-
-pub names_last : (xs : List (Vec ArmName Global)) (v : Vec ArmName Global) → names_at (xs ++ v ∷ []) (length xs) ≡ v.items
-names_last [] v = refl
-names_last (x ∷ xs) v = names_last xs v

@@ -1,13 +1,13 @@
-ghost use Rattle.std.specs.Prelude.{◌≡◌, IfOk, IfSome, OnOk, Some, ℕ, option_map};
+ghost use Rattle.std.specs.Prelude.{◌≡◌, IfOk, IfSome, OnOk, Some, option_map};
 ghost use Rattle.draid_images.specs.Copies.{copied_arm, copied_core, copied_held, put_some, put_some_arm};
 ghost use Rattle.draid_machine.specs.declared.names.ArmName.{ArmName};
 ghost use Rattle.draid_machine.specs.declared.names.Key.{Key};
 ghost use Rattle.draid_ranges.specs.Numbers.{Has, has};
-ghost use Rattle.draid_world.specs.World.{arm_in, arm_of, core_of, held_in, names_at, pass_of};
+ghost use Rattle.draid_world.specs.World.{arm_in, arm_of, core_of, held_in, pass_of};
 
 use draid_dtl::Log;
 use draid_machine::{ArmName, Held, Key, Stage};
-use draid_world::arms::{enter_arm, names_of};
+use draid_world::arms::{copy_order, enter_arm};
 use draid_world::tables::enter;
 use draid_world::{Arm, Tables, WorldPass};
 use std::alloc::{AllocError, Global};
@@ -123,18 +123,6 @@ fn copy_arms(
     for (name, arm) in table.iter() {
         let arm = copy_arm(arm, copying, alloc)?;
         put_arm(&mut copy, *name, arm)?;
-    }
-    Ok(copy)
-}
-
-/// The copy of the arms of each slot.
-fn copy_order(order: &[Vec<ArmName>], alloc: Global) -> Result<Vec<Vec<ArmName>>, AllocError>
-    ensures { IfOk result (λ copy. (c : ℕ) → names_at copy.items c ≡ names_at order.now c) }
-{
-    let mut copy = Vec::new(alloc);
-    for at in 0..order.len() {
-        let names = Vec::from_slice(alloc, names_of(order, at))?;
-        copy.push(names)?;
     }
     Ok(copy)
 }

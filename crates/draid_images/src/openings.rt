@@ -1,7 +1,6 @@
 ghost use Rattle.std.specs.Prelude.{◌≡◌, ◌<◌, ◌≤◌, ◌^◌, ◌&&◌, ◌||◌, ◌⊎◌, true, false, ℕ, Some, IfOk, OnOk, option_map};
 ghost use Rattle.draid_images.specs.Openings.{IsChosen, IsLowImage};
 ghost use Rattle.draid_machine.specs.After as after;
-ghost use Rattle.draid_machine.specs.Arms as arms;
 ghost use Rattle.draid_machine.specs.Claims as claims;
 ghost use Rattle.draid_machine.specs.Names as names;
 ghost use Rattle.draid_machine.specs.State as state;
@@ -18,48 +17,11 @@ use draid_names::NUMBERS;
 use draid_passes::is_block;
 use draid_steps::columns::{add_landed, add_segment};
 use draid_world::arms::{is_among, names_of};
-use draid_world::places::{leaf_at, slot_of};
+use draid_world::places::{is_on, slot_of};
 use draid_world::tables::find;
 use draid_world::{Site, Tables, World, WorldPass};
 use std::alloc::{AllocError, Global};
 use std::collections::{BTreeMap, BTreeSet};
-
-/// Whether a leaf is the one on which an arm keeps what belongs to a stripe.
-fn is_at(site: &Site, order: &[Vec<ArmName>], name: ArmName, stripe: u64, leaf: u64) -> bool
-    requires layout { IsLayout site.now.geometry site.now.perms }
-    requires metaslab { site.now.metaslab < site.now.geometry.props.metaslabs }
-    requires stripe { stripe < 2 ^ 49 }
-    ensures { result ≡ arms.lies (site_layout site.now) (names_at order.now) name stripe leaf }
-{
-    match leaf_at(site, order, name, stripe) {
-        Some(found) => found == leaf,
-        None => false,
-    }
-}
-
-/// Whether a segment is one of a block or a ticket, where its arm keeps it now.
-fn is_on(site: &Site, order: &[Vec<ArmName>], segment: &Segment, held: &Held) -> bool
-    requires layout { IsLayout site.now.geometry site.now.perms }
-    requires metaslab { site.now.metaslab < site.now.geometry.props.metaslabs }
-    requires first { held.now.first < NUMBERS }
-    ensures yes { result ≡ true → claims.is_on (site_layout site.now) (names_at order.now) segment.now held.now ≡ true }
-    ensures no { result ≡ false → claims.is_on (site_layout site.now) (names_at order.now) segment.now held.now ≡ false }
-{
-    if segment.column >= site.geometry.g || segment.row >= held.stripes {
-        return false;
-    }
-    let slot = slot_of(site, held.first, segment.column) as usize;
-    if !is_among(names_of(order, slot), segment.arm) {
-        return false;
-    }
-    is_at(
-        site,
-        order,
-        segment.arm,
-        held.first + u64::from(segment.row),
-        segment.leaf,
-    )
-}
 
 /// Whether a column of a block or a ticket was put.
 fn is_put(stage: Stage, column: u32) -> bool

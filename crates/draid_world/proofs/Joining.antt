@@ -21,7 +21,7 @@ joined test t s b passes = bits (segment_eq t s) (test s) b (λ e. sym (ap test 
     bits true false b f = absurd (true≢false (sym (f refl)))
     bits false c b f = refl
 
-one_more : (e c o d : Bool) → (((e && c) || o) || (d && c)) ≡ (o || ((e || d) && c))
+pub one_more : (e c o d : Bool) → (((e && c) || o) || (d && c)) ≡ (o || ((e || d) && c))
 one_more true true true d = refl
 one_more true true false d = refl
 one_more true false true d = refl

@@ -2,11 +2,11 @@ use Rattle.std.proofs.Common.{◌∙◌}
 use Rattle.draid_machine.specs.Claims.{claims}
 use Rattle.draid_machine.specs.Names.{has_segment}
 use Rattle.draid_world.specs.World.{core_of, site_layout}
-use Rattle.draid_images.proofs.Claiming.{next_of_set}
+use Rattle.draid_world.proofs.Joining.{next_joined}
 use Rattle.draid_images.proofs.openings.claimed_of.Goals as goal
 
 pub loop-segment-preserved : goal.loop-segment-preserved
 loop-segment-preserved c = λ s.
-    next_of_set c.loop-segment.segment-iterator c.next.new.self c.in-Some.segment.now s (claims (site_layout c.args.site.now) (core_of c.args.tables.now) s) (has_segment c.loop-segment.claimed.keys s)
+    next_joined c.loop-segment.segment-iterator c.next.new.self c.in-Some.segment.now s (claims (site_layout c.args.site.now) (core_of c.args.tables.now) s) (has_segment c.loop-segment.claimed.keys s)
     (has_segment c.add_claimed.new.set.keys s) c.in-Some.ensures.steps (c.in_ok-add_claimed.ensures s)
     ∙ c.loop-segment.invariant s
