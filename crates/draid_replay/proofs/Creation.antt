@@ -12,7 +12,7 @@ use Rattle.draid_machine.specs.State.{Arm, Layout, State}
 use Rattle.draid_machine.proofs.Small.{none_some}
 use Rattle.draid_world.specs.World.{names_at}
 use Rattle.draid_world.proofs.Maps.{names_past}
-use Rattle.draid_images.proofs.Copied.{names_before, names_last}
+use Rattle.draid_world.proofs.Orders.{names_before, names_last}
 use Rattle.draid_replay.specs.Creation.{leaf_below, leaf_in}
 use Rattle.draid_replay.specs.Within.{IsWithin}
 
