@@ -371,12 +371,7 @@ fn add_spare(alloc: Global, site: &Site, events: &mut Vec<Event>) -> Result<(), 
 
 /// A second spare takes the place of the leaf on which the first one lies, so that this one moves. While both are
 /// rebuilt, with the block's stripe lent, a leaf joins: the rebuild begins again, and the stripe comes back in a pass.
-fn add_chain(
-    alloc: Global,
-    site: &Site,
-    events: &mut Vec<Event>,
-    pass: u64,
-) -> Result<(), NoMemory>
+fn add_chain(alloc: Global, site: &Site, events: &mut Vec<Event>, pass: u64) -> Result<(), NoMemory>
     requires layout { IsLayout site.now.geometry site.now.perms }
     requires metaslab { site.now.metaslab < site.now.geometry.props.metaslabs }
     requires columns { 1 < site.now.geometry.g }
