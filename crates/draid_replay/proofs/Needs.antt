@@ -33,7 +33,7 @@ max_small w s = by w.tables.pass refl
   where
     by : (o : Option WorldPass) → w.tables.pass ≡ o → IfSome o (λ pass. pass.max < 2 ^ 48)
     by None is = tt
-    by (Some p) is = (s.passes (pass_of p) (ap (option_map pass_of) is)).max
+    by (Some p) is = s.passes (pass_of p) (ap (option_map pass_of) is)
 
 pub stripe_small : (w : World) → IsWithin (state_of w) → IfSome w.loan (λ loan. loan.stripe < 2 ^ 48)
 stripe_small w s = by w.loan refl
@@ -41,6 +41,3 @@ stripe_small w s = by w.loan refl
     by : (o : Option Lent) → w.loan ≡ o → IfSome o (λ loan. loan.stripe < 2 ^ 48)
     by None is = tt
     by (Some n) is = s.lends (loan_of n) (ap (option_map loan_of) is)
-
-pub numbered : (w : World) → IsWithin (state_of w) → (p : state.Pass) → (core_of w.tables).pass ≡ Some p → p.number ≡ w.tables.last
-numbered w s p is = (s.passes p is).number

@@ -16,7 +16,7 @@ use Rattle.draid_machine.specs.Arms.{has_moved, targets_of}
 use Rattle.draid_machine.specs.After.{attach_state, attached_core, rearranged_state, replan, replan_kind, lose_targets, set_held, seal_held, keep_loan, is_freed_block, seal_state, sealed_core, commit_state, planned_pass, plan_state, finish_state, land_stripe_state, land_block_state, unsourced}
 use Rattle.draid_machine.specs.Step.{Step, MayPlan}
 use Rattle.draid_machine.proofs.Small.{some_injective, none_some, mapped_pass, kept_some, kept_if, both_true, is_below}
-use Rattle.draid_replay.specs.Within.{IsSmall, AreSmall, IsLastPass, IsSmallPass, IsSmallImage, AreWithin, IsWithin, IsSmallEvent}
+use Rattle.draid_replay.specs.Within.{IsSmall, AreSmall, IsSmallPass, IsSmallImage, AreWithin, IsWithin, IsSmallEvent}
 
 -- ---- blocks and tickets
 held_set : (f : Key → Option Held) (k : Key) (h : Held) → AreSmall f → IsSmall h → AreSmall (set_held f k (Some h))
@@ -92,11 +92,11 @@ no_image i is = absurd (none_some None i refl is)
 no_loan : (n : Loan) → None ≡ Some n → n.stripe < 2 ^ 48
 no_loan n is = absurd (none_some None n refl is)
 
-no_pass : (last : ℕ) → IsSmallPass None last
-no_pass last p is = absurd (none_some None p refl is)
+no_pass : IsSmallPass None
+no_pass p is = absurd (none_some None p refl is)
 
-some_pass : (p : Pass) (last : ℕ) → IsLastPass last p → IsSmallPass (Some p) last
-some_pass p last small r is = subst (IsLastPass last) (some_injective p r is) small
+some_pass : (p : Pass) → p.max < 2 ^ 48 → IsSmallPass (Some p)
+some_pass p small r is = subst (λ (x : Pass). x.max < 2 ^ 48) (some_injective p r is) small
 
 -- ---- kinds of event
 seal_within : (l : Layout) (w : State) (t : ℕ) (failed : List ℕ) (wrote : Bool) → IsWithin w → w.closing ≡ Some t → IsWithin (seal_state l w t failed wrote)
@@ -111,11 +111,8 @@ seal_within l w t failed wrote s closing = record {
   seals = λ i is. subst IsSmallImage (some_injective _ i is) (record { group = s.closes t closing; held = sealed_small t w.core.held s.holds; pass = passes });
 }
   where
-    passes : IsSmallPass (sealed_core l w.core t failed wrote).pass w.core.last
-    passes p is =
-        let z = mapped_pass _ w.core.pass p is in
-        let small = s.passes z.0 z.1 in
-        subst (IsLastPass w.core.last) (sym z.2) (record { number = small.number; max = small.max })
+    passes : IsSmallPass (sealed_core l w.core t failed wrote).pass
+    passes p is = let z = mapped_pass _ w.core.pass p is in subst (λ (x : Pass). x.max < 2 ^ 48) (sym z.2) (s.passes z.0 z.1)
 
 commit_within : (l : Layout) (w : State) (t : ℕ) (image : Image) → IsWithin w → w.closing ≡ Some t → w.sealed ≡ Some image → IsWithin (commit_state l w t image)
 commit_within l w t image s closing sealed = record {
@@ -141,48 +138,48 @@ plan_within w kind targets s may = record {
   seals = s.seals;
 }
   where
-    by : (kind : PassKind) → MayPlan w kind targets → IsSmallPass (Some (planned_pass w kind targets)) (w.core.last + 1)
-    by Rebuild may = let low = may.1 in some_pass (planned_pass w Rebuild targets) (w.core.last + 1) (record { number = refl; max = omega (arith, low) })
-    by Heal may = some_pass (planned_pass w Heal targets) (w.core.last + 1) (record { number = refl; max = s.commits })
+    by : (kind : PassKind) → MayPlan w kind targets → IsSmallPass (Some (planned_pass w kind targets))
+    by Rebuild may = let low = may.1 in some_pass (planned_pass w Rebuild targets) (omega (arith, low))
+    by Heal may = some_pass (planned_pass w Heal targets) s.commits
 
 -- a pass with another place, other targets or errors
-passed_within : (w : State) (q : Pass) (last : ℕ) (loan : Option Loan) → IsWithin w → IsLastPass last q → ((n : Loan) → loan ≡ Some n → n.stripe < 2 ^ 48)
-    → AreWithin w.open_group w.closing w.committed w.core.held (Some q) last loan w.image w.sealed
-passed_within w q last loan s small lends = record {
+passed_within : (w : State) (q : Pass) (loan : Option Loan) → IsWithin w → q.max < 2 ^ 48 → ((n : Loan) → loan ≡ Some n → n.stripe < 2 ^ 48)
+    → AreWithin w.open_group w.closing w.committed w.core.held (Some q) loan w.image w.sealed
+passed_within w q loan s small lends = record {
   opens = s.opens;
   closes = s.closes;
   commits = s.commits;
   holds = s.holds;
-  passes = some_pass q last small;
+  passes = some_pass q small;
   lends = lends;
   opened = s.opened;
   seals = s.seals;
 }
 
-ended_within : (w : State) (loan : Option Loan) → IsWithin w → ((n : Loan) → loan ≡ Some n → n.stripe < 2 ^ 48) → AreWithin w.open_group w.closing w.committed w.core.held None w.core.last loan w.image w.sealed
-ended_within w loan s lends = record { opens = s.opens; closes = s.closes; commits = s.commits; holds = s.holds; passes = no_pass w.core.last; lends = lends; opened = s.opened; seals = s.seals }
+ended_within : (w : State) (loan : Option Loan) → IsWithin w → ((n : Loan) → loan ≡ Some n → n.stripe < 2 ^ 48) → AreWithin w.open_group w.closing w.committed w.core.held None loan w.image w.sealed
+ended_within w loan s lends = record { opens = s.opens; closes = s.closes; commits = s.commits; holds = s.holds; passes = no_pass; lends = lends; opened = s.opened; seals = s.seals }
 
 -- no loan counts any more
-rearranged_within : (w : State) → IsWithin w → AreWithin w.open_group w.closing w.committed w.core.held w.core.pass w.core.last None w.image w.sealed
+rearranged_within : (w : State) → IsWithin w → AreWithin w.open_group w.closing w.committed w.core.held w.core.pass None w.image w.sealed
 rearranged_within w s = record { opens = s.opens; closes = s.closes; commits = s.commits; holds = s.holds; passes = s.passes; lends = no_loan; opened = s.opened; seals = s.seals }
 
 -- a pass that is planned again, or loses targets
-replanned_within : (l : Layout) (w : State) (moved : ArmName → Bool) (o : Option Pass) → IsWithin w → IsSmallPass o w.core.last → ((p : Pass) → o ≡ Some p → p.kind ≡ Rebuild → w.open_group < LAST_NUMBER)
+replanned_within : (l : Layout) (w : State) (moved : ArmName → Bool) (o : Option Pass) → IsWithin w → IsSmallPass o → ((p : Pass) → o ≡ Some p → p.kind ≡ Rebuild → w.open_group < LAST_NUMBER)
     → IsWithin (replan l w moved o)
 replanned_within l w moved None s small low = s
 replanned_within l w moved (Some p) s small low = by p.kind refl
   where
-    again : (targets : List ArmName) → w.open_group < LAST_NUMBER → IsLastPass (w.core.last + 1) (planned_pass w Rebuild targets)
-    again targets below = record { number = refl; max = omega (arith, below) }
+    again : (targets : List ArmName) → w.open_group < LAST_NUMBER → (planned_pass w Rebuild targets).max < 2 ^ 48
+    again targets below = omega (arith, below)
 
     by : (kind : PassKind) → p.kind ≡ kind → IsWithin (replan_kind l w moved p kind)
-    by Rebuild at = passed_within w (planned_pass w Rebuild (targets_of l w.core Rebuild)) (w.core.last + 1) w.loan s (again (targets_of l w.core Rebuild) (low p refl at)) s.lends
-    by Heal at = passed_within w (lose_targets moved 0 p) w.core.last w.loan s (let q = small p refl in record { number = q.number; max = q.max }) s.lends
+    by Rebuild at = passed_within w (planned_pass w Rebuild (targets_of l w.core Rebuild)) w.loan s (again (targets_of l w.core Rebuild) (low p refl at)) s.lends
+    by Heal at = passed_within w (lose_targets moved 0 p) w.loan s (small p refl) s.lends
 
-held_within : (w : State) (f : Key → Option Held) → IsWithin w → AreSmall f → AreWithin w.open_group w.closing w.committed f w.core.pass w.core.last w.loan w.image w.sealed
+held_within : (w : State) (f : Key → Option Held) → IsWithin w → AreSmall f → AreWithin w.open_group w.closing w.committed f w.core.pass w.loan w.image w.sealed
 held_within w f s all = record { opens = s.opens; closes = s.closes; commits = s.commits; holds = all; passes = s.passes; lends = s.lends; opened = s.opened; seals = s.seals }
 
-opened_within : (i : Image) → IsSmallImage i → AreWithin (i.group + 1) None i.group i.core.held i.core.pass i.core.last None i None
+opened_within : (i : Image) → IsSmallImage i → AreWithin (i.group + 1) None i.group i.core.held i.core.pass None i None
 opened_within i small = record {
   opens = small.group;
   closes = no_number;
@@ -241,20 +238,20 @@ kept l w new (Close group) few s small step =
 kept l w new (Seal group failed) few s small step = to (seal_state l w group failed.items step.wrote) new step.made (seal_within l w group failed.items step.wrote s step.closing)
 kept l w new (Commit group) few s small step = to (commit_state l w group step.image) new step.made (commit_within l w group step.image s step.closing step.sealed)
 kept l w new (Plan kind) few s small step = to _ new step.made (plan_within w kind _ s step.may)
-kept l w new Ready few s small step = to _ new step.made (passed_within w _ w.core.last w.loan s (let q = s.passes step.p step.pass in record { number = q.number; max = q.max }) s.lends)
+kept l w new Ready few s small step = to _ new step.made (passed_within w _ w.loan s (s.passes step.p step.pass) s.lends)
 kept l w new (Lend failed) few s small step =
     let next = step.next in
     let short = (s.holds step.n.key step.h next.found).short in
     let below = is_below step.n.stripe (step.h.first + step.h.stripes) (both_true _ (nat_lt step.n.stripe (step.h.first + step.h.stripes)) next.taken).1 in
-    to _ new step.made (passed_within w _ w.core.last (Some step.n) s (let q = s.passes step.p step.pass in record { number = q.number; max = q.max }) (λ n is. subst (λ (x : Loan). x.stripe < 2 ^ 48) (some_injective step.n n is) (omega (arith, short, below))))
+    to _ new step.made (passed_within w _ (Some step.n) s (s.passes step.p step.pass) (λ n is. subst (λ (x : Loan). x.stripe < 2 ^ 48) (some_injective step.n n is) (omega (arith, short, below))))
 kept l w new (LandStripe pass serial failed) few s small step =
     let q = s.passes step.p step.counts.pass_is in
     to (land_stripe_state l w step.p step.n step.h failed.items) new step.made
-    (if_within (nat_lt l.parity (unsourced l step.n)) _ _ (passed_within w _ w.core.last None s (record { number = q.number; max = q.max }) no_loan) (passed_within w _ w.core.last None s (record { number = q.number; max = q.max }) no_loan))
+    (if_within (nat_lt l.parity (unsourced l step.n)) _ _ (passed_within w _ None s q no_loan) (passed_within w _ None s q no_loan))
 kept l w new (LandBlock pass serial failed patched unreadable) few s small step =
     let q = s.passes step.p step.counts.pass_is in
     to (land_block_state l w step.p step.n step.h failed.items patched.items unreadable step.whole) new step.made
-    (if_within unreadable _ _ (passed_within w _ w.core.last None s (record { number = q.number; max = q.max }) no_loan) (passed_within w _ w.core.last None s (record { number = q.number; max = q.max }) no_loan))
+    (if_within unreadable _ _ (passed_within w _ None s q no_loan) (passed_within w _ None s q no_loan))
 kept l w new (Done failed) few s small step = to _ new step.made (ended_within w w.loan s s.lends)
 kept l w new Cancel few s small step = to _ new step.made (ended_within w None s no_loan)
 kept l w new (Reopen group doubtful) few s small step = to _ new step.made (elim step.one [

@@ -16,33 +16,28 @@ pub record IsSmall (h : Held) : Type 0 where
 abbrev pub AreSmall : (Key → Option Held) → Type 0
 AreSmall held = (k : Key) (h : Held) → held k ≡ Some h → IsSmall h
 
--- a pass has the last number, and makes good groups below 2^48
-pub record IsLastPass (last : ℕ) (p : Pass) : Type 0 where
-  pub number : p.number ≡ last
-  pub max : p.max < NUMBERS
-
-abbrev pub IsSmallPass : Option Pass → ℕ → Type 0
-IsSmallPass pass last = (p : Pass) → pass ≡ Some p → IsLastPass last p
+abbrev pub IsSmallPass : Option Pass → Type 0
+IsSmallPass pass = (p : Pass) → pass ≡ Some p → p.max < NUMBERS
 
 -- an image is that of a group behind which there is another
 pub record IsSmallImage (i : Image) : Type 0 where
   pub group : i.group + 1 < NUMBERS
   pub held : AreSmall i.core.held
-  pub pass : IsSmallPass i.core.pass i.core.last
+  pub pass : IsSmallPass i.core.pass
 
 -- the numbers of a state are in their ranges
-pub record AreWithin (open_group : ℕ) (closing : Option ℕ) (committed : ℕ) (held : Key → Option Held) (pass : Option Pass) (last : ℕ) (loan : Option Loan) (image : Image) (sealed : Option Image) : Type 0 where
+pub record AreWithin (open_group : ℕ) (closing : Option ℕ) (committed : ℕ) (held : Key → Option Held) (pass : Option Pass) (loan : Option Loan) (image : Image) (sealed : Option Image) : Type 0 where
   pub opens : open_group < NUMBERS
   pub closes : (t : ℕ) → closing ≡ Some t → t + 1 < NUMBERS
   pub commits : committed < NUMBERS
   pub holds : AreSmall held
-  pub passes : IsSmallPass pass last
+  pub passes : IsSmallPass pass
   pub lends : (n : Loan) → loan ≡ Some n → n.stripe < NUMBERS
   pub opened : IsSmallImage image
   pub seals : (i : Image) → sealed ≡ Some i → IsSmallImage i
 
 abbrev pub IsWithin : State → Type 0
-IsWithin w = AreWithin w.open_group w.closing w.committed w.core.held w.core.pass w.core.last w.loan w.image w.sealed
+IsWithin w = AreWithin w.open_group w.closing w.committed w.core.held w.core.pass w.loan w.image w.sealed
 
 -- an event's numbers are in their ranges
 abbrev pub IsSmallEvent : Event → Type 0

@@ -23,7 +23,7 @@ use draid_world::{Site, World};
 use std::alloc::Global;
 
 /// Does what an event says, where that is legal.
-#[tactic(auto, using(crate::proofs::Needs::low, crate::proofs::Needs::counted, crate::proofs::Needs::short, crate::proofs::Needs::image_low, crate::proofs::Needs::sealed_low, crate::proofs::Needs::max_small, crate::proofs::Needs::numbered, crate::proofs::Needs::stripe_small))]
+#[tactic(auto, using(crate::proofs::Needs::low, crate::proofs::Needs::counted, crate::proofs::Needs::short, crate::proofs::Needs::image_low, crate::proofs::Needs::sealed_low, crate::proofs::Needs::max_small, crate::proofs::Needs::stripe_small))]
 pub fn advance(
     alloc: Global,
     site: &Site,

@@ -105,13 +105,8 @@ fn detached(
     Ok([only, none, spare, missed])
 }
 
-/// What became of a spare whose sectors lay on a slot that got a spare in its turn: where sector 0 of its slot
-/// lay before and lies then, whether it moved, and whether the other spare did.
-fn chained(
-    alloc: Global,
-    layout: Geometry,
-    perms: Perms,
-) -> Result<Option<([u64; 2], [bool; 2])>, NoMemory>
+/// Which of two spares move where the slot that keeps the first one's sectors gets the second.
+fn chained(alloc: Global, layout: Geometry, perms: Perms) -> Result<Option<[bool; 2]>, NoMemory>
     requires { IsLayout layout perms }
 {
     if layout.spec.children != 5 || layout.spec.spares != 2 {
@@ -121,18 +116,10 @@ fn chained(
     let keeper = perms.child(0, 4);
     let mut slots = Slots::new(alloc, layout, perms, 0)?;
     let _ = attach(&mut slots, alloc, spared, arm(ArmKind::Spare, 0))?;
-    if slots.arms(spared).len() < 2 || layout.rows == 0 {
-        return Ok(None);
-    }
-    let before = slots.place(at(spared, 1), 0).leaf;
     let Ok(moved) = attach(&mut slots, alloc, keeper, arm(ArmKind::Spare, 1))? else {
         return Ok(None);
     };
-    if slots.arms(spared).len() < 2 {
-        return Ok(None);
-    }
-    let after = slots.place(at(spared, 1), 0).leaf;
-    Ok(Some(([before, after], [moved.has(0), moved.has(1)])))
+    Ok(Some([moved.has(0), moved.has(1)]))
 }
 
 /// Whether a leaf that leaves was online as it was detached, for a leaf that was and for one that wasn't; and where a
@@ -236,7 +223,7 @@ fn placed(alloc: Global, layout: Geometry, perms: Perms) -> Result<Option<At>, N
     requires { IsLayout layout perms }
 {
     let slots = Slots::new(alloc, layout, perms, 0)?;
-    if layout.spec.children < 2 || slots.arms(1).is_empty() || layout.props.height < 4 {
+    if layout.spec.children < 2 || slots.arms(1).is_empty() || layout.metaslab_sectors() < 4 {
         return Ok(None);
     }
     Ok(Some(slots.place(at(1, 0), 3)))
@@ -342,11 +329,7 @@ fn a_spare_moves_on_where_its_keeper_is_spared(rt: HostRuntime) {
     let spec = parse_spec(b"draid1:2d:2s", 5, 1).expect(&rt, "a spec");
     let layout = geometry(spec, PROPS).expect(&rt, "a layout");
     let perms = Perms::new(layout.spec.children, layout.props.seed);
-    let leaf = |position: u32| u64::from(perms.child(0, position));
-    assert_eq!(rt;
-        chained(alloc, layout, perms),
-        Ok(Some(([leaf(4), leaf(3)], [true, false])))
-    );
+    assert_eq!(rt; chained(alloc, layout, perms), Ok(Some([true, false])));
     let four = Some(at(1, 1));
     assert_eq!(rt; left(alloc, layout, perms, false), Ok((true, [four, None])));
     assert_eq!(rt; left(alloc, layout, perms, true), Ok((false, [four, None])));
