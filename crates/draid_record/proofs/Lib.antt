@@ -1,3 +1,4 @@
+pub mod Again
 pub mod Digits
 pub mod Joined
 pub mod Laws
