@@ -1,4 +1,5 @@
-ghost use Rattle.std.specs.Prelude.{◌≡◌, ◌++◌, ◌%◌, ℕ, List, Ok, length};
+ghost use Rattle.std.specs.Prelude.{◌≡◌, ◌++◌, ◌%◌, ℕ, List, Ok, drop, length, slice_index_or};
+ghost use Rattle.byteorder.specs.Endian.{big_number};
 ghost use Rattle.draid_record.specs.declared.limits.Limits.{Limits};
 ghost use Rattle.draid_record.specs.declared.uber.UberBody.{UberBody};
 ghost use Rattle.draid_record.specs.Grammar.{Spells};
@@ -23,9 +24,12 @@ pub fn what_is_written_is_read()
         → told (length (bytes ++ more)) (read (uber slot) (bytes ++ more)) ≡ Ok body }
 {}
 
-/// Law: what a slot of the uberblock spells is in its ranges, and its group is one of that slot.
-#[tactic(auto, using(crate::proofs::Again::uber_ranges, crate::proofs::Again::uber_slot))]
+/// Law: what a slot of the uberblock spells is in its ranges, and its group is one of that slot. Where one is read, the
+/// gate is open, and the group stands from byte 7 on.
+#[tactic(auto, using(crate::proofs::Again::uber_ranges, crate::proofs::Again::uber_slot, crate::proofs::Front::uber_front))]
 pub fn uberblocks_keep_their_ranges()
     ensures ranges { (slot : ℕ) (body : UberBody) (bytes : List ℕ) → Spells (uber slot) bytes body → IsUber body }
     ensures slot { (slot : ℕ) (body : UberBody) (bytes : List ℕ) → Spells (uber slot) bytes body → body.group % 2 ≡ slot }
+    ensures front { (slot : ℕ) (bytes : List ℕ) (body : UberBody) → told (length bytes) (read (uber slot) bytes) ≡ Ok body
+        → (slice_index_or bytes 0 0 ≡ 90) × (big_number 8 (drop 7 bytes) ≡ body.group) }
 {}
