@@ -1,1 +1,4 @@
 pub mod Choices
+pub mod Commits
+pub mod Ends
+pub mod Layouts

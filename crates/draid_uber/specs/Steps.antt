@@ -39,3 +39,7 @@ pub record IsShut (kept : Option UberBody) (slot : ℕ) (x : Content) : Type 0 w
 pub record IsFilled (kept : Option UberBody) (slot : ℕ) (bytes : List ℕ) (x : Content) : Type 0 where
   pub shut : IsShut kept slot x
   pub behind : (i : ℕ) → 1 ≤ i → i < slot_bytes → byte x.bytes (base_of slot + i) ≡ byte bytes i
+
+-- an area was left alone, or flushed
+abbrev pub IsSameOrFlushed : Option Content → Option Content → Type 0
+IsSameOrFlushed old new = (new ≡ old) ⊎ (new ≡ option_map flushes old)

@@ -75,7 +75,3 @@ FindsFault (faults.Record place kind) chosen = chosen ≡ Some (Err (Bad place k
 abbrev pub Finds : {A : Type 0} → Result (Uber A) (UberRefused A) → Option (Result UberBody RecordFault) → Type 0
 Finds (Ok uber) chosen = chosen ≡ option_map read_body uber.kept
 Finds (Err refused) chosen = FindsFault refused.why chosen
-
--- an area was left alone, or flushed
-abbrev pub IsSameOrFlushed : Option Content → Option Content → Type 0
-IsSameOrFlushed old new = (new ≡ old) ⊎ (new ≡ option_map flushes old)
