@@ -109,6 +109,19 @@ impl<A: Area> Uber<A> {
         self.next_leaf = next;
     }
 
+    /// Has the next commit write version 2.
+    pub fn upgrade(&mut self)
+        requires valid { Valid A.size self.old }
+        ensures valid { Valid A.size self.new }
+        ensures version { version_of self.new ≡ 2 }
+        ensures area { area_of self.new ≡ area_of self.old }
+        ensures kept { kept_of self.new ≡ kept_of self.old }
+        ensures layout { layout_of self.new ≡ layout_of self.old }
+        ensures leaf { next_leaf_of self.new ≡ next_leaf_of self.old }
+    {
+        self.version = 2;
+    }
+
     /// The area.
     pub fn into_area(self) -> A
         ensures { result ≡ area_of self }
