@@ -1,7 +1,7 @@
 -- The steps of a commit, each one write and one flush.
-use Rattle.std.specs.Prelude.{◌≡◌, ◌≤◌, ◌<◌, ◌+◌, ℕ, false, List, Option, None, MatchOption, Result, OnOk, length, slice_index_or}
+use Rattle.std.specs.Prelude.{◌≡◌, ◌≤◌, ◌<◌, ◌+◌, ◌⊎◌, ℕ, false, List, Option, None, MatchOption, Result, OnOk, length, option_map, slice_index_or}
 use Rattle.std.specs.List.{splice}
-use Rattle.draid_area.specs.Area.{Content, MayLeave, within}
+use Rattle.draid_area.specs.Area.{Content, MayLeave, flushes, within}
 use Rattle.draid_record.specs.declared.uber.UberBody.{UberBody}
 use Rattle.draid_uber.specs.Slots.{HasKept, area_bytes, base_of, is_open, slot_bytes, slot_in}
 
