@@ -12,6 +12,9 @@ use Rattle.draid_uber.specs.Slots.{Chooses, HasKept, IsLeft, Stands, StandsTold,
 use Rattle.draid_uber.specs.Steps.{IsBeside, IsFilled, IsFirm, IsShut, Puts, PutsTold, byte}
 use Rattle.draid_uber.proofs.Choices.{kept_alone, kept_slot, kept_stays, left_alone, left_same, new_chosen, slot_at, slot_length, slot_same, slots_apart}
 
+abbrev pub one : ℕ → List ℕ
+one n = n ∷ []
+
 -- ---- a write that is flushed
 -- a crash leaves of firm bytes what they are
 pub firm_left : (x : Content) (left : List ℕ) → IsFirm x → MayLeave x left → left ≡ x.bytes
@@ -171,8 +174,8 @@ gate_shuts kept pending (Ok u) (Some x) (Some y) f puts =
     itself : (y : Content) → IsFirm y → MayLeave y y.bytes
     itself y firm = let e = firm.firm in record { same = λ i d e. refl; least = omega (arith, e); most = omega arith }
 
-    first : (b : ℕ) → slice_index_or (0 ∷ []) (b - b) 0 ≡ 0
-    first b = let e : b - b ≡ 0 = omega arith in ap (λ n. slice_index_or (0 ∷ []) n 0) e
+    first : (b : ℕ) → slice_index_or (one 0) (b - b) 0 ≡ 0
+    first b = let z : ℕ = 0 in let e : b - b ≡ z = omega arith in rw e refl
 
 -- it was shut already
 pub gate_was_shut : (kept : Option UberBody) (pending : List UberBody) (o : Option Content) → OnTold o (λ x. is_open (slot_in (next_slot kept) x.bytes) ≡ false) → OnTold o (Flushed kept pending) → OnTold o (IsShut kept (next_slot kept))
@@ -257,7 +260,7 @@ slot_whole kept bytes xs left long len first beside behind open_ =
       | inr some ↦ beside.same (base_of (next_slot kept) + k) (out (base_of (next_slot kept)) k some) ∙ behind k some less
     ]
 
-module _ {E : Type 0} (kept : Option UberBody) (body : UberBody) (bytes : List ℕ) (len : length bytes ≡ 51) (first : byte bytes 0 ≡ 90) (is_body : body_in (next_slot kept) bytes ≡ Ok body) (next : body.group ≡ 1 + group_of kept) where
+module _ (kept : Option UberBody) (body : UberBody) (bytes : List ℕ) (len : length bytes ≡ 51) (first : byte bytes 0 ≡ 90) (is_body : body_in (next_slot kept) bytes ≡ Ok body) (next : body.group ≡ 1 + group_of kept) where
   -- the new body is chosen where the gate is open
   opened : (x : Content) (left : List ℕ) → IsFilled kept (next_slot kept) bytes x → IsBeside (base_of (next_slot kept)) 1 x.bytes left → byte left (base_of (next_slot kept)) ≡ 90 → (slot_in (next_slot kept) left ≡ bytes) × (chosen_of left ≡ Some (Ok body))
   opened x left is beside open_ =
@@ -273,7 +276,7 @@ module _ {E : Type 0} (kept : Option UberBody) (body : UberBody) (bytes : List �
     | inl open_ ↦ record {
       long = long;
       kept_is = has;
-      chosen = inr (body, inl refl, (opened x left is beside (sym (gate_at (next_slot kept) left) ∙ open_is (slot_in (next_slot kept) left) open_)).1);
+      chosen = inr (body, (0, omega arith, refl), (opened x left is beside (sym (gate_at (next_slot kept) left) ∙ open_is (slot_in (next_slot kept) left) open_)).1);
     }
     | inr shut ↦ left_alone kept (body ∷ []) left long has shut
   ]
@@ -284,12 +287,12 @@ module _ {E : Type 0} (kept : Option UberBody) (body : UberBody) (bytes : List �
       has : HasKept kept left
       has = kept_beside kept (base_of (next_slot kept)) 1 x.bytes left is.shut.long (omega arith) (omega arith) beside is.shut.kept_is
 
-  pub open_stands : (r : Result Unit E) (o p : Option Content) → OnTold o (IsFilled kept (next_slot kept) bytes) → PutsTold (base_of (next_slot kept)) (90 ∷ []) r o p → StandsTold kept (body ∷ []) p
+  pub open_stands : {E : Type 0} (r : Result Unit E) (o p : Option Content) → OnTold o (IsFilled kept (next_slot kept) bytes) → PutsTold (base_of (next_slot kept)) (90 ∷ []) r o p → StandsTold kept (body ∷ []) p
   open_stands r None p is puts = rw puts tt
   open_stands r (Some x) None is puts = absurd (puts is.shut.firm)
   open_stands r (Some x) (Some y) is puts = λ left may. opens_left x left is ((puts is.shut.firm).beside left may)
 
-  pub open_opens : (r : Result Unit E) (o p : Option Content) → OnTold o (IsFilled kept (next_slot kept) bytes) → PutsTold (base_of (next_slot kept)) (90 ∷ []) r o p → OnOk r (StandsTold (Some body) [] p)
+  pub open_opens : {E : Type 0} (r : Result Unit E) (o p : Option Content) → OnTold o (IsFilled kept (next_slot kept) bytes) → PutsTold (base_of (next_slot kept)) (90 ∷ []) r o p → OnOk r (StandsTold (Some body) [] p)
   open_opens (Err e) o p is puts = tt
   open_opens (Ok u) None p is puts = rw puts tt
   open_opens (Ok u) (Some x) None is puts = absurd (puts is.shut.firm)
@@ -312,8 +315,8 @@ module _ {E : Type 0} (kept : Option UberBody) (body : UberBody) (bytes : List �
         chosen = inl o.1;
       }
     where
-      at_first : (b : ℕ) → slice_index_or (90 ∷ []) (b - b) 0 ≡ 90
-      at_first b = let e : b - b ≡ 0 = omega arith in ap (λ n. slice_index_or (90 ∷ []) n 0) e
+      at_first : (b : ℕ) → slice_index_or (one 90) (b - b) 0 ≡ 90
+      at_first b = let z : ℕ = 0 in let e : b - b ≡ z = omega arith in rw e refl
 
       parity_same : (kept : Option UberBody) → body.group ≡ 1 + group_of kept → body.group % 2 ≡ next_slot kept
       parity_same kept next = let e : body.group ≡ group_of kept + 1 = omega (arith, next) in ap (λ n. n % 2) e

@@ -38,14 +38,17 @@ given_parts spec props found g is exact e =
     let same : layout_of spec props ≡ g = ok_is (layout_of spec props) g (sym is ∙ sym exact ∙ e) in
     (ap (λ (l : Geometry). l.spec) (sym same), ap (λ (l : Geometry). l.props) (sym same))
 
-tests_again : (a b c : Result Unit SpecFault) (t : Bool) (e f : SpecFault) (x y g : Geometry) → result_and a (result_and b (result_and c (if t then Err e else Ok x))) ≡ Ok g → is_ok (result_and (Ok tt) (result_and b (result_and c (if t then Err f else Ok y)))) ≡ true
+abbrev pub passes : Result Unit SpecFault
+passes = Ok tt
+
+tests_again : (a b c : Result Unit SpecFault) (t : Bool) (e f : SpecFault) (x y g : Geometry) → result_and a (result_and b (result_and c (if t then Err e else Ok x))) ≡ Ok g → is_ok (result_and passes (result_and b (result_and c (if t then Err f else Ok y)))) ≡ true
 tests_again (Err w) b c t e f x y g is = absurd (cc)
 tests_again (Ok u) (Err w) c t e f x y g is = absurd (cc)
 tests_again (Ok u) (Ok v) (Err w) t e f x y g is = absurd (cc)
 tests_again (Ok u) (Ok v) (Ok w) true e f x y g is = absurd (cc)
 tests_again (Ok u) (Ok v) (Ok w) false e f x y g is = refl
 
-version_passes : (v : ℕ) → IsVersion v → checked_version v ≡ Ok tt
+version_passes : (v : ℕ) → IsVersion v → checked_version v ≡ passes
 version_passes v (inl e) = rw e refl
 version_passes v (inr e) = rw e refl
 
