@@ -62,9 +62,9 @@ first_below v w n (inl e) le few one = few e
 first_below v w n (inr e) le few one = absurd (omega (arith, e, le, one))
 
 -- what the next commit writes is in its ranges
-pub next_ranges : (kept : Option UberBody) (geometry : Geometry) (version next_leaf group : ℕ) → IsHeld kept geometry version next_leaf → IsNext kept group → geometry.props.seed < 2 ^ 64
+pub next_ranges : (kept : Option UberBody) (geometry : Geometry) (version next_leaf group : ℕ) → IsHeld kept geometry version next_leaf → IsNext kept group
     → IsUber (record { group = group; spec = geometry.spec; props = with_version geometry.props version; next_leaf = next_leaf })
-next_ranges kept geometry version next_leaf group held next seed =
+next_ranges kept geometry version next_leaf group held next =
     let l = held.layout_is in
     let s = l.spec in
     let p = l.props in
@@ -98,7 +98,7 @@ next_ranges kept geometry version next_leaf group held next seed =
         most_slices = p.most_slices;
       };
       layout = later_version geometry.spec geometry.props version geometry held.version_is (given_layout geometry l);
-      seed_below = seed;
+      seed_below = held.seed_below;
       leaf_above = held.leaf_above;
       leaf_below = held.leaf_below;
     }
