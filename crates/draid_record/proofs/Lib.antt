@@ -1,4 +1,6 @@
+pub mod Again
 pub mod Digits
+pub mod Front
 pub mod Joined
 pub mod Laws
 pub mod Loop

@@ -15,7 +15,8 @@ mod uber;
 mod writing;
 
 pub use fault::RecordFault;
-pub use law::values_in_range_are_spelled;
+pub use law::{uberblocks_keep_their_ranges, values_in_range_are_spelled, what_is_written_is_read};
+pub use limits::Limits;
 pub use record::{Record, read_record};
 pub use uber::{UberBody, read_uber, write_uber};
 pub use writing::write_record;

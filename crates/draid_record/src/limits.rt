@@ -1,6 +1,6 @@
 /// What the ranges of a record's fields go by.
 #[derive(Clone, Copy, Debug, PartialEq, Eq)]
-pub(crate) struct Limits {
+pub struct Limits {
     /// The version of the uberblock.
     pub version: u32,
     pub children: u32,
