@@ -102,9 +102,6 @@ gate_at slot xs = (let e : base_of slot + 0 ≡ base_of slot = omega arith in sl
 open_is : (bytes : List ℕ) → is_open bytes ≡ true → byte bytes 0 ≡ 90
 open_is bytes is = grind (arith, nat_tests)
 
-is_open_at : (bytes : List ℕ) (n : ℕ) → byte bytes 0 ≡ n → n ≡ 90 → is_open bytes ≡ true
-is_open_at bytes n a b = grind (arith, nat_tests)
-
 is_shut_at : (bytes : List ℕ) (n : ℕ) → byte bytes 0 ≡ n → (n ≡ 90 → ⊥) → is_open bytes ≡ false
 is_shut_at bytes n a b = grind (arith, nat_tests)
 
@@ -167,8 +164,8 @@ gate_shuts kept pending (Ok u) (Some x) (Some y) f puts =
       long = omega (arith, long_x, more);
       kept_is = kept_beside kept (base_of (next_slot kept)) 1 x.bytes y.bytes long_x (omega arith) (omega arith) beside f.left.kept_is;
       shut = is_shut_at (slot_in (next_slot kept) y.bytes) 0
-        (gate_at (next_slot kept) y.bytes ∙ ap (λ b. byte b (base_of (next_slot kept))) whole ∙ splice_inside x.bytes (0 ∷ []) (base_of (next_slot kept)) 1 (base_of (next_slot kept)) 0 inside refl (omega arith) (omega arith) ∙ first (base_of (next_slot kept)))
-        (λ e. absurd (omega (arith, e)));
+          (gate_at (next_slot kept) y.bytes ∙ ap (λ b. byte b (base_of (next_slot kept))) whole ∙ splice_inside x.bytes (0 ∷ []) (base_of (next_slot kept)) 1 (base_of (next_slot kept)) 0 inside refl (omega arith) (omega arith) ∙ first (base_of (next_slot kept)))
+          (λ e. absurd (omega (arith, e)));
     }
   where
     itself : (y : Content) → IsFirm y → MayLeave y y.bytes
@@ -191,7 +188,7 @@ shut_stands kept pending (Some x) is = λ left may. subst (IsLeft kept pending) 
 behind_gate : (kept : Option UberBody) (xs left : List ℕ) (n : ℕ) → IsBeside (base_of (next_slot kept) + 1) n xs left → is_open (slot_in (next_slot kept) xs) ≡ false → is_open (slot_in (next_slot kept) left) ≡ false
 behind_gate kept xs left n beside shut =
     is_same (slot_in (next_slot kept) xs) (slot_in (next_slot kept) left)
-      (gate_at (next_slot kept) left ∙ beside.same (base_of (next_slot kept)) (before (base_of (next_slot kept))) ∙ sym (gate_at (next_slot kept) xs)) shut
+    (gate_at (next_slot kept) left ∙ beside.same (base_of (next_slot kept)) (before (base_of (next_slot kept))) ∙ sym (gate_at (next_slot kept) xs)) shut
   where
     before : (b : ℕ) → within (b + 1) n b ≡ false
     before b = grind (arith, nat_tests)
@@ -230,9 +227,9 @@ module _ {E : Type 0} (kept : Option UberBody) (behind : List ℕ) (few : length
       record {
         shut = record { firm = firm; long = f.0; kept_is = f.1; shut = f.2 };
         behind = λ i some less. ap (λ b. byte b (base_of (next_slot kept) + i)) whole
-          ∙ splice_inside x.bytes behind (base_of (next_slot kept) + 1) (length behind) (base_of (next_slot kept) + i) 0 (omega (arith, low, long_x)) refl (omega (arith, some)) (omega (arith, few, less))
-          ∙ ap (λ k. slice_index_or behind k 0) (back (base_of (next_slot kept)) i)
-          ∙ part i some less;
+            ∙ splice_inside x.bytes behind (base_of (next_slot kept) + 1) (length behind) (base_of (next_slot kept) + i) 0 (omega (arith, low, long_x)) refl (omega (arith, some)) (omega (arith, few, less))
+            ∙ ap (λ k. slice_index_or behind k 0) (back (base_of (next_slot kept)) i)
+            ∙ part i some less;
       }
     where
       back : (b i : ℕ) → b + i - (b + 1) ≡ i - 1
@@ -253,10 +250,10 @@ slot_whole kept bytes xs left long len first beside behind open_ =
     there : (k : ℕ) → k < 51 → byte left (base_of (next_slot kept) + k) ≡ byte bytes k
     there k less = elim (cases_lt k 1) [
       | inl lt ↦ (
-        let z : k ≡ 0 = omega (arith, lt) in
-        let e : base_of (next_slot kept) + k ≡ base_of (next_slot kept) = omega (arith, z) in
-        ap (byte left) e ∙ open_ ∙ sym first ∙ ap (byte bytes) (sym z)
-      )
+          let z : k ≡ 0 = omega (arith, lt) in
+          let e : base_of (next_slot kept) + k ≡ base_of (next_slot kept) = omega (arith, z) in
+          ap (byte left) e ∙ open_ ∙ sym first ∙ ap (byte bytes) (sym z)
+          )
       | inr some ↦ beside.same (base_of (next_slot kept) + k) (out (base_of (next_slot kept)) k some) ∙ behind k some less
     ]
 
@@ -304,9 +301,9 @@ module _ (kept : Option UberBody) (body : UberBody) (bytes : List ℕ) (len : le
       let long_x = is.shut.long in
       let more = beside.long in
       let gate : byte left (base_of (next_slot kept)) ≡ 90 =
-        ap (λ b. byte b (base_of (next_slot kept))) (all ∙ put.whole)
-        ∙ splice_inside x.bytes (90 ∷ []) (base_of (next_slot kept)) 1 (base_of (next_slot kept)) 0 (omega (arith, low, long_x)) refl (omega arith) (omega arith)
-        ∙ at_first (base_of (next_slot kept)) in
+      ap (λ b. byte b (base_of (next_slot kept))) (all ∙ put.whole)
+      ∙ splice_inside x.bytes (90 ∷ []) (base_of (next_slot kept)) 1 (base_of (next_slot kept)) 0 (omega (arith, low, long_x)) refl (omega arith) (omega arith)
+      ∙ at_first (base_of (next_slot kept)) in
       let o = opened x left is beside gate in
       let e : body.group % 2 ≡ next_slot kept = parity_same kept next in
       record {

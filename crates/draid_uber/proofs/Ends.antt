@@ -20,10 +20,6 @@ pub on_err : {E P : Type 0} (r : Result Unit E) → P → OnErr r P
 on_err (Ok u) p = tt
 on_err (Err e) p = p
 
-pub on_ok : {E P : Type 0} (r : Result Unit E) → P → OnOk r P
-on_ok (Ok u) p = p
-on_ok (Err e) p = tt
-
 pub ok_map : {E P Q : Type 0} (r : Result Unit E) → (P → Q) → OnOk r P → OnOk r Q
 ok_map (Ok u) f p = f p
 ok_map (Err e) f p = tt
@@ -59,7 +55,7 @@ module _ (kept : Option UberBody) (slot at : ℕ) (e : next_slot kept ≡ slot) 
 
   pub shut_refused : {E : Type 0} (pending : List UberBody) (r : Result Unit E) (o p : Option Content) → OnTold o (λ x. is_open (slot_in slot x.bytes) ≡ true) → OnTold o (Flushed kept pending) → PutsTold at (0 ∷ []) r o p → OnErr r (StandsTold kept pending p)
   shut_refused pending r o p was f puts = on_err r (gate_stands kept pending (0 ∷ []) r o p refl
-    (subst (λ s. OnTold o (λ x. is_open (slot_in s x.bytes) ≡ true)) (sym e) was) f (subst (λ a. PutsTold a (0 ∷ []) r o p) place puts))
+      (subst (λ s. OnTold o (λ x. is_open (slot_in s x.bytes) ≡ true)) (sym e) was) f (subst (λ a. PutsTold a (0 ∷ []) r o p) place puts))
 
   pub shut_done : {E : Type 0} (pending : List UberBody) (r : Result Unit E) (o p : Option Content) → OnTold o (Flushed kept pending) → PutsTold at (0 ∷ []) r o p → OnOk r (OnTold p (IsShut kept slot))
   shut_done pending r o p f puts = subst (λ s. OnOk r (OnTold p (IsShut kept s))) e (gate_shuts kept pending r o p f (subst (λ a. PutsTold a (0 ∷ []) r o p) place puts))
@@ -72,31 +68,20 @@ module _ (kept : Option UberBody) (slot at : ℕ) (e : next_slot kept ≡ slot) 
 
   pub fill_done : {E : Type 0} (behind bytes : List ℕ) (r : Result Unit E) (o p : Option Content) → length behind ≡ 50 → ((i : ℕ) → 1 ≤ i → i < 51 → byte behind (i - 1) ≡ byte bytes i) → OnTold o (IsShut kept slot) → PutsTold (at + 1) behind r o p → OnOk r (OnTold p (IsFilled kept slot bytes))
   fill_done behind bytes r o p few part shut puts = subst (λ s. OnOk r (OnTold p (IsFilled kept s bytes))) e
-    (fill_fills kept behind few bytes r o p part (subst (λ s. OnTold o (IsShut kept s)) (sym e) shut) (subst (λ a. PutsTold (a + 1) behind r o p) place puts))
+      (fill_fills kept behind few bytes r o p part (subst (λ s. OnTold o (IsShut kept s)) (sym e) shut) (subst (λ a. PutsTold (a + 1) behind r o p) place puts))
 
   pub open_refused : {E : Type 0} (body : UberBody) (bytes : List ℕ) (r : Result Unit E) (o p : Option Content) → length bytes ≡ 51 → byte bytes 0 ≡ 90 → body_in slot bytes ≡ Ok body → body.group ≡ 1 + group_of kept → OnTold o (IsFilled kept slot bytes) → PutsTold at (90 ∷ []) r o p → OnErr r (StandsTold kept (body ∷ []) p)
   open_refused body bytes r o p len first is_body next filled puts = on_err r (open_stands kept body bytes len first (subst (λ s. body_in s bytes ≡ Ok body) (sym e) is_body) next r o p
-    (subst (λ s. OnTold o (IsFilled kept s bytes)) (sym e) filled) (subst (λ a. PutsTold a (90 ∷ []) r o p) place puts))
+      (subst (λ s. OnTold o (IsFilled kept s bytes)) (sym e) filled) (subst (λ a. PutsTold a (90 ∷ []) r o p) place puts))
 
   pub open_done : {E : Type 0} (body : UberBody) (bytes : List ℕ) (r : Result Unit E) (o p : Option Content) → length bytes ≡ 51 → byte bytes 0 ≡ 90 → body_in slot bytes ≡ Ok body → body.group ≡ 1 + group_of kept → OnTold o (IsFilled kept slot bytes) → PutsTold at (90 ∷ []) r o p → OnOk r (StandsTold (Some body) [] p)
   open_done body bytes r o p len first is_body next filled puts = open_opens kept body bytes len first (subst (λ s. body_in s bytes ≡ Ok body) (sym e) is_body) next r o p
-    (subst (λ s. OnTold o (IsFilled kept s bytes)) (sym e) filled) (subst (λ a. PutsTold a (90 ∷ []) r o p) place puts)
+      (subst (λ s. OnTold o (IsFilled kept s bytes)) (sym e) filled) (subst (λ a. PutsTold a (90 ∷ []) r o p) place puts)
 
 -- ---- one call behind another
 pub err_map : {E P Q : Type 0} (r : Result Unit E) → (P → Q) → OnErr r P → OnErr r Q
 err_map (Ok u) f p = tt
 err_map (Err e) f p = f p
-
-pub of_err : {E P : Type 0} (r : Result Unit E) (e : E) → r ≡ Err e → OnErr r P → P
-of_err (Err w) e is p = p
-of_err (Ok u) e is p = absurd (cc)
-
-pub of_ok : {E P : Type 0} (r : Result Unit E) (u : Unit) → r ≡ Ok u → OnOk r P → P
-of_ok (Ok v) u is p = p
-of_ok (Err w) u is p = absurd (cc)
-
-pub same_stands : (kept : Option UberBody) (pending : List UberBody) (o p : Option Content) → p ≡ o → StandsTold kept pending o → StandsTold kept pending p
-same_stands kept pending o p is stands = subst (StandsTold kept pending) (sym is) stands
 
 -- the area was flushed, and its gate is read
 pub read_flushed : (kept : Option UberBody) (pending : List UberBody) (n : ℕ) (o p q : Option Content) → StandsTold kept pending o → OnTold o (IsOfSize n) → p ≡ option_map flushes o → q ≡ p → OnTold q (Flushed kept pending)

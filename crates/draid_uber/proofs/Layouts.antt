@@ -1,5 +1,5 @@
 -- The layout of a body that is in its ranges.
-use Rattle.std.proofs.Common.{◌≡◌, ◌≢◌, ◌≤◌, ◌<◌, ◌+◌, ◌^◌, ◌⊎◌, ◌∙◌, ℕ, Option, Some, Bool, true, false, nat_lt, Result, Ok, Err, refl, sym, ap, inl, inr, subst, arith, if◌then◌else◌}
+use Rattle.std.proofs.Common.{◌≡◌, ◌≢◌, ◌≤◌, ◌<◌, ◌+◌, ◌^◌, ◌⊎◌, ◌∙◌, ℕ, Option, Bool, true, false, nat_lt, Result, Ok, Err, refl, sym, ap, inl, inr, subst, arith, if◌then◌else◌}
 use Rattle.std.specs.Prelude.{is_ok}
 use Rattle.std.specs.Result.{result_and}
 use Rattle.std.proofs.lemmas.Bool.Decides.{nat_tests}
@@ -13,7 +13,7 @@ use Rattle.draid_spec.specs.Geometry.{IsGeometry, IsProps, IsVersion, checked_la
 use Rattle.draid_spec.proofs.Layouts.{given_layout}
 use Rattle.draid_spec.specs.Spec.{IsSpec, checked_width}
 use Rattle.draid_uber.specs.Held.{IsHeld, IsNext}
-use Rattle.draid_uber.specs.Uber.{layout_in, with_version}
+use Rattle.draid_uber.specs.Uber.{with_version}
 
 abbrev pub in_ok : {A : Type 0} → A → Result A SpecFault
 in_ok x = Ok x
@@ -108,46 +108,4 @@ next_ranges kept geometry version next_leaf group held next =
       seed_below = held.seed_below;
       leaf_above = held.leaf_above;
       leaf_below = held.leaf_below;
-    }
-
--- once it is committed, the parts fit together
-pub held_after : (kept : Option UberBody) (geometry : Geometry) (version next_leaf group : ℕ) → IsHeld kept geometry version next_leaf
-    → IsHeld (Some (record { group = group; spec = geometry.spec; props = with_version geometry.props version; next_leaf = next_leaf })) (layout_in geometry version) version next_leaf
-held_after kept geometry version next_leaf group held =
-    let l = held.layout_is in
-    record {
-      layout_is = record {
-        version = held.version_is;
-        spec = spec_later geometry version l held.later;
-        props = props_later geometry.props version l.props;
-        columns = l.columns;
-        disks = l.disks;
-        width = l.width;
-        slice = l.slice;
-        total = l.total;
-      };
-      seed_below = held.seed_below;
-      version_is = held.version_is;
-      later = omega arith;
-      leaf_above = held.leaf_above;
-      leaf_below = held.leaf_below;
-      kept_is = (refl, refl);
-    }
-
--- the parts of a body that was found, with its layout
-pub held_found : (body : UberBody) (layout : Geometry) → IsUber body → IsGeometry layout → layout.spec ≡ body.spec → layout.props ≡ body.props → IsHeld (Some body) layout body.props.version body.next_leaf
-held_found body layout is whole spec props =
-    let seed : layout.props.seed ≡ body.props.seed = ap (λ (p : Props). p.seed) props in
-    let version : layout.props.version ≡ body.props.version = ap (λ (p : Props). p.version) props in
-    let children : layout.spec.children ≡ body.spec.children = ap (λ (s : Spec). s.children) spec in
-    let above = is.leaf_above in
-    let below = is.seed_below in
-    record {
-      layout_is = whole;
-      seed_below = rw seed below;
-      version_is = is.version_is;
-      later = omega (arith, version);
-      leaf_above = omega (arith, children, above);
-      leaf_below = is.leaf_below;
-      kept_is = (sym spec, sym props);
     }

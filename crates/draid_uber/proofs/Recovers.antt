@@ -12,9 +12,6 @@ use Rattle.draid_record.proofs.Again.{uber_ranges, uber_slot}
 use Rattle.draid_uber.specs.Slots.{HasKept, IsLeft, StandsIn, StandsTold, area_bytes, base_of, body_in, choice_of, chosen_of, slot_in}
 use Rattle.draid_uber.proofs.Choices.{chosen_long}
 
-abbrev pub found_body : UberBody → Result UberBody RecordFault
-found_body body = Ok body
-
 abbrev pub some_result : Result UberBody RecordFault → Option (Result UberBody RecordFault)
 some_result r = Some r
 
@@ -96,3 +93,6 @@ done choice = Ok choice
 
 pub done_is : (c d : Choice) → done c ≡ Ok d → c ≡ d
 done_is c d e = cc
+
+pub layers : (r : Result Choice DeviceFault) (c : Choice) (s : Result UberBody RecordFault) (body : UberBody) → r ≡ Ok c → c ≡ Some s → s ≡ Ok body → r ≡ Ok (Some (Ok body))
+layers r c s body a b d = rw (a, b, d) refl

@@ -54,7 +54,9 @@ pub(crate) fn choice(zero: &[u8; SLOT], one: &[u8; SLOT]) -> Option<Result<UberB
 }
 
 /// What an import takes from an area, which is flushed first so that no gate that is read is soft.
-pub(crate) fn chosen<A: Area>(area: &mut A) -> Result<Option<Result<UberBody, RecordFault>>, DeviceFault>
+pub(crate) fn chosen<A: Area>(
+    area: &mut A,
+) -> Result<Option<Result<UberBody, RecordFault>>, DeviceFault>
     ensures chosen { IfOk result (λ chosen. OnTold (A.told area.old) (λ x. chosen ≡ chosen_of x.bytes)) }
     ensures ranges { (body : UberBody) → result ≡ Ok (Some (Ok body)) → IsUber body }
     ensures long { (body : UberBody) → result ≡ Ok (Some (Ok body)) → 1024 ≤ A.size area.new }

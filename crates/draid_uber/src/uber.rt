@@ -106,10 +106,22 @@ impl<A: Area> Uber<A> {
                 let why = UberFault::Record { at, kind };
                 Err(UberRefused { area, why })
             }
-            Ok(Some(Err(RecordFault::NoMemory))) => Err(UberRefused { area, why: UberFault::NoMemory }),
-            Ok(None) => Err(UberRefused { area, why: UberFault::Empty }),
-            Err(DeviceFault::Failed) => Err(UberRefused { area, why: UberFault::Area }),
-            Err(DeviceFault::NoMemory) => Err(UberRefused { area, why: UberFault::NoMemory }),
+            Ok(Some(Err(RecordFault::NoMemory))) => Err(UberRefused {
+                area,
+                why: UberFault::NoMemory,
+            }),
+            Ok(None) => Err(UberRefused {
+                area,
+                why: UberFault::Empty,
+            }),
+            Err(DeviceFault::Failed) => Err(UberRefused {
+                area,
+                why: UberFault::Area,
+            }),
+            Err(DeviceFault::NoMemory) => Err(UberRefused {
+                area,
+                why: UberFault::NoMemory,
+            }),
         }
     }
 

@@ -11,7 +11,7 @@ pub returns-then-gate-eq-OPEN-clause-refused : goal.returns-then-gate-eq-OPEN-cl
 returns-then-gate-eq-OPEN-clause-refused g c = λ kept pending e stands.
     let flushed = read_flushed kept pending (g.A.Area.size c.args.area.now) _ _ _ stands (g.met.A.Area.counted c.args.area.now) c.in_ok-flush.ensures.ok c.in_ok-read.ensures.told in
     shut_refused kept c.args.slot _ e c.base-then-gate-eq-OPEN.ensures pending c.put.result _ _
-      (told_open c.args.slot c.base.result c.read.new.into _ _ c.in_ok-read.ensures.told c.base.ensures c.in_ok-read.ensures.whole c.in_ok-read.ensures.read c.if-gate-eq-OPEN.true) flushed c.put.ensures.puts
+    (told_open c.args.slot c.base.result c.read.new.into _ _ c.in_ok-read.ensures.told c.base.ensures c.in_ok-read.ensures.whole c.in_ok-read.ensures.read c.if-gate-eq-OPEN.true) flushed c.put.ensures.puts
 
 pub returns-then-gate-eq-OPEN-clause-shut : goal.returns-then-gate-eq-OPEN-clause-shut
 returns-then-gate-eq-OPEN-clause-shut g c = λ kept pending e stands.
@@ -25,4 +25,4 @@ pub returns-clause-shut : goal.returns-clause-shut
 returns-clause-shut g c = λ kept pending e stands.
     let flushed = read_flushed kept pending (g.A.Area.size c.args.area.now) _ _ _ stands (g.met.A.Area.counted c.args.area.now) c.in_ok-flush.ensures.ok c.in_ok-read.ensures.told in
     was_shut kept c.args.slot _ e c.base.ensures pending _
-      (told_shut c.args.slot c.base.result c.read.new.into _ _ c.in_ok-read.ensures.told c.base.ensures c.in_ok-read.ensures.whole c.in_ok-read.ensures.read c.if-gate-eq-OPEN.false) flushed
+    (told_shut c.args.slot c.base.result c.read.new.into _ _ c.in_ok-read.ensures.told c.base.ensures c.in_ok-read.ensures.whole c.in_ok-read.ensures.read c.if-gate-eq-OPEN.false) flushed

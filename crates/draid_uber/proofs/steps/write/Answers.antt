@@ -22,8 +22,8 @@ returns-clause-refused g c = λ kept pending next stands.
     let long : length c.write_uber-bytes.result ≡ 51 = search rules in
     let spelled = c.write_uber-bytes.ensures.spelled in
     err_map c.open.result (one_pending kept c.args.body.now pending _)
-      (c.open.ensures.refused kept c.args.body.now c.write_uber-bytes.result e long (gate_first _ c.args.body.now _ spelled) (written_again _ c.args.body.now _ spelled) next
-        (c.in_ok-fill.ensures.filled kept e (c.in_ok-shut.ensures.shut kept pending e stands)))
+    (c.open.ensures.refused kept c.args.body.now c.write_uber-bytes.result e long (gate_first _ c.args.body.now _ spelled) (written_again _ c.args.body.now _ spelled) next
+    (c.in_ok-fill.ensures.filled kept e (c.in_ok-shut.ensures.shut kept pending e stands)))
 
 pub returns-clause-written : goal.returns-clause-written
 returns-clause-written g c = λ kept pending next stands.
@@ -31,7 +31,7 @@ returns-clause-written g c = λ kept pending next stands.
     let long : length c.write_uber-bytes.result ≡ 51 = search rules in
     let spelled = c.write_uber-bytes.ensures.spelled in
     c.open.ensures.opened kept c.args.body.now c.write_uber-bytes.result e long (gate_first _ c.args.body.now _ spelled) (written_again _ c.args.body.now _ spelled) next
-      (c.in_ok-fill.ensures.filled kept e (c.in_ok-shut.ensures.shut kept pending e stands))
+    (c.in_ok-fill.ensures.filled kept e (c.in_ok-shut.ensures.shut kept pending e stands))
 
 pub returns-clause-moments : goal.returns-clause-moments
 returns-clause-moments g c = elapsed_on _ _ _ c.in_ok-shut.ensures.moments (elapsed_on _ _ _ c.in_ok-fill.ensures.moments c.open.ensures.moments)
