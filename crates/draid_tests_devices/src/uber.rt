@@ -44,55 +44,57 @@ fn commit_next(uber: &mut Uber<MemoryArea>) -> Result<(), DeviceFault>
     uber.commit(group + 1)
 }
 
-/// The group that an import takes from an area, 0 where no gate is open, and the group after one commit more.
-fn groups_in(area: MemoryArea) -> (u64, u64) {
+/// What a recovery answers: the committed group, or why there is none.
+fn recovered(area: MemoryArea) -> Result<u64, UberFault> {
+    match Uber::recover(area) {
+        Ok(uber) => Ok(uber.committed()),
+        Err(refused) => Err(refused.why),
+    }
+}
+
+/// The group that an import takes from an area, 0 where no gate is open. From there it commits the next one, or fails.
+fn group_in(area: MemoryArea) -> Result<u64, Fail> {
     match Uber::recover(area) {
         Ok(uber) => {
             let mut uber = uber;
-            let first = uber.committed();
-            let _ = commit_next(&mut uber);
-            (first, taken(uber.into_area()))
+            let group = uber.committed();
+            commit_next(&mut uber)?;
+            if recovered(uber.into_area())?.saturating_sub(1) != group {
+                return Err(Fail::new("the next group wasn't committed"));
+            }
+            Ok(group)
         }
-        Err(_) => (0, 0),
+        Err(refused) => match refused.why {
+            UberFault::Empty => Ok(0),
+            why => Err(Fail::from(why)),
+        },
     }
 }
 
-/// The group that an import takes from an area, 0 where it takes none.
-fn taken(area: MemoryArea) -> u64 {
-    match Uber::recover(area) {
-        Ok(uber) => uber.committed(),
-        Err(_) => 0,
-    }
-}
-
-/// The groups that an import takes where three commits stop once so many calls have passed and a crash by this rule
-/// follows, and after one commit more.
-fn groups_after(alloc: Global, calls: u64, rule: CrashRule) -> Result<(u64, u64), Fail> {
+/// That group where three commits stop once so many calls have passed and a crash by this rule follows.
+fn group_after(alloc: Global, calls: u64, rule: CrashRule) -> Result<u64, Fail> {
     let mut uber = created(alloc, calls)?;
     for _ in 0..3 {
         let _ = commit_next(&mut uber);
     }
     let mut area = uber.into_area();
     area.crash(rule);
-    Ok(groups_in(area))
+    group_in(area)
 }
 
 /// The same for each number of calls up to 20, which all three commits take.
-fn groups_by(alloc: Global, rule: CrashRule) -> Result<[(u64, u64); 21], Fail> {
-    let mut groups = [(0, 0); 21];
+fn groups_by(alloc: Global, rule: CrashRule) -> Result<[u64; 21], Fail> {
+    let mut groups = [0; 21];
     for calls in 0..21 {
-        groups[calls] = groups_after(alloc, calls as u64, rule)?;
+        groups[calls] = group_after(alloc, calls as u64, rule)?;
     }
     Ok(groups)
 }
 
 /// A commit is done once its last flush is: the first two commits take six calls each, the third eight, since the gate of
 /// its slot is open.
-const DONE: [(u64, u64); 21] = [
-    (0, 0), (0, 0), (0, 0), (0, 0), (0, 0), (0, 0), // nothing is committed
-    (1, 2), (1, 2), (1, 2), (1, 2), (1, 2), (1, 2), // group 1 is
-    (2, 3), (2, 3), (2, 3), (2, 3), (2, 3), (2, 3), (2, 3), (2, 3), // and group 2
-    (3, 4), // and group 3
+const DONE: [u64; 21] = [
+    0, 0, 0, 0, 0, 0, 1, 1, 1, 1, 1, 1, 2, 2, 2, 2, 2, 2, 2, 2, 3,
 ];
 
 #[test]
@@ -108,7 +110,7 @@ fn a_stop_leaves_the_group_before_or_the_new_one(rt: HostRuntime) -> Result<(), 
 fn a_stop_behind_the_last_write_may_leave_the_new_group(rt: HostRuntime) -> Result<(), Fail> {
     let groups = groups_by(rt.alloc(), CrashRule::New)?;
     assert_eq!(rt; &groups[..20], &DONE[1..]);
-    assert_eq!(rt; groups[20], (3, 4));
+    assert_eq!(rt; groups[20], 3);
     Ok(())
 }
 
@@ -134,16 +136,13 @@ fn the_first_commit_writes_slot_one(rt: HostRuntime) -> Result<(), Fail> {
     Ok(())
 }
 
-/// What a recovery answers: the committed group, or why there is none.
-fn recovered(area: MemoryArea) -> Result<u64, UberFault> {
-    match Uber::recover(area) {
-        Ok(uber) => Ok(uber.committed()),
-        Err(refused) => Err(refused.why),
-    }
-}
-
-/// What it answers where these bytes stand in a slot of so many bytes in all; bytes that don't fit are left out.
-fn recovered_of(alloc: Global, len: usize, at: usize, slot: &[u8; 51]) -> Result<Result<u64, UberFault>, Fail> {
+/// What a recovery answers of an area of so many bytes: these at a place, where they fit, and zeros elsewhere.
+fn recovered_of(
+    alloc: Global,
+    len: usize,
+    at: usize,
+    slot: &[u8; 51],
+) -> Result<Result<u64, UberFault>, Fail> {
     let mut bytes = vec![in alloc; 0; len]?;
     if at <= len && 51 <= len - at {
         bytes[at..at + 51].copy_from_slice(slot);
@@ -167,7 +166,12 @@ fn a_recovery_tells_what_stands_there(rt: HostRuntime) -> Result<(), Fail> {
     for (len, at, slot, told) in [
         (1024, 512, UBER, Ok(1)),
         (1024, 0, last, Ok(0xffff_ffff_fffe)),
-        (1024, 512, changed(17, 33), Err(UberFault::Record { at: 17, kind: 2 })),
+        (
+            1024,
+            512,
+            changed(17, 33),
+            Err(UberFault::Record { at: 17, kind: 2 }),
+        ),
         (1024, 512, changed(0, 0), Err(UberFault::Empty)),
         (1023, 512, UBER, Err(UberFault::Empty)),
         (1024, 0, UBER, Err(UberFault::Record { at: 7, kind: 2 })),
