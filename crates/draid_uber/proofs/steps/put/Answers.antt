@@ -7,7 +7,7 @@ use Rattle.draid_uber.proofs.steps.put.Goals as goal
 pub returns-in_err-write-clause-puts : goal.returns-in_err-write-clause-puts
 returns-in_err-write-clause-puts g c =
     let p = err_from_is_err_and c.from_residual.result c.from_residual.ensures.1 in
-    puts_unwritten c.args.at c.args.bytes.now c.write.result c.from_residual.result p.0 _ _ c.in_err-write.ensures.told p.1
+    puts_unwritten c.args.at c.args.bytes.now _ c.from_residual.result p.0 _ _ c.in_err-write.ensures.told p.1
 
 pub returns-clause-puts : goal.returns-clause-puts
 returns-clause-puts g c = puts_flushed c.args.at c.args.bytes.now _ _ _ _ _ _ c.in_ok-write.ensures.told refl c.flush.ensures.ok c.flush.ensures.err
