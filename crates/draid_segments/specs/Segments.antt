@@ -84,7 +84,7 @@ pub record HasScrubbed (pass : Option Pass) (n : ArmName) (h : Held) (row : ℕ)
   pub p : Pass
   pub pass_is : pass ≡ Some p
   pub heal : p.kind ≡ Heal
-  pub by : passed pass n h row ≡ true
+  pub by : passed (Some p) n h row ≡ true
 
 -- of a block that was born up to a group and not freed up to it, a segment on an arm that is clean for the block, or on one on which a scrub
 -- has put it right
