@@ -1,6 +1,11 @@
 pub mod Apart
 pub mod Backing
+pub mod Beginning
 pub mod Damaging
+pub mod Lasting
+pub mod Leaving
 pub mod Puts
+pub mod Reached
 pub mod Resting
+pub mod Sealing
 pub mod Through

@@ -2,6 +2,9 @@ use Rattle.draid_segments.proofs.Resting.{begin_calm, finish_calm, free_calm, sw
 use Rattle.draid_segments.proofs.Backing.{calm_backed}
 use Rattle.draid_segments.proofs.Puts.{put_backed}
 use Rattle.draid_segments.proofs.Damaging.{damage_backed}
+use Rattle.draid_segments.proofs.Lasting.{claim_named, owned_leaf}
+use Rattle.draid_segments.proofs.Sealing.{seal_backed}
+use Rattle.draid_segments.proofs.Leaving.{commit_backed}
 use Rattle.draid_segments.proofs.Through.{steady_through}
 use Rattle.draid_segments.proofs.laws.events_keep_segments.Goals as goal
 
