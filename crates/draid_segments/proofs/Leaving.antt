@@ -28,7 +28,7 @@ use Rattle.draid_segments.proofs.Lasting.{claim_named, has_passed, lasting_prese
 use Rattle.draid_segments.proofs.Reached.{reached_on}
 
 -- what is aside no more, though it stays, wasn't before
-not_left : (a b : Bool) → b ≡ true → (a && b) ≡ false → a ≡ false
+pub not_left : (a b : Bool) → b ≡ true → (a && b) ≡ false → a ≡ false
 not_left false b t e = refl
 not_left true b t e = absurd_test b t e
 

@@ -1,7 +1,9 @@
 pub mod Apart
 pub mod Backing
 pub mod Beginning
+pub mod Changing
 pub mod Damaging
+pub mod Ending
 pub mod Lasting
 pub mod Leaving
 pub mod Puts
