@@ -30,14 +30,14 @@ use Rattle.draid_segments.specs.Acts.{IsClaimedAlone, IsUnclaimed, LiesAlone, Li
 -- ---- a place is of one segment
 module _ (l : Layout) (lay : IsLayout l) (w : State) (reached : IsReached l w) (h : Held) (s : Segment) (held : w.core.held s.key ≡ Some h) (on : is_on l w.core.order s h ≡ true) where
   -- what is there, where a segment has its place, is that segment
-  pub at_place : (v : Segment) (i : Held) → w.core.held v.key ≡ Some i → IsThere l w v → v.leaf ≡ s.leaf → sector_at l i v ≡ sector_at l h s → v ≡ s
-  at_place v i held' there leaf sector =
+  pub one_place : (v : Segment) (i : Held) → w.core.held v.key ≡ Some i → IsThere l w v → v.leaf ≡ s.leaf → sector_at l i v ≡ sector_at l h s → v ≡ s
+  one_place v i held' there leaf sector =
       every_place l w v s s.leaf (sector_at l h s) lay reached there (inr (at_of l w.core s h held on))
       (record { h = i; held = held'; leaf_is = leaf; sector_is = sector })
       (record { h = h; held = held; leaf_is = refl; sector_is = refl })
 
   pub lies_alone : LiesAlone l w h s
-  lies_alone v i held' here leaf sector = at_place v i held' (inl here) leaf sector
+  lies_alone v i held' here leaf sector = one_place v i held' (inl here) leaf sector
 
 -- what an image claims is present, of a block that the state holds
 module _ (l : Layout) (lay : IsLayout l) (w : State) (reached : IsReached l w) (img : Image) (is : IsImage w img) where
@@ -50,7 +50,7 @@ module _ (l : Layout) (lay : IsLayout l) (w : State) (reached : IsReached l w) (
   pub claimed_alone : (h : Held) (s : Segment) → w.core.held s.key ≡ Some h → is_on l w.core.order s h ≡ true → IsClaimedAlone l img h s
   claimed_alone h s held on v i held' claim leaf sector =
       let z = its_block v.key i held' in
-      at_place l lay w reached h s held on v z.h z.found (inl (stands.claimed v claim)) leaf
+      one_place l lay w reached h s held on v z.h z.found (inl (stands.claimed v claim)) leaf
       (subst (λ (k : Held). sector_at l k v ≡ sector_at l h s) z.is sector)
 
 -- ---- the segments that a call writes have places of one block or ticket
@@ -64,7 +64,7 @@ module _ (l : Layout) (lay : IsLayout l) (w : State) (reached : IsReached l w) (
     | inl t ↦
         let z = lies v.leaf (sector_at l i v) t in
         let p = places z.s z.is in
-        let same = at_place l lay w reached h z.s p.0 p.1 v i held there (sym z.leaf_is) (sym z.sector_is) in
+        let same = one_place l lay w reached h z.s p.0 p.1 v i held there (sym z.leaf_is) (sym z.sector_is) in
         absurd_test (of v) (subst (λ (g : Segment). of g ≡ true) (sym same) z.is) out
   ]
 

@@ -4,8 +4,10 @@ pub mod Beginning
 pub mod Changing
 pub mod Damaging
 pub mod Ending
+pub mod Healing
 pub mod Lasting
 pub mod Leaving
+pub mod Mending
 pub mod Puts
 pub mod Reached
 pub mod Resting

@@ -14,10 +14,10 @@ use Rattle.draid_machine.specs.Names.{key_eq, has_name, is_block, is_freed_by, i
 use Rattle.draid_machine.specs.State.{Layout, IsLayout, Arm, Pass, Core, Loan, Image, State}
 use Rattle.draid_machine.specs.Arms.{lies}
 use Rattle.draid_machine.specs.Claims.{IsOn, claims, passed}
-use Rattle.draid_machine.specs.After.{begin_state, cancel_state, capped, close_state, fill_if, finish_state, free_state, gone_state, lend_errors, lend_state, live_state, plan_state, planned_pass, ready_state, set_arm, set_held, switch_state, upgrade_state}
+use Rattle.draid_machine.specs.After.{begin_state, cancel_state, capped, close_state, fill_if, finish_state, free_state, gone_state, lend_errors, lend_state, live_state, pass_over, plan_state, planned_pass, ready_state, set_arm, set_held, switch_state, upgrade_state}
 use Rattle.draid_machine.specs.Images.{IsImage, ImagesStand, Owned}
 use Rattle.draid_machine.specs.Sound.{Sound}
-use Rattle.draid_machine.proofs.Small.{some_injective, some_same, none_some, bool_cases, both_true, either_true, key_true, not_true, held_cases, arm_cases, mapped_arm, absurd_test, no_errors, is_below}
+use Rattle.draid_machine.proofs.Small.{some_injective, some_same, none_some, bool_cases, both_true, either_true, key_true, not_true, held_cases, arm_cases, mapped_arm, absurd_test, no_errors, no_more_errors, is_below}
 use Rattle.draid_machine.proofs.Follows.{HasPassed, SamePass, from_passed, to_passed}
 use Rattle.draid_machine.proofs.Passes.{filled}
 use Rattle.draid_machine.proofs.Seals.{sealed_held}
@@ -238,3 +238,13 @@ module _ (l : Layout) (lay : IsLayout l) (w : State) (sound : Sound l w) (images
 
   pub cancel_calm : Calm l w (cancel_state w)
   cancel_calm = quiet_calm l w (cancel_state w) refl refl refl refl refl refl refl same_arms (λ n h row y. absurd (none_some None y.p refl y.pass_is))
+
+  -- a landing that writes nothing: an error counts
+  pub over_calm : (p : Pass) (next : ℕ) → Calm l w (pass_over w p 1 next)
+  over_calm p next = quiet_calm l w (pass_over w p 1 next) refl refl refl refl refl refl refl same_arms
+      (λ n h row y.
+        let v = from_passed (Some y.p) n h row y.by in
+        let q : Pass = record p { next = next; errors = capped (p.errors + 1) } in
+        let is : v.p ≡ q = sym (some_injective y.p v.p v.pass) ∙ sym (some_injective q y.p y.pass_is) in
+        let none = no_more_errors p.errors 1 (subst (λ (k : Pass). k.errors ≡ 0) is v.errors) in
+        absurd (omega (arith, none)))

@@ -7,6 +7,8 @@ use Rattle.draid_segments.proofs.Sealing.{seal_backed}
 use Rattle.draid_segments.proofs.Leaving.{commit_backed}
 use Rattle.draid_segments.proofs.Changing.{attach_calm, detach_calm}
 use Rattle.draid_segments.proofs.Ending.{done_backed}
+use Rattle.draid_segments.proofs.Mending.{stripe_backed}
+use Rattle.draid_segments.proofs.Healing.{block_steady, heal_backed}
 use Rattle.draid_segments.proofs.Through.{steady_through}
 use Rattle.draid_segments.proofs.laws.events_keep_segments.Goals as goal
 
