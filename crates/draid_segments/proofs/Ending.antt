@@ -17,9 +17,9 @@ use Rattle.draid_machine.specs.Step.{DoneStep, is_lent}
 use Rattle.draid_machine.proofs.Small.{bool_cases, none_some, both_true, mapped_arm, has_filter, not_true, no_errors, absurd_test, equal, is_equal, is_low, low, true_left, true_both, true_right}
 use Rattle.draid_machine.proofs.Follows.{to_passed}
 use Rattle.draid_rack.specs.Rack.{Told}
-use Rattle.draid_segments.specs.Segments.{Backed, HasScrubbed, IsLasting, Pieces, Steady, image_group, sector_at, soft_at}
+use Rattle.draid_segments.specs.Segments.{Backed, Firm, HasScrubbed, IsLasting, Pieces, Steady, image_group, sector_at, soft_at}
 use Rattle.draid_segments.specs.Acts.{FlushesTargets, nowhere}
-use Rattle.draid_segments.proofs.Backing.{Lasted, firm_by, holds_by, last_by, untouched_by}
+use Rattle.draid_segments.proofs.Backing.{Lasted, firm_by, holds_by, last_by, steady_by, untouched_by}
 use Rattle.draid_segments.proofs.Sealing.{segment_lies}
 
 takes_row : (h : Held) (r : ℕ) → r < h.stripes → takes h (h.first + r) ≡ true
@@ -87,12 +87,18 @@ module _ (l : Layout) (lay : IsLayout l) (w new : State) (sound : Sound l w) (fa
     ended true is e = inl (scrubbed is e)
     ended false is e = inr (flushed is e)
 
+  pub done_steady : (img : Image) (doubt : Segment → Bool) → Steady l img doubt x y
+  done_steady img doubt = steady_by l img doubt nowhere x y acts.same.only (λ s h c. refl)
+
+  pub done_firm : (pieces : Pieces) (img : Image) (doubt : Segment → Bool) → Firm l pieces img doubt x → Firm l pieces img doubt y
+  done_firm pieces img doubt f = firm_by l pieces img doubt x y (λ s h c. untouched_by nowhere s.leaf (sector_at l h s) x y acts.same refl) f
+
   pub done_backed : (pieces : Pieces) → Backed l pieces w x → Backed l pieces after y
   done_backed pieces b = record {
     holds = holds_by l pieces pieces w after x y b.holds (λ s h is. inl (record {
       i = h; sure = record { held = is.held; present = is.present; sure = is.sure }; first = refl;
       same = untouched_by nowhere s.leaf (sector_at l h s) x y acts.same refl }, refl));
-    images = λ img is. firm_by l pieces img w.aside x y (λ s h c. untouched_by nowhere s.leaf (sector_at l h s) x y acts.same refl) (b.images img is);
+    images = λ img is. done_firm pieces img w.aside (b.images img is);
     last = last_by l (image_group w) w after x y b.last lasted;
   }
     where

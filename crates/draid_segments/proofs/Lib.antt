@@ -13,3 +13,4 @@ pub mod Reached
 pub mod Resting
 pub mod Sealing
 pub mod Through
+pub mod Whole

@@ -15,7 +15,7 @@ use Rattle.draid_machine.specs.Step.{PutStep}
 use Rattle.draid_machine.proofs.Small.{some_injective, some_same, bool_cases, either_true, four_true, key_true, held_cases, held_at, mapped_arm, absurd_test}
 use Rattle.draid_machine.proofs.Calm.{at_place}
 use Rattle.draid_rack.specs.Rack.{Told}
-use Rattle.draid_segments.specs.Segments.{Backed, IsLasting, IsSure, Pieces, Steady, image_group, piece_of, reads_at, sector_at}
+use Rattle.draid_segments.specs.Segments.{Backed, Firm, IsLasting, IsSure, Pieces, Steady, image_group, piece_of, reads_at, sector_at}
 use Rattle.draid_segments.specs.Acts.{PutsColumn, WritesAt, is_put_to}
 use Rattle.draid_segments.proofs.Apart.{claimed_elsewhere, elsewhere, put_absent, put_place, stands}
 use Rattle.draid_segments.proofs.Backing.{Lasted, Reads, Was, firm_by, holds_by, last_by, steady_by, untouched_by}
@@ -49,6 +49,10 @@ module _ (l : Layout) (lay : IsLayout l) (w new : State) (reached : IsReached l 
 
   pub put_steady : (img : Image) (doubt : Segment → Bool) → IsImage w img → Steady l img doubt x y
   put_steady img doubt is = steady_by l img doubt named x y acts.writes.others.only (λ s h c. claim_free img s h is c.held c.claim)
+
+  pub put_firm : (pieces : Pieces) (img : Image) (doubt : Segment → Bool) → IsImage w img → Firm l pieces img doubt x → Firm l pieces img doubt y
+  put_firm pieces img doubt is f = firm_by l pieces img doubt x y
+      (λ s h c. untouched_by named s.leaf (sector_at l h s) x y acts.writes.others (claim_free img s h is c.held c.claim)) f
 
   abbrev later : Held
   later = record step.h { stage = Writing (step.c + 1) (if is_nil landed then step.m + 1 else step.m) }
@@ -120,7 +124,6 @@ module _ (l : Layout) (lay : IsLayout l) (w new : State) (reached : IsReached l 
             let e = landed_reads s h is.held fresh in
             inr (record { there = some_there (reads_at l h s y) (piece_of pieces s) e; reads = λ calm. e })
       ]);
-      images = λ img is. firm_by l pieces img w.aside x y
-          (λ s h c. untouched_by named s.leaf (sector_at l h s) x y acts.writes.others (claim_free img s h is c.held c.claim)) (b.images img is);
+      images = λ img is. put_firm pieces img w.aside is (b.images img is);
       last = last_by l (image_group w) w after x y b.last (λ s h is sure. inl (lasted s h is sure));
     }
