@@ -1,30 +1,29 @@
 -- Where a call may write, nothing else lies.
-use Rattle.std.proofs.Common.{◌≡◌, ◌==◌, ◌+◌, ◌<◌, ◌≤◌, ◌⊎◌, ◌&&◌, ◌||◌, not, ℕ, Bool, true, false, nat_le, nat_lt, List, Option, Some, None, refl, sym, ◌∙◌, ap, subst, inl, inr, arith}
+use Rattle.std.proofs.Common.{◌≡◌, ◌==◌, ◌+◌, ◌<◌, ◌≤◌, ◌&&◌, ℕ, Bool, true, false, List, Some, refl, sym, ◌∙◌, ap, subst, inl, inr, arith}
 use Rattle.std.proofs.lemmas.Bool.{true≢false}
-use Rattle.draid_names.specs.declared.pass_kind.PassKind.TheVariants.{Rebuild}
 use Rattle.draid_machine.specs.declared.names.Key.{Key}
 use Rattle.draid_machine.specs.declared.names.ArmName.{ArmName}
 use Rattle.draid_machine.specs.declared.names.Held.{Held}
 use Rattle.draid_machine.specs.declared.names.Segment.{Segment}
 use Rattle.draid_machine.specs.declared.event.Patched.{Patched}
-use Rattle.draid_machine.specs.Names.{key_eq, has_name, is_block, is_put}
-use Rattle.draid_machine.specs.State.{Layout, IsLayout, Arm, Pass, Core, Image, State}
+use Rattle.draid_machine.specs.Names.{key_eq, has_name, is_put}
+use Rattle.draid_machine.specs.State.{Layout, IsLayout, Pass, Core, Image, State}
 use Rattle.draid_machine.specs.Arms.{answers}
-use Rattle.draid_machine.specs.Claims.{claims, is_at, is_on, passed}
-use Rattle.draid_machine.specs.After.{is_landed, is_mended, is_written, seal_held, was_written}
+use Rattle.draid_machine.specs.Claims.{claims, is_on}
+use Rattle.draid_machine.specs.After.{is_mended, is_written, was_written}
 use Rattle.draid_machine.specs.Created.{IsReached}
-use Rattle.draid_machine.specs.Images.{IsImage, ImageStands, IsOwned, IsOwnPass, IsThere, LiesAt}
-use Rattle.draid_machine.specs.Sound.{ImageSound, IsClaimed, LoanFits, Sound}
+use Rattle.draid_machine.specs.Images.{IsImage, ImageStands, IsOwnPass, IsThere}
+use Rattle.draid_machine.specs.Sound.{ImageSound, LoanFits, Sound}
 use Rattle.draid_machine.specs.Step.{LandBlockStep, LandStripeStep, PutStep}
-use Rattle.draid_machine.proofs.Small.{some_injective, some_same, none_some, bool_cases, both_true, four_true, true_four, key_true, absurd_test, is_equal, is_below}
-use Rattle.draid_machine.proofs.Follows.{HasPassed, from_passed}
+use Rattle.draid_machine.proofs.Small.{some_same, bool_cases, both_true, four_true, key_true, absurd_test, is_equal, is_below}
+use Rattle.draid_machine.proofs.Follows.{from_passed}
 use Rattle.draid_machine.proofs.Losing.{every_segment}
 use Rattle.draid_machine.proofs.Places.{every_place}
 use Rattle.draid_machine.proofs.Rows.{reached_sound}
 use Rattle.draid_machine.proofs.Seals.{IsSealed, sealed_held, from_claims}
 use Rattle.draid_machine.proofs.Standing.{every_image}
 use Rattle.draid_machine.proofs.Staying.{at_of}
-use Rattle.draid_segments.specs.Segments.{IsClaim, sector_at}
+use Rattle.draid_segments.specs.Segments.{sector_at}
 use Rattle.draid_segments.specs.Acts.{IsClaimedAlone, IsUnclaimed, LiesAlone, LiesThere, is_put_to}
 
 -- ---- a place is of one segment

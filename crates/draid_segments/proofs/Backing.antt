@@ -1,6 +1,5 @@
 -- What a call leaves untouched is as it was.
-use Rattle.std.proofs.Common.{◌≡◌, ◌+◌, ◌<◌, ◌≤◌, ◌⊎◌, ℕ, Bool, true, false, List, Option, Some, None, IsSome, IsTrue, refl, sym, ◌∙◌, ap, subst, inl, inr, arith}
-use Rattle.draid_machine.specs.declared.names.Key.{Key}
+use Rattle.std.proofs.Common.{◌≡◌, ◌+◌, ◌⊎◌, ℕ, Bool, true, false, List, Some, IsSome, IsTrue, refl, sym, ◌∙◌, ap, subst, inl, inr}
 use Rattle.draid_machine.specs.declared.names.Held.{Held}
 use Rattle.draid_machine.specs.declared.names.Segment.{Segment}
 use Rattle.draid_machine.specs.State.{Layout, Image, State}
@@ -129,10 +128,12 @@ pub record Lasted (l : Layout) (group : ℕ) (w : State) (s : Segment) (h : Held
 
 pub last_by : (l : Layout) (group : ℕ) (w new : State) (x y : Told) → FirmUpTo l group w x
     → ((s : Segment) (h : Held) → IsLasting l group new.core s h → new.aside s ≡ false → Lasted l group w s h x y ⊎ (soft_at l h s y ≡ false)) → FirmUpTo l group new y
-last_by l group w new x y last each = record { firm = λ s h lasting sure. elim (each s h lasting sure) [
-  | inl z ↦ subst (λ t. y.soft s.leaf t ≡ false) (same_sector l h z.i s z.first) (still z.soft (last.firm s z.i z.lasting z.sure))
-  | inr z ↦ z
-] }
+last_by l group w new x y last each = record {
+  firm = λ s h lasting sure. elim (each s h lasting sure) [
+    | inl z ↦ subst (λ t. y.soft s.leaf t ≡ false) (same_sector l h z.i s z.first) (still z.soft (last.firm s z.i z.lasting z.sure))
+    | inr z ↦ z
+  ];
+}
 
 -- ---- events on which the rack does nothing
 pub record Calm (l : Layout) (w new : State) : Type 0 where

@@ -1,30 +1,32 @@
 -- A leaf that comes, and the bytes of what isn't held.
-use Rattle.std.proofs.Common.{◌≡◌, ◌==◌, ◌⊎◌, ◌+◌, ℕ, Bool, true, false, List, Option, Some, None, IsSome, refl, sym, ◌∙◌, ap, subst, inl, inr}
+use Rattle.std.proofs.Common.{◌≡◌, ◌==◌, ℕ, Bool, true, false, List, Option, Some, None, IsSome, refl, sym, ◌∙◌, ap, subst, inl, inr}
 use Rattle.draid_machine.specs.declared.names.Key.{Key}
 use Rattle.draid_machine.specs.declared.names.ArmName.TheVariants.{Leaf}
 use Rattle.draid_machine.specs.declared.names.Held.{Held}
 use Rattle.draid_machine.specs.declared.names.Segment.{Segment}
 use Rattle.draid_machine.specs.State.{Layout, IsLayout, Image, State}
 use Rattle.draid_machine.specs.Claims.{claims}
-use Rattle.draid_machine.specs.Created.{IsReached, created, created_core}
+use Rattle.draid_machine.specs.Created.{IsReached, created}
 use Rattle.draid_machine.specs.Images.{IsImage}
 use Rattle.draid_machine.proofs.Small.{none_some, bool_cases, is_equal}
 use Rattle.draid_machine.proofs.Losing.{every_segment}
 use Rattle.draid_machine.proofs.Rows.{reached_sound}
-use Rattle.draid_machine.proofs.Standing.{every_image}
 use Rattle.draid_rack.specs.Rack.{Told}
 use Rattle.draid_rack.specs.Moments.{Leaves}
-use Rattle.draid_segments.specs.Segments.{Backed, Firm, IsClaim, Pieces, Steady, image_group, sector_at}
+use Rattle.draid_segments.specs.Segments.{Backed, Firm, Pieces, Steady, image_group, sector_at}
 use Rattle.draid_segments.proofs.Apart.{its_block, stands}
-use Rattle.draid_segments.proofs.Backing.{Lasted, Untouched, firm_by, firm_pieces, holds_by, last_by, steady_by, untouched_by}
-use Rattle.draid_segments.proofs.Lasting.{claim_named, lasting_present, owned_leaf}
+use Rattle.draid_segments.proofs.Backing.{Untouched, firm_by, firm_pieces, holds_by, last_by, steady_by, untouched_by}
+use Rattle.draid_segments.proofs.Lasting.{lasting_present, owned_leaf}
 
 pub created_backed : (l : Layout) (version : ℕ) (pieces : Pieces) (x : Told) → Backed l pieces (created l version) x
 created_backed l version pieces x = record {
   holds = record { there = λ s h is. absurd (none_some None h refl is.held); reads = λ s h is calm. absurd (none_some None h refl is.held) };
   images = λ img is. elim is [
     | inl e ↦ subst (λ (i : Image). Firm l pieces i (λ s. false) x) e (record {
-        there = λ s h c. absurd (none_some None h refl c.held); reads = λ s h c calm. absurd (none_some None h refl c.held); firm = λ s h c. absurd (none_some None h refl c.held) })
+      there = λ s h c. absurd (none_some None h refl c.held);
+      reads = λ s h c calm. absurd (none_some None h refl c.held);
+      firm = λ s h c. absurd (none_some None h refl c.held);
+    })
     | inr e ↦ absurd (none_some None img refl e)
   ];
   last = record { firm = λ s h is sure. absurd (none_some None h refl is.on.held) };
@@ -56,7 +58,12 @@ module _ (l : Layout) (lay : IsLayout l) (w : State) (reached : IsReached l w) w
       holds = holds_by l pieces pieces w w x y b.holds (λ s h is. inl (record { i = h; sure = is; first = refl; same = same s h is.present }, refl));
       images = λ img is. firm_by l pieces img w.aside x y (λ s h c. same s h (claimed img is s c.claim)) (b.images img is);
       last = last_by l (image_group w) w w x y b.last (λ s h is sure. inl (record {
-        i = h; lasting = is; sure = sure; first = refl; soft = (same s h (lasting_present l w (image_group w) s h (reached_sound l lay w reached) is)).soft }));
+        i = h;
+        lasting = is;
+        sure = sure;
+        first = refl;
+        soft = (same s h (lasting_present l w (image_group w) s h (reached_sound l lay w reached) is)).soft;
+      }));
     }
 
   some_held : (o : Option Held) (h : Held) → o ≡ Some h → IsSome o

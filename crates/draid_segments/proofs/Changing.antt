@@ -1,25 +1,24 @@
 -- An arm joins a slot or leaves it, and spares come to lie elsewhere: the rack rests, and what has lost its place stays where it was.
-use Rattle.std.proofs.Common.{◌≡◌, ◌==◌, ◌+◌, ◌<◌, ◌≤◌, ◌⊎◌, ◌&&◌, ◌||◌, not, ℕ, Bool, true, false, nat_le, nat_lt, if◌then◌else◌, List, [], ◌∷◌, ◌++◌, filter, Option, Some, None, is_some, refl, sym, ◌∙◌, ap, subst, inl, inr, arith}
-use Rattle.std.proofs.lemmas.Bool.{true≢false}
-use Rattle.draid_names.specs.declared.pass_kind.PassKind.TheVariants.{Rebuild, Heal}
+use Rattle.std.proofs.Common.{◌≡◌, ◌+◌, ◌<◌, ◌≤◌, ◌||◌, not, ℕ, Bool, true, false, nat_lt, List, [], ◌∷◌, ◌++◌, Some, None, is_some, refl, sym, ◌∙◌, ap, subst, inl, inr, arith}
+use Rattle.draid_names.specs.declared.pass_kind.PassKind.TheVariants.{Rebuild}
 use Rattle.draid_machine.specs.declared.names.ArmName.{ArmName}
 use Rattle.draid_machine.specs.declared.names.Held.{Held}
 use Rattle.draid_machine.specs.declared.names.Segment.{Segment}
 use Rattle.draid_machine.specs.Names.{has_name, name_eq, up_to}
-use Rattle.draid_machine.specs.State.{Layout, IsLayout, Arm, Core, Gone, Image, Pass, State}
+use Rattle.draid_machine.specs.State.{Layout, IsLayout, Arm, Core, Pass, State}
 use Rattle.draid_machine.specs.Arms.{has_column, has_moved, lies, targets_of}
-use Rattle.draid_machine.specs.Claims.{IsOn, claims, is_at, is_on}
+use Rattle.draid_machine.specs.Claims.{IsOn, is_at}
 use Rattle.draid_machine.specs.After.{aside_left, attach_state, attached_core, detach_state, detached_core, each_arm, fill_if, kept_after, lose_targets, plan_state, planned_pass, rearranged_state, renew_if}
-use Rattle.draid_machine.specs.Images.{IsImage, ImagesStand, Owned}
+use Rattle.draid_machine.specs.Images.{ImagesStand, Owned}
 use Rattle.draid_machine.specs.Sound.{Sound}
-use Rattle.draid_machine.specs.Step.{AttachStep, DetachStep, IsLast}
-use Rattle.draid_machine.proofs.Small.{bool_cases, name_true, some_injective, some_same, none_some, both_true, either_true, true_left, true_right, true_four, arm_cases, mapped_arm, has_append, has_filter, any_at, below, not_true, no_errors, absurd_test}
+use Rattle.draid_machine.specs.Step.{DetachStep, IsLast}
+use Rattle.draid_machine.proofs.Small.{bool_cases, name_true, some_injective, none_some, either_true, true_left, true_right, true_four, arm_cases, mapped_arm, has_append, has_filter, any_at, below, not_true, no_errors, absurd_test}
 use Rattle.draid_machine.proofs.Calm.{detach_listed, order_cases}
-use Rattle.draid_machine.proofs.Follows.{SamePass, from_passed}
+use Rattle.draid_machine.proofs.Follows.{from_passed}
 use Rattle.draid_machine.proofs.Moves.{replan_cases, still_lies}
 use Rattle.draid_machine.proofs.Passes.{filled}
 use Rattle.draid_machine.proofs.Staying.{at_of}
-use Rattle.draid_segments.specs.Segments.{HasScrubbed, IsLasting, IsSure, group_in, image_group}
+use Rattle.draid_segments.specs.Segments.{HasScrubbed, IsLasting, group_in, image_group}
 use Rattle.draid_segments.proofs.Backing.{Calm}
 use Rattle.draid_segments.proofs.Leaving.{not_left}
 use Rattle.draid_segments.proofs.Resting.{no_scrub, scrubbed_before}
@@ -71,18 +70,23 @@ module _ (l : Layout) (lay : IsLayout l) (w : State) (sound : Sound l w) (images
         at_now : is_at l q s ≡ true
         at_now = at_of l q s h (ap (λ f. f s.key) q_held ∙ there)
             (true_four (has_name (q.order (l.slot_of h.first s.column)) s.arm) (nat_lt s.column l.columns) (nat_lt s.row h.stripes) (lies l q.order s.arm (h.first + s.row) s.leaf)
-              listed (below s.column l.columns is.on.column) (below s.row h.stripes is.on.row) lies_now)
+            listed (below s.column l.columns is.on.column) (below s.row h.stripes is.on.row) lies_now)
 
         on_before : (k : Stayed l w q s.arm) → IsOn l w.core s h k.a
         on_before k =
             let band = sound.core.runs s.key h s.row there is.on.row in
             let inside : h.first + s.row < l.stripes = (let run = sound.core.inside s.key h there in let row = is.on.row in omega (arith, run, row)) in
             let column : has_column l q s.arm (h.first + s.row) ≡ true =
-                any_at l.columns (λ d. has_name (q.order (l.slot_of (h.first + s.row) d)) s.arm) s.column is.on.column
-                  (subst (λ slot. has_name (q.order slot) s.arm ≡ true) (sym (lay.steady (h.first + s.row) h.first s.column band)) listed) in
+            any_at l.columns (λ d. has_name (q.order (l.slot_of (h.first + s.row) d)) s.arm) s.column is.on.column
+            (subst (λ slot. has_name (q.order slot) s.arm ≡ true) (sym (lay.steady (h.first + s.row) h.first s.column band)) listed) in
             record {
-              held = there; arm = k.found; listed = k.listed (l.slot_of h.first s.column) listed; column = is.on.column; row = is.on.row;
-              lies = still_lies l w.core q s.arm (h.first + s.row) s.leaf k.still inside column lies_now }
+              held = there;
+              arm = k.found;
+              listed = k.listed (l.slot_of h.first s.column) listed;
+              column = is.on.column;
+              row = is.on.row;
+              lies = still_lies l w.core q s.arm (h.first + s.row) s.leaf k.still inside column lies_now;
+            }
 
         before : IsLasting l (image_group w) w.core s h
         before = elim is.why [
@@ -96,11 +100,15 @@ module _ (l : Layout) (lay : IsLayout l) (w : State) (sound : Sound l w) (images
       changed_calm = record {
         sure = λ s h is. let here = ap (λ f. f s) (sym present) ∙ is.present in
             (h, record { held = ap (λ f. f s.key) (sym held) ∙ is.held; present = here; sure = sure_before s here is.sure }, refl);
-        images = λ img is. elim is [ | inl e ↦ inl (sym image ∙ e) | inr e ↦ inr (sym sealed ∙ e) ];
+        images = λ img is. elim is [ inl e ↦ inl (sym image ∙ e) | inr e ↦ inr (sym sealed ∙ e) ];
         claimed = λ img s h is e claim sure. sure_before s ((images.each img is).claimed s claim) sure;
         group = ap (λ c. group_in c new.sealed) committed ∙ ap (λ o. group_in w.committed o) sealed;
-        last = λ s h is sure. (h, before s h is,
-            not_left (w.aside s) (is_at l q s || is_some (kept_after l w q s)) (true_left (is_at l q s) (is_some (kept_after l w q s)) (at_now s h is)) (ap (λ f. f s) (sym aside) ∙ sure), refl);
+        last = λ s h is sure. (
+          h,
+          before s h is,
+          not_left (w.aside s) (is_at l q s || is_some (kept_after l w q s)) (true_left (is_at l q s) (is_some (kept_after l w q s)) (at_now s h is)) (ap (λ f. f s) (sym aside) ∙ sure),
+          refl,
+        );
       }
 
   -- what has moved has each group of a birth in its log
@@ -127,8 +135,10 @@ module _ (l : Layout) (lay : IsLayout l) (w : State) (sound : Sound l w) (images
           let z = mapped_arm (renew_if (has_moved l w.core q s.arm) p.last) (q.arm s.arm) a e in
           let v = clean_cases (has_moved l w.core q s.arm) p.last h.birth z.0 (full p.last p.last_is s h held) (subst (λ (k : Arm). k.log h.birth ≡ false) z.2 out) in
           elim (arm_cases w.core.arm n s.arm (Some gone) z.0 z.1) [
-            | inl k ↦ (record { still = v.0; a = p.a; found = subst (λ m. w.core.arm m ≡ Some p.a) k.0 p.found; listed = λ c y. detach_listed l lay w.core slot c n s.arm y },
-                subst (λ (x : Arm). x.log h.birth ≡ false) (sym (some_injective gone z.0 k.1)) v.1)
+            | inl k ↦ (
+              record { still = v.0; a = p.a; found = subst (λ m. w.core.arm m ≡ Some p.a) k.0 p.found; listed = λ c y. detach_listed l lay w.core slot c n s.arm y },
+              subst (λ (x : Arm). x.log h.birth ≡ false) (sym (some_injective gone z.0 k.1)) v.1,
+            )
             | inr k ↦ (record { still = v.0; a = z.0; found = k.1; listed = λ c y. detach_listed l lay w.core slot c n s.arm y }, v.1)
           ]
 
@@ -176,10 +186,11 @@ module _ (l : Layout) (lay : IsLayout l) (w : State) (sound : Sound l w) (images
         let is : v.p ≡ lose_targets moved 0 p = sym (some_injective y.p v.p v.pass) ∙ sym (some_injective (lose_targets moved 0 p) y.p y.pass_is) in
         let left = has_filter (λ m. not (moved m)) p.targets s.arm (subst (λ (x : Pass). has_name x.targets s.arm ≡ true) is v.target) in
         let it = target p s.arm pass left.0 in
-        let other : name_eq n s.arm ≡ false = differs s.arm it.0 it.1 in
-        (record { still = not_true (moved s.arm) left.1; a = it.0; found = it.1; listed = listed_before s.arm other },
+        let other : name_eq n s.arm ≡ false = differs s.arm it.0 it.1 in (
+          record { still = not_true (moved s.arm) left.1; a = it.0; found = it.1; listed = listed_before s.arm other },
           scrubbed_before w.core.pass p (lose_targets moved 0 p) s.arm h s.row pass
-            (record { kind = refl; max = refl; next = refl; running = refl; errors = λ e. no_errors p.errors 0 e; targets = λ m e. (has_filter (λ k. not (moved k)) p.targets m e).0 }) y)
+              (record { kind = refl; max = refl; next = refl; running = refl; errors = λ e. no_errors p.errors 0 e; targets = λ m e. (has_filter (λ k. not (moved k)) p.targets m e).0 }) y,
+        )
       where
         differs : (m : ArmName) (a : Arm) → w.core.arm m ≡ Some a → name_eq n m ≡ false
         differs m a found = elim (bool_cases (name_eq n m)) [
@@ -213,4 +224,4 @@ module _ (l : Layout) (lay : IsLayout l) (w : State) (sound : Sound l w) (images
         filled_clean s h a held e out =
             let z = mapped_arm (fill_if (has_name targets s.arm) (w.open_group + 1)) (each_arm (λ m. renew_if (moved m) last) joined.arm s.arm) a e in
             clean s h z.0 held z.1 (not_filled (has_name targets s.arm) (w.open_group + 1) h.birth z.0 (sound.core.some s.key h held) (sound.core.births s.key h held)
-              (subst (λ (k : Arm). k.log h.birth ≡ false) z.2 out))
+            (subst (λ (k : Arm). k.log h.birth ≡ false) z.2 out))

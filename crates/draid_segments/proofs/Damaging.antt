@@ -1,20 +1,19 @@
 -- A sector is damaged.
-use Rattle.std.proofs.Common.{◌≡◌, ◌==◌, ◌<◌, ◌≤◌, ◌⊎◌, ◌&&◌, ◌||◌, ℕ, Bool, true, false, List, Option, Some, None, IsSome, IsTrue, option_map, map, ◌-◌, refl, sym, ◌∙◌, ap, subst, inl, inr, arith}
+use Rattle.std.proofs.Common.{◌≡◌, ◌==◌, ◌⊎◌, ◌&&◌, ◌||◌, ℕ, Bool, true, false, List, Option, Some, None, IsSome, IsTrue, refl, sym, ◌∙◌, subst, inl, inr}
 use Rattle.std.proofs.lemmas.Bool.{true≢false}
 use Rattle.draid_machine.specs.declared.names.Held.{Held}
 use Rattle.draid_machine.specs.declared.names.Segment.{Segment}
 use Rattle.draid_machine.specs.State.{Layout, IsLayout, Image, State}
-use Rattle.draid_machine.specs.Claims.{claims}
 use Rattle.draid_machine.specs.Created.{IsReached}
 use Rattle.draid_machine.specs.Images.{IsImage}
-use Rattle.draid_machine.proofs.Small.{bool_cases, both_true, true_both, equal, is_equal, absurd_test}
+use Rattle.draid_machine.proofs.Small.{bool_cases, both_true, true_both, equal, is_equal}
 use Rattle.draid_rack.specs.Rack.{Told, complement, damages}
 use Rattle.draid_rack.specs.Moments.{Leaves}
 use Rattle.draid_rack.proofs.Moments.{leaves_damages}
-use Rattle.draid_segments.specs.Segments.{Backed, Firm, IsClaim, Pieces, Steady, image_group, sector_at}
+use Rattle.draid_segments.specs.Segments.{Backed, Firm, Pieces, Steady, image_group, sector_at}
 use Rattle.draid_segments.specs.Acts.{Damages, is_there}
 use Rattle.draid_segments.proofs.Apart.{its_block}
-use Rattle.draid_segments.proofs.Backing.{Lasted, Reads, Untouched, Was, firm_by, holds_by, last_by, leaves_same, steady_by, still, untouched_by}
+use Rattle.draid_segments.proofs.Backing.{Untouched, holds_by, last_by, leaves_same, steady_by, still, untouched_by}
 
 -- a sector that became harmed: it is there as before, and soft as before
 record Harmed (leaf sector : ℕ) (x y : Told) : Type 0 where
@@ -32,8 +31,12 @@ complemented None t = t
 pub damages_leaves : (leaf sector : ℕ) (failed : Bool) (x y : Told) → Damages leaf sector failed x y → Leaves (is_sector leaf sector) x y
 damages_leaves leaf sector true x y same = record {
   only = record {
-    later = (leaves_same x y same).only.later; reads = λ m q out. (leaves_same x y same).only.reads m q refl; since = λ m q out. (leaves_same x y same).only.since m q refl;
-    soft = λ m q out. (leaves_same x y same).only.soft m q refl; harmed = λ m q out. (leaves_same x y same).only.harmed m q refl };
+    later = (leaves_same x y same).only.later;
+    reads = λ m q out. (leaves_same x y same).only.reads m q refl;
+    since = λ m q out. (leaves_same x y same).only.since m q refl;
+    soft = λ m q out. (leaves_same x y same).only.soft m q refl;
+    harmed = λ m q out. (leaves_same x y same).only.harmed m q refl;
+  };
   harm = λ m q out. (leaves_same x y same).harm m q refl;
 }
 damages_leaves leaf sector false x y same = subst (λ z. Leaves (is_sector leaf sector) x z) (sym same) (leaves_damages (is_sector leaf sector) leaf sector x is)
@@ -60,10 +63,10 @@ module _ (l : Layout) (lay : IsLayout l) (w : State) (reached : IsReached l w) (
   either = damaged leaf sector failed x y acts
 
   soft : (m q : ℕ) → IsTrue (y.soft m q) → IsTrue (x.soft m q)
-  soft m q = elim (either m q) [ | inl z ↦ z.soft | inr z ↦ z.soft ]
+  soft m q = elim (either m q) [ inl z ↦ z.soft | inr z ↦ z.soft ]
 
   there : (m q : ℕ) → IsSome (x.reads m q) → IsSome (y.reads m q)
-  there m q t = elim (either m q) [ | inl z ↦ subst (λ o. IsSome o) (sym z.reads) t | inr z ↦ z.there t ]
+  there m q t = elim (either m q) [ inl z ↦ subst (λ o. IsSome o) (sym z.reads) t | inr z ↦ z.there t ]
 
   pub damage_firm : (pieces : Pieces) (img : Image) (doubt : Segment → Bool) → Firm l pieces img doubt x → Firm l pieces img doubt y
   damage_firm pieces img doubt f = record {
@@ -93,5 +96,5 @@ module _ (l : Layout) (lay : IsLayout l) (w : State) (reached : IsReached l w) (
   pub damage_steady : (img : Image) → IsImage w img → Steady l img (λ s. w.aside s || is_there l leaf sector s (w.core.held s.key)) x y
   damage_steady img is = steady_by l img (λ s. w.aside s || is_there l leaf sector s (w.core.held s.key)) (is_sector leaf sector) x y (damages_leaves leaf sector failed x y acts).only
       (λ s h c. let z = its_block l lay w reached img is s.key h c.held in
-        let out = second (w.aside s) (is_there l leaf sector s (w.core.held s.key)) c.sure in
-        subst (λ (k : Held). is_sector leaf sector s.leaf (sector_at l k s) ≡ false) (sym z.is) (subst (λ o. is_there l leaf sector s o ≡ false) z.found out))
+      let out = second (w.aside s) (is_there l leaf sector s (w.core.held s.key)) c.sure in
+      subst (λ (k : Held). is_sector leaf sector s.leaf (sector_at l k s) ≡ false) (sym z.is) (subst (λ o. is_there l leaf sector s o ≡ false) z.found out))

@@ -1,5 +1,5 @@
 -- A pass ends: a rebuild's targets were flushed, and a scrub's had been.
-use Rattle.std.proofs.Common.{◌≡◌, ◌==◌, ◌+◌, ◌<◌, ◌≤◌, ◌⊎◌, ◌&&◌, ◌||◌, not, ℕ, Bool, true, false, nat_le, nat_lt, if◌then◌else◌, List, Option, Some, None, refl, sym, ◌∙◌, ap, subst, inl, inr, arith}
+use Rattle.std.proofs.Common.{◌≡◌, ◌==◌, ◌+◌, ◌<◌, ◌≤◌, ◌⊎◌, ◌&&◌, ◌||◌, not, ℕ, Bool, true, false, nat_le, if◌then◌else◌, List, Some, None, refl, sym, subst, inl, inr, arith}
 use Rattle.std.proofs.lemmas.Bool.{true≢false}
 use Rattle.std.proofs.lemmas.Bool.Decides.{nat_tests}
 use Rattle.draid_names.specs.declared.pass_kind.PassKind.{PassKind}
@@ -8,13 +8,13 @@ use Rattle.draid_machine.specs.declared.names.ArmName.{ArmName}
 use Rattle.draid_machine.specs.declared.names.Held.{Held}
 use Rattle.draid_machine.specs.declared.names.Segment.{Segment}
 use Rattle.draid_machine.specs.Names.{has_name, has_number, is_block, is_heal, takes}
-use Rattle.draid_machine.specs.State.{Layout, IsLayout, Arm, Core, Image, Pass, State}
+use Rattle.draid_machine.specs.State.{Layout, IsLayout, Arm, Image, Pass, State}
 use Rattle.draid_machine.specs.Arms.{is_silent, leaf_answers, lies_on}
 use Rattle.draid_machine.specs.Claims.{IsOn}
 use Rattle.draid_machine.specs.After.{done_state, ended_pass, excise_if, lose_some}
 use Rattle.draid_machine.specs.Sound.{Sound}
 use Rattle.draid_machine.specs.Step.{DoneStep, is_lent}
-use Rattle.draid_machine.proofs.Small.{bool_cases, none_some, both_true, mapped_arm, has_filter, not_true, no_errors, absurd_test, equal, is_equal, is_low, low, true_left, true_both, true_right}
+use Rattle.draid_machine.proofs.Small.{bool_cases, none_some, both_true, mapped_arm, has_filter, not_true, absurd_test, equal, is_equal, is_low, low, true_both, true_right}
 use Rattle.draid_machine.proofs.Follows.{to_passed}
 use Rattle.draid_rack.specs.Rack.{Told}
 use Rattle.draid_segments.specs.Segments.{Backed, Firm, HasScrubbed, IsLasting, Pieces, Steady, image_group, sector_at, soft_at}
@@ -64,10 +64,19 @@ module _ (l : Layout) (lay : IsLayout l) (w new : State) (sound : Sound l w) (fa
     -- a scrub had put it right
     scrubbed : is_heal p.kind ≡ true → Ended p s h → HasScrubbed w.core.pass s.arm h s.row
     scrubbed heal e = record {
-      p = p; pass_is = step.pass; heal = heals p.kind heal;
+      p = p;
+      pass_is = step.pass;
+      heal = heals p.kind heal;
       by = to_passed (Some p) s.arm h s.row (record {
-        p = p; pass = refl; running = step.running; errors = e.errors; target = e.target; max = e.max;
-        next = step.finished s.key h (h.first + s.row) on.held (lent_block p h block e.max) (takes_row h s.row on.row) }) }
+        p = p;
+        pass = refl;
+        running = step.running;
+        errors = e.errors;
+        target = e.target;
+        max = e.max;
+        next = step.finished s.key h (h.first + s.row) on.held (lent_block p h block e.max) (takes_row h s.row on.row);
+      });
+    }
 
     -- the leaf of a rebuild's target was flushed, else the target would be lost
     flushed : is_heal p.kind ≡ false → Ended (lose_some bad p) s h → soft_at l h s y ≡ false
@@ -79,8 +88,12 @@ module _ (l : Layout) (lay : IsLayout l) (w new : State) (sound : Sound l w) (fa
           | inr f ↦
               let z = neither (leaf_answers w.core s.leaf) (has_number failed s.leaf) f in
               acts.done s.leaf (sector_at l h s) (record {
-                rebuild = rebuild; arm = s.arm; target = left.0;
-                lies = segment_lies l lay w sound s h a (λ m. m == s.leaf) on (equal s.leaf s.leaf refl); answers = z.0 }) z.1
+                rebuild = rebuild;
+                arm = s.arm;
+                target = left.0;
+                lies = segment_lies l lay w sound s h a (λ m. m == s.leaf) on (equal s.leaf s.leaf refl);
+                answers = z.0;
+              }) z.1
         ]
 
     ended : (b : Bool) → is_heal p.kind ≡ b → Ended (if b then p else lose_some bad p) s h → (HasScrubbed w.core.pass s.arm h s.row) ⊎ (soft_at l h s y ≡ false)
@@ -95,9 +108,15 @@ module _ (l : Layout) (lay : IsLayout l) (w new : State) (sound : Sound l w) (fa
 
   pub done_backed : (pieces : Pieces) → Backed l pieces w x → Backed l pieces after y
   done_backed pieces b = record {
-    holds = holds_by l pieces pieces w after x y b.holds (λ s h is. inl (record {
-      i = h; sure = record { held = is.held; present = is.present; sure = is.sure }; first = refl;
-      same = untouched_by nowhere s.leaf (sector_at l h s) x y acts.same refl }, refl));
+    holds = holds_by l pieces pieces w after x y b.holds (λ s h is. inl (
+      record {
+        i = h;
+        sure = record { held = is.held; present = is.present; sure = is.sure };
+        first = refl;
+        same = untouched_by nowhere s.leaf (sector_at l h s) x y acts.same refl;
+      },
+      refl,
+    ));
     images = λ img is. done_firm pieces img w.aside (b.images img is);
     last = last_by l (image_group w) w after x y b.last lasted;
   }
@@ -108,8 +127,12 @@ module _ (l : Layout) (lay : IsLayout l) (w new : State) (sound : Sound l w) (fa
       old : (s : Segment) (h : Held) (a : Arm) → IsOn l w.core s h a → (is : IsLasting l (image_group w) after.core s h) → w.aside s ≡ false
           → (a.log h.birth ≡ false) ⊎ HasScrubbed w.core.pass s.arm h s.row → Lasted l (image_group w) w s h x y
       old s h a on is sure why = record {
-        i = h; lasting = record { a = a; on = on; block = is.block; birth = is.birth; stays = is.stays; why = why }; sure = sure; first = refl;
-        soft = acts.same.only.soft s.leaf (sector_at l h s) refl }
+        i = h;
+        lasting = record { a = a; on = on; block = is.block; birth = is.birth; stays = is.stays; why = why };
+        sure = sure;
+        first = refl;
+        soft = acts.same.only.soft s.leaf (sector_at l h s) refl;
+      }
 
       lasted : (s : Segment) (h : Held) → IsLasting l (image_group w) after.core s h → w.aside s ≡ false → Lasted l (image_group w) w s h x y ⊎ (soft_at l h s y ≡ false)
       lasted s h is sure =

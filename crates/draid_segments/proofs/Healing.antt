@@ -1,5 +1,5 @@
 -- A scrub's block lands.
-use Rattle.std.proofs.Common.{◌≡◌, ◌==◌, ◌+◌, ◌/◌, ◌<◌, ◌≤◌, ◌⊎◌, ◌&&◌, ◌||◌, not, ℕ, Bool, true, false, nat_le, nat_lt, if◌then◌else◌, List, length, Option, Some, None, IsSome, IsTrue, filter, refl, sym, ◌∙◌, ap, subst, inl, inr, arith}
+use Rattle.std.proofs.Common.{◌≡◌, ◌==◌, ◌+◌, ◌/◌, ◌<◌, ◌≤◌, ◌⊎◌, ◌&&◌, ◌||◌, not, ℕ, Bool, true, false, nat_lt, if◌then◌else◌, List, length, Option, Some, None, IsSome, refl, sym, ◌∙◌, ap, subst, inl, inr, arith}
 use Rattle.std.proofs.lemmas.Bool.{true≢false, cases_lt}
 use Rattle.std.proofs.lemmas.Bool.Decides.{nat_tests}
 use Rattle.draid_machine.specs.declared.names.Key.{Key}
@@ -9,28 +9,23 @@ use Rattle.draid_machine.specs.declared.names.Held.{Held}
 use Rattle.draid_machine.specs.declared.names.Segment.{Segment}
 use Rattle.draid_machine.specs.declared.event.Patched.{Patched}
 use Rattle.draid_machine.specs.Names.{key_eq, has_name, has_number, is_block, takes}
-use Rattle.draid_machine.specs.State.{Layout, IsLayout, Arm, Image, Loan, Pass, State}
+use Rattle.draid_machine.specs.State.{Layout, IsLayout, Image, Loan, Pass, State}
 use Rattle.draid_machine.specs.Arms.{answers, fails, first_leaf, first_spares, has_column, is_clean, leaf_answers, leaf_at, lies, passes}
-use Rattle.draid_machine.specs.Claims.{IsOn, claims, is_on}
-use Rattle.draid_machine.specs.After.{aside_after, has_healed, has_landed, heal_state, is_written, lose_targets, misses_block, pass_over, was_written}
+use Rattle.draid_machine.specs.Claims.{IsOn, is_on}
+use Rattle.draid_machine.specs.After.{aside_after, has_healed, has_landed, heal_state, is_written, lose_targets, misses_block, was_written}
 use Rattle.draid_machine.specs.Created.{IsReached}
 use Rattle.draid_machine.specs.Images.{IsImage, IsThere}
 use Rattle.draid_machine.specs.Sound.{LoanFits, Sound}
-use Rattle.draid_machine.specs.Step.{HealsThere, IsWhole, LandBlockStep, Patches}
-use Rattle.draid_machine.proofs.Small.{some_injective, some_same, bool_cases, both_true, true_both, either_true, four_true, true_four, key_refl, key_true, absurd_test, not_true, has_filter, any_at, below, is_below, is_equal, no_errors, no_more_errors}
-use Rattle.draid_machine.proofs.Calm.{at_place}
+use Rattle.draid_machine.specs.Step.{LandBlockStep}
+use Rattle.draid_machine.proofs.Small.{some_injective, some_same, bool_cases, both_true, true_both, either_true, four_true, true_four, key_refl, key_true, absurd_test, not_true, has_filter, any_at, below, is_below, is_equal, no_errors}
 use Rattle.draid_machine.proofs.Follows.{from_passed, to_passed}
-use Rattle.draid_machine.proofs.Losing.{every_segment}
 use Rattle.draid_machine.proofs.Rows.{reached_sound}
-use Rattle.draid_machine.proofs.Seals.{IsSealed}
-use Rattle.draid_machine.proofs.Standing.{every_image}
 use Rattle.draid_rack.specs.Rack.{Told}
 use Rattle.draid_segments.specs.Segments.{Backed, Firm, HasScrubbed, IsClaim, IsLasting, IsSure, Pieces, Steady, harmed_at, image_group, piece_of, reads_at, sector_at, soft_at}
 use Rattle.draid_segments.specs.Acts.{HealsBlock, LandsReadable, is_on_clean, is_settled}
 use Rattle.draid_segments.proofs.Apart.{claimed_elsewhere, elsewhere, heal_place, its_block, one_place, stands}
-use Rattle.draid_segments.proofs.Backing.{Lasted, Reads, Untouched, Was, calm_backed, holds_by, last_by, steady_by, steady_same, still}
+use Rattle.draid_segments.proofs.Backing.{Lasted, Reads, Untouched, Was, holds_by, last_by, steady_by, steady_same, still}
 use Rattle.draid_segments.proofs.Lasting.{lasting_present}
-use Rattle.draid_segments.proofs.Resting.{over_calm}
 
 -- ---- tests
 -- what is in no doubt after a whole landing: of another block, on a clean arm or landed, or it was at no place and not present
@@ -148,9 +143,11 @@ module _ (l : Layout) (lay : IsLayout l) (w new : State) (reached : IsReached l 
       let band = sound.core.runs s.key h s.row held (is_below s.row h.stripes z.2) in
       let at : leaf_at l w.core.order s.arm h.first ≡ Some s.leaf = sym (one_leaf l lay w.core.order s.arm (h.first + s.row) h.first band) ∙ keeps_leaf (leaf_at l w.core.order s.arm (h.first + s.row)) s.leaf z.3 in
       acts.flushed s.leaf (sector_at l h s) (record {
-        column = s.column; inside = is_below s.column l.columns z.1;
-        there = record { arm = s.arm; listed = z.0; lies = at; answers = subst (λ o. passes o (leaf_answers w.core) ≡ true) at ans } })
-        (subst (λ o. passes o (has_number failed) ≡ false) at ok)
+        column = s.column;
+        inside = is_below s.column l.columns z.1;
+        there = record { arm = s.arm; listed = z.0; lies = at; answers = subst (λ o. passes o (leaf_answers w.core) ≡ true) at ans };
+      })
+      (subst (λ o. passes o (has_number failed) ≡ false) at ok)
 
   -- what a whole landing settles reads as the restored block's, and isn't soft
   module _ (whole : step.whole ≡ true) (s : Segment) (key : key_eq n.key s.key ≡ true) (on : is_on l w.core.order s h ≡ true)
@@ -176,11 +173,11 @@ module _ (l : Layout) (lay : IsLayout l) (w new : State) (reached : IsReached l 
   -- ---- what is in no doubt afterwards
   aside_whole : (s : Segment) → step.whole ≡ true → after.aside s ≡ false
       → ((key_eq n.key s.key ≡ false) × (w.aside s ≡ false))
-        ⊎ (((key_eq n.key s.key ≡ true) × (is_on l w.core.order s h ≡ true) × ((is_clean w.core h.birth s.arm || has_healed l w.core n h patched s) ≡ true))
-          ⊎ ((key_eq n.key s.key ≡ true) × (is_on l w.core.order s h ≡ false) × (w.present s ≡ false)))
+      ⊎ (((key_eq n.key s.key ≡ true) × (is_on l w.core.order s h ≡ true) × ((is_clean w.core h.birth s.arm || has_healed l w.core n h patched s) ≡ true))
+      ⊎ ((key_eq n.key s.key ≡ true) × (is_on l w.core.order s h ≡ false) × (w.present s ≡ false)))
   aside_whole s whole e =
       whole_cases (key_eq n.key s.key) (is_on l w.core.order s h) (is_clean w.core h.birth s.arm || has_healed l w.core n h patched s) (w.aside s) (w.present s)
-        (subst (λ b. aside_after l w n h patched b s ≡ false) whole e)
+      (subst (λ b. aside_after l w n h patched b s ≡ false) whole e)
 
   aside_part : (s : Segment) → step.whole ≡ false → after.aside s ≡ false → (w.aside s ≡ false) × (of s ≡ false)
   aside_part s part e = neither (w.aside s) (of s) (subst (λ b. aside_after l w n h patched b s ≡ false) part e)
@@ -271,14 +268,17 @@ module _ (l : Layout) (lay : IsLayout l) (w new : State) (reached : IsReached l 
               record {
                 there = subst (λ o. IsSome o) (sym same.reads) (f.there s i old);
                 reads = λ calm. same.reads ∙ f.reads s i old (sym same.harmed ∙ calm) ∙ ap (λ (g : ℕ → ℕ → List ℕ). Some (g s.column s.row)) (sym (later_other s.key part));
-                firm = still same.soft (f.firm s i old) }
+                firm = still same.soft (f.firm s i old);
+              }
           | Right key reads firm ↦
               let one = its_held s z.h key z.found in
               let now : reads_at l i s y ≡ Some (piece_of later s) = subst (λ (k : Held). reads_at l k s y ≡ Some (piece_of later s)) (sym z.is)
-                  (subst (λ (k : Held). reads_at l k s y ≡ Some (piece_of later s)) one reads) in
+              (subst (λ (k : Held). reads_at l k s y ≡ Some (piece_of later s)) one reads) in
               record {
-                there = subst (λ o. IsSome o) (sym now) refl; reads = λ calm. now;
-                firm = subst (λ (k : Held). soft_at l k s y ≡ false) (sym z.is) (subst (λ (k : Held). soft_at l k s y ≡ false) one firm) }
+                there = subst (λ o. IsSome o) (sym now) refl;
+                reads = λ calm. now;
+                firm = subst (λ (k : Held). soft_at l k s y ≡ false) (sym z.is) (subst (λ (k : Held). soft_at l k s y ≡ false) one firm);
+              }
         ]
 
     pub heal_firm : (img : Image) → IsImage w img → Firm l later img after.aside y
@@ -346,19 +346,25 @@ module _ (l : Layout) (lay : IsLayout l) (w new : State) (reached : IsReached l 
                 let column : has_column l w.core s.arm h.first ≡ true = any_at l.columns (λ c. has_name (w.core.order (l.slot_of h.first c)) s.arm) s.column is.on.column listed in
                 let fine = both_false (has_column l w.core s.arm h.first) (answers l w.core s.arm h.first) (fails l w.core failed s.arm h.first) column (not_true (misses_block l w.core h failed s.arm) target.1) in
                 inr (subst (λ (k : Held). soft_at l k s y ≡ false) one
-                  (flushed s (subst (λ (k : Held). is_on l w.core.order s k ≡ true) (sym one) on_test) (subst (λ (k : Held). w.core.held s.key ≡ Some k) (sym one) is.on.held) fine.0 fine.1))
+                (flushed s (subst (λ (k : Held). is_on l w.core.order s k ≡ true) (sym one) on_test) (subst (λ (k : Held). w.core.held s.key ≡ Some k) (sym one) is.on.held) fine.0 fine.1))
             | inr other ↦ old (inr (record {
-                p = step.p; pass_is = step.counts.pass_is; heal = step.heal;
-                by = to_passed (Some step.p) s.arm i s.row (record {
-                  p = step.p; pass = refl;
-                  running = subst (λ (q : Pass). q.running ≡ true) its v.running;
-                  errors = no_errors step.p.errors (length failed) (subst (λ (q : Pass). q.errors ≡ 0) its v.errors);
-                  target = target.0; max = max;
-                  next = passed_before s i is.on.held other is.block max is.on.row (subst (λ (q : Pass). i.first + s.row < q.next) its v.next) }) }))
+              p = step.p;
+              pass_is = step.counts.pass_is;
+              heal = step.heal;
+              by = to_passed (Some step.p) s.arm i s.row (record {
+                p = step.p;
+                pass = refl;
+                running = subst (λ (q : Pass). q.running ≡ true) its v.running;
+                errors = no_errors step.p.errors (length failed) (subst (λ (q : Pass). q.errors ≡ 0) its v.errors);
+                target = target.0;
+                max = max;
+                next = passed_before s i is.on.held other is.block max is.on.row (subst (λ (q : Pass). i.first + s.row < q.next) its v.next);
+              });
+            }))
           ]
 
       lasts : Outcome
-      lasts = elim is.why [ | inl clean ↦ old (inl clean) | inr z ↦ scrubbed z ]
+      lasts = elim is.why [ inl clean ↦ old (inl clean) | inr z ↦ scrubbed z ]
 
     pub heal_backed : Backed l later after y
     heal_backed = record {
@@ -374,4 +380,4 @@ module _ (l : Layout) (lay : IsLayout l) (w : State) (reached : IsReached l w) (
   block_steady true new step acts = steady_same l img (λ s. w.aside s || is_written l w.core step.n step.h patched s || new.aside s) x y acts
   block_steady false new step acts =
       subst (λ (v : State). Steady l img (λ s. w.aside s || is_written l w.core step.n step.h patched s || v.aside s) x y) (sym step.made)
-        (heal_steady l lay w new reached pass serial failed patched step written x y acts img is)
+      (heal_steady l lay w new reached pass serial failed patched step written x y acts img is)

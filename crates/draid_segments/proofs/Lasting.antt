@@ -1,17 +1,17 @@
 -- What the next image may count on is claimed, so it is present; and on which leaves segments lie.
-use Rattle.std.proofs.Common.{◌≡◌, ◌==◌, ◌+◌, ◌<◌, ◌≤◌, ◌⊎◌, ◌&&◌, ◌||◌, not, ℕ, Bool, true, false, nat_lt, if◌then◌else◌, List, [], ◌∷◌, Option, Some, None, refl, sym, ◌∙◌, ap, subst, inl, inr, arith}
+use Rattle.std.proofs.Common.{◌≡◌, ◌==◌, ◌+◌, ℕ, Bool, true, false, nat_lt, if◌then◌else◌, List, Option, Some, None, refl, sym, subst, inl, inr}
 use Rattle.std.proofs.lemmas.Bool.{true≢false}
 use Rattle.draid_machine.specs.declared.names.ArmName.{ArmName}
 use Rattle.draid_machine.specs.declared.names.ArmName.TheVariants.{Leaf, Spare}
 use Rattle.draid_machine.specs.declared.names.Held.{Held}
 use Rattle.draid_machine.specs.declared.names.Segment.{Segment}
 use Rattle.draid_machine.specs.Names.{has_name}
-use Rattle.draid_machine.specs.State.{Layout, IsLayout, Arm, Core, Image, State}
+use Rattle.draid_machine.specs.State.{Layout, Arm, Core, Image, State}
 use Rattle.draid_machine.specs.Arms.{first_leaf, first_spares, lies, passes}
-use Rattle.draid_machine.specs.Claims.{claims, is_on, passed}
+use Rattle.draid_machine.specs.Claims.{claims, passed}
 use Rattle.draid_machine.specs.Images.{AreListed, HadSlot, IsOwned, KeptOn}
 use Rattle.draid_machine.specs.Sound.{IsClaimed, Sound}
-use Rattle.draid_machine.proofs.Small.{none_some, four_true, is_equal}
+use Rattle.draid_machine.proofs.Small.{four_true, is_equal}
 use Rattle.draid_machine.proofs.Losing.{first_listed}
 use Rattle.draid_machine.proofs.Owning.{put_block}
 use Rattle.draid_machine.proofs.Seals.{from_claims}
@@ -23,8 +23,11 @@ has_passed q n h row s = subst (λ o. passed o n h row ≡ true) (sym s.pass_is)
 
 pub lasting_claimed : (l : Layout) (group : ℕ) (q : Core) (s : Segment) (h : Held) → IsLasting l group q s h → IsClaimed l q s
 lasting_claimed l group q s h is = record {
-  h = h; a = is.a; on = is.on; put = put_block h.stage s.column is.block;
-  why = elim is.why [ | inl clean ↦ inl clean | inr y ↦ inr (is.block, has_passed q s.arm h s.row y) ];
+  h = h;
+  a = is.a;
+  on = is.on;
+  put = put_block h.stage s.column is.block;
+  why = elim is.why [ inl clean ↦ inl clean | inr y ↦ inr (is.block, has_passed q s.arm h s.row y) ];
 }
 
 pub lasting_present : (l : Layout) (w : State) (group : ℕ) (s : Segment) (h : Held) → Sound l w → IsLasting l group w.core s h → w.present s ≡ true

@@ -1,18 +1,15 @@
 -- Leaves go: at a commit those of arms that are gone for good, at an opening those that its image doesn't name.
-use Rattle.std.proofs.Common.{◌≡◌, ◌==◌, ◌+◌, ◌<◌, ◌≤◌, ◌⊎◌, ◌&&◌, ◌||◌, not, ℕ, Bool, true, false, nat_le, if◌then◌else◌, List, Option, Some, None, refl, sym, ◌∙◌, ap, subst, inl, inr, arith}
-use Rattle.std.proofs.lemmas.Bool.{true≢false}
-use Rattle.draid_machine.specs.declared.names.ArmName.{ArmName}
+use Rattle.std.proofs.Common.{◌≡◌, ◌≤◌, ◌&&◌, ◌||◌, ℕ, Bool, true, false, nat_le, List, Some, None, refl, sym, ◌∙◌, ap, subst, inl, inr}
 use Rattle.draid_machine.specs.declared.names.ArmName.TheVariants.{Leaf}
 use Rattle.draid_machine.specs.declared.names.Held.{Held}
 use Rattle.draid_machine.specs.declared.names.Segment.{Segment}
 use Rattle.draid_machine.specs.declared.event.Event.TheVariants.{Commit}
-use Rattle.draid_machine.specs.Names.{has_name, has_segment, is_block}
-use Rattle.draid_machine.specs.State.{Layout, IsLayout, Arm, Core, Image, State}
-use Rattle.draid_machine.specs.Claims.{IsOn, claims}
+use Rattle.draid_machine.specs.Names.{has_segment}
+use Rattle.draid_machine.specs.State.{Layout, IsLayout, Arm, Image, State}
+use Rattle.draid_machine.specs.Claims.{claims}
 use Rattle.draid_machine.specs.After.{commit_state, cut_above, is_freed_block, is_gone_arm, is_gone_by, reopen_state, stays}
 use Rattle.draid_machine.specs.Created.{IsReached}
-use Rattle.draid_machine.specs.Images.{IsImage, ImageStands}
-use Rattle.draid_machine.specs.Sound.{IsClaimed, Sound}
+use Rattle.draid_machine.specs.Images.{IsImage}
 use Rattle.draid_machine.specs.Step.{CommitStep}
 use Rattle.draid_machine.proofs.Small.{some_injective, none_some, bool_cases, both_true, true_both, kept_some, mapped_arm, absurd_test, low}
 use Rattle.draid_machine.proofs.Losing.{every_segment}
@@ -21,9 +18,9 @@ use Rattle.draid_machine.proofs.Rows.{reached_sound}
 use Rattle.draid_machine.proofs.Seals.{to_claims}
 use Rattle.draid_machine.proofs.Standing.{every_image}
 use Rattle.draid_rack.specs.Rack.{Told}
-use Rattle.draid_segments.specs.Segments.{Backed, Firm, FirmUpTo, HasScrubbed, IsClaim, IsLasting, IsSure, Pieces, Steady, group_in, image_group, sector_at}
+use Rattle.draid_segments.specs.Segments.{Backed, Firm, FirmUpTo, HasScrubbed, IsLasting, Pieces, Steady, group_in, image_group, sector_at}
 use Rattle.draid_segments.specs.Acts.{DropsBut, IsNamed, StaysAfter}
-use Rattle.draid_segments.proofs.Backing.{Lasted, Untouched, firm_by, firm_doubt, holds_by, last_by, steady_by, still, untouched_by}
+use Rattle.draid_segments.proofs.Backing.{Untouched, firm_by, firm_doubt, holds_by, last_by, steady_by, untouched_by}
 use Rattle.draid_segments.proofs.Lasting.{claim_named, has_passed, lasting_present, owned_leaf}
 use Rattle.draid_segments.proofs.Reached.{reached_on}
 
@@ -82,16 +79,20 @@ module _ (l : Layout) (lay : IsLayout l) (w new : State) (t : ℕ) (c : CommitSt
     commit_backed = record {
       holds = holds_by l pieces pieces w after x y b.holds (λ s h is.
           let z = kept_some (is_freed_block t (w.core.held s.key)) (w.core.held s.key) h is.held in
-          inl (record {
-            i = h;
-            sure = record { held = z.1; present = (both_true (w.present s) (stays l t w s) is.present).0; sure = sure_before s is.present is.sure };
-            first = refl;
-            same = same s h (present_stays s is.present) }, refl));
+          inl (
+            record {
+              i = h;
+              sure = record { held = z.1; present = (both_true (w.present s) (stays l t w s) is.present).0; sure = sure_before s is.present is.sure };
+              first = refl;
+              same = same s h (present_stays s is.present);
+            },
+            refl,
+          ));
       images = λ img is. elim is [
         | inl e ↦ subst (λ i. Firm l pieces i after.aside y) e
             (firm_doubt l pieces c.image w.aside after.aside y
-              (λ s h held claim sure. sure_before s (((every_image l after lay next).each c.image (inl refl)).claimed s claim) sure)
-              (commit_firm pieces w.aside (b.images c.image (inr c.sealed))))
+            (λ s h held claim sure. sure_before s (((every_image l after lay next).each c.image (inl refl)).claimed s claim) sure)
+            (commit_firm pieces w.aside (b.images c.image (inr c.sealed))))
         | inr e ↦ absurd (none_some None img refl e)
       ];
       last = subst (λ g. FirmUpTo l g after y) (ap (group_in w.committed) c.sealed ∙ group_is) (last_by l (image_group w) w after x y b.last (λ s h is sure.
@@ -101,12 +102,17 @@ module _ (l : Layout) (lay : IsLayout l) (w new : State) (t : ℕ) (c : CommitSt
           inl (record {
             i = h;
             lasting = record {
-              a = is.a; on = record { held = held.1; arm = arm.1; listed = is.on.listed; column = is.on.column; row = is.on.row; lies = is.on.lies };
-              block = is.block; birth = is.birth; stays = is.stays;
-              why = elim is.why [ | inl clean ↦ inl clean | inr y ↦ inr y ] };
+              a = is.a;
+              on = record { held = held.1; arm = arm.1; listed = is.on.listed; column = is.on.column; row = is.on.row; lies = is.on.lies };
+              block = is.block;
+              birth = is.birth;
+              stays = is.stays;
+              why = elim is.why [ inl clean ↦ inl clean | inr y ↦ inr y ];
+            };
             sure = sure_before s here sure;
             first = refl;
-            soft = (same s h (present_stays s here)).soft })));
+            soft = (same s h (present_stays s here)).soft;
+          })));
     }
 
 -- ---- An opening needs no more than that its image is firm, but for what is doubtful.
@@ -140,12 +146,15 @@ module _ (l : Layout) (lay : IsLayout l) (w : State) (img : Image) (doubtful : L
   lasting_claim s h k =
       let at = mapped_arm (cut_above img.group) (img.core.arm s.arm) k.a k.on.arm in
       to_claims l img.core s (record {
-        h = h; a = at.0; on = record { held = k.on.held; arm = at.1; listed = k.on.listed; column = k.on.column; row = k.on.row; lies = k.on.lies };
+        h = h;
+        a = at.0;
+        on = record { held = k.on.held; arm = at.1; listed = k.on.listed; column = k.on.column; row = k.on.row; lies = k.on.lies };
         put = put_block h.stage s.column k.block;
         why = elim k.why [
           | inl clean ↦ inl (uncut at.0 h.birth k.birth (subst (λ (v : Arm). v.log h.birth ≡ false) at.2 clean))
           | inr z ↦ inr (k.block, has_passed img.core s.arm h s.row (scrub z))
-        ] })
+        ];
+      })
     where
       scrub : HasScrubbed opened.core.pass s.arm h s.row → HasScrubbed img.core.pass s.arm h s.row
       scrub z = z

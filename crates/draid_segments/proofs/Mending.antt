@@ -1,14 +1,12 @@
 -- A rebuild's stripe lands.
-use Rattle.std.proofs.Common.{◌≡◌, ◌==◌, ◌+◌, ◌<◌, ◌≤◌, ◌⊎◌, ◌&&◌, ◌||◌, not, ℕ, Bool, true, false, nat_lt, if◌then◌else◌, List, Option, Some, None, count_by, refl, sym, ◌∙◌, ap, subst, inl, inr, arith}
-use Rattle.draid_names.specs.declared.pass_kind.PassKind.TheVariants.{Rebuild}
+use Rattle.std.proofs.Common.{◌≡◌, ◌+◌, ◌&&◌, not, ℕ, Bool, true, false, if◌then◌else◌, List, Some, count_by, refl, sym, ◌∙◌, ap, subst, inl, inr}
 use Rattle.draid_machine.specs.declared.names.Key.{Key}
 use Rattle.draid_machine.specs.declared.names.Held.{Held}
 use Rattle.draid_machine.specs.declared.names.Segment.{Segment}
-use Rattle.draid_machine.specs.Names.{has_name}
-use Rattle.draid_machine.specs.State.{Layout, IsLayout, Arm, Image, Pass, State}
+use Rattle.draid_machine.specs.State.{Layout, IsLayout, Image, Pass, State}
 use Rattle.draid_machine.specs.Arms.{fails}
 use Rattle.draid_machine.specs.Claims.{IsOn, claims, is_on}
-use Rattle.draid_machine.specs.After.{is_mended, is_source_aside, lose_targets, mend_state, misses_stripe, pass_over, unsourced}
+use Rattle.draid_machine.specs.After.{is_mended, is_source_aside, lose_targets, mend_state, misses_stripe, pass_over}
 use Rattle.draid_machine.specs.Created.{IsReached}
 use Rattle.draid_machine.specs.Images.{IsImage}
 use Rattle.draid_machine.specs.Sound.{Sound}
@@ -19,8 +17,8 @@ use Rattle.draid_machine.proofs.Losing.{every_segment}
 use Rattle.draid_machine.proofs.Rows.{reached_sound}
 use Rattle.draid_machine.proofs.Standing.{every_image}
 use Rattle.draid_rack.specs.Rack.{Told}
-use Rattle.draid_segments.specs.Segments.{Backed, Firm, IsLasting, IsSure, Pieces, Steady, harmed_at, image_group, piece_of, reads_at, sector_at, soft_at}
-use Rattle.draid_segments.specs.Acts.{LandsStripe, MendsStripe, is_source_harmed}
+use Rattle.draid_segments.specs.Segments.{Backed, Firm, IsLasting, IsSure, Pieces, Steady, image_group, sector_at}
+use Rattle.draid_segments.specs.Acts.{LandsStripe, MendsStripe}
 use Rattle.draid_segments.proofs.Apart.{claimed_elsewhere, elsewhere, mend_not_claimed, mend_parts, mend_place}
 use Rattle.draid_segments.proofs.Backing.{Lasted, Reads, Was, calm_backed, firm_by, firm_doubt, holds_by, last_by, steady_by, steady_same, untouched_by}
 use Rattle.draid_segments.proofs.Resting.{no_scrub, over_calm}
@@ -75,18 +73,20 @@ module _ (l : Layout) (lay : IsLayout l) (w new : State) (reached : IsReached l 
             i = h;
             sure = record { held = is.held; present = here; sure = if_not (of s) (is_source_aside l w step.n s && not (fails l w.core failed s.arm step.n.stripe)) (w.aside s) false out is.sure };
             first = refl;
-            same = untouched_by named s.leaf (sector_at l h s) x y acts.writes.others (elsewhere l lay w reached step.h of places named acts.writes.lies s h is.held (inl here) out) }
+            same = untouched_by named s.leaf (sector_at l h s) x y acts.writes.others (elsewhere l lay w reached step.h of places named acts.writes.lies s h is.held (inl here) out);
+          }
 
       mended : (s : Segment) (h : Held) → IsSure after s h → of s ≡ true → Reads l pieces s h y
       mended s h is t =
           let ok = if_so (of s) (not (fails l w.core failed s.arm step.n.stripe)) (w.present s) true t is.present in
           let good : fails l w.core failed s.arm step.n.stripe ≡ false = not_true (fails l w.core failed s.arm step.n.stripe) ok in
           let sure = not_and (is_source_aside l w step.n s) (not (fails l w.core failed s.arm step.n.stripe)) ok
-              (if_so (of s) (is_source_aside l w step.n s && not (fails l w.core failed s.arm step.n.stripe)) (w.aside s) false t is.sure) in
+          (if_so (of s) (is_source_aside l w step.n s && not (fails l w.core failed s.arm step.n.stripe)) (w.aside s) false t is.sure) in
           let one : step.h ≡ h = some_same (w.core.held s.key) step.h h (places s t).0 is.held in
           subst (λ (k : Held). Reads l pieces s k y) one (record {
             there = acts.there s t good;
-            reads = λ calm. acts.reads s t good (sym (acts.harmed s t good) ∙ calm) sure ∙ ap (λ (g : ℕ → ℕ → List ℕ). Some (g s.column s.row)) (same s.key) })
+            reads = λ calm. acts.reads s t good (sym (acts.harmed s t good) ∙ calm) sure ∙ ap (λ (g : ℕ → ℕ → List ℕ). Some (g s.column s.row)) (same s.key);
+          })
 
       lasted : (s : Segment) (h : Held) → IsLasting l (image_group w) after.core s h → after.aside s ≡ false → Lasted l (image_group w) w s h x y
       lasted s h is sure =
@@ -98,7 +98,8 @@ module _ (l : Layout) (lay : IsLayout l) (w new : State) (reached : IsReached l 
             sure = if_not (of s) (is_source_aside l w step.n s && not (fails l w.core failed s.arm step.n.stripe)) (w.aside s) false out sure;
             first = refl;
             soft = acts.writes.others.only.soft s.leaf (sector_at l h s)
-                (elsewhere l lay w reached step.h of places named acts.writes.lies s h is.on.held (inr (at_place l w.core s h is.a (on s h is))) out) }
+                (elsewhere l lay w reached step.h of places named acts.writes.lies s h is.on.held (inr (at_place l w.core s h is.a (on s h is))) out);
+          }
         where
           on : (s : Segment) (h : Held) (is : IsLasting l (image_group w) after.core s h) → IsOn l w.core s h is.a
           on s h is = record { held = is.on.held; arm = is.on.arm; listed = is.on.listed; column = is.on.column; row = is.on.row; lies = is.on.lies }

@@ -1,12 +1,12 @@
 -- A column is put.
-use Rattle.std.proofs.Common.{◌≡◌, ◌==◌, ◌+◌, ◌<◌, ◌≤◌, ◌⊎◌, ◌&&◌, ◌||◌, not, ℕ, Bool, true, false, nat_lt, if◌then◌else◌, List, Option, Some, None, IsSome, refl, sym, ◌∙◌, ap, subst, inl, inr, arith}
+use Rattle.std.proofs.Common.{◌≡◌, ◌==◌, ◌+◌, ◌&&◌, ◌||◌, not, ℕ, Bool, true, false, if◌then◌else◌, List, Option, Some, IsSome, refl, sym, ◌∙◌, ap, subst, inl, inr}
 use Rattle.draid_machine.specs.declared.names.Key.{Key}
 use Rattle.draid_machine.specs.declared.names.ArmName.{ArmName}
 use Rattle.draid_machine.specs.declared.names.Stage.TheVariants.{Writing}
 use Rattle.draid_machine.specs.declared.names.Held.{Held}
 use Rattle.draid_machine.specs.declared.names.Segment.{Segment}
 use Rattle.draid_machine.specs.Names.{key_eq, has_name, is_block, is_nil}
-use Rattle.draid_machine.specs.State.{Layout, IsLayout, Arm, Core, Image, State}
+use Rattle.draid_machine.specs.State.{Layout, IsLayout, Arm, Image, State}
 use Rattle.draid_machine.specs.Claims.{claims, is_on}
 use Rattle.draid_machine.specs.After.{is_landed, log_if, put_state}
 use Rattle.draid_machine.specs.Created.{IsReached}
@@ -16,9 +16,9 @@ use Rattle.draid_machine.proofs.Small.{some_injective, some_same, bool_cases, ei
 use Rattle.draid_machine.proofs.Calm.{at_place}
 use Rattle.draid_rack.specs.Rack.{Told}
 use Rattle.draid_segments.specs.Segments.{Backed, Firm, IsLasting, IsSure, Pieces, Steady, image_group, piece_of, reads_at, sector_at}
-use Rattle.draid_segments.specs.Acts.{PutsColumn, WritesAt, is_put_to}
+use Rattle.draid_segments.specs.Acts.{PutsColumn, is_put_to}
 use Rattle.draid_segments.proofs.Apart.{claimed_elsewhere, elsewhere, put_absent, put_place, stands}
-use Rattle.draid_segments.proofs.Backing.{Lasted, Reads, Was, firm_by, holds_by, last_by, steady_by, untouched_by}
+use Rattle.draid_segments.proofs.Backing.{Lasted, Was, firm_by, holds_by, last_by, steady_by, untouched_by}
 
 some_there : {A : Type 0} (o : Option A) (a : A) → o ≡ Some a → IsSome o
 some_there o a e = subst (λ p. IsSome p) (sym e) refl
@@ -66,7 +66,7 @@ module _ (l : Layout) (lay : IsLayout l) (w new : State) (reached : IsReached l 
         let z = four_true (key_eq key s.key) (s.column == step.c) (has_name landed s.arm) (is_on l w.core.order s step.h) e in
         let is : later ≡ h = some_injective later h (sym (held_at w.core.held key (Some later)) ∙ subst (λ k. after.core.held k ≡ Some h) (sym (key_true key s.key z.0)) held) in
         subst (λ (k : Held). reads_at l k s y ≡ Some (piece_of pieces s)) is
-          (acts.landed_reads s e ∙ ap (λ (g : ℕ → ℕ → List ℕ). Some (g s.column s.row)) (same s.key))
+        (acts.landed_reads s e ∙ ap (λ (g : ℕ → ℕ → List ℕ). Some (g s.column s.row)) (same s.key))
 
     was : (s : Segment) (h : Held) → IsSure after s h → w.present s ≡ true → Was l w s h x y
     was s h is old = elim (held_cases w.core.held key s.key (Some later) h is.held) [
@@ -76,12 +76,14 @@ module _ (l : Layout) (lay : IsLayout l) (w new : State) (reached : IsReached l 
             i = step.h;
             sure = record { held = held; present = old; sure = is.sure };
             first = ap (λ (k : Held). k.first) (sym (some_injective later h z.1));
-            same = untouched_by named s.leaf (sector_at l step.h s) x y acts.writes.others (free s step.h held (inl old) (absent s old)) }
+            same = untouched_by named s.leaf (sector_at l step.h s) x y acts.writes.others (free s step.h held (inl old) (absent s old));
+          }
       | inr z ↦ record {
-          i = h;
-          sure = record { held = z.1; present = old; sure = is.sure };
-          first = refl;
-          same = untouched_by named s.leaf (sector_at l h s) x y acts.writes.others (free s h z.1 (inl old) (absent s old)) }
+        i = h;
+        sure = record { held = z.1; present = old; sure = is.sure };
+        first = refl;
+        same = untouched_by named s.leaf (sector_at l h s) x y acts.writes.others (free s h z.1 (inl old) (absent s old));
+      }
     ]
 
     less : (a c : Bool) → (a || c) ≡ false → a ≡ false
@@ -95,17 +97,23 @@ module _ (l : Layout) (lay : IsLayout l) (w new : State) (reached : IsReached l 
           let arm = mapped_arm (log_if (has_name (w.core.order (l.slot_of step.h.first step.c)) s.arm && not (has_name landed s.arm)) step.h.birth) (w.core.arm s.arm) is.a is.on.arm in
           let on : _ = record { held = z.1; arm = arm.1; listed = is.on.listed; column = is.on.column; row = is.on.row; lies = is.on.lies } in
           let lasting : IsLasting l (image_group w) w.core s h = record {
-            a = arm.0; on = on; block = is.block; birth = is.birth; stays = is.stays;
+            a = arm.0;
+            on = on;
+            block = is.block;
+            birth = is.birth;
+            stays = is.stays;
             why = elim is.why [
               | inl clean ↦ inl (less (arm.0.log h.birth) _ (ap (λ (k : Arm). k.log h.birth) (sym arm.2) ∙ clean))
               | inr scrubbed ↦ inr scrubbed
-            ] } in
+            ];
+          } in
           record {
             i = h;
             lasting = lasting;
             sure = sure;
             first = refl;
-            soft = acts.writes.others.only.soft s.leaf (sector_at l h s) (free s h z.1 (inr (at_place l w.core s h arm.0 on)) (no_ticket s h z.1 is.block)) }
+            soft = acts.writes.others.only.soft s.leaf (sector_at l h s) (free s h z.1 (inr (at_place l w.core s h arm.0 on)) (no_ticket s h z.1 is.block));
+          }
     ]
       where
         no_ticket : (s : Segment) (h : Held) → w.core.held s.key ≡ Some h → is_block h.stage ≡ true → of s ≡ false

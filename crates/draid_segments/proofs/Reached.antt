@@ -1,5 +1,5 @@
 -- A legal event leads from a state of a history to one.
-use Rattle.std.proofs.Common.{◌≡◌, List, [], ◌∷◌, ◌++◌, refl, subst}
+use Rattle.std.proofs.Common.{List, [], ◌∷◌, ◌++◌, refl, subst}
 use Rattle.draid_machine.specs.declared.event.Event.{Event}
 use Rattle.draid_machine.specs.State.{Layout, State}
 use Rattle.draid_machine.specs.Created.{IsReached, created}

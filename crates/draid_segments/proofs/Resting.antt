@@ -1,28 +1,26 @@
 -- Events on which the rack does nothing, but for those that change a slot's arms.
-use Rattle.std.proofs.Common.{◌≡◌, ◌==◌, ◌+◌, ◌<◌, ◌≤◌, ◌⊎◌, ◌&&◌, ◌||◌, not, ℕ, Bool, true, false, nat_le, nat_lt, if◌then◌else◌, List, [], ◌∷◌, length, Option, Some, None, refl, sym, ◌∙◌, ap, subst, inl, inr, arith}
-use Rattle.std.proofs.lemmas.Bool.{true≢false}
-use Rattle.std.proofs.lemmas.Bool.Decides.{nat_tests}
+use Rattle.std.proofs.Common.{◌≡◌, ◌+◌, ◌<◌, ◌≤◌, ◌&&◌, not, ℕ, Bool, true, false, nat_lt, if◌then◌else◌, List, Option, Some, None, refl, sym, ◌∙◌, ap, subst, inl, inr, arith}
 use Rattle.draid_names.specs.declared.pass_kind.PassKind.{PassKind}
 use Rattle.draid_names.specs.declared.pass_kind.PassKind.TheVariants.{Rebuild, Heal}
 use Rattle.draid_machine.specs.declared.names.Key.{Key}
 use Rattle.draid_machine.specs.declared.names.ArmName.{ArmName}
 use Rattle.draid_machine.specs.declared.names.Stage.{Stage}
-use Rattle.draid_machine.specs.declared.names.Stage.TheVariants.{Writing, Live, Freed}
+use Rattle.draid_machine.specs.declared.names.Stage.TheVariants.{Live, Freed}
 use Rattle.draid_machine.specs.declared.names.Held.{Held}
 use Rattle.draid_machine.specs.declared.names.Segment.{Segment}
 use Rattle.draid_machine.specs.Names.{key_eq, has_name, is_block, is_freed_by, is_heal, up_to}
 use Rattle.draid_machine.specs.State.{Layout, IsLayout, Arm, Pass, Core, Loan, Image, State}
 use Rattle.draid_machine.specs.Arms.{lies}
-use Rattle.draid_machine.specs.Claims.{IsOn, claims, passed}
-use Rattle.draid_machine.specs.After.{begin_state, cancel_state, capped, close_state, fill_if, finish_state, free_state, gone_state, lend_errors, lend_state, live_state, pass_over, plan_state, planned_pass, ready_state, set_arm, set_held, switch_state, upgrade_state}
-use Rattle.draid_machine.specs.Images.{IsImage, ImagesStand, Owned}
+use Rattle.draid_machine.specs.Claims.{passed}
+use Rattle.draid_machine.specs.After.{begin_state, cancel_state, capped, close_state, fill_if, finish_state, free_state, gone_state, lend_errors, lend_state, live_state, pass_over, plan_state, planned_pass, ready_state, set_held, switch_state, upgrade_state}
+use Rattle.draid_machine.specs.Images.{ImagesStand, Owned}
 use Rattle.draid_machine.specs.Sound.{Sound}
-use Rattle.draid_machine.proofs.Small.{some_injective, some_same, none_some, bool_cases, both_true, either_true, key_true, not_true, held_cases, arm_cases, mapped_arm, absurd_test, no_errors, no_more_errors, is_below}
-use Rattle.draid_machine.proofs.Follows.{HasPassed, SamePass, from_passed, to_passed}
+use Rattle.draid_machine.proofs.Small.{some_injective, some_same, none_some, bool_cases, both_true, key_true, held_cases, arm_cases, mapped_arm, absurd_test, no_errors, no_more_errors}
+use Rattle.draid_machine.proofs.Follows.{SamePass, from_passed, to_passed}
 use Rattle.draid_machine.proofs.Passes.{filled}
 use Rattle.draid_machine.proofs.Seals.{sealed_held}
 use Rattle.draid_machine.proofs.Tickets.{rebuild_heal}
-use Rattle.draid_segments.specs.Segments.{HasScrubbed, IsLasting, IsSure, group_in, image_group}
+use Rattle.draid_segments.specs.Segments.{HasScrubbed, IsLasting, group_in, image_group}
 use Rattle.draid_segments.proofs.Backing.{Calm}
 
 -- ---- what a scrub has put right
@@ -59,20 +57,31 @@ module _ (l : Layout) (w new : State) (held : new.core.held ≡ w.core.held) (or
   pub quiet_calm : Calm l w new
   quiet_calm = record {
     sure = λ s h is. (h, record { held = ap (λ f. f s.key) (sym held) ∙ is.held; present = ap (λ f. f s) (sym present) ∙ is.present; sure = ap (λ f. f s) (sym aside) ∙ is.sure }, refl);
-    images = λ img is. elim is [ | inl e ↦ inl (sym image ∙ e) | inr e ↦ inr (sym sealed ∙ e) ];
+    images = λ img is. elim is [ inl e ↦ inl (sym image ∙ e) | inr e ↦ inr (sym sealed ∙ e) ];
     claimed = λ img s h is e claim sure. ap (λ f. f s) (sym aside) ∙ sure;
     group = ap (λ c. group_in c new.sealed) committed ∙ ap (λ o. group_in w.committed o) sealed;
     last = λ s h is sure.
         let there = ap (λ f. f s.key) (sym held) ∙ is.on.held in
-        let z = arms s h is.a there is.on.arm in
-        (h, record {
-          a = z.0;
-          on = record {
-            held = there; arm = z.1; listed = subst (λ f. has_name (f (l.slot_of h.first s.column)) s.arm ≡ true) order is.on.listed; column = is.on.column; row = is.on.row;
-            lies = subst (λ f. lies_at f s h ≡ true) order is.on.lies };
-          block = is.block; birth = is.birth; stays = is.stays;
-          why = elim is.why [ | inl clean ↦ inl (z.2 clean) | inr y ↦ inr (pass s.arm h s.row y) ];
-        }, ap (λ f. f s) (sym aside) ∙ sure, refl);
+        let z = arms s h is.a there is.on.arm in (
+          h,
+          record {
+            a = z.0;
+            on = record {
+              held = there;
+              arm = z.1;
+              listed = subst (λ f. has_name (f (l.slot_of h.first s.column)) s.arm ≡ true) order is.on.listed;
+              column = is.on.column;
+              row = is.on.row;
+              lies = subst (λ f. lies_at f s h ≡ true) order is.on.lies;
+            };
+            block = is.block;
+            birth = is.birth;
+            stays = is.stays;
+            why = elim is.why [ inl clean ↦ inl (z.2 clean) | inr y ↦ inr (pass s.arm h s.row y) ];
+          },
+          ap (λ f. f s) (sym aside) ∙ sure,
+          refl,
+        );
   }
     where
       lies_at : (ℕ → List ArmName) → Segment → Held → Bool
@@ -102,9 +111,19 @@ module _ (l : Layout) (lay : IsLayout l) (w : State) (sound : Sound l w) (images
     group = refl;
     last = λ s i is sure. elim (held_cases w.core.held k s.key (Some h) i is.on.held) [
       | inl z ↦ absurd_test (is_block i.stage) is.block (subst (λ (v : Held). is_block v.stage ≡ false) (some_injective h i z.1) ticket)
-      | inr z ↦ (i, record {
-          a = is.a; on = record { held = z.1; arm = is.on.arm; listed = is.on.listed; column = is.on.column; row = is.on.row; lies = is.on.lies };
-          block = is.block; birth = is.birth; stays = is.stays; why = is.why }, sure, refl)
+      | inr z ↦ (
+        i,
+        record {
+          a = is.a;
+          on = record { held = z.1; arm = is.on.arm; listed = is.on.listed; column = is.on.column; row = is.on.row; lies = is.on.lies };
+          block = is.block;
+          birth = is.birth;
+          stays = is.stays;
+          why = is.why;
+        },
+        sure,
+        refl,
+      )
     ];
   }
 
@@ -127,9 +146,19 @@ module _ (l : Layout) (lay : IsLayout l) (w : State) (sound : Sound l w) (images
     group = refl;
     last = λ s i is sure. elim (held_cases w.core.held k s.key None i is.on.held) [
       | inl z ↦ absurd (none_some None i refl z.1)
-      | inr z ↦ (i, record {
-          a = is.a; on = record { held = z.1; arm = is.on.arm; listed = is.on.listed; column = is.on.column; row = is.on.row; lies = is.on.lies };
-          block = is.block; birth = is.birth; stays = is.stays; why = is.why }, kept_test (w.aside s) (key_eq k s.key) sure z.0, refl)
+      | inr z ↦ (
+        i,
+        record {
+          a = is.a;
+          on = record { held = z.1; arm = is.on.arm; listed = is.on.listed; column = is.on.column; row = is.on.row; lies = is.on.lies };
+          block = is.block;
+          birth = is.birth;
+          stays = is.stays;
+          why = is.why;
+        },
+        kept_test (w.aside s) (key_eq k s.key) sure z.0,
+        refl,
+      )
     ];
   }
     where
@@ -158,9 +187,19 @@ module _ (l : Layout) (lay : IsLayout l) (w : State) (sound : Sound l w) (images
           let same : i ≡ record h { stage = st } = sym (some_injective (record h { stage = st }) i z.1) in
           let there : w.core.held s.key ≡ Some h = subst (λ q. w.core.held q ≡ Some h) z.0 found in
           (h, of_stage s i is same there, sure, ap (λ (q : Held). q.first) same)
-      | inr z ↦ (i, record {
-          a = is.a; on = record { held = z.1; arm = is.on.arm; listed = is.on.listed; column = is.on.column; row = is.on.row; lies = is.on.lies };
-          block = is.block; birth = is.birth; stays = is.stays; why = is.why }, sure, refl)
+      | inr z ↦ (
+        i,
+        record {
+          a = is.a;
+          on = record { held = z.1; arm = is.on.arm; listed = is.on.listed; column = is.on.column; row = is.on.row; lies = is.on.lies };
+          block = is.block;
+          birth = is.birth;
+          stays = is.stays;
+          why = is.why;
+        },
+        sure,
+        refl,
+      )
     ];
   }
     where
@@ -172,9 +211,12 @@ module _ (l : Layout) (lay : IsLayout l) (w : State) (sound : Sound l w) (images
           let v : IsLasting l (image_group w) after s (record h { stage = st }) = subst (λ (q : Held). IsLasting l (image_group w) after s q) same is in
           let b = back v.block v.birth v.stays in
           record {
-            a = v.a; on = record { held = there; arm = v.on.arm; listed = v.on.listed; column = v.on.column; row = v.on.row; lies = v.on.lies };
-            block = b.0; birth = v.birth; stays = b.1;
-            why = elim v.why [ | inl clean ↦ inl clean | inr y ↦ inr (record { p = y.p; pass_is = y.pass_is; heal = y.heal; by = y.by }) ];
+            a = v.a;
+            on = record { held = there; arm = v.on.arm; listed = v.on.listed; column = v.on.column; row = v.on.row; lies = v.on.lies };
+            block = b.0;
+            birth = v.birth;
+            stays = b.1;
+            why = elim v.why [ inl clean ↦ inl clean | inr y ↦ inr (record { p = y.p; pass_is = y.pass_is; heal = y.heal; by = y.by }) ];
           }
 
   live_calm : (k : Key) (h : Held) → w.core.held k ≡ Some h → is_block h.stage ≡ false → Calm l w (live_state w k h)
@@ -213,9 +255,12 @@ module _ (l : Layout) (lay : IsLayout l) (w : State) (sound : Sound l w) (images
   pub plan_calm : (kind : PassKind) (targets : List ArmName) → Calm l w (plan_state w kind targets)
   plan_calm kind targets = quiet_calm l w (plan_state w kind targets) refl refl refl refl refl refl refl
       (λ s h a held e.
-        let z = mapped_arm (fill_if (not (is_heal kind) && has_name targets s.arm) (w.open_group + 1)) (w.core.arm s.arm) a e in
-        (z.0, z.1, λ clean. not_filled (not (is_heal kind) && has_name targets s.arm) (w.open_group + 1) h.birth z.0 (sound.core.some s.key h held) (sound.core.births s.key h held)
-          (subst (λ (q : Arm). q.log h.birth ≡ false) z.2 clean)))
+      let z = mapped_arm (fill_if (not (is_heal kind) && has_name targets s.arm) (w.open_group + 1)) (w.core.arm s.arm) a e in (
+        z.0,
+        z.1,
+        λ clean. not_filled (not (is_heal kind) && has_name targets s.arm) (w.open_group + 1) h.birth z.0 (sound.core.some s.key h held) (sound.core.births s.key h held)
+            (subst (λ (q : Arm). q.log h.birth ≡ false) z.2 clean),
+      ))
       (λ n h row y. none kind n h row y)
     where
       none : (kind : PassKind) (n : ArmName) (h : Held) (row : ℕ) → HasScrubbed (Some (planned_pass w kind targets)) n h row → HasScrubbed w.core.pass n h row
@@ -234,7 +279,7 @@ module _ (l : Layout) (lay : IsLayout l) (w : State) (sound : Sound l w) (images
   pub lend_calm : (p : Pass) (n : Loan) (failed : List ℕ) → w.core.pass ≡ Some p → Calm l w (lend_state w p n failed)
   lend_calm p n failed pass = quiet_calm l w (lend_state w p n failed) refl refl refl refl refl refl refl same_arms
       (λ m h row y. scrubbed_before w.core.pass p (record p { errors = capped (p.errors + lend_errors p.kind failed) }) m h row pass
-        (record { kind = refl; max = refl; next = refl; running = refl; errors = λ e. no_errors p.errors (lend_errors p.kind failed) e; targets = λ k e. e }) y)
+      (record { kind = refl; max = refl; next = refl; running = refl; errors = λ e. no_errors p.errors (lend_errors p.kind failed) e; targets = λ k e. e }) y)
 
   pub cancel_calm : Calm l w (cancel_state w)
   cancel_calm = quiet_calm l w (cancel_state w) refl refl refl refl refl refl refl same_arms (λ n h row y. absurd (none_some None y.p refl y.pass_is))
@@ -243,8 +288,8 @@ module _ (l : Layout) (lay : IsLayout l) (w : State) (sound : Sound l w) (images
   pub over_calm : (p : Pass) (next : ℕ) → Calm l w (pass_over w p 1 next)
   over_calm p next = quiet_calm l w (pass_over w p 1 next) refl refl refl refl refl refl refl same_arms
       (λ n h row y.
-        let v = from_passed (Some y.p) n h row y.by in
-        let q : Pass = record p { next = next; errors = capped (p.errors + 1) } in
-        let is : v.p ≡ q = sym (some_injective y.p v.p v.pass) ∙ sym (some_injective q y.p y.pass_is) in
-        let none = no_more_errors p.errors 1 (subst (λ (k : Pass). k.errors ≡ 0) is v.errors) in
-        absurd (omega (arith, none)))
+      let v = from_passed (Some y.p) n h row y.by in
+      let q : Pass = record p { next = next; errors = capped (p.errors + 1) } in
+      let is : v.p ≡ q = sym (some_injective y.p v.p v.pass) ∙ sym (some_injective q y.p y.pass_is) in
+      let none = no_more_errors p.errors 1 (subst (λ (k : Pass). k.errors ≡ 0) is v.errors) in
+      absurd (omega (arith, none)))

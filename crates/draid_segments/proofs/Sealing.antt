@@ -1,5 +1,5 @@
 -- A group is sealed: what its image claims was flushed, or was firm before.
-use Rattle.std.proofs.Common.{◌≡◌, ◌==◌, ◌+◌, ◌<◌, ◌≤◌, ◌≢◌, ◌⊎◌, ◌&&◌, ◌||◌, not, ℕ, Bool, true, false, nat_le, nat_lt, if◌then◌else◌, List, Option, Some, None, IsSome, IsTrue, refl, sym, ◌∙◌, ap, subst, inl, inr, arith}
+use Rattle.std.proofs.Common.{◌≡◌, ◌==◌, ◌+◌, ◌<◌, ◌≤◌, ◌≢◌, ◌⊎◌, ◌&&◌, ◌||◌, not, ℕ, Bool, true, false, Option, Some, None, IsSome, refl, sym, ◌∙◌, ap, subst, inl, inr, arith}
 use Rattle.std.proofs.lemmas.Bool.{true≢false}
 use Rattle.std.proofs.lemmas.Bool.Decides.{nat_tests}
 use Rattle.std.specs.declared.vec.Vec.{Vec}
@@ -11,13 +11,13 @@ use Rattle.draid_machine.specs.declared.names.Stage.TheVariants.{Writing, Live, 
 use Rattle.draid_machine.specs.declared.names.Held.{Held}
 use Rattle.draid_machine.specs.declared.names.Segment.{Segment}
 use Rattle.draid_machine.specs.declared.event.Event.TheVariants.{Seal}
-use Rattle.draid_machine.specs.Names.{any_below, has_name, is_block, is_freed_by}
+use Rattle.draid_machine.specs.Names.{has_name, is_block, is_freed_by}
 use Rattle.draid_machine.specs.State.{Layout, IsLayout, Arm, Pass, Core, Image, State}
 use Rattle.draid_machine.specs.Arms.{has_column, is_silent, leaf_at, lies, lies_on, passes}
-use Rattle.draid_machine.specs.Claims.{IsOn, claims, passed}
+use Rattle.draid_machine.specs.Claims.{IsOn, passed}
 use Rattle.draid_machine.specs.After.{image_of, log_if, lose_some, map_pass, seal_state, sealed_core}
 use Rattle.draid_machine.specs.Created.{IsReached}
-use Rattle.draid_machine.specs.Images.{IsImage, ImageStands}
+use Rattle.draid_machine.specs.Images.{ImageStands}
 use Rattle.draid_machine.specs.Sound.{IsClaimed, Sound}
 use Rattle.draid_machine.specs.Step.{SealStep}
 use Rattle.draid_machine.proofs.Small.{some_injective, some_same, bool_cases, absurd_test, true_both, any_at, is_equal, equal, mapped_arm, has_filter, not_true}
@@ -26,9 +26,9 @@ use Rattle.draid_machine.proofs.Rows.{reached_sound}
 use Rattle.draid_machine.proofs.Seals.{IsSealed, from_claims, sealed_arm, sealed_held}
 use Rattle.draid_machine.proofs.Standing.{every_image}
 use Rattle.draid_rack.specs.Rack.{Told}
-use Rattle.draid_segments.specs.Segments.{Backed, Firm, FirmUpTo, Holds, IsClaim, IsLasting, IsSure, Pieces, Steady, group_in, image_group, sector_at, soft_at}
+use Rattle.draid_segments.specs.Segments.{Backed, Firm, FirmUpTo, Holds, IsClaim, IsSure, Pieces, Steady, group_in, sector_at, soft_at}
 use Rattle.draid_segments.specs.Acts.{Flushes, nowhere}
-use Rattle.draid_segments.proofs.Backing.{firm_by, holds_by, last_by, steady_by, still, untouched_by}
+use Rattle.draid_segments.proofs.Backing.{firm_by, holds_by, steady_by, still, untouched_by}
 use Rattle.draid_segments.proofs.Lasting.{has_passed}
 use Rattle.draid_segments.proofs.Reached.{reached_on}
 
@@ -42,9 +42,9 @@ pub arm_lies : (l : Layout) (q : Core) (n : ArmName) (column x leaf : ℕ) (bad 
 arm_lies l q (Leaf m) column x leaf bad inside more listed at t = subst (λ v. bad v ≡ true) (sym (is_equal m leaf at)) t
 arm_lies l q (Spare t) column x leaf bad inside more listed at is =
     any_at l.stripes (λ y. has_column l q (Spare t) y && passes (leaf_at l q.order (Spare t) y) bad) x inside
-      (true_both (has_column l q (Spare t) x) (passes (leaf_at l q.order (Spare t) x) bad)
-        (any_at l.columns (λ c. has_name (q.order (l.slot_of x c)) (Spare t)) column more listed)
-        (lies_passes (leaf_at l q.order (Spare t) x) leaf bad at is))
+    (true_both (has_column l q (Spare t) x) (passes (leaf_at l q.order (Spare t) x) bad)
+    (any_at l.columns (λ c. has_name (q.order (l.slot_of x c)) (Spare t)) column more listed)
+    (lies_passes (leaf_at l q.order (Spare t) x) leaf bad at is))
 
 -- the same, of a segment of a block
 pub segment_lies : (l : Layout) (lay : IsLayout l) (w : State) → Sound l w → (s : Segment) (h : Held) (a : Arm) (bad : ℕ → Bool) → IsOn l w.core s h a → bad s.leaf ≡ true → lies_on l w.core bad s.arm ≡ true
@@ -52,7 +52,7 @@ segment_lies l lay w sound s h a bad on is =
     let run = sound.core.inside s.key h on.held in
     let row = on.row in
     arm_lies l w.core s.arm s.column (h.first + s.row) s.leaf bad (omega (arith, run, row)) on.column
-      (subst (λ c. has_name (w.core.order c) s.arm ≡ true) (sym (lay.steady (h.first + s.row) h.first s.column (sound.core.runs s.key h s.row on.held on.row))) on.listed) on.lies is
+    (subst (λ c. has_name (w.core.order c) s.arm ≡ true) (sym (lay.steady (h.first + s.row) h.first s.column (sound.core.runs s.key h s.row on.held on.row))) on.listed) on.lies is
 
 freed_less : (low high : ℕ) (st : Stage) → low ≤ high → is_freed_by high st ≡ false → is_freed_by low st ≡ false
 freed_less low high (Writing c m) less e = refl
@@ -104,8 +104,13 @@ module _ (l : Layout) (lay : IsLayout l) (w new : State) (t : ℕ) (failed : Vec
         let birth = c.birth in
         let other : h.birth ≢ t = not_now silent z.1 in
         last.firm s h (record {
-          a = a; on = c.on; block = c.block; birth = omega (arith, next, birth, other);
-          stays = freed_less w.committed t h.stage (omega (arith, next)) c.stays; why = inl z.0 }) sure
+          a = a;
+          on = c.on;
+          block = c.block;
+          birth = omega (arith, next, birth, other);
+          stays = freed_less w.committed t h.stage (omega (arith, next)) c.stays;
+          why = inl z.0;
+        }) sure
 
     -- a target that lies on a silent leaf is none any more
     lost : bad s.arm ≡ true → passed sealed.pass s.arm h s.row ≡ true → ⊥
@@ -140,9 +145,15 @@ module _ (l : Layout) (lay : IsLayout l) (w new : State) (t : ℕ) (failed : Vec
     last = subst (λ g. FirmUpTo l g w x) (ap (group_in w.committed) step.unsealed) b.last
 
     holds : Holds l pieces after y
-    holds = holds_by l pieces pieces w after x y b.holds (λ s h is. inl (record {
-      i = h; sure = record { held = is.held; present = is.present; sure = is.sure }; first = refl;
-      same = untouched_by nowhere s.leaf (sector_at l h s) x y flushed.same refl }, refl))
+    holds = holds_by l pieces pieces w after x y b.holds (λ s h is. inl (
+      record {
+        i = h;
+        sure = record { held = is.held; present = is.present; sure = is.sure };
+        first = refl;
+        same = untouched_by nowhere s.leaf (sector_at l h s) x y flushed.same refl;
+      },
+      refl,
+    ))
 
     its : ImageStands l after img
     its = (every_image l after lay (subst (λ v. IsReached l v) step.made (reached_on l w new (Seal t failed) reached step))).each img (inr refl)
@@ -153,7 +164,7 @@ module _ (l : Layout) (lay : IsLayout l) (w new : State) (t : ℕ) (failed : Vec
           subst (λ (v : Held). IsSome (y.reads s.leaf (sector_at l v s))) (sym of.is) (holds.there s of.h (sure_of s h c of));
       reads = λ s h c calm. let of = sealed_held t (w.core.held s.key) h c.held in
           subst (λ (v : Held). y.reads s.leaf (sector_at l v s) ≡ Some (pieces s.key s.column s.row)) (sym of.is)
-            (holds.reads s of.h (sure_of s h c of) (subst (λ (v : Held). y.harmed s.leaf (sector_at l v s) ≡ false) of.is calm));
+          (holds.reads s of.h (sure_of s h c of) (subst (λ (v : Held). y.harmed s.leaf (sector_at l v s) ≡ false) of.is calm));
       firm = λ s h c.
           let of = sealed_held t (w.core.held s.key) h c.held in
           subst (λ (v : Held). y.soft s.leaf (sector_at l v s) ≡ false) (sym of.is) (claim_firm s h c of (from_claims l img.core s c.claim));
@@ -168,13 +179,21 @@ module _ (l : Layout) (lay : IsLayout l) (w new : State) (t : ℕ) (failed : Vec
             let arm = mapped_arm (log_if (step.wrote && bad s.arm) t) (w.core.arm s.arm) k.a (sealed_arm (sealed.arm s.arm) k.a k.on.arm) in
             not_soft last s of.h arm.0 (record {
               on = record {
-                held = of.found; arm = arm.1; listed = subst (λ (v : Held). has_name (w.core.order (l.slot_of v.first s.column)) s.arm ≡ true) is k.on.listed; column = k.on.column;
-                row = subst (λ (v : Held). s.row < v.stripes) is k.on.row; lies = subst (λ (v : Held). lies l w.core.order s.arm (v.first + s.row) s.leaf ≡ true) is k.on.lies };
-              block = of.block; birth = of.birth; stays = of.stays;
+                held = of.found;
+                arm = arm.1;
+                listed = subst (λ (v : Held). has_name (w.core.order (l.slot_of v.first s.column)) s.arm ≡ true) is k.on.listed;
+                column = k.on.column;
+                row = subst (λ (v : Held). s.row < v.stripes) is k.on.row;
+                lies = subst (λ (v : Held). lies l w.core.order s.arm (v.first + s.row) s.leaf ≡ true) is k.on.lies;
+              };
+              block = of.block;
+              birth = of.birth;
+              stays = of.stays;
               why = elim k.why [
                 | inl clean ↦ inl (subst (λ (v : Held). (log_if (step.wrote && bad s.arm) t arm.0).log v.birth ≡ false) is (subst (λ (v : Arm). v.log k.h.birth ≡ false) arm.2 clean))
                 | inr z ↦ inr (by_first sealed.pass k.h of.h is z.1)
-              ] }) c.sure
+              ];
+            }) c.sure
           where
             by_first : (o : Option Pass) (v i : Held) → v ≡ record i { stage = Live } → passed o s.arm v s.row ≡ true → passed o s.arm i s.row ≡ true
             by_first None v i is e = e
@@ -187,13 +206,18 @@ module _ (l : Layout) (lay : IsLayout l) (w new : State) (t : ℕ) (failed : Vec
         | inl e ↦ seal_firm_before pieces i w.aside (b.images i (inl e))
         | inr e ↦ subst (λ v. Firm l pieces v w.aside y) (some_injective img i e) sealed_firm
       ];
-      last = record { firm = λ s h is sure.
-          let arm = mapped_arm (log_if (step.wrote && bad s.arm) t) (w.core.arm s.arm) is.a is.on.arm in
-          not_soft last s h arm.0 (record {
-            on = record { held = is.on.held; arm = arm.1; listed = is.on.listed; column = is.on.column; row = is.on.row; lies = is.on.lies };
-            block = is.block; birth = is.birth; stays = is.stays;
-            why = elim is.why [
-              | inl clean ↦ inl (subst (λ (v : Arm). v.log h.birth ≡ false) arm.2 clean)
-              | inr scrubbed ↦ inr (has_passed sealed s.arm h s.row scrubbed)
-            ] }) sure };
+      last = record {
+        firm = λ s h is sure.
+            let arm = mapped_arm (log_if (step.wrote && bad s.arm) t) (w.core.arm s.arm) is.a is.on.arm in
+            not_soft last s h arm.0 (record {
+              on = record { held = is.on.held; arm = arm.1; listed = is.on.listed; column = is.on.column; row = is.on.row; lies = is.on.lies };
+              block = is.block;
+              birth = is.birth;
+              stays = is.stays;
+              why = elim is.why [
+                | inl clean ↦ inl (subst (λ (v : Arm). v.log h.birth ≡ false) arm.2 clean)
+                | inr scrubbed ↦ inr (has_passed sealed s.arm h s.row scrubbed)
+              ];
+            }) sure;
+      };
     }

@@ -1,10 +1,10 @@
 -- What an image claims is as it was at each moment of a call that writes nothing to it.
-use Rattle.std.proofs.Common.{◌≡◌, ◌<◌, ◌≤◌, ℕ, Bool, true, false, List, Option, Some, None, IsSome, IsTrue, option_map, length, refl, sym, ◌∙◌, ap, subst, arith}
+use Rattle.std.proofs.Common.{◌≡◌, ◌<◌, ◌≤◌, ℕ, Bool, Option, Some, None, IsSome, IsTrue, refl, sym, ◌∙◌, subst, arith}
 use Rattle.draid_machine.specs.declared.names.Held.{Held}
 use Rattle.draid_machine.specs.declared.names.Segment.{Segment}
 use Rattle.draid_machine.specs.State.{Layout, Image}
 use Rattle.draid_rack.specs.Rack.{IsOrderly, Told, last_clock}
-use Rattle.draid_rack.specs.Moments.{Between, IsCrashOutcome, Stays}
+use Rattle.draid_rack.specs.Moments.{Between, Stays}
 use Rattle.draid_segments.specs.Segments.{Firm, FirmThrough, IsClaim, Pieces, Steady, sector_at}
 use Rattle.draid_segments.proofs.Backing.{still}
 

@@ -192,11 +192,11 @@ doubted l w (Damage leaf sector failed) new step s = w.aside s || is_there l lea
 doubted l w (LandBlock pass serial failed patched unreadable) new step s = w.aside s || is_written l w.core step.n step.h patched.items s || new.aside s
 doubted l w e new step s = w.aside s
 
--- The images that the moments inside a call are said of: all, but for a commit and an opening just the one that stays, since leaves go then.
-abbrev pub IsMeant : State → Event → Image → Type 0
-IsMeant w (Commit group) img = w.sealed ≡ Some img
-IsMeant w (Reopen group doubtful) img = IsImage w img × (img.group ≡ group)
-IsMeant w e img = IsImage w img
+-- The images that the moments inside a call are said of: each, but for a commit and an opening that of their group alone, since leaves go then.
+abbrev pub IsMeant : (l : Layout) (w : State) (e : Event) (new : State) → Step l w e new → Image → Type 0
+IsMeant l w (Commit group) new step img = step.image ≡ img
+IsMeant l w (Reopen group doubtful) new step img = step.image ≡ img
+IsMeant l w e new step img = IsImage w img
 
 -- ---- where a call may write
 

@@ -28,15 +28,15 @@ pub fn events_keep_segments()
         → Acts layout state event new step written x y
         → WritesPieces layout state event new step pieces written → Backed layout pieces state x
         → Backed layout (pieces_after layout state event new step pieces written) new y }
-    ensures steady { (layout : Layout) (state new : State) (event : Event) (pieces written : Pieces) (x y : Told)
+    ensures steady { (layout : Layout) (state new : State) (event : Event) (written : Pieces) (x y : Told)
         (image : Image) (step : Step layout state event new) → IsLayout layout → IsReached layout state
-        → Acts layout state event new step written x y → IsMeant state event image
+        → Acts layout state event new step written x y → IsMeant layout state event new step image
         → Steady layout image (doubted layout state event new step) x y }
     ensures moments { (layout : Layout) (state new : State) (event : Event) (pieces written : Pieces) (x y : Told)
         (image : Image) (step : Step layout state event new) → IsLayout layout → IsReached layout state
         → Acts layout state event new step written x y
         → WritesPieces layout state event new step pieces written → Backed layout pieces state x
-        → IsMeant state event image → IsOrderly x
+        → IsMeant layout state event new step image → IsOrderly x
         → FirmThrough layout (pieces_after layout state event new step pieces written) image
         (doubted layout state event new step) x y }
 {}
