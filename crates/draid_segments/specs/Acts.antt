@@ -43,10 +43,11 @@ nowhere leaf sector = false
 abbrev pub is_put_to : Layout → Core → Key → Held → ℕ → Segment → Bool
 is_put_to l q key h c s = key_eq key s.key && (s.column == c) && is_on l q.order s h && answers l q s.arm h.first
 
--- the column was written where it belongs, and stands on the arms on which it landed
+-- the column was written where it belongs; on the arms on which it landed it stands, and isn't harmed
 pub record PutsColumn (l : Layout) (q : Core) (key : Key) (h : Held) (c : ℕ) (landed : List ArmName) (pieces : Pieces) (x y : Told) : Type 0 where
   pub writes : WritesAt l h (is_put_to l q key h c) x y
   pub landed_reads : (s : Segment) → is_landed l q key h c landed s ≡ true → reads_at l h s y ≡ Some (piece_of pieces s)
+  pub landed_harm : (s : Segment) → is_landed l q key h c landed s ≡ true → harmed_at l h s y ≡ false
 
 -- ---- damage
 abbrev pub Damages : ℕ → ℕ → Bool → Told → Told → Type 0
@@ -131,6 +132,7 @@ pub record HealsBlock (l : Layout) (q : Core) (n : Loan) (h : Held) (failed : Li
   pub landed_firm : (s : Segment) → has_healed l q n h patched s ≡ true → soft_at l h s y ≡ false
   pub landed_reads : (s : Segment) → has_healed l q n h patched s ≡ true → reads_at l h s y ≡ Some (piece_of pieces s)
   pub clean_reads : (s : Segment) → whole ≡ true → is_on_clean l q n h s ≡ true → reads_at l h s y ≡ Some (piece_of pieces s)
+  pub settled_harm : (s : Segment) → whole ≡ true → is_settled l q n h patched s ≡ true → harmed_at l h s y ≡ false
 
 -- of an unreadable block nothing is written
 abbrev pub LandsReadable : Bool → Layout → Core → Loan → Held → List ℕ → List Patched → Bool → Pieces → Told → Told → Type 0
