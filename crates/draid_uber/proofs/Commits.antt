@@ -1,16 +1,16 @@
 -- What a crash leaves of each step of a commit.
-use Rattle.std.proofs.Common.{arith, ◌≡◌, ◌≢◌, ◌==◌, ◌+◌, ◌*◌, ◌%◌, ◌<◌, ◌≤◌, ◌⊎◌, ◌&&◌, ◌-◌, ℕ, Bool, true, false, nat_le, nat_lt, List, [], ◌∷◌, ◌++◌, Option, Some, None, MatchOption, Result, Ok, Err, OnOk, OnErr, option_map, length, drop, slice_index_or, slice_range, refl, sym, ◌∙◌, ap, subst, inl, inr, if◌then◌else◌}
+use Rattle.std.proofs.Common.{arith, ◌≡◌, ◌+◌, ◌%◌, ◌<◌, ◌≤◌, ◌⊎◌, ◌-◌, ℕ, Bool, true, false, List, [], ◌∷◌, Option, Some, None, Result, Ok, Err, OnOk, OnErr, option_map, length, slice_index_or, refl, sym, ◌∙◌, ap, subst, inl, inr, if◌then◌else◌}
 use Rattle.std.specs.List.{Contains, splice}
 use Rattle.std.proofs.lemmas.Bool.{cases_lt}
 use Rattle.std.proofs.lemmas.Bool.Decides.{nat_tests}
-use Rattle.std.proofs.lemmas.List.{ext_get_or, places}
+use Rattle.std.proofs.lemmas.List.{ext_get_or}
 use Rattle.draid_area.specs.Area.{Content, IsOfSize, MayLeave, OnTold, Writes, flushes, within, writes}
 use Rattle.draid_area.proofs.Moments.{leaves_all}
 use Rattle.draid_area.proofs.Splices.{length-splice, splice_inside, splice_outside}
 use Rattle.draid_record.specs.declared.uber.UberBody.{UberBody}
-use Rattle.draid_uber.specs.Slots.{Chooses, HasKept, IsLeft, Stands, StandsTold, area_bytes, base_of, body_in, chosen_of, group_of, is_open, next_slot, read_body, slot_in}
+use Rattle.draid_uber.specs.Slots.{Chooses, HasKept, IsLeft, StandsTold, area_bytes, base_of, body_in, chosen_of, group_of, is_open, next_slot, slot_in}
 use Rattle.draid_uber.specs.Steps.{IsBeside, IsFilled, IsFirm, IsShut, Puts, PutsTold, byte}
-use Rattle.draid_uber.proofs.Choices.{kept_alone, kept_slot, kept_stays, left_alone, left_same, new_chosen, slot_at, slot_length, slot_same, slots_apart}
+use Rattle.draid_uber.proofs.Choices.{kept_slot, kept_stays, left_alone, left_same, new_chosen, slot_at, slot_length, slot_same, slots_apart}
 
 abbrev pub one : ℕ → List ℕ
 one n = n ∷ []

@@ -1,15 +1,14 @@
 -- The layout of a body that is in its ranges.
-use Rattle.std.proofs.Common.{◌≡◌, ◌≢◌, ◌≤◌, ◌<◌, ◌+◌, ◌^◌, ◌⊎◌, ◌∙◌, ℕ, Option, Bool, true, false, nat_lt, Result, Ok, Err, refl, sym, ap, inl, inr, subst, arith, if◌then◌else◌}
+use Rattle.std.proofs.Common.{◌≡◌, ◌≤◌, ◌∙◌, ℕ, Option, Bool, true, false, Result, Ok, Err, refl, sym, ap, inl, inr, arith, if◌then◌else◌}
 use Rattle.std.specs.Prelude.{is_ok}
 use Rattle.std.specs.Result.{result_and}
-use Rattle.std.proofs.lemmas.Bool.Decides.{nat_tests}
 use Rattle.draid_record.specs.declared.uber.UberBody.{UberBody}
 use Rattle.draid_record.specs.Uber.{IsUber, gives_layout, seedless}
 use Rattle.draid_spec.specs.declared.layout.Geometry.{Geometry}
 use Rattle.draid_spec.specs.declared.layout.Props.{Props}
 use Rattle.draid_spec.specs.declared.spec.Spec.{Spec}
 use Rattle.draid_spec.specs.declared.spec.SpecFault.{SpecFault}
-use Rattle.draid_spec.specs.Geometry.{IsGeometry, IsProps, IsVersion, checked_layout, checked_props, checked_version, geometry_of, layout_of}
+use Rattle.draid_spec.specs.Geometry.{IsGeometry, IsProps, IsVersion, checked_props, checked_version, geometry_of, layout_of}
 use Rattle.draid_spec.proofs.Layouts.{given_layout}
 use Rattle.draid_spec.specs.Spec.{IsSpec, checked_width}
 use Rattle.draid_uber.specs.Held.{IsHeld, IsNext}

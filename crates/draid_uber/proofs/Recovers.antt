@@ -1,12 +1,11 @@
 -- What a recovery finds, and what a crash leaves from then on.
-use Rattle.std.proofs.Common.{arith, ◌≡◌, ◌+◌, ◌%◌, ◌≤◌, ◌⊎◌, ◌++◌, ℕ, Bool, true, false, nat_lt, List, [], Option, Some, None, Result, Ok, Err, IfOk, option_map, length, slice_range, refl, sym, ◌∙◌, ap, subst, inl, inr}
+use Rattle.std.proofs.Common.{arith, ◌≡◌, ◌+◌, ◌%◌, ◌≤◌, ℕ, Bool, true, false, nat_lt, List, [], Option, Some, None, Result, Ok, IfOk, option_map, length, slice_range, refl, sym, ◌∙◌, ap, subst, inl, inr}
 use Rattle.std.proofs.lemmas.Bool.Decides.{nat_tests}
 use Rattle.draid_area.specs.Area.{Content, IsOfSize, OnTold, Reads, flushes}
 use Rattle.draid_area.proofs.Moments.{leaves_all}
 use Rattle.draid_names.specs.declared.fault.DeviceFault.{DeviceFault}
 use Rattle.draid_record.specs.declared.fault.RecordFault.{RecordFault}
 use Rattle.draid_record.specs.declared.uber.UberBody.{UberBody}
-use Rattle.draid_record.specs.Grammar.{Spells}
 use Rattle.draid_record.specs.Uber.{Begins, IsUber, uber}
 use Rattle.draid_record.proofs.Again.{uber_ranges, uber_slot}
 use Rattle.draid_uber.specs.Slots.{HasKept, IsLeft, StandsIn, StandsTold, area_bytes, base_of, body_in, choice_of, chosen_of, slot_in}

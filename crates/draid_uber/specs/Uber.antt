@@ -1,5 +1,5 @@
 -- An uberblock area with what was committed, and what the next commit writes.
-use Rattle.std.specs.Prelude.{◌≡◌, ◌≤◌, ◌⊎◌, ⊤, ℕ, false, Option, None, Some, Result, Ok, Err, option_map, replicate}
+use Rattle.std.specs.Prelude.{◌≡◌, ◌≤◌, ⊤, ℕ, false, Option, None, Some, Result, Ok, Err, option_map, replicate}
 use Rattle.draid_area.specs.Area.{Content}
 use Rattle.draid_record.specs.declared.fault.RecordFault.{RecordFault}
 use Rattle.draid_record.specs.declared.fault.RecordFault.TheVariants.{Bad}

@@ -1,4 +1,4 @@
-use Rattle.std.proofs.Common.{rules, ◌≡◌, ◌≤◌, ◌∙◌}
+use Rattle.std.proofs.Common.{rules, ◌≤◌, ◌∙◌}
 use Rattle.draid_uber.proofs.Recovers.{body_taken, choice_taken, done_is, slots_found}
 use Rattle.draid_uber.proofs.slots.chosen.Goals as goal
 

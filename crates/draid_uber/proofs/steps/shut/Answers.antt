@@ -1,4 +1,3 @@
-use Rattle.std.proofs.Common.{rules, ◌≡◌, length, sym, ◌∙◌}
 use Rattle.draid_area.proofs.Moments.{elapsed_on}
 use Rattle.draid_uber.proofs.Ends.{on_err, read_flushed, refused_unread, shut_done, shut_refused, told_open, told_shut, was_shut}
 use Rattle.draid_uber.proofs.steps.shut.Goals as goal
