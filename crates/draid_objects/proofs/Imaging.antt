@@ -1,5 +1,5 @@
 -- What the images of a group and the live blocks say of an object.
-use Rattle.std.proofs.Common.{arith, ◌≡◌, ◌≢◌, ◌+◌, ◌≤◌, ℕ, true, List, Option, Some, None, refl, sym, ◌∙◌, ap, subst, inl, inr}
+use Rattle.std.proofs.Common.{arith, ◌≡◌, ◌≢◌, ◌+◌, ◌≤◌, ℕ, true, List, Option, Some, None, IsSome, refl, sym, ◌∙◌, ap, subst, inl, inr}
 use Rattle.draid_machine.specs.declared.names.Key.{Key}
 use Rattle.draid_machine.specs.declared.names.Stage.TheVariants as stage
 use Rattle.draid_machine.specs.declared.names.Held.{Held}
@@ -9,11 +9,10 @@ use Rattle.draid_machine.specs.After.{seal_held}
 use Rattle.draid_machine.proofs.Small.{absurd_test, low, none_some, some_same}
 use Rattle.draid_machine.proofs.Seals.{sealed_held}
 use Rattle.draid_machine.proofs.Standing.{every_image}
-use Rattle.draid_objects.specs.Blocks.{AreReached, Blocks, IsImageIn, SaysOf, held_by, held_in, sealed_at, table_in, table_of}
+use Rattle.draid_objects.specs.Blocks.{AreReached, Blocks, IsGreatest, IsImageIn, SaysOf, held_by, held_in, sealed_at, table_in, table_of}
 use Rattle.draid_objects.specs.Changes.{Change, Write, kept, key_of, write_by, write_of}
 use Rattle.draid_objects.specs.Stores.{IsBlockOf, Stores}
 use Rattle.draid_objects.proofs.Finding.{by_last, write_upto}
-use Rattle.draid_objects.proofs.Keeping.{kept_object}
 use Rattle.draid_objects.proofs.Sealing.{says_same, some_of, stages}
 
 -- an image of a state has what the state's entries are in the image's group
@@ -33,7 +32,7 @@ pub images_say : (digest : List ℕ → List ℕ) (committed group o : ℕ) (cs 
     → AreReached layouts states → ((m : ℕ) → IsImageIn group (states m) (images m)) → Stores digest committed cs (held_in states) → committed ≤ group
     → SaysOf (held_by images) o (kept group cs o)
 images_say digest committed group o cs layouts states images reached are s less =
-    says_same (sealed_at group (held_in states)) (held_by images) o (kept group cs o) (kept_object group cs o)
+    says_same (sealed_at group (held_in states)) (held_by images) o (kept group cs o)
     (λ m k at. image_table group layouts states images reached m (are m) k) (s.says group o less)
 
 -- the block of the last write is in the images of all later groups, so it isn't freed
@@ -41,7 +40,7 @@ module _ (digest : List ℕ → List ℕ) (committed o : ℕ) (cs : List Change)
   in_image : (t : ℕ) → committed ≤ t → w.birth ≤ t → (h : Held) × (seal_held t (blocks w.metaslab (key_of w)) ≡ Some h)
   in_image t over birth =
       let says : SaysOf (sealed_at t blocks) o (Some w) = subst (λ v. SaysOf (sealed_at t blocks) o v) (write_upto t cs o w last birth) (s.says t o over) in
-      some_of (sealed_at t blocks w.metaslab (key_of w)) says.0
+      some_of (sealed_at t blocks w.metaslab (key_of w)) says.there
 
   pub last_live : (h : Held) × (blocks w.metaslab (key_of w) ≡ Some h) × (h.stage ≡ stage.Live) × IsBlockOf digest w h
   last_live =
@@ -67,3 +66,15 @@ pub none_live : (digest : List ℕ → List ℕ) (committed m : ℕ) (cs : List 
 none_live digest committed m cs blocks k h s none found l =
     let x = some_of (write_of cs k.object) (s.live m k h found l) in
     none_some (write_of cs k.object) x.0 none x.1
+
+pub greatest_some : (blocks : Blocks) (o m : ℕ) (k : Key) (v : Option Write) → SaysOf blocks o v → k.object ≡ o → IsSome (blocks m k) → IsGreatest blocks k
+    → (w : Write) × (v ≡ Some w) × (w.metaslab ≡ m) × (key_of w ≡ k)
+greatest_some blocks o m k None s at there most = let x = some_of (blocks m k) there in absurd (none_some (blocks m k) x.0 (s m k at) x.1)
+greatest_some blocks o m k (Some w) s at there most = elim (s.others m k at there) [
+  | inl z ↦ (w, refl, sym z.0, sym z.1)
+  | inr less ↦ let low_ = most w.metaslab (key_of w) (s.object_is ∙ sym at) s.there in absurd (omega (arith, less, low_))
+]
+
+pub greatest_none : (blocks : Blocks) (o : ℕ) (v : Option Write) → SaysOf blocks o v → ((m : ℕ) (k : Key) → k.object ≡ o → blocks m k ≡ None) → v ≡ None
+greatest_none blocks o None s none = refl
+greatest_none blocks o (Some w) s none = let x = some_of (blocks w.metaslab (key_of w)) s.there in absurd (none_some (blocks w.metaslab (key_of w)) x.0 (none w.metaslab (key_of w) s.object_is) x.1)

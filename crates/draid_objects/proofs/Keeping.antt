@@ -13,7 +13,7 @@ use Rattle.draid_machine.proofs.Seals.{sealed_held}
 use Rattle.draid_objects.specs.Blocks.{Blocks, Drops, SameBlocks, SaysOf, Sets, is_block_in, none_held, sealed_at}
 use Rattle.draid_objects.specs.Changes.{Write, Change, Wrote, Freed, object_of, group_of, kept, key_of, upto, write_by, write_of}
 use Rattle.draid_objects.specs.Stores.{HasNewNumber, IsBlockOf, IsFloor, IsOnlyLive, Stores}
-use Rattle.draid_objects.proofs.Finding.{by_other, by_own, by_upto, changes_it, falls_filter, kept_all, kept_later, kept_other, kept_own, other_changes, upto_upto, write_object}
+use Rattle.draid_objects.proofs.Finding.{by_other, by_own, by_upto, changes_it, falls_filter, kept_all, kept_later, kept_other, kept_own, other_changes, upto_upto}
 use Rattle.draid_objects.proofs.Sealing.{freed_later, freed_live, freed_sealed, gone_sealed, is_some_of, live_block, no_block_sealed, says_same, sealed_again, sealed_live, sealed_some, set_at, set_cases, some_of, stages, young_sealed}
 
 differs : (x y : ℕ) → (x ≡ y → ⊥) → (x == y) ≡ false
@@ -21,10 +21,6 @@ differs x y n = elim (bool_cases (x == y)) [ inl e ↦ absurd (n (is_equal x y e
 
 over : (b t : ℕ) → nat_le b t ≡ false → t < b
 over b t e = grind (arith, nat_tests)
-
--- of another object all is as it was
-pub kept_object : (t : ℕ) (cs : List Change) (o : ℕ) (w : Write) → kept t cs o ≡ Some w → w.object ≡ o
-kept_object t cs o w e = write_object (upto t cs) o w e
 
 some_more : (w : Write) (cs : List Change) (o : ℕ) → IsSome (write_of cs o) → IsSome (write_of (Wrote w ∷ cs) o)
 some_more w cs o s = elim (bool_cases (w.object == o)) [
@@ -120,14 +116,14 @@ module _ (digest : List ℕ → List ℕ) (committed : ℕ) (cs : List Change) (
       by t o less false b other upto_it =
           let same = kept_other t (Wrote w) cs o other in
           subst (λ v. SaysOf (sealed_at t new) o v) (sym same)
-          (says_same (sealed_at t old) (sealed_at t new) o (kept t cs o) (kept_object t cs o) (outside t o other) (s.says t o less))
+          (says_same (sealed_at t old) (sealed_at t new) o (kept t cs o) (outside t o other) (s.says t o less))
       by t o less true false own young =
           let same = kept_later t (Wrote w) cs o young in
           subst (λ v. SaysOf (sealed_at t new) o v) (sym same)
-          (says_same (sealed_at t old) (sealed_at t new) o (kept t cs o) (kept_object t cs o) (λ m k at. earlier t o young m k) (s.says t o less))
+          (says_same (sealed_at t old) (sealed_at t new) o (kept t cs o) (λ m k at. earlier t o young m k) (s.says t o less))
       by t o less true true own old_ =
           let same = kept_own t (Wrote w) cs o old_ own in
-          subst (λ v. SaysOf (sealed_at t new) o v) (sym same) (here, others)
+          subst (λ v. SaysOf (sealed_at t new) o v) (sym same) (record { object_is = is_equal w.object o own; there = here; others = others })
         where
           here : IsSome (sealed_at t new w.metaslab (key_of w))
           here = is_some_of (sealed_at t new w.metaslab (key_of w)) (record h { stage = stage.Live })
@@ -243,9 +239,9 @@ older_freed digest committed m g cs old new k h w s last unlike found live floor
   where
     by : (t o : ℕ) → committed ≤ t → (a b : Bool) → (k.object == o) ≡ a → nat_le g t ≡ b → SaysOf (sealed_at t new) o (kept t cs o)
     by t o less false b other x =
-        says_same (sealed_at t old) (sealed_at t new) o (kept t cs o) (kept_object t cs o) (freed_outside old new m k g h found live set t o other) (s.says t o less)
+        says_same (sealed_at t old) (sealed_at t new) o (kept t cs o) (freed_outside old new m k g h found live set t o other) (s.says t o less)
     by t o less true false own young =
-        says_same (sealed_at t old) (sealed_at t new) o (kept t cs o) (kept_object t cs o) (λ n j at. freed_before old new m k g h found live set t (over g t young) n j) (s.says t o less)
+        says_same (sealed_at t old) (sealed_at t new) o (kept t cs o) (λ n j at. freed_before old new m k g h found live set t (over g t young) n j) (s.says t o less)
     by t o less true true own done =
         let at : k.object ≡ o = is_equal k.object o own in
         let upto_it : g ≤ t = is_low g t done in
@@ -254,12 +250,16 @@ older_freed digest committed m g cs old new k h w s last unlike found live floor
         subst (λ v. SaysOf (sealed_at t new) o v) (sym keeps) (still (subst (λ v. SaysOf (sealed_at t old) o v) keeps (s.says t o less)) upto_it)
       where
         still : SaysOf (sealed_at t old) o (Some w) → g ≤ t → SaysOf (sealed_at t new) o (Some w)
-        still y upto_it = (here, λ n j at there. let z = freed_from old new m k g h found live set t upto_it n j there in y.1 n j at (subst IsSome (ap (seal_held t) z.0) there))
+        still y upto_it = record {
+          object_is = y.object_is;
+          there = here;
+          others = λ n j at there. let z = freed_from old new m k g h found live set t upto_it n j there in y.others n j at (subst IsSome (ap (seal_held t) z.0) there);
+        }
           where
             here : IsSome (sealed_at t new w.metaslab (key_of w))
             here = elim (set_cases old new m k (Some (record h { stage = stage.Freed g })) set w.metaslab (key_of w)) [
               | inl z ↦ absurd (unlike (sym z.1))
-              | inr z ↦ subst IsSome (ap (seal_held t) (sym z.0)) y.0
+              | inr z ↦ subst IsSome (ap (seal_held t) (sym z.0)) y.there
             ]
 
 -- the only live block of its object
@@ -279,11 +279,11 @@ object_freed digest committed m g cs old new k h s found live one floor set = re
     by t o less false b other x =
         let same = kept_other t (Freed k.object g) cs o other in
         subst (λ v. SaysOf (sealed_at t new) o v) (sym same)
-        (says_same (sealed_at t old) (sealed_at t new) o (kept t cs o) (kept_object t cs o) (freed_outside old new m k g h found live set t o other) (s.says t o less))
+        (says_same (sealed_at t old) (sealed_at t new) o (kept t cs o) (freed_outside old new m k g h found live set t o other) (s.says t o less))
     by t o less true false own young =
         let same = kept_later t (Freed k.object g) cs o young in
         subst (λ v. SaysOf (sealed_at t new) o v) (sym same)
-        (says_same (sealed_at t old) (sealed_at t new) o (kept t cs o) (kept_object t cs o) (λ n j at. freed_before old new m k g h found live set t (over g t young) n j) (s.says t o less))
+        (says_same (sealed_at t old) (sealed_at t new) o (kept t cs o) (λ n j at. freed_before old new m k g h found live set t (over g t young) n j) (s.says t o less))
     by t o less true true own done =
         let same = kept_own t (Freed k.object g) cs o done own in
         subst (λ v. SaysOf (sealed_at t new) o v) (sym same) (λ n j at. none n j at (sealed_at t new n j) refl)
@@ -310,7 +310,7 @@ module _ (digest : List ℕ → List ℕ) (committed : ℕ) (cs : List Change) (
     falls = s.falls;
     only = λ m k h e b. s.only m k h (was m k h e b) b;
     live = λ m k h e l. s.live m k h (was m k h e (live_block h.stage l)) l;
-    says = λ t o less. says_same (sealed_at t old) (sealed_at t new) o (kept t cs o) (kept_object t cs o) (λ m k at. seal t m k) (s.says t o less);
+    says = λ t o less. says_same (sealed_at t old) (sealed_at t new) o (kept t cs o) (λ m k at. seal t m k) (s.says t o less);
   }
     where
       was : (m : ℕ) (k : Key) (h : Held) → new m k ≡ Some h → is_block h.stage ≡ true → old m k ≡ Some h
@@ -330,7 +330,7 @@ module _ (digest : List ℕ → List ℕ) (committed : ℕ) (cs : List Change) (
     falls = s.falls;
     only = λ m k h e b. s.only m k h (was m k h e) b;
     live = λ m k h e l. s.live m k h (was m k h e) l;
-    says = λ t o less. says_same (sealed_at t old) (sealed_at t new) o (kept t cs o) (kept_object t cs o) (λ m k at. seal t less m k) (s.says t o (omega (arith, over_, less)));
+    says = λ t o less. says_same (sealed_at t old) (sealed_at t new) o (kept t cs o) (λ m k at. seal t less m k) (s.says t o (omega (arith, over_, less)));
   }
     where
       was : (m : ℕ) (k : Key) (h : Held) → new m k ≡ Some h → old m k ≡ Some h
@@ -362,7 +362,7 @@ module _ (digest : List ℕ → List ℕ) (committed : ℕ) (cs : List Change) (
     says = λ t o less.
         let same : kept t (upto g cs) o ≡ kept g cs o = ap (λ x. write_of x o) (upto_upto g t less cs) in
         subst (λ v. SaysOf (sealed_at t new) o v) (sym same)
-        (says_same (sealed_at g old) (sealed_at t new) o (kept g cs o) (kept_object g cs o) (λ m k at. ap (seal_held t) (opens m k) ∙ sealed_again g t (old m k) less ∙ refl) (s.says g o over_));
+        (says_same (sealed_at g old) (sealed_at t new) o (kept g cs o) (λ m k at. ap (seal_held t) (opens m k) ∙ sealed_again g t (old m k) less ∙ refl) (s.says g o over_));
   }
     where
       only_ : (m : ℕ) (k : Key) (h : Held) → new m k ≡ Some h → is_block h.stage ≡ true → (w : Write) × (write_by (upto g cs) k ≡ Some w) × (w.metaslab ≡ m) × IsBlockOf digest w h

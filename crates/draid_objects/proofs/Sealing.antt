@@ -108,8 +108,10 @@ set_at old new m k v s = elim (set_cases old new m k v s m k) [
 ]
 
 -- what is said of an object goes by its entries alone
-pub says_same : (a b : Blocks) (o : ℕ) (v : Option Write) → ((w : Write) → v ≡ Some w → w.object ≡ o) → ((m : ℕ) (k : Key) → k.object ≡ o → b m k ≡ a m k)
-    → SaysOf a o v → SaysOf b o v
-says_same a b o None own same s = λ m k at. same m k at ∙ s m k at
-says_same a b o (Some w) own same s =
-    (subst IsSome (sym (same w.metaslab (key_of w) (own w refl))) s.0, λ m k at there. s.1 m k at (subst IsSome (same m k at) there))
+pub says_same : (a b : Blocks) (o : ℕ) (v : Option Write) → ((m : ℕ) (k : Key) → k.object ≡ o → b m k ≡ a m k) → SaysOf a o v → SaysOf b o v
+says_same a b o None same s = λ m k at. same m k at ∙ s m k at
+says_same a b o (Some w) same s = record {
+  object_is = s.object_is;
+  there = subst IsSome (sym (same w.metaslab (key_of w) s.object_is)) s.there;
+  others = λ m k at there. s.others m k at (subst IsSome (same m k at) there);
+}

@@ -7,7 +7,7 @@ ghost use Rattle.draid_machine.specs.declared.event.Event.{Event};
 ghost use Rattle.draid_machine.specs.declared.names.Held.{Held};
 ghost use Rattle.draid_machine.specs.declared.names.Key.{Key};
 ghost use Rattle.draid_machine.specs.declared.names.Stage.TheVariants as stage;
-ghost use Rattle.draid_objects.specs.Blocks.{AreReached, Blocks, DoesToBlocks, Drops, IsImageIn, MovesOne};
+ghost use Rattle.draid_objects.specs.Blocks.{AreReached, Blocks, DoesToBlocks, Drops, IsGreatest, IsImageIn, MovesOne};
 ghost use Rattle.draid_objects.specs.Blocks.{SameBlocks, SaysOf, Sets, held_by, held_in, none_held, sealed_at, without_freed};
 ghost use Rattle.draid_objects.specs.Changes.{Change, Freed, NeverFall, Write, Wrote};
 ghost use Rattle.draid_objects.specs.Changes.{group_of, kept, key_of, own, upto, write_of};
@@ -20,6 +20,17 @@ pub fn images_keep_objects()
         → AreReached layouts states → ((metaslab : ℕ) → IsImageIn group (states metaslab) (images metaslab))
         → Stores digest committed changes (held_in states) → committed ≤ group
         → SaysOf (held_by images) object (kept group changes object) }
+{}
+
+/// Law: of the blocks that an object has in images of a group, the one with the greatest number is that of the
+/// write which the group keeps; where it has none, the group keeps no bytes of it.
+pub fn greatest_numbers_count()
+    ensures some { (blocks : Blocks) (object metaslab : ℕ) (key : Key) (kept : Option Write)
+        → SaysOf blocks object kept → key.object ≡ object → IsSome (blocks metaslab key)
+        → IsGreatest blocks key → (write : Write) × (kept ≡ Some write) × (write.metaslab ≡ metaslab)
+        × (key_of write ≡ key) }
+    ensures none { (blocks : Blocks) (object : ℕ) (kept : Option Write) → SaysOf blocks object kept
+        → ((metaslab : ℕ) (key : Key) → key.object ≡ object → blocks metaslab key ≡ None) → kept ≡ None }
 {}
 
 /// Law: the block of an object's last write is live, and it is the write's; an object that was freed last, or

@@ -217,7 +217,7 @@ fn body(alloc: Global, value: &Record) -> Result<Vec<u8>, NoMemory>
 /// in its ranges they are read again as the same value, whatever bytes follow.
 pub fn write_record(alloc: Global, value: &Record) -> Result<Vec<u8>, NoMemory>
     requires { All (λ (b : Pointer). b.first + b.stripes ≤ 2 ^ 49) value.now.blocks.items }
-    ensures bytes { IfOk result (λ bytes. bytes.items ≡ written.record_bytes (told_record value.now)) }
+    ensures whole { IfOk result (λ bytes. written.IsWhole bytes.items (told_record value.now)) }
     ensures spelled { IfOk result (λ bytes. (limits : Limits) (more : List ℕ)
         → written.IsRecord limits (told_record value.now) → spec.Spelled limits (bytes.items ++ more) (told_record value.now)) }
 {

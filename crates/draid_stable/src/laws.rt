@@ -1,4 +1,4 @@
-ghost use Rattle.std.specs.Prelude.{◌≡◌, ◌<◌, ◌+◌, ◌^◌, ℕ, List, Option, length};
+ghost use Rattle.std.specs.Prelude.{◌≡◌, ℕ, List, Option};
 ghost use Rattle.draid_area.specs.Area.{Content, MayLeave, flushes, writes};
 ghost use Rattle.draid_area.specs.Moments.{IsCrashOutcome};
 ghost use Rattle.draid_machine.specs.State as state;
@@ -7,7 +7,7 @@ ghost use Rattle.draid_machine.specs.declared.names.Held.{Held};
 ghost use Rattle.draid_machine.specs.declared.names.Key.{Key};
 ghost use Rattle.draid_names.specs.declared.pointer.Pointer.{Pointer};
 ghost use Rattle.draid_record.specs.Record.{ArmTold, RecordTold};
-ghost use Rattle.draid_record.specs.Written.{body_bytes, record_bytes};
+ghost use Rattle.draid_record.specs.Written.{IsWhole};
 ghost use Rattle.draid_spec.specs.declared.layout.Geometry.{Geometry};
 ghost use Rattle.draid_stable.specs.Images.{LeavesBelow, SaysArms, SaysBlocks, arm_by, held_by};
 ghost use Rattle.draid_stable.specs.Stable.{HasRecord, ReadsAs, Stands, area_of};
@@ -27,8 +27,8 @@ pub fn records_outlast_crashes()
 
 /// Law: a record that was written at the front of an area and flushed stands there.
 pub fn flushed_records_stand()
-    ensures { (value : RecordTold) (x : Content) → length (body_bytes value) + 10 < 2 ^ 32
-        → Stands value (flushes (writes 0 (record_bytes value) x)) }
+    ensures { (value : RecordTold) (bytes : List ℕ) (x : Content) → IsWhole bytes value
+        → Stands value (flushes (writes 0 bytes x)) }
 {}
 
 /// Law: a flush leaves a record that stands.

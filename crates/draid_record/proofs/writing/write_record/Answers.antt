@@ -1,14 +1,9 @@
-use Rattle.std.proofs.Common.{◌≡◌, ◌++◌, List, ℕ, Vec, Global}
+use Rattle.std.proofs.Common.{◌++◌, List, ℕ, Vec, Global}
 use Rattle.draid_record.specs.declared.limits.Limits.{Limits}
 use Rattle.draid_record.specs.Record.{RecordTold, Spelled, told_record}
-use Rattle.draid_record.specs.Written.{IsRecord, IsWhole, record_bytes}
+use Rattle.draid_record.specs.Written.{IsRecord, IsWhole}
 use Rattle.draid_record.proofs.WholeWritten.{if_ok, written_spelled}
 use Rattle.draid_record.proofs.writing.write_record.Goals as goal
-
-pub returns-clause-bytes : goal.returns-clause-bytes
-returns-clause-bytes c =
-    let v : RecordTold = told_record c.args.value.now in
-    if_ok c.whole.result (λ (bytes : Vec ℕ Global). IsWhole bytes.items v) (λ (bytes : Vec ℕ Global). bytes.items ≡ record_bytes v) (λ bytes whole. whole.bytes_are) c.whole.ensures
 
 pub returns-clause-spelled : goal.returns-clause-spelled
 returns-clause-spelled c =
