@@ -14,6 +14,7 @@ use Rattle.draid_machine.proofs.Rows.{reached_sound}
 use Rattle.draid_rack.specs.Rack.{Told}
 use Rattle.draid_rack.specs.Moments.{Leaves}
 use Rattle.draid_segments.specs.Segments.{Backed, Firm, Pieces, Steady, image_group, sector_at}
+use Rattle.draid_segments.specs.Acts.{nowhere}
 use Rattle.draid_segments.proofs.Apart.{its_block, stands}
 use Rattle.draid_segments.proofs.Backing.{Untouched, firm_by, firm_pieces, holds_by, last_by, steady_by, untouched_by}
 use Rattle.draid_segments.proofs.Lasting.{lasting_present, owned_leaf}
@@ -30,6 +31,14 @@ created_backed l version pieces x = record {
     | inr e ↦ absurd (none_some None img refl e)
   ];
   last = record { firm = λ s h is sure. absurd (none_some None h refl is.on.held) };
+}
+
+-- flushes alone
+pub flushed_backed : (l : Layout) (w : State) (pieces : Pieces) (x y : Told) → Leaves nowhere x y → Backed l pieces w x → Backed l pieces w y
+flushed_backed l w pieces x y d b = record {
+  holds = holds_by l pieces pieces w w x y b.holds (λ s h is. inl (record { i = h; sure = is; first = refl; same = untouched_by nowhere s.leaf (sector_at l h s) x y d refl }, refl));
+  images = λ img is. firm_by l pieces img w.aside x y (λ s h c. untouched_by nowhere s.leaf (sector_at l h s) x y d refl) (b.images img is);
+  last = last_by l (image_group w) w w x y b.last (λ s h is sure. inl (record { i = h; lasting = is; sure = sure; first = refl; soft = d.only.soft s.leaf (sector_at l h s) refl }));
 }
 
 module _ (l : Layout) (lay : IsLayout l) (w : State) (reached : IsReached l w) where

@@ -16,7 +16,7 @@ ghost use Rattle.draid_machine.specs.declared.names.Segment.{Segment};
 ghost use Rattle.draid_machine.specs.declared.names.Stage.TheVariants.{Writing};
 ghost use Rattle.draid_rack.specs.Moments.{IsCrashOutcome, Leaves};
 ghost use Rattle.draid_rack.specs.Rack.{IsOrderly, Told};
-ghost use Rattle.draid_segments.specs.Acts.{Acts, DropsBut, IsClaimedAlone, IsMeant, IsNamed, IsUnclaimed, LiesAlone, WritesPieces, doubted, is_put_to, pieces_after};
+ghost use Rattle.draid_segments.specs.Acts.{Acts, DropsBut, IsClaimedAlone, IsMeant, IsNamed, IsUnclaimed, LiesAlone, WritesPieces, doubted, is_put_to, nowhere, pieces_after};
 ghost use Rattle.draid_segments.specs.Segments.{Backed, Firm, FirmThrough, Pieces, Steady};
 
 /// Law: where the rack did what the call of a legal event does to it, it has what the state after the event
@@ -57,6 +57,15 @@ pub fn images_stay_firm()
     ensures steady_more { (layout : Layout) (image : Image) (few more : Segment → Bool) (x y : Told)
         → ((s : Segment) → more s ≡ false → few s ≡ false) → Steady layout image few x y
         → Steady layout image more x y }
+{}
+
+/// Law: flushes alone keep what a rack has of a state, and what its images claim. A seal that is refused
+/// once it has flushed does no more.
+pub fn flushes_keep_segments()
+    ensures backed { (layout : Layout) (state : State) (pieces : Pieces) (x y : Told) → Leaves nowhere x y
+        → Backed layout pieces state x → Backed layout pieces state y }
+    ensures steady { (layout : Layout) (image : Image) (doubt : Segment → Bool) (x y : Told) → Leaves nowhere x y
+        → Steady layout image doubt x y }
 {}
 
 /// Law: where a ticket's next column may be written nothing that is present lies, and no image claims a

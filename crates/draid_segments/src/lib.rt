@@ -5,4 +5,6 @@
 
 mod laws;
 
-pub use laws::{events_keep_segments, images_stay_firm, segments_begin, writes_lie_apart};
+pub use laws::{
+    events_keep_segments, flushes_keep_segments, images_stay_firm, segments_begin, writes_lie_apart,
+};
