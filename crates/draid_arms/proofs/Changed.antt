@@ -8,9 +8,10 @@ use Rattle.draid_machine.specs.declared.names.ArmName.TheVariants.{Leaf, Spare}
 use Rattle.draid_machine.specs.Names.{has_name, name_eq, up_to}
 use Rattle.draid_machine.specs.State.{Layout, Arm, Pass, Core, State}
 use Rattle.draid_machine.specs.Arms.{arms_below, has_moved, is_fresh, is_here, is_target, online, targets_of}
-use Rattle.draid_machine.specs.After.{renew_if, map_arm, renewed_core, rearranged_state, attached_core, replan, attach_state}
+use Rattle.draid_machine.specs.After.{set_arm, set_order, renew_if, map_arm, renewed_core, rearranged_state, attached_core, replan, attach_state}
 use Rattle.draid_machine.specs.Step.{MayReplan}
 use Rattle.draid_machine.proofs.Small.{arm_at, equal, filter_has, has_append, name_refl, true_left, true_right}
+use Rattle.draid_arms.specs.Rules.{fresh_arm}
 use Rattle.draid_arms.proofs.Moved.{moved_by_order}
 use Rattle.draid_arms.proofs.Renewed.{rearranged_same}
 
@@ -19,6 +20,12 @@ pub rearranged_made : (l : Layout) (w : State) (last : ℕ) (arm' : ArmName → 
     → new ≡ rearranged_state l w last (record w.core { arm = arm'; order = order' })
 rearranged_made l w last arm' order' q before new made same orders =
     made ∙ (λ i. rearranged_state l (record w { core = record (same i) { order = orders i } }) last (same i)) ∙ rearranged_same l w last arm' order'
+
+-- the tables after an arm has joined
+pub joined_core : (old now : Core) (slot : ℕ) (n : ArmName) (last : ℕ) (a : Arm) → a ≡ fresh_arm last → ((m : ArmName) → now.arm m ≡ set_arm old.arm n (Some a) m)
+    → ((c : ℕ) → now.order c ≡ set_order old.order slot (old.order slot ++ n ∷ []) c) → record old { arm = now.arm; order = now.order } ≡ attached_core old slot n last
+joined_core old now slot n last a is arms orders =
+    λ i. record old { arm = λ m. (arms m ∙ ap (λ (b : Arm). set_arm old.arm n (Some b) m) is) i; order = λ c. orders c i }
 
 -- ---- an arm that joined is a target of the next rebuild
 in_below : (order : ℕ → List ArmName) (slots c : ℕ) (n : ArmName) → c < slots → has_name (order c) n ≡ true → has_name (arms_below order slots) n ≡ true
@@ -53,10 +60,10 @@ joined_target l w slot n last there none = true≢false (sym has ∙ ap (λ ns. 
     has = filter_has (is_target l after Rebuild) (arms_below after.order l.slots) n (in_below q.order l.slots slot n there listed) (fresh_target l after n (has_moved l w.core q n) last arm)
 
 pub may_plan : (l : Layout) (w : State) (slot : ℕ) (n : ArmName) (last : ℕ) (new : State) → new ≡ rearranged_state l w last (attached_core w.core slot n last) → MayReplan w → slot < l.slots
-    → (p : Pass) → new.core.pass ≡ Some p → p.kind ≡ Rebuild → (new.open_group < LAST_NUMBER) × (targets_of l new.core Rebuild ≡ [] → ⊥)
+    → (p : Pass) → new.core.pass ≡ Some p → p.kind ≡ Rebuild → (new.core.last < LAST_NUMBER) × (new.open_group < LAST_NUMBER) × (targets_of l new.core Rebuild ≡ [] → ⊥)
 may_plan l w slot n last new is may there =
-    subst (λ (v : State). (p : Pass) → v.core.pass ≡ Some p → p.kind ≡ Rebuild → (v.open_group < LAST_NUMBER) × (targets_of l v.core Rebuild ≡ [] → ⊥)) (sym is)
-    (λ p at rebuild. ((may p at rebuild).1, joined_target l w slot n last there))
+    subst (λ (v : State). (p : Pass) → v.core.pass ≡ Some p → p.kind ≡ Rebuild → (v.core.last < LAST_NUMBER) × (v.open_group < LAST_NUMBER) × (targets_of l v.core Rebuild ≡ [] → ⊥)) (sym is)
+    (λ p at rebuild. ((may p at rebuild).0, (may p at rebuild).1, joined_target l w slot n last there))
 
 -- what has moved, by the arms of each slot as they were copied
 pub moved_made : (l : Layout) (w : State) (arm' : ArmName → Option Arm) (order' : ℕ → List ArmName) (q : Core) (before : ℕ → List ArmName) (n : ArmName)

@@ -29,20 +29,6 @@ names_set (x ∷ xs) (suc s) v (suc c) less =
     let same : (s == c) ≡ (suc s == suc c) = grind (arith, nat_tests) in
     names_set xs s v c (omega (arith, less)) ∙ ap (λ b. if b then v.items else names_at xs c) same
 
--- an arm of a list stands somewhere
-pub name_at_place : (ns : List ArmName) (n d : ArmName) → has_name ns n ≡ true → (i : ℕ) × (i < length ns) × (get_or ns i d ≡ n)
-name_at_place [] n d e = absurd (true≢false (sym e))
-name_at_place (x ∷ xs) n d e = by (name_eq x n) refl e (λ rest. name_at_place xs n d rest)
-  where
-    by : (b : Bool) → name_eq x n ≡ b → (b || has_name xs n) ≡ true → (has_name xs n ≡ true → (i : ℕ) × (i < length xs) × (get_or xs i d ≡ n)) → (i : ℕ) × (i < length (x ∷ xs)) × (get_or (x ∷ xs) i d ≡ n)
-    by true is e more = (0, omega arith, name_true x n is)
-    by false is e more = let z = more e in (suc z.0, (let l = z.1 in omega (arith, l)), z.2)
-
-pub place_has_name : (ns : List ArmName) (i : ℕ) (d : ArmName) → i < length ns → has_name ns (get_or ns i d) ≡ true
-place_has_name [] i d less = absurd (omega (arith, less))
-place_has_name (x ∷ xs) zero d less = true_left (name_eq x x) (has_name xs x) (name_refl x)
-place_has_name (x ∷ xs) (suc i) d less = true_right (name_eq x (get_or xs i d)) (has_name xs (get_or xs i d)) (place_has_name xs i d (omega (arith, less)))
-
 -- ---- leaves
 pub a_leaf : (n : ArmName) → is_leaf n ≡ true → (m : ℕ) × (n ≡ Leaf m)
 a_leaf (Leaf m) e = (m, refl)
@@ -61,17 +47,6 @@ no_leaf_left ns n leaf none left =
     true≢false (sym (name_passes (is_other_leaf n) ns (Leaf z.0) z.1 (not_false (name_eq n (Leaf z.0)) z.2)) ∙ none)
 
 -- ---- logs
-pub no_runs : (log : Numbers) (rs : List Run) → rs ≡ log.runs → (length rs == 0) ≡ true → (g : ℕ) → has log g ≡ false
-no_runs log [] is e g = ap (λ r. has_in r g) (sym is)
-no_runs log (r ∷ rs) is e g = let no : (length (r ∷ rs) == 0) ≡ false = grind (arith, nat_tests) in absurd (true≢false (sym e ∙ no))
-
-pub some_run : (log : Numbers) (rs : List Run) → AreRuns log rs → (length rs == 0) ≡ false → ((g : ℕ) → has log g ≡ false) → ⊥
-some_run log [] are e none = true≢false e
-some_run log (r ∷ rs) are e none =
-    let first = are.maximal 0 r (omega arith) in
-    let some = first.some in
-    true≢false (sym (first.members r.first (omega arith) (omega (arith, some))) ∙ none r.first)
-
 pub same_groups : (last g : ℕ) → is_between 1 (last + 1) g ≡ up_to last g
 same_groups last g = grind (arith, nat_tests)
 

@@ -1,4 +1,4 @@
-ghost use Rattle.std.specs.Prelude.{◌≡◌, ◌<◌, true, false, ℕ, [], Some, None, IfOk, OnOk};
+ghost use Rattle.std.specs.Prelude.{◌≡◌, ◌<◌, true, false, [], Some, None, IfOk, OnOk};
 ghost use Rattle.draid_arms.specs.Moves.{core_before};
 ghost use Rattle.draid_machine.specs.After as after;
 ghost use Rattle.draid_machine.specs.Arms as arms;
@@ -6,7 +6,6 @@ ghost use Rattle.draid_machine.specs.Names.{has_name};
 ghost use Rattle.draid_machine.specs.State as state;
 ghost use Rattle.draid_machine.specs.Step.{AttachStep, DetachStep};
 ghost use Rattle.draid_machine.specs.declared.names.ArmName.{ArmName};
-ghost use Rattle.draid_map.specs.Place.{IsLayout};
 ghost use Rattle.draid_names.specs.declared.pass_kind.PassKind.TheVariants.{Rebuild};
 ghost use Rattle.draid_steps.specs.Columns.{AreCounted};
 ghost use Rattle.draid_world.specs.World.{AreLow, core_of, pass_of, site_layout, state_of};
@@ -31,8 +30,6 @@ fn rearrange(
     before: &[Vec<ArmName>],
     last: u64,
 ) -> Result<Vec<ArmName>, NoMemory>
-    requires layout { IsLayout site.now.geometry site.now.perms }
-    requires metaslab { site.now.metaslab < site.now.geometry.props.metaslabs }
     requires low { AreLow (core_of world.old.tables) }
     requires last { last < NUMBERS }
     ensures moved { IfOk result (λ moved. (n : ArmName) → has_name moved.items n
@@ -64,8 +61,6 @@ pub fn detach(
     slot: u32,
     name: ArmName,
 ) -> Result<bool, NoMemory>
-    requires layout { IsLayout site.now.geometry site.now.perms }
-    requires metaslab { site.now.metaslab < site.now.geometry.props.metaslabs }
     requires low { AreLow (core_of world.old.tables) }
     requires group { world.old.open_group < NUMBERS }
     requires counted { AreCounted (core_of world.old.tables) }
@@ -97,8 +92,6 @@ fn lose_targets(pass: &mut WorldPass, lost: &[ArmName])
 
 /// Plans a rebuild that has a target, where there is no pass.
 fn plan_rebuild(alloc: Global, site: &Site, world: &mut World) -> Result<(), NoMemory>
-    requires layout { IsLayout site.now.geometry site.now.perms }
-    requires metaslab { site.now.metaslab < site.now.geometry.props.metaslabs }
     requires idle { world.old.tables.pass ≡ None }
     requires last { world.old.tables.last < LAST_NUMBER }
     requires open_group { world.old.open_group < LAST_NUMBER }
@@ -111,22 +104,15 @@ fn plan_rebuild(alloc: Global, site: &Site, world: &mut World) -> Result<(), NoM
 
 /// A rebuild is planned again; a scrub loses the targets that moved.
 fn replan(alloc: Global, site: &Site, world: &mut World, moved: &[ArmName]) -> Result<(), NoMemory>
-    requires layout { IsLayout site.now.geometry site.now.perms }
-    requires metaslab { site.now.metaslab < site.now.geometry.props.metaslabs }
     requires rebuild { (p : state.Pass) → (core_of world.old.tables).pass ≡ Some p → p.kind ≡ Rebuild
-        → (world.old.open_group < LAST_NUMBER) × (arms.targets_of (site_layout site.now) (core_of world.old.tables) Rebuild ≡ [] → ⊥) }
+        → (world.old.tables.last < LAST_NUMBER) × (world.old.open_group < LAST_NUMBER) × (arms.targets_of (site_layout site.now) (core_of world.old.tables) Rebuild ≡ [] → ⊥) }
     ensures { OnOk result (state_of world.new ≡ after.replan (site_layout site.now) (state_of world.old) (has_name moved.now) (core_of world.old.tables).pass) }
 {
     let Some(mut pass) = world.tables.pass.take() else {
         return Ok(());
     };
     match pass.kind {
-        PassKind::Rebuild => {
-            if world.tables.last >= LAST_NUMBER {
-                return Err(NoMemory);
-            }
-            plan_rebuild(alloc, site, world)
-        }
+        PassKind::Rebuild => plan_rebuild(alloc, site, world),
         PassKind::Heal => {
             lose_targets(&mut pass, moved);
             world.tables.pass = Some(pass);
@@ -135,8 +121,30 @@ fn replan(alloc: Global, site: &Site, world: &mut World, moved: &[ArmName]) -> R
     }
 }
 
-/// Puts an arm into a slot, where that is legal. In each state that is reached a rebuild has the last number; where it hasn't, and there is no
-/// number after the last, the answer is `NoMemory`.
+/// A fresh arm, which may have missed each group up to one, becomes the last of a slot. The spares that moved.
+fn take_in(
+    alloc: Global,
+    site: &Site,
+    world: &mut World,
+    slot: u32,
+    name: ArmName,
+    last: u64,
+) -> Result<Vec<ArmName>, NoMemory>
+    requires low { AreLow (core_of world.old.tables) }
+    requires last { last < NUMBERS }
+    ensures moved { IfOk result (λ moved. (n : ArmName) → has_name moved.items n
+        ≡ arms.has_moved (site_layout site.now) (core_of world.old.tables) (after.attached_core (core_of world.old.tables) slot name last) n) }
+    ensures made { OnOk result (state_of world.new ≡ after.rearranged_state (site_layout site.now) (state_of world.old) last
+        (after.attached_core (core_of world.old.tables) slot name last)) }
+{
+    let before = copy_order(&world.tables.order, alloc)?;
+    let arm = new_arm(alloc, last)?;
+    enter_arm(&mut world.tables.arms, name, arm)?;
+    join(alloc, &mut world.tables.order, slot as usize, name)?;
+    rearrange(alloc, site, world, &before, last)
+}
+
+/// Puts an arm into a slot, where that is legal.
 pub fn attach(
     alloc: Global,
     site: &Site,
@@ -144,8 +152,6 @@ pub fn attach(
     slot: u32,
     name: ArmName,
 ) -> Result<bool, NoMemory>
-    requires layout { IsLayout site.now.geometry site.now.perms }
-    requires metaslab { site.now.metaslab < site.now.geometry.props.metaslabs }
     requires low { AreLow (core_of world.old.tables) }
     requires group { world.old.open_group < NUMBERS }
     requires counted { AreCounted (core_of world.old.tables) }
@@ -156,11 +162,7 @@ pub fn attach(
         return Ok(false);
     }
     let last = last_group(&world.tables.held, world.open_group);
-    let before = copy_order(&world.tables.order, alloc)?;
-    let arm = new_arm(alloc, last)?;
-    enter_arm(&mut world.tables.arms, name, arm)?;
-    join(alloc, &mut world.tables.order, slot as usize, name)?;
-    let moved = rearrange(alloc, site, world, &before, last)?;
+    let moved = take_in(alloc, site, world, slot, name, last)?;
     replan(alloc, site, world, &moved)?;
     Ok(true)
 }

@@ -3,30 +3,27 @@ ghost use Rattle.draid_arms.specs.Moves as moves;
 ghost use Rattle.draid_machine.specs.Claims as claims;
 ghost use Rattle.draid_machine.specs.Names.{has_segment, segment_eq};
 ghost use Rattle.draid_machine.specs.declared.names.Segment.{Segment};
-ghost use Rattle.draid_map.specs.Place.{IsLayout};
 ghost use Rattle.draid_world.specs.World.{AreLow, core_of, kept_in, names_at, site_layout};
 
 use draid_machine::{ArmName, Segment};
-use draid_steps::columns::add_segment;
-use draid_world::places::is_at_place;
+use draid_names::NoMemory;
+use draid_world::sets::add_segment;
 use draid_world::tables::kept_for;
 use draid_world::{Site, Tables};
-use std::alloc::{AllocError, Global};
+use std::alloc::Global;
 use std::collections::{BTreeMap, BTreeSet};
 
 /// Whether a segment was at a place before and isn't now.
 fn is_lost(site: &Site, before: &[Vec<ArmName>], tables: &Tables, segment: &Segment) -> bool
-    requires layout { IsLayout site.now.geometry site.now.perms }
-    requires metaslab { site.now.metaslab < site.now.geometry.props.metaslabs }
     requires low { AreLow (core_of tables.now) }
     ensures { result ≡ moves.is_lost (site_layout site.now) (names_at before.now) (core_of tables.now) segment.now }
 {
-    is_at_place(site, before, &tables.held, segment)
-        && !is_at_place(site, &tables.order, &tables.held, segment)
+    site.is_at_place(before, &tables.held, segment)
+        && !site.is_at_place(&tables.order, &tables.held, segment)
 }
 
 /// A segment is kept for a group.
-fn keep(kept: &mut BTreeMap<Segment, u64>, segment: Segment, group: u64) -> Result<(), AllocError>
+fn keep(kept: &mut BTreeMap<Segment, u64>, segment: Segment, group: u64) -> Result<(), NoMemory>
     ensures { OnOk result ((s : Segment) → kept_in kept.new.entries s ≡ (if segment_eq segment s then Some group else kept_in kept.old.entries s)) }
 {
     kept.insert(segment, group)?;
@@ -41,9 +38,7 @@ fn keep_if_lost(
     kept: &mut BTreeMap<Segment, u64>,
     segment: Segment,
     group: u64,
-) -> Result<(), AllocError>
-    requires layout { IsLayout site.now.geometry site.now.perms }
-    requires metaslab { site.now.metaslab < site.now.geometry.props.metaslabs }
+) -> Result<(), NoMemory>
     requires low { AreLow (core_of tables.now) }
     ensures { OnOk result ((s : Segment) → kept_in kept.new.entries s
         ≡ (if segment_eq segment s && moves.is_lost (site_layout site.now) (names_at before.now) (core_of tables.now) s then Some group else kept_in kept.old.entries s)) }
@@ -62,9 +57,7 @@ pub(crate) fn keep_lost(
     kept: &mut BTreeMap<Segment, u64>,
     segments: &BTreeSet<Segment>,
     group: u64,
-) -> Result<(), AllocError>
-    requires layout { IsLayout site.now.geometry site.now.perms }
-    requires metaslab { site.now.metaslab < site.now.geometry.props.metaslabs }
+) -> Result<(), NoMemory>
     requires low { AreLow (core_of tables.now) }
     ensures { OnOk result ((s : Segment) → kept_in kept.new.entries s
         ≡ (if has_segment segments.now.keys s && moves.is_lost (site_layout site.now) (names_at before.now) (core_of tables.now) s then Some group
@@ -78,12 +71,10 @@ pub(crate) fn keep_lost(
 
 /// Whether a segment is at a place or kept.
 fn is_held(site: &Site, tables: &Tables, kept: &BTreeMap<Segment, u64>, segment: &Segment) -> bool
-    requires layout { IsLayout site.now.geometry site.now.perms }
-    requires metaslab { site.now.metaslab < site.now.geometry.props.metaslabs }
     requires low { AreLow (core_of tables.now) }
     ensures { result ≡ (claims.is_at (site_layout site.now) (core_of tables.now) segment.now || is_some (kept_in kept.now.entries segment.now)) }
 {
-    is_at_place(site, &tables.order, &tables.held, segment) || kept_for(kept, *segment).is_some()
+    site.is_at_place(&tables.order, &tables.held, segment) || kept_for(kept, *segment).is_some()
 }
 
 /// A segment joins a set, if it is at a place or kept.
@@ -93,9 +84,7 @@ fn add_held(
     kept: &BTreeMap<Segment, u64>,
     set: &mut BTreeSet<Segment>,
     segment: Segment,
-) -> Result<(), AllocError>
-    requires layout { IsLayout site.now.geometry site.now.perms }
-    requires metaslab { site.now.metaslab < site.now.geometry.props.metaslabs }
+) -> Result<(), NoMemory>
     requires low { AreLow (core_of tables.now) }
     ensures { OnOk result ((s : Segment) → has_segment set.new.keys s
         ≡ ((segment_eq segment s && (claims.is_at (site_layout site.now) (core_of tables.now) s || is_some (kept_in kept.now.entries s))) || has_segment set.old.keys s)) }
@@ -113,9 +102,7 @@ pub(crate) fn held_of(
     tables: &Tables,
     kept: &BTreeMap<Segment, u64>,
     segments: &BTreeSet<Segment>,
-) -> Result<BTreeSet<Segment>, AllocError>
-    requires layout { IsLayout site.now.geometry site.now.perms }
-    requires metaslab { site.now.metaslab < site.now.geometry.props.metaslabs }
+) -> Result<BTreeSet<Segment>, NoMemory>
     requires low { AreLow (core_of tables.now) }
     ensures { IfOk result (λ left. (s : Segment) → has_segment left.keys s
         ≡ (has_segment segments.now.keys s && (claims.is_at (site_layout site.now) (core_of tables.now) s || is_some (kept_in kept.now.entries s)))) }

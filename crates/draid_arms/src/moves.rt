@@ -5,16 +5,13 @@ ghost use Rattle.draid_machine.specs.Arms as arms;
 ghost use Rattle.draid_machine.specs.Names.{has_name, name_eq};
 ghost use Rattle.draid_machine.specs.declared.names.ArmName.{ArmName};
 ghost use Rattle.draid_machine.specs.declared.names.ArmName.TheVariants.{Spare};
-ghost use Rattle.draid_map.specs.Place.{IsLayout};
 ghost use Rattle.draid_passes.specs.Logs.{changed_at};
 ghost use Rattle.draid_world.specs.World.{arm_in, arm_of, core_of, names_at, site_layout};
 
 use draid_machine::ArmName;
-use draid_names::NUMBERS;
-use draid_passes::{has_column, stripes};
-use draid_world::places::leaf_at;
+use draid_names::{NUMBERS, NoMemory};
 use draid_world::{Arm, Site, Tables};
-use std::alloc::{AllocError, Global};
+use std::alloc::Global;
 use std::collections::BTreeMap;
 
 /// Whether two leaves, where there are any, are one.
@@ -36,25 +33,21 @@ fn moves_at(
     name: ArmName,
     stripe: u64,
 ) -> bool
-    requires layout { IsLayout site.now.geometry site.now.perms }
-    requires metaslab { site.now.metaslab < site.now.geometry.props.metaslabs }
     requires stripe { stripe < NUMBERS }
     ensures { result ≡ moved_at (site_layout site.now) (names_at before.now) (core_of tables.now) name stripe }
 {
-    if !has_column(site, tables, name, stripe) {
+    if !site.has_column(tables, name, stripe) {
         return false;
     }
-    let was = leaf_at(site, before, name, stripe);
-    !is_same_leaf(was, leaf_at(site, &tables.order, name, stripe))
+    let was = site.leaf_at(before, name, stripe);
+    !is_same_leaf(was, site.leaf_at(&tables.order, name, stripe))
 }
 
 /// Whether a spare has come to lie elsewhere. It keeps the stripes of one height together.
 fn has_moved(site: &Site, before: &[Vec<ArmName>], tables: &Tables, spare: u32) -> bool
-    requires layout { IsLayout site.now.geometry site.now.perms }
-    requires metaslab { site.now.metaslab < site.now.geometry.props.metaslabs }
     ensures { result ≡ arms.has_moved (site_layout site.now) (core_before tables.now before.now) (core_of tables.now) (Spare spare) }
 {
-    let end = stripes(site);
+    let end = site.stripes();
     let height = u64::from(site.geometry.props.height);
     let mut stripe = 0;
     while stripe < end {
@@ -73,9 +66,7 @@ fn add_moved(
     tables: &Tables,
     spare: u32,
     moved: &mut Vec<ArmName>,
-) -> Result<(), AllocError>
-    requires layout { IsLayout site.now.geometry site.now.perms }
-    requires metaslab { site.now.metaslab < site.now.geometry.props.metaslabs }
+) -> Result<(), NoMemory>
     ensures { OnOk result ((n : ArmName) → has_name moved.new.items n
         ≡ (has_name moved.old.items n || (name_eq (Spare spare) n && arms.has_moved (site_layout site.now) (core_before tables.now before.now) (core_of tables.now) (Spare spare)))) }
 {
@@ -91,9 +82,7 @@ pub(crate) fn moved_of(
     site: &Site,
     before: &[Vec<ArmName>],
     tables: &Tables,
-) -> Result<Vec<ArmName>, AllocError>
-    requires layout { IsLayout site.now.geometry site.now.perms }
-    requires metaslab { site.now.metaslab < site.now.geometry.props.metaslabs }
+) -> Result<Vec<ArmName>, NoMemory>
     ensures { IfOk result (λ moved. (n : ArmName) → has_name moved.items n
         ≡ arms.has_moved (site_layout site.now) (core_before tables.now before.now) (core_of tables.now) n) }
 {
@@ -105,7 +94,7 @@ pub(crate) fn moved_of(
 }
 
 /// An arm is fresh, and may have missed each group up to one.
-fn renew(arm: &mut Arm, last: u64) -> Result<(), AllocError>
+fn renew(arm: &mut Arm, last: u64) -> Result<(), NoMemory>
     requires last { last < NUMBERS }
     ensures { OnOk result (arm_of arm.new ≡ after.renew_if true last (arm_of arm.old)) }
 {
@@ -116,7 +105,7 @@ fn renew(arm: &mut Arm, last: u64) -> Result<(), AllocError>
 }
 
 /// Renews the arm of a name, if there is one.
-fn renew_at(arms: &mut BTreeMap<ArmName, Arm>, name: ArmName, last: u64) -> Result<(), AllocError>
+fn renew_at(arms: &mut BTreeMap<ArmName, Arm>, name: ArmName, last: u64) -> Result<(), NoMemory>
     requires last { last < NUMBERS }
     ensures { OnOk result ((n : ArmName) → arm_in arms.new.entries n ≡ changed_at (name_eq name n) (after.renew_if true last) (arm_in arms.old.entries n)) }
 {
@@ -131,7 +120,7 @@ pub(crate) fn renew_arms(
     arms: &mut BTreeMap<ArmName, Arm>,
     names: &[ArmName],
     last: u64,
-) -> Result<(), AllocError>
+) -> Result<(), NoMemory>
     requires last { last < NUMBERS }
     ensures { OnOk result ((n : ArmName) → arm_in arms.new.entries n ≡ after.map_arm (after.renew_if (has_name names.now n) last) (arm_in arms.old.entries n)) }
 {

@@ -1,14 +1,13 @@
 ghost use Rattle.std.specs.Prelude.{◌≡◌, ◌<◌, true, false};
 ghost use Rattle.std.specs.List.{list_any};
-ghost use Rattle.draid_machine.specs.Arms.{HasEmptyLog};
 ghost use Rattle.draid_machine.specs.Names.{is_leaf};
 ghost use Rattle.draid_machine.specs.Step.{IsArmName, MayReplan};
 ghost use Rattle.draid_arms.specs.Rules.{IsLeafLeft, IsOtherClean, MayAttach, MayDetach, is_other_leaf};
-ghost use Rattle.draid_world.specs.World.{core_of, names_at, site_layout, state_of};
+ghost use Rattle.draid_world.specs.World.{core_of, site_layout, state_of};
 
 use draid_machine::ArmName;
 use draid_names::{LAST_NUMBER, PassKind};
-use draid_world::arms::{is_among, is_known, is_same, names_of};
+use draid_world::arms::{is_among, is_same, names_of};
 use draid_world::{Site, Tables, World};
 
 /// Whether an arm is a leaf other than a given one.
@@ -43,24 +42,13 @@ fn is_disk(name: ArmName) -> bool
     }
 }
 
-/// Whether an arm has an empty log.
-fn has_empty_log(tables: &Tables, name: ArmName) -> bool
-    ensures yes { result ≡ true → HasEmptyLog (core_of tables.now) name }
-    ensures no { result ≡ false → HasEmptyLog (core_of tables.now) name → ⊥ }
-{
-    match tables.arms.get(&name) {
-        Some(arm) => arm.log.runs().is_empty(),
-        None => true,
-    }
-}
-
 /// Whether an arm of a list other than a given one has an empty log.
 fn is_other_clean(tables: &Tables, names: &[ArmName], name: ArmName) -> bool
     ensures yes { result ≡ true → IsOtherClean (core_of tables.now) names.now name }
     ensures no { result ≡ false → IsOtherClean (core_of tables.now) names.now name → ⊥ }
 {
     for at in 0..names.len() {
-        if !is_same(name, names[at]) && has_empty_log(tables, names[at]) {
+        if !is_same(name, names[at]) && tables.has_empty_log(names[at]) {
             return true;
         }
     }
@@ -84,7 +72,7 @@ pub(crate) fn may_detach(tables: &Tables, slot: usize, name: ArmName) -> bool
     ensures no { result ≡ false → MayDetach (core_of tables.now) slot name → ⊥ }
 {
     let names = names_of(&tables.order, slot);
-    if !is_among(names, name) || !is_known(&tables.arms, name) || tables.pass.is_some() {
+    if !is_among(names, name) || !tables.is_known(name) || tables.pass.is_some() {
         return false;
     }
     leaves_leaf(names, name) && is_other_clean(tables, names, name)
@@ -109,7 +97,7 @@ pub(crate) fn may_attach(site: &Site, tables: &Tables, slot: u32, name: ArmName)
     if slot >= site.geometry.spec.children || !is_arm_name(site, name) {
         return false;
     }
-    if is_known(&tables.arms, name) {
+    if tables.is_known(name) {
         return false;
     }
     names_of(&tables.order, slot as usize).len() < 3
@@ -125,6 +113,6 @@ pub(crate) fn may_replan(world: &World) -> bool
     };
     match pass.kind {
         PassKind::Heal => true,
-        PassKind::Rebuild => pass.number < LAST_NUMBER && world.open_group < LAST_NUMBER,
+        PassKind::Rebuild => { world.tables.last < LAST_NUMBER && world.open_group < LAST_NUMBER }
     }
 }

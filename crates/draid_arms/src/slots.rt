@@ -1,5 +1,4 @@
 ghost use Rattle.std.specs.Prelude.{◌≡◌, ◌<◌, ◌≤◌, ◌^◌, ◌⊎◌, ◌++◌, ◌∷◌, [], not, true, false, ℕ, Some, IfOk, OnOk, IsSome, filter, length};
-ghost use Rattle.std.specs.BTreeMap.{Updates, get};
 ghost use Rattle.draid_machine.specs.After.{set_arm, set_order};
 ghost use Rattle.draid_machine.specs.Names.{name_eq};
 ghost use Rattle.draid_machine.specs.State as state;
@@ -12,10 +11,10 @@ ghost use Rattle.draid_world.specs.declared.world.Arm.{Arm};
 
 use draid_dtl::Log;
 use draid_machine::{ArmName, Held, Key};
-use draid_names::NUMBERS;
+use draid_names::{NUMBERS, NoMemory};
 use draid_world::arms::is_same;
 use draid_world::{Arm, Detached};
-use std::alloc::{AllocError, Global};
+use std::alloc::Global;
 use std::collections::BTreeMap;
 
 /// Marks an arm that is known as detached.
@@ -23,13 +22,6 @@ pub(crate) fn set_gone(arms: &mut BTreeMap<ArmName, Arm>, name: ArmName, gone: D
     requires there { IsSome (arm_in arms.old.entries name) }
     ensures { (a : state.Arm) → arm_in arms.old.entries name ≡ Some a
         → (n : ArmName) → arm_in arms.new.entries n ≡ set_arm (arm_in arms.old.entries) name (Some (record a { gone = Some (gone_of gone) })) n }
-{
-    write_gone(arms, name, gone);
-}
-
-fn write_gone(arms: &mut BTreeMap<ArmName, Arm>, name: ArmName, gone: Detached)
-    requires there { IsSome (get ⟦<ArmName as Ord>⟧.cmp arms.old name) }
-    ensures { (a : Arm) → get ⟦<ArmName as Ord>⟧.cmp arms.old name ≡ Some a → Updates ⟦<ArmName as Ord>⟧.cmp arms.old arms.new name (Some (record a { gone = Some gone })) }
 {
     if let Some(arm) = arms.get_mut(&name) {
         arm.gone = Some(gone);
@@ -54,7 +46,7 @@ pub(crate) fn leave(order: &mut Vec<Vec<ArmName>>, slot: usize, name: ArmName)
 }
 
 /// Makes place for the arms of a slot.
-fn widen(alloc: Global, order: &mut Vec<Vec<ArmName>>, slot: usize) -> Result<(), AllocError>
+fn widen(alloc: Global, order: &mut Vec<Vec<ArmName>>, slot: usize) -> Result<(), NoMemory>
     requires slot { slot < 2 ^ 32 }
     ensures same { OnOk result ((c : ℕ) → names_at order.new.items c ≡ names_at order.old.items c) }
     ensures wide { OnOk result (slot < length order.new.items) }
@@ -66,7 +58,7 @@ fn widen(alloc: Global, order: &mut Vec<Vec<ArmName>>, slot: usize) -> Result<()
 }
 
 /// An arm becomes the last of a slot that has a place.
-fn push_arm(order: &mut Vec<Vec<ArmName>>, slot: usize, name: ArmName) -> Result<(), AllocError>
+fn push_arm(order: &mut Vec<Vec<ArmName>>, slot: usize, name: ArmName) -> Result<(), NoMemory>
     requires slot { slot < length order.old.items }
     ensures { OnOk result ((c : ℕ) → names_at order.new.items c
         ≡ set_order (names_at order.old.items) slot (names_at order.old.items slot ++ name ∷ []) c) }
@@ -81,7 +73,7 @@ pub(crate) fn join(
     order: &mut Vec<Vec<ArmName>>,
     slot: usize,
     name: ArmName,
-) -> Result<(), AllocError>
+) -> Result<(), NoMemory>
     requires slot { slot < 2 ^ 32 }
     ensures { OnOk result ((c : ℕ) → names_at order.new.items c
         ≡ set_order (names_at order.old.items) slot (names_at order.old.items slot ++ name ∷ []) c) }
@@ -107,7 +99,7 @@ pub(crate) fn last_group(held: &BTreeMap<Key, Held>, group: u64) -> u64
 }
 
 /// An arm that is fresh, and may have missed each group up to one.
-pub(crate) fn new_arm(alloc: Global, last: u64) -> Result<Arm, AllocError>
+pub(crate) fn new_arm(alloc: Global, last: u64) -> Result<Arm, NoMemory>
     requires { last < NUMBERS }
     ensures { IfOk result (λ a. arm_of a ≡ fresh_arm last) }
 {

@@ -1,4 +1,4 @@
-ghost use Rattle.std.specs.Prelude.{◌≡◌, IfOk, IfSome, OnOk, Some, option_map};
+ghost use Rattle.std.specs.Prelude.{◌≡◌, IfOk, OnOk, Some, option_map};
 ghost use Rattle.draid_images.specs.Copies.{copied_arm, copied_core, copied_held, put_some, put_some_arm};
 ghost use Rattle.draid_machine.specs.declared.names.ArmName.{ArmName};
 ghost use Rattle.draid_machine.specs.declared.names.Key.{Key};
@@ -7,10 +7,11 @@ ghost use Rattle.draid_world.specs.World.{arm_in, arm_of, core_of, held_in, pass
 
 use draid_dtl::Log;
 use draid_machine::{ArmName, Held, Key, Stage};
+use draid_names::NoMemory;
 use draid_world::arms::{copy_order, enter_arm};
 use draid_world::tables::enter;
 use draid_world::{Arm, Tables, WorldPass};
-use std::alloc::{AllocError, Global};
+use std::alloc::Global;
 use std::collections::BTreeMap;
 
 /// What a copy of the tables is for.
@@ -23,7 +24,7 @@ pub enum Copying {
 }
 
 /// The copy of a log.
-fn copy_log(log: &Log, alloc: Global) -> Result<Log, AllocError>
+fn copy_log(log: &Log, alloc: Global) -> Result<Log, NoMemory>
     ensures { IfOk result (λ copy. Has copy (has log.now)) }
 {
     let runs = Vec::from_slice(alloc, log.runs())?;
@@ -52,7 +53,7 @@ fn copy_of(held: &Held, copying: Copying) -> Option<Held>
 }
 
 /// What is copied of an arm.
-fn copy_arm(arm: &Arm, copying: Copying, alloc: Global) -> Result<Option<Arm>, AllocError>
+fn copy_arm(arm: &Arm, copying: Copying, alloc: Global) -> Result<Option<Arm>, NoMemory>
     ensures { IfOk result (λ copy. option_map arm_of copy ≡ copied_arm copying (Some (arm_of arm.now))) }
 {
     let mut log = copy_log(&arm.log, alloc)?;
@@ -73,7 +74,7 @@ fn copy_arm(arm: &Arm, copying: Copying, alloc: Global) -> Result<Option<Arm>, A
 }
 
 /// Puts a block or a ticket into a table, if there is one.
-fn put_held(table: &mut BTreeMap<Key, Held>, key: Key, held: Option<Held>) -> Result<(), AllocError>
+fn put_held(table: &mut BTreeMap<Key, Held>, key: Key, held: Option<Held>) -> Result<(), NoMemory>
     ensures { OnOk result ((k : Key) → held_in table.new.entries k ≡ put_some (held_in table.old.entries) key held k) }
 {
     match held {
@@ -87,7 +88,7 @@ fn copy_held(
     table: &BTreeMap<Key, Held>,
     copying: Copying,
     alloc: Global,
-) -> Result<BTreeMap<Key, Held>, AllocError>
+) -> Result<BTreeMap<Key, Held>, NoMemory>
     ensures { IfOk result (λ copy. (k : Key) → held_in copy.entries k ≡ copied_held copying (held_in table.now.entries k)) }
 {
     let mut copy = BTreeMap::new(alloc);
@@ -102,7 +103,7 @@ fn put_arm(
     table: &mut BTreeMap<ArmName, Arm>,
     name: ArmName,
     arm: Option<Arm>,
-) -> Result<(), AllocError>
+) -> Result<(), NoMemory>
     ensures { OnOk result ((n : ArmName) → arm_in table.new.entries n ≡ put_some_arm (arm_in table.old.entries) name (option_map arm_of arm) n) }
 {
     match arm {
@@ -116,7 +117,7 @@ fn copy_arms(
     table: &BTreeMap<ArmName, Arm>,
     copying: Copying,
     alloc: Global,
-) -> Result<BTreeMap<ArmName, Arm>, AllocError>
+) -> Result<BTreeMap<ArmName, Arm>, NoMemory>
     ensures { IfOk result (λ copy. (n : ArmName) → arm_in copy.entries n ≡ copied_arm copying (arm_in table.now.entries n)) }
 {
     let mut copy = BTreeMap::new(alloc);
@@ -128,7 +129,7 @@ fn copy_arms(
 }
 
 /// The copy of a pass.
-fn copy_pass(pass: &Option<WorldPass>, alloc: Global) -> Result<Option<WorldPass>, AllocError>
+fn copy_pass(pass: &Option<WorldPass>, alloc: Global) -> Result<Option<WorldPass>, NoMemory>
     ensures { IfOk result (λ copy. option_map pass_of copy ≡ option_map pass_of pass.now) }
 {
     let Some(pass) = pass else {
@@ -147,7 +148,7 @@ fn copy_pass(pass: &Option<WorldPass>, alloc: Global) -> Result<Option<WorldPass
 }
 
 /// The copy of the tables.
-pub fn copy_tables(tables: &Tables, copying: Copying, alloc: Global) -> Result<Tables, AllocError>
+pub fn copy_tables(tables: &Tables, copying: Copying, alloc: Global) -> Result<Tables, NoMemory>
     ensures { IfOk result (λ copy. core_of copy ≡ copied_core copying (core_of tables.now)) }
 {
     let held = copy_held(&tables.held, copying, alloc)?;

@@ -1,4 +1,4 @@
-ghost use Rattle.std.specs.Prelude.{◌≡◌, ◌<◌, ◌≤◌, ◌^◌, ◌&&◌, ◌||◌, ◌⊎◌, true, false, ℕ, Some, IfOk, OnOk, option_map};
+ghost use Rattle.std.specs.Prelude.{◌≡◌, ◌<◌, ◌&&◌, ◌||◌, true, false, Some, IfOk, OnOk, option_map};
 ghost use Rattle.draid_images.specs.Openings.{IsChosen, IsLowImage};
 ghost use Rattle.draid_machine.specs.After as after;
 ghost use Rattle.draid_machine.specs.Claims as claims;
@@ -8,19 +8,18 @@ ghost use Rattle.draid_machine.specs.Step.{ReopenStep};
 ghost use Rattle.draid_machine.specs.declared.names.Held.{Held};
 ghost use Rattle.draid_machine.specs.declared.names.Key.{Key};
 ghost use Rattle.draid_machine.specs.declared.names.Segment.{Segment};
-ghost use Rattle.draid_map.specs.Place.{IsLayout};
 ghost use Rattle.draid_world.specs.World.{AreLow, core_of, held_in, image_of, names_at, pass_of, site_layout, state_of};
 
 use crate::copies::{Copying, copy_tables};
 use draid_machine::{ArmName, Held, Key, Segment, Stage};
-use draid_names::NUMBERS;
+use draid_names::{NUMBERS, NoMemory};
 use draid_passes::is_block;
-use draid_steps::columns::{add_landed, add_segment};
+use draid_steps::columns::add_landed;
 use draid_world::arms::{is_among, names_of};
-use draid_world::places::{is_on, slot_of};
+use draid_world::sets::add_segment;
 use draid_world::tables::find;
 use draid_world::{Site, Tables, World, WorldPass};
-use std::alloc::{AllocError, Global};
+use std::alloc::Global;
 use std::collections::{BTreeMap, BTreeSet};
 
 /// Whether a column of a block or a ticket was put.
@@ -52,8 +51,6 @@ fn is_passed(pass: &Option<WorldPass>, name: ArmName, held: &Held, row: u32) -> 
 
 /// Whether a segment has to be there.
 fn is_claimed(site: &Site, tables: &Tables, segment: &Segment) -> bool
-    requires layout { IsLayout site.now.geometry site.now.perms }
-    requires metaslab { site.now.metaslab < site.now.geometry.props.metaslabs }
     requires low { AreLow (core_of tables.now) }
     ensures { result ≡ claims.claims (site_layout site.now) (core_of tables.now) segment.now }
 {
@@ -63,7 +60,7 @@ fn is_claimed(site: &Site, tables: &Tables, segment: &Segment) -> bool
     let Some(arm) = tables.arms.get(&segment.arm) else {
         return false;
     };
-    if !is_on(site, &tables.order, segment, &held) || !is_put(held.stage, segment.column) {
+    if !site.is_on(&tables.order, segment, &held) || !is_put(held.stage, segment.column) {
         return false;
     }
     if !arm.log.contains(held.birth) {
@@ -78,9 +75,7 @@ fn add_claimed(
     tables: &Tables,
     set: &mut BTreeSet<Segment>,
     segment: Segment,
-) -> Result<(), AllocError>
-    requires layout { IsLayout site.now.geometry site.now.perms }
-    requires metaslab { site.now.metaslab < site.now.geometry.props.metaslabs }
+) -> Result<(), NoMemory>
     requires low { AreLow (core_of tables.now) }
     ensures { OnOk result ((s : Segment) → names.has_segment set.new.keys s
         ≡ ((names.segment_eq segment s && claims.claims (site_layout site.now) (core_of tables.now) s) || names.has_segment set.old.keys s)) }
@@ -97,9 +92,7 @@ fn claimed_of(
     site: &Site,
     tables: &Tables,
     set: &BTreeSet<Segment>,
-) -> Result<BTreeSet<Segment>, AllocError>
-    requires layout { IsLayout site.now.geometry site.now.perms }
-    requires metaslab { site.now.metaslab < site.now.geometry.props.metaslabs }
+) -> Result<BTreeSet<Segment>, NoMemory>
     requires low { AreLow (core_of tables.now) }
     ensures { IfOk result (λ claimed. (s : Segment) → names.has_segment claimed.keys s
         ≡ (names.has_segment set.now.keys s && claims.claims (site_layout site.now) (core_of tables.now) s)) }
@@ -117,9 +110,7 @@ fn add_all_claimed(
     tables: &Tables,
     set: &mut BTreeSet<Segment>,
     segments: &[Segment],
-) -> Result<(), AllocError>
-    requires layout { IsLayout site.now.geometry site.now.perms }
-    requires metaslab { site.now.metaslab < site.now.geometry.props.metaslabs }
+) -> Result<(), NoMemory>
     requires low { AreLow (core_of tables.now) }
     ensures { OnOk result ((s : Segment) → names.has_segment set.new.keys s
         ≡ (names.has_segment set.old.keys s || (names.has_segment segments.now s && claims.claims (site_layout site.now) (core_of tables.now) s))) }
@@ -137,29 +128,21 @@ fn add_block(
     set: &mut BTreeSet<Segment>,
     key: Key,
     held: &Held,
-) -> Result<(), AllocError>
-    requires layout { IsLayout site.now.geometry site.now.perms }
-    requires metaslab { site.now.metaslab < site.now.geometry.props.metaslabs }
+) -> Result<(), NoMemory>
     requires first { held.now.first < NUMBERS }
     ensures kept { OnOk result ((s : Segment) → names.has_segment set.old.keys s ≡ true → names.has_segment set.new.keys s ≡ true) }
     ensures added { OnOk result ((s : Segment) → key ≡ s.key → claims.is_on (site_layout site.now) (names_at order.now) s held.now ≡ true
         → names.has_segment set.new.keys s ≡ true) }
 {
     for column in 0..site.geometry.g {
-        let names = names_of(order, slot_of(site, held.first, column) as usize);
+        let names = names_of(order, site.slot_of(held.first, column) as usize);
         add_landed(site, order, set, key, held, column, names)?;
     }
     Ok(())
 }
 
 /// All segments of blocks and tickets.
-fn all_segments(
-    alloc: Global,
-    site: &Site,
-    tables: &Tables,
-) -> Result<BTreeSet<Segment>, AllocError>
-    requires layout { IsLayout site.now.geometry site.now.perms }
-    requires metaslab { site.now.metaslab < site.now.geometry.props.metaslabs }
+fn all_segments(alloc: Global, site: &Site, tables: &Tables) -> Result<BTreeSet<Segment>, NoMemory>
     requires low { AreLow (core_of tables.now) }
     ensures { IfOk result (λ set. (s : Segment) (h : Held) → held_in tables.now.held.entries s.key ≡ Some h
         → claims.is_on (site_layout site.now) (names_at tables.now.order.items) s h ≡ true → names.has_segment set.keys s ≡ true) }
@@ -172,9 +155,7 @@ fn all_segments(
 }
 
 /// The segments that have to be there.
-fn all_claimed(alloc: Global, site: &Site, tables: &Tables) -> Result<BTreeSet<Segment>, AllocError>
-    requires layout { IsLayout site.now.geometry site.now.perms }
-    requires metaslab { site.now.metaslab < site.now.geometry.props.metaslabs }
+fn all_claimed(alloc: Global, site: &Site, tables: &Tables) -> Result<BTreeSet<Segment>, NoMemory>
     requires low { AreLow (core_of tables.now) }
     ensures { IfOk result (λ claimed. (s : Segment) → names.has_segment claimed.keys s ≡ claims.claims (site_layout site.now) (core_of tables.now) s) }
 {
@@ -189,9 +170,7 @@ fn both_claimed(
     tables: &Tables,
     set: &BTreeSet<Segment>,
     more: &[Segment],
-) -> Result<BTreeSet<Segment>, AllocError>
-    requires layout { IsLayout site.now.geometry site.now.perms }
-    requires metaslab { site.now.metaslab < site.now.geometry.props.metaslabs }
+) -> Result<BTreeSet<Segment>, NoMemory>
     requires low { AreLow (core_of tables.now) }
     ensures { IfOk result (λ claimed. (s : Segment) → names.has_segment claimed.keys s
         ≡ ((names.has_segment set.now.keys s || names.has_segment more.now s) && claims.claims (site_layout site.now) (core_of tables.now) s)) }
@@ -227,9 +206,7 @@ pub fn reopen(
     world: &mut World,
     group: u64,
     doubtful: &[Segment],
-) -> Result<bool, AllocError>
-    requires layout { IsLayout site.now.geometry site.now.perms }
-    requires metaslab { site.now.metaslab < site.now.geometry.props.metaslabs }
+) -> Result<bool, NoMemory>
     requires image { IsLowImage (image_of world.old.image) }
     requires sealed { (i : state.Image) → (state_of world.old).sealed ≡ Some i → IsLowImage i }
     ensures legal { IfOk result (λ b. b ≡ true → ReopenStep (site_layout site.now) (state_of world.old) group doubtful.now (state_of world.new)) }
@@ -243,14 +220,7 @@ pub fn reopen(
 }
 
 /// The state of the committed image.
-fn open(
-    alloc: Global,
-    site: &Site,
-    world: &mut World,
-    doubtful: &[Segment],
-) -> Result<(), AllocError>
-    requires layout { IsLayout site.now.geometry site.now.perms }
-    requires metaslab { site.now.metaslab < site.now.geometry.props.metaslabs }
+fn open(alloc: Global, site: &Site, world: &mut World, doubtful: &[Segment]) -> Result<(), NoMemory>
     requires image { IsLowImage (image_of world.old.image) }
     ensures { OnOk result (state_of world.new ≡ after.reopen_state (site_layout site.now) (state_of world.old) (image_of world.old.image) doubtful.now) }
 {

@@ -1,5 +1,5 @@
-ghost use Rattle.std.specs.Prelude.{◌≡◌, ◌+◌, ◌<◌, ◌≤◌, ◌&&◌, not, true, false, ℕ, Some, List, IfOk, OnOk, count_by, filter, is_some, option_map};
-ghost use Rattle.std.specs.List.{list_all, list_any};
+ghost use Rattle.std.specs.Prelude.{◌≡◌, ◌+◌, ◌<◌, ◌&&◌, not, true, false, Some, IfOk, OnOk, count_by, filter, is_some, option_map};
+ghost use Rattle.std.specs.List.{list_all};
 ghost use Rattle.draid_images.specs.Seals.{is_early, is_written};
 ghost use Rattle.draid_machine.specs.After as after;
 ghost use Rattle.draid_machine.specs.Arms as arms;
@@ -10,16 +10,15 @@ ghost use Rattle.draid_machine.specs.declared.names.ArmName.{ArmName};
 ghost use Rattle.draid_machine.specs.declared.names.ArmName.TheVariants.{Leaf};
 ghost use Rattle.draid_machine.specs.declared.names.Held.{Held};
 ghost use Rattle.draid_machine.specs.declared.names.Key.{Key};
-ghost use Rattle.draid_map.specs.Place.{IsLayout};
 ghost use Rattle.draid_world.specs.World.{arm_in, core_of, held_in, pass_of, site_layout, state_of};
 
 use crate::copies::{Copying, copy_tables};
 use draid_machine::{ArmName, Held, Key, Stage};
-use draid_names::{LAST_NUMBER, NUMBERS, PassKind};
-use draid_passes::{is_block, lies_on_silent};
+use draid_names::{NUMBERS, NoMemory, PassKind};
+use draid_passes::is_block;
 use draid_steps::columns::log_missed;
-use draid_world::{Image, Site, Tables, World, WorldPass};
-use std::alloc::{AllocError, Global};
+use draid_world::{Image, Site, Tables, World, WorldPass, capped};
+use std::alloc::Global;
 use std::collections::BTreeMap;
 
 /// Whether it is a ticket that was born up to a group.
@@ -94,15 +93,13 @@ fn silent_arms(
     site: &Site,
     tables: &Tables,
     failed: &[u64],
-) -> Result<Vec<ArmName>, AllocError>
-    requires layout { IsLayout site.now.geometry site.now.perms }
-    requires metaslab { site.now.metaslab < site.now.geometry.props.metaslabs }
+) -> Result<Vec<ArmName>, NoMemory>
     ensures { IfOk result (λ silent. (n : ArmName) → names.has_name silent.items n
         ≡ (is_some (arm_in tables.now.arms.entries n) && arms.lies_on (site_layout site.now) (core_of tables.now) (arms.is_silent (core_of tables.now) failed.now) n)) }
 {
     let mut silent = Vec::new(alloc);
     for (name, _) in tables.arms.iter() {
-        if lies_on_silent(site, tables, failed, *name) {
+        if site.lies_on_silent(tables, failed, *name) {
             silent.push(*name)?;
         }
     }
@@ -117,9 +114,7 @@ fn log_silent(
     failed: &[u64],
     group: u64,
     wrote: bool,
-) -> Result<(), AllocError>
-    requires layout { IsLayout site.now.geometry site.now.perms }
-    requires metaslab { site.now.metaslab < site.now.geometry.props.metaslabs }
+) -> Result<(), NoMemory>
     requires group { group < NUMBERS }
     ensures logs { OnOk result ((n : ArmName) → arm_in tables.new.arms.entries n
         ≡ after.each_arm (λ m. after.log_if (wrote && arms.lies_on (site_layout site.now) (core_of tables.old) (arms.is_silent (core_of tables.old) failed.now) m) group) (arm_in tables.old.arms.entries) n) }
@@ -134,13 +129,11 @@ fn log_silent(
 
 /// How many arms of a list lie on a silent leaf.
 fn count_silent(site: &Site, tables: &Tables, failed: &[u64], names: &[ArmName]) -> u64
-    requires layout { IsLayout site.now.geometry site.now.perms }
-    requires metaslab { site.now.metaslab < site.now.geometry.props.metaslabs }
     ensures { result ≡ count_by (arms.lies_on (site_layout site.now) (core_of tables.now) (arms.is_silent (core_of tables.now) failed.now)) names.now }
 {
     let mut count = 0;
     for at in 0..names.len() {
-        if lies_on_silent(site, tables, failed, names[at]) {
+        if site.lies_on_silent(tables, failed, names[at]) {
             count += 1;
         }
     }
@@ -149,21 +142,12 @@ fn count_silent(site: &Site, tables: &Tables, failed: &[u64], names: &[ArmName])
 
 /// The errors that a pass counts for the targets that it loses.
 fn lost_errors(site: &Site, tables: &Tables, failed: &[u64], pass: &WorldPass) -> u64
-    requires layout { IsLayout site.now.geometry site.now.perms }
-    requires metaslab { site.now.metaslab < site.now.geometry.props.metaslabs }
     ensures { result ≡ after.lost_errors pass.now.kind (arms.lies_on (site_layout site.now) (core_of tables.now) (arms.is_silent (core_of tables.now) failed.now)) pass.now.targets.items }
 {
     match pass.kind {
         PassKind::Rebuild => count_silent(site, tables, failed, &pass.targets),
         PassKind::Heal => 0,
     }
-}
-
-/// The sum of errors, which stands still at its last number.
-fn capped(errors: u64, more: u64) -> u64
-    ensures { result ≡ after.capped (errors + more) }
-{
-    errors.saturating_add(more).min(LAST_NUMBER)
 }
 
 /// The arms of a list that don't lie on a silent leaf.
@@ -173,15 +157,13 @@ fn kept_targets(
     tables: &Tables,
     failed: &[u64],
     targets: &[ArmName],
-) -> Result<Vec<ArmName>, AllocError>
-    requires layout { IsLayout site.now.geometry site.now.perms }
-    requires metaslab { site.now.metaslab < site.now.geometry.props.metaslabs }
+) -> Result<Vec<ArmName>, NoMemory>
     ensures { IfOk result (λ kept. kept.items
         ≡ filter (λ n. not (arms.lies_on (site_layout site.now) (core_of tables.now) (arms.is_silent (core_of tables.now) failed.now) n)) targets.now) }
 {
     let mut kept = Vec::new(alloc);
     for at in 0..targets.len() {
-        if !lies_on_silent(site, tables, failed, targets[at]) {
+        if !site.lies_on_silent(tables, failed, targets[at]) {
             kept.push(targets[at])?;
         }
     }
@@ -194,9 +176,7 @@ fn lost_pass(
     site: &Site,
     tables: &Tables,
     failed: &[u64],
-) -> Result<Option<WorldPass>, AllocError>
-    requires layout { IsLayout site.now.geometry site.now.perms }
-    requires metaslab { site.now.metaslab < site.now.geometry.props.metaslabs }
+) -> Result<Option<WorldPass>, NoMemory>
     ensures { IfOk result (λ pass. option_map pass_of pass
         ≡ after.map_pass (after.lose_some (arms.lies_on (site_layout site.now) (core_of tables.now) (arms.is_silent (core_of tables.now) failed.now))) (option_map pass_of tables.now.pass)) }
 {
@@ -224,9 +204,7 @@ fn seal_tables(
     failed: &[u64],
     group: u64,
     wrote: bool,
-) -> Result<(), AllocError>
-    requires layout { IsLayout site.now.geometry site.now.perms }
-    requires metaslab { site.now.metaslab < site.now.geometry.props.metaslabs }
+) -> Result<(), NoMemory>
     requires group { group < NUMBERS }
     ensures { OnOk result (core_of tables.new ≡ after.sealed_core (site_layout site.now) (core_of tables.old) group failed.now wrote) }
 {
@@ -243,9 +221,7 @@ pub fn seal(
     world: &mut World,
     group: u64,
     failed: &[u64],
-) -> Result<bool, AllocError>
-    requires layout { IsLayout site.now.geometry site.now.perms }
-    requires metaslab { site.now.metaslab < site.now.geometry.props.metaslabs }
+) -> Result<bool, NoMemory>
     requires group { group < NUMBERS }
     ensures legal { IfOk result (λ b. b ≡ true → SealStep (site_layout site.now) (state_of world.old) group failed.now (state_of world.new)) }
     ensures illegal { IfOk result (λ b. b ≡ false → (new : State) → SealStep (site_layout site.now) (state_of world.old) group failed.now new → ⊥) }

@@ -1,5 +1,5 @@
 -- Loans and their readings.
-use Rattle.std.proofs.Common.{◌≡◌, ◌+◌, ◌<◌, ◌≤◌, ◌&&◌, ◌++◌, not, ℕ, zero, suc, true, List, [], ◌∷◌, Option, Some, None, Result, Ok, Err, IfOk, Vec, Global, filter, get_or, length, option_map, if◌then◌else◌, refl, sym, ◌∙◌, ap, subst, inl, inr, arith, length-append}
+use Rattle.std.proofs.Common.{◌≡◌, ◌+◌, ◌<◌, ◌≤◌, ◌&&◌, ◌++◌, not, ℕ, zero, suc, true, List, [], ◌∷◌, Option, Some, None, Vec, Global, filter, length, option_map, if◌then◌else◌, refl, sym, ◌∙◌, ap, subst, inl, inr, arith, length-append}
 use Rattle.std.proofs.lemmas.Bool.{cases_eq, cases_order}
 use Rattle.draid_machine.specs.declared.names.Key.{Key}
 use Rattle.draid_machine.specs.declared.names.ArmName.{ArmName}
@@ -17,11 +17,8 @@ use Rattle.draid_world.specs.declared.world.World.{World}
 use Rattle.draid_world.specs.declared.world.WorldPass.{WorldPass}
 use Rattle.draid_world.specs.World.{core_of, loan_of, name_at, names_at, pass_of, state_of}
 use Rattle.draid_world.proofs.Maps.{names_past}
+use Rattle.draid_world.proofs.Orders.{name_past, names_before, names_last}
 use Rattle.draid_loans.specs.Lending.{AllRead, AreReadings, IsLoan, MayLend}
-
-pub ok_map : {A E : Type 0} (r : Result A E) (P Q : A → Type 0) → ((a : A) → P a → Q a) → IfOk r P → IfOk r Q
-ok_map (Ok a) P Q f p = f a p
-ok_map (Err e) P Q f p = p
 
 pub arms_heal : (l : Layout) (q : Core) (p : Pass) (h : Held) (x : ℕ) (failed : List ℕ) (c : ℕ) (chosen : Option ArmName) (names : List ArmName) → is_heal p.kind ≡ true
     → names ≡ q.order (l.slot_of h.first c) → filter (λ n. answers l q n x && not (fails l q failed n x)) names ≡ arms_read l q p h x failed c chosen
@@ -39,25 +36,6 @@ name_behind : (os : List (Option ArmName)) (o : Option ArmName) → name_at (os 
 name_behind [] o = refl
 name_behind (p ∷ os) o = name_behind os o
 
-names_before : (vs us : List (Vec ArmName Global)) (c : ℕ) → c < length vs → names_at (vs ++ us) c ≡ names_at vs c
-names_before [] us c less = absurd (omega (arith, less))
-names_before (v ∷ vs) us zero less = refl
-names_before (v ∷ vs) us (suc c) less = names_before vs us c (omega (arith, less))
-
-names_behind : (vs : List (Vec ArmName Global)) (v : Vec ArmName Global) → names_at (vs ++ v ∷ []) (length vs) ≡ v.items
-names_behind [] v = refl
-names_behind (u ∷ vs) v = names_behind vs v
-
-pub name_past : (os : List (Option ArmName)) (c : ℕ) → length os ≤ c → name_at os c ≡ None
-name_past [] c past = refl
-name_past (o ∷ os) zero past = absurd (omega (arith, past))
-name_past (o ∷ os) (suc c) past = name_past os c (omega (arith, past))
-
-pub name_in : (os : List (Option ArmName)) (c : ℕ) (o : Option ArmName) → c < length os → o ≡ get_or os c o → o ≡ name_at os c
-name_in [] c o less is = absurd (omega (arith, less))
-name_in (p ∷ os) zero o less is = is
-name_in (p ∷ os) (suc c) o less is = name_in os c o (omega (arith, less)) is
-
 -- one more column
 pub readings_more : (l : Layout) (q : Core) (p : Pass) (h : Held) (x : ℕ) (failed : List ℕ) (n : ℕ) (read : List (Vec ArmName Global)) (chosen : List (Option ArmName)) (v : Vec ArmName Global) (o : Option ArmName)
     → AreReadings l q p h x failed n read chosen → IsChosen l q p h x failed n o → v.items ≡ arms_read l q p h x failed n o
@@ -71,7 +49,7 @@ readings_more l q p h x failed n read chosen v o are is reads = record {
   ];
   read_is = λ c less. elim (cases_eq c n) [
     | inl at ↦ subst (λ k. names_at (read ++ v ∷ []) k ≡ arms_read l q p h x failed k (name_at (chosen ++ o ∷ []) k)) (sym at) (there ∙ reads ∙ ap (arms_read l q p h x failed n) (sym here))
-    | inr other ↦ names_before read (v ∷ []) c (let e = are.read_len in omega (arith, less, other, e)) ∙ are.read_is c (omega (arith, less, other))
+    | inr other ↦ names_before read v c (let e = are.read_len in omega (arith, less, other, e)) ∙ are.read_is c (omega (arith, less, other))
         ∙ ap (arms_read l q p h x failed c) (sym (old c (omega (arith, less, other))))
   ];
 }
@@ -80,7 +58,7 @@ readings_more l q p h x failed n read chosen v o are is reads = record {
     here = ap (name_at (chosen ++ o ∷ [])) (sym are.chosen_len) ∙ name_behind chosen o
 
     there : names_at (read ++ v ∷ []) n ≡ v.items
-    there = ap (names_at (read ++ v ∷ [])) (sym are.read_len) ∙ names_behind read v
+    there = ap (names_at (read ++ v ∷ [])) (sym are.read_len) ∙ names_last read v
 
     old : (c : ℕ) → c < n → name_at (chosen ++ o ∷ []) c ≡ name_at chosen c
     old c less = name_before chosen (o ∷ []) c (let e = are.chosen_len in omega (arith, less, e))

@@ -34,13 +34,6 @@ pub record MayLend (l : Layout) (q : Core) (p : Pass) (x : ℕ) (failed : List �
   pub taken : takes h x ≡ true
   pub fail : AllRead l q p h x failed
 
--- a leaf that answers, and keeps what belongs to a stripe for an arm of a list
-pub record IsAnswering (l : Layout) (q : Core) (names : List ArmName) (x leaf : ℕ) : Type 0 where
-  pub arm : ArmName
-  pub listed : has_name names arm ≡ true
-  pub lies : leaf_at l q.order arm x ≡ Some leaf
-  pub answers : leaf_answers q leaf ≡ true
-
 -- the readings of so many columns
 pub record AreReadings (l : Layout) (q : Core) (p : Pass) (h : Held) (x : ℕ) (failed : List ℕ) (columns : ℕ) (read : List (Vec ArmName Global)) (chosen : List (Option ArmName)) : Type 0 where
   pub read_len : length read ≡ columns

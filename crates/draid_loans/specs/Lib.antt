@@ -1,5 +1,1 @@
-pub mod Blocks
-pub mod Landings
 pub mod Lending
-pub mod Mending
-pub mod Stripes

@@ -1,55 +1,18 @@
-ghost use Rattle.std.specs.Prelude.{◌≡◌, ◌<◌, ◌+◌, ℕ, Some, true, false, IfSome, IfNone};
+ghost use Rattle.std.specs.Prelude.{◌≡◌, ◌<◌, ◌+◌, Some, true, false, IfSome, IfNone};
 ghost use Rattle.draid_machine.specs.Arms as arms;
-ghost use Rattle.draid_machine.specs.Names.{has_name, has_number};
 ghost use Rattle.draid_machine.specs.Step.{ReadsThere};
-ghost use Rattle.draid_machine.specs.declared.names.ArmName.{ArmName};
 ghost use Rattle.draid_machine.specs.declared.names.Held.{Held};
 ghost use Rattle.draid_machine.specs.declared.names.Key.{Key};
-ghost use Rattle.draid_map.specs.Place.{IsLayout};
-ghost use Rattle.draid_loans.specs.Lending.{AllRead, IsAnswering, MayLend, ReadsAt};
+ghost use Rattle.draid_loans.specs.Lending.{AllRead, MayLend, ReadsAt};
 ghost use Rattle.draid_passes.specs.Left.{AreShort};
 ghost use Rattle.draid_world.specs.World.{core_of, held_in, pass_of, site_layout};
 
 use crate::sources::source;
-use draid_machine::{ArmName, Held, Key};
+use draid_machine::{Held, Key};
 use draid_names::NUMBERS;
-use draid_passes::{is_heal, is_lent};
-use draid_world::arms::{leaf_answers, names_of};
-use draid_world::places::{leaf_at, slot_of};
+use draid_passes::{any_answers, is_heal, is_lent};
+use draid_world::arms::names_of;
 use draid_world::{Site, Tables, WorldPass};
-
-/// Whether an arm keeps what belongs to a stripe on a leaf.
-pub(crate) fn lies_at(site: &Site, tables: &Tables, name: ArmName, stripe: u64, leaf: u64) -> bool
-    requires layout { IsLayout site.now.geometry site.now.perms }
-    requires metaslab { site.now.metaslab < site.now.geometry.props.metaslabs }
-    requires stripe { stripe < NUMBERS }
-    ensures yes { result ≡ true → arms.leaf_at (site_layout site.now) (core_of tables.now).order name stripe ≡ Some leaf }
-    ensures no { result ≡ false → arms.leaf_at (site_layout site.now) (core_of tables.now).order name stripe ≡ Some leaf → ⊥ }
-{
-    match leaf_at(site, &tables.order, name, stripe) {
-        Some(found) => found == leaf,
-        None => false,
-    }
-}
-
-/// Whether some arm of a list answers at a stripe from a leaf.
-pub fn any_answers(site: &Site, tables: &Tables, names: &[ArmName], stripe: u64, leaf: u64) -> bool
-    requires layout { IsLayout site.now.geometry site.now.perms }
-    requires metaslab { site.now.metaslab < site.now.geometry.props.metaslabs }
-    requires stripe { stripe < NUMBERS }
-    ensures yes { result ≡ true → IsAnswering (site_layout site.now) (core_of tables.now) names.now stripe leaf }
-    ensures no { result ≡ false → IsAnswering (site_layout site.now) (core_of tables.now) names.now stripe leaf → ⊥ }
-{
-    if !leaf_answers(tables, leaf) {
-        return false;
-    }
-    for at in 0..names.len() {
-        if lies_at(site, tables, names[at], stripe, leaf) {
-            return true;
-        }
-    }
-    false
-}
 
 /// Whether a pass reads a column from a leaf.
 fn reads_at(
@@ -61,8 +24,6 @@ fn reads_at(
     column: u32,
     leaf: u64,
 ) -> bool
-    requires layout { IsLayout site.now.geometry site.now.perms }
-    requires metaslab { site.now.metaslab < site.now.geometry.props.metaslabs }
     requires first { held.first < NUMBERS }
     requires stripe { stripe < NUMBERS }
     requires column { column < site.now.geometry.g }
@@ -70,11 +31,11 @@ fn reads_at(
     ensures no { result ≡ false → ReadsAt (site_layout site.now) (core_of tables.now) (pass_of pass.now) held stripe column leaf → ⊥ }
 {
     if is_heal(pass.kind) {
-        let names = names_of(&tables.order, slot_of(site, held.first, column) as usize);
+        let names = names_of(&tables.order, site.slot_of(held.first, column) as usize);
         return any_answers(site, tables, names, stripe, leaf);
     }
     match source(site, tables, stripe, column) {
-        Some(name) => lies_at(site, tables, name, stripe, leaf),
+        Some(name) => site.lies_at(tables, name, stripe, leaf),
         None => false,
     }
 }
@@ -88,8 +49,6 @@ fn reads_there(
     stripe: u64,
     leaf: u64,
 ) -> bool
-    requires layout { IsLayout site.now.geometry site.now.perms }
-    requires metaslab { site.now.metaslab < site.now.geometry.props.metaslabs }
     requires first { held.first < NUMBERS }
     requires stripe { stripe < NUMBERS }
     ensures yes { result ≡ true → ReadsThere (site_layout site.now) (core_of tables.now) (pass_of pass.now) held stripe leaf }
@@ -112,8 +71,6 @@ fn reads_all(
     stripe: u64,
     leaves: &[u64],
 ) -> bool
-    requires layout { IsLayout site.now.geometry site.now.perms }
-    requires metaslab { site.now.metaslab < site.now.geometry.props.metaslabs }
     requires first { held.first < NUMBERS }
     requires stripe { stripe < NUMBERS }
     ensures yes { result ≡ true → AllRead (site_layout site.now) (core_of tables.now) (pass_of pass.now) held stripe leaves.now }
@@ -136,8 +93,6 @@ fn may_lend(
     stripe: u64,
     failed: &[u64],
 ) -> bool
-    requires layout { IsLayout site.now.geometry site.now.perms }
-    requires metaslab { site.now.metaslab < site.now.geometry.props.metaslabs }
     requires short { held.first + held.stripes < NUMBERS }
     ensures yes { result ≡ true → MayLend (site_layout site.now) (core_of tables.now) (pass_of pass.now) stripe failed.now held }
     ensures no { result ≡ false → MayLend (site_layout site.now) (core_of tables.now) (pass_of pass.now) stripe failed.now held → ⊥ }
@@ -156,8 +111,6 @@ pub(crate) fn lendable(
     stripe: u64,
     failed: &[u64],
 ) -> Option<(Key, Held)>
-    requires layout { IsLayout site.now.geometry site.now.perms }
-    requires metaslab { site.now.metaslab < site.now.geometry.props.metaslabs }
     requires short { AreShort (held_in tables.now.held.entries) }
     ensures found { IfSome result (λ e. held_in tables.now.held.entries e.0 ≡ Some e.1) }
     ensures some { IfSome result (λ e. MayLend (site_layout site.now) (core_of tables.now) (pass_of pass.now) stripe failed.now e.1) }

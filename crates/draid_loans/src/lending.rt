@@ -1,25 +1,17 @@
-ghost use Rattle.std.specs.Prelude.{◌≡◌, ◌+◌, ◌-◌, ◌<◌, ◌^◌, Ok, Some, None, true, false, length, MatchOption, IfOk};
+ghost use Rattle.std.specs.Prelude.{◌≡◌, ◌+◌, ◌-◌, ◌<◌, ◌^◌, Ok, Some, None, true, false, MatchOption, IfOk};
 ghost use Rattle.draid_machine.specs.After as after;
 ghost use Rattle.draid_machine.specs.State.{Loan, State};
 ghost use Rattle.draid_machine.specs.Step.{LendStep};
-ghost use Rattle.draid_map.specs.Place.{IsLayout};
 ghost use Rattle.draid_loans.specs.Lending.{IsLoan};
 ghost use Rattle.draid_passes.specs.Left.{AreShort};
 ghost use Rattle.draid_world.specs.World.{held_in, loan_of, site_layout, state_of};
 
 use crate::failing::lendable;
 use crate::readings::read_columns;
-use draid_names::{LAST_NUMBER, NoMemory, PassKind};
-use draid_passes::{is_heal, next_stripe};
-use draid_world::{Lent, Site, World, WorldPass};
+use draid_names::{NoMemory, PassKind};
+use draid_passes::next_stripe;
+use draid_world::{Lent, Site, World, WorldPass, capped};
 use std::alloc::Global;
-
-/// Errors and some more, which stand still at their last number.
-pub fn capped(errors: u64, more: u64) -> u64
-    ensures { result ≡ after.capped (errors + more) }
-{
-    errors.saturating_add(more).min(LAST_NUMBER)
-}
 
 /// The errors of a lend in which these calls failed.
 fn lend_errors(kind: PassKind, failed: &[u64]) -> u64
@@ -38,8 +30,6 @@ fn next_loan(
     world: &World,
     failed: &[u64],
 ) -> Result<Option<Lent>, NoMemory>
-    requires layout { IsLayout site.now.geometry site.now.perms }
-    requires metaslab { site.now.metaslab < site.now.geometry.props.metaslabs }
     requires short { AreShort (held_in world.now.tables.held.entries) }
     requires serial { world.now.serial < 2 ^ 64 - 1 }
     ensures { IfOk result (λ found. MatchOption found ((n : Loan) → IsLoan (site_layout site.now) (state_of world.now) failed.now n → ⊥)
@@ -69,8 +59,6 @@ fn next_loan(
 
 /// Lends the next stripe, or the next block, of the pass, where that is legal.
 pub fn lend(alloc: Global, site: &Site, world: &mut World, failed: &[u64]) -> Result<bool, NoMemory>
-    requires layout { IsLayout site.now.geometry site.now.perms }
-    requires metaslab { site.now.metaslab < site.now.geometry.props.metaslabs }
     requires short { AreShort (held_in world.old.tables.held.entries) }
     requires serial { world.old.serial < 2 ^ 64 - 1 }
     ensures legal { result ≡ Ok true → LendStep (site_layout site.now) (state_of world.old) failed.now (state_of world.new) }

@@ -1,16 +1,14 @@
-ghost use Rattle.std.specs.Prelude.{◌≡◌, ◌<◌, ◌&&◌, not, filter, IfOk, length};
+ghost use Rattle.std.specs.Prelude.{◌≡◌, ◌<◌, ◌&&◌, not, filter, IfOk};
 ghost use Rattle.draid_machine.specs.Arms as arms;
 ghost use Rattle.draid_machine.specs.Step as step;
-ghost use Rattle.draid_map.specs.Place.{IsLayout};
 ghost use Rattle.draid_loans.specs.Lending.{AreReadings};
-ghost use Rattle.draid_world.specs.World.{core_of, name_at, names_at, pass_of, site_layout};
+ghost use Rattle.draid_world.specs.World.{core_of, pass_of, site_layout};
 
 use crate::sources::chosen;
 use draid_machine::{ArmName, Held};
 use draid_names::{NUMBERS, NoMemory};
 use draid_passes::is_heal;
 use draid_world::arms::names_of;
-use draid_world::places::{answers, fails, slot_of};
 use draid_world::{Site, Tables, WorldPass};
 use std::alloc::Global;
 
@@ -30,15 +28,13 @@ fn answering(
     stripe: u64,
     failed: &[u64],
 ) -> Result<Vec<ArmName>, NoMemory>
-    requires layout { IsLayout site.now.geometry site.now.perms }
-    requires metaslab { site.now.metaslab < site.now.geometry.props.metaslabs }
     requires stripe { stripe < NUMBERS }
     ensures { IfOk result (λ found. found.items ≡ filter (λ n. arms.answers (site_layout site.now) (core_of tables.now) n stripe && not (arms.fails (site_layout site.now) (core_of tables.now) failed.now n stripe)) names.now) }
 {
     let mut found = Vec::new(alloc);
     for at in 0..names.len() {
-        if answers(site, tables, names[at], stripe)
-            && !fails(site, tables, failed, names[at], stripe)
+        if site.answers(tables, names[at], stripe)
+            && !site.fails(tables, failed, names[at], stripe)
         {
             found.push(names[at])?;
         }
@@ -72,8 +68,6 @@ fn read_for(
     column: u32,
     name: Option<ArmName>,
 ) -> Result<Vec<ArmName>, NoMemory>
-    requires layout { IsLayout site.now.geometry site.now.perms }
-    requires metaslab { site.now.metaslab < site.now.geometry.props.metaslabs }
     requires first { held.first < NUMBERS }
     requires stripe { stripe < NUMBERS }
     requires column { column < site.now.geometry.g }
@@ -82,7 +76,7 @@ fn read_for(
     if !is_heal(pass.kind) {
         return only(alloc, name);
     }
-    let names = names_of(&tables.order, slot_of(site, held.first, column) as usize);
+    let names = names_of(&tables.order, site.slot_of(held.first, column) as usize);
     answering(alloc, site, tables, names, stripe, failed)
 }
 
@@ -96,8 +90,6 @@ pub(crate) fn read_columns(
     stripe: u64,
     failed: &[u64],
 ) -> Result<Columns, NoMemory>
-    requires layout { IsLayout site.now.geometry site.now.perms }
-    requires metaslab { site.now.metaslab < site.now.geometry.props.metaslabs }
     requires first { held.first < NUMBERS }
     requires stripe { stripe < NUMBERS }
     ensures { IfOk result (λ columns. AreReadings (site_layout site.now) (core_of tables.now) (pass_of pass.now) held stripe failed.now site.now.geometry.g columns.read.items columns.chosen.items) }

@@ -1,8 +1,6 @@
 ghost use Rattle.std.specs.Prelude.{◌≡◌, ◌<◌, Some, true, false};
 ghost use Rattle.draid_machine.specs.Arms as arms;
-ghost use Rattle.draid_machine.specs.State.{Core};
 ghost use Rattle.draid_machine.specs.Step.{IsChosen};
-ghost use Rattle.draid_map.specs.Place.{IsLayout};
 ghost use Rattle.draid_loans.specs.Lending.{IsFrom, IsReady};
 ghost use Rattle.draid_world.specs.World.{core_of, pass_of, site_layout};
 
@@ -10,36 +8,19 @@ use draid_machine::{ArmName, Held};
 use draid_names::NUMBERS;
 use draid_passes::is_heal;
 use draid_world::arms::names_of;
-use draid_world::places::{answers, fails, slot_of};
-use draid_world::reads::reading;
 use draid_world::{Site, Tables, WorldPass};
-
-/// Whether an arm's log is empty.
-fn has_empty_log(tables: &Tables, name: ArmName) -> bool
-    ensures yes { result ≡ true → arms.HasEmptyLog (core_of tables.now) name }
-    ensures no { result ≡ false → arms.HasEmptyLog (core_of tables.now) name → ⊥ }
-{
-    match tables.arms.get(&name) {
-        Some(arm) => arm.log.runs().is_empty(),
-        None => true,
-    }
-}
 
 /// Whether an arm answers at a stripe and its log is empty.
 fn is_ready(site: &Site, tables: &Tables, name: ArmName, stripe: u64) -> bool
-    requires layout { IsLayout site.now.geometry site.now.perms }
-    requires metaslab { site.now.metaslab < site.now.geometry.props.metaslabs }
     requires stripe { stripe < NUMBERS }
     ensures yes { result ≡ true → IsReady (site_layout site.now) (core_of tables.now) stripe name }
     ensures no { result ≡ false → IsReady (site_layout site.now) (core_of tables.now) stripe name → ⊥ }
 {
-    answers(site, tables, name, stripe) && has_empty_log(tables, name)
+    site.answers(tables, name, stripe) && tables.has_empty_log(name)
 }
 
 /// The first arm of a list that answers at a stripe and whose log is empty.
 fn first_ready(site: &Site, tables: &Tables, names: &[ArmName], stripe: u64) -> Option<ArmName>
-    requires layout { IsLayout site.now.geometry site.now.perms }
-    requires metaslab { site.now.metaslab < site.now.geometry.props.metaslabs }
     requires stripe { stripe < NUMBERS }
     ensures { arms.IsFirst (IsReady (site_layout site.now) (core_of tables.now) stripe) names.now result }
 {
@@ -53,13 +34,11 @@ fn first_ready(site: &Site, tables: &Tables, names: &[ArmName], stripe: u64) -> 
 
 /// The source of a column of a stripe in a rebuild.
 pub(crate) fn source(site: &Site, tables: &Tables, stripe: u64, column: u32) -> Option<ArmName>
-    requires layout { IsLayout site.now.geometry site.now.perms }
-    requires metaslab { site.now.metaslab < site.now.geometry.props.metaslabs }
     requires stripe { stripe < NUMBERS }
     requires column { column < site.now.geometry.g }
     ensures { arms.IsSource (site_layout site.now) (core_of tables.now) stripe column result }
 {
-    let names = names_of(&tables.order, slot_of(site, stripe, column) as usize);
+    let names = names_of(&tables.order, site.slot_of(stripe, column) as usize);
     first_ready(site, tables, names, stripe)
 }
 
@@ -72,15 +51,13 @@ fn from(
     stripe: u64,
     column: u32,
 ) -> Option<ArmName>
-    requires layout { IsLayout site.now.geometry site.now.perms }
-    requires metaslab { site.now.metaslab < site.now.geometry.props.metaslabs }
     requires first { held.first < NUMBERS }
     requires stripe { stripe < NUMBERS }
     requires column { column < site.now.geometry.g }
     ensures { IsFrom (site_layout site.now) (core_of tables.now) (pass_of pass.now) held stripe column result }
 {
     if is_heal(pass.kind) {
-        return reading(site, tables, held, column);
+        return site.reading(tables, held, column);
     }
     source(site, tables, stripe, column)
 }
@@ -95,13 +72,11 @@ pub(crate) fn chosen(
     column: u32,
     failed: &[u64],
 ) -> Option<ArmName>
-    requires layout { IsLayout site.now.geometry site.now.perms }
-    requires metaslab { site.now.metaslab < site.now.geometry.props.metaslabs }
     requires first { held.first < NUMBERS }
     requires stripe { stripe < NUMBERS }
     requires column { column < site.now.geometry.g }
     ensures { IsChosen (site_layout site.now) (core_of tables.now) (pass_of pass.now) held stripe failed.now column result }
 {
     let name = from(site, tables, pass, held, stripe, column)?;
-    (!fails(site, tables, failed, name, stripe)).then_some(name)
+    (!site.fails(tables, failed, name, stripe)).then_some(name)
 }

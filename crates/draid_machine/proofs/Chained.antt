@@ -3,8 +3,7 @@
 use Rattle.std.proofs.Common.{◌≡◌, ◌≢◌, ◌+◌, ◌<◌, ◌==◌, ℕ, zero, suc, Bool, true, false, List, [], ◌∷◌, Option, Some, None, refl, sym, ◌∙◌, ap, subst, inl, arith, if◌then◌else◌}
 use Rattle.std.proofs.lemmas.Bool.{true≢false}
 use Rattle.draid_names.specs.Spares.{IsArm}
-use Rattle.draid_names.specs.declared.numbers.TheConstants.{LAST_NUMBER}
-use Rattle.draid_names.specs.declared.pass_kind.PassKind.TheVariants.{Rebuild, Heal}
+use Rattle.draid_names.specs.declared.pass_kind.PassKind.TheVariants.{Rebuild}
 use Rattle.draid_machine.specs.declared.names.Key.{Key}
 use Rattle.draid_machine.specs.declared.names.ArmName.{ArmName}
 use Rattle.draid_machine.specs.declared.names.ArmName.TheVariants.{Leaf, Spare}
@@ -14,7 +13,8 @@ use Rattle.draid_machine.specs.Arms.{has_moved, is_fresh, leaf_at, logged, targe
 use Rattle.draid_machine.specs.After.{attach_state, close_state, commit_state, done_state, ended_pass, image_of, plan_state, ready_state, seal_state, sealed_core, upgrade_state}
 use Rattle.draid_machine.specs.Created.{created}
 use Rattle.draid_machine.specs.Step.{AttachStep, CloseStep, CommitStep, DoneStep, PlanStep, ReadyStep, SealStep, UpgradeStep}
-use Rattle.draid_machine.proofs.Small.{none_some, some_injective}
+use Rattle.draid_machine.proofs.Sample.{pass_of}
+use Rattle.draid_machine.proofs.Small.{none_some}
 
 -- the spare 0 lies on slot 0 unless this has spare 1, and on slot 4 then; spare 1 lies on slot 4
 abbrev is_one : Option ℕ → Bool
@@ -189,10 +189,6 @@ s6 = record { image = image5; closing = refl; sealed = refl; made = refl }
 upgraded : (v4.version ≡ 1) × (v4.asked ≡ 2) × (v6.version ≡ 2) × (v6.image.version ≡ 2)
 upgraded = (refl, refl, refl, refl)
 
-abbrev pass_of : Option Pass → Pass
-pass_of None = record { number = 0; kind = Heal; targets = []; max = 0; next = 0; errors = 0; running = true }
-pass_of (Some p) = p
-
 abbrev v7 : State
 v7 = ready_state v6 (pass_of v6.core.pass)
 
@@ -262,7 +258,7 @@ s11 = record {
   arm_is = tt;
   unused = refl;
   room = omega arith;
-  may = λ p e kind. (subst (λ (x : Pass). x.number < LAST_NUMBER) (some_injective (pass_of v10.core.pass) p e) (omega arith), omega arith);
+  may = λ p e kind. (omega arith, omega arith);
   last_is = record { one = inl refl; open_group = omega arith; births = λ k h e. absurd (none_some None h refl e) };
   made = refl;
 }

@@ -168,7 +168,6 @@ module _ (l : Layout) (lay : IsLayout l) where
               (lost_fits l q.order w.core.last 0 (has_moved l w.core q) p (still_fits p pass));
         }) s)
         (λ p pass kind.
-        let number = (s.core.pass p pass).number in
         let numbers = may p pass kind in
         let less = numbers.0 in
         let ts = targets_of l r.core Rebuild in
@@ -176,7 +175,7 @@ module _ (l : Layout) (lay : IsLayout l) where
         (record {
           held = s.core.held;
           order = order;
-          last = omega (arith, number, less);
+          last = omega (arith, less);
           pass = λ v e. subst (PassFits l q.order (w.core.last + 1)) (some_injective (planned_pass r Rebuild ts) v e)
               (plan_fits l r Rebuild ts q.order (filter_own (is_target l r.core Rebuild) (arms_below q.order l.slots)) (λ e. numbers.1) low);
         }) s)

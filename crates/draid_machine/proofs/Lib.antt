@@ -8,6 +8,7 @@ pub mod Lent
 pub mod Listing
 pub mod Logs
 pub mod Losing
+pub mod Mended
 pub mod Moves
 pub mod Others
 pub mod Owning

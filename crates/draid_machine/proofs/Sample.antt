@@ -278,7 +278,7 @@ s14 = record { image = image_of 3 1 (sealed_core sample w12.core 3 [] false); cl
 only14 : Only w14
 only14 = only_commit w13 3 (image_of 3 1 (sealed_core sample w12.core 3 [] false)) only8
 
-abbrev pass_of : Option Pass → Pass
+abbrev pub pass_of : Option Pass → Pass
 pass_of None = record { number = 0; kind = Heal; targets = []; max = 0; next = 0; errors = 0; running = true }
 pass_of (Some p) = p
 

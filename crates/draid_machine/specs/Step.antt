@@ -143,9 +143,9 @@ pub record IsLast (w : State) (last : ℕ) : Type 0 where
   pub open_group : w.open_group ≤ last
   pub births : (k : Key) (h : Held) → w.core.held k ≡ Some h → h.birth ≤ last
 
--- a rebuild, if there is one, can be planned again
+-- a rebuild, if there is one, can be planned again: there is a number after the last, and a group after the open one
 abbrev pub MayReplan : State → Type 0
-MayReplan w = (p : Pass) → w.core.pass ≡ Some p → p.kind ≡ Rebuild → (p.number < LAST_NUMBER) × (w.open_group < LAST_NUMBER)
+MayReplan w = (p : Pass) → w.core.pass ≡ Some p → p.kind ≡ Rebuild → (w.core.last < LAST_NUMBER) × (w.open_group < LAST_NUMBER)
 
 -- Attach: a slot and an arm that are there, the arm in no slot and in no detachment that isn't committed, and room for a third at most
 pub record AttachStep (l : Layout) (w : State) (slot : ℕ) (n : ArmName) (new : State) : Type 0 where

@@ -4,12 +4,13 @@ ghost use Rattle.draid_machine.specs.Concerns.{is_freed, is_opening, object_of};
 ghost use Rattle.draid_machine.specs.Created.{IsReached, created};
 ghost use Rattle.draid_machine.specs.Step.{Run, Step};
 ghost use Rattle.draid_machine.specs.declared.event.Event.{Event};
-ghost use Rattle.draid_machine.specs.declared.event.Event.TheVariants.{Commit, Reopen, Seal};
+ghost use Rattle.draid_machine.specs.declared.event.Event.TheVariants.{Commit, LandStripe, Reopen, Seal};
 ghost use Rattle.draid_machine.specs.declared.names.Key.{Key};
 ghost use Rattle.draid_machine.specs.declared.names.Segment.{Segment};
 ghost use Rattle.draid_machine.specs.Fitting.{Fitting, KeepsLogs, LoanReads};
 ghost use Rattle.draid_machine.specs.Images.{ImagesStand, IsImage, IsThere, LiesAt, Owned};
 ghost use Rattle.draid_machine.specs.Sound.{LogSound, LogsWithin, Sound};
+ghost use Rattle.draid_machine.specs.Mended.{IsMade, IsTrusted};
 ghost use Rattle.draid_machine.specs.State.{Image, IsLayout, Layout, Loan, State};
 
 /// Law: after every legal history of a new metaslab, with failures, passes, loans that are out, crashes
@@ -99,4 +100,14 @@ pub fn events_leave_other_objects()
     ensures { (layout : Layout) (state new : State) (event : Event) (key : Key) → Step layout state event new
         → is_opening event ≡ false → (object_of event ≡ Some key.object → ⊥) → is_freed (state.core.held key) ≡ false
         → new.core.held key ≡ state.core.held key }
+{}
+
+/// Law: where the loan of a rebuild comes back, its segments on targets that answer, and on which no call
+/// failed, are present and not in doubt, if enough columns had a source and no reading that was chosen was
+/// in doubt.
+pub fn rebuilds_end_doubt()
+    ensures { (layout : Layout) (state new : State) (pass serial : ℕ) (failed : Vec ℕ Global) (loan : Loan) (segment : Segment)
+        → Step layout state (LandStripe pass serial failed) new → state.loan ≡ Some loan
+        → IsMade layout state loan failed.items segment → IsTrusted layout state loan segment
+        → (new.present segment ≡ true) × (new.aside segment ≡ false) }
 {}

@@ -1,4 +1,5 @@
+pub mod Blocks
 pub mod Ends
+pub mod Landings
 pub mod Left
 pub mod Logs
-pub mod Lying

@@ -1,4 +1,4 @@
-ghost use Rattle.std.specs.Prelude.{◌≡◌, ◌+◌, ◌<◌, ◌≤◌, ℕ, min, max, IfSome, IfNone};
+ghost use Rattle.std.specs.Prelude.{◌≡◌, ◌+◌, ◌<◌, min, max, IfSome, IfNone};
 ghost use Rattle.draid_machine.specs.Names as names;
 ghost use Rattle.draid_machine.specs.Step as step;
 ghost use Rattle.draid_passes.specs.Left.{AreShort, IsFirstLeft, NothingLeft, left_of, lower_of};

@@ -1,7 +1,6 @@
 ghost use Rattle.std.specs.Prelude.{◌≡◌, ◌<◌, ◌-◌, Ok, None, true, false};
 ghost use Rattle.draid_machine.specs.State.{State};
 ghost use Rattle.draid_machine.specs.Step.{PlanStep};
-ghost use Rattle.draid_map.specs.Place.{IsLayout};
 ghost use Rattle.draid_names.specs.declared.pass_kind.PassKind.TheVariants.{Heal, Rebuild};
 ghost use Rattle.draid_world.specs.World.{site_layout, state_of};
 
@@ -13,8 +12,6 @@ use std::alloc::Global;
 
 /// Plans a rebuild where there is no pass.
 fn plan_rebuild(alloc: Global, site: &Site, world: &mut World) -> Result<bool, NoMemory>
-    requires layout { IsLayout site.now.geometry site.now.perms }
-    requires metaslab { site.now.metaslab < site.now.geometry.props.metaslabs }
     requires idle { world.old.tables.pass ≡ None }
     requires last { world.old.tables.last < LAST_NUMBER }
     ensures legal { result ≡ Ok true → PlanStep (site_layout site.now) (state_of world.old) Rebuild (state_of world.new) }
@@ -41,8 +38,6 @@ fn plan_rebuild(alloc: Global, site: &Site, world: &mut World) -> Result<bool, N
 
 /// Begins a scrub where there is no pass.
 fn plan_heal(alloc: Global, site: &Site, world: &mut World) -> Result<bool, NoMemory>
-    requires layout { IsLayout site.now.geometry site.now.perms }
-    requires metaslab { site.now.metaslab < site.now.geometry.props.metaslabs }
     requires idle { world.old.tables.pass ≡ None }
     requires last { world.old.tables.last < LAST_NUMBER }
     ensures legal { result ≡ Ok true → PlanStep (site_layout site.now) (state_of world.old) Heal (state_of world.new) }
@@ -64,8 +59,6 @@ fn plan_heal(alloc: Global, site: &Site, world: &mut World) -> Result<bool, NoMe
 
 /// Plans a pass of a kind, where that is legal.
 pub fn plan(alloc: Global, site: &Site, world: &mut World, kind: PassKind) -> Result<bool, NoMemory>
-    requires layout { IsLayout site.now.geometry site.now.perms }
-    requires metaslab { site.now.metaslab < site.now.geometry.props.metaslabs }
     ensures legal { result ≡ Ok true → PlanStep (site_layout site.now) (state_of world.old) kind (state_of world.new) }
     ensures illegal { result ≡ Ok false → (new : State) → PlanStep (site_layout site.now) (state_of world.old) kind new → ⊥ }
 {

@@ -1,4 +1,4 @@
-ghost use Rattle.std.specs.Prelude.{◌≡◌, ◌≤◌, ℕ, Some, true, false};
+ghost use Rattle.std.specs.Prelude.{◌≡◌, Some, true, false};
 ghost use Rattle.draid_machine.specs.Names as names;
 ghost use Rattle.draid_machine.specs.State.{State};
 ghost use Rattle.draid_machine.specs.Step.{ReadyStep};

@@ -1,12 +1,10 @@
 ghost use Rattle.std.specs.Prelude.{◌≡◌, ◌<◌, ◌++◌, IfOk, OnOk, filter};
 ghost use Rattle.draid_machine.specs.Arms as arms;
-ghost use Rattle.draid_map.specs.Place.{IsLayout};
 ghost use Rattle.draid_world.specs.World.{arm_in, core_of, names_at, site_layout};
 
-use crate::lying::lies_on_silent;
 use draid_machine::ArmName;
 use draid_names::{NoMemory, PassKind};
-use draid_world::arms::{leaf_answers, names_of};
+use draid_world::arms::names_of;
 use draid_world::{Site, Tables};
 use std::alloc::Global;
 
@@ -22,14 +20,12 @@ fn is_fresh(tables: &Tables, name: ArmName) -> bool
 
 /// Whether a pass of a kind takes an arm as its target.
 fn is_target(site: &Site, tables: &Tables, kind: PassKind, name: ArmName) -> bool
-    requires layout { IsLayout site.now.geometry site.now.perms }
-    requires metaslab { site.now.metaslab < site.now.geometry.props.metaslabs }
     ensures { result ≡ arms.is_target (site_layout site.now) (core_of tables.now) kind name }
 {
     match kind {
-        PassKind::Heal => !lies_on_silent(site, tables, &[], name),
+        PassKind::Heal => !site.lies_on_silent(tables, &[], name),
         PassKind::Rebuild => match name {
-            ArmName::Leaf { leaf } => is_fresh(tables, name) && leaf_answers(tables, leaf),
+            ArmName::Leaf { leaf } => is_fresh(tables, name) && tables.leaf_answers(leaf),
             ArmName::Spare { .. } => is_fresh(tables, name),
         },
     }
@@ -43,8 +39,6 @@ fn add_targets(
     slot: usize,
     targets: &mut Vec<ArmName>,
 ) -> Result<(), NoMemory>
-    requires layout { IsLayout site.now.geometry site.now.perms }
-    requires metaslab { site.now.metaslab < site.now.geometry.props.metaslabs }
     ensures { OnOk result (targets.new.items ≡ targets.old.items ++ filter (arms.is_target (site_layout site.now) (core_of tables.now) kind) (names_at tables.now.order.items slot)) }
 {
     let names = names_of(&tables.order, slot);
@@ -63,8 +57,6 @@ pub(crate) fn targets_of(
     tables: &Tables,
     kind: PassKind,
 ) -> Result<Vec<ArmName>, NoMemory>
-    requires layout { IsLayout site.now.geometry site.now.perms }
-    requires metaslab { site.now.metaslab < site.now.geometry.props.metaslabs }
     ensures { IfOk result (λ targets. targets.items ≡ arms.targets_of (site_layout site.now) (core_of tables.now) kind) }
 {
     let mut targets = Vec::new(alloc);

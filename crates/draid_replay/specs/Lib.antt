@@ -1,3 +1,4 @@
 pub mod Creation
 pub mod History
+pub mod Kinds
 pub mod Within

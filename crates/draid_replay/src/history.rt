@@ -1,7 +1,6 @@
 ghost use Rattle.std.specs.Prelude.{◌≡◌, ◌+◌, ◌-◌, ◌<◌, ◌^◌, ℕ, All, Err, IfOk, length};
 ghost use Rattle.draid_machine.specs.Created.{IsReached};
 ghost use Rattle.draid_machine.specs.Step.{Run};
-ghost use Rattle.draid_map.specs.Place.{IsLayout};
 ghost use Rattle.draid_replay.specs.declared.history.ReplayFault.TheVariants.{NotLegal};
 ghost use Rattle.draid_replay.specs.History.{IsFirstIllegal};
 ghost use Rattle.draid_replay.specs.Within.{IsSmallEvent, IsWithin};
@@ -27,8 +26,6 @@ pub fn replay(
     start: World,
     events: &[Event],
 ) -> Result<World, ReplayFault>
-    requires layout { IsLayout site.now.geometry site.now.perms }
-    requires metaslab { site.now.metaslab < site.now.geometry.props.metaslabs }
     requires within { IsWithin (state_of start) }
     requires serial { start.serial + length events.now < 2 ^ 64 - 1 }
     requires small { All IsSmallEvent events.now }

@@ -2,7 +2,7 @@
 use Rattle.std.proofs.Common.{◌≡◌, ◌&&◌, ◌||◌, ◌++◌, Bool, true, false, List, [], ◌∷◌, refl, sym, ◌∙◌, ap, subst}
 use Rattle.draid_machine.specs.declared.names.Segment.{Segment}
 use Rattle.draid_machine.specs.Names.{has_segment, segment_eq}
-use Rattle.draid_loans.proofs.Sets.{segment_true, segments_append}
+use Rattle.draid_world.proofs.SegmentLists.{segment_true, segments_append}
 
 pub stay_skip : (test : Segment → Bool) (out left rest : List Segment) (x s : Segment) → left ≡ x ∷ rest → test x ≡ false
     → (has_segment out s || (has_segment rest s && test s)) ≡ (has_segment out s || (has_segment left s && test s))

@@ -1,4 +1,4 @@
-ghost use Rattle.std.specs.Prelude.{◌≡◌, ◌+◌, ◌<◌, ◌^◌, ◌&&◌, ◌||◌, not, true, false, IfOk};
+ghost use Rattle.std.specs.Prelude.{◌≡◌, ◌<◌, ◌&&◌, IfOk};
 ghost use Rattle.draid_machine.specs.After as after;
 ghost use Rattle.draid_machine.specs.Names.{has_segment, key_eq};
 ghost use Rattle.draid_machine.specs.declared.names.Segment.{Segment};
@@ -9,7 +9,6 @@ use crate::patches::{has_landed, was_written};
 use draid_machine::{Key, Patched, Segment};
 use draid_names::NoMemory;
 use draid_world::Tables;
-use draid_world::arms::is_logged;
 use std::alloc::Global;
 use std::collections::BTreeSet;
 
@@ -51,7 +50,7 @@ pub(crate) fn written(
 fn is_in_doubt(tables: &Tables, birth: u64, patched: &[Patched], segment: Segment) -> bool
     ensures { result ≡ is_dubious (core_of tables.now) birth patched.now segment }
 {
-    is_logged(tables, segment.arm, birth)
+    tables.is_logged(segment.arm, birth)
         && !has_landed(patched, segment.column, segment.arm, segment.row)
 }
 

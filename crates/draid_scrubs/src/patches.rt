@@ -1,18 +1,14 @@
-ghost use Rattle.std.specs.Prelude.{◌≡◌, ◌+◌, ◌<◌, ℕ, true, false};
+ghost use Rattle.std.specs.Prelude.{◌≡◌, ◌<◌, ℕ, true, false};
 ghost use Rattle.draid_machine.specs.After as after;
-ghost use Rattle.draid_machine.specs.Names.{has_name, has_number};
-ghost use Rattle.draid_machine.specs.Step.{HealsThere};
+ghost use Rattle.draid_machine.specs.Names.{has_number};
 ghost use Rattle.draid_machine.specs.declared.event.Patched.{Patched};
 ghost use Rattle.draid_machine.specs.declared.names.ArmName.{ArmName};
-ghost use Rattle.draid_map.specs.Place.{IsLayout};
 ghost use Rattle.draid_scrubs.specs.Patches.{ArmStands, EachPart, PartStands, RowStands, landed_row, wrote_row};
-ghost use Rattle.draid_world.specs.World.{core_of, names_at, site_layout};
+ghost use Rattle.draid_world.specs.World.{core_of, site_layout};
 
-use draid_loans::any_answers;
 use draid_machine::{ArmName, Held, Patched};
 use draid_names::NUMBERS;
-use draid_world::arms::{is_among, is_logged, is_same, names_of};
-use draid_world::places::{answers, fails, slot_of};
+use draid_world::arms::{is_among, is_same, names_of};
 use draid_world::{Site, Tables};
 
 /// Whether a list has a row.
@@ -67,8 +63,6 @@ pub(crate) fn has_landed(patched: &[Patched], column: u32, arm: ArmName, row: u3
 
 /// Whether a column of a block may be written on an arm: it is in the column's slot and answers.
 fn arm_stands(site: &Site, tables: &Tables, held: Held, column: u32, arm: ArmName) -> bool
-    requires layout { IsLayout site.now.geometry site.now.perms }
-    requires metaslab { site.now.metaslab < site.now.geometry.props.metaslabs }
     requires first { held.first < NUMBERS }
     ensures yes { result ≡ true → ArmStands (site_layout site.now) (core_of tables.now) held column arm }
     ensures no { result ≡ false → ArmStands (site_layout site.now) (core_of tables.now) held column arm → ⊥ }
@@ -76,8 +70,8 @@ fn arm_stands(site: &Site, tables: &Tables, held: Held, column: u32, arm: ArmNam
     if column >= site.geometry.g {
         return false;
     }
-    let names = names_of(&tables.order, slot_of(site, held.first, column) as usize);
-    is_among(names, arm) && answers(site, tables, arm, held.first)
+    let names = names_of(&tables.order, site.slot_of(held.first, column) as usize);
+    is_among(names, arm) && site.answers(tables, arm, held.first)
 }
 
 /// Whether a row of a column on an arm may have been written: it lands unless the arm's leaf failed.
@@ -90,8 +84,6 @@ fn row_stands(
     part: &Patched,
     row: u32,
 ) -> bool
-    requires layout { IsLayout site.now.geometry site.now.perms }
-    requires metaslab { site.now.metaslab < site.now.geometry.props.metaslabs }
     requires first { held.first < NUMBERS }
     ensures yes { result ≡ true → RowStands (site_layout site.now) (core_of tables.now) held failed.now patched.now part.now.column part.now.arm row }
     ensures no { result ≡ false → RowStands (site_layout site.now) (core_of tables.now) held failed.now patched.now part.now.column part.now.arm row → ⊥ }
@@ -99,7 +91,7 @@ fn row_stands(
     if row >= held.stripes || !arm_stands(site, tables, held, part.column, part.arm) {
         return false;
     }
-    fails(site, tables, failed, part.arm, held.first)
+    site.fails(tables, failed, part.arm, held.first)
         || has_landed(patched, part.column, part.arm, row)
 }
 
@@ -112,8 +104,6 @@ fn rows_stand(
     patched: &[Patched],
     part: &Patched,
 ) -> bool
-    requires layout { IsLayout site.now.geometry site.now.perms }
-    requires metaslab { site.now.metaslab < site.now.geometry.props.metaslabs }
     requires first { held.first < NUMBERS }
     ensures yes { result ≡ true → (r : ℕ) → has_number part.now.written.items r ≡ true → RowStands (site_layout site.now) (core_of tables.now) held failed.now patched.now part.now.column part.now.arm r }
     ensures no { result ≡ false → ((r : ℕ) → has_number part.now.written.items r ≡ true → RowStands (site_layout site.now) (core_of tables.now) held failed.now patched.now part.now.column part.now.arm r) → ⊥ }
@@ -150,8 +140,6 @@ fn part_stands(
     patched: &[Patched],
     part: &Patched,
 ) -> bool
-    requires layout { IsLayout site.now.geometry site.now.perms }
-    requires metaslab { site.now.metaslab < site.now.geometry.props.metaslabs }
     requires first { held.first < NUMBERS }
     ensures yes { result ≡ true → PartStands (site_layout site.now) (core_of tables.now) held failed.now patched.now part.now }
     ensures no { result ≡ false → PartStands (site_layout site.now) (core_of tables.now) held failed.now patched.now part.now → ⊥ }
@@ -167,8 +155,6 @@ pub(crate) fn parts_stand(
     failed: &[u64],
     patched: &[Patched],
 ) -> bool
-    requires layout { IsLayout site.now.geometry site.now.perms }
-    requires metaslab { site.now.metaslab < site.now.geometry.props.metaslabs }
     requires first { held.first < NUMBERS }
     ensures yes { result ≡ true → EachPart (PartStands (site_layout site.now) (core_of tables.now) held failed.now patched.now) patched.now }
     ensures no { result ≡ false → EachPart (PartStands (site_layout site.now) (core_of tables.now) held failed.now patched.now) patched.now → ⊥ }

@@ -3,7 +3,6 @@ ghost use Rattle.draid_machine.specs.After as after;
 ghost use Rattle.draid_machine.specs.State.{State};
 ghost use Rattle.draid_machine.specs.Step.{LandBlockStep, LandsBlock, Patches};
 ghost use Rattle.draid_machine.specs.declared.names.Held.{Held};
-ghost use Rattle.draid_map.specs.Place.{IsLayout};
 ghost use Rattle.draid_passes.specs.Left.{AreShort};
 ghost use Rattle.draid_scrubs.specs.Scrubs.{MayLandBlock, healed_pass, healed_state};
 ghost use Rattle.draid_world.specs.World.{core_of, held_in, loan_of, pass_of, site_layout, state_of};
@@ -11,16 +10,15 @@ ghost use Rattle.draid_world.specs.World.{core_of, held_in, loan_of, pass_of, si
 use crate::healing::{doubted, landed, of_block, written};
 use crate::patches::parts_stand;
 use crate::wholes::{all_patched, heals_all, is_whole};
-use draid_loans::{block_segments, capped, drop_all, kept, landing, put_all};
 use draid_machine::{Held, Patched};
 use draid_names::{NUMBERS, NoMemory, PassKind};
-use draid_world::{Lent, Site, Tables, World, WorldPass};
+use draid_passes::{block_segments, kept, landing};
+use draid_world::sets::{drop_all, put_all};
+use draid_world::{Lent, Site, Tables, World, WorldPass, capped};
 use std::alloc::Global;
 
 /// Whether a scrub may have written this of a readable block while calls failed on these leaves.
 fn may_heal(site: &Site, tables: &Tables, held: Held, failed: &[u64], patched: &[Patched]) -> bool
-    requires layout { IsLayout site.now.geometry site.now.perms }
-    requires metaslab { site.now.metaslab < site.now.geometry.props.metaslabs }
     requires first { held.first < NUMBERS }
     ensures yes { result ≡ true → Patches (site_layout site.now) (core_of tables.now) held failed.now patched.now }
     ensures no { result ≡ false → Patches (site_layout site.now) (core_of tables.now) held failed.now patched.now → ⊥ }
@@ -43,8 +41,6 @@ fn may_land(
     patched: &[Patched],
     unreadable: bool,
 ) -> bool
-    requires layout { IsLayout site.now.geometry site.now.perms }
-    requires metaslab { site.now.metaslab < site.now.geometry.props.metaslabs }
     requires first { held.first < NUMBERS }
     ensures yes { result ≡ true → LandsBlock (site_layout site.now) (core_of tables.now) held failed.now patched.now unreadable }
     ensures no { result ≡ false → LandsBlock (site_layout site.now) (core_of tables.now) held failed.now patched.now unreadable → ⊥ }
@@ -65,8 +61,6 @@ fn landing_block(
     patched: &[Patched],
     unreadable: bool,
 ) -> Option<Held>
-    requires layout { IsLayout site.now.geometry site.now.perms }
-    requires metaslab { site.now.metaslab < site.now.geometry.props.metaslabs }
     requires short { AreShort (held_in world.now.tables.held.entries) }
     ensures some { IfSome result (λ h. MayLandBlock (site_layout site.now) (state_of world.now) pass serial failed.now patched.now unreadable h) }
     ensures none { IfNone result ((h : Held) → MayLandBlock (site_layout site.now) (state_of world.now) pass serial failed.now patched.now unreadable h → ⊥) }
@@ -89,8 +83,6 @@ fn heal_whole(
     held: Held,
     patched: &[Patched],
 ) -> Result<(), NoMemory>
-    requires layout { IsLayout site.now.geometry site.now.perms }
-    requires metaslab { site.now.metaslab < site.now.geometry.props.metaslabs }
     requires short { held.first + held.stripes < NUMBERS }
     ensures { OnOk result (state_of world.new ≡ healed_state (site_layout site.now) (state_of world.old) (loan_of loan.now) held patched.now true) }
 {
@@ -114,8 +106,6 @@ fn heal_part(
     held: Held,
     patched: &[Patched],
 ) -> Result<(), NoMemory>
-    requires layout { IsLayout site.now.geometry site.now.perms }
-    requires metaslab { site.now.metaslab < site.now.geometry.props.metaslabs }
     requires short { held.first + held.stripes < NUMBERS }
     ensures { OnOk result (state_of world.new ≡ healed_state (site_layout site.now) (state_of world.old) (loan_of loan.now) held patched.now false) }
 {
@@ -136,8 +126,6 @@ fn pass_after(
     held: Held,
     failed: &[u64],
 ) -> Result<WorldPass, NoMemory>
-    requires layout { IsLayout site.now.geometry site.now.perms }
-    requires metaslab { site.now.metaslab < site.now.geometry.props.metaslabs }
     requires short { held.first + held.stripes < NUMBERS }
     ensures { IfOk result (λ next. pass_of next ≡ healed_pass (site_layout site.now) (core_of world.now.tables) (pass_of pass) held failed.now) }
 {
@@ -170,8 +158,6 @@ fn heal(
     patched: &[Patched],
     whole: bool,
 ) -> Result<(), NoMemory>
-    requires layout { IsLayout site.now.geometry site.now.perms }
-    requires metaslab { site.now.metaslab < site.now.geometry.props.metaslabs }
     requires short { held.first + held.stripes < NUMBERS }
     ensures { OnOk result (state_of world.new ≡ healed_state (site_layout site.now) (state_of world.old) (loan_of loan.now) held patched.now whole) }
 {
@@ -192,8 +178,6 @@ pub fn land_block(
     patched: &[Patched],
     unreadable: bool,
 ) -> Result<bool, NoMemory>
-    requires layout { IsLayout site.now.geometry site.now.perms }
-    requires metaslab { site.now.metaslab < site.now.geometry.props.metaslabs }
     requires short { AreShort (held_in world.old.tables.held.entries) }
     ensures legal { result ≡ Ok true → LandBlockStep (site_layout site.now) (state_of world.old) pass serial failed.now patched.now unreadable (state_of world.new) }
     ensures illegal { result ≡ Ok false → (new : State) → LandBlockStep (site_layout site.now) (state_of world.old) pass serial failed.now patched.now unreadable new → ⊥ }

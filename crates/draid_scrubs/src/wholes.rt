@@ -1,30 +1,26 @@
-ghost use Rattle.std.specs.Prelude.{◌≡◌, ◌+◌, ◌<◌, ℕ, true, false};
+ghost use Rattle.std.specs.Prelude.{◌≡◌, ◌<◌, ℕ, true, false};
 ghost use Rattle.draid_machine.specs.After as after;
-ghost use Rattle.draid_machine.specs.Names.{has_name, has_number};
+ghost use Rattle.draid_machine.specs.Names.{has_number};
 ghost use Rattle.draid_machine.specs.Step.{HealsThere};
 ghost use Rattle.draid_machine.specs.declared.names.ArmName.{ArmName};
-ghost use Rattle.draid_map.specs.Place.{IsLayout};
 ghost use Rattle.draid_scrubs.specs.Wholes.{AreColumnsPatched, AreColumnsWhole, AreOn, IsArmPatched, IsArmWhole};
-ghost use Rattle.draid_world.specs.World.{core_of, names_at, site_layout};
+ghost use Rattle.draid_world.specs.World.{core_of, site_layout};
 
 use crate::patches::was_written;
-use draid_loans::any_answers;
 use draid_machine::{ArmName, Held, Patched};
 use draid_names::NUMBERS;
-use draid_world::arms::{is_logged, names_of};
-use draid_world::places::{answers, fails, slot_of};
+use draid_passes::any_answers;
+use draid_world::arms::names_of;
 use draid_world::{Site, Tables};
 
 /// Whether a leaf that answers keeps a block's column for an arm of its slot.
 fn heals_there(site: &Site, tables: &Tables, held: Held, leaf: u64) -> bool
-    requires layout { IsLayout site.now.geometry site.now.perms }
-    requires metaslab { site.now.metaslab < site.now.geometry.props.metaslabs }
     requires first { held.first < NUMBERS }
     ensures yes { result ≡ true → HealsThere (site_layout site.now) (core_of tables.now) held leaf }
     ensures no { result ≡ false → HealsThere (site_layout site.now) (core_of tables.now) held leaf → ⊥ }
 {
     for column in 0..site.geometry.g {
-        let names = names_of(&tables.order, slot_of(site, held.first, column) as usize);
+        let names = names_of(&tables.order, site.slot_of(held.first, column) as usize);
         if any_answers(site, tables, names, held.first, leaf) {
             return true;
         }
@@ -34,8 +30,6 @@ fn heals_there(site: &Site, tables: &Tables, held: Held, leaf: u64) -> bool
 
 /// Whether each leaf of a list answers and keeps a block's column for an arm of its slot.
 pub(crate) fn heals_all(site: &Site, tables: &Tables, held: Held, leaves: &[u64]) -> bool
-    requires layout { IsLayout site.now.geometry site.now.perms }
-    requires metaslab { site.now.metaslab < site.now.geometry.props.metaslabs }
     requires first { held.first < NUMBERS }
     ensures yes { result ≡ true → (leaf : ℕ) → has_number leaves.now leaf ≡ true → HealsThere (site_layout site.now) (core_of tables.now) held leaf }
     ensures no { result ≡ false → ((leaf : ℕ) → has_number leaves.now leaf ≡ true → HealsThere (site_layout site.now) (core_of tables.now) held leaf) → ⊥ }
@@ -70,13 +64,11 @@ fn is_patched(
     column: u32,
     arm: ArmName,
 ) -> bool
-    requires layout { IsLayout site.now.geometry site.now.perms }
-    requires metaslab { site.now.metaslab < site.now.geometry.props.metaslabs }
     requires first { held.first < NUMBERS }
     ensures yes { result ≡ true → IsArmPatched (site_layout site.now) (core_of tables.now) held patched.now column arm }
     ensures no { result ≡ false → IsArmPatched (site_layout site.now) (core_of tables.now) held patched.now column arm → ⊥ }
 {
-    if !answers(site, tables, arm, held.first) || !is_logged(tables, arm, held.birth) {
+    if !site.answers(tables, arm, held.first) || !tables.is_logged(arm, held.birth) {
         return true;
     }
     rows_written(patched, column, arm, held.stripes)
@@ -91,8 +83,6 @@ fn names_patched(
     column: u32,
     names: &[ArmName],
 ) -> bool
-    requires layout { IsLayout site.now.geometry site.now.perms }
-    requires metaslab { site.now.metaslab < site.now.geometry.props.metaslabs }
     requires first { held.first < NUMBERS }
     ensures yes { result ≡ true → AreOn (IsArmPatched (site_layout site.now) (core_of tables.now) held patched.now column) names.now }
     ensures no { result ≡ false → AreOn (IsArmPatched (site_layout site.now) (core_of tables.now) held patched.now column) names.now → ⊥ }
@@ -107,14 +97,12 @@ fn names_patched(
 
 /// Whether each column was written on each arm that isn't clean and answers.
 pub(crate) fn all_patched(site: &Site, tables: &Tables, held: Held, patched: &[Patched]) -> bool
-    requires layout { IsLayout site.now.geometry site.now.perms }
-    requires metaslab { site.now.metaslab < site.now.geometry.props.metaslabs }
     requires first { held.first < NUMBERS }
     ensures yes { result ≡ true → AreColumnsPatched (site_layout site.now) (core_of tables.now) held patched.now (site_layout site.now).columns }
     ensures no { result ≡ false → AreColumnsPatched (site_layout site.now) (core_of tables.now) held patched.now (site_layout site.now).columns → ⊥ }
 {
     for column in 0..site.geometry.g {
-        let names = names_of(&tables.order, slot_of(site, held.first, column) as usize);
+        let names = names_of(&tables.order, site.slot_of(held.first, column) as usize);
         if !names_patched(site, tables, held, patched, column, names) {
             return false;
         }
@@ -124,16 +112,14 @@ pub(crate) fn all_patched(site: &Site, tables: &Tables, held: Held, patched: &[P
 
 /// Whether an arm that is clean for a block answers and no call on it failed.
 fn arm_is_whole(site: &Site, tables: &Tables, held: Held, failed: &[u64], arm: ArmName) -> bool
-    requires layout { IsLayout site.now.geometry site.now.perms }
-    requires metaslab { site.now.metaslab < site.now.geometry.props.metaslabs }
     requires first { held.first < NUMBERS }
     ensures yes { result ≡ true → IsArmWhole (site_layout site.now) (core_of tables.now) held failed.now arm }
     ensures no { result ≡ false → IsArmWhole (site_layout site.now) (core_of tables.now) held failed.now arm → ⊥ }
 {
-    if is_logged(tables, arm, held.birth) {
+    if tables.is_logged(arm, held.birth) {
         return true;
     }
-    answers(site, tables, arm, held.first) && !fails(site, tables, failed, arm, held.first)
+    site.answers(tables, arm, held.first) && !site.fails(tables, failed, arm, held.first)
 }
 
 /// Whether each arm of a list that is clean for a block answers and no call on it failed.
@@ -144,8 +130,6 @@ fn names_are_whole(
     failed: &[u64],
     names: &[ArmName],
 ) -> bool
-    requires layout { IsLayout site.now.geometry site.now.perms }
-    requires metaslab { site.now.metaslab < site.now.geometry.props.metaslabs }
     requires first { held.first < NUMBERS }
     ensures yes { result ≡ true → AreOn (IsArmWhole (site_layout site.now) (core_of tables.now) held failed.now) names.now }
     ensures no { result ≡ false → AreOn (IsArmWhole (site_layout site.now) (core_of tables.now) held failed.now) names.now → ⊥ }
@@ -160,14 +144,12 @@ fn names_are_whole(
 
 /// Whether the landing of a block is a whole one.
 pub(crate) fn is_whole(site: &Site, tables: &Tables, held: Held, failed: &[u64]) -> bool
-    requires layout { IsLayout site.now.geometry site.now.perms }
-    requires metaslab { site.now.metaslab < site.now.geometry.props.metaslabs }
     requires first { held.first < NUMBERS }
     ensures yes { result ≡ true → AreColumnsWhole (site_layout site.now) (core_of tables.now) held failed.now (site_layout site.now).columns }
     ensures no { result ≡ false → AreColumnsWhole (site_layout site.now) (core_of tables.now) held failed.now (site_layout site.now).columns → ⊥ }
 {
     for column in 0..site.geometry.g {
-        let names = names_of(&tables.order, slot_of(site, held.first, column) as usize);
+        let names = names_of(&tables.order, site.slot_of(held.first, column) as usize);
         if !names_are_whole(site, tables, held, failed, names) {
             return false;
         }

@@ -1,5 +1,7 @@
 -- Runs that fit, and what stands in their way.
-use Rattle.std.proofs.Common.{◌&&◌, nat_le, nat_lt, ◌≡◌, ◌<◌, ◌≤◌, ◌+◌, ℕ, sym, ◌∙◌, true, false, Some, inl, inr, arith}
+use Rattle.std.proofs.Common.{◌&&◌, nat_le, nat_lt, ◌≡◌, ◌<◌, ◌≤◌, ◌+◌, ◌-◌, ◌*◌, ◌/◌, ◌%◌, ℕ, ap, sym, ◌∙◌, true, false, Some, inl, inr, arith}
+use Rattle.std.proofs.lemmas.Nat.{div-mul-add}
+use Rattle.std.proofs.Math.Nat.{le-div_iff_mul-le, mod-add-div'}
 use Rattle.std.proofs.lemmas.Bool.{cases_lt}
 use Rattle.std.proofs.lemmas.Bool.Decides.{nat_tests}
 use Rattle.draid_names.specs.declared.pass_kind.PassKind.{PassKind}
@@ -47,3 +49,26 @@ kinds_differ kind a b = differ (sym a ∙ b)
   where
     differ : Rebuild ≡ Heal → ⊥
     differ e = absurd (cc)
+
+-- ---- groups
+-- a run from a place of a group that goes on behind the group's end ends in another
+crosses : (h q s n x : ℕ) → 0 < h → x ≡ q * h + s → s < h → h < s + n → (x + n - 1) / h ≡ x / h → ⊥
+crosses h q s n x some is less far same =
+    let at : x / h ≡ q = ap (λ m. m / h) is ∙ div-mul-add q h s less in
+    let wide : (q + 1) * h ≡ q * h + h = grind arith in
+    let upto : (q + 1) * h ≤ x + n - 1 = omega (arith, wide, is, far) in
+    let more : q + 1 ≤ (x + n - 1) / h = (le-div_iff_mul-le {k = h} {x = q + 1} {y = x + n - 1} some).1 upto in
+    absurd (omega (arith, more, same, at))
+
+-- where a run goes on behind the end of its group, it fits nowhere up to there
+pub behind_group : (l : Layout) (q : Core) (first n x : ℕ) → 0 < l.height → first ≤ x → x < first - first % l.height + l.height → first - first % l.height + l.height < first + n → Fits l q x n → ⊥
+behind_group l q first n x some from less far fits =
+    let parts : first % l.height + first / l.height * l.height ≡ first = mod-add-div' first l.height in
+    crosses l.height (first / l.height) (x - first / l.height * l.height) n x some (omega (arith, parts, from)) (omega (arith, parts, from, less)) (omega (arith, parts, from, far)) fits.group
+
+-- a run that ends in the group in which it begins
+pub in_group : (first n h : ℕ) → 0 < n → first + n ≤ first - first % h + h → (first + n - 1) / h ≡ first / h
+in_group first n h some upto =
+    let parts : first % h + first / h * h ≡ first = mod-add-div' first h in
+    let is : first + n - 1 ≡ first / h * h + (first % h + n - 1) = omega (arith, parts, some) in
+    ap (λ m. m / h) is ∙ div-mul-add (first / h) h (first % h + n - 1) (omega (arith, parts, upto, some))

@@ -5,19 +5,10 @@ use Rattle.draid_machine.specs.declared.names.Key.{Key}
 use Rattle.draid_machine.specs.declared.names.ArmName.{ArmName}
 use Rattle.draid_machine.specs.declared.names.Held.{Held}
 use Rattle.draid_machine.specs.declared.names.Segment.{Segment}
-use Rattle.draid_machine.specs.Names.{key_eq, name_eq, segment_eq, has_segment}
+use Rattle.draid_machine.specs.Names.{key_eq, name_eq, segment_eq}
 use Rattle.draid_machine.specs.State.{Layout}
 use Rattle.draid_machine.specs.Arms.{leaf_at, lies, passes}
 use Rattle.draid_steps.specs.Columns.{is_in_row}
-
-or_turned : (a b : Bool) → (a || b) ≡ (b || a)
-or_turned true true = refl
-or_turned true false = refl
-or_turned false true = refl
-or_turned false false = refl
-
-pub segment_first : (old new : List Segment) (k : Segment) → ((s : Segment) → has_segment new s ≡ (has_segment old s || segment_eq k s)) → (s : Segment) → has_segment new s ≡ (segment_eq k s || has_segment old s)
-segment_first old new k is s = is s ∙ or_turned (has_segment old s) (segment_eq k s)
 
 -- ---- a row of a column on an arm
 pub in_row : (l : Layout) (order : ℕ → List ArmName) (k : Key) (h : Held) (c : ℕ) (n : ArmName) (leaf row : ℕ) (s : Segment) (b : Bool) → Some leaf ≡ leaf_at l order n (h.first + row)

@@ -1,23 +1,21 @@
-ghost use Rattle.std.specs.Prelude.{◌≡◌, ◌<◌, ◌≤◌, ◌^◌, ◌&&◌, ◌||◌, not, true, false, ℕ, Some, IfOk, OnOk, IsOk, IsSome, ◌+◌, ◌-◌, if◌then◌else◌};
+ghost use Rattle.std.specs.Prelude.{◌≡◌, ◌<◌, ◌^◌, ◌&&◌, ◌||◌, not, true, false, Some, IfOk, OnOk, IsSome, ◌+◌, ◌-◌, if◌then◌else◌};
 ghost use Rattle.std.specs.List.{list_all, list_any};
 ghost use Rattle.draid_machine.specs.After.{each_arm, log_if, put_state};
 ghost use Rattle.draid_machine.specs.Arms as arms;
-ghost use Rattle.draid_machine.specs.Names.{has_name, has_number, key_eq, name_eq, has_segment, is_nil, segment_eq};
+ghost use Rattle.draid_machine.specs.Names.{has_name, name_eq, has_segment, is_nil};
 ghost use Rattle.draid_machine.specs.State.{State};
 ghost use Rattle.draid_machine.specs.Step.{PutStep};
 ghost use Rattle.draid_machine.specs.declared.names.ArmName.{ArmName};
 ghost use Rattle.draid_machine.specs.declared.names.Segment.{Segment};
-ghost use Rattle.draid_map.specs.Place.{IsLayout};
 ghost use Rattle.draid_steps.specs.Columns.{AreCounted, is_in_row, is_row, lands_right, MayLand};
 ghost use Rattle.draid_world.specs.World.{AreLow, arm_in, core_of, held_in, names_at, site_layout, slot_at, state_of};
 
 use draid_machine::{ArmName, Held, Key, Segment, Stage};
-use draid_names::NUMBERS;
-use draid_world::arms::{is_among, leaf_answers, names_of};
-use draid_world::places::{answers, fails, is_at, leaf_at, slot_of};
+use draid_names::{NUMBERS, NoMemory};
+use draid_world::arms::{is_among, names_of};
+use draid_world::sets::add_segment;
 use draid_world::tables::{change, find};
 use draid_world::{Arm, Site, Tables, World};
-use std::alloc::AllocError;
 use std::collections::{BTreeMap, BTreeSet};
 
 /// A column of a block on an arm.
@@ -49,12 +47,10 @@ fn is_right(
     failed: &[u64],
     name: ArmName,
 ) -> bool
-    requires layout { IsLayout site.now.geometry site.now.perms }
-    requires metaslab { site.now.metaslab < site.now.geometry.props.metaslabs }
     requires stripe { stripe < 2 ^ 49 }
     ensures { result ≡ lands_right (site_layout site.now) (core_of tables.now) stripe landed.now failed.now name }
 {
-    if answers(site, tables, name, stripe) && !fails(site, tables, failed, name, stripe) {
+    if site.answers(tables, name, stripe) && !site.fails(tables, failed, name, stripe) {
         is_among(landed, name)
     } else {
         !is_among(landed, name)
@@ -70,8 +66,6 @@ fn are_right(
     landed: &[ArmName],
     failed: &[u64],
 ) -> bool
-    requires layout { IsLayout site.now.geometry site.now.perms }
-    requires metaslab { site.now.metaslab < site.now.geometry.props.metaslabs }
     requires stripe { stripe < 2 ^ 49 }
     ensures { result ≡ list_all (lands_right (site_layout site.now) (core_of tables.now) stripe landed.now failed.now) names.now }
 {
@@ -85,13 +79,11 @@ fn are_right(
 
 /// Whether some arm of a list lies on a leaf.
 fn is_used(site: &Site, tables: &Tables, stripe: u64, names: &[ArmName], leaf: u64) -> bool
-    requires layout { IsLayout site.now.geometry site.now.perms }
-    requires metaslab { site.now.metaslab < site.now.geometry.props.metaslabs }
     requires stripe { stripe < 2 ^ 49 }
     ensures { result ≡ list_any (λ n. arms.lies (site_layout site.now) (core_of tables.now).order n stripe leaf) names.now }
 {
     for at in 0..names.len() {
-        if is_at(site, &tables.order, names[at], stripe, leaf) {
+        if site.is_at(&tables.order, names[at], stripe, leaf) {
             return true;
         }
     }
@@ -100,13 +92,11 @@ fn is_used(site: &Site, tables: &Tables, stripe: u64, names: &[ArmName], leaf: u
 
 /// Whether each leaf answers and has an arm of a list.
 fn are_used(site: &Site, tables: &Tables, stripe: u64, names: &[ArmName], leaves: &[u64]) -> bool
-    requires layout { IsLayout site.now.geometry site.now.perms }
-    requires metaslab { site.now.metaslab < site.now.geometry.props.metaslabs }
     requires stripe { stripe < 2 ^ 49 }
     ensures { result ≡ list_all (λ leaf. list_any (λ n. arms.lies (site_layout site.now) (core_of tables.now).order n stripe leaf) names.now && arms.leaf_answers (core_of tables.now) leaf) leaves.now }
 {
     for at in 0..leaves.len() {
-        if !is_used(site, tables, stripe, names, leaves[at]) || !leaf_answers(tables, leaves[at]) {
+        if !is_used(site, tables, stripe, names, leaves[at]) || !tables.leaf_answers(leaves[at]) {
             return false;
         }
     }
@@ -114,11 +104,7 @@ fn are_used(site: &Site, tables: &Tables, stripe: u64, names: &[ArmName], leaves
 }
 
 /// Logs a group for an arm, if it is known.
-pub fn log_arm(
-    arms: &mut BTreeMap<ArmName, Arm>,
-    name: ArmName,
-    group: u64,
-) -> Result<(), AllocError>
+pub fn log_arm(arms: &mut BTreeMap<ArmName, Arm>, name: ArmName, group: u64) -> Result<(), NoMemory>
     requires group { group < NUMBERS }
     ensures { OnOk result ((n : ArmName) → arm_in arms.new.entries n ≡ each_arm (λ m. log_if (name_eq name m) group) (arm_in arms.old.entries) n) }
 {
@@ -136,7 +122,7 @@ fn log_unless(
     landed: &[ArmName],
     name: ArmName,
     group: u64,
-) -> Result<(), AllocError>
+) -> Result<(), NoMemory>
     requires group { group < NUMBERS }
     ensures { OnOk result ((n : ArmName) → arm_in arms.new.entries n
         ≡ each_arm (λ m. log_if (name_eq name m && not (has_name landed.now m)) group) (arm_in arms.old.entries) n) }
@@ -153,7 +139,7 @@ pub fn log_missed(
     names: &[ArmName],
     landed: &[ArmName],
     group: u64,
-) -> Result<(), AllocError>
+) -> Result<(), NoMemory>
     requires group { group < NUMBERS }
     ensures { OnOk result ((n : ArmName) → arm_in arms.new.entries n
         ≡ each_arm (λ m. log_if (has_name names.now m && not (has_name landed.now m)) group) (arm_in arms.old.entries) n) }
@@ -170,7 +156,7 @@ pub fn log_slot(
     slot: usize,
     landed: &[ArmName],
     group: u64,
-) -> Result<(), AllocError>
+) -> Result<(), NoMemory>
     requires group { group < NUMBERS }
     ensures logs { OnOk result ((n : ArmName) → arm_in tables.new.arms.entries n
         ≡ each_arm (λ m. log_if (has_name (names_at tables.old.order.items slot) m && not (has_name landed.now m)) group) (arm_in tables.old.arms.entries) n) }
@@ -184,14 +170,6 @@ pub fn log_slot(
     )
 }
 
-/// A segment joins a set.
-pub fn add_segment(segments: &mut BTreeSet<Segment>, segment: Segment) -> Result<(), AllocError>
-    ensures { OnOk result ((s : Segment) → has_segment segments.new.keys s ≡ (segment_eq segment s || has_segment segments.old.keys s)) }
-{
-    segments.insert(segment)?;
-    Ok(())
-}
-
 /// The segment of a column on an arm in a row joins a set, where the arm keeps it on a leaf.
 fn add_row(
     site: &Site,
@@ -200,14 +178,12 @@ fn add_row(
     held: &Held,
     part: ArmColumn,
     row: u32,
-) -> Result<(), AllocError>
-    requires layout { IsLayout site.now.geometry site.now.perms }
-    requires metaslab { site.now.metaslab < site.now.geometry.props.metaslabs }
+) -> Result<(), NoMemory>
     requires first { held.now.first < NUMBERS }
     ensures { OnOk result ((s : Segment) → has_segment segments.new.keys s
         ≡ (has_segment segments.old.keys s || is_in_row (site_layout site.now) (names_at order.now) part.key held.now part.column part.arm row s)) }
 {
-    let Some(leaf) = leaf_at(site, order, part.arm, held.first + u64::from(row)) else {
+    let Some(leaf) = site.leaf_at(order, part.arm, held.first + u64::from(row)) else {
         return Ok(());
     };
     add_segment(
@@ -229,9 +205,7 @@ pub fn add_rows(
     segments: &mut BTreeSet<Segment>,
     held: &Held,
     part: ArmColumn,
-) -> Result<(), AllocError>
-    requires layout { IsLayout site.now.geometry site.now.perms }
-    requires metaslab { site.now.metaslab < site.now.geometry.props.metaslabs }
+) -> Result<(), NoMemory>
     requires first { held.now.first < NUMBERS }
     ensures { OnOk result ((s : Segment) → has_segment segments.new.keys s
         ≡ (has_segment segments.old.keys s || is_row (site_layout site.now) (names_at order.now) part.key held.now part.column part.arm held.now.stripes s)) }
@@ -251,9 +225,7 @@ pub fn add_landed(
     held: &Held,
     column: u32,
     landed: &[ArmName],
-) -> Result<(), AllocError>
-    requires layout { IsLayout site.now.geometry site.now.perms }
-    requires metaslab { site.now.metaslab < site.now.geometry.props.metaslabs }
+) -> Result<(), NoMemory>
     requires first { held.now.first < NUMBERS }
     ensures { OnOk result ((s : Segment) → has_segment segments.new.keys s
         ≡ (has_segment segments.old.keys s || list_any (λ n. is_row (site_layout site.now) (names_at order.now) key held.now column n held.now.stripes s) landed.now)) }
@@ -278,14 +250,12 @@ fn may_land(
     landed: &[ArmName],
     failed: &[u64],
 ) -> bool
-    requires layout { IsLayout site.now.geometry site.now.perms }
-    requires metaslab { site.now.metaslab < site.now.geometry.props.metaslabs }
     requires first { held.now.first < NUMBERS }
     requires column { column < site.now.geometry.g }
     ensures yes { result ≡ true → MayLand (site_layout site.now) (core_of tables.now) held.now column landed.now failed.now }
     ensures no { result ≡ false → MayLand (site_layout site.now) (core_of tables.now) held.now column landed.now failed.now → ⊥ }
 {
-    let names = names_of(&tables.order, slot_of(site, held.first, column) as usize);
+    let names = names_of(&tables.order, site.slot_of(held.first, column) as usize);
     if !are_listed(names, landed) {
         return false;
     }
@@ -315,9 +285,7 @@ fn write_column(
     held: &Held,
     stage: (u32, u32),
     landed: &[ArmName],
-) -> Result<(), AllocError>
-    requires layout { IsLayout site.now.geometry site.now.perms }
-    requires metaslab { site.now.metaslab < site.now.geometry.props.metaslabs }
+) -> Result<(), NoMemory>
     requires first { held.now.first < NUMBERS }
     requires birth { held.now.birth < NUMBERS }
     requires column { stage.0 < site.now.geometry.g }
@@ -328,7 +296,7 @@ fn write_column(
     ensures { OnOk result (state_of world.new ≡ put_state (site_layout site.now) (state_of world.old) key landed.now held.now stage.0 stage.1) }
 {
     let (column, missed) = stage;
-    let slot = slot_of(site, held.first, column) as usize;
+    let slot = site.slot_of(held.first, column) as usize;
     log_slot(&mut world.tables, slot, landed, held.birth)?;
     add_landed(
         site,
@@ -355,9 +323,7 @@ pub fn put(
     key: Key,
     landed: &[ArmName],
     failed: &[u64],
-) -> Result<bool, AllocError>
-    requires layout { IsLayout site.now.geometry site.now.perms }
-    requires metaslab { site.now.metaslab < site.now.geometry.props.metaslabs }
+) -> Result<bool, NoMemory>
     requires low { AreLow (core_of world.old.tables) }
     requires counted { AreCounted (core_of world.old.tables) }
     ensures legal { IfOk result (λ b. b ≡ true → PutStep (site_layout site.now) (state_of world.old) key landed.now failed.now (state_of world.new)) }

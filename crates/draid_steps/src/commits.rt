@@ -6,15 +6,14 @@ ghost use Rattle.draid_machine.specs.Step.{CommitStep};
 ghost use Rattle.draid_machine.specs.declared.names.ArmName.{ArmName};
 ghost use Rattle.draid_machine.specs.declared.names.Key.{Key};
 ghost use Rattle.draid_machine.specs.declared.names.Segment.{Segment};
-ghost use Rattle.draid_map.specs.Place.{IsLayout};
 ghost use Rattle.draid_world.specs.World.{AreLow, arm_in, arm_of, core_of, held_in, kept_in, loan_of, site_layout, state_of};
 
-use crate::columns::add_segment;
 use draid_machine::{ArmName, Held, Key, Segment, Stage};
-use draid_world::places::is_at_place;
+use draid_names::NoMemory;
+use draid_world::sets::add_segment;
 use draid_world::tables::{find, kept_for};
 use draid_world::{Arm, Lent, Site, Tables, World};
-use std::alloc::{AllocError, Global};
+use std::alloc::Global;
 use std::collections::{BTreeMap, BTreeSet};
 
 /// Whether a block is freed in a group up to one.
@@ -59,8 +58,6 @@ fn is_kept_by(kept: &BTreeMap<Segment, u64>, segment: Segment, group: u64) -> bo
 
 /// Whether a segment stays as a group is committed.
 fn is_staying(site: &Site, world: &World, segment: &Segment, group: u64) -> bool
-    requires layout { IsLayout site.now.geometry site.now.perms }
-    requires metaslab { site.now.metaslab < site.now.geometry.props.metaslabs }
     requires low { AreLow (core_of world.now.tables) }
     ensures { result ≡ after.stays (site_layout site.now) group (state_of world.now) segment.now }
 {
@@ -69,7 +66,7 @@ fn is_staying(site: &Site, world: &World, segment: &Segment, group: u64) -> bool
     }
     let tables = &world.tables;
     !is_kept_by(&world.kept, *segment, group)
-        || is_at_place(site, &tables.order, &tables.held, segment)
+        || site.is_at_place(&tables.order, &tables.held, segment)
 }
 
 /// A segment joins a set, if it stays as a group is committed.
@@ -79,9 +76,7 @@ fn add_staying(
     set: &mut BTreeSet<Segment>,
     segment: Segment,
     group: u64,
-) -> Result<(), AllocError>
-    requires layout { IsLayout site.now.geometry site.now.perms }
-    requires metaslab { site.now.metaslab < site.now.geometry.props.metaslabs }
+) -> Result<(), NoMemory>
     requires low { AreLow (core_of world.now.tables) }
     ensures { OnOk result ((s : Segment) → has_segment set.new.keys s
         ≡ ((segment_eq segment s && after.stays (site_layout site.now) group (state_of world.now) s) || has_segment set.old.keys s)) }
@@ -99,9 +94,7 @@ fn staying_of(
     world: &World,
     set: &BTreeSet<Segment>,
     group: u64,
-) -> Result<BTreeSet<Segment>, AllocError>
-    requires layout { IsLayout site.now.geometry site.now.perms }
-    requires metaslab { site.now.metaslab < site.now.geometry.props.metaslabs }
+) -> Result<BTreeSet<Segment>, NoMemory>
     requires low { AreLow (core_of world.now.tables) }
     ensures { IfOk result (λ staying. (s : Segment) → has_segment staying.keys s
         ≡ (has_segment set.now.keys s && after.stays (site_layout site.now) group (state_of world.now) s)) }
@@ -151,9 +144,7 @@ fn end_loan(tables: &Tables, loan: &mut Option<Lent>, group: u64)
 }
 
 /// Commits the sealed group, where that is legal.
-pub fn commit(alloc: Global, site: &Site, world: &mut World, group: u64) -> Result<bool, AllocError>
-    requires layout { IsLayout site.now.geometry site.now.perms }
-    requires metaslab { site.now.metaslab < site.now.geometry.props.metaslabs }
+pub fn commit(alloc: Global, site: &Site, world: &mut World, group: u64) -> Result<bool, NoMemory>
     requires low { AreLow (core_of world.old.tables) }
     ensures legal { IfOk result (λ b. b ≡ true → CommitStep (site_layout site.now) (state_of world.old) group (state_of world.new)) }
     ensures illegal { IfOk result (λ b. b ≡ false → (new : State) → CommitStep (site_layout site.now) (state_of world.old) group new → ⊥) }

@@ -1,6 +1,6 @@
-ghost use Rattle.std.specs.Prelude.{◌≡◌, ◌+◌, ◌<◌, ◌≤◌, true, false, IsTrue};
+ghost use Rattle.std.specs.Prelude.{◌≡◌, ◌+◌, ◌<◌, true, false};
 ghost use Rattle.draid_machine.specs.State.{State};
-ghost use Rattle.draid_machine.specs.Step.{CancelStep, CloseStep, UpgradeStep};
+ghost use Rattle.draid_machine.specs.Step.{CloseStep, UpgradeStep};
 ghost use Rattle.draid_world.specs.World.{state_of};
 
 use draid_names::{LAST_NUMBER, NUMBERS};
@@ -29,18 +29,5 @@ pub fn close(world: &mut World, group: u64) -> bool
     }
     world.closing = Some(group);
     world.open_group = group + 1;
-    true
-}
-
-/// Ends the pass, if there is one.
-pub fn cancel(world: &mut World) -> bool
-    ensures legal { result ≡ true → CancelStep (state_of world.old) (state_of world.new) }
-    ensures illegal { result ≡ false → (new : State) → CancelStep (state_of world.old) new → ⊥ }
-{
-    if world.tables.pass.is_none() {
-        return false;
-    }
-    world.tables.pass = None;
-    world.loan = None;
     true
 }

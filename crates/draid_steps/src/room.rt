@@ -1,8 +1,7 @@
-ghost use Rattle.std.specs.Prelude.{◌≡◌, ◌+◌, ◌<◌, ◌≤◌, ◌^◌, true, false, ℕ, Some, IfNone, IfSome, IsSome};
-ghost use Rattle.draid_machine.specs.Step.{Fits, IsTaken};
-ghost use Rattle.draid_map.specs.Place.{IsLayout};
+ghost use Rattle.std.specs.Prelude.{◌≡◌, ◌+◌, ◌<◌, ◌≤◌, ◌^◌, true, false, ℕ, Some, IfNone, IfSome};
+ghost use Rattle.draid_machine.specs.Step.{Fits};
 ghost use Rattle.draid_machine.specs.declared.names.Key.{Key};
-ghost use Rattle.draid_steps.specs.Room.{first_meeting, meets};
+ghost use Rattle.draid_steps.specs.Room.{meets};
 ghost use Rattle.draid_world.specs.World.{AreLow, core_of, held_in, site_layout};
 
 use draid_machine::{Held, Key};
@@ -36,9 +35,9 @@ fn meeting(held: &BTreeMap<Key, Held>, first: u64, stripes: u32) -> Option<Held>
     None
 }
 
-/// The lowest place from one on at which a run may fit: that place itself exactly if the run fits there.
+/// The lowest place from one on at which a run may fit: that place itself exactly if the run fits there, else the end of its group or of
+/// what stands in its way.
 fn next_place(site: &Site, tables: &Tables, first: u64, stripes: u32) -> u64
-    requires layout { IsLayout site.now.geometry site.now.perms }
     requires low { AreLow (core_of tables.now) }
     requires some { 0 < stripes }
     requires first { first < NUMBERS }
@@ -48,10 +47,14 @@ fn next_place(site: &Site, tables: &Tables, first: u64, stripes: u32) -> u64
     ensures before { (x : ℕ) → first ≤ x → x < result → Fits (site_layout site.now) (core_of tables.now) x stripes → ⊥ }
 {
     let height = u64::from(site.geometry.props.height);
-    let all = site.geometry.metaslab_stripes();
-    let end = first + u64::from(stripes);
-    if end > all || (end - 1) / height != first / height {
-        return first + 1;
+    let run = u64::from(stripes);
+    let end = first + run;
+    if run > height || end > site.stripes() {
+        return NUMBERS;
+    }
+    let group_end = first - first % height + height;
+    if end > group_end {
+        return group_end;
     }
     match meeting(&tables.held, first, stripes) {
         Some(held) => held.first + u64::from(held.stripes),
@@ -59,9 +62,8 @@ fn next_place(site: &Site, tables: &Tables, first: u64, stripes: u32) -> u64
     }
 }
 
-/// Whether a place is the lowest at which a run fits.
+/// Whether a place is the lowest at which a run fits. The places in between are passed by leaps.
 pub fn is_lowest(site: &Site, tables: &Tables, first: u64, stripes: u32) -> bool
-    requires layout { IsLayout site.now.geometry site.now.perms }
     requires low { AreLow (core_of tables.now) }
     requires some { 0 < stripes }
     requires first { first < NUMBERS }
@@ -71,13 +73,12 @@ pub fn is_lowest(site: &Site, tables: &Tables, first: u64, stripes: u32) -> bool
         → ((x : ℕ) → x < first → Fits (site_layout site.now) (core_of tables.now) x stripes → ⊥) → ⊥ }
 {
     let mut next = 0;
-    for place in 0..first {
-        if place >= next {
-            next = next_place(site, tables, place, stripes);
-            if next == place {
-                return false;
-            }
+    while next < first {
+        let found = next_place(site, tables, next, stripes);
+        if found == next {
+            return false;
         }
+        next = found;
     }
-    next_place(site, tables, first, stripes) == first
+    next == first && next_place(site, tables, first, stripes) == first
 }

@@ -2,15 +2,13 @@ ghost use Rattle.std.specs.Prelude.{◌≡◌, ◌<◌, true, false, IfOk};
 ghost use Rattle.draid_names.specs.Numbers as numbers;
 ghost use Rattle.draid_machine.specs.State.{State};
 ghost use Rattle.draid_machine.specs.Step.{BeginStep, HoldsFewer, IsEnabled};
-ghost use Rattle.draid_map.specs.Place.{IsLayout};
 ghost use Rattle.draid_world.specs.World.{AreLow, core_of, site_layout, state_of};
 
 use crate::room::is_lowest;
 use draid_machine::{Held, Key};
-use draid_names::{NUMBERS, PassKind, most_held};
+use draid_names::{NUMBERS, NoMemory, PassKind, most_held};
 use draid_world::tables::{enter, find};
 use draid_world::{Site, Tables, World};
-use std::alloc::AllocError;
 
 /// Whether the pass, if any, isn't a rebuild.
 fn is_enabled(tables: &Tables) -> bool
@@ -35,8 +33,7 @@ fn has_room(tables: &Tables, version: u32) -> bool
 }
 
 /// Opens a ticket, where that is legal.
-pub fn begin(site: &Site, world: &mut World, key: Key, held: Held) -> Result<bool, AllocError>
-    requires layout { IsLayout site.now.geometry site.now.perms }
+pub fn begin(site: &Site, world: &mut World, key: Key, held: Held) -> Result<bool, NoMemory>
     requires low { AreLow (core_of world.old.tables) }
     requires group { world.old.open_group < NUMBERS }
     requires first { held.first < NUMBERS }

@@ -1,6 +1,6 @@
 //! Tests of the crates of devices: how they fail, the racks of sectors, the areas of bytes, the shelf that keeps both
-//! between two runs, and the records that stand on them. It offers nothing; a module is named after the crate that it
-//! tests.
+//! between two runs, and the records and the uberblock that stand on them. It offers nothing; a module is named after
+//! the crate that it tests.
 
 #![tactic(auto)]
 
@@ -14,3 +14,5 @@ mod rack;
 mod record;
 #[cfg(test)]
 mod shelf;
+#[cfg(test)]
+mod uber;

@@ -1,21 +1,36 @@
-ghost use Rattle.std.specs.Prelude.{◌≡◌, ◌<◌, ◌^◌, IfOk, OnOk, All, length};
-ghost use Rattle.draid_map.specs.Place.{IsLayout};
+ghost use Rattle.std.specs.Prelude.{◌<◌, ◌^◌, IfOk, OnOk, All, length};
 ghost use Rattle.draid_replay.specs.Within.{IsSmallEvent};
 
 use draid_machine::{ArmName, Event, FewArms, FewLeaves, Key};
 use draid_names::{NoMemory, PassKind};
 use draid_perm::Perms;
 use draid_replay::{ReplayFault, new_world, replay};
-use draid_spec::{Geometry, Props, geometry, parse_spec};
-use draid_world::places::{home, slot_of};
+use draid_spec::{Props, SpecFault, geometry, parse_spec};
 use draid_world::{Site, World};
 use std::alloc::Global;
 use std::test::Fail;
 
+/// The only metaslab of a pool of version 1 with this layout.
+fn site_of(spec: &[u8], children: u32) -> Result<Site, SpecFault> {
+    let props = Props {
+        sector: 512,
+        height: 8,
+        metaslabs: 1,
+        slices: 1,
+        seed: 1,
+        version: 1,
+    };
+    let spec = parse_spec(spec, children, 1)?;
+    let layout = geometry(spec, props)?;
+    Ok(Site {
+        perms: Perms::new(layout.spec.children, layout.props.seed),
+        geometry: layout,
+        metaslab: 0,
+    })
+}
+
 /// What becomes of a new metaslab of version 1 by these events, or the fault.
 fn world_after(alloc: Global, site: &Site, events: &[Event]) -> Result<World, ReplayFault>
-    requires layout { IsLayout site.now.geometry site.now.perms }
-    requires metaslab { site.now.metaslab < site.now.geometry.props.metaslabs }
     requires small { All IsSmallEvent events.now }
     requires few { length events.now < 2 ^ 32 }
 {
@@ -27,8 +42,6 @@ fn world_after(alloc: Global, site: &Site, events: &[Event]) -> Result<World, Re
 
 /// The open group behind these events of a new metaslab, or the fault.
 fn open_group_after(alloc: Global, site: &Site, events: &[Event]) -> Result<u64, ReplayFault>
-    requires layout { IsLayout site.now.geometry site.now.perms }
-    requires metaslab { site.now.metaslab < site.now.geometry.props.metaslabs }
     requires small { All IsSmallEvent events.now }
     requires few { length events.now < 2 ^ 32 }
 {
@@ -38,10 +51,7 @@ fn open_group_after(alloc: Global, site: &Site, events: &[Event]) -> Result<u64,
 
 /// The answers to no event, to a commit alone, to a landing alone, and to a group that is closed, sealed and
 /// committed, with its seal and without.
-fn answers(alloc: Global, site: &Site) -> [Result<u64, ReplayFault>; 5]
-    requires layout { IsLayout site.now.geometry site.now.perms }
-    requires metaslab { site.now.metaslab < site.now.geometry.props.metaslabs }
-{
+fn answers(alloc: Global, site: &Site) -> [Result<u64, ReplayFault>; 5] {
     let seal = || Event::Seal {
         group: 2,
         failed: Vec::new(alloc),
@@ -84,12 +94,10 @@ fn add(events: &mut Vec<Event>, event: Event) -> Result<(), NoMemory>
 
 /// The column of a block on stripe 0 lands on the leaf of its slot.
 fn put(site: &Site, key: Key, column: u32) -> Event
-    requires layout { IsLayout site.now.geometry site.now.perms }
-    requires metaslab { site.now.metaslab < site.now.geometry.props.metaslabs }
     requires column { column < site.now.geometry.g }
     ensures { IsSmallEvent result }
 {
-    let slot = slot_of(site, 0, column);
+    let slot = site.slot_of(0, column);
     Event::Put {
         key,
         landed: FewArms::one(ArmName::Leaf {
@@ -144,8 +152,6 @@ fn begin(key: Key, first: u64, birth: u64) -> Event
 
 /// A block is written, read, damaged and committed in group 2.
 fn add_write(alloc: Global, site: &Site, events: &mut Vec<Event>) -> Result<(), NoMemory>
-    requires layout { IsLayout site.now.geometry site.now.perms }
-    requires metaslab { site.now.metaslab < site.now.geometry.props.metaslabs }
     requires before { All IsSmallEvent events.old.items }
     ensures behind { OnOk result (All IsSmallEvent events.new.items) }
 {
@@ -179,68 +185,33 @@ fn add_rebuild(
     events: &mut Vec<Event>,
     commits: bool,
 ) -> Result<(), NoMemory>
-    requires layout { IsLayout site.now.geometry site.now.perms }
-    requires metaslab { site.now.metaslab < site.now.geometry.props.metaslabs }
     requires columns { 0 < site.now.geometry.g }
     requires before { All IsSmallEvent events.old.items }
     ensures behind { OnOk result (All IsSmallEvent events.new.items) }
 {
-    let slot = slot_of(site, 0, 0);
+    let slot = site.slot_of(0, 0);
     let leaf = u64::from(slot);
     let arm = ArmName::Spare { spare: 0 };
+    let kind = PassKind::Rebuild;
     add(events, Event::Offline { leaf })?;
     add(events, Event::Attach { slot, arm })?;
-    add(
-        events,
-        Event::Plan {
-            kind: PassKind::Rebuild,
-        },
-    )?;
+    add(events, Event::Plan { kind })?;
     add_group(alloc, events, 3, commits)?;
     add(events, Event::Ready)?;
-    add(
-        events,
-        Event::Lend {
-            failed: Vec::new(alloc),
-        },
-    )?;
-    add(
-        events,
-        Event::LandStripe {
-            pass: 1,
-            serial: 1,
-            failed: Vec::new(alloc),
-        },
-    )?;
-    add(
-        events,
-        Event::Done {
-            failed: Vec::new(alloc),
-        },
-    )?;
+    add_stripe(alloc, events, 1, 1)?;
     add(events, Event::Detach { slot, arm })?;
     add(events, Event::Online { leaf })
 }
 
-/// A scrub goes over the block, which is then freed; a second write is given up, a second scrub is cancelled, and
-/// the metaslab is opened again from group 3.
+/// A scrub goes over the block.
 fn add_scrub(alloc: Global, events: &mut Vec<Event>) -> Result<(), NoMemory>
     requires before { All IsSmallEvent events.old.items }
     ensures behind { OnOk result (All IsSmallEvent events.new.items) }
 {
-    let other = Key { object: 8, seq: 2 };
-    add(
-        events,
-        Event::Plan {
-            kind: PassKind::Heal,
-        },
-    )?;
-    add(
-        events,
-        Event::Lend {
-            failed: Vec::new(alloc),
-        },
-    )?;
+    let kind = PassKind::Heal;
+    add(events, Event::Plan { kind })?;
+    let failed = Vec::new(alloc);
+    add(events, Event::Lend { failed })?;
     add(
         events,
         Event::LandBlock {
@@ -251,21 +222,22 @@ fn add_scrub(alloc: Global, events: &mut Vec<Event>) -> Result<(), NoMemory>
             unreadable: false,
         },
     )?;
-    add(
-        events,
-        Event::Done {
-            failed: Vec::new(alloc),
-        },
-    )?;
+    let failed = Vec::new(alloc);
+    add(events, Event::Done { failed })
+}
+
+/// The block is freed; a second write is given up, a second scrub is cancelled, and the metaslab is opened again from
+/// group 3.
+fn add_opening(alloc: Global, events: &mut Vec<Event>) -> Result<(), NoMemory>
+    requires before { All IsSmallEvent events.old.items }
+    ensures behind { OnOk result (All IsSmallEvent events.new.items) }
+{
+    let other = Key { object: 8, seq: 2 };
+    let kind = PassKind::Heal;
     add(events, Event::Free { key: KEY, group: 4 })?;
     add(events, begin(other, 1, 4))?;
     add(events, Event::Abort { key: other })?;
-    add(
-        events,
-        Event::Plan {
-            kind: PassKind::Heal,
-        },
-    )?;
+    add(events, Event::Plan { kind })?;
     add(events, Event::Cancel)?;
     add(
         events,
@@ -278,8 +250,6 @@ fn add_scrub(alloc: Global, events: &mut Vec<Event>) -> Result<(), NoMemory>
 
 /// A history with every kind of event; without the commit of group 3, if it shall.
 fn all_kinds(alloc: Global, site: &Site, commits: bool) -> Result<Vec<Event>, NoMemory>
-    requires layout { IsLayout site.now.geometry site.now.perms }
-    requires metaslab { site.now.metaslab < site.now.geometry.props.metaslabs }
     requires columns { 0 < site.now.geometry.g }
     ensures { IfOk result (λ events. All IsSmallEvent events.items) }
 {
@@ -287,14 +257,12 @@ fn all_kinds(alloc: Global, site: &Site, commits: bool) -> Result<Vec<Event>, No
     add_write(alloc, site, &mut events)?;
     add_rebuild(alloc, site, &mut events, commits)?;
     add_scrub(alloc, &mut events)?;
+    add_opening(alloc, &mut events)?;
     Ok(events)
 }
 
 /// The open group behind that history.
-fn open_group_behind_all(alloc: Global, site: &Site, commits: bool) -> Result<u64, ReplayFault>
-    requires layout { IsLayout site.now.geometry site.now.perms }
-    requires metaslab { site.now.metaslab < site.now.geometry.props.metaslabs }
-{
+fn open_group_behind_all(alloc: Global, site: &Site, commits: bool) -> Result<u64, ReplayFault> {
     if site.geometry.g == 0 {
         return Err(ReplayFault::NoMemory);
     }
@@ -354,13 +322,11 @@ fn add_stripe(
 
 /// Version 2 is asked for, a block is written, and a spare is rebuilt behind group 3.
 fn add_spare(alloc: Global, site: &Site, events: &mut Vec<Event>) -> Result<(), NoMemory>
-    requires layout { IsLayout site.now.geometry site.now.perms }
-    requires metaslab { site.now.metaslab < site.now.geometry.props.metaslabs }
     requires columns { 0 < site.now.geometry.g }
     requires before { All IsSmallEvent events.old.items }
     ensures behind { OnOk result (All IsSmallEvent events.new.items) }
 {
-    let slot = slot_of(site, 0, 0);
+    let slot = site.slot_of(0, 0);
     let arm = ArmName::Spare { spare: 0 };
     add(events, Event::Upgrade)?;
     add_write(alloc, site, events)?;
@@ -372,13 +338,11 @@ fn add_spare(alloc: Global, site: &Site, events: &mut Vec<Event>) -> Result<(), 
 /// A second spare takes the place of the leaf on which the first one lies, so that this one moves. While both are
 /// rebuilt, with the block's stripe lent, a leaf joins: the rebuild begins again, and the stripe comes back in a pass.
 fn add_chain(alloc: Global, site: &Site, events: &mut Vec<Event>, pass: u64) -> Result<(), NoMemory>
-    requires layout { IsLayout site.now.geometry site.now.perms }
-    requires metaslab { site.now.metaslab < site.now.geometry.props.metaslabs }
     requires columns { 1 < site.now.geometry.g }
     requires before { All IsSmallEvent events.old.items }
     ensures behind { OnOk result (All IsSmallEvent events.new.items) }
 {
-    let slot = home(site, &[], 0, 0);
+    let slot = site.home(&[], 0, 0);
     let arm = ArmName::Spare { spare: 1 };
     add(events, Event::Attach { slot, arm })?;
     add_ready(alloc, events, 4)?;
@@ -388,7 +352,7 @@ fn add_chain(alloc: Global, site: &Site, events: &mut Vec<Event>, pass: u64) -> 
             failed: Vec::new(alloc),
         },
     )?;
-    let slot = slot_of(site, 0, 1);
+    let slot = site.slot_of(0, 1);
     let arm = ArmName::Leaf { leaf: 9 };
     add(events, Event::Attach { slot, arm })?;
     add_group(alloc, events, 5, true)?;
@@ -398,8 +362,6 @@ fn add_chain(alloc: Global, site: &Site, events: &mut Vec<Event>, pass: u64) -> 
 
 /// A history of an upgrade, a chain of two spares, and a rebuild that begins again; its last stripe comes back in a pass.
 fn chain(alloc: Global, site: &Site, pass: u64) -> Result<Vec<Event>, NoMemory>
-    requires layout { IsLayout site.now.geometry site.now.perms }
-    requires metaslab { site.now.metaslab < site.now.geometry.props.metaslabs }
     requires columns { 1 < site.now.geometry.g }
     ensures { IfOk result (λ events. All IsSmallEvent events.items) }
 {
@@ -410,10 +372,7 @@ fn chain(alloc: Global, site: &Site, pass: u64) -> Result<Vec<Event>, NoMemory>
 }
 
 /// The open group and the version behind that history.
-fn chain_end(alloc: Global, site: &Site, pass: u64) -> Result<(u64, u32), ReplayFault>
-    requires layout { IsLayout site.now.geometry site.now.perms }
-    requires metaslab { site.now.metaslab < site.now.geometry.props.metaslabs }
-{
+fn chain_end(alloc: Global, site: &Site, pass: u64) -> Result<(u64, u32), ReplayFault> {
     if site.geometry.g < 2 {
         return Err(ReplayFault::NoMemory);
     }
@@ -428,21 +387,7 @@ fn chain_end(alloc: Global, site: &Site, pass: u64) -> Result<(u64, u32), Replay
 
 #[test]
 fn every_kind_of_event_is_done(rt: HostRuntime) -> Result<(), Fail> {
-    let props = Props {
-        sector: 512,
-        height: 8,
-        metaslabs: 1,
-        slices: 1,
-        seed: 1,
-        version: 1,
-    };
-    let spec = parse_spec(b"draid1:2d:1s", 4, 1).expect(&rt, "a spec");
-    let layout: Geometry = geometry(spec, props).expect(&rt, "a layout");
-    let site = Site {
-        perms: Perms::new(layout.spec.children, layout.props.seed),
-        geometry: layout,
-        metaslab: 0,
-    };
+    let site = site_of(b"draid1:2d:1s", 4).expect(&rt, "a layout");
     assert_eq!(rt; open_group_behind_all(rt.alloc(), &site, true), Ok(4));
     assert_eq!(rt;
         open_group_behind_all(rt.alloc(), &site, false),
@@ -453,21 +398,7 @@ fn every_kind_of_event_is_done(rt: HostRuntime) -> Result<(), Fail> {
 
 #[test]
 fn histories_go_to_their_first_illegal_event(rt: HostRuntime) -> Result<(), Fail> {
-    let props = Props {
-        sector: 512,
-        height: 8,
-        metaslabs: 1,
-        slices: 1,
-        seed: 1,
-        version: 1,
-    };
-    let spec = parse_spec(b"draid1:2d", 3, 1).expect(&rt, "a spec");
-    let layout: Geometry = geometry(spec, props).expect(&rt, "a layout");
-    let site = Site {
-        perms: Perms::new(layout.spec.children, layout.props.seed),
-        geometry: layout,
-        metaslab: 0,
-    };
+    let site = site_of(b"draid1:2d", 3).expect(&rt, "a layout");
     let not_legal = |at: u64| Err(ReplayFault::NotLegal { at });
     assert_eq!(rt;
         answers(rt.alloc(), &site),
@@ -478,21 +409,7 @@ fn histories_go_to_their_first_illegal_event(rt: HostRuntime) -> Result<(), Fail
 
 #[test]
 fn an_attachment_begins_a_rebuild_again(rt: HostRuntime) -> Result<(), Fail> {
-    let props = Props {
-        sector: 512,
-        height: 8,
-        metaslabs: 1,
-        slices: 1,
-        seed: 1,
-        version: 1,
-    };
-    let spec = parse_spec(b"draid1:2d:2s", 5, 1).expect(&rt, "a spec");
-    let layout: Geometry = geometry(spec, props).expect(&rt, "a layout");
-    let site = Site {
-        perms: Perms::new(layout.spec.children, layout.props.seed),
-        geometry: layout,
-        metaslab: 0,
-    };
+    let site = site_of(b"draid1:2d:2s", 5).expect(&rt, "a layout");
     assert_eq!(rt; chain_end(rt.alloc(), &site, 3), Ok((6, 2)));
     assert_eq!(rt;
         chain_end(rt.alloc(), &site, 2),

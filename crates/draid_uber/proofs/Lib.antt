@@ -1,1 +1,6 @@
 pub mod Choices
+pub mod Commits
+pub mod Ends
+pub mod Imports
+pub mod Layouts
+pub mod Recovers

@@ -2,8 +2,11 @@
 
 #![tactic(auto)]
 
+mod laws;
 mod slots;
+mod steps;
 mod uber;
 
 pub use draid_names::DeviceFault;
+pub use laws::crashes_leave_what_stands;
 pub use uber::{Uber, UberFault, UberRefused};

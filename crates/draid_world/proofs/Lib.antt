@@ -1,8 +1,12 @@
+pub mod Anys
 pub mod Chains
 pub mod Joining
 pub mod Keeping
+pub mod Logs
 pub mod Maps
 pub mod Orders
+pub mod Picks
 pub mod Readings
+pub mod SegmentLists
 pub mod Segments
 pub mod Sizes

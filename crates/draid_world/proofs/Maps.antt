@@ -1,5 +1,5 @@
 -- What ordered maps and sets of the tables hold.
-use Rattle.std.proofs.Common.{◌≡◌, ◌<◌, ◌≤◌, ◌&&◌, ◌||◌, ℕ, Bool, true, false, List, [], ◌∷◌, zero, suc, get_or, length, is_some, is_none, unwrap_or, option_map, Vec, Global, Option, Some, None, Result, Ok, Err, OnOk, IsSome, cond, not, filter, if◌then◌else◌, refl, sym, ◌∙◌, ap, ap₂, subst, arith, nat_cmp, Ordering}
+use Rattle.std.proofs.Common.{◌≡◌, ◌<◌, ◌≤◌, ◌&&◌, ◌||◌, ℕ, Bool, true, false, List, [], ◌∷◌, zero, suc, get_or, length, is_some, is_none, unwrap_or, option_map, Vec, Global, Option, Some, None, Result, Ok, Err, IfOk, OnOk, IsSome, cond, not, filter, if◌then◌else◌, refl, sym, ◌∙◌, ap, ap₂, subst, arith, nat_cmp, Ordering}
 use Rattle.std.specs.Ordering.{ordering_then}
 use Rattle.draid_machine.specs.contracts.names as contracts
 use Rattle.std.specs.List.{list_any}
@@ -68,6 +68,10 @@ same_keys k t s e = grind (arith, nat_tests)
 pub on_ok : {A E P Q : Type 0} (r : Result A E) → (P → Q) → OnOk r P → OnOk r Q
 on_ok (Ok a) f p = f p
 on_ok (Err e) f p = p
+
+pub ok_map : {A E : Type 0} (r : Result A E) (P Q : A → Type 0) → ((a : A) → P a → Q a) → IfOk r P → IfOk r Q
+ok_map (Ok a) P Q f p = f a p
+ok_map (Err e) P Q f p = p
 
 pub is_some_held : (es : List (Key × Held)) (k : Key) → IsSome (held_in es k) → IsSome (lookup (is_at (key_cmp k)) es)
 is_some_held es k s = subst (λ o. IsSome o) (sym (held_lookup es k)) s

@@ -9,6 +9,7 @@ use Rattle.draid_machine.specs.declared.names.ArmName.{ArmName}
 use Rattle.draid_machine.specs.declared.names.ArmName.TheVariants.{Leaf, Spare}
 use Rattle.draid_machine.specs.declared.names.Segment.{Segment}
 use Rattle.draid_machine.specs.Names.{key_eq, name_eq, segment_eq, has_segment}
+use Rattle.draid_world.proofs.SegmentLists.{or_turned}
 
 abbrev pub segment_cmp : Segment → Segment → Ordering
 segment_cmp s t = (contracts.SegmentOrd.TheImpl.cmp-value).it s t
@@ -58,3 +59,7 @@ segment_removed old new k is s = sym (segments_at new s) ∙ is s ∙ ap₂ (λ 
     bits true false = refl
     bits false true = refl
     bits false false = refl
+
+-- a set to which a segment was added, with that segment first
+pub segment_first : (old new : List Segment) (k : Segment) → ((s : Segment) → has_segment new s ≡ (has_segment old s || segment_eq k s)) → (s : Segment) → has_segment new s ≡ (segment_eq k s || has_segment old s)
+segment_first old new k is s = is s ∙ or_turned (has_segment old s) (segment_eq k s)

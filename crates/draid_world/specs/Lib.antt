@@ -1,1 +1,3 @@
+pub mod Laid
+pub mod Lying
 pub mod World

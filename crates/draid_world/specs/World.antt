@@ -10,7 +10,7 @@ use Rattle.draid_machine.specs.declared.names.Segment.{Segment}
 use Rattle.draid_machine.specs.State as state
 use Rattle.draid_machine.specs.Arms.{first_spares}
 use Rattle.draid_layouts.specs.Layout.{layout_of}
-use Rattle.draid_world.specs.declared.world.Site.{Site}
+use Rattle.draid_world.specs.declared.site.Site.{Site}
 use Rattle.draid_world.specs.declared.world.Arm.{Arm}
 use Rattle.draid_world.specs.declared.world.Detached.{Detached}
 use Rattle.draid_world.specs.declared.world.WorldPass.{WorldPass}

@@ -1,16 +1,16 @@
-ghost use Rattle.std.specs.Prelude.{◌≡◌, ◌<◌, true, false, Some, None, IfSome, IfNone, IfOk, OnOk, is_some, IsSome, ℕ, length};
-ghost use Rattle.std.specs.BTreeMap.{Updates, get};
+ghost use Rattle.std.specs.Prelude.{◌≡◌, ◌<◌, true, false, Some, None, IfSome, IfNone, IfOk, OnOk, IsSome, ℕ};
 ghost use Rattle.draid_machine.specs.After.{set_arm};
 ghost use Rattle.draid_machine.specs.Arms as arms;
 ghost use Rattle.draid_machine.specs.State as state;
 ghost use Rattle.draid_machine.specs.declared.names.ArmName.{ArmName};
 ghost use Rattle.draid_world.specs.declared.world.Arm.{Arm};
 ghost use Rattle.draid_machine.specs.Names.{has_name, name_eq};
-ghost use Rattle.draid_world.specs.World.{arm_in, arm_of, core_of, names_at, offline_arm, switched};
+ghost use Rattle.draid_world.specs.World.{arm_in, arm_of, names_at, switched};
 
-use crate::world::{Arm, Tables};
+use crate::world::Arm;
 use draid_machine::ArmName;
-use std::alloc::{AllocError, Global};
+use draid_names::NoMemory;
+use std::alloc::Global;
 use std::collections::BTreeMap;
 
 /// Whether two names are one.
@@ -48,7 +48,7 @@ pub fn names_of(order: &[Vec<ArmName>], slot: usize) -> &[ArmName]
 }
 
 /// The copy of the arms of each slot.
-pub fn copy_order(order: &[Vec<ArmName>], alloc: Global) -> Result<Vec<Vec<ArmName>>, AllocError>
+pub fn copy_order(order: &[Vec<ArmName>], alloc: Global) -> Result<Vec<Vec<ArmName>>, NoMemory>
     ensures { IfOk result (λ copy. (c : ℕ) → names_at copy.items c ≡ names_at order.now c) }
 {
     let mut copy = Vec::new(alloc);
@@ -72,19 +72,8 @@ pub fn slot_with(order: &[Vec<ArmName>], name: ArmName) -> Option<usize>
     None
 }
 
-/// Whether there is an arm of a name, or one whose detachment isn't committed.
-pub fn is_known(arms: &BTreeMap<ArmName, Arm>, name: ArmName) -> bool
-    ensures { result ≡ is_some (arm_in arms.now.entries name) }
-{
-    arms.contains_key(&name)
-}
-
 /// An arm becomes known.
-pub fn enter_arm(
-    arms: &mut BTreeMap<ArmName, Arm>,
-    name: ArmName,
-    arm: Arm,
-) -> Result<(), AllocError>
+pub fn enter_arm(arms: &mut BTreeMap<ArmName, Arm>, name: ArmName, arm: Arm) -> Result<(), NoMemory>
     ensures { OnOk result ((n : ArmName) → arm_in arms.new.entries n ≡ set_arm (arm_in arms.old.entries) name (Some (arm_of arm)) n) }
 {
     arms.insert(name, arm)?;
@@ -96,13 +85,6 @@ pub fn set_offline(arms: &mut BTreeMap<ArmName, Arm>, name: ArmName, offline: bo
     requires there { IsSome (arm_in arms.old.entries name) }
     ensures { (a : state.Arm) → arm_in arms.old.entries name ≡ Some a
         → (n : ArmName) → arm_in arms.new.entries n ≡ set_arm (arm_in arms.old.entries) name (Some (switched a offline)) n }
-{
-    write_offline(arms, name, offline);
-}
-
-fn write_offline(arms: &mut BTreeMap<ArmName, Arm>, name: ArmName, offline: bool)
-    requires there { IsSome (get ⟦<ArmName as Ord>⟧.cmp arms.old name) }
-    ensures { (a : Arm) → get ⟦<ArmName as Ord>⟧.cmp arms.old name ≡ Some a → Updates ⟦<ArmName as Ord>⟧.cmp arms.old arms.new name (Some (offline_arm a offline)) }
 {
     if let Some(arm) = arms.get_mut(&name) {
         arm.offline = offline;
@@ -131,24 +113,4 @@ pub fn first_spare(names: &[ArmName]) -> Option<u32>
         }
     }
     None
-}
-
-/// Whether a leaf is there and isn't offline.
-pub fn leaf_answers(tables: &Tables, leaf: u64) -> bool
-    ensures { result ≡ arms.leaf_answers (core_of tables.now) leaf }
-{
-    match tables.arms.get(&ArmName::Leaf { leaf }) {
-        Some(arm) => arm.gone.is_none() && !arm.offline,
-        None => false,
-    }
-}
-
-/// Whether a group is in an arm's log.
-pub fn is_logged(tables: &Tables, name: ArmName, group: u64) -> bool
-    ensures { result ≡ arms.logged (arm_in tables.now.arms.entries name) group }
-{
-    match tables.arms.get(&name) {
-        Some(arm) => arm.log.contains(group),
-        None => false,
-    }
 }

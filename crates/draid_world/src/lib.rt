@@ -2,10 +2,16 @@
 
 #![tactic(auto)]
 
+pub mod answering;
 pub mod arms;
-pub mod places;
-pub mod reads;
+mod errors;
+mod lying;
+mod reads;
+pub mod sets;
+mod site;
 pub mod tables;
 mod world;
 
-pub use world::{Arm, Detached, Image, Lent, Site, Tables, World, WorldPass};
+pub use errors::capped;
+pub use site::Site;
+pub use world::{Arm, Detached, Image, Lent, Tables, World, WorldPass};

@@ -1,61 +1,91 @@
-ghost use Rattle.std.specs.Prelude.{◌≡◌, ◌<◌, ◌&&◌, find};
+ghost use Rattle.std.specs.Prelude.{◌≡◌, ◌<◌, ◌^◌, ◌&&◌, Some, true, false, find};
 ghost use Rattle.draid_machine.specs.Arms as arms;
-ghost use Rattle.draid_map.specs.Place.{IsLayout};
 ghost use Rattle.draid_world.specs.World.{core_of, site_layout};
 
-use crate::arms::{is_logged, names_of};
-use crate::places::{answers, slot_of};
-use crate::world::{Site, Tables};
+use crate::answering::has_number;
+use crate::arms::names_of;
+use crate::site::Site;
+use crate::world::Tables;
 use draid_machine::{ArmName, Held};
 use draid_names::NUMBERS;
 
-/// The first arm of a list that answers at a stripe.
-fn first_answering(site: &Site, tables: &Tables, names: &[ArmName], stripe: u64) -> Option<ArmName>
-    requires layout { IsLayout site.now.geometry site.now.perms }
-    requires metaslab { site.now.metaslab < site.now.geometry.props.metaslabs }
-    requires stripe { stripe < NUMBERS }
-    ensures { result ≡ find (λ n. arms.answers (site_layout site.now) (core_of tables.now) n stripe) names.now }
-{
-    for at in 0..names.len() {
-        if answers(site, tables, names[at], stripe) {
-            return Some(names[at]);
+impl Site {
+    /// Whether the leaf answers on which an arm keeps what belongs to a stripe.
+    pub fn answers(&self, tables: &Tables, name: ArmName, stripe: u64) -> bool
+        requires stripe { stripe < 2 ^ 49 }
+        ensures { result ≡ arms.answers (site_layout self.now) (core_of tables.now) name stripe }
+    {
+        match self.leaf_at(&tables.order, name, stripe) {
+            Some(leaf) => tables.leaf_answers(leaf),
+            None => false,
         }
     }
-    None
-}
 
-/// The first arm of a list that answers at a stripe and is clean for a birth.
-fn first_clean(
-    site: &Site,
-    tables: &Tables,
-    names: &[ArmName],
-    stripe: u64,
-    birth: u64,
-) -> Option<ArmName>
-    requires layout { IsLayout site.now.geometry site.now.perms }
-    requires metaslab { site.now.metaslab < site.now.geometry.props.metaslabs }
-    requires stripe { stripe < NUMBERS }
-    ensures { result ≡ find (λ n. arms.answers (site_layout site.now) (core_of tables.now) n stripe && arms.is_clean (core_of tables.now) birth n) names.now }
-{
-    for at in 0..names.len() {
-        if answers(site, tables, names[at], stripe) && !is_logged(tables, names[at], birth) {
-            return Some(names[at]);
+    /// Whether a call failed on the leaf on which an arm keeps what belongs to a stripe.
+    pub fn fails(&self, tables: &Tables, failed: &[u64], name: ArmName, stripe: u64) -> bool
+        requires stripe { stripe < 2 ^ 49 }
+        ensures { result ≡ arms.fails (site_layout self.now) (core_of tables.now) failed.now name stripe }
+    {
+        match self.leaf_at(&tables.order, name, stripe) {
+            Some(leaf) => has_number(failed, leaf),
+            None => false,
         }
     }
-    None
-}
 
-/// The arm from which a column of a block is read.
-pub fn reading(site: &Site, tables: &Tables, held: Held, column: u32) -> Option<ArmName>
-    requires layout { IsLayout site.now.geometry site.now.perms }
-    requires metaslab { site.now.metaslab < site.now.geometry.props.metaslabs }
-    requires stripe { held.first < NUMBERS }
-    requires column { column < site.now.geometry.g }
-    ensures { result ≡ arms.reading (site_layout site.now) (core_of tables.now) held column }
-{
-    let names = names_of(&tables.order, slot_of(site, held.first, column) as usize);
-    match first_clean(site, tables, names, held.first, held.birth) {
-        Some(name) => Some(name),
-        None => first_answering(site, tables, names, held.first),
+    /// Whether an arm keeps what belongs to a stripe on a leaf.
+    pub fn lies_at(&self, tables: &Tables, name: ArmName, stripe: u64, leaf: u64) -> bool
+        requires stripe { stripe < NUMBERS }
+        ensures yes { result ≡ true → arms.leaf_at (site_layout self.now) (core_of tables.now).order name stripe ≡ Some leaf }
+        ensures no { result ≡ false → arms.leaf_at (site_layout self.now) (core_of tables.now).order name stripe ≡ Some leaf → ⊥ }
+    {
+        match self.leaf_at(&tables.order, name, stripe) {
+            Some(found) => found == leaf,
+            None => false,
+        }
+    }
+
+    /// The first arm of a list that answers at a stripe.
+    fn first_answering(&self, tables: &Tables, names: &[ArmName], stripe: u64) -> Option<ArmName>
+        requires stripe { stripe < NUMBERS }
+        ensures { result ≡ find (λ n. arms.answers (site_layout self.now) (core_of tables.now) n stripe) names.now }
+    {
+        for at in 0..names.len() {
+            if self.answers(tables, names[at], stripe) {
+                return Some(names[at]);
+            }
+        }
+        None
+    }
+
+    /// The first arm of a list that answers at a stripe and is clean for a birth.
+    fn first_clean(
+        &self,
+        tables: &Tables,
+        names: &[ArmName],
+        stripe: u64,
+        birth: u64,
+    ) -> Option<ArmName>
+        requires stripe { stripe < NUMBERS }
+        ensures { result ≡ find (λ n. arms.answers (site_layout self.now) (core_of tables.now) n stripe && arms.is_clean (core_of tables.now) birth n) names.now }
+    {
+        for at in 0..names.len() {
+            if self.answers(tables, names[at], stripe) && !tables.is_logged(names[at], birth) {
+                return Some(names[at]);
+            }
+        }
+        None
+    }
+
+    /// The arm from which a column of a block is read.
+    pub fn reading(&self, tables: &Tables, held: Held, column: u32) -> Option<ArmName>
+        requires stripe { held.first < NUMBERS }
+        requires column { column < self.now.geometry.g }
+        ensures { result ≡ arms.reading (site_layout self.now) (core_of tables.now) held column }
+    {
+        let names = names_of(&tables.order, self.slot_of(held.first, column) as usize);
+        match self.first_clean(tables, names, held.first, held.birth) {
+            Some(name) => Some(name),
+            None => self.first_answering(tables, names, held.first),
+        }
     }
 }

@@ -1,5 +1,4 @@
-ghost use Rattle.std.specs.Prelude.{◌≡◌, ◌&&◌, not, Some, None, true, IsSome, IfOk, OnOk};
-ghost use Rattle.std.specs.BTreeMap.{Updates, get};
+ghost use Rattle.std.specs.Prelude.{◌≡◌, ◌&&◌, not, Some, None, IsSome, OnOk};
 ghost use Rattle.draid_machine.specs.After.{not_kept, set_held};
 ghost use Rattle.draid_machine.specs.Names.{has_segment, key_eq};
 ghost use Rattle.draid_machine.specs.declared.names.Key.{Key};
@@ -7,7 +6,7 @@ ghost use Rattle.draid_machine.specs.declared.names.Segment.{Segment};
 ghost use Rattle.draid_world.specs.World.{held_in, kept_in};
 
 use draid_machine::{Held, Key, Segment};
-use std::alloc::AllocError;
+use draid_names::NoMemory;
 use std::collections::{BTreeMap, BTreeSet};
 
 /// The block or ticket of a key.
@@ -22,27 +21,14 @@ pub fn change(held: &mut BTreeMap<Key, Held>, key: Key, value: Held)
     requires there { IsSome (held_in held.old.entries key) }
     ensures { (k : Key) → held_in held.new.entries k ≡ set_held (held_in held.old.entries) key (Some value) k }
 {
-    write(held, key, value);
-}
-
-fn write(held: &mut BTreeMap<Key, Held>, key: Key, value: Held)
-    requires there { IsSome (get ⟦<Key as Ord>⟧.cmp held.old key) }
-    ensures { Updates ⟦<Key as Ord>⟧.cmp held.old held.new key (Some value) }
-{
     if let Some(place) = held.get_mut(&key) {
         *place = value;
     }
 }
 
 /// Makes an entry for a key.
-pub fn enter(held: &mut BTreeMap<Key, Held>, key: Key, value: Held) -> Result<(), AllocError>
+pub fn enter(held: &mut BTreeMap<Key, Held>, key: Key, value: Held) -> Result<(), NoMemory>
     ensures { OnOk result ((k : Key) → held_in held.new.entries k ≡ set_held (held_in held.old.entries) key (Some value) k) }
-{
-    insert(held, key, value)
-}
-
-fn insert(held: &mut BTreeMap<Key, Held>, key: Key, value: Held) -> Result<(), AllocError>
-    ensures { OnOk result (Updates ⟦<Key as Ord>⟧.cmp held.old held.new key (Some value)) }
 {
     held.insert(key, value)?;
     Ok(())

@@ -1,8 +1,6 @@
 use draid_dtl::Log;
 use draid_machine::{ArmName, Held, Key, Segment};
 use draid_names::PassKind;
-use draid_perm::Perms;
-use draid_spec::Geometry;
 use std::collections::{BTreeMap, BTreeSet};
 
 /// The slot that an arm left, and the group that was open then.
@@ -69,15 +67,6 @@ pub struct Image {
     /// The version that its record has.
     pub version: u32,
     pub tables: Tables,
-}
-
-/// A metaslab of a pool.
-#[derive(Drop)]
-pub struct Site {
-    pub geometry: Geometry,
-    pub perms: Perms,
-    /// Its number, below the pool's metaslabs.
-    pub metaslab: u32,
 }
 
 /// The state of a metaslab, without bytes.

@@ -22,7 +22,7 @@ loop-stripe-preserved c =
     let l = site_layout c.args.site.now in
     let before = names_at c.args.before.now in
     let q = core_of c.args.tables.now in
-    let lay : IsLayout l = layout_is c.args.site.now.geometry c.args.site.now.perms c.args.site.now.metaslab c.requires.layout in
+    let lay : IsLayout l = layout_is c.args.site.now.geometry c.args.site.now.perms c.args.site.now.metaslab c.args.site.now.laid in
     subst (λ h. IsPassed l.height (c.loop-stripe.stripe + h) (moved_at l before q (Spare c.args.spare))) (sym c.from-height.ensures)
     (passed_more l.height c.loop-stripe.stripe (moved_at l before q (Spare c.args.spare)) lay.tall (moved_steady l lay before q c.args.spare) (sym c.moves_at.ensures ∙ c.if-moves_at.false) c.loop-stripe.invariant)
 

@@ -3,13 +3,13 @@ use Rattle.draid_machine.specs.Arms.{HasEmptyLog}
 use Rattle.draid_machine.specs.Names.{name_eq}
 use Rattle.draid_machine.specs.declared.names.ArmName.TheVariants.{Leaf}
 use Rattle.draid_world.specs.World.{core_of}
-use Rattle.draid_arms.proofs.Orders.{name_at_place, place_has_name}
+use Rattle.draid_passes.proofs.Lists.{name_at_place, name_here}
 use Rattle.draid_arms.proofs.rules.is_other_clean.Goals as goal
 
 pub returns-then-has_empty_log-clause-yes : goal.returns-then-has_empty_log-clause-yes
 returns-then-has_empty_log-clause-yes c = λ e.
     let n = get_or c.args.names.now c.loop-at.at (Leaf 0) in
-    (n, place_has_name c.args.names.now c.loop-at.at (Leaf 0) c.loop-at-test.true, sym c.is_same.ensures ∙ c.if-not-is_same.true, c.has_empty_log.ensures.yes c.if-has_empty_log.true)
+    (n, name_here c.args.names.now c.loop-at.at (Leaf 0) c.loop-at-test.true, sym c.is_same.ensures ∙ c.if-not-is_same.true, c.has_empty_log.ensures.yes c.if-has_empty_log.true)
 
 pub returns-clause-no : goal.returns-clause-no
 returns-clause-no c = λ e clean.

@@ -1,16 +1,20 @@
-use Rattle.std.proofs.Common.{◌∙◌, ap, Some}
+use Rattle.std.proofs.Common.{◌∙◌, Some, IsSome, ap, is_some, subst, sym}
+use Rattle.std.proofs.lemmas.Bool.{true≢false}
 use Rattle.draid_machine.specs.State as state
 use Rattle.draid_machine.specs.After.{set_arm}
+use Rattle.draid_machine.proofs.Small.{some_injective}
 use Rattle.draid_world.specs.World.{arm_in, arm_of, gone_of}
-use Rattle.draid_world.proofs.Maps.{is_some_arm, mapped_some, arm_lookup, arm_updated}
+use Rattle.draid_world.proofs.Maps.{arm_found, arm_updated, is_some_arm}
 use Rattle.draid_arms.proofs.slots.set_gone.Goals as goal
 
-pub write_gone-requires : goal.write_gone-requires
-write_gone-requires c = record { there = is_some_arm c.args.arms.now.entries c.args.name c.requires.there }
+pub returns-in-Some : goal.returns-in-Some
+returns-in-Some c = λ a is n.
+    let es = c.args.arms.now.entries in
+    let arm = c.in-Some.arm.now in
+    let found = sym c.in-Some.ensures.value in
+    let holds = c.get_mut.follows.holds (record arm { gone = Some c.args.gone }) in
+    arm_updated es _ c.args.name (Some (record arm { gone = Some c.args.gone })) (holds.3 (ap is_some found)).0 n
+    ∙ ap (λ (b : state.Arm). set_arm (arm_in es) c.args.name (Some (record b { gone = Some (gone_of c.args.gone) })) n) (some_injective (arm_of arm) a (sym (arm_found es c.args.name (Some arm) found) ∙ is))
 
-pub returns : goal.returns
-returns c = λ a is n.
-    let z = mapped_some arm_of _ a (arm_lookup c.args.arms.now.entries c.args.name ∙ is) in
-    let u = c.write_gone.ensures z.0 z.1 in
-    arm_updated c.args.arms.now.entries c.write_gone.new.arms.entries c.args.name (Some (record z.0 { gone = Some c.args.gone })) u.0 n
-    ∙ ap (λ (b : state.Arm). set_arm (arm_in c.args.arms.now.entries) c.args.name (Some (record b { gone = Some (gone_of c.args.gone) })) n) z.2
+pub returns-in_default : goal.returns-in_default
+returns-in_default c = absurd (true≢false (sym (subst (λ o. IsSome o) (sym c.in_default.ensures.value) (is_some_arm c.args.arms.now.entries c.args.name c.requires.there))))

@@ -17,8 +17,8 @@ loop-key-init c =
       subst AllLow (sym at) c.requires.low,
     )
 
-pub add_block-requires-clause-first : goal.add_block-requires-clause-first
-add_block-requires-clause-first c = head_low (c.in-Some.key.now, c.in-Some.held.now) c.next.new.self (subst AllLow c.in-Some.ensures.steps c.loop-key.invariant.2)
+pub add_block-requires : goal.add_block-requires
+add_block-requires c = record { first = head_low (c.in-Some.key.now, c.in-Some.held.now) c.next.new.self (subst AllLow c.in-Some.ensures.steps c.loop-key.invariant.2) }
 
 pub loop-key-preserved : goal.loop-key-preserved
 loop-key-preserved c =

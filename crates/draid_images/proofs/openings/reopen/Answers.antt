@@ -6,8 +6,10 @@ use Rattle.draid_images.proofs.openings.reopen.Goals as goal
 pub returns-then-not-choose-clause-illegal : goal.returns-then-not-choose-clause-illegal
 returns-then-not-choose-clause-illegal c = λ e new step. c.choose.ensures.none c.if-not-choose.true step.image step.one
 
-pub open-requires-clause-image : goal.open-requires-clause-image
-open-requires-clause-image c = elim (c.choose.ensures.chosen c.if-not-choose.false) [
-  | inl z ↦ subst IsLowImage z.0 c.requires.image
-  | inr z ↦ c.requires.sealed (image_of c.choose.new.world.image) z.0
-]
+pub open-requires : goal.open-requires
+open-requires c = record {
+  image = elim (c.choose.ensures.chosen c.if-not-choose.false) [
+    | inl z ↦ subst IsLowImage z.0 c.requires.image
+    | inr z ↦ c.requires.sealed (image_of c.choose.new.world.image) z.0
+  ];
+}

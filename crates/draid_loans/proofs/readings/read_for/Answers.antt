@@ -1,7 +1,8 @@
 use Rattle.std.proofs.Common.{◌≡◌, ◌∙◌, true, ap, sym}
 use Rattle.draid_machine.specs.Names.{is_heal}
 use Rattle.draid_world.specs.World.{core_of, names_at, pass_of, site_layout}
-use Rattle.draid_loans.proofs.Loaned.{arms_heal, ok_map}
+use Rattle.draid_loans.proofs.Loaned.{arms_heal}
+use Rattle.draid_world.proofs.Maps.{ok_map}
 use Rattle.draid_loans.proofs.readings.read_for.Goals as goal
 
 pub returns : goal.returns

@@ -25,7 +25,7 @@ loop-at-preserved c =
     let now = state_of c.loop-at.world in
     let new = state_of c.advance.new.world in
     let yes_it_is : c.advance.result ≡ Ok true = search rules in
-    goes_on l (state_of c.args.start) now new c.args.events.now c.loop-at.at _ (stripes_few c.args.site.now.geometry c.requires.layout.geometry_is) c.loop-at-test.true
+    goes_on l (state_of c.args.start) now new c.args.events.now c.loop-at.at _ (stripes_few c.args.site.now.geometry c.args.site.now.laid.geometry_is) c.loop-at-test.true
     (c.requires.small c.loop-at.at _ c.loop-at-test.true) c.loop-at.invariant
     (subst (λ (x : Event). Step l now x new) c.index-events-at.is (c.advance.ensures.legal yes_it_is))
 

@@ -2,8 +2,8 @@ use Rattle.std.proofs.Common.{◌+◌, ◌<◌, ◌∙◌, sym, refl, subst, get
 use Rattle.draid_machine.specs.declared.names.Segment.{Segment}
 use Rattle.draid_scrubs.specs.Healing.{is_dubious}
 use Rattle.draid_world.specs.World.{core_of}
-use Rattle.draid_loans.proofs.Picks.{ArePicked, picked_no, picked_yes}
-use Rattle.draid_loans.proofs.Sets.{no_segment}
+use Rattle.draid_world.proofs.Picks.{ArePicked, picked_no, picked_yes}
+use Rattle.draid_world.proofs.SegmentLists.{no_segment}
 use Rattle.draid_scrubs.proofs.healing.doubted.Goals as goal
 use Rattle.draid_scrubs.proofs.healing.doubted.Goals.{then-is_in_doubt+in_ok-push, else-is_in_doubt}
 

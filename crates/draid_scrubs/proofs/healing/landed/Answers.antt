@@ -1,8 +1,8 @@
 use Rattle.std.proofs.Common.{◌+◌, ◌<◌, ◌∙◌, sym, refl, subst, get_or, length, rules, Vec, Global}
 use Rattle.draid_machine.specs.declared.names.Segment.{Segment}
 use Rattle.draid_machine.specs.After.{has_landed}
-use Rattle.draid_loans.proofs.Picks.{ArePicked, picked_no, picked_yes}
-use Rattle.draid_loans.proofs.Sets.{no_segment}
+use Rattle.draid_world.proofs.Picks.{ArePicked, picked_no, picked_yes}
+use Rattle.draid_world.proofs.SegmentLists.{no_segment}
 use Rattle.draid_scrubs.proofs.healing.landed.Goals as goal
 use Rattle.draid_scrubs.proofs.healing.landed.Goals.{then-has_landed+in_ok-push, else-has_landed}
 

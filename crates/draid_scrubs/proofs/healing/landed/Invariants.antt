@@ -1,6 +1,6 @@
 use Rattle.draid_machine.specs.declared.names.Segment.{Segment}
 use Rattle.draid_machine.specs.After.{has_landed}
-use Rattle.draid_loans.proofs.Picks.{ArePicked}
+use Rattle.draid_world.proofs.Picks.{ArePicked}
 use Rattle.draid_scrubs.proofs.healing.landed.Given as goal
 
 abbrev pub invariant-loop-at : goal.invariant-loop-at

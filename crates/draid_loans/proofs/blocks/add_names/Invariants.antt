@@ -1,8 +1,0 @@
-use Rattle.std.proofs.Common.{take}
-use Rattle.draid_loans.specs.Blocks.{Adds, OnNames}
-use Rattle.draid_world.specs.World.{core_of, site_layout}
-use Rattle.draid_loans.proofs.blocks.add_names.Given as goal
-
-abbrev pub invariant-loop-at : goal.invariant-loop-at
-invariant-loop-at l =
-    Adds (OnNames (site_layout l.site) (core_of l.tables).order l.part.key l.part.held l.part.column (take l.at l.names)) l.fn.out.items l.out.items

@@ -1,7 +1,0 @@
-use Rattle.std.proofs.Common.{◌<◌, ℕ, get_or}
-use Rattle.draid_loans.specs.Landings.{MayMend}
-use Rattle.draid_world.specs.World.{core_of, loan_of, pass_of, site_layout}
-use Rattle.draid_loans.proofs.landings.may_mend_all.Given as goal
-
-abbrev pub invariant-loop-at : goal.invariant-loop-at
-invariant-loop-at l = (i : ℕ) → i < l.at → MayMend (site_layout l.site) (core_of l.tables) (pass_of l.pass) (loan_of l.loan) (get_or l.leaves i 0)

@@ -1,9 +1,0 @@
-use Rattle.std.proofs.Common.{not}
-use Rattle.draid_machine.specs.declared.names.Segment.{Segment}
-use Rattle.draid_machine.specs.Arms.{fails}
-use Rattle.draid_world.specs.World.{core_of, site_layout}
-use Rattle.draid_loans.proofs.Picks.{ArePicked}
-use Rattle.draid_loans.proofs.mending.landed.Given as goal
-
-abbrev pub invariant-loop-at : goal.invariant-loop-at
-invariant-loop-at l = ArePicked (λ (s : Segment). not (fails (site_layout l.site) (core_of l.tables) l.failed s.arm l.stripe)) l.all l.at l.out.items

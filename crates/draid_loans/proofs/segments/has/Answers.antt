@@ -1,6 +1,0 @@
-use Rattle.std.proofs.Common.{◌∙◌}
-use Rattle.draid_world.proofs.Segments.{segments_at}
-use Rattle.draid_loans.proofs.segments.has.Goals as goal
-
-pub returns : goal.returns
-returns c = c.contains.ensures ∙ segments_at c.args.set.now.keys c.args.segment

@@ -1,7 +1,0 @@
-use Rattle.std.proofs.Common.{◌≡◌, ◌||◌, take}
-use Rattle.draid_machine.specs.declared.names.Segment.{Segment}
-use Rattle.draid_machine.specs.Names.{has_segment}
-use Rattle.draid_loans.proofs.segments.put_all.Given as goal
-
-abbrev pub invariant-loop-at : goal.invariant-loop-at
-invariant-loop-at l = (s : Segment) → has_segment l.set.keys s ≡ (has_segment l.fn.set.keys s || has_segment (take l.at l.segments) s)

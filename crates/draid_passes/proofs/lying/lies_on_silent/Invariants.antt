@@ -1,9 +1,0 @@
-use Rattle.std.proofs.Common.{◌≡◌, false}
-use Rattle.draid_machine.specs.Names.{any_below}
-use Rattle.draid_machine.specs.Arms.{is_silent}
-use Rattle.draid_world.specs.World.{core_of, site_layout}
-use Rattle.draid_passes.specs.Lying.{keeps_at}
-use Rattle.draid_passes.proofs.lying.lies_on_silent.Given as goal
-
-abbrev pub invariant-loop-stripe : goal.invariant-loop-stripe
-invariant-loop-stripe l = any_below l.stripe (keeps_at (site_layout l.site) (core_of l.tables) (is_silent (core_of l.tables) l.failed) l.name) ≡ false

@@ -1,0 +1,21 @@
+use Rattle.std.proofs.Common.{◌+◌, ◌<◌, ◌∙◌, not, ap, sym, refl, subst, get_or, length, rules, Vec, Global}
+use Rattle.draid_machine.specs.declared.names.Segment.{Segment}
+use Rattle.draid_machine.specs.Arms.{fails}
+use Rattle.draid_world.specs.World.{core_of, site_layout}
+use Rattle.draid_world.proofs.Picks.{ArePicked, picked_no, picked_yes}
+use Rattle.draid_world.proofs.SegmentLists.{no_segment}
+use Rattle.draid_rebuilds.proofs.mending.landed.Goals as goal
+use Rattle.draid_rebuilds.proofs.mending.landed.Goals.{then-not-fails+in_ok-push, else-not-fails}
+
+pub loop-at-preserved : goal.loop-at-preserved
+loop-at-preserved c =
+    let all = c.args.all.now in
+    let at = c.loop-at.at in
+    let less : at < length all = search rules in
+    let test : Segment → _ = λ s. not (fails (site_layout c.args.site.now) (core_of c.args.tables.now) c.args.failed.now s.arm c.args.stripe) in
+    elim c.if-not-fails.branch [
+      | then-not-fails+in_ok-push w ↦ subst (λ (v : Vec Segment Global). ArePicked test all (at + 1) v.items) (sym w.out-is)
+          (picked_yes test all c.loop-at.out.items w.push.new.self.items at no_segment (get_or all at no_segment) less refl c.loop-at.invariant w.in_ok-push.ensures.items (ap not (sym c.fails.ensures ∙ w.if-not-fails.true)))
+      | else-not-fails w ↦ subst (λ (v : Vec Segment Global). ArePicked test all (at + 1) v.items) (sym w.out-is)
+          (picked_no test all c.loop-at.out.items at no_segment (get_or all at no_segment) less refl c.loop-at.invariant (ap not (sym c.fails.ensures ∙ w.if-not-fails.false)))
+    ]

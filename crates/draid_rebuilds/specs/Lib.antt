@@ -1,0 +1,3 @@
+pub mod Landings
+pub mod Mending
+pub mod Stripes
