@@ -1,0 +1,5 @@
+pub mod Counted
+pub mod Keys
+pub mod Owing
+pub mod Sets
+pub mod Sums

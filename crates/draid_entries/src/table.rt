@@ -1,0 +1,102 @@
+ghost use Rattle.std.specs.Prelude.{◌≡◌, ◌+◌, ◌<◌, ℕ, None, Some, IsSome, OnErr, OnOk};
+ghost use Rattle.std.specs.BTreeMap.{Updates};
+ghost use Rattle.std.specs.Ordering.{nat_cmp};
+ghost use Rattle.draid_names.specs.declared.numbers.TheConstants.{NUMBERS};
+ghost use Rattle.draid_machine.specs.declared.names.Key.{Key};
+ghost use Rattle.draid_entries.specs.Entries.{IsEntered, SameEntries, SetsEntry, begun, count_of, entry_at, held_in};
+ghost use Rattle.draid_entries.specs.Maps.{entry_in, key_of, staged};
+
+use crate::entries::Entries;
+use crate::entry::{Entry, key_of};
+use draid_machine::{Key, Stage};
+use draid_names::{NoMemory, Pointer};
+use std::alloc::Global;
+use std::collections::BTreeMap;
+
+impl Entries {
+    /// No block and no open write.
+    pub fn new(alloc: Global) -> Entries
+        ensures none { (first : ℕ) → entry_at result first ≡ None }
+        ensures held { (key : Key) → held_in result key ≡ None }
+        ensures count { count_of result ≡ 0 }
+    {
+        Entries {
+            firsts: BTreeMap::new(alloc),
+            keys: BTreeMap::new(alloc),
+        }
+    }
+
+    /// How many blocks and open writes there are, those that were freed included.
+    pub fn count(&self) -> usize
+        ensures { result ≡ count_of self.now }
+    {
+        self.keys.len()
+    }
+
+    /// The block or open write that begins at a stripe.
+    pub fn at(&self, first: u64) -> Option<Entry>
+        ensures { result ≡ entry_at self.now first }
+    {
+        self.firsts.get(&first).copied()
+    }
+
+    /// A write is begun at the pointer's stripes.
+    pub fn begin(&mut self, pointer: Pointer) -> Result<(), NoMemory>
+        requires low { pointer.first < NUMBERS }
+        requires free { entry_at self.old pointer.first ≡ None }
+        requires unused { held_in self.old (key_of pointer) ≡ None }
+        ensures entered { OnOk result (SetsEntry self.old self.new pointer (Some (begun pointer))) }
+        ensures count { OnOk result (count_of self.new ≡ count_of self.old + 1) }
+        ensures same { OnErr result (SameEntries self.old self.new) }
+    {
+        let key = key_of(&pointer);
+        self.keys.insert(key, pointer.first)?;
+        let entry = Entry {
+            pointer,
+            stage: Stage::Writing {
+                columns: 0,
+                missed: 0,
+            },
+        };
+        match self.firsts.insert(pointer.first, entry) {
+            Ok(_) => Ok(()),
+            Err(_) => {
+                self.keys.remove(&key);
+                Err(NoMemory)
+            }
+        }
+    }
+
+    /// The pointer's block or open write comes to another stage.
+    pub fn turn(&mut self, pointer: &Pointer, stage: Stage)
+        requires there { IsEntered self.old pointer.now }
+        ensures entered { SetsEntry self.old self.new pointer.now (Some (staged stage pointer.now)) }
+        ensures count { count_of self.new ≡ count_of self.old }
+    {
+        let entry = Entry {
+            pointer: *pointer,
+            stage,
+        };
+        replace(&mut self.firsts, entry);
+    }
+
+    /// The pointer's block or open write goes.
+    pub fn remove(&mut self, pointer: &Pointer)
+        requires there { IsEntered self.old pointer.now }
+        ensures entered { SetsEntry self.old self.new pointer.now None }
+        ensures count { count_of self.new + 1 ≡ count_of self.old }
+    {
+        self.firsts.remove(&pointer.first);
+        self.keys.remove(&key_of(pointer));
+    }
+}
+
+/// Another entry stands at a first stripe that has one.
+fn replace(firsts: &mut BTreeMap<u64, Entry>, entry: Entry)
+    requires there { IsSome (entry_in firsts.old entry.pointer.first) }
+    ensures updates { Updates nat_cmp firsts.old firsts.new entry.pointer.first (Some entry) }
+{
+    if let Some(place) = firsts.get_mut(&entry.pointer.first) {
+        *place = entry;
+    }
+}
