@@ -1,0 +1,16 @@
+pub mod Apart
+pub mod Backing
+pub mod Beginning
+pub mod Changing
+pub mod Damaging
+pub mod Ending
+pub mod Healing
+pub mod Lasting
+pub mod Leaving
+pub mod Mending
+pub mod Puts
+pub mod Reached
+pub mod Resting
+pub mod Sealing
+pub mod Through
+pub mod Whole
