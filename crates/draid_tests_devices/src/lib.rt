@@ -14,3 +14,5 @@ mod rack;
 mod record;
 #[cfg(test)]
 mod shelf;
+#[cfg(test)]
+mod uber;

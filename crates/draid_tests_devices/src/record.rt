@@ -28,7 +28,7 @@ const RECORD: [u8; 84] = [
 ];
 
 /// The uberblock of that pool.
-const UBER: [u8; 51] = [
+pub(crate) const UBER: [u8; 51] = [
     0x5a, 0x44, 0x5a, 0x55, 0x42, 0, 1, 0, 0, 0, 0, 0, 0, 0, 1, 1, 2, 3, 0, 0, 0, 2, 0, 0, 0, 0, 8,
     0, 0, 0, 1, 0, 0, 0, 4, 0, 0, 0, 0, 0, 0, 0, 1, 0, 0, 0, 0, 0, 0, 0, 3,
 ];
@@ -88,7 +88,7 @@ fn bad(at: u64, kind: u8) -> Result<(usize, usize, bool, u64), RecordFault> {
 }
 
 /// The layout of that pool.
-fn small_geometry() -> Result<Geometry, SpecFault>
+pub(crate) fn small_geometry() -> Result<Geometry, SpecFault>
     ensures { IfOk result IsGeometry }
 {
     geometry(parse_spec(b"draid1:2d:3c", 3, 1)?, PROPS)

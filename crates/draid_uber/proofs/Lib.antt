@@ -1,1 +1,5 @@
 pub mod Choices
+pub mod Commits
+pub mod Ends
+pub mod Layouts
+pub mod Recovers

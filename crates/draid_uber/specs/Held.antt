@@ -1,5 +1,5 @@
 -- What holds of the parts of an uberblock.
-use Rattle.std.specs.Prelude.{◌≡◌, ◌≤◌, ◌+◌, ◌-◌, ⊤, ℕ, Option, MatchOption}
+use Rattle.std.specs.Prelude.{◌≡◌, ◌≤◌, ◌<◌, ◌^◌, ◌+◌, ◌-◌, ⊤, ℕ, Option, MatchOption}
 use Rattle.draid_names.specs.declared.numbers.TheConstants.{LAST_NUMBER}
 use Rattle.draid_record.specs.declared.uber.UberBody.{UberBody}
 use Rattle.draid_spec.specs.declared.layout.Geometry.{Geometry}
@@ -14,6 +14,7 @@ pub record IsNext (kept : Option UberBody) (group : ℕ) : Type 0 where
 -- the parts fit together
 pub record IsHeld (kept : Option UberBody) (geometry : Geometry) (version next_leaf : ℕ) : Type 0 where
   pub layout_is : IsGeometry geometry
+  pub seed_below : geometry.props.seed < 2 ^ 64
   pub version_is : IsVersion version
   pub later : geometry.props.version ≤ version
   pub leaf_above : geometry.spec.children ≤ next_leaf

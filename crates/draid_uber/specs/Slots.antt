@@ -59,6 +59,10 @@ abbrev pub HasKept : Option UberBody → List ℕ → Type 0
 HasKept None area = is_open (slot_in 0 area) ≡ false
 HasKept (Some body) area = body_in (body.group % 2) (slot_in (body.group % 2) area) ≡ Ok body
 
+-- a body stands in the one of two slots that its group has
+abbrev pub StandsIn : List ℕ → List ℕ → UberBody → Type 0
+StandsIn zero one body = ((body.group % 2 ≡ 0) × (body_in 0 zero ≡ Ok body)) ⊎ ((body.group % 2 ≡ 1) × (body_in 1 one ≡ Ok body))
+
 abbrev pub read_body : UberBody → Result UberBody RecordFault
 read_body body = Ok body
 

@@ -1,7 +1,7 @@
 -- The steps of a commit, each one write and one flush.
-use Rattle.std.specs.Prelude.{◌≡◌, ◌≤◌, ◌<◌, ◌+◌, ℕ, false, List, Option, None, MatchOption, Result, OnOk, length, slice_index_or}
+use Rattle.std.specs.Prelude.{◌≡◌, ◌≤◌, ◌<◌, ◌+◌, ◌⊎◌, ℕ, false, List, Option, None, MatchOption, Result, OnOk, length, option_map, slice_index_or}
 use Rattle.std.specs.List.{splice}
-use Rattle.draid_area.specs.Area.{Content, MayLeave, within}
+use Rattle.draid_area.specs.Area.{Content, MayLeave, flushes, within}
 use Rattle.draid_record.specs.declared.uber.UberBody.{UberBody}
 use Rattle.draid_uber.specs.Slots.{HasKept, area_bytes, base_of, is_open, slot_bytes, slot_in}
 
@@ -39,3 +39,7 @@ pub record IsShut (kept : Option UberBody) (slot : ℕ) (x : Content) : Type 0 w
 pub record IsFilled (kept : Option UberBody) (slot : ℕ) (bytes : List ℕ) (x : Content) : Type 0 where
   pub shut : IsShut kept slot x
   pub behind : (i : ℕ) → 1 ≤ i → i < slot_bytes → byte x.bytes (base_of slot + i) ≡ byte bytes i
+
+-- an area was left alone, or flushed
+abbrev pub IsSameOrFlushed : Option Content → Option Content → Type 0
+IsSameOrFlushed old new = (new ≡ old) ⊎ (new ≡ option_map flushes old)

@@ -1,6 +1,6 @@
 -- An uberblock area with what was committed, and what the next commit writes.
 use Rattle.std.specs.Prelude.{◌≡◌, ◌≤◌, ◌⊎◌, ⊤, ℕ, false, Option, None, Some, Result, Ok, Err, option_map, replicate}
-use Rattle.draid_area.specs.Area.{Content, flushes}
+use Rattle.draid_area.specs.Area.{Content}
 use Rattle.draid_record.specs.declared.fault.RecordFault.{RecordFault}
 use Rattle.draid_record.specs.declared.fault.RecordFault.TheVariants.{Bad}
 use Rattle.draid_record.specs.declared.uber.UberBody.{UberBody}
@@ -75,7 +75,3 @@ FindsFault (faults.Record place kind) chosen = chosen ≡ Some (Err (Bad place k
 abbrev pub Finds : {A : Type 0} → Result (Uber A) (UberRefused A) → Option (Result UberBody RecordFault) → Type 0
 Finds (Ok uber) chosen = chosen ≡ option_map read_body uber.kept
 Finds (Err refused) chosen = FindsFault refused.why chosen
-
--- an area was left alone, or flushed
-abbrev pub IsSameOrFlushed : Option Content → Option Content → Type 0
-IsSameOrFlushed old new = (new ≡ old) ⊎ (new ≡ option_map flushes old)

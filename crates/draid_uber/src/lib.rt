@@ -3,6 +3,7 @@
 #![tactic(auto)]
 
 mod slots;
+mod steps;
 mod uber;
 
 pub use draid_names::DeviceFault;

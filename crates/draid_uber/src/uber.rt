@@ -1,12 +1,17 @@
-ghost use Rattle.std.specs.Prelude.{◌≡◌, ◌≤◌, ◌∷◌, [], ℕ, List, None, Some, IfErr, IfOk, IsErrOf, IsOk, OnErr, OnOk, option_map};
+ghost use Rattle.std.specs.Prelude.{◌≡◌, ◌≤◌, ◌∷◌, [], ℕ, List, None, Some, IfErr, IfOk, IsErrOf, IsOk, IsSome, IsSomeAnd, OnErr, OnOk, option_map};
+ghost use Rattle.draid_record.specs.Uber.{IsUber};
 ghost use Rattle.draid_area.specs.Area.{Counts, OnTold, flushes};
+ghost use Rattle.draid_area.specs.Moments.{ElapsesTold};
 ghost use Rattle.draid_record.specs.declared.uber.UberBody.{UberBody};
+ghost use Rattle.draid_names.specs.Faults.{Rose};
 ghost use Rattle.draid_names.specs.declared.numbers.TheConstants.{LAST_NUMBER};
 ghost use Rattle.draid_spec.specs.Geometry.{IsGeometry};
 
+use crate::slots::{chosen, layout};
+use crate::steps::{clear, write};
 use draid_area::Area;
 use draid_names::DeviceFault;
-use draid_record::UberBody;
+use draid_record::{RecordFault, UberBody};
 use draid_spec::Geometry;
 
 /// Why an uberblock area gave no uberblock.
@@ -43,8 +48,10 @@ pub struct Uber<A: Area> {
 }
 
 impl<A: Area> Uber<A> {
+    ghost use Rattle.draid_uber.specs.Held.{IsNext};
+    ghost use Rattle.draid_uber.specs.Steps.{IsSameOrFlushed};
     ghost use Rattle.draid_uber.specs.Slots.{StandsTold, chosen_of, group_of};
-    ghost use Rattle.draid_uber.specs.Uber.{Finds, IsNewArea, IsSameOrFlushed, Valid, area_of, kept_of, layout_of, next_leaf_of, version_of};
+    ghost use Rattle.draid_uber.specs.Uber.{layout_in, next_of, Finds, IsNewArea, Valid, area_of, kept_of, layout_of, next_leaf_of, version_of};
 
     /// The uberblock of a new pool, of which nothing is committed yet. A crash leaves no open gate.
     #[tactic(auto, using(crate::proofs::Choices::new_area))]
@@ -68,6 +75,54 @@ impl<A: Area> Uber<A> {
             version: geometry.props.version,
             next_leaf: u64::from(geometry.spec.children),
         })
+    }
+
+    /// The uberblock that an import takes from an area. The area is flushed before it is read, so that no gate which is read
+    /// may come out of a crash in another form.
+    pub fn recover(area: A) -> Result<Uber<A>, UberRefused<A>>
+        ensures valid { IfOk result (Valid A.size) }
+
+        // It is what the bytes say, or their first fault, unless the area fails or memory runs out.
+        ensures finds { OnTold (A.told area) (λ x. Finds result (chosen_of x.bytes)) }
+        ensures some { IfOk result (λ uber. IsSomeAnd (kept_of uber) (λ body.
+            (version_of uber ≡ body.props.version) × (next_leaf_of uber ≡ body.next_leaf))) }
+
+        // From then on a crash leaves it alone.
+        ensures crash { IfOk result (λ uber. StandsTold (kept_of uber) [] (A.told (area_of uber))) }
+        ensures flushed { IfOk result (λ uber. A.told (area_of uber) ≡ option_map flushes (A.told area)) }
+        ensures err { IfErr result (λ refused. IsSameOrFlushed (A.told area) (A.told refused.area)) }
+        ensures cause { IfErr result (λ refused. refused.why ≡ UberFault.Area → Rose (A.faults area) (A.faults refused.area)) }
+    {
+        let mut area = area;
+        match chosen(&mut area) {
+            Ok(Some(Ok(body))) => Ok(Uber {
+                area,
+                kept: Some(body),
+                geometry: layout(&body),
+                version: body.props.version,
+                next_leaf: body.next_leaf,
+            }),
+            Ok(Some(Err(RecordFault::Bad { at, kind }))) => {
+                let why = UberFault::Record { at, kind };
+                Err(UberRefused { area, why })
+            }
+            Ok(Some(Err(RecordFault::NoMemory))) => Err(UberRefused {
+                area,
+                why: UberFault::NoMemory,
+            }),
+            Ok(None) => Err(UberRefused {
+                area,
+                why: UberFault::Empty,
+            }),
+            Err(DeviceFault::Failed) => Err(UberRefused {
+                area,
+                why: UberFault::Area,
+            }),
+            Err(DeviceFault::NoMemory) => Err(UberRefused {
+                area,
+                why: UberFault::NoMemory,
+            }),
+        }
     }
 
     /// The layout, with the committed version.
@@ -107,6 +162,71 @@ impl<A: Area> Uber<A> {
         ensures version { version_of self.new ≡ version_of self.old }
     {
         self.next_leaf = next;
+    }
+
+    /// What the next commit writes.
+    fn next(&self, group: u64) -> UberBody
+        requires next { IsNext (kept_of self.now) group }
+        requires valid { Valid A.size self.now }
+        ensures body { result ≡ next_of self.now group }
+        ensures ranges { IsUber result }
+    {
+        let mut props = self.geometry.props;
+        props.version = self.version;
+        UberBody {
+            group,
+            spec: self.geometry.spec,
+            props,
+            next_leaf: self.next_leaf,
+        }
+    }
+
+    /// Commits a group, the one behind the committed one. After a refusal the committed group is as before, and the call
+    /// may be made again.
+    pub fn commit(&mut self, group: u64) -> Result<(), DeviceFault>
+        requires next { IsNext (kept_of self.old) group }
+        requires valid { Valid A.size self.old }
+        ensures valid { Valid A.size self.new }
+
+        // A crash leaves the committed group, or the new one. That of a refused commit may stay there until the next.
+        ensures refused { (pending : List UberBody) → StandsTold (kept_of self.old) pending (A.told (area_of self.old))
+            → OnErr result (StandsTold (kept_of self.old) (next_of self.old group ∷ pending) (A.told (area_of self.new))) }
+        ensures committed { (pending : List UberBody) → StandsTold (kept_of self.old) pending (A.told (area_of self.old))
+            → OnOk result (StandsTold (Some (next_of self.old group)) [] (A.told (area_of self.new))) }
+
+        ensures moments { ElapsesTold (A.told (area_of self.old)) (A.told (area_of self.new)) }
+        ensures kept { OnOk result (kept_of self.new ≡ Some (next_of self.old group)) }
+        ensures same { OnErr result (kept_of self.new ≡ kept_of self.old) }
+        ensures layout { OnOk result (layout_of self.new ≡ layout_in (layout_of self.old) (version_of self.old)) }
+        ensures same_layout { OnErr result (layout_of self.new ≡ layout_of self.old) }
+        ensures version { version_of self.new ≡ version_of self.old }
+        ensures leaf { next_leaf_of self.new ≡ next_leaf_of self.old }
+        ensures cause { Counts result (A.faults (area_of self.old)) (A.faults (area_of self.new)) }
+    {
+        let body = self.next(group);
+        write(&mut self.area, &body)?;
+        self.kept = Some(body);
+        self.geometry.props.version = self.version;
+        Ok(())
+    }
+
+    /// Does what a commit of this group does before it writes the body: on Ok no body of a refused commit is left.
+    pub fn shut(&mut self, group: u64) -> Result<(), DeviceFault>
+        requires next { IsNext (kept_of self.old) group }
+        requires valid { Valid A.size self.old }
+        ensures valid { Valid A.size self.new }
+        ensures refused { (pending : List UberBody) → StandsTold (kept_of self.old) pending (A.told (area_of self.old))
+            → OnErr result (StandsTold (kept_of self.old) pending (A.told (area_of self.new))) }
+        ensures shut { (pending : List UberBody) → StandsTold (kept_of self.old) pending (A.told (area_of self.old))
+            → OnOk result (StandsTold (kept_of self.old) [] (A.told (area_of self.new))) }
+        ensures moments { ElapsesTold (A.told (area_of self.old)) (A.told (area_of self.new)) }
+        ensures kept { kept_of self.new ≡ kept_of self.old }
+        ensures layout { layout_of self.new ≡ layout_of self.old }
+        ensures version { version_of self.new ≡ version_of self.old }
+        ensures leaf { next_leaf_of self.new ≡ next_leaf_of self.old }
+        ensures cause { Counts result (A.faults (area_of self.old)) (A.faults (area_of self.new)) }
+    {
+        clear(&mut self.area, group)
     }
 
     /// Has the next commit write version 2.
