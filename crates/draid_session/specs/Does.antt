@@ -8,7 +8,8 @@ use Rattle.draid_script.specs.Line.{Command, WriteObject, FillObjects, ReadObjec
 use Rattle.draid_script.specs.declared.name.CommandName.TheVariants as name
 use Rattle.draid_reply.specs.declared.reply.Reply.{Reply}
 use Rattle.draid_reply.specs.declared.reply.Reply.TheVariants.{NoMemory, Written, NoSpace, Missed, WriteLast, Filled, FillRefused, Contents, NoObject, Unreadable, ReadWorn, Summed, SumRefused, Freed, FreeNoObject, Damaged, DamageRefused, DamageFailed, DamageWorn}
-use Rattle.draid_session.specs.State.{Store, write_of}
+use Rattle.draid_objects.specs.Changes.{write_of}
+use Rattle.draid_session.specs.State.{Store}
 use Rattle.draid_session.specs.Holds.{Hold}
 use Rattle.draid_session.specs.Looks.{OnlyLooks}
 use Rattle.draid_session.specs.Writes as writes

@@ -9,53 +9,15 @@ use Rattle.draid_names.specs.declared.refusal.ObjectFault.TheVariants as fault
 use Rattle.draid_spec.specs.declared.layout.Geometry.{Geometry}
 use Rattle.draid_perm.specs.declared.perms.Perms.{Perms}
 use Rattle.draid_block.specs.Order.{solve_order}
-use Rattle.draid_machine.specs.declared.names.Key.{Key}
-use Rattle.draid_machine.specs.declared.names.ArmName.{ArmName}
 use Rattle.draid_machine.specs.declared.names.Held.{Held}
 use Rattle.draid_machine.specs.declared.event.Event.TheVariants as event
-use Rattle.draid_machine.specs.Arms.{answers, fails, is_clean, leaf_at, reading}
+use Rattle.draid_segments.specs.Reads.{IsAbsent, MoreBad}
 use Rattle.draid_machine.specs.State as machine
-use Rattle.draid_session.specs.State.{Write, Store, key_of, write_of}
+use Rattle.draid_objects.specs.Changes.{Write, key_of, write_of}
+use Rattle.draid_session.specs.State.{Store}
 use Rattle.draid_session.specs.Holds.{View, Did, Hold, On, layout_at}
 use Rattle.draid_session.specs.Looks.{IsLook, OnlyLooks}
 use Rattle.draid_session.specs.Worn.{IsWorn}
-
--- ---- which columns can't be trusted
-
--- no arm answers, or the leaf of the one that was read is among those on which a call failed
-abbrev pub IsUnread : machine.Layout → machine.Core → Held → List ℕ → Option ArmName → Type 0
-IsUnread l q h failed None = ⊤
-IsUnread l q h failed (Some n) = fails l q failed n h.first ≡ true
-
--- a column that wasn't read
-abbrev pub IsAbsent : machine.Layout → machine.Core → Held → List ℕ → ℕ → Type 0
-IsAbsent l q h failed c = IsUnread l q h failed (reading l q h c)
-
--- no arm of its slot answers and is clean for the block
-abbrev pub LacksClean : machine.Layout → machine.Core → Held → ℕ → Type 0
-LacksClean l q h c = find (λ n. answers l q n h.first && is_clean q h.birth n) (q.order (l.slot_of h.first c)) ≡ None
-
--- a sector of it, on the arm from which it is read, is harmed or in doubt
-pub record IsHurt (l : machine.Layout) (w : machine.State) (harm : ℕ → ℕ → Bool) (key : Key) (h : Held) (c : ℕ) : Type 0 where
-  pub n : ArmName
-  pub row : ℕ
-  pub leaf : ℕ
-  pub reads : reading l w.core h c ≡ Some n
-  pub inside : row < h.stripes
-  pub lies : leaf_at l w.core.order n (h.first + row) ≡ Some leaf
-  pub bad : (harm leaf (l.sector_of (h.first + row) c) ≡ true) ⊎ (w.aside (record { key = key; column = c; arm = n; leaf = leaf; row = row }) ≡ true)
-
--- a bad column
-pub record IsBad (l : machine.Layout) (w : machine.State) (harm : ℕ → ℕ → Bool) (key : Key) (h : Held) (failed : List ℕ) (c : ℕ) : Type 0 where
-  pub inside : c < l.columns
-  pub why : IsAbsent l w.core h failed c ⊎ (LacksClean l w.core h c ⊎ IsHurt l w harm key h c)
-
--- more columns are bad than there are parity columns
-pub record MoreBad (l : machine.Layout) (w : machine.State) (harm : ℕ → ℕ → Bool) (key : Key) (h : Held) (failed : List ℕ) : Type 0 where
-  pub columns : List ℕ
-  pub ascending : IsStrictlyIncreasing columns
-  pub each : All (IsBad l w harm key h failed) columns
-  pub more : l.parity < length columns
 
 -- bytes of this length and this digest
 pub record ReadsAs (last bytes : List ℕ) : Type 0 where

@@ -1,42 +1,10 @@
 -- What an open pool is to those who use it.
-use Rattle.std.specs.Prelude.{◌≡◌, ◌==◌, ◌/◌, ℕ, Bool, List, [], ◌∷◌, Option, Some, None, option_map, if◌then◌else◌}
+use Rattle.std.specs.Prelude.{◌/◌, ℕ, Bool, List, Option}
 use Rattle.draid_spec.specs.declared.layout.Geometry.{Geometry}
 use Rattle.draid_perm.specs.declared.perms.Perms.{Perms}
-use Rattle.draid_machine.specs.declared.names.Key.{Key}
 use Rattle.draid_machine.specs.declared.event.Event.{Event}
 use Rattle.draid_machine.specs.State as machine
-
--- ---- objects
-
--- An accepted write: its block lies in this metaslab, and was born in this group.
-pub record Write : Type 0 where
-  pub object : ℕ
-  pub seq : ℕ
-  pub metaslab : ℕ
-  pub birth : ℕ
-  pub bytes : List ℕ
-
--- what befell an object: a block was written to it, or it was freed in this group
-pub data Change : Type 0 where
-  Wrote : Write → Change
-  Freed : ℕ → ℕ → Change
-
-abbrev pub object_of : Change → ℕ
-object_of (Wrote w) = w.object
-object_of (Freed object group) = object
-
-abbrev pub write_in : Change → Option Write
-write_in (Wrote w) = Some w
-write_in (Freed object group) = None
-
--- the write that an object's bytes are of, if it has bytes; the newest change comes first
-abbrev pub write_of : List Change → ℕ → Option Write
-write_of [] object = None
-write_of (c ∷ cs) object = if object_of c == object then write_in c else write_of cs object
-
--- by what a write's block is known in its metaslab
-abbrev pub key_of : Write → Key
-key_of w = record { object = w.object; seq = w.seq }
+use Rattle.draid_objects.specs.Changes.{Change}
 
 -- What one thread has of its own: what befell its objects, the newest first; the number of the last write that it began; and the greatest group that its
 -- calls have used.

@@ -13,7 +13,8 @@ use Rattle.draid_machine.specs.declared.names.Held.{Held}
 use Rattle.draid_machine.specs.declared.names.Stage.TheVariants.{Writing}
 use Rattle.draid_machine.specs.declared.event.Event.TheVariants as event
 use Rattle.draid_machine.specs.State as machine
-use Rattle.draid_session.specs.State.{Write, Wrote, Freed, Store, key_of, write_of}
+use Rattle.draid_objects.specs.Changes.{Write, Wrote, Freed, key_of, write_of}
+use Rattle.draid_session.specs.State.{Store}
 use Rattle.draid_session.specs.Holds.{View, Did, Hold, On}
 use Rattle.draid_session.specs.Looks.{CountIs, OnlyLooks}
 use Rattle.draid_session.specs.Rooms.{IsDisabled, IsFull, IsShut, IsWornForBlock, LooksForRoom, longest, stripes_for}

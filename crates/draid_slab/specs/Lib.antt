@@ -1,0 +1,7 @@
+pub mod Calls
+pub mod Columns
+pub mod Fits
+pub mod Part
+pub mod Slots
+pub mod Stands
+pub mod States
