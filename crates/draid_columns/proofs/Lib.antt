@@ -1,3 +1,0 @@
-pub mod Flushing
-pub mod Reading
-pub mod Written
