@@ -1,0 +1,3 @@
+pub mod Flushing
+pub mod Reading
+pub mod Written

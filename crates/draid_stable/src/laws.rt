@@ -1,0 +1,46 @@
+ghost use Rattle.std.specs.Prelude.{◌≡◌, ◌<◌, ◌+◌, ◌^◌, ℕ, List, Option, length};
+ghost use Rattle.draid_area.specs.Area.{Content, MayLeave, flushes, writes};
+ghost use Rattle.draid_area.specs.Moments.{IsCrashOutcome};
+ghost use Rattle.draid_machine.specs.State as state;
+ghost use Rattle.draid_machine.specs.declared.names.ArmName.{ArmName};
+ghost use Rattle.draid_machine.specs.declared.names.Held.{Held};
+ghost use Rattle.draid_machine.specs.declared.names.Key.{Key};
+ghost use Rattle.draid_names.specs.declared.pointer.Pointer.{Pointer};
+ghost use Rattle.draid_record.specs.Record.{ArmTold, RecordTold};
+ghost use Rattle.draid_record.specs.Written.{body_bytes, record_bytes};
+ghost use Rattle.draid_spec.specs.declared.layout.Geometry.{Geometry};
+ghost use Rattle.draid_stable.specs.Images.{LeavesBelow, SaysArms, SaysBlocks, arm_by, held_by};
+ghost use Rattle.draid_stable.specs.Stable.{HasRecord, ReadsAs, Stands, area_of};
+
+/// Law: the record of an image that stands in an area is read again as that image, whatever a crash leaves,
+/// and stands there after the crash. Of the two areas of a metaslab it is the one of the image's group.
+pub fn records_outlast_crashes()
+    ensures read { (geometry : Geometry) (metaslab next : ℕ) (image : state.Image) (x : Content) (left : List ℕ)
+        → HasRecord geometry metaslab image x → LeavesBelow next image → MayLeave x left
+        → ReadsAs geometry metaslab next image left }
+    ensures stays { (geometry : Geometry) (metaslab : ℕ) (image : state.Image) (x y : Content)
+        → HasRecord geometry metaslab image x → IsCrashOutcome x y → HasRecord geometry metaslab image y }
+    ensures both { (geometry : Geometry) (metaslab : ℕ) (image : state.Image) (even odd left right : Content)
+        → HasRecord geometry metaslab image (area_of image.group even odd) → IsCrashOutcome even left
+        → IsCrashOutcome odd right → HasRecord geometry metaslab image (area_of image.group left right) }
+{}
+
+/// Law: a record that was written at the front of an area and flushed stands there.
+pub fn flushed_records_stand()
+    ensures { (value : RecordTold) (x : Content) → length (body_bytes value) + 10 < 2 ^ 32
+        → Stands value (flushes (writes 0 (record_bytes value) x)) }
+{}
+
+/// Law: a flush leaves a record that stands.
+pub fn standing_records_stay()
+    ensures { (value : RecordTold) (x : Content) → Stands value x → Stands value (flushes x) }
+{}
+
+/// Law: where each block of a record, or each arm, is that of a table, and the table has no other, the record
+/// says just the table.
+pub fn records_say_tables()
+    ensures blocks { (blocks : List Pointer) (table : Key → Option Held) → SaysBlocks blocks table
+        → held_by blocks ≡ table }
+    ensures arms { (slots : List (List ArmTold)) (table : ArmName → Option state.Arm) → SaysArms slots table
+        → arm_by slots ≡ table }
+{}
