@@ -1,5 +1,5 @@
 -- What the calls of a shard say.
-use Rattle.std.specs.Prelude.{◌≡◌, ◌<◌, ◌≤◌, ◌+◌, ◌^◌, ◌⊎◌, ◌↔◌, ◌==◌, ⊤, ℕ, Bool, List, Option, Some, None, MatchOption, min, count_by, slice_get, is_some, if◌then◌else◌, Result, OnErr}
+use Rattle.std.specs.Prelude.{◌≡◌, ◌<◌, ◌≤◌, ◌+◌, ◌-◌, ◌^◌, ◌⊎◌, ◌↔◌, ◌==◌, ⊤, ℕ, Bool, List, Option, Some, None, MatchOption, min, count_by, slice_get, is_some, if◌then◌else◌, Result, OnErr}
 use Rattle.std.specs.declared.vec.Vec.{Vec}
 use Rattle.std.specs.declared.alloc.Global.{Global}
 use Rattle.draid_names.specs.Numbers.{most_held}

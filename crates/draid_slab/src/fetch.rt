@@ -58,10 +58,7 @@ impl<R: Rack, A: Area> Shard<R, A> {
     }
 
     /// A place for each column of a block, of zeros, and room for as many leaves.
-    fn room_for(
-        &self,
-        pointer: &Pointer,
-    ) -> Result<(Vec<Option<Vec<u8>>>, Vec<u64>), NoMemory> {
+    fn room_for(&self, pointer: &Pointer) -> Result<(Vec<Option<Vec<u8>>>, Vec<u64>), NoMemory> {
         let bytes = pointer.stripes as usize * self.geometry.props.sector as usize;
         let mut columns = Vec::with_capacity(self.alloc, self.geometry.g as usize)?;
         for _column in 0..self.geometry.g {

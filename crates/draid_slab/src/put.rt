@@ -1,6 +1,7 @@
 ghost use Rattle.std.specs.Prelude.{◌≡◌, ◌<◌, ◌+◌};
 ghost use Rattle.draid_slab.specs.Calls.{Carries, Puts, SameAreas, SameReserve};
 ghost use Rattle.draid_slab.specs.Fits.{Valid};
+ghost use Rattle.draid_slab.specs.Slots as slots;
 
 use crate::places::column_place;
 use crate::shard::Shard;
@@ -40,8 +41,11 @@ impl<R: Rack, A: Area> Shard<R, A> {
             ticket.pointer.first,
             ticket.next,
         );
-        let Landing { landed, failed } =
-            self.land(&ticket.pointer, place, block.column(ticket.next));
+        let Landing { landed, failed } = self.land(
+            &ticket.pointer,
+            place,
+            block.column(ticket.next),
+        );
         if landed.as_slice().is_empty() {
             ticket.missed += 1;
         }
@@ -97,7 +101,9 @@ impl<R: Rack, A: Area> Shard<R, A> {
             size: self.geometry.props.sector as usize,
         };
         match write_rows(&mut self.rack, rows, column) {
-            Ok(()) => landing.landed.push(name_of(self.slots.arms(at.slot)[at.arm as usize])),
+            Ok(()) => landing
+                .landed
+                .push(name_of(self.slots.arms(at.slot)[at.arm as usize])),
             Err(_) => {
                 landing.failed.push(lies.leaf);
                 self.miss(at, pointer.birth);
@@ -115,7 +121,7 @@ impl<R: Rack, A: Area> Shard<R, A> {
 
 /// An arm by what it is.
 fn name_of(arm: Arm) -> ArmName
-    ensures { result ≡ name_of arm }
+    ensures { result ≡ slots.name_of arm }
 {
     match arm.kind {
         ArmKind::Leaf => ArmName::Leaf { leaf: arm.number },

@@ -1,10 +1,12 @@
-ghost use Rattle.std.specs.Prelude.{◌≡◌, ◌≤◌, OnErr, OnOk, max};
+ghost use Rattle.std.specs.Prelude.{◌≡◌, ◌+◌, ◌↔◌, Some, IfNone, IfSome, IsTrue, OnErr, OnOk, max};
+ghost use Rattle.draid_names.specs.Numbers as numbers;
+ghost use Rattle.draid_names.specs.declared.pass_kind.PassKind.TheVariants.{Rebuild};
 ghost use Rattle.draid_entries.specs.History.{AskIs, IsAsked, IsReserved, left_for_groups, limit_in, reserved_of};
-ghost use Rattle.draid_machine.specs.Created.{IsReached};
+ghost use Rattle.draid_machine.specs.Step.{HoldsFewer, IsEnabled};
 ghost use Rattle.draid_machine.specs.State as machine;
 ghost use Rattle.draid_slab.specs.Calls.{IsRoom, SameKit, ShutBy};
 ghost use Rattle.draid_slab.specs.Fits.{Valid};
-ghost use Rattle.draid_slab.specs.States.{DoesNone, IsIn, layout_by};
+ghost use Rattle.draid_slab.specs.States.{DoesNone, IsIn};
 
 use crate::fault::Shut;
 use crate::shard::Shard;
@@ -26,7 +28,7 @@ impl<R: Rack, A: Area> Shard<R, A> {
     /// Whether it holds as many blocks and open writes as it may.
     pub(crate) fn is_full(&self) -> bool
         requires valid { Valid R.Rack self.now }
-        ensures { (w : machine.State) → IsIn self.now w → IsTrue result ↔ (HoldsFewer w.core (most_held w.version) → ⊥) }
+        ensures { (w : machine.State) → IsIn self.now w → IsTrue result ↔ (HoldsFewer w.core (numbers.most_held w.version) → ⊥) }
     {
         self.entries.count() == most_held(self.version)
     }

@@ -163,8 +163,7 @@ fn enter(
     history: &mut History,
     pointer: Pointer,
     asked: u64,
-) -> Result<(), BeginFault>
-{
+) -> Result<(), BeginFault> {
     match history.ask(asked) {
         Ok(()) => {}
         Err(ReserveFault::Worn { events }) => return Err(BeginFault::Worn { events }),
