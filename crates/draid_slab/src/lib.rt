@@ -9,6 +9,7 @@ mod fault;
 mod fetch;
 mod laws;
 mod opening;
+mod outcome;
 mod places;
 mod put;
 mod rooms;

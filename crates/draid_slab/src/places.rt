@@ -1,13 +1,44 @@
 ghost use Rattle.std.specs.Prelude.{◌≡◌, ◌<◌};
+ghost use Rattle.draid_columns.specs.declared.rows.Rows.{Rows};
 ghost use Rattle.draid_spec.specs.Geometry.{metaslab_stripes};
-ghost use Rattle.draid_slab.specs.Part.{IsPart, layout_in};
+ghost use Rattle.draid_slab.specs.Part.{IsPart, IsRun, layout_in};
+ghost use Rattle.draid_slab.specs.Rows.{IsRowsOf, rows_on};
+ghost use Rattle.draid_slab.specs.States.{part_of};
 
 use crate::shard::Shard;
 use draid_area::Area;
+use draid_columns::Rows;
 use draid_map::{Place, place};
+use draid_names::Pointer;
 use draid_perm::Perms;
 use draid_rack::Rack;
 use draid_spec::Geometry;
+
+/// The rows of a column of a block: the slot that has them, their slice, the sector of the first and their number,
+/// counted within the metaslab, the length of a sector, and the group in which the block was born.
+#[derive(Clone, Copy, Debug, PartialEq, Eq)]
+pub(crate) struct ColumnRows {
+    pub(crate) slot: u32,
+    pub(crate) slice: u64,
+    pub(crate) first: u64,
+    pub(crate) count: u64,
+    pub(crate) size: usize,
+    pub(crate) birth: u64,
+}
+
+impl ColumnRows {
+    /// The rows on one leaf.
+    pub(crate) fn on(self, leaf: u64) -> Rows
+        ensures { result ≡ rows_on self leaf }
+    {
+        Rows {
+            leaf,
+            first: self.first,
+            count: self.count,
+            size: self.size,
+        }
+    }
+}
 
 /// The slot that has a column of a stripe of a metaslab, and the column's sector. Both are counted within the metaslab.
 pub(crate) fn column_place(
@@ -37,8 +68,28 @@ pub(crate) fn column_place(
 }
 
 impl<R: Rack, A: Area> Shard<R, A> {
-    /// The slice in which a sector of the metaslab lies.
-    pub(crate) fn slice_of(&self, sector: u64) -> u64 {
-        sector / (u64::from(self.geometry.rows) * u64::from(self.geometry.props.height))
+    /// The rows of a column of a pointer's block.
+    pub(crate) fn rows_of(&self, pointer: &Pointer, column: u32) -> ColumnRows
+        requires part { IsPart (part_of self.now) }
+        requires run { IsRun self.now.geometry pointer.now.first pointer.now.stripes }
+        requires column { column < self.now.geometry.g }
+        ensures { IsRowsOf (part_of self.now) pointer.now column result }
+    {
+        let place = column_place(
+            &self.geometry,
+            &self.perms,
+            self.number,
+            pointer.first,
+            column,
+        );
+        let band = u64::from(self.geometry.rows) * u64::from(self.geometry.props.height);
+        ColumnRows {
+            slot: place.child,
+            slice: place.sector / band,
+            first: place.sector,
+            count: u64::from(pointer.stripes),
+            size: self.geometry.props.sector as usize,
+            birth: pointer.birth,
+        }
     }
 }

@@ -1,21 +1,26 @@
-ghost use Rattle.std.specs.Prelude.{◌≡◌, ◌<◌, ◌+◌};
+ghost use Rattle.std.specs.Prelude.{◌≡◌, ◌<◌, ◌≤◌, ◌+◌, ◌*◌, ◌^◌, true, not, length};
 ghost use Rattle.draid_slab.specs.Calls.{Carries, Puts, SameAreas, SameReserve};
 ghost use Rattle.draid_slab.specs.Fits.{Valid};
-ghost use Rattle.draid_slab.specs.Slots as slots;
+ghost use Rattle.draid_slab.specs.Rows.{CountsOn, FitsRows, HasRoomFor, Lands, LandsOn, MissesAt, arm_no, is_done, noted};
+ghost use Rattle.draid_slab.specs.Slots as slots_of;
+ghost use Rattle.draid_names.specs.declared.arm.ArmKind.TheVariants.{Spare};
+ghost use Rattle.draid_slots.specs.Table.{IsThere, arms_of};
 
-use crate::places::column_place;
+use crate::outcome::Outcome;
+use crate::places::ColumnRows;
 use crate::shard::Shard;
 use crate::ticket::Ticket;
 use draid_area::Area;
 use draid_block::Encoded;
-use draid_columns::{Rows, write_rows};
+use draid_columns::write_rows;
 use draid_entries::key_of;
 use draid_machine::{ArmName, Event, FewArms, FewLeaves, Stage};
-use draid_map::Place;
-use draid_names::{Arm, ArmAt, ArmKind, Pointer};
+use draid_names::{Arm, ArmAt, ArmKind};
 use draid_rack::Rack;
+use draid_slots::Slots;
 
 /// Where a column landed, and on which leaves a call failed.
+#[derive(Clone, Copy, Debug)]
 struct Landing {
     landed: FewArms,
     failed: FewLeaves,
@@ -34,18 +39,9 @@ impl<R: Rack, A: Area> Shard<R, A> {
         ensures put { Puts R.Rack self.old self.new ticket.old ticket.new block.now }
         ensures reserve { SameReserve self.old self.new }
     {
-        let place = column_place(
-            &self.geometry,
-            &self.perms,
-            self.number,
-            ticket.pointer.first,
-            ticket.next,
-        );
-        let Landing { landed, failed } = self.land(
-            &ticket.pointer,
-            place,
-            block.column(ticket.next),
-        );
+        let rows = self.rows_of(&ticket.pointer, ticket.next);
+        let column = block.column(ticket.next);
+        let Landing { landed, failed } = land(&mut self.rack, &mut self.slots, rows, column);
         if landed.as_slice().is_empty() {
             ticket.missed += 1;
         }
@@ -62,71 +58,127 @@ impl<R: Rack, A: Area> Shard<R, A> {
         };
         self.history.add(event, 1);
     }
+}
 
-    /// Writes a column to each arm of its slot that answers.
-    fn land(&mut self, pointer: &Pointer, place: Place, column: &[u8]) -> Landing {
-        let mut landing = Landing {
-            landed: FewArms::none(),
-            failed: FewLeaves::none(),
-        };
-        for arm in 0..self.slots.arms(place.child).len() as u32 {
-            let at = ArmAt {
-                slot: place.child,
+/// Writes a column to each arm of its slot that answers, and notes the birth of its block in the logs of those on which
+/// it didn't land.
+fn land<R: Rack>(rack: &mut R, slots: &mut Slots, rows: ColumnRows, column: &[u8]) -> Landing
+    requires fits { FitsRows (R.shape rack.old) slots.old rows }
+    requires long { length column.now ≡ rows.count * rows.size }
+    requires birth { rows.birth < 2 ^ 48 }
+    requires room { HasRoomFor slots.old rows.birth }
+    ensures lands { Lands slots.old slots.new rows (length (arms_of slots.old rows.slot)) column.now result
+        (R.told rack.old) (R.told rack.new) (R.faults rack.old) (R.faults rack.new) }
+    ensures shape { R.shape rack.new ≡ R.shape rack.old }
+{
+    let mut landing = Landing {
+        landed: FewArms::none(),
+        failed: FewLeaves::none(),
+    };
+    for arm in 0..slots.arms(rows.slot).len() as u32 {
+        let outcome = land_on(rack, slots, rows, arm, column);
+        let name = name_of(slots.arms(rows.slot)[arm as usize]);
+        landing.note(name, outcome);
+    }
+    landing
+}
+
+/// Writes a column to one arm of its slot. Where it doesn't land there the birth of its block goes into the arm's log.
+fn land_on<R: Rack>(
+    rack: &mut R,
+    slots: &mut Slots,
+    rows: ColumnRows,
+    arm: u32,
+    column: &[u8],
+) -> Outcome
+    requires fits { FitsRows (R.shape rack.old) slots.old rows }
+    requires there { IsThere slots.old (arm_no rows arm) }
+    requires long { length column.now ≡ rows.count * rows.size }
+    requires birth { rows.birth < 2 ^ 48 }
+    requires room { HasRoomFor slots.old rows.birth }
+    ensures lands { LandsOn slots.old rows arm column.now result (R.told rack.old) (R.told rack.new) }
+    ensures counts { CountsOn result (R.faults rack.old) (R.faults rack.new) }
+    ensures misses { MissesAt slots.old slots.new (arm_no rows arm) rows.birth (not (is_done result)) }
+    ensures shape { R.shape rack.new ≡ R.shape rack.old }
+{
+    let outcome = write_to(rack, slots, rows, arm, column);
+    if !matches!(outcome, Outcome::Done) {
+        miss(
+            slots,
+            ArmAt {
+                slot: rows.slot,
                 arm,
-            };
-            self.land_on(at, pointer, place.sector, column, &mut landing);
-        }
-        landing
+            },
+            rows.birth,
+        );
     }
+    outcome
+}
 
-    /// Writes a column to one arm. Where it doesn't land there the block's birth goes into the arm's log.
-    fn land_on(
-        &mut self,
-        at: ArmAt,
-        pointer: &Pointer,
-        sector: u64,
-        column: &[u8],
-        landing: &mut Landing,
-    ) {
-        let slice = self.slice_of(sector);
-        if !self.slots.answers(at, slice) {
-            self.miss(at, pointer.birth);
-            return;
-        }
-        let lies = self.slots.place(at, sector);
-        let rows = Rows {
-            leaf: lies.leaf,
-            first: sector,
-            count: u64::from(pointer.stripes),
-            size: self.geometry.props.sector as usize,
-        };
-        match write_rows(&mut self.rack, rows, column) {
-            Ok(()) => landing
-                .landed
-                .push(name_of(self.slots.arms(at.slot)[at.arm as usize])),
-            Err(_) => {
-                landing.failed.push(lies.leaf);
-                self.miss(at, pointer.birth);
-            }
-        }
+/// Writes a column to one arm of its slot, if that answers.
+fn write_to<R: Rack>(
+    rack: &mut R,
+    slots: &Slots,
+    rows: ColumnRows,
+    arm: u32,
+    column: &[u8],
+) -> Outcome
+    requires fits { FitsRows (R.shape rack.old) slots.now rows }
+    requires there { IsThere slots.now (arm_no rows arm) }
+    requires long { length column.now ≡ rows.count * rows.size }
+    ensures lands { LandsOn slots.now rows arm column.now result (R.told rack.old) (R.told rack.new) }
+    ensures counts { CountsOn result (R.faults rack.old) (R.faults rack.new) }
+    ensures shape { R.shape rack.new ≡ R.shape rack.old }
+{
+    let at = ArmAt {
+        slot: rows.slot,
+        arm,
+    };
+    if !slots.answers(at, rows.slice) {
+        return Outcome::Silent;
     }
+    let leaf = slots.place(at, rows.first).leaf;
+    match write_rows(rack, rows.on(leaf), column) {
+        Ok(()) => Outcome::Done,
+        Err(_) => Outcome::Failed { leaf },
+    }
+}
 
-    /// Notes in the log of an arm that a block born in this group isn't whole there.
-    fn miss(&mut self, at: ArmAt, birth: u64) {
-        if !self.slots.log(at).contains(birth) {
-            self.slots.dirty(at, birth);
+/// Notes in the log of an arm that a block born in this group isn't whole there.
+fn miss(slots: &mut Slots, at: ArmAt, birth: u64)
+    requires there { IsThere slots.old at }
+    requires birth { birth < 2 ^ 48 }
+    requires room { HasRoomFor slots.old birth }
+    ensures { MissesAt slots.old slots.new at birth true }
+{
+    if !slots.log(at).contains(birth) {
+        slots.dirty(at, birth);
+    }
+}
+
+impl Landing {
+    /// Notes what became of the write to an arm.
+    fn note(&mut self, name: ArmName, outcome: Outcome)
+        requires landed { length self.old.landed < 3 }
+        requires failed { length self.old.failed < 3 }
+        ensures { self.new ≡ noted self.old name outcome }
+    {
+        match outcome {
+            Outcome::Silent => {}
+            Outcome::Failed { leaf } => self.failed.push(leaf),
+            Outcome::Done => self.landed.push(name),
         }
     }
 }
 
-/// An arm by what it is.
+/// An arm by what it is. Spares have numbers of 32 bits; what a greater one gives is of no account.
 fn name_of(arm: Arm) -> ArmName
-    ensures { result ≡ slots.name_of arm }
+    ensures { (arm.kind ≡ Spare → arm.number < 2 ^ 32) → result ≡ slots_of.name_of arm }
 {
     match arm.kind {
         ArmKind::Leaf => ArmName::Leaf { leaf: arm.number },
         ArmKind::Spare => ArmName::Spare {
-            spare: arm.number as u32,
+            spare: u32::try_from(arm.number).unwrap_or(0),
         },
     }
 }
