@@ -253,8 +253,8 @@ module _ (part : Part) (is : IsPart part) (slots new : SlotTable) (of : IsOf slo
   pub record IsRow (s : Segment) : Type 0 where
     pub k : ℕ
     pub below : k < length (arms_of slots rows.slot)
-    pub key : s.key ≡ key_of pointer
-    pub column : s.column ≡ c
+    pub key_is : s.key ≡ key_of pointer
+    pub column_is : s.column ≡ c
     pub named : name_on slots rows k ≡ Some s.arm
     pub landed : has_name landing.landed s.arm ≡ true
     pub on : leaf_on slots rows k ≡ Some s.leaf
@@ -272,8 +272,8 @@ module _ (part : Part) (is : IsPart part) (slots new : SlotTable) (of : IsOf slo
       record {
         k = z.0;
         below = z.1;
-        key = sym (key_true (key_of pointer) s.key four.0);
-        column = is_equal s.column c four.1;
+        key_is = sym (key_true (key_of pointer) s.key four.0);
+        column_is = is_equal s.column c four.1;
         named = z.2;
         landed = four.2;
         on = sym (leaf_at_is part is slots of w reached has pointer run c column rows rows_are z.0 arm.0 arm.1) ∙ ap (λ n. leaf_at (layout_in part) w.core.order n pointer.first) arm.2
@@ -282,7 +282,7 @@ module _ (part : Part) (is : IsPart part) (slots new : SlotTable) (of : IsOf slo
       }
 
   row_at : (s : Segment) → IsRow s → (layout_in part).sector_of (pointer.first + s.row) s.column ≡ rows.first + s.row
-  row_at s r = ap ((layout_in part).sector_of (pointer.first + s.row)) r.column ∙ sector_row s.row r.row
+  row_at s r = ap ((layout_in part).sector_of (pointer.first + s.row)) r.column_is ∙ sector_row s.row r.row
 
   puts_column : (pieces : Pieces) (columns : List (List ℕ)) → ArePieces part.geometry.props.sector part.geometry.g pointer.stripes columns (key_of pointer) pieces → bytes ≡ column_at columns c → (x y : Told)
       → Wrote slots rows (length (arms_of slots rows.slot)) bytes landing.landed x y → PutsColumn (layout_in part) w.core (key_of pointer) block c landing.landed pieces x y
@@ -291,7 +291,7 @@ module _ (part : Part) (is : IsPart part) (slots new : SlotTable) (of : IsOf slo
     landed_reads = λ s at. (let r = landed_row s at in
         ap (y.reads s.leaf) (row_at s r) ∙ wrote.stand are_apart r.k s.leaf s.arm r.below r.named r.landed r.on s.row (let less = r.row in let count = rows_are.count_is in omega (arith, less, count))
         ∙ ap Some (ap₂ (λ size column. row_bytes size column s.row) rows_are.size_is of_column
-        ∙ sym (are c s.row column r.row) ∙ (λ i. pieces (sym r.key i) (sym r.column i) s.row)));
+        ∙ sym (are c s.row column r.row) ∙ (λ i. pieces (sym r.key_is i) (sym r.column_is i) s.row)));
     landed_harm = λ s at. (let r = landed_row s at in
         ap (y.harmed s.leaf) (row_at s r) ∙ wrote.whole are_apart r.k s.leaf s.row s.arm r.below r.named r.landed r.on (let less = r.row in let count = rows_are.count_is in omega (arith, less, count)));
   }

@@ -124,7 +124,7 @@ pub record Valid {R A : Type 0} (rack : Ghosts R) (shard : Shard R A) : Type 0 w
   pub logs : LogsHaveRoom shard.slots (oldest_open shard.open_group shard.closing)
   pub leaves : HasLeaves (rack.shape shard.rack) shard.geometry shard.slots
   pub groups : AreGroups shard.open_group shard.closing shard.committed shard.sealed
-  pub low : shard.open_group ≤ LAST_NUMBER
+  pub low : shard.open_group < LAST_NUMBER
   pub tickets : TicketsAreNew shard.entries (oldest_open shard.open_group shard.closing)
   pub owed : owed_of shard.history
       ≡ owed_by shard.geometry.g shard.entries + owed_for_pass shard.pass + owed_for_group shard.closing shard.sealed + reserved_of shard.history

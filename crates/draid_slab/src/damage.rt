@@ -30,10 +30,11 @@ impl<R: Rack, A: Area> Shard<R, A> {
         ensures limit { limit_in self.new.history ≡ limit_in self.old.history }
     {
         let done = self.rack.damage(leaf, sector);
+        let failed = done.is_err();
         let event = Event::Damage {
             leaf,
             sector,
-            failed: done.is_err(),
+            failed,
         };
         self.history.add_reserved(event, 0);
         done
