@@ -7,6 +7,7 @@ pub mod Fitted
 pub mod Holders
 pub mod Homes
 pub mod Landings
+pub mod PutKept
 pub mod Putting
 pub mod Puts
 pub mod Staging
