@@ -2,9 +2,9 @@ use Rattle.std.proofs.Common.{◌≡◌, ◌+◌, ◌<◌, ◌^◌, ◌∙◌, �
 use Rattle.draid_slab.specs.Fits.{oldest_open}
 use Rattle.draid_slab.specs.Rows.{HasRoomFor}
 use Rattle.draid_slab.specs.States.{part_of}
-use Rattle.draid_slab.proofs.Fitted.{born_low, fits_rows}
+use Rattle.draid_slab.proofs.Fitted.{born_from, born_low, fits_rows}
 use Rattle.draid_slab.proofs.Homes.{geometry_is}
-use Rattle.draid_slab.proofs.PutKept.{high, low, owes_one, put_valid}
+use Rattle.draid_slab.proofs.PutKept.{owes_one, put_valid}
 use Rattle.draid_slab.proofs.Puts.{counted, put_acted, put_leads}
 use Rattle.draid_slab.proofs.Staging.{column_long, room_for}
 use Rattle.draid_slab.proofs.shard.Shard.put.Goals as goal
@@ -42,7 +42,7 @@ land-requires-clause-birth g c =
 pub land-requires-clause-room : goal.land-requires-clause-room
 land-requires-clause-room g c =
     let v = c.requires.valid in
-    let old = c.args.self.now in
     subst (HasRoomFor c.args.self.now.slots) (sym c.rows_of-rows.ensures.birth_is) (room_for c.args.self.now.slots (oldest_open c.args.self.now.open_group c.args.self.now.closing) c.args.ticket.now.pointer.birth
-    (low g.R.Rack c.args.self.now v c.args.ticket.now.pointer c.args.ticket.now.next c.args.ticket.now.missed _ _ c.requires.carries.is_open c.requires.left refl _ _)
-    (high g.R.Rack c.args.self.now v c.args.ticket.now.pointer c.args.ticket.now.next c.args.ticket.now.missed _ _ c.requires.carries.is_open c.requires.left refl _ _) v.logs)
+    (v.tickets c.args.ticket.now.pointer.first _ c.args.ticket.now.next c.args.ticket.now.missed c.requires.carries.is_open refl)
+    (born_from c.args.self.now.open_group c.args.self.now.committed c.args.ticket.now.pointer.birth c.args.self.now.closing c.args.self.now.sealed v.groups
+    (v.tables.placed c.args.ticket.now.pointer.first _ c.requires.carries.is_open).is_block.born) v.logs)
