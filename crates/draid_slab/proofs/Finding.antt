@@ -76,7 +76,7 @@ module _ (part : Part) (is : IsPart part) (slots : SlotTable) (of : IsOf slots p
     is_there n = arms.answers (layout_in part) w.core n pointer.first
 
     pub reading_found : (leaf : ℕ) → IsReadOn slots rows leaf → (n : ArmName) × (arms.reading (layout_in part) w.core block c ≡ Some n) × (leaf_at (layout_in part) w.core.order n pointer.first ≡ Some leaf)
-            × (has_name (w.core.order ((layout_in part).slot_of pointer.first c)) n ≡ true)
+        × (has_name (w.core.order ((layout_in part).slot_of pointer.first c)) n ≡ true)
     reading_found leaf r = by r.read.clean refl
       where
         lies : (a : Arm) → arm_at slots (arm_no rows r.read.arm) ≡ Some a → leaf_at (layout_in part) w.core.order (name_of a) pointer.first ≡ Some leaf

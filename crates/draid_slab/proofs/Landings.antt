@@ -147,7 +147,6 @@ or_right false b e = e
 module _ (slots mid new : SlotTable) (rows : ColumnRows) (n : ℕ) (column : List ℕ) (landing : Landing) (o p q : Option Told) (f g h : Option ℕ → ℕ) (a : Arm) (name : ArmName) (outcome : Outcome)
     (was : Lands slots mid rows n column landing o p f g) (there : arm_at slots (arm_no rows n) ≡ Some a) (named : (a.kind ≡ Spare → a.number < 2 ^ 32) → name ≡ name_of a)
     (lands : LandsOn slots rows n column outcome p q) (counts : CountsOn outcome g h) (misses : MissesAt mid new (arm_no rows n) rows.birth (not (is_done outcome))) where
-
   -- the arm's name
   own : name_on slots rows n ≡ Some (name_of a)
   own = ap (option_map name_of) there

@@ -56,10 +56,12 @@ impl<R: Rack, A: Area> Shard<R, A> {
             Err(ReserveFault::NoMemory) => return Err(FetchFault::NoMemory),
         }
         let bytes = pointer.stripes as usize * self.geometry.props.sector as usize;
-        let Ok(Room {
-            mut columns,
-            mut failed,
-        }) = room_for(self.alloc, self.geometry.g, bytes)
+        let Ok(
+            Room {
+                mut columns,
+                mut failed,
+            },
+        ) = room_for(self.alloc, self.geometry.g, bytes)
         else {
             return Err(FetchFault::NoMemory);
         };
@@ -123,12 +125,7 @@ fn room_for(alloc: Global, count: u32, bytes: usize) -> Result<Room, NoMemory>
 }
 
 /// Reads one column from the arm that is to be read.
-fn read_column<R: Rack>(
-    rack: &mut R,
-    slots: &Slots,
-    rows: ColumnRows,
-    into: &mut [u8],
-) -> Outcome
+fn read_column<R: Rack>(rack: &mut R, slots: &Slots, rows: ColumnRows, into: &mut [u8]) -> Outcome
     requires fits { FitsRows (R.shape rack.old) slots.now rows }
     requires long { length into.old ≡ rows.count * rows.size }
     ensures reads { ReadsOn slots.now rows result (R.told rack.old) into.new }

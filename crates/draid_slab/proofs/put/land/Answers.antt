@@ -1,5 +1,3 @@
-use Rattle.draid_slab.proofs.Putting.{put_step}
-use Rattle.draid_slab.proofs.Staging.{logs_left}
 use Rattle.std.proofs.Common.{◌≡◌, ◌<◌, ◌∙◌, Some, [], false, ap, arith, get_or, length, refl, slice_get, sym, subst}
 use Rattle.std.specs.Prelude.{slice_index_or}
 use Rattle.std.proofs.lemmas.Option.{slice_get-get_or}
