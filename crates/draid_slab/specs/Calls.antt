@@ -6,6 +6,7 @@ use Rattle.draid_names.specs.Numbers.{most_held}
 use Rattle.draid_names.specs.declared.pass_kind.PassKind.TheVariants.{Rebuild}
 use Rattle.draid_names.specs.declared.pointer.Pointer.{Pointer}
 use Rattle.draid_block.specs.Blocks.{AreColumns, BlockValue, IsContent, cut_of}
+use Rattle.draid_block.specs.Solving.{IsFetched}
 use Rattle.draid_block.specs.declared.solve.Fetched.{Fetched}
 use Rattle.draid_rack.specs.Rack.{OnTold, Told}
 use Rattle.draid_rack.specs.declared.Rack.{Ghosts}
@@ -164,6 +165,9 @@ pub record AreFetched (l : machine.Layout) (w : machine.State) (h : Held) (size 
 
 -- A live block was fetched.
 pub record Fetches {R A : Type 0} (rack : Ghosts R) (old new : Shard R A) (pointer : Pointer) (fetched : Fetched) : Type 0 where
+  pub live : IsLive old pointer
+  pub pointer_is : fetched.pointer ≡ pointer
+  pub fetched_is : IsFetched (cut_of old.geometry) fetched
   pub failed : Vec ℕ Global
   pub does : Does old new (event.Fetch (key_of pointer) failed)
   pub counts : CountsFailed failed.items (rack.faults old.rack) (rack.faults new.rack)
