@@ -1,0 +1,13 @@
+pub mod Answering
+pub mod Damaging
+pub mod Fetches
+pub mod Fetching
+pub mod Finding
+pub mod Fitted
+pub mod Holders
+pub mod Homes
+pub mod Landings
+pub mod PutKept
+pub mod Putting
+pub mod Puts
+pub mod Staging
