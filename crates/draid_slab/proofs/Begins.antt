@@ -1,5 +1,5 @@
 -- The beginning of a write: legal where a run was given, and refused for what a state says.
-use Rattle.std.proofs.Common.{◌≡◌, ◌⊎◌, ◌+◌, ◌*◌, ◌<◌, ◌≤◌, ◌∙◌, ℕ, Bool, true, false, Option, Some, None, option_map, arith, refl, sym, ap, inl, inr, max}
+use Rattle.std.proofs.Common.{◌≡◌, ◌⊎◌, ◌+◌, ◌*◌, ◌<◌, ◌≤◌, ◌∙◌, ℕ, Bool, true, false, Option, Some, None, option_map, arith, refl, sym, ap, inl, inr, max, subst}
 use Rattle.std.proofs.Math.Nat.{mul-le-mul}
 use Rattle.std.proofs.lemmas.Bool.{cases_lt}
 use Rattle.std.proofs.lemmas.Bool.Decides.{nat_tests}
@@ -14,6 +14,7 @@ use Rattle.draid_machine.specs.declared.names.Held.{Held}
 use Rattle.draid_machine.specs.declared.names.Key.{Key}
 use Rattle.draid_machine.specs.After.{begin_state, set_held}
 use Rattle.draid_machine.specs.State as machine
+use Rattle.draid_machine.specs.Step.{Fits}
 use Rattle.draid_rack.specs.declared.Rack.{Ghosts}
 use Rattle.draid_entries.specs.declared.entries.Entries.{Entries}
 use Rattle.draid_entries.specs.declared.history.History.{History}
@@ -121,8 +122,9 @@ refused_by old need stripes asked (begin.Worn used) may some same events refused
   few old.entries w.core (most_held w.version) is_in.held (let less = may.few in let version = ap most_held is_in.version in omega (arith, less, version)),
   (
     refused.0.0,
-    rw same at spot_fits old.geometry old.open_group old.space old.entries may.tables (layout_by old) w.core is_in.held refl refl refused.0.0 stripes (some_height old.geometry may.geometry_is)
-      (omega (arith, some, same)) refused.0.1.spot,
+    subst (λ n. Fits (layout_by old) w.core refused.0.0 n) same
+    (spot_fits old.geometry old.open_group old.space old.entries may.tables (layout_by old) w.core is_in.held refl refl refused.0.0 stripes (some_height old.geometry may.geometry_is)
+      (omega (arith, some, same)) refused.0.1.spot),
   ),
   (let passes = refused.1 in omega (arith, passes, events)),
   refused.2,

@@ -1,6 +1,7 @@
 -- Runs of free stripes by the space and by a state; why a metaslab takes no block.
 use Rattle.std.proofs.Common.{◌≡◌, ◌⊎◌, ◌+◌, ◌-◌, ◌*◌, ◌<◌, ◌≤◌, ◌%◌, ◌/◌, ◌∙◌, ◌↔◌, ℕ, zero, suc, Bool, true, false, Option, Some, None, option_map, arith, refl, sym, ap, inl, inr, subst}
 use Rattle.std.proofs.Math.Nat.{mod-lt}
+use Rattle.std.proofs.lemmas.Bool.{true≢false}
 use Rattle.std.proofs.lemmas.Bool.Decides.{nat_tests}
 use Rattle.draid_names.specs.Numbers.{most_held}
 use Rattle.draid_names.specs.declared.pass_kind.PassKind.{PassKind}
@@ -140,6 +141,18 @@ enabled_by slots (Some pass) q same none p there = by pass.kind refl none
     by Rebuild at none = absurd (let rebuild : is_rebuild (Some pass) ≡ true = ap (λ k. elim k as (λ k. Bool) [ Rebuild ↦ true | Heal ↦ false ]) at in cc)
     by Heal at none = ap (λ (m : machine.Pass). m.kind) (some_injective p (pass_in slots pass) (sym there ∙ same)) ∙ at
 
+-- with one it isn't
+pub disabled_by : (slots : SlotTable) (pass : Option Pass) (q : machine.Core) → q.pass ≡ option_map (pass_in slots) pass → is_rebuild pass ≡ true → IsEnabled q → ⊥
+disabled_by slots None q same rebuild enabled = absurd (cc)
+disabled_by slots (Some pass) q same rebuild enabled =
+    let heal : pass.kind ≡ Heal = enabled (pass_in slots pass) same in
+    let none : is_rebuild (Some pass) ≡ false = ap (λ k. elim k as (λ k. Bool) [ Rebuild ↦ true | Heal ↦ false ]) heal in
+    true≢false (sym rebuild ∙ none)
+
+pub neither : (a b : Bool) → (a ≡ true) ↔ (b ≡ true) → a ≡ false → b ≡ false
+neither a false same none = refl
+neither a true same none = absurd (true≢false (sym (same.1 refl) ∙ none))
+
 -- ---- blocks and tickets
 
 -- as many as there may be are not fewer
@@ -156,15 +169,15 @@ full_by shard w full is_in most is = (is_full, is_not)
         let count = is.0 at in
         omega (arith, less, count, version)
 
+    differs : (count limit : ℕ) → count ≤ limit → (count < limit → ⊥) → count ≡ limit
+    differs count limit most none = search (arith)
+
     is_not : (HoldsFewer w.core (most_held w.version) → ⊥) → full ≡ true
     is_not none = by full refl
       where
         by : (b : Bool) → full ≡ b → full ≡ true
         by true at = at
         by false at = is.1 (differs (count_of shard.entries) (most_held shard.version) most (λ less. none (few shard.entries w.core (most_held w.version) is_in.held (omega (arith, less, version)))))
-
-        differs : (count limit : ℕ) → count ≤ limit → (count < limit → ⊥) → count ≡ limit
-        differs count limit most none = search (arith)
 
 -- a metaslab that is shut takes no blocks
 pub shut_takes : {R A : Type 0} (shard : Shard R A) (w : machine.State) (shut : Shut) → ShutBy shard w (Some shut) → TakesBlocks shard w → ⊥

@@ -1,12 +1,14 @@
 -- For which states a shard stands after one entry of its table came, turned or went.
 use Rattle.std.proofs.Common.{◌≡◌, ◌≤◌, ◌+◌, ◌∙◌, ℕ, Bool, true, false, Option, Some, None, option_map, if◌then◌else◌, arith, refl, sym, ap, inl, inr}
+use Rattle.std.proofs.lemmas.Bool.{true≢false}
 use Rattle.draid_names.specs.declared.pointer.Pointer.{Pointer}
 use Rattle.draid_metaslab.specs.Spaces.{Stripes}
 use Rattle.draid_machine.specs.declared.names.Key.{Key}
 use Rattle.draid_machine.specs.declared.names.Held.{Held}
 use Rattle.draid_machine.specs.declared.names.Segment.{Segment}
+use Rattle.draid_machine.specs.declared.names.Stage.{Stage}
 use Rattle.draid_machine.specs.declared.names.Stage.TheVariants.{Writing}
-use Rattle.draid_machine.specs.Names.{key_eq}
+use Rattle.draid_machine.specs.Names.{is_block, key_eq}
 use Rattle.draid_machine.specs.After.{set_held}
 use Rattle.draid_machine.specs.State.{State}
 use Rattle.draid_machine.proofs.Small.{none_some, some_injective}
@@ -14,7 +16,7 @@ use Rattle.draid_entries.specs.declared.entry.Entry.{Entry}
 use Rattle.draid_entries.specs.declared.entries.Entries.{Entries}
 use Rattle.draid_entries.specs.declared.history.History.{History}
 use Rattle.draid_entries.specs.Entries.{SameEntries, SetsEntry, entry_at, held_in}
-use Rattle.draid_entries.specs.Maps.{entry_in, first_in, held_at, held_from, key_of}
+use Rattle.draid_entries.specs.Maps.{entry_in, first_in, held_at, held_from, key_of, staged}
 use Rattle.draid_entries.proofs.Counted.{led_held}
 use Rattle.draid_slab.specs.declared.shard.Shard.{Shard}
 use Rattle.draid_slab.specs.Fits.{TicketsAreNew}
@@ -88,6 +90,18 @@ tickets_set old new p entry from tickets sets own first e put missed there stage
   | inl here ↦ own e put missed here.1 stage
   | inr other ↦ tickets first e put missed other.1 stage
 ]
+
+-- nothing came, or a block
+pub tickets_gone : (old new : Entries) (p : Pointer) (from : ℕ) → TicketsAreNew old from → SetsEntry old new p None → TicketsAreNew new from
+tickets_gone old new p from tickets sets = tickets_set old new p None from tickets sets (λ e put missed is stage. absurd (none_some None e refl is))
+
+pub tickets_block : (old new : Entries) (p : Pointer) (s : Stage) (from : ℕ) → is_block s ≡ true → TicketsAreNew old from → SetsEntry old new p (Some (staged s p)) → TicketsAreNew new from
+tickets_block old new p s from block tickets sets = tickets_set old new p (Some (staged s p)) from tickets sets own
+  where
+    own : (e : Entry) (put missed : ℕ) → Some (staged s p) ≡ Some e → e.stage ≡ Writing put missed → from ≤ e.pointer.birth
+    own e put missed is stage =
+        let same : s ≡ Writing put missed = ap (λ (e : Entry). e.stage) (some_injective (staged s p) e is) ∙ stage in
+        absurd (true≢false (sym block ∙ ap is_block same))
 
 pub tickets_same : (old new : Entries) (from : ℕ) → TicketsAreNew old from → SameEntries old new → TicketsAreNew new from
 tickets_same old new from tickets same first e put missed there stage = tickets first e put missed (sym (same.at first) ∙ there) stage

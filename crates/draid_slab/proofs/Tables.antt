@@ -313,6 +313,9 @@ released_tables geometry group old new entries next pointer stage t own frees se
         held x (inl before) f = let was = frees x in grind (arith, nat_tests, was, f)
         held x (inr after) f = let was = frees x in grind (arith, nat_tests, was, f)
 
+placed_as : (geometry : Geometry) (group : ℕ) (space : Stripes) (p q : Pointer) → p ≡ q → IsPlaced geometry space group p → IsPlaced geometry space group q
+placed_as geometry group space p q same is = subst (λ r. IsPlaced geometry space group r) same is
+
 -- an entry came to another stage
 pub turned_tables : (geometry : Geometry) (group : ℕ) (space : Stripes) (entries next : Entries) (pointer : Pointer) (was now : Stage) → Tables geometry group space entries
     → entry_at entries pointer.first ≡ Some (staged was pointer) → SetsEntry entries next pointer (Some (staged now pointer))
@@ -322,7 +325,7 @@ turned_tables geometry group space entries next pointer was now t own sets len =
   total = t.total;
   count = t.count ∙ sym len;
   inside = t.inside;
-  placed = λ k e h. let b = before k e h in let P : Pointer → Type 0 = λ p. IsPlaced geometry space group p in subst P b.2 (t.placed k b.0 b.1);
+  placed = λ k e h. let b = before k e h in placed_as geometry group space b.0.pointer e.pointer b.2 (t.placed k b.0 b.1);
   apart = λ j k a b ha hb lt. let x = before j a ha in let y = before k b hb in let n = t.apart j k x.0 y.0 x.1 y.1 lt in rw (← x.2) n;
   covered = λ x below taken. turns x (t.covered x below taken);
 } where

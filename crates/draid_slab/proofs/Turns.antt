@@ -62,7 +62,7 @@ fitting rack shard v = record {
 
 module _ {R A : Type 0} (old : Shard R A) (space : Stripes) (entries : Entries) (history : History) (ticket : Ticket) (is_open : IsOpen old ticket) where
 
-  own : Entry
+  abbrev own : Entry
   own = staged (Writing ticket.next ticket.missed) ticket.pointer
 
   gone_in : SetsEntry old.entries entries ticket.pointer None → (w : machine.State) → IsIn old w → IsIn (with_tables old space entries history) (gone_state w (key_of ticket.pointer))

@@ -72,18 +72,20 @@ impl<R: Rack, A: Area> Shard<R, A> {
             digest: block.digest(),
         };
         let asked = self.block_events();
-        let pointer = hold(
+        match hold(
             &mut self.space,
             &mut self.entries,
             &mut self.history,
             pointer,
             asked,
-        )?;
-        Ok(Ticket {
-            pointer,
-            next: 0,
-            missed: 0,
-        })
+        ) {
+            Ok(pointer) => Ok(Ticket {
+                pointer,
+                next: 0,
+                missed: 0,
+            }),
+            Err(fault) => Err(fault),
+        }
     }
 
     /// Ends a write whose columns are all put: its block is live, or its stripes are free again where more columns
