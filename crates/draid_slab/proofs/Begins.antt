@@ -16,9 +16,12 @@ use Rattle.draid_machine.specs.After.{begin_state, set_held}
 use Rattle.draid_machine.specs.State as machine
 use Rattle.draid_machine.specs.Step.{Fits}
 use Rattle.draid_rack.specs.declared.Rack.{Ghosts}
+use Rattle.draid_machine.specs.declared.names.Stage.TheVariants.{Writing}
+use Rattle.draid_machine.proofs.Small.{some_injective}
+use Rattle.draid_entries.specs.declared.entry.Entry.{Entry}
 use Rattle.draid_entries.specs.declared.entries.Entries.{Entries}
 use Rattle.draid_entries.specs.declared.history.History.{History}
-use Rattle.draid_entries.specs.Entries.{SetsEntry, begun, count_of, entry_at, held_in, owed_by}
+use Rattle.draid_entries.specs.Entries.{SetsEntry, begun, count_of, entry_at, held_in, owed_at, owed_by}
 use Rattle.draid_entries.specs.History.{Passes, left_for_groups, owed_of, reserved_of}
 use Rattle.draid_entries.specs.Maps.{held_at, key_of}
 use Rattle.draid_entries.proofs.Counted.{few}
@@ -26,10 +29,10 @@ use Rattle.draid_slab.specs.declared.fault.BeginFault.{BeginFault}
 use Rattle.draid_slab.specs.declared.fault.BeginFault.TheVariants as begin
 use Rattle.draid_slab.specs.declared.shard.Shard.{Shard}
 use Rattle.draid_slab.specs.Calls.{BeginRefused, begins, block_events}
-use Rattle.draid_slab.specs.Fits.{Tables, TicketsAreNew, Valid, is_rebuild, oldest_open}
+use Rattle.draid_slab.specs.Fits.{AreGroups, Tables, TicketsAreNew, Valid, is_rebuild, oldest_open}
 use Rattle.draid_slab.specs.Holding.{HoldRefused}
 use Rattle.draid_slab.specs.States.{IsIn, Leads, layout_by}
-use Rattle.draid_slab.proofs.Held.{set_same, tables_in, with_tables}
+use Rattle.draid_slab.proofs.Held.{set_same, tickets_set, tables_in, with_tables}
 use Rattle.draid_slab.proofs.FreeRuns.{enabled_by, longest_of, run_fits, spot_fits, spot_of}
 use Rattle.draid_slab.proofs.Tables.{WasFree, spot_free}
 
@@ -57,9 +60,24 @@ due_upto group birth floor is below = elim (cases_lt floor group) [
   | inr high ↦ (let m : max group floor ≡ floor = grind (arith, nat_tests, high) in omega (arith, is, m, below))
 ]
 
--- fewer blocks and tickets than there may be
-pub fewer : (count limit : ℕ) → count ≤ limit → (count ≡ limit → ⊥) → count < limit
-fewer count limit most differs = search (arith)
+-- the first group in which a ticket may have been born isn't behind the open one
+pub oldest_low : (group : ℕ) (closing : Option ℕ) (committed : ℕ) (sealed : Bool) → AreGroups group closing committed sealed → oldest_open group closing ≤ group
+oldest_low group None committed sealed are = omega arith
+oldest_low group (Some t) committed sealed are = let behind = are.0 in omega (arith, behind)
+
+-- a ticket that is begun in a group that is open
+pub tickets_begun : (old new : Entries) (p : Pointer) (from : ℕ) → TicketsAreNew old from → SetsEntry old new p (Some (begun p)) → from ≤ p.birth → TicketsAreNew new from
+tickets_begun old new p from tickets sets due = tickets_set old new p (Some (begun p)) from tickets sets own
+  where
+    own : (e : Entry) (put missed : ℕ) → Some (begun p) ≡ Some e → e.stage ≡ Writing put missed → from ≤ e.pointer.birth
+    own e put missed is stage = let same : p.birth ≡ e.pointer.birth = ap (λ (e : Entry). e.pointer.birth) (some_injective (begun p) e is) in omega (arith, due, same)
+
+-- and what it owes
+pub owed_begun : (columns : ℕ) (old new : Entries) (p : Pointer) → SetsEntry old new p (Some (begun p)) → entry_at old p.first ≡ None → owed_by columns new ≡ owed_by columns old + columns + 2
+owed_begun columns old new p sets none =
+    let sum = sets.owed columns in
+    let was : owed_at columns (entry_at old p.first) ≡ 0 = ap (owed_at columns) none in
+    omega (arith, sum, was)
 
 -- what a shard is that may begin a write
 pub record MayBegin {R A : Type 0} (shard : Shard R A) : Type 0 where

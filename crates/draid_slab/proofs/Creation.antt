@@ -73,7 +73,7 @@ own_arm children slots at arm is there = elim (cases_lt at.slot children) [
 ] where
   inside : (k : ℕ) → slice_get (new_arm at.slot ∷ []) k ≡ Some arm → (k ≡ 0) × (arm ≡ new_arm at.slot)
   inside zero found = (refl, some_injective arm (new_arm at.slot) (sym found))
-  inside (suc k) found = absurd (none_some (slice_get (X = Arm) [] k) arm refl found)
+  inside (suc k) found = absurd (none_some (slice_get {X = Arm} [] k) arm refl found)
 
   none : children ≤ at.slot → arms_of slots at.slot ≡ []
   none past = get_or_past slots.arms at.slot [] (let count = is.count in omega (arith, count, past))

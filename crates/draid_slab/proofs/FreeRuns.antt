@@ -1,5 +1,5 @@
 -- Runs of free stripes by the space and by a state; why a metaslab takes no block.
-use Rattle.std.proofs.Common.{◌≡◌, ◌⊎◌, ◌+◌, ◌-◌, ◌*◌, ◌<◌, ◌≤◌, ◌%◌, ◌/◌, ◌∙◌, ◌↔◌, ℕ, zero, suc, Bool, true, false, Option, Some, None, option_map, arith, refl, sym, ap, inl, inr, subst}
+use Rattle.std.proofs.Common.{◌≡◌, ◌⊎◌, ◌+◌, ◌-◌, ◌*◌, ◌<◌, ◌≤◌, ◌%◌, ◌/◌, ◌∙◌, ◌↔◌, ℕ, zero, suc, Bool, true, false, nat_eq, Option, Some, None, option_map, arith, refl, sym, ap, inl, inr, subst}
 use Rattle.std.proofs.Math.Nat.{mod-lt}
 use Rattle.std.proofs.lemmas.Bool.{true≢false}
 use Rattle.std.proofs.lemmas.Bool.Decides.{nat_tests}
@@ -155,6 +155,9 @@ neither a true same none = absurd (true≢false (sym (same.1 refl) ∙ none))
 
 -- ---- blocks and tickets
 
+pub fewer : (count limit : ℕ) → count ≤ limit → (count ≡ limit → ⊥) → count < limit
+fewer count limit most differs = search (arith)
+
 -- as many as there may be are not fewer
 pub full_by : {R A : Type 0} (shard : Shard R A) (w : machine.State) (full : Bool) → IsIn shard w → count_of shard.entries ≤ most_held shard.version
     → ((full ≡ true) ↔ (count_of shard.entries ≡ most_held shard.version)) → (full ≡ true) ↔ (HoldsFewer w.core (most_held w.version) → ⊥)
@@ -179,8 +182,25 @@ full_by shard w full is_in most is = (is_full, is_not)
         by true at = at
         by false at = is.1 (differs (count_of shard.entries) (most_held shard.version) most (λ less. none (few shard.entries w.core (most_held w.version) is_in.held (omega (arith, less, version)))))
 
+-- with fewer it takes another
+pub fewer_by : {R A : Type 0} (shard : Shard R A) (w : machine.State) (full : Bool) → IsIn shard w → count_of shard.entries ≤ most_held shard.version
+    → ((full ≡ true) ↔ (count_of shard.entries ≡ most_held shard.version)) → full ≡ false → HoldsFewer w.core (most_held w.version)
+fewer_by shard w full is_in most is not_full =
+    let version : most_held w.version ≡ most_held shard.version = ap most_held is_in.version in
+    let less = fewer (count_of shard.entries) (most_held shard.version) most (λ same. true≢false (sym (is.1 same) ∙ not_full)) in
+    few shard.entries w.core (most_held w.version) is_in.held (omega (arith, less, version))
+
+pub same_test : (a b x y : ℕ) → a ≡ x → b ≡ y → (nat_eq a b ≡ true) ↔ (x ≡ y)
+same_test a b x y p q = ((λ e. grind (arith, nat_tests, e, p, q)), (λ e. grind (arith, nat_tests, e, p, q)))
+
 -- a metaslab that is shut takes no blocks
 pub shut_takes : {R A : Type 0} (shard : Shard R A) (w : machine.State) (shut : Shut) → ShutBy shard w (Some shut) → TakesBlocks shard w → ⊥
 shut_takes shard w Disabled by takes = by takes.enabled
 shut_takes shard w Full by takes = by.1 takes.fewer
 shut_takes shard w Worn by takes = takes.events by.2
+
+pub shut_by : {R A : Type 0} (shard : Shard R A) (w : machine.State) (shut : Option Shut) (why : Shut) → shut ≡ Some why → ShutBy shard w shut → TakesBlocks shard w → ⊥
+shut_by shard w shut why is by = shut_takes shard w why (subst (ShutBy shard w) is by)
+
+pub takes_by : {R A : Type 0} (shard : Shard R A) (w : machine.State) (shut : Option Shut) → shut ≡ None → ShutBy shard w shut → TakesBlocks shard w
+takes_by shard w shut is by = subst (ShutBy shard w) is by

@@ -71,14 +71,21 @@ impl<R: Rack, A: Area> Shard<R, A> {
         ensures named { (result.metaslab ≡ self.now.number) × (result.need ≡ need) }
         ensures run { (w : machine.State) → IsIn self.now w → IsRoom self.now w result.run }
     {
-        let run = match self.shut() {
-            Some(_) => 0,
-            None => self.space.largest(),
-        };
         Room {
             metaslab: self.number,
-            run,
+            run: self.longest_run(),
             need,
+        }
+    }
+
+    /// The longest run of free stripes within one group, none where the metaslab takes no block.
+    fn longest_run(&self) -> u64
+        requires valid { Valid R.Rack self.now }
+        ensures { (w : machine.State) → IsIn self.now w → IsRoom self.now w result }
+    {
+        match self.shut() {
+            Some(_) => 0,
+            None => self.space.largest(),
         }
     }
 
