@@ -141,8 +141,8 @@ refused_by old need stripes asked (begin.Worn used) may some same events refused
   (
     refused.0.0,
     subst (λ n. Fits (layout_by old) w.core refused.0.0 n) same
-    (spot_fits old.geometry old.open_group old.space old.entries may.tables (layout_by old) w.core is_in.held refl refl refused.0.0 stripes (some_height old.geometry may.geometry_is)
-      (omega (arith, some, same)) refused.0.1.spot),
+        (spot_fits old.geometry old.open_group old.space old.entries may.tables (layout_by old) w.core is_in.held refl refl refused.0.0 stripes (some_height old.geometry may.geometry_is)
+        (omega (arith, some, same)) refused.0.1.spot),
   ),
   (let passes = refused.1 in omega (arith, passes, events)),
   refused.2,

@@ -46,7 +46,6 @@ same_group height first need some more within =
 
 module _ (geometry : Geometry) (group : ℕ) (space : Stripes) (entries : Entries) (t : Tables geometry group space entries) (l : machine.Layout) (q : machine.Core)
     (same : (key : Key) → q.held key ≡ held_in entries key) (height_is : l.height ≡ geometry.props.height) (stripes_are : l.stripes ≡ metaslab_stripes geometry) where
-
   -- stripes that no block and no ticket has are free
   free_there : (x : ℕ) → x < metaslab_stripes geometry → (IsTaken q x → ⊥) → is_free space x ≡ true
   free_there x below none = by (is_free space x) refl

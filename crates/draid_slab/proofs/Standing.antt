@@ -45,13 +45,17 @@ StandsAfter rack old new w e pieces written = (v : State) × (step : Step (layou
 pub event_stands : {R A : Type 0} (rack : Ghosts R) (old new : Shard R A) (e : Event) (w : State) (pieces written : Pieces) → IsPart (part_of old) → Does old new e → ActsOn rack old new e written
     → StandsFor rack old w pieces → ((v : State) (step : Step (layout_by old) w e v) → WritesPieces (layout_by old) w e v step pieces written)
     → StandsAfter rack old new w e pieces written
-event_stands rack old new e w pieces written is does acts stands same = (next.state, next.step, record {
-  is_in = next.is_in;
-  reached = subst (λ part. IsReached (layout_in part) next.state) (sym does.part) (reached_more l w next.state e stands.reached next.step);
-  segments = subst (λ part. OnTold (rack.told new.rack) (Backed (layout_in part) after next.state)) (sym does.part)
-      (told_on (rack.told old.rack) (rack.told new.rack) (Acts l w e next.state next.step written) (Backed l pieces w) (Backed l after next.state) backed
+event_stands rack old new e w pieces written is does acts stands same = (
+  next.state,
+  next.step,
+  record {
+    is_in = next.is_in;
+    reached = subst (λ part. IsReached (layout_in part) next.state) (sym does.part) (reached_more l w next.state e stands.reached next.step);
+    segments = subst (λ part. OnTold (rack.told new.rack) (Backed (layout_in part) after next.state)) (sym does.part)
+        (told_on (rack.told old.rack) (rack.told new.rack) (Acts l w e next.state next.step written) (Backed l pieces w) (Backed l after next.state) backed
         (acts w next.state next.step stands.reached stands.is_in) stands.segments);
-})
+  },
+)
   where
     l : Layout
     l = layout_by old

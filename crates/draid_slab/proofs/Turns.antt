@@ -61,7 +61,6 @@ fitting rack shard v = record {
 -- ---- the end of a write
 
 module _ {R A : Type 0} (old : Shard R A) (space : Stripes) (entries : Entries) (history : History) (ticket : Ticket) (is_open : IsOpen old ticket) where
-
   abbrev own : Entry
   own = staged (Writing ticket.next ticket.missed) ticket.pointer
 

@@ -21,14 +21,14 @@ enter-requires-clause-free c =
     let r = c.requires.tables in
     none_at r.geometry r.open_group c.args.space.now c.args.entries.now c.in-Ok.first c.args.pointer.stripes r.tables
     (allocated r.geometry r.open_group c.args.space.now c.args.entries.now c.in-Ok.first c.args.pointer.stripes c.from.result r.tables c.from.ensures c.requires.some
-      c.in-Ok.ensures.lowest c.in-Ok.ensures.inside)
+    c.in-Ok.ensures.lowest c.in-Ok.ensures.inside)
 
 pub returns-in-Ok-enter-clause-was : goal.returns-in-Ok-enter-clause-was
 returns-in-Ok-enter-clause-was c =
     let r = c.requires.tables in
     none_at r.geometry r.open_group c.args.space.now c.args.entries.now c.in-Ok.first c.args.pointer.stripes r.tables
     (allocated r.geometry r.open_group c.args.space.now c.args.entries.now c.in-Ok.first c.args.pointer.stripes c.from.result r.tables c.from.ensures c.requires.some
-      c.in-Ok.ensures.lowest c.in-Ok.ensures.inside)
+    c.in-Ok.ensures.lowest c.in-Ok.ensures.inside)
 
 pub returns-in-Ok-enter-clause-tables : goal.returns-in-Ok-enter-clause-tables
 returns-in-Ok-enter-clause-tables c geometry group t sized =
@@ -39,7 +39,7 @@ returns-in-Ok-enter-clause-tables c geometry group t sized =
     let held = t.count in
     held_tables geometry group c.args.space.now c.allocate.new.self c.args.entries.now c.enter.new.entries placed t
     (allocated geometry group c.args.space.now c.args.entries.now c.in-Ok.first c.args.pointer.stripes c.from.result t c.from.ensures c.requires.some
-      c.in-Ok.ensures.lowest c.in-Ok.ensures.inside)
+    c.in-Ok.ensures.lowest c.in-Ok.ensures.inside)
     (record { some = sized.some; short = sized.short; stripes = sized.stripes; born = sized.born })
     (rw c.from.ensures at c.in-Ok.ensures.taken) e.entered
     (space_of geometry group c.args.space.now c.allocate.new.self c.args.entries.now _ t c.in-Ok.ensures.kept (omega (arith, len, count, held)))

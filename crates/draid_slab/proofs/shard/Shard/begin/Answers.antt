@@ -35,8 +35,8 @@ returns-in-Ok-clause-valid g c =
     }))
     e.disabled (let count = e.count in omega (arith, less, count))
     (tickets_begun c.args.self.now.entries c.hold.new.entries p _ v.tickets e.entered
-      (let low = oldest_low c.args.self.now.open_group c.args.self.now.closing c.args.self.now.committed c.args.self.now.sealed v.groups in
-      let from = due_from c.args.self.now.open_group p.birth c.args.floor birth in omega (arith, low, from)))
+    (let low = oldest_low c.args.self.now.open_group c.args.self.now.closing c.args.self.now.committed c.args.self.now.sealed v.groups in
+    let from = due_from c.args.self.now.open_group p.birth c.args.floor birth in omega (arith, low, from)))
     (let owed = e.stored.owed in let reserved = e.stored.reserved in let asked = c.block_events-asked.ensures in omega (arith, owes, owed, reserved, asked))
 
 pub returns-in-Ok-clause-event : goal.returns-in-Ok-clause-event

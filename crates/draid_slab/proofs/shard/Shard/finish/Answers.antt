@@ -46,7 +46,7 @@ returns-clause-valid g c =
     (all_put c.args.self.now.geometry.g c.args.ticket c.requires.all) refl in
     valid_with g.R.Rack c.args.self.now c.args.self.now.space c.turn.new.self c.add-2.new.self v
     (turned_tables c.args.self.now.geometry c.args.self.now.open_group c.args.self.now.space c.args.self.now.entries c.turn.new.self c.args.ticket.pointer
-      (Writing c.args.ticket.next c.args.ticket.missed) Live v.tables c.requires.is_open c.turn.ensures.entered c.turn.ensures.count)
+    (Writing c.args.ticket.next c.args.ticket.missed) Live v.tables c.requires.is_open c.turn.ensures.entered c.turn.ensures.count)
     refl (let few = v.few in let count = c.turn.ensures.count in omega (arith, few, count))
     (tickets_block c.args.self.now.entries c.turn.new.self c.args.ticket.pointer Live _ refl v.tickets c.turn.ensures.entered)
     (let owed = c.add-2.ensures.owed in let reserved = c.add-2.ensures.reserved in omega (arith, turns, owed, reserved))

@@ -23,7 +23,7 @@ returns-clause-valid g c =
     let turns = owed_turns c.args.self.now.geometry.g c.args.self.now.entries c.turn.new.self c.args.pointer.now (Some entry) (staged Live c.args.pointer.now) 1 0 c.turn.ensures.entered is_live refl refl in
     valid_with g.R.Rack c.args.self.now c.args.self.now.space c.turn.new.self c.add.new.self v
     (turned_tables c.args.self.now.geometry c.args.self.now.open_group c.args.self.now.space c.args.self.now.entries c.turn.new.self c.args.pointer.now Live (Freed c.max-group.result)
-      v.tables is_live c.turn.ensures.entered c.turn.ensures.count)
+    v.tables is_live c.turn.ensures.entered c.turn.ensures.count)
     refl (let few = v.few in let count = c.turn.ensures.count in omega (arith, few, count))
     (tickets_block c.args.self.now.entries c.turn.new.self c.args.pointer.now (Freed c.max-group.result) _ refl v.tickets c.turn.ensures.entered)
     (let owed = c.add.ensures.owed in let reserved = c.add.ensures.reserved in omega (arith, turns, owed, reserved))

@@ -11,5 +11,5 @@ pub returns-in-None : goal.returns-in-None
 returns-in-None g c w is_in = inr (
   takes_by c.args.self.now w c.shut.result c.in-None.is (c.shut.ensures w is_in),
   longest_of c.args.self.now.geometry c.args.self.now.open_group c.args.self.now.space c.args.self.now.entries c.requires.valid.tables (layout_by c.args.self.now) w.core is_in.held refl refl
-    c.largest.result (some_height c.args.self.now.geometry c.requires.valid.part.layout.geometry_is) c.largest.ensures,
+      c.largest.result (some_height c.args.self.now.geometry c.requires.valid.part.layout.geometry_is) c.largest.ensures,
 )
