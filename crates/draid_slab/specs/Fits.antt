@@ -50,12 +50,13 @@ pub record HasStripe (entries : Entries) (x : ℕ) : Type 0 where
   pub from : first ≤ x
   pub to : x < first + entry.pointer.stripes
 
--- The space is that of the layout. Blocks and tickets stand on taken stripes and apart from each other, and no other stripe is taken. For each of them the space
--- holds a run.
+-- The space is that of the layout: its free stripes are the metaslab's. Blocks and tickets stand on taken stripes and apart from each other, and no other stripe
+-- is taken. For each of them the space holds a run.
 pub record Tables (geometry : Geometry) (open_group : ℕ) (space : Stripes) (entries : Entries) : Type 0 where
   pub height : space.height ≡ geometry.props.height
   pub total : space.total ≡ metaslab_stripes geometry
   pub count : space.held ≡ count_of entries
+  pub inside : (x : ℕ) → is_free space x ≡ true → x < metaslab_stripes geometry
   pub placed : (first : ℕ) (e : Entry) → entry_at entries first ≡ Some e → IsPlaced geometry space open_group e.pointer
   pub apart : (j k : ℕ) (a b : Entry) → entry_at entries j ≡ Some a → entry_at entries k ≡ Some b → j < k → j + a.pointer.stripes ≤ k
   pub covered : (x : ℕ) → x < metaslab_stripes geometry → is_free space x ≡ false → HasStripe entries x

@@ -1,6 +1,7 @@
 pub mod Calls
 pub mod Columns
 pub mod Fits
+pub mod Holding
 pub mod Part
 pub mod Reads
 pub mod Rows

@@ -17,8 +17,9 @@ ghost use Rattle.draid_segments.specs.Segments.{Pieces};
 ghost use Rattle.draid_slab.specs.Calls.{ActsOn, Fetches};
 ghost use Rattle.draid_slab.specs.Columns.{ArePieces};
 ghost use Rattle.draid_slab.specs.Fits.{Valid};
+ghost use Rattle.draid_slab.specs.Part.{IsPart};
 ghost use Rattle.draid_slab.specs.Stands.{StandsFor};
-ghost use Rattle.draid_slab.specs.States.{Does, DoesNone, IsIn, layout_by};
+ghost use Rattle.draid_slab.specs.States.{Does, DoesNone, IsIn, layout_by, part_of};
 ghost use Rattle.draid_slab.specs.declared.shard.Shard.{Shard};
 
 use draid_area::Area;
@@ -28,7 +29,8 @@ use draid_rack::Rack;
 /// stands for the one behind the event, and its rack has what that says. A call without an event, and without a change
 /// of what the rack tells, leaves it so.
 pub fn calls_keep_what_stands<R: Rack, A: Area>()
-    ensures event { (old new : Shard R A) (e : Event) (w : machine.State) (pieces written : Pieces) → Does old new e
+    ensures event { (old new : Shard R A) (e : Event) (w : machine.State) (pieces written : Pieces)
+        → IsPart (part_of old) → Does old new e
         → ActsOn R.Rack old new e written → StandsFor R.Rack old w pieces
         → ((v : machine.State) (step : Step (layout_by old) w e v) → WritesPieces (layout_by old) w e v step pieces written)
         → (v : machine.State) × (step : Step (layout_by old) w e v)

@@ -1,11 +1,12 @@
-ghost use Rattle.std.specs.Prelude.{◌≡◌, ◌+◌, ◌↔◌, Some, IfNone, IfSome, IsTrue, OnErr, OnOk, max};
+ghost use Rattle.std.specs.Prelude.{◌≡◌, ◌+◌, ◌↔◌, Some, IfNone, IfSome, IsTrue, OnErr, OnOk, is_some, max};
 ghost use Rattle.draid_names.specs.Numbers as numbers;
 ghost use Rattle.draid_names.specs.declared.pass_kind.PassKind.TheVariants.{Rebuild};
+ghost use Rattle.draid_entries.specs.Entries.{count_of};
 ghost use Rattle.draid_entries.specs.History.{AskIs, IsAsked, IsReserved, left_for_groups, limit_in, reserved_of};
 ghost use Rattle.draid_machine.specs.Step.{HoldsFewer, IsEnabled};
 ghost use Rattle.draid_machine.specs.State as machine;
 ghost use Rattle.draid_slab.specs.Calls.{IsRoom, SameKit, ShutBy};
-ghost use Rattle.draid_slab.specs.Fits.{Valid};
+ghost use Rattle.draid_slab.specs.Fits.{Valid, is_rebuild};
 ghost use Rattle.draid_slab.specs.States.{DoesNone, IsIn};
 
 use crate::fault::Shut;
@@ -28,7 +29,8 @@ impl<R: Rack, A: Area> Shard<R, A> {
     /// Whether it holds as many blocks and open writes as it may.
     pub(crate) fn is_full(&self) -> bool
         requires valid { Valid R.Rack self.now }
-        ensures { (w : machine.State) → IsIn self.now w → IsTrue result ↔ (HoldsFewer w.core (numbers.most_held w.version) → ⊥) }
+        ensures count { IsTrue result ↔ (count_of self.now.entries ≡ numbers.most_held self.now.version) }
+        ensures held { (w : machine.State) → IsIn self.now w → IsTrue result ↔ (HoldsFewer w.core (numbers.most_held w.version) → ⊥) }
     {
         self.entries.count() == most_held(self.version)
     }
@@ -37,6 +39,7 @@ impl<R: Rack, A: Area> Shard<R, A> {
     pub(crate) fn rebuild(&self) -> Option<u64>
         ensures some { (w : machine.State) → IsIn self.now w → IfSome result (λ number. (p : machine.Pass) × (w.core.pass ≡ Some p) × (p.kind ≡ Rebuild) × (number ≡ p.number)) }
         ensures none { (w : machine.State) → IsIn self.now w → IfNone result (IsEnabled w.core) }
+        ensures is { IsTrue (is_some result) ↔ IsTrue (is_rebuild self.now.pass) }
     {
         match &self.pass {
             Some(pass) if matches!(pass.kind, PassKind::Rebuild) => Some(pass.number),
@@ -68,14 +71,21 @@ impl<R: Rack, A: Area> Shard<R, A> {
         ensures named { (result.metaslab ≡ self.now.number) × (result.need ≡ need) }
         ensures run { (w : machine.State) → IsIn self.now w → IsRoom self.now w result.run }
     {
-        let run = match self.shut() {
-            Some(_) => 0,
-            None => self.space.largest(),
-        };
         Room {
             metaslab: self.number,
-            run,
+            run: self.longest_run(),
             need,
+        }
+    }
+
+    /// The longest run of free stripes within one group, none where the metaslab takes no block.
+    fn longest_run(&self) -> u64
+        requires valid { Valid R.Rack self.now }
+        ensures { (w : machine.State) → IsIn self.now w → IsRoom self.now w result }
+    {
+        match self.shut() {
+            Some(_) => 0,
+            None => self.space.largest(),
         }
     }
 

@@ -1,14 +1,18 @@
-ghost use Rattle.std.specs.Prelude.{◌≡◌, ◌<◌, ◌≤◌, ◌+◌, None, IfErr, IfOk, OnErr, OnOk, false, length, max};
+ghost use Rattle.std.specs.Prelude.{◌≡◌, ◌<◌, ◌≤◌, ◌+◌, ℕ, None, Some, IfErr, IfOk, OnErr, OnOk, false, length, max};
 ghost use Rattle.draid_names.specs.declared.numbers.TheConstants.{NUMBERS, OBJECTS};
 ghost use Rattle.draid_block.specs.Blocks.{cut_of};
 ghost use Rattle.draid_block.specs.Columns.{stripes_of};
 ghost use Rattle.draid_machine.specs.declared.event.Event.TheVariants.{Abort, Begin, Finish};
 ghost use Rattle.draid_machine.specs.State as machine;
-ghost use Rattle.draid_entries.specs.Entries.{held_in};
-ghost use Rattle.draid_entries.specs.History.{limit_in, reserved_of};
+ghost use Rattle.draid_metaslab.specs.Spaces.{is_free};
+ghost use Rattle.draid_metaslab.specs.Spots.{IsLowest};
+ghost use Rattle.draid_spec.specs.declared.layout.Geometry.{Geometry};
+ghost use Rattle.draid_entries.specs.Entries.{IsEntered, SameEntries, SetsEntry, begun, count_of, entry_at, held_in};
+ghost use Rattle.draid_entries.specs.History.{KeepsOwed, Passes, left_for_groups};
 ghost use Rattle.draid_entries.specs.Maps.{key_of};
 ghost use Rattle.draid_slab.specs.Calls.{BeginRefused, Carries, IsOpen, IsTicketOf, IsWornFor, SameKit, SameReserve, begins, block_events};
-ghost use Rattle.draid_slab.specs.Fits.{Valid};
+ghost use Rattle.draid_slab.specs.Fits.{IsBlock, Tables, Valid};
+ghost use Rattle.draid_slab.specs.Holding.{AreFitting, EnterRefused, HoldRefused, StoresAsked};
 ghost use Rattle.draid_slab.specs.States.{Does, DoesNone, IsIn};
 
 use crate::fault::{BeginFault, Missed};
@@ -68,18 +72,20 @@ impl<R: Rack, A: Area> Shard<R, A> {
             digest: block.digest(),
         };
         let asked = self.block_events();
-        let pointer = hold(
+        match hold(
             &mut self.space,
             &mut self.entries,
             &mut self.history,
             pointer,
             asked,
-        )?;
-        Ok(Ticket {
-            pointer,
-            next: 0,
-            missed: 0,
-        })
+        ) {
+            Ok(pointer) => Ok(Ticket {
+                pointer,
+                next: 0,
+                missed: 0,
+            }),
+            Err(fault) => Err(fault),
+        }
     }
 
     /// Ends a write whose columns are all put: its block is live, or its stripes are free again where more columns
@@ -141,6 +147,22 @@ fn hold(
     requires enabled { space.old.disabled ≡ false }
     requires some { 0 < pointer.stripes }
     requires asked { 0 < asked }
+    requires unused { held_in entries.old (key_of pointer) ≡ None }
+    requires tables { AreFitting space.old entries.old }
+    ensures placed { IfOk result (λ placed. placed ≡ record pointer { first = placed.first }) }
+    ensures lowest { IfOk result (λ placed. IsLowest (is_free space.old) space.old.height pointer.stripes placed.first) }
+    ensures inside { IfOk result (λ placed. placed.first + pointer.stripes ≤ space.old.total) }
+    ensures entered { IfOk result (λ placed. SetsEntry entries.old entries.new placed (Some (begun placed))) }
+    ensures was { IfOk result (λ placed. entry_at entries.old placed.first ≡ None) }
+    ensures count { OnOk result (count_of entries.new ≡ count_of entries.old + 1) }
+    ensures stored { IfOk result (λ placed. StoresAsked history.old history.new (begins placed) asked) }
+    ensures not_worn { OnOk result (Passes history.old asked left_for_groups → ⊥) }
+    ensures same { OnErr result (SameEntries entries.old entries.new) }
+    ensures kept { OnErr result (KeepsOwed history.old history.new) }
+    ensures refused { IfErr result (HoldRefused space.old history.old pointer.stripes asked) }
+    ensures tables { (geometry : Geometry) (open_group : ℕ) → Tables geometry open_group space.old entries.old
+        → IsBlock geometry open_group pointer → Tables geometry open_group space.new entries.new }
+    ensures disabled { space.new.disabled ≡ space.old.disabled }
 {
     let first = match space.allocate(u64::from(pointer.stripes)) {
         Ok(first) => first,
@@ -163,7 +185,19 @@ fn enter(
     history: &mut History,
     pointer: Pointer,
     asked: u64,
-) -> Result<(), BeginFault> {
+) -> Result<(), BeginFault>
+    requires low { pointer.first < NUMBERS }
+    requires free { entry_at entries.old pointer.first ≡ None }
+    requires unused { held_in entries.old (key_of pointer) ≡ None }
+    requires asked { 0 < asked }
+    ensures entered { OnOk result (SetsEntry entries.old entries.new pointer (Some (begun pointer))) }
+    ensures count { OnOk result (count_of entries.new ≡ count_of entries.old + 1) }
+    ensures stored { OnOk result (StoresAsked history.old history.new (begins pointer) asked) }
+    ensures not_worn { OnOk result (Passes history.old asked left_for_groups → ⊥) }
+    ensures same { OnErr result (SameEntries entries.old entries.new) }
+    ensures kept { OnErr result (KeepsOwed history.old history.new) }
+    ensures refused { IfErr result (EnterRefused history.old asked) }
+{
     match history.ask(asked) {
         Ok(()) => {}
         Err(ReserveFault::Worn { events }) => return Err(BeginFault::Worn { events }),
@@ -175,9 +209,17 @@ fn enter(
 }
 
 /// Ends an open write without a block: its stripes are free again.
-fn release(space: &mut Space, entries: &mut Entries, pointer: &Pointer) {
-    space.release(pointer.first, u64::from(pointer.stripes));
+fn release(space: &mut Space, entries: &mut Entries, pointer: &Pointer)
+    requires tables { AreFitting space.old entries.old }
+    requires there { IsEntered entries.old pointer.now }
+    ensures tables { (geometry : Geometry) (open_group : ℕ) → Tables geometry open_group space.old entries.old
+        → Tables geometry open_group space.new entries.new }
+    ensures gone { SetsEntry entries.old entries.new pointer.now None }
+    ensures count { count_of entries.new + 1 ≡ count_of entries.old }
+    ensures disabled { space.new.disabled ≡ space.old.disabled }
+{
     entries.remove(pointer);
+    space.release(pointer.first, u64::from(pointer.stripes));
 }
 
 /// The event of a write that begins at its place.
