@@ -1,4 +1,4 @@
-ghost use Rattle.std.specs.Prelude.{◌≡◌, ◌≤◌, All, IfOk, length};
+ghost use Rattle.std.specs.Prelude.{◌≡◌, ◌==◌, ◌≤◌, ◌+◌, ◌||◌, ◌&&◌, not, nat_lt, All, IfOk, length};
 ghost use Rattle.draid_record.specs.Reading.{Gives, read};
 ghost use Rattle.draid_record.specs.Record as spec;
 ghost use Rattle.draid_record.specs.Record.{told_arm, told_slot, told_slots};
@@ -74,6 +74,27 @@ fn are_flags(kind: ArmKind, flags: u64) -> bool
     }
 }
 
+/// Whether an arm of this kind may stand here: the last one of a slot is a leaf where no leaf is before it.
+fn keeps_leaf(here: &[(Arm, Log)], count: u64, code: u64) -> bool
+    ensures { result ≡ (nat_lt (length (told_slot here.now) + 1) count || (spec.has_leaf (told_slot here.now) || (code == 0))) }
+{
+    (here.len() as u64) + 1 < count || has_leaf(here) || code == 0
+}
+
+/// Whether there is such a leaf or spare, and it stands nowhere before.
+fn is_new(
+    limits: &Limits,
+    before: &[Vec<(Arm, Log)>],
+    here: &[(Arm, Log)],
+    kind: ArmKind,
+    number: u64,
+) -> bool
+    ensures { result ≡ (nat_lt number (spec.limit_of limits.now kind)
+        && not (spec.stands (told_slots before.now) (told_slot here.now) kind number)) }
+{
+    number < limit(limits, kind) && !stands(before, here, kind, number)
+}
+
 /// An arm without its log.
 #[tactic(auto, unfolding(crate::specs::Reading::read))]
 fn arm_head<'a>(
@@ -87,11 +108,9 @@ fn arm_head<'a>(
 {
     let (code, bytes) = number(bytes, 1, 0, 1)?;
     let kind = kind_of(code);
-    let leaf = (here.len() as u64) + 1 < count || has_leaf(here) || code == 0;
-    check(leaf, bytes.len() + 1)?;
+    check(keeps_leaf(here, count, code), bytes.len() + 1)?;
     let (n, bytes) = number(bytes, 8, 0, u64::MAX)?;
-    let known = n < limit(limits, kind) && !stands(before, here, kind, n);
-    check(known, bytes.len() + 8)?;
+    check(is_new(limits, before, here, kind, n), bytes.len() + 8)?;
     let (flags, bytes) = number(bytes, 1, 0, 3)?;
     check(are_flags(kind, flags), bytes.len() + 1)?;
     let arm = Arm {

@@ -1,11 +1,11 @@
 ghost use Rattle.std.specs.Prelude.{◌≡◌, ◌+◌, ◌≤◌, ◌<◌, ◌^◌, ◌-◌, ◌∷◌, [], All, IfOk, length};
 ghost use Rattle.draid_names.specs.Numbers as numbers;
 ghost use Rattle.draid_names.specs.declared.pointer.Pointer.{Pointer};
-ghost use Rattle.draid_record.specs.Reading.{Gives, read};
+ghost use Rattle.draid_record.specs.Reading.{Gives, Tells, bytes_at, read};
 ghost use Rattle.draid_record.specs.Record as spec;
 ghost use Rattle.draid_record.specs.Record.{AreLimits};
 
-use crate::fault::ReadError;
+use crate::fault::{Fault, ReadError};
 use crate::field::{check, number, text};
 use crate::limits::Limits;
 use draid_names::{LAST_NUMBER, LONGEST_BLOCK, OBJECTS, Pointer, most_held};
@@ -56,6 +56,16 @@ fn stripes_of(limits: &Limits, len: u64) -> u64
     (sectors + limits.ndata - 1) / limits.ndata
 }
 
+/// A digest.
+fn digest(bytes: &[u8]) -> Result<([u8; 32], &[u8]), Fault>
+    ensures { Tells (λ x. (x.0, x.1.now)) result (bytes_at 32 bytes.now) }
+{
+    let (front, bytes) = text(bytes, 32)?;
+    let mut digest = [0u8; 32];
+    digest.copy_from_slice(front);
+    Ok((digest, bytes))
+}
+
 /// A block at or behind a stripe.
 #[tactic(auto, unfolding(crate::specs::Reading::read))]
 fn block<'a>(bytes: &'a [u8], limits: &Limits, low: u64) -> Result<(Pointer, &'a [u8]), ReadError>
@@ -70,9 +80,7 @@ fn block<'a>(bytes: &'a [u8], limits: &Limits, low: u64) -> Result<(Pointer, &'a
     let (len, bytes) = number(bytes, 4, 1, LONGEST_BLOCK)?;
     check(stripes == stripes_of(limits, len), bytes.len() + 8)?;
     let (birth, bytes) = number(bytes, 8, 1, limits.group)?;
-    let (front, bytes) = text(bytes, 32)?;
-    let mut digest = [0u8; 32];
-    digest.copy_from_slice(front);
+    let (digest, bytes) = digest(bytes)?;
     let pointer = Pointer {
         object,
         seq,

@@ -25,6 +25,16 @@ pub(crate) fn number(bytes: &[u8], width: usize, low: u64, high: u64) -> Result<
     }
 }
 
+/// The bytes behind a number of so many bytes, which is this one.
+pub(crate) fn exactly(bytes: &[u8], width: usize, value: u64) -> Result<&[u8], Fault>
+    requires { (1 ≤ width) × (width ≤ 8) }
+    ensures number { Tells (λ x. (value, x.now)) result (number_at width value value bytes.now) }
+    ensures rest { IfOk result (λ x. length x.now + width ≡ length bytes.now) }
+{
+    let (_, bytes) = number(bytes, width, value, value)?;
+    Ok(bytes)
+}
+
 /// So many bytes, and those behind them.
 pub(crate) fn text(bytes: &[u8], width: usize) -> Result<(&[u8], &[u8]), Fault>
     ensures text { Tells (λ x. (x.0.now, x.1.now)) result (bytes_at width bytes.now) }

@@ -8,7 +8,7 @@ ghost use Rattle.draid_record.specs.Record.{AreLimits, RecordTold, told_record};
 use crate::arm::slots;
 use crate::block::{are_spaces, blocks, spaces};
 use crate::fault::{Fault, ReadError, RecordFault};
-use crate::field::{check, number};
+use crate::field::{check, exactly, number};
 use crate::limits::Limits;
 use crate::pass::pass;
 use draid_dtl::Log;
@@ -65,11 +65,9 @@ pub fn read_record(
 fn head<'a>(bytes: &'a [u8], limits: &Limits) -> Result<&'a [u8], ReadError>
     ensures { Gives (λ x. (limits.now.children, x.now)) result (read (spec.head limits.now) bytes.now) }
 {
-    let metaslab = u64::from(limits.metaslab);
-    let (_, bytes) = number(bytes, 2, metaslab, metaslab)?;
-    let (_, bytes) = number(bytes, 8, limits.group, limits.group)?;
-    let children = u64::from(limits.children);
-    let (_, bytes) = number(bytes, 2, children, children)?;
+    let bytes = exactly(bytes, 2, u64::from(limits.metaslab))?;
+    let bytes = exactly(bytes, 8, limits.group)?;
+    let bytes = exactly(bytes, 2, u64::from(limits.children))?;
     Ok(bytes)
 }
 
@@ -140,9 +138,8 @@ fn front<'a>(bytes: &'a [u8], limits: &Limits) -> Result<(u64, &'a [u8]), Fault>
     ensures rest { IfOk result (λ x. length x.1.now + 10 ≡ length bytes.now) }
 {
     let area = bytes.len() as u64;
-    let (_, bytes) = number(bytes, 4, MAGIC, MAGIC)?;
-    let version = u64::from(limits.version);
-    let (_, bytes) = number(bytes, 2, version, version)?;
+    let bytes = exactly(bytes, 4, MAGIC)?;
+    let bytes = exactly(bytes, 2, u64::from(limits.version))?;
     number(bytes, 4, 10, area)
 }
 

@@ -1,4 +1,4 @@
-ghost use Rattle.std.specs.Prelude.{◌≡◌, ◌%◌, Ok, IfOk, length};
+ghost use Rattle.std.specs.Prelude.{◌≡◌, ◌==◌, ◌%◌, ◌||◌, Ok, IfOk, length};
 ghost use Rattle.draid_record.specs.Grammar.{Spells};
 ghost use Rattle.draid_record.specs.Reading.{Tells, read};
 ghost use Rattle.draid_spec.specs.Geometry.{IsVersion};
@@ -6,7 +6,7 @@ ghost use Rattle.draid_spec.specs.Spec.{IsSpec};
 ghost use Rattle.draid_record.specs.Uber as grammar;
 
 use crate::fault::{Fault, RecordFault};
-use crate::field::{check, number, put};
+use crate::field::{check, exactly, number, put};
 use draid_names::LAST_NUMBER;
 use draid_spec::{Props, Spec, geometry, most_children};
 
@@ -53,8 +53,8 @@ fn head(bytes: &[u8], slot: u64) -> Result<(u32, u64, &[u8]), Fault>
     ensures front { Tells (λ x. ((x.0, x.1), x.2.now)) result (read (grammar.head slot) bytes.now) }
     ensures version { IfOk result (λ x. IsVersion x.0) }
 {
-    let (_, bytes) = number(bytes, 1, GATE, GATE)?;
-    let (_, bytes) = number(bytes, 4, MAGIC, MAGIC)?;
+    let bytes = exactly(bytes, 1, GATE)?;
+    let bytes = exactly(bytes, 4, MAGIC)?;
     let (version, bytes) = number(bytes, 2, 1, 2)?;
     let (group, bytes) = number(bytes, 8, 1, LAST_NUMBER - 1)?;
     check(group % 2 == slot, bytes.len() + 8)?;
@@ -82,6 +82,13 @@ fn spec(bytes: &[u8], version: u32) -> Result<(Spec, &[u8]), Fault>
     Ok((spec, bytes))
 }
 
+/// Whether sectors may have so many bytes.
+fn is_sector(bytes: u64) -> bool
+    ensures { result ≡ ((bytes == 512) || (bytes == 4096)) }
+{
+    bytes == 512 || bytes == 4096
+}
+
 /// The properties of a pool of this spec and version.
 #[tactic(auto, unfolding(crate::specs::Reading::read))]
 fn props(bytes: &[u8], version: u32, spec: Spec) -> Result<(Props, &[u8]), Fault>
@@ -89,7 +96,7 @@ fn props(bytes: &[u8], version: u32, spec: Spec) -> Result<(Props, &[u8]), Fault
     ensures { Tells (λ x. (x.0, x.1.now)) result (read (grammar.props version spec) bytes.now) }
 {
     let (sector, bytes) = number(bytes, 4, 512, 4096)?;
-    check(sector == 512 || sector == 4096, bytes.len() + 4)?;
+    check(is_sector(sector), bytes.len() + 4)?;
     let (height, bytes) = number(bytes, 4, 8, 4096)?;
     check(height.is_power_of_two(), bytes.len() + 4)?;
     let (metaslabs, bytes) = number(bytes, 4, 1, 64)?;

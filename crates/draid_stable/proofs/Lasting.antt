@@ -1,14 +1,20 @@
 -- What stands at the front of an area outlasts a crash.
-use Rattle.std.proofs.Common.{arith, ◌≡◌, ◌==◌, ◌%◌, ◌<◌, ◌≤◌, ℕ, Bool, true, false, List, ◌++◌, Ok, length, take, drop, refl, sym, ◌∙◌, ap, subst, if◌then◌else◌}
+use Rattle.std.proofs.Common.{arith, ◌≡◌, ◌==◌, ◌%◌, ◌<◌, ◌≤◌, ℕ, Bool, true, false, IsSome, List, ◌++◌, Ok, length, take, drop, refl, sym, ◌∙◌, ap, subst, if◌then◌else◌}
 use Rattle.std.proofs.lemmas.List.{places, same_lists, take-append-drop}
 use Rattle.draid_area.specs.Area.{Content, MayLeave, flushes}
 use Rattle.draid_area.specs.Moments.{IsCrashOutcome}
-use Rattle.draid_machine.specs.State.{Image}
+use Rattle.draid_machine.specs.declared.names.Segment.{Segment}
+use Rattle.draid_machine.specs.State.{Image, Layout}
 use Rattle.draid_record.specs.Record.{RecordTold, limits_of, record_of}
 use Rattle.draid_record.specs.Written.{record_bytes}
 use Rattle.draid_record.proofs.Again.{record_again}
 use Rattle.draid_record.proofs.Ranged.{ranged_spelled}
+use Rattle.draid_rack.specs.Moments as rack
+use Rattle.draid_rack.specs.Rack.{Told}
+use Rattle.draid_segments.specs.Segments.{Firm, Pieces, sector_at}
+use Rattle.draid_shelf.specs.Kits.{CrashedKit, KitTold}
 use Rattle.draid_spec.specs.declared.layout.Geometry.{Geometry}
+use Rattle.draid_stable.specs.Kits.{IsStable}
 use Rattle.draid_stable.specs.Images.{LeavesBelow}
 use Rattle.draid_stable.specs.Stable.{HasRecord, ReadsAs, Stands, area_of}
 
@@ -60,4 +66,19 @@ flushed value x s = record {
   firm = λ i h. refl;
   least = long (length (record_bytes value)) x.bytes (record_bytes value) s.front refl;
   short = s.short;
+}
+
+-- what a crash leaves of a rack on which an image is firm
+firm_left : (layout : Layout) (pieces : Pieces) (image : Image) (doubt : Segment → Bool) (x y : Told) → rack.IsCrashOutcome x y → Firm layout pieces image doubt x → Firm layout pieces image doubt y
+firm_left layout pieces image doubt x y crash f = record {
+  there = λ s h c. subst IsSome (sym (crash.firm s.leaf (sector_at layout h s) (f.firm s h c))) (f.there s h c);
+  reads = λ s h c e. crash.firm s.leaf (sector_at layout h s) (f.firm s h c) ∙ f.reads s h c (sym (crash.harmed s.leaf (sector_at layout h s)) ∙ e);
+  firm = λ s h c. crash.soft s.leaf (sector_at layout h s);
+}
+
+pub stable_left : (geometry : Geometry) (metaslab : ℕ) (layout : Layout) (pieces : Pieces) (image : Image) (doubt : Segment → Bool) (x y : KitTold) → IsStable geometry metaslab layout pieces image doubt x
+    → CrashedKit x y → IsStable geometry metaslab layout pieces image doubt y
+stable_left geometry metaslab layout pieces image doubt x y s crash = record {
+  recorded = both_left geometry metaslab image x.even x.odd y.even y.odd s.recorded crash.even crash.odd;
+  firm = firm_left layout pieces image doubt x.rack y.rack crash.rack s.firm;
 }

@@ -1,14 +1,18 @@
-ghost use Rattle.std.specs.Prelude.{◌≡◌, ℕ, List, Option};
+ghost use Rattle.std.specs.Prelude.{◌≡◌, Bool, List, Option, ℕ};
 ghost use Rattle.draid_area.specs.Area.{Content, MayLeave, flushes, writes};
 ghost use Rattle.draid_area.specs.Moments.{IsCrashOutcome};
 ghost use Rattle.draid_machine.specs.State as state;
 ghost use Rattle.draid_machine.specs.declared.names.ArmName.{ArmName};
 ghost use Rattle.draid_machine.specs.declared.names.Held.{Held};
 ghost use Rattle.draid_machine.specs.declared.names.Key.{Key};
+ghost use Rattle.draid_machine.specs.declared.names.Segment.{Segment};
 ghost use Rattle.draid_names.specs.declared.pointer.Pointer.{Pointer};
 ghost use Rattle.draid_record.specs.Record.{ArmTold, RecordTold};
 ghost use Rattle.draid_record.specs.Written.{IsWhole};
 ghost use Rattle.draid_spec.specs.declared.layout.Geometry.{Geometry};
+ghost use Rattle.draid_segments.specs.Segments.{Pieces};
+ghost use Rattle.draid_shelf.specs.Kits.{CrashedKit, KitTold};
+ghost use Rattle.draid_stable.specs.Kits.{IsStable};
 ghost use Rattle.draid_stable.specs.Images.{LeavesBelow, SaysArms, SaysBlocks, arm_by, held_by};
 ghost use Rattle.draid_stable.specs.Stable.{HasRecord, ReadsAs, Stands, area_of};
 
@@ -43,4 +47,12 @@ pub fn records_say_tables()
         → held_by blocks ≡ table }
     ensures arms { (slots : List (List ArmTold)) (table : ArmName → Option state.Arm) → SaysArms slots table
         → arm_by slots ≡ table }
+{}
+
+/// Law: an image whose record stands, and whose claimed segments are firm, is so after each crash of the
+/// devices of its metaslab.
+pub fn stable_images_outlast_crashes()
+    ensures { (geometry : Geometry) (metaslab : ℕ) (layout : state.Layout) (pieces : Pieces) (image : state.Image)
+        (doubt : Segment → Bool) (x y : KitTold) → IsStable geometry metaslab layout pieces image doubt x
+        → CrashedKit x y → IsStable geometry metaslab layout pieces image doubt y }
 {}

@@ -5,5 +5,6 @@
 mod laws;
 
 pub use laws::{
-    flushed_records_stand, records_outlast_crashes, records_say_tables, standing_records_stay,
+    flushed_records_stand, records_outlast_crashes, records_say_tables,
+    stable_images_outlast_crashes, standing_records_stay,
 };

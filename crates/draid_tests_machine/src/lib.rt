@@ -6,6 +6,8 @@
 #[cfg(test)]
 mod replay;
 #[cfg(test)]
+mod segments;
+#[cfg(test)]
 mod shard;
 #[cfg(test)]
 mod slots;

@@ -11,7 +11,7 @@ use std::alloc::Global;
 use std::test::Fail;
 
 /// The only metaslab of a pool of version 1 with this layout.
-fn site_of(spec: &[u8], children: u32) -> Result<Site, SpecFault> {
+pub fn site_of(spec: &[u8], children: u32) -> Result<Site, SpecFault> {
     let props = Props {
         sector: 512,
         height: 8,
@@ -30,7 +30,7 @@ fn site_of(spec: &[u8], children: u32) -> Result<Site, SpecFault> {
 }
 
 /// What becomes of a new metaslab of version 1 by these events, or the fault.
-fn world_after(alloc: Global, site: &Site, events: &[Event]) -> Result<World, ReplayFault>
+pub fn world_after(alloc: Global, site: &Site, events: &[Event]) -> Result<World, ReplayFault>
     requires small { All IsSmallEvent events.now }
     requires few { length events.now < 2 ^ 32 }
 {
@@ -83,7 +83,7 @@ fn answers(alloc: Global, site: &Site) -> [Result<u64, ReplayFault>; 5] {
 }
 
 /// Adds an event.
-fn add(events: &mut Vec<Event>, event: Event) -> Result<(), NoMemory>
+pub fn add(events: &mut Vec<Event>, event: Event) -> Result<(), NoMemory>
     requires small { IsSmallEvent event }
     requires before { All IsSmallEvent events.old.items }
     ensures behind { OnOk result (All IsSmallEvent events.new.items) }
@@ -93,7 +93,7 @@ fn add(events: &mut Vec<Event>, event: Event) -> Result<(), NoMemory>
 }
 
 /// The column of a block on stripe 0 lands on the leaf of its slot.
-fn put(site: &Site, key: Key, column: u32) -> Event
+pub fn put(site: &Site, key: Key, column: u32) -> Event
     requires column { column < site.now.geometry.g }
     ensures { IsSmallEvent result }
 {
@@ -108,7 +108,7 @@ fn put(site: &Site, key: Key, column: u32) -> Event
 }
 
 /// A group is closed and sealed, and committed if it shall.
-fn add_group(
+pub fn add_group(
     alloc: Global,
     events: &mut Vec<Event>,
     group: u64,
@@ -132,10 +132,10 @@ fn add_group(
     add(events, Event::Commit { group })
 }
 
-const KEY: Key = Key { object: 7, seq: 1 };
+pub const KEY: Key = Key { object: 7, seq: 1 };
 
 /// A block is begun on stripe 0 in group 2.
-fn begin(key: Key, first: u64, birth: u64) -> Event
+pub fn begin(key: Key, first: u64, birth: u64) -> Event
     requires first { first < 2 ^ 48 }
     requires birth { birth < 2 ^ 48 }
     ensures { IsSmallEvent result }

@@ -1,0 +1,10 @@
+pub mod Damage
+pub mod Does
+pub mod Follows
+pub mod Holds
+pub mod Looks
+pub mod Reads
+pub mod Rooms
+pub mod State
+pub mod Worn
+pub mod Writes

@@ -1,0 +1,121 @@
+-- What was fetched is what a state says.
+use Rattle.std.proofs.Common.{◌≡◌, ◌+◌, ◌<◌, ◌⊎◌, ◌∙◌, ◌↔◌, ℕ, zero, suc, Bool, true, false, List, [], ◌∷◌, Option, Some, None, Vec, Global, arith, refl, sym, ap, ap₂, subst, inl, inr, length, slice_get}
+use Rattle.std.specs.Prelude.{MatchOption}
+use Rattle.draid_names.specs.declared.pointer.Pointer.{Pointer}
+use Rattle.draid_rack.specs.Rack.{OnTold, Told}
+use Rattle.draid_columns.specs.Columns.{RowsStand}
+use Rattle.draid_machine.specs.declared.names.ArmName.{ArmName}
+use Rattle.draid_machine.specs.declared.names.Held.{Held}
+use Rattle.draid_machine.specs.declared.names.Stage.TheVariants.{Live}
+use Rattle.draid_machine.specs.Arms as arms
+use Rattle.draid_machine.specs.Arms.{leaf_at, passes}
+use Rattle.draid_machine.specs.Created.{IsReached}
+use Rattle.draid_machine.specs.Names.{has_name, has_number}
+use Rattle.draid_machine.specs.State as machine
+use Rattle.draid_machine.specs.Step.{FetchStep}
+use Rattle.draid_machine.proofs.Small.{some_same}
+use Rattle.draid_segments.specs.Reads.{IsAbsent, IsUnread}
+use Rattle.draid_entries.specs.Maps.{held_at, key_of, staged}
+use Rattle.draid_slots.specs.Changes.{IsOf}
+use Rattle.draid_slots.specs.Table.{SlotTable}
+use Rattle.draid_slab.specs.Calls.{AreFetched}
+use Rattle.draid_slab.specs.Columns.{row_bytes}
+use Rattle.draid_slab.specs.Part.{IsPart, IsRun, Part, layout_in}
+use Rattle.draid_slab.specs.Reads.{Columns, IsReadAt, IsSilentAt, ReadsColumns, StandsAt}
+use Rattle.draid_slab.specs.Rows.{rows_on}
+use Rattle.draid_slab.specs.Slots.{HasSlots}
+use Rattle.draid_slab.specs.declared.places.ColumnRows.{ColumnRows}
+use Rattle.draid_slab.proofs.Answering.{row_leaf}
+use Rattle.draid_slab.proofs.Finding.{columns_apart, reading_found, reading_none}
+use Rattle.draid_slab.proofs.Homes.{row_sector}
+
+get_below : (xs : Columns) (k : ℕ) (x : Option (Vec ℕ Global)) → slice_get xs k ≡ Some x → k < length xs
+get_below [] k x is = absurd (cc)
+get_below (y ∷ ys) zero x is = omega arith
+get_below (y ∷ ys) (suc k) x is = let less = get_below ys k x is in omega (arith, less)
+
+get_there : (xs : Columns) (k : ℕ) → k < length xs → (x : Option (Vec ℕ Global)) × (slice_get xs k ≡ Some x)
+get_there [] k less = absurd (omega (arith, less))
+get_there (y ∷ ys) zero less = (y, refl)
+get_there (y ∷ ys) (suc k) less = get_there ys k (omega (arith, less))
+
+module _ (part : Part) (is : IsPart part) (slots : SlotTable) (of : IsOf slots part.geometry part.perms part.number) (w : machine.State) (reached : IsReached (layout_in part) w) (has : HasSlots slots w.core)
+    (pointer : Pointer) (run : IsRun part.geometry pointer.first pointer.stripes) (held : w.core.held (key_of pointer) ≡ Some (held_at (staged Live pointer))) (told : Option Told) (columns : Columns) (failed : List ℕ)
+    (was : ReadsColumns part slots pointer part.geometry.g told columns failed) where
+  abbrev block : Held
+  block = held_at (staged Live pointer)
+
+  -- the arm that was read
+  record IsFound (c leaf : ℕ) : Type 0 where
+    pub n : ArmName
+    pub reads : arms.reading (layout_in part) w.core block c ≡ Some n
+    pub lies : leaf_at (layout_in part) w.core.order n pointer.first ≡ Some leaf
+    pub listed : has_name (w.core.order ((layout_in part).slot_of pointer.first c)) n ≡ true
+
+  found : (c leaf : ℕ) → c < part.geometry.g → IsReadAt part slots pointer c leaf → IsFound c leaf
+  found c leaf less r = let z = reading_found part is slots of w reached has pointer run c less r.rows r.of leaf r.on in record { n = z.0; reads = z.1; lies = z.2; listed = z.3 }
+
+  one_leaf : (c d leaf : ℕ) → c < part.geometry.g → d < part.geometry.g → IsReadAt part slots pointer c leaf → IsReadAt part slots pointer d leaf → c ≡ d
+  one_leaf c d leaf less other r q =
+      let a = found c leaf less r in
+      let b = found d leaf other q in
+      columns_apart part is slots of w reached has pointer run c d leaf a.n b.n less other a.listed b.listed a.lies b.lies
+
+  pub fetch_step : FetchStep (layout_in part) w (key_of pointer) failed w
+  fetch_step = record {
+    h = block;
+    found = held;
+    live = refl;
+    fail = λ leaf at. (let z = was.fail leaf at in let a = found z.0 leaf z.1 z.3 in (z.0, a.n, z.1, a.reads, a.lies));
+    made = refl;
+  }
+
+  read_at : (c : ℕ) (bytes : List ℕ) (s : StandsAt part slots pointer c told bytes) → IsReadAt part slots pointer c s.leaf
+  read_at c bytes s = record { rows = s.rows; of = s.of; on = s.on }
+
+  absent_is : (c : ℕ) → c < part.geometry.g → slice_get columns c ≡ Some None → IsAbsent (layout_in part) w.core block failed c
+  absent_is c less at = by (was.absent c less at)
+    where
+      by : IsSilentAt part slots pointer c ⊎ ((leaf : ℕ) × IsReadAt part slots pointer c leaf × (has_number failed leaf ≡ true)) → IsAbsent (layout_in part) w.core block failed c
+      by (inl s) = subst (IsUnread (layout_in part) w.core block failed) (sym (reading_none part is slots of w reached has pointer run c less s.rows s.of s.silent)) tt
+      by (inr z) =
+          let a = found c z.0 less z.1 in
+          subst (IsUnread (layout_in part) w.core block failed) (sym a.reads) (subst (λ u. passes u (has_number failed) ≡ true) (sym a.lies) z.2)
+
+  absent_back : (c : ℕ) → c < part.geometry.g → IsAbsent (layout_in part) w.core block failed c → slice_get columns c ≡ Some None
+  absent_back c less unread = by z.0 z.1
+    where
+      z : (x : Option (Vec ℕ Global)) × (slice_get columns c ≡ Some x)
+      z = get_there columns c (subst (λ n. c < n) (sym was.all) less)
+
+      by : (x : Option (Vec ℕ Global)) → slice_get columns c ≡ Some x → slice_get columns c ≡ Some None
+      by None at = at
+      by (Some bytes) at =
+          let s = was.stand c bytes less at in
+          let a = found c s.leaf less (read_at c bytes.items s) in
+          let fails : passes (leaf_at (layout_in part) w.core.order a.n pointer.first) (has_number failed) ≡ true = subst (IsUnread (layout_in part) w.core block failed) a.reads unread in
+          let it : has_number failed s.leaf ≡ true = subst (λ u. passes u (has_number failed) ≡ true) a.lies fails in
+          let d = was.fail s.leaf it in
+          let same : c ≡ d.0 = one_leaf c d.0 s.leaf less d.1 (read_at c bytes.items s) d.3 in
+          ap (slice_get columns) same ∙ d.2
+
+  read_row : (c row leaf : ℕ) (n : ArmName) (bytes : Vec ℕ Global) → slice_get columns c ≡ Some (Some bytes) → arms.reading (layout_in part) w.core block c ≡ Some n → row < pointer.stripes
+      → leaf_at (layout_in part) w.core.order n (pointer.first + row) ≡ Some leaf
+      → OnTold told (λ x. x.reads leaf ((layout_in part).sector_of (pointer.first + row) c) ≡ Some (row_bytes part.geometry.props.sector bytes.items row))
+  read_row c row leaf n bytes at reads less lies =
+      let below : c < part.geometry.g = subst (λ m. c < m) was.all (get_below columns c (Some bytes) at) in
+      let s = was.stand c bytes below at in
+      let a = found c s.leaf below (read_at c bytes.items s) in
+      let name : a.n ≡ n = some_same (arms.reading (layout_in part) w.core block c) a.n n a.reads reads in
+      let lies_first = sym (row_leaf part is slots of w reached has pointer run c below s.rows s.of n row less) ∙ lies in
+      let same : s.leaf ≡ leaf = some_same (leaf_at (layout_in part) w.core.order n pointer.first) s.leaf leaf (subst (λ m. leaf_at (layout_in part) w.core.order m pointer.first ≡ Some s.leaf) name a.lies) lies_first in
+      let sector : (layout_in part).sector_of (pointer.first + row) c ≡ s.rows.first + row = row_sector part is pointer.first pointer.stripes row c run less ∙ ap (λ k. k + row) (sym s.of.first_is) in
+      told_row s.rows s.leaf ((layout_in part).sector_of (pointer.first + row) c) told s.stand same sector s.of.size_is (subst (λ k. row < k) (sym s.of.count_is) less)
+    where
+      told_row : (rows : ColumnRows) (at sector : ℕ) (t : Option Told) → OnTold t (λ x. RowsStand (rows_on rows at) x.reads bytes.items rows.count) → at ≡ leaf → sector ≡ rows.first + row → rows.size ≡ part.geometry.props.sector → row < rows.count
+          → OnTold t (λ x. x.reads leaf sector ≡ Some (row_bytes part.geometry.props.sector bytes.items row))
+      told_row rows at sector None stand same s size few = tt
+      told_row rows at sector (Some x) stand same s size few = (λ i. x.reads (sym same i) (s i)) ∙ stand row few ∙ ap (λ z. Some (row_bytes z bytes.items row)) size
+
+  pub are_fetched : AreFetched (layout_in part) w block part.geometry.props.sector failed columns told
+  are_fetched = record { absent = λ c less. (absent_is c less, absent_back c less); reads = read_row }

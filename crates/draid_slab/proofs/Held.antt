@@ -1,0 +1,107 @@
+-- For which states a shard stands after one entry of its table came, turned or went.
+use Rattle.std.proofs.Common.{◌≡◌, ◌≤◌, ◌+◌, ◌∙◌, ℕ, Bool, true, false, Option, Some, None, option_map, if◌then◌else◌, arith, refl, sym, ap, inl, inr}
+use Rattle.std.proofs.lemmas.Bool.{true≢false}
+use Rattle.draid_names.specs.declared.pointer.Pointer.{Pointer}
+use Rattle.draid_metaslab.specs.Spaces.{Stripes}
+use Rattle.draid_machine.specs.declared.names.Key.{Key}
+use Rattle.draid_machine.specs.declared.names.Held.{Held}
+use Rattle.draid_machine.specs.declared.names.Segment.{Segment}
+use Rattle.draid_machine.specs.declared.names.Stage.{Stage}
+use Rattle.draid_machine.specs.declared.names.Stage.TheVariants.{Writing}
+use Rattle.draid_machine.specs.Names.{is_block, key_eq}
+use Rattle.draid_machine.specs.After.{set_held}
+use Rattle.draid_machine.specs.State.{State}
+use Rattle.draid_machine.proofs.Small.{none_some, some_injective}
+use Rattle.draid_entries.specs.declared.entry.Entry.{Entry}
+use Rattle.draid_entries.specs.declared.entries.Entries.{Entries}
+use Rattle.draid_entries.specs.declared.history.History.{History}
+use Rattle.draid_entries.specs.Entries.{SameEntries, SetsEntry, entry_at, held_in}
+use Rattle.draid_entries.specs.Maps.{entry_in, first_in, held_at, held_from, key_of, staged}
+use Rattle.draid_entries.proofs.Counted.{led_held}
+use Rattle.draid_slab.specs.declared.shard.Shard.{Shard}
+use Rattle.draid_slab.specs.Fits.{TicketsAreNew}
+use Rattle.draid_slab.specs.States.{IsIn}
+use Rattle.draid_slab.proofs.Tables.{entry_cases, first_is}
+
+-- ---- entries and keys
+
+-- what a state has of a block is what its entry says
+pub key_leads : (t : Entries) (first : ℕ) (e : Entry) → entry_at t first ≡ Some e → held_in t (key_of e.pointer) ≡ Some (held_at e)
+key_leads t first e there = ap (held_from t.firsts) (t.agree.found first e there).named ∙ ap (option_map held_at) there
+
+-- the entry of a block that a state has
+pub record HasEntry (t : Entries) (key : Key) (h : Held) : Type 0 where
+  pub e : Entry
+  pub there : entry_at t h.first ≡ Some e
+  pub key_is : key_of e.pointer ≡ key
+  pub held_is : held_at e ≡ h
+
+pub held_entry : (t : Entries) (key : Key) (h : Held) → held_in t key ≡ Some h → HasEntry t key h
+held_entry t key h is = by (first_in t.keys.entries key) refl
+  where
+    by : (o : Option ℕ) → first_in t.keys.entries key ≡ o → HasEntry t key h
+    by None at = absurd (none_some (held_in t key) h (ap (held_from t.firsts) at) is)
+    by (Some x) at =
+        let z = led_held t key x at in
+        let same : held_at z.0 ≡ h = some_injective (held_at z.0) h (sym z.3 ∙ is) in
+        let first : h.first ≡ x = sym (ap (λ (i : Held). i.first) same) ∙ first_is t x z.0 z.1 in
+        record { e = z.0; there = ap (entry_at t) first ∙ z.1; key_is = z.2; held_is = same }
+
+-- the table with one entry changed is the state's
+pub set_same : (held : Key → Option Held) (old new : Entries) (p : Pointer) (entry : Option Entry) → ((key : Key) → held key ≡ held_in old key) → SetsEntry old new p entry
+    → (key : Key) → set_held held (key_of p) (option_map held_at entry) key ≡ held_in new key
+set_same held old new p entry same sets key =
+    ap (λ o. if key_eq (key_of p) key then option_map held_at entry else o) (same key) ∙ sym (sets.held key)
+
+-- ---- states
+
+abbrev pub with_tables : {R A : Type 0} → Shard R A → Stripes → Entries → History → Shard R A
+with_tables shard space entries history = record shard { space = space; entries = entries; history = history }
+
+pub tables_in : {R A : Type 0} (old : Shard R A) (space : Stripes) (entries : Entries) (history : History) (w : State) (held : Key → Option Held) (present aside : Segment → Bool)
+    (kept : Segment → Option ℕ) → IsIn old w → ((key : Key) → held key ≡ held_in entries key)
+    → IsIn (with_tables old space entries history) (record w { core = record w.core { held = held }; present = present; aside = aside; kept = kept })
+tables_in old space entries history w held present aside kept is_in same = record {
+  held = same;
+  slots = record { order = is_in.slots.order; arms = is_in.slots.arms; detached = is_in.slots.detached; only = is_in.slots.only };
+  pass = is_in.pass;
+  last = is_in.last;
+  open_group_is = is_in.open_group_is;
+  closing = is_in.closing;
+  sealed = is_in.sealed;
+  committed = is_in.committed;
+  version = is_in.version;
+  asked = is_in.asked;
+  serial = is_in.serial;
+  no_loan = is_in.no_loan;
+}
+
+-- nothing changed that a state has
+pub stays_in : {R A : Type 0} (old : Shard R A) (space : Stripes) (entries : Entries) (history : History) (w : State) → SameEntries old.entries entries → IsIn old w
+    → IsIn (with_tables old space entries history) w
+stays_in old space entries history w same is_in =
+    tables_in old space entries history w w.core.held w.present w.aside w.kept is_in (λ key. is_in.held key ∙ sym (same.held key))
+
+-- ---- tickets
+
+pub tickets_set : (old new : Entries) (p : Pointer) (entry : Option Entry) (from : ℕ) → TicketsAreNew old from → SetsEntry old new p entry
+    → ((e : Entry) (put missed : ℕ) → entry ≡ Some e → e.stage ≡ Writing put missed → from ≤ e.pointer.birth) → TicketsAreNew new from
+tickets_set old new p entry from tickets sets own first e put missed there stage = elim (entry_cases old new p first entry e sets there) [
+  | inl here ↦ own e put missed here.1 stage
+  | inr other ↦ tickets first e put missed other.1 stage
+]
+
+-- nothing came, or a block
+pub tickets_gone : (old new : Entries) (p : Pointer) (from : ℕ) → TicketsAreNew old from → SetsEntry old new p None → TicketsAreNew new from
+tickets_gone old new p from tickets sets = tickets_set old new p None from tickets sets (λ e put missed is stage. absurd (none_some None e refl is))
+
+pub tickets_block : (old new : Entries) (p : Pointer) (s : Stage) (from : ℕ) → is_block s ≡ true → TicketsAreNew old from → SetsEntry old new p (Some (staged s p)) → TicketsAreNew new from
+tickets_block old new p s from block tickets sets = tickets_set old new p (Some (staged s p)) from tickets sets own
+  where
+    own : (e : Entry) (put missed : ℕ) → Some (staged s p) ≡ Some e → e.stage ≡ Writing put missed → from ≤ e.pointer.birth
+    own e put missed is stage =
+        let same : s ≡ Writing put missed = ap (λ (e : Entry). e.stage) (some_injective (staged s p) e is) ∙ stage in
+        absurd (true≢false (sym block ∙ ap is_block same))
+
+pub tickets_same : (old new : Entries) (from : ℕ) → TicketsAreNew old from → SameEntries old new → TicketsAreNew new from
+tickets_same old new from tickets same first e put missed there stage = tickets first e put missed (sym (same.at first) ∙ there) stage

@@ -1,0 +1,87 @@
+-- A put, of a shard.
+use Rattle.std.proofs.Common.{◌≡◌, ◌==◌, ◌+◌, ◌-◌, ◌<◌, ◌≤◌, ◌∙◌, ℕ, Bool, true, false, List, [], ◌∷◌, Option, Some, None, arith, refl, sym, ap, ap₂, subst, length, if◌then◌else◌}
+use Rattle.std.specs.Prelude.{option_map}
+use Rattle.draid_names.specs.declared.pointer.Pointer.{Pointer}
+use Rattle.draid_rack.specs.Rack.{Told}
+use Rattle.draid_rack.specs.declared.Rack.{Ghosts}
+use Rattle.draid_parity.specs.Columns.{column_at}
+use Rattle.draid_block.specs.Blocks.{BlockValue}
+use Rattle.draid_machine.specs.declared.event.Event.TheVariants.{Put}
+use Rattle.draid_machine.specs.declared.names.ArmName.{ArmName}
+use Rattle.draid_machine.specs.declared.names.Key.{Key}
+use Rattle.draid_machine.specs.declared.names.Stage.{Stage}
+use Rattle.draid_machine.specs.declared.names.Stage.TheVariants.{Writing}
+use Rattle.draid_machine.specs.After.{put_state, set_held}
+use Rattle.draid_machine.specs.Created.{IsReached}
+use Rattle.draid_machine.specs.Names.{is_nil, key_eq}
+use Rattle.draid_machine.specs.State as machine
+use Rattle.draid_segments.specs.Segments.{Pieces}
+use Rattle.draid_entries.specs.declared.entries.Entries.{Entries}
+use Rattle.draid_entries.specs.declared.history.History.{History}
+use Rattle.draid_entries.specs.Entries.{SetsEntry, entry_at, held_in}
+use Rattle.draid_entries.specs.Maps.{held_at, key_of, staged}
+use Rattle.draid_slots.specs.Changes.{IsOf}
+use Rattle.draid_slots.specs.Table.{SlotTable, arms_of}
+use Rattle.draid_segments.specs.Acts.{PutsColumn}
+use Rattle.draid_slab.specs.Calls.{ActsOn, OnBothTold}
+use Rattle.draid_slab.specs.Columns.{ArePieces}
+use Rattle.draid_slab.specs.Part.{IsPart, IsRun}
+use Rattle.draid_slab.specs.Rows.{IsRowsOf, Lands}
+use Rattle.draid_slab.specs.States.{IsIn, Leads, layout_by, part_of}
+use Rattle.draid_slab.specs.declared.places.ColumnRows.{ColumnRows}
+use Rattle.draid_slab.specs.declared.put.Landing.{Landing}
+use Rattle.draid_slab.specs.declared.shard.Shard.{Shard}
+use Rattle.draid_slab.proofs.Putting.{held_found, pass_same, put_acts, put_slots, put_step}
+
+-- a column more was put, and one more was missed where it landed on no arm
+pub record IsCounted (landed : List ArmName) (c m next missed : ℕ) : Type 0 where
+  pub next_is : next ≡ c + 1
+  pub missed_is : missed ≡ (if is_nil landed then m + 1 else m)
+
+pub counted : (landed : List ArmName) (m missed : ℕ) → missed ≡ (if is_nil landed then m + 1 else m) → missed ≡ m + (if is_nil landed then 1 else 0)
+counted [] m missed e = e
+counted (n ∷ ns) m missed e = let z : m + 0 ≡ m = omega arith in e ∙ sym z
+
+module _ {R A : Type 0} (old : Shard R A) (rack : R) (slots : SlotTable) (entries : Entries) (history : History) (pointer : Pointer) (c m next missed : ℕ) (rows : ColumnRows) (bytes : List ℕ) (landing : Landing)
+    (o p : Option Told) (f g : Option ℕ → ℕ) (is : IsPart (part_of old)) (of : IsOf old.slots old.geometry old.perms old.number) (run : IsRun old.geometry pointer.first pointer.stripes) (column : c < old.geometry.g)
+    (rows_are : IsRowsOf (part_of old) pointer c rows) (is_open : entry_at old.entries pointer.first ≡ Some (staged (Writing c m) pointer))
+    (lands : Lands old.slots slots rows (length (arms_of old.slots rows.slot)) bytes landing o p f g)
+    (sets : SetsEntry old.entries entries pointer (Some (staged (Writing next missed) pointer))) (counts : IsCounted landing.landed c m next missed) where
+  held : (w : machine.State) → IsIn old w → w.core.held (key_of pointer) ≡ Some (held_at (staged (Writing c m) pointer))
+  held w at = at.held (key_of pointer) ∙ held_found old.entries pointer (Writing c m) is_open
+
+  holds : (w : machine.State) → IsIn old w → (key : Key)
+      → set_held w.core.held (key_of pointer) (Some (record (held_at (staged (Writing c m) pointer)) { stage = Writing (c + 1) (if is_nil landing.landed then m + 1 else m) })) key ≡ held_in entries key
+  holds w at key =
+      ap (λ o. if key_eq (key_of pointer) key then Some (record (held_at (staged (Writing c m) pointer)) { stage = Writing (c + 1) (if is_nil landing.landed then m + 1 else m) }) else o) (at.held key)
+      ∙ ap₂ (λ n k. if key_eq (key_of pointer) key then Some (held_at (staged (Writing n k) pointer)) else held_in old.entries key) (sym counts.next_is) (sym counts.missed_is)
+      ∙ sym (sets.held key)
+
+  pub put_leads : (w : machine.State) → IsReached (layout_by old) w → IsIn old w
+      → Leads (layout_by old) w (Put (key_of pointer) landing.landed landing.failed) (record old { rack = rack; slots = slots; entries = entries; history = history })
+  put_leads w reached at = record {
+    state = put_state (layout_by old) w (key_of pointer) landing.landed (held_at (staged (Writing c m) pointer)) c m;
+    step = put_step (part_of old) is old.slots slots of w reached at.slots pointer run c m column rows rows_are (held w at) bytes landing o p f g lands;
+    is_in = record {
+      held = holds w at;
+      slots = put_slots (part_of old) is old.slots slots of w reached at.slots pointer run c m column rows rows_are (held w at) bytes landing o p f g lands;
+      pass = at.pass ∙ pass_same old.slots slots old.pass lands.logs.arms;
+      last = at.last;
+      open_group_is = at.open_group_is;
+      closing = at.closing;
+      sealed = at.sealed;
+      committed = at.committed;
+      version = at.version;
+      asked = at.asked;
+      serial = at.serial;
+      no_loan = at.no_loan;
+    };
+  }
+
+  pub put_acted : (ghosts : Ghosts R) (columns : List (List ℕ)) → ghosts.told old.rack ≡ o → ghosts.told rack ≡ p → bytes ≡ column_at columns c → (pieces : Pieces)
+      → ArePieces old.geometry.props.sector old.geometry.g pointer.stripes columns (key_of pointer) pieces
+      → ActsOn ghosts old (record old { rack = rack; slots = slots; entries = entries; history = history }) (Put (key_of pointer) landing.landed landing.failed) pieces
+  put_acted ghosts columns before after of_column pieces are = λ w new step reached at.
+      subst (λ x. OnBothTold x (ghosts.told rack) (PutsColumn (layout_by old) w.core (key_of pointer) step.h step.c landing.landed pieces)) (sym before)
+      (subst (λ y. OnBothTold o y (PutsColumn (layout_by old) w.core (key_of pointer) step.h step.c landing.landed pieces)) (sym after)
+      (put_acts (part_of old) is old.slots slots of w reached at.slots pointer run c m column rows rows_are (held w at) bytes landing o p f g lands pieces columns are of_column new step))

@@ -1,0 +1,97 @@
+use Rattle.std.proofs.Common.{rules, ◌≡◌, ◌<◌, ◌≤◌, ◌+◌, ◌∙◌, false, arith, ap, ap₂, refl, sym, subst, length}
+use Rattle.std.proofs.lemmas.Bool.{true≢false}
+use Rattle.draid_names.specs.Numbers.{most_held}
+use Rattle.draid_names.specs.declared.pointer.Pointer.{Pointer}
+use Rattle.draid_block.specs.Blocks.{cut_of}
+use Rattle.draid_block.specs.Columns.{Cut, stripes_of}
+use Rattle.draid_metaslab.specs.Spaces.{is_free}
+use Rattle.draid_metaslab.specs.Spots.{IsLowest}
+use Rattle.draid_entries.specs.Entries.{count_of, held_in}
+use Rattle.draid_entries.specs.Maps.{key_of}
+use Rattle.draid_slab.specs.Fits.{IsBlock}
+use Rattle.draid_slab.proofs.Begins.{IsGiven, MayBegin, begins_leads, due_from, due_upto, oldest_low, owed_begun, refused_by, tickets_begun}
+use Rattle.draid_slab.proofs.FreeRuns.{fewer}
+use Rattle.draid_slab.proofs.Held.{tickets_same}
+use Rattle.draid_slab.proofs.Turns.{fitting, valid_with}
+use Rattle.draid_slab.proofs.shard.Shard.begin.Goals as goal
+
+pub hold-requires-clause-tables : goal.hold-requires-clause-tables
+hold-requires-clause-tables g c = fitting g.R.Rack c.args.self.now c.requires.valid
+
+pub returns-in-Ok-clause-valid : goal.returns-in-Ok-clause-valid
+returns-in-Ok-clause-valid g c =
+    let v = c.requires.valid in
+    let e = c.in-Ok.ensures in
+    let p = c.in-Ok.pointer in
+    let birth = ap (λ (q : Pointer). q.birth) e.placed ∙ c.max.ensures in
+    let less = fewer (count_of c.args.self.now.entries) (most_held c.args.self.now.version) v.few (λ same. true≢false (sym (c.is_full.ensures.count.1 same) ∙ c.if-is_full.false)) in
+    let owes = owed_begun c.args.self.now.geometry.g c.args.self.now.entries c.hold.new.entries p e.entered e.was in
+    valid_with g.R.Rack c.args.self.now c.hold.new.space c.hold.new.entries c.hold.new.history v
+    (e.tables c.args.self.now.geometry c.args.self.now.open_group v.tables (record {
+      some = c.len.ensures.some;
+      short = c.len.ensures.short;
+      stripes = c.stripes.ensures.stripes ∙ ap₂ stripes_of c.requires.cut (sym c.len.ensures.len);
+      born = due_upto c.args.self.now.open_group c.max.result c.args.floor c.max.ensures c.requires.floor;
+    }))
+    e.disabled (let count = e.count in omega (arith, less, count))
+    (tickets_begun c.args.self.now.entries c.hold.new.entries p _ v.tickets e.entered
+    (let low = oldest_low c.args.self.now.open_group c.args.self.now.closing c.args.self.now.committed c.args.self.now.sealed v.groups in
+    let from = due_from c.args.self.now.open_group p.birth c.args.floor birth in omega (arith, low, from)))
+    (let owed = e.stored.owed in let reserved = e.stored.reserved in let asked = c.block_events-asked.ensures in omega (arith, owes, owed, reserved, asked))
+
+pub returns-in-Ok-clause-event : goal.returns-in-Ok-clause-event
+returns-in-Ok-clause-event g c =
+    let e = c.in-Ok.ensures in
+    let p = c.in-Ok.pointer in
+    let stripes : p.stripes ≡ c.stripes.result = ap (λ (q : Pointer). q.stripes) e.placed in
+    let birth = ap (λ (q : Pointer). q.birth) e.placed ∙ c.max.ensures in
+    let v = c.requires.valid in
+    let enabled : c.args.self.now.space.disabled ≡ false = search rules in
+    let may : MayBegin c.args.self.now = record {
+      geometry_is = v.part.layout.geometry_is;
+      tables = v.tables;
+      enabled = sym v.disabled ∙ enabled;
+      few = fewer (count_of c.args.self.now.entries) (most_held c.args.self.now.version) v.few (λ same. true≢false (sym (c.is_full.ensures.count.1 same) ∙ c.if-is_full.false));
+    } in
+    let given : IsGiven c.args.self.now p = record {
+      some = (let some = c.stripes.ensures.some in omega (arith, some, stripes));
+      lowest = subst (λ n. IsLowest (is_free c.args.self.now.space) c.args.self.now.space.height n p.first) (sym stripes) e.lowest;
+      inside = (let inside = e.inside in omega (arith, inside, stripes));
+      unused = ap (held_in c.args.self.now.entries) (ap key_of e.placed) ∙ c.requires.unused;
+      from = due_from c.args.self.now.open_group p.birth c.args.floor birth;
+      upto = due_upto c.args.self.now.open_group p.birth c.args.floor birth c.requires.floor;
+    } in
+    record {
+      part = refl;
+      stored = e.stored.stored;
+      leads = λ w reached is_in. begins_leads c.args.self.now c.hold.new.space c.hold.new.entries c.hold.new.history p may given e.entered w is_in;
+    }
+
+pub returns-in-Err-clause-valid : goal.returns-in-Err-clause-valid
+returns-in-Err-clause-valid g c =
+    let v = c.requires.valid in
+    let e = c.in-Err.ensures in
+    valid_with g.R.Rack c.args.self.now c.hold.new.space c.hold.new.entries c.hold.new.history v
+    (e.tables c.args.self.now.geometry c.args.self.now.open_group v.tables (record {
+      some = c.len.ensures.some;
+      short = c.len.ensures.short;
+      stripes = c.stripes.ensures.stripes ∙ ap₂ stripes_of c.requires.cut (sym c.len.ensures.len);
+      born = due_upto c.args.self.now.open_group c.max.result c.args.floor c.max.ensures c.requires.floor;
+    }))
+    e.disabled (let count = e.same.count in let few = v.few in omega (arith, few, count))
+    (tickets_same c.args.self.now.entries c.hold.new.entries _ v.tickets e.same)
+    (let owed = e.kept.owed in let reserved = e.kept.reserved in let same = e.same.owed c.args.self.now.geometry.g in omega (arith, owed, reserved, same))
+
+pub returns-in-Err-clause-refused : goal.returns-in-Err-clause-refused
+returns-in-Err-clause-refused g c w is_in =
+    let v = c.requires.valid in
+    let enabled : c.args.self.now.space.disabled ≡ false = search rules in
+    let may : MayBegin c.args.self.now = record {
+      geometry_is = v.part.layout.geometry_is;
+      tables = v.tables;
+      enabled = sym v.disabled ∙ enabled;
+      few = fewer (count_of c.args.self.now.entries) (most_held c.args.self.now.version) v.few (λ same. true≢false (sym (c.is_full.ensures.count.1 same) ∙ c.if-is_full.false));
+    } in
+    let same = c.stripes.ensures.stripes ∙ ap (λ (cut : Cut). stripes_of cut (length c.args.block.now.bytes)) c.requires.cut in
+    refused_by c.args.self.now (stripes_of (cut_of c.args.self.now.geometry) (length c.args.block.now.bytes)) c.stripes.result c.block_events-asked.result c.in-Err.fault may
+    (let some = c.stripes.ensures.some in omega (arith, some, same)) same c.block_events-asked.ensures c.in-Err.ensures.refused w is_in

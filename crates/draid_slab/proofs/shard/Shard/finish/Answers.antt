@@ -1,0 +1,68 @@
+use Rattle.std.proofs.Common.{◌∙◌, ◌+◌, ◌-◌, ◌++◌, ◌∷◌, [], None, Some, arith, ap, refl}
+use Rattle.draid_machine.specs.declared.event.Event.TheVariants.{Finish}
+use Rattle.draid_machine.specs.declared.names.Stage.TheVariants.{Writing, Live}
+use Rattle.draid_entries.specs.Maps.{staged}
+use Rattle.draid_slab.proofs.Held.{tickets_gone, tickets_block}
+use Rattle.draid_slab.proofs.Tables.{turned_tables}
+use Rattle.draid_slab.proofs.Turns.{all_put, finishes, fitting, misses, owed_turns, valid_with}
+use Rattle.draid_slab.proofs.shard.Shard.finish.Goals as goal
+
+pub release-requires-clause-tables : goal.release-requires-clause-tables
+release-requires-clause-tables g c = fitting g.R.Rack c.args.self.now c.requires.valid
+
+pub add-requires-clause-owed : goal.add-requires-clause-owed
+add-requires-clause-owed g c =
+    let turns = owed_turns c.args.self.now.geometry.g c.args.self.now.entries c.release.new.entries c.args.ticket.pointer None
+    (staged (Writing c.args.ticket.next c.args.ticket.missed) c.args.ticket.pointer) 2 0 c.release.ensures.gone c.requires.is_open
+    (all_put c.args.self.now.geometry.g c.args.ticket c.requires.all) refl in
+    let all = c.requires.valid.owed in
+    omega (arith, turns, all)
+
+pub add-requires-2-clause-owed : goal.add-requires-2-clause-owed
+add-requires-2-clause-owed g c =
+    let turns = owed_turns c.args.self.now.geometry.g c.args.self.now.entries c.turn.new.self c.args.ticket.pointer (Some (staged Live c.args.ticket.pointer))
+    (staged (Writing c.args.ticket.next c.args.ticket.missed) c.args.ticket.pointer) 2 1 c.turn.ensures.entered c.requires.is_open
+    (all_put c.args.self.now.geometry.g c.args.ticket c.requires.all) refl in
+    let all = c.requires.valid.owed in
+    omega (arith, turns, all)
+
+pub returns-then-ticket-self-clause-valid : goal.returns-then-ticket-self-clause-valid
+returns-then-ticket-self-clause-valid g c =
+    let v = c.requires.valid in
+    let turns = owed_turns c.args.self.now.geometry.g c.args.self.now.entries c.release.new.entries c.args.ticket.pointer None
+    (staged (Writing c.args.ticket.next c.args.ticket.missed) c.args.ticket.pointer) 2 0 c.release.ensures.gone c.requires.is_open
+    (all_put c.args.self.now.geometry.g c.args.ticket c.requires.all) refl in
+    valid_with g.R.Rack c.args.self.now c.release.new.space c.release.new.entries c.add.new.self v
+    (c.release.ensures.tables c.args.self.now.geometry c.args.self.now.open_group v.tables) c.release.ensures.disabled
+    (let few = v.few in let count = c.release.ensures.count in omega (arith, few, count))
+    (tickets_gone c.args.self.now.entries c.release.new.entries c.args.ticket.pointer _ v.tickets c.release.ensures.gone)
+    (let owed = c.add.ensures.owed in let reserved = c.add.ensures.reserved in omega (arith, turns, owed, reserved))
+
+pub returns-clause-valid : goal.returns-clause-valid
+returns-clause-valid g c =
+    let v = c.requires.valid in
+    let turns = owed_turns c.args.self.now.geometry.g c.args.self.now.entries c.turn.new.self c.args.ticket.pointer (Some (staged Live c.args.ticket.pointer))
+    (staged (Writing c.args.ticket.next c.args.ticket.missed) c.args.ticket.pointer) 2 1 c.turn.ensures.entered c.requires.is_open
+    (all_put c.args.self.now.geometry.g c.args.ticket c.requires.all) refl in
+    valid_with g.R.Rack c.args.self.now c.args.self.now.space c.turn.new.self c.add-2.new.self v
+    (turned_tables c.args.self.now.geometry c.args.self.now.open_group c.args.self.now.space c.args.self.now.entries c.turn.new.self c.args.ticket.pointer
+    (Writing c.args.ticket.next c.args.ticket.missed) Live v.tables c.requires.is_open c.turn.ensures.entered c.turn.ensures.count)
+    refl (let few = v.few in let count = c.turn.ensures.count in omega (arith, few, count))
+    (tickets_block c.args.self.now.entries c.turn.new.self c.args.ticket.pointer Live _ refl v.tickets c.turn.ensures.entered)
+    (let owed = c.add-2.ensures.owed in let reserved = c.add-2.ensures.reserved in omega (arith, turns, owed, reserved))
+
+pub returns-clause-event : goal.returns-clause-event
+returns-clause-event g c = record {
+  part = refl;
+  stored = c.add-2.ensures.stored ∙ ap (λ key. c.args.self.now.history.events.items ++ Finish key ∷ []) c.key_of.ensures;
+  leads = λ w reached is_in. finishes c.args.self.now c.args.self.now.space c.turn.new.self c.add-2.new.self c.args.ticket c.requires.is_open c.requires.all
+      (let few = c.if-ticket-self.false in omega (arith, few)) c.turn.ensures.entered w is_in;
+}
+
+pub returns-then-ticket-self-clause-event : goal.returns-then-ticket-self-clause-event
+returns-then-ticket-self-clause-event g c = record {
+  part = refl;
+  stored = c.add.ensures.stored ∙ ap (λ key. c.args.self.now.history.events.items ++ Finish key ∷ []) c.key_of.ensures;
+  leads = λ w reached is_in. misses c.args.self.now c.release.new.space c.release.new.entries c.add.new.self c.args.ticket c.requires.is_open c.requires.all
+      (let many = c.if-ticket-self.true in omega (arith, many)) c.release.ensures.gone w is_in;
+}

@@ -1,0 +1,10 @@
+pub mod Calls
+pub mod Columns
+pub mod Fits
+pub mod Holding
+pub mod Part
+pub mod Reads
+pub mod Rows
+pub mod Slots
+pub mod Stands
+pub mod States

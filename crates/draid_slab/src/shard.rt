@@ -1,0 +1,44 @@
+use draid_area::Area;
+use draid_entries::{Entries, History};
+use draid_metaslab::Space;
+use draid_pass::Pass;
+use draid_perm::Perms;
+use draid_rack::Rack;
+use draid_slots::Slots;
+use draid_spec::Geometry;
+use std::alloc::Global;
+
+/// One metaslab over its devices.
+#[derive(Drop)]
+pub struct Shard<R: Rack, A: Area> {
+    /// The metaslab's number.
+    pub number: u32,
+    pub geometry: Geometry,
+    pub perms: Perms,
+    pub rack: R,
+    /// The arms of the child slots, with their logs.
+    pub slots: Slots,
+    pub space: Space,
+    /// The rebuild or scrub that has the metaslab.
+    pub pass: Option<Pass>,
+    /// The number of the last pass.
+    pub last_pass: u64,
+    /// The number of the last loan since the opening.
+    pub serial: u64,
+    /// What was done since the opening.
+    pub history: History,
+    /// The blocks and the open writes.
+    pub(crate) entries: Entries,
+    /// The areas of the records of even and of odd groups.
+    pub(crate) even: A,
+    pub(crate) odd: A,
+    pub(crate) open_group: u64,
+    pub(crate) closing: Option<u64>,
+    /// Whether the closing group is sealed.
+    pub(crate) sealed: bool,
+    pub(crate) committed: u64,
+    /// The version of the committed group, and the one that the next seal is to have.
+    pub(crate) version: u32,
+    pub(crate) asked: u32,
+    pub(crate) alloc: Global,
+}
