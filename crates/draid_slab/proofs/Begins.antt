@@ -1,38 +1,31 @@
 -- The beginning of a write: legal where a run was given, and refused for what a state says.
-use Rattle.std.proofs.Common.{◌≡◌, ◌⊎◌, ◌+◌, ◌*◌, ◌<◌, ◌≤◌, ◌∙◌, ℕ, Bool, true, false, Option, Some, None, option_map, arith, refl, sym, ap, inl, inr, max, subst}
+use Rattle.std.proofs.Common.{◌≡◌, ◌+◌, ◌*◌, ◌<◌, ◌≤◌, ◌∙◌, ℕ, Bool, false, Option, Some, None, arith, refl, ap, inl, inr, max, subst}
 use Rattle.std.proofs.Math.Nat.{mul-le-mul}
 use Rattle.std.proofs.lemmas.Bool.{cases_lt}
 use Rattle.std.proofs.lemmas.Bool.Decides.{nat_tests}
 use Rattle.draid_names.specs.Numbers.{most_held}
-use Rattle.draid_names.specs.declared.numbers.TheConstants.{NUMBERS}
+use Rattle.draid_names.specs.declared.numbers.TheConstants.{LAST_NUMBER, NUMBERS}
 use Rattle.draid_names.specs.declared.pointer.Pointer.{Pointer}
 use Rattle.draid_spec.specs.declared.layout.Geometry.{Geometry}
 use Rattle.draid_spec.specs.Geometry.{IsGeometry, metaslab_stripes}
 use Rattle.draid_metaslab.specs.Spaces.{Stripes, is_free}
-use Rattle.draid_metaslab.specs.Spots.{IsLowest, IsSpot}
-use Rattle.draid_machine.specs.declared.names.Held.{Held}
-use Rattle.draid_machine.specs.declared.names.Key.{Key}
+use Rattle.draid_metaslab.specs.Spots.{IsLowest}
 use Rattle.draid_machine.specs.After.{begin_state, set_held}
 use Rattle.draid_machine.specs.State as machine
 use Rattle.draid_machine.specs.Step.{Fits}
-use Rattle.draid_rack.specs.declared.Rack.{Ghosts}
-use Rattle.draid_machine.specs.declared.names.Stage.TheVariants.{Writing}
-use Rattle.draid_machine.proofs.Small.{some_injective}
-use Rattle.draid_entries.specs.declared.entry.Entry.{Entry}
 use Rattle.draid_entries.specs.declared.entries.Entries.{Entries}
 use Rattle.draid_entries.specs.declared.history.History.{History}
 use Rattle.draid_entries.specs.Entries.{SetsEntry, begun, count_of, entry_at, held_in, owed_at, owed_by}
-use Rattle.draid_entries.specs.History.{Passes, left_for_groups, owed_of, reserved_of}
 use Rattle.draid_entries.specs.Maps.{held_at, key_of}
 use Rattle.draid_entries.proofs.Counted.{few}
 use Rattle.draid_slab.specs.declared.fault.BeginFault.{BeginFault}
 use Rattle.draid_slab.specs.declared.fault.BeginFault.TheVariants as begin
 use Rattle.draid_slab.specs.declared.shard.Shard.{Shard}
 use Rattle.draid_slab.specs.Calls.{BeginRefused, begins, block_events}
-use Rattle.draid_slab.specs.Fits.{AreGroups, Tables, TicketsAreNew, Valid, is_rebuild, oldest_open}
+use Rattle.draid_slab.specs.Fits.{AreGroups, Tables, is_rebuild, oldest_open}
 use Rattle.draid_slab.specs.Holding.{HoldRefused}
 use Rattle.draid_slab.specs.States.{IsIn, Leads, layout_by}
-use Rattle.draid_slab.proofs.Held.{set_same, tickets_set, tables_in, with_tables}
+use Rattle.draid_slab.proofs.Held.{set_same, tables_in, with_tables}
 use Rattle.draid_slab.proofs.FreeRuns.{enabled_by, longest_of, run_fits, spot_fits, spot_of}
 use Rattle.draid_slab.proofs.Tables.{WasFree, spot_free}
 
@@ -60,19 +53,18 @@ due_upto group birth floor is below = elim (cases_lt floor group) [
   | inr high ↦ (let m : max group floor ≡ floor = grind (arith, nat_tests, high) in omega (arith, is, m, below))
 ]
 
+pub due_low : (group birth floor : ℕ) → birth ≡ max group floor → group ≤ LAST_NUMBER → floor ≤ LAST_NUMBER → birth ≤ LAST_NUMBER
+due_low group birth floor is low below = elim (cases_lt floor group) [
+  | inl less ↦ (let m : max group floor ≡ group = grind (arith, nat_tests, less) in omega (arith, is, m, low))
+  | inr high ↦ (let m : max group floor ≡ floor = grind (arith, nat_tests, high) in omega (arith, is, m, below))
+]
+
 -- the first group in which a ticket may have been born isn't behind the open one
 pub oldest_low : (group : ℕ) (closing : Option ℕ) (committed : ℕ) (sealed : Bool) → AreGroups group closing committed sealed → oldest_open group closing ≤ group
 oldest_low group None committed sealed are = omega arith
 oldest_low group (Some t) committed sealed are = let behind = are.0 in omega (arith, behind)
 
--- a ticket that is begun in a group that is open
-pub tickets_begun : (old new : Entries) (p : Pointer) (from : ℕ) → TicketsAreNew old from → SetsEntry old new p (Some (begun p)) → from ≤ p.birth → TicketsAreNew new from
-tickets_begun old new p from tickets sets due = tickets_set old new p (Some (begun p)) from tickets sets own
-  where
-    own : (e : Entry) (put missed : ℕ) → Some (begun p) ≡ Some e → e.stage ≡ Writing put missed → from ≤ e.pointer.birth
-    own e put missed is stage = let same : p.birth ≡ e.pointer.birth = ap (λ (e : Entry). e.pointer.birth) (some_injective (begun p) e is) in omega (arith, due, same)
-
--- and what it owes
+-- what a write owes that begins
 pub owed_begun : (columns : ℕ) (old new : Entries) (p : Pointer) → SetsEntry old new p (Some (begun p)) → entry_at old p.first ≡ None → owed_by columns new ≡ owed_by columns old + columns + 2
 owed_begun columns old new p sets none =
     let sum = sets.owed columns in

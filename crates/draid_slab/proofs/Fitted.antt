@@ -38,5 +38,5 @@ pub born_from : (open_group committed birth : ℕ) (closing : Option ℕ) (seale
 born_from open_group committed birth None sealed groups born = omega (arith, born)
 born_from open_group committed birth (Some t) sealed groups born = let e = groups.0 in omega (arith, born, e)
 
-pub born_low : (open_group birth : ℕ) → open_group < LAST_NUMBER → birth ≤ open_group + 1 → birth < 2 ^ 48
-born_low open_group birth low born = omega (arith, low, born)
+pub born_low : (birth : ℕ) → birth ≤ LAST_NUMBER → birth < 2 ^ 48
+born_low birth low = omega (arith, low)

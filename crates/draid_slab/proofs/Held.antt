@@ -91,6 +91,13 @@ tickets_set old new p entry from tickets sets own first e put missed there stage
   | inr other ↦ tickets first e put missed other.1 stage
 ]
 
+-- a ticket came, or came to another stage
+pub tickets_staged : (old new : Entries) (p : Pointer) (s : Stage) (from : ℕ) → from ≤ p.birth → TicketsAreNew old from → SetsEntry old new p (Some (staged s p)) → TicketsAreNew new from
+tickets_staged old new p s from due tickets sets = tickets_set old new p (Some (staged s p)) from tickets sets own
+  where
+    own : (e : Entry) (put missed : ℕ) → Some (staged s p) ≡ Some e → e.stage ≡ Writing put missed → from ≤ e.pointer.birth
+    own e put missed is stage = let same : p.birth ≡ e.pointer.birth = ap (λ (e : Entry). e.pointer.birth) (some_injective (staged s p) e is) in omega (arith, due, same)
+
 -- nothing came, or a block
 pub tickets_gone : (old new : Entries) (p : Pointer) (from : ℕ) → TicketsAreNew old from → SetsEntry old new p None → TicketsAreNew new from
 tickets_gone old new p from tickets sets = tickets_set old new p None from tickets sets (λ e put missed is stage. absurd (none_some None e refl is))

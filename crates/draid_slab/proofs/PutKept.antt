@@ -1,8 +1,7 @@
 -- A put keeps a shard valid.
-use Rattle.std.proofs.Common.{◌≡◌, ◌+◌, ◌-◌, ◌<◌, ◌≤◌, ◌∙◌, ℕ, List, Option, Some, None, arith, refl, sym, ap, subst, length}
+use Rattle.std.proofs.Common.{◌≡◌, ◌+◌, ◌-◌, ◌<◌, ◌≤◌, ℕ, Some, arith, refl, sym, ap, subst}
 use Rattle.draid_names.specs.Numbers.{most_held}
 use Rattle.draid_names.specs.declared.pointer.Pointer.{Pointer}
-use Rattle.draid_rack.specs.Rack.{Told}
 use Rattle.draid_rack.specs.declared.Rack.{Ghosts}
 use Rattle.draid_machine.specs.declared.names.Stage.TheVariants.{Writing}
 use Rattle.draid_entries.specs.declared.entries.Entries.{Entries}
@@ -10,13 +9,14 @@ use Rattle.draid_entries.specs.declared.history.History.{History}
 use Rattle.draid_entries.specs.Entries.{SetsEntry, count_of, entry_at, owed_at, owed_by}
 use Rattle.draid_entries.specs.History.{owed_of, reserved_of}
 use Rattle.draid_entries.specs.Maps.{staged}
-use Rattle.draid_slots.specs.Table.{SlotTable, arms_of}
+use Rattle.draid_slots.specs.Table.{SlotTable}
 use Rattle.draid_slab.specs.Fits.{Valid, oldest_open}
-use Rattle.draid_slab.specs.Rows.{IsRowsOf, LogsBirth}
-use Rattle.draid_slab.specs.States.{part_of}
+use Rattle.draid_slab.specs.Rows.{LogsBirth}
 use Rattle.draid_slab.specs.declared.shard.Shard.{Shard}
 use Rattle.draid_slab.proofs.Fitted.{born_from}
-use Rattle.draid_slab.proofs.Staging.{leaves_left, logs_left, same_of, tables_staged, tickets_staged}
+use Rattle.draid_slab.proofs.Held.{tickets_staged}
+use Rattle.draid_slab.proofs.Staging.{leaves_left, logs_left, same_of}
+use Rattle.draid_slab.proofs.Tables.{turned_tables}
 
 module _ {R A : Type 0} (ghosts : Ghosts R) (old : Shard R A) (valid : Valid ghosts old) (pointer : Pointer) (c m next missed : ℕ) (is_open : entry_at old.entries pointer.first ≡ Some (staged (Writing c m) pointer))
     (left : c < old.geometry.g) (up : next ≡ c + 1) (entries : Entries) (sets : SetsEntry old.entries entries pointer (Some (staged (Writing next missed) pointer))) where
@@ -44,7 +44,7 @@ module _ {R A : Type 0} (ghosts : Ghosts R) (old : Shard R A) (valid : Valid gho
       record {
         part = valid.part;
         version = valid.version;
-        tables = tables_staged old.entries entries pointer (Writing c m) (Writing next missed) is_open sets old.geometry old.open_group old.space count valid.tables;
+        tables = turned_tables old.geometry old.open_group old.space old.entries entries pointer (Writing c m) (Writing next missed) valid.tables is_open sets count;
         disabled = valid.disabled;
         few = subst (λ n. n ≤ most_held old.version) (sym count) valid.few;
         slots = same_of old.slots slots old.geometry old.perms old.number pointer.birth at_birth valid.slots;
@@ -52,6 +52,6 @@ module _ {R A : Type 0} (ghosts : Ghosts R) (old : Shard R A) (valid : Valid gho
         leaves = leaves_left (ghosts.shape old.rack) (ghosts.shape rack) old.geometry old.slots slots pointer.birth shape at_birth valid.leaves;
         groups = valid.groups;
         low = valid.low;
-        tickets = tickets_staged old.entries entries pointer (Writing c m) (Writing next missed) is_open sets (oldest_open old.open_group old.closing) low valid.tickets;
+        tickets = tickets_staged old.entries entries pointer (Writing next missed) (oldest_open old.open_group old.closing) low valid.tickets sets;
         owed = (let was = valid.owed in let less = one_less in omega (arith, was, less, owed, reserved));
       }

@@ -1,85 +1,21 @@
--- A ticket comes to another stage, and logs get its birth: the shard's parts fit together as before.
-use Rattle.std.proofs.Common.{◌≡◌, ◌==◌, ◌+◌, ◌-◌, ◌*◌, ◌<◌, ◌≤◌, ◌^◌, ◌⊎◌, ◌&&◌, not, ◌∙◌, ℕ, zero, suc, Bool, true, false, List, [], Option, Some, None, arith, refl, sym, ap, ap₂, subst, inl, inr, length, slice_get, if◌then◌else◌}
-use Rattle.std.specs.Prelude.{option_map, slice_index_or}
+-- Logs get the birth of a ticket: the shard's parts fit together as before.
+use Rattle.std.proofs.Common.{◌≡◌, ◌==◌, ◌+◌, ◌-◌, ◌*◌, ◌<◌, ◌≤◌, ◌&&◌, not, ◌∙◌, ℕ, Bool, true, false, [], arith, refl, sym, ap, subst, inl, inr, length, slice_get, if◌then◌else◌}
+use Rattle.std.specs.Prelude.{slice_index_or}
 use Rattle.std.proofs.lemmas.Bool.{cases_eq}
 use Rattle.std.proofs.lemmas.Bool.Decides.{nat_tests}
-use Rattle.draid_names.specs.declared.arm.Arm.{Arm}
-use Rattle.draid_names.specs.declared.arm.ArmAt.{ArmAt}
 use Rattle.draid_names.specs.declared.pointer.Pointer.{Pointer}
 use Rattle.draid_spec.specs.declared.layout.Geometry.{Geometry}
-use Rattle.draid_spec.specs.Geometry.{metaslab_sectors}
 use Rattle.draid_block.specs.Blocks.{column_len, cut_of}
 use Rattle.draid_block.specs.Columns.{Cut, stripes_of}
 use Rattle.draid_rack.specs.Rack.{Shape}
-use Rattle.draid_machine.specs.declared.names.Stage.{Stage}
-use Rattle.draid_machine.specs.declared.names.Stage.TheVariants.{Writing}
-use Rattle.draid_metaslab.specs.Spaces.{Stripes}
-use Rattle.draid_machine.proofs.Small.{absurd_test, equal, is_equal, some_same}
-use Rattle.draid_entries.specs.declared.entries.Entries.{Entries}
-use Rattle.draid_entries.specs.declared.entry.Entry.{Entry}
-use Rattle.draid_entries.specs.Entries.{SetsEntry, count_of, entry_at}
-use Rattle.draid_entries.specs.Maps.{staged}
+use Rattle.draid_machine.proofs.Small.{absurd_test}
 use Rattle.std.specs.List.{list_any}
 use Rattle.draid_perm.specs.declared.perms.Perms.{Perms}
 use Rattle.draid_slots.specs.declared.slot.Detached.{Detached}
 use Rattle.draid_slots.specs.Changes.{IsOf}
-use Rattle.draid_slots.specs.Table.{SlotTable, arm_at, is_leaf_kind, is_leaving, is_logged, room_at}
-use Rattle.draid_slab.specs.Fits.{HasLeaves, HasStripe, IsLeaf, IsPlaced, LogsHaveRoom, Tables, TicketsAreNew, lacking}
+use Rattle.draid_slots.specs.Table.{SlotTable, is_leaf_kind, is_leaving, is_logged, room_at}
+use Rattle.draid_slab.specs.Fits.{HasLeaves, IsLeaf, LogsHaveRoom, lacking}
 use Rattle.draid_slab.specs.Rows.{HasRoomFor, LogsBirth}
-
--- ---- entries
-module _ (old new : Entries) (p : Pointer) (was now : Stage) (own : entry_at old p.first ≡ Some (staged was p)) (sets : SetsEntry old new p (Some (staged now p))) where
-  -- an entry is the one that came to another stage, or was there
-  pub entry_before : (k : ℕ) (e : Entry) → entry_at new k ≡ Some e → ((k ≡ p.first) × (staged now p ≡ e)) ⊎ (entry_at old k ≡ Some e)
-  entry_before k e there = by (k == p.first) refl (sym (sets.at k) ∙ there)
-    where
-      by : (b : Bool) → (k == p.first) ≡ b → (if k == p.first then Some (staged now p) else entry_at old k) ≡ Some e → ((k ≡ p.first) × (staged now p ≡ e)) ⊎ (entry_at old k ≡ Some e)
-      by true same at = inl (is_equal k p.first same, some_same (Some (staged now p)) (staged now p) e refl (subst (λ b. (if b then Some (staged now p) else entry_at old k) ≡ Some e) same at))
-      by false other at = inr (subst (λ b. (if b then Some (staged now p) else entry_at old k) ≡ Some e) other at)
-
-  stood : (k : ℕ) (e : Entry) → entry_at new k ≡ Some e → (b : Entry) × (entry_at old k ≡ Some b) × (b.pointer ≡ e.pointer)
-  stood k e there = elim (entry_before k e there) [
-    | inl it ↦ (staged was p, ap (entry_at old) it.0 ∙ own, ap (λ (e : Entry). e.pointer) it.1)
-    | inr other ↦ (e, other, refl)
-  ]
-
-  stands : (x : ℕ) → HasStripe old x → HasStripe new x
-  stands x h = by (h.first == p.first) refl
-    where
-      by : (b : Bool) → (h.first == p.first) ≡ b → HasStripe new x
-      by true same =
-          let at : h.first ≡ p.first = is_equal h.first p.first same in
-          let it : staged was p ≡ h.entry = some_same (entry_at old p.first) (staged was p) h.entry own (subst (λ k. entry_at old k ≡ Some h.entry) at h.there) in
-          record {
-            first = h.first;
-            entry = staged now p;
-            there = sets.at h.first ∙ ap (λ b. if b then Some (staged now p) else entry_at old h.first) same;
-            from = h.from;
-            to = subst (λ (e : Entry). x < h.first + e.pointer.stripes) (sym it) h.to;
-          }
-      by false other = record {
-        first = h.first;
-        entry = h.entry;
-        there = sets.at h.first ∙ ap (λ b. if b then Some (staged now p) else entry_at old h.first) other ∙ h.there;
-        from = h.from;
-        to = h.to;
-      }
-
-  pub tables_staged : (geometry : Geometry) (open_group : ℕ) (space : Stripes) → count_of new ≡ count_of old → Tables geometry open_group space old → Tables geometry open_group space new
-  tables_staged geometry open_group space count t = record {
-    height = t.height;
-    total = t.total;
-    count = t.count ∙ sym count;
-    placed = λ k e there. (let b = stood k e there in subst (IsPlaced geometry space open_group) b.2 (t.placed k b.0 b.1));
-    apart = λ j k a b x y less. (let u = stood j a x in let v = stood k b y in subst (λ (q : Pointer). j + q.stripes ≤ k) u.2 (t.apart j k u.0 v.0 u.1 v.1 less));
-    covered = λ x below taken. stands x (t.covered x below taken);
-  }
-
-  pub tickets_staged : (from : ℕ) → from ≤ p.birth → TicketsAreNew old from → TicketsAreNew new from
-  tickets_staged from born t = λ k e put missed there stage. elim (entry_before k e there) [
-    | inl it ↦ subst (λ (e : Entry). from ≤ e.pointer.birth) it.1 born
-    | inr other ↦ t k e put missed other stage
-  ]
 
 -- ---- logs
 one_less : (a b : Bool) → (a ≡ true → b ≡ true) → (if b then 0 else 1) + (if b && not a then 1 else 0) ≤ (if a then 0 else 1)

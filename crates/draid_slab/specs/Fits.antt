@@ -29,12 +29,13 @@ use Rattle.draid_slab.specs.declared.shard.Shard.{Shard}
 
 -- ---- stripes
 
--- what a pointer says of its block: its length and stripes fit together, and it was born in the next group at most
+-- what a pointer says of its block: its length and stripes fit together, and it was born in the next group at most, whose number has 48 bits
 pub record IsBlock (geometry : Geometry) (open_group : ℕ) (pointer : Pointer) : Type 0 where
   pub some : 1 ≤ pointer.len
   pub short : pointer.len ≤ LONGEST_BLOCK
   pub stripes : pointer.stripes ≡ stripes_of (cut_of geometry) pointer.len
   pub born : pointer.birth ≤ open_group + 1
+  pub low : pointer.birth ≤ LAST_NUMBER
 
 -- the block of an entry lies on taken stripes within one parity group
 pub record IsPlaced (geometry : Geometry) (space : Stripes) (open_group : ℕ) (pointer : Pointer) : Type 0 where
@@ -125,7 +126,7 @@ pub record Valid {R A : Type 0} (rack : Ghosts R) (shard : Shard R A) : Type 0 w
   pub logs : LogsHaveRoom shard.slots (oldest_open shard.open_group shard.closing)
   pub leaves : HasLeaves (rack.shape shard.rack) shard.geometry shard.slots
   pub groups : AreGroups shard.open_group shard.closing shard.committed shard.sealed
-  pub low : shard.open_group < LAST_NUMBER
+  pub low : shard.open_group ≤ LAST_NUMBER
   pub tickets : TicketsAreNew shard.entries (oldest_open shard.open_group shard.closing)
   pub owed : owed_of shard.history
       ≡ owed_by shard.geometry.g shard.entries + owed_for_pass shard.pass + owed_for_group shard.closing shard.sealed + reserved_of shard.history

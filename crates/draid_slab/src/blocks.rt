@@ -1,4 +1,5 @@
 ghost use Rattle.std.specs.Prelude.{◌≡◌, ◌≤◌, ◌+◌, ◌↔◌, IfOk, IsTrue, OnErr, is_err, max};
+ghost use Rattle.draid_names.specs.declared.numbers.TheConstants.{LAST_NUMBER};
 ghost use Rattle.draid_machine.specs.declared.event.Event.TheVariants.{Free};
 ghost use Rattle.draid_entries.specs.Maps.{key_of};
 ghost use Rattle.draid_slab.specs.Calls.{IsLive, SameKit, SameReserve};
@@ -30,6 +31,7 @@ impl<R: Rack, A: Area> Shard<R, A> {
     pub fn free(&mut self, pointer: &Pointer, floor: u64) -> Result<u64, NotLive>
         requires valid { Valid R.Rack self.old }
         requires floor { floor ≤ self.old.open_group + 1 }
+        requires low { floor ≤ LAST_NUMBER }
         ensures valid { Valid R.Rack self.new }
         ensures kit { SameKit self.old self.new }
         ensures not_live { IsTrue (is_err result) ↔ (IsLive self.old pointer.now → ⊥) }

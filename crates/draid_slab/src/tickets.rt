@@ -1,5 +1,5 @@
 ghost use Rattle.std.specs.Prelude.{◌≡◌, ◌<◌, ◌≤◌, ◌+◌, ℕ, None, Some, IfErr, IfOk, OnErr, OnOk, false, length, max};
-ghost use Rattle.draid_names.specs.declared.numbers.TheConstants.{NUMBERS, OBJECTS};
+ghost use Rattle.draid_names.specs.declared.numbers.TheConstants.{LAST_NUMBER, NUMBERS, OBJECTS};
 ghost use Rattle.draid_block.specs.Blocks.{cut_of};
 ghost use Rattle.draid_block.specs.Columns.{stripes_of};
 ghost use Rattle.draid_machine.specs.declared.event.Event.TheVariants.{Abort, Begin, Finish};
@@ -41,6 +41,7 @@ impl<R: Rack, A: Area> Shard<R, A> {
         requires seq { (1 ≤ seq) × (seq < NUMBERS) }
         requires unused { held_in self.old.entries (record { object = object; seq = seq }) ≡ None }
         requires floor { floor ≤ self.old.open_group + 1 }
+        requires low { floor ≤ LAST_NUMBER }
         requires cut { block.now.cut ≡ cut_of self.old.geometry }
         ensures valid { Valid R.Rack self.new }
         ensures kit { SameKit self.old self.new }

@@ -4,14 +4,15 @@ use Rattle.draid_names.specs.Numbers.{most_held}
 use Rattle.draid_names.specs.declared.pointer.Pointer.{Pointer}
 use Rattle.draid_block.specs.Blocks.{cut_of}
 use Rattle.draid_block.specs.Columns.{Cut, stripes_of}
+use Rattle.draid_machine.specs.declared.names.Stage.TheVariants.{Writing}
 use Rattle.draid_metaslab.specs.Spaces.{is_free}
 use Rattle.draid_metaslab.specs.Spots.{IsLowest}
 use Rattle.draid_entries.specs.Entries.{count_of, held_in}
 use Rattle.draid_entries.specs.Maps.{key_of}
 use Rattle.draid_slab.specs.Fits.{IsBlock}
-use Rattle.draid_slab.proofs.Begins.{IsGiven, MayBegin, begins_leads, due_from, due_upto, oldest_low, owed_begun, refused_by, tickets_begun}
+use Rattle.draid_slab.proofs.Begins.{IsGiven, MayBegin, begins_leads, due_from, due_low, due_upto, oldest_low, owed_begun, refused_by}
 use Rattle.draid_slab.proofs.FreeRuns.{fewer}
-use Rattle.draid_slab.proofs.Held.{tickets_same}
+use Rattle.draid_slab.proofs.Held.{tickets_same, tickets_staged}
 use Rattle.draid_slab.proofs.Turns.{fitting, valid_with}
 use Rattle.draid_slab.proofs.shard.Shard.begin.Goals as goal
 
@@ -32,11 +33,12 @@ returns-in-Ok-clause-valid g c =
       short = c.len.ensures.short;
       stripes = c.stripes.ensures.stripes ∙ ap₂ stripes_of c.requires.cut (sym c.len.ensures.len);
       born = due_upto c.args.self.now.open_group c.max.result c.args.floor c.max.ensures c.requires.floor;
+      low = due_low c.args.self.now.open_group c.max.result c.args.floor c.max.ensures v.low c.requires.low;
     }))
     e.disabled (let count = e.count in omega (arith, less, count))
-    (tickets_begun c.args.self.now.entries c.hold.new.entries p _ v.tickets e.entered
+    (tickets_staged c.args.self.now.entries c.hold.new.entries p (Writing 0 0) _
     (let low = oldest_low c.args.self.now.open_group c.args.self.now.closing c.args.self.now.committed c.args.self.now.sealed v.groups in
-    let from = due_from c.args.self.now.open_group p.birth c.args.floor birth in omega (arith, low, from)))
+    let from = due_from c.args.self.now.open_group p.birth c.args.floor birth in omega (arith, low, from)) v.tickets e.entered)
     (let owed = e.stored.owed in let reserved = e.stored.reserved in let asked = c.block_events-asked.ensures in omega (arith, owes, owed, reserved, asked))
 
 pub returns-in-Ok-clause-event : goal.returns-in-Ok-clause-event
@@ -77,6 +79,7 @@ returns-in-Err-clause-valid g c =
       short = c.len.ensures.short;
       stripes = c.stripes.ensures.stripes ∙ ap₂ stripes_of c.requires.cut (sym c.len.ensures.len);
       born = due_upto c.args.self.now.open_group c.max.result c.args.floor c.max.ensures c.requires.floor;
+      low = due_low c.args.self.now.open_group c.max.result c.args.floor c.max.ensures v.low c.requires.low;
     }))
     e.disabled (let count = e.same.count in let few = v.few in omega (arith, few, count))
     (tickets_same c.args.self.now.entries c.hold.new.entries _ v.tickets e.same)
