@@ -161,10 +161,13 @@ pub valid_fetched : {R A : Type 0} (rack : Ghosts R) (old new : Shard R A) → n
 valid_fetched rack old new after shape owed reserved v = subst (Valid rack) (sym after) (valid_on rack old new.rack new.history shape owed reserved v)
 
 pub rack_twice : {R A : Type 0} (a b c : Shard R A) → b ≡ record a { rack = b.rack } → c ≡ record b { rack = c.rack } → c ≡ record a { rack = c.rack }
-rack_twice a b c one two = two ∙ ap (λ s. record s { rack = c.rack }) one
+rack_twice {R} {A} a b c one two = two ∙ ap (λ (s : Shard R A). record s { rack = c.rack }) one
 
 pub with_history : {R A : Type 0} (a b : Shard R A) (history : History) → b ≡ record a { rack = b.rack } → record b { history = history } ≡ record a { rack = b.rack; history = history }
-with_history a b history one = ap (λ s. record s { history = history }) one
+with_history {R} {A} a b history one = ap (λ (s : Shard R A). record s { history = history }) one
+
+pub geometry_in : {R A : Type 0} (old new : Shard R A) → new ≡ record old { rack = new.rack } → new.geometry ≡ old.geometry
+geometry_in old new after = ap (λ s. s.geometry) after
 
 -- what was read is the same of either
 pub reads_in : {R A : Type 0} (rack : Ghosts R) (old new : Shard R A) (pointer : Pointer) (n : ℕ) (columns : Columns) (failed : List ℕ) → new ≡ record old { rack = new.rack } → rack.told new.rack ≡ rack.told old.rack

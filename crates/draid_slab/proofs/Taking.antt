@@ -1,27 +1,11 @@
--- One place of a list, of which another value is set there or which comes behind it.
-use Rattle.std.proofs.Common.{◌≡◌, ◌<◌, ◌++◌, [], ◌∷◌, ◌∙◌, ℕ, zero, suc, List, Option, Some, None, Vec, Global, arith, refl, sym, ap, subst, inl, inr, length, slice_get, slice_set}
+-- Columns that come one behind another, and a buffer that was written from end to end.
+use Rattle.std.proofs.Common.{◌≡◌, ◌<◌, ◌++◌, [], ◌∷◌, ◌∙◌, ℕ, zero, suc, List, Some, Vec, Global, arith, refl, ap, inl, inr, drop, length, slice_get, take}
 use Rattle.std.proofs.lemmas.Bool.{cases_lt}
-use Rattle.std.proofs.lemmas.List.{length-append, length-set}
-use Rattle.draid_slab.specs.Reads.{AreWhole, Columns, Replaces}
+use Rattle.std.proofs.lemmas.List.{append-nil, drop_all, length-append, take_all}
+use Rattle.draid_slab.specs.Reads.{AreWhole, Columns}
 
-get_set_same : {A : Type 0} (xs : List A) (m : ℕ) (y : A) → m < length xs → slice_get (slice_set xs m y) m ≡ Some y
-get_set_same [] m y less = absurd (omega (arith, less))
-get_set_same (z ∷ xs) zero y less = refl
-get_set_same (z ∷ xs) (suc m) y less = get_set_same xs m y (omega (arith, less))
-
-get_set_other : {A : Type 0} (xs : List A) (m k : ℕ) (y : A) → (k ≡ m → ⊥) → slice_get (slice_set xs m y) k ≡ slice_get xs k
-get_set_other [] m k y other = refl
-get_set_other (z ∷ xs) zero zero y other = absurd (other refl)
-get_set_other (z ∷ xs) zero (suc k) y other = refl
-get_set_other (z ∷ xs) (suc m) zero y other = refl
-get_set_other (z ∷ xs) (suc m) (suc k) y other = get_set_other xs m k y (λ same. other (ap suc same))
-
-pub replaces : (columns : Columns) (n : ℕ) (x : Option (Vec ℕ Global)) → n < length columns → Replaces columns (slice_set columns n x) n x
-replaces columns n x less = record { all = length-set columns n x; here = get_set_same columns n x less; others = λ k other. get_set_other columns n k x other }
-
--- nothing changed where it was so already
-pub replaces_none : (columns : Columns) (n : ℕ) (x : Option (Vec ℕ Global)) → slice_get columns n ≡ Some x → Replaces columns columns n x
-replaces_none columns n x at = record { all = refl; here = at; others = λ k other. refl }
+pub whole : (n : ℕ) (x items : List ℕ) → length x ≡ length items → length items ≡ n → take n (x ++ drop (length x) items) ≡ x
+whole n x items same long = ap (λ d. take n (x ++ d)) (drop_all (length x) items (omega (arith, same))) ∙ ap (λ y. take n y) (append-nil x) ∙ take_all n x (omega (arith, same, long))
 
 get_front : {A : Type 0} (xs : List A) (y : A) (k : ℕ) → k < length xs → slice_get (xs ++ y ∷ []) k ≡ slice_get xs k
 get_front [] y k less = absurd (omega (arith, less))
@@ -39,6 +23,3 @@ whole_more columns bytes len whole long c less = elim (cases_lt c (length column
   | inr past ↦ (let e : c ≡ length columns = omega (arith, past, less, length-append columns (Some bytes ∷ [])) in
       (bytes, ap (slice_get (columns ++ Some bytes ∷ [])) e ∙ get_end columns (Some bytes), long))
 ]
-
-pub whole_none : (columns : Columns) (len : ℕ) → columns ≡ [] → AreWhole columns len
-whole_none columns len none c less = absurd (let e = ap length none in omega (arith, less, e))
