@@ -13,6 +13,7 @@ use Rattle.draid_columns.specs.Columns.{RowsStand}
 use Rattle.draid_machine.specs.declared.event.Event.TheVariants.{Fetch}
 use Rattle.draid_machine.specs.declared.names.ArmName.{ArmName}
 use Rattle.draid_machine.specs.declared.names.Held.{Held}
+use Rattle.draid_machine.specs.declared.names.Key.{Key}
 use Rattle.draid_machine.specs.declared.names.Stage.TheVariants.{Live}
 use Rattle.draid_machine.specs.Arms as arms
 use Rattle.draid_machine.specs.Arms.{leaf_at, passes}
@@ -242,3 +243,23 @@ fetches_asked rack old new history pointer fetched same f = record {
   counts = f.counts;
   are = λ w h reached is held. f.are w h reached (history_in old history w is) held;
 }
+
+-- the columns were read, and the event was stored
+module _ {R A : Type 0} (rack : Ghosts R) (old mid : Shard R A) (valid : Valid rack old) (after : mid ≡ record old { rack = mid.rack }) (history : History) where
+  owed_mid : owed_of mid.history ≡ owed_of old.history
+  owed_mid = ap (λ s. owed_of s.history) after
+
+  reserved_mid : reserved_of mid.history ≡ reserved_of old.history
+  reserved_mid = ap (λ s. reserved_of s.history) after
+
+  pub valid_stored : rack.shape mid.rack ≡ rack.shape old.rack → owed_of history + 1 ≡ owed_of mid.history + 1 → reserved_of history ≡ reserved_of mid.history
+      → Valid rack (record mid { history = history })
+  valid_stored shape owed reserved =
+      valid_fetched rack old (record mid { history = history }) (with_history old mid history after) shape (let same = owed_mid in omega (arith, owed, same)) (reserved ∙ reserved_mid) valid
+
+  pub fetches_stored : (pointer : Pointer) (key : Key) (columns : Vec (Option (Vec ℕ Global)) Global) (failed : Vec ℕ Global) → IsLive old pointer → key ≡ key_of pointer
+      → ReadsColumns (part_of old) old.slots pointer old.geometry.g (rack.told old.rack) columns.items failed.items → CountsFailed failed.items (rack.faults old.rack) (rack.faults mid.rack)
+      → events_of history ≡ events_of mid.history ++ Fetch key failed ∷ [] → Fetches rack old (record mid { history = history }) pointer (record { pointer = pointer; columns = columns })
+  fetches_stored pointer key columns failed live is was counts stored =
+      fetches rack old (record mid { history = history }) valid pointer live (with_history old mid history after) (record { pointer = pointer; columns = columns }) refl failed was counts
+      (stored ∙ ap (λ (k : Key). events_of mid.history ++ Fetch k failed ∷ []) is ∙ ap (λ s. stored_in s ++ Fetch (key_of pointer) failed ∷ []) after)
