@@ -91,8 +91,8 @@ module _ (part : Part) (slots : SlotTable) (pointer : Pointer) (n : ℕ) (told :
     few = subst (λ k. length (failed_after outcome failed) ≤ k) (omega arith) (few_more outcome);
   }
 
-  pub reads_more : (k : ℕ) → k ≡ n + 1 → ReadsColumns part slots pointer k told new (failed_after outcome failed)
-  reads_more k e = subst (λ j. ReadsColumns part slots pointer j told new (failed_after outcome failed)) (omega (arith, e)) reads_next
+  pub reads_more : (k : ℕ) (now : List ℕ) → k ≡ n + 1 → now ≡ failed_after outcome failed → ReadsColumns part slots pointer k told new now
+  reads_more k now e is = subst (λ ls. ReadsColumns part slots pointer k told new ls) (sym is) (subst (λ j. ReadsColumns part slots pointer j told new (failed_after outcome failed)) (omega (arith, e)) reads_next)
 
 -- a place was emptied, and then filled again or not
 pub replaces_twice : (a b c : Columns) (n : ℕ) (x y : Option (Vec ℕ Global)) → Replaces a b n x → Replaces b c n y → Replaces a c n y

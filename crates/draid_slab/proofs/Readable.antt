@@ -255,7 +255,7 @@ module _ (l : Layout) (lay : IsLayout l) (w : State) (reached : IsReached l w) (
             lies = subst (λ o. passes o (λ m. m == on.0) ≡ true) (sym lies) (equal on.0 on.0 refl);
           }) live clean in
           some_same (x.reads on.0 (l.sector_of (h.first + row) c)) (row_bytes size it.column.items row) (pieces key c row) (are.reads c row on.0 it.n it.column it.at it.reads within lies)
-              (backed.holds.reads s h (record { held = held; present = present; sure = calm.1 }) calm.0)
+          (backed.holds.reads s h (record { held = held; present = present; sure = calm.1 }) calm.0)
           ∙ is.rows c row less within
 
   pub good_or_bad : ((bad : List ℕ) × AreGoodBut l columns whole bad) ⊎ MoreBad l w x.harmed key h failed
