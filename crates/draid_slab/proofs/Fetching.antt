@@ -1,38 +1,21 @@
 -- One more column of a block was read.
 use Rattle.std.proofs.Common.{◌≡◌, ◌≢◌, ◌==◌, ◌+◌, ◌*◌, ◌<◌, ◌≤◌, ◌⊎◌, ◌||◌, ◌∙◌, ◌++◌, ◌↔◌, ℕ, zero, suc, Bool, true, false, List, [], ◌∷◌, Option, Some, None, Vec, Global, arith, refl, sym, ap, ap₂, subst, inl, inr, length, slice_get}
 use Rattle.std.proofs.lemmas.Bool.{cases_eq, cases_lt}
+use Rattle.std.proofs.lemmas.Option.{slice_get_within}
 use Rattle.draid_names.specs.declared.pointer.Pointer.{Pointer}
 use Rattle.draid_rack.specs.Rack.{OnTold, Told}
 use Rattle.draid_columns.specs.Columns.{RowsStand}
 use Rattle.draid_machine.specs.Names.{has_number}
-use Rattle.draid_machine.proofs.Small.{absurd_test, either_true, equal, is_equal, some_same, true_left, true_right}
+use Rattle.draid_machine.proofs.Small.{absurd_test, either_true, equal, is_equal, none_some, some_same, true_left, true_right}
 use Rattle.draid_slots.specs.Table.{SlotTable}
 use Rattle.draid_slab.specs.Part.{Part}
-use Rattle.draid_slab.specs.Reads.{AreLong, Columns, IsReadAt, IsReadOn, IsSilentAt, ReadsColumns, ReadsOn, StandsAt}
-use Rattle.draid_slab.specs.Rows.{IsRowsOf, rows_on}
+use Rattle.draid_slab.specs.Reads.{AreLong, AreWhole, Columns, IsReadAt, IsReadOn, IsSilentAt, ReadsColumns, ReadsOn, Replaces, StandsAt, column_after, failed_after}
+use Rattle.draid_slab.specs.Calls.{CountsFailed}
+use Rattle.draid_slab.specs.Rows.{CountsOn, IsRowsOf, rows_on}
 use Rattle.draid_slab.specs.declared.outcome.Outcome.{Outcome}
 use Rattle.draid_slab.specs.declared.outcome.Outcome.TheVariants.{Silent, Failed, Done}
 use Rattle.draid_slab.specs.declared.places.ColumnRows.{ColumnRows}
-use Rattle.draid_slab.proofs.Landings.{longer, number_more}
-
--- one column was taken, or replaced
-pub record Replaces (old new : Columns) (n : ℕ) (x : Option (Vec ℕ Global)) : Type 0 where
-  pub all : length new ≡ length old
-  pub here : slice_get new n ≡ Some x
-  pub others : (k : ℕ) → (k ≡ n → ⊥) → slice_get new k ≡ slice_get old k
-
-abbrev pub column_after : Outcome → Vec ℕ Global → Option (Vec ℕ Global)
-column_after Silent bytes = None
-column_after (Failed leaf) bytes = None
-column_after Done bytes = Some bytes
-
-abbrev pub failed_after : Outcome → List ℕ → List ℕ
-failed_after Silent failed = failed
-failed_after (Failed leaf) failed = failed ++ leaf ∷ []
-failed_after Done failed = failed
-
-column_in : (x : Option (Vec ℕ Global)) (a b : Option (Vec ℕ Global)) → Some a ≡ Some b → a ≡ b
-column_in x a b e = some_same (Some a) a b refl e
+use Rattle.draid_slab.proofs.Landings.{counts_kept, counts_more, longer, number_more}
 
 module _ (part : Part) (slots : SlotTable) (pointer : Pointer) (n : ℕ) (told : Option Told) (old new : Columns) (failed : List ℕ) (rows : ColumnRows) (of : IsRowsOf part pointer n rows) (outcome : Outcome) (bytes : Vec ℕ Global)
     (was : ReadsColumns part slots pointer n told old failed) (reads : ReadsOn slots rows outcome told bytes.items) (long : length bytes.items ≡ pointer.stripes * part.geometry.props.sector)
@@ -108,5 +91,32 @@ module _ (part : Part) (slots : SlotTable) (pointer : Pointer) (n : ℕ) (told :
     few = subst (λ k. length (failed_after outcome failed) ≤ k) (omega arith) (few_more outcome);
   }
 
-  pub reads_more : (k : ℕ) → k ≡ n + 1 → ReadsColumns part slots pointer k told new (failed_after outcome failed)
-  reads_more k e = subst (λ j. ReadsColumns part slots pointer j told new (failed_after outcome failed)) (omega (arith, e)) reads_next
+  pub reads_more : (k : ℕ) (now : List ℕ) → k ≡ n + 1 → now ≡ failed_after outcome failed → ReadsColumns part slots pointer k told new now
+  reads_more k now e is = subst (λ ls. ReadsColumns part slots pointer k told new ls) (sym is) (subst (λ j. ReadsColumns part slots pointer j told new (failed_after outcome failed)) (omega (arith, e)) reads_next)
+
+-- a place was emptied, and then filled again or not
+pub replaces_twice : (a b c : Columns) (n : ℕ) (x y : Option (Vec ℕ Global)) → Replaces a b n x → Replaces b c n y → Replaces a c n y
+replaces_twice a b c n x y one two = record { all = two.all ∙ one.all; here = two.here; others = λ k other. two.others k other ∙ one.others k other }
+
+-- nothing was read yet
+pub reads_none : (part : Part) (slots : SlotTable) (pointer : Pointer) (told : Option Told) (columns : Columns) (failed : List ℕ) → length columns ≡ part.geometry.g
+    → AreWhole columns (pointer.stripes * part.geometry.props.sector) → failed ≡ [] → ReadsColumns part slots pointer 0 told columns failed
+reads_none part slots pointer told columns failed all whole none = record {
+  all = all;
+  long = λ c b at. (let z = whole c (slice_get_within columns c (Some b) at) in
+      subst (λ (v : Vec ℕ Global). length v.items ≡ pointer.stripes * part.geometry.props.sector) (same_some z.0 b (some_same (slice_get columns c) (Some z.0) (Some b) z.1 at)) z.2);
+  rest = λ c from gone. (let z = whole c (slice_get_within columns c None gone) in none_some None z.0 refl (some_same (slice_get columns c) None (Some z.0) gone z.1));
+  stand = λ c b less at. absurd (omega (arith, less));
+  absent = λ c less at. absurd (omega (arith, less));
+  fail = λ leaf at. absurd_test (has_number failed leaf) at (ap (λ ls. has_number ls leaf) none);
+  few = (let e = ap length none in omega (arith, e));
+}
+  where
+    same_some : (a b : Vec ℕ Global) → Some a ≡ Some b → a ≡ b
+    same_some a b e = some_same (Some a) a b refl e
+
+-- the counts after one more column was read
+pub counts_after : (outcome : Outcome) (failed : List ℕ) (first old new : Option ℕ → ℕ) → CountsOn outcome old new → CountsFailed failed first old → CountsFailed (failed_after outcome failed) first new
+counts_after Silent failed first old new on was = counts_kept failed first old new was on.later
+counts_after (Failed leaf) failed first old new on was = counts_more failed leaf first old new was on.later (on.cause leaf refl)
+counts_after Done failed first old new on was = counts_kept failed first old new was on.later

@@ -15,7 +15,9 @@ pub mod OwedAll
 pub mod PutKept
 pub mod Puts
 pub mod Putting
+pub mod Readable
 pub mod Staging
 pub mod Standing
 pub mod Tables
+pub mod Taking
 pub mod Turns

@@ -1,5 +1,5 @@
 -- How the columns of a block are read.
-use Rattle.std.specs.Prelude.{◌≡◌, ◌<◌, ◌≤◌, ◌*◌, ◌⊎◌, ℕ, true, List, Option, Some, None, length, slice_get}
+use Rattle.std.specs.Prelude.{◌≡◌, ◌<◌, ◌≤◌, ◌*◌, ◌⊎◌, ◌++◌, ◌∷◌, [], ℕ, true, List, Option, Some, None, length, slice_get}
 use Rattle.std.specs.declared.alloc.Global.{Global}
 use Rattle.std.specs.declared.vec.Vec.{Vec}
 use Rattle.draid_names.specs.declared.pointer.Pointer.{Pointer}
@@ -73,3 +73,22 @@ pub record ReadsColumns (part : Part) (slots : SlotTable) (pointer : Pointer) (c
       → IsSilentAt part slots pointer c ⊎ ((leaf : ℕ) × IsReadAt part slots pointer c leaf × (has_number failed leaf ≡ true))
   pub fail : (leaf : ℕ) → has_number failed leaf ≡ true → (c : ℕ) × (c < count) × (slice_get columns c ≡ Some None) × IsReadAt part slots pointer c leaf
   pub few : length failed ≤ count
+
+-- ---- one column
+
+-- a place has another column, or none
+pub record Replaces (old new : Columns) (c : ℕ) (column : Option (Vec ℕ Global)) : Type 0 where
+  pub all : length new ≡ length old
+  pub here : slice_get new c ≡ Some column
+  pub others : (k : ℕ) → (k ≡ c → ⊥) → slice_get new k ≡ slice_get old k
+
+-- what is at its place, and which leaves are named, after it was read so
+abbrev pub column_after : Outcome → Vec ℕ Global → Option (Vec ℕ Global)
+column_after Silent bytes = None
+column_after (Failed leaf) bytes = None
+column_after Done bytes = Some bytes
+
+abbrev pub failed_after : Outcome → List ℕ → List ℕ
+failed_after Silent failed = failed
+failed_after (Failed leaf) failed = failed ++ leaf ∷ []
+failed_after Done failed = failed

@@ -1,10 +1,11 @@
-ghost use Rattle.std.specs.Prelude.{◌≡◌, ◌<◌, ◌≤◌, ◌*◌, ◌↔◌, [], Err, IfErr, IfOk, OnErr, OnOk, length, vec_capacity};
+ghost use Rattle.std.specs.Prelude.{◌≡◌, ◌<◌, ◌≤◌, ◌+◌, ◌*◌, ◌↔◌, ℕ, Option, Some, None, [], Err, IfErr, IfOk, OnErr, OnOk, length, slice_get, vec_capacity, vec_len};
 ghost use Rattle.draid_block.specs.Blocks.{cut_of};
 ghost use Rattle.draid_block.specs.Solving.{IsFetched};
+ghost use Rattle.draid_entries.specs.History.{IsAsked};
 ghost use Rattle.draid_slab.specs.Calls.{CountsFailed, FetchIsWorn, Fetches, IsLive, IsWornFor, SameAreas, SameKit, SameReserve};
 ghost use Rattle.draid_slab.specs.Fits.{Valid};
 ghost use Rattle.draid_slab.specs.Part.{IsRun};
-ghost use Rattle.draid_slab.specs.Reads.{AreWhole, ReadsColumns, ReadsOn};
+ghost use Rattle.draid_slab.specs.Reads.{AreWhole, ReadsColumns, ReadsOn, Replaces, column_after, failed_after};
 ghost use Rattle.draid_slab.specs.Rows.{CountsOn, FitsRows};
 ghost use Rattle.draid_slab.specs.States.{DoesNone, part_of};
 
@@ -56,25 +57,41 @@ impl<R: Rack, A: Area> Shard<R, A> {
             Err(ReserveFault::NoMemory) => return Err(FetchFault::NoMemory),
         }
         let bytes = pointer.stripes as usize * self.geometry.props.sector as usize;
-        let Ok(
-            Room {
-                mut columns,
-                mut failed,
-            },
-        ) = room_for(self.alloc, self.geometry.g, bytes)
-        else {
+        let Ok(room) = room_for(self.alloc, self.geometry.g, bytes) else {
             return Err(FetchFault::NoMemory);
         };
+        Ok(self.fetch_into(pointer, room))
+    }
+
+    /// The same of a block that is live, with its event asked for, into room for its columns.
+    fn fetch_into(&mut self, pointer: &Pointer, room: Room) -> Fetched
+        requires valid { Valid R.Rack self.old }
+        requires live { IsLive self.old pointer.now }
+        requires asked { IsAsked self.old.history 1 }
+        requires columns { length room.columns.items ≡ self.old.geometry.g }
+        requires long { AreWhole room.columns.items (pointer.now.stripes * self.old.geometry.props.sector) }
+        requires failed { room.failed.items ≡ [] }
+        requires room { self.old.geometry.g ≤ vec_capacity room.failed }
+        ensures valid { Valid R.Rack self.new }
+        ensures areas { SameAreas self.old self.new }
+        ensures told { R.told self.new.rack ≡ R.told self.old.rack }
+        ensures fetches { Fetches R.Rack self.old self.new pointer.now result }
+        ensures reserve { SameReserve self.old self.new }
+    {
+        let Room {
+            mut columns,
+            mut failed,
+        } = room;
         self.read_columns(pointer, &mut columns, &mut failed);
         let event = Event::Fetch {
             key: key_of(pointer),
             failed,
         };
         self.history.add_asked(event, 1);
-        Ok(Fetched {
+        Fetched {
             pointer: *pointer,
             columns,
-        })
+        }
     }
 
     /// Reads each column of a block into its place. The place of one that isn't read is nothing; the leaf is named
@@ -97,15 +114,66 @@ impl<R: Rack, A: Area> Shard<R, A> {
         ensures counts { CountsFailed failed.new.items (R.faults self.old.rack) (R.faults self.new.rack) }
     {
         for column in 0..self.geometry.g {
-            if let Some(mut bytes) = columns[column as usize].take() {
-                let rows = self.rows_of(pointer, column);
-                match read_column(&mut self.rack, &self.slots, rows, &mut bytes) {
-                    Outcome::Silent => {}
-                    Outcome::Failed { leaf } => failed.push_reserved(leaf),
-                    Outcome::Done => columns[column as usize] = Some(bytes),
-                }
-            }
+            self.read_next(pointer, column, columns, failed);
         }
+    }
+
+    /// Reads the next column of a block into its place.
+    fn read_next(
+        &mut self,
+        pointer: &Pointer,
+        column: u32,
+        columns: &mut Vec<Option<Vec<u8>>>,
+        failed: &mut Vec<u64>,
+    )
+        requires valid { Valid R.Rack self.old }
+        requires run { IsRun self.old.geometry pointer.now.first pointer.now.stripes }
+        requires less { column < self.old.geometry.g }
+        requires before { ReadsColumns (part_of self.old) self.old.slots pointer.now column (R.told self.old.rack) columns.old.items failed.old.items }
+        requires room { self.old.geometry.g ≤ vec_capacity failed.old }
+        ensures rack { self.new ≡ record self.old { rack = self.new.rack } }
+        ensures told { R.told self.new.rack ≡ R.told self.old.rack }
+        ensures shape { R.shape self.new.rack ≡ R.shape self.old.rack }
+        ensures read { ReadsColumns (part_of self.old) self.old.slots pointer.now (column + 1) (R.told self.old.rack) columns.new.items failed.new.items }
+        ensures room { vec_capacity failed.new ≡ vec_capacity failed.old }
+        ensures counts { (first : Option ℕ → ℕ) → CountsFailed failed.old.items first (R.faults self.old.rack) → CountsFailed failed.new.items first (R.faults self.new.rack) }
+    {
+        let Some(mut bytes) = take_column(columns, column) else {
+            return;
+        };
+        let rows = self.rows_of(pointer, column);
+        let outcome = read_column(&mut self.rack, &self.slots, rows, &mut bytes);
+        note_read(columns, failed, column, bytes, outcome);
+    }
+}
+
+/// Takes what is at the place of a column.
+fn take_column(columns: &mut Vec<Option<Vec<u8>>>, column: u32) -> Option<Vec<u8>>
+    requires { column < length columns.old.items }
+    ensures taken { slice_get columns.old.items column ≡ Some result }
+    ensures left { Replaces columns.old.items columns.new.items column None }
+{
+    columns[column as usize].take()
+}
+
+/// Notes what became of the reading of a column: its bytes where they were read, the leaf where a call failed.
+fn note_read(
+    columns: &mut Vec<Option<Vec<u8>>>,
+    failed: &mut Vec<u64>,
+    column: u32,
+    bytes: Vec<u8>,
+    outcome: Outcome,
+)
+    requires taken { slice_get columns.old.items column ≡ Some None }
+    requires room { vec_len failed.old < vec_capacity failed.old }
+    ensures columns { Replaces columns.old.items columns.new.items column (column_after outcome bytes) }
+    ensures failed { failed.new.items ≡ failed_after outcome failed.old.items }
+    ensures room { vec_capacity failed.new ≡ vec_capacity failed.old }
+{
+    match outcome {
+        Outcome::Silent => {}
+        Outcome::Failed { leaf } => failed.push_reserved(leaf),
+        Outcome::Done => columns[column as usize] = Some(bytes),
     }
 }
 
