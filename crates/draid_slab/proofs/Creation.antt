@@ -1,12 +1,11 @@
 -- A new metaslab: its slots, its empty tables, and the state for which it stands.
-use Rattle.std.proofs.Common.{if◌then◌else◌, ◌≡◌, ◌≢◌, ◌⊎◌, ◌+◌, ◌<◌, ◌≤◌, ◌&&◌, not, ◌∙◌, ℕ, zero, suc, Bool, true, false, nat_lt, List, [], ◌∷◌, Option, Some, None, Contains, map, length, slice_get, slice_index_or, ◌==◌, arith, refl, sym, ap, inl, inr, subst}
+use Rattle.std.proofs.Common.{if◌then◌else◌, ◌≡◌, ◌≢◌, ◌⊎◌, ◌+◌, ◌<◌, ◌≤◌, ◌&&◌, not, ◌∙◌, ℕ, zero, suc, Bool, true, false, nat_lt, List, [], ◌∷◌, Some, None, Contains, map, length, slice_get, slice_index_or, ◌==◌, arith, refl, sym, ap, inl, inr, subst}
 use Rattle.std.specs.List.{list_any}
 use Rattle.std.proofs.lemmas.Bool.{cases_lt}
 use Rattle.std.proofs.lemmas.Bool.Decides.{nat_tests}
 use Rattle.std.proofs.lemmas.List.{get_or_past}
 use Rattle.draid_names.specs.declared.arm.Arm.{Arm}
 use Rattle.draid_names.specs.declared.arm.ArmAt.{ArmAt}
-use Rattle.draid_names.specs.declared.arm.ArmKind.TheVariants as kind
 use Rattle.draid_spec.specs.declared.layout.Geometry.{Geometry}
 use Rattle.draid_spec.specs.Geometry.{metaslab_sectors, metaslab_stripes}
 use Rattle.draid_perm.specs.declared.perms.Perms.{Perms}
@@ -19,12 +18,12 @@ use Rattle.draid_machine.specs.State as machine
 use Rattle.draid_machine.proofs.Small.{none_some, some_injective}
 use Rattle.draid_slots.specs.declared.slot.Detached.{Detached}
 use Rattle.draid_slots.specs.Changes.{HasRoom, IsNew, IsOf, Keeps, new_arm}
-use Rattle.draid_slots.specs.Table.{IsThere, SlotTable, arm_at, arms_of, is_leaf_kind, is_leaving, is_logged, room_at}
+use Rattle.draid_slots.specs.Table.{SlotTable, arm_at, arms_of, is_leaf_kind, is_logged}
 use Rattle.draid_entries.specs.declared.entries.Entries.{Entries}
 use Rattle.draid_entries.specs.Entries.{count_of, entry_at, owed_at, owed_by}
 use Rattle.draid_entries.proofs.Sums.{sum_none}
 use Rattle.draid_names.specs.declared.numbers.TheConstants.{NUMBERS}
-use Rattle.draid_slab.specs.Fits.{HasLeaves, IsLeaf, LogsHaveRoom, Tables, TicketsAreNew, lacking, oldest_open}
+use Rattle.draid_slab.specs.Fits.{HasLeaves, IsLeaf, LogsHaveRoom, Tables, TicketsAreNew, lacking}
 use Rattle.draid_slab.specs.Slots.{HasArm, HasSlots, WasArm, arm_in, name_of}
 
 -- ---- slots

@@ -1,5 +1,5 @@
 -- A sector of a leaf is damaged.
-use Rattle.std.proofs.Common.{◌≡◌, ◌==◌, ◌<◌, ◌⊎◌, ◌||◌, ◌&&◌, ◌∙◌, ℕ, zero, suc, Bool, true, false, List, [], ◌∷◌, Option, Some, None, arith, refl, sym, ap, ap₂, subst, inl, inr}
+use Rattle.std.proofs.Common.{◌≡◌, ◌==◌, ◌<◌, ◌&&◌, ℕ, zero, suc, true, false, List, [], ◌∷◌, Option, Some, None, arith, refl, sym, subst, inl, inr}
 use Rattle.std.specs.Prelude.{Contains, MatchOption, Result, Ok, Err, OnErr, OnOk, is_err, option_map}
 use Rattle.std.specs.List.{list_any}
 use Rattle.draid_names.specs.declared.arm.ArmKind.{ArmKind}
@@ -8,16 +8,15 @@ use Rattle.draid_names.specs.declared.fault.Failed.{Failed}
 use Rattle.draid_spec.specs.Geometry.{metaslab_sectors}
 use Rattle.draid_rack.specs.Rack.{Fits, Shape, Told, damages}
 use Rattle.draid_machine.specs.declared.names.ArmName.TheVariants.{Leaf}
-use Rattle.draid_machine.specs.Created.{IsReached}
 use Rattle.draid_machine.specs.State as machine
 use Rattle.draid_machine.specs.Step.{DamageStep}
 use Rattle.draid_machine.proofs.Small.{absurd_test, both_true, either_true, is_equal}
 use Rattle.draid_segments.specs.Acts.{Damages}
 use Rattle.draid_entries.specs.declared.history.History.{History}
 use Rattle.draid_slots.specs.declared.slot.Detached.{Detached}
-use Rattle.draid_slots.specs.Table.{SlotTable, is_leaf_kind, is_leaving}
+use Rattle.draid_slots.specs.Table.{SlotTable, is_leaf_kind}
 use Rattle.draid_slab.specs.Calls.{OnBothTold}
-use Rattle.draid_slab.specs.Fits.{HasLeaves, IsLeaf, Valid}
+use Rattle.draid_slab.specs.Fits.{IsLeaf}
 use Rattle.draid_slab.specs.Slots.{HasSlots, arm_in, named}
 use Rattle.draid_slab.specs.States.{IsIn, layout_by}
 use Rattle.draid_slab.specs.declared.shard.Shard.{Shard}

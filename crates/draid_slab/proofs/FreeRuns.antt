@@ -10,7 +10,7 @@ use Rattle.draid_spec.specs.declared.layout.Geometry.{Geometry}
 use Rattle.draid_spec.specs.Geometry.{metaslab_stripes}
 use Rattle.draid_map.proofs.Radix.{its_digits}
 use Rattle.draid_metaslab.specs.Spaces.{Stripes, is_free}
-use Rattle.draid_metaslab.specs.Spots.{IsLargest, IsLowest, IsSpot}
+use Rattle.draid_metaslab.specs.Spots.{IsLargest, IsSpot}
 use Rattle.draid_machine.specs.declared.names.Key.{Key}
 use Rattle.draid_machine.specs.declared.names.Held.{Held}
 use Rattle.draid_machine.specs.State as machine
@@ -25,10 +25,9 @@ use Rattle.draid_entries.proofs.Counted.{few, few_back}
 use Rattle.draid_slab.specs.declared.shard.Shard.{Shard}
 use Rattle.draid_slab.specs.declared.fault.Shut.{Shut}
 use Rattle.draid_slab.specs.declared.fault.Shut.TheVariants.{Disabled, Full, Worn}
-use Rattle.draid_slab.specs.Calls.{IsLongest, IsRoom, ShutBy, TakesBlocks}
-use Rattle.draid_slab.specs.Fits.{Tables, Valid, is_rebuild}
-use Rattle.draid_slab.specs.Part.{IsRun}
-use Rattle.draid_slab.specs.States.{IsIn, layout_by, pass_in}
+use Rattle.draid_slab.specs.Calls.{IsLongest, ShutBy, TakesBlocks}
+use Rattle.draid_slab.specs.Fits.{Tables, is_rebuild}
+use Rattle.draid_slab.specs.States.{IsIn, pass_in}
 use Rattle.draid_slab.proofs.Held.{held_entry, key_leads}
 use Rattle.draid_slab.proofs.Tables.{WasFree, first_is, spot_free}
 

@@ -1,5 +1,5 @@
 -- For which states a shard stands after one entry of its table came, turned or went.
-use Rattle.std.proofs.Common.{◌≡◌, ◌≤◌, ◌+◌, ◌∙◌, ℕ, Bool, true, false, Option, Some, None, option_map, if◌then◌else◌, arith, refl, sym, ap, inl, inr}
+use Rattle.std.proofs.Common.{◌≡◌, ◌≤◌, ◌∙◌, ℕ, Bool, true, Option, Some, None, option_map, if◌then◌else◌, arith, refl, sym, ap, inl, inr}
 use Rattle.std.proofs.lemmas.Bool.{true≢false}
 use Rattle.draid_names.specs.declared.pointer.Pointer.{Pointer}
 use Rattle.draid_metaslab.specs.Spaces.{Stripes}
@@ -16,7 +16,7 @@ use Rattle.draid_entries.specs.declared.entry.Entry.{Entry}
 use Rattle.draid_entries.specs.declared.entries.Entries.{Entries}
 use Rattle.draid_entries.specs.declared.history.History.{History}
 use Rattle.draid_entries.specs.Entries.{SameEntries, SetsEntry, entry_at, held_in}
-use Rattle.draid_entries.specs.Maps.{entry_in, first_in, held_at, held_from, key_of, staged}
+use Rattle.draid_entries.specs.Maps.{first_in, held_at, held_from, key_of, staged}
 use Rattle.draid_entries.proofs.Counted.{led_held}
 use Rattle.draid_slab.specs.declared.shard.Shard.{Shard}
 use Rattle.draid_slab.specs.Fits.{TicketsAreNew}

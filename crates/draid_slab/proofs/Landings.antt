@@ -1,5 +1,5 @@
 -- A column is tried on one arm more.
-use Rattle.std.proofs.Common.{◌≡◌, ◌==◌, ◌+◌, ◌-◌, ◌<◌, ◌≤◌, ◌^◌, ◌⊎◌, ◌||◌, ◌&&◌, not, ◌∙◌, ◌++◌, ℕ, zero, suc, Bool, true, false, nat_lt, List, [], ◌∷◌, Option, Some, None, arith, refl, sym, ap, ap₂, subst, inl, inr, min, count_by, cond, length, if◌then◌else◌}
+use Rattle.std.proofs.Common.{◌≡◌, ◌==◌, ◌+◌, ◌-◌, ◌<◌, ◌≤◌, ◌^◌, ◌||◌, ◌&&◌, not, ◌∙◌, ◌++◌, ℕ, suc, Bool, true, false, nat_lt, List, [], ◌∷◌, Option, Some, None, arith, refl, sym, ap, ap₂, subst, inl, inr, min, count_by, cond, length, if◌then◌else◌}
 use Rattle.std.specs.Prelude.{option_map}
 use Rattle.std.proofs.lemmas.Bool.{cases_lt}
 use Rattle.std.proofs.lemmas.Bool.Decides.{nat_tests}
@@ -9,14 +9,14 @@ use Rattle.draid_names.specs.Faults.{Rose}
 use Rattle.draid_names.specs.declared.arm.Arm.{Arm}
 use Rattle.draid_names.specs.declared.arm.ArmAt.{ArmAt}
 use Rattle.draid_names.specs.declared.arm.ArmKind.TheVariants.{Spare}
-use Rattle.draid_rack.specs.Moments.{Leaves, LeavesTold}
+use Rattle.draid_rack.specs.Moments.{Leaves}
 use Rattle.draid_rack.specs.Rack.{Told}
 use Rattle.draid_rack.proofs.Moments.{leaves_more, leaves_on, leaves_self}
 use Rattle.draid_columns.specs.Columns.{RowsStand, TellsBoth, WritesRows, in_rows}
 use Rattle.draid_machine.specs.declared.names.ArmName.{ArmName}
 use Rattle.draid_machine.specs.Arms.{passes}
-use Rattle.draid_machine.specs.Names.{any_below, has_name, has_number, name_eq}
-use Rattle.draid_machine.proofs.Small.{absurd_test, bool_cases, either_true, has_append, is_equal, name_refl, name_true, some_same, true_left, true_right}
+use Rattle.draid_machine.specs.Names.{has_name, has_number, name_eq}
+use Rattle.draid_machine.proofs.Small.{absurd_test, bool_cases, either_true, has_append, is_equal, name_refl, name_true, some_same, true_right}
 use Rattle.draid_slots.specs.Changes.{IsSame}
 use Rattle.draid_slots.specs.Reading.{holder, is_online}
 use Rattle.draid_slots.specs.Table.{SlotTable, arm_at, is_at, is_logged, room_at}

@@ -1,5 +1,5 @@
 -- What a history owes, without what is reserved, is owed in each state for which the shard stands.
-use Rattle.std.proofs.Common.{◌≡◌, ◌+◌, ◌∙◌, ◌↔◌, ℕ, Bool, true, false, Option, Some, None, option_map, arith, refl, ap, is_some, if◌then◌else◌}
+use Rattle.std.proofs.Common.{◌≡◌, ◌+◌, ◌∙◌, ◌↔◌, ℕ, Option, Some, None, option_map, arith, refl, ap, is_some}
 use Rattle.draid_rack.specs.declared.Rack.{Ghosts}
 use Rattle.draid_machine.specs.State as machine
 use Rattle.draid_pass.specs.declared.pass.Pass.{Pass}

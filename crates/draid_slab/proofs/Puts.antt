@@ -1,5 +1,5 @@
 -- A put, of a shard.
-use Rattle.std.proofs.Common.{◌==◌, ◌≤◌, Bool, true, false, refl, ◌≡◌, ◌+◌, ◌-◌, ◌<◌, ◌∙◌, ℕ, List, [], ◌∷◌, Option, Some, arith, sym, ap, ap₂, subst, length, if◌then◌else◌}
+use Rattle.std.proofs.Common.{◌==◌, ◌≤◌, Bool, true, false, refl, ◌≡◌, ◌+◌, ◌<◌, ◌∙◌, ℕ, List, [], ◌∷◌, Option, Some, arith, sym, ap, ap₂, subst, length, if◌then◌else◌}
 use Rattle.std.proofs.lemmas.Bool.Decides.{nat_tests}
 use Rattle.draid_names.specs.declared.pointer.Pointer.{Pointer}
 use Rattle.draid_rack.specs.Rack.{Told}

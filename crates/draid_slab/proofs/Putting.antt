@@ -1,5 +1,5 @@
 -- A put is an event: the column landed where the state machine says, and the tables go on.
-use Rattle.std.proofs.Common.{◌≡◌, ◌≢◌, ◌==◌, ◌+◌, ◌-◌, ◌*◌, ◌/◌, ◌<◌, ◌≤◌, ◌^◌, ◌⊎◌, ◌||◌, ◌&&◌, not, ◌∙◌, ◌++◌, ℕ, zero, suc, Bool, true, false, nat_le, nat_lt, List, [], ◌∷◌, Option, Some, None, arith, refl, sym, ap, ap₂, subst, inl, inr, map, length, slice_get, if◌then◌else◌}
+use Rattle.std.proofs.Common.{◌≡◌, ◌==◌, ◌+◌, ◌-◌, ◌<◌, ◌≤◌, ◌||◌, ◌&&◌, not, ◌∙◌, ℕ, zero, suc, Bool, true, false, nat_le, nat_lt, List, [], ◌∷◌, Option, Some, None, arith, refl, sym, ap, ap₂, subst, inl, inr, map, length, slice_get}
 use Rattle.std.specs.Prelude.{Contains, option_map, slice_index_or}
 use Rattle.std.proofs.lemmas.Bool.{cases_eq}
 use Rattle.std.proofs.lemmas.Bool.Decides.{nat_tests}
@@ -7,22 +7,19 @@ use Rattle.draid_names.specs.declared.arm.Arm.{Arm}
 use Rattle.draid_names.specs.declared.arm.ArmAt.{ArmAt}
 use Rattle.draid_names.specs.declared.pointer.Pointer.{Pointer}
 use Rattle.draid_rack.specs.Rack.{Told}
-use Rattle.draid_rack.specs.declared.Rack.{Ghosts}
 use Rattle.draid_columns.specs.Columns.{TellsBoth, in_rows}
-use Rattle.draid_machine.specs.declared.event.Event.TheVariants.{Put}
 use Rattle.draid_machine.specs.declared.names.ArmName.{ArmName}
-use Rattle.draid_machine.specs.declared.names.Key.{Key}
 use Rattle.draid_machine.specs.declared.names.Held.{Held}
 use Rattle.draid_machine.specs.declared.names.Segment.{Segment}
 use Rattle.draid_machine.specs.declared.names.Stage.{Stage}
 use Rattle.draid_machine.specs.declared.names.Stage.TheVariants.{Writing}
-use Rattle.draid_machine.specs.After.{is_landed, log_if, map_arm, put_state, set_held}
+use Rattle.draid_machine.specs.After.{is_landed, log_if, map_arm, put_state}
 use Rattle.draid_machine.specs.Arms as arms
 use Rattle.draid_machine.specs.Arms.{fails, leaf_answers, leaf_at, passes}
 use Rattle.draid_machine.specs.Claims.{is_on}
 use Rattle.draid_machine.specs.Created.{IsReached}
 use Rattle.draid_machine.specs.Images.{Owned}
-use Rattle.draid_machine.specs.Names.{any_below, has_name, has_number, is_nil, key_eq}
+use Rattle.draid_machine.specs.Names.{any_below, has_name, has_number, key_eq}
 use Rattle.draid_machine.specs.State as machine
 use Rattle.draid_machine.specs.Step.{FailsThere, PutStep}
 use Rattle.draid_machine.proofs.Losing.{every_segment}
@@ -31,21 +28,18 @@ use Rattle.draid_segments.specs.Acts.{LiesThere, PutsColumn, is_put_to}
 use Rattle.draid_segments.specs.Segments.{Pieces}
 use Rattle.draid_pass.specs.declared.pass.Pass.{Pass}
 use Rattle.draid_entries.specs.declared.entries.Entries.{Entries}
-use Rattle.draid_entries.specs.declared.history.History.{History}
-use Rattle.draid_entries.specs.Entries.{SetsEntry, entry_at, held_in}
-use Rattle.draid_entries.specs.Maps.{entry_in, first_in, held_at, held_from, key_of, staged}
+use Rattle.draid_entries.specs.Entries.{entry_at, held_in}
+use Rattle.draid_entries.specs.Maps.{held_at, held_from, key_of, staged}
 use Rattle.draid_slots.specs.Changes.{IsOf}
-use Rattle.draid_slots.specs.declared.slot.Detached.{Detached}
 use Rattle.draid_slots.specs.Table.{SlotTable, arm_at, arms_of, is_logged}
-use Rattle.draid_slab.specs.Calls.{ActsOn, OnBothTold}
+use Rattle.draid_slab.specs.Calls.{OnBothTold}
 use Rattle.draid_slab.specs.Columns.{ArePieces, row_bytes}
 use Rattle.draid_slab.specs.Part.{IsPart, IsRun, Part, layout_in}
-use Rattle.draid_slab.specs.Rows.{AreApart, IsRowsOf, KeepsOn, Lands, Wrote, answers_on, arm_no, leaf_on, name_on, rows_on, written_below}
-use Rattle.draid_slab.specs.Slots.{HasArm, HasSlots, IsGone, WasArm, arm_in, name_of, named}
-use Rattle.draid_slab.specs.States.{IsIn, Leads, layout_by, names_at, part_of, pass_in}
+use Rattle.draid_slab.specs.Rows.{AreApart, IsRowsOf, Lands, Wrote, answers_on, arm_no, leaf_on, name_on, rows_on, written_below}
+use Rattle.draid_slab.specs.Slots.{HasSlots, name_of, named}
+use Rattle.draid_slab.specs.States.{names_at, pass_in}
 use Rattle.draid_slab.specs.declared.places.ColumnRows.{ColumnRows}
 use Rattle.draid_slab.specs.declared.put.Landing.{Landing}
-use Rattle.draid_slab.specs.declared.shard.Shard.{Shard}
 use Rattle.draid_parity.specs.Columns.{column_at}
 use Rattle.draid_slab.proofs.Answering.{answers_is, apart, kept_arm, leaf_at_is, listed, listed_arm, name_listed, named_arm, on_arm, row_leaf}
 use Rattle.draid_slab.proofs.Homes.{lays, row_sector}

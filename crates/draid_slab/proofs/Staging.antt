@@ -1,5 +1,5 @@
 -- Logs get the birth of a ticket: the shard's parts fit together as before.
-use Rattle.std.proofs.Common.{◌≡◌, ◌==◌, ◌+◌, ◌-◌, ◌*◌, ◌<◌, ◌≤◌, ◌&&◌, not, ◌∙◌, ℕ, Bool, true, false, [], arith, refl, sym, ap, subst, inl, inr, length, slice_get, if◌then◌else◌}
+use Rattle.std.proofs.Common.{◌≡◌, ◌==◌, ◌+◌, ◌*◌, ◌<◌, ◌≤◌, ◌&&◌, not, ◌∙◌, ℕ, Bool, true, false, [], arith, refl, sym, ap, subst, inl, inr, length, slice_get, if◌then◌else◌}
 use Rattle.std.specs.Prelude.{slice_index_or}
 use Rattle.std.proofs.lemmas.Bool.{cases_eq}
 use Rattle.std.proofs.lemmas.Bool.Decides.{nat_tests}

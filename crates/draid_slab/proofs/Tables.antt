@@ -1,5 +1,5 @@
 -- The tables fit together after each change of one entry.
-use Rattle.std.proofs.Common.{if◌then◌else◌, ◌≡◌, ◌⊎◌, ◌==◌, ◌+◌, ◌*◌, ◌<◌, ◌≤◌, ◌%◌, ◌/◌, ◌&&◌, ◌||◌, not, ℕ, Bool, true, false, Option, Some, None, option_map, arith, refl, sym, ap, inl, inr, ◌∙◌, subst}
+use Rattle.std.proofs.Common.{if◌then◌else◌, ◌≡◌, ◌⊎◌, ◌==◌, ◌+◌, ◌*◌, ◌<◌, ◌≤◌, ◌%◌, ◌/◌, ◌&&◌, ◌||◌, not, ℕ, Bool, true, false, Option, Some, None, arith, refl, sym, ap, inl, inr, ◌∙◌, subst}
 use Rattle.std.proofs.Math.Nat.{mod-lt, mul-le-mul_right}
 use Rattle.std.proofs.lemmas.Bool.{cases_lt, cases_eq}
 use Rattle.std.proofs.lemmas.Bool.Decides.{nat_tests}
@@ -13,7 +13,7 @@ use Rattle.draid_metaslab.specs.Spots.{IsLowest, IsSpot}
 use Rattle.draid_machine.specs.declared.names.Stage.{Stage}
 use Rattle.draid_entries.specs.declared.entry.Entry.{Entry}
 use Rattle.draid_entries.specs.declared.entries.Entries.{Entries}
-use Rattle.draid_entries.specs.Entries.{SameEntries, SetsEntry, begun, count_of, entry_at}
+use Rattle.draid_entries.specs.Entries.{SetsEntry, begun, count_of, entry_at}
 use Rattle.draid_entries.specs.Maps.{staged}
 use Rattle.draid_slab.specs.Fits.{HasStripe, IsBlock, IsPlaced, Tables}
 use Rattle.draid_slab.specs.Part.{IsRun}

@@ -1,11 +1,10 @@
 -- The end of a write and the freeing of a block: what a shard is after them, and that their events are legal.
-use Rattle.std.proofs.Common.{◌≡◌, ◌+◌, ◌<◌, ◌≤◌, ◌∙◌, ℕ, Bool, true, false, nat_lt, Option, Some, None, if◌then◌else◌, arith, refl, sym, ap}
+use Rattle.std.proofs.Common.{◌≡◌, ◌+◌, ◌<◌, ◌≤◌, ◌∙◌, ℕ, true, false, nat_lt, Option, Some, None, if◌then◌else◌, arith, refl, sym, ap}
 use Rattle.std.proofs.lemmas.Bool.Decides.{nat_tests}
 use Rattle.draid_names.specs.Numbers.{most_held}
 use Rattle.draid_names.specs.declared.pointer.Pointer.{Pointer}
 use Rattle.draid_metaslab.specs.Spaces.{Stripes}
 use Rattle.draid_machine.specs.declared.event.Event.TheVariants.{Abort, Finish, Free}
-use Rattle.draid_machine.specs.declared.names.Stage.{Stage}
 use Rattle.draid_machine.specs.declared.names.Stage.TheVariants.{Writing, Live, Freed}
 use Rattle.draid_machine.specs.After.{free_state, gone_state, live_state, not_kept, set_held, without_key}
 use Rattle.draid_machine.specs.State as machine

@@ -1,5 +1,5 @@
 -- What the calls of a shard say.
-use Rattle.std.specs.Prelude.{◌≡◌, ◌<◌, ◌≤◌, ◌+◌, ◌-◌, ◌^◌, ◌⊎◌, ◌↔◌, ◌==◌, ⊤, ℕ, Bool, List, Option, Some, None, MatchOption, min, count_by, slice_get, is_some, if◌then◌else◌, Result, OnErr}
+use Rattle.std.specs.Prelude.{◌≡◌, ◌<◌, ◌≤◌, ◌+◌, ◌-◌, ◌^◌, ◌⊎◌, ◌↔◌, ◌==◌, ⊤, ℕ, List, Option, Some, None, MatchOption, min, count_by, slice_get, if◌then◌else◌}
 use Rattle.std.specs.declared.vec.Vec.{Vec}
 use Rattle.std.specs.declared.alloc.Global.{Global}
 use Rattle.draid_names.specs.Numbers.{most_held}
@@ -27,7 +27,7 @@ use Rattle.draid_entries.specs.Entries.{count_of, entry_at}
 use Rattle.draid_entries.specs.History.{Passes, left_for_groups, limit_in, owed_of, reserved_of, stored_of}
 use Rattle.draid_entries.specs.Maps.{key_of, staged}
 use Rattle.draid_slab.specs.Columns.{ArePieces, row_bytes}
-use Rattle.draid_slab.specs.States.{Does, IsIn, layout_by, part_of}
+use Rattle.draid_slab.specs.States.{Does, IsIn, layout_by}
 use Rattle.draid_slab.specs.declared.fault.BeginFault.{BeginFault}
 use Rattle.draid_slab.specs.declared.fault.BeginFault.TheVariants as begin
 use Rattle.draid_slab.specs.declared.fault.FetchFault.{FetchFault}

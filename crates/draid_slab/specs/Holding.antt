@@ -1,7 +1,6 @@
 -- What the opening of a write does to a metaslab's space, table and history.
 use Rattle.std.specs.Prelude.{◌≡◌, ◌<◌, ◌≤◌, ◌+◌, ◌++◌, ◌∷◌, [], ⊤, ℕ}
 use Rattle.draid_names.specs.declared.numbers.TheConstants.{NUMBERS}
-use Rattle.draid_names.specs.declared.pointer.Pointer.{Pointer}
 use Rattle.draid_spec.specs.declared.layout.Geometry.{Geometry}
 use Rattle.draid_spec.specs.Geometry.{metaslab_stripes}
 use Rattle.draid_metaslab.specs.Spaces.{Stripes, is_free}
@@ -10,7 +9,7 @@ use Rattle.draid_machine.specs.declared.event.Event.{Event}
 use Rattle.draid_entries.specs.declared.entries.Entries.{Entries}
 use Rattle.draid_entries.specs.declared.history.History.{History}
 use Rattle.draid_entries.specs.History.{Passes, events_of, left_for_groups, limit_in, owed_of, reserved_of, stored_of}
-use Rattle.draid_slab.specs.Fits.{IsBlock, Tables}
+use Rattle.draid_slab.specs.Fits.{Tables}
 use Rattle.draid_slab.specs.declared.fault.BeginFault.{BeginFault}
 use Rattle.draid_slab.specs.declared.fault.BeginFault.TheVariants as begin
 

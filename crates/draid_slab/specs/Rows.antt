@@ -1,5 +1,5 @@
 -- Where a column of a block belongs, and how it fares there.
-use Rattle.std.specs.Prelude.{◌≡◌, ◌≢◌, ◌==◌, ◌<◌, ◌≤◌, ◌+◌, ◌^◌, ◌||◌, ◌&&◌, not, ℕ, Bool, true, false, nat_lt, List, ◌∷◌, ◌++◌, [], Option, Some, None, option_map, length, if◌then◌else◌}
+use Rattle.std.specs.Prelude.{◌≡◌, ◌==◌, ◌<◌, ◌≤◌, ◌+◌, ◌^◌, ◌||◌, ◌&&◌, not, ℕ, Bool, true, false, nat_lt, List, ◌∷◌, ◌++◌, [], Option, Some, option_map, length, if◌then◌else◌}
 use Rattle.draid_names.specs.Faults.{Rose}
 use Rattle.draid_names.specs.declared.arm.Arm.{Arm}
 use Rattle.draid_names.specs.declared.arm.ArmAt.{ArmAt}

@@ -1,5 +1,4 @@
 -- A shard stands for a state of its metaslab, and its rack has what that state says.
-use Rattle.std.specs.Prelude.{ℕ}
 use Rattle.draid_rack.specs.Rack.{OnTold}
 use Rattle.draid_rack.specs.declared.Rack.{Ghosts}
 use Rattle.draid_machine.specs.Created.{IsReached}

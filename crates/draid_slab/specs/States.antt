@@ -1,6 +1,6 @@
 -- For which states of its metaslab a shard stands: what it stores is what they have. What they have besides (which segments are present, in doubt or kept, and
 -- the images) it doesn't store.
-use Rattle.std.specs.Prelude.{◌≡◌, ◌≢◌, ◌++◌, ◌==◌, ℕ, Bool, true, false, List, [], ◌∷◌, Option, Some, None, MatchOption, IsTrue, ◌↔◌, IsSome, is_some, map, filter, option_map}
+use Rattle.std.specs.Prelude.{◌≡◌, ◌++◌, List, [], ◌∷◌, Some, None, is_some, option_map}
 use Rattle.draid_names.specs.declared.arm.ArmAt.{ArmAt}
 use Rattle.draid_machine.specs.declared.event.Event.{Event}
 use Rattle.draid_machine.specs.declared.names.ArmName.{ArmName}

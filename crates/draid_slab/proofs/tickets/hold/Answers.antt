@@ -1,5 +1,4 @@
-use Rattle.std.proofs.Common.{◌≡◌, ◌≤◌, ◌+◌, ◌∙◌, ℕ, arith, refl}
-use Rattle.draid_spec.specs.declared.layout.Geometry.{Geometry}
+use Rattle.std.proofs.Common.{◌∙◌, arith, refl}
 use Rattle.draid_metaslab.specs.Spaces.{is_free}
 use Rattle.draid_slab.proofs.Tables.{allocated, back_again, held_tables, kept_tables, none_at, space_of}
 use Rattle.draid_slab.proofs.tickets.hold.Goals as goal

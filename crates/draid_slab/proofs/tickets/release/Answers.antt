@@ -1,5 +1,4 @@
-use Rattle.std.proofs.Common.{◌≡◌, ◌<◌, ◌≤◌, ◌+◌, ◌∙◌, ℕ, sym, arith}
-use Rattle.draid_spec.specs.declared.layout.Geometry.{Geometry}
+use Rattle.std.proofs.Common.{arith}
 use Rattle.draid_slab.proofs.Tables.{released_tables, space_of}
 use Rattle.draid_slab.proofs.tickets.release.Goals as goal
 

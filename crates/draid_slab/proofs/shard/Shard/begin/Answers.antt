@@ -1,4 +1,4 @@
-use Rattle.std.proofs.Common.{rules, ◌≡◌, ◌<◌, ◌≤◌, ◌+◌, ◌∙◌, false, arith, ap, ap₂, refl, sym, subst, length}
+use Rattle.std.proofs.Common.{rules, ◌≡◌, ◌∙◌, false, arith, ap, ap₂, refl, sym, subst, length}
 use Rattle.std.proofs.lemmas.Bool.{true≢false}
 use Rattle.draid_names.specs.Numbers.{most_held}
 use Rattle.draid_names.specs.declared.pointer.Pointer.{Pointer}
@@ -9,7 +9,6 @@ use Rattle.draid_metaslab.specs.Spaces.{is_free}
 use Rattle.draid_metaslab.specs.Spots.{IsLowest}
 use Rattle.draid_entries.specs.Entries.{count_of, held_in}
 use Rattle.draid_entries.specs.Maps.{key_of}
-use Rattle.draid_slab.specs.Fits.{IsBlock}
 use Rattle.draid_slab.proofs.Begins.{IsGiven, MayBegin, begins_leads, due_from, due_low, due_upto, oldest_low, owed_begun, refused_by}
 use Rattle.draid_slab.proofs.FreeRuns.{fewer}
 use Rattle.draid_slab.proofs.Held.{tickets_same, tickets_staged}

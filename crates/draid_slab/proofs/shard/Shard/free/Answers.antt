@@ -1,4 +1,4 @@
-use Rattle.std.proofs.Common.{◌∙◌, ◌++◌, ◌∷◌, ◌≤◌, [], Some, arith, ap, refl}
+use Rattle.std.proofs.Common.{◌∙◌, ◌++◌, ◌∷◌, [], Some, arith, ap, refl}
 use Rattle.draid_machine.specs.declared.event.Event.TheVariants.{Free}
 use Rattle.draid_machine.specs.declared.names.Stage.TheVariants.{Live, Freed}
 use Rattle.draid_entries.specs.Maps.{staged}
