@@ -1,10 +1,8 @@
 -- A column is read from the arm that the state machine says.
-use Rattle.std.proofs.Common.{◌≡◌, ◌≢◌, ◌==◌, ◌+◌, ◌<◌, ◌≤◌, ◌⊎◌, ◌||◌, ◌&&◌, not, ◌∙◌, ℕ, zero, suc, Bool, true, false, nat_lt, List, [], ◌∷◌, Option, Some, None, arith, refl, sym, ap, ap₂, subst, inl, inr, map, length, slice_get, if◌then◌else◌}
+use Rattle.std.proofs.Common.{◌≡◌, ◌<◌, ◌⊎◌, ◌&&◌, not, ◌∙◌, ℕ, zero, suc, Bool, true, false, List, [], ◌∷◌, Option, Some, None, arith, refl, sym, ap, ap₂, subst, inl, inr, map, length, slice_get, if◌then◌else◌}
 use Rattle.std.specs.Prelude.{find, option_map}
 use Rattle.draid_names.specs.Spares.{AreOfOne, AreSpares, IsArm}
 use Rattle.draid_names.specs.declared.arm.Arm.{Arm}
-use Rattle.draid_names.specs.declared.arm.ArmKind.{ArmKind}
-use Rattle.draid_names.specs.declared.arm.ArmKind.TheVariants as kind
 use Rattle.draid_names.specs.declared.pointer.Pointer.{Pointer}
 use Rattle.draid_perm.specs.Perms.{children_of}
 use Rattle.draid_map.proofs.Distinct as distinct
@@ -22,17 +20,17 @@ use Rattle.draid_machine.specs.Images.{Owned}
 use Rattle.draid_machine.specs.Names.{has_name, name_eq}
 use Rattle.draid_machine.specs.State as machine
 use Rattle.draid_machine.proofs.Losing.{every_segment}
-use Rattle.draid_machine.proofs.Small.{absurd_test, below, bool_cases, either_true, name_refl, some_same, true_left, true_right}
+use Rattle.draid_machine.proofs.Small.{below, name_refl, some_same, true_left, true_right}
 use Rattle.draid_entries.specs.Maps.{held_at, staged}
 use Rattle.draid_slots.specs.Changes.{IsOf}
-use Rattle.draid_slots.specs.Reading.{IsFirst, IsNone, answers_in, is_clean_in}
+use Rattle.draid_slots.specs.Reading.{IsNone, answers_in, is_clean_in}
 use Rattle.draid_slots.specs.Table.{SlotTable, arm_at, arms_of, is_logged}
 use Rattle.draid_slab.specs.Part.{IsPart, IsRun, Part, layout_in}
 use Rattle.draid_slab.specs.Reads.{IsReadOn, IsSilent}
-use Rattle.draid_slab.specs.Rows.{IsRowsOf, answers_on, arm_no, leaf_on}
-use Rattle.draid_slab.specs.Slots.{HasSlots, arm_in, name_of, named}
+use Rattle.draid_slab.specs.Rows.{IsRowsOf, arm_no}
+use Rattle.draid_slab.specs.Slots.{HasSlots, name_of}
 use Rattle.draid_slab.specs.declared.places.ColumnRows.{ColumnRows}
-use Rattle.draid_slab.proofs.Answering.{answers_is, kept_arm, leaf_at_is, listed, name_listed, order_is}
+use Rattle.draid_slab.proofs.Answering.{answers_is, leaf_at_is, listed, order_is}
 use Rattle.draid_slab.proofs.Homes.{has_column, lays}
 
 -- ---- the first arm that passes a test

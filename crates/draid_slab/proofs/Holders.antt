@@ -1,5 +1,5 @@
 -- The leaf that keeps an arm's sectors is an arm of a slot.
-use Rattle.std.proofs.Common.{◌≡◌, ◌+◌, ◌<◌, ◌≤◌, ◌^◌, ◌⊎◌, ◌∙◌, ℕ, zero, suc, Bool, true, false, List, [], ◌∷◌, Option, Some, None, arith, refl, sym, ap, subst, inl, inr, slice_get, if◌then◌else◌}
+use Rattle.std.proofs.Common.{◌≡◌, ◌+◌, ◌≤◌, ◌∙◌, ℕ, zero, suc, List, [], ◌∷◌, Option, Some, None, arith, refl, sym, ap, subst, inl, slice_get, if◌then◌else◌}
 use Rattle.std.specs.Prelude.{IsSomeAnd, MatchOption, option_map}
 use Rattle.draid_names.specs.declared.arm.Arm.{Arm}
 use Rattle.draid_names.specs.declared.arm.ArmAt.{ArmAt}
@@ -10,8 +10,8 @@ use Rattle.draid_rack.specs.Rack.{Shape}
 use Rattle.draid_columns.specs.Columns.{HasRows}
 use Rattle.draid_columns.specs.declared.rows.Rows.{Rows}
 use Rattle.draid_slots.specs.Changes.{IsSame}
-use Rattle.draid_slots.specs.Reading.{first_leaf, holder, holder_of, slice_of, spare_slot}
-use Rattle.draid_slots.specs.Table.{SlotTable, arm_at, arms_of, is_leaf, is_leaf_kind}
+use Rattle.draid_slots.specs.Reading.{first_leaf, holder, holder_of, spare_slot}
+use Rattle.draid_slots.specs.Table.{SlotTable, arm_at, arms_of, is_leaf_kind}
 use Rattle.draid_machine.proofs.Small.{some_same}
 use Rattle.draid_slab.specs.Fits.{IsLeaf}
 use Rattle.draid_slab.specs.Rows.{FitsRows, arm_no, leaf_on, rows_on}

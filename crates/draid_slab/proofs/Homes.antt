@@ -1,9 +1,7 @@
 -- Where the columns of a metaslab have their places.
 use Rattle.std.proofs.Common.{◌≡◌, ◌+◌, ◌-◌, ◌*◌, ◌/◌, ◌%◌, ◌<◌, ◌≤◌, ◌^◌, ◌∙◌, ℕ, refl, sym, ap, subst, arith, add_comm, mul_comm}
 use Rattle.std.proofs.Math.Nat.{add-mul-div_left, mod-lt, mul-le-mul_right}
-use Rattle.draid_names.specs.declared.pointer.Pointer.{Pointer}
 use Rattle.draid_spec.specs.Geometry.{IsGeometry, metaslab_sectors, metaslab_stripes, pool_stripes}
-use Rattle.draid_perm.specs.declared.perms.Perms.{Perms}
 use Rattle.draid_map.specs.declared.sectors.Place.{Place}
 use Rattle.draid_map.specs.Place.{place_of}
 use Rattle.draid_map.proofs.Apart.{has_some}
@@ -16,8 +14,6 @@ use Rattle.draid_layouts.specs.Layout.{pool_stripe, slice_in}
 use Rattle.draid_layouts.proofs.Layouts.{layout_is}
 use Rattle.draid_slots.specs.Reading.{slice_of}
 use Rattle.draid_slab.specs.Part.{IsPart, IsRun, Part, layout_in}
-use Rattle.draid_slab.specs.Rows.{IsRowsOf}
-use Rattle.draid_slab.specs.declared.places.ColumnRows.{ColumnRows}
 
 module _ (part : Part) (is : IsPart part) where
   pub geometry_is : IsGeometry part.geometry

@@ -9,7 +9,6 @@ use Rattle.draid_machine.specs.Names.{has_number}
 use Rattle.draid_slots.specs.Reading.{IsNone, IsRead, answers_in}
 use Rattle.draid_slots.specs.Table.{SlotTable, arms_of}
 use Rattle.draid_slots.specs.declared.slot.ReadArm.{ReadArm}
-use Rattle.draid_slab.specs.Calls.{CountsFailed}
 use Rattle.draid_slab.specs.Part.{Part}
 use Rattle.draid_slab.specs.Rows.{IsRowsOf, leaf_on, rows_on}
 use Rattle.draid_slab.specs.declared.outcome.Outcome.{Outcome}
