@@ -1,17 +1,16 @@
 -- One more column of a block was read.
-use Rattle.std.proofs.Common.{◌≡◌, ◌≢◌, ◌==◌, ◌+◌, ◌*◌, ◌<◌, ◌≤◌, ◌⊎◌, ◌||◌, ◌∙◌, ◌++◌, ◌↔◌, ℕ, zero, suc, Bool, true, false, List, [], ◌∷◌, Option, Some, None, Vec, Global, arith, refl, sym, ap, ap₂, subst, inl, inr, length, slice_get}
+use Rattle.std.proofs.Common.{◌≡◌, ◌==◌, ◌+◌, ◌*◌, ◌<◌, ◌≤◌, ◌⊎◌, ◌∙◌, ℕ, suc, true, List, [], Option, Some, None, Vec, Global, arith, refl, sym, ap, subst, inl, inr, length, slice_get}
 use Rattle.std.proofs.lemmas.Bool.{cases_eq, cases_lt}
 use Rattle.std.proofs.lemmas.Option.{slice_get_within}
 use Rattle.draid_names.specs.declared.pointer.Pointer.{Pointer}
-use Rattle.draid_rack.specs.Rack.{OnTold, Told}
-use Rattle.draid_columns.specs.Columns.{RowsStand}
+use Rattle.draid_rack.specs.Rack.{Told}
 use Rattle.draid_machine.specs.Names.{has_number}
 use Rattle.draid_machine.proofs.Small.{absurd_test, either_true, equal, is_equal, none_some, some_same, true_left, true_right}
 use Rattle.draid_slots.specs.Table.{SlotTable}
 use Rattle.draid_slab.specs.Part.{Part}
-use Rattle.draid_slab.specs.Reads.{AreLong, AreWhole, Columns, IsReadAt, IsReadOn, IsSilentAt, ReadsColumns, ReadsOn, Replaces, StandsAt, column_after, failed_after}
+use Rattle.draid_slab.specs.Reads.{AreLong, AreWhole, Columns, IsReadAt, IsSilentAt, ReadsColumns, ReadsOn, Replaces, StandsAt, column_after, failed_after}
 use Rattle.draid_slab.specs.Calls.{CountsFailed}
-use Rattle.draid_slab.specs.Rows.{CountsOn, IsRowsOf, rows_on}
+use Rattle.draid_slab.specs.Rows.{CountsOn, IsRowsOf}
 use Rattle.draid_slab.specs.declared.outcome.Outcome.{Outcome}
 use Rattle.draid_slab.specs.declared.outcome.Outcome.TheVariants.{Silent, Failed, Done}
 use Rattle.draid_slab.specs.declared.places.ColumnRows.{ColumnRows}

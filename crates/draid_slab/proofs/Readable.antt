@@ -1,5 +1,5 @@
 -- A block that was fetched is readable but for its bad columns, or more of them are bad than there are parity columns.
-use Rattle.std.proofs.Common.{◌≡◌, ◌⊎◌, ◌+◌, ◌*◌, ◌==◌, ◌<◌, ◌≤◌, ◌||◌, ◌&&◌, not, ◌∙◌, ◌++◌, [], ◌∷◌, ℕ, zero, suc, List, Bool, true, false, nat_lt, cond, Option, Some, None, Vec, Global, arith, refl, sym, ap, subst, inl, inr, length, take, slice_get, get_or, if◌then◌else◌}
+use Rattle.std.proofs.Common.{◌≡◌, ◌⊎◌, ◌+◌, ◌*◌, ◌==◌, ◌<◌, ◌≤◌, ◌||◌, ◌&&◌, ◌∙◌, ◌++◌, [], ◌∷◌, ℕ, zero, suc, List, Bool, true, false, nat_lt, cond, Option, Some, None, Vec, Global, arith, refl, sym, ap, subst, inl, inr, length, take, slice_get, get_or, if◌then◌else◌}
 use Rattle.std.specs.Prelude.{All, Contains, find, is_none}
 use Rattle.std.specs.List.Sorted.{IsStrictlyIncreasing}
 use Rattle.std.proofs.lemmas.Bool.{cases_lt}

@@ -1,4 +1,4 @@
-use Rattle.std.proofs.Common.{◌+◌, ◌∷◌, [], Some, arith, ap, length}
+use Rattle.std.proofs.Common.{◌∷◌, [], Some, arith, ap, length}
 use Rattle.std.proofs.lemmas.List.{length-append}
 use Rattle.draid_slab.proofs.Taking.{whole_pushed}
 use Rattle.draid_slab.proofs.fetch.room_for.Goals as goal

@@ -1,7 +1,6 @@
-use Rattle.std.proofs.Common.{◌≡◌, ◌+◌, ◌*◌, ◌∙◌, ◌++◌, ℕ, List, None, Some, Vec, Global, Option, arith, ap, drop, length, refl, subst, sym, take}
+use Rattle.std.proofs.Common.{◌≡◌, ◌+◌, ◌*◌, ◌∙◌, ◌++◌, None, Some, Option, arith, ap, drop, length, refl, subst, sym, take}
 use Rattle.draid_rack.specs.Rack.{Told}
 use Rattle.draid_slab.specs.Calls.{CountsFailed}
-use Rattle.draid_slab.specs.Reads.{ReadsColumns}
 use Rattle.draid_slab.specs.States.{part_of}
 use Rattle.draid_slab.proofs.Fetching.{counts_after, reads_more, replaces_twice}
 use Rattle.draid_slab.proofs.Fitted.{fits_rows}
