@@ -16,6 +16,7 @@ use Rattle.draid_slab.specs.Rows.{IsRowsOf, LogsBirth}
 use Rattle.draid_slab.specs.States.{part_of}
 use Rattle.draid_slab.specs.declared.shard.Shard.{Shard}
 use Rattle.draid_slab.proofs.Fitted.{born_from}
+use Rattle.draid_slab.proofs.Held.{here_turned}
 use Rattle.draid_slab.proofs.Staging.{leaves_left, logs_left, same_of, tables_staged, tickets_staged}
 
 module _ {R A : Type 0} (ghosts : Ghosts R) (old : Shard R A) (valid : Valid ghosts old) (pointer : Pointer) (c m next missed : ℕ) (is_open : entry_at old.entries pointer.first ≡ Some (staged (Writing c m) pointer))
@@ -47,6 +48,7 @@ module _ {R A : Type 0} (ghosts : Ghosts R) (old : Shard R A) (valid : Valid gho
         tables = tables_staged old.entries entries pointer (Writing c m) (Writing next missed) is_open sets old.geometry old.open_group old.space count valid.tables;
         disabled = valid.disabled;
         few = subst (λ n. n ≤ most_held old.version) (sym count) valid.few;
+        here = here_turned old.entries entries pointer (Writing c m) (Writing next missed) old.number is_open sets valid.here;
         slots = same_of old.slots slots old.geometry old.perms old.number pointer.birth at_birth valid.slots;
         logs = logs_left old.slots slots (oldest_open old.open_group old.closing) pointer.birth low high at_birth valid.logs;
         leaves = leaves_left (ghosts.shape old.rack) (ghosts.shape rack) old.geometry old.slots slots pointer.birth shape at_birth valid.leaves;
