@@ -1,5 +1,5 @@
 -- For which states a shard stands after one entry of its table came, turned or went.
-use Rattle.std.proofs.Common.{◌≡◌, ◌≤◌, ◌+◌, ◌∙◌, ℕ, Bool, true, false, Option, Some, None, option_map, if◌then◌else◌, arith, refl, sym, ap, inl, inr}
+use Rattle.std.proofs.Common.{◌≡◌, ◌==◌, ◌≤◌, ◌+◌, ◌∙◌, ℕ, Bool, true, false, Option, Some, None, option_map, if◌then◌else◌, arith, refl, sym, ap, inl, inr}
 use Rattle.std.proofs.lemmas.Bool.{true≢false}
 use Rattle.draid_names.specs.declared.pointer.Pointer.{Pointer}
 use Rattle.draid_metaslab.specs.Spaces.{Stripes}
@@ -117,6 +117,9 @@ here_set old new p entry number named sets here = record {
     of : (first : ℕ) (e : Entry) (b : Bool) → (first == p.first) ≡ b → entry_at new first ≡ Some e → e.pointer.metaslab ≡ number
     of first e true is there = named e (sym (sets.at first ∙ ap (λ c. if c then entry else entry_at old first) is) ∙ there)
     of first e false other there = here.each first e (sym (sets.at first ∙ ap (λ c. if c then entry else entry_at old first) other) ∙ there)
+
+pub here_same : (old new : Entries) (number : ℕ) → AreHere old number → SameEntries old new → AreHere new number
+here_same old new number here same = record { each = λ first e there. here.each first e (sym (same.at first) ∙ there) }
 
 -- a block or a ticket came to another stage
 pub here_turned : (old new : Entries) (p : Pointer) (was stage : Stage) (number : ℕ) → entry_at old p.first ≡ Some (staged was p) → SetsEntry old new p (Some (staged stage p)) → AreHere old number

@@ -50,6 +50,11 @@ pub record HasGroups (x : State) : Type 0 where
   pub next : x.store.floor ≤ x.committed + 2
   pub last : x.store.floor ≤ LAST_NUMBER
 
+-- a block is that of an object's last write
+abbrev pub IsLastAt : ℕ → Key → Option Write → Type 0
+IsLastAt m key None = ⊥
+IsLastAt m key (Some write) = (write.metaslab ≡ m) × (key_of write ≡ key)
+
 -- ---- the table
 
 -- A pointer is that of a write's block, which is live in its metaslab.

@@ -24,8 +24,8 @@ use draid_slab::{BeginFault, Missed, Shard, Ticket};
 /// Why a block wasn't stored.
 #[derive(Clone, Copy, Debug, PartialEq, Eq)]
 pub(crate) enum StoreFault {
-    /// So many columns landed on no leaf.
-    Missed { columns: u32 },
+    /// So many columns landed on no leaf. The block would have been born in this group.
+    Missed { columns: u32, birth: u64 },
     NoMemory,
 }
 
@@ -75,9 +75,10 @@ pub(crate) fn store<R: Rack, A: Area>(
         Err(BeginFault::Worn { .. }) => unreachable!(),
         Err(BeginFault::NoMemory) => return Err(StoreFault::NoMemory),
     };
+    let birth = ticket.pointer.birth;
     put_all(shard, &mut ticket, block);
     match shard.finish(ticket) {
         Ok(pointer) => Ok(pointer),
-        Err(Missed { columns }) => Err(StoreFault::Missed { columns }),
+        Err(Missed { columns }) => Err(StoreFault::Missed { columns, birth }),
     }
 }

@@ -1,10 +1,14 @@
-ghost use Rattle.std.specs.Prelude.{◌≡◌, ◌<◌, ◌≤◌, length};
+ghost use Rattle.std.specs.Prelude.{◌≡◌, ◌<◌, ◌≤◌, ◌+◌, length};
 ghost use Rattle.std.specs.Fn.{FnReturnsAt};
 ghost use Rattle.draid_choose.specs.Rooms.{IsChooser};
+ghost use Rattle.draid_names.specs.declared.numbers.TheConstants.{NUMBERS};
+ghost use Rattle.draid_block.specs.Blocks.{cut_of};
+ghost use Rattle.draid_block.specs.Columns.{stripes_of};
 ghost use Rattle.draid_session.specs.State.{State};
-ghost use Rattle.draid_volume.specs.Answers.{WriteDoes};
+ghost use Rattle.draid_volume.specs.Answers.{WriteDoes, WriteInDoes};
 ghost use Rattle.draid_volume.specs.Carries.{CarriesOut};
 ghost use Rattle.draid_volume.specs.Pools.{Represents};
+ghost use Rattle.draid_volume.specs.Shards.{HasRoomAt, IsNoSpace};
 
 use crate::freeing::free_block;
 use crate::pool::Pool;
@@ -68,7 +72,7 @@ impl<R: Rack, A: Area> Pool<R, A> {
     fn write_block(&mut self, metaslab: u32, object: u64, block: &Encoded) -> Result<(), WriteFault>
         requires object { object < OBJECTS }
         requires cut { block.now.cut ≡ cut_of self.old.geometry }
-        requires room { HasRoomAt self.old metaslab block.now.bytes }
+        requires room { HasRoomAt self.old.shards.items metaslab (stripes_of (cut_of self.old.geometry) (length block.now.bytes)) }
         requires last { self.old.seq + 1 < NUMBERS }
         requires represents { (x : State) × Represents R.Rack A.Area self.old x }
         ensures step { (x : State) → Represents R.Rack A.Area self.old x

@@ -13,7 +13,7 @@ use Rattle.draid_machine.proofs.Small.{some_same}
 use Rattle.draid_slab.specs.Fits.{IsBlock}
 use Rattle.draid_slab.proofs.Begins.{IsGiven, MayBegin, begins_leads, due_from, due_upto, oldest_low, owed_begun, refused_by, tickets_begun}
 use Rattle.draid_slab.proofs.FreeRuns.{fewer}
-use Rattle.draid_slab.proofs.Held.{here_set, tickets_same}
+use Rattle.draid_slab.proofs.Held.{here_same, here_set, tickets_same}
 use Rattle.draid_slab.proofs.Turns.{fitting, valid_with}
 use Rattle.draid_slab.proofs.shard.Shard.begin.Goals as goal
 
@@ -83,6 +83,7 @@ returns-in-Err-clause-valid g c =
       born = due_upto c.args.self.now.open_group c.max.result c.args.floor c.max.ensures c.requires.floor;
     }))
     e.disabled (let count = e.same.count in let few = v.few in omega (arith, few, count))
+    (here_same c.args.self.now.entries c.hold.new.entries c.args.self.now.number v.here e.same)
     (tickets_same c.args.self.now.entries c.hold.new.entries _ v.tickets e.same)
     (let owed = e.kept.owed in let reserved = e.kept.reserved in let same = e.same.owed c.args.self.now.geometry.g in omega (arith, owed, reserved, same))
 
