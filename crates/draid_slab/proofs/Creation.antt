@@ -23,7 +23,7 @@ use Rattle.draid_entries.specs.declared.entries.Entries.{Entries}
 use Rattle.draid_entries.specs.Entries.{count_of, entry_at, owed_at, owed_by}
 use Rattle.draid_entries.proofs.Sums.{sum_none}
 use Rattle.draid_names.specs.declared.numbers.TheConstants.{NUMBERS}
-use Rattle.draid_slab.specs.Fits.{HasLeaves, IsLeaf, LogsHaveRoom, Tables, TicketsAreNew, lacking}
+use Rattle.draid_slab.specs.Fits.{AreHere, HasLeaves, IsLeaf, LogsHaveRoom, Tables, TicketsAreNew, lacking}
 use Rattle.draid_slab.specs.Slots.{HasArm, HasSlots, WasArm, arm_in, name_of}
 
 -- ---- slots
@@ -153,6 +153,9 @@ empty_tables geometry group space entries height total held count none free = re
 
 pub no_tickets : (entries : Entries) (from : ℕ) → ((first : ℕ) → entry_at entries first ≡ None) → TicketsAreNew entries from
 no_tickets entries from none first e put missed there stage = absurd (none_some (entry_at entries first) e (none first) there)
+
+pub none_here : (entries : Entries) (number : ℕ) → ((first : ℕ) → entry_at entries first ≡ None) → AreHere entries number
+none_here entries number none = record { each = λ first e there. absurd (none_some (entry_at entries first) e (none first) there) }
 
 pub owes_none : (columns : ℕ) (entries : Entries) → ((first : ℕ) → entry_at entries first ≡ None) → owed_by columns entries ≡ 0
 unfolding owed_by

@@ -144,6 +144,7 @@ valid_on rack old r history shape owed reserved v = record {
   tables = v.tables;
   disabled = v.disabled;
   few = v.few;
+  here = v.here;
   slots = v.slots;
   logs = v.logs;
   leaves = subst (λ shape. HasLeaves shape old.geometry old.slots) (sym shape) v.leaves;

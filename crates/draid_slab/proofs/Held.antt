@@ -1,5 +1,5 @@
 -- For which states a shard stands after one entry of its table came, turned or went.
-use Rattle.std.proofs.Common.{◌≡◌, ◌≤◌, ◌∙◌, ℕ, Bool, true, Option, Some, None, option_map, if◌then◌else◌, arith, refl, sym, ap, inl, inr}
+use Rattle.std.proofs.Common.{◌≡◌, ◌==◌, ◌≤◌, ◌+◌, ◌∙◌, ℕ, Bool, true, false, Option, Some, None, option_map, if◌then◌else◌, arith, refl, sym, ap, inl, inr}
 use Rattle.std.proofs.lemmas.Bool.{true≢false}
 use Rattle.draid_names.specs.declared.pointer.Pointer.{Pointer}
 use Rattle.draid_metaslab.specs.Spaces.{Stripes}
@@ -19,7 +19,7 @@ use Rattle.draid_entries.specs.Entries.{SameEntries, SetsEntry, entry_at, held_i
 use Rattle.draid_entries.specs.Maps.{first_in, held_at, held_from, key_of, staged}
 use Rattle.draid_entries.proofs.Counted.{led_held}
 use Rattle.draid_slab.specs.declared.shard.Shard.{Shard}
-use Rattle.draid_slab.specs.Fits.{TicketsAreNew}
+use Rattle.draid_slab.specs.Fits.{AreHere, TicketsAreNew}
 use Rattle.draid_slab.specs.States.{IsIn}
 use Rattle.draid_slab.proofs.Tables.{entry_cases, first_is}
 
@@ -112,3 +112,31 @@ tickets_block old new p s from block tickets sets = tickets_set old new p (Some 
 
 pub tickets_same : (old new : Entries) (from : ℕ) → TicketsAreNew old from → SameEntries old new → TicketsAreNew new from
 tickets_same old new from tickets same first e put missed there stage = tickets first e put missed (sym (same.at first) ∙ there) stage
+
+-- ---- the metaslab that pointers name
+
+pub here_set : (old new : Entries) (p : Pointer) (entry : Option Entry) (number : ℕ) → ((e : Entry) → entry ≡ Some e → e.pointer.metaslab ≡ number) → SetsEntry old new p entry → AreHere old number
+    → AreHere new number
+here_set old new p entry number named sets here = record {
+  each = λ first e there. of first e (first == p.first) refl there;
+}
+  where
+    of : (first : ℕ) (e : Entry) (b : Bool) → (first == p.first) ≡ b → entry_at new first ≡ Some e → e.pointer.metaslab ≡ number
+    of first e true is there = named e (sym (sets.at first ∙ ap (λ c. if c then entry else entry_at old first) is) ∙ there)
+    of first e false other there = here.each first e (sym (sets.at first ∙ ap (λ c. if c then entry else entry_at old first) other) ∙ there)
+
+pub here_same : (old new : Entries) (number : ℕ) → AreHere old number → SameEntries old new → AreHere new number
+here_same old new number here same = record { each = λ first e there. here.each first e (sym (same.at first) ∙ there) }
+
+-- a block or a ticket came to another stage
+pub here_turned : (old new : Entries) (p : Pointer) (was stage : Stage) (number : ℕ) → entry_at old p.first ≡ Some (staged was p) → SetsEntry old new p (Some (staged stage p)) → AreHere old number
+    → AreHere new number
+here_turned old new p was stage number there sets here =
+    here_set old new p (Some (staged stage p)) number (λ e is. ap (λ (x : Entry). x.pointer.metaslab) (sym (some_is (staged stage p) e is)) ∙ here.each p.first (staged was p) there) sets here
+  where
+    some_is : (x e : Entry) → Some x ≡ Some e → x ≡ e
+    some_is x e is = cc
+
+-- one went
+pub here_gone : (old new : Entries) (p : Pointer) (number : ℕ) → SetsEntry old new p None → AreHere old number → AreHere new number
+here_gone old new p number sets here = here_set old new p None number (λ e is. absurd (cc)) sets here

@@ -14,7 +14,7 @@ use Rattle.draid_slab.specs.Fits.{Valid, oldest_open}
 use Rattle.draid_slab.specs.Rows.{LogsBirth}
 use Rattle.draid_slab.specs.declared.shard.Shard.{Shard}
 use Rattle.draid_slab.proofs.Fitted.{born_from}
-use Rattle.draid_slab.proofs.Held.{tickets_staged}
+use Rattle.draid_slab.proofs.Held.{here_turned, tickets_staged}
 use Rattle.draid_slab.proofs.Staging.{leaves_left, logs_left, same_of}
 use Rattle.draid_slab.proofs.Tables.{turned_tables}
 
@@ -47,6 +47,7 @@ module _ {R A : Type 0} (ghosts : Ghosts R) (old : Shard R A) (valid : Valid gho
         tables = turned_tables old.geometry old.open_group old.space old.entries entries pointer (Writing c m) (Writing next missed) valid.tables is_open sets count;
         disabled = valid.disabled;
         few = subst (λ n. n ≤ most_held old.version) (sym count) valid.few;
+        here = here_turned old.entries entries pointer (Writing c m) (Writing next missed) old.number is_open sets valid.here;
         slots = same_of old.slots slots old.geometry old.perms old.number pointer.birth at_birth valid.slots;
         logs = logs_left old.slots slots (oldest_open old.open_group old.closing) pointer.birth low high at_birth valid.logs;
         leaves = leaves_left (ghosts.shape old.rack) (ghosts.shape rack) old.geometry old.slots slots pointer.birth shape at_birth valid.leaves;

@@ -18,7 +18,7 @@ use Rattle.draid_entries.specs.Maps.{held_at, key_of, staged}
 use Rattle.draid_slab.specs.declared.shard.Shard.{Shard}
 use Rattle.draid_slab.specs.declared.ticket.Ticket.{Ticket}
 use Rattle.draid_slab.specs.Calls.{IsLive, IsOpen}
-use Rattle.draid_slab.specs.Fits.{Tables, TicketsAreNew, Valid, oldest_open}
+use Rattle.draid_slab.specs.Fits.{AreHere, Tables, TicketsAreNew, Valid, oldest_open}
 use Rattle.draid_slab.specs.Holding.{AreFitting}
 use Rattle.draid_slab.specs.States.{IsIn, Leads, layout_by}
 use Rattle.draid_slab.proofs.Begins.{few_stripes}
@@ -33,13 +33,14 @@ OwesSo old entries history =
 
 pub valid_with : {R A : Type 0} (rack : Ghosts R) (old : Shard R A) (space : Stripes) (entries : Entries) (history : History) → Valid rack old
     → Tables old.geometry old.open_group space entries → space.disabled ≡ old.space.disabled → count_of entries ≤ most_held old.version
-    → TicketsAreNew entries (oldest_open old.open_group old.closing) → OwesSo old entries history → Valid rack (with_tables old space entries history)
-valid_with rack old space entries history v tables disabled few tickets owed = record {
+    → AreHere entries old.number → TicketsAreNew entries (oldest_open old.open_group old.closing) → OwesSo old entries history → Valid rack (with_tables old space entries history)
+valid_with rack old space entries history v tables disabled few here tickets owed = record {
   part = v.part;
   version = v.version;
   tables = tables;
   disabled = disabled ∙ v.disabled;
   few = few;
+  here = here;
   slots = v.slots;
   logs = v.logs;
   leaves = v.leaves;

@@ -113,6 +113,10 @@ AreGroups open_group (Some t) committed sealed = (open_group ≡ t + 1) × (t �
 abbrev pub TicketsAreNew : Entries → ℕ → Type 0
 TicketsAreNew entries from = (first : ℕ) (e : Entry) (put missed : ℕ) → entry_at entries first ≡ Some e → e.stage ≡ Writing put missed → from ≤ e.pointer.birth
 
+-- the pointers of all blocks and tickets name the metaslab
+pub record AreHere (entries : Entries) (number : ℕ) : Type 0 where
+  pub each : (first : ℕ) (e : Entry) → entry_at entries first ≡ Some e → e.pointer.metaslab ≡ number
+
 -- What each call needs and keeps.
 pub record Valid {R A : Type 0} (rack : Ghosts R) (shard : Shard R A) : Type 0 where
   pub part : IsPart (part_of shard)
@@ -121,6 +125,7 @@ pub record Valid {R A : Type 0} (rack : Ghosts R) (shard : Shard R A) : Type 0 w
   -- it takes no block while a rebuild has it
   pub disabled : shard.space.disabled ≡ is_rebuild shard.pass
   pub few : count_of shard.entries ≤ most_held shard.version
+  pub here : AreHere shard.entries shard.number
   pub slots : IsOf shard.slots shard.geometry shard.perms shard.number
   pub logs : LogsHaveRoom shard.slots (oldest_open shard.open_group shard.closing)
   pub leaves : HasLeaves (rack.shape shard.rack) shard.geometry shard.slots

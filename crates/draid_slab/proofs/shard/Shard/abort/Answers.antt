@@ -2,7 +2,7 @@ use Rattle.std.proofs.Common.{◌∙◌, ◌+◌, ◌-◌, ◌++◌, ◌∷◌, 
 use Rattle.draid_machine.specs.declared.event.Event.TheVariants.{Abort}
 use Rattle.draid_machine.specs.declared.names.Stage.TheVariants.{Writing}
 use Rattle.draid_entries.specs.Maps.{staged}
-use Rattle.draid_slab.proofs.Held.{tickets_gone}
+use Rattle.draid_slab.proofs.Held.{here_gone, tickets_gone}
 use Rattle.draid_slab.proofs.Turns.{aborts, fitting, owed_turns, valid_with}
 use Rattle.draid_slab.proofs.shard.Shard.abort.Goals as goal
 
@@ -26,6 +26,7 @@ returns-clause-valid g c =
     valid_with g.R.Rack c.args.self.now c.release.new.space c.release.new.entries c.add.new.self v
     (c.release.ensures.tables c.args.self.now.geometry c.args.self.now.open_group v.tables) c.release.ensures.disabled
     (let few = v.few in let count = c.release.ensures.count in omega (arith, few, count))
+    (here_gone c.args.self.now.entries c.release.new.entries c.args.ticket.pointer c.args.self.now.number c.release.ensures.gone v.here)
     (tickets_gone c.args.self.now.entries c.release.new.entries c.args.ticket.pointer _ v.tickets c.release.ensures.gone)
     (let owed = c.add.ensures.owed in let reserved = c.add.ensures.reserved in let from = c.from.ensures in let left = c.saturating_sub-left.ensures in omega (arith, turns, owed, reserved, from, left))
 

@@ -1,4 +1,4 @@
-use Rattle.std.proofs.Common.{rules, ◌≡◌, ◌∙◌, false, arith, ap, ap₂, refl, sym, subst, length}
+use Rattle.std.proofs.Common.{rules, ◌≡◌, ◌<◌, ◌≤◌, ◌+◌, ◌∙◌, false, Some, arith, ap, ap₂, refl, sym, subst, length}
 use Rattle.std.proofs.lemmas.Bool.{true≢false}
 use Rattle.draid_names.specs.Numbers.{most_held}
 use Rattle.draid_names.specs.declared.pointer.Pointer.{Pointer}
@@ -7,11 +7,13 @@ use Rattle.draid_block.specs.Columns.{Cut, stripes_of}
 use Rattle.draid_machine.specs.declared.names.Stage.TheVariants.{Writing}
 use Rattle.draid_metaslab.specs.Spaces.{is_free}
 use Rattle.draid_metaslab.specs.Spots.{IsLowest}
-use Rattle.draid_entries.specs.Entries.{count_of, held_in}
+use Rattle.draid_entries.specs.Entries.{begun, count_of, held_in}
+use Rattle.draid_entries.specs.declared.entry.Entry.{Entry}
 use Rattle.draid_entries.specs.Maps.{key_of}
+use Rattle.draid_machine.proofs.Small.{some_same}
 use Rattle.draid_slab.proofs.Begins.{IsGiven, MayBegin, begins_leads, due_from, due_low, due_upto, oldest_low, owed_begun, refused_by}
 use Rattle.draid_slab.proofs.FreeRuns.{fewer}
-use Rattle.draid_slab.proofs.Held.{tickets_same, tickets_staged}
+use Rattle.draid_slab.proofs.Held.{here_same, here_set, tickets_same, tickets_staged}
 use Rattle.draid_slab.proofs.Turns.{fitting, valid_with}
 use Rattle.draid_slab.proofs.shard.Shard.begin.Goals as goal
 
@@ -35,6 +37,8 @@ returns-in-Ok-clause-valid g c =
       low = due_low c.args.self.now.open_group c.max.result c.args.floor c.max.ensures v.low c.requires.low;
     }))
     e.disabled (let count = e.count in omega (arith, less, count))
+    (here_set c.args.self.now.entries c.hold.new.entries p (Some (begun p)) c.args.self.now.number
+    (λ x is. ap (λ (y : Entry). y.pointer.metaslab) (sym (some_same (Some (begun p)) (begun p) x refl is)) ∙ ap (λ (q : Pointer). q.metaslab) e.placed) e.entered v.here)
     (tickets_staged c.args.self.now.entries c.hold.new.entries p (Writing 0 0) _
     (let low = oldest_low c.args.self.now.open_group c.args.self.now.closing c.args.self.now.committed c.args.self.now.sealed v.groups in
     let from = due_from c.args.self.now.open_group p.birth c.args.floor birth in omega (arith, low, from)) v.tickets e.entered)
@@ -81,6 +85,7 @@ returns-in-Err-clause-valid g c =
       low = due_low c.args.self.now.open_group c.max.result c.args.floor c.max.ensures v.low c.requires.low;
     }))
     e.disabled (let count = e.same.count in let few = v.few in omega (arith, few, count))
+    (here_same c.args.self.now.entries c.hold.new.entries c.args.self.now.number v.here e.same)
     (tickets_same c.args.self.now.entries c.hold.new.entries _ v.tickets e.same)
     (let owed = e.kept.owed in let reserved = e.kept.reserved in let same = e.same.owed c.args.self.now.geometry.g in omega (arith, owed, reserved, same))
 

@@ -1,6 +1,6 @@
 use Rattle.std.proofs.Common.{arith, refl, sym}
 use Rattle.draid_layouts.specs.Layout.{layout_of}
-use Rattle.draid_slab.proofs.Creation.{created_slots, empty_tables, has_leaves, no_tickets, owes_none, rooms_enough}
+use Rattle.draid_slab.proofs.Creation.{created_slots, empty_tables, has_leaves, no_tickets, none_here, owes_none, rooms_enough}
 use Rattle.draid_slab.proofs.shard.Shard.create.Goals as goal
 
 pub returns-clause-valid : goal.returns-clause-valid
@@ -11,6 +11,7 @@ returns-clause-valid g c = record {
       c.in-Ok.ensures.free;
   disabled = c.in-Ok.ensures.enabled;
   few = (let count = c.new-3.ensures.count in omega (arith, count));
+  here = none_here c.new-3.result c.args.number c.new-3.ensures.none;
   slots = c.in-Ok-new_slots.ensures.of;
   logs = rooms_enough c.in-Ok-new_slots.slots 2 0 c.in-Ok-new_slots.ensures.room;
   leaves = has_leaves (g.R.Rack.shape c.args.kit.rack) c.args.geometry c.in-Ok-new_slots.slots c.requires.rack c.in-Ok-new_slots.ensures.new;

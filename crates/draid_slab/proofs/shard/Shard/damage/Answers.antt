@@ -17,6 +17,7 @@ returns-clause-valid g c =
       tables = v.tables;
       disabled = v.disabled;
       few = v.few;
+      here = v.here;
       slots = v.slots;
       logs = v.logs;
       leaves = subst (λ shape. HasLeaves shape c.args.self.now.geometry c.args.self.now.slots) (sym c.damage-done.ensures.shape) v.leaves;

@@ -2,7 +2,7 @@ use Rattle.std.proofs.Common.{◌∙◌, ◌++◌, ◌∷◌, [], None, Some, ar
 use Rattle.draid_machine.specs.declared.event.Event.TheVariants.{Finish}
 use Rattle.draid_machine.specs.declared.names.Stage.TheVariants.{Writing, Live}
 use Rattle.draid_entries.specs.Maps.{staged}
-use Rattle.draid_slab.proofs.Held.{tickets_gone, tickets_block}
+use Rattle.draid_slab.proofs.Held.{here_gone, here_turned, tickets_gone, tickets_block}
 use Rattle.draid_slab.proofs.Tables.{turned_tables}
 use Rattle.draid_slab.proofs.Turns.{all_put, finishes, fitting, misses, owed_turns, valid_with}
 use Rattle.draid_slab.proofs.shard.Shard.finish.Goals as goal
@@ -35,6 +35,7 @@ returns-then-ticket-self-clause-valid g c =
     valid_with g.R.Rack c.args.self.now c.release.new.space c.release.new.entries c.add.new.self v
     (c.release.ensures.tables c.args.self.now.geometry c.args.self.now.open_group v.tables) c.release.ensures.disabled
     (let few = v.few in let count = c.release.ensures.count in omega (arith, few, count))
+    (here_gone c.args.self.now.entries c.release.new.entries c.args.ticket.pointer c.args.self.now.number c.release.ensures.gone v.here)
     (tickets_gone c.args.self.now.entries c.release.new.entries c.args.ticket.pointer _ v.tickets c.release.ensures.gone)
     (let owed = c.add.ensures.owed in let reserved = c.add.ensures.reserved in omega (arith, turns, owed, reserved))
 
@@ -48,6 +49,7 @@ returns-clause-valid g c =
     (turned_tables c.args.self.now.geometry c.args.self.now.open_group c.args.self.now.space c.args.self.now.entries c.turn.new.self c.args.ticket.pointer
     (Writing c.args.ticket.next c.args.ticket.missed) Live v.tables c.requires.is_open c.turn.ensures.entered c.turn.ensures.count)
     refl (let few = v.few in let count = c.turn.ensures.count in omega (arith, few, count))
+    (here_turned c.args.self.now.entries c.turn.new.self c.args.ticket.pointer (Writing c.args.ticket.next c.args.ticket.missed) Live c.args.self.now.number c.requires.is_open c.turn.ensures.entered v.here)
     (tickets_block c.args.self.now.entries c.turn.new.self c.args.ticket.pointer Live _ refl v.tickets c.turn.ensures.entered)
     (let owed = c.add-2.ensures.owed in let reserved = c.add-2.ensures.reserved in omega (arith, turns, owed, reserved))
 

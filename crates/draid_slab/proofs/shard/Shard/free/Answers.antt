@@ -3,7 +3,7 @@ use Rattle.draid_machine.specs.declared.event.Event.TheVariants.{Free}
 use Rattle.draid_machine.specs.declared.names.Stage.TheVariants.{Live, Freed}
 use Rattle.draid_entries.specs.Maps.{staged}
 use Rattle.draid_slab.proofs.Begins.{due_from, due_upto}
-use Rattle.draid_slab.proofs.Held.{tickets_block}
+use Rattle.draid_slab.proofs.Held.{here_turned, tickets_block}
 use Rattle.draid_slab.proofs.Tables.{turned_tables}
 use Rattle.draid_slab.proofs.Turns.{frees, owed_turns, valid_with}
 use Rattle.draid_slab.proofs.shard.Shard.free.Goals as goal
@@ -25,6 +25,7 @@ returns-clause-valid g c =
     (turned_tables c.args.self.now.geometry c.args.self.now.open_group c.args.self.now.space c.args.self.now.entries c.turn.new.self c.args.pointer.now Live (Freed c.max-group.result)
     v.tables is_live c.turn.ensures.entered c.turn.ensures.count)
     refl (let few = v.few in let count = c.turn.ensures.count in omega (arith, few, count))
+    (here_turned c.args.self.now.entries c.turn.new.self c.args.pointer.now Live (Freed c.max-group.result) c.args.self.now.number is_live c.turn.ensures.entered v.here)
     (tickets_block c.args.self.now.entries c.turn.new.self c.args.pointer.now (Freed c.max-group.result) _ refl v.tickets c.turn.ensures.entered)
     (let owed = c.add.ensures.owed in let reserved = c.add.ensures.reserved in omega (arith, turns, owed, reserved))
 

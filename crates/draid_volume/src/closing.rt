@@ -1,0 +1,38 @@
+ghost use Rattle.std.specs.Prelude.{◌≡◌, ◌≤◌, length};
+ghost use Rattle.draid_session.specs.State.{State};
+ghost use Rattle.draid_shelf.specs.Shelf.{most_metaslabs};
+ghost use Rattle.draid_volume.specs.Closing.{GivesBack, Returns};
+ghost use Rattle.draid_volume.specs.Pools.{Represents};
+
+use crate::pool::Pool;
+use draid_shelf::Shelf;
+use draid_slab::Shard;
+
+/// Gives the devices of the shards back to the shelf, each as those of its place.
+pub(crate) fn give_back<H: Shelf>(shelf: &mut H, shards: Vec<Shard<H::R, H::A>>)
+    requires few { length shards.items ≤ most_metaslabs }
+    ensures returns { Returns H.R.Rack H.A.Area shards.items (H.told shelf.old) (H.told shelf.new) (H.counts shelf.old) (H.counts shelf.new) }
+    ensures uber { H.uber_count shelf.new ≡ H.uber_count shelf.old }
+    ensures checks { H.check_counts shelf.new ≡ H.check_counts shelf.old }
+    ensures faults { H.faults shelf.new ≡ H.faults shelf.old }
+{
+    let mut left = shards;
+    while let Some(shard) = left.pop() {
+        shelf.give(left.len() as u32, shard.into_kit());
+    }
+}
+
+/// Gives the devices of all metaslabs back to the shelf, and all that it holds a crash, where one is asked for.
+pub fn close<H: Shelf>(pool: Pool<H::R, H::A>, shelf: &mut H, crash: bool)
+    requires represents { (x : State) × Represents H.R.Rack H.A.Area pool x }
+    ensures back { (x : State) → Represents H.R.Rack H.A.Area pool x
+        → GivesBack x crash (H.told shelf.old) (H.told shelf.new) (H.counts shelf.new) }
+    ensures uber { H.uber_count shelf.new ≡ H.uber_count shelf.old }
+    ensures checks { H.check_counts shelf.new ≡ H.check_counts shelf.old }
+    ensures faults { H.faults shelf.new ≡ H.faults shelf.old }
+{
+    give_back(shelf, pool.shards);
+    if crash {
+        shelf.crash();
+    }
+}

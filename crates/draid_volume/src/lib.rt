@@ -1,0 +1,22 @@
+//! A pool: objects whose bytes are written to blocks of its metaslabs, and read again. Each call is a list of holds of
+//! metaslabs, each of which does one event or none.
+
+#![tactic(auto)]
+
+mod closing;
+mod damaging;
+mod fault;
+mod freeing;
+mod opening;
+mod pool;
+mod reading;
+mod room;
+mod store;
+mod summing;
+mod writing;
+
+pub use closing::close;
+pub use draid_names::{ObjectFault, WriteFault};
+pub use fault::{DamageFault, FreeFault, PoolFault, SumFault};
+pub use opening::create;
+pub use pool::Pool;

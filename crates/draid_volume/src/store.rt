@@ -1,0 +1,84 @@
+ghost use Rattle.std.specs.Prelude.{◌≡◌, ◌≤◌, ◌<◌, ◌+◌, None, length};
+ghost use Rattle.draid_block.specs.Blocks.{cut_of};
+ghost use Rattle.draid_block.specs.Columns.{stripes_of};
+ghost use Rattle.draid_machine.specs.State as machine;
+ghost use Rattle.draid_segments.specs.Segments.{Pieces};
+ghost use Rattle.draid_entries.specs.Entries.{held_in};
+ghost use Rattle.draid_entries.specs.Maps.{key_of};
+ghost use Rattle.draid_slab.specs.Calls.{Carries};
+ghost use Rattle.draid_slab.specs.Columns.{ArePieces};
+ghost use Rattle.draid_slab.specs.Fits.{Valid};
+ghost use Rattle.draid_slab.specs.Part.{Part};
+ghost use Rattle.draid_slab.specs.States.{IsIn};
+ghost use Rattle.draid_session.specs.State.{Metaslab};
+ghost use Rattle.draid_session.specs.Writes.{PutsColumns};
+ghost use Rattle.draid_volume.specs.Metaslabs.{IsMetaslab};
+ghost use Rattle.draid_volume.specs.Shards.{Goes, HasRoom, SameBut, StoreDoes};
+
+use draid_area::Area;
+use draid_block::Encoded;
+use draid_names::{NUMBERS, OBJECTS, Pointer};
+use draid_rack::Rack;
+use draid_slab::{BeginFault, Missed, Shard, Ticket};
+
+/// Why a block wasn't stored.
+#[derive(Clone, Copy, Debug, PartialEq, Eq)]
+pub(crate) enum StoreFault {
+    /// So many columns landed on no leaf. The block would have been born in this group.
+    Missed { columns: u32, birth: u64 },
+    NoMemory,
+}
+
+/// Writes all columns of a block whose write has begun.
+fn put_all<R: Rack, A: Area>(shard: &mut Shard<R, A>, ticket: &mut Ticket, block: &Encoded)
+    requires valid { Valid R.Rack shard.old }
+    requires carries { Carries shard.old ticket.old block.now }
+    requires fresh { ticket.old.next ≡ 0 }
+    ensures valid { Valid R.Rack shard.new }
+    ensures carries { Carries shard.new ticket.new block.now }
+    ensures all { ticket.new.next ≡ shard.old.geometry.g }
+    ensures pointer { ticket.new.pointer ≡ ticket.old.pointer }
+    ensures puts { (part : Part) (pieces : Pieces) (x : Metaslab) → IsMetaslab R.Rack A.Area part pieces shard.old x
+        → ArePieces part.geometry.props.sector part.geometry.g ticket.old.pointer.stripes block.now.columns (key_of ticket.old.pointer) pieces
+        → Goes R.Rack A.Area part pieces x shard.new (λ holds y. PutsColumns (key_of ticket.old.pointer) part.number part.geometry.g holds
+        × SameBut (key_of ticket.old.pointer) x.world y.world) }
+{
+    for _column in 0..shard.geometry.g {
+        shard.put(ticket, block);
+    }
+}
+
+/// Writes a block of `object` to a shard that has room for it. It is born in the open group, or in `floor` where that
+/// is the next one.
+pub(crate) fn store<R: Rack, A: Area>(
+    shard: &mut Shard<R, A>,
+    object: u64,
+    seq: u64,
+    block: &Encoded,
+    floor: u64,
+) -> Result<Pointer, StoreFault>
+    requires valid { Valid R.Rack shard.old }
+    requires object { object < OBJECTS }
+    requires seq { (1 ≤ seq) × (seq < NUMBERS) }
+    requires unused { held_in shard.old.entries (record { object = object; seq = seq }) ≡ None }
+    requires floor { floor ≤ shard.old.open_group + 1 }
+    requires cut { block.now.cut ≡ cut_of shard.old.geometry }
+    requires room { (w : machine.State) × IsIn shard.old w × HasRoom (stripes_of (cut_of shard.old.geometry) (length block.now.bytes)) shard.old w }
+    ensures stores { (part : Part) (pieces : Pieces) (x : Metaslab) → IsMetaslab R.Rack A.Area part pieces shard.old x
+        → StoreDoes R.Rack A.Area part pieces object seq floor block.now.bytes x shard.new result }
+{
+    let mut ticket = match shard.begin(object, seq, block, floor) {
+        Ok(ticket) => ticket,
+        Err(BeginFault::Disabled { .. }) => unreachable!(),
+        Err(BeginFault::Entries { .. }) => unreachable!(),
+        Err(BeginFault::NoRoom { .. }) => unreachable!(),
+        Err(BeginFault::Worn { .. }) => unreachable!(),
+        Err(BeginFault::NoMemory) => return Err(StoreFault::NoMemory),
+    };
+    let birth = ticket.pointer.birth;
+    put_all(shard, &mut ticket, block);
+    match shard.finish(ticket) {
+        Ok(pointer) => Ok(pointer),
+        Err(Missed { columns }) => Err(StoreFault::Missed { columns, birth }),
+    }
+}
