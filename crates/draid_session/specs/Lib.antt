@@ -3,8 +3,10 @@ pub mod Does
 pub mod Follows
 pub mod Holds
 pub mod Looks
+pub mod Making
 pub mod Reads
 pub mod Rooms
+pub mod Session
 pub mod State
 pub mod Worn
 pub mod Writes

@@ -1,0 +1,123 @@
+-- The session: what its shelf holds between lines, and what each line does to that.
+use Rattle.std.specs.Prelude.{◌≡◌, ℕ, Bool, List, [], ◌∷◌, Option, Some, None, Result, Ok, Err, string_bytes}
+use Rattle.draid_names.specs.declared.room.Room.{Room}
+use Rattle.draid_spec.specs.declared.layout.Geometry.{Geometry}
+use Rattle.draid_script.specs.Grammar.{line_of}
+use Rattle.draid_script.specs.Line.{Command, Silent, CreatePool, WriteObject, FillObjects, ReadObject, FreeObject, SumObjects, DamageSector}
+use Rattle.draid_script.specs.declared.fault.LineFault.{LineFault}
+use Rattle.draid_script.specs.declared.line.PoolKeys.{PoolKeys}
+use Rattle.draid_script.specs.declared.name.CommandName.{CommandName}
+use Rattle.draid_script.specs.declared.name.CommandName.TheVariants as name
+use Rattle.draid_reply.specs.declared.reply.Reply.{Reply}
+use Rattle.draid_reply.specs.declared.reply.Reply.TheVariants.{NoPool, PoolOpen, NoMemory, Created, CreateRefused}
+use Rattle.draid_session.specs.State.{State, Store}
+use Rattle.draid_session.specs.Holds.{Hold}
+use Rattle.draid_session.specs.Follows.{Follows}
+use Rattle.draid_session.specs.Does.{Does}
+use Rattle.draid_session.specs.Making.{Makes, content_of, layout_by}
+
+-- What a session has of its shelf: it is as it was found; the devices of a new pool were made and are on it, and no pool was opened; a pool is open, in this
+-- state; or the pool that was open was given back.
+pub data Desk : Type 0 where
+  Untouched : Desk
+  Made : Geometry → Desk
+  Open : State → Desk
+  Shut : State → Desk
+
+-- no pool is open, and that stays so
+abbrev pub StaysShut : Desk → Desk → Type 0
+StaysShut (Open state) new = ⊥
+StaysShut old new = new ≡ old
+
+-- ---- without a pool
+
+-- the command that a line without a pool is told that it wants one for
+abbrev pub name_of : Command → Option CommandName
+name_of (WriteObject object bytes) = Some name.Write
+name_of (FillObjects first count len seed) = Some name.Fill
+name_of (ReadObject object) = Some name.Read
+name_of (FreeObject object) = Some name.Free
+name_of (SumObjects first count) = Some name.Sum
+name_of (DamageSector leaf sector) = Some name.Damage
+name_of command = None
+
+-- the keys ask for a layout that there is
+abbrev pub HasLayout : List ℕ → ℕ → PoolKeys → Geometry → Type 0
+HasLayout text children keys geometry = layout_by text children keys ≡ Ok geometry
+
+-- `tells` is whether the shelf told what it holds as a pool was made.
+module _ (tells : Bool) where
+  -- A pool is made, over whatever the shelf held. For want of memory the shelf is as it was, or all that was made is on it.
+  abbrev pub Creates : List ℕ → ℕ → PoolKeys → Desk → Reply → Desk → Type 0
+  Creates text children keys old (Created called stripes) (Open new) = Makes tells text children keys (string_bytes called) stripes new
+  Creates text children keys old (CreateRefused why) new = (layout_by text children keys ≡ Err why) × StaysShut old new
+  Creates text children keys old (NoMemory name.Create) (Made geometry) = HasLayout text children keys geometry
+  Creates text children keys old (NoMemory name.Create) new = ((geometry : Geometry) × HasLayout text children keys geometry) × StaysShut old new
+  Creates text children keys old reply new = ⊥
+
+  abbrev pub ShutTurns : Desk → Command → Reply → Desk → Type 0
+  ShutTurns old (CreatePool text children keys) reply new = Creates text children keys old reply new
+  ShutTurns old command (NoPool called) new = (name_of command ≡ Some called) × StaysShut old new
+  ShutTurns old command reply new = ⊥
+
+-- ---- with a pool
+
+-- the pool stays open as it is
+abbrev pub StaysOpen : State → Desk → Type 0
+StaysOpen old new = new ≡ Open old
+
+-- The chooser names a metaslab among the rooms.
+module _ (tells : Bool) (chosen : List Room → Option ℕ → Type 0) where
+  -- what a command does to the open pool, by its holds and its own store
+  pub record CarriesOut (command : Command) (reply : Reply) (old new : State) : Type 0 where
+    pub holds : List Hold
+    pub mid : State
+    pub store : Store
+    pub follows : Follows holds old mid
+    pub does : Does old.geometry old.perms chosen content_of command old.store holds reply store
+    pub made : new ≡ record mid { store = store }
+
+  abbrev pub OpenTurns : State → Command → Reply → Desk → Type 0
+  OpenTurns old (CreatePool text children keys) (PoolOpen name.Create) new = StaysOpen old new
+  OpenTurns old command reply (Open new) = CarriesOut command reply old new
+  OpenTurns old command reply new = ⊥
+
+  -- ---- lines
+
+  abbrev pub ReplyTurns : Desk → Command → Reply → Desk → Type 0
+  ReplyTurns (Open old) command reply new = OpenTurns old command reply new
+  ReplyTurns old command reply new = ShutTurns tells old command reply new
+
+  -- an empty line and a comment have no reply, and every other line has one
+  abbrev pub Turns : Desk → Command → Option Reply → Desk → Type 0
+  Turns old Silent None new = new ≡ old
+  Turns old Silent (Some reply) new = ⊥
+  Turns old command (Some reply) new = ReplyTurns old command reply new
+  Turns old command None new = ⊥
+
+  abbrev pub TurnsBy : Result Command LineFault → Desk → Option Reply → Desk → Type 0
+  TurnsBy (Err fault) old reply new = ⊥
+  TurnsBy (Ok command) old reply new = Turns old command reply new
+
+  -- the lines were answered by the replies, one after another
+  abbrev pub Runs : Desk → List (List ℕ) → List (Option Reply) → Desk → Type 0
+  Runs old [] [] new = new ≡ old
+  Runs old (line ∷ lines) (reply ∷ replies) new = (mid : Desk) × TurnsBy (line_of line) old reply mid × Runs mid lines replies new
+  Runs old lines replies new = ⊥
+
+-- ---- where a run breaks off
+
+-- A call on the shelf failed as a pool was to be made: the shelf is as it was, or all that was made is on it.
+abbrev pub BreaksCreate : List ℕ → ℕ → PoolKeys → Desk → Desk → Type 0
+BreaksCreate text children keys old (Made geometry) = HasLayout text children keys geometry
+BreaksCreate text children keys old new = ((geometry : Geometry) × HasLayout text children keys geometry) × StaysShut old new
+
+abbrev pub Breaks : Desk → Command → Desk → Type 0
+Breaks (Open old) command new = ⊥
+Breaks old (CreatePool text children keys) new = BreaksCreate text children keys old new
+Breaks old command new = ⊥
+
+-- the pool that is open as a run ends is given back, without a sync
+abbrev pub given_back : Desk → Desk
+given_back (Open state) = Shut state
+given_back desk = desk
