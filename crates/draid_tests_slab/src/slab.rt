@@ -1,4 +1,4 @@
-ghost use Rattle.std.specs.Prelude.{◌≡◌, ◌≤◌, None, IfOk, length};
+ghost use Rattle.std.specs.Prelude.{◌≡◌, ◌≤◌, ◌+◌, None, IfOk, length};
 ghost use Rattle.draid_block.specs.Blocks.{cut_of};
 ghost use Rattle.draid_spec.specs.Geometry.{IsGeometry};
 ghost use Rattle.draid_machine.specs.declared.names.Key.{Key};
@@ -13,7 +13,7 @@ use draid_names::{ArmAt, Failed, NoMemory, Pointer};
 use draid_perm::Perms;
 use draid_rack::{MemoryRack, Rack};
 use draid_shelf::Kit;
-use draid_slab::{BeginFault, Missed, Shard, Shut, Ticket};
+use draid_slab::{BeginFault, FetchFault, Missed, NotLive, Shard, Shut, Ticket};
 use draid_spec::{Geometry, Props, SpecFault, geometry, parse_spec};
 use std::alloc::{AllocError, Global};
 use std::test::Fail;
@@ -48,6 +48,7 @@ fn metaslab(
 ) -> Result<Metaslab, NoMemory>
     requires layout { IsGeometry layout }
     ensures valid { IfOk result (Valid ⟦<MemoryRack as Rack>⟧) }
+    ensures open_group { IfOk result (λ shard. shard.open_group ≡ 2) }
     ensures empty { IfOk result (λ shard. (key : Key) → held_in shard.entries key ≡ None) }
 {
     let perms = Perms::new(layout.spec.children, layout.props.seed);
@@ -87,16 +88,21 @@ fn put_all<R: Rack, A: Area>(
     shard.finish(ticket)
 }
 
-/// Begins the one write.
-fn begin<R: Rack, A: Area>(shard: &mut Shard<R, A>, block: &Encoded) -> Result<Ticket, BeginFault>
+/// Begins the one write, in a floor's group or the open one.
+fn begin<R: Rack, A: Area>(
+    shard: &mut Shard<R, A>,
+    block: &Encoded,
+    floor: u64,
+) -> Result<Ticket, BeginFault>
     requires valid { Valid R.Rack shard.old }
+    requires floor { (floor ≤ shard.old.open_group + 1) × (floor ≤ 3) }
     requires empty { (key : Key) → held_in shard.old.entries key ≡ None }
     requires cut { block.now.cut ≡ cut_of shard.old.geometry }
     ensures valid { Valid R.Rack shard.new }
     ensures carries { IfOk result (λ ticket. Carries shard.new ticket block.now) }
     ensures fresh { IfOk result (λ ticket. ticket.next ≡ 0) }
 {
-    shard.begin(7, 1, block, 0)
+    shard.begin(7, 1, block, floor)
 }
 
 /// Writes a block.
@@ -112,7 +118,7 @@ fn write<R: Rack, A: Area>(
     ensures valid { Valid R.Rack shard.new }
 {
     let block = Encoded::of(alloc, &shard.geometry, bytes)?;
-    let ticket = begin(shard, &block)?;
+    let ticket = begin(shard, &block, 0)?;
     Ok(put_all(shard, ticket, &block))
 }
 
@@ -147,6 +153,16 @@ fn read<R: Rack, A: Area>(
     ))
 }
 
+/// Whether a block is neither fetched nor freed, as it isn't live.
+fn is_gone<R: Rack, A: Area>(shard: &mut Shard<R, A>, pointer: &Pointer) -> bool
+    requires valid { Valid R.Rack shard.old }
+    ensures valid { Valid R.Rack shard.new }
+{
+    let fetched = shard.fetch(pointer);
+    let freed = shard.free(pointer, 0);
+    matches!(fetched, Err(FetchFault::NotLive)) && matches!(freed, Err(NotLive))
+}
+
 /// What is told of the life of one block.
 #[derive(Clone, Copy, Debug, PartialEq, Eq)]
 struct Life {
@@ -160,6 +176,8 @@ struct Life {
     fetched: Option<(usize, bool)>,
     /// In which group it was freed.
     freed: Option<u64>,
+    /// Whether it is neither fetched nor freed once more.
+    gone: bool,
     events: usize,
 }
 
@@ -177,12 +195,14 @@ fn lived(alloc: Global, failing: &[u64]) -> Result<Life, Fail> {
         run: shard.room(1).run,
         fetched: None,
         freed: None,
+        gone: false,
         events: 0,
     };
     match written {
         Ok(pointer) => {
             life.fetched = Some(read(alloc, &mut shard, &pointer)?);
-            life.freed = shard.free(&pointer, 3).ok();
+            life.freed = shard.free(&pointer, 0).ok();
+            life.gone = is_gone(&mut shard, &pointer);
         }
         Err(missed) => life.missed = Some(missed.columns),
     }
@@ -196,7 +216,8 @@ const WHOLE: Life = Life {
     logged: [false; 3],
     run: 7,
     fetched: Some((0, true)),
-    freed: Some(3),
+    freed: Some(2),
+    gone: true,
     events: 7,
 };
 
@@ -207,6 +228,7 @@ const MISSED: Life = Life {
     run: 8,
     fetched: None,
     freed: None,
+    gone: false,
     events: 5,
 };
 
@@ -229,20 +251,22 @@ fn blocks_live_while_calls_fail(rt: HostRuntime) -> Result<(), Fail> {
     Ok(())
 }
 
-/// The longest run of free stripes beside a write with one column put, and as it was given up.
-fn given_up(alloc: Global) -> Result<[u64; 2], Fail> {
+/// In which group a write is begun where the floor is the next one, and the longest run of free stripes beside it with
+/// one column put, and as it was given up.
+fn given_up(alloc: Global) -> Result<[u64; 3], Fail> {
     let mut shard = metaslab(alloc, first_layout()?, &[], 4096)?;
     let block = Encoded::of(alloc, &shard.geometry, b"hello")?;
-    let mut ticket = begin(&mut shard, &block)?;
+    let mut ticket = begin(&mut shard, &block, 3)?;
+    let birth = ticket.pointer.birth;
     shard.put(&mut ticket, &block);
     let open = shard.room(1).run;
     shard.abort(ticket);
-    Ok([open, shard.room(1).run])
+    Ok([birth, open, shard.room(1).run])
 }
 
 #[test]
 fn a_write_that_is_given_up_leaves_its_stripes(rt: HostRuntime) -> Result<(), Fail> {
-    assert_eq!(rt; given_up(rt.alloc())?, [7, 8]);
+    assert_eq!(rt; given_up(rt.alloc())?, [3, 7, 8]);
     Ok(())
 }
 
