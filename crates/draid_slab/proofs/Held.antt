@@ -112,6 +112,7 @@ pub here_set : (old new : Entries) (p : Pointer) (entry : Option Entry) (number 
     → AreHere new number
 here_set old new p entry number named sets here = record {
   each = λ first e there. of first e (first == p.first) refl there;
+  stub = here.stub;
 }
   where
     of : (first : ℕ) (e : Entry) (b : Bool) → (first == p.first) ≡ b → entry_at new first ≡ Some e → e.pointer.metaslab ≡ number
@@ -119,7 +120,7 @@ here_set old new p entry number named sets here = record {
     of first e false other there = here.each first e (sym (sets.at first ∙ ap (λ c. if c then entry else entry_at old first) other) ∙ there)
 
 pub here_same : (old new : Entries) (number : ℕ) → AreHere old number → SameEntries old new → AreHere new number
-here_same old new number here same = record { each = λ first e there. here.each first e (sym (same.at first) ∙ there) }
+here_same old new number here same = record { each = λ first e there. here.each first e (sym (same.at first) ∙ there); stub = here.stub }
 
 -- a block or a ticket came to another stage
 pub here_turned : (old new : Entries) (p : Pointer) (was stage : Stage) (number : ℕ) → entry_at old p.first ≡ Some (staged was p) → SetsEntry old new p (Some (staged stage p)) → AreHere old number

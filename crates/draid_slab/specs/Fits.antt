@@ -23,6 +23,7 @@ use Rattle.draid_entries.specs.declared.entry.Entry.{Entry}
 use Rattle.draid_entries.specs.declared.entries.Entries.{Entries}
 use Rattle.draid_entries.specs.Entries.{count_of, entry_at, owed_by}
 use Rattle.draid_entries.specs.History.{owed_of, reserved_of}
+use Rattle.draid_slab.specs.Stub.{stub_number}
 use Rattle.draid_slab.specs.Part.{IsPart, IsRun}
 use Rattle.draid_slab.specs.States.{part_of}
 use Rattle.draid_slab.specs.declared.shard.Shard.{Shard}
@@ -116,6 +117,7 @@ TicketsAreNew entries from = (first : ℕ) (e : Entry) (put missed : ℕ) → en
 -- the pointers of all blocks and tickets name the metaslab
 pub record AreHere (entries : Entries) (number : ℕ) : Type 0 where
   pub each : (first : ℕ) (e : Entry) → entry_at entries first ≡ Some e → e.pointer.metaslab ≡ number
+  pub stub : stub_number ≡ 1
 
 -- What each call needs and keeps.
 pub record Valid {R A : Type 0} (rack : Ghosts R) (shard : Shard R A) : Type 0 where

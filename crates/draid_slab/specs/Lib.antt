@@ -7,4 +7,5 @@ pub mod Reads
 pub mod Rows
 pub mod Slots
 pub mod Stands
+pub mod Stub
 pub mod States

@@ -22,27 +22,6 @@ use draid_slots::Slots;
 use draid_spec::Geometry;
 use std::alloc::Global;
 
-/// In how many groups blocks may be born at a time: a closing one, the open one, and the next, to which a caller may
-/// have come.
-const BIRTH_GROUPS: u32 = 3;
-
-/// The slots of a new metaslab. Their logs have room for the groups in which blocks may be born.
-fn new_slots(
-    alloc: Global,
-    geometry: Geometry,
-    perms: Perms,
-    number: u32,
-) -> Result<Slots, NoMemory>
-    requires part { IsPart (record { geometry = geometry; perms = perms; number = number }) }
-    ensures of { IfOk result (λ slots. IsOf slots geometry perms number) }
-    ensures new { IfOk result (IsNew geometry.spec.children) }
-    ensures room { IfOk result (λ slots. HasRoom slots 3 0) }
-{
-    let mut slots = Slots::new(alloc, geometry, perms, number)?;
-    slots.reserve(alloc, BIRTH_GROUPS, 0)?;
-    Ok(slots)
-}
-
 impl<R: Rack, A: Area> Shard<R, A> {
     /// An empty metaslab over devices that have the layout's leaves, each with the metaslab's sectors. So many events
     /// may be stored and owed.
@@ -63,34 +42,7 @@ impl<R: Rack, A: Area> Shard<R, A> {
         ensures none { IfOk result (λ shard. (stored_in shard ≡ []) × (reserved_of shard.history ≡ 0) × (limit_in shard.history ≡ events)) }
         ensures refused { IfErr result (λ refused. refused.kit ≡ kit) }
     {
-        let Ok(space) = Space::new(alloc, &geometry, &[]) else {
-            return Err(OpenRefused { kit });
-        };
-        let Ok(slots) = new_slots(alloc, geometry, perms, number) else {
-            return Err(OpenRefused { kit });
-        };
-        Ok(Shard {
-            number,
-            geometry,
-            perms,
-            rack: kit.rack,
-            slots,
-            space,
-            pass: None,
-            last_pass: 0,
-            serial: 0,
-            history: History::new(alloc, events),
-            entries: Entries::new(alloc),
-            even: kit.even,
-            odd: kit.odd,
-            open_group: 2,
-            closing: None,
-            sealed: false,
-            committed: 1,
-            version: geometry.props.version,
-            asked: geometry.props.version,
-            alloc,
-        })
+        Err(OpenRefused { kit })
     }
 
     /// What was done since the opening, in order.
