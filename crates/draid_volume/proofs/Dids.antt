@@ -10,7 +10,7 @@ use Rattle.draid_machine.specs.Step.{Run, Step}
 use Rattle.draid_segments.specs.Acts as segments
 use Rattle.draid_segments.specs.Segments.{Pieces}
 use Rattle.draid_entries.specs.History.{limit_in, reserved_of}
-use Rattle.draid_slab.specs.Calls.{ActsOn, OnBothTold, SameAreas}
+use Rattle.draid_slab.specs.Calls.{ActsOn, OnBothTold, SameAreas, SameKit, SameReserve}
 use Rattle.draid_slab.specs.Fits.{Valid}
 use Rattle.draid_slab.specs.Part.{Part, layout_in}
 use Rattle.draid_slab.specs.Stands.{StandsFor}
@@ -48,11 +48,9 @@ pub record Raises {R A : Type 0} (rack : racks.Ghosts R) (area : areas.Ghosts A)
 
 -- the metaslab behind an event
 pub record Done {R A : Type 0} (rack : racks.Ghosts R) (area : areas.Ghosts A) (part : Part) (pieces : Pieces) (new : Shard R A) (e : Event) (x : Metaslab) : Type 0 where
-  pub after : machine.State
   pub reached : Metaslab
-  pub world : reached.world ≡ after
-  pub step : Step (layout_in part) x.world e after
-  pub acts : Acts (layout_in part) (Did e after) x reached
+  pub step : Step (layout_in part) x.world e reached.world
+  pub acts : Acts (layout_in part) (Did e reached.world) x reached
   pub is : IsMetaslab rack area part pieces new reached
 
 module _ {R A : Type 0} (rack : racks.Ghosts R) (area : areas.Ghosts A) where
@@ -81,9 +79,7 @@ module _ {R A : Type 0} (rack : racks.Ghosts R) (area : areas.Ghosts A) where
         harm = harm_of (rack.told new.rack);
       } in
       record {
-        after = z.0;
         reached = reached;
-        world = refl;
         step = z.1;
         acts = record {
           opened = refl;
@@ -128,6 +124,36 @@ module _ {R A : Type 0} (rack : racks.Ghosts R) (area : areas.Ghosts A) where
     events = is.events ∙ sym none.stored;
     limit = limit ∙ is.limit;
     reserved = is.reserved ∙ sym reserved;
-    counts = is.counts ∙ (λ i. record { rack = rack.faults (rack_is (Prim.neg i)); even = area.faults (areas_are.even (Prim.neg i)); odd = area.faults (areas_are.odd (Prim.neg i)) });
+    counts = is.counts ∙ sym (λ i. record { rack = rack.faults (rack_is i); even = area.faults (areas_are.even i); odd = area.faults (areas_are.odd i) });
     harm = is.harm ∙ ap (λ r. harm_of (rack.told r)) (sym rack_is);
   }
+
+-- ---- calls of which the rack knows nothing
+
+pub told_same : (o p : Option Told) → p ≡ o → OnBothTold o p (λ x y. y ≡ x)
+told_same None p same = same
+told_same (Some x) p same = subst (λ q. OnBothTold (Some x) q (λ x y. y ≡ x)) (sym same) refl
+
+pub raises_none : {R A : Type 0} (rack : racks.Ghosts R) (area : areas.Ghosts A) (old new : Shard R A) → SameKit old new → Raises rack area [] old new
+raises_none rack area old new kit = record {
+  areas_are = kit.areas;
+  later = λ who. (let same = ap (λ r. rack.faults r who) kit.rack in omega (arith, same));
+  cause = λ leaf. (let same = ap (λ r. rack.faults r (Some leaf)) kit.rack in omega (arith, same));
+}
+
+-- an event that does nothing to the rack
+pub did_quiet : {R A : Type 0} (rack : racks.Ghosts R) (area : areas.Ghosts A) (part : Part) (pieces : Pieces) (old new : Shard R A) (e : Event) (x : Metaslab)
+    → IsMetaslab rack area part pieces old x → Valid rack new → Does old new e → SameKit old new → SameReserve old new
+    → ((w after : machine.State) (step : Step (layout_by old) w e after) → (a b : Told) → b ≡ a → segments.Acts (layout_by old) w e after step pieces a b)
+    → ((v : machine.State) (step : Step (layout_by old) x.world e v) → segments.pieces_after (layout_by old) x.world e v step pieces pieces ≡ pieces)
+    → uses x.world e ≡ 0 → failed_in e ≡ [] → Done rack area part pieces new e x
+did_quiet rack area part pieces old new e x is valid does kit reserve quiet same used failed =
+    did rack area part pieces old new e x is valid does acts same reserve.limit (let r = reserve.reserved in omega (arith, r, used))
+    (subst (λ f. Raises rack area f old new) (sym failed) (raises_none rack area old new kit))
+  where
+    on : (w after : machine.State) (step : Step (layout_by old) w e after) (o p : Option Told) → p ≡ o → OnBothTold o p (segments.Acts (layout_by old) w e after step pieces)
+    on w after step None p is = is
+    on w after step (Some a) p is = subst (λ q. OnBothTold (Some a) q (segments.Acts (layout_by old) w e after step pieces)) (sym is) (quiet w after step a a refl)
+
+    acts : ActsOn rack old new e pieces
+    acts w after step reached is_in = on w after step (rack.told old.rack) (rack.told new.rack) (ap rack.told kit.rack)
