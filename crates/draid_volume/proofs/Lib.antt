@@ -1,3 +1,4 @@
+pub mod Closed
 pub mod Dids
 pub mod Entering
 pub mod Freed
