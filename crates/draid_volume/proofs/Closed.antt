@@ -1,17 +1,27 @@
 -- The devices of a pool's metaslabs are given back to a shelf.
-use Rattle.std.proofs.Common.{arith, ◌≡◌, ◌==◌, ◌+◌, ◌≤◌, ◌++◌, ◌∙◌, inl, inr, ℕ, List, [], ◌∷◌, Option, Some, None, refl, sym, ap, subst, length, length-append, if◌then◌else◌}
-use Rattle.std.specs.Prelude.{MatchOption, slice_get}
+use Rattle.std.proofs.Common.{arith, ◌≡◌, ◌==◌, ◌+◌, ◌<◌, ◌≤◌, ◌++◌, ◌∙◌, inl, inr, ℕ, List, [], ◌∷◌, Option, Some, None, refl, sym, ap, subst, length, length-append, if◌then◌else◌}
+use Rattle.std.specs.Prelude.{Bool, true, false, IsSomeAnd, MatchOption, slice_get, option_and_then, option_map}
 use Rattle.std.proofs.lemmas.Bool.{cases_eq}
 use Rattle.std.proofs.lemmas.Bool.Decides.{nat_tests}
 use Rattle.std.proofs.lemmas.List.{append-nil, append_assoc}
 use Rattle.std.proofs.lemmas.Option.{slice_get_within}
+use Rattle.draid_rack.specs.Rack.{OnTold, Told}
 use Rattle.draid_rack.specs.declared.Rack as racks
+use Rattle.draid_area.specs.Area.{Content}
 use Rattle.draid_area.specs.declared.Area as areas
-use Rattle.draid_shelf.specs.Kits.{Held, KitCounts, KitTold, OnHeld, gives_kit}
+use Rattle.draid_shelf.specs.Kits.{Both, CrashedHeld, Held, KitCounts, KitTold, OnHeld, gives_kit, kit_of}
 use Rattle.draid_shelf.specs.Shelf.{SameOthers}
 use Rattle.draid_slab.specs.declared.shard.Shard.{Shard}
-use Rattle.draid_volume.specs.Closing.{Returns, TakesBack, kit_in}
-use Rattle.draid_volume.proofs.Lists.{some_of}
+use Rattle.draid_slab.specs.Part.{Part, layout_in}
+use Rattle.draid_slab.specs.States.{layout_by}
+use Rattle.draid_session.specs.State.{Metaslab, State}
+use Rattle.draid_segments.specs.Segments.{Backed, Pieces}
+use Rattle.draid_volume.specs.Closing.{HoldsKit, HoldsPool, IsCrashed, Returns, SameCounts, TakesBack, kit_in}
+use Rattle.draid_volume.specs.Metaslabs.{IsMetaslab, harm_of}
+use Rattle.draid_volume.specs.Pools.{Stands, part_in}
+use Rattle.draid_volume.specs.declared.pool.Pool.{Pool}
+use Rattle.draid_names.specs.declared.pointer.Pointer.{Pointer}
+use Rattle.draid_volume.proofs.Lists.{present, some_of}
 
 pub at_end : {A : Type 0} (xs : List A) (x : A) (ys : List A) (n : ℕ) → n ≡ length xs → slice_get (xs ++ x ∷ ys) n ≡ Some x
 at_end xs x ys n same = rw same (place xs x ys)
@@ -152,3 +162,68 @@ module _ {R A : Type 0} (rack : racks.Ghosts R) (area : areas.Ghosts A) where
         odd_count = λ m shard there. g.odd_count m shard (omega (arith, zero)) there;
         others = g.others;
       }
+
+-- what a kit tells of its rack
+rack_told : (r : Option Told) (e o : Option Content) (kit : KitTold) → kit_of r e o ≡ Some kit → r ≡ Some kit.rack
+rack_told None e o kit is = absurd (cc)
+rack_told (Some r) None o kit is = absurd (cc)
+rack_told (Some r) (Some e) None kit is = absurd (cc)
+rack_told (Some r) (Some e) (Some o) kit is = (let same : record { rack = r; even = e; odd = o } ≡ kit = some_of (Some kit) (record { rack = r; even = e; odd = o }) kit (sym is) refl in ap (λ (k : KitTold). Some k.rack) same)
+
+on_some : (o : Option Told) (r : Told) (P : Told → Type 0) → o ≡ Some r → OnTold o P → P r
+on_some None r P is h = absurd (cc)
+on_some (Some x) r P is h = subst P (some_of (Some x) x r refl is) h
+
+module _ {R A : Type 0} (rack : racks.Ghosts R) (area : areas.Ghosts A) where
+  holds_kit : (x : State) (m : ℕ) (pieces : Pieces) (shard : Shard R A) (y : Metaslab) (kit : KitTold) → IsMetaslab rack area (part_in x m) pieces shard y → kit_in rack area shard ≡ Some kit
+      → HoldsKit x m pieces y kit
+  holds_kit x m pieces shard y kit is told =
+      let r = rack_told (rack.told shard.rack) (area.told shard.even) (area.told shard.odd) kit told in
+      record {
+        backed = subst (λ (p : Part). Backed (layout_in p) pieces y.world kit.rack) is.part_is (on_some (rack.told shard.rack) kit.rack (Backed (layout_by shard) pieces y.world) r is.stands.segments);
+        harm = is.harm ∙ ap harm_of r;
+      }
+
+  module _ (pool : Pool R A) (table : ℕ → Option Pointer) (x : State) (stands : Stands rack area pool table x) (old new : Option Held) (before after : ℕ → KitCounts)
+      (r : Returns rack area pool.shards.items old new before after) where
+    shard_at : (m : ℕ) (y : Metaslab) → slice_get x.metaslabs m ≡ Some y → (shard : Shard R A) × (slice_get pool.shards.items m ≡ Some shard)
+    shard_at m y there = (let within = slice_get_within x.metaslabs m y there in let many = stands.shards in present pool.shards.items m (omega (arith, within, many)))
+
+    some_and : (o : Option KitTold) (kit : KitTold) (P : KitTold → Type 0) → o ≡ Some kit → P kit → IsSomeAnd o P
+    some_and o kit P is h = subst (λ z. IsSomeAnd z P) (sym is) h
+
+    pool_held : (a b : Option Held) → OnHeld b (λ y. MatchOption a ⊥ (λ x. TakesBack rack area pool.shards.items x y)) → OnHeld b (λ held. MatchOption a ⊥ (λ before. HoldsPool x before held))
+    pool_held a None h = tt
+    pool_held None (Some b) h = absurd h
+    pool_held (Some a) (Some b) h = record {
+      uber = h.uber;
+      checks = h.checks;
+      pieces = stands.pieces;
+      objects = stands.holds;
+      kits = λ m y there.
+          (let s = shard_at m y there in
+          let k = h.kits m s.0 s.1 in
+          some_and (b.kits m) k.0 (HoldsKit x m (stands.pieces m) y) k.2 (holds_kit x m (stands.pieces m) s.0 y k.0 (stands.each m s.0 y s.1 there) k.1));
+    }
+
+    pub holds_pool : OnHeld new (λ held. MatchOption old ⊥ (λ before. HoldsPool x before held))
+    holds_pool = pool_held old new r.held
+
+    pub counted_as : (m : ℕ) (y : Metaslab) → slice_get x.metaslabs m ≡ Some y → SameCounts y.counts (after m)
+    counted_as m y there =
+        let s = shard_at m y there in
+        let same = (stands.each m s.0 y s.1 there).counts in
+        record {
+          rack = λ who. r.rack_count m s.0 who s.1 ∙ ap (λ c. c.rack who) (sym same);
+          even = r.even_count m s.0 s.1 ∙ ap (λ c. c.even) (sym same);
+          odd = r.odd_count m s.0 s.1 ∙ ap (λ c. c.odd) (sym same);
+        }
+
+pub crashed : (crash : Bool) (o n : Option Held) → crash ≡ true → Both CrashedHeld o n → IsCrashed crash o n
+crashed crash o n is h = subst (λ b. IsCrashed b o n) (sym is) h
+
+pub not_crashed : (crash : Bool) (o : Option Held) → crash ≡ false → IsCrashed crash o o
+not_crashed crash o is = subst (λ b. IsCrashed b o o) (sym is) refl
+
+pub same_counts : (y : Metaslab) (a b : KitCounts) → b ≡ a → SameCounts y.counts a → SameCounts y.counts b
+same_counts y a b is h = subst (λ c. SameCounts y.counts c) (sym is) h
