@@ -30,10 +30,10 @@ at_end xs x ys n same = rw same (place xs x ys)
     place [] x ys = refl
     place (z ∷ xs) x ys = place xs x ys
 
-put_here : {A : Type 0} (n q : ℕ) (x y : A) → q ≡ n → (if q == n then x else y) ≡ x
+pub put_here : {A : Type 0} (n q : ℕ) (x y : A) → q ≡ n → (if q == n then x else y) ≡ x
 put_here n q x y is = grind (arith, nat_tests, is)
 
-put_there : {A : Type 0} (n q : ℕ) (x y : A) → (q ≡ n → ⊥) → (if q == n then x else y) ≡ y
+pub put_there : {A : Type 0} (n q : ℕ) (x y : A) → (q ≡ n → ⊥) → (if q == n then x else y) ≡ y
 put_there n q x y other = grind (arith, nat_tests, other)
 
 module _ {R A : Type 0} (rack : racks.Ghosts R) (area : areas.Ghosts A) where

@@ -6,3 +6,4 @@ pub mod FreeSteps
 pub mod Lists
 pub mod Lives
 pub mod Moved
+pub mod Opened

@@ -1,0 +1,202 @@
+-- The metaslabs of a new pool are opened over the devices that were made for them.
+use Rattle.std.proofs.Common.{arith, ◌≡◌, ◌==◌, ◌+◌, ◌<◌, ◌≤◌, ◌++◌, ◌∙◌, ◌⊎◌, inl, inr, ℕ, zero, suc, List, [], ◌∷◌, Option, Some, None, refl, sym, ap, subst, length, length-append, if◌then◌else◌}
+use Rattle.std.specs.Prelude.{MatchOption, slice_get}
+use Rattle.std.proofs.lemmas.Bool.{cases_eq, cases_lt}
+use Rattle.std.proofs.lemmas.Option.{slice_get_within}
+use Rattle.draid_names.specs.Faults.{Rose}
+use Rattle.draid_rack.specs.Rack.{Shape}
+use Rattle.draid_rack.specs.declared.Rack as racks
+use Rattle.draid_area.specs.declared.Area as areas
+use Rattle.draid_spec.specs.declared.layout.Geometry.{Geometry}
+use Rattle.draid_perm.specs.declared.perms.Perms.{Perms}
+use Rattle.draid_map.specs.Place.{IsLayout}
+use Rattle.draid_machine.specs.Created.{created}
+use Rattle.draid_shelf.specs.Kits.{Held, KitCounts, KitTold, OnHeld, kit_of, puts_kit, takes_kit}
+use Rattle.draid_shelf.specs.Shelf.{SameOthers}
+use Rattle.draid_shelf.specs.declared.kit.Kit.{Kit}
+use Rattle.draid_entries.specs.History.{limit_in, reserved_of}
+use Rattle.draid_slab.specs.Fits.{Valid}
+use Rattle.draid_slab.specs.Part.{Part, layout_in}
+use Rattle.draid_slab.specs.States.{IsIn, part_of, stored_in}
+use Rattle.draid_slab.specs.declared.shard.Shard.{Shard}
+use Rattle.draid_session.specs.State.{limit_of}
+use Rattle.draid_volume.specs.Closing.{Returns, TakesBack, kit_in}
+use Rattle.draid_volume.specs.Opening.{AreOpened, IsBackAgain, IsOpened, SameHeld, SameKitCounts, TakesBelow, TakesFirst}
+use Rattle.draid_volume.proofs.Closed.{at_end, put_here, put_there}
+use Rattle.draid_volume.proofs.Lists.{present, some_of}
+
+-- what is below a place of two lists, one after the other
+get_before : {A : Type 0} (xs ys : List A) (m : ℕ) → m < length xs → slice_get (xs ++ ys) m ≡ slice_get xs m
+get_before [] ys m below = absurd (omega (arith, below))
+get_before (x ∷ xs) ys zero below = refl
+get_before (x ∷ xs) ys (suc m) below = get_before xs ys m (omega (arith, below))
+
+module _ {R A : Type 0} (rack : racks.Ghosts R) (area : areas.Ghosts A) where
+  -- ---- one metaslab
+
+  -- the kit of a new metaslab is the one that was held
+  same_kit : (o : Option Held) (kit : Kit R A) (shard : Shard R A) (n : ℕ) → shard.rack ≡ kit.rack → shard.even ≡ kit.even → shard.odd ≡ kit.odd
+      → OnHeld o (λ held. kit_of (rack.told kit.rack) (area.told kit.even) (area.told kit.odd) ≡ held.kits n) → OnHeld o (λ x. kit_in rack area shard ≡ x.kits n)
+  same_kit None kit shard n r e d h = tt
+  same_kit (Some x) kit shard n r e d h = (λ i. kit_of (rack.told (r i)) (area.told (e i)) (area.told (d i))) ∙ h
+
+  pub opened : (part : Part) (held : Option Held) (counts : KitCounts) (kit : Kit R A) (shard : Shard R A) (events : ℕ) → Valid rack shard → part_of shard ≡ part
+      → IsIn shard (created (layout_in (part_of shard)) part.geometry.props.version) → stored_in shard ≡ [] → reserved_of shard.history ≡ 0 → limit_in shard.history ≡ events → events ≡ limit_of part.geometry
+      → shard.rack ≡ kit.rack → shard.even ≡ kit.even → shard.odd ≡ kit.odd → OnHeld held (λ x. kit_of (rack.told kit.rack) (area.told kit.even) (area.told kit.odd) ≡ x.kits part.number)
+      → ((who : Option ℕ) → rack.faults kit.rack who ≡ counts.rack who) → area.faults kit.even ≡ counts.even → area.faults kit.odd ≡ counts.odd → IsOpened rack area part held counts shard
+  opened part held counts kit shard events valid part_is is_in stored reserved limit events_are r e d told rack_count even_count odd_count = record {
+    valid = valid;
+    part_is = part_is;
+    created_is = subst (λ (p : Part). IsIn shard (created (layout_in p) part.geometry.props.version)) part_is is_in;
+    events = stored;
+    reserved = reserved;
+    limit = limit ∙ events_are;
+    kit = same_kit held kit shard part.number r e d told;
+    rack_count = λ who. ap (λ (x : R). rack.faults x who) r ∙ rack_count who;
+    even_count = ap area.faults e ∙ even_count;
+    odd_count = ap area.faults d ∙ odd_count;
+  }
+
+  -- ---- all metaslabs
+
+  part_at : Geometry → Perms → ℕ → Part
+  part_at geometry perms m = record { geometry = geometry; perms = perms; number = m }
+
+  -- those below a number are open, and the devices of the others are as they were
+  pub record Opening (geometry : Geometry) (perms : Perms) (n : ℕ) (leaves leaves' : ℕ → Option Shape) (old new : Option Held) (before after : ℕ → KitCounts) (shards : List (Shard R A)) : Type 0 where
+    pub many : length shards ≡ n
+    pub each : (m : ℕ) (shard : Shard R A) → slice_get shards m ≡ Some shard → IsOpened rack area (record { geometry = geometry; perms = perms; number = m }) old (before m) shard
+    pub told : TakesFirst n old new
+    pub leaves_yet : (m : ℕ) → n ≤ m → leaves' m ≡ leaves m
+    pub counts : (m : ℕ) → n ≤ m → after m ≡ before m
+
+  none_taken : (o : Option Held) → TakesFirst 0 o o
+  none_taken None = refl
+  none_taken (Some x) = record { uber = refl; checks = refl; taken = λ m below. absurd (omega (arith, below)); others = λ m past. refl }
+
+  pub opening_none : (geometry : Geometry) (perms : Perms) (leaves : ℕ → Option Shape) (old : Option Held) (before : ℕ → KitCounts) (shards : List (Shard R A)) → shards ≡ []
+      → Opening geometry perms 0 leaves leaves old old before before shards
+  opening_none geometry perms leaves old before shards none = rw none (record {
+    many = refl;
+    each = λ m shard there. absurd (cc);
+    told = none_taken old;
+    leaves_yet = λ m past. refl;
+    counts = λ m past. refl;
+  })
+
+  -- the devices of a further one are taken
+  takes_more : (n : ℕ) (old mid : Option Held) → TakesFirst n old mid → TakesFirst (n + 1) old (takes_kit n mid)
+  takes_more n None None t = refl
+  takes_more n None (Some y) t = absurd (cc)
+  takes_more n (Some x) None t = absurd t
+  takes_more n (Some x) (Some y) t = record {
+    uber = t.uber;
+    checks = t.checks;
+    taken = λ m below. elim (cases_eq m n) [
+      | inl same ↦ put_here n m None (y.kits m) same
+      | inr other ↦ put_there n m None (y.kits m) (λ same. omega (arith, same, other)) ∙ t.taken m (omega (arith, below, other))
+    ];
+    others = λ m past. put_there n m None (y.kits m) (λ same. omega (arith, same, past)) ∙ t.others m (omega (arith, past));
+  }
+
+  -- what was held for a metaslab that isn't open yet was so from the beginning
+  from_first : (n : ℕ) (old mid : Option Held) (kit : Option KitTold) → TakesFirst n old mid → OnHeld mid (λ y. kit ≡ y.kits n) → OnHeld old (λ x. kit ≡ x.kits n)
+  from_first n None mid kit t h = tt
+  from_first n (Some x) None kit t h = absurd t
+  from_first n (Some x) (Some y) kit t h = h ∙ t.others n (omega arith)
+
+  pub opening_more : (geometry : Geometry) (perms : Perms) (n : ℕ) (leaves mid_leaves leaves' : ℕ → Option Shape) (old mid new : Option Held) (before middle after : ℕ → KitCounts)
+      (shards shards' : List (Shard R A)) (shard : Shard R A) → Opening geometry perms n leaves mid_leaves old mid before middle shards → shards' ≡ shards ++ shard ∷ []
+      → IsOpened rack area (record { geometry = geometry; perms = perms; number = n }) mid (middle n) shard → new ≡ takes_kit n mid → SameOthers n mid_leaves leaves' → SameOthers n middle after
+      → Opening geometry perms (n + 1) leaves leaves' old new before after shards'
+  opening_more geometry perms n leaves mid_leaves leaves' old mid new before middle after shards shards' shard o more is takes others counts =
+      let long = o.many in
+      record {
+        many = ap (λ (xs : List (Shard R A)). length xs) more ∙ (let both = length-append shards (shard ∷ []) in omega (arith, both, long));
+        each = λ m s there. each m s there (cases_lt m n);
+        told = subst (TakesFirst (n + 1) old) (sym takes) (takes_more n old mid o.told);
+        leaves_yet = λ m past. others m (λ is. omega (arith, is, past)) ∙ o.leaves_yet m (omega (arith, past));
+        counts = λ m past. counts m (λ is. omega (arith, is, past)) ∙ o.counts m (omega (arith, past));
+      } where
+        unused : middle n ≡ before n
+        unused = o.counts n (omega arith)
+
+        own : IsOpened rack area (record { geometry = geometry; perms = perms; number = n }) old (before n) shard
+        own = record {
+          valid = is.valid;
+          part_is = is.part_is;
+          created_is = is.created_is;
+          events = is.events;
+          reserved = is.reserved;
+          limit = is.limit;
+          kit = from_first n old mid (kit_in rack area shard) o.told is.kit;
+          rack_count = λ who. is.rack_count who ∙ ap (λ (c : KitCounts). c.rack who) unused;
+          even_count = is.even_count ∙ ap (λ (c : KitCounts). c.even) unused;
+          odd_count = is.odd_count ∙ ap (λ (c : KitCounts). c.odd) unused;
+        }
+
+        each : (m : ℕ) (s : Shard R A) → slice_get shards' m ≡ Some s → (m < n) ⊎ (n ≤ m) → IsOpened rack area (record { geometry = geometry; perms = perms; number = m }) old (before m) s
+        each m s there (inl below) =
+            let many = o.many in
+            o.each m s (sym (get_before shards (shard ∷ []) m (omega (arith, below, many))) ∙ (ap (λ (xs : List (Shard R A)). slice_get xs m) (sym more) ∙ there))
+        each m s there (inr past) =
+            let many = o.many in
+            let at : slice_get (shards ++ shard ∷ []) m ≡ Some s = ap (λ (xs : List (Shard R A)). slice_get xs m) (sym more) ∙ there in
+            let within = slice_get_within (shards ++ shard ∷ []) m s at in
+            let long = length-append shards (shard ∷ []) in
+            let last : m ≡ n = omega (arith, within, long, many, past) in
+            let same : shard ≡ s = some_of (slice_get (shards ++ shard ∷ []) m) shard s (at_end shards shard [] m (omega (arith, last, many))) at in
+            subst (λ (k : ℕ). IsOpened rack area (record { geometry = geometry; perms = perms; number = k }) old (before k) s) (sym last)
+            (subst (λ (x : Shard R A). IsOpened rack area (record { geometry = geometry; perms = perms; number = n }) old (before n) x) same own)
+
+  -- where one is refused, those that were open are given back
+  module _ (geometry : Geometry) (perms : Perms) (n : ℕ) (leaves mid_leaves : ℕ → Option Shape) (first : Option Held) (before : ℕ → KitCounts) (shards : List (Shard R A)) where
+    back_held : (old mid last new : Option Held) (middle : ℕ → KitCounts) → ((m : ℕ) (shard : Shard R A) → slice_get shards m ≡ Some shard → OnHeld old (λ x. kit_in rack area shard ≡ x.kits m)) → length shards ≡ n
+        → TakesFirst n old mid → OnHeld last (λ y. MatchOption mid ⊥ (λ x. SameHeld x y)) → OnHeld new (λ y. MatchOption last ⊥ (λ x. TakesBack rack area shards x y))
+        → OnHeld new (λ y. MatchOption old ⊥ (λ x. SameHeld x y))
+    back_held old mid last None middle own many t b r = tt
+    back_held old mid None (Some y) middle own many t b r = absurd r
+    back_held old None (Some l) (Some y) middle own many t b r = absurd b
+    back_held None (Some z) (Some l) (Some y) middle own many t b r = absurd (cc)
+    back_held (Some x) (Some z) (Some l) (Some y) middle own many t b r = record {
+      uber = r.uber ∙ (b.uber ∙ t.uber);
+      checks = r.checks ∙ (b.checks ∙ t.checks);
+      kits = λ m. elim (cases_lt m n) [
+        | inl below ↦
+            (let s = present shards m (omega (arith, below, many)) in
+            let k = r.kits m s.0 s.1 in
+            k.2 ∙ (sym k.1 ∙ own m s.0 s.1))
+        | inr past ↦ r.others m (omega (arith, past, many)) ∙ (b.kits m ∙ t.others m past)
+      ];
+    }
+
+  pub opening_back : (geometry : Geometry) (perms : Perms) (n : ℕ) (leaves mid_leaves : ℕ → Option Shape) (old mid last new : Option Held) (before middle late after : ℕ → KitCounts) (shards : List (Shard R A))
+      → Opening geometry perms n leaves mid_leaves old mid before middle shards → IsBackAgain mid last middle late → Returns rack area shards last new late after → IsBackAgain old new before after
+  opening_back geometry perms n leaves mid_leaves old mid last new before middle late after shards o b r =
+      let many = o.many in
+      record {
+        held = back_held geometry perms n leaves mid_leaves old before shards old mid last new middle (λ m shard there. (o.each m shard there).kit) o.many o.told b.held r.held;
+        counts = λ m. elim (cases_lt m n) [
+          | inl below ↦
+              (let s = present shards m (omega (arith, below, many)) in
+              let is = o.each m s.0 s.1 in
+              record {
+                rack = λ who. r.rack_count m s.0 who s.1 ∙ is.rack_count who;
+                even = r.even_count m s.0 s.1 ∙ is.even_count;
+                odd = r.odd_count m s.0 s.1 ∙ is.odd_count;
+              })
+          | inr past ↦
+              (let same = r.others m (omega (arith, past, many)) in
+              let kept = b.counts m in
+              let unused = o.counts m past in
+              record {
+                rack = λ who. ap (λ (c : KitCounts). c.rack who) same ∙ (kept.rack who ∙ ap (λ (c : KitCounts). c.rack who) unused);
+                even = ap (λ (c : KitCounts). c.even) same ∙ (kept.even ∙ ap (λ (c : KitCounts). c.even) unused);
+                odd = ap (λ (c : KitCounts). c.odd) same ∙ (kept.odd ∙ ap (λ (c : KitCounts). c.odd) unused);
+              })
+        ];
+      }
+
+  pub opening_all : (geometry : Geometry) (perms : Perms) (n : ℕ) (leaves leaves' : ℕ → Option Shape) (old new : Option Held) (before after : ℕ → KitCounts) (shards : List (Shard R A))
+      → Opening geometry perms n leaves leaves' old new before after shards → IsLayout geometry perms → n ≡ geometry.props.metaslabs → AreOpened rack area geometry old before shards
+  opening_all geometry perms n leaves leaves' old new before after shards o layout end = record { perms = perms; are_perms = layout; many = o.many ∙ end; each = o.each }
