@@ -2,6 +2,7 @@ pub mod Closed
 pub mod Dids
 pub mod Entering
 pub mod Freed
+pub mod Fresh
 pub mod FreeSteps
 pub mod Lists
 pub mod Lives
