@@ -13,7 +13,7 @@ use Rattle.draid_block.specs.Solving.{IsFetched}
 use Rattle.draid_block.specs.declared.many.Solve.{Solve}
 use Rattle.draid_block.specs.declared.many.Solve.TheVariants.{Bytes, Unreadable}
 use Rattle.draid_block.specs.declared.solve.Fetched.{Fetched}
-use Rattle.draid_objects.specs.Changes.{Wrote, write_of}
+use Rattle.draid_objects.specs.Changes.{Write, Wrote, write_of}
 use Rattle.draid_session.specs.Damage as damage
 use Rattle.draid_session.specs.Does.{IsOne, ReadStarves}
 use Rattle.draid_session.specs.Holds.{Hold}
@@ -87,6 +87,10 @@ WriteInDoes x m o bytes (Err (fault.NoSpace run disabled full worn)) holds new =
 WriteInDoes x m o bytes (Err (fault.Missed columns)) holds new = MissesIn x m o bytes columns holds new
 WriteInDoes x m o bytes (Err fault.Last) holds new = ⊥
 WriteInDoes x m o bytes (Err fault.NoMemory) holds new = (holds ≡ []) × (new ≡ x.store)
+
+-- the block that an object had before is freed
+abbrev pub ReplaceDoes : State → Option Write → List Hold → Store → Type 0
+ReplaceDoes x earlier holds new = (group : ℕ) × writes.FreesEarlier earlier x.store.floor group holds × (new ≡ record x.store { floor = group })
 
 -- a block's answer as that of a read
 abbrev pub reading_of : Solve → Result (Vec ℕ Global) ObjectFault

@@ -1,4 +1,5 @@
 pub mod Answers
+pub mod Batches
 pub mod Carries
 pub mod Closing
 pub mod Metaslabs

@@ -1,13 +1,15 @@
-ghost use Rattle.std.specs.Prelude.{◌≡◌, ◌<◌, ◌≤◌, ◌+◌, length};
+ghost use Rattle.std.specs.Prelude.{◌≡◌, ◌<◌, ◌≤◌, ◌+◌, Option, length};
 ghost use Rattle.std.specs.Fn.{FnReturnsAt};
+ghost use Rattle.std.specs.HashMap.{spare};
 ghost use Rattle.draid_choose.specs.Rooms.{IsChooser};
 ghost use Rattle.draid_names.specs.declared.numbers.TheConstants.{NUMBERS};
 ghost use Rattle.draid_block.specs.Blocks.{cut_of};
 ghost use Rattle.draid_block.specs.Columns.{stripes_of};
+ghost use Rattle.draid_objects.specs.Changes.{Write};
 ghost use Rattle.draid_session.specs.State.{State};
-ghost use Rattle.draid_volume.specs.Answers.{WriteDoes, WriteInDoes};
+ghost use Rattle.draid_volume.specs.Answers.{ReplaceDoes, WriteDoes, WriteInDoes};
 ghost use Rattle.draid_volume.specs.Carries.{CarriesOut};
-ghost use Rattle.draid_volume.specs.Pools.{Represents};
+ghost use Rattle.draid_volume.specs.Pools.{Awaits, Represents};
 ghost use Rattle.draid_volume.specs.Shards.{HasRoomAt, IsNoSpace};
 
 use crate::freeing::free_block;
@@ -95,6 +97,25 @@ impl<R: Rack, A: Area> Pool<R, A> {
                 Err(WriteFault::Missed { columns })
             }
             Err(StoreFault::NoMemory) => Err(WriteFault::NoMemory),
+        }
+    }
+
+    /// Gives an object the pointer of its new block, and frees the block that it had before.
+    fn replace(&mut self, object: u64, pointer: Pointer)
+        requires room { 0 < spare self.old.objects }
+        requires awaits { (x : State) × (earlier : Option Write) × Awaits R.Rack A.Area self.old object pointer earlier x }
+        ensures step { (x : State) (earlier : Option Write) → Awaits R.Rack A.Area self.old object pointer earlier x
+            → CarriesOut R.Rack A.Area self.new x (ReplaceDoes x earlier) }
+    {
+        let Ok(earlier) = self.objects.insert(object, pointer) else {
+            unreachable!()
+        };
+        if let Some(earlier) = earlier {
+            self.floor = free_block(
+                &mut self.shards[earlier.metaslab as usize],
+                &earlier,
+                self.floor,
+            );
         }
     }
 }
