@@ -1,1 +1,5 @@
-
+pub mod Dids
+pub mod Lists
+pub mod Lives
+pub mod Moved
+pub mod Freed

@@ -20,7 +20,7 @@ use Rattle.draid_session.specs.Holds.{Hold}
 use Rattle.draid_session.specs.Looks.{OnlyLooks}
 use Rattle.draid_session.specs.Reads as reads
 use Rattle.draid_session.specs.State.{State, Store}
-use Rattle.draid_session.specs.Writes as writes
+use Rattle.draid_session.specs.Writes as written
 use Rattle.draid_volume.specs.declared.fault.DamageFault.{DamageFault}
 use Rattle.draid_volume.specs.declared.fault.DamageFault.TheVariants as damaged
 use Rattle.draid_volume.specs.declared.fault.FreeFault.{FreeFault}
@@ -28,12 +28,12 @@ use Rattle.draid_volume.specs.declared.fault.SumFault.{SumFault}
 
 -- a write, where the chooser may name these metaslabs
 abbrev pub WriteDoes : State → (List Room → Option ℕ → Type 0) → ℕ → List ℕ → Result Unit WriteFault → List Hold → Store → Type 0
-WriteDoes x chosen o bytes (Ok done) holds new = writes.Writes x.geometry x.perms chosen o bytes x.store holds new
-WriteDoes x chosen o bytes (Err why) holds new = writes.Refuses x.geometry x.perms chosen o bytes why x.store holds new
+WriteDoes x chosen o bytes (Ok done) holds new = written.Writes x.geometry x.perms chosen o bytes x.store holds new
+WriteDoes x chosen o bytes (Err why) holds new = written.Refuses x.geometry x.perms chosen o bytes why x.store holds new
 
 -- no object is freed where it has no bytes
 abbrev pub FreeDoes : State → ℕ → Result Unit FreeFault → List Hold → Store → Type 0
-FreeDoes x o (Ok done) holds new = writes.Frees o x.store holds new
+FreeDoes x o (Ok done) holds new = written.Frees o x.store holds new
 FreeDoes x o (Err fault) holds new = (new ≡ x.store) × (holds ≡ []) × (write_of x.store.changes o ≡ None)
 
 abbrev pub ReadDoes : State → ℕ → Result (Vec ℕ Global) ObjectFault → List Hold → Store → Type 0
@@ -61,12 +61,12 @@ pub record WritesIn (x : State) (m o : ℕ) (bytes : List ℕ) (holds : List Hol
   pub birth : ℕ
   pub columns : ℕ
   pub group : ℕ
-  pub written : List Hold
-  pub freed : List Hold
-  pub are : holds ≡ written ++ freed
-  pub writes : writes.WritesBlock x.geometry o (x.store.seq + 1) bytes x.store.floor m birth columns written
+  pub front : List Hold
+  pub back : List Hold
+  pub are : holds ≡ front ++ back
+  pub writes : written.WritesBlock x.geometry o (x.store.seq + 1) bytes x.store.floor m birth columns front
   pub few : columns ≤ x.geometry.spec.parity
-  pub frees : writes.FreesEarlier (write_of x.store.changes o) birth group freed
+  pub frees : written.FreesEarlier (write_of x.store.changes o) birth group back
   pub made : new ≡ record {
     changes = Wrote (record { object = o; seq = x.store.seq + 1; metaslab = m; birth = birth; bytes = bytes }) ∷ x.store.changes;
     seq = x.store.seq + 1;
@@ -76,7 +76,7 @@ pub record WritesIn (x : State) (m o : ℕ) (bytes : List ℕ) (holds : List Hol
 -- too many of its columns landed nowhere
 pub record MissesIn (x : State) (m o : ℕ) (bytes : List ℕ) (columns : ℕ) (holds : List Hold) (new : Store) : Type 0 where
   pub birth : ℕ
-  pub writes : writes.WritesBlock x.geometry o (x.store.seq + 1) bytes x.store.floor m birth columns holds
+  pub writes : written.WritesBlock x.geometry o (x.store.seq + 1) bytes x.store.floor m birth columns holds
   pub over : x.geometry.spec.parity < columns
   pub made : new ≡ record { changes = x.store.changes; seq = x.store.seq + 1; floor = birth }
 
@@ -90,7 +90,7 @@ WriteInDoes x m o bytes (Err fault.NoMemory) holds new = (holds ≡ []) × (new 
 
 -- the block that an object had before is freed
 abbrev pub ReplaceDoes : State → Option Write → List Hold → Store → Type 0
-ReplaceDoes x earlier holds new = (group : ℕ) × writes.FreesEarlier earlier x.store.floor group holds × (new ≡ record x.store { floor = group })
+ReplaceDoes x earlier holds new = (group : ℕ) × written.FreesEarlier earlier x.store.floor group holds × (new ≡ record x.store { floor = group })
 
 -- a block's answer as that of a read
 abbrev pub reading_of : Solve → Result (Vec ℕ Global) ObjectFault

@@ -7,7 +7,7 @@ use Rattle.draid_segments.specs.Segments.{Backed, Pieces}
 use Rattle.draid_shelf.specs.Kits.{Both, CheckCounts, CrashedHeld, Held, KitCounts, KitTold, OnHeld, kit_of}
 use Rattle.draid_slab.specs.declared.shard.Shard.{Shard}
 use Rattle.draid_session.specs.State.{Counts, Metaslab, State}
-use Rattle.draid_volume.specs.Objects.{HoldsObjects}
+use Rattle.draid_volume.specs.Objects.{HoldsObjects, blocks_of}
 
 -- ---- kits
 
@@ -33,7 +33,7 @@ pub record HoldsPool (x : State) (old new : Held) : Type 0 where
   pub uber : new.uber ≡ old.uber
   pub checks : new.checks ≡ old.checks
   pub pieces : ℕ → Pieces
-  pub objects : HoldsObjects x pieces
+  pub objects : HoldsObjects x.geometry x.committed x.store (blocks_of x.metaslabs) pieces
   pub kits : (m : ℕ) (y : Metaslab) → slice_get x.metaslabs m ≡ Some y → IsSomeAnd (new.kits m) (HoldsKit x m (pieces m) y)
 
 -- with a crash or without one

@@ -18,7 +18,7 @@ use Rattle.draid_slab.specs.Calls.{IsLive}
 use Rattle.draid_slab.specs.Columns.{ArePieces}
 use Rattle.draid_slab.specs.declared.shard.Shard.{Shard}
 use Rattle.draid_session.specs.Rooms.{stripes_for}
-use Rattle.draid_session.specs.State.{Metaslab, State}
+use Rattle.draid_session.specs.State.{Metaslab, State, Store}
 
 -- the states of the metaslabs, by number, and what they hold
 abbrev pub worlds_of : List Metaslab → ℕ → Option machine.State
@@ -36,13 +36,13 @@ pub record HasPieces (geometry : Geometry) (write : Write) (pieces : Pieces) : T
 
 -- The blocks store what befell the objects, and the floor is one for each of them. No write is under way, and none that is held has a greater number than the
 -- last. The pieces of each block are those of its write's bytes.
-pub record HoldsObjects (x : State) (pieces : ℕ → Pieces) : Type 0 where
-  pub stores : Stores sha256 x.committed x.store.changes (blocks_of x.metaslabs)
-  pub floors : (object : ℕ) → IsFloor x.store.changes (blocks_of x.metaslabs) object x.store.floor
-  pub settled : (m : ℕ) (k : Key) (h : Held) → blocks_of x.metaslabs m k ≡ Some h → is_block h.stage ≡ true
-  pub numbered : (m : ℕ) (k : Key) (h : Held) → blocks_of x.metaslabs m k ≡ Some h → k.seq ≤ x.store.seq
-  pub bytes : (m : ℕ) (k : Key) (h : Held) (write : Write) → blocks_of x.metaslabs m k ≡ Some h → write_by x.store.changes k ≡ Some write
-      → HasPieces x.geometry write (pieces m)
+pub record HoldsObjects (geometry : Geometry) (committed : ℕ) (store : Store) (blocks : Blocks) (pieces : ℕ → Pieces) : Type 0 where
+  pub stores : Stores sha256 committed store.changes blocks
+  pub floors : (object : ℕ) → IsFloor store.changes blocks object store.floor
+  pub settled : (m : ℕ) (k : Key) (h : Held) → blocks m k ≡ Some h → is_block h.stage ≡ true
+  pub numbered : (m : ℕ) (k : Key) (h : Held) → blocks m k ≡ Some h → k.seq ≤ store.seq
+  pub bytes : (m : ℕ) (k : Key) (h : Held) (write : Write) → blocks m k ≡ Some h → write_by store.changes k ≡ Some write
+      → HasPieces geometry write (pieces m)
 
 -- Each metaslab has committed the pool's group. No call has used a group behind the next one of a metaslab in which that group alone is committed.
 pub record HasGroups (x : State) : Type 0 where

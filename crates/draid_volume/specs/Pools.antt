@@ -39,7 +39,7 @@ pub record Stands {R A : Type 0} (rack : racks.Ghosts R) (area : areas.Ghosts A)
   pub pieces : ℕ → Pieces
   pub each : (m : ℕ) (shard : Shard R A) (y : Metaslab) → slice_get pool.shards.items m ≡ Some shard → slice_get x.metaslabs m ≡ Some y
       → IsMetaslab rack area (part_in x m) (pieces m) shard y
-  pub holds : HoldsObjects x pieces
+  pub holds : HoldsObjects x.geometry x.committed x.store (blocks_of x.metaslabs) pieces
   pub groups : HasGroups x
   pub objects : (object : ℕ) → PointsTo pool.shards.items (table object) (write_of x.store.changes object)
   pub seq : x.store.seq ≡ pool.seq

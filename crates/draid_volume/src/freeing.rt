@@ -1,4 +1,5 @@
 ghost use Rattle.std.specs.Prelude.{◌≡◌, ◌≤◌, ◌+◌};
+ghost use Rattle.draid_names.specs.declared.numbers.TheConstants.{LAST_NUMBER};
 ghost use Rattle.draid_segments.specs.Segments.{Pieces};
 ghost use Rattle.draid_slab.specs.Calls.{IsLive};
 ghost use Rattle.draid_slab.specs.Fits.{Valid};
@@ -27,6 +28,7 @@ pub(crate) fn free_block<R: Rack, A: Area>(
     requires valid { Valid R.Rack shard.old }
     requires live { IsLive shard.old pointer.now }
     requires floor { floor ≤ shard.old.open_group + 1 }
+    requires last { floor ≤ LAST_NUMBER }
     ensures frees { (part : Part) (pieces : Pieces) (x : Metaslab) → IsMetaslab R.Rack A.Area part pieces shard.old x
         → Goes R.Rack A.Area part pieces x shard.new (FreesIn part.number pointer.now floor result x) }
 {

@@ -2,6 +2,7 @@ ghost use Rattle.std.specs.Prelude.{◌≡◌, ◌≤◌, ◌<◌, ◌+◌, None
 ghost use Rattle.draid_block.specs.Blocks.{cut_of};
 ghost use Rattle.draid_block.specs.Columns.{stripes_of};
 ghost use Rattle.draid_machine.specs.State as machine;
+ghost use Rattle.draid_names.specs.declared.numbers.TheConstants.{LAST_NUMBER};
 ghost use Rattle.draid_segments.specs.Segments.{Pieces};
 ghost use Rattle.draid_entries.specs.Entries.{held_in};
 ghost use Rattle.draid_entries.specs.Maps.{key_of};
@@ -62,6 +63,7 @@ pub(crate) fn store<R: Rack, A: Area>(
     requires seq { (1 ≤ seq) × (seq < NUMBERS) }
     requires unused { held_in shard.old.entries (record { object = object; seq = seq }) ≡ None }
     requires floor { floor ≤ shard.old.open_group + 1 }
+    requires last { floor ≤ LAST_NUMBER }
     requires cut { block.now.cut ≡ cut_of shard.old.geometry }
     requires room { (w : machine.State) × IsIn shard.old w × HasRoom (stripes_of (cut_of shard.old.geometry) (length block.now.bytes)) shard.old w }
     ensures stores { (part : Part) (pieces : Pieces) (x : Metaslab) → IsMetaslab R.Rack A.Area part pieces shard.old x
