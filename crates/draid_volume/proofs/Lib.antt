@@ -3,3 +3,11 @@ pub mod Lists
 pub mod Lives
 pub mod Moved
 pub mod Freed
+pub mod OneHold
+pub mod Damages
+pub mod Absent
+pub mod Lifted
+pub mod Fetched
+pub mod FetchSteps
+pub mod Steps
+pub mod ReadSteps
