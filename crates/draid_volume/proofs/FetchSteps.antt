@@ -23,7 +23,7 @@ use Rattle.draid_segments.specs.Segments.{Pieces}
 use Rattle.draid_objects.specs.Changes.{Write, key_of, write_of}
 use Rattle.draid_objects.proofs.Finding.{by_last}
 use Rattle.draid_objects.proofs.Imaging.{last_live}
-use Rattle.draid_entries.specs.History.{Passes, left_for_groups}
+use Rattle.draid_entries.specs.History.{left_for_groups}
 use Rattle.draid_entries.specs.Maps as maps
 use Rattle.draid_slab.specs.Calls.{Fetches, IsLive, IsWornFor, SameAreas, SameKit, SameReserve}
 use Rattle.draid_slab.specs.Columns.{ArePieces}
@@ -31,23 +31,22 @@ use Rattle.draid_slab.specs.Fits.{Valid}
 use Rattle.draid_slab.specs.Part.{layout_in}
 use Rattle.draid_slab.specs.States.{DoesNone}
 use Rattle.draid_slab.specs.declared.shard.Shard.{Shard}
-use Rattle.draid_session.specs.Holds.{Did, Hold, Looked, On, view_of}
+use Rattle.draid_session.specs.Holds.{Did, Hold, On, view_of}
 use Rattle.draid_session.specs.Reads as reads
 use Rattle.draid_session.specs.State.{Metaslab, State}
 use Rattle.draid_session.specs.Worn.{IsWorn}
-use Rattle.draid_volume.specs.Answers.{FetchDoes, FetchIs, ReadDoes, reading_of}
-use Rattle.draid_volume.specs.Carries.{CarriesOut}
+use Rattle.draid_volume.specs.Answers.{FetchIs, ReadDoes, reading_of}
+use Rattle.draid_volume.specs.Carries.{CarriesOut, FetchLeads}
 use Rattle.draid_volume.specs.Metaslabs.{IsMetaslab}
 use Rattle.draid_volume.specs.Objects.{HasPieces, HoldsObjects, IsPointerOf, PointsTo, blocks_of}
 use Rattle.draid_volume.specs.Pools.{Represents, part_in}
-use Rattle.draid_volume.specs.Shards.{Goes, SameBlocks}
 use Rattle.draid_volume.specs.declared.pool.Pool.{Pool}
 use Rattle.draid_volume.proofs.Absent.{absent_at, absent_rise, at_absent, tried_few}
 use Rattle.draid_volume.proofs.Dids.{none_here}
 use Rattle.draid_volume.proofs.Fetched.{FetchesIn, fetches}
-use Rattle.draid_volume.proofs.Lifted.{HasMetaslab, SetsShard, carries, carries_none, metaslab_of}
-use Rattle.draid_volume.proofs.Lists.{some_of}
-use Rattle.draid_volume.proofs.OneHold.{looked, stayed, worn_is}
+use Rattle.draid_volume.proofs.Lifted.{HasMetaslab, SetsShard, carries, kept_represents, metaslab_of}
+use Rattle.draid_volume.proofs.Lists.{set_back, some_of}
+use Rattle.draid_volume.proofs.OneHold.{worn_is}
 
 -- ---- the write of an object's pointer
 
@@ -168,7 +167,7 @@ module _ (x : State) (o : ℕ) (w : Write) (pointer : Pointer) (y y' : Metaslab)
   fetch_is = record {
     store = refl;
     block = f.block;
-    starves = (hold ∷ [], [], f.are, (w, absent, last, fetched_in, tt), omega arith, tt);
+    one = (hold, f.are, w, absent, last, fetched_in);
     answers = answers;
   }
 
@@ -216,58 +215,46 @@ module _ {R A : Type 0} (rack : racks.Ghosts R) (area : areas.Ghosts A) where
         content = subst (λ k. HasPieces x.geometry z.w (r.stands.pieces k)) (sym z.of.metaslab_is) (content_of x r.stands.pieces o z.w r.stands.holds z.is);
       }
 
-  pub fetch_none : (pool : Pool R A) (x : State) (o : ℕ) → Represents rack area pool x → get nat_eq pool.objects o ≡ None → CarriesOut rack area pool x (FetchDoes x o (Err object.NoObject))
-  fetch_none pool x o r none =
-      carries_none rack area pool x (FetchDoes x o (Err object.NoObject)) r
-      (refl, refl, unpointed pool.shards.items (get nat_eq pool.objects o) (write_of x.store.changes o) none (r.stands.objects o))
+  pub fetch_none : (pool : Pool R A) (x : State) (o : ℕ) → Represents rack area pool x → get nat_eq pool.objects o ≡ None → FetchLeads rack area pool x o (Err object.NoObject)
+  fetch_none pool x o r none = (r, unpointed pool.shards.items (get nat_eq pool.objects o) (write_of x.store.changes o) none (r.stands.objects o))
 
   pub fetch_done : (pool new : Pool R A) (shard shard' : Shard R A) (x : State) (o : ℕ) (pointer : Pointer) (fetched : Fetched) → Represents rack area pool x → get nat_eq pool.objects o ≡ Some pointer
       → SetsShard rack area pointer.metaslab pool new shard shard' → Fetches rack shard shard' pointer fetched → Valid rack shard' → SameAreas shard shard'
-      → rack.told shard'.rack ≡ rack.told shard.rack → SameReserve shard shard' → (IsWornFor shard 1 → ⊥) → CarriesOut rack area new x (FetchDoes x o (Ok fetched))
+      → rack.told shard'.rack ≡ rack.told shard.rack → SameReserve shard shard' → (IsWornFor shard 1 → ⊥) → CarriesOut rack area new x (FetchIs x o fetched)
   fetch_done pool new shard shard' x o pointer fetched r there set f valid same told reserve never =
       let z = found pool x r o pointer shard there set.there in
       let pieces : Pieces = r.stands.pieces pointer.metaslab in
-      carries rack area pointer.metaslab pool new shard shard' x z.y (FetchesIn (part_in x pointer.metaslab) pieces pointer fetched z.y) (FetchDoes x o (Ok fetched)) r set z.at
+      carries rack area pointer.metaslab pool new shard shard' x z.y (FetchesIn (part_in x pointer.metaslab) pieces pointer fetched z.y) (FetchIs x o fetched) r set z.at
       (fetches rack area (part_in x pointer.metaslab) shard shard' pointer fetched f valid same told reserve never pieces z.y z.is)
       (λ holds y' does. (does.same, fetch_is x o z.w pointer z.y y' fetched holds pieces r.stands.layout.geometry_is z.last z.of z.content does))
 
   -- a refusal left all as it was
-  pub refused : (pool new : Pool R A) (shard shard' : Shard R A) (x : State) (o : ℕ) (pointer : Pointer) (r : Represents rack area pool x) → SetsShard rack area pointer.metaslab pool new shard shard'
-      → (z : Found pool x r o pointer shard) → Valid rack shard' → DoesNone shard shard' → SameKit shard shard' → SameReserve shard shard'
-      → IsMetaslab rack area (part_in x pointer.metaslab) (r.stands.pieces pointer.metaslab) shard' z.y
+  refused : (pool new : Pool R A) (shard shard' : Shard R A) (x : State) (o : ℕ) (pointer : Pointer) (r : Represents rack area pool x) → SetsShard rack area pointer.metaslab pool new shard shard'
+      → (z : Found pool x r o pointer shard) → Valid rack shard' → DoesNone shard shard' → SameKit shard shard' → SameReserve shard shard' → Represents rack area new x
   refused pool new shard shard' x o pointer r set z valid none kit reserve =
-      none_here rack area (part_in x pointer.metaslab) (r.stands.pieces pointer.metaslab) shard shard' z.y z.is valid none kit.rack kit.areas reserve.limit reserve.reserved
+      subst (Represents rack area new) (ap (λ ys. record x { metaslabs = ys }) (set_back x.metaslabs pointer.metaslab z.y z.at))
+      (kept_represents rack area pointer.metaslab pool new shard shard' x z.y z.y r set z.at
+      (none_here rack area (part_in x pointer.metaslab) (r.stands.pieces pointer.metaslab) shard shard' z.y z.is valid none kit.rack kit.areas reserve.limit reserve.reserved)
+      (record { held = refl; committed = refl }))
 
   pub fetch_worn : (pool new : Pool R A) (shard shard' : Shard R A) (x : State) (o : ℕ) (pointer : Pointer) → Represents rack area pool x → get nat_eq pool.objects o ≡ Some pointer
       → SetsShard rack area pointer.metaslab pool new shard shard' → Valid rack shard' → DoesNone shard shard' → SameKit shard shard' → SameReserve shard shard' → IsWornFor shard 1
-      → CarriesOut rack area new x (FetchDoes x o (Err object.Worn))
+      → FetchLeads rack area new x o (Err object.Worn)
   fetch_worn pool new shard shard' x o pointer r there set valid none kit reserve worn =
-      let z = found pool x r o pointer shard there set.there in
-      let pieces : Pieces = r.stands.pieces pointer.metaslab in
-      let does : List Hold → Metaslab → Type 0 = λ holds y'. (y' ≡ z.y) × (holds ≡ On (view_of pointer.metaslab z.y) Looked ∷ []) in
-      carries rack area pointer.metaslab pool new shard shard' x z.y does (FetchDoes x o (Err object.Worn)) r set z.at
-      (looked rack area (part_in x pointer.metaslab) pieces shard' z.y does (refused pool new shard shard' x o pointer r set z valid none kit reserve) (refl, refl))
-      (λ holds y' did. (
-        record { held = ap (λ (y : Metaslab). y.world.core.held) did.0; committed = ap (λ (y : Metaslab). y.world.committed) did.0 },
-        (refl, (On (view_of pointer.metaslab z.y) Looked, did.1, record {
+      let z = found pool x r o pointer shard there set.there in (
+        refused pool new shard shard' x o pointer r set z valid none kit reserve,
+        record {
           w = z.w;
-          v = view_of pointer.metaslab z.y;
+          y = z.y;
           written = z.last;
-          looked = record { looked = refl; there = z.of.metaslab };
-          worn = worn_is rack area (part_in x pointer.metaslab) pieces shard z.y 1 left_for_groups z.is worn;
-        })),
-      ))
+          there = subst (λ m. slice_get x.metaslabs m ≡ Some z.y) z.of.metaslab z.at;
+          worn = subst (λ m. IsWorn x.geometry (view_of m z.y) 1) z.of.metaslab
+              (worn_is rack area (part_in x pointer.metaslab) (r.stands.pieces pointer.metaslab) shard z.y 1 left_for_groups z.is worn);
+        },
+      )
 
   pub fetch_starved : (pool new : Pool R A) (shard shard' : Shard R A) (x : State) (o : ℕ) (pointer : Pointer) → Represents rack area pool x → get nat_eq pool.objects o ≡ Some pointer
       → SetsShard rack area pointer.metaslab pool new shard shard' → Valid rack shard' → DoesNone shard shard' → SameKit shard shard' → SameReserve shard shard'
-      → CarriesOut rack area new x (FetchDoes x o (Err object.NoMemory))
+      → FetchLeads rack area new x o (Err object.NoMemory)
   fetch_starved pool new shard shard' x o pointer r there set valid none kit reserve =
-      let z = found pool x r o pointer shard there set.there in
-      let pieces : Pieces = r.stands.pieces pointer.metaslab in
-      let does : List Hold → Metaslab → Type 0 = λ holds y'. (y' ≡ z.y) × (holds ≡ []) in
-      carries rack area pointer.metaslab pool new shard shard' x z.y does (FetchDoes x o (Err object.NoMemory)) r set z.at
-      (stayed rack area (part_in x pointer.metaslab) pieces shard' z.y does (refused pool new shard shard' x o pointer r set z valid none kit reserve) (refl, refl))
-      (λ holds y' did. (
-        record { held = ap (λ (y : Metaslab). y.world.core.held) did.0; committed = ap (λ (y : Metaslab). y.world.committed) did.0 },
-        (refl, ([], [], did.1, tt, omega arith, tt)),
-      ))
+      (refused pool new shard shard' x o pointer r set (found pool x r o pointer shard there set.there) valid none kit reserve, tt)

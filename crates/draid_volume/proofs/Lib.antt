@@ -11,3 +11,4 @@ pub mod Fetched
 pub mod FetchSteps
 pub mod Steps
 pub mod ReadSteps
+pub mod DamageSteps

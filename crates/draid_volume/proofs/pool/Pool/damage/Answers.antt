@@ -1,34 +1,53 @@
-use Rattle.std.proofs.Common.{rules, ◌≡◌, ◌<◌, ℕ, ◌+◌, ◌-◌, ◌*◌, ◌≤◌, length, ◌/◌, ◌%◌, Bool, true, false, nat_eq, nat_lt, List, [], ◌∷◌, ◌++◌, slice_index_or, slice_set, bit_and, bit_or, Fits, w8, w32, w64, Bor, MutBor}
-use Rattle.draid_spec.specs.Geometry.{metaslab_sectors}
-use Rattle.draid_machine.specs.State as machine
-use Rattle.draid_segments.specs.Segments.{Pieces}
-use Rattle.draid_slab.specs.Fits.{Valid}
-use Rattle.draid_slab.specs.Part.{Part}
-use Rattle.draid_slab.specs.States.{IsIn}
-use Rattle.draid_session.specs.State.{Metaslab, State}
-use Rattle.draid_volume.specs.Metaslabs.{IsMetaslab}
-use Rattle.draid_volume.specs.Shards.{Goes, SameBlocks, SectorDoes}
-use Rattle.draid_volume.specs.Answers.{DamageDoes}
-use Rattle.draid_volume.specs.Carries.{CarriesOut}
-use Rattle.draid_volume.specs.Pools.{Represents}
+use Rattle.std.proofs.Common.{◌/◌, refl}
+use Rattle.std.specs.Vec.{with_item}
+use Rattle.draid_volume.specs.declared.pool.Pool.{Pool}
+use Rattle.draid_volume.proofs.DamageSteps.{damage_done, damage_none, damage_shard, sector_below, shard_state}
+use Rattle.draid_volume.proofs.Lifted.{SetsShard, metaslab_of}
 use Rattle.draid_volume.proofs.pool.Pool.damage.Goals as goal
 
--- src/damaging.rt:59:13
 pub returns-then-metaslab-from : goal.returns-then-metaslab-from
-returns-then-metaslab-from g c = ?
+returns-then-metaslab-from g c = record {
+  step = λ x is.
+      damage_none g.R.Rack g.A.Area c.args.self.now x c.args.leaf c.args.sector c.metaslab_sectors-sectors.result c.from.result is c.metaslab_sectors-sectors.ensures.value c.from.ensures
+      c.if-metaslab-from.true;
+}
 
--- src/damaging.rt:61:9
 pub damage_sector-requires-clause-valid : goal.damage_sector-requires-clause-valid
-damage_sector-requires-clause-valid g c = ?
+damage_sector-requires-clause-valid g c =
+    let is = c.requires.represents in
+    let k = c.args.sector / c.metaslab_sectors-sectors.result in
+    let shard = c.index_mut.result.now in
+    let there = damage_shard g.R.Rack g.A.Area c.args.self.now is.0 k c.from.result shard is.1 c.from.ensures c.if-metaslab-from.false c.index_mut.ensures.value in
+    (metaslab_of g.R.Rack g.A.Area c.args.self.now is.0 is.1.stands k shard there).is.valid
 
--- src/damaging.rt:61:9
 pub damage_sector-requires-clause-state : goal.damage_sector-requires-clause-state
-damage_sector-requires-clause-state g c = ?
+damage_sector-requires-clause-state g c =
+    let is = c.requires.represents in
+    let k = c.args.sector / c.metaslab_sectors-sectors.result in
+    let shard = c.index_mut.result.now in
+    let there = damage_shard g.R.Rack g.A.Area c.args.self.now is.0 k c.from.result shard is.1 c.from.ensures c.if-metaslab-from.false c.index_mut.ensures.value in
+    shard_state g.R.Rack g.A.Area c.args.self.now is.0 k shard is.1 there
 
--- src/damaging.rt:61:9
 pub damage_sector-requires-clause-sector : goal.damage_sector-requires-clause-sector
-damage_sector-requires-clause-sector g c = ?
+damage_sector-requires-clause-sector g c =
+    let is = c.requires.represents in
+    let k = c.args.sector / c.metaslab_sectors-sectors.result in
+    let shard = c.index_mut.result.now in
+    let there = damage_shard g.R.Rack g.A.Area c.args.self.now is.0 k c.from.result shard is.1 c.from.ensures c.if-metaslab-from.false c.index_mut.ensures.value in
+    sector_below g.R.Rack g.A.Area c.args.self.now is.0 k c.args.sector c.metaslab_sectors-sectors.result shard is.1 there c.metaslab_sectors-sectors.ensures.value
+    c.metaslab_sectors-sectors.ensures.some
 
--- src/damaging.rt:51:5
 pub returns : goal.returns
-returns g c = ?
+returns g c = record {
+  step = λ x is.
+      (let old = c.args.self.now in
+      let k = c.args.sector / c.metaslab_sectors-sectors.result in
+      let before = c.index_mut.result.now in
+      let after = c.damage_sector.new.shard in
+      let there = damage_shard g.R.Rack g.A.Area old x k c.from.result before is c.from.ensures c.if-metaslab-from.false c.index_mut.ensures.value in
+      let new : Pool g.row.R.Denot g.row.A.Denot
+      = record { geometry = old.geometry; shards = with_item old.shards k after; objects = old.objects; seq = old.seq; floor = old.floor; alloc = old.alloc } in
+      let set : SetsShard g.R.Rack g.A.Area k old new before after = record { there = there; sets = refl; geometry = refl; objects = refl; seq = refl; floor = refl } in
+      damage_done g.R.Rack g.A.Area old new before after x c.args.leaf c.args.sector c.metaslab_sectors-sectors.result c.from.result c.damage_sector.result is set
+      c.metaslab_sectors-sectors.ensures.value c.from.ensures c.if-metaslab-from.false c.damage_sector.ensures.damages);
+}

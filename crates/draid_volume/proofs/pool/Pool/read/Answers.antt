@@ -1,19 +1,20 @@
 use Rattle.std.proofs.lemmas.Result.{err_from_is_err_and}
 use Rattle.draid_block.specs.declared.many.Solve.TheVariants.{Bytes, Unreadable}
-use Rattle.draid_volume.proofs.ReadSteps.{block_fetched, pool_geometry, read_solved, read_starved, unread_is}
+use Rattle.draid_volume.proofs.ReadSteps.{block_fetched, pool_geometry, read_solved, read_starved, unread, unread_is}
 use Rattle.draid_volume.proofs.pool.Pool.read.Goals as goal
 
 pub returns-in_err-fetched : goal.returns-in_err-fetched
 returns-in_err-fetched g c = record {
   step = λ x is.
       (let p = err_from_is_err_and c.from_residual.result c.from_residual.ensures.1 in
-      rw (p.1, p.2) (c.in_err-fetched.ensures.step x is));
+      let f = c.in_err-fetched.ensures.step x is in
+      rw (p.1, p.2) (unread g.R.Rack g.A.Area c.fetch.new.self x c.args.object c.in_err-fetched.field-0.0 f.0 f.1));
 }
 
 pub solve_block-requires-clause-geometry : goal.solve_block-requires-clause-geometry
 solve_block-requires-clause-geometry g c =
     let is = c.requires.represents in
-    pool_geometry g.R.Rack g.A.Area c.fetch.new.self _ (c.fetch.ensures.step is.0 is.1).represents
+    pool_geometry g.R.Rack g.A.Area c.fetch.new.self _ (c.in_ok-fetched.ensures.step is.0 is.1).represents
 
 pub solve_block-requires-clause-fetched : goal.solve_block-requires-clause-fetched
 solve_block-requires-clause-fetched g c =
