@@ -1,7 +1,9 @@
 pub mod Dids
 pub mod Entering
-pub mod Freed
 pub mod FreeSteps
+pub mod Freed
 pub mod Lists
 pub mod Lives
 pub mod Moved
+pub mod PutSteps
+pub mod StoreSteps
