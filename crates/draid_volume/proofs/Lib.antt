@@ -1,8 +1,10 @@
 pub mod Dids
+pub mod Entering
+pub mod FreeSteps
+pub mod Freed
 pub mod Lists
 pub mod Lives
 pub mod Moved
-pub mod Freed
 pub mod OneHold
 pub mod Damages
 pub mod Absent
@@ -12,3 +14,5 @@ pub mod FetchSteps
 pub mod Steps
 pub mod ReadSteps
 pub mod DamageSteps
+pub mod PutSteps
+pub mod StoreSteps

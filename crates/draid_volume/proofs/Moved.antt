@@ -11,6 +11,7 @@ use Rattle.draid_machine.specs.declared.names.Held.{Held}
 use Rattle.draid_machine.specs.declared.names.Key.{Key}
 use Rattle.draid_machine.specs.declared.names.Stage.TheVariants.{Live}
 use Rattle.draid_machine.specs.State as machine
+use Rattle.draid_machine.proofs.Small.{equal, is_equal}
 use Rattle.draid_segments.specs.Segments.{Pieces}
 use Rattle.draid_objects.specs.Blocks.{Blocks, MovesOne, table_of}
 use Rattle.draid_objects.specs.Changes.{Write, write_of}
@@ -19,6 +20,7 @@ use Rattle.draid_slab.specs.Calls.{IsLive}
 use Rattle.draid_slab.specs.Part.{Part, layout_in}
 use Rattle.draid_slab.specs.States.{part_of}
 use Rattle.draid_slab.specs.declared.shard.Shard.{Shard}
+use Rattle.draid_session.specs.Follows as follows
 use Rattle.draid_session.specs.Follows.{Follows}
 use Rattle.draid_session.specs.Holds.{Hold}
 use Rattle.draid_session.specs.State.{Metaslab, State, Store}
@@ -40,9 +42,9 @@ pub follows_one : (m : ℕ) (holds : List Hold) (x : State) (y y' : Metaslab) �
 follows_one m [] x y y' there f = ap (λ ys. record x { metaslabs = ys }) (ap (λ z. slice_set x.metaslabs m z) f ∙ set_back x.metaslabs m y there)
 follows_one m (hold ∷ holds) x y y' there f =
     let mid = f.1 in
-    let rest = follows_one m holds (with_metaslab x m mid) mid y' (get_set_same x.metaslabs m y mid there) f.2.2.2 in (
+    let rest = follows_one m holds (with_metaslab x m mid) mid y' (get_set_same x.metaslabs m y mid there) f.4 in (
       with_metaslab x m mid,
-      subst (λ h. package.Rattle-draid_session.specs.Follows.Holds h x (with_metaslab x m mid)) (sym f.2.0) (record { before = y; after = mid; there = there; sees = refl; acts = f.2.1; made = refl }),
+      subst (λ h. follows.Holds h x (with_metaslab x m mid)) (sym f.2) (record { before = y; after = mid; there = there; sees = refl; acts = f.3; made = refl }),
       subst (Follows holds (with_metaslab x m mid)) (ap (λ ys. record x { metaslabs = ys }) (set_twice x.metaslabs m mid y')) rest,
     )
 
@@ -76,21 +78,24 @@ same_blocks ys m y y' there same = ext (blocks_of (slice_set ys m y')) (blocks_o
 -- ---- pieces
 
 -- those of one metaslab are others
-pub turn : ℕ → Pieces → (ℕ → Pieces) → ℕ → Pieces
+abbrev pub turn : ℕ → Pieces → (ℕ → Pieces) → ℕ → Pieces
 turn m now pieces k = if k == m then now else pieces k
 
 pub turn_here : (m : ℕ) (now : Pieces) (pieces : ℕ → Pieces) → turn m now pieces m ≡ now
-turn_here m now pieces = ap (λ b. if b then now else pieces m) (same m)
-  where
-    same : (n : ℕ) → (n == n) ≡ true
-    same n = search
+turn_here m now pieces = ap (λ b. if b then now else pieces m) (equal m m refl)
 
 pub turn_other : (m k : ℕ) (now : Pieces) (pieces : ℕ → Pieces) → (k ≡ m → ⊥) → turn m now pieces k ≡ pieces k
 turn_other m k now pieces other = by (k == m) refl
   where
     by : (b : Bool) → (k == m) ≡ b → turn m now pieces k ≡ pieces k
-    by true is = absurd (other (grind (arith, is)))
+    by true is = absurd (other (is_equal k m is))
     by false is = ap (λ b. if b then now else pieces k) is
+
+pub turn_back : (m : ℕ) (pieces : ℕ → Pieces) → turn m (pieces m) pieces ≡ pieces
+turn_back m pieces = ext (turn m (pieces m) pieces) pieces (λ k. elim (cases_eq k m) [
+  | inl is ↦ subst (λ j. turn m (pieces m) pieces j ≡ pieces j) (sym is) (turn_here m (pieces m) pieces)
+  | inr other ↦ turn_other m k (pieces m) pieces (λ is. omega (arith, is, other))
+])
 
 -- ---- a pool of which one shard moved
 
@@ -156,7 +161,7 @@ module _ {R A : Type 0} (rack : racks.Ghosts R) (area : areas.Ghosts A) where
     objects = objects;
     seq = seq;
     floor = floor;
-    uber = s.uber;
+    uber = record { committed = s.uber.committed; kept_leaf = s.uber.kept_leaf; next_leaf = s.uber.next_leaf; uber_count = s.uber.uber_count; pending = s.uber.pending };
   }
     where
       each : (k : ℕ) (z : Shard R A) (v : Metaslab) → slice_get new.shards.items k ≡ Some z → slice_get (slice_set x.metaslabs m y') k ≡ Some v
