@@ -1,6 +1,6 @@
 -- An object's block is fetched: what that says of the object.
 use Rattle.std.proofs.Common.{◌≡◌, ◌≤◌, ◌<◌, ◌+◌, ◌⊎◌, ◌∙◌, [], ◌∷◌, ℕ, List, Option, Some, None, Ok, Err, arith, refl, sym, ap, subst, inl, inr, length}
-use Rattle.std.specs.Prelude.{Contains, MatchOption, nat_eq, slice_get}
+use Rattle.std.specs.Prelude.{⊤, Contains, MatchOption, nat_eq, slice_get}
 use Rattle.std.specs.HashMap.{get}
 use Rattle.sha2.specs.Sha256.{sha256}
 use Rattle.draid_names.specs.declared.pointer.Pointer.{Pointer}
@@ -96,7 +96,7 @@ module _ (x : State) (o : ℕ) (w : Write) (pointer : Pointer) (y y' : Metaslab)
   many : length fetched.columns.items ≡ x.geometry.g
   many = f.block.count ∙ sym geometry.columns
 
-  fetched_in : reads.Fetches x.geometry x.perms w hold absent
+  abbrev fetched_in : reads.Fetches x.geometry x.perms w hold absent
   fetched_in = record {
     v = view_of pointer.metaslab y;
     after = y'.world;
@@ -125,8 +125,8 @@ module _ (x : State) (o : ℕ) (w : Write) (pointer : Pointer) (y y' : Metaslab)
       subst (λ k. ArePieces x.geometry.props.sector x.geometry.g pointer.stripes content.columns k pieces) (sym of.key)
       (subst (λ n. ArePieces x.geometry.props.sector x.geometry.g n content.columns (key_of w) pieces) (sym stripes) content.rows)
 
-  beyond : (many tried : ℕ) → IsSolved (cut_of x.geometry) fetched (Unreadable many tried) → reads.IsBeyond x.geometry x.perms w hold absent fetched_in
-  beyond many tried solved =
+  beyond : (missing tried : ℕ) → IsSolved (cut_of x.geometry) fetched (Unreadable missing tried) → reads.IsBeyond x.geometry x.perms w hold absent fetched_in
+  beyond missing tried solved =
       more_of y.harm (λ harm. ((bad : List ℕ) × IsReadable (cut_of x.geometry) fetched w.bytes bad) ⊎ MoreBad (layout_in (part_in x pointer.metaslab)) y.world harm (maps.key_of pointer) f.h f.failed.items)
       (λ harm. MoreBad (layout_in (part_in x pointer.metaslab)) y.world harm (key_of w) f.h f.failed.items)
       (λ harm e. elim e [
@@ -150,14 +150,14 @@ module _ (x : State) (o : ℕ) (w : Write) (pointer : Pointer) (y y' : Metaslab)
       };
     }),
   )
-  answers (Unreadable many tried) solved = (
+  answers (Unreadable missing tried) solved = (
     refl,
     (hold, f.are, record {
       w = w;
       absent = absent;
       written = last;
       fetches = fetched_in;
-      why = beyond many tried solved;
+      why = beyond missing tried solved;
       many_is = solved.solves.absent_is;
       tried_is = solved.solves.tried_is ∙ ap (λ n. length (solve_order x.geometry.spec.parity n absent)) (sym geometry.columns);
     }),
@@ -167,7 +167,7 @@ module _ (x : State) (o : ℕ) (w : Write) (pointer : Pointer) (y y' : Metaslab)
   fetch_is = record {
     store = refl;
     block = f.block;
-    one = (hold, f.are, w, absent, last, fetched_in);
+    one = (hold, f.are, (w, absent, last, fetched_in));
     answers = answers;
   }
 

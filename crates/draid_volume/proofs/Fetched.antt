@@ -1,6 +1,6 @@
 -- A block is fetched from its shard.
-use Rattle.std.proofs.Common.{◌≡◌, ◌≤◌, ◌<◌, ◌+◌, ◌⊎◌, ◌∙◌, [], ◌∷◌, ℕ, List, Option, Some, None, Vec, Global, arith, refl, sym, ap, subst, length}
-use Rattle.std.specs.Prelude.{◌↔◌, MatchOption, slice_get}
+use Rattle.std.proofs.Common.{◌≡◌, ◌≤◌, ◌<◌, ◌+◌, ◌⊎◌, ◌∙◌, [], ◌∷◌, ℕ, Bool, List, Option, Some, None, Vec, Global, arith, refl, sym, ap, subst, length}
+use Rattle.std.specs.Prelude.{◌↔◌, ⊤, MatchOption, slice_get}
 use Rattle.draid_names.specs.declared.pointer.Pointer.{Pointer}
 use Rattle.draid_rack.specs.Rack.{OnTold, Told}
 use Rattle.draid_rack.specs.declared.Rack as racks

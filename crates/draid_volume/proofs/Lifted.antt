@@ -1,8 +1,7 @@
 -- Holds of one metaslab of a pool that leave what it holds as it was.
-use Rattle.std.proofs.Common.{◌≡◌, ◌≤◌, ◌<◌, ◌+◌, ◌∙◌, [], ℕ, List, Option, Some, None, arith, refl, sym, ap, subst, inl, inr, length, slice_index_or, slice_set}
+use Rattle.std.proofs.Common.{◌≡◌, ◌≤◌, ◌<◌, ◌+◌, ◌∙◌, [], ℕ, List, Option, Some, None, arith, refl, sym, ap, subst, length, slice_index_or, slice_set}
 use Rattle.std.specs.Prelude.{nat_eq, slice_get}
 use Rattle.std.specs.HashMap.{get}
-use Rattle.std.proofs.lemmas.Bool.{cases_eq}
 use Rattle.std.proofs.lemmas.Option.{slice_get-get_or, slice_get_within}
 use Rattle.draid_names.specs.declared.pointer.Pointer.{Pointer}
 use Rattle.draid_rack.specs.declared.Rack as racks
@@ -24,17 +23,8 @@ use Rattle.draid_volume.specs.Objects.{HoldsObjects, IsLastAt, IsPointerOf, Poin
 use Rattle.draid_volume.specs.Pools.{Represents, Stands, part_in}
 use Rattle.draid_volume.specs.Shards.{Goes, SameBlocks}
 use Rattle.draid_volume.specs.declared.pool.Pool.{Pool}
-use Rattle.draid_volume.proofs.Lists.{ext, present}
-use Rattle.draid_volume.proofs.Moved.{Turned, follows_one, pointer_on, same_blocks, stands_turned, turn, turn_here, turn_other, with_metaslab}
-
-turn_same : (m : ℕ) (pieces : ℕ → Pieces) → turn m (pieces m) pieces ≡ pieces
-turn_same m pieces = ext (turn m (pieces m) pieces) pieces by
-  where
-    by : (k : ℕ) → turn m (pieces m) pieces k ≡ pieces k
-    by k = elim (cases_eq k m) [
-      | inl is ↦ subst (λ j. turn m (pieces m) pieces j ≡ pieces j) (sym is) (turn_here m (pieces m) pieces)
-      | inr other ↦ turn_other m k (pieces m) pieces (λ is. omega (arith, is, other))
-    ]
+use Rattle.draid_volume.proofs.Lists.{present}
+use Rattle.draid_volume.proofs.Moved.{Turned, follows_one, pointer_on, same_blocks, stands_turned, turn, turn_back, with_metaslab}
 
 -- what stands at a place that is inside
 pub shard_at : {S : Type 0} (shards : List S) (m : ℕ) (some here : S) → slice_get shards m ≡ Some some → here ≡ slice_index_or shards m here → slice_get shards m ≡ Some here
@@ -82,7 +72,7 @@ module _ {R A : Type 0} (rack : racks.Ghosts R) (area : areas.Ghosts A) where
       let blocks : blocks_of (slice_set x.metaslabs m y') ≡ blocks_of x.metaslabs = same_blocks x.metaslabs m y y' at same.held in
       let holds : HoldsObjects x.geometry x.committed x.store (blocks_of (slice_set x.metaslabs m y')) (turn m (s.pieces m) s.pieces)
       = subst (λ b. HoldsObjects x.geometry x.committed x.store b (turn m (s.pieces m) s.pieces)) (sym blocks)
-      (subst (λ p. HoldsObjects x.geometry x.committed x.store (blocks_of x.metaslabs) p) (sym (turn_same m s.pieces)) s.holds) in
+      (subst (λ p. HoldsObjects x.geometry x.committed x.store (blocks_of x.metaslabs) p) (sym (turn_back m s.pieces)) s.holds) in
       record {
         stands = stands_turned rack area m pool new shard shard' (λ object. get nat_eq pool.objects object) (λ object. get nat_eq new.objects object) x y y' (s.pieces m) x.store s t holds
             s.groups.next s.groups.last

@@ -70,7 +70,7 @@ module _ {R A : Type 0} (rack : racks.Ghosts R) (area : areas.Ghosts A) where
 
   pub read_starved : (pool : Pool R A) (x : State) (o : ℕ) (fetched : Fetched) → CarriesOut rack area pool x (FetchIs x o fetched) → CarriesOut rack area pool x (ReadDoes x o (Err object.NoMemory))
   read_starved pool x o fetched c =
-      carries_so rack area pool x (FetchIs x o fetched) (ReadDoes x o (Err object.NoMemory)) c (λ holds store f. (let z = f.one in (f.store, (z.0 ∷ [], [], z.1, (z.2, z.3, z.4, z.5, tt), omega arith, tt))))
+      carries_so rack area pool x (FetchIs x o fetched) (ReadDoes x o (Err object.NoMemory)) c (λ holds store f. (let z = f.one in (f.store, (z.0 ∷ [], [], z.1, (z.2.0, z.2.1, z.2.2, z.2.3, tt), omega arith, tt))))
 
   -- no block was fetched
   pub unread : (pool : Pool R A) (x : State) (o : ℕ) (why : ObjectFault) → Represents rack area pool x → Unfetched x o why → CarriesOut rack area pool x (ReadDoes x o (Err why))
