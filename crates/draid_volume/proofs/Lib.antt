@@ -16,3 +16,6 @@ pub mod ReadSteps
 pub mod DamageSteps
 pub mod PutSteps
 pub mod StoreSteps
+pub mod Feeding
+pub mod Sums
+pub mod Batched
