@@ -7,3 +7,5 @@ pub mod Lives
 pub mod Moved
 pub mod PutSteps
 pub mod StoreSteps
+pub mod ReplaceSteps
+pub mod WriteSteps
