@@ -26,6 +26,7 @@ use Rattle.draid_objects.proofs.Finding.{by_other, by_own, changes_it, other_cha
 use Rattle.draid_objects.proofs.Keeping.{floor_up, written, written_floor}
 use Rattle.draid_objects.proofs.One.{one_set}
 use Rattle.draid_objects.proofs.Sealing.{set_cases}
+use Rattle.draid_entries.specs.Entries as entries
 use Rattle.draid_entries.specs.Maps.{held_at, key_of, staged}
 use Rattle.draid_slab.specs.Part.{Part, layout_in}
 use Rattle.draid_slab.specs.declared.shard.Shard.{Shard}
@@ -39,10 +40,16 @@ use Rattle.draid_volume.specs.Carries.{CarriesOut}
 use Rattle.draid_volume.specs.Metaslabs.{IsMetaslab}
 use Rattle.draid_volume.specs.Objects.{HasPieces, HoldsObjects, IsLastAt, IsPointerOf, PointsTo, blocks_of, worlds_of}
 use Rattle.draid_volume.specs.Pools.{Awaits, Represents, Stands, part_in}
-use Rattle.draid_volume.specs.Shards.{Goes, IsStored, NotStored, SamePieces, Stored}
+use Rattle.draid_volume.specs.Shards.{Goes, HasRoom, IsStored, NotStored, SamePieces, StoreDoes, Stored}
+use Rattle.draid_volume.specs.declared.store.StoreFault.{StoreFault}
+use Rattle.draid_volume.specs.declared.store.StoreFault.TheVariants as store_fault
+use Rattle.draid_machine.specs.State as machine
+use Rattle.draid_block.specs.Blocks.{cut_of}
+use Rattle.draid_block.specs.Columns.{stripes_of}
+use Rattle.draid_slab.specs.States.{IsIn}
 use Rattle.draid_volume.specs.declared.pool.Pool.{Pool}
 use Rattle.draid_volume.proofs.Entering.{OnlyLast}
-use Rattle.draid_volume.proofs.FreeSteps.{group_low, metaslab_there, pointed, points_on, points_same, same_key}
+use Rattle.draid_volume.proofs.FreeSteps.{floor_fits, group_low, metaslab_there, pointed, points_on, points_same, same_key}
 use Rattle.draid_volume.proofs.Lists.{ext, get_set_same, set_back, some_of}
 use Rattle.draid_volume.proofs.Lives.{held_by}
 use Rattle.draid_slab.specs.Calls.{IsLive}
@@ -54,18 +61,18 @@ use Rattle.draid_volume.proofs.ReplaceSteps.{with_pointer}
 -- ---- holds, whatever a thread has of its own
 
 uber_on : (act : UberAct) (old new : State) (s : Store) → UberActs act old new → UberActs act (record old { store = s }) (record new { store = s })
-uber_on LookedUber old new s acts = ap (λ z. record z { store = s }) acts
-uber_on (Committed group) old new s acts = (acts.0, acts.1, ap (λ z. record z { store = s }) acts.2)
-uber_on (CommitFailed group) old new s acts = (acts.0, acts.1, ap (λ z. record z { store = s }) acts.2)
-uber_on (CommitStarved group) old new s acts = (acts.0, acts.1, ap (λ z. record z { store = s }) acts.2)
-uber_on (NextLeaf next) old new s acts = ap (λ z. record z { store = s }) acts
+uber_on LookedUber old new s acts = ap (λ (z : State). record z { store = s }) acts
+uber_on (Committed group) old new s acts = (acts.0, acts.1, ap (λ (z : State). record z { store = s }) acts.2)
+uber_on (CommitFailed group) old new s acts = (acts.0, acts.1, ap (λ (z : State). record z { store = s }) acts.2)
+uber_on (CommitStarved group) old new s acts = (acts.0, acts.1, ap (λ (z : State). record z { store = s }) acts.2)
+uber_on (NextLeaf next) old new s acts = ap (λ (z : State). record z { store = s }) acts
 
 hold_on : (hold : Hold) (old new : State) (s : Store) → follows.Holds hold old new → follows.Holds hold (record old { store = s }) (record new { store = s })
-hold_on (On v act) old new s h = record { before = h.before; after = h.after; there = h.there; sees = h.sees; acts = h.acts; made = ap (λ z. record z { store = s }) h.made }
+hold_on (On v act) old new s h = record { before = h.before; after = h.after; there = h.there; sees = h.sees; acts = h.acts; made = ap (λ (z : State). record z { store = s }) h.made }
 hold_on (OnUber u act) old new s h = record { sees = h.sees; acts = uber_on act old new s h.acts }
 
 pub follows_on : (holds : List Hold) (old new : State) (s : Store) → Follows holds old new → Follows holds (record old { store = s }) (record new { store = s })
-follows_on [] old new s f = ap (λ z. record z { store = s }) f
+follows_on [] old new s f = ap (λ (z : State). record z { store = s }) f
 follows_on (hold ∷ holds) old new s f = (record f.0 { store = s }, hold_on hold old f.0 s f.1, follows_on holds f.0 new s f.2)
 
 pub follows_both : (front back : List Hold) (x y z : State) → Follows front x y → Follows back y z → Follows (front ++ back) x z
@@ -190,6 +197,53 @@ module _ {R A : Type 0} (rack : racks.Ghosts R) (area : areas.Ghosts A) where
     -- the metaslab for which the shard stands
     pub its : IsMetaslab rack area (part_in x m) (is.stands.pieces m) shard y
     its = is.stands.each m shard y at y_there.1
+
+    pub its_geometry : shard.geometry ≡ pool.geometry
+    its_geometry = ap (λ (p : Part). p.geometry) its.part_is ∙ is.stands.geometry
+
+    pub its_room : (own : Shard R A) (len : ℕ) → shard ≡ own → ((w : machine.State) → IsIn own w → HasRoom (stripes_of (cut_of pool.geometry) len) own w)
+        → (w : machine.State) × IsIn shard w × HasRoom (stripes_of (cut_of shard.geometry) len) shard w
+    its_room own len same room = (
+      y.world,
+      its.stands.is_in,
+      subst (λ (geometry : Geometry). HasRoom (stripes_of (cut_of geometry) len) shard y.world) (sym its_geometry)
+      (subst (λ (z : Shard R A). (w : machine.State) → IsIn z w → HasRoom (stripes_of (cut_of pool.geometry) len) z w) (sym same) room y.world its.stands.is_in),
+    )
+
+    -- what became of the block here
+    pub stored_here : (pointer : Pointer)
+        → ((part : Part) (pieces : Pieces) (z : Metaslab) → IsMetaslab rack area part pieces shard z → Stored rack area part pieces object (pool.seq + 1) pool.floor bytes z shard' pointer)
+        → Stored rack area (part_in x m) (is.stands.pieces m) object (x.store.seq + 1) pool.floor bytes y shard' pointer
+    stored_here pointer stores =
+        subst (λ seq. Stored rack area (part_in x m) (is.stands.pieces m) object (seq + 1) pool.floor bytes y shard' pointer) (sym is.stands.seq) (stores (part_in x m) (is.stands.pieces m) y its)
+
+    pub missed_here : (e : StoreFault) (columns birth : ℕ) → e ≡ store_fault.Missed columns birth
+        → ((part : Part) (pieces : Pieces) (z : Metaslab) → IsMetaslab rack area part pieces shard z → StoreDoes rack area part pieces object (pool.seq + 1) pool.floor bytes z shard' (Err e))
+        → NotStored rack area (part_in x m) (is.stands.pieces m) object (x.store.seq + 1) pool.floor bytes y shard' columns birth
+    missed_here e columns birth same stores =
+        subst (λ seq. NotStored rack area (part_in x m) (is.stands.pieces m) object (seq + 1) pool.floor bytes y shard' columns birth) (sym is.stands.seq)
+        (subst (λ f. StoreDoes rack area (part_in x m) (is.stands.pieces m) object (pool.seq + 1) pool.floor bytes y shard' (Err f)) same (stores (part_in x m) (is.stands.pieces m) y its))
+
+    pub unwritten_here : (e : StoreFault) → e ≡ store_fault.NoMemory
+        → ((part : Part) (pieces : Pieces) (z : Metaslab) → IsMetaslab rack area part pieces shard z → StoreDoes rack area part pieces object (pool.seq + 1) pool.floor bytes z shard' (Err e))
+        → IsMetaslab rack area (part_in x m) (is.stands.pieces m) shard' y
+    unwritten_here e same stores =
+        subst (λ f. StoreDoes rack area (part_in x m) (is.stands.pieces m) object (pool.seq + 1) pool.floor bytes y shard' (Err f)) same (stores (part_in x m) (is.stands.pieces m) y its)
+
+    -- what a write of the next number wants of it
+    pub its_floor : pool.floor ≤ shard.open_group + 1
+    its_floor = floor_fits rack area pool (λ o. get nat_eq pool.objects o) x m shard is.stands at
+
+    pub its_unused : (seq : ℕ) → seq ≡ pool.seq → entries.held_in shard.entries (record { object = object; seq = seq + 1 }) ≡ None
+    its_unused seq same = by (y.world.core.held (record { object = object; seq = seq + 1 })) refl
+      where
+        by : (o : Option Held) → y.world.core.held (record { object = object; seq = seq + 1 }) ≡ o → entries.held_in shard.entries (record { object = object; seq = seq + 1 }) ≡ None
+        by None none = sym (its.stands.is_in.held (record { object = object; seq = seq + 1 })) ∙ none
+        by (Some h) some = absurd (
+          let low = is.stands.holds.numbered m (record { object = object; seq = seq + 1 }) h (blocks_at x.metaslabs m y (record { object = object; seq = seq + 1 }) y_there.1 ∙ some) in
+          let own = is.stands.seq in
+          omega (arith, low, own, same)
+        )
 
     -- ---- nothing was written
     pub unwritten : (new : Pool R A) → IsMetaslab rack area (part_in x m) (is.stands.pieces m) shard' y → new.shards.items ≡ slice_set pool.shards.items m shard' → new.geometry ≡ pool.geometry
