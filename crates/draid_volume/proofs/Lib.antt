@@ -19,3 +19,5 @@ pub mod StoreSteps
 pub mod Feeding
 pub mod Sums
 pub mod Batched
+pub mod ReplaceSteps
+pub mod WriteSteps

@@ -299,6 +299,8 @@ module _ {R A : Type 0} (rack : racks.Ghosts R) (area : areas.Ghosts A) (object 
           seq_is = ap (λ (q : Pointer). q.seq) a.pointer ∙ b.named.seq_is;
           metaslab_is = here;
           birth_is = ap (λ (q : Pointer). q.birth) a.pointer;
+          len_is = ap (λ (q : Pointer). q.len) a.pointer ∙ sym b.carries.content.len;
+          digest_is = ap (λ (q : Pointer). q.digest) a.pointer ∙ sym b.carries.content.digest;
           content = record {
             bytes = b.carries.content.bytes;
             columns = block.columns;

@@ -1,6 +1,7 @@
 -- What becomes of one metaslab as a block is written to its shard, or freed, fetched or damaged there.
 use Rattle.std.specs.Prelude.{◌≡◌, ◌≤◌, ◌<◌, ◌+◌, ◌⊎◌, ⊤, ℕ, Bool, true, false, List, [], ◌∷◌, Option, Some, None, Result, Ok, Err, length, max, slice_get, slice_set}
 use Rattle.std.specs.List.{AllZip}
+use Rattle.sha2.specs.Sha256.{sha256}
 use Rattle.draid_names.specs.declared.pointer.Pointer.{Pointer}
 use Rattle.draid_names.specs.declared.room.Room.{Room}
 use Rattle.draid_names.specs.declared.numbers.TheConstants.{LAST_NUMBER}
@@ -85,6 +86,8 @@ pub record IsStored {R A : Type 0} (part : Part) (object seq birth : ℕ) (bytes
   pub seq_is : pointer.seq ≡ seq
   pub metaslab_is : pointer.metaslab ≡ part.number
   pub birth_is : pointer.birth ≡ birth
+  pub len_is : pointer.len ≡ length bytes
+  pub digest_is : pointer.digest ≡ sha256 bytes
   pub content : HasPieces part.geometry (record { object = object; seq = seq; metaslab = part.number; birth = birth; bytes = bytes }) pieces
   pub live : IsLive new pointer
   pub held : y.world.core.held (key_of pointer) ≡ Some (held_at (staged Live pointer))
