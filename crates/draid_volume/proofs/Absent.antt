@@ -4,12 +4,11 @@ use Rattle.std.specs.Prelude.{All, Contains, is_none, slice_get}
 use Rattle.std.specs.List.Sorted.{IsStrictlyIncreasing}
 use Rattle.std.proofs.lemmas.Bool.{cases_lt}
 use Rattle.std.proofs.lemmas.List.{append-nil}
-use Rattle.std.proofs.lemmas.List.Elements.{All-nil, All-push, Contains-get_or, Contains-push, Contains-append_left}
+use Rattle.std.proofs.lemmas.List.Elements.{All-nil, All-push, Contains-get_or}
 use Rattle.std.proofs.lemmas.Option.{get_or_from_slice_get, slice_get-get_or}
-use Rattle.draid_block.specs.Columns.{Cut}
-use Rattle.draid_block.specs.Order.{IsTried, solve_order}
-use Rattle.draid_block.specs.Solving.{IsFirst, absent_below, absent_columns}
-use Rattle.draid_block.proofs.Complete.{absent_is, absent_within}
+use Rattle.draid_block.specs.Order.{solve_order}
+use Rattle.draid_block.specs.Solving.{absent_below, absent_columns}
+use Rattle.draid_block.proofs.Complete.{absent_is}
 use Rattle.draid_block.proofs.Held.{absent_contains}
 use Rattle.draid_block.proofs.Order.{order_only}
 use Rattle.draid_block.proofs.Sets.{ascending-push}

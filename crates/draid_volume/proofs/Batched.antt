@@ -330,24 +330,26 @@ module _ {R A : Type 0} (rack : racks.Ghosts R) (area : areas.Ghosts A) where
       let n = all.1 in
       let m = more.1 in
       let long = length-append b.front b.back in
-      carried rack area new x (b.front ++ b.back) b.reached (AddIs x first count hasher hasher' (Err (record { object = first; why = object.NoMemory }))) b.follows b.represents
-      (refl, record {
-        contents = [];
-        front = [];
-        back = b.front ++ b.back;
-        are = refl;
-        object_is = omega arith;
-        within = omega (arith, some);
-        gives = refl;
-        stops = (
-          b.front ++ b.back,
-          [],
-          sym (append-nil (b.front ++ b.back)),
-          fetches_append x first (first + length batch.blocks.items) b.front b.back (omega (arith, n)) all.0 more.0,
-          tt,
-        );
-        fetched = omega (arith, long, n, m);
-      })
+      carried rack area new x (b.front ++ b.back) b.reached (AddIs x first count hasher hasher' (Err (record { object = first; why = object.NoMemory }))) b.follows b.represents (
+        refl,
+        record {
+          contents = [];
+          front = [];
+          back = b.front ++ b.back;
+          are = refl;
+          object_is = omega arith;
+          within = omega (arith, some);
+          gives = refl;
+          stops = (
+            b.front ++ b.back,
+            [],
+            sym (append-nil (b.front ++ b.back)),
+            fetches_append x first (first + length batch.blocks.items) b.front b.back (omega (arith, n)) all.0 more.0,
+            tt,
+          );
+          fetched = omega (arith, long, n, m);
+        },
+      )
 
   -- one of the blocks can't be read
   pub unread_in : (x : State) (first count : ℕ) (batch : Batch) (solves : List Solve) (hasher hasher' : Sha256) (fault : SumFault) (new : Pool R A)
@@ -365,24 +367,26 @@ module _ {R A : Type 0} (rack : racks.Ghosts R) (area : areas.Ghosts A) where
       let held = length-append b.front b.back in
       let lost : SumFault = record { object = first + length u.before; why = object.Unreadable u.absent u.tried } in
       subst (λ (f : SumFault). CarriesOut rack area new x (AddIs x first count hasher hasher' (Err f))) (sym u.named)
-      (carried rack area new x (b.front ++ b.back) b.reached (AddIs x first count hasher hasher' (Err lost)) b.follows b.represents
-      (refl, record {
-        contents = u.contents;
-        front = l.front;
-        back = l.hold ∷ (l.rest ++ b.back);
-        are = ap (λ hs. hs ++ b.back) l.are ∙ append_assoc l.front (l.hold ∷ l.rest) b.back;
-        object_is = omega (arith, many);
-        within = omega (arith, many, long, m);
-        gives = l.gives;
-        stops = (
-          l.hold,
-          l.rest ++ b.back,
-          refl,
-          l.loses,
-          fetches_append x (first + length u.before + 1) (first + length blocks) l.rest b.back (omega (arith, long)) l.fetches more.0,
-        );
-        fetched = omega (arith, held, n, m);
-      }))
+      (carried rack area new x (b.front ++ b.back) b.reached (AddIs x first count hasher hasher' (Err lost)) b.follows b.represents (
+        refl,
+        record {
+          contents = u.contents;
+          front = l.front;
+          back = l.hold ∷ (l.rest ++ b.back);
+          are = ap (λ hs. hs ++ b.back) l.are ∙ append_assoc l.front (l.hold ∷ l.rest) b.back;
+          object_is = omega (arith, many);
+          within = omega (arith, many, long, m);
+          gives = l.gives;
+          stops = (
+            l.hold,
+            l.rest ++ b.back,
+            refl,
+            l.loses,
+            fetches_append x (first + length u.before + 1) (first + length blocks) l.rest b.back (omega (arith, long)) l.fetches more.0,
+          );
+          fetched = omega (arith, held, n, m);
+        },
+      ))
 
   -- all blocks gave their bytes, and the next object gives none
   pub batch_stops : (x : State) (first count added : ℕ) (batch : Batch) (solves : List Solve) (hasher hasher' : Sha256) (why : ObjectFault) (new : Pool R A)
@@ -405,18 +409,20 @@ module _ {R A : Type 0} (rack : racks.Ghosts R) (area : areas.Ghosts A) where
       let are = append_assoc b.front b.back stop.extra in
       let held = ap length are ∙ length-append b.front (b.back ++ stop.extra) in
       carried rack area new x ((b.front ++ b.back) ++ stop.extra) b.reached (AddIs x first count hasher hasher' (Err last))
-      (follows_on (b.front ++ b.back) stop.extra x b.reached b.reached b.follows stop.follows) b.represents
-      (refl, record {
-        contents = f.contents;
-        front = b.front;
-        back = b.back ++ stop.extra;
-        are = are;
-        object_is = omega (arith, many, long);
-        within = omega (arith, many, below);
-        gives = g.0;
-        stops = subst (λ (k : ℕ). reads.StopsFor x.geometry x.perms x.store (first + k) why (b.back ++ stop.extra)) (sym long) stop.stops;
-        fetched = omega (arith, held, short, n, many, below);
-      })
+      (follows_on (b.front ++ b.back) stop.extra x b.reached b.reached b.follows stop.follows) b.represents (
+        refl,
+        record {
+          contents = f.contents;
+          front = b.front;
+          back = b.back ++ stop.extra;
+          are = are;
+          object_is = omega (arith, many, long);
+          within = omega (arith, many, below);
+          gives = g.0;
+          stops = subst (λ (k : ℕ). reads.StopsFor x.geometry x.perms x.store (first + k) why (b.back ++ stop.extra)) (sym long) stop.stops;
+          fetched = omega (arith, held, short, n, many, below);
+        },
+      )
 
   -- all blocks gave their bytes
   pub batch_added : (x : State) (first count added : ℕ) (batch : Batch) (solves : List Solve) (hasher hasher' : Sha256) (new : Pool R A)

@@ -1,5 +1,5 @@
 -- A sector of a pool is damaged: what its shard did, as a call of the pool.
-use Rattle.std.proofs.Common.{◌≡◌, ◌≤◌, ◌<◌, ◌/◌, ◌%◌, ◌∙◌, [], ◌∷◌, ℕ, false, true, List, Some, Ok, Err, arith, refl, sym, ap, subst, inl, inr, length, slice_index_or}
+use Rattle.std.proofs.Common.{◌≡◌, ◌≤◌, ◌<◌, ◌/◌, ◌%◌, ◌∙◌, [], ◌∷◌, ℕ, false, true, List, Some, Ok, Err, arith, refl, sym, ap, subst, inl, inr, slice_index_or}
 use Rattle.std.specs.Prelude.{Result, slice_get}
 use Rattle.std.proofs.Math.Nat.{mod-lt}
 use Rattle.draid_rack.specs.declared.Rack as racks
@@ -101,7 +101,7 @@ module _ {R A : Type 0} (rack : racks.Ghosts R) (area : areas.Ghosts A) where
   pub damage_done : (pool new : Pool R A) (shard shard' : Shard R A) (x : State) (leaf sector sectors metaslabs : ℕ) (result : Result Unit DamageFault) → Represents rack area pool x
       → SetsShard rack area (sector / sectors) pool new shard shard' → sectors ≡ metaslab_sectors pool.geometry → metaslabs ≡ pool.geometry.props.metaslabs → sector / sectors < metaslabs
       → ((part : Part) (pieces : Pieces) (y : Metaslab) → IsMetaslab rack area part pieces shard y
-        → Goes rack area part pieces y shard' (λ holds y'. SectorDoes part leaf (sector % sectors) y result holds × SameBlocks y y'))
+      → Goes rack area part pieces y shard' (λ holds y'. SectorDoes part leaf (sector % sectors) y result holds × SameBlocks y y'))
       → CarriesOut rack area new x (DamageDoes x leaf sector result)
   damage_done pool new shard shard' x leaf sector sectors metaslabs result r set is are below goes =
       let k : ℕ = sector / sectors in

@@ -1,6 +1,6 @@
 -- A sector of a shard is damaged.
-use Rattle.std.proofs.Common.{◌≡◌, ◌≢◌, ◌≤◌, ◌<◌, ◌+◌, ◌-◌, ◌==◌, ◌&&◌, ◌∙◌, [], ◌∷◌, ℕ, zero, suc, Bool, true, false, List, Option, Some, None, arith, refl, sym, ap, subst, inl, inr, max, length, get_or}
-use Rattle.std.specs.Prelude.{Contains, Result, Ok, Err, is_err}
+use Rattle.std.proofs.Common.{◌≡◌, ◌≢◌, ◌<◌, ◌+◌, ◌-◌, ◌==◌, ◌&&◌, ◌∙◌, [], ◌∷◌, ℕ, zero, suc, Bool, true, List, Some, None, arith, refl, sym, ap, subst, inl, inr, max, length, get_or}
+use Rattle.std.specs.Prelude.{Result, Ok, Err, is_err}
 use Rattle.std.specs.List.{list_any}
 use Rattle.draid_names.specs.declared.arm.ArmKind.{ArmKind}
 use Rattle.draid_names.specs.declared.arm.ArmKind.TheVariants as kind
@@ -8,17 +8,16 @@ use Rattle.draid_names.specs.declared.fault.Failed.{Failed}
 use Rattle.draid_rack.specs.Rack.{Counts}
 use Rattle.draid_rack.specs.declared.Rack as racks
 use Rattle.draid_area.specs.declared.Area as areas
-use Rattle.draid_machine.specs.declared.names.ArmName.{ArmName}
-use Rattle.draid_machine.specs.declared.names.ArmName.TheVariants.{Leaf, Spare}
+use Rattle.draid_machine.specs.declared.names.ArmName.TheVariants.{Leaf}
 use Rattle.draid_machine.specs.declared.event.Event.TheVariants.{Damage}
 use Rattle.draid_machine.specs.State as machine
-use Rattle.draid_machine.proofs.Small.{either_true, equal, none_some, true_left, true_right, true_both}
+use Rattle.draid_machine.proofs.Small.{equal, none_some, true_left, true_right}
 use Rattle.draid_segments.specs.Segments.{Pieces}
 use Rattle.draid_entries.specs.declared.history.ReserveFault.{ReserveFault}
 use Rattle.draid_entries.specs.declared.history.ReserveFault.TheVariants as reserve
 use Rattle.draid_entries.specs.History.{IsReserved, Passes, left_for_groups, limit_in, reserved_of}
 use Rattle.draid_slots.specs.declared.slot.Detached.{Detached}
-use Rattle.draid_slots.specs.Table.{SlotTable, is_leaf_kind, is_leaving}
+use Rattle.draid_slots.specs.Table.{SlotTable, is_leaf_kind}
 use Rattle.draid_slab.specs.Calls.{ActsOn, SameAreas, SameKit}
 use Rattle.draid_slab.specs.Fits.{IsLeaf, Valid}
 use Rattle.draid_slab.specs.Part.{Part, layout_in}
@@ -109,7 +108,10 @@ module _ {R A : Type 0} (rack : racks.Ghosts R) (area : areas.Ghosts A) where
         holds = On (view_of part.number x) (Reserved 1) ∷ (On (view_of part.number y) (Did (Damage leaf sector failed) z.reached.world) ∷ []);
         reached = z.reached;
         follows = (
-          Reserved 1, y, refl, reserves (layout_in part) 1 (reserved_of mid.history) x (reserved ∙ ap (max 1) (sym is.reserved)),
+          Reserved 1,
+          y,
+          refl,
+          reserves (layout_in part) 1 (reserved_of mid.history) x (reserved ∙ ap (max 1) (sym is.reserved)),
           (Did (Damage leaf sector failed) z.reached.world, z.reached, refl, z.acts, refl),
         );
         done = (

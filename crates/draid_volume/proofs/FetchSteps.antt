@@ -1,6 +1,6 @@
 -- An object's block is fetched: what that says of the object.
-use Rattle.std.proofs.Common.{◌≡◌, ◌≤◌, ◌<◌, ◌+◌, ◌⊎◌, ◌∙◌, [], ◌∷◌, ℕ, List, Option, Some, None, Ok, Err, arith, refl, sym, ap, subst, inl, inr, length}
-use Rattle.std.specs.Prelude.{⊤, Contains, MatchOption, nat_eq, slice_get}
+use Rattle.std.proofs.Common.{◌≡◌, ◌+◌, ◌⊎◌, ◌∙◌, ℕ, List, Option, Some, None, Err, arith, refl, sym, ap, subst, inl, inr, length}
+use Rattle.std.specs.Prelude.{⊤, MatchOption, nat_eq, slice_get}
 use Rattle.std.specs.HashMap.{get}
 use Rattle.sha2.specs.Sha256.{sha256}
 use Rattle.draid_names.specs.declared.pointer.Pointer.{Pointer}
@@ -138,29 +138,37 @@ module _ (x : State) (o : ℕ) (w : Write) (pointer : Pointer) (y y' : Metaslab)
   answers : (solve : Solve) → IsSolved (cut_of x.geometry) fetched solve → ReadDoes x o (reading_of solve) holds x.store
   answers (Bytes bytes) solved = (
     refl,
-    (hold, f.are, record {
-      w = w;
-      absent = absent;
-      written = last;
-      fetches = fetched_in;
-      few = tried_few x.geometry.spec.parity (x.geometry.spec.parity + x.geometry.spec.ndata) fetched.columns.items solved.solves.before solved.solves.after solved.solves.set f.block.count solved.solves.order;
-      reads = record {
-        len = solved.digest.len ∙ (ap (λ (p : Pointer). p.len) f.pointer_is ∙ of.len);
-        digest = solved.digest.digest ∙ (ap (λ (p : Pointer). p.digest) f.pointer_is ∙ of.digest);
-      };
-    }),
+    (
+      hold,
+      f.are,
+      record {
+        w = w;
+        absent = absent;
+        written = last;
+        fetches = fetched_in;
+        few = tried_few x.geometry.spec.parity (x.geometry.spec.parity + x.geometry.spec.ndata) fetched.columns.items solved.solves.before solved.solves.after solved.solves.set f.block.count solved.solves.order;
+        reads = record {
+          len = solved.digest.len ∙ (ap (λ (p : Pointer). p.len) f.pointer_is ∙ of.len);
+          digest = solved.digest.digest ∙ (ap (λ (p : Pointer). p.digest) f.pointer_is ∙ of.digest);
+        };
+      },
+    ),
   )
   answers (Unreadable missing tried) solved = (
     refl,
-    (hold, f.are, record {
-      w = w;
-      absent = absent;
-      written = last;
-      fetches = fetched_in;
-      why = beyond missing tried solved;
-      many_is = solved.solves.absent_is;
-      tried_is = solved.solves.tried_is ∙ ap (λ n. length (solve_order x.geometry.spec.parity n absent)) (sym geometry.columns);
-    }),
+    (
+      hold,
+      f.are,
+      record {
+        w = w;
+        absent = absent;
+        written = last;
+        fetches = fetched_in;
+        why = beyond missing tried solved;
+        many_is = solved.solves.absent_is;
+        tried_is = solved.solves.tried_is ∙ ap (λ n. length (solve_order x.geometry.spec.parity n absent)) (sym geometry.columns);
+      },
+    ),
   )
 
   pub fetch_is : FetchIs x o fetched holds x.store

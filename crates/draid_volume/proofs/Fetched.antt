@@ -1,5 +1,5 @@
 -- A block is fetched from its shard.
-use Rattle.std.proofs.Common.{◌≡◌, ◌≤◌, ◌<◌, ◌+◌, ◌⊎◌, ◌∙◌, [], ◌∷◌, ℕ, Bool, List, Option, Some, None, Vec, Global, arith, refl, sym, ap, subst, length}
+use Rattle.std.proofs.Common.{◌≡◌, ◌<◌, ◌⊎◌, [], ◌∷◌, ℕ, Bool, List, Option, Some, None, Vec, Global, arith, refl, sym, ap, subst}
 use Rattle.std.specs.Prelude.{◌↔◌, ⊤, MatchOption, slice_get}
 use Rattle.draid_names.specs.declared.pointer.Pointer.{Pointer}
 use Rattle.draid_rack.specs.Rack.{OnTold, Told}
@@ -11,7 +11,6 @@ use Rattle.draid_block.specs.declared.solve.Fetched.{Fetched}
 use Rattle.draid_machine.specs.declared.names.Held.{Held}
 use Rattle.draid_machine.specs.declared.event.Event.TheVariants.{Fetch}
 use Rattle.draid_machine.specs.State as machine
-use Rattle.draid_machine.specs.Step.{Step}
 use Rattle.draid_segments.specs.Reads.{IsAbsent, MoreBad}
 use Rattle.draid_segments.specs.Segments.{Pieces}
 use Rattle.draid_entries.specs.Maps.{key_of}
@@ -19,7 +18,7 @@ use Rattle.draid_slab.specs.Calls.{ActsOn, Fetches, IsWornFor, SameAreas, SameRe
 use Rattle.draid_slab.specs.Columns.{ArePieces}
 use Rattle.draid_slab.specs.Fits.{Valid}
 use Rattle.draid_slab.specs.Part.{Part, layout_in}
-use Rattle.draid_slab.specs.States.{IsIn, layout_by, part_of}
+use Rattle.draid_slab.specs.States.{layout_by, part_of}
 use Rattle.draid_slab.specs.declared.shard.Shard.{Shard}
 use Rattle.draid_slab.proofs.Readable.{readable}
 use Rattle.draid_session.specs.Holds.{Did, Hold, On, view_of}

@@ -1,5 +1,5 @@
 -- Holds of one metaslab of a pool that leave what it holds as it was.
-use Rattle.std.proofs.Common.{◌≡◌, ◌≤◌, ◌<◌, ◌+◌, ◌∙◌, [], ℕ, List, Option, Some, None, arith, refl, sym, ap, subst, length, slice_index_or, slice_set}
+use Rattle.std.proofs.Common.{◌≡◌, ◌∙◌, [], ℕ, List, Option, Some, None, arith, refl, sym, ap, subst, slice_index_or, slice_set}
 use Rattle.std.specs.Prelude.{nat_eq, slice_get}
 use Rattle.std.specs.HashMap.{get}
 use Rattle.std.proofs.lemmas.Option.{slice_get-get_or, slice_get_within}
@@ -9,7 +9,6 @@ use Rattle.draid_area.specs.declared.Area as areas
 use Rattle.draid_machine.specs.declared.names.Key.{Key}
 use Rattle.draid_machine.specs.declared.names.Held.{Held}
 use Rattle.draid_machine.specs.declared.names.Stage.TheVariants.{Live}
-use Rattle.draid_machine.specs.State as machine
 use Rattle.draid_segments.specs.Segments.{Pieces}
 use Rattle.draid_objects.specs.Blocks.{Blocks}
 use Rattle.draid_objects.specs.Changes.{Write, write_of}
@@ -19,7 +18,7 @@ use Rattle.draid_session.specs.Holds.{Hold}
 use Rattle.draid_session.specs.State.{Metaslab, State, Store}
 use Rattle.draid_volume.specs.Carries.{CarriesOut}
 use Rattle.draid_volume.specs.Metaslabs.{IsMetaslab}
-use Rattle.draid_volume.specs.Objects.{HoldsObjects, IsLastAt, IsPointerOf, PointsTo, blocks_of}
+use Rattle.draid_volume.specs.Objects.{HoldsObjects, IsLastAt, PointsTo, blocks_of}
 use Rattle.draid_volume.specs.Pools.{Represents, Stands, part_in}
 use Rattle.draid_volume.specs.Shards.{Goes, SameBlocks}
 use Rattle.draid_volume.specs.declared.pool.Pool.{Pool}

@@ -1,5 +1,5 @@
 -- A hold of a metaslab that adds no event, and one of which the rack tells nothing new.
-use Rattle.std.proofs.Common.{◌≡◌, ◌≤◌, ◌<◌, ◌+◌, ◌-◌, ◌∙◌, [], ◌∷◌, ℕ, List, Option, Some, None, arith, refl, sym, ap, subst, max, length}
+use Rattle.std.proofs.Common.{◌≡◌, ◌+◌, ◌∙◌, [], ◌∷◌, ℕ, List, arith, refl, sym, ap, subst, max, length}
 use Rattle.std.proofs.Math.Nat.{max_comm}
 use Rattle.draid_rack.specs.declared.Rack as racks
 use Rattle.draid_area.specs.declared.Area as areas
@@ -103,8 +103,3 @@ module _ {R A : Type 0} (rack : racks.Ghosts R) (area : areas.Ghosts A) where
   pub looked : (part : Part) (pieces : Pieces) (new : Shard R A) (x : Metaslab) (does : List Hold → Metaslab → Type 0) → IsMetaslab rack area part pieces new x
       → does (On (view_of part.number x) Looked ∷ []) x → Goes rack area part pieces x new does
   looked part pieces new x does is done = record { holds = On (view_of part.number x) Looked ∷ []; reached = x; follows = looks_in (layout_in part) part.number x; done = done; is = is }
-
-  -- nothing was done
-  pub stayed : (part : Part) (pieces : Pieces) (new : Shard R A) (x : Metaslab) (does : List Hold → Metaslab → Type 0) → IsMetaslab rack area part pieces new x → does [] x
-      → Goes rack area part pieces x new does
-  stayed part pieces new x does is done = record { holds = []; reached = x; follows = refl; done = done; is = is }

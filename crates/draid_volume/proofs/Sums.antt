@@ -1,5 +1,5 @@
 -- The bytes of one object after another.
-use Rattle.std.proofs.Common.{◌≡◌, ◌+◌, ◌-◌, ◌≤◌, ◌<◌, ◌∙◌, ◌++◌, ℕ, suc, List, [], ◌∷◌, Ok, Err, arith, refl, sym, ap, subst, length, length-append}
+use Rattle.std.proofs.Common.{◌≡◌, ◌+◌, ◌-◌, ◌≤◌, ◌∙◌, ◌++◌, ℕ, suc, List, [], ◌∷◌, Ok, Err, arith, refl, sym, ap, subst, length, length-append}
 use Rattle.std.specs.Prelude.{flat_map}
 use Rattle.std.proofs.lemmas.List.{append_assoc}
 use Rattle.sha2.specs.Sha256.{sha256}
@@ -92,18 +92,20 @@ module _ {R A : Type 0} (rack : racks.Ghosts R) (area : areas.Ghosts A) where
       let held = length-append s.holds c.holds in
       let front = gives_length x.geometry x.perms x.store first s.contents s.holds s.gives in
       carried rack area new x (s.holds ++ c.holds) c.reached (SumDoes x first count (Err fault)) (follows_on s.holds c.holds x s.reached c.reached s.follows c.follows)
-      (settled rack area new s.reached (AddIs s.reached (first + summed) (count - summed) hasher hasher' (Err fault)) c c.done.0)
-      (refl, record {
-        contents = s.contents ++ f.contents;
-        front = s.holds ++ f.front;
-        back = f.back;
-        are = ap (λ hs. s.holds ++ hs) f.are ∙ sym (append_assoc s.holds f.front f.back);
-        object_is = omega (arith, many, at, long);
-        within = omega (arith, many, within, long, below);
-        gives = gives_append x.geometry x.perms x.store first (first + summed) s.contents f.contents s.holds f.front (ap (λ k. first + k) s.many) s.gives f.gives;
-        stops = f.stops;
-        fetched = omega (arith, held, fetched, front, many, below);
-      })
+      (settled rack area new s.reached (AddIs s.reached (first + summed) (count - summed) hasher hasher' (Err fault)) c c.done.0) (
+        refl,
+        record {
+          contents = s.contents ++ f.contents;
+          front = s.holds ++ f.front;
+          back = f.back;
+          are = ap (λ hs. s.holds ++ hs) f.are ∙ sym (append_assoc s.holds f.front f.back);
+          object_is = omega (arith, many, at, long);
+          within = omega (arith, many, within, long, below);
+          gives = gives_append x.geometry x.perms x.store first (first + summed) s.contents f.contents s.holds f.front (ap (λ k. first + k) s.many) s.gives f.gives;
+          stops = f.stops;
+          fetched = omega (arith, held, fetched, front, many, below);
+        },
+      )
 
   pub sum_done : (new : Pool R A) (x : State) (first summed count : ℕ) (hasher : Sha256) (digest : List ℕ) → Summing new x first summed hasher → summed ≡ count
       → ((m : List ℕ) → Holds256 hasher m → digest ≡ sha256 m) → CarriesOut rack area new x (SumDoes x first count (Ok digest))

@@ -1,4 +1,4 @@
-use Rattle.std.proofs.Common.{◌≡◌, ◌∙◌, ℕ, List, Some, Err, ap, arith, refl, sym, subst, slice_index_or, length}
+use Rattle.std.proofs.Common.{◌∙◌, Err, ap, arith, refl, sym, subst}
 use Rattle.std.proofs.lemmas.Option.{slice_get_within}
 use Rattle.std.specs.Vec.{with_item}
 use Rattle.draid_slab.specs.Calls.{FetchIsWorn}
