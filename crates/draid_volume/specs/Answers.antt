@@ -1,5 +1,5 @@
 -- What each call of a pool does, by its answer: its holds, and what the pool has of its own before and after.
-use Rattle.std.specs.Prelude.{◌≡◌, ◌≤◌, ◌<◌, ◌+◌, ℕ, true, false, List, [], ◌∷◌, ◌++◌, Option, None, Result, Ok, Err}
+use Rattle.std.specs.Prelude.{◌≡◌, ◌≤◌, ◌<◌, ◌+◌, ⊤, ℕ, true, false, List, [], ◌∷◌, ◌++◌, Option, Some, None, slice_get, Result, Ok, Err}
 use Rattle.std.specs.declared.vec.Vec.{Vec}
 use Rattle.std.specs.declared.alloc.Global.{Global}
 use Rattle.draid_names.specs.declared.refusal.ObjectFault.{ObjectFault}
@@ -16,10 +16,11 @@ use Rattle.draid_block.specs.declared.solve.Fetched.{Fetched}
 use Rattle.draid_objects.specs.Changes.{Write, Wrote, write_of}
 use Rattle.draid_session.specs.Damage as damage
 use Rattle.draid_session.specs.Does.{IsOne, ReadStarves}
-use Rattle.draid_session.specs.Holds.{Hold}
+use Rattle.draid_session.specs.Holds.{Hold, view_of}
 use Rattle.draid_session.specs.Looks.{OnlyLooks}
 use Rattle.draid_session.specs.Reads as reads
-use Rattle.draid_session.specs.State.{State, Store}
+use Rattle.draid_session.specs.State.{Metaslab, State, Store}
+use Rattle.draid_session.specs.Worn.{IsWorn}
 use Rattle.draid_session.specs.Writes as written
 use Rattle.draid_volume.specs.declared.fault.DamageFault.{DamageFault}
 use Rattle.draid_volume.specs.declared.fault.DamageFault.TheVariants as damaged
@@ -97,13 +98,28 @@ abbrev pub reading_of : Solve → Result (Vec ℕ Global) ObjectFault
 reading_of (Bytes bytes) = Ok bytes
 reading_of (Unreadable absent tried) = Err (object.Unreadable absent tried)
 
--- An object's block was fetched: whatever solves it is an answer to a read of the object.
+-- an object's block was fetched in this hold
+abbrev pub IsFetchOf : State → ℕ → Hold → Type 0
+IsFetchOf x o hold = (w : Write) × (absent : List ℕ) × (write_of x.store.changes o ≡ Some w) × reads.Fetches x.geometry x.perms w hold absent
+
+-- An object's block was fetched, in one hold: whatever solves it is an answer to a read of the object.
 pub record FetchIs (x : State) (o : ℕ) (fetched : Fetched) (holds : List Hold) (new : Store) : Type 0 where
   pub store : new ≡ x.store
   pub block : IsFetched (cut_of x.geometry) fetched
-  pub starves : ReadStarves x.geometry x.perms x.store o 1 holds
+  pub one : IsOne (IsFetchOf x o) holds
   pub answers : (solve : Solve) → IsSolved (cut_of x.geometry) fetched solve → ReadDoes x o (reading_of solve) holds new
 
-abbrev pub FetchDoes : State → ℕ → Result Fetched ObjectFault → List Hold → Store → Type 0
-FetchDoes x o (Ok fetched) holds new = FetchIs x o fetched holds new
-FetchDoes x o (Err why) holds new = ReadDoes x o (Err why) holds new
+-- an object's block lies in a metaslab that is worn
+pub record IsWornAt (x : State) (o : ℕ) : Type 0 where
+  pub w : Write
+  pub y : Metaslab
+  pub written : write_of x.store.changes o ≡ Some w
+  pub there : slice_get x.metaslabs w.metaslab ≡ Some y
+  pub worn : IsWorn x.geometry (view_of w.metaslab y) 1
+
+-- why no block of an object is fetched in a state
+abbrev pub Unfetched : State → ℕ → ObjectFault → Type 0
+Unfetched x o object.NoObject = write_of x.store.changes o ≡ None
+Unfetched x o (object.Unreadable absent tried) = ⊥
+Unfetched x o object.Worn = IsWornAt x o
+Unfetched x o object.NoMemory = ⊤

@@ -1,5 +1,5 @@
 -- What becomes of a batch of objects that are summed.
-use Rattle.std.specs.Prelude.{◌≡◌, ◌≤◌, ◌<◌, ◌+◌, ⊤, ℕ, List, [], ◌∷◌, ◌++◌, Option, Some, None, Result, Ok, Err, length, flat_map}
+use Rattle.std.specs.Prelude.{◌≡◌, ◌≤◌, ◌<◌, ◌+◌, ◌⊎◌, ⊤, ℕ, List, [], ◌∷◌, ◌++◌, Option, Some, None, Result, Ok, Err, length, flat_map}
 use Rattle.sha2.specs.Hashers.{Holds256}
 use Rattle.sha2.specs.declared.Sha256.{Sha256}
 use Rattle.draid_block.specs.declared.many.Solve.{Solve}
@@ -7,10 +7,16 @@ use Rattle.draid_block.specs.declared.many.Solve.TheVariants.{Bytes, Unreadable}
 use Rattle.draid_block.specs.declared.solve.Fetched.{Fetched}
 use Rattle.draid_names.specs.declared.refusal.ObjectFault.{ObjectFault}
 use Rattle.draid_names.specs.declared.refusal.ObjectFault.TheVariants as object
+use Rattle.draid_rack.specs.declared.Rack as racks
+use Rattle.draid_area.specs.declared.Area as areas
+use Rattle.draid_session.specs.Does.{IsOne}
+use Rattle.draid_session.specs.Follows.{Follows}
 use Rattle.draid_session.specs.Holds.{Hold}
 use Rattle.draid_session.specs.Reads.{GivesAll}
 use Rattle.draid_session.specs.State.{State, Store}
-use Rattle.draid_volume.specs.Answers.{FetchIs, ReadDoes, SumDoes}
+use Rattle.draid_volume.specs.Answers.{FetchIs, IsFetchOf, SumDoes, Unfetched}
+use Rattle.draid_volume.specs.Pools.{Represents}
+use Rattle.draid_volume.specs.declared.pool.Pool.{Pool}
 use Rattle.draid_volume.specs.declared.fault.SumFault.{SumFault}
 use Rattle.draid_volume.specs.declared.summing.Batch.{Batch}
 
@@ -22,19 +28,22 @@ FetchesBlocks x first [] holds = holds ≡ []
 FetchesBlocks x first (fetched ∷ more) holds =
     (front : List Hold) × (back : List Hold) × (holds ≡ front ++ back) × FetchIs x first fetched front x.store × FetchesBlocks x (first + 1) more back
 
--- why a batch ends behind so many blocks: it has at least one, or the next object gave none
-abbrev pub EndsBatch : State → ℕ → ℕ → ℕ → Option ObjectFault → List Hold → Type 0
-EndsBatch x first count many None holds = (1 ≤ many) × (many ≤ count) × (holds ≡ [])
-EndsBatch x first count many (Some why) holds = (many < count) × ReadDoes x (first + many) (Err why) holds x.store
+-- Why a batch ends behind so many blocks: it has at least one; or the next object has none to be fetched in the state that was reached, or its block was fetched
+-- and there was no memory to keep it.
+abbrev pub EndsBatch : State → State → ℕ → ℕ → ℕ → Option ObjectFault → List Hold → Type 0
+EndsBatch x reached first count many None holds = (1 ≤ many) × (many ≤ count) × (holds ≡ [])
+EndsBatch x reached first count many (Some why) holds = (many < count)
+    × (((holds ≡ []) × Unfetched reached (first + many) why) ⊎ ((why ≡ object.NoMemory) × IsOne (IsFetchOf x (first + many)) holds))
 
--- the blocks of the first of so many objects were fetched
-pub record BatchIs (x : State) (first count : ℕ) (batch : Batch) (holds : List Hold) (new : Store) : Type 0 where
-  pub store : new ≡ x.store
+-- the blocks of the first of so many objects were fetched, and the pool stands for the state that was reached
+pub record FetchesBatch {R A : Type 0} (rack : racks.Ghosts R) (area : areas.Ghosts A) (new : Pool R A) (x : State) (first count : ℕ) (batch : Batch) : Type 0 where
   pub front : List Hold
   pub back : List Hold
-  pub are : holds ≡ front ++ back
+  pub reached : State
+  pub follows : Follows (front ++ back) x reached
   pub fetches : FetchesBlocks x first batch.blocks.items front
-  pub ends : EndsBatch x first count (length batch.blocks.items) batch.fault back
+  pub ends : EndsBatch x reached first count (length batch.blocks.items) batch.fault back
+  pub represents : Represents rack area new reached
 
 -- ---- feeding
 

@@ -1,6 +1,7 @@
 -- What becomes of one metaslab as a block is written to its shard, or freed, fetched or damaged there.
 use Rattle.std.specs.Prelude.{◌≡◌, ◌≤◌, ◌<◌, ◌+◌, ◌⊎◌, ⊤, ℕ, Bool, true, false, List, [], ◌∷◌, Option, Some, None, Result, Ok, Err, length, max, slice_get, slice_set}
 use Rattle.std.specs.List.{AllZip}
+use Rattle.sha2.specs.Sha256.{sha256}
 use Rattle.draid_names.specs.declared.pointer.Pointer.{Pointer}
 use Rattle.draid_names.specs.declared.room.Room.{Room}
 use Rattle.draid_names.specs.declared.numbers.TheConstants.{LAST_NUMBER}
@@ -85,20 +86,42 @@ pub record IsStored {R A : Type 0} (part : Part) (object seq birth : ℕ) (bytes
   pub seq_is : pointer.seq ≡ seq
   pub metaslab_is : pointer.metaslab ≡ part.number
   pub birth_is : pointer.birth ≡ birth
+  pub len_is : pointer.len ≡ length bytes
+  pub digest_is : pointer.digest ≡ sha256 bytes
   pub content : HasPieces part.geometry (record { object = object; seq = seq; metaslab = part.number; birth = birth; bytes = bytes }) pieces
   pub live : IsLive new pointer
   pub held : y.world.core.held (key_of pointer) ≡ Some (held_at (staged Live pointer))
   pub others : SameBut (key_of pointer) x.world y.world
 
+-- pieces of other keys are as they were
+abbrev pub SamePieces : Key → Pieces → Pieces → Type 0
+SamePieces key old new = (k : Key) → key_eq key k ≡ false → new k ≡ old k
+
+-- A block was written: it is live then.
+pub record Stored {R A : Type 0} (rack : racks.Ghosts R) (area : areas.Ghosts A) (part : Part) (pieces : Pieces) (object seq floor : ℕ) (bytes : List ℕ) (x : Metaslab) (new : Shard R A) (pointer : Pointer) : Type 0 where
+  pub birth : ℕ
+  pub birth_is : birth ≡ max x.world.open_group floor
+  pub low : birth ≤ LAST_NUMBER
+  pub columns : ℕ
+  pub few : columns ≤ part.geometry.spec.parity
+  pub now : Pieces
+  pub same : SamePieces (record { object = object; seq = seq }) pieces now
+  pub goes : Goes rack area part now x new (λ holds y. WritesBlock part.geometry object seq bytes floor part.number birth columns holds × IsStored part object seq birth bytes x new pointer now y)
+
+-- More of its columns landed nowhere than there are parity columns: it is gone.
+pub record NotStored {R A : Type 0} (rack : racks.Ghosts R) (area : areas.Ghosts A) (part : Part) (pieces : Pieces) (object seq floor : ℕ) (bytes : List ℕ) (x : Metaslab) (new : Shard R A) (columns birth : ℕ) : Type 0 where
+  pub birth_is : birth ≡ max x.world.open_group floor
+  pub low : birth ≤ LAST_NUMBER
+  pub many : part.geometry.spec.parity < columns
+  pub now : Pieces
+  pub same : SamePieces (record { object = object; seq = seq }) pieces now
+  pub goes : Goes rack area part now x new (λ holds y. WritesBlock part.geometry object seq bytes floor part.number birth columns holds
+      × ((k : Key) → y.world.core.held k ≡ x.world.core.held k) × (y.world.committed ≡ x.world.committed))
+
 -- what became of a block that was to be written
 abbrev pub StoreDoes : {R A : Type 0} → racks.Ghosts R → areas.Ghosts A → Part → Pieces → (object seq floor : ℕ) → List ℕ → Metaslab → Shard R A → Result Pointer StoreFault → Type 0
-StoreDoes {R} {A} rack area part pieces object seq floor bytes x new (Ok pointer) =
-    (now : Pieces) × ((k : Key) → key_eq (key_of pointer) k ≡ false → now k ≡ pieces k)
-    × Goes rack area part now x new (λ holds y. (columns : ℕ) × WritesBlock part.geometry object seq bytes floor part.number (max x.world.open_group floor) columns holds
-    × (columns ≤ part.geometry.spec.parity) × IsStored part object seq (max x.world.open_group floor) bytes x new pointer now y)
-StoreDoes {R} {A} rack area part pieces object seq floor bytes x new (Err (store.Missed columns birth)) = (birth ≡ max x.world.open_group floor) ×
-    Goes rack area part pieces x new (λ holds y. WritesBlock part.geometry object seq bytes floor part.number birth columns holds
-    × (part.geometry.spec.parity < columns) × (birth ≤ LAST_NUMBER) × ((k : Key) → y.world.core.held k ≡ x.world.core.held k) × (y.world.committed ≡ x.world.committed))
+StoreDoes rack area part pieces object seq floor bytes x new (Ok pointer) = Stored rack area part pieces object seq floor bytes x new pointer
+StoreDoes rack area part pieces object seq floor bytes x new (Err (store.Missed columns birth)) = NotStored rack area part pieces object seq floor bytes x new columns birth
 StoreDoes rack area part pieces object seq floor bytes x new (Err store.NoMemory) = IsMetaslab rack area part pieces new x
 
 -- ---- freeing

@@ -1,8 +1,10 @@
 ghost use Rattle.std.specs.Prelude.{◌≡◌, ◌<◌};
 ghost use Rattle.draid_spec.specs.Geometry.{metaslab_sectors};
+ghost use Rattle.draid_machine.specs.State as machine;
 ghost use Rattle.draid_segments.specs.Segments.{Pieces};
 ghost use Rattle.draid_slab.specs.Fits.{Valid};
 ghost use Rattle.draid_slab.specs.Part.{Part};
+ghost use Rattle.draid_slab.specs.States.{IsIn};
 ghost use Rattle.draid_session.specs.State.{Metaslab};
 ghost use Rattle.draid_volume.specs.Metaslabs.{IsMetaslab};
 ghost use Rattle.draid_volume.specs.Shards.{Goes, SameBlocks, SectorDoes};
@@ -25,6 +27,7 @@ fn damage_sector<R: Rack, A: Area>(
     sector: u64,
 ) -> Result<(), DamageFault>
     requires valid { Valid R.Rack shard.old }
+    requires state { (w : machine.State) × IsIn shard.old w }
     requires sector { sector < metaslab_sectors shard.old.geometry }
     ensures damages { (part : Part) (pieces : Pieces) (x : Metaslab) → IsMetaslab R.Rack A.Area part pieces shard.old x
         → Goes R.Rack A.Area part pieces x shard.new (λ holds y. SectorDoes part leaf sector x result holds × SameBlocks x y) }

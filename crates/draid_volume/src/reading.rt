@@ -1,7 +1,7 @@
 ghost use Rattle.std.specs.Prelude.{◌≡◌};
 ghost use Rattle.draid_session.specs.State.{State};
-ghost use Rattle.draid_volume.specs.Answers.{FetchDoes, ReadDoes};
-ghost use Rattle.draid_volume.specs.Carries.{CarriesOut};
+ghost use Rattle.draid_volume.specs.Answers.{ReadDoes};
+ghost use Rattle.draid_volume.specs.Carries.{CarriesOut, FetchLeads};
 ghost use Rattle.draid_volume.specs.Pools.{Represents};
 
 use crate::pool::Pool;
@@ -32,7 +32,7 @@ impl<R: Rack, A: Area> Pool<R, A> {
     pub(crate) fn fetch(&mut self, object: u64) -> Result<Fetched, ObjectFault>
         requires represents { (x : State) × Represents R.Rack A.Area self.old x }
         ensures step { (x : State) → Represents R.Rack A.Area self.old x
-            → CarriesOut R.Rack A.Area self.new x (FetchDoes x object result) }
+            → FetchLeads R.Rack A.Area self.new x object result }
     {
         let Some(pointer) = self.objects.get(&object).copied() else {
             return Err(ObjectFault::NoObject);

@@ -10,7 +10,7 @@ ghost use Rattle.draid_slab.specs.Calls.{Carries};
 ghost use Rattle.draid_slab.specs.Columns.{ArePieces};
 ghost use Rattle.draid_slab.specs.Fits.{Valid};
 ghost use Rattle.draid_slab.specs.Part.{Part};
-ghost use Rattle.draid_slab.specs.States.{IsIn};
+ghost use Rattle.draid_slab.specs.States.{IsIn, part_of};
 ghost use Rattle.draid_session.specs.State.{Metaslab};
 ghost use Rattle.draid_session.specs.Writes.{PutsColumns};
 ghost use Rattle.draid_volume.specs.Metaslabs.{IsMetaslab};
@@ -39,6 +39,7 @@ fn put_all<R: Rack, A: Area>(shard: &mut Shard<R, A>, ticket: &mut Ticket, block
     ensures carries { Carries shard.new ticket.new block.now }
     ensures all { ticket.new.next ≡ shard.old.geometry.g }
     ensures pointer { ticket.new.pointer ≡ ticket.old.pointer }
+    ensures part { part_of shard.new ≡ part_of shard.old }
     ensures puts { (part : Part) (pieces : Pieces) (x : Metaslab) → IsMetaslab R.Rack A.Area part pieces shard.old x
         → ArePieces part.geometry.props.sector part.geometry.g ticket.old.pointer.stripes block.now.columns (key_of ticket.old.pointer) pieces
         → Goes R.Rack A.Area part pieces x shard.new (λ holds y. PutsColumns (key_of ticket.old.pointer) part.number part.geometry.g holds

@@ -2,7 +2,7 @@
 ghost use Rattle.std.specs.Prelude.{◌≡◌, ◌≤◌, ◌+◌, length};
 ghost use Rattle.draid_session.specs.State.{State};
 ghost use Rattle.draid_volume.specs.Answers.{SumDoes};
-ghost use Rattle.draid_volume.specs.Batches.{AddIs, BatchIs, FeedIs};
+ghost use Rattle.draid_volume.specs.Batches.{AddIs, FeedIs, FetchesBatch};
 ghost use Rattle.draid_volume.specs.Carries.{CarriesOut};
 ghost use Rattle.draid_volume.specs.Pools.{Represents};
 
@@ -32,7 +32,7 @@ fn fetch_batch<R: Rack, A: Area>(pool: &mut Pool<R, A>, first: u64, count: u64) 
     requires range { first + count ≤ OBJECTS }
     requires represents { (x : State) × Represents R.Rack A.Area pool.old x }
     ensures step { (x : State) → Represents R.Rack A.Area pool.old x
-        → CarriesOut R.Rack A.Area pool.new x (BatchIs x first count result) }
+        → FetchesBatch R.Rack A.Area pool.new x first count result }
 {
     let mut blocks = Vec::new(pool.alloc);
     let mut bytes = 0;

@@ -1,25 +1,85 @@
-use Rattle.std.proofs.Common.{rules, ◌≡◌, ◌≤◌, ◌<◌, ◌+◌, None, length, ℕ, ◌-◌, ◌*◌, ◌/◌, ◌%◌, Bool, true, false, nat_eq, nat_lt, List, [], ◌∷◌, ◌++◌, slice_index_or, slice_set, bit_and, bit_or, Fits, w8, w32, w64, Bor, MutBor}
-use Rattle.draid_block.specs.Blocks.{cut_of}
-use Rattle.draid_block.specs.Columns.{stripes_of}
-use Rattle.draid_machine.specs.State as machine
-use Rattle.draid_segments.specs.Segments.{Pieces}
-use Rattle.draid_entries.specs.Entries.{held_in}
-use Rattle.draid_entries.specs.Maps.{key_of}
-use Rattle.draid_slab.specs.Calls.{Carries}
-use Rattle.draid_slab.specs.Columns.{ArePieces}
-use Rattle.draid_slab.specs.Fits.{Valid}
+use Rattle.std.proofs.Common.{◌≡◌, ◌≤◌, ◌<◌, ◌+◌, ◌∙◌, arith, refl, sym, ap, subst, max}
+use Rattle.draid_names.specs.declared.numbers.TheConstants.{LAST_NUMBER}
+use Rattle.draid_names.specs.declared.pointer.Pointer.{Pointer}
 use Rattle.draid_slab.specs.Part.{Part}
-use Rattle.draid_slab.specs.States.{IsIn}
-use Rattle.draid_session.specs.State.{Metaslab}
-use Rattle.draid_session.specs.Writes.{PutsColumns}
-use Rattle.draid_volume.specs.Metaslabs.{IsMetaslab}
-use Rattle.draid_volume.specs.Shards.{Goes, HasRoom, SameBut, StoreDoes}
+use Rattle.draid_volume.specs.Shards.{NotStored, Stored}
+use Rattle.draid_volume.proofs.StoreSteps.{AllPut, Begun, Ended, not_stored, stored}
 use Rattle.draid_volume.proofs.store.store.Goals as goal
 
--- src/store.rt:53:1
 pub returns-in-Ok-finish : goal.returns-in-Ok-finish
-returns-in-Ok-finish g c = ?
+returns-in-Ok-finish g c =
+    let e = c.in-Ok.ensures in
+    let p = c.put_all.ensures in
+    let f = c.in-Ok-finish.ensures in
+    let old = c.args.shard.now in
+    let block = c.args.block.now in
+    let begun : Begun g.R.Rack g.A.Area c.args.object c.args.seq c.args.floor block old c.begin.new.self c.in-Ok.ticket = record {
+      unused = c.requires.unused;
+      valid = e.valid;
+      kit = e.kit;
+      reserve = e.reserve;
+      carries = e.carries;
+      named = e.named;
+      does = e.event;
+      not_worn = e.not_worn;
+      low = (let low = c.requires.valid.low in let last = c.requires.last in omega (arith, low, last));
+    } in
+    let all : AllPut g.R.Rack g.A.Area c.args.object c.args.seq c.args.floor block c.begin.new.self c.put_all.new.shard c.in-Ok.ticket c.put_all.new.ticket = record {
+      carries = p.carries;
+      all = p.all;
+      pointer = p.pointer;
+      puts = p.puts;
+    } in
+    let ended : Ended g.R.Rack g.A.Area c.args.object c.args.seq c.args.floor block c.put_all.new.shard c.finish.new.self c.put_all.new.ticket = record {
+      valid = f.valid;
+      kit = f.kit;
+      reserve = f.reserve;
+      does = f.event;
+    } in
+    record {
+      stores = λ part pieces x is.
+          (let few = f.live.0 in
+          let parity = ap (λ (q : Part). q.geometry.spec.parity) p.part ∙ (ap (λ (q : Part). q.geometry.spec.parity) e.event.part ∙ ap (λ (q : Part). q.geometry.spec.parity) is.part_is) in
+          subst (Stored g.R.Rack g.A.Area part pieces c.args.object c.args.seq c.args.floor block.bytes x c.finish.new.self) (sym f.live.1)
+          (stored g.R.Rack g.A.Area c.args.object c.args.seq c.args.floor block old c.begin.new.self c.put_all.new.shard c.finish.new.self c.in-Ok.ticket c.put_all.new.ticket begun all ended part pieces x is
+          (omega (arith, few, parity))));
+    }
 
--- src/store.rt:53:1
 pub returns-in-Err : goal.returns-in-Err
-returns-in-Err g c = ?
+returns-in-Err g c =
+    let e = c.in-Ok.ensures in
+    let p = c.put_all.ensures in
+    let f = c.in-Err.ensures in
+    let old = c.args.shard.now in
+    let block = c.args.block.now in
+    let begun : Begun g.R.Rack g.A.Area c.args.object c.args.seq c.args.floor block old c.begin.new.self c.in-Ok.ticket = record {
+      unused = c.requires.unused;
+      valid = e.valid;
+      kit = e.kit;
+      reserve = e.reserve;
+      carries = e.carries;
+      named = e.named;
+      does = e.event;
+      not_worn = e.not_worn;
+      low = (let low = c.requires.valid.low in let last = c.requires.last in omega (arith, low, last));
+    } in
+    let all : AllPut g.R.Rack g.A.Area c.args.object c.args.seq c.args.floor block c.begin.new.self c.put_all.new.shard c.in-Ok.ticket c.put_all.new.ticket = record {
+      carries = p.carries;
+      all = p.all;
+      pointer = p.pointer;
+      puts = p.puts;
+    } in
+    let ended : Ended g.R.Rack g.A.Area c.args.object c.args.seq c.args.floor block c.put_all.new.shard c.finish.new.self c.put_all.new.ticket = record {
+      valid = f.valid;
+      kit = f.kit;
+      reserve = f.reserve;
+      does = f.event;
+    } in
+    record {
+      stores = λ part pieces x is.
+          (let many = f.missed.0 in
+          let parity = ap (λ (q : Part). q.geometry.spec.parity) p.part ∙ (ap (λ (q : Part). q.geometry.spec.parity) e.event.part ∙ ap (λ (q : Part). q.geometry.spec.parity) is.part_is) in
+          subst (λ n. NotStored g.R.Rack g.A.Area part pieces c.args.object c.args.seq c.args.floor block.bytes x c.finish.new.self n c.in-Ok.ticket.pointer.birth) (sym f.missed.1)
+          (not_stored g.R.Rack g.A.Area c.args.object c.args.seq c.args.floor block old c.begin.new.self c.put_all.new.shard c.finish.new.self c.in-Ok.ticket c.put_all.new.ticket begun all ended part pieces x is
+          (omega (arith, many, parity))));
+    }

@@ -1,0 +1,16 @@
+use Rattle.std.proofs.Common.{◌≡◌, ◌<◌}
+use Rattle.draid_slab.specs.Calls.{Carries}
+use Rattle.draid_slab.specs.Fits.{Valid}
+use Rattle.draid_slab.specs.States.{part_of}
+use Rattle.draid_volume.proofs.PutSteps.{PutSome}
+use Rattle.draid_volume.proofs.store.put_all.Given as goal
+
+abbrev pub invariant-loop-column : goal.invariant-loop-column
+invariant-loop-column g l = record {
+  valid : Valid g.R.Rack l.shard;
+  part : part_of l.shard ≡ part_of l.initial.shard;
+  carries : Carries l.shard l.ticket l.block;
+  next : l.ticket.next ≡ l._column;
+  pointer : l.ticket.pointer ≡ l.initial.ticket.pointer;
+  some : PutSome g.R.Rack g.A.Area l.initial.shard l.shard l.initial.ticket.pointer l.block l._column;
+}
