@@ -9,3 +9,5 @@ pub mod PutSteps
 pub mod StoreSteps
 pub mod ReplaceSteps
 pub mod WriteSteps
+pub mod Listing
+pub mod ChooseSteps
