@@ -21,3 +21,5 @@ pub mod Sums
 pub mod Batched
 pub mod ReplaceSteps
 pub mod WriteSteps
+pub mod Listing
+pub mod ChooseSteps
