@@ -24,3 +24,5 @@ pub mod Steps
 pub mod StoreSteps
 pub mod Sums
 pub mod WriteSteps
+pub mod Listing
+pub mod ChooseSteps

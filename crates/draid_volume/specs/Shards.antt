@@ -167,9 +167,12 @@ pub record HasRoomAt {R A : Type 0} (shards : List (Shard R A)) (m need : ℕ) :
   pub there : slice_get shards m ≡ Some shard
   pub room : (w : machine.State) → IsIn shard w → HasRoom need shard w
 
+-- so many of them take no new block for this reason
+abbrev pub AreShut : {R A : Type 0} → List (Shard R A) → Shut → ℕ → Type 0
+AreShut shards why count = (all : List (Option Shut)) × AllZip ShutIs shards all × CountIs (λ s. s ≡ Some why) all count
+
 -- the longest run of some rooms, and so many of the metaslabs take no new block
 abbrev pub IsNoSpace : {R A : Type 0} → List (Shard R A) → List Room → WriteFault → Type 0
 IsNoSpace shards rooms (fault.NoSpace run disabled full worn) =
-    (all : List (Option Shut)) × AllZip ShutIs shards all × (run ≡ longest rooms)
-    × CountIs (λ s. s ≡ Some shut.Disabled) all disabled × CountIs (λ s. s ≡ Some shut.Full) all full × CountIs (λ s. s ≡ Some shut.Worn) all worn
+    (run ≡ longest rooms) × AreShut shards shut.Disabled disabled × AreShut shards shut.Full full × AreShut shards shut.Worn worn
 IsNoSpace shards rooms why = ⊥

@@ -1,10 +1,8 @@
-ghost use Rattle.std.specs.Prelude.{◌≡◌, ◌≤◌, List, Option, Some, IfOk, All, length};
+ghost use Rattle.std.specs.Prelude.{◌≡◌, ◌≤◌, ◌↔◌, Some, IfOk, IsTrue, All, length};
 ghost use Rattle.std.specs.List.{AllZip};
 ghost use Rattle.draid_slab.specs.Fits.{Valid};
-ghost use Rattle.draid_slab.specs.declared.fault.Shut as shuts;
-ghost use Rattle.draid_session.specs.Looks.{CountIs};
 ghost use Rattle.draid_session.specs.Rooms.{longest};
-ghost use Rattle.draid_volume.specs.Shards.{RoomIs, ShutIs};
+ghost use Rattle.draid_volume.specs.Shards.{AreShut, RoomIs};
 
 use draid_area::Area;
 use draid_names::{NoMemory, Room};
@@ -43,13 +41,23 @@ pub(crate) fn longest_run(rooms: &[Room]) -> u64
 pub(crate) fn count_shut<R: Rack, A: Area>(shards: &[Shard<R, A>], why: Shut) -> u32
     requires valid { All (Valid R.Rack) shards.now }
     requires few { length shards.now ≤ 64 }
-    ensures { (all : List (Option shuts.Shut)) × AllZip ShutIs shards.now all × CountIs (λ s. s ≡ Some why) all result }
+    ensures { AreShut shards.now why result }
 {
     let mut count = 0;
     for shard in shards {
-        if shard.shut() == Some(why) {
+        if is_shut_by(shard.shut(), why) {
             count += 1;
         }
     }
     count
+}
+
+/// Whether this is the reason.
+fn is_shut_by(shut: Option<Shut>, why: Shut) -> bool
+    ensures { IsTrue result ↔ (shut ≡ Some why) }
+{
+    match shut {
+        Some(shut) => shut == why,
+        None => false,
+    }
 }
