@@ -1,190 +1,202 @@
--- A pool that was just made.
-use Rattle.std.proofs.Common.{arith, ◌≡◌, ◌+◌, ◌<◌, ◌≤◌, ◌++◌, ◌∙◌, ◌⊎◌, inl, inr, ℕ, zero, suc, List, [], ◌∷◌, false, Option, Some, None, Ok, refl, sym, ap, subst, length, length-append}
-use Rattle.std.specs.Prelude.{nat_eq, slice_get}
-use Rattle.std.specs.HashMap.{get}
+-- The metaslabs of a new pool are opened over the devices that were made for them.
+use Rattle.std.proofs.Common.{arith, ◌≡◌, ◌==◌, ◌+◌, ◌<◌, ◌≤◌, ◌++◌, ◌∙◌, ◌⊎◌, inl, inr, ℕ, zero, suc, List, [], ◌∷◌, Option, Some, None, refl, sym, ap, subst, length, length-append, if◌then◌else◌}
+use Rattle.std.specs.Prelude.{MatchOption, slice_get}
 use Rattle.std.proofs.lemmas.Bool.{cases_eq, cases_lt}
-use Rattle.std.proofs.lemmas.List.{length-map}
 use Rattle.std.proofs.lemmas.Option.{slice_get_within}
-use Rattle.draid_names.specs.declared.pointer.Pointer.{Pointer}
+use Rattle.draid_names.specs.Faults.{Rose}
+use Rattle.draid_rack.specs.Rack.{Shape}
+use Rattle.draid_rack.specs.declared.Rack as racks
+use Rattle.draid_area.specs.declared.Area as areas
 use Rattle.draid_spec.specs.declared.layout.Geometry.{Geometry}
-use Rattle.draid_spec.specs.declared.layout.Props.{Props}
-use Rattle.draid_spec.specs.declared.spec.Spec.{Spec}
-use Rattle.draid_spec.specs.Geometry.{IsGeometry, geometry_of}
 use Rattle.draid_perm.specs.declared.perms.Perms.{Perms}
 use Rattle.draid_map.specs.Place.{IsLayout}
-use Rattle.draid_rack.specs.Rack.{IsCalm, OnTold, Shape, Told}
-use Rattle.draid_shelf.specs.Shelf.{SameOthers, TellsCalm}
+use Rattle.draid_machine.specs.Created.{created}
+use Rattle.draid_shelf.specs.Kits.{Held, KitCounts, KitTold, OnHeld, kit_of, puts_kit, takes_kit}
+use Rattle.draid_shelf.specs.Shelf.{SameOthers}
+use Rattle.draid_shelf.specs.declared.kit.Kit.{Kit}
+use Rattle.draid_entries.specs.History.{limit_in, reserved_of}
+use Rattle.draid_shard.specs.Fits.{Valid}
+use Rattle.draid_shard.specs.Part.{Part, layout_in}
+use Rattle.draid_shard.specs.States.{IsIn, part_of, stored_in}
 use Rattle.draid_shard.specs.declared.shard.Shard.{Shard}
-use Rattle.draid_shard.specs.MetaslabLayout.{MetaslabLayout}
-use Rattle.draid_pool.specs.Close.{Returns}
-use Rattle.draid_pool.specs.Create.{AreBack, AreOpened, IsOpened, Opens, TakesOne}
-use Rattle.draid_pool.specs.Pool.{HoldsObject, Stands, metaslab_of}
-use Rattle.draid_pool.specs.State.{IsNew}
-use Rattle.draid_pool.specs.declared.pool.Pool.{Pool}
-use Rattle.draid_pool.proofs.Closed.{at_end, unmapped}
-use Rattle.draid_pool.proofs.Harm.{on_harm}
-use Rattle.draid_pool.proofs.Shards.{some_of}
+use Rattle.draid_session.specs.State.{limit_of}
+use Rattle.draid_pool.specs.Closing.{Returns, TakesBack, kit_in}
+use Rattle.draid_pool.specs.Opening.{AreOpened, IsBackAgain, IsOpened, SameHeld, SameKitCounts, TakesBelow, TakesFirst}
+use Rattle.draid_pool.proofs.Closed.{at_end, put_here, put_there}
+use Rattle.draid_pool.proofs.Lists.{present, some_of}
 
--- ---- one metaslab
-pub back_again : (m : ℕ) (old mid new : ℕ → Option Told) (before middle after : ℕ → Option ℕ → ℕ) → SameOthers m old mid → SameOthers m mid new → SameOthers m before middle
-    → SameOthers m middle after → new m ≡ old m → ((who : Option ℕ) → after m who ≡ before m who) → AreBack old new before after
-back_again m old mid new before middle after a b c d here counted = record {
-  holds = λ k. elim (cases_eq k m) [
-    | inl is ↦ ap new is ∙ (here ∙ ap old (sym is))
-    | inr other ↦ b k (λ is. omega (arith, is, other)) ∙ a k (λ is. omega (arith, is, other))
-  ];
-  counts = λ k who. elim (cases_eq k m) [
-    | inl is ↦ ap (λ (n : ℕ). after n who) is ∙ (counted who ∙ ap (λ (n : ℕ). before n who) (sym is))
-    | inr other ↦ ap (λ (f : Option ℕ → ℕ). f who) (d k (λ is. omega (arith, is, other)) ∙ c k (λ is. omega (arith, is, other)))
-  ];
-}
-
+-- what is below a place of two lists, one after the other
 get_before : {A : Type 0} (xs ys : List A) (m : ℕ) → m < length xs → slice_get (xs ++ ys) m ≡ slice_get xs m
 get_before [] ys m below = absurd (omega (arith, below))
 get_before (x ∷ xs) ys zero below = refl
 get_before (x ∷ xs) ys (suc m) below = get_before xs ys m (omega (arith, below))
 
-record Present {A : Type 0} (xs : List A) (m : ℕ) : Type 0 where
-  elem : A
-  at : slice_get xs m ≡ Some elem
+module _ {R A : Type 0} (rack : racks.Ghosts R) (area : areas.Ghosts A) where
+  -- ---- one metaslab
 
-present : {A : Type 0} (xs : List A) (m : ℕ) → m < length xs → Present xs m
-present [] m below = absurd (omega (arith, below))
-present (x ∷ xs) zero below = record { elem = x; at = refl }
-present (x ∷ xs) (suc m) below = (let rest = present xs m (omega (arith, below)) in record { elem = rest.elem; at = rest.at })
+  -- the kit of a new metaslab is the one that was held
+  same_kit : (o : Option Held) (kit : Kit R A) (shard : Shard R A) (n : ℕ) → shard.rack ≡ kit.rack → shard.even ≡ kit.even → shard.odd ≡ kit.odd
+      → OnHeld o (λ held. kit_of (rack.told kit.rack) (area.told kit.even) (area.told kit.odd) ≡ held.kits n) → OnHeld o (λ x. kit_in rack area shard ≡ x.kits n)
+  same_kit None kit shard n r e d h = tt
+  same_kit (Some x) kit shard n r e d h = (λ i. kit_of (rack.told (r i)) (area.told (e i)) (area.told (d i))) ∙ h
 
-module _ {R : Type 0} (shape : R → Shape) (told : R → Option Told) (faults : R → Option ℕ → ℕ) where
+  pub opened : (part : Part) (held : Option Held) (counts : KitCounts) (kit : Kit R A) (shard : Shard R A) (events : ℕ) → Valid rack shard → part_of shard ≡ part
+      → IsIn shard (created (layout_in (part_of shard)) part.geometry.props.version) → stored_in shard ≡ [] → reserved_of shard.history ≡ 0 → limit_in shard.history ≡ events → events ≡ limit_of part.geometry
+      → shard.rack ≡ kit.rack → shard.even ≡ kit.even → shard.odd ≡ kit.odd → OnHeld held (λ x. kit_of (rack.told kit.rack) (area.told kit.even) (area.told kit.odd) ≡ x.kits part.number)
+      → ((who : Option ℕ) → rack.faults kit.rack who ≡ counts.rack who) → area.faults kit.even ≡ counts.even → area.faults kit.odd ≡ counts.odd → IsOpened rack area part held counts shard
+  opened part held counts kit shard events valid part_is is_in stored reserved limit events_are r e d told rack_count even_count odd_count = record {
+    valid = valid;
+    part_is = part_is;
+    created_is = subst (λ (p : Part). IsIn shard (created (layout_in p) part.geometry.props.version)) part_is is_in;
+    events = stored;
+    reserved = reserved;
+    limit = limit ∙ events_are;
+    kit = same_kit held kit shard part.number r e d told;
+    rack_count = λ who. ap (λ (x : R). rack.faults x who) r ∙ rack_count who;
+    even_count = ap area.faults e ∙ even_count;
+    odd_count = ap area.faults d ∙ odd_count;
+  }
+
   -- ---- all metaslabs
-  -- those below a number are open, and the racks of the others are as they were
-  pub record Opening (geometry : Geometry) (perms : Perms) (n : ℕ) (made made' : ℕ → Option Shape) (old new : ℕ → Option Told) (before after : ℕ → Option ℕ → ℕ) (shards : List (Shard R)) : Type 0 where
+
+  part_at : Geometry → Perms → ℕ → Part
+  part_at geometry perms m = record { geometry = geometry; perms = perms; number = m }
+
+  -- those below a number are open, and the devices of the others are as they were
+  pub record Opening (geometry : Geometry) (perms : Perms) (n : ℕ) (leaves leaves' : ℕ → Option Shape) (old new : Option Held) (before after : ℕ → KitCounts) (shards : List (Shard R A)) : Type 0 where
     pub many : length shards ≡ n
-    pub each : (m : ℕ) (shard : Shard R) → slice_get shards m ≡ Some shard → IsOpened shape told faults geometry perms m (old m) (before m) shard
-    pub made_yet : (m : ℕ) → n ≤ m → made' m ≡ made m
-    pub holds : (m : ℕ) → n ≤ m → new m ≡ old m
+    pub each : (m : ℕ) (shard : Shard R A) → slice_get shards m ≡ Some shard → IsOpened rack area (record { geometry = geometry; perms = perms; number = m }) old (before m) shard
+    pub told : TakesFirst n old new
+    pub leaves_yet : (m : ℕ) → n ≤ m → leaves' m ≡ leaves m
     pub counts : (m : ℕ) → n ≤ m → after m ≡ before m
 
-  pub opening_none : (geometry : Geometry) (perms : Perms) (made : ℕ → Option Shape) (old : ℕ → Option Told) (before : ℕ → Option ℕ → ℕ) (shards : List (Shard R)) → shards ≡ []
-      → Opening geometry perms 0 made made old old before before shards
-  opening_none geometry perms made old before shards none = rw none (record {
+  none_taken : (o : Option Held) → TakesFirst 0 o o
+  none_taken None = refl
+  none_taken (Some x) = record { uber = refl; checks = refl; taken = λ m below. absurd (omega (arith, below)); others = λ m past. refl }
+
+  pub opening_none : (geometry : Geometry) (perms : Perms) (leaves : ℕ → Option Shape) (old : Option Held) (before : ℕ → KitCounts) (shards : List (Shard R A)) → shards ≡ []
+      → Opening geometry perms 0 leaves leaves old old before before shards
+  opening_none geometry perms leaves old before shards none = rw none (record {
     many = refl;
     each = λ m shard there. absurd (cc);
-    made_yet = λ m past. refl;
-    holds = λ m past. refl;
+    told = none_taken old;
+    leaves_yet = λ m past. refl;
     counts = λ m past. refl;
   })
 
-  pub opening_more : (geometry : Geometry) (perms : Perms) (n : ℕ) (made mid made' : ℕ → Option Shape) (old held new : ℕ → Option Told) (before middle after : ℕ → Option ℕ → ℕ)
-      (shards shards' : List (Shard R)) (shard : Shard R) → Opening geometry perms n made mid old held before middle shards → shards' ≡ shards ++ shard ∷ []
-      → IsOpened shape told faults geometry perms n (held n) (middle n) shard → TakesOne n mid made' held new middle after
-      → Opening geometry perms (n + 1) made made' old new before after shards'
-  opening_more geometry perms n made mid made' old held new before middle after shards shards' shard o more is takes =
+  -- the devices of a further one are taken
+  takes_more : (n : ℕ) (old mid : Option Held) → TakesFirst n old mid → TakesFirst (n + 1) old (takes_kit n mid)
+  takes_more n None None t = refl
+  takes_more n None (Some y) t = absurd (cc)
+  takes_more n (Some x) None t = absurd t
+  takes_more n (Some x) (Some y) t = record {
+    uber = t.uber;
+    checks = t.checks;
+    taken = λ m below. elim (cases_eq m n) [
+      | inl same ↦ put_here n m None (y.kits m) same
+      | inr other ↦ put_there n m None (y.kits m) (λ same. omega (arith, same, other)) ∙ t.taken m (omega (arith, below, other))
+    ];
+    others = λ m past. put_there n m None (y.kits m) (λ same. omega (arith, same, past)) ∙ t.others m (omega (arith, past));
+  }
+
+  -- what was held for a metaslab that isn't open yet was so from the beginning
+  from_first : (n : ℕ) (old mid : Option Held) (kit : Option KitTold) → TakesFirst n old mid → OnHeld mid (λ y. kit ≡ y.kits n) → OnHeld old (λ x. kit ≡ x.kits n)
+  from_first n None mid kit t h = tt
+  from_first n (Some x) None kit t h = absurd t
+  from_first n (Some x) (Some y) kit t h = h ∙ t.others n (omega arith)
+
+  pub opening_more : (geometry : Geometry) (perms : Perms) (n : ℕ) (leaves mid_leaves leaves' : ℕ → Option Shape) (old mid new : Option Held) (before middle after : ℕ → KitCounts)
+      (shards shards' : List (Shard R A)) (shard : Shard R A) → Opening geometry perms n leaves mid_leaves old mid before middle shards → shards' ≡ shards ++ shard ∷ []
+      → IsOpened rack area (record { geometry = geometry; perms = perms; number = n }) mid (middle n) shard → new ≡ takes_kit n mid → SameOthers n mid_leaves leaves' → SameOthers n middle after
+      → Opening geometry perms (n + 1) leaves leaves' old new before after shards'
+  opening_more geometry perms n leaves mid_leaves leaves' old mid new before middle after shards shards' shard o more is takes others counts =
       let long = o.many in
       record {
-        many = ap (λ (xs : List (Shard R)). length xs) more ∙ (let both = length-append shards (shard ∷ []) in omega (arith, both, long));
+        many = ap (λ (xs : List (Shard R A)). length xs) more ∙ (let both = length-append shards (shard ∷ []) in omega (arith, both, long));
         each = λ m s there. each m s there (cases_lt m n);
-        made_yet = λ m past. takes.made_yet m (λ is. omega (arith, is, past)) ∙ o.made_yet m (omega (arith, past));
-        holds = λ m past. takes.holds m (λ is. omega (arith, is, past)) ∙ o.holds m (omega (arith, past));
-        counts = λ m past. takes.counts m (λ is. omega (arith, is, past)) ∙ o.counts m (omega (arith, past));
+        told = subst (TakesFirst (n + 1) old) (sym takes) (takes_more n old mid o.told);
+        leaves_yet = λ m past. others m (λ is. omega (arith, is, past)) ∙ o.leaves_yet m (omega (arith, past));
+        counts = λ m past. counts m (λ is. omega (arith, is, past)) ∙ o.counts m (omega (arith, past));
       } where
-        own : IsOpened shape told faults geometry perms n (old n) (before n) shard
+        unused : middle n ≡ before n
+        unused = o.counts n (omega arith)
+
+        own : IsOpened rack area (record { geometry = geometry; perms = perms; number = n }) old (before n) shard
         own = record {
           valid = is.valid;
-          part = is.part;
-          free = is.free;
-          none = is.none;
-          logs = is.logs;
-          empty = is.empty;
-          holds = is.holds ∙ o.holds n (omega arith);
-          faults_are = λ who. is.faults_are who ∙ ap (λ (f : Option ℕ → ℕ). f who) (o.counts n (omega arith));
+          part_is = is.part_is;
+          created_is = is.created_is;
+          events = is.events;
+          reserved = is.reserved;
+          limit = is.limit;
+          kit = from_first n old mid (kit_in rack area shard) o.told is.kit;
+          rack_count = λ who. is.rack_count who ∙ ap (λ (c : KitCounts). c.rack who) unused;
+          even_count = is.even_count ∙ ap (λ (c : KitCounts). c.even) unused;
+          odd_count = is.odd_count ∙ ap (λ (c : KitCounts). c.odd) unused;
         }
 
-        each : (m : ℕ) (s : Shard R) → slice_get shards' m ≡ Some s → (m < n) ⊎ (n ≤ m) → IsOpened shape told faults geometry perms m (old m) (before m) s
+        each : (m : ℕ) (s : Shard R A) → slice_get shards' m ≡ Some s → (m < n) ⊎ (n ≤ m) → IsOpened rack area (record { geometry = geometry; perms = perms; number = m }) old (before m) s
         each m s there (inl below) =
             let many = o.many in
-            o.each m s (sym (get_before shards (shard ∷ []) m (omega (arith, below, many))) ∙ (ap (λ (xs : List (Shard R)). slice_get xs m) (sym more) ∙ there))
+            o.each m s (sym (get_before shards (shard ∷ []) m (omega (arith, below, many))) ∙ (ap (λ (xs : List (Shard R A)). slice_get xs m) (sym more) ∙ there))
         each m s there (inr past) =
             let many = o.many in
-            let at : slice_get (shards ++ shard ∷ []) m ≡ Some s = ap (λ (xs : List (Shard R)). slice_get xs m) (sym more) ∙ there in
+            let at : slice_get (shards ++ shard ∷ []) m ≡ Some s = ap (λ (xs : List (Shard R A)). slice_get xs m) (sym more) ∙ there in
             let within = slice_get_within (shards ++ shard ∷ []) m s at in
             let long = length-append shards (shard ∷ []) in
             let last : m ≡ n = omega (arith, within, long, many, past) in
             let same : shard ≡ s = some_of (slice_get (shards ++ shard ∷ []) m) shard s (at_end shards shard [] m (omega (arith, last, many))) at in
-            subst (λ (k : ℕ). IsOpened shape told faults geometry perms k (old k) (before k) s) (sym last)
-            (subst (λ (x : Shard R). IsOpened shape told faults geometry perms n (old n) (before n) x) same own)
+            subst (λ (k : ℕ). IsOpened rack area (record { geometry = geometry; perms = perms; number = k }) old (before k) s) (sym last)
+            (subst (λ (x : Shard R A). IsOpened rack area (record { geometry = geometry; perms = perms; number = n }) old (before n) x) same own)
 
-  -- where it is refused, those that were open are given back
-  pub opening_back : (geometry : Geometry) (perms : Perms) (n : ℕ) (made mid : ℕ → Option Shape) (old held last new : ℕ → Option Told) (before middle late after : ℕ → Option ℕ → ℕ)
-      (shards : List (Shard R)) → Opening geometry perms n made mid old held before middle shards → AreBack held last middle late → Returns told faults shards last new late after
-      → AreBack old new before after
-  opening_back geometry perms n made mid old held last new before middle late after shards o b r =
+  -- where one is refused, those that were open are given back
+  module _ (geometry : Geometry) (perms : Perms) (n : ℕ) (leaves mid_leaves : ℕ → Option Shape) (first : Option Held) (before : ℕ → KitCounts) (shards : List (Shard R A)) where
+    back_held : (old mid last new : Option Held) (middle : ℕ → KitCounts) → ((m : ℕ) (shard : Shard R A) → slice_get shards m ≡ Some shard → OnHeld old (λ x. kit_in rack area shard ≡ x.kits m)) → length shards ≡ n
+        → TakesFirst n old mid → OnHeld last (λ y. MatchOption mid ⊥ (λ x. SameHeld x y)) → OnHeld new (λ y. MatchOption last ⊥ (λ x. TakesBack rack area shards x y))
+        → OnHeld new (λ y. MatchOption old ⊥ (λ x. SameHeld x y))
+    back_held old mid last None middle own many t b r = tt
+    back_held old mid None (Some y) middle own many t b r = absurd r
+    back_held old None (Some l) (Some y) middle own many t b r = absurd b
+    back_held None (Some z) (Some l) (Some y) middle own many t b r = absurd (cc)
+    back_held (Some x) (Some z) (Some l) (Some y) middle own many t b r = record {
+      uber = r.uber ∙ (b.uber ∙ t.uber);
+      checks = r.checks ∙ (b.checks ∙ t.checks);
+      kits = λ m. elim (cases_lt m n) [
+        | inl below ↦
+            (let s = present shards m (omega (arith, below, many)) in
+            let k = r.kits m s.0 s.1 in
+            k.2 ∙ (sym k.1 ∙ own m s.0 s.1))
+        | inr past ↦ r.others m (omega (arith, past, many)) ∙ (b.kits m ∙ t.others m past)
+      ];
+    }
+
+  pub opening_back : (geometry : Geometry) (perms : Perms) (n : ℕ) (leaves mid_leaves : ℕ → Option Shape) (old mid last new : Option Held) (before middle late after : ℕ → KitCounts) (shards : List (Shard R A))
+      → Opening geometry perms n leaves mid_leaves old mid before middle shards → IsBackAgain mid last middle late → Returns rack area shards last new late after → IsBackAgain old new before after
+  opening_back geometry perms n leaves mid_leaves old mid last new before middle late after shards o b r =
       let many = o.many in
       record {
-        holds = λ m. elim (cases_lt m n) [
-          | inl below ↦ (let x = present shards m (omega (arith, below, many)) in r.given m x.elem x.at ∙ (o.each m x.elem x.at).holds)
-          | inr past ↦ r.others m (omega (arith, past, many)) ∙ (b.holds m ∙ o.holds m (omega (arith, past)))
-        ];
-        counts = λ m who. elim (cases_lt m n) [
-          | inl below ↦ (let x = present shards m (omega (arith, below, many)) in r.counted m x.elem x.at who ∙ (o.each m x.elem x.at).faults_are who)
+        held = back_held geometry perms n leaves mid_leaves old before shards old mid last new middle (λ m shard there. (o.each m shard there).kit) o.many o.told b.held r.held;
+        counts = λ m. elim (cases_lt m n) [
+          | inl below ↦
+              (let s = present shards m (omega (arith, below, many)) in
+              let is = o.each m s.0 s.1 in
+              record {
+                rack = λ who. r.rack_count m s.0 who s.1 ∙ is.rack_count who;
+                even = r.even_count m s.0 s.1 ∙ is.even_count;
+                odd = r.odd_count m s.0 s.1 ∙ is.odd_count;
+              })
           | inr past ↦
-              ap (λ (f : Option ℕ → ℕ). f who) (r.counts m (omega (arith, past, many)))
-              ∙ (b.counts m who ∙ ap (λ (f : Option ℕ → ℕ). f who) (o.counts m (omega (arith, past))))
+              (let same = r.others m (omega (arith, past, many)) in
+              let kept = b.counts m in
+              let unused = o.counts m past in
+              record {
+                rack = λ who. ap (λ (c : KitCounts). c.rack who) same ∙ (kept.rack who ∙ ap (λ (c : KitCounts). c.rack who) unused);
+                even = ap (λ (c : KitCounts). c.even) same ∙ (kept.even ∙ ap (λ (c : KitCounts). c.even) unused);
+                odd = ap (λ (c : KitCounts). c.odd) same ∙ (kept.odd ∙ ap (λ (c : KitCounts). c.odd) unused);
+              })
         ];
       }
 
-  pub opening_all : (geometry : Geometry) (perms : Perms) (n : ℕ) (made mid : ℕ → Option Shape) (old held : ℕ → Option Told) (before middle : ℕ → Option ℕ → ℕ) (shards : List (Shard R))
-      → Opening geometry perms n made mid old held before middle shards → IsLayout geometry perms → n ≡ geometry.props.metaslabs → AreOpened shape told faults geometry old before shards
-  opening_all geometry perms n made mid old held before middle shards o layout end = record { perms = perms; are_perms = layout; many = o.many ∙ end; each = o.each }
-
-  -- ---- the pool
-  is_new : (geometry : Geometry) (perms : Perms) (m : ℕ) (held : Option Told) (counts : Option ℕ → ℕ) (shard : Shard R) → IsOpened shape told faults geometry perms m held counts shard
-      → ((who : Option ℕ) → counts who ≡ 0) → TellsCalm held → IsNew geometry perms m (metaslab_of told faults shard)
-  is_new geometry perms m held counts shard is unfailed calm = record {
-    part = is.part;
-    free = is.free;
-    held = is.none;
-    faults = λ who. is.faults_are who ∙ unfailed who;
-    logs = is.logs;
-    calm = on_harm (told shard.rack) (λ x. (l s : ℕ) → x l s ≡ false) (calm_harm (told shard.rack) (subst TellsCalm (sym is.holds) calm));
-  } where
-    calm_harm : (o : Option Told) → OnTold o IsCalm → OnTold o (λ x. (l s : ℕ) → x.harmed l s ≡ false)
-    calm_harm None h = tt
-    calm_harm (Some x) h = h.harmed
-
-  no_objects : (shards : List (Shard R)) (o : Option Pointer) → o ≡ None → HoldsObject told shards o None
-  no_objects shards o none = rw none tt
-
-  pub opens : (spec : Spec) (props : Props) (layout : Geometry) (pool : Pool R) (holds : ℕ → Option Told) (counts : ℕ → Option ℕ → ℕ) → geometry_of spec props ≡ Ok layout → IsGeometry layout
-      → AreOpened shape told faults layout holds counts pool.shards.items → ((m : ℕ) (who : Option ℕ) → m < layout.props.metaslabs → counts m who ≡ 0)
-      → ((m : ℕ) → m < layout.props.metaslabs → TellsCalm (holds m)) → pool.geometry ≡ layout → pool.seq ≡ 0 → ((q : ℕ) → get nat_eq pool.objects q ≡ None)
-      → Opens shape told faults spec props pool
-  opens spec props layout pool holds counts given whole opened unfailed calm used seq empty = record {
-    layout = record { geometry = layout; is = given };
-    represents = record {
-      stands = stands;
-      live = λ m shard p there live. absurd ((opened.each m shard there).empty p (_, live));
-    };
-    fresh = record {
-      layout = used;
-      perms = opened.perms;
-      are_perms = opened.are_perms;
-      many = length-map pool.shards.items (metaslab_of told faults) ∙ opened.many;
-      each = λ m x there.
-          (let u = unmapped (metaslab_of told faults) pool.shards.items m x there in
-          let many = opened.many in
-          let within = slice_get_within pool.shards.items m u.from u.at in
-          let below : m < layout.props.metaslabs = omega (arith, within, many) in
-          subst (IsNew layout opened.perms m) u.same (is_new layout opened.perms m (holds m) (counts m) u.from (opened.each m u.from u.at) (λ who. unfailed m who below) (calm m below)));
-      changes = refl;
-      seq = seq;
-    };
-  } where
-    stands : Stands shape told pool []
-    stands = record {
-      layout = subst IsGeometry (sym used) whole;
-      many = opened.many ∙ ap (λ (g : Geometry). g.props.metaslabs) (sym used);
-      members = λ m shard there.
-          (let is = opened.each m shard there in
-          record { valid = is.valid; layout = ap (λ (p : MetaslabLayout). p.geometry) is.part ∙ sym used; number = ap (λ (p : MetaslabLayout). p.number) is.part });
-      numbered = λ m shard p there has. absurd ((opened.each m shard there).empty p has);
-      objects = λ q. no_objects pool.shards.items (get nat_eq pool.objects q) (empty q);
-    }
+  pub opening_all : (geometry : Geometry) (perms : Perms) (n : ℕ) (leaves leaves' : ℕ → Option Shape) (old new : Option Held) (before after : ℕ → KitCounts) (shards : List (Shard R A))
+      → Opening geometry perms n leaves leaves' old new before after shards → IsLayout geometry perms → n ≡ geometry.props.metaslabs → AreOpened rack area geometry old before shards
+  opening_all geometry perms n leaves leaves' old new before after shards o layout end = record { perms = perms; are_perms = layout; many = o.many ∙ end; each = o.each }

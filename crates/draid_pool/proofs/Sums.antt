@@ -1,21 +1,25 @@
 -- The bytes of one object after another.
-use Rattle.std.proofs.Common.{◌≡◌, ◌+◌, ◌-◌, ◌≤◌, ◌∙◌, ◌++◌, ℕ, List, [], ◌∷◌, Option, Ok, Err, arith, refl, sym, ap, subst, length, length-append}
+use Rattle.std.proofs.Common.{◌≡◌, ◌+◌, ◌-◌, ◌≤◌, ◌∙◌, ◌++◌, ℕ, suc, List, [], ◌∷◌, Ok, Err, arith, refl, sym, ap, subst, length, length-append}
 use Rattle.std.specs.Prelude.{flat_map}
 use Rattle.std.proofs.lemmas.List.{append_assoc}
 use Rattle.sha2.specs.Sha256.{sha256}
 use Rattle.sha2.specs.Hashers.{Holds256}
 use Rattle.sha2.specs.declared.Sha256.{Sha256}
-use Rattle.draid_rack.specs.Rack.{Shape, Told}
-use Rattle.draid_pool.specs.Answers.{BatchBehind, SumIs, SumStops}
+use Rattle.draid_rack.specs.declared.Rack as racks
+use Rattle.draid_area.specs.declared.Area as areas
+use Rattle.draid_spec.specs.declared.layout.Geometry.{Geometry}
+use Rattle.draid_perm.specs.declared.perms.Perms.{Perms}
+use Rattle.draid_session.specs.Follows.{Follows}
+use Rattle.draid_session.specs.Holds.{Hold}
+use Rattle.draid_session.specs.Reads.{GivesAll, SumStops}
+use Rattle.draid_session.specs.State.{State, Store}
+use Rattle.draid_pool.specs.Answers.{SumDoes}
 use Rattle.draid_pool.specs.Batches.{AddIs}
-use Rattle.draid_pool.specs.Pool.{Moves, Represents, state_of}
-use Rattle.draid_pool.specs.State.{AreLast, Change, Looks, LooksAt, Metaslab, State}
-use Rattle.draid_names.specs.declared.refusal.ObjectFault.{ObjectFault}
-use Rattle.draid_names.specs.declared.refusal.ObjectFault.TheVariants as object_fault
+use Rattle.draid_pool.specs.Carries.{CarriesOut}
+use Rattle.draid_pool.specs.Pools.{Represents}
 use Rattle.draid_pool.specs.declared.fault.SumFault.{SumFault}
 use Rattle.draid_pool.specs.declared.pool.Pool.{Pool}
-use Rattle.draid_pool.proofs.Lists.{zip_twice}
-use Rattle.draid_pool.proofs.Reading.{looks_all}
+use Rattle.draid_pool.proofs.Steps.{carried, follows_on, own_of, same_layout, settled}
 
 -- all the bytes
 abbrev pub joined : List (List ℕ) → List ℕ
@@ -25,119 +29,86 @@ pub joined_append : (contents more : List (List ℕ)) → joined contents ++ joi
 joined_append [] more = refl
 joined_append (c ∷ cs) more = append_assoc c (joined cs) (joined more) ∙ ap (λ rest. c ++ rest) (joined_append cs more)
 
-last_append : (changes : List Change) (first object : ℕ) (contents more : List (List ℕ)) → first + length contents ≡ object → AreLast changes first contents → AreLast changes object more
-    → AreLast changes first (contents ++ more)
-last_append changes first object [] more at last here = subst (λ (o : ℕ). AreLast changes o more) (omega (arith, at)) here
-last_append changes first object (c ∷ cs) more at last here = (last.0, last_append changes (first + 1) object cs more (omega (arith, at)) last.1 here)
+module _ (geometry : Geometry) (perms : Perms) (store : Store) where
+  pub gives_length : (first : ℕ) (contents : List (List ℕ)) (holds : List Hold) → GivesAll geometry perms store first contents holds → length holds ≡ length contents
+  gives_length first [] holds is = ap length is
+  gives_length first (c ∷ cs) holds is = ap length is.2 ∙ ap suc (gives_length (first + 1) cs is.1 is.4)
 
-at_twice : (x y z : Metaslab) → LooksAt x y → LooksAt y z → LooksAt x z
-at_twice x y z a b = record {
-  keeps = record {
-    part = b.keeps.part ∙ a.keeps.part;
-    free = b.keeps.free ∙ a.keeps.free;
-    held = b.keeps.held ∙ a.keeps.held;
-    later = λ who. (let p = a.keeps.later who in let q = b.keeps.later who in omega (arith, p, q));
-  };
-  logs = b.logs ∙ a.logs;
-  harm = b.harm ∙ a.harm;
-}
+  pub gives_append : (first object : ℕ) (contents more : List (List ℕ)) (front back : List Hold) → first + length contents ≡ object → GivesAll geometry perms store first contents front
+      → GivesAll geometry perms store object more back → GivesAll geometry perms store first (contents ++ more) (front ++ back)
+  gives_append first object [] more front back at last here =
+      subst (λ hs. GivesAll geometry perms store first more (hs ++ back)) (sym last) (subst (λ (o : ℕ). GivesAll geometry perms store o more back) (omega (arith, at)) here)
+  gives_append first object (c ∷ cs) more front back at last here =
+      (last.0, last.1 ++ back, ap (λ hs. hs ++ back) last.2, last.3, gives_append (first + 1) object cs more last.1 back (omega (arith, at)) last.4 here)
 
-pub looks_on : (a b c : State) → Looks a b → Looks b c → Looks a c
-looks_on a b c x y = record {
-  geometry = y.geometry ∙ x.geometry;
-  metaslabs = zip_twice LooksAt at_twice a.metaslabs b.metaslabs c.metaslabs x.metaslabs y.metaslabs;
-  changes = y.changes ∙ x.changes;
-  seq = y.seq ∙ x.seq;
-}
-
--- what was read behind an object that gave no bytes changes nothing but counts of faults
-pub behind_looks : (why : ObjectFault) (after new : State) → BatchBehind why after new → Looks after new
-behind_looks object_fault.NoObject after new is = subst (λ (s : State). Looks after s) (sym is) (looks_all after)
-behind_looks (object_fault.Unreadable absent tried) after new is = is
-behind_looks object_fault.Worn after new is = is
-behind_looks object_fault.NoMemory after new is = is
-
-module _ {R : Type 0} (shape : R → Shape) (told : R → Option Told) (faults : R → Option ℕ → ℕ) where
-  -- what a call did that changes nothing of the objects, where the pool stands for these changes then
-  pub record Stayed (step : State → State → Type 0) (mid new : Pool R) (changes now : List Change) : Type 0 where
-    pub represents : Represents shape told new now
-    pub moved : step (state_of told faults mid changes) (state_of told faults new now)
-
-  pub stayed : (step : State → State → Type 0) → ((x y : State) → step x y → Looks x y) → (mid new : Pool R) (changes : List Change)
-      → Moves shape told faults step (state_of told faults mid changes) new → Stayed step mid new changes changes
-  stayed step look mid new changes m =
-      let looks = look (state_of told faults mid changes) (state_of told faults new m.changes) m.moved in
-      subst (λ (now : List Change). Stayed step mid new changes now) looks.changes (record { represents = m.represents; moved = m.moved })
-
+module _ {R A : Type 0} (rack : racks.Ghosts R) (area : areas.Ghosts A) where
   -- so many objects gave their bytes, which the hasher holds
-  pub record Summing (old new : Pool R) (changes : List Change) (first summed : ℕ) (hasher : Sha256) : Type 0 where
+  pub record Summing (new : Pool R A) (x : State) (first summed : ℕ) (hasher : Sha256) : Type 0 where
     pub contents : List (List ℕ)
     pub many : length contents ≡ summed
-    pub last : AreLast changes first contents
-    pub holds : Holds256 hasher (joined contents)
-    pub represents : Represents shape told new changes
-    pub looks : Looks (state_of told faults old changes) (state_of told faults new changes)
+    pub holds : List Hold
+    pub reached : State
+    pub follows : Follows holds x reached
+    pub gives : GivesAll x.geometry x.perms x.store first contents holds
+    pub hashed : Holds256 hasher (joined contents)
+    pub represents : Represents rack area new reached
 
-  pub summing_none : (old : Pool R) (changes : List Change) (first : ℕ) (hasher : Sha256) → Holds256 hasher [] → Represents shape told old changes → Summing old old changes first 0 hasher
-  summing_none old changes first hasher holds is =
-      record { contents = []; many = refl; last = tt; holds = holds; represents = is; looks = looks_all (state_of told faults old changes) }
+  pub summing_none : (old : Pool R A) (x : State) (first : ℕ) (hasher : Sha256) → Holds256 hasher [] → Represents rack area old x → Summing old x first 0 hasher
+  summing_none old x first hasher hashed is =
+      record { contents = []; many = refl; holds = []; reached = x; follows = refl; gives = refl; hashed = hashed; represents = is }
 
-  pub summing_more : (old mid new : Pool R) (changes : List Change) (first summed count added : ℕ) (hasher hasher' : Sha256) → Summing old mid changes first summed hasher
-      → (Represents shape told mid changes → Moves shape told faults (AddIs (first + summed) count hasher hasher' (Ok added)) (state_of told faults mid changes) new)
-      → Summing old new changes first (summed + added) hasher'
-  summing_more old mid new changes first summed count added hasher hasher' s moves =
-      let n = stayed (AddIs (first + summed) count hasher hasher' (Ok added)) (λ x y h. h.looks) mid new changes (moves s.represents) in
-      let a = n.moved in
+  pub summing_more : (mid new : Pool R A) (x : State) (first summed count added : ℕ) (hasher hasher' : Sha256) → Summing mid x first summed hasher
+      → ((y : State) → Represents rack area mid y → CarriesOut rack area new y (AddIs y (first + summed) count hasher hasher' (Ok added))) → Summing new x first (summed + added) hasher'
+  summing_more mid new x first summed count added hasher hasher' s moves =
+      let c = moves s.reached s.represents in
+      let a = c.done in
+      let more = own_of x s.reached (λ g p t. GivesAll g p t (first + summed) a.contents c.holds) (same_layout s.holds x s.reached s.follows) a.gives in
       record {
         contents = s.contents ++ a.contents;
-        many = (let many = s.many in let more = a.many in omega (arith, many, more, length-append s.contents a.contents));
-        last = last_append changes first (first + summed) s.contents a.contents (ap (λ k. first + k) s.many) s.last a.last;
-        holds = subst (λ (m : List ℕ). Holds256 hasher' m) (joined_append s.contents a.contents) (a.fed (joined s.contents) s.holds);
-        represents = n.represents;
-        looks = looks_on (state_of told faults old changes) (state_of told faults mid changes) (state_of told faults new changes) s.looks a.looks;
+        many = (let many = s.many in let behind = a.many in omega (arith, many, behind, length-append s.contents a.contents));
+        holds = s.holds ++ c.holds;
+        reached = c.reached;
+        follows = follows_on s.holds c.holds x s.reached c.reached s.follows c.follows;
+        gives = gives_append x.geometry x.perms x.store first (first + summed) s.contents a.contents s.holds c.holds (ap (λ k. first + k) s.many) s.gives more;
+        hashed = subst (λ (m : List ℕ). Holds256 hasher' m) (joined_append s.contents a.contents) (a.fed (joined s.contents) s.hashed);
+        represents = settled rack area new s.reached (AddIs s.reached (first + summed) count hasher hasher' (Ok added)) c a.store;
       }
 
   -- the objects that were added are some of those that were left
-  pub some_added : (first count added : ℕ) (hasher hasher' : Sha256) (old : State) (new : Pool R) → Moves shape told faults (AddIs first count hasher hasher' (Ok added)) old new
+  pub some_added : (x : State) (first count added : ℕ) (hasher hasher' : Sha256) (new : Pool R A) → CarriesOut rack area new x (AddIs x first count hasher hasher' (Ok added))
       → (1 ≤ added) × (added ≤ count)
-  some_added first count added hasher hasher' old new m = (m.moved.some, m.moved.within)
+  some_added x first count added hasher hasher' new c = (c.done.some, c.done.within)
 
-  stops_look : (first count : ℕ) (fault : SumFault) (x y : State) → SumStops first count fault x y → Looks x y
-  stops_look first count fault x y s = looks_on x s.mid y s.stops.looks (looks_on s.mid s.after y s.looks (behind_looks fault.why s.after y s.behind))
-
-  pub sum_stops : (old mid new : Pool R) (changes : List Change) (first summed count : ℕ) (hasher hasher' : Sha256) (fault : SumFault) → Summing old mid changes first summed hasher → summed ≤ count
-      → (Represents shape told mid changes → Moves shape told faults (AddIs (first + summed) (count - summed) hasher hasher' (Err fault)) (state_of told faults mid changes) new)
-      → Moves shape told faults (SumIs first count (Err fault)) (state_of told faults old changes) new
-  sum_stops old mid new changes first summed count hasher hasher' fault s below moves =
-      let n = stayed (AddIs (first + summed) (count - summed) hasher hasher' (Err fault)) (stops_look (first + summed) (count - summed) fault) mid new changes (moves s.represents) in
-      let f = n.moved in
+  pub sum_stops : (mid new : Pool R A) (x : State) (first summed count : ℕ) (hasher hasher' : Sha256) (fault : SumFault) → Summing mid x first summed hasher → summed ≤ count
+      → ((y : State) → Represents rack area mid y → CarriesOut rack area new y (AddIs y (first + summed) (count - summed) hasher hasher' (Err fault))) → CarriesOut rack area new x (SumDoes x first count (Err fault))
+  sum_stops mid new x first summed count hasher hasher' fault s below moves =
+      let c = moves s.reached s.represents in
+      let f = own_of x s.reached (λ g p t. SumStops g p t (first + summed) (count - summed) fault.object fault.why c.holds) (same_layout s.holds x s.reached s.follows) c.done.1 in
       let many = s.many in
-      let at = f.stops.behind in
-      let within = f.stops.within in
-      let long = length-append s.contents f.stops.contents in
-      record {
-        changes = changes;
-        represents = n.represents;
-        moved = record {
-          mid = f.mid;
-          after = f.after;
-          stops = record {
-            contents = s.contents ++ f.stops.contents;
-            behind = omega (arith, many, at, long);
-            within = omega (arith, many, within, long, below);
-            last = last_append changes first (first + summed) s.contents f.stops.contents (ap (λ k. first + k) s.many) s.last f.stops.last;
-            looks = looks_on (state_of told faults old changes) (state_of told faults mid changes) f.mid s.looks f.stops.looks;
-          };
-          why = f.why;
-          looks = f.looks;
-          behind = f.behind;
-        };
-      }
+      let at = f.object_is in
+      let within = f.within in
+      let fetched = f.fetched in
+      let long = length-append s.contents f.contents in
+      let held = length-append s.holds c.holds in
+      let front = gives_length x.geometry x.perms x.store first s.contents s.holds s.gives in
+      carried rack area new x (s.holds ++ c.holds) c.reached (SumDoes x first count (Err fault)) (follows_on s.holds c.holds x s.reached c.reached s.follows c.follows)
+      (settled rack area new s.reached (AddIs s.reached (first + summed) (count - summed) hasher hasher' (Err fault)) c c.done.0) (
+        refl,
+        record {
+          contents = s.contents ++ f.contents;
+          front = s.holds ++ f.front;
+          back = f.back;
+          are = ap (λ hs. s.holds ++ hs) f.are ∙ sym (append_assoc s.holds f.front f.back);
+          object_is = omega (arith, many, at, long);
+          within = omega (arith, many, within, long, below);
+          gives = gives_append x.geometry x.perms x.store first (first + summed) s.contents f.contents s.holds f.front (ap (λ k. first + k) s.many) s.gives f.gives;
+          stops = f.stops;
+          fetched = omega (arith, held, fetched, front, many, below);
+        },
+      )
 
-  pub sum_done : (old new : Pool R) (changes : List Change) (first summed count : ℕ) (hasher : Sha256) (digest : List ℕ) → Summing old new changes first summed hasher → summed ≡ count
-      → ((m : List ℕ) → Holds256 hasher m → digest ≡ sha256 m) → Moves shape told faults (SumIs first count (Ok digest)) (state_of told faults old changes) new
-  sum_done old new changes first summed count hasher digest s end is = record {
-    changes = changes;
-    represents = s.represents;
-    moved = (record { contents = s.contents; many = s.many ∙ end; last = s.last; is = is (joined s.contents) s.holds }, s.looks);
-  }
+  pub sum_done : (new : Pool R A) (x : State) (first summed count : ℕ) (hasher : Sha256) (digest : List ℕ) → Summing new x first summed hasher → summed ≡ count
+      → ((m : List ℕ) → Holds256 hasher m → digest ≡ sha256 m) → CarriesOut rack area new x (SumDoes x first count (Ok digest))
+  sum_done new x first summed count hasher digest s end is =
+      carried rack area new x s.holds s.reached (SumDoes x first count (Ok digest)) s.follows s.represents
+      (refl, record { contents = s.contents; many = s.many ∙ end; gives = s.gives; is = is (joined s.contents) s.hashed })

@@ -1,7 +1,9 @@
 pub mod Answers
 pub mod Batches
-pub mod Close
-pub mod Create
-pub mod Pool
-pub mod State
-pub mod Store
+pub mod Carries
+pub mod Closing
+pub mod Metaslabs
+pub mod Objects
+pub mod Opening
+pub mod Pools
+pub mod Shards

@@ -1,28 +1,38 @@
-ghost use Rattle.std.specs.Prelude.{◌≡◌, ◌≤◌, List, length};
-ghost use Rattle.draid_pool.specs.Close.{HoldsPool, Returns};
-ghost use Rattle.draid_pool.specs.Pool.{Represents, state_of};
-ghost use Rattle.draid_pool.specs.State.{Change};
+ghost use Rattle.std.specs.Prelude.{◌≡◌, ◌≤◌, length};
+ghost use Rattle.draid_session.specs.State.{State};
+ghost use Rattle.draid_shelf.specs.Shelf.{most_metaslabs};
+ghost use Rattle.draid_pool.specs.Closing.{GivesBack, Returns};
+ghost use Rattle.draid_pool.specs.Pools.{Represents};
 
 use crate::pool::Pool;
+use draid_shelf::Shelf;
 use draid_shard::Shard;
-use draid_shelf::RackShelf;
 
-/// Gives the racks of the shards back to the shelf, each as that of its place.
-pub(crate) fn give_back<H: RackShelf>(shelf: &mut H, shards: Vec<Shard<H::R>>)
-    requires few { length shards.items ≤ 64 }
-    ensures { Returns H.R.told H.R.faults shards.items (H.holds shelf.old) (H.holds shelf.new) (H.counts shelf.old) (H.counts shelf.new) }
+/// Gives the devices of the shards back to the shelf, each as those of its place.
+pub(crate) fn give_back<H: Shelf>(shelf: &mut H, shards: Vec<Shard<H::R, H::A>>)
+    requires few { length shards.items ≤ most_metaslabs }
+    ensures returns { Returns H.R.Rack H.A.Area shards.items (H.told shelf.old) (H.told shelf.new) (H.counts shelf.old) (H.counts shelf.new) }
+    ensures uber { H.uber_count shelf.new ≡ H.uber_count shelf.old }
+    ensures checks { H.check_counts shelf.new ≡ H.check_counts shelf.old }
+    ensures faults { H.faults shelf.new ≡ H.faults shelf.old }
 {
     let mut left = shards;
     while let Some(shard) = left.pop() {
-        shelf.give(left.len() as u32, shard.into_rack());
+        shelf.give(left.len() as u32, shard.into_kit());
     }
 }
 
-/// Gives the racks of all metaslabs back to the shelf.
-pub fn close<H: RackShelf>(pool: Pool<H::R>, shelf: &mut H)
-    requires represents { (changes : List Change) × Represents H.R.shape H.R.told pool changes }
-    ensures held { (changes : List Change) → Represents H.R.shape H.R.told pool changes
-        → HoldsPool (H.holds shelf.new) (H.counts shelf.new) (state_of H.R.told H.R.faults pool changes) }
+/// Gives the devices of all metaslabs back to the shelf, and all that it holds a crash, where one is asked for.
+pub fn close<H: Shelf>(pool: Pool<H::R, H::A>, shelf: &mut H, crash: bool)
+    requires represents { (x : State) × Represents H.R.Rack H.A.Area pool x }
+    ensures back { (x : State) → Represents H.R.Rack H.A.Area pool x
+        → GivesBack x crash (H.told shelf.old) (H.told shelf.new) (H.counts shelf.new) }
+    ensures uber { H.uber_count shelf.new ≡ H.uber_count shelf.old }
+    ensures checks { H.check_counts shelf.new ≡ H.check_counts shelf.old }
+    ensures faults { H.faults shelf.new ≡ H.faults shelf.old }
 {
     give_back(shelf, pool.shards);
+    if crash {
+        shelf.crash();
+    }
 }

@@ -1,6 +1,6 @@
 ghost use Rattle.std.specs.Prelude.{◌≡◌};
 
-use draid_names::{NoMemory, ObjectFault};
+use draid_names::{DeviceFault, NoMemory, ObjectFault};
 use draid_spec::SpecFault;
 
 /// Why no pool was created.
@@ -8,17 +8,9 @@ use draid_spec::SpecFault;
 pub enum PoolFault {
     /// There is no layout of this spec and these properties.
     Spec(SpecFault),
+    /// The shelf failed.
+    Shelf,
     NoMemory,
-}
-
-impl From<NoMemory> for PoolFault {
-    ghost use Rattle.draid_pool.specs.declared.fault.PoolFault.TheVariants.{NoMemory};
-
-    ghost from_gives = { λ _ fault. fault ≡ NoMemory };
-
-    fn from(_error: NoMemory) -> PoolFault {
-        PoolFault::NoMemory
-    }
 }
 
 /// Why no object was freed.
@@ -40,6 +32,8 @@ pub struct SumFault {
 pub enum DamageFault {
     /// There is no such leaf, or it has no such sector.
     NoSuch,
+    /// Its metaslab has too many events.
+    Worn,
     /// The leaf failed.
     Failed,
     NoMemory,

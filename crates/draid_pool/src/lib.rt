@@ -1,14 +1,19 @@
-//! A pool: objects whose bytes are written to blocks of its metaslabs, and read again.
+//! A pool: objects whose bytes are written to blocks of its metaslabs, and read again. Each call is a list of holds of
+//! metaslabs, each of which does one event or none.
 
 #![tactic(auto)]
 
-mod batch;
 mod closing;
+mod damaging;
 mod fault;
+mod freeing;
 mod opening;
 mod pool;
+mod reading;
 mod room;
 mod store;
+mod summing;
+mod writing;
 
 pub use closing::close;
 pub use draid_names::{ObjectFault, WriteFault};

@@ -1,60 +1,79 @@
-ghost use Rattle.std.specs.Prelude.{◌≡◌, ◌<◌, IfOk, IsSomeAnd, OnErr, OnOk};
+ghost use Rattle.std.specs.Prelude.{◌≡◌, ◌<◌, ◌≤◌, ℕ, IfOk, IsErrOf, IsSomeAnd, OnErr, OnOk};
+ghost use Rattle.draid_names.specs.Faults.{Rose};
 ghost use Rattle.draid_spec.specs.Spec.{IsSpec};
 ghost use Rattle.draid_spec.specs.Geometry.{IsGeometry};
 ghost use Rattle.draid_map.specs.Place.{IsLayout};
-ghost use Rattle.draid_shelf.specs.Shelf.{HasLeavesOf};
-ghost use Rattle.draid_pool.specs.Create.{AreBack, AreMade, AreOpened, CreateIs, GivesBack, IsOpened, TakesOne};
+ghost use Rattle.draid_shelf.specs.Shelf.{HasLeavesOf, SameOthers};
+ghost use Rattle.draid_shelf.specs.Kits.{takes_kit};
+ghost use Rattle.draid_pool.specs.Opening.{AreOpened, CreateIs, IsBackAgain, IsOpened, ShelfIs, TakesFirst};
+
 
 use crate::closing::give_back;
 use crate::fault::PoolFault;
 use crate::pool::Pool;
-use draid_names::NoMemory;
+use draid_names::DeviceFault;
 use draid_perm::Perms;
+use draid_shelf::Shelf;
 use draid_shard::Shard;
-use draid_shelf::RackShelf;
 use draid_spec::{Geometry, Props, Spec, geometry};
 use std::alloc::Global;
 use std::collections::HashMap;
 
-/// Takes the rack of a new metaslab, and opens it. Where memory is wanting the rack is on the shelf.
-fn open_shard<H: RackShelf>(
+/// How many events all metaslabs of a pool may store, with those that are owed.
+const EVENTS: u64 = 1 << 24;
+
+/// Takes the devices of a new metaslab, and opens it. After a refusal they are on the shelf.
+fn open_shard<H: Shelf>(
     alloc: Global,
     shelf: &mut H,
     layout: Geometry,
     perms: Perms,
     number: u32,
-) -> Result<Shard<H::R>, NoMemory>
+) -> Result<Shard<H::R, H::A>, DeviceFault>
     requires layout { IsLayout layout perms }
     requires number { number < layout.props.metaslabs }
-    requires made { IsSomeAnd (H.made shelf.old number) (HasLeavesOf layout) }
-    ensures opened { IfOk result (IsOpened H.R.shape H.R.told H.R.faults layout perms number (H.holds shelf.old number) (H.counts shelf.old number)) }
-    ensures taken { OnOk result (TakesOne number (H.made shelf.old) (H.made shelf.new) (H.holds shelf.old) (H.holds shelf.new)
-        (H.counts shelf.old) (H.counts shelf.new)) }
-    ensures back { OnErr result (AreBack (H.holds shelf.old) (H.holds shelf.new) (H.counts shelf.old) (H.counts shelf.new)) }
+    requires made { IsSomeAnd (H.leaves shelf.old number) (HasLeavesOf layout) }
+    ensures opened { IfOk result (IsOpened H.R.Rack H.A.Area (record { geometry = layout; perms = perms; number = number }) (H.told shelf.old) (H.counts shelf.old number)) }
+    ensures told { OnOk result (H.told shelf.new ≡ takes_kit number (H.told shelf.old)) }
+    ensures leaves { OnOk result (SameOthers number (H.leaves shelf.old) (H.leaves shelf.new)) }
+    ensures counts { OnOk result (SameOthers number (H.counts shelf.old) (H.counts shelf.new)) }
+    ensures back { OnErr result (IsBackAgain (H.told shelf.old) (H.told shelf.new) (H.counts shelf.old) (H.counts shelf.new)) }
+    ensures uber { H.uber_count shelf.new ≡ H.uber_count shelf.old }
+    ensures checks { H.check_counts shelf.new ≡ H.check_counts shelf.old }
+    ensures later { H.faults shelf.old ≤ H.faults shelf.new }
+    ensures cause { IsErrOf result DeviceFault.Failed → Rose (H.faults shelf.old) (H.faults shelf.new) }
 {
-    let rack = shelf.take(number)?;
-    match Shard::create(alloc, number, layout, perms, rack) {
+    let kit = shelf.take(number, &layout)?;
+    let events = EVENTS / u64::from(layout.props.metaslabs);
+    match Shard::create(alloc, number, layout, perms, kit, events) {
         Ok(shard) => Ok(shard),
         Err(refused) => {
-            shelf.give(number, refused.rack);
-            Err(NoMemory)
+            shelf.give(number, refused.kit);
+            Err(DeviceFault::NoMemory)
         }
     }
 }
 
-/// Opens all metaslabs of a new pool. Where memory is wanting all racks are on the shelf.
-fn open_shards<H: RackShelf>(
+/// Opens all metaslabs of a new pool. After a refusal all devices are on the shelf.
+fn open_shards<H: Shelf>(
     alloc: Global,
     shelf: &mut H,
     layout: Geometry,
-) -> Result<Vec<Shard<H::R>>, NoMemory>
+) -> Result<Vec<Shard<H::R, H::A>>, DeviceFault>
     requires layout { IsGeometry layout }
-    requires made { AreMade layout (H.made shelf.old) }
-    ensures opened { IfOk result (λ shards. AreOpened H.R.shape H.R.told H.R.faults layout (H.holds shelf.old) (H.counts shelf.old) shards.items) }
-    ensures back { OnErr result (AreBack (H.holds shelf.old) (H.holds shelf.new) (H.counts shelf.old) (H.counts shelf.new)) }
+    requires made { (m : ℕ) → m < layout.props.metaslabs → IsSomeAnd (H.leaves shelf.old m) (HasLeavesOf layout) }
+    ensures opened { IfOk result (λ shards. AreOpened H.R.Rack H.A.Area layout (H.told shelf.old) (H.counts shelf.old) shards.items) }
+    ensures told { OnOk result (TakesFirst layout.props.metaslabs (H.told shelf.old) (H.told shelf.new)) }
+    ensures back { OnErr result (IsBackAgain (H.told shelf.old) (H.told shelf.new) (H.counts shelf.old) (H.counts shelf.new)) }
+    ensures uber { H.uber_count shelf.new ≡ H.uber_count shelf.old }
+    ensures checks { H.check_counts shelf.new ≡ H.check_counts shelf.old }
+    ensures later { H.faults shelf.old ≤ H.faults shelf.new }
+    ensures cause { IsErrOf result DeviceFault.Failed → Rose (H.faults shelf.old) (H.faults shelf.new) }
 {
     let perms = Perms::new(layout.spec.children, layout.props.seed);
-    let mut shards = Vec::with_capacity(alloc, layout.props.metaslabs as usize)?;
+    let Ok(mut shards) = Vec::with_capacity(alloc, layout.props.metaslabs as usize) else {
+        return Err(DeviceFault::NoMemory);
+    };
     for number in 0..layout.props.metaslabs {
         match open_shard(alloc, shelf, layout, perms, number) {
             Ok(shard) => shards.push_reserved(shard),
@@ -67,28 +86,40 @@ fn open_shards<H: RackShelf>(
     Ok(shards)
 }
 
-/// Makes a pool of this spec on the shelf, in place of an earlier one, and opens it.
-pub fn create<H: RackShelf>(
+/// Makes a pool of this spec on the shelf, in place of an earlier one, and opens it. What isn't of a metaslab stays on
+/// the shelf. A refusal gives back all that was taken.
+pub fn create<H: Shelf>(
     alloc: Global,
     shelf: &mut H,
     spec: Spec,
     props: Props,
-) -> Result<Pool<H::R>, PoolFault>
+) -> Result<Pool<H::R, H::A>, PoolFault>
     requires spec { IsSpec props.version spec }
-    ensures answer { CreateIs H.R.shape H.R.told H.R.faults spec props result }
-    ensures back { GivesBack spec props result (H.holds shelf.old) (H.holds shelf.new) (H.counts shelf.new) }
+    ensures answer { CreateIs H.R.Rack H.A.Area spec props (H.told shelf.new) (H.faults shelf.old) (H.faults shelf.new) result }
+    ensures shelf { ShelfIs spec props (H.told shelf.old) (H.told shelf.new) (H.counts shelf.old) (H.counts shelf.new)
+        (record { uber = H.uber_count shelf.old; checks = H.check_counts shelf.old })
+        (record { uber = H.uber_count shelf.new; checks = H.check_counts shelf.new }) result }
+    ensures later { H.faults shelf.old ≤ H.faults shelf.new }
 {
     let layout = match geometry(spec, props) {
         Ok(layout) => layout,
         Err(fault) => return Err(PoolFault::Spec(fault)),
     };
-    shelf.make(alloc, &layout)?;
-    let shards = open_shards(alloc, shelf, layout)?;
-    Ok(Pool {
-        geometry: layout,
-        shards,
-        objects: HashMap::new(alloc),
-        seq: 0,
-        alloc,
-    })
+    match shelf.make(alloc, &layout) {
+        Ok(()) => {}
+        Err(DeviceFault::Failed) => return Err(PoolFault::Shelf),
+        Err(DeviceFault::NoMemory) => return Err(PoolFault::NoMemory),
+    }
+    match open_shards(alloc, shelf, layout) {
+        Ok(shards) => Ok(Pool {
+            geometry: layout,
+            shards,
+            objects: HashMap::new(alloc),
+            seq: 0,
+            floor: 0,
+            alloc,
+        }),
+        Err(DeviceFault::Failed) => Err(PoolFault::Shelf),
+        Err(DeviceFault::NoMemory) => Err(PoolFault::NoMemory),
+    }
 }

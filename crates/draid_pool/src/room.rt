@@ -1,22 +1,22 @@
-ghost use Rattle.std.specs.Prelude.{◌≡◌, ◌≤◌, ℕ, IfOk, All, length};
-ghost use Rattle.std.specs.List.{AllZip, count_by};
-ghost use Rattle.draid_shard.specs.Shard.{Valid};
-ghost use Rattle.draid_shard.specs.declared.shard.Shard.{Shard};
-ghost use Rattle.draid_pool.specs.State.{longest};
-ghost use Rattle.draid_pool.specs.Store.{RoomIs, has_all};
+ghost use Rattle.std.specs.Prelude.{◌≡◌, ◌≤◌, ◌↔◌, Some, IfOk, IsTrue, All, length};
+ghost use Rattle.std.specs.List.{AllZip};
+ghost use Rattle.draid_shard.specs.Fits.{Valid};
+ghost use Rattle.draid_session.specs.Rooms.{longest};
+ghost use Rattle.draid_pool.specs.Shards.{AreShut, RoomIs};
 
+use draid_area::Area;
 use draid_names::{NoMemory, Room};
 use draid_rack::Rack;
-use draid_shard::Shard;
+use draid_shard::{Shard, Shut};
 use std::alloc::Global;
 
 /// The room that each shard has for a block of so many stripes.
-pub(crate) fn rooms_of<R: Rack>(
+pub(crate) fn rooms_of<R: Rack, A: Area>(
     alloc: Global,
-    shards: &[Shard<R>],
+    shards: &[Shard<R, A>],
     need: u64,
 ) -> Result<Vec<Room>, NoMemory>
-    requires { All (Valid R.shape) shards.now }
+    requires { All (Valid R.Rack) shards.now }
     ensures { IfOk result (λ rooms. AllZip (RoomIs need) shards.now rooms.items) }
 {
     let mut rooms = Vec::new(alloc);
@@ -37,16 +37,27 @@ pub(crate) fn longest_run(rooms: &[Room]) -> u64
     run
 }
 
-/// How many shards hold all the blocks that they may.
-pub(crate) fn count_full<R: Rack>(shards: &[Shard<R>]) -> u32
-    requires { length shards.now ≤ 64 }
-    ensures { result ≡ count_by has_all shards.now }
+/// How many shards take no new block for this reason.
+pub(crate) fn count_shut<R: Rack, A: Area>(shards: &[Shard<R, A>], why: Shut) -> u32
+    requires valid { All (Valid R.Rack) shards.now }
+    requires few { length shards.now ≤ 64 }
+    ensures { AreShut shards.now why result }
 {
-    let mut full = 0;
+    let mut count = 0;
     for shard in shards {
-        if shard.is_full() {
-            full += 1;
+        if is_shut_by(shard.shut(), why) {
+            count += 1;
         }
     }
-    full
+    count
+}
+
+/// Whether this is the reason.
+fn is_shut_by(shut: Option<Shut>, why: Shut) -> bool
+    ensures { IsTrue result ↔ (shut ≡ Some why) }
+{
+    match shut {
+        Some(shut) => shut == why,
+        None => false,
+    }
 }

@@ -1,43 +1,53 @@
 -- The tables fit together after each change of one entry.
-use Rattle.std.proofs.Common.{rules, if◌then◌else◌, ◌≡◌, ◌⊎◌, ◌+◌, ◌*◌, ◌<◌, ◌≤◌, ◌%◌, ◌/◌, ◌&&◌, ◌||◌, not, ℕ, List, Bool, true, false, Option, Some, None, arith, refl, sym, ap, inl, inr, ◌∙◌, subst, [], ◌∷◌, length}
-use Rattle.draid_spec.specs.Geometry.{metaslab_stripes}
+use Rattle.std.proofs.Common.{if◌then◌else◌, ◌≡◌, ◌⊎◌, ◌==◌, ◌+◌, ◌*◌, ◌<◌, ◌≤◌, ◌%◌, ◌/◌, ◌&&◌, ◌||◌, not, ℕ, Bool, true, false, Option, Some, None, arith, refl, sym, ap, inl, inr, ◌∙◌, subst}
 use Rattle.std.proofs.Math.Nat.{mod-lt, mul-le-mul_right}
 use Rattle.std.proofs.lemmas.Bool.{cases_lt, cases_eq}
 use Rattle.std.proofs.lemmas.Bool.Decides.{nat_tests}
-use Rattle.std.specs.Ordering.{is_eq, nat_cmp}
-use Rattle.std.specs.BTreeMap.{BTreeMap, btree_map_len, is_at, Updates}
-use Rattle.std.specs.Map.{lookup}
-use Rattle.std.specs.Prelude.{is_some}
 use Rattle.draid_names.specs.declared.pointer.Pointer.{Pointer}
 use Rattle.draid_spec.specs.declared.layout.Geometry.{Geometry}
+use Rattle.draid_spec.specs.Geometry.{metaslab_stripes}
 use Rattle.draid_map.proofs.Radix.{its_digits}
 use Rattle.draid_ranges.specs.Runs.{is_between}
 use Rattle.draid_metaslab.specs.Spaces.{IsKept, Stripes, is_free}
 use Rattle.draid_metaslab.specs.Spots.{IsLowest, IsSpot}
-use Rattle.draid_shard.specs.declared.entry.Entry.{Entry}
-use Rattle.draid_shard.specs.MetaslabLayout.{IsRun}
 use Rattle.draid_machine.specs.declared.names.Stage.{Stage}
-use Rattle.draid_shard.specs.Entry.{HasStripe, IsBlock, IsPlaced, SetsEntry, Tables, begun, entry_at, staged}
+use Rattle.draid_entries.specs.declared.entry.Entry.{Entry}
+use Rattle.draid_entries.specs.declared.entries.Entries.{Entries}
+use Rattle.draid_entries.specs.Entries.{SetsEntry, begun, count_of, entry_at}
+use Rattle.draid_entries.specs.Maps.{staged}
+use Rattle.draid_shard.specs.Fits.{HasStripe, IsBlock, IsPlaced, Tables}
+use Rattle.draid_shard.specs.Part.{IsRun}
 
--- an entry is the one that was set, or one that was there elsewhere
-pub entry_cases : (old new : BTreeMap ℕ Entry) (at k : ℕ) (entry : Option Entry) (e : Entry) → SetsEntry old new at entry → entry_at new k ≡ Some e
-    → ((k ≡ at) × (entry ≡ Some e)) ⊎ ((k ≡ at → ⊥) × (entry_at old k ≡ Some e))
-entry_cases old new at k entry e sets h = elim (cases_eq k at) [
+-- ---- entries
+
+pub first_is : (t : Entries) (first : ℕ) (e : Entry) → entry_at t first ≡ Some e → e.pointer.first ≡ first
+first_is t first e there = (t.agree.found first e there).first_is
+
+-- what was set is there, and all else as before
+pub set_here : (old new : Entries) (p : Pointer) (entry : Option Entry) → SetsEntry old new p entry → entry_at new p.first ≡ entry
+set_here old new p entry sets = sets.at p.first ∙ ap (λ b. if b then entry else entry_at old p.first) same
+  where
+    same : (p.first == p.first) ≡ true
+    same = grind (arith, nat_tests)
+
+pub set_there : (old new : Entries) (p : Pointer) (entry : Option Entry) (first : ℕ) → SetsEntry old new p entry → (first ≡ p.first → ⊥) → entry_at new first ≡ entry_at old first
+set_there old new p entry first sets other = sets.at first ∙ ap (λ b. if b then entry else entry_at old first) differs
+  where
+    differs : (first == p.first) ≡ false
+    differs = grind (arith, nat_tests, other)
+
+pub entry_cases : (old new : Entries) (p : Pointer) (k : ℕ) (entry : Option Entry) (e : Entry) → SetsEntry old new p entry → entry_at new k ≡ Some e
+    → ((k ≡ p.first) × (entry ≡ Some e)) ⊎ ((k ≡ p.first → ⊥) × (entry_at old k ≡ Some e))
+entry_cases old new p k entry e sets h = elim (cases_eq k p.first) [
   | inl same ↦ here same
-  | inr other ↦ inr (other, sym (sets.others k other) ∙ h)
+  | inr other ↦ inr (other, sym (set_there old new p entry k sets other) ∙ h)
 ] where
-  here : k ≡ at → ((k ≡ at) × (entry ≡ Some e)) ⊎ ((k ≡ at → ⊥) × (entry_at old k ≡ Some e))
-  here same = inl (same, sym sets.here ∙ ap (entry_at new) (sym same) ∙ h)
+  here : k ≡ p.first → ((k ≡ p.first) × (entry ≡ Some e)) ⊎ ((k ≡ p.first → ⊥) × (entry_at old k ≡ Some e))
+  here same = inl (same, sym (set_here old new p entry sets) ∙ ap (entry_at new) (sym same) ∙ h)
 
--- an entry's stripes are a run
-pub entry_run : (geometry : Geometry) (space : Stripes) (blocks : BTreeMap ℕ Entry) (k : ℕ) (e : Entry) → Tables geometry space blocks → entry_at blocks k ≡ Some e
-    → IsRun geometry e.pointer.first e.pointer.stripes
-entry_run geometry space blocks k e t h =
-    let p = t.placed k e h in
-    let f : e.pointer.first ≡ k = p.first in
-    record { some = p.some; inside = rw f p.inside; group = rw f p.group }
+-- ---- runs
 
--- a spot of free stripes within one group lies so in the group that its first stripe has
+-- a spot within one group lies so in the group that its first stripe has
 spot_group : (height first need group : ℕ) → 0 < height → 0 < need → group * height ≤ first → first + need ≤ group * height + height → first % height + need ≤ height
 spot_group height first need group some more low high =
     let digits : first / height * height + first % height ≡ first = its_digits height first in
@@ -58,23 +68,23 @@ spot_group height first need group some more low high =
     let at : group * height + first % height ≡ first = subst (λ g. g * height + first % height ≡ first) q digits in
     omega (arith, at)
 
--- what the run that was taken is: free before
-pub record IsTaken (geometry : Geometry) (free : ℕ → Bool) (first need : ℕ) : Type 0 where
+-- a run that was free
+pub record WasFree (geometry : Geometry) (free : ℕ → Bool) (first need : ℕ) : Type 0 where
   pub run : IsRun geometry first need
-  pub was_free : (x : ℕ) → first ≤ x → x < first + need → free x ≡ true
+  pub was : (x : ℕ) → first ≤ x → x < first + need → free x ≡ true
 
-pub spot_taken : (geometry : Geometry) (space : Stripes) (blocks : BTreeMap ℕ Entry) (first need : ℕ) → Tables geometry space blocks → 0 < need
-    → IsSpot (is_free space) space.height need first → first + need ≤ space.total → IsTaken geometry (is_free space) first need
-spot_taken geometry space blocks first need t more spot inside =
+pub spot_free : (geometry : Geometry) (group : ℕ) (space : Stripes) (entries : Entries) (first need : ℕ) → Tables geometry group space entries → 0 < need
+    → IsSpot (is_free space) space.height need first → first + need ≤ space.total → WasFree geometry (is_free space) first need
+spot_free geometry group space entries first need t more spot inside =
     let height = t.height in
     let total = t.total in
     let low = spot.from in
     let high = spot.to in
     let some : 0 < space.height = omega (arith, low, high) in
-    let group : first % space.height + need ≤ space.height = spot_group space.height first need spot.group some more low high in
+    let in_group : first % space.height + need ≤ space.height = spot_group space.height first need spot.group some more low high in
     record {
-      run = record { some = omega arith; inside = omega (arith, total); group = rw (sym height) group };
-      was_free = spot.all;
+      run = record { some = omega arith; inside = omega (arith, total); group = rw (sym height) in_group };
+      was = spot.all;
     }
 
 -- stripes that were taken and freed again are free as before
@@ -85,172 +95,173 @@ back_again old mid new first need were takes frees x =
     let a = takes x in let b = frees x in let f = were x in grind (arith, nat_tests, a, b, f)
 
 -- stripes are free, and so none of an entry's
-free_apart : (geometry : Geometry) (space : Stripes) (blocks : BTreeMap ℕ Entry) (first need : ℕ) → Tables geometry space blocks → IsTaken geometry (is_free space) first need
-    → (k : ℕ) (e : Entry) → entry_at blocks k ≡ Some e → (k + e.pointer.stripes ≤ first) ⊎ (first + need ≤ k)
-free_apart geometry space blocks first need t fits k e h = elim (cases_lt k first) [ inl before ↦ inl (lower before) | inr after ↦ inr (upper after) ] where
-  p : IsPlaced geometry (is_free space) k e.pointer
+free_apart : (geometry : Geometry) (group : ℕ) (space : Stripes) (entries : Entries) (first need : ℕ) → Tables geometry group space entries → WasFree geometry (is_free space) first need
+    → (k : ℕ) (e : Entry) → entry_at entries k ≡ Some e → (k + e.pointer.stripes ≤ first) ⊎ (first + need ≤ k)
+free_apart geometry group space entries first need t fits k e h = elim (cases_lt k first) [ inl before ↦ inl (lower before) | inr after ↦ inr (upper after) ] where
+  p : IsPlaced geometry space group e.pointer
   p = t.placed k e h
+
+  at : e.pointer.first ≡ k
+  at = first_is entries k e h
 
   lower : k < first → k + e.pointer.stripes ≤ first
   lower before = elim (cases_lt first (k + e.pointer.stripes)) [
     | inr apart ↦ apart
-    | inl meets ↦ (let a = p.held first (omega arith) meets in let s = fits.run.some in let b = fits.was_free first (omega arith) (omega arith) in absurd (cc))
+    | inl meets ↦ (let a = p.held first (omega (arith, at)) (omega (arith, at)) in let s = fits.run.some in let b = fits.was first (omega arith) (omega arith) in absurd (cc))
   ]
 
   upper : first ≤ k → first + need ≤ k
   upper after = elim (cases_lt k (first + need)) [
     | inr apart ↦ apart
-    | inl meets ↦ (let s = p.some in let a = p.held k (omega arith) (omega arith) in let b = fits.was_free k after meets in absurd (cc))
+    | inl meets ↦ (let s = p.run.some in let a = p.held k (omega (arith, at)) (omega (arith, at)) in let b = fits.was k after meets in absurd (cc))
   ]
 
-pub none_at : (geometry : Geometry) (space : Stripes) (blocks : BTreeMap ℕ Entry) (first need : ℕ) → Tables geometry space blocks → IsTaken geometry (is_free space) first need
-    → entry_at blocks first ≡ None
-none_at geometry space blocks first need t fits = by_cases (entry_at blocks first) refl where
-  by_cases : (o : Option Entry) → entry_at blocks first ≡ o → entry_at blocks first ≡ None
+-- and none begins there
+pub none_at : (geometry : Geometry) (group : ℕ) (space : Stripes) (entries : Entries) (first need : ℕ) → Tables geometry group space entries → WasFree geometry (is_free space) first need
+    → entry_at entries first ≡ None
+none_at geometry group space entries first need t fits = by_cases (entry_at entries first) refl where
+  by_cases : (o : Option Entry) → entry_at entries first ≡ o → entry_at entries first ≡ None
   by_cases None e = e
   by_cases (Some entry) e =
       let p = t.placed first entry e in
-      let s = p.some in
-      let a = p.held first (omega arith) (omega arith) in
+      let at = first_is entries first entry e in
+      let s = p.run.some in
+      let a = p.held first (omega (arith, at)) (omega (arith, at)) in
       let f = fits.run.some in
-      let b = fits.was_free first (omega arith) (omega arith) in
+      let b = fits.was first (omega arith) (omega arith) in
       absurd (cc)
 
--- an entry whose stripes are still taken
-moved : (geometry : Geometry) (old new : ℕ → Bool) (k : ℕ) (pointer : Pointer) → IsPlaced geometry old k pointer
-    → ((x : ℕ) → k ≤ x → x < k + pointer.stripes → new x ≡ false) → IsPlaced geometry new k pointer
-moved geometry old new k pointer p held = record { first = p.first; some = p.some; inside = p.inside; group = p.group; held = held; is_block = p.is_block }
+-- ---- changes
 
--- the space as it was, or with another number of runs that are out
+-- an entry whose stripes are still taken
+moved : (geometry : Geometry) (group : ℕ) (old new : Stripes) (pointer : Pointer) → IsPlaced geometry old group pointer
+    → ((x : ℕ) → pointer.first ≤ x → x < pointer.first + pointer.stripes → is_free new x ≡ false) → IsPlaced geometry new group pointer
+moved geometry group old new pointer p held = record { run = p.run; held = held; is_block = p.is_block }
+
+-- the space of the layout, with so many runs out
 pub record IsSpaceOf (geometry : Geometry) (space : Stripes) (runs : ℕ) : Type 0 where
   pub height : space.height ≡ geometry.props.height
   pub total : space.total ≡ metaslab_stripes geometry
-  pub enabled : space.disabled ≡ false
   pub count : space.held ≡ runs
-  pub few : runs ≤ 4096
 
-pub space_of : (geometry : Geometry) (old new : Stripes) (blocks : BTreeMap ℕ Entry) (runs : ℕ) → Tables geometry old blocks → IsKept old new → new.held ≡ runs → runs ≤ 4096
+pub space_of : (geometry : Geometry) (group : ℕ) (old new : Stripes) (entries : Entries) (runs : ℕ) → Tables geometry group old entries → IsKept old new → new.held ≡ runs
     → IsSpaceOf geometry new runs
-space_of geometry old new blocks runs t kept count few =
-    record { height = kept.height ∙ t.height; total = kept.total ∙ t.total; enabled = kept.disabled ∙ t.enabled; count = count; few = few }
+space_of geometry group old new entries runs t kept count = record { height = kept.height ∙ t.height; total = kept.total ∙ t.total; count = count }
 
 -- a stripe whose entry is there still
-has_still : (old new : BTreeMap ℕ Entry) (x : ℕ) → ((k : ℕ) (e : Entry) → entry_at old k ≡ Some e → entry_at new k ≡ Some e) → HasStripe old x → HasStripe new x
+has_still : (old new : Entries) (x : ℕ) → ((k : ℕ) (e : Entry) → entry_at old k ≡ Some e → entry_at new k ≡ Some e) → HasStripe old x → HasStripe new x
 has_still old new x kept h = record { first = h.first; entry = h.entry; there = kept h.first h.entry h.there; from = h.from; to = h.to }
 
 -- no entry changed, and just the same stripes are free
-pub kept_tables : (geometry : Geometry) (old new : Stripes) (blocks new_blocks : BTreeMap ℕ Entry) → Tables geometry old blocks
-    → ((k : ℕ) → entry_at new_blocks k ≡ entry_at blocks k) → ((x : ℕ) → is_free new x ≡ is_free old x)
-    → IsSpaceOf geometry new (btree_map_len new_blocks) → Tables geometry new new_blocks
-kept_tables geometry old new blocks new_blocks t same free is = record {
+pub kept_tables : (geometry : Geometry) (group : ℕ) (old new : Stripes) (entries next : Entries) → Tables geometry group old entries
+    → ((k : ℕ) → entry_at next k ≡ entry_at entries k) → ((x : ℕ) → is_free new x ≡ is_free old x)
+    → IsSpaceOf geometry new (count_of next) → Tables geometry group new next
+kept_tables geometry group old new entries next t same free is = record {
   height = is.height;
   total = is.total;
-  enabled = is.enabled;
   count = is.count;
-  few = is.few;
-  placed = λ k e h. let p = t.placed k e (sym (same k) ∙ h) in moved geometry (is_free old) (is_free new) k e.pointer p (λ x low high. free x ∙ p.held x low high);
+  inside = λ x at. t.inside x (sym (free x) ∙ at);
+  placed = λ k e h. let p = t.placed k e (sym (same k) ∙ h) in moved geometry group old new e.pointer p (λ x low high. free x ∙ p.held x low high);
   apart = λ j k a b ha hb lt. t.apart j k a b (sym (same j) ∙ ha) (sym (same k) ∙ hb) lt;
-  covered = λ x below taken. has_still blocks new_blocks x (λ k e h. same k ∙ h) (t.covered x below (sym (free x) ∙ taken));
+  covered = λ x below taken. has_still entries next x (λ k e h. same k ∙ h) (t.covered x below (sym (free x) ∙ taken));
 }
 
-pub held_tables : (geometry : Geometry) (old new : Stripes) (blocks new_blocks : BTreeMap ℕ Entry) (pointer : Pointer) → Tables geometry old blocks
-    → IsTaken geometry (is_free old) pointer.first pointer.stripes → IsBlock geometry pointer
+-- a free run was taken by a write that begins
+pub held_tables : (geometry : Geometry) (group : ℕ) (old new : Stripes) (entries next : Entries) (pointer : Pointer) → Tables geometry group old entries
+    → WasFree geometry (is_free old) pointer.first pointer.stripes → IsBlock geometry group pointer
     → ((x : ℕ) → is_free new x ≡ (is_free old x && not (is_between pointer.first (pointer.first + pointer.stripes) x)))
-    → SetsEntry blocks new_blocks pointer.first (Some (begun pointer)) → IsSpaceOf geometry new (btree_map_len new_blocks) → Tables geometry new new_blocks
-held_tables geometry old new blocks new_blocks pointer t fits sized takes sets is = record {
+    → SetsEntry entries next pointer (Some (begun pointer)) → IsSpaceOf geometry new (count_of next) → Tables geometry group new next
+held_tables geometry group old new entries next pointer t fits sized takes sets is = record {
   height = is.height;
   total = is.total;
-  enabled = is.enabled;
   count = is.count;
-  few = is.few;
-  placed = λ k e h. elim (entry_cases blocks new_blocks pointer.first k (Some (begun pointer)) e sets h) [
-    | inl own ↦ own_placed k e own.0 own.1
+  inside = λ x at. t.inside x (let both = takes x in grind (arith, nat_tests, both, at));
+  placed = λ k e h. elim (entry_cases entries next pointer k (Some (begun pointer)) e sets h) [
+    | inl own ↦ own_placed e own.1
     | inr other ↦ old_placed k e other.1
   ];
-  apart = λ j k a b ha hb lt. elim (entry_cases blocks new_blocks pointer.first j (Some (begun pointer)) a sets ha) [
-    | inl own ↦ elim (entry_cases blocks new_blocks pointer.first k (Some (begun pointer)) b sets hb) [
+  apart = λ j k a b ha hb lt. elim (entry_cases entries next pointer j (Some (begun pointer)) a sets ha) [
+    | inl own ↦ elim (entry_cases entries next pointer k (Some (begun pointer)) b sets hb) [
       | inl both ↦ absurd (omega (arith, own.0, both.0))
       | inr other ↦ first_own j k a b own.0 own.1 other.1 lt
     ]
-    | inr other ↦ elim (entry_cases blocks new_blocks pointer.first k (Some (begun pointer)) b sets hb) [
+    | inr other ↦ elim (entry_cases entries next pointer k (Some (begun pointer)) b sets hb) [
       | inl own ↦ second_own j k a b own.0 own.1 other.1 lt
       | inr both ↦ t.apart j k a b other.1 both.1 lt
     ]
   ];
   covered = λ x below taken. covers x below (is_free old x) refl taken;
 } where
-  still : (k : ℕ) (e : Entry) → entry_at blocks k ≡ Some e → entry_at new_blocks k ≡ Some e
-  still k e h = sets.others k (λ same. (let n = none_at geometry old blocks pointer.first pointer.stripes t fits in let m : entry_at blocks k ≡ None = ap (entry_at blocks) same ∙ n in absurd (cc))) ∙ h
+  still : (k : ℕ) (e : Entry) → entry_at entries k ≡ Some e → entry_at next k ≡ Some e
+  still k e h = set_there entries next pointer (Some (begun pointer)) k sets
+      (λ same. (let n = none_at geometry group old entries pointer.first pointer.stripes t fits in let m : entry_at entries k ≡ None = ap (entry_at entries) same ∙ n in absurd (cc))) ∙ h
 
-  covers : (x : ℕ) → x < metaslab_stripes geometry → (b : Bool) → is_free old x ≡ b → is_free new x ≡ false → HasStripe new_blocks x
-  covers x below false was taken = has_still blocks new_blocks x still (t.covered x below was)
+  covers : (x : ℕ) → x < metaslab_stripes geometry → (b : Bool) → is_free old x ≡ b → is_free new x ≡ false → HasStripe next x
+  covers x below false was taken = has_still entries next x still (t.covered x below was)
   covers x below true was taken =
       let both = takes x in record {
         first = pointer.first;
         entry = begun pointer;
-        there = sets.here;
+        there = set_here entries next pointer (Some (begun pointer)) sets;
         from = grind (arith, nat_tests, both, was, taken);
         to = grind (arith, nat_tests, both, was, taken);
       }
 
-  own_placed : (k : ℕ) (e : Entry) → k ≡ pointer.first → Some (begun pointer) ≡ Some e → IsPlaced geometry (is_free new) k e.pointer
-  own_placed k e same is =
-      let P : Pointer → Type 0 = λ p. IsPlaced geometry (is_free new) k p in
+  own_placed : (e : Entry) → Some (begun pointer) ≡ Some e → IsPlaced geometry new group e.pointer
+  own_placed e is =
+      let P : Pointer → Type 0 = λ p. IsPlaced geometry new group p in
       let eq : pointer ≡ e.pointer = cc in
       subst P eq (record {
-        first = sym same;
-        some = fits.run.some;
-        inside = (let i = fits.run.inside in omega (arith, same, i));
-        group = rw same fits.run.group;
-        held = λ x low high. (let was = takes x in let f = fits.was_free x (omega (arith, same)) (omega (arith, same)) in grind (arith, nat_tests, was, f, same));
+        run = fits.run;
+        held = λ x low high. (let was = takes x in let f = fits.was x low high in grind (arith, nat_tests, was, f));
         is_block = sized;
       })
 
-  old_placed : (k : ℕ) (e : Entry) → entry_at blocks k ≡ Some e → IsPlaced geometry (is_free new) k e.pointer
+  old_placed : (k : ℕ) (e : Entry) → entry_at entries k ≡ Some e → IsPlaced geometry new group e.pointer
   old_placed k e h =
       let p = t.placed k e h in
-      moved geometry (is_free old) (is_free new) k e.pointer p (λ x low high. (let was = takes x in let f = p.held x low high in grind (arith, nat_tests, was, f)))
+      moved geometry group old new e.pointer p (λ x low high. (let was = takes x in let f = p.held x low high in grind (arith, nat_tests, was, f)))
 
-  first_own : (j k : ℕ) (a b : Entry) → j ≡ pointer.first → Some (begun pointer) ≡ Some a → entry_at blocks k ≡ Some b → j < k → j + a.pointer.stripes ≤ k
+  first_own : (j k : ℕ) (a b : Entry) → j ≡ pointer.first → Some (begun pointer) ≡ Some a → entry_at entries k ≡ Some b → j < k → j + a.pointer.stripes ≤ k
   first_own j k a b same is hb lt =
       let eq : pointer.stripes ≡ a.pointer.stripes = cc in
-      elim (free_apart geometry old blocks pointer.first pointer.stripes t fits k b hb) [
+      elim (free_apart geometry group old entries pointer.first pointer.stripes t fits k b hb) [
         | inl before ↦ absurd (omega (arith, same))
         | inr after ↦ omega (arith, same, eq)
       ]
 
-  second_own : (j k : ℕ) (a b : Entry) → k ≡ pointer.first → Some (begun pointer) ≡ Some b → entry_at blocks j ≡ Some a → j < k → j + a.pointer.stripes ≤ k
+  second_own : (j k : ℕ) (a b : Entry) → k ≡ pointer.first → Some (begun pointer) ≡ Some b → entry_at entries j ≡ Some a → j < k → j + a.pointer.stripes ≤ k
   second_own j k a b same is ha lt =
-      elim (free_apart geometry old blocks pointer.first pointer.stripes t fits j a ha) [
+      elim (free_apart geometry group old entries pointer.first pointer.stripes t fits j a ha) [
         | inl before ↦ omega (arith, same)
         | inr after ↦ (let s = fits.run.some in absurd (omega (arith, same)))
       ]
 
 -- the entry of a pointer and another one are apart
-pub entries_apart : (geometry : Geometry) (space : Stripes) (blocks : BTreeMap ℕ Entry) (at k : ℕ) (own e : Entry) → Tables geometry space blocks → entry_at blocks at ≡ Some own
-    → entry_at blocks k ≡ Some e → (k ≡ at → ⊥) → (k + e.pointer.stripes ≤ at) ⊎ (at + own.pointer.stripes ≤ k)
-entries_apart geometry space blocks at k own e t ho he other = elim (cases_lt k at) [
+pub entries_apart : (geometry : Geometry) (group : ℕ) (space : Stripes) (entries : Entries) (at k : ℕ) (own e : Entry) → Tables geometry group space entries → entry_at entries at ≡ Some own
+    → entry_at entries k ≡ Some e → (k ≡ at → ⊥) → (k + e.pointer.stripes ≤ at) ⊎ (at + own.pointer.stripes ≤ k)
+entries_apart geometry group space entries at k own e t ho he other = elim (cases_lt k at) [
   | inl before ↦ inl (t.apart k at e own he ho before)
   | inr after ↦ inr (t.apart at k own e ho he (omega (arith, other)))
 ]
 
-pub released_tables : (geometry : Geometry) (old new : Stripes) (blocks new_blocks : BTreeMap ℕ Entry) (pointer : Pointer) (stage : Stage) → Tables geometry old blocks
-    → entry_at blocks pointer.first ≡ Some (staged stage pointer)
+-- the run of an entry that goes was given back
+pub released_tables : (geometry : Geometry) (group : ℕ) (old new : Stripes) (entries next : Entries) (pointer : Pointer) (stage : Stage) → Tables geometry group old entries
+    → entry_at entries pointer.first ≡ Some (staged stage pointer)
     → ((x : ℕ) → is_free new x ≡ (is_free old x || is_between pointer.first (pointer.first + pointer.stripes) x))
-    → SetsEntry blocks new_blocks pointer.first None → IsSpaceOf geometry new (btree_map_len new_blocks) → Tables geometry new new_blocks
-released_tables geometry old new blocks new_blocks pointer stage t own frees sets is = record {
+    → SetsEntry entries next pointer None → IsSpaceOf geometry new (count_of next) → Tables geometry group new next
+released_tables geometry group old new entries next pointer stage t own frees sets is = record {
   height = is.height;
   total = is.total;
-  enabled = is.enabled;
   count = is.count;
-  few = is.few;
-  placed = λ k e h. elim (entry_cases blocks new_blocks pointer.first k None e sets h) [
+  inside = λ x at. within x (is_free old x) refl at;
+  placed = λ k e h. elim (entry_cases entries next pointer k None e sets h) [
     | inl none ↦ absurd (let n = none.1 in cc)
     | inr other ↦ old_placed k e other.0 other.1
   ];
-  apart = λ j k a b ha hb lt. elim (entry_cases blocks new_blocks pointer.first j None a sets ha) [
+  apart = λ j k a b ha hb lt. elim (entry_cases entries next pointer j None a sets ha) [
     | inl none ↦ absurd (let n = none.1 in cc)
-    | inr first ↦ elim (entry_cases blocks new_blocks pointer.first k None b sets hb) [
+    | inr first ↦ elim (entry_cases entries next pointer k None b sets hb) [
       | inl none ↦ absurd (let n = none.1 in cc)
       | inr second ↦ t.apart j k a b first.1 second.1 lt
     ]
@@ -260,6 +271,14 @@ released_tables geometry old new blocks new_blocks pointer stage t own frees set
       let out : (x < pointer.first) ⊎ (pointer.first + pointer.stripes ≤ x) = (let f = frees x in outside x f taken) in
       stays x (t.covered x below was) out;
 } where
+  within : (x : ℕ) → (b : Bool) → is_free old x ≡ b → is_free new x ≡ true → x < metaslab_stripes geometry
+  within x true was at = t.inside x was
+  within x false was at =
+      let f = frees x in
+      let high : x < pointer.first + pointer.stripes = grind (arith, nat_tests, f, was, at) in
+      let run = (t.placed pointer.first (staged stage pointer) own).run.inside in
+      omega (arith, high, run)
+
   outside : (x : ℕ) → is_free new x ≡ (is_free old x || is_between pointer.first (pointer.first + pointer.stripes) x) → is_free new x ≡ false
       → (x < pointer.first) ⊎ (pointer.first + pointer.stripes ≤ x)
   outside x f taken = elim (cases_lt x pointer.first) [
@@ -270,21 +289,22 @@ released_tables geometry old new blocks new_blocks pointer stage t own frees set
     ]
   ]
 
-  stays : (x : ℕ) → HasStripe blocks x → (x < pointer.first) ⊎ (pointer.first + pointer.stripes ≤ x) → HasStripe new_blocks x
-  stays x h out = record { first = h.first; entry = h.entry; there = sets.others h.first other ∙ h.there; from = h.from; to = h.to } where
+  stays : (x : ℕ) → HasStripe entries x → (x < pointer.first) ⊎ (pointer.first + pointer.stripes ≤ x) → HasStripe next x
+  stays x h out = record { first = h.first; entry = h.entry; there = set_there entries next pointer None h.first sets other ∙ h.there; from = h.from; to = h.to } where
     other : h.first ≡ pointer.first → ⊥
     other same =
-        let eq : pointer.stripes ≡ h.entry.pointer.stripes = (let a : entry_at blocks h.first ≡ Some (staged stage pointer) = ap (entry_at blocks) same ∙ own in let b = h.there in cc) in
+        let eq : pointer.stripes ≡ h.entry.pointer.stripes = (let a : entry_at entries h.first ≡ Some (staged stage pointer) = ap (entry_at entries) same ∙ own in let b = h.there in cc) in
         let from = h.from in
         let to = h.to in
         elim out [ inl before ↦ omega arith | inr after ↦ omega arith ]
 
-  old_placed : (k : ℕ) (e : Entry) → (k ≡ pointer.first → ⊥) → entry_at blocks k ≡ Some e → IsPlaced geometry (is_free new) k e.pointer
+  old_placed : (k : ℕ) (e : Entry) → (k ≡ pointer.first → ⊥) → entry_at entries k ≡ Some e → IsPlaced geometry new group e.pointer
   old_placed k e other h =
       let p = t.placed k e h in
-      moved geometry (is_free old) (is_free new) k e.pointer p (λ x low high. held x (out x low high) (p.held x low high)) where
+      let at : e.pointer.first ≡ k = first_is entries k e h in
+      moved geometry group old new e.pointer p (λ x low high. held x (out x (omega (arith, at, low)) (omega (arith, at, high))) (p.held x low high)) where
         out : (x : ℕ) → k ≤ x → x < k + e.pointer.stripes → (x < pointer.first) ⊎ (pointer.first + pointer.stripes ≤ x)
-        out x low high = elim (entries_apart geometry old blocks pointer.first k (staged stage pointer) e t own h other) [
+        out x low high = elim (entries_apart geometry group old entries pointer.first k (staged stage pointer) e t own h other) [
           | inl before ↦ inl (omega arith)
           | inr after ↦ inr (omega arith)
         ]
@@ -293,60 +313,41 @@ released_tables geometry old new blocks new_blocks pointer stage t own frees set
         held x (inl before) f = let was = frees x in grind (arith, nat_tests, was, f)
         held x (inr after) f = let was = frees x in grind (arith, nat_tests, was, f)
 
-pub turned_tables : (geometry : Geometry) (space : Stripes) (blocks new_blocks : BTreeMap ℕ Entry) (pointer : Pointer) (was now : Stage) → Tables geometry space blocks
-    → entry_at blocks pointer.first ≡ Some (staged was pointer) → SetsEntry blocks new_blocks pointer.first (Some (staged now pointer))
-    → btree_map_len new_blocks ≡ btree_map_len blocks → Tables geometry space new_blocks
-turned_tables geometry space blocks new_blocks pointer was now t own sets len = record {
+placed_as : (geometry : Geometry) (group : ℕ) (space : Stripes) (p q : Pointer) → p ≡ q → IsPlaced geometry space group p → IsPlaced geometry space group q
+placed_as geometry group space p q same is = subst (λ r. IsPlaced geometry space group r) same is
+
+-- an entry came to another stage
+pub turned_tables : (geometry : Geometry) (group : ℕ) (space : Stripes) (entries next : Entries) (pointer : Pointer) (was now : Stage) → Tables geometry group space entries
+    → entry_at entries pointer.first ≡ Some (staged was pointer) → SetsEntry entries next pointer (Some (staged now pointer))
+    → count_of next ≡ count_of entries → Tables geometry group space next
+turned_tables geometry group space entries next pointer was now t own sets len = record {
   height = t.height;
   total = t.total;
-  enabled = t.enabled;
   count = t.count ∙ sym len;
-  few = rw len t.few;
-  placed = λ k e h. let b = before k e h in let P : Pointer → Type 0 = λ p. IsPlaced geometry (is_free space) k p in subst P b.2 (t.placed k b.0 b.1);
+  inside = t.inside;
+  placed = λ k e h. let b = before k e h in placed_as geometry group space b.0.pointer e.pointer b.2 (t.placed k b.0 b.1);
   apart = λ j k a b ha hb lt. let x = before j a ha in let y = before k b hb in let n = t.apart j k x.0 y.0 x.1 y.1 lt in rw (← x.2) n;
   covered = λ x below taken. turns x (t.covered x below taken);
 } where
-  turns : (x : ℕ) → HasStripe blocks x → HasStripe new_blocks x
+  turns : (x : ℕ) → HasStripe entries x → HasStripe next x
   turns x h = elim (cases_eq h.first pointer.first) [
     | inl same ↦
-        let eq : pointer.stripes ≡ h.entry.pointer.stripes = (let a : entry_at blocks h.first ≡ Some (staged was pointer) = ap (entry_at blocks) same ∙ own in let b = h.there in cc) in
+        let eq : pointer.stripes ≡ h.entry.pointer.stripes = (let a : entry_at entries h.first ≡ Some (staged was pointer) = ap (entry_at entries) same ∙ own in let b = h.there in cc) in
         let from = h.from in
         let to = h.to in
-        record { first = pointer.first; entry = staged now pointer; there = sets.here; from = omega arith; to = omega arith }
-    | inr other ↦ record { first = h.first; entry = h.entry; there = sets.others h.first other ∙ h.there; from = h.from; to = h.to }
+        record { first = pointer.first; entry = staged now pointer; there = set_here entries next pointer (Some (staged now pointer)) sets; from = omega arith; to = omega arith }
+    | inr other ↦
+        record { first = h.first; entry = h.entry; there = set_there entries next pointer (Some (staged now pointer)) h.first sets other ∙ h.there; from = h.from; to = h.to }
   ]
 
-  before : (k : ℕ) (e : Entry) → entry_at new_blocks k ≡ Some e → (b : Entry) × (entry_at blocks k ≡ Some b) × (b.pointer ≡ e.pointer)
-  before k e h = elim (entry_cases blocks new_blocks pointer.first k (Some (staged now pointer)) e sets h) [
-    | inl same ↦ (let eq : pointer ≡ e.pointer = (let s = same.1 in cc) in (staged was pointer, (ap (entry_at blocks) same.0 ∙ own), eq))
+  before : (k : ℕ) (e : Entry) → entry_at next k ≡ Some e → (b : Entry) × (entry_at entries k ≡ Some b) × (b.pointer ≡ e.pointer)
+  before k e h = elim (entry_cases entries next pointer k (Some (staged now pointer)) e sets h) [
+    | inl same ↦ (let eq : pointer ≡ e.pointer = (let s = same.1 in cc) in (staged was pointer, (ap (entry_at entries) same.0 ∙ own), eq))
     | inr other ↦ (e, other.1, refl)
   ]
 
--- where an entry is there, there are some
-pub some_entries : (blocks : BTreeMap ℕ Entry) (k : ℕ) (e : Entry) → entry_at blocks k ≡ Some e → 0 < btree_map_len blocks
-some_entries blocks k e h = at blocks.entries h where
-  at : (es : List (ℕ × Entry)) → lookup (is_at (nat_cmp k)) es ≡ Some e → 0 < length es
-  at [] found = absurd (cc)
-  at (x ∷ xs) found = omega arith
-
--- an update of the table sets one entry
-pub sets_entry : (old new : BTreeMap ℕ Entry) (at : ℕ) (entry : Option Entry) → Updates nat_cmp old new at entry → SetsEntry old new at entry
-sets_entry old new at entry u = record { here = u.1; others = λ k other. u.2 k (apart k other) } where
-  apart : (k : ℕ) → (k ≡ at → ⊥) → is_eq (nat_cmp at k) ≡ false
-  apart k other = search rules
-
--- a new entry is one more
-pub one_more : (was : Option Entry) (now before : ℕ) → was ≡ None → now ≡ before + (if is_some was then 0 else 1) → now ≡ before + 1
-one_more was now before none len = len ∙ ap (λ (o : Option Entry). before + (if is_some o then 0 else 1)) none
-
 -- the run that was allocated
-pub allocated : (geometry : Geometry) (space : Stripes) (blocks : BTreeMap ℕ Entry) (first need asked : ℕ) → Tables geometry space blocks → asked ≡ need → 0 < need
-    → IsLowest (is_free space) space.height asked first → first + asked ≤ space.total → IsTaken geometry (is_free space) first need
-allocated geometry space blocks first need asked t same more lowest inside =
-    subst (λ n. IsTaken geometry (is_free space) first n) same (spot_taken geometry space blocks first asked t (omega arith) lowest.spot inside)
-
--- an entry that goes is one less
-pub one_less : (was : Option Entry) (e : Entry) (now before runs held : ℕ) → was ≡ Some e → now + (if is_some was then 1 else 0) ≡ before → held ≡ before → runs + 1 ≡ held → runs ≡ now
-one_less was e now before runs held some len count down =
-    let n : now + 1 ≡ before = ap (λ (o : Option Entry). now + (if is_some o then 1 else 0)) (sym some) ∙ len in
-    omega arith
+pub allocated : (geometry : Geometry) (group : ℕ) (space : Stripes) (entries : Entries) (first need asked : ℕ) → Tables geometry group space entries → asked ≡ need → 0 < need
+    → IsLowest (is_free space) space.height asked first → first + asked ≤ space.total → WasFree geometry (is_free space) first need
+allocated geometry group space entries first need asked t same more lowest inside =
+    subst (λ n. WasFree geometry (is_free space) first n) same (spot_free geometry group space entries first asked t (omega arith) lowest.spot inside)

@@ -1,7 +1,10 @@
+pub mod Calls
 pub mod Columns
-pub mod Entry
-pub mod History
-pub mod Logs
-pub mod Machine
-pub mod MetaslabLayout
-pub mod Shard
+pub mod Fits
+pub mod Holding
+pub mod Part
+pub mod Reads
+pub mod Rows
+pub mod Slots
+pub mod Stands
+pub mod States

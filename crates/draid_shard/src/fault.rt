@@ -1,15 +1,38 @@
 ghost use Rattle.std.specs.Prelude.{◌≡◌};
 
-use draid_metaslab::SpaceFault;
+use draid_area::Area;
 use draid_names::NoMemory;
+use draid_rack::Rack;
+use draid_shelf::Kit;
 
-/// Why no write was begun.
+/// Memory was wanting as a metaslab was opened; its devices come back.
+#[derive(Drop)]
+pub struct OpenRefused<R: Rack, A: Area> {
+    pub kit: Kit<R, A>,
+}
+
+/// Why a metaslab takes no new block.
+#[derive(Clone, Copy, Debug, PartialEq, Eq)]
+pub enum Shut {
+    /// A rebuild has it.
+    Disabled,
+    /// It holds as many blocks and open writes as it may.
+    Full,
+    /// Its limit of events leaves none for a block.
+    Worn,
+}
+
+/// Why no write was begun. They are looked for in this order.
 #[derive(Clone, Copy, Debug, PartialEq, Eq)]
 pub enum BeginFault {
-    /// No free run of stripes fits the block; `largest` is the length of the longest free run.
-    NoRoom { largest: u64 },
-    /// The metaslab holds all the blocks and tickets that it may.
+    /// The rebuild of this number has the metaslab.
+    Disabled { pass: u64 },
+    /// As many blocks and open writes as it may hold.
     Entries { held: u32 },
+    /// No run of free stripes fits; this is the longest.
+    NoRoom { largest: u64 },
+    /// So many events are stored or owed, and the limit leaves too few.
+    Worn { events: u64 },
     NoMemory,
 }
 
@@ -23,30 +46,22 @@ impl From<NoMemory> for BeginFault {
     }
 }
 
-/// A write is refused, since so many of its columns landed on no leaf.
+/// Why no block was fetched.
+#[derive(Clone, Copy, Debug, PartialEq, Eq)]
+pub enum FetchFault {
+    /// The pointer is that of no live block.
+    NotLive,
+    /// So many events are stored or owed, and the limit leaves none.
+    Worn { events: u64 },
+    NoMemory,
+}
+
+/// A write ended, of which so many columns landed on no arm: more than there are parity columns.
 #[derive(Clone, Copy, Debug, PartialEq, Eq)]
 pub struct Missed {
     pub columns: u32,
 }
 
-/// The pointer isn't that of a live block here.
+/// The pointer is that of no live block.
 #[derive(Clone, Copy, Debug, PartialEq, Eq)]
 pub struct NotLive;
-
-/// Why nothing was fetched.
-#[derive(Clone, Copy, Debug, PartialEq, Eq)]
-pub enum FetchFault {
-    /// The pointer isn't that of a live block here.
-    NotLive,
-    NoMemory,
-}
-
-impl From<NoMemory> for FetchFault {
-    ghost use Rattle.draid_shard.specs.declared.fault.FetchFault.TheVariants.{NoMemory};
-
-    ghost from_gives = { λ _ fault. fault ≡ NoMemory };
-
-    fn from(_error: NoMemory) -> FetchFault {
-        FetchFault::NoMemory
-    }
-}

@@ -1,51 +1,217 @@
-ghost use Rattle.std.specs.Prelude.{◌≡◌, ◌<◌, ◌≤◌, ◌+◌, ◌*◌, ℕ, Option, IfOk, length};
-ghost use Rattle.draid_spec.specs.Geometry.{metaslab_sectors};
-ghost use Rattle.draid_rack.specs.Rack.{HasJust, OnTold};
-ghost use Rattle.draid_shard.specs.Columns.{AbsentRose, AreLong, AreRead};
-ghost use Rattle.draid_shard.specs.MetaslabLayout.{IsMetaslabLayout, IsRun, MetaslabLayout};
+ghost use Rattle.std.specs.Prelude.{◌≡◌, ◌<◌, ◌≤◌, ◌+◌, ◌*◌, ◌↔◌, ℕ, Option, Some, None, [], Err, IfErr, IfOk, OnErr, OnOk, length, slice_get, vec_capacity, vec_len};
+ghost use Rattle.draid_block.specs.Blocks.{cut_of};
+ghost use Rattle.draid_block.specs.Solving.{IsFetched};
+ghost use Rattle.draid_entries.specs.History.{IsAsked};
+ghost use Rattle.draid_shard.specs.Calls.{CountsFailed, FetchIsWorn, Fetches, IsLive, IsWornFor, SameAreas, SameKit, SameReserve};
+ghost use Rattle.draid_shard.specs.Fits.{Valid};
+ghost use Rattle.draid_shard.specs.Part.{IsRun};
+ghost use Rattle.draid_shard.specs.Reads.{AreWhole, ReadsColumns, ReadsOn, Replaces, column_after, failed_after};
+ghost use Rattle.draid_shard.specs.Rows.{CountsOn, FitsRows};
+ghost use Rattle.draid_shard.specs.States.{DoesNone, part_of};
 
-use crate::column::read_column;
-use crate::layout::place_within;
-use draid_names::{NoMemory, Pointer};
-use draid_perm::Perms;
+use crate::fault::FetchFault;
+use crate::outcome::Outcome;
+use crate::places::ColumnRows;
+use crate::shard::Shard;
+use draid_area::Area;
+use draid_block::Fetched;
+use draid_columns::read_rows;
+use draid_entries::{ReserveFault, key_of};
+use draid_machine::Event;
+use draid_names::{ArmAt, NoMemory, Pointer};
 use draid_rack::Rack;
-use draid_spec::Geometry;
+use draid_slots::Slots;
 use std::alloc::Global;
 
-/// Reads each column of a block from its place.
-pub(crate) fn read_columns<R: Rack>(
-    alloc: Global,
-    rack: &mut R,
-    geometry: &Geometry,
-    perms: &Perms,
-    number: u32,
-    pointer: &Pointer,
-) -> Result<Vec<Option<Vec<u8>>>, NoMemory>
-    requires part { IsMetaslabLayout (record { geometry = geometry.now; perms = perms.now; number = number }) }
-    requires shape { HasJust (R.shape rack.old) geometry.now.spec.children (metaslab_sectors geometry.now) geometry.now.props.sector }
-    requires run { IsRun geometry.now pointer.now.first pointer.now.stripes }
-    ensures count { IfOk result (λ columns. length columns.items ≡ geometry.now.g) }
-    ensures long { IfOk result (λ columns. AreLong columns.items (pointer.now.stripes * geometry.now.props.sector)) }
-    ensures stand { IfOk result (λ columns. OnTold (R.told rack.old)
-        (λ x. AreRead (record { geometry = geometry.now; perms = perms.now; number = number }) x pointer.now.first pointer.now.stripes columns.items)) }
-    ensures absent { IfOk result (λ columns.
-        AbsentRose (record { geometry = geometry.now; perms = perms.now; number = number }) pointer.now.first columns.items (R.faults rack.old) (R.faults rack.new)) }
+/// Room for the columns of a block, and for the leaves on which calls fail.
+#[derive(Drop)]
+struct Room {
+    columns: Vec<Option<Vec<u8>>>,
+    failed: Vec<u64>,
+}
+
+impl<R: Rack, A: Area> Shard<R, A> {
+    /// Reads the columns of a live block, each from the first arm of its slot that answers and is clean for it, else
+    /// from the first that answers. A column is nothing where no arm answers, or a read of its leaf failed. A refusal
+    /// has touched no device.
+    pub fn fetch(&mut self, pointer: &Pointer) -> Result<Fetched, FetchFault>
+        requires valid { Valid R.Rack self.old }
+        ensures valid { Valid R.Rack self.new }
+        ensures areas { SameAreas self.old self.new }
+        ensures told { R.told self.new.rack ≡ R.told self.old.rack }
+        ensures not_live { (result ≡ Err FetchFault.NotLive) ↔ (IsLive self.old pointer.now → ⊥) }
+        ensures worn { IfErr result (FetchIsWorn self.old) }
+        ensures not_worn { OnOk result (IsWornFor self.old 1 → ⊥) }
+        ensures fetched { IfOk result (λ fetched. (fetched.pointer ≡ pointer.now) × IsFetched (cut_of self.old.geometry) fetched) }
+        ensures fetches { IfOk result (Fetches R.Rack self.old self.new pointer.now) }
+        ensures none { OnErr result (DoesNone self.old self.new) }
+        ensures kit { OnErr result (SameKit self.old self.new) }
+        ensures reserve { SameReserve self.old self.new }
+    {
+        if !self.is_live(pointer) {
+            return Err(FetchFault::NotLive);
+        }
+        match self.history.ask(1) {
+            Ok(()) => {}
+            Err(ReserveFault::Worn { events }) => return Err(FetchFault::Worn { events }),
+            Err(ReserveFault::NoMemory) => return Err(FetchFault::NoMemory),
+        }
+        let bytes = pointer.stripes as usize * self.geometry.props.sector as usize;
+        let Ok(room) = room_for(self.alloc, self.geometry.g, bytes) else {
+            return Err(FetchFault::NoMemory);
+        };
+        Ok(self.fetch_into(pointer, room))
+    }
+
+    /// The same of a block that is live, with its event asked for, into room for its columns.
+    fn fetch_into(&mut self, pointer: &Pointer, room: Room) -> Fetched
+        requires valid { Valid R.Rack self.old }
+        requires live { IsLive self.old pointer.now }
+        requires asked { IsAsked self.old.history 1 }
+        requires columns { length room.columns.items ≡ self.old.geometry.g }
+        requires long { AreWhole room.columns.items (pointer.now.stripes * self.old.geometry.props.sector) }
+        requires failed { room.failed.items ≡ [] }
+        requires room { self.old.geometry.g ≤ vec_capacity room.failed }
+        ensures valid { Valid R.Rack self.new }
+        ensures areas { SameAreas self.old self.new }
+        ensures told { R.told self.new.rack ≡ R.told self.old.rack }
+        ensures fetches { Fetches R.Rack self.old self.new pointer.now result }
+        ensures reserve { SameReserve self.old self.new }
+    {
+        let Room {
+            mut columns,
+            mut failed,
+        } = room;
+        self.read_columns(pointer, &mut columns, &mut failed);
+        let event = Event::Fetch {
+            key: key_of(pointer),
+            failed,
+        };
+        self.history.add_asked(event, 1);
+        Fetched {
+            pointer: *pointer,
+            columns,
+        }
+    }
+
+    /// Reads each column of a block into its place. The place of one that isn't read is nothing; the leaf is named
+    /// where a call on it failed.
+    fn read_columns(
+        &mut self,
+        pointer: &Pointer,
+        columns: &mut Vec<Option<Vec<u8>>>,
+        failed: &mut Vec<u64>,
+    )
+        requires valid { Valid R.Rack self.old }
+        requires run { IsRun self.old.geometry pointer.now.first pointer.now.stripes }
+        requires none { ReadsColumns (part_of self.old) self.old.slots pointer.now 0 (R.told self.old.rack) columns.old.items failed.old.items }
+        requires no_leaf { failed.old.items ≡ [] }
+        requires room { self.old.geometry.g ≤ vec_capacity failed.old }
+        ensures rack { self.new ≡ record self.old { rack = self.new.rack } }
+        ensures told { R.told self.new.rack ≡ R.told self.old.rack }
+        ensures shape { R.shape self.new.rack ≡ R.shape self.old.rack }
+        ensures read { ReadsColumns (part_of self.old) self.old.slots pointer.now self.old.geometry.g (R.told self.old.rack) columns.new.items failed.new.items }
+        ensures counts { CountsFailed failed.new.items (R.faults self.old.rack) (R.faults self.new.rack) }
+    {
+        for column in 0..self.geometry.g {
+            self.read_next(pointer, column, columns, failed);
+        }
+    }
+
+    /// Reads the next column of a block into its place.
+    fn read_next(
+        &mut self,
+        pointer: &Pointer,
+        column: u32,
+        columns: &mut Vec<Option<Vec<u8>>>,
+        failed: &mut Vec<u64>,
+    )
+        requires valid { Valid R.Rack self.old }
+        requires run { IsRun self.old.geometry pointer.now.first pointer.now.stripes }
+        requires less { column < self.old.geometry.g }
+        requires before { ReadsColumns (part_of self.old) self.old.slots pointer.now column (R.told self.old.rack) columns.old.items failed.old.items }
+        requires room { self.old.geometry.g ≤ vec_capacity failed.old }
+        ensures rack { self.new ≡ record self.old { rack = self.new.rack } }
+        ensures told { R.told self.new.rack ≡ R.told self.old.rack }
+        ensures shape { R.shape self.new.rack ≡ R.shape self.old.rack }
+        ensures read { ReadsColumns (part_of self.old) self.old.slots pointer.now (column + 1) (R.told self.old.rack) columns.new.items failed.new.items }
+        ensures room { vec_capacity failed.new ≡ vec_capacity failed.old }
+        ensures counts { (first : Option ℕ → ℕ) → CountsFailed failed.old.items first (R.faults self.old.rack) → CountsFailed failed.new.items first (R.faults self.new.rack) }
+    {
+        let Some(mut bytes) = take_column(columns, column) else {
+            return;
+        };
+        let rows = self.rows_of(pointer, column);
+        let outcome = read_column(&mut self.rack, &self.slots, rows, &mut bytes);
+        note_read(columns, failed, column, bytes, outcome);
+    }
+}
+
+/// Takes what is at the place of a column.
+fn take_column(columns: &mut Vec<Option<Vec<u8>>>, column: u32) -> Option<Vec<u8>>
+    requires { column < length columns.old.items }
+    ensures taken { slice_get columns.old.items column ≡ Some result }
+    ensures left { Replaces columns.old.items columns.new.items column None }
+{
+    columns[column as usize].take()
+}
+
+/// Notes what became of the reading of a column: its bytes where they were read, the leaf where a call failed.
+fn note_read(
+    columns: &mut Vec<Option<Vec<u8>>>,
+    failed: &mut Vec<u64>,
+    column: u32,
+    bytes: Vec<u8>,
+    outcome: Outcome,
+)
+    requires taken { slice_get columns.old.items column ≡ Some None }
+    requires room { vec_len failed.old < vec_capacity failed.old }
+    ensures columns { Replaces columns.old.items columns.new.items column (column_after outcome bytes) }
+    ensures failed { failed.new.items ≡ failed_after outcome failed.old.items }
+    ensures room { vec_capacity failed.new ≡ vec_capacity failed.old }
+{
+    match outcome {
+        Outcome::Silent => {}
+        Outcome::Failed { leaf } => failed.push_reserved(leaf),
+        Outcome::Done => columns[column as usize] = Some(bytes),
+    }
+}
+
+/// A place for each column, of so many zeros, and room for as many leaves.
+fn room_for(alloc: Global, count: u32, bytes: usize) -> Result<Room, NoMemory>
+    ensures columns { IfOk result (λ room. length room.columns.items ≡ count) }
+    ensures long { IfOk result (λ room. AreWhole room.columns.items bytes) }
+    ensures failed { IfOk result (λ room. room.failed.items ≡ []) }
+    ensures room { IfOk result (λ room. count ≤ vec_capacity room.failed) }
+{
+    let mut columns = Vec::with_capacity(alloc, count as usize)?;
+    for _column in 0..count {
+        columns.push_reserved(Some(vec![in alloc; 0; bytes]?));
+    }
+    let failed = Vec::with_capacity(alloc, count as usize)?;
+    Ok(Room { columns, failed })
+}
+
+/// Reads one column from the arm that is to be read.
+fn read_column<R: Rack>(rack: &mut R, slots: &Slots, rows: ColumnRows, into: &mut [u8]) -> Outcome
+    requires fits { FitsRows (R.shape rack.old) slots.now rows }
+    requires long { length into.old ≡ rows.count * rows.size }
+    ensures reads { ReadsOn slots.now rows result (R.told rack.old) into.new }
+    ensures whole { length into.new ≡ length into.old }
     ensures told { R.told rack.new ≡ R.told rack.old }
     ensures shape { R.shape rack.new ≡ R.shape rack.old }
-    ensures later { (who : Option ℕ) → R.faults rack.old who ≤ R.faults rack.new who }
+    ensures counts { CountsOn result (R.faults rack.old) (R.faults rack.new) }
 {
-    let mut columns = Vec::new(alloc);
-    for i in 0..geometry.g {
-        let place = place_within(geometry, perms, number, pointer.first, i);
-        let column = read_column(
-            alloc,
-            rack,
-            u64::from(place.child),
-            place.sector,
-            u64::from(pointer.stripes),
-            geometry.props.sector as usize,
-        )?;
-        columns.push(column)?;
+    let Some(read) = slots.reading_arm(rows.slot, rows.slice, rows.birth) else {
+        return Outcome::Silent;
+    };
+    let at = ArmAt {
+        slot: rows.slot,
+        arm: read.arm,
+    };
+    let leaf = slots.place(at, rows.first).leaf;
+    match read_rows(rack, rows.on(leaf), into) {
+        Ok(()) => Outcome::Done,
+        Err(_) => Outcome::Failed { leaf },
     }
-    Ok(columns)
 }

@@ -1,14 +1,58 @@
-ghost use Rattle.std.specs.Prelude.{◌≡◌};
+ghost use Rattle.std.specs.Prelude.{◌≡◌, ◌⊎◌, ◌+◌, ◌↔◌, ℕ, List, Some};
+ghost use Rattle.draid_block.specs.Blocks.{AreColumns, IsContent, cut_of};
+ghost use Rattle.draid_block.specs.Solving.{IsReadable};
+ghost use Rattle.draid_block.specs.declared.solve.Fetched.{Fetched};
+ghost use Rattle.draid_names.specs.declared.pointer.Pointer.{Pointer};
+ghost use Rattle.draid_rack.specs.Rack.{OnTold};
 ghost use Rattle.draid_machine.specs.declared.event.Event.{Event};
-ghost use Rattle.draid_shard.specs.Machine.{Does, DoesNone, HasHistory};
-ghost use Rattle.draid_shard.specs.Shard.{part_of};
+ghost use Rattle.draid_machine.specs.declared.names.Held.{Held};
+ghost use Rattle.draid_machine.specs.State as machine;
+ghost use Rattle.draid_machine.specs.Step.{Step};
+ghost use Rattle.draid_entries.specs.History.{owed_of, reserved_of};
+ghost use Rattle.draid_entries.specs.Maps.{key_of};
+ghost use Rattle.draid_entries.specs.Owed.{IsOwed};
+ghost use Rattle.draid_segments.specs.Acts.{WritesPieces, pieces_after};
+ghost use Rattle.draid_segments.specs.Reads.{MoreBad};
+ghost use Rattle.draid_segments.specs.Segments.{Pieces};
+ghost use Rattle.draid_shard.specs.Calls.{ActsOn, Fetches};
+ghost use Rattle.draid_shard.specs.Columns.{ArePieces};
+ghost use Rattle.draid_shard.specs.Fits.{Valid};
+ghost use Rattle.draid_shard.specs.Part.{IsPart};
+ghost use Rattle.draid_shard.specs.Stands.{StandsFor};
+ghost use Rattle.draid_shard.specs.States.{Does, DoesNone, IsIn, layout_by, part_of};
 ghost use Rattle.draid_shard.specs.declared.shard.Shard.{Shard};
 
+use draid_area::Area;
 use draid_rack::Rack;
 
-/// The events that a shard stores are a legal history of a new metaslab, and lead to a state for which it stands: so
-/// of a new shard, and each call keeps it, since it does one event of its own or none.
-pub fn histories_are_legal<R: Rack>()
-    ensures one { (old new : Shard R) (event : Event) → part_of new ≡ part_of old → Does old new event → HasHistory old → HasHistory new }
-    ensures none { (old new : Shard R) → part_of new ≡ part_of old → DoesNone old new → HasHistory old → HasHistory new }
+/// Law: where a call did an event, and its rack did what that event's call does to it, a shard that stood for a state
+/// stands for the one behind the event, and its rack has what that says. A call without an event, and without a change
+/// of what the rack tells, leaves it so.
+pub fn calls_keep_what_stands<R: Rack, A: Area>()
+    ensures event { (old new : Shard R A) (e : Event) (w : machine.State) (pieces written : Pieces)
+        → IsPart (part_of old) → Does old new e
+        → ActsOn R.Rack old new e written → StandsFor R.Rack old w pieces
+        → ((v : machine.State) (step : Step (layout_by old) w e v) → WritesPieces (layout_by old) w e v step pieces written)
+        → (v : machine.State) × (step : Step (layout_by old) w e v)
+        × StandsFor R.Rack new v (pieces_after (layout_by old) w e v step pieces written) }
+    ensures none { (old new : Shard R A) (w : machine.State) (pieces : Pieces) → DoesNone old new
+        → R.told new.rack ≡ R.told old.rack → StandsFor R.Rack old w pieces → StandsFor R.Rack new w pieces }
+{}
+
+/// Law: a block that was fetched is readable, but for its bad columns, or more columns are bad than there are parity
+/// columns.
+pub fn fetched_blocks_are_readable<R: Rack, A: Area>()
+    ensures { (old new : Shard R A) (pointer : Pointer) (fetched : Fetched) (w : machine.State) (h : Held) (pieces : Pieces)
+        (bytes : List ℕ) (columns : List (List ℕ)) (fetches : Fetches R.Rack old new pointer fetched)
+        → Valid R.Rack old → StandsFor R.Rack old w pieces → w.core.held (key_of pointer) ≡ Some h
+        → IsContent pointer bytes → AreColumns (cut_of old.geometry) bytes columns
+        → ArePieces old.geometry.props.sector old.geometry.g pointer.stripes columns (key_of pointer) pieces
+        → OnTold (R.told old.rack) (λ x. ((bad : List ℕ) × IsReadable (cut_of old.geometry) fetched bytes bad)
+        ⊎ MoreBad (layout_by old) w x.harmed (key_of pointer) h fetches.failed.items) }
+{}
+
+/// Law: what the history owes, without what is reserved, is what is owed in each state for which the shard stands.
+pub fn worn_is_what_is_owed<R: Rack, A: Area>()
+    ensures { (shard : Shard R A) (w : machine.State) (owed : ℕ) → Valid R.Rack shard → IsIn shard w
+        → (IsOwed shard.geometry.g w owed ↔ (owed + reserved_of shard.history ≡ owed_of shard.history)) }
 {}

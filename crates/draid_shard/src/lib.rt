@@ -1,21 +1,23 @@
-//! One metaslab: which stripes are free, where its blocks stand, and the writing and fetching of blocks.
+//! One metaslab over its devices: which stripes are free, where its blocks stand, and the writing and fetching of
+//! blocks, each call as an event of the metaslab's state.
 
 #![tactic(auto)]
 
-mod column;
-mod entry;
-mod event;
+mod blocks;
+mod damage;
 mod fault;
 mod fetch;
-mod history;
 mod laws;
-mod layout;
-mod log;
+mod opening;
+mod outcome;
+mod places;
+mod put;
+mod rooms;
 mod shard;
 mod ticket;
+mod tickets;
 
-pub use fault::{BeginFault, FetchFault, Missed, NotLive};
-pub use history::History;
-pub use laws::histories_are_legal;
-pub use shard::{Shard, ShardRefused};
+pub use fault::{BeginFault, FetchFault, Missed, NotLive, OpenRefused, Shut};
+pub use laws::{calls_keep_what_stands, fetched_blocks_are_readable, worn_is_what_is_owed};
+pub use shard::Shard;
 pub use ticket::Ticket;

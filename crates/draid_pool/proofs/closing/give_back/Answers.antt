@@ -1,24 +1,48 @@
-use Rattle.std.proofs.Common.{arith, ◌≡◌, ◌+◌, ◌∙◌, ◌++◌, List, [], ◌∷◌, ap, length, length-append}
+use Rattle.std.proofs.Common.{arith, rules, ◌≡◌, ◌+◌, ◌∙◌, ◌++◌, List, Option, [], ◌∷◌, ap, refl, length, length-append}
+use Rattle.draid_area.specs.declared.Area as areas
+use Rattle.draid_shelf.specs.Kits.{KitTold, kit_of}
+use Rattle.draid_shelf.specs.declared.kit.Kit.{Kit}
 use Rattle.draid_shard.specs.declared.shard.Shard.{Shard}
-use Rattle.draid_pool.proofs.Closed.{giving_more, giving_none}
+use Rattle.draid_pool.specs.Closing.{kit_in}
+use Rattle.draid_pool.proofs.Closed.{giving_all, giving_more, giving_none}
 use Rattle.draid_pool.proofs.closing.give_back.Goals as goal
 
 pub loop-shard-init : goal.loop-shard-init
 loop-shard-init g c = record {
-  giving = giving_none g.H.R.Rack.told g.H.R.Rack.faults c.args.shards.items (g.H.RackShelf.holds c.args.shelf.now) (g.H.RackShelf.counts c.args.shelf.now);
+  giving = giving_none g.H.R.Rack g.H.A.Area c.args.shards.items (g.H.Shelf.told c.args.shelf.now) (g.H.Shelf.counts c.args.shelf.now);
   few = c.requires.few;
+  uber = refl;
+  checks = refl;
+  faults = refl;
 }
 
 pub loop-shard-preserved : goal.loop-shard-preserved
 loop-shard-preserved g c =
     let i = c.loop-shard.invariant in
     let e = c.give.ensures in
-    let popped : c.loop-shard.left.items ≡ c.pop.new.self.items ++ c.in-Some.shard ∷ [] = c.in-Some.ensures.items in
+    let shelf = g.H.Shelf in
+    let shard = c.in-Some.shard in
+    let kit = c.into_kit.result in
+    let popped : c.loop-shard.left.items ≡ c.pop.new.self.items ++ shard ∷ [] = c.in-Some.ensures.items in
     let at : c.len.result ≡ length c.pop.new.self.items = c.len.ensures ∙ c.pop.new.self.ok.0 in
     let few = i.few in
+    let rack : kit.rack ≡ shard.rack = ap (λ (k : Kit g.row.H-R.Denot g.row.H-A.Denot). k.rack) c.into_kit.ensures in
+    let even : kit.even ≡ shard.even = ap (λ (k : Kit g.row.H-R.Denot g.row.H-A.Denot). k.even) c.into_kit.ensures in
+    let odd : kit.odd ≡ shard.odd = ap (λ (k : Kit g.row.H-R.Denot g.row.H-A.Denot). k.odd) c.into_kit.ensures in
+    let own : kit_of (g.H.R.Rack.told kit.rack) (g.H.A.Area.told kit.even) (g.H.A.Area.told kit.odd) ≡ kit_in g.H.R.Rack g.H.A.Area shard =
+        ap (λ (k : Kit g.row.H-R.Denot g.row.H-A.Denot). kit_of (g.H.R.Rack.told k.rack) (g.H.A.Area.told k.even) (g.H.A.Area.told k.odd)) c.into_kit.ensures in
     record {
-      giving = giving_more g.H.R.Rack.told g.H.R.Rack.faults c.args.shards.items c.loop-shard.left.items c.pop.new.self.items c.in-Some.shard c.into_rack.result c.len.result (g.H.RackShelf.holds c.args.shelf.now)
-          (g.H.RackShelf.holds c.loop-shard.shelf) (g.H.RackShelf.holds c.give.new.self) (g.H.RackShelf.counts c.args.shelf.now) (g.H.RackShelf.counts c.loop-shard.shelf)
-          (g.H.RackShelf.counts c.give.new.self) i.giving popped at c.into_rack.ensures e.told e.counts e.holds e.others;
-      few = (let long : length c.loop-shard.left.items ≡ length c.pop.new.self.items + 1 = ap (λ (xs : List (Shard g.row.H-R.Denot)). length xs) popped ∙ length-append c.pop.new.self.items (c.in-Some.shard ∷ []) in omega (arith, few, long));
+      giving = giving_more g.H.R.Rack g.H.A.Area c.args.shards.items c.loop-shard.left.items c.pop.new.self.items shard c.len.result (kit_of (g.H.R.Rack.told kit.rack) (g.H.A.Area.told kit.even) (g.H.A.Area.told kit.odd))
+          (shelf.told c.args.shelf.now) (shelf.told c.loop-shard.shelf) (shelf.told c.give.new.self) (shelf.counts c.args.shelf.now) (shelf.counts c.loop-shard.shelf) (shelf.counts c.give.new.self)
+          i.giving popped at own e.told (λ who. e.rack_count who ∙ ap (λ r. g.H.R.Rack.faults r who) rack) (e.even_count ∙ ap g.H.A.Area.faults even) (e.odd_count ∙ ap g.H.A.Area.faults odd) e.counts;
+      few = (let long : length c.loop-shard.left.items ≡ length c.pop.new.self.items + 1 = ap (λ (xs : List (Shard g.row.H-R.Denot g.row.H-A.Denot)). length xs) popped ∙ length-append c.pop.new.self.items (shard ∷ []) in omega (arith, few, long));
+      uber = e.uber_count ∙ i.uber;
+      checks = e.check_counts ∙ i.checks;
+      faults = e.faults ∙ i.faults;
     }
+
+pub returns-clause-returns : goal.returns-clause-returns
+returns-clause-returns g c =
+    let none : c.loop-shard.left.items ≡ [] = search rules in
+    giving_all g.H.R.Rack g.H.A.Area c.args.shards.items c.loop-shard.left.items (g.H.Shelf.told c.args.shelf.now) (g.H.Shelf.told c.loop-shard.shelf) (g.H.Shelf.counts c.args.shelf.now)
+    (g.H.Shelf.counts c.loop-shard.shelf) c.loop-shard.invariant.giving none

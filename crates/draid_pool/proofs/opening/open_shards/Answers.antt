@@ -1,35 +1,69 @@
-use Rattle.std.proofs.Common.{arith}
-use Rattle.draid_pool.proofs.Opened.{opening_all, opening_back, opening_more}
+use Rattle.std.proofs.Common.{arith, ◌≡◌, ◌+◌, ◌≤◌, ◌∙◌, ℕ, Option, refl, subst, sym}
+use Rattle.std.specs.Prelude.{IsSomeAnd}
+use Rattle.draid_rack.specs.Rack.{Shape}
+use Rattle.draid_shelf.specs.Shelf.{HasLeavesOf}
+use Rattle.draid_pool.specs.Opening.{TakesFirst}
+use Rattle.draid_pool.proofs.Opened.{opening_all, opening_back, opening_more, opening_none}
 use Rattle.draid_pool.proofs.opening.open_shards.Goals as goal
+
+pub loop-number-init : goal.loop-number-init
+loop-number-init g c =
+    let shelf = g.H.Shelf in
+    let exact = c.in-Ok.ensures.capacity in
+    record {
+      opening = opening_none g.H.R.Rack g.H.A.Area c.args.layout c.new-perms.result (shelf.leaves c.args.shelf.now) (shelf.told c.args.shelf.now) (shelf.counts c.args.shelf.now) c.in-Ok.shards.items c.in-Ok.ensures.items;
+      room = c.in-Ok.ensures.capacity;
+      bound = omega arith;
+      uber = refl;
+      checks = refl;
+      later = omega arith;
+    }
+
+pub open_shard-requires-clause-made : goal.open_shard-requires-clause-made
+open_shard-requires-clause-made g c κs within =
+    subst (λ (o : Option Shape). IsSomeAnd o (HasLeavesOf c.args.layout)) (sym (c.loop-number.invariant.opening.leaves_yet c.loop-number.number (omega arith))) (c.requires.made c.loop-number.number c.loop-number-test.true)
 
 pub returns-in-Err-clause-back : goal.returns-in-Err-clause-back
 returns-in-Err-clause-back g c =
-    let shelf = g.H.RackShelf in
-    opening_back g.H.R.Rack.shape g.H.R.Rack.told g.H.R.Rack.faults c.args.layout c.new-perms.result c.loop-number.number (shelf.made c.args.shelf.now) (shelf.made c.loop-number.shelf)
-    (shelf.holds c.args.shelf.now) (shelf.holds c.loop-number.shelf) (shelf.holds c.open_shard.new.shelf) (shelf.holds c.give_back.new.shelf) (shelf.counts c.args.shelf.now)
-    (shelf.counts c.loop-number.shelf) (shelf.counts c.open_shard.new.shelf) (shelf.counts c.give_back.new.shelf) c.loop-number.shards.items c.loop-number.invariant.opening c.in-Err.ensures.back
-    c.give_back.ensures
+    let shelf = g.H.Shelf in
+    opening_back g.H.R.Rack g.H.A.Area c.args.layout c.new-perms.result c.loop-number.number (shelf.leaves c.args.shelf.now) (shelf.leaves c.loop-number.shelf) (shelf.told c.args.shelf.now) (shelf.told c.loop-number.shelf)
+    (shelf.told c.open_shard.new.shelf) (shelf.told c.give_back.new.shelf) (shelf.counts c.args.shelf.now) (shelf.counts c.loop-number.shelf) (shelf.counts c.open_shard.new.shelf) (shelf.counts c.give_back.new.shelf)
+    c.loop-number.shards.items c.loop-number.invariant.opening c.in-Err.ensures.back c.give_back.ensures.returns
 
 pub loop-number-preserved : goal.loop-number-preserved
 loop-number-preserved g c =
-    let shelf = g.H.RackShelf in
-    let room = c.loop-number.invariant.room in
+    let shelf = g.H.Shelf in
+    let i = c.loop-number.invariant in
+    let room = i.room in
     let below = c.loop-number-test.true in
     let capacity = c.push_reserved.ensures.capacity in
+    let e = c.in-Ok-open_shard.ensures in
+    let later = i.later in
+    let again = c.open_shard.ensures.later in
     record {
-      opening = opening_more g.H.R.Rack.shape g.H.R.Rack.told g.H.R.Rack.faults c.args.layout c.new-perms.result c.loop-number.number (shelf.made c.args.shelf.now) (shelf.made c.loop-number.shelf)
-          (shelf.made c.open_shard.new.shelf) (shelf.holds c.args.shelf.now) (shelf.holds c.loop-number.shelf) (shelf.holds c.open_shard.new.shelf) (shelf.counts c.args.shelf.now)
-          (shelf.counts c.loop-number.shelf) (shelf.counts c.open_shard.new.shelf) c.loop-number.shards.items c.push_reserved.new.self.items c.in-Ok.shard c.loop-number.invariant.opening
-          c.push_reserved.ensures.items c.in-Ok.ensures.opened c.in-Ok.ensures.taken;
+      opening = opening_more g.H.R.Rack g.H.A.Area c.args.layout c.new-perms.result c.loop-number.number (shelf.leaves c.args.shelf.now) (shelf.leaves c.loop-number.shelf) (shelf.leaves c.open_shard.new.shelf)
+          (shelf.told c.args.shelf.now) (shelf.told c.loop-number.shelf) (shelf.told c.open_shard.new.shelf) (shelf.counts c.args.shelf.now) (shelf.counts c.loop-number.shelf) (shelf.counts c.open_shard.new.shelf)
+          c.loop-number.shards.items c.push_reserved.new.self.items c.in-Ok-open_shard.shard i.opening c.push_reserved.ensures.items e.opened e.told e.leaves e.counts;
       room = omega (arith, room, capacity);
       bound = omega (arith, below);
+      uber = c.open_shard.ensures.uber ∙ i.uber;
+      checks = c.open_shard.ensures.checks ∙ i.checks;
+      later = omega (arith, later, again);
     }
 
 pub returns-clause-opened : goal.returns-clause-opened
 returns-clause-opened g c =
-    let shelf = g.H.RackShelf in
+    let shelf = g.H.Shelf in
     let end = c.loop-number-test.false in
     let bound = c.loop-number.invariant.bound in
-    opening_all g.H.R.Rack.shape g.H.R.Rack.told g.H.R.Rack.faults c.args.layout c.new-perms.result c.loop-number.number (shelf.made c.args.shelf.now) (shelf.made c.loop-number.shelf)
-    (shelf.holds c.args.shelf.now) (shelf.holds c.loop-number.shelf) (shelf.counts c.args.shelf.now) (shelf.counts c.loop-number.shelf) c.loop-number.shards.items c.loop-number.invariant.opening
+    opening_all g.H.R.Rack g.H.A.Area c.args.layout c.new-perms.result c.loop-number.number (shelf.leaves c.args.shelf.now) (shelf.leaves c.loop-number.shelf) (shelf.told c.args.shelf.now) (shelf.told c.loop-number.shelf)
+    (shelf.counts c.args.shelf.now) (shelf.counts c.loop-number.shelf) c.loop-number.shards.items c.loop-number.invariant.opening
     (record { geometry_is = c.requires.layout; perms_are = c.new-perms.ensures }) (omega (arith, end, bound))
+
+pub returns-clause-told : goal.returns-clause-told
+returns-clause-told g c =
+    let shelf = g.H.Shelf in
+    let end = c.loop-number-test.false in
+    let bound = c.loop-number.invariant.bound in
+    let last : c.loop-number.number ≡ c.args.layout.props.metaslabs = omega (arith, end, bound) in
+    subst (λ (n : ℕ). TakesFirst n (shelf.told c.args.shelf.now) (shelf.told c.loop-number.shelf)) last c.loop-number.invariant.opening.told

@@ -1,5 +1,5 @@
 use Rattle.std.proofs.Common.{◌≡◌, drop, max}
-use Rattle.draid_pool.specs.State.{longest}
+use Rattle.draid_session.specs.Rooms.{longest}
 use Rattle.draid_pool.proofs.room.longest_run.Given as goal
 
 -- the longest run so far, and those to come

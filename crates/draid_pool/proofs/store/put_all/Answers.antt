@@ -1,65 +1,46 @@
-use Rattle.std.proofs.Common.{◌≡◌, ◌∙◌, arith, ap, refl}
-use Rattle.draid_shard.specs.Entry.{open_group}
-use Rattle.draid_shard.specs.MetaslabLayout.{MetaslabLayout}
-use Rattle.draid_shard.specs.Shard.{logs_of, missed_of, part_of}
-use Rattle.draid_pool.proofs.Storing.{harm_all, harm_as, harm_none, missed_more, missed_none, same_twice, told_ends_more, unmissed}
+use Rattle.std.proofs.Common.{◌≡◌, ◌≤◌, ◌<◌, ◌+◌, ◌∙◌, ℕ, suc, arith, ap, refl, sym, subst}
+use Rattle.draid_names.specs.declared.pointer.Pointer.{Pointer}
+use Rattle.draid_shard.specs.Part.{Part}
+use Rattle.draid_shard.specs.States.{part_of}
+use Rattle.draid_entries.specs.Maps.{key_of}
+use Rattle.draid_session.specs.Writes.{PutsColumns}
+use Rattle.draid_pool.specs.Shards.{Goes, SameBut}
+use Rattle.draid_pool.proofs.PutSteps.{PutSome, one_more, put_more, put_none}
 use Rattle.draid_pool.proofs.store.put_all.Goals as goal
 
 pub loop-column-init : goal.loop-column-init
-loop-column-init g c =
-    let old = c.args.shard.now in
-    let pointer = c.args.ticket.now.pointer in
-    record {
-      valid = c.requires.valid;
-      part = refl;
-      carries = c.requires.carries;
-      next = c.requires.fresh.0;
-      pointer = refl;
-      missed = missed_none g.R.Rack.faults old pointer.first open_group 0 c.args.ticket.now.missed c.requires.fresh.1;
-      harm = harm_none (part_of old) pointer.first pointer.stripes (missed_of old pointer) (g.R.Rack.told old.rack);
-      later = λ who. omega arith;
-      free = refl;
-      held = refl;
-      none_more = λ p has. has;
-      same = record { kept = λ p live. live; only = λ p live. live };
-      kept = λ p w holds. holds;
-    }
+loop-column-init g c = record {
+  valid = c.requires.valid;
+  part = refl;
+  carries = c.requires.carries;
+  next = c.requires.fresh;
+  pointer = refl;
+  some = put_none g.R.Rack g.A.Area c.args.shard.now c.args.ticket.now.pointer c.args.block.now;
+}
 
 pub loop-column-preserved : goal.loop-column-preserved
 loop-column-preserved g c =
     let i = c.loop-column.invariant in
     let e = c.put.ensures in
-    let old = c.args.shard.now in
-    let mid = c.loop-column.shard in
-    let new = c.put.new.self in
-    let pointer = c.args.ticket.now.pointer in
-    let next = e.next in
-    let was = i.next in
     record {
       valid = e.valid;
-      part = e.part ∙ i.part;
+      part = e.put.does.part ∙ i.part;
       carries = e.carries;
-      next = omega (arith, next, was);
-      pointer = e.pointer ∙ i.pointer;
-      missed = missed_more g.R.Rack.faults old mid new c.loop-column.ticket c.put.new.ticket pointer open_group c.loop-column._column i.later e.later i.part i.pointer i.next c.requires.born i.missed e.ended;
-      harm = told_ends_more (part_of old) pointer.first pointer.stripes c.loop-column._column (missed_of mid pointer) (missed_of new pointer) (g.R.Rack.told old.rack) (g.R.Rack.told mid.rack) (g.R.Rack.told new.rack)
-          (λ column lands. unmissed g.R.Rack.faults mid new c.loop-column.ticket c.put.new.ticket pointer column e.part e.ended lands) i.harm
-          (harm_as (part_of mid) (part_of old) (part_of new) (logs_of new) c.loop-column.ticket.pointer pointer c.loop-column.ticket.next c.loop-column._column (g.R.Rack.told mid.rack) (g.R.Rack.told new.rack)
-          i.part i.pointer i.next e.harm);
-      later = λ who. (let a = i.later who in let b = e.later who in omega (arith, a, b));
-      free = e.free ∙ i.free;
-      held = e.held ∙ i.held;
-      none_more = λ p has. i.none_more p (e.none_more p has);
-      same = same_twice old mid new i.same e.same;
-      kept = λ p w holds. e.kept p w (i.kept p w holds);
+      next = (let next = e.put.next in let was = i.next in omega (arith, next, was));
+      pointer = e.put.pointer ∙ i.pointer;
+      some = subst (λ (p : Pointer). PutSome g.R.Rack g.A.Area c.args.shard.now c.put.new.self p c.args.block.now (c.loop-column._column + 1)) i.pointer
+          (subst (λ n. PutSome g.R.Rack g.A.Area c.args.shard.now c.put.new.self c.loop-column.ticket.pointer c.args.block.now n) (one_more c.loop-column._column) (put_more g.R.Rack g.A.Area c.args.shard.now c.loop-column.shard c.put.new.self c.loop-column.ticket c.put.new.ticket c.args.block.now c.loop-column._column e.valid e.areas e.reserve e.put
+          (subst (λ (p : Pointer). PutSome g.R.Rack g.A.Area c.args.shard.now c.loop-column.shard p c.args.block.now c.loop-column._column) (sym i.pointer) i.some)));
     }
 
-pub returns-clause-harm : goal.returns-clause-harm
-returns-clause-harm g c =
+pub returns-clause-puts : goal.returns-clause-puts
+returns-clause-puts g c part pieces x is rows =
     let i = c.loop-column.invariant in
     let count = i.carries.count in
     let next = i.next in
-    let wide : c.loop-column.shard.geometry.g ≡ c.args.shard.now.geometry.g = ap (λ (p : MetaslabLayout). p.geometry.g) i.part in
-    harm_all (part_of c.args.shard.now) c.args.ticket.now.pointer.first c.args.ticket.now.pointer.stripes c.loop-column._column c.args.shard.now.geometry.g
-    (missed_of c.loop-column.shard c.args.ticket.now.pointer) (g.R.Rack.told c.args.shard.now.rack) (g.R.Rack.told c.loop-column.shard.rack)
-    (let end = c.loop-column-test.false in omega (arith, count, next, wide, end)) i.harm
+    let end = c.loop-column-test.false in
+    let wide : c.loop-column.shard.geometry.g ≡ c.args.shard.now.geometry.g = ap (λ (p : Part). p.geometry.g) i.part in
+    let own : c.args.shard.now.geometry.g ≡ part.geometry.g = ap (λ (p : Part). p.geometry.g) is.part_is in
+    let all : c.loop-column._column ≡ part.geometry.g = omega (arith, count, next, end, wide, own) in
+    subst (λ n. Goes g.R.Rack g.A.Area part pieces x c.loop-column.shard (λ holds y. PutsColumns (key_of c.args.ticket.now.pointer) part.number n holds × SameBut (key_of c.args.ticket.now.pointer) x.world y.world)) all
+    (i.some part pieces x is rows)

@@ -1,26 +1,43 @@
 use Rattle.std.proofs.lemmas.Result.{err_from_is_err_and}
-use Rattle.draid_pool.proofs.Reading.{block_fetched, read_is, unfetched}
+use Rattle.draid_block.specs.declared.many.Solve.TheVariants.{Bytes, Unreadable}
+use Rattle.draid_pool.proofs.ReadSteps.{block_fetched, pool_geometry, read_solved, read_starved, unread, unread_is}
 use Rattle.draid_pool.proofs.pool.Pool.read.Goals as goal
 
 pub returns-in_err-fetched : goal.returns-in_err-fetched
 returns-in_err-fetched g c = record {
-  step = λ changes is.
+  step = λ x is.
       (let p = err_from_is_err_and c.from_residual.result c.from_residual.ensures.1 in
-      rw (p.1, p.2) (unfetched g.R.Rack.shape g.R.Rack.told g.R.Rack.faults c.args.object c.in_err-fetched.field-0.0 _ c.fetch.new.self (c.in_err-fetched.ensures.step changes is)));
+      let f = c.in_err-fetched.ensures.step x is in
+      rw (p.1, p.2) (unread g.R.Rack g.A.Area c.fetch.new.self x c.args.object c.in_err-fetched.field-0.0 f.0 f.1));
 }
 
-pub solve-requires-clause-geometry : goal.solve-requires-clause-geometry
-solve-requires-clause-geometry g c =
+pub solve_block-requires-clause-geometry : goal.solve_block-requires-clause-geometry
+solve_block-requires-clause-geometry g c =
     let is = c.requires.represents in
-    (c.fetch.ensures.step is.0 is.1).represents.stands.layout
+    pool_geometry g.R.Rack g.A.Area c.fetch.new.self _ (c.in_ok-fetched.ensures.step is.0 is.1).represents
 
-pub solve-requires-clause-fetched : goal.solve-requires-clause-fetched
-solve-requires-clause-fetched g c =
+pub solve_block-requires-clause-fetched : goal.solve_block-requires-clause-fetched
+solve_block-requires-clause-fetched g c =
     let is = c.requires.represents in
-    block_fetched g.R.Rack.shape g.R.Rack.told g.R.Rack.faults c.args.object c.in_ok-fetched.fetched _ c.fetch.new.self (c.in_ok-fetched.ensures.step is.0 is.1)
+    block_fetched g.R.Rack g.A.Area c.fetch.new.self is.0 c.args.object c.in_ok-fetched.fetched (c.in_ok-fetched.ensures.step is.0 is.1)
+
+pub returns-in-Ok : goal.returns-in-Ok
+returns-in-Ok g c = record {
+  step = λ x is.
+      (let e = c.in-Ok.ensures in
+      read_solved g.R.Rack g.A.Area c.fetch.new.self x c.args.object c.in_ok-fetched.fetched (Bytes c.in-Ok.bytes) (c.in_ok-fetched.ensures.step x is)
+      (record { solves = e.solves; digest = e.digest; readable = e.readable }));
+}
+
+pub returns-in-Err-Unreadable : goal.returns-in-Err-Unreadable
+returns-in-Err-Unreadable g c = record {
+  step = λ x is.
+      (let e = c.in-Err-Unreadable.ensures in
+      read_solved g.R.Rack g.A.Area c.fetch.new.self x c.args.object c.in_ok-fetched.fetched (Unreadable c.in-Err-Unreadable.absent c.in-Err-Unreadable.tried) (c.in_ok-fetched.ensures.step x is)
+      (unread_is _ c.in_ok-fetched.fetched c.in-Err-Unreadable.field-0 c.in-Err-Unreadable.absent c.in-Err-Unreadable.tried c.in-Err-Unreadable.field-0-is e.solves e.digest e.readable));
+}
 
 pub returns : goal.returns
 returns g c = record {
-  step = λ changes is.
-      read_is g.R.Rack.shape g.R.Rack.told g.R.Rack.faults c.args.object c.in_ok-fetched.fetched c.solve.result _ c.fetch.new.self (c.in_ok-fetched.ensures.step changes is) c.solve.ensures;
+  step = λ x is. read_starved g.R.Rack g.A.Area c.fetch.new.self x c.args.object c.in_ok-fetched.fetched (c.in_ok-fetched.ensures.step x is);
 }

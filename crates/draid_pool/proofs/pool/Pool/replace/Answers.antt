@@ -1,39 +1,56 @@
-use Rattle.std.proofs.Common.{◌∙◌, Some, ap, refl, sym}
+use Rattle.std.proofs.Common.{◌≡◌, ◌≤◌, ◌<◌, ◌+◌, ◌∙◌, ℕ, Some, arith, refl, sym, ap}
 use Rattle.std.specs.Prelude.{nat_eq}
 use Rattle.std.specs.HashMap.{get}
-use Rattle.draid_pool.proofs.Named.{names_next, names_put}
-use Rattle.draid_pool.proofs.Steps.{first_stands, freed_images, live_in, next_stands}
+use Rattle.std.proofs.lemmas.Option.{slice_get_within}
+use Rattle.draid_pool.proofs.FreeSteps.{floor_fits, floor_last, metaslab_there, pointed, shard_at}
+use Rattle.draid_pool.proofs.ReplaceSteps.{replaced_none, replaced_some}
 use Rattle.draid_pool.proofs.pool.Pool.replace.Goals as goal
 
-pub free_block-requires : goal.free_block-requires
-free_block-requires g c =
-    let is = c.requires.stands in
-    record {
-      live = live_in g.R.Rack.shape g.R.Rack.told g.R.Rack.faults c.args.self.now is.0 c.args.object c.in-Some.earlier is.1 (sym c.in-Ok.ensures.old ∙ c.in-Some.is);
-    }
+pub index_mut-requires : goal.index_mut-requires
+index_mut-requires g c =
+    let a = c.requires.awaits in
+    let found = pointed c.args.self.now.shards.items _ _ c.in-Some.earlier (sym c.in-Ok.ensures.old ∙ c.in-Some.is) a.2.had in
+    let below = slice_get_within c.args.self.now.shards.items c.in-Some.earlier.metaslab found.2.shard found.2.there in
+    let len = c.args.self.now.shards.ok.0 in
+    omega (arith, below, len)
 
-pub returns-in-Some-clause-same : goal.returns-in-Some-clause-same
-returns-in-Some-clause-same g c = record {
-  layout = refl;
-  metaslabs = freed_images g.R.Rack.shape g.R.Rack.told g.R.Rack.faults c.in-Some.earlier c.args.self.now.shards.items _ c.free_block.ensures.frees;
-  seq = refl;
+pub free_block-self-requires-clause-valid : goal.free_block-self-requires-clause-valid
+free_block-self-requires-clause-valid g c =
+    let a = c.requires.awaits in
+    let s = a.2.stands in
+    let found = pointed c.args.self.now.shards.items _ _ c.in-Some.earlier (sym c.in-Ok.ensures.old ∙ c.in-Some.is) a.2.had in
+    let at = shard_at c.args.self.now.shards.items c.in-Some.earlier found.0 c.index_mut.result.now found.2 c.index_mut.ensures.value in
+    let y = metaslab_there g.R.Rack g.A.Area c.args.self.now _ a.0 c.in-Some.earlier.metaslab c.index_mut.result.now s at.0 in
+    (s.each c.in-Some.earlier.metaslab c.index_mut.result.now y.0 at.0 y.1).valid
+
+pub free_block-self-requires-clause-live : goal.free_block-self-requires-clause-live
+free_block-self-requires-clause-live g c =
+    let a = c.requires.awaits in
+    let found = pointed c.args.self.now.shards.items _ _ c.in-Some.earlier (sym c.in-Ok.ensures.old ∙ c.in-Some.is) a.2.had in
+    (shard_at c.args.self.now.shards.items c.in-Some.earlier found.0 c.index_mut.result.now found.2 c.index_mut.ensures.value).1
+
+pub free_block-self-requires-clause-floor : goal.free_block-self-requires-clause-floor
+free_block-self-requires-clause-floor g c =
+    let a = c.requires.awaits in
+    let found = pointed c.args.self.now.shards.items _ _ c.in-Some.earlier (sym c.in-Ok.ensures.old ∙ c.in-Some.is) a.2.had in
+    let at = shard_at c.args.self.now.shards.items c.in-Some.earlier found.0 c.index_mut.result.now found.2 c.index_mut.ensures.value in
+    floor_fits g.R.Rack g.A.Area c.args.self.now _ a.0 c.in-Some.earlier.metaslab c.index_mut.result.now a.2.stands at.0
+
+pub free_block-self-requires-clause-last : goal.free_block-self-requires-clause-last
+free_block-self-requires-clause-last g c = (let a = c.requires.awaits in floor_last g.R.Rack g.A.Area c.args.self.now _ a.0 a.2.stands)
+
+pub returns-in-Some : goal.returns-in-Some
+returns-in-Some g c = record {
+  step = λ x earlier a.
+      (let there = sym c.in-Ok.ensures.old ∙ c.in-Some.is in
+      let found = pointed c.args.self.now.shards.items _ _ c.in-Some.earlier there a.had in
+      let at = shard_at c.args.self.now.shards.items c.in-Some.earlier found.0 c.index_mut.result.now found.2 c.index_mut.ensures.value in
+      replaced_some g.R.Rack g.A.Area c.args.object c.args.pointer c.in-Some.earlier c.args.self.now _ c.index_mut.result.now c.free_block-self.new.shard c.free_block-self.result earlier x a there at.0
+      c.free_block-self.ensures.frees refl refl refl refl (λ q. c.in-Ok.ensures.updates.0 q));
 }
 
-pub returns-in-Some-clause-represents : goal.returns-in-Some-clause-represents
-returns-in-Some-clause-represents g c changes write is held named names =
-    let there = sym c.in-Ok.ensures.old ∙ c.in-Some.is in
-    record {
-      stands = next_stands g.R.Rack.shape g.R.Rack.told g.R.Rack.faults c.args.object c.args.pointer c.in-Some.earlier write c.args.self.now _ changes is held named there
-          (λ same. c.requires.apart (there ∙ ap Some (sym same))) c.free_block.ensures.frees refl refl (λ q. c.in-Ok.ensures.updates.0 q);
-      live = names_next g.R.Rack.shape g.R.Rack.told c.in-Some.earlier c.args.pointer c.args.self.now.shards.items c.free_block.new.shards.items (λ q. get nat_eq c.args.self.now.objects q)
-          (λ q. get nat_eq c.insert.new.self q) c.args.object c.free_block.ensures.frees names there (held.object ∙ named) (λ q. c.in-Ok.ensures.updates.0 q);
-    }
-
-pub returns-in_default-earlier-clause-represents : goal.returns-in_default-earlier-clause-represents
-returns-in_default-earlier-clause-represents g c changes write is held named names =
-    let none = sym c.in-Ok.ensures.old ∙ c.in_default-earlier.is in
-    record {
-      stands = first_stands g.R.Rack.shape g.R.Rack.told g.R.Rack.faults c.args.object c.args.pointer write c.args.self.now _ changes is held named refl refl refl (λ q. c.in-Ok.ensures.updates.0 q);
-      live = names_put c.args.self.now.shards.items (λ q. get nat_eq c.args.self.now.objects q) (λ q. get nat_eq c.insert.new.self q) c.args.object c.args.pointer names none (held.object ∙ named)
-          (λ q. c.in-Ok.ensures.updates.0 q);
-    }
+pub returns-in_default-earlier : goal.returns-in_default-earlier
+returns-in_default-earlier g c = record {
+  step = λ x earlier a.
+      replaced_none g.R.Rack g.A.Area c.args.object c.args.pointer c.args.self.now _ earlier x a (sym c.in-Ok.ensures.old ∙ c.in_default-earlier.is) refl refl refl refl (λ q. c.in-Ok.ensures.updates.0 q);
+}

@@ -5,28 +5,30 @@ use Rattle.draid_pool.proofs.pool.Pool.sum.Goals as goal
 
 pub loop-summed-init : goal.loop-summed-init
 loop-summed-init g c = record {
-  summing = λ changes is. summing_none g.R.Rack.shape g.R.Rack.told g.R.Rack.faults c.args.self.now changes c.args.first c.new-hasher.result c.new-hasher.ensures is;
+  summing = λ x is. summing_none g.R.Rack g.A.Area c.args.self.now x c.args.first c.new-hasher.result c.new-hasher.ensures is;
   bound = omega arith;
 }
 
 pub add_batch-requires-clause-represents : goal.add_batch-requires-clause-represents
 add_batch-requires-clause-represents g c κs within =
     let is = c.requires.represents in
-    (is.0, (c.loop-summed.invariant.summing is.0 is.1).represents)
+    let s = c.loop-summed.invariant.summing is.0 is.1 in
+    (s.reached, s.represents)
 
 pub returns-in_err-summed : goal.returns-in_err-summed
 returns-in_err-summed g c = record {
-  step = λ changes is.
+  step = λ x is.
       (let p = err_from_is_err_and c.from_residual.result c.from_residual.ensures.1 in
-      rw (p.1, p.2) (sum_stops g.R.Rack.shape g.R.Rack.told g.R.Rack.faults c.args.self.now c.loop-summed.self c.add_batch.new.pool changes c.args.first c.loop-summed.summed c.args.count c.loop-summed.hasher
-      c.add_batch.new.hasher c.in_err-summed.field-0.0 (c.loop-summed.invariant.summing changes is) c.loop-summed.invariant.bound (λ represents. c.in_err-summed.ensures.step changes represents)));
+      rw (p.1, p.2) (sum_stops g.R.Rack g.A.Area c.loop-summed.self c.add_batch.new.pool x c.args.first c.loop-summed.summed c.args.count c.loop-summed.hasher c.add_batch.new.hasher
+      c.in_err-summed.field-0.0 (c.loop-summed.invariant.summing x is) c.loop-summed.invariant.bound (λ y represents. c.in_err-summed.ensures.step y represents)));
 }
 
 pub overflow_add-summed : goal.overflow_add-summed
 overflow_add-summed g c =
     let is = c.requires.represents in
-    let some = some_added g.R.Rack.shape g.R.Rack.told g.R.Rack.faults (c.args.first + c.loop-summed.summed) (c.args.count - c.loop-summed.summed) c.in_ok-summed.field-0 c.loop-summed.hasher c.add_batch.new.hasher _
-    c.add_batch.new.pool (c.in_ok-summed.ensures.step is.0 (c.loop-summed.invariant.summing is.0 is.1).represents) in
+    let s = c.loop-summed.invariant.summing is.0 is.1 in
+    let some = some_added g.R.Rack g.A.Area s.reached (c.args.first + c.loop-summed.summed) (c.args.count - c.loop-summed.summed) c.in_ok-summed.field-0 c.loop-summed.hasher c.add_batch.new.hasher
+    c.add_batch.new.pool (c.in_ok-summed.ensures.step s.reached s.represents) in
     let within = some.1 in
     let below = c.loop-summed-test.true in
     let fits = c.ranges.count.fits in
@@ -35,8 +37,9 @@ overflow_add-summed g c =
 pub loop-summed-smaller : goal.loop-summed-smaller
 loop-summed-smaller g c =
     let is = c.requires.represents in
-    let some = some_added g.R.Rack.shape g.R.Rack.told g.R.Rack.faults (c.args.first + c.loop-summed.summed) (c.args.count - c.loop-summed.summed) c.in_ok-summed.field-0 c.loop-summed.hasher c.add_batch.new.hasher _
-    c.add_batch.new.pool (c.in_ok-summed.ensures.step is.0 (c.loop-summed.invariant.summing is.0 is.1).represents) in
+    let s = c.loop-summed.invariant.summing is.0 is.1 in
+    let some = some_added g.R.Rack g.A.Area s.reached (c.args.first + c.loop-summed.summed) (c.args.count - c.loop-summed.summed) c.in_ok-summed.field-0 c.loop-summed.hasher c.add_batch.new.hasher
+    c.add_batch.new.pool (c.in_ok-summed.ensures.step s.reached s.represents) in
     let more = some.0 in
     let below = c.loop-summed-test.true in
     omega (arith, more, below)
@@ -44,22 +47,23 @@ loop-summed-smaller g c =
 pub loop-summed-preserved : goal.loop-summed-preserved
 loop-summed-preserved g c =
     let is = c.requires.represents in
-    let some = some_added g.R.Rack.shape g.R.Rack.told g.R.Rack.faults (c.args.first + c.loop-summed.summed) (c.args.count - c.loop-summed.summed) c.in_ok-summed.field-0 c.loop-summed.hasher c.add_batch.new.hasher _
-    c.add_batch.new.pool (c.in_ok-summed.ensures.step is.0 (c.loop-summed.invariant.summing is.0 is.1).represents) in
+    let s = c.loop-summed.invariant.summing is.0 is.1 in
+    let some = some_added g.R.Rack g.A.Area s.reached (c.args.first + c.loop-summed.summed) (c.args.count - c.loop-summed.summed) c.in_ok-summed.field-0 c.loop-summed.hasher c.add_batch.new.hasher
+    c.add_batch.new.pool (c.in_ok-summed.ensures.step s.reached s.represents) in
     let within = some.1 in
     let below = c.loop-summed-test.true in
     record {
-      summing = λ changes given.
-          summing_more g.R.Rack.shape g.R.Rack.told g.R.Rack.faults c.args.self.now c.loop-summed.self c.add_batch.new.pool changes c.args.first c.loop-summed.summed (c.args.count - c.loop-summed.summed)
-          c.in_ok-summed.field-0 c.loop-summed.hasher c.add_batch.new.hasher (c.loop-summed.invariant.summing changes given) (λ represents. c.in_ok-summed.ensures.step changes represents);
+      summing = λ x given.
+          summing_more g.R.Rack g.A.Area c.loop-summed.self c.add_batch.new.pool x c.args.first c.loop-summed.summed (c.args.count - c.loop-summed.summed)
+          c.in_ok-summed.field-0 c.loop-summed.hasher c.add_batch.new.hasher (c.loop-summed.invariant.summing x given) (λ y represents. c.in_ok-summed.ensures.step y represents);
       bound = omega (arith, within, below);
     }
 
 pub returns : goal.returns
 returns g c = record {
-  step = λ changes is.
+  step = λ x is.
       (let end = c.loop-summed-test.false in
       let bound = c.loop-summed.invariant.bound in
-      sum_done g.R.Rack.shape g.R.Rack.told g.R.Rack.faults c.args.self.now c.loop-summed.self changes c.args.first c.loop-summed.summed c.args.count c.loop-summed.hasher c.finalize.result
-      (c.loop-summed.invariant.summing changes is) (omega (arith, end, bound)) c.finalize.ensures);
+      sum_done g.R.Rack g.A.Area c.loop-summed.self x c.args.first c.loop-summed.summed c.args.count c.loop-summed.hasher c.finalize.result
+      (c.loop-summed.invariant.summing x is) (omega (arith, end, bound)) c.finalize.ensures);
 }

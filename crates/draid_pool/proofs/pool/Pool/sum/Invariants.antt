@@ -1,13 +1,13 @@
-use Rattle.std.proofs.Common.{◌≤◌, ◌-◌, List}
-use Rattle.draid_pool.specs.State.{Change}
-use Rattle.draid_pool.specs.Pool.{Represents}
+use Rattle.std.proofs.Common.{◌≤◌, ◌-◌}
+use Rattle.draid_session.specs.State.{State}
+use Rattle.draid_pool.specs.Pools.{Represents}
 use Rattle.draid_pool.proofs.Sums.{Summing}
 use Rattle.draid_pool.proofs.pool.Pool.sum.Given as goal
 
 -- the objects so far gave their bytes, and the hasher was given these
 abbrev pub invariant-loop-summed : goal.invariant-loop-summed
-invariant-loop-summed g l = let rack = g.R.Rack in record {
-  summing : (changes : List Change) → Represents rack.shape rack.told l.initial.self changes → Summing rack.shape rack.told rack.faults l.initial.self l.self changes l.first l.summed l.hasher;
+invariant-loop-summed g l = record {
+  summing : (x : State) → Represents g.R.Rack g.A.Area l.initial.self x → Summing g.R.Rack g.A.Area l.self x l.first l.summed l.hasher;
   bound : l.summed ≤ l.count;
 }
 

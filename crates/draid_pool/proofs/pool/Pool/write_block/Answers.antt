@@ -1,19 +1,36 @@
-use Rattle.std.proofs.Common.{arith, ◌∙◌, ◌+◌, refl, sym}
+use Rattle.std.proofs.Common.{◌≡◌, ◌≤◌, ◌<◌, ◌+◌, ◌∙◌, ℕ, [], Some, Err, arith, refl, sym, ap, subst, length, slice_get}
 use Rattle.std.specs.Vec.{with_item}
 use Rattle.std.proofs.lemmas.Option.{slice_get_within}
+use Rattle.draid_spec.specs.declared.layout.Geometry.{Geometry}
+use Rattle.draid_block.specs.Blocks.{cut_of}
+use Rattle.draid_block.specs.Columns.{Cut, stripes_of}
+use Rattle.draid_names.specs.declared.refusal.WriteFault.TheVariants as fault
+use Rattle.draid_shard.specs.declared.shard.Shard.{Shard}
+use Rattle.draid_shard.specs.States.{IsIn}
+use Rattle.draid_objects.specs.Changes.{write_of}
+use Rattle.draid_pool.specs.Answers.{WriteInDoes}
+use Rattle.draid_pool.specs.Carries.{CarriesOut}
+use Rattle.draid_pool.specs.Shards.{HasRoom, NotStored, Stored}
 use Rattle.draid_pool.specs.declared.pool.Pool.{Pool}
-use Rattle.draid_pool.proofs.Steps.{Turned, stands_yet}
-use Rattle.draid_pool.proofs.Writing.{entered_next, entered_none, misses_step, room_cut, room_has, room_shard, room_unused, room_valid, stays_step, stored_apart, stored_holds, stored_names, unwritten_step, writes_step}
+use Rattle.draid_pool.specs.Pools.{part_in}
+use Rattle.draid_pool.proofs.FreeSteps.{floor_last, same_represents}
+use Rattle.draid_pool.proofs.WriteSteps.{awaits, between, borrowed, its, its_floor, its_geometry, its_room, its_unused, missed, missed_here, stored_here, unwritten, unwritten_here, wrote}
 use Rattle.draid_pool.proofs.pool.Pool.write_block.Goals as goal
 
 pub returns-then-is_err : goal.returns-then-is_err
 returns-then-is_err g c = record {
-  step = λ changes is.
-      unwritten_step g.R.Rack.shape g.R.Rack.told g.R.Rack.faults c.args.metaslab c.args.object c.args.block.now.bytes c.args.self.now _ changes refl refl refl (λ q. c.reserve.ensures.entries.2 q) is;
+  step = λ x is. record {
+    holds = [];
+    reached = x;
+    store = x.store;
+    follows = refl;
+    done = (refl, refl);
+    represents = same_represents g.R.Rack g.A.Area c.args.self.now _ x refl refl refl refl (λ q. c.reserve.ensures.entries.2 q) is;
+  };
 }
 
-pub index_mut-requires : goal.index_mut-requires
-index_mut-requires g c =
+pub index_mut-shard-requires : goal.index_mut-shard-requires
+index_mut-shard-requires g c =
     let below = slice_get_within c.args.self.now.shards.items c.args.metaslab c.requires.room.shard c.requires.room.there in
     let len = c.args.self.now.shards.ok.0 in
     omega (arith, below, len)
@@ -21,79 +38,87 @@ index_mut-requires g c =
 pub store-requires-clause-valid : goal.store-requires-clause-valid
 store-requires-clause-valid g c =
     let is = c.requires.represents in
-    let there = room_shard g.R.Rack.shape g.R.Rack.told g.R.Rack.faults c.args.self.now c.args.metaslab c.args.block.now.bytes c.index_mut.result.now c.requires.room c.index_mut.ensures.value in
-    room_valid g.R.Rack.shape g.R.Rack.told g.R.Rack.faults c.args.self.now is.0 c.args.metaslab c.index_mut.result.now is.1.stands there
+    let at = borrowed g.R.Rack g.A.Area c.args.self.now.shards.items c.args.metaslab c.requires.room.shard c.index_mut-shard.result.now c.requires.room.there c.index_mut-shard.ensures.value in
+    (its g.R.Rack g.A.Area c.args.metaslab c.args.object c.args.block.now.bytes c.args.self.now c.index_mut-shard.result.now c.index_mut-shard.result.now is.0 is.1 at.0).valid
 
 pub store-requires-clause-unused : goal.store-requires-clause-unused
 store-requires-clause-unused g c =
     let is = c.requires.represents in
-    let there = room_shard g.R.Rack.shape g.R.Rack.told g.R.Rack.faults c.args.self.now c.args.metaslab c.args.block.now.bytes c.index_mut.result.now c.requires.room c.index_mut.ensures.value in
-    room_unused g.R.Rack.shape g.R.Rack.told g.R.Rack.faults c.args.self.now is.0 c.args.metaslab c.args.object c.index_mut.result.now is.1.stands there
+    let at = borrowed g.R.Rack g.A.Area c.args.self.now.shards.items c.args.metaslab c.requires.room.shard c.index_mut-shard.result.now c.requires.room.there c.index_mut-shard.ensures.value in
+    its_unused g.R.Rack g.A.Area c.args.metaslab c.args.object c.args.block.now.bytes c.args.self.now c.index_mut-shard.result.now c.index_mut-shard.result.now is.0 is.1 at.0 c.args.self.now.seq refl
+
+pub store-requires-clause-floor : goal.store-requires-clause-floor
+store-requires-clause-floor g c =
+    let is = c.requires.represents in
+    let at = borrowed g.R.Rack g.A.Area c.args.self.now.shards.items c.args.metaslab c.requires.room.shard c.index_mut-shard.result.now c.requires.room.there c.index_mut-shard.ensures.value in
+    its_floor g.R.Rack g.A.Area c.args.metaslab c.args.object c.args.block.now.bytes c.args.self.now c.index_mut-shard.result.now c.index_mut-shard.result.now is.0 is.1 at.0
+
+pub store-requires-clause-last : goal.store-requires-clause-last
+store-requires-clause-last g c = (let is = c.requires.represents in floor_last g.R.Rack g.A.Area c.args.self.now _ is.0 is.1.stands)
 
 pub store-requires-clause-cut : goal.store-requires-clause-cut
 store-requires-clause-cut g c =
     let is = c.requires.represents in
-    let there = room_shard g.R.Rack.shape g.R.Rack.told g.R.Rack.faults c.args.self.now c.args.metaslab c.args.block.now.bytes c.index_mut.result.now c.requires.room c.index_mut.ensures.value in
-    room_cut g.R.Rack.shape g.R.Rack.told g.R.Rack.faults c.args.self.now is.0 c.args.metaslab c.index_mut.result.now c.args.block.now.cut is.1.stands there c.requires.cut
+    let at = borrowed g.R.Rack g.A.Area c.args.self.now.shards.items c.args.metaslab c.requires.room.shard c.index_mut-shard.result.now c.requires.room.there c.index_mut-shard.ensures.value in
+    c.requires.cut ∙ sym (ap cut_of (its_geometry g.R.Rack g.A.Area c.args.metaslab c.args.object c.args.block.now.bytes c.args.self.now c.index_mut-shard.result.now c.index_mut-shard.result.now is.0 is.1 at.0))
 
 pub store-requires-clause-room : goal.store-requires-clause-room
 store-requires-clause-room g c =
-    room_has g.R.Rack.shape g.R.Rack.told g.R.Rack.faults c.args.self.now c.args.metaslab c.args.block.now.bytes c.index_mut.result.now c.requires.room c.index_mut.ensures.value
-
-pub replace-requires-clause-stands : goal.replace-requires-clause-stands
-replace-requires-clause-stands g c =
     let is = c.requires.represents in
-    let there = room_shard g.R.Rack.shape g.R.Rack.told g.R.Rack.faults c.args.self.now c.args.metaslab c.args.block.now.bytes c.index_mut.result.now c.requires.room c.index_mut.ensures.value in
-    let e = c.in-Ok.ensures in (
-      is.0,
-      stands_yet g.R.Rack.shape g.R.Rack.told g.R.Rack.faults c.args.metaslab c.index_mut.result.now c.store.new.shard c.args.self.now _ is.0
-          (record { one = record { there = there; sets = refl }; valid = e.valid; part = e.part; layout = refl; later = omega arith; entered = entered_next g.R.Rack.shape g.R.Rack.told g.R.Rack.faults c.args.self.now.seq c.index_mut.result.now c.store.new.shard e.entered }) e.kept (λ q. c.reserve.ensures.entries.2 q) is.1.stands,
+    let at = borrowed g.R.Rack g.A.Area c.args.self.now.shards.items c.args.metaslab c.requires.room.shard c.index_mut-shard.result.now c.requires.room.there c.index_mut-shard.ensures.value in
+    its_room g.R.Rack g.A.Area c.args.metaslab c.args.object c.args.block.now.bytes c.args.self.now c.index_mut-shard.result.now c.index_mut-shard.result.now is.0 is.1 at.0 c.requires.room.shard
+    (length c.args.block.now.bytes) at.1 c.requires.room.room
+
+pub replace-requires-clause-awaits : goal.replace-requires-clause-awaits
+replace-requires-clause-awaits g c =
+    let is = c.requires.represents in
+    let at = borrowed g.R.Rack g.A.Area c.args.self.now.shards.items c.args.metaslab c.requires.room.shard c.index_mut-shard.result.now c.requires.room.there c.index_mut-shard.ensures.value in
+    let shard = c.index_mut-shard.result.now in
+    let n = stored_here g.R.Rack g.A.Area c.args.metaslab c.args.object c.args.block.now.bytes c.args.self.now shard c.store.new.shard is.0 is.1 at.0 c.in-Ok.pointer c.in-Ok.ensures.stores in
+    let mid : Pool g.row.R.Denot g.row.A.Denot = record { geometry = c.args.self.now.geometry; shards = with_item c.args.self.now.shards c.args.metaslab c.store.new.shard; objects = c.reserve.new.self; seq = c.args.self.now.seq + 1; floor = c.in-Ok.pointer.birth; alloc = c.args.self.now.alloc } in (
+      between g.R.Rack g.A.Area c.args.metaslab c.args.object c.args.block.now.bytes c.args.self.now shard c.store.new.shard is.0 is.1 at.0 c.in-Ok.pointer n mid refl refl refl refl (λ q. c.reserve.ensures.entries.2 q),
+      write_of is.0.store.changes c.args.object,
+      awaits g.R.Rack g.A.Area c.args.metaslab c.args.object c.args.block.now.bytes c.args.self.now shard c.store.new.shard is.0 is.1 at.0 c.in-Ok.pointer n mid refl refl refl refl (λ q. c.reserve.ensures.entries.2 q),
     )
-
-pub replace-requires-clause-apart : goal.replace-requires-clause-apart
-replace-requires-clause-apart g c said =
-    let is = c.requires.represents in
-    let there = room_shard g.R.Rack.shape g.R.Rack.told g.R.Rack.faults c.args.self.now c.args.metaslab c.args.block.now.bytes c.index_mut.result.now c.requires.room c.index_mut.ensures.value in
-    stored_apart g.R.Rack.shape g.R.Rack.told g.R.Rack.faults c.args.metaslab c.args.object c.args.block.now.bytes c.in-Ok.pointer c.index_mut.result.now c.store.new.shard c.args.self.now is.0 there is.1.stands
-    c.in-Ok.ensures.answer (sym (c.reserve.ensures.entries.2 c.args.object) ∙ said)
 
 pub returns-in-Ok : goal.returns-in-Ok
 returns-in-Ok g c = record {
-  step = λ changes is.
-      (let there = room_shard g.R.Rack.shape g.R.Rack.told g.R.Rack.faults c.args.self.now c.args.metaslab c.args.block.now.bytes c.index_mut.result.now c.requires.room c.index_mut.ensures.value in
-      let e = c.in-Ok.ensures in
-      let mid : Pool g.row.R.Denot = record { geometry = c.args.self.now.geometry; shards = with_item c.args.self.now.shards c.args.metaslab c.store.new.shard; objects = c.reserve.new.self; seq = c.args.self.now.seq + 1; alloc = c.args.self.now.alloc } in
-      let t : Turned g.R.Rack.shape g.R.Rack.told g.R.Rack.faults c.args.metaslab c.index_mut.result.now c.store.new.shard c.args.self.now mid
-      = record { one = record { there = there; sets = refl }; valid = e.valid; part = e.part; layout = refl; later = omega arith; entered = entered_next g.R.Rack.shape g.R.Rack.told g.R.Rack.faults c.args.self.now.seq c.index_mut.result.now c.store.new.shard e.entered } in
-      let kept = stands_yet g.R.Rack.shape g.R.Rack.told g.R.Rack.faults c.args.metaslab c.index_mut.result.now c.store.new.shard c.args.self.now mid changes t e.kept (λ q. c.reserve.ensures.entries.2 q) is.stands in
-      writes_step g.R.Rack.shape g.R.Rack.told g.R.Rack.faults c.args.metaslab c.args.object c.args.block.now.bytes c.in-Ok.pointer c.index_mut.result.now c.store.new.shard c.args.self.now mid c.replace.new.self
-      changes t e.answer e.later refl c.replace.ensures.same
-      (c.replace.ensures.represents changes _ kept
-      (stored_holds g.R.Rack.shape g.R.Rack.told g.R.Rack.faults c.args.metaslab c.args.object c.args.block.now.bytes c.in-Ok.pointer c.index_mut.result.now c.store.new.shard c.args.self.now mid changes t is.stands e.answer) refl
-      (stored_names g.R.Rack.shape g.R.Rack.told g.R.Rack.faults c.args.metaslab c.args.object c.args.block.now.bytes c.in-Ok.pointer c.index_mut.result.now c.store.new.shard c.args.self.now mid changes t is e.answer
-      (λ q. c.reserve.ensures.entries.2 q))));
+  step = λ x is.
+      (let at = borrowed g.R.Rack g.A.Area c.args.self.now.shards.items c.args.metaslab c.requires.room.shard c.index_mut-shard.result.now c.requires.room.there c.index_mut-shard.ensures.value in
+      let shard = c.index_mut-shard.result.now in
+      let n = stored_here g.R.Rack g.A.Area c.args.metaslab c.args.object c.args.block.now.bytes c.args.self.now shard c.store.new.shard x is at.0 c.in-Ok.pointer c.in-Ok.ensures.stores in
+      let mid : Pool g.row.R.Denot g.row.A.Denot = record { geometry = c.args.self.now.geometry; shards = with_item c.args.self.now.shards c.args.metaslab c.store.new.shard; objects = c.reserve.new.self; seq = c.args.self.now.seq + 1; floor = c.in-Ok.pointer.birth; alloc = c.args.self.now.alloc } in
+      wrote g.R.Rack g.A.Area c.args.metaslab c.args.object c.args.block.now.bytes c.args.self.now shard c.store.new.shard x is at.0 c.in-Ok.pointer n mid refl refl refl refl (λ q. c.reserve.ensures.entries.2 q) c.replace.new.self
+      (c.replace.ensures.step (between g.R.Rack g.A.Area c.args.metaslab c.args.object c.args.block.now.bytes c.args.self.now shard c.store.new.shard x is at.0 c.in-Ok.pointer n mid refl refl refl refl (λ q. c.reserve.ensures.entries.2 q))
+      (write_of x.store.changes c.args.object)
+      (awaits g.R.Rack g.A.Area c.args.metaslab c.args.object c.args.block.now.bytes c.args.self.now shard c.store.new.shard x is at.0 c.in-Ok.pointer n mid refl refl refl refl (λ q. c.reserve.ensures.entries.2 q))));
 }
 
 pub returns-in-Err-Missed : goal.returns-in-Err-Missed
 returns-in-Err-Missed g c = record {
-  step = λ changes is.
-      (let there = room_shard g.R.Rack.shape g.R.Rack.told g.R.Rack.faults c.args.self.now c.args.metaslab c.args.block.now.bytes c.index_mut.result.now c.requires.room c.index_mut.ensures.value in
-      let e = c.in-Err-Missed.ensures in
-      let new : Pool g.row.R.Denot = record { geometry = c.args.self.now.geometry; shards = with_item c.args.self.now.shards c.args.metaslab c.store.new.shard; objects = c.reserve.new.self; seq = c.args.self.now.seq + 1; alloc = c.args.self.now.alloc } in
-      let t : Turned g.R.Rack.shape g.R.Rack.told g.R.Rack.faults c.args.metaslab c.index_mut.result.now c.store.new.shard c.args.self.now new
-      = record { one = record { there = there; sets = refl }; valid = e.valid; part = e.part; layout = refl; later = omega arith; entered = entered_next g.R.Rack.shape g.R.Rack.told g.R.Rack.faults c.args.self.now.seq c.index_mut.result.now c.store.new.shard e.entered } in
-      misses_step g.R.Rack.shape g.R.Rack.told g.R.Rack.faults c.args.metaslab c.args.object c.args.block.now.bytes c.in-Err-Missed.columns c.in-Err-Missed.field-0 c.index_mut.result.now c.store.new.shard
-      c.args.self.now new changes t c.in-Err-Missed.field-0-is e.answer e.later refl e.kept (λ q. c.reserve.ensures.entries.2 q) is);
+  step = λ x is.
+      (let at = borrowed g.R.Rack g.A.Area c.args.self.now.shards.items c.args.metaslab c.requires.room.shard c.index_mut-shard.result.now c.requires.room.there c.index_mut-shard.ensures.value in
+      let shard = c.index_mut-shard.result.now in
+      let new : Pool g.row.R.Denot g.row.A.Denot = record { geometry = c.args.self.now.geometry; shards = with_item c.args.self.now.shards c.args.metaslab c.store.new.shard; objects = c.reserve.new.self; seq = c.args.self.now.seq + 1; floor = c.in-Err-Missed.birth; alloc = c.args.self.now.alloc } in
+      let n = missed_here g.R.Rack g.A.Area c.args.metaslab c.args.object c.args.block.now.bytes c.args.self.now shard c.store.new.shard x is at.0 c.in-Err-Missed.field-0 c.in-Err-Missed.columns c.in-Err-Missed.birth
+          c.in-Err-Missed.field-0-is c.in-Err-Missed.ensures.stores in
+      missed g.R.Rack g.A.Area c.args.metaslab c.args.object c.args.block.now.bytes c.args.self.now shard c.store.new.shard x is at.0 c.in-Err-Missed.columns c.in-Err-Missed.birth new n refl refl refl refl (λ q. c.reserve.ensures.entries.2 q));
 }
 
 pub returns-in-Err-NoMemory : goal.returns-in-Err-NoMemory
 returns-in-Err-NoMemory g c = record {
-  step = λ changes is.
-      (let there = room_shard g.R.Rack.shape g.R.Rack.told g.R.Rack.faults c.args.self.now c.args.metaslab c.args.block.now.bytes c.index_mut.result.now c.requires.room c.index_mut.ensures.value in
-      let e = c.in-Err-NoMemory.ensures in
-      let new : Pool g.row.R.Denot = record { geometry = c.args.self.now.geometry; shards = with_item c.args.self.now.shards c.args.metaslab c.store.new.shard; objects = c.reserve.new.self; seq = c.args.self.now.seq; alloc = c.args.self.now.alloc } in
-      let t : Turned g.R.Rack.shape g.R.Rack.told g.R.Rack.faults c.args.metaslab c.index_mut.result.now c.store.new.shard c.args.self.now new
-      = record { one = record { there = there; sets = refl }; valid = e.valid; part = e.part; layout = refl; later = omega arith; entered = entered_none g.R.Rack.shape g.R.Rack.told g.R.Rack.faults c.args.object c.args.block.now.bytes c.in-Err-NoMemory.field-0 c.index_mut.result.now c.store.new.shard c.args.self.now.seq c.in-Err-NoMemory.field-0-is e.answer } in
-      stays_step g.R.Rack.shape g.R.Rack.told g.R.Rack.faults c.args.metaslab c.args.object c.args.block.now.bytes c.in-Err-NoMemory.field-0 c.index_mut.result.now c.store.new.shard
-      c.args.self.now new changes t c.in-Err-NoMemory.field-0-is e.answer refl e.kept (λ q. c.reserve.ensures.entries.2 q) is);
+  step = λ x is.
+      (let at = borrowed g.R.Rack g.A.Area c.args.self.now.shards.items c.args.metaslab c.requires.room.shard c.index_mut-shard.result.now c.requires.room.there c.index_mut-shard.ensures.value in
+      let shard = c.index_mut-shard.result.now in
+      let new : Pool g.row.R.Denot g.row.A.Denot = record { geometry = c.args.self.now.geometry; shards = with_item c.args.self.now.shards c.args.metaslab c.store.new.shard; objects = c.reserve.new.self; seq = c.args.self.now.seq; floor = c.args.self.now.floor; alloc = c.args.self.now.alloc } in
+      record {
+        holds = [];
+        reached = x;
+        store = x.store;
+        follows = refl;
+        done = (refl, refl);
+        represents = unwritten g.R.Rack g.A.Area c.args.metaslab c.args.object c.args.block.now.bytes c.args.self.now shard c.store.new.shard x is at.0 new
+            (unwritten_here g.R.Rack g.A.Area c.args.metaslab c.args.object c.args.block.now.bytes c.args.self.now shard c.store.new.shard x is at.0 c.in-Err-NoMemory.field-0 c.in-Err-NoMemory.field-0-is
+            c.in-Err-NoMemory.ensures.stores) refl refl refl refl (λ q. c.reserve.ensures.entries.2 q);
+      });
 }

@@ -1,31 +1,38 @@
 use Rattle.std.proofs.Common.{◌∙◌, ◌+◌, ◌-◌, ◌++◌, ◌∷◌, [], None, arith, ap, refl}
 use Rattle.draid_machine.specs.declared.event.Event.TheVariants.{Abort}
-use Rattle.draid_shard.proofs.Events.{aborts}
-use Rattle.draid_shard.proofs.Owed.{entry_below, owed_least, owes_set}
+use Rattle.draid_machine.specs.declared.names.Stage.TheVariants.{Writing}
+use Rattle.draid_entries.specs.Maps.{staged}
+use Rattle.draid_shard.proofs.Held.{here_gone, tickets_gone}
+use Rattle.draid_shard.proofs.Turns.{aborts, fitting, owed_turns, valid_with}
 use Rattle.draid_shard.proofs.shard.Shard.abort.Goals as goal
 
-pub add-requires : goal.add-requires
-add-requires g c =
-    let v = c.requires.valid in
-    let below = entry_below c.args.self.now.geometry c.args.self.now.space c.args.self.now.blocks _ _ v.tables c.requires.is_open in
-    let all = owed_least c.args.self.now.geometry c.args.self.now.blocks c.args.self.now.history _ (c.args.self.now.geometry.g - c.args.ticket.next + 2) _ v.owes below c.requires.is_open refl in
-    record { some = omega arith; owed = (let f = c.from.ensures in let s = c.saturating_sub-left.ensures in omega (arith, all, f, s)); room = v.owes.room }
+pub release-requires-clause-tables : goal.release-requires-clause-tables
+release-requires-clause-tables g c = fitting g.R.Rack c.args.self.now c.requires.valid
+
+pub add-requires-clause-owed : goal.add-requires-clause-owed
+add-requires-clause-owed g c =
+    let turns = owed_turns c.args.self.now.geometry.g c.args.self.now.entries c.release.new.entries c.args.ticket.pointer None
+    (staged (Writing c.args.ticket.next c.args.ticket.missed) c.args.ticket.pointer) (c.args.self.now.geometry.g - c.args.ticket.next + 2) 0 c.release.ensures.gone c.requires.is_open refl refl in
+    let all = c.requires.valid.owed in
+    let from = c.from.ensures in
+    let left = c.saturating_sub-left.ensures in
+    omega (arith, turns, all, from, left)
 
 pub returns-clause-valid : goal.returns-clause-valid
 returns-clause-valid g c =
     let v = c.requires.valid in
-    record {
-      part = v.part;
-      rack = v.rack;
-      tables = c.release.ensures.tables c.args.self.now.geometry v.tables;
-      slots = v.slots;
-      owes = owes_set c.args.self.now.geometry c.args.self.now.blocks c.release.new.blocks c.args.self.now.history c.add.new.self c.args.ticket.pointer.first (c.args.self.now.geometry.g - c.args.ticket.next + 2) 0 _ None v.owes
-          (entry_below c.args.self.now.geometry c.args.self.now.space c.args.self.now.blocks _ _ v.tables c.requires.is_open) c.release.ensures.entry c.requires.is_open
-          refl refl (let o = c.add.ensures.owed.0 in let f = c.from.ensures in let s = c.saturating_sub-left.ensures in omega (arith, o, f, s)) c.add.ensures.owed.1 c.add.ensures.room;
-    }
+    let turns = owed_turns c.args.self.now.geometry.g c.args.self.now.entries c.release.new.entries c.args.ticket.pointer None
+    (staged (Writing c.args.ticket.next c.args.ticket.missed) c.args.ticket.pointer) (c.args.self.now.geometry.g - c.args.ticket.next + 2) 0 c.release.ensures.gone c.requires.is_open refl refl in
+    valid_with g.R.Rack c.args.self.now c.release.new.space c.release.new.entries c.add.new.self v
+    (c.release.ensures.tables c.args.self.now.geometry c.args.self.now.open_group v.tables) c.release.ensures.disabled
+    (let few = v.few in let count = c.release.ensures.count in omega (arith, few, count))
+    (here_gone c.args.self.now.entries c.release.new.entries c.args.ticket.pointer c.args.self.now.number c.release.ensures.gone v.here)
+    (tickets_gone c.args.self.now.entries c.release.new.entries c.args.ticket.pointer _ v.tickets c.release.ensures.gone)
+    (let owed = c.add.ensures.owed in let reserved = c.add.ensures.reserved in let from = c.from.ensures in let left = c.saturating_sub-left.ensures in omega (arith, turns, owed, reserved, from, left))
 
 pub returns-clause-event : goal.returns-clause-event
 returns-clause-event g c = record {
-  stored = c.add.ensures.events ∙ ap (λ key. c.args.self.now.history.events.items ++ Abort key ∷ []) c.key_of.ensures;
-  steps = λ w is_in. aborts c.args.self.now _ w c.args.ticket refl c.requires.valid.tables c.requires.is_open c.release.ensures.entry refl is_in;
+  part = refl;
+  stored = c.add.ensures.stored ∙ ap (λ key. c.args.self.now.history.events.items ++ Abort key ∷ []) c.key_of.ensures;
+  leads = λ w reached is_in. aborts c.args.self.now c.release.new.space c.release.new.entries c.add.new.self c.args.ticket c.requires.is_open c.release.ensures.gone w is_in;
 }

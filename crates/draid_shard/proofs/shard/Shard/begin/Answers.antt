@@ -1,53 +1,104 @@
-use Rattle.std.proofs.Common.{rules, ◌∙◌, ◌+◌, ◌-◌, ◌<◌, ◌++◌, ◌∷◌, [], Some, None, arith, ap, ap₂, refl, sym, subst}
-use Rattle.std.specs.BTreeMap.{btree_map_len}
+use Rattle.std.proofs.Common.{rules, ◌≡◌, ◌<◌, ◌≤◌, ◌+◌, ◌∙◌, false, Some, arith, ap, ap₂, refl, sym, subst, length}
+use Rattle.std.proofs.lemmas.Bool.{true≢false}
+use Rattle.draid_names.specs.Numbers.{most_held}
 use Rattle.draid_names.specs.declared.pointer.Pointer.{Pointer}
+use Rattle.draid_block.specs.Blocks.{cut_of}
+use Rattle.draid_block.specs.Columns.{Cut, stripes_of}
+use Rattle.draid_machine.specs.declared.names.Stage.TheVariants.{Writing}
 use Rattle.draid_metaslab.specs.Spaces.{is_free}
 use Rattle.draid_metaslab.specs.Spots.{IsLowest}
-use Rattle.draid_shard.specs.Entry.{Tables, begun}
-use Rattle.draid_shard.proofs.Events.{begins, due_of, unmoved_in}
-use Rattle.draid_shard.proofs.Held.{holds_still}
-use Rattle.draid_shard.proofs.Landing.{on_err_of}
-use Rattle.draid_shard.proofs.Owed.{entry_below, owes_set}
-use Rattle.draid_shard.proofs.Places.{some_height}
+use Rattle.draid_entries.specs.Entries.{begun, count_of, held_in}
+use Rattle.draid_entries.specs.declared.entry.Entry.{Entry}
+use Rattle.draid_entries.specs.Maps.{key_of}
+use Rattle.draid_machine.proofs.Small.{some_same}
+use Rattle.draid_shard.proofs.Begins.{IsGiven, MayBegin, begins_leads, due_from, due_low, due_upto, oldest_low, owed_begun, refused_by}
+use Rattle.draid_shard.proofs.FreeRuns.{fewer}
+use Rattle.draid_shard.proofs.Held.{here_same, here_set, tickets_same, tickets_staged}
+use Rattle.draid_shard.proofs.Turns.{fitting, valid_with}
 use Rattle.draid_shard.proofs.shard.Shard.begin.Goals as goal
 
-pub returns-in_err-pointer-clause-no_event : goal.returns-in_err-pointer-clause-no_event
-returns-in_err-pointer-clause-no_event g c = on_err_of c.from_residual-in_err-pointer.result _ (record {
-  stored = c.ask.ensures.events;
-  stays = λ w is_in. unmoved_in c.args.self.now _ w refl refl (holds_still c.args.self.now.blocks c.hold.new.blocks w.core.held is_in.held c.in_err-pointer.ensures.same) is_in;
-})
+pub hold-requires-clause-tables : goal.hold-requires-clause-tables
+hold-requires-clause-tables g c = fitting g.R.Rack c.args.self.now c.requires.valid
 
-pub returns-clause-valid : goal.returns-clause-valid
-returns-clause-valid g c =
+pub returns-in-Ok-clause-valid : goal.returns-in-Ok-clause-valid
+returns-in-Ok-clause-valid g c =
     let v = c.requires.valid in
-    let e = c.in_ok-pointer.ensures in
-    let columns = c.args.self.now.geometry.g in
-    let u : Tables c.args.self.now.geometry c.hold.new.space c.hold.new.blocks = e.tables c.args.self.now.geometry v.tables (search rules) in
+    let e = c.in-Ok.ensures in
+    let p = c.in-Ok.pointer in
+    let birth = ap (λ (q : Pointer). q.birth) e.placed ∙ c.max.ensures in
+    let less = fewer (count_of c.args.self.now.entries) (most_held c.args.self.now.version) v.few (λ same. true≢false (sym (c.is_full.ensures.count.1 same) ∙ c.if-is_full.false)) in
+    let owes = owed_begun c.args.self.now.geometry.g c.args.self.now.entries c.hold.new.entries p e.entered e.was in
+    valid_with g.R.Rack c.args.self.now c.hold.new.space c.hold.new.entries c.hold.new.history v
+    (e.tables c.args.self.now.geometry c.args.self.now.open_group v.tables (record {
+      some = c.len.ensures.some;
+      short = c.len.ensures.short;
+      stripes = c.stripes.ensures.stripes ∙ ap₂ stripes_of c.requires.cut (sym c.len.ensures.len);
+      born = due_upto c.args.self.now.open_group c.max.result c.args.floor c.max.ensures c.requires.floor;
+      low = due_low c.args.self.now.open_group c.max.result c.args.floor c.max.ensures v.low c.requires.low;
+    }))
+    e.disabled (let count = e.count in omega (arith, less, count))
+    (here_set c.args.self.now.entries c.hold.new.entries p (Some (begun p)) c.args.self.now.number
+    (λ x is. ap (λ (y : Entry). y.pointer.metaslab) (sym (some_same (Some (begun p)) (begun p) x refl is)) ∙ ap (λ (q : Pointer). q.metaslab) e.placed) e.entered v.here)
+    (tickets_staged c.args.self.now.entries c.hold.new.entries p (Writing 0 0) _
+    (let low = oldest_low c.args.self.now.open_group c.args.self.now.closing c.args.self.now.committed c.args.self.now.sealed v.groups in
+    let from = due_from c.args.self.now.open_group p.birth c.args.floor birth in omega (arith, low, from)) v.tickets e.entered)
+    (let owed = e.stored.owed in let reserved = e.stored.reserved in let asked = c.block_events-asked.ensures in omega (arith, owes, owed, reserved, asked))
+
+pub returns-in-Ok-clause-event : goal.returns-in-Ok-clause-event
+returns-in-Ok-clause-event g c =
+    let e = c.in-Ok.ensures in
+    let p = c.in-Ok.pointer in
+    let stripes : p.stripes ≡ c.stripes.result = ap (λ (q : Pointer). q.stripes) e.placed in
+    let birth = ap (λ (q : Pointer). q.birth) e.placed ∙ c.max.ensures in
+    let v = c.requires.valid in
+    let enabled : c.args.self.now.space.disabled ≡ false = search rules in
+    let may : MayBegin c.args.self.now = record {
+      geometry_is = v.part.layout.geometry_is;
+      tables = v.tables;
+      enabled = sym v.disabled ∙ enabled;
+      few = fewer (count_of c.args.self.now.entries) (most_held c.args.self.now.version) v.few (λ same. true≢false (sym (c.is_full.ensures.count.1 same) ∙ c.if-is_full.false));
+    } in
+    let given : IsGiven c.args.self.now p = record {
+      some = (let some = c.stripes.ensures.some in omega (arith, some, stripes));
+      lowest = subst (λ n. IsLowest (is_free c.args.self.now.space) c.args.self.now.space.height n p.first) (sym stripes) e.lowest;
+      inside = (let inside = e.inside in omega (arith, inside, stripes));
+      unused = ap (held_in c.args.self.now.entries) (ap key_of e.placed) ∙ c.requires.unused;
+      from = due_from c.args.self.now.open_group p.birth c.args.floor birth;
+      upto = due_upto c.args.self.now.open_group p.birth c.args.floor birth c.requires.floor;
+    } in
     record {
-      part = v.part;
-      rack = v.rack;
-      tables = u;
-      slots = v.slots;
-      owes = owes_set c.args.self.now.geometry c.args.self.now.blocks c.hold.new.blocks c.args.self.now.history c.add_asked.new.self c.in_ok-pointer.pointer.first 0 (columns - 0 + 2) None
-          (Some (begun c.in_ok-pointer.pointer)) v.owes (entry_below c.args.self.now.geometry c.hold.new.space c.hold.new.blocks _ _ u e.entry.here) e.entry (e.was c.args.self.now.geometry v.tables)
-          refl refl
-          (let o = c.add_asked.ensures.owed.0 in let a = c.ask.ensures.owed.0 in let f = c.from-asked.ensures in omega (arith, o, a, f))
-          (c.add_asked.ensures.owed.1 ∙ c.ask.ensures.owed.1) c.add_asked.ensures.room;
+      part = refl;
+      stored = e.stored.stored;
+      leads = λ w reached is_in. begins_leads c.args.self.now c.hold.new.space c.hold.new.entries c.hold.new.history p may given e.entered w is_in;
     }
 
-pub returns-clause-event : goal.returns-clause-event
-returns-clause-event g c =
-    let t = c.requires.valid.tables in
-    let p = c.in_ok-pointer.pointer in
-    let e = c.in_ok-pointer.ensures in
-    let u : Tables c.args.self.now.geometry c.hold.new.space c.hold.new.blocks = e.tables c.args.self.now.geometry t (search rules) in
-    let stripes = ap (λ (q : Pointer). q.stripes) e.placed in
-    let lowest : IsLowest (is_free c.args.self.now.space) c.args.self.now.geometry.props.height p.stripes p.first
-    = subst (λ n. IsLowest (is_free c.args.self.now.space) c.args.self.now.geometry.props.height n p.first) (sym stripes) (rw t.height at e.takes.lowest) in
-    let less : btree_map_len c.args.self.now.blocks < 4096 = (let few = u.few in let more = e.len c.args.self.now.geometry t in omega (arith, few, more)) in
-    record {
-      stored = c.add_asked.ensures.events ∙ ap₂ (λ es event. es ++ event ∷ []) c.ask.ensures.events c.begin_event.ensures;
-      steps = λ w is_in. begins c.args.self.now _ w p refl (some_height _ c.requires.valid.part) t u lowest (due_of _ c.args.floor (ap (λ (q : Pointer). q.birth) e.placed ∙ c.max.ensures) c.requires.floor)
-          e.entry (e.was c.args.self.now.geometry t) less
-          (λ q there object seq. c.requires.unused q there (object ∙ ap (λ (x : Pointer). x.object) e.placed) (seq ∙ ap (λ (x : Pointer). x.seq) e.placed)) refl is_in;
-    }
+pub returns-in-Err-clause-valid : goal.returns-in-Err-clause-valid
+returns-in-Err-clause-valid g c =
+    let v = c.requires.valid in
+    let e = c.in-Err.ensures in
+    valid_with g.R.Rack c.args.self.now c.hold.new.space c.hold.new.entries c.hold.new.history v
+    (e.tables c.args.self.now.geometry c.args.self.now.open_group v.tables (record {
+      some = c.len.ensures.some;
+      short = c.len.ensures.short;
+      stripes = c.stripes.ensures.stripes ∙ ap₂ stripes_of c.requires.cut (sym c.len.ensures.len);
+      born = due_upto c.args.self.now.open_group c.max.result c.args.floor c.max.ensures c.requires.floor;
+      low = due_low c.args.self.now.open_group c.max.result c.args.floor c.max.ensures v.low c.requires.low;
+    }))
+    e.disabled (let count = e.same.count in let few = v.few in omega (arith, few, count))
+    (here_same c.args.self.now.entries c.hold.new.entries c.args.self.now.number v.here e.same)
+    (tickets_same c.args.self.now.entries c.hold.new.entries _ v.tickets e.same)
+    (let owed = e.kept.owed in let reserved = e.kept.reserved in let same = e.same.owed c.args.self.now.geometry.g in omega (arith, owed, reserved, same))
+
+pub returns-in-Err-clause-refused : goal.returns-in-Err-clause-refused
+returns-in-Err-clause-refused g c w is_in =
+    let v = c.requires.valid in
+    let enabled : c.args.self.now.space.disabled ≡ false = search rules in
+    let may : MayBegin c.args.self.now = record {
+      geometry_is = v.part.layout.geometry_is;
+      tables = v.tables;
+      enabled = sym v.disabled ∙ enabled;
+      few = fewer (count_of c.args.self.now.entries) (most_held c.args.self.now.version) v.few (λ same. true≢false (sym (c.is_full.ensures.count.1 same) ∙ c.if-is_full.false));
+    } in
+    let same = c.stripes.ensures.stripes ∙ ap (λ (cut : Cut). stripes_of cut (length c.args.block.now.bytes)) c.requires.cut in
+    refused_by c.args.self.now (stripes_of (cut_of c.args.self.now.geometry) (length c.args.block.now.bytes)) c.stripes.result c.block_events-asked.result c.in-Err.fault may
+    (let some = c.stripes.ensures.some in omega (arith, some, same)) same c.block_events-asked.ensures c.in-Err.ensures.refused w is_in

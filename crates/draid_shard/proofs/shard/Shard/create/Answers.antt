@@ -1,45 +1,38 @@
-use Rattle.std.proofs.Common.{rules, ◌≡◌, ◌<◌, ◌&&◌, not, ℕ, Bool, false, nat_lt, None, refl, sym, subst, arith}
-use Rattle.std.proofs.lemmas.Bool.Decides.{nat_tests}
-use Rattle.draid_spec.specs.Geometry.{metaslab_stripes}
-use Rattle.draid_metaslab.specs.Spaces.{is_free}
-use Rattle.draid_machine.specs.Created.{created}
+use Rattle.std.proofs.Common.{arith, refl, sym}
 use Rattle.draid_layouts.specs.Layout.{layout_of}
-use Rattle.draid_machine.specs.Step.{Run}
-use Rattle.draid_shard.specs.Entry.{entry_at}
-use Rattle.draid_shard.specs.Machine.{version_in}
-use Rattle.draid_shard.proofs.Events.{created_in}
-use Rattle.draid_shard.proofs.Owed.{owes_none}
+use Rattle.draid_shard.proofs.Creation.{created_slots, empty_tables, has_leaves, no_tickets, none_here, owes_none, rooms_enough}
 use Rattle.draid_shard.proofs.shard.Shard.create.Goals as goal
-
--- no stripe of a new space is taken
-all_free : (free : Bool) (x total : ℕ) → x < total → free ≡ (nat_lt x total && not false) → free ≡ false → ⊥
-all_free free x total below is none = grind (arith, nat_tests)
 
 pub returns-clause-valid : goal.returns-clause-valid
 returns-clause-valid g c = record {
   part = c.requires.part;
-  rack = c.requires.rack;
-  tables = record {
-    height = c.in-Ok.ensures.sizes.0;
-    total = c.in-Ok.ensures.sizes.1;
-    enabled = c.in-Ok.ensures.enabled;
-    count = search rules;
-    few = search rules;
-    placed = search rules;
-    apart = search rules;
-    covered = λ x below taken. absurd (all_free (is_free c.in-Ok.space x) x (metaslab_stripes c.args.geometry) below (c.in-Ok.ensures.free x) taken);
-  };
-  slots = c.in-Ok-own_slots.ensures.own;
-  owes = owes_none c.args.geometry c.new-3.result c.new-2.result (search rules) c.new-2.ensures.owed.0 c.new-2.ensures.owed.1
-      (let len = c.new-2.ensures.len in let owed = c.new-2.ensures.owed.0 in omega (arith, len, owed));
+  version = c.requires.part.layout.geometry_is.version;
+  tables = empty_tables c.args.geometry 2 c.in-Ok.space c.new-3.result c.in-Ok.ensures.sizes.0 c.in-Ok.ensures.sizes.1 c.in-Ok.ensures.held.0 c.new-3.ensures.count c.new-3.ensures.none
+      c.in-Ok.ensures.free;
+  disabled = c.in-Ok.ensures.enabled;
+  few = (let count = c.new-3.ensures.count in omega (arith, count));
+  here = none_here c.new-3.result c.args.number c.new-3.ensures.none;
+  slots = c.in-Ok-new_slots.ensures.of;
+  logs = rooms_enough c.in-Ok-new_slots.slots 2 0 c.in-Ok-new_slots.ensures.room;
+  leaves = has_leaves (g.R.Rack.shape c.args.kit.rack) c.args.geometry c.in-Ok-new_slots.slots c.requires.rack c.in-Ok-new_slots.ensures.new;
+  groups = (refl, refl);
+  low = omega arith;
+  tickets = no_tickets c.new-3.result 2 c.new-3.ensures.none;
+  owed = (let own = owes_none c.args.geometry.g c.new-3.result c.new-3.ensures.none in let none = c.new-2.ensures.none in omega (arith, own, none.0, none.1));
 }
 
-pub returns-clause-history : goal.returns-clause-history
-returns-clause-history g c =
-    let l = layout_of c.args.geometry c.args.perms c.args.number in
-    let none : (k : ℕ) → entry_at c.new-3.result k ≡ None = search rules in
-    record {
-      state = created l version_in;
-      run = subst (λ es. Run l (created l version_in) es (created l version_in)) (sym c.new-2.ensures.events) refl;
-      is_in = created_in _ none c.in-Ok-own_slots.ensures.empty;
-    }
+pub returns-clause-created : goal.returns-clause-created
+returns-clause-created g c = record {
+  held = λ key. sym (c.new-3.ensures.held key);
+  slots = created_slots (layout_of c.args.geometry c.args.perms c.args.number) c.args.geometry.spec.children c.in-Ok-new_slots.slots refl c.in-Ok-new_slots.ensures.new;
+  pass = refl;
+  last = refl;
+  open_group_is = refl;
+  closing = refl;
+  sealed = refl;
+  committed = refl;
+  version = refl;
+  asked = refl;
+  serial = refl;
+  no_loan = refl;
+}

@@ -1,31 +1,42 @@
-use Rattle.std.proofs.Common.{◌∙◌, ◌++◌, ◌∷◌, [], arith, ap, refl, sym, subst}
-use Rattle.draid_spec.specs.Geometry.{metaslab_sectors}
-use Rattle.draid_rack.specs.Rack.{HasJust}
+use Rattle.std.proofs.Common.{◌∙◌, ◌++◌, ◌∷◌, [], ap, arith, refl, subst, sym}
 use Rattle.draid_machine.specs.declared.event.Event.TheVariants.{Damage}
-use Rattle.draid_shard.proofs.Events.{damages}
-use Rattle.draid_shard.proofs.Owed.{owes_same, reserved_owed}
+use Rattle.draid_entries.specs.History.{events_of}
+use Rattle.draid_shard.specs.Fits.{HasLeaves}
+use Rattle.draid_shard.proofs.Damaging.{damage_acts, damage_step, same_in, sector_there}
 use Rattle.draid_shard.proofs.shard.Shard.damage.Goals as goal
 
-pub add_reserved-requires : goal.add_reserved-requires
-add_reserved-requires g c =
-    let v = c.requires.valid in
-    record { some = c.requires.reserved; owed = reserved_owed c.args.self.now.geometry c.args.self.now.blocks c.args.self.now.history v.owes; room = v.owes.room }
+pub damage-done-requires : goal.damage-done-requires
+damage-done-requires g c = record { place = sector_there _ c.args.self.now.slots c.args.leaf c.args.sector _ (c.requires.valid.leaves.leaves c.args.leaf c.requires.leaf) c.requires.sector }
 
 pub returns-clause-valid : goal.returns-clause-valid
 returns-clause-valid g c =
     let v = c.requires.valid in
     record {
       part = v.part;
-      rack = subst (λ shape. HasJust shape c.args.self.now.geometry.spec.children (metaslab_sectors c.args.self.now.geometry) c.args.self.now.geometry.props.sector)
-          (sym c.damage-done.ensures.shape) v.rack;
+      version = v.version;
       tables = v.tables;
+      disabled = v.disabled;
+      few = v.few;
+      here = v.here;
       slots = v.slots;
-      owes = owes_same c.args.self.now.geometry c.args.self.now.blocks c.args.self.now.blocks c.args.self.now.history c.add_reserved.new.self v.owes (λ k. refl)
-          (let o = c.add_reserved.ensures.owed.0 in let r = c.add_reserved.ensures.owed.1 in omega (arith, o, r)) c.add_reserved.ensures.room;
+      logs = v.logs;
+      leaves = subst (λ shape. HasLeaves shape c.args.self.now.geometry c.args.self.now.slots) (sym c.damage-done.ensures.shape) v.leaves;
+      groups = v.groups;
+      low = v.low;
+      tickets = v.tickets;
+      owed = (let was = v.owed in let o = c.add_reserved.ensures.owed in let r = c.add_reserved.ensures.reserved in omega (arith, was, o, r));
     }
 
 pub returns-clause-event : goal.returns-clause-event
 returns-clause-event g c = record {
-  stored = c.add_reserved.ensures.events ∙ ap (λ failed. c.args.self.now.history.events.items ++ Damage c.args.leaf c.args.sector failed ∷ []) c.is_err-failed.ensures.value;
-  steps = λ w is_in. damages c.args.self.now _ w c.args.leaf c.args.sector refl refl c.requires.leaf c.requires.sector refl is_in;
+  part = refl;
+  stored = c.add_reserved.ensures.stored ∙ ap (λ failed. events_of c.args.self.now.history ++ Damage c.args.leaf c.args.sector failed ∷ []) c.is_err-failed.ensures.value;
+  leads = λ w reached is. record {
+    state = w;
+    step = damage_step c.args.self.now w c.args.leaf c.args.sector is c.requires.leaf c.requires.sector;
+    is_in = same_in c.args.self.now _ _ w is;
+  };
 }
+
+pub returns-clause-acts : goal.returns-clause-acts
+returns-clause-acts g c = λ pieces w after step reached is. damage_acts c.args.leaf c.args.sector c.damage-done.result _ _ c.damage-done.ensures.ok c.damage-done.ensures.err

@@ -1,66 +1,70 @@
-use Rattle.std.proofs.Common.{◌∙◌, ◌++◌, ◌∷◌, [], Some, None, arith, ap, refl}
+use Rattle.std.proofs.Common.{◌∙◌, ◌++◌, ◌∷◌, [], None, Some, arith, ap, refl}
 use Rattle.draid_machine.specs.declared.event.Event.TheVariants.{Finish}
 use Rattle.draid_machine.specs.declared.names.Stage.TheVariants.{Writing, Live}
-use Rattle.draid_shard.specs.Entry.{staged}
-use Rattle.draid_shard.proofs.Events.{finishes, misses}
-use Rattle.draid_shard.proofs.Owed.{all_put, entry_below, owed_least, owes_set}
+use Rattle.draid_entries.specs.Maps.{staged}
+use Rattle.draid_shard.proofs.Held.{here_gone, here_turned, tickets_gone, tickets_block}
 use Rattle.draid_shard.proofs.Tables.{turned_tables}
+use Rattle.draid_shard.proofs.Turns.{all_put, finishes, fitting, misses, owed_turns, valid_with}
 use Rattle.draid_shard.proofs.shard.Shard.finish.Goals as goal
 
-pub add-requires : goal.add-requires
-add-requires g c =
-    let v = c.requires.valid in
-    let below = entry_below c.args.self.now.geometry c.args.self.now.space c.args.self.now.blocks _ _ v.tables c.requires.is_open in
-    record {
-      some = omega arith;
-      owed = owed_least c.args.self.now.geometry c.args.self.now.blocks c.args.self.now.history _ 2 _ v.owes below c.requires.is_open (all_put c.args.self.now.geometry.g c.args.ticket c.requires.all);
-      room = v.owes.room;
-    }
+pub release-requires-clause-tables : goal.release-requires-clause-tables
+release-requires-clause-tables g c = fitting g.R.Rack c.args.self.now c.requires.valid
 
-pub add-requires-2 : goal.add-requires-2
-add-requires-2 g c =
-    let v = c.requires.valid in
-    let below = entry_below c.args.self.now.geometry c.args.self.now.space c.args.self.now.blocks _ _ v.tables c.requires.is_open in
-    let two = owed_least c.args.self.now.geometry c.args.self.now.blocks c.args.self.now.history _ 2 _ v.owes below c.requires.is_open (all_put c.args.self.now.geometry.g c.args.ticket c.requires.all) in
-    record { some = omega arith; owed = omega (arith, two); room = v.owes.room }
+pub add-requires-clause-owed : goal.add-requires-clause-owed
+add-requires-clause-owed g c =
+    let turns = owed_turns c.args.self.now.geometry.g c.args.self.now.entries c.release.new.entries c.args.ticket.pointer None
+    (staged (Writing c.args.ticket.next c.args.ticket.missed) c.args.ticket.pointer) 2 0 c.release.ensures.gone c.requires.is_open
+    (all_put c.args.self.now.geometry.g c.args.ticket c.requires.all) refl in
+    let all = c.requires.valid.owed in
+    omega (arith, turns, all)
+
+pub add-requires-2-clause-owed : goal.add-requires-2-clause-owed
+add-requires-2-clause-owed g c =
+    let turns = owed_turns c.args.self.now.geometry.g c.args.self.now.entries c.turn.new.self c.args.ticket.pointer (Some (staged Live c.args.ticket.pointer))
+    (staged (Writing c.args.ticket.next c.args.ticket.missed) c.args.ticket.pointer) 2 1 c.turn.ensures.entered c.requires.is_open
+    (all_put c.args.self.now.geometry.g c.args.ticket c.requires.all) refl in
+    let all = c.requires.valid.owed in
+    omega (arith, turns, all)
 
 pub returns-then-ticket-self-clause-valid : goal.returns-then-ticket-self-clause-valid
 returns-then-ticket-self-clause-valid g c =
     let v = c.requires.valid in
-    record {
-      part = v.part;
-      rack = v.rack;
-      tables = c.release.ensures.tables c.args.self.now.geometry v.tables;
-      slots = v.slots;
-      owes = owes_set c.args.self.now.geometry c.args.self.now.blocks c.release.new.blocks c.args.self.now.history c.add.new.self c.args.ticket.pointer.first 2 0 _ None v.owes
-          (entry_below c.args.self.now.geometry c.args.self.now.space c.args.self.now.blocks _ _ v.tables c.requires.is_open) c.release.ensures.entry c.requires.is_open
-          (all_put c.args.self.now.geometry.g c.args.ticket c.requires.all) refl (let o = c.add.ensures.owed.0 in omega (arith, o)) c.add.ensures.owed.1 c.add.ensures.room;
-    }
+    let turns = owed_turns c.args.self.now.geometry.g c.args.self.now.entries c.release.new.entries c.args.ticket.pointer None
+    (staged (Writing c.args.ticket.next c.args.ticket.missed) c.args.ticket.pointer) 2 0 c.release.ensures.gone c.requires.is_open
+    (all_put c.args.self.now.geometry.g c.args.ticket c.requires.all) refl in
+    valid_with g.R.Rack c.args.self.now c.release.new.space c.release.new.entries c.add.new.self v
+    (c.release.ensures.tables c.args.self.now.geometry c.args.self.now.open_group v.tables) c.release.ensures.disabled
+    (let few = v.few in let count = c.release.ensures.count in omega (arith, few, count))
+    (here_gone c.args.self.now.entries c.release.new.entries c.args.ticket.pointer c.args.self.now.number c.release.ensures.gone v.here)
+    (tickets_gone c.args.self.now.entries c.release.new.entries c.args.ticket.pointer _ v.tickets c.release.ensures.gone)
+    (let owed = c.add.ensures.owed in let reserved = c.add.ensures.reserved in omega (arith, turns, owed, reserved))
 
 pub returns-clause-valid : goal.returns-clause-valid
 returns-clause-valid g c =
     let v = c.requires.valid in
-    record {
-      part = v.part;
-      rack = v.rack;
-      tables = turned_tables c.args.self.now.geometry c.args.self.now.space c.args.self.now.blocks c.turn.new.blocks c.args.ticket.pointer (Writing c.args.ticket.next c.args.ticket.missed) Live
-          v.tables c.requires.is_open c.turn.ensures.entry c.turn.ensures.len;
-      slots = v.slots;
-      owes = owes_set c.args.self.now.geometry c.args.self.now.blocks c.turn.new.blocks c.args.self.now.history c.add-2.new.self c.args.ticket.pointer.first 2 1 _ (Some (staged Live c.args.ticket.pointer)) v.owes
-          (entry_below c.args.self.now.geometry c.args.self.now.space c.args.self.now.blocks _ _ v.tables c.requires.is_open) c.turn.ensures.entry c.requires.is_open
-          (all_put c.args.self.now.geometry.g c.args.ticket c.requires.all) refl (let o = c.add-2.ensures.owed.0 in omega (arith, o)) c.add-2.ensures.owed.1 c.add-2.ensures.room;
-    }
+    let turns = owed_turns c.args.self.now.geometry.g c.args.self.now.entries c.turn.new.self c.args.ticket.pointer (Some (staged Live c.args.ticket.pointer))
+    (staged (Writing c.args.ticket.next c.args.ticket.missed) c.args.ticket.pointer) 2 1 c.turn.ensures.entered c.requires.is_open
+    (all_put c.args.self.now.geometry.g c.args.ticket c.requires.all) refl in
+    valid_with g.R.Rack c.args.self.now c.args.self.now.space c.turn.new.self c.add-2.new.self v
+    (turned_tables c.args.self.now.geometry c.args.self.now.open_group c.args.self.now.space c.args.self.now.entries c.turn.new.self c.args.ticket.pointer
+    (Writing c.args.ticket.next c.args.ticket.missed) Live v.tables c.requires.is_open c.turn.ensures.entered c.turn.ensures.count)
+    refl (let few = v.few in let count = c.turn.ensures.count in omega (arith, few, count))
+    (here_turned c.args.self.now.entries c.turn.new.self c.args.ticket.pointer (Writing c.args.ticket.next c.args.ticket.missed) Live c.args.self.now.number c.requires.is_open c.turn.ensures.entered v.here)
+    (tickets_block c.args.self.now.entries c.turn.new.self c.args.ticket.pointer Live _ refl v.tickets c.turn.ensures.entered)
+    (let owed = c.add-2.ensures.owed in let reserved = c.add-2.ensures.reserved in omega (arith, turns, owed, reserved))
 
 pub returns-clause-event : goal.returns-clause-event
 returns-clause-event g c = record {
-  stored = c.add-2.ensures.events ∙ ap (λ key. c.args.self.now.history.events.items ++ Finish key ∷ []) c.key_of.ensures;
-  steps = λ w is_in. finishes c.args.self.now _ w c.args.ticket refl c.requires.valid.tables c.requires.is_open c.requires.all (let few = c.if-ticket-self.false in omega (arith, few))
-      c.turn.ensures.entry refl is_in;
+  part = refl;
+  stored = c.add-2.ensures.stored ∙ ap (λ key. c.args.self.now.history.events.items ++ Finish key ∷ []) c.key_of.ensures;
+  leads = λ w reached is_in. finishes c.args.self.now c.args.self.now.space c.turn.new.self c.add-2.new.self c.args.ticket c.requires.is_open c.requires.all
+      (let few = c.if-ticket-self.false in omega (arith, few)) c.turn.ensures.entered w is_in;
 }
 
 pub returns-then-ticket-self-clause-event : goal.returns-then-ticket-self-clause-event
 returns-then-ticket-self-clause-event g c = record {
-  stored = c.add.ensures.events ∙ ap (λ key. c.args.self.now.history.events.items ++ Finish key ∷ []) c.key_of.ensures;
-  steps = λ w is_in. misses c.args.self.now _ w c.args.ticket refl c.requires.valid.tables c.requires.is_open c.requires.all (let many = c.if-ticket-self.true in omega (arith, many))
-      c.release.ensures.entry refl is_in;
+  part = refl;
+  stored = c.add.ensures.stored ∙ ap (λ key. c.args.self.now.history.events.items ++ Finish key ∷ []) c.key_of.ensures;
+  leads = λ w reached is_in. misses c.args.self.now c.release.new.space c.release.new.entries c.add.new.self c.args.ticket c.requires.is_open c.requires.all
+      (let many = c.if-ticket-self.true in omega (arith, many)) c.release.ensures.gone w is_in;
 }

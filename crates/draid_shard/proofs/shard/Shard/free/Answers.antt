@@ -1,44 +1,43 @@
 use Rattle.std.proofs.Common.{◌∙◌, ◌++◌, ◌∷◌, [], Some, arith, ap, refl}
 use Rattle.draid_machine.specs.declared.event.Event.TheVariants.{Free}
 use Rattle.draid_machine.specs.declared.names.Stage.TheVariants.{Live, Freed}
-use Rattle.draid_shard.specs.Entry.{staged}
-use Rattle.draid_shard.proofs.Events.{due_of, frees}
-use Rattle.draid_shard.proofs.Owed.{entry_below, owed_least, owes_set}
+use Rattle.draid_entries.specs.Maps.{staged}
+use Rattle.draid_shard.proofs.Begins.{due_from, due_upto}
+use Rattle.draid_shard.proofs.Held.{here_turned, tickets_block}
 use Rattle.draid_shard.proofs.Tables.{turned_tables}
+use Rattle.draid_shard.proofs.Turns.{frees, owed_turns, valid_with}
 use Rattle.draid_shard.proofs.shard.Shard.free.Goals as goal
 
-pub add-requires : goal.add-requires
-add-requires g c =
-    let v = c.requires.valid in
+pub add-requires-clause-owed : goal.add-requires-clause-owed
+add-requires-clause-owed g c =
     let is_live = c.is_live.ensures.0 c.if-not-is_live.false in
-    let below = entry_below c.args.self.now.geometry c.args.self.now.space c.args.self.now.blocks _ _ v.tables is_live in
-    record {
-      some = omega arith;
-      owed = owed_least c.args.self.now.geometry c.args.self.now.blocks c.args.self.now.history _ 1 _ v.owes below is_live refl;
-      room = v.owes.room;
-    }
+    let turns = owed_turns c.args.self.now.geometry.g c.args.self.now.entries c.turn.new.self c.args.pointer.now _ (staged Live c.args.pointer.now) 1 0 c.turn.ensures.entered is_live refl refl in
+    let all = c.requires.valid.owed in
+    omega (arith, turns, all)
 
 pub returns-clause-valid : goal.returns-clause-valid
 returns-clause-valid g c =
     let v = c.requires.valid in
     let is_live = c.is_live.ensures.0 c.if-not-is_live.false in
-    record {
-      part = v.part;
-      rack = v.rack;
-      tables = turned_tables c.args.self.now.geometry c.args.self.now.space c.args.self.now.blocks c.turn.new.blocks c.args.pointer.now Live _ v.tables is_live
-          c.turn.ensures.entry c.turn.ensures.len;
-      slots = v.slots;
-      owes = owes_set c.args.self.now.geometry c.args.self.now.blocks c.turn.new.blocks c.args.self.now.history c.add.new.self c.args.pointer.now.first 1 0 _
-          (Some (staged (Freed c.max-group.result) c.args.pointer.now)) v.owes
-          (entry_below c.args.self.now.geometry c.args.self.now.space c.args.self.now.blocks _ _ v.tables is_live) c.turn.ensures.entry is_live
-          refl refl (let o = c.add.ensures.owed.0 in omega (arith, o)) c.add.ensures.owed.1 c.add.ensures.room;
-    }
+    let entry = staged (Freed c.max-group.result) c.args.pointer.now in
+    let turns = owed_turns c.args.self.now.geometry.g c.args.self.now.entries c.turn.new.self c.args.pointer.now (Some entry) (staged Live c.args.pointer.now) 1 0 c.turn.ensures.entered is_live refl refl in
+    valid_with g.R.Rack c.args.self.now c.args.self.now.space c.turn.new.self c.add.new.self v
+    (turned_tables c.args.self.now.geometry c.args.self.now.open_group c.args.self.now.space c.args.self.now.entries c.turn.new.self c.args.pointer.now Live (Freed c.max-group.result)
+    v.tables is_live c.turn.ensures.entered c.turn.ensures.count)
+    refl (let few = v.few in let count = c.turn.ensures.count in omega (arith, few, count))
+    (here_turned c.args.self.now.entries c.turn.new.self c.args.pointer.now Live (Freed c.max-group.result) c.args.self.now.number is_live c.turn.ensures.entered v.here)
+    (tickets_block c.args.self.now.entries c.turn.new.self c.args.pointer.now (Freed c.max-group.result) _ refl v.tickets c.turn.ensures.entered)
+    (let owed = c.add.ensures.owed in let reserved = c.add.ensures.reserved in omega (arith, turns, owed, reserved))
 
 pub returns-clause-event : goal.returns-clause-event
 returns-clause-event g c =
-    let is_live = c.is_live.ensures.0 c.if-not-is_live.false in
-    record {
-      stored = c.add.ensures.events ∙ ap (λ key. c.args.self.now.history.events.items ++ Free key c.max-group.result ∷ []) c.key_of.ensures;
-      steps = λ w is_in.
-          frees c.args.self.now _ w c.args.pointer.now _ refl c.requires.valid.tables is_live (due_of _ c.args.floor c.max-group.ensures c.requires.floor) c.turn.ensures.entry refl is_in;
-    }
+    let is_live = c.is_live.ensures.0 c.if-not-is_live.false in (
+      c.max-group.ensures,
+      record {
+        part = refl;
+        stored = c.add.ensures.stored ∙ ap (λ key. c.args.self.now.history.events.items ++ Free key c.max-group.result ∷ []) c.key_of.ensures;
+        leads = λ w reached is_in. frees c.args.self.now c.args.self.now.space c.turn.new.self c.add.new.self c.args.pointer.now c.max-group.result is_live
+            (due_from c.args.self.now.open_group c.max-group.result c.args.floor c.max-group.ensures)
+            (due_upto c.args.self.now.open_group c.max-group.result c.args.floor c.max-group.ensures c.requires.floor) c.turn.ensures.entered w is_in;
+      },
+    )

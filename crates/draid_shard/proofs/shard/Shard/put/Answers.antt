@@ -1,143 +1,146 @@
-use Rattle.std.proofs.Common.{◌≡◌, ◌+◌, ◌-◌, ◌∙◌, ◌++◌, ◌∷◌, [], arith, ap₂, Some, ap, refl, subst}
+use Rattle.std.proofs.Common.{◌≡◌, ◌+◌, ◌<◌, ◌^◌, ◌∙◌, ◌++◌, ◌∷◌, [], arith, Some, ap, refl, subst, sym}
 use Rattle.draid_names.specs.declared.pointer.Pointer.{Pointer}
-use Rattle.draid_map.specs.declared.sectors.Place.{Place}
 use Rattle.draid_machine.specs.declared.event.Event.TheVariants.{Put}
-use Rattle.draid_machine.specs.declared.names.ArmName.TheVariants.{Leaf}
 use Rattle.draid_machine.specs.declared.names.Stage.TheVariants.{Writing}
-use Rattle.draid_shard.specs.declared.history.History.{History}
-use Rattle.draid_shard.specs.Machine.{key_of}
-use Rattle.draid_shard.specs.MetaslabLayout.{MetaslabLayout, leaf_of}
-use Rattle.draid_shard.specs.Shard.{part_of}
+use Rattle.draid_entries.specs.Entries.{IsEntered, SetsEntry}
+use Rattle.draid_entries.specs.Maps.{key_of, staged}
+use Rattle.draid_shard.specs.Fits.{oldest_open}
+use Rattle.draid_shard.specs.Rows.{HasRoomFor}
+use Rattle.draid_shard.specs.States.{part_of}
 use Rattle.draid_shard.specs.declared.ticket.Ticket.{Ticket}
-use Rattle.draid_shard.specs.Entry.{SetsEntry, opened, staged}
-use Rattle.draid_shard.proofs.Landing.{Counted, IsPutOf, on_err_map, on_err_none, on_err_of, on_ok_map, on_ok_none, on_ok_of, put_carries, put_ended, put_event, put_harm, put_kept, put_others, put_there, still_entered}
-use Rattle.draid_shard.proofs.Owed.{entry_below, owed_least, owes_set}
-use Rattle.draid_shard.proofs.Stand.{first_there}
-use Rattle.draid_shard.proofs.Tables.{entry_run, turned_tables}
+use Rattle.draid_shard.proofs.Fitted.{born_from, born_low, fits_rows}
+use Rattle.draid_shard.proofs.Homes.{geometry_is}
+use Rattle.draid_shard.proofs.PutKept.{owes_one, put_valid}
+use Rattle.draid_shard.proofs.Puts.{IsAfter, counted, missed_none, missed_one, nowhere, put_acted, put_carries, put_leads, same_pointer}
+use Rattle.draid_shard.proofs.Staging.{column_long, room_for}
 use Rattle.draid_shard.proofs.shard.Shard.put.Given as given
 use Rattle.draid_shard.proofs.shard.Shard.put.Goals as goal
-use Rattle.draid_shard.proofs.shard.Shard.put.Goals.{then-is_err, else-is_err}
+use Rattle.draid_shard.proofs.shard.Shard.put.Goals.{then-is_empty, else-is_empty}
 
-pub place_within-place-requires-clause-stripe : goal.place_within-place-requires-clause-stripe
-place_within-place-requires-clause-stripe g c =
-    first_there c.args.self.now.geometry _ c.args.ticket.now.pointer.stripes
-    (entry_run c.args.self.now.geometry c.args.self.now.space c.args.self.now.blocks _ _ c.requires.valid.tables c.requires.carries.is_open)
+pub rows_of-rows-requires-clause-part : goal.rows_of-rows-requires-clause-part
+rows_of-rows-requires-clause-part g c = c.requires.valid.part
+
+pub rows_of-rows-requires-clause-run : goal.rows_of-rows-requires-clause-run
+rows_of-rows-requires-clause-run g c = let t = c.requires.valid.tables in (t.placed c.args.ticket.now.pointer.first _ c.requires.carries.is_open).run
+
+pub column-column-requires : goal.column-column-requires
+column-column-requires g c =
+    let cut = c.requires.carries.cut in
+    let columns = (geometry_is (part_of c.args.self.now) c.requires.valid.part).columns in
+    let left = c.requires.left in
+    subst (λ cut. c.args.ticket.now.next < cut.parity + cut.ndata) (sym cut) (omega (arith, columns, left))
+
+pub land-landed-requires-clause-fits : goal.land-landed-requires-clause-fits
+land-landed-requires-clause-fits g c =
+    let v = c.requires.valid in
+    fits_rows (part_of c.args.self.now) v.part c.args.self.now.slots v.slots _ c.args.ticket.now.pointer (v.tables.placed c.args.ticket.now.pointer.first _ c.requires.carries.is_open).run
+    c.args.ticket.now.next c.requires.left c.rows_of-rows.result c.rows_of-rows.ensures v.leaves
+
+pub land-landed-requires-clause-long : goal.land-landed-requires-clause-long
+land-landed-requires-clause-long g c =
+    let block = (c.requires.valid.tables.placed c.args.ticket.now.pointer.first _ c.requires.carries.is_open).is_block in
+    column_long c.args.self.now.geometry _ c.args.ticket.now.pointer _ _ _ _ c.requires.carries.cut block.stripes c.requires.carries.content.len c.rows_of-rows.ensures.count_is c.rows_of-rows.ensures.size_is c.column-column.ensures.len
+
+pub land-landed-requires-clause-birth : goal.land-landed-requires-clause-birth
+land-landed-requires-clause-birth g c =
+    let v = c.requires.valid in
+    let block = (v.tables.placed c.args.ticket.now.pointer.first _ c.requires.carries.is_open).is_block in
+    subst (λ birth. birth < 2 ^ 48) (sym c.rows_of-rows.ensures.birth_is) (born_low c.args.ticket.now.pointer.birth block.low)
+
+pub land-landed-requires-clause-room : goal.land-landed-requires-clause-room
+land-landed-requires-clause-room g c =
+    let v = c.requires.valid in
+    subst (HasRoomFor c.args.self.now.slots) (sym c.rows_of-rows.ensures.birth_is) (room_for c.args.self.now.slots (oldest_open c.args.self.now.open_group c.args.self.now.closing) c.args.ticket.now.pointer.birth
+    (v.tickets c.args.ticket.now.pointer.first _ c.args.ticket.now.next c.args.ticket.now.missed c.requires.carries.is_open refl)
+    (born_from c.args.self.now.open_group c.args.self.now.committed c.args.ticket.now.pointer.birth c.args.self.now.closing c.args.self.now.sealed v.groups
+    (v.tables.placed c.args.ticket.now.pointer.first _ c.requires.carries.is_open).is_block.born) v.logs)
 
 pub turn-requires : goal.turn-requires
 turn-requires g c =
-    let pointer : c.if-is_err.ticket.pointer ≡ c.args.ticket.now.pointer = elim c.if-is_err.branch [
-      | then-is_err w ↦ ap (λ (t : Ticket). t.pointer) w.ticket-is
-      | else-is_err w ↦ ap (λ (t : Ticket). t.pointer) w.ticket-is
+    let pointer : c.if-is_empty.ticket.pointer ≡ c.args.ticket.now.pointer = elim c.if-is_empty.branch [
+      | then-is_empty w ↦ ap (λ (t : Ticket). t.pointer) w.ticket-is
+      | else-is_empty w ↦ ap (λ (t : Ticket). t.pointer) w.ticket-is
     ] in
     record {
-      there = (
-        Writing c.args.ticket.now.next c.args.ticket.now.missed,
-        put_there c.args.self.now.blocks c.land-landed.new.self.blocks c.args.ticket.now c.if-is_err.ticket.pointer c.land-landed.ensures.blocks c.requires.carries.is_open pointer,
-      );
+      there = subst (λ (p : Pointer). IsEntered c.args.self.now.entries p) (sym pointer)
+          (record { stage = Writing c.args.ticket.now.next c.args.ticket.now.missed; there = c.requires.carries.is_open });
     }
 
--- what was done
-done : (g : given.Over) (c : goal.After-add g) → IsPutOf g.R.Rack.told g.R.Rack.faults c.args.self.now (record c.land-landed.new.self { blocks = c.turn.new.blocks; history = c.add.new.self }) c.args.ticket.now
-    (record c.if-is_err.ticket { next = c.if-is_err.ticket.next + 1 }) c.args.block.now c.land-landed.result
-done g c = record {
-  part = c.land-landed.ensures.part;
-  is = c.requires.valid.part;
-  tables = c.requires.valid.tables;
-  carries = c.requires.carries;
-  left = c.requires.left;
-  writes = c.land-landed.ensures.told;
-  landed = c.land-landed.ensures.landed;
-  missed = c.land-landed.ensures.missed;
-  cause = c.land-landed.ensures.cause;
-  counted = counted;
-  sets = sets;
-} where
-  counted : Counted c.land-landed.result c.args.ticket.now (record c.if-is_err.ticket { next = c.if-is_err.ticket.next + 1 })
-  counted = elim c.if-is_err.branch [
-    | then-is_err w ↦ record {
-      pointer = ap (λ (t : Ticket). t.pointer) w.ticket-is;
-      next = ap (λ (t : Ticket). t.next + 1) w.ticket-is;
-      landed = on_ok_none c.land-landed.result _ w.if-is_err.ensures.negation;
-      missed = on_err_of c.land-landed.result _ (ap (λ (t : Ticket). t.missed) w.ticket-is);
-    }
-    | else-is_err w ↦ record {
-      pointer = ap (λ (t : Ticket). t.pointer) w.ticket-is;
-      next = ap (λ (t : Ticket). t.next + 1) w.ticket-is;
-      landed = on_ok_of c.land-landed.result _ (ap (λ (t : Ticket). t.missed) w.ticket-is);
-      missed = on_err_none c.land-landed.result _ w.if-is_err.ensures.negation;
-    }
-  ]
-
-  sets : SetsEntry c.args.self.now.blocks c.turn.new.blocks c.args.ticket.now.pointer.first (Some (opened (record c.if-is_err.ticket { next = c.if-is_err.ticket.next + 1 })))
-  sets = subst (λ (p : Pointer). SetsEntry c.args.self.now.blocks c.turn.new.blocks p.first (Some (opened (record c.if-is_err.ticket { next = c.if-is_err.ticket.next + 1 })))) counted.pointer
-      (subst (λ blocks. SetsEntry blocks c.turn.new.blocks c.if-is_err.ticket.pointer.first (Some (opened (record c.if-is_err.ticket { next = c.if-is_err.ticket.next + 1 })))) c.land-landed.ensures.blocks c.turn.ensures.entry)
-
-pub add-requires : goal.add-requires
-add-requires g c =
-    let pointer : c.if-is_err.ticket.pointer ≡ c.args.ticket.now.pointer = elim c.if-is_err.branch [
-      | then-is_err w ↦ ap (λ (t : Ticket). t.pointer) w.ticket-is
-      | else-is_err w ↦ ap (λ (t : Ticket). t.pointer) w.ticket-is
+pub add-requires-clause-owed : goal.add-requires-clause-owed
+add-requires-clause-owed g c =
+    let pointer : c.if-is_empty.ticket.pointer ≡ c.args.ticket.now.pointer = elim c.if-is_empty.branch [
+      | then-is_empty w ↦ ap (λ (t : Ticket). t.pointer) w.ticket-is
+      | else-is_empty w ↦ ap (λ (t : Ticket). t.pointer) w.ticket-is
     ] in
-    let v = c.land-landed.ensures.valid in
-    let there = put_there c.args.self.now.blocks c.land-landed.new.self.blocks c.args.ticket.now c.if-is_err.ticket.pointer c.land-landed.ensures.blocks c.requires.carries.is_open pointer in
-    let all = owed_least c.land-landed.new.self.geometry c.land-landed.new.self.blocks c.land-landed.new.self.history _ (c.land-landed.new.self.geometry.g - c.args.ticket.now.next + 2) _ v.owes
-    (entry_below c.land-landed.new.self.geometry c.land-landed.new.self.space c.land-landed.new.self.blocks _ _ v.tables there) there refl in
-    record { some = omega arith; owed = omega (arith, all); room = v.owes.room }
+    let next : c.if-is_empty.ticket.next + 1 ≡ c.args.ticket.now.next + 1 = elim c.if-is_empty.branch [
+      | then-is_empty w ↦ ap (λ (t : Ticket). t.next + 1) w.ticket-is
+      | else-is_empty w ↦ ap (λ (t : Ticket). t.next + 1) w.ticket-is
+    ] in
+    owes_one g.R.Rack c.args.self.now c.requires.valid c.args.ticket.now.pointer c.args.ticket.now.next c.args.ticket.now.missed (c.if-is_empty.ticket.next + 1) c.if-is_empty.ticket.missed
+    c.requires.carries.is_open c.requires.left next c.turn.new.self
+    (same_pointer c.args.self.now.entries c.turn.new.self c.if-is_empty.ticket.pointer c.args.ticket.now.pointer (Writing (c.if-is_empty.ticket.next + 1) c.if-is_empty.ticket.missed) pointer c.turn.ensures.entered)
+    c.args.self.now.history refl
+
+-- the ticket afterwards
+abbrev ticket : (g : given.Over) (c : goal.After-add g) → Ticket
+ticket g c = record c.if-is_empty.ticket { next = c.if-is_empty.ticket.next + 1 }
+
+after : (g : given.Over) (c : goal.After-add g) → IsAfter c.land-landed.result.landed c.args.ticket.now (ticket g c)
+after g c =
+    let nil = nowhere c.land-landed.result.landed c.as_slice.result.now c.is_empty.result c.as_slice.ensures c.is_empty.ensures in
+    elim c.if-is_empty.branch [
+      | then-is_empty w ↦ record {
+        pointer_is = ap (λ (t : Ticket). t.pointer) w.ticket-is;
+        counts = record {
+          next_is = ap (λ (t : Ticket). t.next + 1) w.ticket-is;
+          missed_is = missed_one c.land-landed.result.landed c.args.ticket.now.missed c.if-is_empty.ticket.missed (nil ∙ w.if-is_empty.true) (ap (λ (t : Ticket). t.missed) w.ticket-is);
+        };
+      }
+      | else-is_empty w ↦ record {
+        pointer_is = ap (λ (t : Ticket). t.pointer) w.ticket-is;
+        counts = record {
+          next_is = ap (λ (t : Ticket). t.next + 1) w.ticket-is;
+          missed_is = missed_none c.land-landed.result.landed c.args.ticket.now.missed c.if-is_empty.ticket.missed (nil ∙ w.if-is_empty.false) (ap (λ (t : Ticket). t.missed) w.ticket-is);
+        };
+      }
+    ]
+
+sets : (g : given.Over) (c : goal.After-add g)
+    → SetsEntry c.args.self.now.entries c.turn.new.self c.args.ticket.now.pointer (Some (staged (Writing (c.if-is_empty.ticket.next + 1) c.if-is_empty.ticket.missed) c.args.ticket.now.pointer))
+sets g c = same_pointer c.args.self.now.entries c.turn.new.self c.if-is_empty.ticket.pointer c.args.ticket.now.pointer (Writing (c.if-is_empty.ticket.next + 1) c.if-is_empty.ticket.missed)
+    (after g c).pointer_is c.turn.ensures.entered
 
 pub returns-clause-valid : goal.returns-clause-valid
 returns-clause-valid g c =
-    let d = done g c in
-    let v = c.land-landed.ensures.valid in
-    let there = put_there c.args.self.now.blocks c.land-landed.new.self.blocks c.args.ticket.now c.if-is_err.ticket.pointer c.land-landed.ensures.blocks c.requires.carries.is_open d.counted.pointer in
-    let columns = c.land-landed.new.self.geometry.g in
-    record {
-      part = v.part;
-      rack = v.rack;
-      tables = turned_tables c.land-landed.new.self.geometry c.land-landed.new.self.space c.land-landed.new.self.blocks c.turn.new.blocks c.if-is_err.ticket.pointer
-          (Writing c.args.ticket.now.next c.args.ticket.now.missed) (Writing (c.if-is_err.ticket.next + 1) c.if-is_err.ticket.missed) v.tables there c.turn.ensures.entry c.turn.ensures.len;
-      slots = v.slots;
-      owes = owes_set c.land-landed.new.self.geometry c.land-landed.new.self.blocks c.turn.new.blocks c.land-landed.new.self.history c.add.new.self c.if-is_err.ticket.pointer.first
-          (columns - c.args.ticket.now.next + 2) (columns - (c.if-is_err.ticket.next + 1) + 2) _ (Some (staged (Writing (c.if-is_err.ticket.next + 1) c.if-is_err.ticket.missed) c.if-is_err.ticket.pointer)) v.owes
-          (entry_below c.land-landed.new.self.geometry c.land-landed.new.self.space c.land-landed.new.self.blocks _ _ v.tables there) c.turn.ensures.entry there refl refl
-          (let o = c.add.ensures.owed.0 in
-          let next = d.counted.next in
-          let left = c.requires.left in
-          let same = ap (λ (part : MetaslabLayout). part.geometry.g) c.land-landed.ensures.part in
-          omega (arith, o, next, left, same)) c.add.ensures.owed.1 c.add.ensures.room;
-    }
+    put_valid g.R.Rack c.args.self.now c.requires.valid c.args.ticket.now.pointer c.args.ticket.now.next c.args.ticket.now.missed (c.if-is_empty.ticket.next + 1) c.if-is_empty.ticket.missed
+    c.requires.carries.is_open c.requires.left (after g c).counts.next_is c.turn.new.self (sets g c)
+    c.land-landed.new.rack c.land-landed.new.slots c.add.new.self c.rows_of-rows.result.birth c.rows_of-rows.ensures.birth_is c.land-landed.ensures.lands.logs c.land-landed.ensures.shape
+    c.turn.ensures.count c.add.ensures.owed c.add.ensures.reserved
 
 pub returns-clause-carries : goal.returns-clause-carries
-returns-clause-carries g c = put_carries g.R.Rack.told g.R.Rack.faults c.args.self.now _ c.args.ticket.now _ c.args.block.now c.land-landed.result (done g c)
+returns-clause-carries g c =
+    put_carries c.args.self.now _ c.args.ticket.now (ticket g c) c.args.block.now c.land-landed.result.landed c.requires.carries c.requires.left refl (after g c) (sets g c)
 
-pub returns-clause-ended : goal.returns-clause-ended
-returns-clause-ended g c = put_ended g.R.Rack.told g.R.Rack.faults c.args.self.now _ c.args.ticket.now _ c.args.block.now c.land-landed.result (done g c)
-
-pub returns-clause-event : goal.returns-clause-event
-returns-clause-event g c =
-    let d = done g c in
-    let old = c.args.self.now in
-    let before = c.args.ticket.now in
-    let leaf : c.place_within-place.result.child ≡ leaf_of (part_of c.args.self.now) c.args.ticket.now.pointer.first c.args.ticket.now.next = ap (λ (p : Place). p.child) c.place_within-place.ensures in
-    let earlier = ap (λ (h : History). h.events.items) c.land-landed.ensures.history in
-    put_event g.R.Rack.told g.R.Rack.faults c.args.self.now _ c.args.ticket.now _ c.args.block.now c.land-landed.result d
-    (on_ok_map c.land-landed.result _ _
-    (λ is. c.add.ensures.events ∙ ap₂ (λ es event. es ++ event ∷ []) earlier (is ∙ ap₂ (λ q m. Put (key_of q) (Leaf m ∷ []) []) d.counted.pointer leaf)) c.put_event.ensures.ok)
-    (on_err_map c.land-landed.result _ _
-    (λ is. c.add.ensures.events ∙ ap₂ (λ es event. es ++ event ∷ []) earlier (is ∙ ap₂ (λ q m. Put (key_of q) [] (m ∷ [])) d.counted.pointer leaf)) c.put_event.ensures.err)
-
-pub returns-clause-harm : goal.returns-clause-harm
-returns-clause-harm g c = put_harm g.R.Rack.told g.R.Rack.faults c.args.self.now _ c.args.ticket.now _ c.args.block.now c.land-landed.result (done g c)
-
-pub returns-clause-none_more : goal.returns-clause-none_more
-returns-clause-none_more g c =
-    let d = done g c in
-    still_entered c.args.self.now.blocks c.turn.new.blocks c.args.ticket.now.pointer (Writing c.args.ticket.now.next c.args.ticket.now.missed)
-    (Writing (c.if-is_err.ticket.next + 1) c.if-is_err.ticket.missed) c.requires.carries.is_open
-    (subst (λ (p : Pointer). SetsEntry c.args.self.now.blocks c.turn.new.blocks c.args.ticket.now.pointer.first (Some (staged (Writing (c.if-is_err.ticket.next + 1) c.if-is_err.ticket.missed) p)))
-    d.counted.pointer d.sets)
-
-pub returns-clause-kept : goal.returns-clause-kept
-returns-clause-kept g c = put_kept g.R.Rack.told g.R.Rack.faults c.args.self.now _ c.args.ticket.now _ c.args.block.now c.land-landed.result (done g c)
-
-pub returns-clause-others : goal.returns-clause-others
-returns-clause-others g c = put_others g.R.Rack.told g.R.Rack.faults c.args.self.now _ c.args.ticket.now _ c.args.block.now c.land-landed.result (done g c)
+pub returns-clause-put : goal.returns-clause-put
+returns-clause-put g c =
+    let v = c.requires.valid in
+    let run = (v.tables.placed c.args.ticket.now.pointer.first _ c.requires.carries.is_open).run in
+    let counts = (after g c).counts in
+    record {
+      landed = c.land-landed.result.landed;
+      failed = c.land-landed.result.failed;
+      does = record {
+        part = refl;
+        stored = c.add.ensures.stored ∙ ap (λ key. c.args.self.now.history.events.items ++ Put key c.land-landed.result.landed c.land-landed.result.failed ∷ []) (c.key_of.ensures ∙ ap key_of (after g c).pointer_is);
+        leads = put_leads c.args.self.now c.land-landed.new.rack c.land-landed.new.slots c.turn.new.self c.add.new.self c.args.ticket.now.pointer c.args.ticket.now.next c.args.ticket.now.missed
+            (c.if-is_empty.ticket.next + 1) c.if-is_empty.ticket.missed c.rows_of-rows.result c.column-column.result.now c.land-landed.result _ _ _ _ v.part v.slots run c.requires.left c.rows_of-rows.ensures
+            c.requires.carries.is_open c.land-landed.ensures.lands (sets g c) counts;
+      };
+      pointer = (after g c).pointer_is;
+      next = counts.next_is;
+      missed = counted c.land-landed.result.landed c.args.ticket.now.missed c.if-is_empty.ticket.missed counts.missed_is;
+      acts = put_acted c.args.self.now c.land-landed.new.rack c.land-landed.new.slots c.turn.new.self c.add.new.self c.args.ticket.now.pointer c.args.ticket.now.next c.args.ticket.now.missed
+          (c.if-is_empty.ticket.next + 1) c.if-is_empty.ticket.missed c.rows_of-rows.result c.column-column.result.now c.land-landed.result _ _ _ _ v.part v.slots run c.requires.left c.rows_of-rows.ensures
+          c.requires.carries.is_open c.land-landed.ensures.lands (sets g c) counts g.R.Rack c.args.block.now.columns refl refl c.column-column.ensures.column;
+      counts = c.land-landed.ensures.lands.counts;
+    }

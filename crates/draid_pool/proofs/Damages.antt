@@ -1,0 +1,138 @@
+-- A sector of a shard is damaged.
+use Rattle.std.proofs.Common.{◌≡◌, ◌≢◌, ◌<◌, ◌+◌, ◌-◌, ◌==◌, ◌&&◌, ◌∙◌, [], ◌∷◌, ℕ, zero, suc, Bool, true, List, Some, None, arith, refl, sym, ap, subst, inl, inr, max, length, get_or}
+use Rattle.std.specs.Prelude.{Result, Ok, Err, is_err}
+use Rattle.std.specs.List.{list_any}
+use Rattle.draid_names.specs.declared.arm.ArmKind.{ArmKind}
+use Rattle.draid_names.specs.declared.arm.ArmKind.TheVariants as kind
+use Rattle.draid_names.specs.declared.fault.Failed.{Failed}
+use Rattle.draid_rack.specs.Rack.{Counts}
+use Rattle.draid_rack.specs.declared.Rack as racks
+use Rattle.draid_area.specs.declared.Area as areas
+use Rattle.draid_machine.specs.declared.names.ArmName.TheVariants.{Leaf}
+use Rattle.draid_machine.specs.declared.event.Event.TheVariants.{Damage}
+use Rattle.draid_machine.specs.State as machine
+use Rattle.draid_machine.proofs.Small.{equal, none_some, true_left, true_right}
+use Rattle.draid_segments.specs.Segments.{Pieces}
+use Rattle.draid_entries.specs.declared.history.ReserveFault.{ReserveFault}
+use Rattle.draid_entries.specs.declared.history.ReserveFault.TheVariants as reserve
+use Rattle.draid_entries.specs.History.{IsReserved, Passes, left_for_groups, limit_in, reserved_of}
+use Rattle.draid_slots.specs.declared.slot.Detached.{Detached}
+use Rattle.draid_slots.specs.Table.{SlotTable, is_leaf_kind}
+use Rattle.draid_shard.specs.Calls.{ActsOn, SameAreas, SameKit}
+use Rattle.draid_shard.specs.Fits.{IsLeaf, Valid}
+use Rattle.draid_shard.specs.Part.{Part, layout_in}
+use Rattle.draid_shard.specs.Slots.{HasSlots, named}
+use Rattle.draid_shard.specs.States.{Does, DoesNone, IsIn}
+use Rattle.draid_shard.specs.declared.shard.Shard.{Shard}
+use Rattle.draid_shard.proofs.Damaging.{leaf_found}
+use Rattle.draid_shard.proofs.Landings.{counts_kept, counts_more, counts_none}
+use Rattle.draid_session.specs.Damage.{HasLeaf}
+use Rattle.draid_session.specs.Follows.{failed_in}
+use Rattle.draid_session.specs.Holds.{Did, Looked, On, Reserved, view_of}
+use Rattle.draid_session.specs.State.{Metaslab}
+use Rattle.draid_session.specs.Worn.{ReservesWorn}
+use Rattle.draid_pool.specs.Metaslabs.{IsMetaslab}
+use Rattle.draid_pool.specs.Shards.{DamagesIn, Goes, SameBlocks}
+use Rattle.draid_pool.proofs.Dids.{Done, Raises, did, none_here}
+use Rattle.draid_pool.proofs.OneHold.{looked, passes_is, reserved_here, reserves, with_reserved, worn_is}
+
+-- ---- leaves
+
+leaf_of : (k : ArmKind) (n leaf : ℕ) → named k n ≡ Leaf leaf → (k ≡ kind.Leaf) × (n ≡ leaf)
+leaf_of kind.Leaf n leaf is = (refl, (let h : n ≡ leaf = cc in h))
+leaf_of kind.Spare n leaf is = absurd (cc)
+
+any_from : (p : Detached → Bool) (list : List Detached) (gone : Detached) (k : ℕ) → k < length list → get_or list k gone ≡ gone → p gone ≡ true → list_any p list ≡ true
+any_from p [] gone k less here is = absurd (omega (arith, less))
+any_from p (x ∷ list) gone zero less here is = true_left (p x) (list_any p list) (ap p here ∙ is)
+any_from p (x ∷ list) gone (suc k) less here is = true_right (p x) (list_any p list) (any_from p list gone k (omega (arith, less)) here is)
+
+-- a leaf of which a state has an arm is one of the shard's
+pub leaf_in : (slots : SlotTable) (q : machine.Core) (leaf : ℕ) → HasSlots slots q → q.arm (Leaf leaf) ≢ None → IsLeaf slots leaf
+leaf_in slots q leaf has there = elim (has.only (Leaf leaf) there) [
+  | inl z ↦ (let is = leaf_of z.arm.kind z.arm.number leaf z.name_is in inl (z.at, z.arm, z.there, is.0, is.1))
+  | inr z ↦
+      let is = leaf_of z.gone.kind z.gone.number leaf z.name_is in
+      inr (any_from (λ (gone : Detached). is_leaf_kind gone.kind && (gone.number == leaf)) slots.detached z.gone z.among.0 z.among.1 z.among.2
+      (ap (λ k. is_leaf_kind k && (z.gone.number == leaf)) is.0 ∙ equal z.gone.number leaf is.1))
+]
+
+pub has_leaf : (slots : SlotTable) (q : machine.Core) (leaf : ℕ) → HasSlots slots q → IsLeaf slots leaf → q.arm (Leaf leaf) ≢ None
+has_leaf slots q leaf has is none = (let a = leaf_found slots q leaf has is in none_some (q.arm (Leaf leaf)) a.0 none a.1)
+
+-- ---- counts
+
+module _ {R A : Type 0} (rack : racks.Ghosts R) (area : areas.Ghosts A) where
+  pub raises_damage : (old new : Shard R A) (leaf sector : ℕ) (r : Result Unit Failed) → SameAreas old new → Counts (Some leaf) r (rack.faults old.rack) (rack.faults new.rack)
+      → Raises rack area (failed_in (Damage leaf sector (is_err r))) old new
+  raises_damage old new leaf sector (Ok done) same counts =
+      let z = counts_kept [] (rack.faults old.rack) (rack.faults old.rack) (rack.faults new.rack) (counts_none (rack.faults old.rack)) counts.later in
+      record { areas_are = same; later = z.later; cause = z.cause }
+  raises_damage old new leaf sector (Err e) same counts =
+      let z = counts_more [] leaf (rack.faults old.rack) (rack.faults old.rack) (rack.faults new.rack) (counts_none (rack.faults old.rack)) counts.later counts.cause in
+      record { areas_are = same; later = z.later; cause = z.cause }
+
+  -- ---- damage
+
+  -- what the reserving of one event says
+  pub record Reserves (old new : Shard R A) : Type 0 where
+    pub valid : Valid rack new
+    pub none : DoesNone old new
+    pub kit : SameKit old new
+    pub limit : limit_in new.history ≡ limit_in old.history
+
+  pub reserves_worn : (part : Part) (pieces : Pieces) (old : Shard R A) (x : Metaslab) → IsMetaslab rack area part pieces old x
+      → (reserved_of old.history < 1) → Passes old.history (1 - reserved_of old.history) left_for_groups → ReservesWorn part.geometry (view_of part.number x) 1
+  reserves_worn part pieces old x is more passes = record {
+    more = (let r = is.reserved in omega (arith, r, more));
+    worn = worn_is rack area part pieces old x (1 - x.reserved) left_for_groups is (subst (λ n. Passes old.history (1 - n) left_for_groups) (sym is.reserved) passes);
+  }
+
+  not_worn : (part : Part) (pieces : Pieces) (old : Shard R A) (x : Metaslab) → IsMetaslab rack area part pieces old x
+      → (reserved_of old.history < 1 → Passes old.history (1 - reserved_of old.history) left_for_groups → ⊥) → ReservesWorn part.geometry (view_of part.number x) 1 → ⊥
+  not_worn part pieces old x is never z =
+      never (let r = is.reserved in let more = z.more in omega (arith, r, more))
+      (subst (λ n. Passes old.history (1 - n) left_for_groups) is.reserved (passes_is rack area part pieces old x (1 - x.reserved) left_for_groups is z.worn))
+
+  pub damages : (old mid new : Shard R A) (leaf sector : ℕ) (failed : Bool) → Reserves old mid → reserved_of mid.history ≡ max 1 (reserved_of old.history)
+      → (reserved_of old.history < 1 → Passes old.history (1 - reserved_of old.history) left_for_groups → ⊥) → Valid rack new → Does mid new (Damage leaf sector failed)
+      → ((pieces : Pieces) → ActsOn rack mid new (Damage leaf sector failed) pieces) → Raises rack area (failed_in (Damage leaf sector failed)) mid new
+      → reserved_of new.history + 1 ≡ reserved_of mid.history → limit_in new.history ≡ limit_in mid.history
+      → (part : Part) (pieces : Pieces) (x : Metaslab) → IsMetaslab rack area part pieces old x
+      → Goes rack area part pieces x new (λ holds y. DamagesIn part leaf sector failed x holds × SameBlocks x y)
+  damages old mid new leaf sector failed r reserved never valid does acts raises used limit part pieces x is =
+      let y : Metaslab = with_reserved x (reserved_of mid.history) in
+      let here : IsMetaslab rack area part pieces mid y = reserved_here rack area part pieces old mid x is r.valid r.none r.kit r.limit in
+      let z : Done rack area part pieces new (Damage leaf sector failed) y = did rack area part pieces mid new (Damage leaf sector failed) y here valid does (acts pieces) (λ v step. refl) limit used raises in
+      record {
+        holds = On (view_of part.number x) (Reserved 1) ∷ (On (view_of part.number y) (Did (Damage leaf sector failed) z.reached.world) ∷ []);
+        reached = z.reached;
+        follows = (
+          Reserved 1,
+          y,
+          refl,
+          reserves (layout_in part) 1 (reserved_of mid.history) x (reserved ∙ ap (max 1) (sym is.reserved)),
+          (Did (Damage leaf sector failed) z.reached.world, z.reached, refl, z.acts, refl),
+        );
+        done = (
+          record { mid = y; after = z.reached.world; are = refl; not_worn = not_worn part pieces old x is never },
+          record { held = ap (λ (w : machine.State). w.core.held) z.step.made; committed = ap (λ (w : machine.State). w.committed) z.step.made },
+        );
+        is = z.is;
+      }
+
+  -- no event could be reserved
+  pub damages_worn : (old new : Shard R A) (leaf : ℕ) → Reserves old new → reserved_of new.history ≡ reserved_of old.history → IsLeaf old.slots leaf
+      → (fault : ReserveFault) (used : ℕ) → fault ≡ reserve.Worn used → IsReserved old.history 1 (Err fault) → (part : Part) (pieces : Pieces) (x : Metaslab) → IsMetaslab rack area part pieces old x
+      → Goes rack area part pieces x new
+      (λ holds y. ((holds ≡ On (view_of part.number x) Looked ∷ []) × HasLeaf (view_of part.number x) leaf × ReservesWorn part.geometry (view_of part.number x) 1) × SameBlocks x y)
+  damages_worn old new leaf r reserved there fault used fault_is answer part pieces x is =
+      let worn : IsReserved old.history 1 (Err (reserve.Worn used)) = subst (λ f. IsReserved old.history 1 (Err f)) fault_is answer in
+      looked rack area part pieces new x
+      (λ holds y. ((holds ≡ On (view_of part.number x) Looked ∷ []) × HasLeaf (view_of part.number x) leaf × ReservesWorn part.geometry (view_of part.number x) 1) × SameBlocks x y)
+      (none_here rack area part pieces old new x is r.valid r.none r.kit.rack r.kit.areas r.limit reserved)
+      ((refl, has_leaf old.slots x.world.core leaf is.stands.is_in.slots there, reserves_worn part pieces old x is worn.0 worn.1), record { held = refl; committed = refl })
+
+  -- a leaf is there after a call without an event
+  pub leaf_stays : (old new : Shard R A) (w : machine.State) (leaf : ℕ) → IsIn old w → DoesNone old new → IsLeaf old.slots leaf → IsLeaf new.slots leaf
+  leaf_stays old new w leaf is none there = leaf_in new.slots w.core leaf (none.stays w is).slots (has_leaf old.slots w.core leaf is.slots there)

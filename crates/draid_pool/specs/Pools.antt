@@ -1,0 +1,61 @@
+-- For which states a pool stands.
+use Rattle.std.specs.Prelude.{◌≡◌, ◌==◌, ◌<◌, ◌⊎◌, ℕ, false, Option, Some, nat_eq, length, slice_get, if◌then◌else◌}
+use Rattle.std.specs.HashMap.{get}
+use Rattle.draid_rack.specs.declared.Rack as racks
+use Rattle.draid_area.specs.declared.Area as areas
+use Rattle.draid_map.specs.Place.{IsLayout}
+use Rattle.draid_names.specs.declared.pointer.Pointer.{Pointer}
+use Rattle.draid_machine.specs.declared.names.Held.{Held}
+use Rattle.draid_machine.specs.declared.names.Key.{Key}
+use Rattle.draid_machine.specs.declared.names.Stage.TheVariants.{Live}
+use Rattle.draid_segments.specs.Segments.{Pieces}
+use Rattle.draid_objects.specs.Changes.{Write, write_of}
+use Rattle.draid_shard.specs.Part.{Part}
+use Rattle.draid_shard.specs.declared.shard.Shard.{Shard}
+use Rattle.draid_session.specs.State.{Metaslab, State}
+use Rattle.draid_pool.specs.Metaslabs.{IsMetaslab}
+use Rattle.draid_pool.specs.Objects.{HasGroups, HoldsObjects, IsLastAt, PointsTo, blocks_of}
+use Rattle.draid_pool.specs.declared.pool.Pool.{Pool}
+
+-- a metaslab of a state
+abbrev pub part_in : State → ℕ → Part
+part_in x m = record { geometry = x.geometry; perms = x.perms; number = m }
+
+-- the uberblock is that of a pool that was just created: no call touches it yet
+pub record IsUntouched (x : State) : Type 0 where
+  pub committed : x.committed ≡ 1
+  pub kept_leaf : x.kept_leaf ≡ x.geometry.spec.children
+  pub next_leaf : x.next_leaf ≡ x.geometry.spec.children
+  pub uber_count : x.uber_count ≡ 0
+  pub pending : x.pending ≡ false
+
+-- The pool has one shard for each metaslab of its layout, which stands for it. The metaslabs hold what befell the objects; the table has the pointer of each object
+-- that has bytes; the number of the last write and the floor are the pool's.
+pub record Stands {R A : Type 0} (rack : racks.Ghosts R) (area : areas.Ghosts A) (pool : Pool R A) (table : ℕ → Option Pointer) (x : State) : Type 0 where
+  pub geometry : x.geometry ≡ pool.geometry
+  pub layout : IsLayout x.geometry x.perms
+  pub many : length x.metaslabs ≡ x.geometry.props.metaslabs
+  pub shards : length pool.shards.items ≡ length x.metaslabs
+  pub pieces : ℕ → Pieces
+  pub each : (m : ℕ) (shard : Shard R A) (y : Metaslab) → slice_get pool.shards.items m ≡ Some shard → slice_get x.metaslabs m ≡ Some y
+      → IsMetaslab rack area (part_in x m) (pieces m) shard y
+  pub holds : HoldsObjects x.geometry x.committed x.store (blocks_of x.metaslabs) pieces
+  pub groups : HasGroups x
+  pub objects : (object : ℕ) → PointsTo pool.shards.items (table object) (write_of x.store.changes object)
+  pub seq : x.store.seq ≡ pool.seq
+  pub floor : x.store.floor ≡ pool.floor
+  pub uber : IsUntouched x
+
+-- and each live block is that of its object's last write
+pub record Represents {R A : Type 0} (rack : racks.Ghosts R) (area : areas.Ghosts A) (pool : Pool R A) (x : State) : Type 0 where
+  pub stands : Stands rack area pool (λ object. get nat_eq pool.objects object) x
+  pub only : (m : ℕ) (k : Key) (h : Held) → blocks_of x.metaslabs m k ≡ Some h → h.stage ≡ Live → IsLastAt m k (write_of x.store.changes k.object)
+
+-- An object's new block is live, and its pointer isn't in the table yet: that has still the pointer of the block that the object had before, if it had one, which
+-- is live too.
+pub record Awaits {R A : Type 0} (rack : racks.Ghosts R) (area : areas.Ghosts A) (pool : Pool R A) (object : ℕ) (pointer : Pointer) (earlier : Option Write) (x : State) : Type 0 where
+  pub stands : Stands rack area pool (λ o. if o == object then Some pointer else get nat_eq pool.objects o) x
+  pub had : PointsTo pool.shards.items (get nat_eq pool.objects object) earlier
+  pub older : (write : Write) → earlier ≡ Some write → (write.object ≡ object) × (write.seq < pointer.seq)
+  pub only : (m : ℕ) (k : Key) (h : Held) → blocks_of x.metaslabs m k ≡ Some h → h.stage ≡ Live
+      → IsLastAt m k (write_of x.store.changes k.object) ⊎ IsLastAt m k earlier

@@ -1,0 +1,55 @@
+ghost use Rattle.std.specs.Prelude.{◌≡◌, ◌≤◌, ◌+◌};
+ghost use Rattle.draid_names.specs.declared.numbers.TheConstants.{LAST_NUMBER};
+ghost use Rattle.draid_segments.specs.Segments.{Pieces};
+ghost use Rattle.draid_shard.specs.Calls.{IsLive};
+ghost use Rattle.draid_shard.specs.Fits.{Valid};
+ghost use Rattle.draid_shard.specs.Part.{Part};
+ghost use Rattle.draid_session.specs.State.{Metaslab};
+ghost use Rattle.draid_pool.specs.Metaslabs.{IsMetaslab};
+ghost use Rattle.draid_pool.specs.Shards.{FreesIn, Goes};
+ghost use Rattle.draid_session.specs.State.{State};
+ghost use Rattle.draid_pool.specs.Answers.{FreeDoes};
+ghost use Rattle.draid_pool.specs.Carries.{CarriesOut};
+ghost use Rattle.draid_pool.specs.Pools.{Represents};
+
+use crate::fault::FreeFault;
+use crate::pool::Pool;
+use draid_area::Area;
+use draid_names::Pointer;
+use draid_rack::Rack;
+use draid_shard::Shard;
+
+/// Frees a live block of a shard, and gives the group: the open one, or `floor` where that is the next one.
+pub(crate) fn free_block<R: Rack, A: Area>(
+    shard: &mut Shard<R, A>,
+    pointer: &Pointer,
+    floor: u64,
+) -> u64
+    requires valid { Valid R.Rack shard.old }
+    requires live { IsLive shard.old pointer.now }
+    requires floor { floor ≤ shard.old.open_group + 1 }
+    requires last { floor ≤ LAST_NUMBER }
+    ensures frees { (part : Part) (pieces : Pieces) (x : Metaslab) → IsMetaslab R.Rack A.Area part pieces shard.old x
+        → Goes R.Rack A.Area part pieces x shard.new (FreesIn part.number pointer.now floor result x) }
+{
+    let Ok(group) = shard.free(pointer, floor) else {
+        unreachable!()
+    };
+    group
+}
+
+impl<R: Rack, A: Area> Pool<R, A> {
+    /// Frees an object, which has no bytes then. Their block keeps its stripes until its group is committed, and is still
+    /// counted in its metaslab.
+    pub fn free(&mut self, object: u64) -> Result<(), FreeFault>
+        requires represents { (x : State) × Represents R.Rack A.Area self.old x }
+        ensures step { (x : State) → Represents R.Rack A.Area self.old x
+            → CarriesOut R.Rack A.Area self.new x (FreeDoes x object result) }
+    {
+        let Some(pointer) = self.objects.remove(&object) else {
+            return Err(FreeFault::NoObject);
+        };
+        self.floor = free_block(&mut self.shards[pointer.metaslab as usize], &pointer, self.floor);
+        Ok(())
+    }
+}

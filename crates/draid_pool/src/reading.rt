@@ -1,0 +1,47 @@
+ghost use Rattle.std.specs.Prelude.{◌≡◌};
+ghost use Rattle.draid_session.specs.State.{State};
+ghost use Rattle.draid_pool.specs.Answers.{ReadDoes};
+ghost use Rattle.draid_pool.specs.Carries.{CarriesOut, FetchLeads};
+ghost use Rattle.draid_pool.specs.Pools.{Represents};
+
+use crate::pool::Pool;
+use draid_area::Area;
+use draid_block::{Fetched, SolveFault, solve_block};
+use draid_names::ObjectFault;
+use draid_rack::Rack;
+use draid_shard::FetchFault;
+
+impl<R: Rack, A: Area> Pool<R, A> {
+    /// Reads the bytes last written to an object.
+    pub fn read(&mut self, object: u64) -> Result<Vec<u8>, ObjectFault>
+        requires represents { (x : State) × Represents R.Rack A.Area self.old x }
+        ensures step { (x : State) → Represents R.Rack A.Area self.old x
+            → CarriesOut R.Rack A.Area self.new x (ReadDoes x object result) }
+    {
+        let fetched = self.fetch(object)?;
+        match solve_block(self.alloc, &self.geometry, &fetched) {
+            Ok(bytes) => Ok(bytes),
+            Err(SolveFault::Unreadable { absent, tried }) => {
+                Err(ObjectFault::Unreadable { absent, tried })
+            }
+            Err(SolveFault::NoMemory) => Err(ObjectFault::NoMemory),
+        }
+    }
+
+    /// Reads the columns of an object's block.
+    pub(crate) fn fetch(&mut self, object: u64) -> Result<Fetched, ObjectFault>
+        requires represents { (x : State) × Represents R.Rack A.Area self.old x }
+        ensures step { (x : State) → Represents R.Rack A.Area self.old x
+            → FetchLeads R.Rack A.Area self.new x object result }
+    {
+        let Some(pointer) = self.objects.get(&object).copied() else {
+            return Err(ObjectFault::NoObject);
+        };
+        match self.shards[pointer.metaslab as usize].fetch(&pointer) {
+            Ok(fetched) => Ok(fetched),
+            Err(FetchFault::NotLive) => unreachable!(),
+            Err(FetchFault::Worn { .. }) => Err(ObjectFault::Worn),
+            Err(FetchFault::NoMemory) => Err(ObjectFault::NoMemory),
+        }
+    }
+}

@@ -1,0 +1,141 @@
+//! Sums of many objects: their blocks are fetched and solved in batches.
+ghost use Rattle.std.specs.Prelude.{◌≡◌, ◌≤◌, ◌+◌, length};
+ghost use Rattle.draid_session.specs.State.{State};
+ghost use Rattle.draid_pool.specs.Answers.{SumDoes};
+ghost use Rattle.draid_pool.specs.Batches.{AddIs, FeedIs, FetchesBatch};
+ghost use Rattle.draid_pool.specs.Carries.{CarriesOut};
+ghost use Rattle.draid_pool.specs.Pools.{Represents};
+
+use crate::fault::SumFault;
+use crate::pool::Pool;
+use draid_area::Area;
+use draid_block::{Fetched, Solve, solve_many};
+use draid_names::{OBJECTS, ObjectFault};
+use draid_rack::Rack;
+use sha2::{Digest, Sha256};
+use std::thread::Threads;
+
+/// A batch takes a further block only while those in it have fewer bytes.
+const BATCH_BYTES: u64 = 1 << 20;
+
+/// Blocks of objects that follow one another.
+#[derive(Drop)]
+pub(crate) struct Batch {
+    blocks: Vec<Fetched>,
+    /// Why the object behind them gave no block, where the batch ends there.
+    fault: Option<ObjectFault>,
+}
+
+/// Fetches the blocks of objects from `first` on, at most `count`, until they have bytes enough or an object gives none.
+fn fetch_batch<R: Rack, A: Area>(pool: &mut Pool<R, A>, first: u64, count: u64) -> Batch
+    requires some { 1 ≤ count }
+    requires range { first + count ≤ OBJECTS }
+    requires represents { (x : State) × Represents R.Rack A.Area pool.old x }
+    ensures step { (x : State) → Represents R.Rack A.Area pool.old x
+        → FetchesBatch R.Rack A.Area pool.new x first count result }
+{
+    let mut blocks = Vec::new(pool.alloc);
+    let mut bytes = 0;
+    for object in first..first + count {
+        let fetched = match pool.fetch(object) {
+            Ok(fetched) => fetched,
+            Err(why) => {
+                return Batch {
+                    blocks,
+                    fault: Some(why),
+                };
+            }
+        };
+        bytes += u64::from(fetched.pointer.len);
+        let Ok(()) = blocks.push(fetched) else {
+            return Batch {
+                blocks,
+                fault: Some(ObjectFault::NoMemory),
+            };
+        };
+        if bytes >= BATCH_BYTES {
+            break;
+        }
+    }
+    Batch {
+        blocks,
+        fault: None,
+    }
+}
+
+/// Feeds the bytes of the objects from `first` on to a hasher, up to the first that can't be read.
+fn feed(hasher: &mut Sha256, first: u64, solves: &[Solve]) -> Result<(), SumFault>
+    requires range { first + length solves.now ≤ OBJECTS }
+    ensures { FeedIs first solves.now hasher.old hasher.new result }
+{
+    let mut object = first;
+    for solve in solves {
+        match solve {
+            Solve::Bytes(bytes) => hasher.update(bytes),
+            Solve::Unreadable { absent, tried } => {
+                let why = ObjectFault::Unreadable {
+                    absent: *absent,
+                    tried: *tried,
+                };
+                return Err(SumFault { object, why });
+            }
+        }
+        object += 1;
+    }
+    Ok(())
+}
+
+/// Adds the bytes of objects from `first` on, at least one and at most `count`, to what a hasher holds, and gives their
+/// number.
+pub(crate) fn add_batch<R: Rack, A: Area>(
+    rt: &(impl Threads + Sync),
+    pool: &mut Pool<R, A>,
+    hasher: &mut Sha256,
+    first: u64,
+    count: u64,
+) -> Result<u64, SumFault>
+    requires some { 1 ≤ count }
+    requires range { first + count ≤ OBJECTS }
+    requires represents { (x : State) × Represents R.Rack A.Area pool.old x }
+    ensures step { (x : State) → Represents R.Rack A.Area pool.old x
+        → CarriesOut R.Rack A.Area pool.new x (AddIs x first count hasher.old hasher.new result) }
+{
+    let batch = fetch_batch(pool, first, count);
+    let Ok(solves) = solve_many(rt, pool.alloc, &pool.geometry, &batch.blocks) else {
+        return Err(SumFault {
+            object: first,
+            why: ObjectFault::NoMemory,
+        });
+    };
+    feed(hasher, first, &solves)?;
+    let added = batch.blocks.len() as u64;
+    match batch.fault {
+        None => Ok(added),
+        Some(why) => Err(SumFault {
+            object: first + added,
+            why,
+        }),
+    }
+}
+
+impl<R: Rack, A: Area> Pool<R, A> {
+    /// Gives the SHA-256 digest (FIPS 180-4) of the bytes of `count` objects from `first` on, one after another.
+    pub fn sum(
+        &mut self,
+        rt: &(impl Threads + Sync),
+        first: u64,
+        count: u64,
+    ) -> Result<[u8; 32], SumFault>
+        requires range { first + count ≤ OBJECTS }
+        requires represents { (x : State) × Represents R.Rack A.Area self.old x }
+        ensures step { (x : State) → Represents R.Rack A.Area self.old x
+            → CarriesOut R.Rack A.Area self.new x (SumDoes x first count result) }
+    {
+        let mut hasher = Sha256::new();
+        let mut summed = 0;
+        while summed < count {
+            summed += add_batch(rt, self, &mut hasher, first + summed, count - summed)?;
+        }
+        Ok(hasher.finalize())
+    }
+}

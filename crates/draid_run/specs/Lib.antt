@@ -1,5 +1,0 @@
-pub mod Script
-pub mod Serve
-pub mod Session
-pub mod State
-pub mod Status

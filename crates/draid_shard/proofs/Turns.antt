@@ -1,0 +1,150 @@
+-- The end of a write and the freeing of a block: what a shard is after them, and that their events are legal.
+use Rattle.std.proofs.Common.{◌≡◌, ◌+◌, ◌<◌, ◌≤◌, ◌∙◌, ℕ, true, false, nat_lt, Option, Some, None, if◌then◌else◌, arith, refl, sym, ap}
+use Rattle.std.proofs.lemmas.Bool.Decides.{nat_tests}
+use Rattle.draid_names.specs.Numbers.{most_held}
+use Rattle.draid_names.specs.declared.pointer.Pointer.{Pointer}
+use Rattle.draid_metaslab.specs.Spaces.{Stripes}
+use Rattle.draid_machine.specs.declared.event.Event.TheVariants.{Abort, Finish, Free}
+use Rattle.draid_machine.specs.declared.names.Stage.TheVariants.{Writing, Live, Freed}
+use Rattle.draid_machine.specs.After.{free_state, gone_state, live_state, not_kept, set_held, without_key}
+use Rattle.draid_machine.specs.State as machine
+use Rattle.draid_rack.specs.declared.Rack.{Ghosts}
+use Rattle.draid_entries.specs.declared.entry.Entry.{Entry}
+use Rattle.draid_entries.specs.declared.entries.Entries.{Entries}
+use Rattle.draid_entries.specs.declared.history.History.{History}
+use Rattle.draid_entries.specs.Entries.{SetsEntry, count_of, entry_at, owed_at, owed_by}
+use Rattle.draid_entries.specs.History.{owed_of, reserved_of}
+use Rattle.draid_entries.specs.Maps.{held_at, key_of, staged}
+use Rattle.draid_shard.specs.declared.shard.Shard.{Shard}
+use Rattle.draid_shard.specs.declared.ticket.Ticket.{Ticket}
+use Rattle.draid_shard.specs.Calls.{IsLive, IsOpen}
+use Rattle.draid_shard.specs.Fits.{AreHere, Tables, TicketsAreNew, Valid, oldest_open}
+use Rattle.draid_shard.specs.Holding.{AreFitting}
+use Rattle.draid_shard.specs.States.{IsIn, Leads, layout_by}
+use Rattle.draid_shard.proofs.Begins.{few_stripes}
+use Rattle.draid_shard.proofs.Held.{key_leads, set_same, tables_in, with_tables}
+
+-- ---- what a shard is with other tables
+
+-- as much more or less is owed as the tables owe
+abbrev pub OwesSo : {R A : Type 0} → Shard R A → Entries → History → Type 0
+OwesSo old entries history =
+    owed_of history + owed_by old.geometry.g old.entries + reserved_of old.history ≡ owed_of old.history + owed_by old.geometry.g entries + reserved_of history
+
+pub valid_with : {R A : Type 0} (rack : Ghosts R) (old : Shard R A) (space : Stripes) (entries : Entries) (history : History) → Valid rack old
+    → Tables old.geometry old.open_group space entries → space.disabled ≡ old.space.disabled → count_of entries ≤ most_held old.version
+    → AreHere entries old.number → TicketsAreNew entries (oldest_open old.open_group old.closing) → OwesSo old entries history → Valid rack (with_tables old space entries history)
+valid_with rack old space entries history v tables disabled few here tickets owed = record {
+  part = v.part;
+  version = v.version;
+  tables = tables;
+  disabled = disabled ∙ v.disabled;
+  few = few;
+  here = here;
+  slots = v.slots;
+  logs = v.logs;
+  leaves = v.leaves;
+  groups = v.groups;
+  low = v.low;
+  tickets = tickets;
+  owed = let all = v.owed in omega (arith, all, owed);
+}
+
+pub fitting : {R A : Type 0} (rack : Ghosts R) (shard : Shard R A) → Valid rack shard → AreFitting shard.space shard.entries
+fitting rack shard v = record {
+  geometry = shard.geometry;
+  open_group = shard.open_group;
+  tables = v.tables;
+  low = few_stripes shard.geometry v.part.layout.geometry_is;
+}
+
+-- ---- the end of a write
+
+module _ {R A : Type 0} (old : Shard R A) (space : Stripes) (entries : Entries) (history : History) (ticket : Ticket) (is_open : IsOpen old ticket) where
+  abbrev own : Entry
+  own = staged (Writing ticket.next ticket.missed) ticket.pointer
+
+  gone_in : SetsEntry old.entries entries ticket.pointer None → (w : machine.State) → IsIn old w → IsIn (with_tables old space entries history) (gone_state w (key_of ticket.pointer))
+  gone_in sets w is_in =
+      tables_in old space entries history w (set_held w.core.held (key_of ticket.pointer) None) (without_key (key_of ticket.pointer) w.present)
+      (without_key (key_of ticket.pointer) w.aside) (not_kept (key_of ticket.pointer) w.kept) is_in
+      (set_same w.core.held old.entries entries ticket.pointer None is_in.held sets)
+
+  pub finishes : ticket.next ≡ old.geometry.g → ticket.missed ≤ old.geometry.spec.parity
+      → SetsEntry old.entries entries ticket.pointer (Some (staged Live ticket.pointer)) → (w : machine.State) → IsIn old w
+      → Leads (layout_by old) w (Finish (key_of ticket.pointer)) (with_tables old space entries history)
+  finishes all few sets w is_in = record {
+    state = live_state w (key_of ticket.pointer) (held_at own);
+    step = record {
+      h = held_at own;
+      m = ticket.missed;
+      found = is_in.held (key_of ticket.pointer) ∙ key_leads old.entries ticket.pointer.first own is_open;
+      stage = ap (λ c. Writing c ticket.missed) all;
+      made = (let test : nat_lt old.geometry.spec.parity ticket.missed ≡ false = grind (arith, nat_tests, few) in
+          ap (λ b. if b then gone_state w (key_of ticket.pointer) else live_state w (key_of ticket.pointer) (held_at own)) (sym test));
+    };
+    is_in = tables_in old space entries history w (set_held w.core.held (key_of ticket.pointer) (Some (held_at (staged Live ticket.pointer)))) w.present w.aside w.kept is_in
+        (set_same w.core.held old.entries entries ticket.pointer (Some (staged Live ticket.pointer)) is_in.held sets);
+  }
+
+  pub misses : ticket.next ≡ old.geometry.g → old.geometry.spec.parity < ticket.missed → SetsEntry old.entries entries ticket.pointer None → (w : machine.State) → IsIn old w
+      → Leads (layout_by old) w (Finish (key_of ticket.pointer)) (with_tables old space entries history)
+  misses all many sets w is_in = record {
+    state = gone_state w (key_of ticket.pointer);
+    step = record {
+      h = held_at own;
+      m = ticket.missed;
+      found = is_in.held (key_of ticket.pointer) ∙ key_leads old.entries ticket.pointer.first own is_open;
+      stage = ap (λ c. Writing c ticket.missed) all;
+      made = (let test : nat_lt old.geometry.spec.parity ticket.missed ≡ true = grind (arith, nat_tests, many) in
+          ap (λ b. if b then gone_state w (key_of ticket.pointer) else live_state w (key_of ticket.pointer) (held_at own)) (sym test));
+    };
+    is_in = gone_in sets w is_in;
+  }
+
+  pub aborts : SetsEntry old.entries entries ticket.pointer None → (w : machine.State) → IsIn old w
+      → Leads (layout_by old) w (Abort (key_of ticket.pointer)) (with_tables old space entries history)
+  aborts sets w is_in = record {
+    state = gone_state w (key_of ticket.pointer);
+    step = record { h = held_at own; found = is_in.held (key_of ticket.pointer) ∙ key_leads old.entries ticket.pointer.first own is_open; ticket = refl; made = refl };
+    is_in = gone_in sets w is_in;
+  }
+
+-- ---- the freeing of a block
+
+pub frees : {R A : Type 0} (old : Shard R A) (space : Stripes) (entries : Entries) (history : History) (p : Pointer) (group : ℕ) → IsLive old p
+    → old.open_group ≤ group → group ≤ old.open_group + 1 → SetsEntry old.entries entries p (Some (staged (Freed group) p)) → (w : machine.State) → IsIn old w
+    → Leads (layout_by old) w (Free (key_of p) group) (with_tables old space entries history)
+frees old space entries history p group is_live from upto sets w is_in = record {
+  state = free_state w (key_of p) (held_at (staged Live p)) group;
+  step = record {
+    h = held_at (staged Live p);
+    found = is_in.held (key_of p) ∙ key_leads old.entries p.first (staged Live p) is_live;
+    live = refl;
+    due = record {
+      from = (let at = is_in.open_group_is in omega (arith, at, from));
+      upto = (let at = is_in.open_group_is in omega (arith, at, upto));
+    };
+    made = refl;
+  };
+  is_in = tables_in old space entries history w (set_held w.core.held (key_of p) (Some (held_at (staged (Freed group) p)))) w.present w.aside w.kept is_in
+      (set_same w.core.held old.entries entries p (Some (staged (Freed group) p)) is_in.held sets);
+}
+
+-- ---- what is owed
+
+-- what the tables owe as an entry comes to another stage or goes
+pub owed_turns : (columns : ℕ) (old new : Entries) (p : Pointer) (entry : Option Entry) (was : Entry) (before after : ℕ) → SetsEntry old new p entry → entry_at old p.first ≡ Some was
+    → owed_at columns (Some was) ≡ before → owed_at columns entry ≡ after → owed_by columns new + before ≡ owed_by columns old + after
+owed_turns columns old new p entry was before after sets there b a =
+    let sum = sets.owed columns in
+    let own : owed_at columns (entry_at old p.first) ≡ before = ap (owed_at columns) there ∙ b in
+    omega (arith, sum, own, a)
+
+-- of a ticket whose columns are all put two events are owed
+pub all_put : (columns : ℕ) (ticket : Ticket) → ticket.next ≡ columns → owed_at columns (Some (staged (Writing ticket.next ticket.missed) ticket.pointer)) ≡ 2
+all_put columns ticket all = omega (arith, all)
+
+-- a history alone changed
+pub history_in : {R A : Type 0} (old : Shard R A) (history : History) (w : machine.State) → IsIn old w → IsIn (with_tables old old.space old.entries history) w
+history_in old history w is_in = tables_in old old.space old.entries history w w.core.held w.present w.aside w.kept is_in is_in.held

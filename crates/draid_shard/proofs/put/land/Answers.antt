@@ -1,0 +1,48 @@
+use Rattle.std.proofs.Common.{◌≡◌, ◌<◌, ◌∙◌, Some, [], false, ap, arith, get_or, length, refl, slice_get, sym, subst}
+use Rattle.std.specs.Prelude.{slice_index_or}
+use Rattle.std.proofs.lemmas.Option.{slice_get-get_or}
+use Rattle.draid_names.specs.declared.arm.Arm.{Arm}
+use Rattle.draid_names.specs.declared.arm.ArmKind.TheVariants.{Leaf}
+use Rattle.draid_slots.specs.Table.{arm_at, arms_of}
+use Rattle.draid_shard.specs.Rows.{Lands, arm_no}
+use Rattle.draid_shard.proofs.Landings.{lands_next, lands_none, lands_same}
+use Rattle.draid_shard.proofs.put.land.Goals as goal
+
+pub loop-arm-init : goal.loop-arm-init
+loop-arm-init g c = record {
+  shape = refl;
+  lands = subst (λ l. Lands c.args.slots.now c.args.slots.now c.args.rows 0 c.args.column.now (record { landed = l; failed = c.none-2.result }) (g.R.Rack.told c.args.rack.now) (g.R.Rack.told c.args.rack.now) (g.R.Rack.faults c.args.rack.now) (g.R.Rack.faults c.args.rack.now))
+      (sym c.none.ensures)
+      (subst (λ l. Lands c.args.slots.now c.args.slots.now c.args.rows 0 c.args.column.now (record { landed = []; failed = l }) (g.R.Rack.told c.args.rack.now) (g.R.Rack.told c.args.rack.now) (g.R.Rack.faults c.args.rack.now) (g.R.Rack.faults c.args.rack.now))
+      (sym c.none-2.ensures)
+      (lands_none c.args.slots.now c.args.rows c.args.column.now (g.R.Rack.told c.args.rack.now) (g.R.Rack.faults c.args.rack.now)));
+}
+
+pub loop-arm-preserved : goal.loop-arm-preserved
+loop-arm-preserved g c =
+    let inv = c.loop-arm.invariant.lands in
+    let e = c.land_on-outcome.ensures in
+    let none : Arm = record { kind = Leaf; number = 0; offline = false; fresh = false } in
+    let it : Arm = get_or c.arms-in-loop-arm.result.now c.loop-arm.arm none in
+    let same : c.arms-in-loop-arm.result.now ≡ arms_of c.args.slots.now c.args.rows.slot
+    = c.arms-in-loop-arm.ensures.arms ∙ ap (λ arms. slice_index_or arms c.args.rows.slot []) (e.misses.logs.arms ∙ inv.logs.arms) in
+    let less = c.loop-arm-test.true in
+    let within : c.loop-arm.arm < length c.arms-in-loop-arm.result.now
+    = subst (λ arms. c.loop-arm.arm < length arms) (c.arms.ensures.arms ∙ sym same) less in
+    let there : arm_at c.args.slots.now (arm_no c.args.rows c.loop-arm.arm) ≡ Some it
+    = subst (λ arms. slice_get arms c.loop-arm.arm ≡ Some it) same (slice_get-get_or c.arms-in-loop-arm.result.now c.loop-arm.arm none within) in
+    record {
+      shape = e.shape ∙ c.loop-arm.invariant.shape;
+      lands = lands_next c.args.slots.now c.loop-arm.slots c.land_on-outcome.new.slots c.args.rows c.loop-arm.arm c.args.column.now c.loop-arm.landing (g.R.Rack.told c.args.rack.now) (g.R.Rack.told c.loop-arm.rack)
+          (g.R.Rack.told c.land_on-outcome.new.rack) (g.R.Rack.faults c.args.rack.now) (g.R.Rack.faults c.loop-arm.rack) (g.R.Rack.faults c.land_on-outcome.new.rack) it c.name_of-name.result c.land_on-outcome.result
+          inv there c.name_of-name.ensures
+          (lands_same c.args.slots.now c.loop-arm.slots c.args.rows c.loop-arm.arm c.args.column.now c.land_on-outcome.result _ _ inv.logs.same inv.logs.arms e.lands) e.counts e.misses _ _ refl c.note.ensures;
+    }
+
+pub returns-clause-lands : goal.returns-clause-lands
+returns-clause-lands g c =
+    let past = c.loop-arm-test.false in
+    let upto = c.loop-arm.auto.arm-end in
+    let all : c.loop-arm.arm ≡ length (arms_of c.args.slots.now c.args.rows.slot) = omega (arith, past, upto, ap length c.arms.ensures.arms) in
+    subst (λ k. Lands c.args.slots.now c.loop-arm.slots c.args.rows k c.args.column.now c.loop-arm.landing (g.R.Rack.told c.args.rack.now) (g.R.Rack.told c.loop-arm.rack) (g.R.Rack.faults c.args.rack.now) (g.R.Rack.faults c.loop-arm.rack))
+    all c.loop-arm.invariant.lands

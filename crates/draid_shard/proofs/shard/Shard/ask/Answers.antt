@@ -1,0 +1,13 @@
+use Rattle.std.proofs.Common.{refl, arith}
+use Rattle.draid_shard.proofs.Turns.{history_in, valid_with}
+use Rattle.draid_shard.proofs.shard.Shard.ask.Goals as goal
+
+pub returns-clause-valid : goal.returns-clause-valid
+returns-clause-valid g c =
+    let v = c.requires.valid in
+    let same = c.ask.ensures.same in
+    valid_with g.R.Rack c.args.self.now c.args.self.now.space c.args.self.now.entries c.ask.new.self v v.tables refl v.few v.here v.tickets
+    (let owed = same.owed in let reserved = same.reserved in omega (arith, owed, reserved))
+
+pub returns-clause-none : goal.returns-clause-none
+returns-clause-none g c = record { part = refl; stored = c.ask.ensures.same.events; stays = history_in c.args.self.now c.ask.new.self }

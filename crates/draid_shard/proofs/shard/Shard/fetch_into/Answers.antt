@@ -1,0 +1,22 @@
+use Rattle.draid_machine.specs.declared.names.Stage.TheVariants.{Live}
+use Rattle.draid_entries.specs.Maps.{staged}
+use Rattle.draid_shard.specs.States.{part_of}
+use Rattle.draid_shard.proofs.Fetches.{fetches_stored, valid_stored}
+use Rattle.draid_shard.proofs.Fetching.{reads_none}
+use Rattle.draid_shard.proofs.shard.Shard.fetch_into.Goals as goal
+
+pub read_columns-requires-clause-run : goal.read_columns-requires-clause-run
+read_columns-requires-clause-run g c = let tables = c.requires.valid.tables in (tables.placed c.args.pointer.now.first (staged Live c.args.pointer.now) c.requires.live).run
+
+pub read_columns-requires-clause-none : goal.read_columns-requires-clause-none
+read_columns-requires-clause-none g c =
+    reads_none (part_of c.args.self.now) c.args.self.now.slots c.args.pointer.now (g.R.Rack.told c.args.self.now.rack) c.args.room.columns.items c.args.room.failed.items c.requires.columns c.requires.long c.requires.failed
+
+pub returns-clause-valid : goal.returns-clause-valid
+returns-clause-valid g c =
+    valid_stored g.R.Rack c.args.self.now c.read_columns.new.self c.requires.valid c.read_columns.ensures.rack c.add_asked.new.self c.read_columns.ensures.shape c.add_asked.ensures.owed c.add_asked.ensures.reserved
+
+pub returns-clause-fetches : goal.returns-clause-fetches
+returns-clause-fetches g c =
+    fetches_stored g.R.Rack c.args.self.now c.read_columns.new.self c.requires.valid c.read_columns.ensures.rack c.add_asked.new.self c.args.pointer.now c.key_of.result c.read_columns.new.columns c.read_columns.new.failed
+    c.requires.live c.key_of.ensures c.read_columns.ensures.read c.read_columns.ensures.counts c.add_asked.ensures.stored

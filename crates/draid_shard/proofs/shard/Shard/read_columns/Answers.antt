@@ -1,0 +1,53 @@
+use Rattle.std.proofs.Common.{◌≡◌, ◌+◌, ◌<◌, ◌≤◌, ◌∙◌, arith, refl, sym, subst}
+use Rattle.std.specs.Prelude.{vec_capacity}
+use Rattle.draid_spec.specs.declared.layout.Geometry.{Geometry}
+use Rattle.draid_shard.specs.Calls.{CountsFailed}
+use Rattle.draid_shard.specs.Part.{IsRun}
+use Rattle.draid_shard.specs.Reads.{ReadsColumns}
+use Rattle.draid_shard.specs.States.{part_of}
+use Rattle.draid_shard.proofs.Fetches.{geometry_in, rack_twice, reads_back, reads_in, valid_rack}
+use Rattle.draid_shard.proofs.Landings.{counts_none}
+use Rattle.draid_shard.proofs.shard.Shard.read_columns.Goals as goal
+
+pub loop-column-init : goal.loop-column-init
+loop-column-init g c = record {
+  whole = refl;
+  told = refl;
+  shape = refl;
+  read = c.requires.none;
+  room = c.requires.room;
+  counts = subst (λ failed. CountsFailed failed (g.R.Rack.faults c.args.self.now.rack) (g.R.Rack.faults c.args.self.now.rack)) (sym c.requires.no_leaf) (counts_none (g.R.Rack.faults c.args.self.now.rack));
+}
+
+pub read_next-requires : goal.read_next-requires
+read_next-requires g c =
+    let i = c.loop-column.invariant in
+    let same = geometry_in c.args.self.now c.loop-column.self i.whole in
+    record {
+      valid = valid_rack g.R.Rack c.args.self.now c.loop-column.self i.whole i.shape c.requires.valid;
+      run = subst (λ (geometry : Geometry). IsRun geometry c.args.pointer.now.first c.args.pointer.now.stripes) (sym same) c.requires.run;
+      less = subst (λ (geometry : Geometry). c.loop-column.column < geometry.g) (sym same) c.loop-column-test.true;
+      before = reads_in g.R.Rack c.args.self.now c.loop-column.self c.args.pointer.now c.loop-column.column c.loop-column.columns.items c.loop-column.failed.items i.whole i.told i.read;
+      room = subst (λ (geometry : Geometry). geometry.g ≤ vec_capacity c.loop-column.failed) (sym same) i.room;
+    }
+
+pub loop-column-preserved : goal.loop-column-preserved
+loop-column-preserved g c =
+    let i = c.loop-column.invariant in
+    let e = c.read_next.ensures in
+    record {
+      whole = rack_twice c.args.self.now c.loop-column.self c.read_next.new.self i.whole e.rack;
+      told = e.told ∙ i.told;
+      shape = e.shape ∙ i.shape;
+      read = reads_back g.R.Rack c.args.self.now c.loop-column.self c.args.pointer.now (c.loop-column.column + 1) c.read_next.new.columns.items c.read_next.new.failed.items i.whole i.told e.read;
+      room = (let room = i.room in let same = e.room in omega (arith, room, same));
+      counts = e.counts (g.R.Rack.faults c.args.self.now.rack) i.counts;
+    }
+
+pub returns-clause-read : goal.returns-clause-read
+returns-clause-read g c =
+    let past = c.loop-column-test.false in
+    let upto = c.loop-column.auto.column-end in
+    let all : c.loop-column.column ≡ c.args.self.now.geometry.g = omega (arith, past, upto) in
+    subst (λ n. ReadsColumns (part_of c.args.self.now) c.args.self.now.slots c.args.pointer.now n (g.R.Rack.told c.args.self.now.rack) c.loop-column.columns.items c.loop-column.failed.items)
+    all c.loop-column.invariant.read

@@ -1,0 +1,22 @@
+use Rattle.std.proofs.Common.{rules, ◌∙◌, sym, arith}
+use Rattle.std.proofs.lemmas.Bool.{true≢false}
+use Rattle.draid_machine.specs.Step.{IsEnabled}
+use Rattle.draid_shard.proofs.FreeRuns.{fewer_by}
+use Rattle.draid_shard.proofs.shard.Shard.shut.Goals as goal
+
+pub returns-then-is_worn : goal.returns-then-is_worn
+returns-then-is_worn g c w is_in =
+    let enabled : IsEnabled w.core = search rules in (
+      enabled,
+      fewer_by c.args.self.now w c.is_full.result is_in c.requires.valid.few c.is_full.ensures.count c.if-is_full.false,
+      (let passes = c.is_worn.ensures.0 c.if-is_worn.true in let same = c.block_events.ensures in omega (arith, passes, same)),
+    )
+
+pub returns : goal.returns
+returns g c w is_in =
+    let enabled : IsEnabled w.core = search rules in
+    record {
+      enabled = enabled;
+      fewer = fewer_by c.args.self.now w c.is_full.result is_in c.requires.valid.few c.is_full.ensures.count c.if-is_full.false;
+      events = λ worn. true≢false (sym (c.is_worn.ensures.1 (let same = c.block_events.ensures in omega (arith, worn, same))) ∙ c.if-is_worn.false);
+    }

@@ -1,0 +1,62 @@
+use Rattle.std.proofs.Common.{◌∙◌, arith, refl}
+use Rattle.draid_metaslab.specs.Spaces.{is_free}
+use Rattle.draid_shard.proofs.Tables.{allocated, back_again, held_tables, kept_tables, none_at, space_of}
+use Rattle.draid_shard.proofs.tickets.hold.Goals as goal
+
+pub returns-in-Err-NoRoom-clause-tables : goal.returns-in-Err-NoRoom-clause-tables
+returns-in-Err-NoRoom-clause-tables c geometry group t sized =
+    let e = c.in-Err-NoRoom.ensures in
+    kept_tables geometry group c.args.space.now c.allocate.new.self c.args.entries.now c.args.entries.now t (λ k. refl) e.same.0
+    (space_of geometry group c.args.space.now c.allocate.new.self c.args.entries.now _ t e.kept (e.same.1 ∙ t.count))
+
+pub returns-in-Err-NoMemory-clause-tables : goal.returns-in-Err-NoMemory-clause-tables
+returns-in-Err-NoMemory-clause-tables c geometry group t sized =
+    let e = c.in-Err-NoMemory.ensures in
+    kept_tables geometry group c.args.space.now c.allocate.new.self c.args.entries.now c.args.entries.now t (λ k. refl) e.same.0
+    (space_of geometry group c.args.space.now c.allocate.new.self c.args.entries.now _ t e.kept (e.same.1 ∙ t.count))
+
+pub enter-requires-clause-free : goal.enter-requires-clause-free
+enter-requires-clause-free c =
+    let r = c.requires.tables in
+    none_at r.geometry r.open_group c.args.space.now c.args.entries.now c.in-Ok.first c.args.pointer.stripes r.tables
+    (allocated r.geometry r.open_group c.args.space.now c.args.entries.now c.in-Ok.first c.args.pointer.stripes c.from.result r.tables c.from.ensures c.requires.some
+    c.in-Ok.ensures.lowest c.in-Ok.ensures.inside)
+
+pub returns-in-Ok-enter-clause-was : goal.returns-in-Ok-enter-clause-was
+returns-in-Ok-enter-clause-was c =
+    let r = c.requires.tables in
+    none_at r.geometry r.open_group c.args.space.now c.args.entries.now c.in-Ok.first c.args.pointer.stripes r.tables
+    (allocated r.geometry r.open_group c.args.space.now c.args.entries.now c.in-Ok.first c.args.pointer.stripes c.from.result r.tables c.from.ensures c.requires.some
+    c.in-Ok.ensures.lowest c.in-Ok.ensures.inside)
+
+pub returns-in-Ok-enter-clause-tables : goal.returns-in-Ok-enter-clause-tables
+returns-in-Ok-enter-clause-tables c geometry group t sized =
+    let placed = record c.args.pointer { first = c.in-Ok.first } in
+    let e = c.in-Ok-enter.ensures in
+    let len = e.count in
+    let count = c.in-Ok.ensures.held in
+    let held = t.count in
+    held_tables geometry group c.args.space.now c.allocate.new.self c.args.entries.now c.enter.new.entries placed t
+    (allocated geometry group c.args.space.now c.args.entries.now c.in-Ok.first c.args.pointer.stripes c.from.result t c.from.ensures c.requires.some
+    c.in-Ok.ensures.lowest c.in-Ok.ensures.inside)
+    (record { some = sized.some; short = sized.short; stripes = sized.stripes; born = sized.born; low = sized.low })
+    (rw c.from.ensures at c.in-Ok.ensures.taken) e.entered
+    (space_of geometry group c.args.space.now c.allocate.new.self c.args.entries.now _ t c.in-Ok.ensures.kept (omega (arith, len, count, held)))
+
+pub returns-in-Err-clause-tables : goal.returns-in-Err-clause-tables
+returns-in-Err-clause-tables c geometry group t sized =
+    let fits = allocated geometry group c.args.space.now c.args.entries.now c.in-Ok.first c.args.pointer.stripes c.from.result t c.from.ensures c.requires.some
+    c.in-Ok.ensures.lowest c.in-Ok.ensures.inside in
+    let free = back_again (is_free c.args.space.now) (is_free c.allocate.new.self) (is_free c.release.new.self) c.in-Ok.first c.args.pointer.stripes fits.was
+    (rw c.from.ensures at c.in-Ok.ensures.taken) (rw c.from-in-Err.ensures at c.release.ensures.freed) in
+    let same = c.in-Err.ensures.same in
+    let up = c.in-Ok.ensures.held in
+    let down = c.release.ensures.held in
+    let held = t.count in
+    let len = same.count in
+    kept_tables geometry group c.args.space.now c.release.new.self c.args.entries.now c.enter.new.entries t same.at free
+    (record {
+      height = c.release.ensures.kept.height ∙ c.in-Ok.ensures.kept.height ∙ t.height;
+      total = c.release.ensures.kept.total ∙ c.in-Ok.ensures.kept.total ∙ t.total;
+      count = omega (arith, up, down, held, len);
+    })

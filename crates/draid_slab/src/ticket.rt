@@ -1,9 +1,0 @@
-use draid_names::Pointer;
-
-/// An open write: its block, the column that is put next, and how many columns landed on no arm.
-#[derive(Debug, Drop)]
-pub struct Ticket {
-    pub pointer: Pointer,
-    pub next: u32,
-    pub missed: u32,
-}

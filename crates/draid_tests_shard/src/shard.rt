@@ -1,0 +1,358 @@
+ghost use Rattle.std.specs.Prelude.{◌≡◌, ◌≤◌, ◌+◌, None, IfOk, length};
+ghost use Rattle.draid_block.specs.Blocks.{cut_of};
+ghost use Rattle.draid_spec.specs.Geometry.{IsGeometry};
+ghost use Rattle.draid_machine.specs.declared.names.Key.{Key};
+ghost use Rattle.draid_entries.specs.Entries.{held_in};
+ghost use Rattle.draid_shard.specs.Calls.{Carries};
+ghost use Rattle.draid_shard.specs.Fits.{Valid};
+
+use draid_area::{Area, MemoryArea};
+use draid_block::{Encoded, solve_block};
+use draid_entries::ReserveFault;
+use draid_names::{ArmAt, Failed, NoMemory, Pointer};
+use draid_perm::Perms;
+use draid_rack::{MemoryRack, Rack};
+use draid_shelf::Kit;
+use draid_shard::{BeginFault, FetchFault, Missed, NotLive, Shard, Shut, Ticket};
+use draid_spec::{Geometry, Props, SpecFault, geometry, parse_spec};
+use std::alloc::{AllocError, Global};
+use std::test::Fail;
+
+type Metaslab = Shard<MemoryRack, MemoryArea>;
+
+/// Two data columns and their parity on three children, in one slice of eight stripes.
+fn first_layout() -> Result<Geometry, SpecFault>
+    ensures { IfOk result IsGeometry }
+{
+    let props = Props {
+        sector: 512,
+        height: 8,
+        metaslabs: 1,
+        slices: 1,
+        seed: 1,
+        version: 1,
+    };
+    geometry(parse_spec(b"draid1:2d:3c", 3, 1)?, props)
+}
+
+fn area(alloc: Global) -> Result<MemoryArea, AllocError> {
+    MemoryArea::new(alloc, Vec::new(alloc), Vec::new(alloc))
+}
+
+/// An empty metaslab of so many events, over a memory rack whose calls with these numbers fail.
+fn metaslab(
+    alloc: Global,
+    layout: Geometry,
+    failing: &[u64],
+    events: u64,
+) -> Result<Metaslab, NoMemory>
+    requires layout { IsGeometry layout }
+    ensures valid { IfOk result (Valid ⟦<MemoryRack as Rack>⟧) }
+    ensures open_group { IfOk result (λ shard. shard.open_group ≡ 2) }
+    ensures empty { IfOk result (λ shard. (key : Key) → held_in shard.entries key ≡ None) }
+{
+    let perms = Perms::new(layout.spec.children, layout.props.seed);
+    let failing = Vec::from_slice(alloc, failing)?;
+    let rack = MemoryRack::new(
+        alloc,
+        layout.spec.children,
+        layout.metaslab_sectors(),
+        layout.props.sector,
+        failing,
+    )?;
+    let kit = Kit {
+        rack,
+        even: area(alloc)?,
+        odd: area(alloc)?,
+    };
+    match Shard::create(alloc, 0, layout, perms, kit, events) {
+        Ok(shard) => Ok(shard),
+        Err(_) => Err(NoMemory),
+    }
+}
+
+/// Writes all columns of a block, and ends its write.
+fn put_all<R: Rack, A: Area>(
+    shard: &mut Shard<R, A>,
+    mut ticket: Ticket,
+    block: &Encoded,
+) -> Result<Pointer, Missed>
+    requires valid { Valid R.Rack shard.old }
+    requires carries { Carries shard.old ticket block.now }
+    requires fresh { ticket.next ≡ 0 }
+    ensures valid { Valid R.Rack shard.new }
+{
+    for _column in 0..shard.geometry.g {
+        shard.put(&mut ticket, block);
+    }
+    shard.finish(ticket)
+}
+
+/// Begins the one write, in a floor's group or the open one.
+fn begin<R: Rack, A: Area>(
+    shard: &mut Shard<R, A>,
+    block: &Encoded,
+    floor: u64,
+) -> Result<Ticket, BeginFault>
+    requires valid { Valid R.Rack shard.old }
+    requires floor { (floor ≤ shard.old.open_group + 1) × (floor ≤ 3) }
+    requires empty { (key : Key) → held_in shard.old.entries key ≡ None }
+    requires cut { block.now.cut ≡ cut_of shard.old.geometry }
+    ensures valid { Valid R.Rack shard.new }
+    ensures carries { IfOk result (λ ticket. Carries shard.new ticket block.now) }
+    ensures fresh { IfOk result (λ ticket. ticket.next ≡ 0) }
+{
+    shard.begin(7, 1, block, floor)
+}
+
+/// Writes a block.
+fn write<R: Rack, A: Area>(
+    alloc: Global,
+    shard: &mut Shard<R, A>,
+    bytes: &[u8],
+) -> Result<Result<Pointer, Missed>, BeginFault>
+    requires valid { Valid R.Rack shard.old }
+    requires empty { (key : Key) → held_in shard.old.entries key ≡ None }
+    requires some { 1 ≤ length bytes.now }
+    requires short { length bytes.now ≤ 131072 }
+    ensures valid { Valid R.Rack shard.new }
+{
+    let block = Encoded::of(alloc, &shard.geometry, bytes)?;
+    let ticket = begin(shard, &block, 0)?;
+    Ok(put_all(shard, ticket, &block))
+}
+
+/// Whether the leaf of a slot has the open group in its log.
+fn is_logged<R: Rack, A: Area>(shard: &Shard<R, A>, slot: u32) -> bool
+    requires valid { Valid R.Rack shard.now }
+{
+    slot < shard.geometry.spec.children
+        && !shard.slots.arms(slot).is_empty()
+        && shard.slots.log(ArmAt { slot, arm: 0 }).contains(2)
+}
+
+/// How many columns of a block are absent, and whether its bytes are `hello`.
+fn read<R: Rack, A: Area>(
+    alloc: Global,
+    shard: &mut Shard<R, A>,
+    pointer: &Pointer,
+) -> Result<(usize, bool), Fail>
+    requires valid { Valid R.Rack shard.old }
+    ensures valid { Valid R.Rack shard.new }
+{
+    let fetched = shard.fetch(pointer)?;
+    let absent = fetched
+        .columns
+        .iter()
+        .filter(|column| column.is_none())
+        .count();
+    let bytes = solve_block(alloc, &shard.geometry, &fetched);
+    Ok((
+        absent,
+        bytes.is_ok_and(|bytes| bytes.as_slice() == b"hello".as_slice()),
+    ))
+}
+
+/// Whether a block is neither fetched nor freed, as it isn't live.
+fn is_gone<R: Rack, A: Area>(shard: &mut Shard<R, A>, pointer: &Pointer) -> bool
+    requires valid { Valid R.Rack shard.old }
+    ensures valid { Valid R.Rack shard.new }
+{
+    let fetched = shard.fetch(pointer);
+    let freed = shard.free(pointer, 0);
+    matches!(fetched, Err(FetchFault::NotLive)) && matches!(freed, Err(NotLive))
+}
+
+/// What is told of the life of one block.
+#[derive(Clone, Copy, Debug, PartialEq, Eq)]
+struct Life {
+    /// How many columns were missed, where these were too many.
+    missed: Option<u32>,
+    /// Which leaves have its group in their logs.
+    logged: [bool; 3],
+    /// The longest run of free stripes beside it.
+    run: u64,
+    /// How many columns were absent as it was fetched, and whether its bytes were there.
+    fetched: Option<(usize, bool)>,
+    /// In which group it was freed.
+    freed: Option<u64>,
+    /// Whether it is neither fetched nor freed once more.
+    gone: bool,
+    events: usize,
+}
+
+/// Writes a block, and fetches and frees it where it was written.
+fn lived(alloc: Global, failing: &[u64]) -> Result<Life, Fail> {
+    let mut shard = metaslab(alloc, first_layout()?, failing, 4096)?;
+    let written = write(alloc, &mut shard, b"hello")?;
+    let mut life = Life {
+        missed: None,
+        logged: [
+            is_logged(&shard, 0),
+            is_logged(&shard, 1),
+            is_logged(&shard, 2),
+        ],
+        run: shard.room(1).run,
+        fetched: None,
+        freed: None,
+        gone: false,
+        events: 0,
+    };
+    match written {
+        Ok(pointer) => {
+            life.fetched = Some(read(alloc, &mut shard, &pointer)?);
+            life.freed = shard.free(&pointer, 0).ok();
+            life.gone = is_gone(&mut shard, &pointer);
+        }
+        Err(missed) => life.missed = Some(missed.columns),
+    }
+    life.events = shard.events().len();
+    Ok(life)
+}
+
+/// The life of a block of which no call fails.
+const WHOLE: Life = Life {
+    missed: None,
+    logged: [false; 3],
+    run: 7,
+    fetched: Some((0, true)),
+    freed: Some(2),
+    gone: true,
+    events: 7,
+};
+
+/// The life of one of which too many columns are missed.
+const MISSED: Life = Life {
+    missed: Some(2),
+    logged: [true, false, true],
+    run: 8,
+    fetched: None,
+    freed: None,
+    gone: false,
+    events: 5,
+};
+
+// A block of one stripe is three writes and three reads. A leaf on which a column is missed has the group in its log; too
+// many of them end the write without a block.
+#[test]
+fn blocks_live_while_calls_fail(rt: HostRuntime) -> Result<(), Fail> {
+    let one = Life {
+        logged: [false, true, false],
+        ..WHOLE
+    };
+    let absent = Life {
+        fetched: Some((1, true)),
+        ..WHOLE
+    };
+    let table: [(&[u64], Life); 4] = [(&[], WHOLE), (&[1], one), (&[4], absent), (&[0, 2], MISSED)];
+    for (failing, wanted) in table {
+        assert_eq!(rt; lived(rt.alloc(), failing)?, wanted);
+    }
+    Ok(())
+}
+
+/// In which group a write is begun where the floor is the next one, and the longest run of free stripes beside it with
+/// one column put, and as it was given up.
+fn given_up(alloc: Global) -> Result<[u64; 3], Fail> {
+    let mut shard = metaslab(alloc, first_layout()?, &[], 4096)?;
+    let block = Encoded::of(alloc, &shard.geometry, b"hello")?;
+    let mut ticket = begin(&mut shard, &block, 3)?;
+    let birth = ticket.pointer.birth;
+    shard.put(&mut ticket, &block);
+    let open = shard.room(1).run;
+    shard.abort(ticket);
+    Ok([birth, open, shard.room(1).run])
+}
+
+#[test]
+fn a_write_that_is_given_up_leaves_its_stripes(rt: HostRuntime) -> Result<(), Fail> {
+    assert_eq!(rt; given_up(rt.alloc())?, [3, 7, 8]);
+    Ok(())
+}
+
+/// Damages a sector, where it is there.
+fn damage<R: Rack, A: Area>(
+    shard: &mut Shard<R, A>,
+    leaf: u64,
+    sector: u64,
+) -> Result<Option<Result<(), Failed>>, ReserveFault>
+    requires valid { Valid R.Rack shard.old }
+    ensures valid { Valid R.Rack shard.new }
+{
+    shard.reserve(1)?;
+    if !shard.has_leaf(leaf) || shard.geometry.metaslab_sectors() <= sector {
+        return Ok(None);
+    }
+    Ok(Some(shard.damage(leaf, sector)))
+}
+
+/// What damaging the first sectors of three leaves answers, what is told of the block then, and the sectors of the last
+/// leaf as the devices come back.
+fn damaged(
+    alloc: Global,
+    failing: &[u64],
+) -> Result<([Option<Result<(), Failed>>; 3], (usize, bool), Option<u64>), Fail> {
+    let mut shard = metaslab(alloc, first_layout()?, failing, 4096)?;
+    let pointer = write(alloc, &mut shard, b"hello")??;
+    let answers = [
+        damage(&mut shard, 0, 0)?,
+        damage(&mut shard, 1, 0)?,
+        damage(&mut shard, 3, 0)?,
+    ];
+    let told = read(alloc, &mut shard, &pointer)?;
+    Ok((answers, told, shard.into_kit().rack.sectors(2)))
+}
+
+#[test]
+fn one_damaged_sector_is_read_around(rt: HostRuntime) -> Result<(), Fail> {
+    let both = [Some(Ok(())), Some(Ok(())), None];
+    let one = [Some(Ok(())), Some(Err(Failed)), None];
+    assert_eq!(rt; damaged(rt.alloc(), &[])?, (both, (0, false), Some(8)));
+    assert_eq!(rt; damaged(rt.alloc(), &[4])?, (one, (0, true), Some(8)));
+    Ok(())
+}
+
+/// Why a metaslab of so many events takes no block, the longest run that it tells, why a block of so many bytes isn't
+/// begun, and what reserving and asking for an event answers.
+fn refused(
+    alloc: Global,
+    events: u64,
+    bytes: &[u8],
+) -> Result<
+    (
+        Option<Shut>,
+        u64,
+        Option<BeginFault>,
+        [Result<(), ReserveFault>; 2],
+    ),
+    Fail,
+>
+    requires some { 1 ≤ length bytes.now }
+    requires short { length bytes.now ≤ 131072 }
+{
+    let mut shard = metaslab(alloc, first_layout()?, &[], events)?;
+    let shut = shard.shut();
+    let run = shard.room(1).run;
+    let begun = write(alloc, &mut shard, bytes).err();
+    Ok((shut, run, begun, [shard.reserve(1), shard.ask(1)]))
+}
+
+#[test]
+fn refusals_say_why(rt: HostRuntime) -> Result<(), Fail> {
+    let worn = Err(ReserveFault::Worn { events: 0 });
+    let at_limit = (
+        Some(Shut::Worn),
+        0,
+        Some(BeginFault::Worn { events: 0 }),
+        [worn; 2],
+    );
+    assert_eq!(rt; refused(rt.alloc(), 3072, b"hello")?, at_limit);
+    let full = (
+        None,
+        8,
+        Some(BeginFault::NoRoom { largest: 8 }),
+        [Ok(()); 2],
+    );
+    assert_eq!(rt; refused(rt.alloc(), 4096, &[5; 16384])?, full);
+    Ok(())
+}

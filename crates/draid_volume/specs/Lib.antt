@@ -1,9 +1,0 @@
-pub mod Answers
-pub mod Batches
-pub mod Carries
-pub mod Closing
-pub mod Metaslabs
-pub mod Objects
-pub mod Opening
-pub mod Pools
-pub mod Shards
