@@ -1,5 +1,5 @@
 -- The session: what its shelf holds between lines, and what each line does to that.
-use Rattle.std.specs.Prelude.{◌≡◌, ℕ, Bool, List, [], ◌∷◌, Option, Some, None, Result, Ok, Err, string_bytes}
+use Rattle.std.specs.Prelude.{◌≡◌, ◌⊎◌, ℕ, Bool, List, [], ◌∷◌, Option, Some, None, Result, Ok, Err, string_bytes}
 use Rattle.draid_names.specs.declared.room.Room.{Room}
 use Rattle.draid_spec.specs.declared.layout.Geometry.{Geometry}
 use Rattle.draid_script.specs.Grammar.{line_of}
@@ -45,14 +45,17 @@ name_of command = None
 abbrev pub HasLayout : List ℕ → ℕ → PoolKeys → Geometry → Type 0
 HasLayout text children keys geometry = layout_by text children keys ≡ Ok geometry
 
+-- A pool was to be made, and none was opened: the shelf is as it was, or all that was made is on it.
+abbrev pub MakesNone : List ℕ → ℕ → PoolKeys → Desk → Desk → Type 0
+MakesNone text children keys old new = (geometry : Geometry) × HasLayout text children keys geometry × (StaysShut old new ⊎ (new ≡ Made geometry))
+
 -- `tells` is whether the shelf told what it holds as a pool was made.
 module _ (tells : Bool) where
-  -- A pool is made, over whatever the shelf held. For want of memory the shelf is as it was, or all that was made is on it.
+  -- A pool is made, over whatever the shelf held, or for want of memory none is opened.
   abbrev pub Creates : List ℕ → ℕ → PoolKeys → Desk → Reply → Desk → Type 0
   Creates text children keys old (Created called stripes) (Open new) = Makes tells text children keys (string_bytes called) stripes new
   Creates text children keys old (CreateRefused why) new = (layout_by text children keys ≡ Err why) × StaysShut old new
-  Creates text children keys old (NoMemory name.Create) (Made geometry) = HasLayout text children keys geometry
-  Creates text children keys old (NoMemory name.Create) new = ((geometry : Geometry) × HasLayout text children keys geometry) × StaysShut old new
+  Creates text children keys old (NoMemory name.Create) new = MakesNone text children keys old new
   Creates text children keys old reply new = ⊥
 
   abbrev pub ShutTurns : Desk → Command → Reply → Desk → Type 0
@@ -107,14 +110,10 @@ module _ (tells : Bool) (chosen : List Room → Option ℕ → Type 0) where
 
 -- ---- where a run breaks off
 
--- A call on the shelf failed as a pool was to be made: the shelf is as it was, or all that was made is on it.
-abbrev pub BreaksCreate : List ℕ → ℕ → PoolKeys → Desk → Desk → Type 0
-BreaksCreate text children keys old (Made geometry) = HasLayout text children keys geometry
-BreaksCreate text children keys old new = ((geometry : Geometry) × HasLayout text children keys geometry) × StaysShut old new
-
+-- A call on the shelf failed as a pool was to be made.
 abbrev pub Breaks : Desk → Command → Desk → Type 0
 Breaks (Open old) command new = ⊥
-Breaks old (CreatePool text children keys) new = BreaksCreate text children keys old new
+Breaks old (CreatePool text children keys) new = MakesNone text children keys old new
 Breaks old command new = ⊥
 
 -- the pool that is open as a run ends is given back, without a sync

@@ -9,7 +9,6 @@ mod memory;
 mod place;
 mod places;
 mod plan;
-mod racks;
 mod shelf;
 
 pub use draid_faults::CrashRule;
@@ -17,5 +16,4 @@ pub use draid_names::DeviceFault;
 pub use kit::Kit;
 pub use memory::MemoryShelf;
 pub use place::Place;
-pub use racks::RackShelf;
 pub use shelf::{METASLABS, Shelf};

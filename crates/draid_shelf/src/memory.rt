@@ -10,7 +10,6 @@ use crate::devices::Devices;
 use crate::place::Place;
 use crate::places::{empty_places, fuse_all, put_on, racks_of};
 use crate::plan::Plan;
-use crate::racks::RackShelf;
 use crate::shelf::METASLABS;
 use draid_faults::{Calls, CrashRule, Fuse};
 use draid_names::{DeviceFault, NoMemory};
@@ -156,76 +155,5 @@ impl MemoryShelf {
             }
             None => false,
         }
-    }
-}
-
-impl RackShelf for MemoryShelf {
-    ghost use Rattle.draid_shelf.specs.Failing.{KeepsPlan, is_planned};
-
-    type R = MemoryRack;
-
-    ghost made = { λ shelf. shape_at shelf.devices.racks };
-
-    ghost holds = { λ shelf. held_at shelf.devices.racks };
-
-    ghost counts = { λ shelf. counts_at shelf.devices.racks };
-
-    fn make(&mut self, alloc: Global, geometry: &Geometry) -> Result<(), NoMemory>
-        requires { IsGeometry geometry.now }
-        ensures made { OnOk result ((m : ℕ) → m < geometry.now.props.metaslabs
-            → IsSomeAnd (shape_at self.new.devices.racks m) (HasLeavesOf geometry.now)) }
-        ensures zeros { OnOk result ((m : ℕ) → m < geometry.now.props.metaslabs
-            → TellsZeros (held_at self.new.devices.racks m) geometry.now) }
-        ensures calm { OnOk result ((m : ℕ) → m < geometry.now.props.metaslabs
-            → TellsCalm (held_at self.new.devices.racks m)) }
-        ensures counts { OnOk result ((m : ℕ) (who : Option ℕ) → m < geometry.now.props.metaslabs
-            → counts_at self.new.devices.racks m who ≡ 0) }
-        ensures err { OnErr result
-            ((m : ℕ) → held_at self.new.devices.racks m ≡ held_at self.old.devices.racks m) }
-        ensures all { OnOk result (AreMade geometry.now (list_at self.old.plan.racks) (is_planned self.old)
-            geometry.now.props.metaslabs self.new.devices.racks) }
-        ensures kept { OnErr result (self.new.devices ≡ self.old.devices) }
-        ensures plan { KeepsPlan self.old self.new }
-    {
-        self.devices.racks = racks_of(alloc, geometry, &self.plan.racks, &self.plan.fuse)?;
-        Ok(())
-    }
-
-    fn take(&mut self, metaslab: u32) -> Result<MemoryRack, NoMemory>
-        ensures leaves { IfOk result (λ rack.
-            IsKnown (shape_at self.old.devices.racks metaslab) (shape_of_memory rack)) }
-        ensures told { IfOk result (λ rack. told_by_memory rack ≡ held_at self.old.devices.racks metaslab) }
-        ensures counts { IfOk result (λ rack. (who : Option ℕ)
-            → faults_of_memory rack who ≡ counts_at self.old.devices.racks metaslab who) }
-        ensures made { SameOthers metaslab (shape_at self.old.devices.racks) (shape_at self.new.devices.racks) }
-        ensures holds { SameOthers metaslab (held_at self.old.devices.racks) (held_at self.new.devices.racks) }
-        ensures others { SameOthers metaslab (counts_at self.old.devices.racks)
-            (counts_at self.new.devices.racks) }
-        ensures err { OnErr result
-            ((m : ℕ) → held_at self.new.devices.racks m ≡ held_at self.old.devices.racks m) }
-        ensures err_counts { OnErr result
-            ((m : ℕ) → counts_at self.new.devices.racks m ≡ counts_at self.old.devices.racks m) }
-        ensures moved { IfOk result (λ rack. rack_at self.old.devices.racks metaslab ≡ Some rack) }
-        ensures plan { KeepsPlan self.old self.new }
-    {
-        if metaslab >= METASLABS {
-            return Err(NoMemory);
-        }
-        self.devices.racks[metaslab as usize].take().ok_or(NoMemory)
-    }
-
-    fn give(&mut self, metaslab: u32, rack: MemoryRack)
-        requires { metaslab < most_metaslabs }
-        ensures told { held_at self.new.devices.racks metaslab ≡ told_by_memory rack }
-        ensures counts { (who : Option ℕ) → counts_at self.new.devices.racks metaslab who
-            ≡ faults_of_memory rack who }
-        ensures made { SameOthers metaslab (shape_at self.old.devices.racks) (shape_at self.new.devices.racks) }
-        ensures holds { SameOthers metaslab (held_at self.old.devices.racks) (held_at self.new.devices.racks) }
-        ensures others { SameOthers metaslab (counts_at self.old.devices.racks)
-            (counts_at self.new.devices.racks) }
-        ensures moved { rack_at self.new.devices.racks metaslab ≡ Some rack }
-        ensures plan { KeepsPlan self.old self.new }
-    {
-        self.devices.racks[metaslab as usize] = Some(rack);
     }
 }

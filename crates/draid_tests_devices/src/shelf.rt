@@ -6,7 +6,7 @@ use draid_area::Area;
 use draid_faults::CrashRule;
 use draid_names::Failed;
 use draid_rack::Rack;
-use draid_shelf::{MemoryShelf, Place, RackShelf, Shelf};
+use draid_shelf::{MemoryShelf, Place, Shelf};
 use draid_spec::{Geometry, Props, Spec, geometry};
 use std::alloc::Global;
 use std::test::Fail;
@@ -63,31 +63,6 @@ fn shelf_failing(alloc: Global, place: Place, calls: &[u64]) -> Result<MemoryShe
     let mut shelf = MemoryShelf::new(alloc, CrashRule::New);
     shelf.fail(place, Vec::from_slice(alloc, calls)?);
     Ok(shelf)
-}
-
-/// How many sectors leaf 3 of a rack has, and its first leaf from 4 on. The rack is taken and given back.
-fn use_rack<H: RackShelf>(shelf: &mut H) -> Result<[Option<u64>; 2], Fail> {
-    let rack = shelf.take(1)?;
-    let seen = [rack.sectors(3), rack.leaf_from(4)];
-    shelf.give(1, rack);
-    Ok(seen)
-}
-
-/// Whether the racks of metaslabs 1 and 2 are there.
-fn has_racks<H: RackShelf>(shelf: &mut H) -> [bool; 2] {
-    [shelf.take(1).is_ok(), shelf.take(2).is_ok()]
-}
-
-#[test]
-fn racks_alone_are_given_and_taken(rt: HostRuntime) -> Result<(), Fail> {
-    let mut shelf = MemoryShelf::new(rt.alloc(), CrashRule::Old);
-    RackShelf::make(&mut shelf, rt.alloc(), &small_geometry()?)?;
-    let seen = use_rack(&mut shelf)?;
-    assert_eq!(rt;
-        (seen, has_racks(&mut shelf)),
-        ([Some(24), None], [true, false])
-    );
-    Ok(())
 }
 
 /// Flushes leaf 0, where it is there.

@@ -1,5 +1,5 @@
-//! Tests of the crates of one metaslab: its slots, its blocks, and its histories of events. It offers nothing; a module is
-//! named after the crate that it tests.
+//! Tests of the state of one metaslab: its slots, its histories of events, and what a rack has of its segments. It
+//! offers nothing; a module is named after the crate that it tests.
 
 #![tactic(auto)]
 
@@ -7,7 +7,5 @@
 mod replay;
 #[cfg(test)]
 mod segments;
-#[cfg(test)]
-mod shard;
 #[cfg(test)]
 mod slots;

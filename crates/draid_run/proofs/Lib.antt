@@ -1,0 +1,5 @@
+pub mod Filled
+pub mod Following
+pub mod Makings
+pub mod Said
+pub mod Steps

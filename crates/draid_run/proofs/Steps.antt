@@ -1,0 +1,132 @@
+-- What the calls of a pool did, in the words of a session.
+use Rattle.std.proofs.Common.{◌≡◌, ℕ, Bool, List, Option, Some, None, Ok, refl, subst, sym}
+use Rattle.draid_rack.specs.declared.Rack as racks
+use Rattle.draid_area.specs.declared.Area as areas
+use Rattle.draid_names.specs.declared.room.Room.{Room}
+use Rattle.draid_spec.specs.declared.layout.Geometry.{Geometry}
+use Rattle.draid_script.specs.Line.{Command, CreatePool, DamageSector, FillObjects, FreeObject, ReadObject, SumObjects, WriteObject}
+use Rattle.draid_script.specs.declared.line.PoolKeys.{PoolKeys}
+use Rattle.draid_script.specs.declared.name.CommandName.{CommandName}
+use Rattle.draid_script.specs.declared.name.CommandName.TheVariants as name
+use Rattle.draid_reply.specs.declared.reply.Reply.{Reply}
+use Rattle.draid_reply.specs.declared.reply.Reply.TheVariants.{NoPool}
+use Rattle.draid_session.specs.Holds.{Hold}
+use Rattle.draid_session.specs.Session as session
+use Rattle.draid_session.specs.Session.{Desk, Untouched, Made, Open, Shut, TurnsBy}
+use Rattle.draid_session.specs.State.{State, Store}
+use Rattle.draid_pool.specs.Carries.{CarriesOut}
+use Rattle.draid_pool.specs.Pools.{Represents}
+use Rattle.draid_pool.specs.declared.pool.Pool.{Pool}
+use Rattle.draid_run.specs.Desks.{IsDesk, IsPool, PoolDid, ReplyDoes, Turned}
+use Rattle.draid_run.specs.Making.{CreateDid, CreateTurns}
+use Rattle.draid_run.specs.Says.{DamageSays, FreeSays, ReadSays, SumSays}
+use Rattle.draid_run.specs.Shelves.{OnShelf}
+use Rattle.draid_run.proofs.Said.{damage_does, free_does, read_does, sum_does}
+
+-- what an answer says, said otherwise
+pub by_answer : {R A T : Type 0} (rack : racks.Ghosts R) (area : areas.Ghosts A) (P : T → List Hold → Store → Type 0) (Q : List Hold → Store → Type 0) (x : State) (pool : Pool R A) (result said : T)
+    → result ≡ said → ((holds : List Hold) (store : Store) → P said holds store → Q holds store) → CarriesOut rack area pool x (P result) → CarriesOut rack area pool x Q
+by_answer rack area P Q x pool result said is f c = record {
+  holds = c.holds;
+  reached = c.reached;
+  store = c.store;
+  follows = c.follows;
+  done = f c.holds c.store (subst (λ r. P r c.holds c.store) is c.done);
+  represents = c.represents;
+}
+
+-- the pool that is open stands for a state
+pub has_state : {R A : Type 0} (rack : racks.Ghosts R) (area : areas.Ghosts A) (desk : Option (Pool R A)) (pool : Pool R A) → desk ≡ Some pool → (x : Desk) × IsPool rack area desk x → (x : State) × Represents rack area pool x
+has_state rack area desk pool is stands = by stands.0 (subst (λ d. IsPool rack area d stands.0) is stands.1) where
+  by : (x : Desk) → IsPool rack area (Some pool) x → (x : State) × Represents rack area pool x
+  by Untouched stands = absurd stands
+  by (Made geometry) stands = absurd stands
+  by (Shut y) stands = absurd stands
+  by (Open y) stands = (y, stands)
+
+module _ {R A : Type 0} (rack : racks.Ghosts R) (area : areas.Ghosts A) (called : CommandName) (says : State → List Hold → Store → Type 0) (reply : Reply) where
+  -- a command was carried out on the pool that is open
+  pub did_open : (desk : Option (Pool R A)) (pool new : Pool R A) → desk ≡ Some pool → ((x : State) → Represents rack area pool x → CarriesOut rack area new x (says x))
+      → (x : Desk) → IsPool rack area desk x → PoolDid rack area called says x reply (Some new)
+  did_open desk pool new is step x = subst (λ d. IsPool rack area d x → PoolDid rack area called says x reply (Some new)) (sym is) (by x) where
+    by : (x : Desk) → IsPool rack area (Some pool) x → PoolDid rack area called says x reply (Some new)
+    by Untouched stands = absurd stands
+    by (Made geometry) stands = absurd stands
+    by (Shut y) stands = absurd stands
+    by (Open y) stands = step y stands
+
+  -- no pool is open, and the reply says so
+  pub did_shut : (desk new : Option (Pool R A)) → desk ≡ None → new ≡ None → reply ≡ NoPool called → (x : Desk) → IsPool rack area desk x → PoolDid rack area called says x reply new
+  did_shut desk new none same said x = subst (λ d. IsPool rack area d x → PoolDid rack area called says x reply new) (sym none) (by x) where
+    by : (x : Desk) → IsPool rack area None x → PoolDid rack area called says x reply new
+    by Untouched stands = (said, same)
+    by (Made geometry) stands = (said, same)
+    by (Shut y) stands = (said, same)
+    by (Open y) stands = absurd stands
+
+module _ {R A : Type 0} (rack : racks.Ghosts R) (area : areas.Ghosts A) (chosen : List Room → Option ℕ → Type 0) (entry now : OnShelf) (desk : Option (Pool R A)) (reply : Reply) where
+  turned_by : (command : Command) (called : CommandName) (says : State → List Hold → Store → Type 0)
+      → ((x : State) (holds : List Hold) (store : Store) → says x holds store → ReplyDoes x chosen command reply holds store)
+      → ((tells : Bool) (x y : State) → session.CarriesOut tells chosen command reply x y → TurnsBy tells chosen (Ok command) (Open x) (Some reply) (Open y))
+      → ((tells : Bool) → TurnsBy tells chosen (Ok command) Untouched (Some (NoPool called)) Untouched)
+      → ((tells : Bool) (geometry : Geometry) → TurnsBy tells chosen (Ok command) (Made geometry) (Some (NoPool called)) (Made geometry))
+      → ((tells : Bool) (y : State) → TurnsBy tells chosen (Ok command) (Shut y) (Some (NoPool called)) (Shut y))
+      → (x : Desk) (new : Option (Pool R A)) → IsDesk rack area entry now desk x → PoolDid rack area called says x reply new → Turned rack area chosen (Ok command) entry now x (Some reply) now new
+  turned_by command called says does turns untouched made shut = by where
+    told : (x : Desk) (new : Option (Pool R A)) → (reply ≡ NoPool called) × (new ≡ None) → IsPool rack area None x → IsDesk rack area entry now desk x → ((tells : Bool) → TurnsBy tells chosen (Ok command) x (Some (NoPool called)) x)
+        → Turned rack area chosen (Ok command) entry now x (Some reply) now new
+    told x new said stands is turns =
+        subst (λ r. Turned rack area chosen (Ok command) entry now x (Some r) now new) (sym said.0)
+        (subst (λ d. Turned rack area chosen (Ok command) entry now x (Some (NoPool called)) now d) (sym said.1)
+        (record { new = x; desk = record { stands = stands; shelf = is.shelf }; told = λ tells t. t; turns = λ tells t. turns tells }))
+
+    by : (x : Desk) (new : Option (Pool R A)) → IsDesk rack area entry now desk x → PoolDid rack area called says x reply new → Turned rack area chosen (Ok command) entry now x (Some reply) now new
+    by Untouched new is did = told Untouched new did tt is untouched
+    by (Made geometry) new is did = told (Made geometry) new did tt is (λ tells. made tells geometry)
+    by (Shut y) new is did = told (Shut y) new did tt is (λ tells. shut tells y)
+    by (Open y) None is did = absurd did
+    by (Open y) (Some new) is did = record {
+      new = Open (record did.reached { store = did.store });
+      desk = record { stands = did.represents; shelf = is.shelf };
+      told = λ tells t. t;
+      turns = λ tells t. turns tells y (record did.reached { store = did.store })
+          (record { holds = did.holds; mid = did.reached; store = did.store; follows = did.follows; does = does y did.holds did.store did.done; made = refl });
+    }
+
+  pub by_write : (o : ℕ) (bytes : List ℕ) (x : Desk) (new : Option (Pool R A)) → IsDesk rack area entry now desk x → PoolDid rack area name.Write (λ y. ReplyDoes y chosen (WriteObject o bytes) reply) x reply new
+      → Turned rack area chosen (Ok (WriteObject o bytes)) entry now x (Some reply) now new
+  by_write o bytes = turned_by (WriteObject o bytes) name.Write (λ y. ReplyDoes y chosen (WriteObject o bytes) reply) (λ y holds store w. w) (λ tells y z c. c) (λ tells. (refl, refl)) (λ tells geometry. (refl, refl)) (λ tells y. (refl, refl))
+
+  pub by_fill : (first count len seed : ℕ) (x : Desk) (new : Option (Pool R A)) → IsDesk rack area entry now desk x
+      → PoolDid rack area name.Fill (λ y. ReplyDoes y chosen (FillObjects first count len seed) reply) x reply new
+      → Turned rack area chosen (Ok (FillObjects first count len seed)) entry now x (Some reply) now new
+  by_fill first count len seed =
+      turned_by (FillObjects first count len seed) name.Fill (λ y. ReplyDoes y chosen (FillObjects first count len seed) reply) (λ y holds store w. w) (λ tells y z c. c) (λ tells. (refl, refl)) (λ tells geometry. (refl, refl)) (λ tells y. (refl, refl))
+
+  pub by_read : (o : ℕ) (x : Desk) (new : Option (Pool R A)) → IsDesk rack area entry now desk x → PoolDid rack area name.Read (ReadSays o reply) x reply new
+      → Turned rack area chosen (Ok (ReadObject o)) entry now x (Some reply) now new
+  by_read o = turned_by (ReadObject o) name.Read (ReadSays o reply) (λ y holds store w. read_does y chosen reply holds store o w) (λ tells y z c. c) (λ tells. (refl, refl)) (λ tells geometry. (refl, refl)) (λ tells y. (refl, refl))
+
+  pub by_free : (o : ℕ) (x : Desk) (new : Option (Pool R A)) → IsDesk rack area entry now desk x → PoolDid rack area name.Free (FreeSays o reply) x reply new
+      → Turned rack area chosen (Ok (FreeObject o)) entry now x (Some reply) now new
+  by_free o = turned_by (FreeObject o) name.Free (FreeSays o reply) (λ y holds store w. free_does y chosen reply holds store o w) (λ tells y z c. c) (λ tells. (refl, refl)) (λ tells geometry. (refl, refl)) (λ tells y. (refl, refl))
+
+  pub by_sum : (first count : ℕ) (x : Desk) (new : Option (Pool R A)) → IsDesk rack area entry now desk x → PoolDid rack area name.Sum (SumSays first count reply) x reply new
+      → Turned rack area chosen (Ok (SumObjects first count)) entry now x (Some reply) now new
+  by_sum first count = turned_by (SumObjects first count) name.Sum (SumSays first count reply) (λ y holds store w. sum_does y chosen reply holds store first count w) (λ tells y z c. c) (λ tells. (refl, refl)) (λ tells geometry. (refl, refl)) (λ tells y. (refl, refl))
+
+  pub by_damage : (leaf sector : ℕ) (x : Desk) (new : Option (Pool R A)) → IsDesk rack area entry now desk x → PoolDid rack area name.Damage (DamageSays leaf sector reply) x reply new
+      → Turned rack area chosen (Ok (DamageSector leaf sector)) entry now x (Some reply) now new
+  by_damage leaf sector = turned_by (DamageSector leaf sector) name.Damage (DamageSays leaf sector reply) (λ y holds store w. damage_does y chosen reply holds store leaf sector w) (λ tells y z c. c) (λ tells. (refl, refl)) (λ tells geometry. (refl, refl)) (λ tells y. (refl, refl))
+
+-- a pool was made or refused, in the words of all commands
+pub by_create : {R A : Type 0} (rack : racks.Ghosts R) (area : areas.Ghosts A) (chosen : List Room → Option ℕ → Type 0) (entry before now : OnShelf) (text : List ℕ) (children : ℕ) (keys : PoolKeys) (x : Desk) (reply : Reply)
+    (pool : Option (Pool R A)) → CreateDid rack area text children keys entry before x reply now pool → Turned rack area chosen (Ok (CreatePool text children keys)) entry before x (Some reply) now pool
+by_create rack area chosen entry before now text children keys x reply pool did =
+    record { new = did.new; desk = did.desk; told = did.told; turns = λ tells t. by x tells did.new (did.turns tells t) }
+  where
+    by : (x : Desk) (tells : Bool) (new : Desk) → CreateTurns tells text children keys x reply new → TurnsBy tells chosen (Ok (CreatePool text children keys)) x (Some reply) new
+    by Untouched tells new turns = turns
+    by (Made geometry) tells new turns = turns
+    by (Shut y) tells new turns = turns
+    by (Open y) tells new turns = subst (λ r. TurnsBy tells chosen (Ok (CreatePool text children keys)) (Open y) (Some r) new) (sym turns.0) turns.1

@@ -1,0 +1,52 @@
+use Rattle.std.proofs.Common.{◌∙◌, ◌+◌, arith, ap, length}
+use Rattle.std.specs.Fn.{FnReturnsAt}
+use Rattle.draid_session.specs.Making.{content_of}
+use Rattle.draid_run.proofs.Filled.{fill_stopped, fill_unbegun, filled_all, filled_more, whole}
+use Rattle.draid_run.proofs.fill.fill.Goals as goal
+
+pub returns-in_default : goal.returns-in_default
+returns-in_default g c = record {
+  step = λ x rep. fill_unbegun g.R.Rack g.A.Area (FnReturnsAt g.F.Fn c.args.chooser.now) c.args.first c.args.len c.args.seed x c.args.pool.now c.args.count
+      (let some = c.requires.range.0.0 in omega (arith, some)) rep;
+}
+
+pub returns-in-Err : goal.returns-in-Err
+returns-in-Err g c =
+    let old = ap length c.deref_mut.ensures.value in
+    let kept = c.draw.ensures.len ∙ old in
+    let ok = c.loop-written.bytes.ok in
+    let long = c.loop-written.invariant.long in
+    let all = whole c.loop-written.bytes.len c.draw.new.into c.loop-written.bytes.items kept (omega (arith, ok)) in
+    let is = c.deref.ensures.value ∙ all ∙ c.draw.ensures.bytes ∙ ap (λ n. content_of c.args.seed (c.args.first + c.loop-written.written) n) (old ∙ long) in
+    record {
+      step = λ x rep. (let m = c.loop-written.invariant.filled x rep in
+          fill_stopped g.R.Rack g.A.Area (FnReturnsAt g.F.Fn c.args.chooser.now) c.args.first c.args.len c.args.seed x c.loop-written.pool c.write.new.self
+          c.loop-written.written c.deref.result.now c.write.result is m (c.write.ensures.step (record m.reached { store = m.store }) m.represents) c.args.count c.in-Err.why c.in-Err.is
+          c.loop-written-test.true);
+    }
+
+pub loop-written-preserved : goal.loop-written-preserved
+loop-written-preserved g c =
+    let old = ap length c.deref_mut.ensures.value in
+    let kept = c.draw.ensures.len ∙ old in
+    let ok = c.loop-written.bytes.ok in
+    let long = c.loop-written.invariant.long in
+    let all = whole c.loop-written.bytes.len c.draw.new.into c.loop-written.bytes.items kept (omega (arith, ok)) in
+    let is = c.deref.ensures.value ∙ all ∙ c.draw.ensures.bytes ∙ ap (λ n. content_of c.args.seed (c.args.first + c.loop-written.written) n) (old ∙ long) in
+    let was = c.loop-written.invariant.represents in
+    record {
+      long = ap length all ∙ kept ∙ long;
+      represents = (let n = c.write.ensures.step was.0 was.1 in (record n.reached { store = n.store }, n.represents));
+      filled = λ x rep. (let m = c.loop-written.invariant.filled x rep in
+          filled_more g.R.Rack g.A.Area (FnReturnsAt g.F.Fn c.args.chooser.now) c.args.first c.args.len c.args.seed x c.loop-written.pool c.write.new.self
+          c.loop-written.written c.deref.result.now c.write.result is m (c.write.ensures.step (record m.reached { store = m.store }) m.represents) c.in_default-write.is);
+    }
+
+pub returns : goal.returns
+returns g c =
+    let ends = c.loop-written-test.false in
+    let upto = c.loop-written.auto.written-end in
+    record {
+      step = λ x rep. filled_all g.R.Rack g.A.Area (FnReturnsAt g.F.Fn c.args.chooser.now) c.args.first c.args.len c.args.seed x c.loop-written.pool
+          c.loop-written.written c.args.count (omega (arith, ends, upto)) (c.loop-written.invariant.filled x rep);
+    }

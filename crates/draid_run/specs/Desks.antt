@@ -1,0 +1,74 @@
+-- For which desk the pool and the shelf stand between lines, and what a command comes to.
+use Rattle.std.specs.Prelude.{◌≡◌, ◌≤◌, ⊤, ℕ, Bool, List, Option, Some, None, Result, Ok, Err, IsSome, IsTrue, is_some}
+use Rattle.draid_names.specs.declared.room.Room.{Room}
+use Rattle.draid_rack.specs.declared.Rack as racks
+use Rattle.draid_area.specs.declared.Area as areas
+use Rattle.draid_script.specs.Line.{Command}
+use Rattle.draid_script.specs.declared.fault.LineFault.{LineFault}
+use Rattle.draid_script.specs.declared.name.CommandName.{CommandName}
+use Rattle.draid_reply.specs.declared.reply.Reply.{Reply}
+use Rattle.draid_reply.specs.declared.reply.Reply.TheVariants.{NoPool}
+use Rattle.draid_session.specs.Does.{Does}
+use Rattle.draid_session.specs.Holds.{Hold}
+use Rattle.draid_session.specs.Making.{content_of}
+use Rattle.draid_session.specs.Session.{Desk, Open, Breaks, TurnsBy, given_back}
+use Rattle.draid_session.specs.State.{State, Store}
+use Rattle.draid_pool.specs.Carries.{CarriesOut}
+use Rattle.draid_pool.specs.Pools.{Represents}
+use Rattle.draid_pool.specs.declared.pool.Pool.{Pool}
+use Rattle.draid_run.specs.Shelves.{HoldsDesk, IsOut, OnShelf}
+
+-- ---- desks
+
+-- the pool that is open, if one is, stands for the state of the desk
+abbrev pub IsPool : {R A : Type 0} → racks.Ghosts R → areas.Ghosts A → Option (Pool R A) → Desk → Type 0
+IsPool rack area None (Open x) = ⊥
+IsPool rack area None desk = ⊤
+IsPool rack area (Some pool) (Open x) = Represents rack area pool x
+IsPool rack area (Some pool) desk = ⊥
+
+-- the shelf, where it held this at the entry
+abbrev pub IsShelf : Desk → OnShelf → OnShelf → Type 0
+IsShelf (Open x) entry now = IsOut now
+IsShelf desk entry now = HoldsDesk desk entry now
+
+-- both
+pub record IsDesk {R A : Type 0} (rack : racks.Ghosts R) (area : areas.Ghosts A) (entry now : OnShelf) (pool : Option (Pool R A)) (desk : Desk) : Type 0 where
+  pub stands : IsPool rack area pool desk
+  pub shelf : IsShelf desk entry now
+
+-- where a pool is open, the shelf tells if `tells` says so
+abbrev pub Tells : Desk → OnShelf → Bool → Type 0
+Tells (Open x) now tells = IsTrue tells → IsSome now.held
+Tells desk now tells = ⊤
+
+-- What is left of a desk as the pool is given back to the shelf.
+pub record LeavesDesk (entry before now : OnShelf) (desk : Desk) : Type 0 where
+  pub shelf : HoldsDesk (given_back desk) entry now
+  pub told : Tells desk before (is_some now.held)
+
+-- ---- commands
+
+-- what a command does to the open pool, by its reply
+abbrev pub ReplyDoes : State → (List Room → Option ℕ → Type 0) → Command → Reply → List Hold → Store → Type 0
+ReplyDoes x chosen command reply holds store = Does x.geometry x.perms chosen content_of command x.store holds reply store
+
+-- What a command that leaves the shelf alone came to: it was carried out on the open pool, or its reply is that it wants one.
+abbrev pub PoolDid : {R A : Type 0} → racks.Ghosts R → areas.Ghosts A → CommandName → (State → List Hold → Store → Type 0) → Desk → Reply → Option (Pool R A) → Type 0
+PoolDid rack area called does (Open x) reply None = ⊥
+PoolDid rack area called does (Open x) reply (Some pool) = CarriesOut rack area pool x (does x)
+PoolDid rack area called does desk reply pool = (reply ≡ NoPool called) × (pool ≡ None)
+
+-- A command was done, and this is its reply.
+pub record Turned {R A : Type 0} (rack : racks.Ghosts R) (area : areas.Ghosts A) (chosen : List Room → Option ℕ → Type 0) (command : Result Command LineFault) (entry before : OnShelf) (old : Desk)
+    (reply : Option Reply) (now : OnShelf) (pool : Option (Pool R A)) : Type 0 where
+  pub new : Desk
+  pub desk : IsDesk rack area entry now pool new
+  pub told : (tells : Bool) → Tells new now tells → Tells old before tells
+  pub turns : (tells : Bool) → Tells new now tells → TurnsBy tells chosen command old reply new
+
+-- A command broke off, since a call of the shelf failed.
+pub record Broken {R A : Type 0} (rack : racks.Ghosts R) (area : areas.Ghosts A) (command : Command) (entry : OnShelf) (old : Desk) (now : OnShelf) (pool : Option (Pool R A)) : Type 0 where
+  pub new : Desk
+  pub desk : IsDesk rack area entry now pool new
+  pub breaks : Breaks old command new

@@ -1,0 +1,7 @@
+pub mod Desks
+pub mod Making
+pub mod Says
+pub mod Script
+pub mod Serve
+pub mod Shelves
+pub mod Status

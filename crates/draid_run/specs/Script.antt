@@ -1,0 +1,146 @@
+-- What a run is: the lines that were answered, why it ended, what the sink got, and what the shelf holds then.
+use Rattle.std.specs.Prelude.{◌≡◌, ◌+◌, ◌⊎◌, ⊤, ℕ, Bool, List, [], ◌∷◌, ◌++◌, Option, Some, None, Result, Ok, Err, MatchOption, flat_map, is_some, length}
+use Rattle.std.specs.Io.KnownBytes.{Appends}
+use Rattle.draid_names.specs.declared.room.Room.{Room}
+use Rattle.draid_lines.specs.Lines.{IsTooLong, lines_of}
+use Rattle.draid_lines.specs.Sink.{AppendsFront}
+use Rattle.draid_script.specs.Grammar.{line_of}
+use Rattle.draid_script.specs.Line.{Command, Silent, CreatePool, WriteObject, ReadObject, FillObjects, FreeObject, SumObjects, DamageSector}
+use Rattle.draid_script.specs.declared.fault.LineFault.{LineFault}
+use Rattle.draid_reply.specs.Reply.{text_of}
+use Rattle.draid_reply.specs.declared.reply.Reply.{Reply}
+use Rattle.draid_words.specs.Mode.{OfSession, asked}
+use Rattle.draid_session.specs.Session.{Desk, Untouched, Breaks, Runs, given_back}
+use Rattle.draid_run.specs.Shelves.{HoldsDesk, OnShelf}
+use Rattle.draid_run.specs.Status.{HasNumber, last_text}
+use Rattle.draid_run.specs.declared.status.Status.{Status}
+use Rattle.draid_run.specs.declared.status.Status.TheVariants.{Done, Usage, Line, SourceFault, SinkFault, NoMemory, TooLong, ShelfFault}
+
+-- ---- lines that aren't answered
+
+-- the command is beyond what is built
+abbrev pub IsUnbuilt : Command → Type 0
+IsUnbuilt Silent = ⊥
+IsUnbuilt (CreatePool text children keys) = ⊥
+IsUnbuilt (WriteObject object bytes) = ⊥
+IsUnbuilt (ReadObject object) = ⊥
+IsUnbuilt (FillObjects first count len seed) = ⊥
+IsUnbuilt (FreeObject object) = ⊥
+IsUnbuilt (SumObjects first count) = ⊥
+IsUnbuilt (DamageSector leaf sector) = ⊥
+IsUnbuilt command = ⊤
+
+-- Why a line can't be run: its first fault by the grammar, or 7 at 0 where its command is beyond what is built.
+abbrev pub LineFaultIs : Result Command LineFault → ℕ → ℕ → Type 0
+LineFaultIs (Err fault) kind at = (kind ≡ fault.kind) × (at ≡ fault.at)
+LineFaultIs (Ok command) kind at = IsUnbuilt command × (kind ≡ 7) × (at ≡ 0)
+
+-- At this line the run broke off, since a call of the shelf failed.
+pub record BreaksAt (text : List ℕ) (old new : Desk) : Type 0 where
+  pub command : Command
+  pub line : line_of text ≡ Ok command
+  pub breaks : Breaks old command new
+
+-- A run broke off at a line of its own just where it ended by a fault of the shelf.
+abbrev pub BreaksOff : Status → Option (List ℕ) → Desk → Desk → Type 0
+BreaksOff ShelfFault None mid last = ⊥
+BreaksOff ShelfFault (Some text) mid last = BreaksAt text mid last
+BreaksOff ended None mid last = last ≡ mid
+BreaksOff ended (Some text) mid last = ⊥
+
+-- ---- why a run ended
+
+-- after these lines of an input were answered, and with this line at which it broke off, if it did
+abbrev pub Ends : Status → Option (List ℕ) → List (List ℕ) → List ℕ → Type 0
+Ends Done broken lines input = lines_of input ≡ lines
+Ends Usage broken lines input = lines ≡ []
+Ends (Line line kind at) broken lines input =
+    (bad : List ℕ) × (rest : List (List ℕ)) × (lines_of input ≡ lines ++ (bad ∷ rest)) × LineFaultIs (line_of bad) kind at
+    × (line ≡ length lines + 1)
+Ends (TooLong line) broken lines input =
+    (rest : List ℕ) × (lines_of input ≡ lines ++ lines_of rest) × IsTooLong (length lines) rest × (line ≡ length lines + 1)
+Ends ShelfFault None lines input = ⊥
+Ends ShelfFault (Some text) lines input = (rest : List (List ℕ)) × (lines_of input ≡ lines ++ (text ∷ rest))
+Ends SourceFault broken lines input = (rest : List (List ℕ)) × (lines_of input ≡ lines ++ rest)
+Ends SinkFault broken lines input = (rest : List (List ℕ)) × (lines_of input ≡ lines ++ rest)
+Ends NoMemory broken lines input = (rest : List (List ℕ)) × (lines_of input ≡ lines ++ rest)
+
+-- the words that the program takes: those that ask for a session in memory
+abbrev pub IsSession : List (List ℕ) → Type 0
+IsSession words = asked words ≡ Some (OfSession None)
+
+-- how a run ends that does nothing: by the words, or since they can't be read for want of memory
+pub record IsRefused (ended : Status) (lines : List (List ℕ)) : Type 0 where
+  pub nothing : lines ≡ []
+  pub cause : (ended ≡ Usage) ⊎ (ended ≡ NoMemory)
+
+-- ---- what is printed
+
+-- the replies that were shown: all, but for one whose text could not be made for want of memory
+abbrev pub Shows : Status → List (Option Reply) → List (Option Reply) → Type 0
+Shows NoMemory replies shown = (replies ≡ shown) ⊎ ((reply : Reply) × (replies ≡ shown ++ Some reply ∷ []))
+Shows ended replies shown = replies ≡ shown
+
+-- what is printed for a line
+abbrev pub said_text : Option Reply → List ℕ
+said_text None = []
+said_text (Some reply) = text_of reply
+
+abbrev pub texts_of : List (Option Reply) → List ℕ
+texts_of replies = flat_map said_text replies
+
+-- The sink failed at the last of the replies, and got a front of its text.
+pub record FailsAt (shown : List (Option Reply)) (old new : Option (List ℕ)) : Type 0 where
+  pub front : List (Option Reply)
+  pub reply : Reply
+  pub mid : Option (List ℕ)
+  pub shown_are : shown ≡ front ++ Some reply ∷ []
+  pub whole : Appends old mid (texts_of front)
+  pub part : AppendsFront mid new (text_of reply)
+
+-- what the sink got but for the last line
+abbrev pub GetsReplies : Status → List (Option Reply) → Option (List ℕ) → Option (List ℕ) → Type 0
+GetsReplies SinkFault shown old new = FailsAt shown old new
+GetsReplies ended shown old new = Appends old new (texts_of shown)
+
+-- What it got of a text: all of it, or where it failed some front.
+abbrev pub Prints : Status → Status → List ℕ → Option (List ℕ) → Option (List ℕ) → Type 0
+Prints SinkFault ended text old new = AppendsFront old new text
+Prints status ended text old new = (status ≡ ended) × Appends old new text
+
+-- the replies, and then the last line
+pub record PrintsAll (status ended : Status) (shown : List (Option Reply)) (old new : Option (List ℕ)) : Type 0 where
+  pub between : Option (List ℕ)
+  pub replies : GetsReplies ended shown old between
+  pub last : Prints status ended (last_text ended) between new
+
+-- The last line was printed: that of the status, or for want of memory the one that says so.
+pub record EndsWithLine (ended status : Status) (old new : Option (List ℕ)) : Type 0 where
+  pub meant : Status
+  pub is : (meant ≡ ended) ⊎ ((meant ≡ NoMemory) × HasNumber ended)
+  pub prints : Prints status meant (last_text meant) old new
+
+-- ---- the run
+
+-- A run: some lines were answered by replies, one after another; it ended for a cause, by a line of its own where the shelf failed; and the sink got the replies'
+-- texts and the last line. Blocks go to metaslabs that the chooser may name; `tells` is whether the shelf tells what it holds.
+pub record HasRun (tells : Bool) (chosen : List Room → Option ℕ → Type 0) (words : List (List ℕ)) (status : Status) (input old new : Option (List ℕ)) (last : Desk) : Type 0 where
+  pub lines : List (List ℕ)
+  pub replies : List (Option Reply)
+  pub shown : List (Option Reply)
+  pub ended : Status
+  pub mid : Desk
+  pub broken : Option (List ℕ)
+  pub usage : ended ≡ Usage → IsSession words → ⊥
+  pub refused : (IsSession words → ⊥) → IsRefused ended lines
+  pub runs : Runs tells chosen Untouched lines replies mid
+  pub breaks : BreaksOff ended broken mid last
+  pub ends : MatchOption input ⊤ (Ends ended broken lines)
+  pub shows : Shows ended replies shown
+  pub prints : PrintsAll status ended shown old new
+
+-- What a run of the program is: a session from the shelf as it was found to a last desk, whose pool is given back; and the shelf holds that.
+pub record RunIs (chosen : List Room → Option ℕ → Type 0) (words : List (List ℕ)) (status : Status) (input old new : Option (List ℕ)) (entry now : OnShelf) : Type 0 where
+  pub last : Desk
+  pub session : HasRun (is_some now.held) chosen words status input old new last
+  pub shelf : HoldsDesk (given_back last) entry now

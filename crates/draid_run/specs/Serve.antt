@@ -1,0 +1,104 @@
+-- What becomes of a line, and of all lines so far.
+use Rattle.std.specs.Prelude.{◌≡◌, ◌≤◌, ◌+◌, ◌⊎◌, ⊤, ℕ, Bool, List, [], ◌∷◌, ◌++◌, Option, Some, None, Result, Ok, Err, MatchOption, length}
+use Rattle.std.specs.Io.KnownBytes.{Appends, prepend_known}
+use Rattle.std.specs.declared.vec.Vec.{Vec}
+use Rattle.std.specs.declared.alloc.Global.{Global}
+use Rattle.draid_names.specs.declared.room.Room.{Room}
+use Rattle.draid_rack.specs.declared.Rack as racks
+use Rattle.draid_area.specs.declared.Area as areas
+use Rattle.draid_lines.specs.Lines.{Rest, WhereKnown, IsTooLong, lines_of, most_lines}
+use Rattle.draid_lines.specs.Sink.{AppendsFront}
+use Rattle.draid_script.specs.Grammar.{line_of}
+use Rattle.draid_script.specs.Line.{Command}
+use Rattle.draid_reply.specs.Reply.{text_of}
+use Rattle.draid_reply.specs.declared.reply.Reply.{Reply}
+use Rattle.draid_session.specs.Session.{Desk, Untouched, Runs}
+use Rattle.draid_pool.specs.declared.pool.Pool.{Pool}
+use Rattle.draid_run.specs.Desks.{Broken, IsDesk, Tells, Turned}
+use Rattle.draid_run.specs.Script.{BreaksOff, Ends, GetsReplies, IsUnbuilt, LineFaultIs, Shows, said_text, texts_of}
+use Rattle.draid_run.specs.Shelves.{OnShelf}
+use Rattle.draid_run.specs.declared.answer.Stop.{Stop}
+use Rattle.draid_run.specs.declared.answer.Stop.TheVariants as stop
+use Rattle.draid_run.specs.declared.status.Status.{Status}
+use Rattle.draid_run.specs.declared.status.Status.TheVariants.{Line, SourceFault, SinkFault, NoMemory, TooLong, ShelfFault}
+
+-- What became of the next line, where the bytes to come before and after the call are known.
+abbrev pub TextIs : Rest → Rest → Option (List ℕ) → Option (List ℕ) → Result (Option (Vec ℕ Global)) Status → Type 0
+TextIs lines lines' left left' (Ok None) = WhereKnown (prepend_known lines.held left) (prepend_known lines'.held left') (λ old new. old ≡ [])
+TextIs lines lines' left left' (Ok (Some line)) =
+    (lines'.given ≡ lines.given + 1) × (lines'.given ≤ most_lines) × (lines'.fault ≡ None)
+    × WhereKnown (prepend_known lines.held left) (prepend_known lines'.held left') (λ old new. lines_of old ≡ line.items ∷ lines_of new)
+TextIs lines lines' left left' (Err SourceFault) = WhereKnown (prepend_known lines.held left) (prepend_known lines'.held left') (λ old new. new ≡ old)
+TextIs lines lines' left left' (Err NoMemory) = WhereKnown (prepend_known lines.held left) (prepend_known lines'.held left') (λ old new. new ≡ old)
+TextIs lines lines' left left' (Err (TooLong line)) =
+    (line ≡ lines.given + 1) × WhereKnown (prepend_known lines.held left) (prepend_known lines'.held left') (λ old new. IsTooLong lines.given old)
+TextIs lines lines' left left' (Err status) = ⊥
+
+-- what became of the text of a reply
+abbrev pub PrintIs : List ℕ → Option (List ℕ) → Option (List ℕ) → Result Unit Status → Type 0
+PrintIs text old new (Ok done) = Appends old new text
+PrintIs text old new (Err SinkFault) = AppendsFront old new text
+PrintIs text old new (Err NoMemory) = new ≡ old
+PrintIs text old new (Err status) = ⊥
+
+module _ {R A : Type 0} (rack : racks.Ghosts R) (area : areas.Ghosts A) (chosen : List Room → Option ℕ → Type 0) where
+  -- the reply to a command, or why it has none
+  abbrev pub AnswerIs : Command → OnShelf → OnShelf → Option (Pool R A) → Desk → OnShelf → Option (Pool R A) → Result (Option Reply) Stop → Type 0
+  AnswerIs command entry before pool old now pool' (Ok reply) = Turned rack area chosen (Ok command) entry before old reply now pool'
+  AnswerIs command entry before pool old now pool' (Err stop.Unbuilt) = IsUnbuilt command × (now ≡ before) × (pool' ≡ pool)
+  AnswerIs command entry before pool old now pool' (Err stop.Shelf) = Broken rack area command entry old now pool'
+
+  -- A line was answered, and its reply printed.
+  pub record Printed (text : List ℕ) (entry before : OnShelf) (old : Desk) (now : OnShelf) (pool : Option (Pool R A)) (held held' : Option (List ℕ)) : Type 0 where
+    pub reply : Option Reply
+    pub turned : Turned rack area chosen (line_of text) entry before old reply now pool
+    pub prints : Appends held held' (said_text reply)
+
+  -- A line was answered, and the sink failed at its reply.
+  pub record Cut (text : List ℕ) (entry before : OnShelf) (old : Desk) (now : OnShelf) (pool : Option (Pool R A)) (held held' : Option (List ℕ)) : Type 0 where
+    pub reply : Reply
+    pub turned : Turned rack area chosen (line_of text) entry before old (Some reply) now pool
+    pub prints : AppendsFront held held' (text_of reply)
+
+  -- The shelf failed in a line.
+  pub record BrokenLine (text : List ℕ) (entry : OnShelf) (old : Desk) (now : OnShelf) (pool : Option (Pool R A)) : Type 0 where
+    pub command : Command
+    pub line : line_of text ≡ Ok command
+    pub broken : Broken rack area command entry old now pool
+
+  -- what became of a line
+  abbrev pub LineIs : ℕ → List ℕ → OnShelf → OnShelf → Option (Pool R A) → Desk → OnShelf → Option (Pool R A) → Option (List ℕ) → Option (List ℕ) → Result Unit Status → Type 0
+  LineIs number text entry before pool old now pool' held held' (Ok done) = Printed text entry before old now pool' held held'
+  LineIs number text entry before pool old now pool' held held' (Err SinkFault) = Cut text entry before old now pool' held held'
+  LineIs number text entry before pool old now pool' held held' (Err ShelfFault) = (held' ≡ held) × BrokenLine text entry old now pool'
+  LineIs number text entry before pool old now pool' held held' (Err (Line line kind at)) =
+      LineFaultIs (line_of text) kind at × (now ≡ before) × (pool' ≡ pool) × (held' ≡ held) × (line ≡ number)
+  LineIs number text entry before pool old now pool' held held' (Err NoMemory) =
+      (held' ≡ held) × (((now ≡ before) × (pool' ≡ pool)) ⊎ ((reply : Reply) × Turned rack area chosen (line_of text) entry before old (Some reply) now pool'))
+  LineIs number text entry before pool old now pool' held held' (Err status) = ⊥
+
+  -- The lines so far were answered and their replies printed.
+  pub record Serving (input rest start held : Option (List ℕ)) (entry now : OnShelf) (pool : Option (Pool R A)) (count : ℕ) : Type 0 where
+    pub lines : List (List ℕ)
+    pub replies : List (Option Reply)
+    pub reached : Desk
+    pub count_is : length lines ≡ count
+    pub desk : IsDesk rack area entry now pool reached
+    pub runs : (tells : Bool) → Tells reached now tells → Runs tells chosen Untouched lines replies reached
+    pub known : WhereKnown input rest (λ all behind. lines_of all ≡ lines ++ lines_of behind)
+    pub printed : Appends start held (texts_of replies)
+
+  -- The lines were served until the run ended.
+  pub record Served (ended : Status) (input start held : Option (List ℕ)) (entry now : OnShelf) (pool : Option (Pool R A)) : Type 0 where
+    pub lines : List (List ℕ)
+    pub replies : List (Option Reply)
+    pub shown : List (Option Reply)
+    pub mid : Desk
+    pub last : Desk
+    pub broken : Option (List ℕ)
+    pub desk : IsDesk rack area entry now pool last
+    pub runs : (tells : Bool) → Tells last now tells → Runs tells chosen Untouched lines replies mid
+    pub breaks : BreaksOff ended broken mid last
+    pub ends : MatchOption input ⊤ (Ends ended broken lines)
+    pub shows : Shows ended replies shown
+    pub prints : GetsReplies ended shown start held

@@ -1,0 +1,272 @@
+//! What the commands of a script reply, whether a pool is open or not.
+ghost use Rattle.std.specs.Prelude.{◌≡◌, ◌≤◌, None, IfOk, IsErrOf, string_bytes};
+ghost use Rattle.draid_names.specs.Faults.{Rose};
+ghost use Rattle.draid_script.specs.Line.{FillObjects, IsInRange, SumObjects, WriteObject, command_in};
+ghost use Rattle.std.specs.Fn.{FnReturnsAt};
+ghost use Rattle.draid_choose.specs.Rooms.{IsChooser};
+ghost use Rattle.draid_spec.specs.Spec.{IsSpec};
+ghost use Rattle.draid_session.specs.Making.{props_of, vdev_name_of};
+ghost use Rattle.draid_session.specs.Session.{Desk};
+ghost use Rattle.draid_run.specs.Desks.{IsDesk, IsPool, PoolDid, ReplyDoes};
+ghost use Rattle.draid_run.specs.Making.{CreateIs, MakeIs};
+ghost use Rattle.draid_run.specs.Says.{DamageSays, FreeSays, ReadSays, SumSays};
+ghost use Rattle.draid_run.specs.Serve.{AnswerIs};
+ghost use Rattle.draid_run.specs.Shelves.{OnShelf, on_shelf};
+
+use crate::{fill, replies};
+use draid_area::Area;
+use draid_choose::Chooser;
+use draid_names::{NoMemory, Room};
+use draid_rack::Rack;
+use draid_reply::Reply;
+use draid_script::{CommandName, Line, PoolKeys};
+use draid_shelf::Shelf;
+use draid_spec::{Props, Spec, geometry, parse_spec, spec_name};
+use draid_pool::{Pool, PoolFault};
+use std::alloc::Global;
+use std::thread::Threads;
+
+/// Why a command has no reply, and the run ends.
+#[derive(Clone, Copy, Debug, PartialEq, Eq)]
+pub(crate) enum Stop {
+    /// The command is beyond what is built.
+    Unbuilt,
+    /// The shelf failed.
+    Shelf,
+}
+
+/// The properties that the keys of `create` name.
+fn props(keys: PoolKeys) -> Props
+    ensures { result ≡ props_of keys }
+{
+    Props {
+        sector: keys.sector,
+        height: keys.height,
+        metaslabs: keys.metaslabs,
+        slices: keys.slices,
+        seed: keys.seed,
+        version: keys.version,
+    }
+}
+
+/// The name of a pool's vdev: its spec in full, and the number of the vdev, which is the only one.
+fn vdev_name(alloc: Global, spec: Spec) -> Result<String, NoMemory>
+    ensures { IfOk result (λ name. string_bytes name ≡ vdev_name_of spec) }
+{
+    let mut name = spec_name(alloc, spec)?;
+    name.push_str("-0")?;
+    Ok(name)
+}
+
+/// Opens a new pool, where none is open.
+fn create<H: Shelf>(
+    alloc: Global,
+    shelf: &mut H,
+    pool: &mut Option<Pool<H::R, H::A>>,
+    text: &[u8],
+    children: u32,
+    keys: PoolKeys,
+) -> Result<Reply, Stop>
+    ensures answer { (entry : OnShelf) (x : Desk) → IsDesk H.R.Rack H.A.Area entry (on_shelf H.Shelf shelf.old) pool.old x
+        → CreateIs H.R.Rack H.A.Area text.now children keys entry (on_shelf H.Shelf shelf.old) x (on_shelf H.Shelf shelf.new) pool.new result }
+    ensures later { H.faults shelf.old ≤ H.faults shelf.new }
+    ensures cause { IsErrOf result Stop.Shelf → Rose (H.faults shelf.old) (H.faults shelf.new) }
+{
+    if pool.is_some() {
+        return Ok(Reply::PoolOpen {
+            command: CommandName::Create,
+        });
+    }
+    let spec = match parse_spec(text, children, keys.version) {
+        Ok(spec) => spec,
+        Err(why) => return Ok(Reply::CreateRefused { why }),
+    };
+    match make(alloc, shelf, pool, spec, props(keys)) {
+        Ok(Made { name, stripes }) => Ok(Reply::Created { name, stripes }),
+        Err(PoolFault::Spec(why)) => Ok(Reply::CreateRefused { why }),
+        Err(PoolFault::Shelf) => Err(Stop::Shelf),
+        Err(PoolFault::NoMemory) => Ok(Reply::NoMemory {
+            command: CommandName::Create,
+        }),
+    }
+}
+
+/// A pool that was made: its name, and how many stripes it has.
+#[derive(Drop)]
+struct Made {
+    name: String,
+    stripes: u64,
+}
+
+/// Makes a new pool and opens it, where none is open. Its name comes first, since a pool without one would be in vain.
+fn make<H: Shelf>(
+    alloc: Global,
+    shelf: &mut H,
+    pool: &mut Option<Pool<H::R, H::A>>,
+    spec: Spec,
+    props: Props,
+) -> Result<Made, PoolFault>
+    requires spec { IsSpec props.version spec }
+    requires closed { pool.old ≡ None }
+    ensures makes { MakeIs H.R.Rack H.A.Area spec props (on_shelf H.Shelf shelf.old) (on_shelf H.Shelf shelf.new) pool.new result }
+    ensures later { H.faults shelf.old ≤ H.faults shelf.new }
+    ensures cause { IsErrOf result PoolFault.Shelf → Rose (H.faults shelf.old) (H.faults shelf.new) }
+{
+    let layout = match geometry(spec, props) {
+        Ok(layout) => layout,
+        Err(why) => return Err(PoolFault::Spec(why)),
+    };
+    let Ok(name) = vdev_name(alloc, spec) else {
+        return Err(PoolFault::NoMemory);
+    };
+    *pool = Some(draid_pool::create(alloc, shelf, spec, props)?);
+    Ok(Made {
+        name,
+        stripes: layout.pool_stripes(),
+    })
+}
+
+/// What a command replies that needs an open pool, where none is open.
+fn no_pool(command: CommandName) -> Reply
+    ensures { result ≡ Reply.NoPool command }
+{
+    Reply::NoPool { command }
+}
+
+/// Writes to the pool that is open, if one is.
+fn write<R: Rack, A: Area, F: Fn(&[Room]) -> Option<u32>>(
+    pool: &mut Option<Pool<R, A>>,
+    chooser: &Chooser<F>,
+    object: u64,
+    bytes: &[u8],
+) -> Reply
+    requires chooser { IsChooser F.Fn chooser.now }
+    requires range { IsInRange (WriteObject object bytes.now) }
+    requires desk { (x : Desk) × IsPool R.Rack A.Area pool.old x }
+    ensures did { (x : Desk) → IsPool R.Rack A.Area pool.old x
+        → PoolDid R.Rack A.Area CommandName.Write (λ y. ReplyDoes y (FnReturnsAt F.Fn chooser.now) (WriteObject object bytes.now) result) x result pool.new }
+{
+    match pool {
+        Some(pool) => replies::write(pool, chooser, object, bytes),
+        None => no_pool(CommandName::Write),
+    }
+}
+
+/// Reads from the pool that is open, if one is.
+fn read<R: Rack, A: Area>(pool: &mut Option<Pool<R, A>>, object: u64) -> Reply
+    requires desk { (x : Desk) × IsPool R.Rack A.Area pool.old x }
+    ensures did { (x : Desk) → IsPool R.Rack A.Area pool.old x
+        → PoolDid R.Rack A.Area CommandName.Read (ReadSays object result) x result pool.new }
+{
+    match pool {
+        Some(pool) => replies::read(pool, object),
+        None => no_pool(CommandName::Read),
+    }
+}
+
+/// Fills objects of the pool that is open, if one is.
+fn fill<R: Rack, A: Area, F: Fn(&[Room]) -> Option<u32>>(
+    alloc: Global,
+    pool: &mut Option<Pool<R, A>>,
+    chooser: &Chooser<F>,
+    first: u64,
+    count: u64,
+    len: u32,
+    seed: u64,
+) -> Reply
+    requires chooser { IsChooser F.Fn chooser.now }
+    requires range { IsInRange (FillObjects first count len seed) }
+    requires desk { (x : Desk) × IsPool R.Rack A.Area pool.old x }
+    ensures did { (x : Desk) → IsPool R.Rack A.Area pool.old x
+        → PoolDid R.Rack A.Area CommandName.Fill (λ y. ReplyDoes y (FnReturnsAt F.Fn chooser.now) (FillObjects first count len seed) result) x result pool.new }
+{
+    match pool {
+        Some(pool) => fill::fill(alloc, pool, chooser, first, count, len, seed),
+        None => no_pool(CommandName::Fill),
+    }
+}
+
+/// Frees an object of the pool that is open, if one is.
+fn free<R: Rack, A: Area>(pool: &mut Option<Pool<R, A>>, object: u64) -> Reply
+    requires desk { (x : Desk) × IsPool R.Rack A.Area pool.old x }
+    ensures did { (x : Desk) → IsPool R.Rack A.Area pool.old x
+        → PoolDid R.Rack A.Area CommandName.Free (FreeSays object result) x result pool.new }
+{
+    match pool {
+        Some(pool) => replies::free(pool, object),
+        None => no_pool(CommandName::Free),
+    }
+}
+
+/// Sums objects of the pool that is open, if one is.
+fn sum<R: Rack, A: Area>(
+    rt: &(impl Threads + Sync),
+    pool: &mut Option<Pool<R, A>>,
+    first: u64,
+    count: u64,
+) -> Reply
+    requires range { IsInRange (SumObjects first count) }
+    requires desk { (x : Desk) × IsPool R.Rack A.Area pool.old x }
+    ensures did { (x : Desk) → IsPool R.Rack A.Area pool.old x
+        → PoolDid R.Rack A.Area CommandName.Sum (SumSays first count result) x result pool.new }
+{
+    match pool {
+        Some(pool) => replies::sum(rt, pool, first, count),
+        None => no_pool(CommandName::Sum),
+    }
+}
+
+/// Damages a sector of the pool that is open, if one is.
+fn damage<R: Rack, A: Area>(
+    pool: &mut Option<Pool<R, A>>,
+    leaf: u64,
+    sector: u64,
+) -> Reply
+    requires desk { (x : Desk) × IsPool R.Rack A.Area pool.old x }
+    ensures did { (x : Desk) → IsPool R.Rack A.Area pool.old x
+        → PoolDid R.Rack A.Area CommandName.Damage (DamageSays leaf sector result) x result pool.new }
+{
+    match pool {
+        Some(pool) => replies::damage(pool, leaf, sector),
+        None => no_pool(CommandName::Damage),
+    }
+}
+
+/// Does what a line asks for. An empty line and a comment have no reply.
+pub(crate) fn answer<H: Shelf, F: Fn(&[Room]) -> Option<u32>>(
+    rt: &(impl Threads + Sync),
+    alloc: Global,
+    shelf: &mut H,
+    pool: &mut Option<Pool<H::R, H::A>>,
+    chooser: &Chooser<F>,
+    line: Line,
+) -> Result<Option<Reply>, Stop>
+    requires chooser { IsChooser F.Fn chooser.now }
+    requires range { IsInRange (command_in line) }
+    requires desk { (x : Desk) × IsPool H.R.Rack H.A.Area pool.old x }
+    ensures answer { (entry : OnShelf) (x : Desk) → IsDesk H.R.Rack H.A.Area entry (on_shelf H.Shelf shelf.old) pool.old x
+        → AnswerIs H.R.Rack H.A.Area (FnReturnsAt F.Fn chooser.now) (command_in line) entry (on_shelf H.Shelf shelf.old) pool.old x (on_shelf H.Shelf shelf.new) pool.new result }
+    ensures later { H.faults shelf.old ≤ H.faults shelf.new }
+    ensures cause { IsErrOf result Stop.Shelf → Rose (H.faults shelf.old) (H.faults shelf.new) }
+{
+    match line {
+        Line::Nothing => Ok(None),
+        Line::Create {
+            spec,
+            children,
+            keys,
+        } => Ok(Some(create(alloc, shelf, pool, &spec, children, keys)?)),
+        Line::Write { object, bytes } => Ok(Some(write(pool, chooser, object, &bytes))),
+        Line::Fill {
+            first,
+            count,
+            len,
+            seed,
+        } => Ok(Some(fill(alloc, pool, chooser, first, count, len, seed))),
+        Line::Free { object } => Ok(Some(free(pool, object))),
+        Line::Read { object } => Ok(Some(read(pool, object))),
+        Line::Sum { first, count } => Ok(Some(sum(rt, pool, first, count))),
+        Line::Damage { leaf, sector } => Ok(Some(damage(pool, leaf, sector))),
+        _ => Err(Stop::Unbuilt),
+    }
+}

@@ -1,0 +1,14 @@
+//! The top call: a script of commands from a source, run on the pool of a shelf, with its replies to a sink.
+
+#![tactic(auto)]
+
+mod answer;
+mod fill;
+mod replies;
+mod serve;
+mod status;
+mod top;
+mod words;
+
+pub use status::Status;
+pub use top::run;

@@ -1,0 +1,128 @@
+//! What the commands of an open pool reply.
+ghost use Rattle.std.specs.Prelude.{◌≤◌, ◌<◌, ◌^◌, length};
+ghost use Rattle.std.specs.Fn.{FnReturnsAt};
+ghost use Rattle.draid_choose.specs.Rooms.{IsChooser};
+ghost use Rattle.draid_script.specs.Line.{IsInRange, SumObjects, WriteObject};
+ghost use Rattle.draid_session.specs.State.{State};
+ghost use Rattle.draid_pool.specs.Carries.{CarriesOut};
+ghost use Rattle.draid_pool.specs.Pools.{Represents};
+ghost use Rattle.draid_run.specs.Desks.{ReplyDoes};
+ghost use Rattle.draid_run.specs.Says.{DamageSays, FreeSays, ReadSays, SumSays};
+
+use draid_area::Area;
+use draid_choose::Chooser;
+use draid_names::{ObjectFault, Room, WriteFault};
+use draid_rack::Rack;
+use draid_reply::Reply;
+use draid_script::CommandName;
+use draid_pool::{DamageFault, FreeFault, Pool, SumFault};
+use std::thread::Threads;
+
+/// Writes to an object.
+pub(crate) fn write<R: Rack, A: Area, F: Fn(&[Room]) -> Option<u32>>(
+    pool: &mut Pool<R, A>,
+    chooser: &Chooser<F>,
+    object: u64,
+    bytes: &[u8],
+) -> Reply
+    requires range { IsInRange (WriteObject object bytes.now) }
+    requires chooser { IsChooser F.Fn chooser.now }
+    requires represents { (x : State) × Represents R.Rack A.Area pool.old x }
+    ensures step { (x : State) → Represents R.Rack A.Area pool.old x
+        → CarriesOut R.Rack A.Area pool.new x (ReplyDoes x (FnReturnsAt F.Fn chooser.now) (WriteObject object bytes.now) result) }
+{
+    match pool.write(chooser, object, bytes) {
+        Ok(()) => Reply::Written { object },
+        Err(
+            WriteFault::NoSpace {
+                run,
+                disabled,
+                full,
+                worn,
+            },
+        ) => Reply::NoSpace {
+            object,
+            run,
+            disabled,
+            full,
+            worn,
+        },
+        Err(WriteFault::Missed { columns }) => Reply::Missed { object, columns },
+        Err(WriteFault::Last) => Reply::WriteLast { object },
+        Err(WriteFault::NoMemory) => Reply::NoMemory {
+            command: CommandName::Write,
+        },
+    }
+}
+
+/// Reads an object.
+pub(crate) fn read<R: Rack, A: Area>(pool: &mut Pool<R, A>, object: u64) -> Reply
+    requires represents { (x : State) × Represents R.Rack A.Area pool.old x }
+    ensures step { (x : State) → Represents R.Rack A.Area pool.old x
+        → CarriesOut R.Rack A.Area pool.new x (ReadSays object result x) }
+{
+    match pool.read(object) {
+        Ok(bytes) => Reply::Contents { object, bytes },
+        Err(ObjectFault::NoObject) => Reply::NoObject { object },
+        Err(ObjectFault::Unreadable { absent, tried }) => Reply::Unreadable {
+            object,
+            absent,
+            tried,
+        },
+        Err(ObjectFault::Worn) => Reply::ReadWorn { object },
+        Err(ObjectFault::NoMemory) => Reply::NoMemory {
+            command: CommandName::Read,
+        },
+    }
+}
+
+/// Frees an object.
+pub(crate) fn free<R: Rack, A: Area>(pool: &mut Pool<R, A>, object: u64) -> Reply
+    requires represents { (x : State) × Represents R.Rack A.Area pool.old x }
+    ensures step { (x : State) → Represents R.Rack A.Area pool.old x
+        → CarriesOut R.Rack A.Area pool.new x (FreeSays object result x) }
+{
+    match pool.free(object) {
+        Ok(()) => Reply::Freed { object },
+        Err(FreeFault::NoObject) => Reply::FreeNoObject { object },
+    }
+}
+
+/// Sums so many objects from the first on.
+pub(crate) fn sum<R: Rack, A: Area>(
+    rt: &(impl Threads + Sync),
+    pool: &mut Pool<R, A>,
+    first: u64,
+    count: u64,
+) -> Reply
+    requires range { IsInRange (SumObjects first count) }
+    requires represents { (x : State) × Represents R.Rack A.Area pool.old x }
+    ensures step { (x : State) → Represents R.Rack A.Area pool.old x
+        → CarriesOut R.Rack A.Area pool.new x (SumSays first count result x) }
+{
+    match pool.sum(rt, first, count) {
+        Ok(digest) => Reply::Summed {
+            first,
+            count,
+            digest,
+        },
+        Err(SumFault { object, why }) => Reply::SumRefused { object, why },
+    }
+}
+
+/// Damages a sector of a leaf.
+pub(crate) fn damage<R: Rack, A: Area>(pool: &mut Pool<R, A>, leaf: u64, sector: u64) -> Reply
+    requires represents { (x : State) × Represents R.Rack A.Area pool.old x }
+    ensures step { (x : State) → Represents R.Rack A.Area pool.old x
+        → CarriesOut R.Rack A.Area pool.new x (DamageSays leaf sector result x) }
+{
+    match pool.damage(leaf, sector) {
+        Ok(()) => Reply::Damaged { leaf, sector },
+        Err(DamageFault::NoSuch) => Reply::DamageRefused { leaf, sector },
+        Err(DamageFault::Worn) => Reply::DamageWorn { leaf, sector },
+        Err(DamageFault::Failed) => Reply::DamageFailed { leaf, sector },
+        Err(DamageFault::NoMemory) => Reply::NoMemory {
+            command: CommandName::Damage,
+        },
+    }
+}

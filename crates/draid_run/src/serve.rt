@@ -1,0 +1,140 @@
+ghost use Rattle.std.specs.Prelude.{◌≡◌, ◌<◌, ◌≤◌, ◌+◌, ◌^◌, ℕ, List, Some, None, Ok, Err, IfOk, IsTrue, OnErr, ◌↔◌, []};
+ghost use Rattle.std.specs.Io.KnownBytes.{prepend_known};
+ghost use Rattle.std.specs.Fn.{FnReturnsAt};
+ghost use Rattle.draid_choose.specs.Rooms.{IsChooser};
+ghost use Rattle.draid_names.specs.Faults.{Rose};
+ghost use Rattle.draid_reply.specs.Reply.{text_of};
+ghost use Rattle.draid_session.specs.Session.{Desk};
+ghost use Rattle.draid_run.specs.Desks.{IsDesk, IsPool};
+ghost use Rattle.draid_run.specs.Serve.{LineIs, PrintIs, Served, TextIs};
+ghost use Rattle.draid_run.specs.Shelves.{OnShelf, on_shelf};
+
+use crate::answer::{Stop, answer};
+use crate::status::Status;
+use draid_choose::Chooser;
+use draid_lines::{Lines, ReadFault, Sink, Source};
+use draid_names::{Failed, Room};
+use draid_reply::{Reply, reply_text};
+use draid_script::{LineFault, ParseFault, parse_line};
+use draid_shelf::Shelf;
+use draid_pool::Pool;
+use std::alloc::Global;
+use std::thread::Threads;
+
+/// One line more than a script may have.
+const LINES: u64 = 1_048_577;
+
+/// Runs one line, with this number, and prints its reply.
+fn serve_line<H: Shelf, K: Sink, F: Fn(&[Room]) -> Option<u32>>(
+    rt: &(impl Threads + Sync),
+    alloc: Global,
+    shelf: &mut H,
+    pool: &mut Option<Pool<H::R, H::A>>,
+    chooser: &Chooser<F>,
+    sink: &mut K,
+    number: u64,
+    text: &[u8],
+) -> Result<(), Status>
+    requires chooser { IsChooser F.Fn chooser.now }
+    requires desk { (x : Desk) × IsPool H.R.Rack H.A.Area pool.old x }
+    ensures line { (entry : OnShelf) (x : Desk) → IsDesk H.R.Rack H.A.Area entry (on_shelf H.Shelf shelf.old) pool.old x
+        → LineIs H.R.Rack H.A.Area (FnReturnsAt F.Fn chooser.now) number text.now entry (on_shelf H.Shelf shelf.old) pool.old x (on_shelf H.Shelf shelf.new) pool.new (K.held sink.old) (K.held sink.new) result }
+    ensures later { K.faults sink.old ≤ K.faults sink.new }
+    ensures cause { result ≡ Err Status.SinkFault → Rose (K.faults sink.old) (K.faults sink.new) }
+    ensures shelf_later { H.faults shelf.old ≤ H.faults shelf.new }
+    ensures shelf_cause { result ≡ Err Status.ShelfFault → Rose (H.faults shelf.old) (H.faults shelf.new) }
+{
+    let line = match parse_line(alloc, text) {
+        Ok(line) => line,
+        Err(ParseFault::Line(LineFault { kind, at })) => {
+            return Err(Status::Line {
+                line: number,
+                kind,
+                at,
+            });
+        }
+        Err(ParseFault::NoMemory) => return Err(Status::NoMemory),
+    };
+    let reply = match answer(rt, alloc, shelf, pool, chooser, line) {
+        Ok(Some(reply)) => reply,
+        Ok(None) => return Ok(()),
+        Err(Stop::Shelf) => return Err(Status::ShelfFault),
+        Err(Stop::Unbuilt) => {
+            return Err(Status::Line {
+                line: number,
+                kind: 7,
+                at: 0,
+            });
+        }
+    };
+    print_reply(alloc, sink, &reply)
+}
+
+/// Prints a reply, as one `put`.
+fn print_reply<K: Sink>(alloc: Global, sink: &mut K, reply: &Reply) -> Result<(), Status>
+    ensures prints { PrintIs (text_of reply.now) (K.held sink.old) (K.held sink.new) result }
+    ensures later { K.faults sink.old ≤ K.faults sink.new }
+    ensures cause { result ≡ Err Status.SinkFault → Rose (K.faults sink.old) (K.faults sink.new) }
+{
+    let Ok(bytes) = reply_text(alloc, reply) else {
+        return Err(Status::NoMemory);
+    };
+    match sink.put(&bytes) {
+        Ok(()) => Ok(()),
+        Err(Failed) => Err(Status::SinkFault),
+    }
+}
+
+/// The next line of the source, or the status of a run that can't read it.
+fn next_text<S: Source>(
+    alloc: Global,
+    lines: &mut Lines,
+    source: &mut S,
+) -> Result<Option<Vec<u8>>, Status>
+    requires { lines.old.fault ≡ None }
+    ensures text { TextIs lines.old lines.new (S.left source.old) (S.left source.new) result }
+    ensures later { S.faults source.old ≤ S.faults source.new }
+    ensures cause { result ≡ Err Status.SourceFault → Rose (S.faults source.old) (S.faults source.new) }
+{
+    match lines.next(alloc, source) {
+        Ok(text) => Ok(text),
+        Err(ReadFault::SourceFault) => Err(Status::SourceFault),
+        Err(ReadFault::TooLong { line }) => Err(Status::TooLong { line }),
+        Err(ReadFault::NoMemory) => Err(Status::NoMemory),
+    }
+}
+
+/// Runs the lines of the source one after another, until one can't be run or none is left.
+pub(crate) fn serve<H: Shelf, S: Source, K: Sink, F: Fn(&[Room]) -> Option<u32>>(
+    rt: &(impl Threads + Sync),
+    alloc: Global,
+    shelf: &mut H,
+    pool: &mut Option<Pool<H::R, H::A>>,
+    chooser: &Chooser<F>,
+    source: &mut S,
+    sink: &mut K,
+) -> Status
+    requires chooser { IsChooser F.Fn chooser.now }
+    requires closed { pool.old ≡ None }
+    ensures served { Served H.R.Rack H.A.Area (FnReturnsAt F.Fn chooser.now) result (S.left source.old) (K.held sink.old) (K.held sink.new) (on_shelf H.Shelf shelf.old) (on_shelf H.Shelf shelf.new) pool.new }
+    ensures source_later { S.faults source.old ≤ S.faults source.new }
+    ensures sink_later { K.faults sink.old ≤ K.faults sink.new }
+    ensures shelf_later { H.faults shelf.old ≤ H.faults shelf.new }
+    ensures source_cause { result ≡ Status.SourceFault → Rose (S.faults source.old) (S.faults source.new) }
+    ensures sink_cause { result ≡ Status.SinkFault → Rose (K.faults sink.old) (K.faults sink.new) }
+    ensures shelf_cause { result ≡ Status.ShelfFault → Rose (H.faults shelf.old) (H.faults shelf.new) }
+    ensures no_usage { result ≡ Status.Usage → ⊥ }
+{
+    let mut lines = Lines::new(alloc);
+    'lines: for number in 1..LINES + 1 {
+        let text = match next_text(alloc, &mut lines, source) {
+            Ok(Some(text)) => text,
+            Ok(None) => return Status::Done,
+            Err(status) => return status,
+        };
+        if let Err(status) = serve_line(rt, alloc, shelf, pool, chooser, sink, number, &text) {
+            return status;
+        }
+    }
+    unreachable!()
+}

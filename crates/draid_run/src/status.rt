@@ -1,0 +1,74 @@
+ghost use Rattle.std.specs.Prelude.{◌≡◌, IfOk, IfSome, IfNone, OnErr, string_bytes};
+ghost use Rattle.draid_run.specs.Status.{HasNumber, fixed_text, last_text};
+
+use draid_names::NoMemory;
+use std::alloc::Global;
+
+/// What a run came to, with the program's exit status in brackets.
+#[derive(Clone, Copy, Debug, PartialEq, Eq)]
+pub enum Status {
+    /// The script was read to its end (0).
+    Done,
+    /// The words don't ask for a session in memory (1).
+    Usage,
+    /// This line, counted from 1, is refused by a fault of this kind at this place (2).
+    Line { line: u64, kind: u8, at: u64 },
+    /// The source failed (3).
+    SourceFault,
+    /// The sink failed (4).
+    SinkFault,
+    /// The words, a line or the text of a reply could not be held for want of memory (5).
+    NoMemory,
+    /// This line has more than 300,000 bytes, or is more than the 1,048,576 lines of a script (6).
+    TooLong { line: u64 },
+    /// The shelf failed as a pool was to be made (7).
+    ShelfFault,
+}
+
+impl Status {
+    ghost use Rattle.draid_run.specs.Status.{code_of};
+
+    /// The program's exit status.
+    pub fn code(&self) -> u8
+        ensures { result ≡ code_of self.now }
+    {
+        match self {
+            Status::Done => 0,
+            Status::Usage => 1,
+            Status::Line { .. } => 2,
+            Status::SourceFault => 3,
+            Status::SinkFault => 4,
+            Status::NoMemory => 5,
+            Status::TooLong { .. } => 6,
+            Status::ShelfFault => 7,
+        }
+    }
+}
+
+/// The line that is printed last, its end included, where it names a number.
+pub(crate) fn numbered_line(alloc: Global, status: Status) -> Result<Option<String>, NoMemory>
+    ensures some { IfOk result (λ line. IfSome line (λ text. string_bytes text ≡ last_text status)) }
+    ensures none { IfOk result (λ line. IfNone line (last_text status ≡ fixed_text status)) }
+    ensures err { OnErr result (HasNumber status) }
+{
+    match status {
+        Status::Line { line, kind, at } => Ok(Some(format!(in alloc;
+            "line {line} fault={kind} at={at}\n"
+        )?)),
+        Status::TooLong { line } => Ok(Some(format!(in alloc; "line {line} too long\n")?)),
+        _ => Ok(None),
+    }
+}
+
+/// The line that is printed last, its end included, where it names no number; nothing where none is printed.
+pub(crate) fn fixed_line(status: Status) -> &'static str
+    ensures { result.now ≡ fixed_text status }
+{
+    match status {
+        Status::Usage => "usage: dzpool session [--dir DIR] or dzpool workload NUMBER\n",
+        Status::SourceFault => "source fault\n",
+        Status::NoMemory => "no memory\n",
+        Status::ShelfFault => "shelf fault\n",
+        _ => "",
+    }
+}

@@ -1,0 +1,102 @@
+ghost use Rattle.std.specs.Prelude.{◌≡◌, ◌≤◌, ◌⊎◌, ⊤, List, MatchOption, map, string_bytes};
+ghost use Rattle.std.specs.Fn.{FnReturnsAt};
+ghost use Rattle.draid_choose.specs.Rooms.{IsChooser};
+ghost use Rattle.draid_names.specs.Faults.{Rose};
+ghost use Rattle.draid_session.specs.Session.{Desk};
+ghost use Rattle.draid_run.specs.Desks.{IsDesk, IsPool, LeavesDesk};
+ghost use Rattle.draid_run.specs.Script.{EndsWithLine, Prints, RunIs};
+ghost use Rattle.draid_run.specs.Shelves.{OnShelf, on_shelf};
+
+use crate::serve::serve;
+use crate::status::{Status, fixed_line, numbered_line};
+use crate::words::take_words;
+use draid_choose::Chooser;
+use draid_lines::{Sink, Source};
+use draid_names::Room;
+use draid_shelf::Shelf;
+use draid_pool::{Pool, close};
+use draid_words::WordsFault;
+use std::alloc::Global;
+use std::thread::Threads;
+
+/// Puts the last line, where there is one.
+fn put_last<K: Sink>(sink: &mut K, line: &[u8], ended: Status) -> Status
+    ensures line { Prints result ended line.now (K.held sink.old) (K.held sink.new) }
+    ensures later { K.faults sink.old ≤ K.faults sink.new }
+    ensures cause { result ≡ Status.SinkFault → (ended ≡ Status.SinkFault) ⊎ Rose (K.faults sink.old) (K.faults sink.new) }
+{
+    if line.is_empty() {
+        return ended;
+    }
+    match sink.put(line) {
+        Ok(()) => ended,
+        Err(_) => Status::SinkFault,
+    }
+}
+
+/// Prints the line of a status, and gives the status that the run then has.
+fn end_run<K: Sink>(alloc: Global, sink: &mut K, ended: Status) -> Status
+    ensures line { EndsWithLine ended result (K.held sink.old) (K.held sink.new) }
+    ensures later { K.faults sink.old ≤ K.faults sink.new }
+    ensures cause { result ≡ Status.SinkFault → (ended ≡ Status.SinkFault) ⊎ Rose (K.faults sink.old) (K.faults sink.new) }
+    ensures source { result ≡ Status.SourceFault → ended ≡ Status.SourceFault }
+    ensures shelf { result ≡ Status.ShelfFault → ended ≡ Status.ShelfFault }
+{
+    match numbered_line(alloc, ended) {
+        Ok(Some(line)) => put_last(sink, line.as_bytes(), ended),
+        Ok(None) => put_last(sink, fixed_line(ended).as_bytes(), ended),
+        Err(_) => put_last(
+            sink,
+            fixed_line(Status::NoMemory).as_bytes(),
+            Status::NoMemory,
+        ),
+    }
+}
+
+/// Gives the devices of an open pool back to the shelf.
+fn give_back<H: Shelf>(shelf: &mut H, pool: Option<Pool<H::R, H::A>>)
+    requires desk { (x : Desk) × IsPool H.R.Rack H.A.Area pool x }
+    ensures leaves { (entry : OnShelf) (x : Desk) → IsDesk H.R.Rack H.A.Area entry (on_shelf H.Shelf shelf.old) pool x
+        → LeavesDesk entry (on_shelf H.Shelf shelf.old) (on_shelf H.Shelf shelf.new) x }
+    ensures faults { H.faults shelf.new ≡ H.faults shelf.old }
+{
+    if let Some(pool) = pool {
+        close(pool, shelf, false);
+    }
+}
+
+/// Runs the script of `source` on the pool of `shelf`, with its replies to `sink`. The words are those of the
+/// command line behind the program's name. The chooser names the metaslab that a new block goes to.
+pub fn run<
+    H: Shelf,
+    S: Source,
+    K: Sink,
+    F: Fn(&[Room]) -> Option<u32>,
+    A: AllocGlobal + Threads + Sync,
+>(
+    rt: &A,
+    words: &[String],
+    shelf: &mut H,
+    source: &mut S,
+    sink: &mut K,
+    chooser: &Chooser<F>,
+) -> Status
+    requires chooser { IsChooser F.Fn chooser.now }
+    ensures run { RunIs (FnReturnsAt F.Fn chooser.now) (map string_bytes words.now) result (S.left source.old) (K.held sink.old) (K.held sink.new) (on_shelf H.Shelf shelf.old) (on_shelf H.Shelf shelf.new) }
+
+    // The devices are to blame only where they failed in this run.
+    ensures source_fault { result ≡ Status.SourceFault → Rose (S.faults source.old) (S.faults source.new) }
+    ensures sink_fault { result ≡ Status.SinkFault → Rose (K.faults sink.old) (K.faults sink.new) }
+    ensures shelf_fault { result ≡ Status.ShelfFault → Rose (H.faults shelf.old) (H.faults shelf.new) }
+{
+    let alloc = rt.alloc();
+    match take_words(alloc, words) {
+        Ok(()) => {}
+        Err(WordsFault::Usage) => return end_run(alloc, sink, Status::Usage),
+        Err(WordsFault::NoMemory) => return end_run(alloc, sink, Status::NoMemory),
+    }
+    let mut pool = None;
+    let ended = serve(rt, alloc, shelf, &mut pool, chooser, source, sink);
+    give_back(shelf, pool);
+    end_run(alloc, sink, ended)
+}
