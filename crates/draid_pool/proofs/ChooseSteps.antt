@@ -30,7 +30,7 @@ use Rattle.draid_shard.specs.Fits.{Valid, owed_for_group, owed_for_pass}
 use Rattle.draid_shard.specs.Part.{Part, layout_in}
 use Rattle.draid_shard.specs.States.{IsIn, layout_by, part_of}
 use Rattle.draid_shard.proofs.Standing.{has_layout}
-use Rattle.std.proofs.Math.Nat.{div-add-mod', le-div}
+use Rattle.std.proofs.lemmas.Nat.{div-add-mod', le-div}
 use Rattle.draid_shard.specs.declared.fault.Shut.{Shut}
 use Rattle.draid_shard.specs.declared.fault.Shut.TheVariants as shut
 use Rattle.draid_shard.specs.declared.shard.Shard.{Shard}
@@ -132,11 +132,11 @@ module _ {R A : Type 0} (rack : racks.Ghosts R) (area : areas.Ghosts A) where
 
   -- a metaslab is shut just where its shard takes no block
   takes : (part : Part) (pieces : Pieces) (shard : Shard R A) (y : Metaslab) (m : ℕ) → IsMetaslab rack area part pieces shard y → TakesBlocks shard y.world → IsShut part.geometry (view_of m y) → ⊥
-  takes part pieces shard y m is takes is_shut = elim is_shut [
-    | inl disabled ↦ disabled takes.enabled
+  takes part pieces shard y m is may is_shut = elim is_shut [
+    | inl disabled ↦ disabled may.enabled
     | inr rest ↦ elim rest [
-        | inl full ↦ full.full takes.fewer
-        | inr worn ↦ takes.events (subst (IsWornFor shard) (ap (λ (q : Part). q.geometry.g + 3) (sym is.part_is)) (worn_for rack area part pieces shard y m (part.geometry.g + 3) is worn.worn))
+        | inl full ↦ full.full may.fewer
+        | inr worn ↦ may.events (subst (IsWornFor shard) (ap (λ (q : Part). q.geometry.g + 3) (sym is.part_is)) (worn_for rack area part pieces shard y m (part.geometry.g + 3) is worn.worn))
       ]
   ]
 
@@ -160,11 +160,11 @@ module _ {R A : Type 0} (rack : racks.Ghosts R) (area : areas.Ghosts A) where
   room_of geometry perms m need pieces shard y room is of = record {
     metaslab = of.metaslab ∙ ap (λ (p : Part). p.number) is.part_is;
     wanted = of.wanted;
-    none = λ is_shut. elim of.run y.world is.stands.is_in [
+    none = λ is_shut. elim (of.run y.world is.stands.is_in) [
       | inl z ↦ z.1
       | inr z ↦ absurd (takes part pieces shard y m is z.0 is_shut)
     ];
-    run = λ is_open. elim of.run y.world is.stands.is_in [
+    run = λ is_open. elim (of.run y.world is.stands.is_in) [
       | inl z ↦ absurd (takes_none part pieces shard y m is z.0 is_open)
       | inr z ↦ longest_here (layout_by shard) (ap layout_in is.part_is) z.1
     ];
@@ -214,8 +214,8 @@ module _ {R A : Type 0} (rack : racks.Ghosts R) (area : areas.Ghosts A) where
     shut_from geometry perms m pieces (z ∷ zs) (y ∷ ys) (s ∷ ss) count long each says zip counted =
         let is = subst (λ n. IsMetaslab rack area (record { geometry = geometry; perms = perms; number = n }) (pieces 0) z y) (plus_none m) (each 0 z y refl refl) in
         let here = says m (pieces 0) z y s is zip.0 in
-        let rest = (λ n more. shut_from geometry perms (m + 1) (λ k. pieces (suc k)) zs ys ss n (omega (arith, long))
-            (λ k shard v a b. subst (λ n. IsMetaslab rack area (record { geometry = geometry; perms = perms; number = n }) (pieces (suc k)) shard v) (plus_one m k) (each (suc k) shard v a b)) says zip.1 more) in
+        let rest : (n : ℕ) → CountIs (λ o. o ≡ Some why) ss n → CountIs P (seen_at (m + 1) ys) n = λ n more. shut_from geometry perms (m + 1) (λ k. pieces (suc k)) zs ys ss n (omega (arith, long))
+            (λ k shard v a b. subst (λ n. IsMetaslab rack area (record { geometry = geometry; perms = perms; number = n }) (pieces (suc k)) shard v) (plus_one m k) (each (suc k) shard v a b)) says zip.1 more in
         elim counted [
           | inl c ↦ inl (here.0 c.0, c.1, c.2, rest c.1 c.3)
           | inr c ↦ inr (here.1 c.0, rest count c.1)
@@ -287,6 +287,9 @@ module _ {R A : Type 0} (rack : racks.Ghosts R) (area : areas.Ghosts A) where
 
     pub followed_all : Follows (looks_at 0 x.metaslabs) x x
     followed_all = changes_none x [] x.metaslabs 0 refl refl
+
+    pub starved_step : (chosen : List Room → Option ℕ → Type 0) (object : ℕ) (bytes : List ℕ) → CarriesOut rack area pool x (WriteDoes x chosen object bytes (Err fault.NoMemory))
+    starved_step chosen object bytes = record { holds = []; reached = x; store = x.store; follows = refl; done = (tt, refl); represents = is }
 
     module _ (bytes : List ℕ) (need : ℕ) (rooms : List Room) (need_is : need ≡ stripes_for pool.geometry bytes) (zip : AllZip (RoomIs need) pool.shards.items rooms) where
       for_room : LooksForRoom x.geometry x.perms bytes (looks_at 0 x.metaslabs) (seen_at 0 x.metaslabs) rooms
@@ -378,7 +381,7 @@ module _ {R A : Type 0} (rack : racks.Ghosts R) (area : areas.Ghosts A) where
           room_in : (shard : Shard R A) (w : machine.State) (room : Room) → 0 < (layout_by shard).height → calls.IsRoom shard w room.run → room.need ≡ need → room.need ≤ room.run → HasRoom need shard w
           room_in shard w room tall run wanted large = elim run [
             | inl z ↦ absurd (let none = z.1 in omega (arith, none, wanted, large, some))
-            | inr z ↦ elim z.1.fits [
+            | inr z ↦ elim (z.1.fits) [
                 | inl none ↦ absurd (omega (arith, none, wanted, large, some))
                 | inr fits ↦ record { takes = z.0; first = fits.0; fits = fits_less (layout_by shard) w.core fits.0 need room.run tall some (omega (arith, wanted, large)) fits.1 }
               ]

@@ -1,5 +1,9 @@
+pub mod Ended
 pub mod Filled
 pub mod Following
+pub mod Known
 pub mod Makings
+pub mod Runs
 pub mod Said
+pub mod Serving
 pub mod Steps

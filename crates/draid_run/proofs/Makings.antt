@@ -46,7 +46,7 @@ same_spec spec props layout is =
 
 -- what is said of a shelf that tells, where it tells
 on_held : (P : Type 0) (held : Option Held) → OnHeld held (λ _. P) → IsSome held → P
-on_held P None said told = absurd told
+on_held P None said told = absurd (cc)
 on_held P (Some held) said told = said
 
 -- a desk without a pool stands as the shelf stays as it is

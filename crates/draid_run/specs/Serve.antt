@@ -41,6 +41,12 @@ PrintIs text old new (Err SinkFault) = AppendsFront old new text
 PrintIs text old new (Err NoMemory) = new ≡ old
 PrintIs text old new (Err status) = ⊥
 
+-- The shelf failed in a line.
+pub record BrokenLine {R A : Type 0} (rack : racks.Ghosts R) (area : areas.Ghosts A) (text : List ℕ) (entry : OnShelf) (old : Desk) (now : OnShelf) (pool : Option (Pool R A)) : Type 0 where
+  pub command : Command
+  pub line : line_of text ≡ Ok command
+  pub broken : Broken rack area command entry old now pool
+
 module _ {R A : Type 0} (rack : racks.Ghosts R) (area : areas.Ghosts A) (chosen : List Room → Option ℕ → Type 0) where
   -- the reply to a command, or why it has none
   abbrev pub AnswerIs : Command → OnShelf → OnShelf → Option (Pool R A) → Desk → OnShelf → Option (Pool R A) → Result (Option Reply) Stop → Type 0
@@ -60,17 +66,11 @@ module _ {R A : Type 0} (rack : racks.Ghosts R) (area : areas.Ghosts A) (chosen 
     pub turned : Turned rack area chosen (line_of text) entry before old (Some reply) now pool
     pub prints : AppendsFront held held' (text_of reply)
 
-  -- The shelf failed in a line.
-  pub record BrokenLine (text : List ℕ) (entry : OnShelf) (old : Desk) (now : OnShelf) (pool : Option (Pool R A)) : Type 0 where
-    pub command : Command
-    pub line : line_of text ≡ Ok command
-    pub broken : Broken rack area command entry old now pool
-
   -- what became of a line
   abbrev pub LineIs : ℕ → List ℕ → OnShelf → OnShelf → Option (Pool R A) → Desk → OnShelf → Option (Pool R A) → Option (List ℕ) → Option (List ℕ) → Result Unit Status → Type 0
   LineIs number text entry before pool old now pool' held held' (Ok done) = Printed text entry before old now pool' held held'
   LineIs number text entry before pool old now pool' held held' (Err SinkFault) = Cut text entry before old now pool' held held'
-  LineIs number text entry before pool old now pool' held held' (Err ShelfFault) = (held' ≡ held) × BrokenLine text entry old now pool'
+  LineIs number text entry before pool old now pool' held held' (Err ShelfFault) = (held' ≡ held) × BrokenLine rack area text entry old now pool'
   LineIs number text entry before pool old now pool' held held' (Err (Line line kind at)) =
       LineFaultIs (line_of text) kind at × (now ≡ before) × (pool' ≡ pool) × (held' ≡ held) × (line ≡ number)
   LineIs number text entry before pool old now pool' held held' (Err NoMemory) =

@@ -1,13 +1,20 @@
 use Rattle.std.proofs.Common.{◌∙◌, ◌+◌, arith, ap, length}
 use Rattle.std.specs.Fn.{FnReturnsAt}
 use Rattle.draid_session.specs.Making.{content_of}
-use Rattle.draid_run.proofs.Filled.{fill_stopped, fill_unbegun, filled_all, filled_more, whole}
+use Rattle.draid_run.proofs.Filled.{fill_stopped, fill_unbegun, filled_all, filled_more, filled_none, whole}
 use Rattle.draid_run.proofs.fill.fill.Goals as goal
 
 pub returns-in_default : goal.returns-in_default
 returns-in_default g c = record {
   step = λ x rep. fill_unbegun g.R.Rack g.A.Area (FnReturnsAt g.F.Fn c.args.chooser.now) c.args.first c.args.len c.args.seed x c.args.pool.now c.args.count
       (let some = c.requires.range.0.0 in omega (arith, some)) rep;
+}
+
+pub loop-written-init : goal.loop-written-init
+loop-written-init g c = record {
+  long = (let long = c.in-Ok.ensures.len in let ok = c.in-Ok.bytes.ok in omega (arith, long, ok));
+  represents = c.requires.represents;
+  filled = λ x rep. filled_none g.R.Rack g.A.Area (FnReturnsAt g.F.Fn c.args.chooser.now) c.args.first c.args.len c.args.seed x c.args.pool.now rep;
 }
 
 pub returns-in-Err : goal.returns-in-Err

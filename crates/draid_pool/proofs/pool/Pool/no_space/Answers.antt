@@ -1,6 +1,31 @@
-use Rattle.std.proofs.Common.{◌∙◌, refl, sym, subst, List}
+use Rattle.std.proofs.Common.{◌∙◌, ◌≡◌, refl, sym, subst, List}
 use Rattle.std.specs.Prelude.{All}
 use Rattle.draid_shard.specs.Fits.{Valid}
+use Rattle.draid_shard.specs.declared.fault.Shut.TheVariants as shut
 use Rattle.draid_shard.specs.declared.shard.Shard.{Shard}
-use Rattle.draid_pool.proofs.ChooseSteps.{all_valid, few_shards}
+use Rattle.draid_pool.specs.Shards.{AreShut}
+use Rattle.draid_pool.proofs.ChooseSteps.{all_valid}
 use Rattle.draid_pool.proofs.pool.Pool.no_space.Goals as goal
+
+pub count_shut-requires-clause-valid : goal.count_shut-requires-clause-valid
+count_shut-requires-clause-valid g c =
+    let is = c.requires.represents in
+    subst (λ (xs : List (Shard g.row.R.Denot g.row.A.Denot)). All (Valid g.R.Rack) xs) (sym c.as_slice-shards.ensures.value) (all_valid g.R.Rack g.A.Area c.args.self.now is.0 is.1)
+
+pub count_shut-requires-2-clause-valid : goal.count_shut-requires-2-clause-valid
+count_shut-requires-2-clause-valid g c =
+    let is = c.requires.represents in
+    subst (λ (xs : List (Shard g.row.R.Denot g.row.A.Denot)). All (Valid g.R.Rack) xs) (sym c.as_slice-shards.ensures.value) (all_valid g.R.Rack g.A.Area c.args.self.now is.0 is.1)
+
+pub count_shut-requires-3-clause-valid : goal.count_shut-requires-3-clause-valid
+count_shut-requires-3-clause-valid g c =
+    let is = c.requires.represents in
+    subst (λ (xs : List (Shard g.row.R.Denot g.row.A.Denot)). All (Valid g.R.Rack) xs) (sym c.as_slice-shards.ensures.value) (all_valid g.R.Rack g.A.Area c.args.self.now is.0 is.1)
+
+pub returns : goal.returns
+returns g c = (
+  c.longest_run.ensures,
+  subst (λ (xs : List (Shard g.row.R.Denot g.row.A.Denot)). AreShut xs shut.Disabled c.count_shut.result) c.as_slice-shards.ensures.value c.count_shut.ensures,
+  subst (λ (xs : List (Shard g.row.R.Denot g.row.A.Denot)). AreShut xs shut.Full c.count_shut-2.result) c.as_slice-shards.ensures.value c.count_shut-2.ensures,
+  subst (λ (xs : List (Shard g.row.R.Denot g.row.A.Denot)). AreShut xs shut.Worn c.count_shut-3.result) c.as_slice-shards.ensures.value c.count_shut-3.ensures,
+)

@@ -1,0 +1,214 @@
+-- A run that has ended: what was served, and then the last line.
+use Rattle.std.proofs.Common.{refl, sym, ap, subst, ◌≡◌, ◌∙◌, ◌⊎◌, inl, inr, ℕ, Bool, List, [], ◌∷◌, ◌++◌, Option, Some, None, MatchOption}
+use Rattle.std.specs.Prelude.{⊤, IsSome, IsTrue, is_some}
+use Rattle.std.specs.Io.KnownBytes.{Appends}
+use Rattle.draid_names.specs.declared.room.Room.{Room}
+use Rattle.draid_rack.specs.declared.Rack as racks
+use Rattle.draid_area.specs.declared.Area as areas
+use Rattle.draid_shelf.specs.Kits.{Held, OnHeld}
+use Rattle.draid_lines.specs.Lines.{lines_of}
+use Rattle.draid_reply.specs.declared.reply.Reply.{Reply}
+use Rattle.draid_session.specs.Session.{Desk, Untouched, Made, Open, Shut}
+use Rattle.draid_session.specs.State.{State}
+use Rattle.draid_pool.specs.Closing.{GivesBack, HoldsPool}
+use Rattle.draid_pool.specs.Opening.{IsAway}
+use Rattle.draid_pool.specs.Pools.{Represents}
+use Rattle.draid_pool.specs.declared.pool.Pool.{Pool}
+use Rattle.draid_run.specs.Desks.{IsDesk, LeavesDesk}
+use Rattle.draid_run.specs.Script.{BreaksOff, Ends, EndsWithLine, GetsReplies, HasRun, IsRefused, IsSession, Prints, RunIs, Shows}
+use Rattle.draid_run.specs.Serve.{Served}
+use Rattle.draid_run.specs.Shelves.{HoldsAll, IsSame, OnShelf}
+use Rattle.draid_run.specs.Status.{HasNumber, last_text}
+use Rattle.draid_run.specs.declared.status.Status.{Status}
+use Rattle.draid_run.specs.declared.status.Status.TheVariants.{Done, Usage, Line, SourceFault, SinkFault, NoMemory, TooLong, ShelfFault}
+use Rattle.draid_run.proofs.Known.{appends_none}
+
+-- ---- the pool is given back
+
+gave_all : (x : State) (given old : Option Held) → OnHeld given (λ held. MatchOption old ⊥ (λ before. HoldsPool x before held)) → OnHeld old IsAway → OnHeld given (HoldsAll x)
+gave_all x None old holds away = tt
+gave_all x (Some held) None holds away = absurd holds
+gave_all x (Some held) (Some before) holds away = record { before = before; away = away; holds = holds }
+
+told_before : (x : State) (given old : Option Held) → OnHeld given (λ held. MatchOption old ⊥ (λ before. HoldsPool x before held)) → IsTrue (is_some given) → IsSome old
+told_before x None old holds is = absurd (cc)
+told_before x (Some held) None holds is = absurd holds
+told_before x (Some held) (Some before) holds is = refl
+
+module _ {R A : Type 0} (rack : racks.Ghosts R) (area : areas.Ghosts A) (entry before now : OnShelf) (desk : Option (Pool R A)) where
+  pub leaves_shut : desk ≡ None → now ≡ before → (x : Desk) → IsDesk rack area entry before desk x → LeavesDesk entry before now x
+  leaves_shut none same x = subst (λ d. IsDesk rack area entry before d x → LeavesDesk entry before now x) (sym none) (subst (λ n. IsDesk rack area entry before None x → LeavesDesk entry before n x) (sym same) (by x)) where
+    by : (x : Desk) → IsDesk rack area entry before None x → LeavesDesk entry before before x
+    by Untouched is = record { shelf = is.shelf; told = tt }
+    by (Made geometry) is = record { shelf = is.shelf; told = tt }
+    by (Shut y) is = record { shelf = is.shelf; told = tt }
+    by (Open y) is = absurd is.stands
+
+  pub leaves_open : (pool : Pool R A) → desk ≡ Some pool → ((x : State) → Represents rack area pool x → GivesBack x Bool.false before.held now.held now.counts) → now.own.uber ≡ before.own.uber → now.own.checks ≡ before.own.checks
+      → (x : Desk) → IsDesk rack area entry before desk x → LeavesDesk entry before now x
+  leaves_open pool some back uber checks x = subst (λ d. IsDesk rack area entry before d x → LeavesDesk entry before now x) (sym some) (by x) where
+    by : (x : Desk) → IsDesk rack area entry before (Some pool) x → LeavesDesk entry before now x
+    by Untouched is = absurd is.stands
+    by (Made geometry) is = absurd is.stands
+    by (Shut y) is = absurd is.stands
+    by (Open y) is =
+        let gave = back y is.stands in
+        record {
+          shelf = record {
+            held = subst (λ h. OnHeld h (HoldsAll y)) (sym gave.crashed) (gave_all y gave.given before.held gave.held is.shelf.held);
+            counts = gave.counted;
+            uber = uber ∙ is.shelf.own.uber ∙ sym is.stands.stands.uber.uber_count;
+            checks = checks ∙ is.shelf.own.checks;
+          };
+          told = λ t. told_before y gave.given before.held gave.held (subst (λ h. IsTrue (is_some h)) gave.crashed t);
+        }
+
+-- ---- the last line
+
+-- a run that ended at a number may as well have ended for want of memory
+ends_short : (ended : Status) (broken : Option (List ℕ)) (lines : List (List ℕ)) (input : List ℕ) → HasNumber ended → Ends ended broken lines input → Ends NoMemory broken lines input
+ends_short (Line line kind at) broken lines input number ends = (ends.0 ∷ ends.1, ends.2)
+ends_short (TooLong line) broken lines input number ends = (lines_of ends.0, ends.1)
+ends_short Done broken lines input number ends = absurd number
+ends_short Usage broken lines input number ends = absurd number
+ends_short SourceFault broken lines input number ends = absurd number
+ends_short SinkFault broken lines input number ends = absurd number
+ends_short NoMemory broken lines input number ends = absurd number
+ends_short ShelfFault broken lines input number ends = absurd number
+
+ends_known : (ended : Status) (broken : Option (List ℕ)) (lines : List (List ℕ)) (input : Option (List ℕ)) → HasNumber ended → MatchOption input ⊤ (Ends ended broken lines) → MatchOption input ⊤ (Ends NoMemory broken lines)
+ends_known ended broken lines None number ends = tt
+ends_known ended broken lines (Some bytes) number ends = ends_short ended broken lines bytes number ends
+
+breaks_short : (ended : Status) (broken : Option (List ℕ)) (mid last : Desk) → HasNumber ended → BreaksOff ended broken mid last → BreaksOff NoMemory broken mid last
+breaks_short (Line line kind at) None mid last number breaks = breaks
+breaks_short (Line line kind at) (Some text) mid last number breaks = breaks
+breaks_short (TooLong line) None mid last number breaks = breaks
+breaks_short (TooLong line) (Some text) mid last number breaks = breaks
+breaks_short Done broken mid last number breaks = absurd number
+breaks_short Usage broken mid last number breaks = absurd number
+breaks_short SourceFault broken mid last number breaks = absurd number
+breaks_short SinkFault broken mid last number breaks = absurd number
+breaks_short NoMemory broken mid last number breaks = absurd number
+breaks_short ShelfFault broken mid last number breaks = absurd number
+
+shows_short : (ended : Status) (replies shown : List (Option Reply)) → HasNumber ended → Shows ended replies shown → Shows NoMemory replies shown
+shows_short (Line line kind at) replies shown number shows = inl shows
+shows_short (TooLong line) replies shown number shows = inl shows
+shows_short Done replies shown number shows = absurd number
+shows_short Usage replies shown number shows = absurd number
+shows_short SourceFault replies shown number shows = absurd number
+shows_short SinkFault replies shown number shows = absurd number
+shows_short NoMemory replies shown number shows = absurd number
+shows_short ShelfFault replies shown number shows = absurd number
+
+gets_short : (ended : Status) (shown : List (Option Reply)) (old new : Option (List ℕ)) → HasNumber ended → GetsReplies ended shown old new → GetsReplies NoMemory shown old new
+gets_short (Line line kind at) shown old new number gets = gets
+gets_short (TooLong line) shown old new number gets = gets
+gets_short Done shown old new number gets = absurd number
+gets_short Usage shown old new number gets = absurd number
+gets_short SourceFault shown old new number gets = absurd number
+gets_short SinkFault shown old new number gets = absurd number
+gets_short NoMemory shown old new number gets = absurd number
+gets_short ShelfFault shown old new number gets = absurd number
+
+not_usage : NoMemory ≡ Usage → ⊥
+not_usage e = cc e
+
+module _ {R A : Type 0} (rack : racks.Ghosts R) (area : areas.Ghosts A) (chosen : List Room → Option ℕ → Type 0) where
+  -- want of memory for the last line is as good an end as that line
+  short_served : (ended : Status) (input start held : Option (List ℕ)) (entry now : OnShelf) (pool : Option (Pool R A)) → HasNumber ended → Served rack area chosen ended input start held entry now pool
+      → Served rack area chosen NoMemory input start held entry now pool
+  short_served ended input start held entry now pool number is = record {
+    lines = is.lines;
+    replies = is.replies;
+    shown = is.shown;
+    mid = is.mid;
+    last = is.last;
+    broken = is.broken;
+    desk = is.desk;
+    runs = is.runs;
+    breaks = breaks_short ended is.broken is.mid is.last number is.breaks;
+    ends = ends_known ended is.broken is.lines input number is.ends;
+    shows = shows_short ended is.replies is.shown number is.shows;
+    prints = gets_short ended is.shown start held number is.prints;
+  }
+
+  -- what was served, as the run of these words
+  run_of : (words : List (List ℕ)) (status ended : Status) (input start mid new : Option (List ℕ)) (entry before now : OnShelf) (pool : Option (Pool R A)) → (ended ≡ Usage → ⊥) → IsSession words
+      → (is : Served rack area chosen ended input start mid entry before pool) → LeavesDesk entry before now is.last → Prints status ended (last_text ended) mid new → RunIs chosen words status input start new entry now
+  run_of words status ended input start mid new entry before now pool other session is leaves line = record {
+    last = is.last;
+    session = record {
+      lines = is.lines;
+      replies = is.replies;
+      shown = is.shown;
+      ended = ended;
+      mid = is.mid;
+      broken = is.broken;
+      usage = λ e taken. other e;
+      refused = λ wrong. absurd (wrong session);
+      runs = is.runs (is_some now.held) leaves.told;
+      breaks = is.breaks;
+      ends = is.ends;
+      shows = is.shows;
+      prints = record { between = mid; replies = is.prints; last = line };
+    };
+    shelf = leaves.shelf;
+  }
+
+  -- a run of a session: what was served, the last line, and the pool on the shelf
+  pub run_served : (words : List (List ℕ)) (status ended : Status) (input start mid new : Option (List ℕ)) (entry before now : OnShelf) (pool : Option (Pool R A)) → IsSession words → (ended ≡ Usage → ⊥)
+      → Served rack area chosen ended input start mid entry before pool → EndsWithLine ended status mid new
+      → ((x : Desk) → IsDesk rack area entry before pool x → LeavesDesk entry before now x)
+      → RunIs chosen words status input start new entry now
+  run_served words status ended input start mid new entry before now pool session other is line leaves = elim line.is [
+    | inl same ↦
+        let prints = subst (λ m. Prints status m (last_text m) mid new) same line.prints in
+        run_of words status ended input start mid new entry before now pool other session is (leaves is.last is.desk) prints
+    | inr none ↦
+        let prints = subst (λ m. Prints status m (last_text m) mid new) none.0 line.prints in
+        let short = short_served ended input start mid entry before pool none.1 is in
+        run_of words status NoMemory input start mid new entry before now pool (λ e. absurd (not_usage e)) session short (leaves short.last short.desk) prints
+  ]
+
+module _ (chosen : List Room → Option ℕ → Type 0) (words : List (List ℕ)) (status : Status) (input old new : Option (List ℕ)) (entry : OnShelf) where
+  -- a run that does nothing but print its last line
+  run_of_none : (meant : Status) → (meant ≡ Usage → IsSession words → ⊥) → (meant ≡ Usage) ⊎ (meant ≡ NoMemory) → ((known : Option (List ℕ)) → MatchOption known ⊤ (Ends meant None [])) → Shows meant [] []
+      → BreaksOff meant None Untouched Untouched → GetsReplies meant [] old old → (HasNumber meant → ⊥) → EndsWithLine meant status old new → RunIs chosen words status input old new entry entry
+  run_of_none meant wrong refused ends shows breaks gets plain line = elim line.is [
+    | inl same ↦ record {
+      last = Untouched;
+      session = record {
+        lines = [];
+        replies = [];
+        shown = [];
+        ended = meant;
+        mid = Untouched;
+        broken = None;
+        usage = wrong;
+        refused = λ _. record { nothing = refl; cause = refused };
+        runs = refl;
+        breaks = breaks;
+        ends = ends input;
+        shows = shows;
+        prints = record { between = old; replies = gets; last = subst (λ m. Prints status m (last_text m) old new) same line.prints };
+      };
+      shelf = record { held = refl; counts = λ m. refl; uber = refl; checks = refl };
+    }
+    | inr none ↦ absurd (plain none.1)
+  ]
+
+  -- a run whose words aren't those of a session
+  pub run_refused : (IsSession words → ⊥) → EndsWithLine Usage status old new → RunIs chosen words status input old new entry entry
+  run_refused wrong = run_of_none Usage (λ e. wrong) (inl refl) ends_nothing refl refl (appends_none old) (λ number. number) where
+    ends_nothing : (known : Option (List ℕ)) → MatchOption known ⊤ (Ends Usage None [])
+    ends_nothing None = tt
+    ends_nothing (Some bytes) = refl
+
+  -- a run whose words can't be read for want of memory
+  pub run_unread : EndsWithLine NoMemory status old new → RunIs chosen words status input old new entry entry
+  run_unread = run_of_none NoMemory (λ e. absurd (not_usage e)) (inr refl) ends_nothing (inl refl) refl (appends_none old) (λ number. number) where
+    ends_nothing : (known : Option (List ℕ)) → MatchOption known ⊤ (Ends NoMemory None [])
+    ends_nothing None = tt
+    ends_nothing (Some bytes) = (lines_of bytes, refl)
