@@ -135,9 +135,9 @@ module _ {R A : Type 0} (rack : racks.Ghosts R) (area : areas.Ghosts A) where
   takes part pieces shard y m is may is_shut = elim is_shut [
     | inl disabled ↦ disabled may.enabled
     | inr rest ↦ elim rest [
-        | inl full ↦ full.full may.fewer
-        | inr worn ↦ may.events (subst (IsWornFor shard) (ap (λ (q : Part). q.geometry.g + 3) (sym is.part_is)) (worn_for rack area part pieces shard y m (part.geometry.g + 3) is worn.worn))
-      ]
+      | inl full ↦ full.full may.fewer
+      | inr worn ↦ may.events (subst (IsWornFor shard) (ap (λ (q : Part). q.geometry.g + 3) (sym is.part_is)) (worn_for rack area part pieces shard y m (part.geometry.g + 3) is worn.worn))
+    ]
   ]
 
   takes_none : (part : Part) (pieces : Pieces) (shard : Shard R A) (y : Metaslab) (m : ℕ) → IsMetaslab rack area part pieces shard y → (TakesBlocks shard y.world → ⊥) → (IsShut part.geometry (view_of m y) → ⊥) → ⊥
@@ -189,7 +189,7 @@ module _ {R A : Type 0} (rack : racks.Ghosts R) (area : areas.Ghosts A) where
   rooms_from geometry perms need m pieces (z ∷ zs) (y ∷ ys) (r ∷ rs) long each zip = (
     room_of geometry perms m need (pieces 0) z y r (subst (λ n. IsMetaslab rack area (record { geometry = geometry; perms = perms; number = n }) (pieces 0) z y) (plus_none m) (each 0 z y refl refl)) zip.0,
     rooms_from geometry perms need (m + 1) (λ k. pieces (suc k)) zs ys rs (omega (arith, long))
-    (λ k shard v a b. subst (λ n. IsMetaslab rack area (record { geometry = geometry; perms = perms; number = n }) (pieces (suc k)) shard v) (plus_one m k) (each (suc k) shard v a b)) zip.1,
+        (λ k shard v a b. subst (λ n. IsMetaslab rack area (record { geometry = geometry; perms = perms; number = n }) (pieces (suc k)) shard v) (plus_one m k) (each (suc k) shard v a b)) zip.1,
   )
     where
       plus_none : (m : ℕ) → m + 0 ≡ m
@@ -215,7 +215,7 @@ module _ {R A : Type 0} (rack : racks.Ghosts R) (area : areas.Ghosts A) where
         let is = subst (λ n. IsMetaslab rack area (record { geometry = geometry; perms = perms; number = n }) (pieces 0) z y) (plus_none m) (each 0 z y refl refl) in
         let here = says m (pieces 0) z y s is zip.0 in
         let rest : (n : ℕ) → CountIs (λ o. o ≡ Some why) ss n → CountIs P (seen_at (m + 1) ys) n = λ n more. shut_from geometry perms (m + 1) (λ k. pieces (suc k)) zs ys ss n (omega (arith, long))
-            (λ k shard v a b. subst (λ n. IsMetaslab rack area (record { geometry = geometry; perms = perms; number = n }) (pieces (suc k)) shard v) (plus_one m k) (each (suc k) shard v a b)) says zip.1 more in
+        (λ k shard v a b. subst (λ n. IsMetaslab rack area (record { geometry = geometry; perms = perms; number = n }) (pieces (suc k)) shard v) (plus_one m k) (each (suc k) shard v a b)) says zip.1 more in
         elim counted [
           | inl c ↦ inl (here.0 c.0, c.1, c.2, rest c.1 c.3)
           | inr c ↦ inr (here.1 c.0, rest count c.1)
@@ -382,9 +382,9 @@ module _ {R A : Type 0} (rack : racks.Ghosts R) (area : areas.Ghosts A) where
           room_in shard w room tall run wanted large = elim run [
             | inl z ↦ absurd (let none = z.1 in omega (arith, none, wanted, large, some))
             | inr z ↦ elim (z.1.fits) [
-                | inl none ↦ absurd (omega (arith, none, wanted, large, some))
-                | inr fits ↦ record { takes = z.0; first = fits.0; fits = fits_less (layout_by shard) w.core fits.0 need room.run tall some (omega (arith, wanted, large)) fits.1 }
-              ]
+              | inl none ↦ absurd (omega (arith, none, wanted, large, some))
+              | inr fits ↦ record { takes = z.0; first = fits.0; fits = fits_less (layout_by shard) w.core fits.0 need room.run tall some (omega (arith, wanted, large)) fits.1 }
+            ]
           ]
 
       -- what a write in the named metaslab did is what the write did

@@ -209,8 +209,13 @@ module _ {R A : Type 0} (rack : racks.Ghosts R) (area : areas.Ghosts A) (object 
     all_holds = first_hold ∷ (two.holds ++ last_hold ∷ [])
 
     followed : FollowsIn (layout_in part) part.number all_holds x three.reached
-    followed = (Did (begins p) one.reached.world, one.reached, refl, one.acts,
-        follows_more (layout_in part) part.number two.holds one.reached two.reached three.reached (Did (event.Finish (key_of done.pointer)) three.reached.world) two.follows three.acts)
+    followed = (
+      Did (begins p) one.reached.world,
+      one.reached,
+      refl,
+      one.acts,
+      follows_more (layout_in part) part.number two.holds one.reached two.reached three.reached (Did (event.Finish (key_of done.pointer)) three.reached.world) two.follows three.acts,
+    )
 
     -- what is held of the ticket as it ends
     abbrev ticket : Held
@@ -235,9 +240,9 @@ module _ {R A : Type 0} (rack : racks.Ghosts R) (area : areas.Ghosts A) (object 
     open_takes shut = elim shut [
       | inl disabled ↦ disabled one.step.enabled
       | inr rest ↦ elim rest [
-          | inl full ↦ full.full one.step.few
-          | inr worn ↦ b.not_worn (subst (IsWornFor old) (ap (λ (q : Part). q.geometry.g + 3) (sym is.part_is)) (worn_for rack area part pieces old x part.number (part.geometry.g + 3) is worn.worn))
-        ]
+        | inl full ↦ full.full one.step.few
+        | inr worn ↦ b.not_worn (subst (IsWornFor old) (ap (λ (q : Part). q.geometry.g + 3) (sym is.part_is)) (worn_for rack area part pieces old x part.number (part.geometry.g + 3) is worn.worn))
+      ]
     ]
 
     writes : WritesBlock part.geometry object seq block.bytes floor part.number p.birth done.missed all_holds
@@ -294,27 +299,30 @@ module _ {R A : Type 0} (rack : racks.Ghosts R) (area : areas.Ghosts A) (object 
         holds = all_holds;
         reached = three.reached;
         follows = followed;
-        done = (writes, record {
-          object_is = ap (λ (q : Pointer). q.object) a.pointer ∙ b.named.object_is;
-          seq_is = ap (λ (q : Pointer). q.seq) a.pointer ∙ b.named.seq_is;
-          metaslab_is = here;
-          birth_is = ap (λ (q : Pointer). q.birth) a.pointer;
-          len_is = ap (λ (q : Pointer). q.len) a.pointer ∙ sym b.carries.content.len;
-          digest_is = ap (λ (q : Pointer). q.digest) a.pointer ∙ sym b.carries.content.digest;
-          content = record {
-            bytes = b.carries.content.bytes;
-            columns = block.columns;
-            are = subst (λ cut. AreColumns cut block.bytes block.columns) (b.carries.cut ∙ ap (λ (q : Part). cut_of q.geometry) one.is.part_is) b.carries.columns;
-            rows = rows_are key part.geometry.props.sector part.geometry.g (stripes_for part.geometry block.bytes) block.columns pieces;
-          };
-          live = live_by rack new three.reached.world done.pointer d.valid three.is.stands.is_in held (here ∙ sym (ap (λ (q : Part). q.number) three.is.part_is));
-          held = held;
-          others = record {
-            held = λ k other. (let differs = subst (λ j. key_eq j k ≡ false) done_key other in
-                ap (λ (w : machine.State). w.core.held k) (made_live few) ∙ (set_other two.reached.world.core.held (key_of done.pointer) k _ other ∙ others.held k differs));
-            committed = ap (λ (w : machine.State). w.committed) (made_live few) ∙ others.committed;
-          };
-        });
+        done = (
+          writes,
+          record {
+            object_is = ap (λ (q : Pointer). q.object) a.pointer ∙ b.named.object_is;
+            seq_is = ap (λ (q : Pointer). q.seq) a.pointer ∙ b.named.seq_is;
+            metaslab_is = here;
+            birth_is = ap (λ (q : Pointer). q.birth) a.pointer;
+            len_is = ap (λ (q : Pointer). q.len) a.pointer ∙ sym b.carries.content.len;
+            digest_is = ap (λ (q : Pointer). q.digest) a.pointer ∙ sym b.carries.content.digest;
+            content = record {
+              bytes = b.carries.content.bytes;
+              columns = block.columns;
+              are = subst (λ cut. AreColumns cut block.bytes block.columns) (b.carries.cut ∙ ap (λ (q : Part). cut_of q.geometry) one.is.part_is) b.carries.columns;
+              rows = rows_are key part.geometry.props.sector part.geometry.g (stripes_for part.geometry block.bytes) block.columns pieces;
+            };
+            live = live_by rack new three.reached.world done.pointer d.valid three.is.stands.is_in held (here ∙ sym (ap (λ (q : Part). q.number) three.is.part_is));
+            held = held;
+            others = record {
+              held = λ k other. (let differs = subst (λ j. key_eq j k ≡ false) done_key other in
+                  ap (λ (w : machine.State). w.core.held k) (made_live few) ∙ (set_other two.reached.world.core.held (key_of done.pointer) k _ other ∙ others.held k differs));
+              committed = ap (λ (w : machine.State). w.committed) (made_live few) ∙ others.committed;
+            };
+          },
+        );
         is = three.is;
       };
     }

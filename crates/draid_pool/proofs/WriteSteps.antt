@@ -207,7 +207,7 @@ module _ {R A : Type 0} (rack : racks.Ghosts R) (area : areas.Ghosts A) where
       y.world,
       its.stands.is_in,
       subst (λ (geometry : Geometry). HasRoom (stripes_of (cut_of geometry) len) shard y.world) (sym its_geometry)
-      (subst (λ (z : Shard R A). (w : machine.State) → IsIn z w → HasRoom (stripes_of (cut_of pool.geometry) len) z w) (sym same) room y.world its.stands.is_in),
+          (subst (λ (z : Shard R A). (w : machine.State) → IsIn z w → HasRoom (stripes_of (cut_of pool.geometry) len) z w) (sym same) room y.world its.stands.is_in),
     )
 
     -- what became of the block here
@@ -240,10 +240,10 @@ module _ {R A : Type 0} (rack : racks.Ghosts R) (area : areas.Ghosts A) where
         by : (o : Option Held) → y.world.core.held (record { object = object; seq = seq + 1 }) ≡ o → entries.held_in shard.entries (record { object = object; seq = seq + 1 }) ≡ None
         by None none = sym (its.stands.is_in.held (record { object = object; seq = seq + 1 })) ∙ none
         by (Some h) some = absurd (
-          let low = is.stands.holds.numbered m (record { object = object; seq = seq + 1 }) h (blocks_at x.metaslabs m y (record { object = object; seq = seq + 1 }) y_there.1 ∙ some) in
-          let own = is.stands.seq in
-          omega (arith, low, own, same)
-        )
+            let low = is.stands.holds.numbered m (record { object = object; seq = seq + 1 }) h (blocks_at x.metaslabs m y (record { object = object; seq = seq + 1 }) y_there.1 ∙ some) in
+            let own = is.stands.seq in
+            omega (arith, low, own, same)
+            )
 
     -- ---- nothing was written
     pub unwritten : (new : Pool R A) → IsMetaslab rack area (part_in x m) (is.stands.pieces m) shard' y → new.shards.items ≡ slice_set pool.shards.items m shard' → new.geometry ≡ pool.geometry

@@ -5,8 +5,8 @@ ghost use Rattle.draid_pool.specs.Closing.{GivesBack, Returns};
 ghost use Rattle.draid_pool.specs.Pools.{Represents};
 
 use crate::pool::Pool;
-use draid_shelf::Shelf;
 use draid_shard::Shard;
+use draid_shelf::Shelf;
 
 /// Gives the devices of the shards back to the shelf, each as those of its place.
 pub(crate) fn give_back<H: Shelf>(shelf: &mut H, shards: Vec<Shard<H::R, H::A>>)

@@ -49,7 +49,11 @@ impl<R: Rack, A: Area> Pool<R, A> {
         let Some(pointer) = self.objects.remove(&object) else {
             return Err(FreeFault::NoObject);
         };
-        self.floor = free_block(&mut self.shards[pointer.metaslab as usize], &pointer, self.floor);
+        self.floor = free_block(
+            &mut self.shards[pointer.metaslab as usize],
+            &pointer,
+            self.floor,
+        );
         Ok(())
     }
 }

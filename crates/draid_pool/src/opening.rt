@@ -7,14 +7,13 @@ ghost use Rattle.draid_shelf.specs.Shelf.{HasLeavesOf, SameOthers};
 ghost use Rattle.draid_shelf.specs.Kits.{takes_kit};
 ghost use Rattle.draid_pool.specs.Opening.{AreOpened, CreateIs, IsBackAgain, IsOpened, ShelfIs, TakesFirst};
 
-
 use crate::closing::give_back;
 use crate::fault::PoolFault;
 use crate::pool::Pool;
 use draid_names::DeviceFault;
 use draid_perm::Perms;
-use draid_shelf::Shelf;
 use draid_shard::Shard;
+use draid_shelf::Shelf;
 use draid_spec::{Geometry, Props, Spec, geometry};
 use std::alloc::Global;
 use std::collections::HashMap;

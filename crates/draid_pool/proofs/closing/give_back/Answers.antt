@@ -30,7 +30,7 @@ loop-shard-preserved g c =
     let even : kit.even ≡ shard.even = ap (λ (k : Kit g.row.H-R.Denot g.row.H-A.Denot). k.even) c.into_kit.ensures in
     let odd : kit.odd ≡ shard.odd = ap (λ (k : Kit g.row.H-R.Denot g.row.H-A.Denot). k.odd) c.into_kit.ensures in
     let own : kit_of (g.H.R.Rack.told kit.rack) (g.H.A.Area.told kit.even) (g.H.A.Area.told kit.odd) ≡ kit_in g.H.R.Rack g.H.A.Area shard =
-        ap (λ (k : Kit g.row.H-R.Denot g.row.H-A.Denot). kit_of (g.H.R.Rack.told k.rack) (g.H.A.Area.told k.even) (g.H.A.Area.told k.odd)) c.into_kit.ensures in
+    ap (λ (k : Kit g.row.H-R.Denot g.row.H-A.Denot). kit_of (g.H.R.Rack.told k.rack) (g.H.A.Area.told k.even) (g.H.A.Area.told k.odd)) c.into_kit.ensures in
     record {
       giving = giving_more g.H.R.Rack g.H.A.Area c.args.shards.items c.loop-shard.left.items c.pop.new.self.items shard c.len.result (kit_of (g.H.R.Rack.told kit.rack) (g.H.A.Area.told kit.even) (g.H.A.Area.told kit.odd))
           (shelf.told c.args.shelf.now) (shelf.told c.loop-shard.shelf) (shelf.told c.give.new.self) (shelf.counts c.args.shelf.now) (shelf.counts c.loop-shard.shelf) (shelf.counts c.give.new.self)

@@ -101,7 +101,7 @@ returns-in-Err-Missed g c = record {
       let shard = c.index_mut-shard.result.now in
       let new : Pool g.row.R.Denot g.row.A.Denot = record { geometry = c.args.self.now.geometry; shards = with_item c.args.self.now.shards c.args.metaslab c.store.new.shard; objects = c.reserve.new.self; seq = c.args.self.now.seq + 1; floor = c.in-Err-Missed.birth; alloc = c.args.self.now.alloc } in
       let n = missed_here g.R.Rack g.A.Area c.args.metaslab c.args.object c.args.block.now.bytes c.args.self.now shard c.store.new.shard x is at.0 c.in-Err-Missed.field-0 c.in-Err-Missed.columns c.in-Err-Missed.birth
-          c.in-Err-Missed.field-0-is c.in-Err-Missed.ensures.stores in
+      c.in-Err-Missed.field-0-is c.in-Err-Missed.ensures.stores in
       missed g.R.Rack g.A.Area c.args.metaslab c.args.object c.args.block.now.bytes c.args.self.now shard c.store.new.shard x is at.0 c.in-Err-Missed.columns c.in-Err-Missed.birth new n refl refl refl refl (λ q. c.reserve.ensures.entries.2 q));
 }
 
