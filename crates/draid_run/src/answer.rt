@@ -17,12 +17,12 @@ use crate::{fill, replies};
 use draid_area::Area;
 use draid_choose::Chooser;
 use draid_names::{NoMemory, Room};
+use draid_pool::{Pool, PoolFault};
 use draid_rack::Rack;
 use draid_reply::Reply;
 use draid_script::{CommandName, Line, PoolKeys};
 use draid_shelf::Shelf;
 use draid_spec::{Props, Spec, geometry, parse_spec, spec_name};
-use draid_pool::{Pool, PoolFault};
 use std::alloc::Global;
 use std::thread::Threads;
 
@@ -217,11 +217,7 @@ fn sum<R: Rack, A: Area>(
 }
 
 /// Damages a sector of the pool that is open, if one is.
-fn damage<R: Rack, A: Area>(
-    pool: &mut Option<Pool<R, A>>,
-    leaf: u64,
-    sector: u64,
-) -> Reply
+fn damage<R: Rack, A: Area>(pool: &mut Option<Pool<R, A>>, leaf: u64, sector: u64) -> Reply
     requires desk { (x : Desk) × IsPool R.Rack A.Area pool.old x }
     ensures did { (x : Desk) → IsPool R.Rack A.Area pool.old x
         → PoolDid R.Rack A.Area CommandName.Damage (DamageSays leaf sector result) x result pool.new }

@@ -17,12 +17,14 @@ const CREATED: &str = "create draid1:2d:3c:0s-0 stripes=32\n";
 /// Which calls of the devices fail, by their numbers.
 #[derive(Clone, Copy, Debug)]
 struct Failing {
+    shelf: &'static [u64],
     rack: &'static [u64],
     source: &'static [u64],
     sink: &'static [u64],
 }
 
 const NONE: Failing = Failing {
+    shelf: &[],
     rack: &[],
     source: &[],
     sink: &[],
@@ -61,6 +63,7 @@ fn run_chosen<R: AllocGlobal + Threads + Sync, F: Fn(&[Room]) -> Option<u32>>(
         words.push(String::from_str(alloc, word)?)?;
     }
     let mut shelf = MemoryShelf::new(alloc, CrashRule::New);
+    shelf.fail(Place::Own, Vec::from_slice(alloc, failing.shelf)?);
     for metaslab in 0..64 {
         shelf.fail(Place::Rack(metaslab), Vec::from_slice(alloc, failing.rack)?);
     }
@@ -160,6 +163,23 @@ fn comes_to<R: AllocGlobal + Threads + Sync>(
 ) -> Result<bool, AllocError> {
     let (ended, printed) = run_words(rt, line, script, failing)?;
     Ok(ended == wanted.0 && printed.as_slice() == wanted.1.as_bytes())
+}
+
+// Devices are made, and then those of the one metaslab are taken.
+#[test]
+fn a_shelf_that_fails_ends_the_run(rt: HostRuntime) -> Result<(), Fail> {
+    let calls: [&'static [u64]; 3] = [&[0], &[1], &[2]];
+    let wanted = [
+        (Status::ShelfFault, "shelf fault\n"),
+        (Status::ShelfFault, "shelf fault\n"),
+        (Status::Done, CREATED),
+    ];
+    for (shelf, wanted) in calls.into_iter().zip(wanted) {
+        let failing = Failing { shelf, ..NONE };
+        let script = created(rt.alloc(), "")?;
+        assert!(rt; comes_to(&rt, "session", script, &failing, wanted)?);
+    }
+    Ok(())
 }
 
 #[test]
