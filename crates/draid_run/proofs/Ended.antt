@@ -1,7 +1,6 @@
 -- A run that has ended: what was served, and then the last line.
-use Rattle.std.proofs.Common.{refl, sym, ap, subst, ◌≡◌, ◌∙◌, ◌⊎◌, inl, inr, ℕ, Bool, List, [], ◌∷◌, ◌++◌, Option, Some, None, MatchOption}
+use Rattle.std.proofs.Common.{refl, sym, subst, ◌≡◌, ◌∙◌, ◌⊎◌, inl, inr, ℕ, Bool, List, [], ◌∷◌, Option, Some, None, MatchOption}
 use Rattle.std.specs.Prelude.{⊤, IsSome, IsTrue, is_some}
-use Rattle.std.specs.Io.KnownBytes.{Appends}
 use Rattle.draid_names.specs.declared.room.Room.{Room}
 use Rattle.draid_rack.specs.declared.Rack as racks
 use Rattle.draid_area.specs.declared.Area as areas
@@ -15,9 +14,9 @@ use Rattle.draid_pool.specs.Opening.{IsAway}
 use Rattle.draid_pool.specs.Pools.{Represents}
 use Rattle.draid_pool.specs.declared.pool.Pool.{Pool}
 use Rattle.draid_run.specs.Desks.{IsDesk, LeavesDesk}
-use Rattle.draid_run.specs.Script.{BreaksOff, Ends, EndsWithLine, GetsReplies, HasRun, IsRefused, IsSession, Prints, RunIs, Shows}
+use Rattle.draid_run.specs.Script.{BreaksOff, Ends, EndsWithLine, GetsReplies, IsSession, Prints, RunIs, Shows}
 use Rattle.draid_run.specs.Serve.{Served}
-use Rattle.draid_run.specs.Shelves.{HoldsAll, IsSame, OnShelf}
+use Rattle.draid_run.specs.Shelves.{HoldsAll, OnShelf}
 use Rattle.draid_run.specs.Status.{HasNumber, last_text}
 use Rattle.draid_run.specs.declared.status.Status.{Status}
 use Rattle.draid_run.specs.declared.status.Status.TheVariants.{Done, Usage, Line, SourceFault, SinkFault, NoMemory, TooLong, ShelfFault}

@@ -1,7 +1,5 @@
 -- Holds that follow one another, whatever the pool has of its own.
-use Rattle.std.proofs.Common.{◌≡◌, ◌∙◌, List, [], ◌∷◌, ◌++◌, ap, refl, subst}
-use Rattle.draid_spec.specs.declared.layout.Geometry.{Geometry}
-use Rattle.draid_perm.specs.declared.perms.Perms.{Perms}
+use Rattle.std.proofs.Common.{◌≡◌, ◌∙◌, List, [], ◌∷◌, ◌++◌, ap, subst}
 use Rattle.draid_session.specs.Follows.{Follows, Holds, UberActs}
 use Rattle.draid_session.specs.Holds.{Hold, On, OnUber, UberAct, LookedUber, Committed, CommitFailed, CommitStarved, NextLeaf}
 use Rattle.draid_session.specs.State.{State, Store}

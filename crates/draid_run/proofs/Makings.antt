@@ -1,6 +1,6 @@
 -- A pool was made, or not, in the words of a session.
-use Rattle.std.proofs.Common.{◌≡◌, ◌∙◌, ◌++◌, ◌<◌, ◌⊎◌, inl, inr, ℕ, List, [], Bool, true, false, Option, Some, None, Result, Ok, Err, if◌then◌else◌, refl, sym, ap, subst}
-use Rattle.std.specs.Prelude.{⊤, IsSome, IsTrue, codes, is_some, nat_lt, string_bytes}
+use Rattle.std.proofs.Common.{◌≡◌, ◌∙◌, ◌⊎◌, inl, inr, ℕ, List, Bool, true, false, Option, Some, None, Result, Ok, Err, if◌then◌else◌, refl, sym, ap, subst}
+use Rattle.std.specs.Prelude.{IsSome, is_some, nat_lt, string_bytes}
 use Rattle.std.specs.Result.{result_and}
 use Rattle.draid_rack.specs.declared.Rack as racks
 use Rattle.draid_area.specs.declared.Area as areas
@@ -20,7 +20,7 @@ use Rattle.draid_reply.specs.declared.reply.Reply.TheVariants.{Created, CreateRe
 use Rattle.draid_session.specs.Making as making
 use Rattle.draid_session.specs.Making.{Makes, layout_by, layout_from, props_of, vdev_name_of}
 use Rattle.draid_session.specs.Session.{Desk, Untouched, Made, Open, Shut, Breaks, MakesNone, StaysShut}
-use Rattle.draid_session.specs.State.{Metaslab, State}
+use Rattle.draid_session.specs.State.{State}
 use Rattle.draid_pool.specs.Closing.{SameCounts}
 use Rattle.draid_pool.specs.Opening as opening
 use Rattle.draid_pool.specs.Opening.{IsAsBefore, ShelfIs}

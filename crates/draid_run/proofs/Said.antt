@@ -1,5 +1,5 @@
 -- What the replies of commands say, in the words of a session.
-use Rattle.std.proofs.Common.{◌≡◌, ℕ, List, Option, Result, Ok, Err, refl, subst, sym}
+use Rattle.std.proofs.Common.{ℕ, List, Option, Result, Ok, Err, refl, subst, sym}
 use Rattle.std.specs.declared.vec.Vec.{Vec}
 use Rattle.std.specs.declared.alloc.Global.{Global}
 use Rattle.draid_names.specs.declared.room.Room.{Room}
@@ -13,7 +13,6 @@ use Rattle.draid_pool.specs.Answers.{DamageDoes, FreeDoes, ReadDoes, SumDoes}
 use Rattle.draid_pool.specs.declared.fault.DamageFault.{DamageFault}
 use Rattle.draid_pool.specs.declared.fault.DamageFault.TheVariants as damaged
 use Rattle.draid_pool.specs.declared.fault.FreeFault.{FreeFault}
-use Rattle.draid_pool.specs.declared.fault.FreeFault.TheVariants as freed
 use Rattle.draid_pool.specs.declared.fault.SumFault.{SumFault}
 use Rattle.draid_run.specs.Desks.{ReplyDoes}
 use Rattle.draid_run.specs.Says.{DamageSays, FreeSays, ReadSays, SumSays, damage_reply, free_reply, read_reply, sum_reply}

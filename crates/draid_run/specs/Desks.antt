@@ -1,5 +1,5 @@
 -- For which desk the pool and the shelf stand between lines, and what a command comes to.
-use Rattle.std.specs.Prelude.{◌≡◌, ◌≤◌, ⊤, ℕ, Bool, List, Option, Some, None, Result, Ok, Err, IsSome, IsTrue, is_some}
+use Rattle.std.specs.Prelude.{◌≡◌, ⊤, ℕ, Bool, List, Option, Some, None, Result, IsSome, IsTrue, is_some}
 use Rattle.draid_names.specs.declared.room.Room.{Room}
 use Rattle.draid_rack.specs.declared.Rack as racks
 use Rattle.draid_area.specs.declared.Area as areas

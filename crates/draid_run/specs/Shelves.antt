@@ -1,6 +1,6 @@
 -- What a shelf holds between lines and as a run ends.
 use Rattle.std.specs.Prelude.{◌≡◌, ℕ, Option, Some, slice_get}
-use Rattle.draid_shelf.specs.Kits.{CheckCounts, Held, KitCounts, OnHeld}
+use Rattle.draid_shelf.specs.Kits.{Held, KitCounts, OnHeld}
 use Rattle.draid_shelf.specs.declared.Shelf as shelves
 use Rattle.draid_session.specs.Session.{Desk, Untouched, Made, Open, Shut}
 use Rattle.draid_session.specs.State.{Metaslab, State}

@@ -1,4 +1,4 @@
-use Rattle.std.proofs.Common.{◌≡◌, List, length}
+use Rattle.std.proofs.Common.{◌≡◌, length}
 use Rattle.std.specs.Fn.{FnReturnsAt}
 use Rattle.draid_session.specs.State.{State}
 use Rattle.draid_pool.specs.Carries.{CarriesOut}

@@ -1,4 +1,4 @@
-use Rattle.std.proofs.Common.{◌∙◌, Err, ap, refl, sym}
+use Rattle.std.proofs.Common.{ap, refl, sym}
 use Rattle.draid_pool.specs.Answers.{FreeDoes}
 use Rattle.draid_run.specs.Says.{free_reply}
 use Rattle.draid_run.proofs.Steps.{by_answer}

@@ -2,7 +2,7 @@ use Rattle.std.proofs.Common.{arith, Ok, Err, ap, sym, refl, ℕ}
 use Rattle.std.specs.Fn.{FnReturnsAt}
 use Rattle.draid_lines.specs.Lines.{Rest}
 use Rattle.draid_run.specs.Shelves.{on_shelf}
-use Rattle.draid_run.proofs.Serving.{line_by, served_done, served_line, served_unread, serving_more, serving_start, text_by}
+use Rattle.draid_run.proofs.Serving.{line_by, served_done, served_line, serving_more, serving_start, text_by}
 use Rattle.draid_run.proofs.serve.serve.Goals as goal
 
 pub lines-init : goal.lines-init
