@@ -1,11 +1,15 @@
-use Rattle.std.proofs.Common.{◌≡◌, Bool, Result, Ok, refl, subst}
+use Rattle.std.proofs.Common.{◌≡◌, true, false, Result, Ok, Err, IfOk, refl, subst}
 use Rattle.draid_machine.specs.Step.{Step}
 use Rattle.draid_machine.specs.declared.event.Event.{Event}
 use Rattle.draid_world.specs.World.{site_layout, state_of}
 use Rattle.draid_replay.proofs.events.advance.Goals as goal
 
-ok_same : {E : Type 0} (r : Result Bool E) (a b : Bool) → r ≡ Ok a → r ≡ Ok b → a ≡ b
+ok_same : {T E : Type 0} (r : Result T E) (a b : T) → r ≡ Ok a → r ≡ Ok b → a ≡ b
 ok_same r a b is same = cc
+
+at_ok : {T E : Type 0} (r : Result T E) (v : T) (P : T → Type 0) → IfOk r P → r ≡ Ok v → P v
+at_ok (Ok x) v P holds is = subst P (ok_same (Ok x) x v refl is) holds
+at_ok (Err e) v P holds is = absurd (cc)
 
 -- what is legal of a kind of event is legal of the event, and so is what isn't
 pub returns-in-Finish-clause-legal : goal.returns-in-Finish-clause-legal
@@ -51,18 +55,18 @@ returns-in-Online-clause-illegal c = λ e new step.
     c.switch-in-Online.ensures.illegal (ok_same _ _ _ refl e) new (subst (λ (x : Event). Step (site_layout c.args.site.now) (state_of c.args.world.now) x new) c.in-Online.is step)
 
 pub returns-in-Attach-clause-legal : goal.returns-in-Attach-clause-legal
-returns-in-Attach-clause-legal c = λ e. rw c.in-Attach.is (c.attach.ensures.legal e)
+returns-in-Attach-clause-legal c = λ e. rw c.in-Attach.is (at_ok c.attach.result true _ c.attach.ensures.legal e refl)
 
 pub returns-in-Attach-clause-illegal : goal.returns-in-Attach-clause-illegal
 returns-in-Attach-clause-illegal c = λ e new step.
-    c.attach.ensures.illegal e new (subst (λ (x : Event). Step (site_layout c.args.site.now) (state_of c.args.world.now) x new) c.in-Attach.is step)
+    at_ok c.attach.result false _ c.attach.ensures.illegal e refl new (subst (λ (x : Event). Step (site_layout c.args.site.now) (state_of c.args.world.now) x new) c.in-Attach.is step)
 
 pub returns-in-Detach-clause-legal : goal.returns-in-Detach-clause-legal
-returns-in-Detach-clause-legal c = λ e. rw c.in-Detach.is (c.detach.ensures.legal e)
+returns-in-Detach-clause-legal c = λ e. rw c.in-Detach.is (at_ok c.detach.result true _ c.detach.ensures.legal e refl)
 
 pub returns-in-Detach-clause-illegal : goal.returns-in-Detach-clause-illegal
 returns-in-Detach-clause-illegal c = λ e new step.
-    c.detach.ensures.illegal e new (subst (λ (x : Event). Step (site_layout c.args.site.now) (state_of c.args.world.now) x new) c.in-Detach.is step)
+    at_ok c.detach.result false _ c.detach.ensures.illegal e refl new (subst (λ (x : Event). Step (site_layout c.args.site.now) (state_of c.args.world.now) x new) c.in-Detach.is step)
 
 pub returns-in-Upgrade-clause-legal : goal.returns-in-Upgrade-clause-legal
 returns-in-Upgrade-clause-legal c = λ e. rw c.in-Upgrade.is (c.upgrade.ensures.legal (ok_same _ _ _ refl e))
@@ -79,11 +83,11 @@ returns-in-Close-clause-illegal c = λ e new step.
     c.close.ensures.illegal (ok_same _ _ _ refl e) new (subst (λ (x : Event). Step (site_layout c.args.site.now) (state_of c.args.world.now) x new) c.in-Close.is step)
 
 pub returns-in-Commit-clause-legal : goal.returns-in-Commit-clause-legal
-returns-in-Commit-clause-legal c = λ e. rw c.in-Commit.is (c.commit.ensures.legal e)
+returns-in-Commit-clause-legal c = λ e. rw c.in-Commit.is (at_ok c.commit.result true _ c.commit.ensures.legal e refl)
 
 pub returns-in-Commit-clause-illegal : goal.returns-in-Commit-clause-illegal
 returns-in-Commit-clause-illegal c = λ e new step.
-    c.commit.ensures.illegal e new (subst (λ (x : Event). Step (site_layout c.args.site.now) (state_of c.args.world.now) x new) c.in-Commit.is step)
+    at_ok c.commit.result false _ c.commit.ensures.illegal e refl new (subst (λ (x : Event). Step (site_layout c.args.site.now) (state_of c.args.world.now) x new) c.in-Commit.is step)
 
 pub returns-in-Plan-clause-legal : goal.returns-in-Plan-clause-legal
 returns-in-Plan-clause-legal c = λ e. rw c.in-Plan.is (c.plan.ensures.legal e)

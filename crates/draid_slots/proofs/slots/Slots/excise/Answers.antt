@@ -1,4 +1,4 @@
-use Rattle.std.proofs.Common.{◌&&◌, nat_lt, set, List, [], ◌<◌, length, map, get_or, arith, refl, ap, sym, ◌∙◌, subst}
+use Rattle.std.proofs.Common.{◌&&◌, nat_lt, set, [], ◌<◌, length, map, get_or, arith, refl, ap, sym, ◌∙◌, subst}
 use Rattle.std.specs.Prelude.{◌-◌, vec_len, vec_capacity}
 use Rattle.std.specs.Vec.{with_item}
 use Rattle.std.proofs.lemmas.List.{length-map, length-set}
