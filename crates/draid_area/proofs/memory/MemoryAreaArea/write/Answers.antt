@@ -2,8 +2,8 @@ use Rattle.std.proofs.Common.{rules, refl, ap, ◌∙◌, ◌∷◌, [], length}
 use Rattle.std.proofs.lemmas.Slice.{pushed}
 use Rattle.draid_area.specs.Cells.{covers}
 use Rattle.draid_names.specs.declared.fault.DeviceFault.TheVariants.{NoMemory}
-use Rattle.draid_area.proofs.Clocks.{bytes_written, clocks_early, clocks_marked, clocks_written, covers_more, marks_same, marks_written, told_tears, told_waits, writes_all, writes_none, writes_torn}
-use Rattle.draid_area.proofs.Sound.{sound_unwritten, sound_written}
+use Rattle.draid_area.proofs.Clocks.{bytes_written, clocks_marked, clocks_written, covers_more, marks_written, told_tears, told_waits, writes_all, writes_none, writes_torn}
+use Rattle.draid_area.proofs.Sound.{sound_written}
 use Rattle.draid_area.proofs.Moments.{elapsed_writes}
 use Rattle.draid_area.proofs.memory.MemoryAreaArea.write.Goals as goal
 
