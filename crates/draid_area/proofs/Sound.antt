@@ -25,8 +25,15 @@ sound_longer bytes flushed longer firm m spans is s = record {
 }
 
 -- a write that failed after there was room in what was flushed
-pub sound_unwritten : (bytes same_bytes flushed longer : List ℕ) (firm m : ℕ) (spans same_spans : List Span) → same_bytes ≡ bytes → longer ≡ flushed ++ replicate (m - length flushed) 0 → same_spans ≡ spans → IsSound bytes flushed firm spans → IsSound same_bytes longer firm same_spans
-sound_unwritten bytes same_bytes flushed longer firm m spans same_spans is_bytes is is_spans s = rw (is_bytes, is_spans) (sound_longer bytes flushed longer firm m spans is s)
+pub sound_unwritten : (bytes same_bytes flushed longer : List ℕ) (firm : ℕ) (spans same_spans : List Span) → same_bytes ≡ bytes → ((i : ℕ) → byte_at longer i ≡ byte_at flushed i) → length flushed ≤ length longer → same_spans ≡ spans
+    → IsSound bytes flushed firm spans → IsSound same_bytes longer firm same_spans
+sound_unwritten bytes same_bytes flushed longer firm spans same_spans is_bytes is long is_spans s = rw (is_bytes, is_spans) (record {
+  kept = s.kept;
+  long = omega (arith, s.long, long);
+  same = λ i out. is i ∙ s.same i out;
+  grown = s.grown;
+  inside = s.inside;
+})
 
 apart : (b c : Bool) → (if b then true else c) ≡ false → (b ≡ false) × (c ≡ false)
 apart true c is = absurd (cc)

@@ -1,4 +1,4 @@
-ghost use Rattle.std.specs.Prelude.{◌≡◌, ◌+◌, ◌-◌, ◌^◌, ◌&&◌, min, nat_lt, ◌≤◌, ◌++◌, ℕ, true, false, if◌then◌else◌, OnOk, OnErr, length, replicate, slice_index_or, slice_range, take};
+ghost use Rattle.std.specs.Prelude.{◌≡◌, ◌+◌, ◌-◌, ◌^◌, ◌&&◌, min, nat_lt, ◌<◌, ◌≤◌, ◌++◌, ℕ, true, false, if◌then◌else◌, OnOk, OnErr, length, replicate, slice_index_or, slice_range, take, vec_capacity, vec_len};
 ghost use Rattle.std.specs.List.{splice};
 ghost use Rattle.draid_area.specs.Cells.{AreInside, LeavesByte, byte_at, covers, is_torn, length_by, torn_by};
 ghost use Rattle.draid_area.specs.Area.{tick, within};
@@ -29,7 +29,7 @@ pub(crate) fn risen(count: u64) -> u64
 }
 
 /// Makes a list at least `len` long.
-pub(crate) fn grow<T: Copy>(cells: &mut Vec<T>, len: usize, value: T) -> Result<(), AllocError>
+fn grow<T: Copy>(cells: &mut Vec<T>, len: usize, value: T) -> Result<(), AllocError>
     ensures ok { OnOk result (cells.new.items
         ≡ cells.old.items ++ replicate (len - length cells.old.items) value) }
     ensures err { OnErr result (cells.new.items ≡ cells.old.items) }
@@ -43,12 +43,50 @@ pub(crate) fn grow<T: Copy>(cells: &mut Vec<T>, len: usize, value: T) -> Result<
 }
 
 /// Makes room for what is kept of each of `len` offsets. Where nothing is, that stands for `value`.
-pub(crate) fn reach<T: Copy>(cells: &mut Vec<T>, len: usize, value: T) -> Result<(), AllocError>
+fn reach<T: Copy>(cells: &mut Vec<T>, len: usize, value: T) -> Result<(), AllocError>
     ensures same { (i : ℕ) → slice_index_or cells.new.items i value ≡ slice_index_or cells.old.items i value }
     ensures long { OnOk result (len ≤ length cells.new.items) }
     ensures kept { length cells.old.items ≤ length cells.new.items }
 {
     grow(cells, len, value)
+}
+
+/// Makes room for one more span, and for the clocks and the marks of `len` offsets.
+pub(crate) fn make_room(
+    spans: &mut Vec<Span>,
+    since: &mut Vec<u64>,
+    torn: &mut Vec<bool>,
+    len: usize,
+) -> Result<(), AllocError>
+    ensures spans { spans.new.items ≡ spans.old.items }
+    ensures room { OnOk result (vec_len spans.new < vec_capacity spans.new) }
+    ensures clocks { (i : ℕ) → slice_index_or since.new.items i 0 ≡ slice_index_or since.old.items i 0 }
+    ensures clocks_long { OnOk result (len ≤ length since.new.items) }
+    ensures clocks_kept { length since.old.items ≤ length since.new.items }
+    ensures marks { (i : ℕ) → is_torn torn.new.items i ≡ is_torn torn.old.items i }
+    ensures marks_long { OnOk result (len ≤ length torn.new.items) }
+    ensures marks_kept { length torn.old.items ≤ length torn.new.items }
+{
+    spans.reserve(1)?;
+    reach(since, len, 0)?;
+    reach(torn, len, false)
+}
+
+/// Makes both lists at least `len` long, with zeros. Where memory runs out, there are no more bytes.
+pub(crate) fn lengthen(
+    flushed: &mut Vec<u8>,
+    bytes: &mut Vec<u8>,
+    len: usize,
+) -> Result<(), AllocError>
+    ensures flushed { OnOk result (flushed.new.items
+        ≡ flushed.old.items ++ replicate (len - length flushed.old.items) 0) }
+    ensures bytes { OnOk result (bytes.new.items ≡ bytes.old.items ++ replicate (len - length bytes.old.items) 0) }
+    ensures err { OnErr result (bytes.new.items ≡ bytes.old.items) }
+    ensures same { (i : ℕ) → byte_at flushed.new.items i ≡ byte_at flushed.old.items i }
+    ensures kept { length flushed.old.items ≤ length flushed.new.items }
+{
+    grow(flushed, len, 0)?;
+    grow(bytes, len, 0)
 }
 
 /// Sets what is kept of each of `len` offsets.

@@ -6,8 +6,8 @@ ghost use Rattle.draid_area.specs.Moments.{CrashesTold, ElapsesTold};
 
 use crate::area::Area;
 use crate::cells::{
-    Span, calm, cut, grow, keep_spans, later, leave_spans, leave_torn, length_left, mark,
-    overwrite, reach, risen, standing,
+    Span, calm, cut, keep_spans, later, leave_spans, leave_torn, length_left, lengthen, make_room,
+    mark, overwrite, risen, standing,
 };
 use draid_faults::{Calls, CrashRule, Fuse};
 use draid_names::DeviceFault;
@@ -168,11 +168,8 @@ impl Area for MemoryArea {
             self.faults = risen(self.faults);
             return Err(DeviceFault::Failed);
         }
-        self.unflushed.reserve(1)?;
-        reach(&mut self.since, end, 0)?;
-        reach(&mut self.torn, end, false)?;
-        grow(&mut self.flushed, end, 0)?;
-        grow(&mut self.bytes, end, 0)?;
+        make_room(&mut self.unflushed, &mut self.since, &mut self.torn, end)?;
+        lengthen(&mut self.flushed, &mut self.bytes, end)?;
         let span = Span {
             start: at,
             len: bytes.len() as u64,

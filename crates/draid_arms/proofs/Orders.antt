@@ -1,18 +1,17 @@
 -- Slots, their arms and their logs.
-use Rattle.std.proofs.Common.{◌≡◌, ◌==◌, ◌+◌, ◌++◌, ◌<◌, ◌≤◌, ◌⊎◌, ◌||◌, not, ℕ, zero, suc, Bool, true, false, List, [], ◌∷◌, Some, None, option_map, Vec, Global, length, get_or, set, max, if◌then◌else◌, inl, inr, refl, sym, ◌∙◌, ap, subst, arith}
+use Rattle.std.proofs.Common.{◌≡◌, ◌==◌, ◌+◌, ◌++◌, ◌<◌, ◌≤◌, ◌⊎◌, not, ℕ, zero, suc, Bool, true, false, List, [], ◌∷◌, Some, None, option_map, Vec, Global, length, set, max, if◌then◌else◌, inl, inr, refl, sym, ◌∙◌, ap, subst, arith}
 use Rattle.std.specs.List.{list_any}
 use Rattle.std.proofs.lemmas.Bool.{true≢false}
 use Rattle.std.proofs.lemmas.Bool.Decides.{nat_tests}
-use Rattle.draid_ranges.specs.declared.run.Run.{Run}
-use Rattle.draid_ranges.specs.Numbers.{Numbers, AreRuns, has}
-use Rattle.draid_ranges.specs.Runs.{has_in, is_between}
+use Rattle.draid_ranges.specs.Numbers.{has}
+use Rattle.draid_ranges.specs.Runs.{is_between}
 use Rattle.draid_machine.specs.declared.names.Key.{Key}
 use Rattle.draid_machine.specs.declared.names.ArmName.{ArmName}
 use Rattle.draid_machine.specs.declared.names.ArmName.TheVariants.{Leaf, Spare}
 use Rattle.draid_machine.specs.declared.names.Held.{Held}
 use Rattle.draid_machine.specs.Names.{key_eq, name_eq, has_name, is_leaf, up_to}
 use Rattle.draid_machine.specs.After.{set_order}
-use Rattle.draid_machine.proofs.Small.{is_equal, name_refl, name_true, key_refl, some_injective, true_left, true_right, both_true, not_true, not_false}
+use Rattle.draid_machine.proofs.Small.{is_equal, key_refl, some_injective, both_true, not_true, not_false}
 use Rattle.draid_world.specs.World.{arm_of, gone_of, held_in, names_at}
 use Rattle.draid_world.specs.declared.world.Arm.{Arm}
 use Rattle.draid_arms.specs.Rules.{is_other_leaf, IsLeafLeft, fresh_arm, greatest}

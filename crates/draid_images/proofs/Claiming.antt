@@ -36,6 +36,18 @@ claim_passed l q s h a found arm on put logged = sym (ap (λ b. not b || (is_blo
 pub claim_none : (l : Layout) (q : Core) (s : Segment) (h : Held) → q.held s.key ≡ Some h → q.arm s.arm ≡ None → false ≡ claims l q s
 claim_none l q s h found none = sym (ap₂ (λ (o : Option Held) (p : Option Arm). claimed l q s o p) found none)
 
+-- a segment at no place of its block, and one of a column that wasn't put
+pub claim_off : (l : Layout) (q : Core) (s : Segment) (h : Held) (a : Arm) → q.held s.key ≡ Some h → q.arm s.arm ≡ Some a → is_on l q.order s h ≡ false → false ≡ claims l q s
+claim_off l q s h a found arm off =
+    sym (ap₂ (λ (o : Option Held) (p : Option Arm). claimed l q s o p) found arm
+    ∙ ap (λ b. b && is_put h.stage s.column && (not (a.log h.birth) || (is_block h.stage && passed q.pass s.arm h s.row))) off)
+
+pub claim_unput : (l : Layout) (q : Core) (s : Segment) (h : Held) (a : Arm) → q.held s.key ≡ Some h → q.arm s.arm ≡ Some a → is_on l q.order s h ≡ true → is_put h.stage s.column ≡ false → false ≡ claims l q s
+claim_unput l q s h a found arm on unput =
+    sym (ap₂ (λ (o : Option Held) (p : Option Arm). claimed l q s o p) found arm
+    ∙ ap (λ b. b && is_put h.stage s.column && (not (a.log h.birth) || (is_block h.stage && passed q.pass s.arm h s.row))) on
+    ∙ ap (λ b. true && b && (not (a.log h.birth) || (is_block h.stage && passed q.pass s.arm h s.row))) unput)
+
 pub claim_is_on : (l : Layout) (q : Core) (s : Segment) → claims l q s ≡ true → (h : Held) × (q.held s.key ≡ Some h) × (is_on l q.order s h ≡ true)
 claim_is_on l q s is = by (q.held s.key) refl (q.arm s.arm) is
   where

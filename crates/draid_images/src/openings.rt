@@ -60,7 +60,10 @@ fn is_claimed(site: &Site, tables: &Tables, segment: &Segment) -> bool
     let Some(arm) = tables.arms.get(&segment.arm) else {
         return false;
     };
-    if !site.is_on(&tables.order, segment, &held) || !is_put(held.stage, segment.column) {
+    if !site.is_on(&tables.order, segment, &held) {
+        return false;
+    }
+    if !is_put(held.stage, segment.column) {
         return false;
     }
     if !arm.log.contains(held.birth) {

@@ -4,7 +4,7 @@ use Rattle.draid_machine.specs.declared.names.ArmName.{ArmName}
 use Rattle.draid_machine.specs.declared.names.Held.{Held}
 use Rattle.draid_machine.specs.Names.{has_name, has_number, is_heal, takes}
 use Rattle.draid_machine.specs.State.{Layout, Core, Pass, Loan, State}
-use Rattle.draid_machine.specs.Arms.{HasEmptyLog, IsSource, answers, leaf_answers, leaf_at, reading}
+use Rattle.draid_machine.specs.Arms.{HasEmptyLog, IsSource, answers, leaf_at, reading}
 use Rattle.draid_world.specs.World.{name_at, names_at}
 use Rattle.draid_machine.specs.Step.{IsChosen, IsNext, ReadsThere, arms_read, is_lent}
 

@@ -19,6 +19,15 @@ pub(crate) struct Columns {
     pub(crate) chosen: Vec<Option<ArmName>>,
 }
 
+/// Whether an arm answers at a stripe and its leaf didn't fail.
+fn is_answering(site: &Site, tables: &Tables, failed: &[u64], name: ArmName, stripe: u64) -> bool
+    requires stripe { stripe < NUMBERS }
+    ensures { result ≡ (arms.answers (site_layout site.now) (core_of tables.now) name stripe
+        && not (arms.fails (site_layout site.now) (core_of tables.now) failed.now name stripe)) }
+{
+    site.answers(tables, name, stripe) && !site.fails(tables, failed, name, stripe)
+}
+
 /// The arms of a list that answer at a stripe and whose leaves didn't fail.
 fn answering(
     alloc: Global,
@@ -33,9 +42,7 @@ fn answering(
 {
     let mut found = Vec::new(alloc);
     for at in 0..names.len() {
-        if site.answers(tables, names[at], stripe)
-            && !site.fails(tables, failed, names[at], stripe)
-        {
+        if is_answering(site, tables, failed, names[at], stripe) {
             found.push(names[at])?;
         }
     }

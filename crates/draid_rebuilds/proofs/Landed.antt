@@ -1,9 +1,9 @@
 -- The landing of a rebuild's stripe.
-use Rattle.std.proofs.Common.{◌≡◌, ◌+◌, ◌&&◌, ◌||◌, not, ℕ, Bool, true, false, nat_lt, List, [], ◌∷◌, Option, Some, None, filter, count_by, cond, length, if◌then◌else◌, refl, sym, ◌∙◌, ap, ap₂, arith, option_map}
+use Rattle.std.proofs.Common.{◌≡◌, ◌+◌, ◌&&◌, ◌||◌, not, ℕ, Bool, true, false, nat_lt, List, [], ◌∷◌, Option, Some, None, filter, count_by, cond, length, if◌then◌else◌, refl, sym, ◌∙◌, ap, ap₂, arith, option_map, subst}
 use Rattle.std.proofs.lemmas.List.Sums.{sum_by-cons}
 use Rattle.draid_machine.specs.declared.names.ArmName.{ArmName}
 use Rattle.draid_machine.specs.declared.names.Held.{Held}
-use Rattle.draid_machine.specs.State.{Layout, Loan, State}
+use Rattle.draid_machine.specs.State.{Layout, Loan, Pass, State}
 use Rattle.draid_machine.specs.After.{capped, land_stripe_state, mend_state, pass_over, unsourced}
 use Rattle.draid_machine.specs.Step.{LandStripeStep}
 use Rattle.draid_machine.proofs.Small.{some_injective}
@@ -12,6 +12,10 @@ use Rattle.draid_world.specs.declared.world.Lent.{Lent}
 use Rattle.draid_world.specs.declared.world.World.{World}
 use Rattle.draid_world.specs.declared.world.WorldPass.{WorldPass}
 use Rattle.draid_world.specs.World.{core_of, loan_of, pass_of, state_of}
+use Rattle.draid_names.specs.declared.pass_kind.PassKind.TheVariants.{Rebuild}
+use Rattle.draid_machine.specs.Names.{has_number}
+use Rattle.draid_rebuilds.specs.Landings.{MayMend}
+use Rattle.draid_passes.specs.Landings.{Lands}
 use Rattle.draid_rebuilds.specs.Stripes.{MayLandStripe, mended_pass, mended_state}
 
 -- a set from which some went and which some joined
@@ -34,6 +38,27 @@ both_bits true true false = refl
 both_bits true false true = refl
 both_bits true false false = refl
 both_bits false f d = refl
+
+-- the pass and the loan of a state are those of a landing
+pub may_by : (l : Layout) (w : State) (pass serial : ℕ) (failed : List ℕ) (h : Held) (p : Pass) (n : Loan) → w.core.pass ≡ Some p → w.loan ≡ Some n → Lands w Rebuild pass serial h
+    → ((leaf : ℕ) → has_number failed leaf ≡ true → MayMend l w.core p n leaf) → MayLandStripe l w pass serial failed h
+may_by l w pass serial failed h p n is at lands fail =
+    let same_pass : lands.p ≡ p = some_injective lands.p p (sym lands.counts.pass_is ∙ is) in
+    let same_loan : lands.n ≡ n = some_injective lands.n n (sym lands.counts.loan ∙ at) in
+    record {
+      p = lands.p;
+      n = lands.n;
+      counts = lands.counts;
+      rebuild = lands.kind_is;
+      fail = λ leaf has. subst (λ (x : Pass). MayMend l w.core x lands.n leaf) (sym same_pass) (subst (λ (x : Loan). MayMend l w.core p x leaf) (sym same_loan) (fail leaf has));
+    }
+
+pub may_mend : (l : Layout) (w : State) (pass serial : ℕ) (failed : List ℕ) (h : Held) (p : Pass) (n : Loan) → w.core.pass ≡ Some p → w.loan ≡ Some n → MayLandStripe l w pass serial failed h
+    → (leaf : ℕ) → has_number failed leaf ≡ true → MayMend l w.core p n leaf
+may_mend l w pass serial failed h p n is at may leaf has =
+    let same_pass : may.p ≡ p = some_injective may.p p (sym may.counts.pass_is ∙ is) in
+    let same_loan : may.n ≡ n = some_injective may.n n (sym may.counts.loan ∙ at) in
+    subst (λ (x : Pass). MayMend l w.core x n leaf) same_pass (subst (λ (x : Loan). MayMend l w.core may.p x leaf) same_loan (may.fail leaf has))
 
 -- how many are lost
 pub count_kept : (bad : ArmName → Bool) (ns : List ArmName) → length (filter (λ n. not (bad n)) ns) + count_by bad ns ≡ length ns

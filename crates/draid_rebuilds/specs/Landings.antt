@@ -1,11 +1,9 @@
 use Rattle.std.specs.Prelude.{◌≡◌, ◌≤◌, ℕ, true, Some}
-use Rattle.draid_names.specs.declared.pass_kind.PassKind.{PassKind}
 use Rattle.draid_machine.specs.declared.names.ArmName.{ArmName}
-use Rattle.draid_machine.specs.declared.names.Held.{Held}
-use Rattle.draid_machine.specs.State.{Layout, Core, Pass, Loan, State}
+use Rattle.draid_machine.specs.State.{Layout, Core, Pass, Loan}
 use Rattle.draid_machine.specs.After.{unsourced}
 use Rattle.draid_machine.specs.Arms.{has_column, leaf_at}
-use Rattle.draid_machine.specs.Step.{Counts, MendsThere}
+use Rattle.draid_machine.specs.Step.{MendsThere}
 
 -- an arm has a column of a stripe, and keeps it on a leaf
 abbrev pub Keeps : Layout → Core → ℕ → ℕ → ArmName → Type 0

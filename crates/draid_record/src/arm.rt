@@ -1,9 +1,9 @@
 ghost use Rattle.std.specs.Prelude.{◌≡◌, ◌==◌, ◌≤◌, ◌+◌, ◌||◌, ◌&&◌, not, nat_lt, All, IfOk, length};
-ghost use Rattle.draid_record.specs.Reading.{Gives, read};
+ghost use Rattle.draid_record.specs.Reading.{Gives, Tells, read};
 ghost use Rattle.draid_record.specs.Record as spec;
 ghost use Rattle.draid_record.specs.Record.{told_arm, told_slot, told_slots};
 
-use crate::fault::ReadError;
+use crate::fault::{Fault, ReadError};
 use crate::field::{check, number};
 use crate::limits::Limits;
 use crate::log::log;
@@ -103,8 +103,8 @@ fn arm_head<'a>(
     before: &[Vec<(Arm, Log)>],
     count: u64,
     here: &[(Arm, Log)],
-) -> Result<(Arm, &'a [u8]), ReadError>
-    ensures { Gives (λ x. (x.0, x.1.now)) result (read (spec.arm_head limits.now (told_slots before.now) count (told_slot here.now)) bytes.now) }
+) -> Result<(Arm, &'a [u8]), Fault>
+    ensures { Tells (λ x. (x.0, x.1.now)) result (read (spec.arm_head limits.now (told_slots before.now) count (told_slot here.now)) bytes.now) }
 {
     let (code, bytes) = number(bytes, 1, 0, 1)?;
     let kind = kind_of(code);

@@ -13,8 +13,8 @@ use draid_ranges::Run;
 use std::alloc::Global;
 
 #[tactic(auto, unfolding(crate::specs::Reading::read))]
-fn space_run(bytes: &[u8]) -> Result<(Run, &[u8]), ReadError>
-    ensures { Gives (λ x. (x.0, x.1.now)) result (read (spec.space_run 0) bytes.now) }
+fn space_run(bytes: &[u8]) -> Result<(Run, &[u8]), Fault>
+    ensures { Tells (λ x. (x.0, x.1.now)) result (read (spec.space_run 0) bytes.now) }
 {
     let (first, bytes) = number(bytes, 8, 0, u64::MAX)?;
     let (len, bytes) = number(bytes, 8, 0, u64::MAX)?;
@@ -68,9 +68,9 @@ fn digest(bytes: &[u8]) -> Result<([u8; 32], &[u8]), Fault>
 
 /// A block at or behind a stripe.
 #[tactic(auto, unfolding(crate::specs::Reading::read))]
-fn block<'a>(bytes: &'a [u8], limits: &Limits, low: u64) -> Result<(Pointer, &'a [u8]), ReadError>
+fn block<'a>(bytes: &'a [u8], limits: &Limits, low: u64) -> Result<(Pointer, &'a [u8]), Fault>
     requires { AreLimits limits.now }
-    ensures block { Gives (λ x. (x.0, x.1.now)) result (read (spec.block limits.now low) bytes.now) }
+    ensures block { Tells (λ x. (x.0, x.1.now)) result (read (spec.block limits.now low) bytes.now) }
     ensures range { IfOk result (λ x. x.0.first + x.0.stripes ≤ 2 ^ 49) }
 {
     let (object, bytes) = number(bytes, 8, 0, OBJECTS - 1)?;

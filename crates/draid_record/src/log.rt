@@ -1,9 +1,9 @@
 ghost use Rattle.std.specs.Prelude.{◌≡◌, ◌+◌, ◌<◌, ◌≤◌, IfOk};
 ghost use Rattle.draid_ranges.specs.Runs.{AreApart};
-ghost use Rattle.draid_record.specs.Reading.{Gives, read};
+ghost use Rattle.draid_record.specs.Reading.{Gives, Tells, read};
 ghost use Rattle.draid_record.specs.Record as spec;
 
-use crate::fault::ReadError;
+use crate::fault::{Fault, ReadError};
 use crate::field::number;
 use draid_dtl::Log;
 use draid_names::{LAST_NUMBER, NUMBERS};
@@ -12,8 +12,8 @@ use std::alloc::Global;
 
 /// A run of groups from `low` on.
 #[tactic(auto, unfolding(crate::specs::Reading::read))]
-fn run(bytes: &[u8], low: u64) -> Result<(Run, &[u8]), ReadError>
-    ensures run { Gives (λ x. (x.0, x.1.now)) result (read (spec.run low) bytes.now) }
+fn run(bytes: &[u8], low: u64) -> Result<(Run, &[u8]), Fault>
+    ensures run { Tells (λ x. (x.0, x.1.now)) result (read (spec.run low) bytes.now) }
     ensures range { IfOk result (λ x. (low ≤ x.0.first) × (0 < x.0.len) × (x.0.first + x.0.len ≤ NUMBERS)) }
 {
     let (first, bytes) = number(bytes, 8, low, LAST_NUMBER)?;

@@ -1,10 +1,10 @@
 ghost use Rattle.std.specs.Prelude.{◌≡◌, ◌≤◌, ◌<◌, [], All, IfOk, IfSome, length, slice_index_or};
 ghost use Rattle.std.specs.Option.{option_map};
-ghost use Rattle.draid_record.specs.Reading.{Gives, read};
+ghost use Rattle.draid_record.specs.Reading.{Gives, Tells, read};
 ghost use Rattle.draid_record.specs.Record as spec;
 ghost use Rattle.draid_record.specs.Record.{told_pass, told_slots};
 
-use crate::fault::ReadError;
+use crate::fault::{Fault, ReadError};
 use crate::field::number;
 use crate::limits::Limits;
 use draid_dtl::Log;
@@ -58,8 +58,8 @@ fn target<'a>(
     bytes: &'a [u8],
     all: &[Vec<(Arm, Log)>],
     before: Option<ArmAt>,
-) -> Result<(ArmAt, &'a [u8]), ReadError>
-    ensures { Gives (λ x. (x.0, x.1.now)) result (read (spec.target (told_slots all.now) before) bytes.now) }
+) -> Result<(ArmAt, &'a [u8]), Fault>
+    ensures { Tells (λ x. (x.0, x.1.now)) result (read (spec.target (told_slots all.now) before) bytes.now) }
 {
     let most = (all.len() as u64).saturating_sub(1);
     let (slot, bytes) = number(bytes, 2, least_slot(before), most)?;
@@ -116,8 +116,8 @@ fn pass_head<'a>(
     number_of: u64,
     kind: PassKind,
     least: u64,
-) -> Result<(Pass, &'a [u8]), ReadError>
-    ensures head { Gives (λ x. (told_pass x.0, x.1.now)) result (read (spec.pass_head limits.now kind least) bytes.now) }
+) -> Result<(Pass, &'a [u8]), Fault>
+    ensures head { Tells (λ x. (told_pass x.0, x.1.now)) result (read (spec.pass_head limits.now kind least) bytes.now) }
     ensures number { IfOk result (λ x. x.0.number ≡ number_of) }
 {
     let (running, bytes) = number(bytes, 1, least, 1)?;

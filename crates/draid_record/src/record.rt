@@ -62,8 +62,8 @@ pub fn read_record(
 
 /// The metaslab, the group and the number of slots.
 #[tactic(auto, unfolding(crate::specs::Reading::read))]
-fn head<'a>(bytes: &'a [u8], limits: &Limits) -> Result<&'a [u8], ReadError>
-    ensures { Gives (λ x. (limits.now.children, x.now)) result (read (spec.head limits.now) bytes.now) }
+fn head<'a>(bytes: &'a [u8], limits: &Limits) -> Result<&'a [u8], Fault>
+    ensures { Tells (λ x. (limits.now.children, x.now)) result (read (spec.head limits.now) bytes.now) }
 {
     let bytes = exactly(bytes, 2, u64::from(limits.metaslab))?;
     let bytes = exactly(bytes, 8, limits.group)?;
@@ -73,8 +73,8 @@ fn head<'a>(bytes: &'a [u8], limits: &Limits) -> Result<&'a [u8], ReadError>
 
 /// The last pass number used.
 #[tactic(auto, unfolding(crate::specs::Reading::read))]
-fn last_pass(bytes: &[u8]) -> Result<(u64, &[u8]), ReadError>
-    ensures { Gives (λ x. (x.0, x.1.now)) result (read spec.last_pass bytes.now) }
+fn last_pass(bytes: &[u8]) -> Result<(u64, &[u8]), Fault>
+    ensures { Tells (λ x. (x.0, x.1.now)) result (read spec.last_pass bytes.now) }
 {
     let (last, bytes) = number(bytes, 8, 0, LAST_NUMBER)?;
     Ok((last, bytes))

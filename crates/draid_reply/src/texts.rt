@@ -1,6 +1,8 @@
 ghost use Rattle.std.specs.Prelude.{◌≡◌, ◌++◌, IfOk, codes, string_bytes};
 ghost use Rattle.draid_script.specs.Name.{arm_of};
-ghost use Rattle.draid_reply.specs.Reply.{contents_of, create_refused_of, detach_refused_of, detach_stopped_of, detached_of, write_fault_of, fill_refused_of, others_of, pass_there_of, pause_of, rebalanced_of, rebuilt_of, said_of, scrubbed_of, slot_fault_of, slot_refused_of, spec_fault_of, sum_refused_of, summed_of};
+ghost use Rattle.draid_reply.specs.Reply.{contents_of, create_refused_of, detach_refused_of, detach_stopped_of, detached_of, write_fault_of, fill_refused_of, others_of, pass_there_of, pause_of, rebalanced_of, rebuilt_of, said_of, scrubbed_of, slot_fault_of, slot_refused_of, spec_fault_of, sum_refused_of, summed_of, text_of};
+ghost use Rattle.draid_reply.specs.declared.reply.Reply.TheVariants.{NoSpace, Unreadable};
+ghost use Rattle.std.specs.Fmt.{decimal};
 
 use draid_names::{ObjectFault, SlotFault, WriteFault};
 use draid_script::{ArmArgument, CommandName};
@@ -13,6 +15,70 @@ pub fn name_said(alloc: Global, command: CommandName, words: &str) -> Result<Str
 {
     let name = command.text();
     format!(in alloc; "{name}{words}\n")
+}
+
+/// A number between other words.
+pub fn numbered(alloc: Global, before: &str, number: u64, after: &str) -> Result<String, AllocError>
+    ensures { IfOk result (λ text. string_bytes text ≡ before.now ++ (decimal number ++ after.now)) }
+{
+    format!(in alloc; "{before}{number}{after}")
+}
+
+/// Two numbers between other words.
+pub fn twice_numbered(
+    alloc: Global,
+    before: &str,
+    number: u64,
+    between: &str,
+    number_2: u64,
+    after: &str,
+) -> Result<String, AllocError>
+    ensures { IfOk result (λ text. string_bytes text ≡ before.now ++ (decimal number ++ (between.now ++ (decimal number_2 ++ after.now)))) }
+{
+    format!(in alloc; "{before}{number}{between}{number_2}{after}")
+}
+
+pub fn created(alloc: Global, name: &str, stripes: u64) -> Result<String, AllocError>
+    ensures { IfOk result (λ text. string_bytes text ≡ codes "create " ++ (name.now ++ (codes " stripes=" ++ (decimal stripes ++ codes "\n")))) }
+{
+    format!(in alloc; "create {name} stripes={stripes}\n")
+}
+
+pub fn imported(alloc: Global, name: &str, group: u64, objects: u64) -> Result<String, AllocError>
+    ensures { IfOk result (λ text. string_bytes text ≡ codes "import " ++ (name.now ++ (codes " group=" ++ (decimal group ++ (codes " objects=" ++ (decimal objects ++ codes "\n")))))) }
+{
+    format!(in alloc; "import {name} group={group} objects={objects}\n")
+}
+
+pub fn spared(alloc: Global, slot: u32, name: &str) -> Result<String, AllocError>
+    ensures { IfOk result (λ text. string_bytes text ≡ codes "spare " ++ (decimal slot ++ (codes " " ++ (name.now ++ codes " ok\n")))) }
+{
+    format!(in alloc; "spare {slot} {name} ok\n")
+}
+
+/// No metaslab has room for the block of a `write`.
+#[tactic(auto, unfolding(crate::specs::Reply::text_of))]
+pub fn no_space(
+    alloc: Global,
+    object: u64,
+    run: u64,
+    disabled: u32,
+    full: u32,
+    worn: u32,
+) -> Result<String, AllocError>
+    ensures { IfOk result (λ text. string_bytes text ≡ text_of (NoSpace object run disabled full worn)) }
+{
+    format!(in alloc;
+        "write {object} no space run={run} disabled={disabled} full={full} worn={worn}\n"
+    )
+}
+
+/// No set of columns restores the object of a `read`.
+#[tactic(auto, unfolding(crate::specs::Reply::text_of))]
+pub fn unreadable(alloc: Global, object: u64, absent: u32, tried: u64) -> Result<String, AllocError>
+    ensures { IfOk result (λ text. string_bytes text ≡ text_of (Unreadable object absent tried)) }
+{
+    format!(in alloc; "read {object} unreadable absent={absent} tried={tried}\n")
 }
 
 /// A metaslab has a pass that the command may not find.

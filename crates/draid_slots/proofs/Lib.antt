@@ -1,11 +1,12 @@
-pub mod Slices
 pub mod Lasting
 pub mod Mapped
 pub mod Moves
 pub mod Names
 pub mod OneSlot
 pub mod Refusals
+pub mod Reserved
 pub mod Rooms
 pub mod Settled
+pub mod Slices
 pub mod Spares
 pub mod Tables

@@ -1,12 +1,38 @@
 -- Tests over lists of arms and of leaves.
-use Rattle.std.proofs.Common.{◌≡◌, ◌==◌, ◌&&◌, ◌||◌, not, ℕ, Bool, true, false, List, [], ◌∷◌, Option, Some, None, if◌then◌else◌, refl, sym, ◌∙◌, ap, subst}
+use Rattle.std.proofs.Common.{◌≡◌, ◌==◌, ◌&&◌, ◌||◌, ◌+◌, ◌<◌, not, ℕ, Bool, true, false, List, [], ◌∷◌, length, drop, get_or, Option, Some, None, if◌then◌else◌, refl, sym, ◌∙◌, ap, subst}
 use Rattle.std.specs.List.{list_all, list_any}
 use Rattle.std.proofs.lemmas.Bool.{true≢false}
+use Rattle.std.proofs.lemmas.List.{at_drop_more}
 use Rattle.draid_machine.specs.declared.names.ArmName.{ArmName}
 use Rattle.draid_machine.specs.Names.{name_eq, has_name, has_number}
 use Rattle.draid_machine.specs.Arms.{passes}
 use Rattle.draid_machine.proofs.Small.{name_true, name_refl, both_true, true_left, true_right, is_equal, equal}
 
+-- ---- a test over what is left of a list, one step on and at the end
+pub next_all : {A : Type 0} (p : A → Bool) (xs : List A) (k : ℕ) (d : A) → k < length xs → p (get_or xs k d) ≡ true → list_all p (drop k xs) ≡ list_all p (drop (k + 1) xs)
+next_all p xs k d low is = at_drop_more (list_all p) xs k d low ∙ ap (λ b. b && list_all p (drop (k + 1) xs)) is
+
+pub stop_all : {A : Type 0} (p : A → Bool) (xs : List A) (k : ℕ) (d : A) → k < length xs → p (get_or xs k d) ≡ false → list_all p (drop k xs) ≡ false
+stop_all p xs k d low is = at_drop_more (list_all p) xs k d low ∙ ap (λ b. b && list_all p (drop (k + 1) xs)) is
+
+pub next_any : {A : Type 0} (p : A → Bool) (xs : List A) (k : ℕ) (d : A) → k < length xs → p (get_or xs k d) ≡ false → list_any p (drop k xs) ≡ list_any p (drop (k + 1) xs)
+next_any p xs k d low is = at_drop_more (list_any p) xs k d low ∙ ap (λ b. b || list_any p (drop (k + 1) xs)) is
+
+pub found_any : {A : Type 0} (p : A → Bool) (xs : List A) (k : ℕ) (d : A) → k < length xs → p (get_or xs k d) ≡ true → list_any p (drop k xs) ≡ true
+found_any p xs k d low is = at_drop_more (list_any p) xs k d low ∙ ap (λ b. b || list_any p (drop (k + 1) xs)) is
+
+or_assoc : (a b c : Bool) → ((a || b) || c) ≡ (a || (b || c))
+or_assoc true b c = refl
+or_assoc false b c = refl
+
+-- one more of those for which something joins a set
+pub joins_any : {A : Type 0} (p : A → Bool) (xs : List A) (k : ℕ) (d : A) (was now : Bool) → k < length xs → now ≡ (was || p (get_or xs k d)) → (now || list_any p (drop (k + 1) xs)) ≡ (was || list_any p (drop k xs))
+joins_any p xs k d was now low is =
+    ap (λ b. b || list_any p (drop (k + 1) xs)) is
+    ∙ or_assoc was (p (get_or xs k d)) (list_any p (drop (k + 1) xs))
+    ∙ ap (λ b. was || b) (sym (at_drop_more (list_any p) xs k d low))
+
+-- ---- what a test over a list says of its members
 pub all_names : (p : ArmName → Bool) (ns : List ArmName) → list_all p ns ≡ true → (n : ArmName) → has_name ns n ≡ true → p n ≡ true
 all_names p [] all n has = absurd (true≢false (sym has))
 all_names p (x ∷ xs) all n has = by (name_eq x n) refl has (λ rest. all_names p xs (both_true (p x) (list_all p xs) all).1 n rest)

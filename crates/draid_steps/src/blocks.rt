@@ -1,7 +1,8 @@
-ghost use Rattle.std.specs.Prelude.{◌≡◌, ◌<◌, true, false};
+ghost use Rattle.std.specs.Prelude.{◌≡◌, ◌<◌, IsSome, true, false};
+ghost use Rattle.draid_machine.specs.After.{gone_state, live_state};
 ghost use Rattle.draid_machine.specs.State.{State};
 ghost use Rattle.draid_machine.specs.Step.{AbortStep, FinishStep, FreeStep};
-ghost use Rattle.draid_world.specs.World.{site_layout, state_of};
+ghost use Rattle.draid_world.specs.World.{held_in, site_layout, state_of};
 
 use draid_machine::{Held, Key, Stage};
 use draid_names::NUMBERS;
@@ -28,6 +29,28 @@ pub fn free(world: &mut World, key: Key, group: u64) -> bool
     true
 }
 
+/// A ticket goes, with its segments.
+fn drop_ticket(world: &mut World, key: Key)
+    ensures { state_of world.new ≡ gone_state (state_of world.old) key }
+{
+    forget(&mut world.tables.held, key);
+    forget_segments(&mut world.present, key);
+    forget_segments(&mut world.aside, key);
+    forget_kept(&mut world.kept, key);
+}
+
+/// A ticket is a block from now on.
+fn make_live(world: &mut World, key: Key, held: Held)
+    requires there { IsSome (held_in world.old.tables.held.entries key) }
+    ensures { state_of world.new ≡ live_state (state_of world.old) key held }
+{
+    let live = Held {
+        stage: Stage::Live,
+        ..held
+    };
+    change(&mut world.tables.held, key, live);
+}
+
 /// Gives a ticket up, where there is one.
 pub fn abort(world: &mut World, key: Key) -> bool
     ensures legal { result ≡ true → AbortStep (state_of world.old) key (state_of world.new) }
@@ -40,10 +63,7 @@ pub fn abort(world: &mut World, key: Key) -> bool
         Stage::Writing { .. } => {}
         _ => return false,
     }
-    forget(&mut world.tables.held, key);
-    forget_segments(&mut world.present, key);
-    forget_segments(&mut world.aside, key);
-    forget_kept(&mut world.kept, key);
+    drop_ticket(world, key);
     true
 }
 
@@ -62,16 +82,9 @@ pub fn finish(site: &Site, world: &mut World, key: Key) -> bool
         return false;
     }
     if missed > site.geometry.spec.parity {
-        forget(&mut world.tables.held, key);
-        forget_segments(&mut world.present, key);
-        forget_segments(&mut world.aside, key);
-        forget_kept(&mut world.kept, key);
+        drop_ticket(world, key);
         return true;
     }
-    let live = Held {
-        stage: Stage::Live,
-        ..held
-    };
-    change(&mut world.tables.held, key, live);
+    make_live(world, key, held);
     true
 }

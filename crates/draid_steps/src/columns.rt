@@ -96,7 +96,10 @@ fn are_used(site: &Site, tables: &Tables, stripe: u64, names: &[ArmName], leaves
     ensures { result ≡ list_all (λ leaf. list_any (λ n. arms.lies (site_layout site.now) (core_of tables.now).order n stripe leaf) names.now && arms.leaf_answers (core_of tables.now) leaf) leaves.now }
 {
     for at in 0..leaves.len() {
-        if !is_used(site, tables, stripe, names, leaves[at]) || !tables.leaf_answers(leaves[at]) {
+        if !is_used(site, tables, stripe, names, leaves[at]) {
+            return false;
+        }
+        if !tables.leaf_answers(leaves[at]) {
             return false;
         }
     }

@@ -1,7 +1,7 @@
 ghost use Rattle.std.specs.Prelude.{◌≡◌, ◌<◌, true, false, IfOk};
 ghost use Rattle.draid_names.specs.Numbers as numbers;
 ghost use Rattle.draid_machine.specs.State.{State};
-ghost use Rattle.draid_machine.specs.Step.{BeginStep, HoldsFewer, IsEnabled};
+ghost use Rattle.draid_machine.specs.Step.{BeginStep, HoldsFewer, IsDue, IsEnabled};
 ghost use Rattle.draid_world.specs.World.{AreLow, core_of, site_layout, state_of};
 
 use crate::room::is_lowest;
@@ -32,6 +32,15 @@ fn has_room(tables: &Tables, version: u32) -> bool
     tables.held.len() < most_held(version)
 }
 
+/// Whether a group is the open one or the next.
+fn is_due(world: &World, group: u64) -> bool
+    requires open { world.now.open_group < NUMBERS }
+    ensures yes { result ≡ true → IsDue (state_of world.now) group }
+    ensures no { result ≡ false → IsDue (state_of world.now) group → ⊥ }
+{
+    world.open_group <= group && group <= world.open_group + 1
+}
+
 /// Opens a ticket, where that is legal.
 pub fn begin(site: &Site, world: &mut World, key: Key, held: Held) -> Result<bool, NoMemory>
     requires low { AreLow (core_of world.old.tables) }
@@ -41,13 +50,19 @@ pub fn begin(site: &Site, world: &mut World, key: Key, held: Held) -> Result<boo
     ensures illegal { IfOk result (λ b. b ≡ false → (new : State) → BeginStep (site_layout site.now) (state_of world.old) key held new → ⊥) }
 {
     let tables = &world.tables;
-    if !is_enabled(tables) || !has_room(tables, world.version) {
+    if !is_enabled(tables) {
+        return Ok(false);
+    }
+    if !has_room(tables, world.version) {
         return Ok(false);
     }
     if find(&tables.held, key).is_some() {
         return Ok(false);
     }
-    if held.stripes == 0 || held.birth < world.open_group || held.birth > world.open_group + 1 {
+    if held.stripes == 0 {
+        return Ok(false);
+    }
+    if !is_due(world, held.birth) {
         return Ok(false);
     }
     if !is_lowest(site, tables, held.first, held.stripes) {

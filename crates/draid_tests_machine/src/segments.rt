@@ -75,20 +75,50 @@ fn write_block(site: &Site, rack: &mut MemoryRack) -> Result<(), Failed> {
     flush_all(site, rack)
 }
 
+/// The first sector of the leaf of a slot.
+fn first_of(slot: u32) -> At {
+    At {
+        leaf: u64::from(slot),
+        sector: 0,
+    }
+}
+
 /// The first column is made from the second and third one, and lands on the spare.
 fn mend_first(site: &Site, rack: &mut MemoryRack) -> Result<(), Failed>
     requires columns { 2 < site.now.geometry.g }
 {
     let leaf = u64::from(site.home(&[], 0, 0));
-    let source = |column: u32| At {
-        leaf: u64::from(column),
-        sector: 0,
-    };
-    let sources = [source(site.slot_of(0, 1)), source(site.slot_of(0, 2))];
+    let sources = [first_of(site.slot_of(0, 1)), first_of(site.slot_of(0, 2))];
     if !has_first(rack, leaf) {
         return Err(Failed);
     }
     rack.mend(leaf, 0, &piece(0), &sources)
+}
+
+/// Damages the first sector of a leaf.
+fn damage_first(rack: &mut MemoryRack, leaf: u64) -> Result<(), Failed> {
+    if !has_first(rack, leaf) {
+        return Err(Failed);
+    }
+    rack.damage(leaf, 0)
+}
+
+/// Writes the first sector of a leaf anew, whose harm stays.
+fn patch_first(rack: &mut MemoryRack, leaf: u64, bytes: &[u8; 512]) -> Result<(), Failed> {
+    if !has_first(rack, leaf) {
+        return Err(Failed);
+    }
+    rack.patch(leaf, 0, bytes)
+}
+
+/// Flushes a leaf, and ends the harm of its first sector.
+fn settle_first(rack: &mut MemoryRack, leaf: u64) -> Result<(), Failed> {
+    if !has_first(rack, leaf) {
+        return Err(Failed);
+    }
+    rack.flush(leaf)?;
+    rack.settle(leaf, 0);
+    Ok(())
 }
 
 /// The second column's leaf is damaged, and a whole landing puts it right.
@@ -96,13 +126,9 @@ fn heal_second(site: &Site, rack: &mut MemoryRack) -> Result<(), Failed>
     requires columns { 1 < site.now.geometry.g }
 {
     let leaf = u64::from(site.slot_of(0, 1));
-    if !has_first(rack, leaf) {
-        return Err(Failed);
-    }
-    rack.damage(leaf, 0)?;
-    rack.patch(leaf, 0, &piece(1))?;
-    rack.flush(leaf)?;
-    rack.settle(leaf, 0);
+    damage_first(rack, leaf)?;
+    patch_first(rack, leaf, &piece(1))?;
+    settle_first(rack, leaf)?;
     flush_all(site, rack)
 }
 
@@ -155,6 +181,18 @@ fn add_done(alloc: Global, events: &mut Vec<Event>) -> Result<(), NoMemory>
     add(events, Event::Done { failed })
 }
 
+/// What a scrub rewrites of the second column, on its leaf.
+fn patched(alloc: Global, leaf: u64) -> Result<Vec<Patched>, NoMemory> {
+    let mut patched = Vec::new(alloc);
+    patched.push(Patched {
+        column: 1,
+        arm: ArmName::Leaf { leaf },
+        written: Vec::from_slice(alloc, &[0])?,
+        landed: Vec::from_slice(alloc, &[0])?,
+    })?;
+    Ok(patched)
+}
+
 /// The leaf is back, the second column's leaf is damaged, and a scrub puts it right.
 fn add_healed(alloc: Global, site: &Site, events: &mut Vec<Event>) -> Result<(), NoMemory>
     requires columns { 1 < site.now.geometry.g }
@@ -165,13 +203,7 @@ fn add_healed(alloc: Global, site: &Site, events: &mut Vec<Event>) -> Result<(),
     let leaf = u64::from(site.slot_of(0, 1));
     let kind = PassKind::Heal;
     let failed = Vec::new(alloc);
-    let mut patched = Vec::new(alloc);
-    patched.push(Patched {
-        column: 1,
-        arm: ArmName::Leaf { leaf },
-        written: Vec::from_slice(alloc, &[0])?,
-        landed: Vec::from_slice(alloc, &[0])?,
-    })?;
+    let patched = patched(alloc, leaf)?;
     let damage = Event::Damage {
         leaf,
         sector: 0,
@@ -201,15 +233,18 @@ fn history(alloc: Global, site: &Site, stage: u32) -> Result<Vec<Event>, NoMemor
 {
     let mut events = Vec::new(alloc);
     add_block(alloc, site, &mut events)?;
-    if stage >= 1 {
-        add_mended(alloc, site, &mut events)?;
+    if stage == 0 {
+        return Ok(events);
     }
-    if stage >= 2 {
-        add_done(alloc, &mut events)?;
+    add_mended(alloc, site, &mut events)?;
+    if stage == 1 {
+        return Ok(events);
     }
-    if stage >= 3 {
-        add_healed(alloc, site, &mut events)?;
+    add_done(alloc, &mut events)?;
+    if stage == 2 {
+        return Ok(events);
     }
+    add_healed(alloc, site, &mut events)?;
     Ok(events)
 }
 
@@ -218,62 +253,99 @@ fn do_history(site: &Site, rack: &mut MemoryRack, stage: u32) -> Result<(), Fail
     requires columns { 2 < site.now.geometry.g }
 {
     write_block(site, rack)?;
-    if stage >= 1 {
-        mend_first(site, rack)?;
+    if stage == 0 {
+        return Ok(());
     }
-    if stage >= 2 {
-        flush_all(site, rack)?;
+    mend_first(site, rack)?;
+    if stage == 1 {
+        return Ok(());
     }
-    if stage >= 3 {
-        heal_second(site, rack)?;
+    flush_all(site, rack)?;
+    if stage == 2 {
+        return Ok(());
     }
-    Ok(())
+    heal_second(site, rack)
 }
 
-/// Whether the rack has what the state says behind that history; what its committed image says, opened again after a
-/// crash; and this still, once a byte of the third column is changed.
-fn verdicts(
-    alloc: Global,
-    site: &Site,
-    rack: &mut MemoryRack,
-    stage: u32,
-) -> Result<[bool; 3], ReplayFault> {
-    if site.geometry.g < 3 || do_history(site, rack, stage).is_err() {
+/// The metaslab is opened again from the group that is committed at a stage.
+fn reopen(alloc: Global, stage: u32) -> Event
+    ensures { IsSmallEvent result }
+{
+    Event::Reopen {
+        group: if stage == 0 { 2 } else { 3 },
+        doubtful: Vec::new(alloc),
+    }
+}
+
+/// What becomes of a new metaslab by a few events.
+fn world_by(alloc: Global, site: &Site, events: &Vec<Event>) -> Result<World, ReplayFault>
+    requires { All IsSmallEvent events.now.items }
+{
+    if events.len() > 100 {
         return Err(ReplayFault::NoMemory);
     }
+    world_after(alloc, site, events)
+}
+
+/// The states behind the history of a stage, and behind the opening of what it committed.
+fn worlds(alloc: Global, site: &Site, stage: u32) -> Result<(World, World), ReplayFault>
+    requires columns { 1 < site.now.geometry.g }
+{
     let Ok(mut events) = history(alloc, site, stage) else {
         return Err(ReplayFault::NoMemory);
     };
-    if events.len() >= 100 {
+    let state = world_by(alloc, site, &events)?;
+    let Ok(()) = add(&mut events, reopen(alloc, stage)) else {
         return Err(ReplayFault::NoMemory);
-    }
-    let state = holds(&world_after(alloc, site, &events)?, rack);
-    let reopen = Event::Reopen {
-        group: if stage == 0 { 2 } else { 3 },
-        doubtful: Vec::new(alloc),
     };
-    if add(&mut events, reopen).is_err() {
-        return Err(ReplayFault::NoMemory);
-    }
-    let opened = world_after(alloc, site, &events)?;
-    rack.crash(CrashRule::Torn);
-    let image = holds(&opened, rack);
+    Ok((state, world_by(alloc, site, &events)?))
+}
+
+/// A byte of the third column is changed.
+fn change_third(site: &Site, rack: &mut MemoryRack) -> Result<(), Failed>
+    requires columns { 2 < site.now.geometry.g }
+{
     let mut bytes = piece(2);
     bytes[0] = 0;
-    if write_first(rack, u64::from(site.slot_of(0, 2)), &bytes).is_err() {
-        return Err(ReplayFault::NoMemory);
+    write_first(rack, u64::from(site.slot_of(0, 2)), &bytes)
+}
+
+/// Whether the rack has what a state says behind that history; what its committed image says, opened again after a
+/// crash; and this still, once a byte of the third column is changed.
+fn verdicts(
+    site: &Site,
+    rack: &mut MemoryRack,
+    stage: u32,
+    state: &World,
+    image: &World,
+) -> Result<[bool; 3], Failed>
+    requires columns { 2 < site.now.geometry.g }
+{
+    do_history(site, rack, stage)?;
+    let before = holds(state, rack);
+    rack.crash(CrashRule::Torn);
+    let opened = holds(image, rack);
+    change_third(site, rack)?;
+    Ok([before, opened, holds(image, rack)])
+}
+
+/// Those answers at a stage, where there is room.
+fn verdicts_at(alloc: Global, site: &Site, stage: u32) -> Option<[bool; 3]> {
+    if site.geometry.g < 3 {
+        return None;
     }
-    Ok([state, image, holds(&opened, rack)])
+    let (state, image) = worlds(alloc, site, stage).ok()?;
+    let mut rack = MemoryRack::new(alloc, 4, 8, 512, Vec::new(alloc)).ok()?;
+    verdicts(site, &mut rack, stage, &state, &image).ok()
 }
 
 #[test]
 fn racks_have_what_states_and_images_say(rt: HostRuntime) -> Result<(), Fail> {
     let site = site_of(b"draid1:2d:1s", 4).expect(&rt, "a site");
     for stage in 0..4 {
-        let mut rack = MemoryRack::new(rt.alloc(), 4, 8, 512, Vec::new(rt.alloc()))?;
         assert_eq!(rt;
-            verdicts(rt.alloc(), &site, &mut rack, stage),
-            Ok([true, true, false])
+            verdicts_at(rt.alloc(), &site, stage),
+            Some([true, true, false])
         );
     }
     Ok(())

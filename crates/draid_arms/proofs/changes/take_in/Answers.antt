@@ -1,8 +1,5 @@
-use Rattle.std.proofs.Common.{◌≡◌, ◌∙◌, Some, ap}
-use Rattle.draid_machine.specs.State as state
-use Rattle.draid_machine.specs.Names.{has_name}
-use Rattle.draid_machine.specs.After.{set_arm, attached_core, rearranged_state}
-use Rattle.draid_machine.specs.Arms.{has_moved}
+use Rattle.std.proofs.Common.{◌≡◌, ◌∙◌, ap}
+use Rattle.draid_machine.specs.After.{attached_core}
 use Rattle.draid_world.specs.World.{core_of, names_at, site_layout, state_of}
 use Rattle.draid_world.proofs.Maps.{ok_map, on_ok}
 use Rattle.draid_arms.proofs.Changed.{joined_core, moved_made, rearranged_made}

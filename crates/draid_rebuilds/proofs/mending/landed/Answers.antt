@@ -1,8 +1,8 @@
-use Rattle.std.proofs.Common.{◌+◌, ◌<◌, ◌∙◌, not, ap, sym, refl, subst, get_or, length, rules, Vec, Global}
+use Rattle.std.proofs.Common.{◌+◌, ◌∙◌, not, ap, sym, refl, subst, get_or, Vec, Global}
 use Rattle.draid_machine.specs.declared.names.Segment.{Segment}
 use Rattle.draid_machine.specs.Arms.{fails}
 use Rattle.draid_world.specs.World.{core_of, site_layout}
-use Rattle.draid_world.proofs.Picks.{ArePicked, picked_no, picked_yes}
+use Rattle.draid_world.proofs.Picks.{ArePicked, picked_all, picked_no, picked_yes}
 use Rattle.draid_world.proofs.SegmentLists.{no_segment}
 use Rattle.draid_rebuilds.proofs.mending.landed.Goals as goal
 use Rattle.draid_rebuilds.proofs.mending.landed.Goals.{then-not-fails+in_ok-push, else-not-fails}
@@ -11,7 +11,7 @@ pub loop-at-preserved : goal.loop-at-preserved
 loop-at-preserved c =
     let all = c.args.all.now in
     let at = c.loop-at.at in
-    let less : at < length all = search rules in
+    let less = c.loop-at-test.true in
     let test : Segment → _ = λ s. not (fails (site_layout c.args.site.now) (core_of c.args.tables.now) c.args.failed.now s.arm c.args.stripe) in
     elim c.if-not-fails.branch [
       | then-not-fails+in_ok-push w ↦ subst (λ (v : Vec Segment Global). ArePicked test all (at + 1) v.items) (sym w.out-is)
@@ -19,3 +19,8 @@ loop-at-preserved c =
       | else-not-fails w ↦ subst (λ (v : Vec Segment Global). ArePicked test all (at + 1) v.items) (sym w.out-is)
           (picked_no test all c.loop-at.out.items at no_segment (get_or all at no_segment) less refl c.loop-at.invariant (ap not (sym c.fails.ensures ∙ w.if-not-fails.false)))
     ]
+
+pub returns : goal.returns
+returns c =
+    let test : Segment → _ = λ s. not (fails (site_layout c.args.site.now) (core_of c.args.tables.now) c.args.failed.now s.arm c.args.stripe) in
+    picked_all test c.args.all.now c.loop-at.out.items c.loop-at.at c.loop-at-test.false c.loop-at.invariant

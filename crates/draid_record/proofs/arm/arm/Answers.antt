@@ -4,6 +4,7 @@ use Rattle.draid_names.specs.declared.arm.Arm.{Arm}
 use Rattle.draid_ranges.specs.declared.run.Run.{Run}
 use Rattle.draid_record.specs.declared.fault.Fault.{Fault}
 use Rattle.draid_record.specs.Grammar.{◌>>=◌, Done}
+use Rattle.draid_record.specs.declared.fault.ReadError.TheVariants.{Field}
 use Rattle.draid_record.specs.Reading.{Fails}
 use Rattle.draid_record.specs.Record as spec
 use Rattle.draid_record.specs.Record.{told_arm, told_slot, told_slots, told_pass, ArmTold, PassTold, RecordTold}
@@ -13,7 +14,7 @@ use Rattle.draid_record.proofs.arm.arm.Goals as goal
 pub returns-in_err-arm : goal.returns-in_err-arm
 returns-in_err-arm c =
     let p = err_from_is_err_and c.from_residual.result c.from_residual.ensures.1 in
-    rw (p.1, p.2) (after_err (spec.arm_head c.args.limits.now (told_slots c.args.before.now) c.args.count (told_slot c.args.here.now)) (λ (a : Arm). spec.log >>= λ l. Done (a, l)) c.args.bytes.now c.in_err-arm.field-0.0 c.in_err-arm.ensures)
+    rw (p.1, p.2) (after_err (spec.arm_head c.args.limits.now (told_slots c.args.before.now) c.args.count (told_slot c.args.here.now)) (λ (a : Arm). spec.log >>= λ l. Done (a, l)) c.args.bytes.now (Field c.in_err-arm.field-0.0) c.in_err-arm.ensures)
 
 pub returns-in_err-log : goal.returns-in_err-log
 returns-in_err-log c =

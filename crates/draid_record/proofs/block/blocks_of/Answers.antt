@@ -5,6 +5,7 @@ use Rattle.std.specs.Prelude.{All}
 use Rattle.std.proofs.lemmas.List.Elements.{All-append}
 use Rattle.draid_record.proofs.Within.{one}
 use Rattle.draid_record.specs.Grammar.{many}
+use Rattle.draid_record.specs.declared.fault.ReadError.TheVariants.{Field}
 use Rattle.draid_record.specs.Reading.{read}
 use Rattle.draid_record.specs.Record as spec
 use Rattle.draid_record.specs.Record.{told_arm, told_slot, told_slots, told_pass, ArmTold, PassTold, RecordTold}
@@ -14,7 +15,7 @@ use Rattle.draid_record.proofs.block.blocks_of.Goals as goal
 pub returns-in_err-block-clause-blocks : goal.returns-in_err-block-clause-blocks
 returns-in_err-block-clause-blocks c =
     let p = err_from_is_err_and c.from_residual.result c.from_residual.ensures.1 in
-    rw (p.1, p.2) (ends (spec.block c.args.limits.now) spec.end_of c.loop.low c.loop.list.items c.in_err-block.field-0.0 c.args.count c.loop.counter c.loop.rest.now (read (spec.blocks_of c.args.limits.now c.args.count) c.args.bytes.now) c.loop-test.true c.in_err-block.ensures.block c.loop.invariant.still)
+    rw (p.1, p.2) (ends (spec.block c.args.limits.now) spec.end_of c.loop.low c.loop.list.items (Field c.in_err-block.field-0.0) c.args.count c.loop.counter c.loop.rest.now (read (spec.blocks_of c.args.limits.now c.args.count) c.args.bytes.now) c.loop-test.true c.in_err-block.ensures.block c.loop.invariant.still)
 
 pub loop-preserved : goal.loop-preserved
 loop-preserved c =

@@ -2,6 +2,7 @@ use Rattle.std.proofs.Common.{◌≡◌, ◌+◌, ◌-◌, List, subst, sym, ari
 use Rattle.std.proofs.lemmas.Result.{err_from_is_err_and}
 use Rattle.draid_ranges.specs.declared.run.Run.{Run}
 use Rattle.draid_record.specs.Grammar.{many}
+use Rattle.draid_record.specs.declared.fault.ReadError.TheVariants.{Field}
 use Rattle.draid_record.specs.Reading.{read}
 use Rattle.draid_record.specs.Record as spec
 use Rattle.draid_record.specs.Record.{told_arm, told_slot, told_slots, told_pass, ArmTold, PassTold, RecordTold}
@@ -11,7 +12,7 @@ use Rattle.draid_record.proofs.block.space_runs.Goals as goal
 pub returns-in_err-run-clause-runs : goal.returns-in_err-run-clause-runs
 returns-in_err-run-clause-runs c =
     let p = err_from_is_err_and c.from_residual.result c.from_residual.ensures.1 in
-    rw (p.1, p.2) (ends spec.space_run spec.same_state 0 c.loop.runs.items c.in_err-run.field-0.0 c.args.count c.loop.counter c.loop.rest.now (read (spec.space_runs c.args.count) c.args.bytes.now) c.loop-test.true c.in_err-run.ensures c.loop.invariant.still)
+    rw (p.1, p.2) (ends spec.space_run spec.same_state 0 c.loop.runs.items (Field c.in_err-run.field-0.0) c.args.count c.loop.counter c.loop.rest.now (read (spec.space_runs c.args.count) c.args.bytes.now) c.loop-test.true c.in_err-run.ensures c.loop.invariant.still)
 
 pub loop-preserved : goal.loop-preserved
 loop-preserved c =

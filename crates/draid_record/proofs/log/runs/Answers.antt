@@ -3,6 +3,7 @@ use Rattle.std.proofs.lemmas.Result.{err_from_is_err_and}
 use Rattle.draid_ranges.specs.declared.run.Run.{Run}
 use Rattle.draid_ranges.specs.Runs.{AreWithin}
 use Rattle.draid_record.specs.Grammar.{many}
+use Rattle.draid_record.specs.declared.fault.ReadError.TheVariants.{Field}
 use Rattle.draid_record.specs.Reading.{read}
 use Rattle.draid_record.specs.Record.{behind, run, runs}
 use Rattle.draid_record.proofs.Loop.{ends, goes_on, is_done, with_front}
@@ -12,7 +13,7 @@ use Rattle.draid_record.proofs.log.runs.Goals as goal
 pub returns-in_err-run-clause-runs : goal.returns-in_err-run-clause-runs
 returns-in_err-run-clause-runs c =
     let p = err_from_is_err_and c.from_residual.result c.from_residual.ensures.1 in
-    rw (p.1, p.2) (ends run behind c.loop.low c.loop.runs.items c.in_err-run.field-0.0 c.args.count c.loop.counter c.loop.rest.now (read (runs c.args.count) c.args.bytes.now) c.loop-test.true c.in_err-run.ensures.run c.loop.invariant.still)
+    rw (p.1, p.2) (ends run behind c.loop.low c.loop.runs.items (Field c.in_err-run.field-0.0) c.args.count c.loop.counter c.loop.rest.now (read (runs c.args.count) c.args.bytes.now) c.loop-test.true c.in_err-run.ensures.run c.loop.invariant.still)
 
 pub loop-preserved : goal.loop-preserved
 loop-preserved c =

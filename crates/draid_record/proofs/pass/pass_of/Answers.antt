@@ -3,6 +3,7 @@ use Rattle.std.proofs.lemmas.Result.{err_from_is_err_and}
 use Rattle.draid_names.specs.declared.arm.ArmAt.{ArmAt}
 use Rattle.draid_record.specs.declared.fault.Fault.{Fault}
 use Rattle.draid_record.specs.Grammar.{◌>>=◌, Done}
+use Rattle.draid_record.specs.declared.fault.ReadError.TheVariants.{Field}
 use Rattle.draid_record.specs.Reading.{Fails}
 use Rattle.draid_record.specs.Record as spec
 use Rattle.draid_record.specs.Record.{told_arm, told_slot, told_slots, told_pass, ArmTold, PassTold, RecordTold}
@@ -12,7 +13,7 @@ use Rattle.draid_record.proofs.pass.pass_of.Goals as goal
 pub returns-in_err-head-clause-pass : goal.returns-in_err-head-clause-pass
 returns-in_err-head-clause-pass c =
     let p = err_from_is_err_and c.from_residual.result c.from_residual.ensures.1 in
-    rw (p.1, p.2) (after_err (spec.pass_head c.args.limits.now c.args.kind c.args.least) (λ (head : PassTold). (spec.targets (told_slots c.args.all.now)) >>= λ list. Done (Some (record head { targets = list }))) c.args.bytes.now c.in_err-head.field-0.0 c.in_err-head.ensures.head)
+    rw (p.1, p.2) (after_err (spec.pass_head c.args.limits.now c.args.kind c.args.least) (λ (head : PassTold). (spec.targets (told_slots c.args.all.now)) >>= λ list. Done (Some (record head { targets = list }))) c.args.bytes.now (Field c.in_err-head.field-0.0) c.in_err-head.ensures.head)
 
 pub returns-in_err-targets-clause-pass : goal.returns-in_err-targets-clause-pass
 returns-in_err-targets-clause-pass c =

@@ -4,6 +4,7 @@ use Rattle.draid_names.specs.declared.pointer.Pointer.{Pointer}
 use Rattle.draid_ranges.specs.declared.run.Run.{Run}
 use Rattle.std.specs.Option.{option_map}
 use Rattle.draid_record.specs.declared.fault.Fault.{Fault}
+use Rattle.draid_record.specs.declared.fault.ReadError.TheVariants.{Field}
 use Rattle.draid_record.specs.Reading.{Fails, range, read}
 use Rattle.draid_record.specs.Record as spec
 use Rattle.draid_record.specs.Record.{told_arm, told_slot, told_slots, told_pass, ArmTold, PassTold, RecordTold}
@@ -13,7 +14,7 @@ use Rattle.draid_record.proofs.record.body.Goals as goal
 pub returns-in_err-bytes-clause-body : goal.returns-in_err-bytes-clause-body
 returns-in_err-bytes-clause-body c =
     let p = err_from_is_err_and c.from_residual.result c.from_residual.ensures.1 in
-    rw (p.1, p.2) (after_err (spec.head c.args.limits.now) (λ (children : ℕ). spec.behind_head c.args.limits.now) c.args.bytes.now c.in_err-bytes.field-0.0 c.in_err-bytes.ensures)
+    rw (p.1, p.2) (after_err (spec.head c.args.limits.now) (λ (children : ℕ). spec.behind_head c.args.limits.now) c.args.bytes.now (Field c.in_err-bytes.field-0.0) c.in_err-bytes.ensures)
 
 pub returns-in_err-slots-clause-body : goal.returns-in_err-slots-clause-body
 returns-in_err-slots-clause-body c =
@@ -27,8 +28,8 @@ returns-in_err-last_pass-clause-body c =
     let p = err_from_is_err_and c.from_residual-in_err-last_pass.result c.from_residual-in_err-last_pass.ensures.1 in
     let before = after_ok (spec.head c.args.limits.now) (λ (children : ℕ). spec.behind_head c.args.limits.now) c.args.bytes.now c.in_ok-bytes.bytes.now c.args.limits.now.children c.in_ok-bytes.ensures
     ∙ after_ok (spec.slots c.args.limits.now) (λ (all : List (List ArmTold)). spec.behind_slots c.args.limits.now all) c.in_ok-bytes.bytes.now c.in_ok-slots.bytes.now (told_slots c.in_ok-slots.slots.items) c.in_ok-slots.ensures.slots in
-    let F : Result (RecordTold × List ℕ) Fault → Type 0 = λ r. Fails c.in_err-last_pass.field-0.0 r in
-    rw (p.1, p.2) (subst F (sym before) (after_err spec.last_pass (λ (last : ℕ). spec.behind_last c.args.limits.now (told_slots c.in_ok-slots.slots.items) last) c.in_ok-slots.bytes.now c.in_err-last_pass.field-0.0 c.in_err-last_pass.ensures))
+    let F : Result (RecordTold × List ℕ) Fault → Type 0 = λ r. Fails (Field c.in_err-last_pass.field-0.0) r in
+    rw (p.1, p.2) (subst F (sym before) (after_err spec.last_pass (λ (last : ℕ). spec.behind_last c.args.limits.now (told_slots c.in_ok-slots.slots.items) last) c.in_ok-slots.bytes.now (Field c.in_err-last_pass.field-0.0) c.in_err-last_pass.ensures))
 
 pub returns-in_err-pass-clause-body : goal.returns-in_err-pass-clause-body
 returns-in_err-pass-clause-body c =

@@ -33,7 +33,7 @@ returns-in-NoCheckpoint c = rw c.in-NoCheckpoint.is c.name_said-in-NoCheckpoint.
 
 pub returns-in-Created : goal.returns-in-Created
 unfolding text_of
-returns-in-Created c = rw c.in-Created.is c.format.ensures.ok
+returns-in-Created c = rw c.in-Created.is (rw c.deref.ensures at c.created.ensures)
 
 pub returns-in-CreateRefused : goal.returns-in-CreateRefused
 unfolding text_of
@@ -41,31 +41,27 @@ returns-in-CreateRefused c = rw c.in-CreateRefused.is c.create_refused.ensures
 
 pub returns-in-Imported : goal.returns-in-Imported
 unfolding text_of
-returns-in-Imported c = rw c.in-Imported.is c.format-in-Imported.ensures.ok
+returns-in-Imported c = rw c.in-Imported.is (rw c.deref-in-Imported.ensures at c.imported.ensures)
 
 pub returns-in-Exported : goal.returns-in-Exported
 unfolding text_of
-returns-in-Exported c = rw c.in-Exported.is c.format-in-Exported.ensures.ok
+returns-in-Exported c = rw c.in-Exported.is c.numbered.ensures
 
 pub returns-in-Written : goal.returns-in-Written
 unfolding text_of
-returns-in-Written c = rw c.in-Written.is c.format-in-Written.ensures.ok
-
-pub returns-in-NoSpace : goal.returns-in-NoSpace
-unfolding text_of
-returns-in-NoSpace c = rw c.in-NoSpace.is c.format-in-NoSpace.ensures.ok
+returns-in-Written c = rw c.in-Written.is c.numbered-in-Written.ensures
 
 pub returns-in-Missed : goal.returns-in-Missed
 unfolding text_of
-returns-in-Missed c = rw c.in-Missed.is c.format-in-Missed.ensures.ok
+returns-in-Missed c = rw c.in-Missed.is (rw c.from.ensures at c.twice_numbered.ensures)
 
 pub returns-in-WriteLast : goal.returns-in-WriteLast
 unfolding text_of
-returns-in-WriteLast c = rw c.in-WriteLast.is c.format-in-WriteLast.ensures.ok
+returns-in-WriteLast c = rw c.in-WriteLast.is c.numbered-in-WriteLast.ensures
 
 pub returns-in-Filled : goal.returns-in-Filled
 unfolding text_of
-returns-in-Filled c = rw c.in-Filled.is c.format-in-Filled.ensures.ok
+returns-in-Filled c = rw c.in-Filled.is c.twice_numbered-in-Filled.ensures
 
 pub returns-in-FillRefused : goal.returns-in-FillRefused
 unfolding text_of
@@ -73,19 +69,15 @@ returns-in-FillRefused c = rw c.in-FillRefused.is c.fill_refused.ensures
 
 pub returns-in-Contents : goal.returns-in-Contents
 unfolding text_of
-returns-in-Contents c = rw (c.in-Contents.is, ← c.deref.ensures.value) c.contents.ensures
+returns-in-Contents c = rw c.in-Contents.is (rw c.deref-in-Contents.ensures.value at c.contents.ensures)
 
 pub returns-in-NoObject : goal.returns-in-NoObject
 unfolding text_of
-returns-in-NoObject c = rw c.in-NoObject.is c.format-in-NoObject.ensures.ok
-
-pub returns-in-Unreadable : goal.returns-in-Unreadable
-unfolding text_of
-returns-in-Unreadable c = rw c.in-Unreadable.is c.format-in-Unreadable.ensures.ok
+returns-in-NoObject c = rw c.in-NoObject.is c.numbered-in-NoObject.ensures
 
 pub returns-in-ReadWorn : goal.returns-in-ReadWorn
 unfolding text_of
-returns-in-ReadWorn c = rw c.in-ReadWorn.is c.format-in-ReadWorn.ensures.ok
+returns-in-ReadWorn c = rw c.in-ReadWorn.is c.numbered-in-ReadWorn.ensures
 
 pub returns-in-Summed : goal.returns-in-Summed
 unfolding text_of
@@ -97,59 +89,59 @@ returns-in-SumRefused c = rw c.in-SumRefused.is c.sum_refused.ensures
 
 pub returns-in-Freed : goal.returns-in-Freed
 unfolding text_of
-returns-in-Freed c = rw c.in-Freed.is c.format-in-Freed.ensures.ok
+returns-in-Freed c = rw c.in-Freed.is c.numbered-in-Freed.ensures
 
 pub returns-in-FreeNoObject : goal.returns-in-FreeNoObject
 unfolding text_of
-returns-in-FreeNoObject c = rw c.in-FreeNoObject.is c.format-in-FreeNoObject.ensures.ok
+returns-in-FreeNoObject c = rw c.in-FreeNoObject.is c.numbered-in-FreeNoObject.ensures
 
 pub returns-in-Synced : goal.returns-in-Synced
 unfolding text_of
-returns-in-Synced c = rw c.in-Synced.is c.format-in-Synced.ensures.ok
+returns-in-Synced c = rw c.in-Synced.is c.twice_numbered-in-Synced.ensures
 
 pub returns-in-OfflineDone : goal.returns-in-OfflineDone
 unfolding text_of
-returns-in-OfflineDone c = rw c.in-OfflineDone.is c.format-in-OfflineDone.ensures.ok
+returns-in-OfflineDone c = rw c.in-OfflineDone.is c.numbered-in-OfflineDone.ensures
 
 pub returns-in-OfflineRefused : goal.returns-in-OfflineRefused
 unfolding text_of
-returns-in-OfflineRefused c = rw c.in-OfflineRefused.is c.format-in-OfflineRefused.ensures.ok
+returns-in-OfflineRefused c = rw c.in-OfflineRefused.is c.numbered-in-OfflineRefused.ensures
 
 pub returns-in-OfflineWorn : goal.returns-in-OfflineWorn
 unfolding text_of
-returns-in-OfflineWorn c = rw c.in-OfflineWorn.is c.format-in-OfflineWorn.ensures.ok
+returns-in-OfflineWorn c = rw c.in-OfflineWorn.is c.numbered-in-OfflineWorn.ensures
 
 pub returns-in-OnlineDone : goal.returns-in-OnlineDone
 unfolding text_of
-returns-in-OnlineDone c = rw c.in-OnlineDone.is c.format-in-OnlineDone.ensures.ok
+returns-in-OnlineDone c = rw c.in-OnlineDone.is c.numbered-in-OnlineDone.ensures
 
 pub returns-in-OnlineRefused : goal.returns-in-OnlineRefused
 unfolding text_of
-returns-in-OnlineRefused c = rw c.in-OnlineRefused.is c.format-in-OnlineRefused.ensures.ok
+returns-in-OnlineRefused c = rw c.in-OnlineRefused.is c.numbered-in-OnlineRefused.ensures
 
 pub returns-in-OnlineWorn : goal.returns-in-OnlineWorn
 unfolding text_of
-returns-in-OnlineWorn c = rw c.in-OnlineWorn.is c.format-in-OnlineWorn.ensures.ok
+returns-in-OnlineWorn c = rw c.in-OnlineWorn.is c.numbered-in-OnlineWorn.ensures
 
 pub returns-in-Damaged : goal.returns-in-Damaged
 unfolding text_of
-returns-in-Damaged c = rw c.in-Damaged.is c.format-in-Damaged.ensures.ok
+returns-in-Damaged c = rw c.in-Damaged.is c.twice_numbered-in-Damaged.ensures
 
 pub returns-in-DamageRefused : goal.returns-in-DamageRefused
 unfolding text_of
-returns-in-DamageRefused c = rw c.in-DamageRefused.is c.format-in-DamageRefused.ensures.ok
+returns-in-DamageRefused c = rw c.in-DamageRefused.is c.twice_numbered-in-DamageRefused.ensures
 
 pub returns-in-DamageFailed : goal.returns-in-DamageFailed
 unfolding text_of
-returns-in-DamageFailed c = rw c.in-DamageFailed.is c.format-in-DamageFailed.ensures.ok
+returns-in-DamageFailed c = rw c.in-DamageFailed.is c.twice_numbered-in-DamageFailed.ensures
 
 pub returns-in-DamageWorn : goal.returns-in-DamageWorn
 unfolding text_of
-returns-in-DamageWorn c = rw c.in-DamageWorn.is c.format-in-DamageWorn.ensures.ok
+returns-in-DamageWorn c = rw c.in-DamageWorn.is c.twice_numbered-in-DamageWorn.ensures
 
 pub returns-in-Spared : goal.returns-in-Spared
 unfolding text_of
-returns-in-Spared c = rw c.in-Spared.is c.format-in-Spared.ensures.ok
+returns-in-Spared c = rw c.in-Spared.is (rw c.deref-in-Spared.ensures at c.spared.ensures)
 
 pub returns-in-SpareRefused : goal.returns-in-SpareRefused
 unfolding text_of
@@ -157,11 +149,11 @@ returns-in-SpareRefused c = rw c.in-SpareRefused.is c.slot_refused.ensures
 
 pub returns-in-SpareWorn : goal.returns-in-SpareWorn
 unfolding text_of
-returns-in-SpareWorn c = rw c.in-SpareWorn.is c.format-in-SpareWorn.ensures.ok
+returns-in-SpareWorn c = rw c.in-SpareWorn.is (rw c.from-in-SpareWorn.ensures at c.numbered-in-SpareWorn.ensures)
 
 pub returns-in-Replaced : goal.returns-in-Replaced
 unfolding text_of
-returns-in-Replaced c = rw c.in-Replaced.is c.format-in-Replaced.ensures.ok
+returns-in-Replaced c = rw c.in-Replaced.is (rw c.from-in-Replaced.ensures at c.twice_numbered-in-Replaced.ensures)
 
 pub returns-in-ReplaceRefused : goal.returns-in-ReplaceRefused
 unfolding text_of
@@ -169,7 +161,7 @@ returns-in-ReplaceRefused c = rw c.in-ReplaceRefused.is c.slot_refused-in-Replac
 
 pub returns-in-ReplaceWorn : goal.returns-in-ReplaceWorn
 unfolding text_of
-returns-in-ReplaceWorn c = rw c.in-ReplaceWorn.is c.format-in-ReplaceWorn.ensures.ok
+returns-in-ReplaceWorn c = rw c.in-ReplaceWorn.is (rw c.from-in-ReplaceWorn.ensures at c.numbered-in-ReplaceWorn.ensures)
 
 pub returns-in-Detached : goal.returns-in-Detached
 unfolding text_of
@@ -193,7 +185,7 @@ returns-in-Rebuilt c = rw c.in-Rebuilt.is c.rebuilt.ensures
 
 pub returns-in-RebuildNothing : goal.returns-in-RebuildNothing
 unfolding text_of
-returns-in-RebuildNothing c = rw c.in-RebuildNothing.is c.format-in-RebuildNothing.ensures.ok
+returns-in-RebuildNothing c = rw c.in-RebuildNothing.is c.from_str.ensures.ok
 
 pub returns-in-Scrubbed : goal.returns-in-Scrubbed
 unfolding text_of
@@ -209,64 +201,64 @@ returns-in-RebalanceRefused c = rw c.in-RebalanceRefused.is c.slot_refused-in-Re
 
 pub returns-in-RebalanceWorn : goal.returns-in-RebalanceWorn
 unfolding text_of
-returns-in-RebalanceWorn c = rw c.in-RebalanceWorn.is c.format-in-RebalanceWorn.ensures.ok
+returns-in-RebalanceWorn c = rw c.in-RebalanceWorn.is (rw c.from-in-RebalanceWorn.ensures at c.numbered-in-RebalanceWorn.ensures)
 
 pub returns-in-RebalanceLast : goal.returns-in-RebalanceLast
 unfolding text_of
-returns-in-RebalanceLast c = rw c.in-RebalanceLast.is c.format-in-RebalanceLast.ensures.ok
+returns-in-RebalanceLast c = rw c.in-RebalanceLast.is (rw c.from-in-RebalanceLast.ensures at c.numbered-in-RebalanceLast.ensures)
 
 pub returns-in-Cancelled : goal.returns-in-Cancelled
 unfolding text_of
-returns-in-Cancelled c = rw c.in-Cancelled.is c.format-in-Cancelled.ensures.ok
+returns-in-Cancelled c = rw c.in-Cancelled.is (rw c.from-in-Cancelled.ensures at c.numbered-in-Cancelled.ensures)
 
 pub returns-in-Crashed : goal.returns-in-Crashed
 unfolding text_of
-returns-in-Crashed c = rw c.in-Crashed.is c.format-in-Crashed.ensures.ok
+returns-in-Crashed c = rw c.in-Crashed.is c.from_str-in-Crashed.ensures.ok
 
 pub returns-in-LanesClash : goal.returns-in-LanesClash
 unfolding text_of
-returns-in-LanesClash c = rw c.in-LanesClash.is c.format-in-LanesClash.ensures.ok
+returns-in-LanesClash c = rw c.in-LanesClash.is c.numbered-in-LanesClash.ensures
 
 pub returns-in-LanesClashMend : goal.returns-in-LanesClashMend
 unfolding text_of
-returns-in-LanesClashMend c = rw c.in-LanesClashMend.is c.format-in-LanesClashMend.ensures.ok
+returns-in-LanesClashMend c = rw c.in-LanesClashMend.is c.from_str-in-LanesClashMend.ensures.ok
 
 pub returns-in-LanesCheckpoint : goal.returns-in-LanesCheckpoint
 unfolding text_of
-returns-in-LanesCheckpoint c = rw c.in-LanesCheckpoint.is c.format-in-LanesCheckpoint.ensures.ok
+returns-in-LanesCheckpoint c = rw c.in-LanesCheckpoint.is c.from_str-in-LanesCheckpoint.ensures.ok
 
 pub returns-in-Upgraded : goal.returns-in-Upgraded
 unfolding text_of
-returns-in-Upgraded c = rw c.in-Upgraded.is c.format-in-Upgraded.ensures.ok
+returns-in-Upgraded c = rw c.in-Upgraded.is c.numbered-in-Upgraded.ensures
 
 pub returns-in-UpgradeAlready : goal.returns-in-UpgradeAlready
 unfolding text_of
-returns-in-UpgradeAlready c = rw c.in-UpgradeAlready.is c.format-in-UpgradeAlready.ensures.ok
+returns-in-UpgradeAlready c = rw c.in-UpgradeAlready.is c.from_str-in-UpgradeAlready.ensures.ok
 
 pub returns-in-AgentIdle : goal.returns-in-AgentIdle
 unfolding text_of
-returns-in-AgentIdle c = rw c.in-AgentIdle.is c.format-in-AgentIdle.ensures.ok
-
-pub returns-in-Checkpointed : goal.returns-in-Checkpointed
-unfolding text_of
-returns-in-Checkpointed c = rw c.in-Checkpointed.is c.format-in-Checkpointed.ensures.ok
-
-pub returns-in-CheckpointThere : goal.returns-in-CheckpointThere
-unfolding text_of
-returns-in-CheckpointThere c = rw c.in-CheckpointThere.is c.format-in-CheckpointThere.ensures.ok
-
-pub returns-in-Rewound : goal.returns-in-Rewound
-unfolding text_of
-returns-in-Rewound c = rw c.in-Rewound.is c.format-in-Rewound.ensures.ok
-
-pub returns-in-Discarded : goal.returns-in-Discarded
-unfolding text_of
-returns-in-Discarded c = rw c.in-Discarded.is c.format-in-Discarded.ensures.ok
+returns-in-AgentIdle c = rw c.in-AgentIdle.is c.from_str-in-AgentIdle.ensures.ok
 
 pub returns-in-Acted : goal.returns-in-Acted
 unfolding text_of
-returns-in-Acted c = rw (c.in-Acted.is, ← c.deref-in-Acted.ensures.value) c.acted.ensures
+returns-in-Acted c = rw c.in-Acted.is (rw c.deref-in-Acted.ensures.value at c.acted.ensures)
 
 pub returns-in-Journal : goal.returns-in-Journal
 unfolding text_of
-returns-in-Journal c = rw (c.in-Journal.is, ← c.deref-in-Journal.ensures.value) c.journal.ensures
+returns-in-Journal c = rw c.in-Journal.is (rw c.deref-in-Journal.ensures.value at c.journal.ensures)
+
+pub returns-in-Checkpointed : goal.returns-in-Checkpointed
+unfolding text_of
+returns-in-Checkpointed c = rw c.in-Checkpointed.is c.numbered-in-Checkpointed.ensures
+
+pub returns-in-CheckpointThere : goal.returns-in-CheckpointThere
+unfolding text_of
+returns-in-CheckpointThere c = rw c.in-CheckpointThere.is c.numbered-in-CheckpointThere.ensures
+
+pub returns-in-Rewound : goal.returns-in-Rewound
+unfolding text_of
+returns-in-Rewound c = rw c.in-Rewound.is c.twice_numbered-in-Rewound.ensures
+
+pub returns-in-Discarded : goal.returns-in-Discarded
+unfolding text_of
+returns-in-Discarded c = rw c.in-Discarded.is c.twice_numbered-in-Discarded.ensures

@@ -1,8 +1,8 @@
-use Rattle.std.proofs.Common.{◌+◌, ◌<◌, ◌∙◌, sym, refl, subst, get_or, length, rules, Vec, Global}
+use Rattle.std.proofs.Common.{◌+◌, ◌∙◌, sym, refl, subst, get_or, Vec, Global}
 use Rattle.draid_machine.specs.declared.names.Segment.{Segment}
 use Rattle.draid_scrubs.specs.Healing.{is_dubious}
 use Rattle.draid_world.specs.World.{core_of}
-use Rattle.draid_world.proofs.Picks.{ArePicked, picked_no, picked_yes}
+use Rattle.draid_world.proofs.Picks.{ArePicked, picked_all, picked_no, picked_yes}
 use Rattle.draid_world.proofs.SegmentLists.{no_segment}
 use Rattle.draid_scrubs.proofs.healing.doubted.Goals as goal
 use Rattle.draid_scrubs.proofs.healing.doubted.Goals.{then-is_in_doubt+in_ok-push, else-is_in_doubt}
@@ -11,7 +11,7 @@ pub loop-at-preserved : goal.loop-at-preserved
 loop-at-preserved c =
     let all = c.args.all.now in
     let at = c.loop-at.at in
-    let less : at < length all = search rules in
+    let less = c.loop-at-test.true in
     let test : Segment → _ = is_dubious (core_of c.args.tables.now) c.args.birth c.args.patched.now in
     elim c.if-is_in_doubt.branch [
       | then-is_in_doubt+in_ok-push w ↦ subst (λ (v : Vec Segment Global). ArePicked test all (at + 1) v.items) (sym w.out-is)
@@ -19,3 +19,8 @@ loop-at-preserved c =
       | else-is_in_doubt w ↦ subst (λ (v : Vec Segment Global). ArePicked test all (at + 1) v.items) (sym w.out-is)
           (picked_no test all c.loop-at.out.items at no_segment (get_or all at no_segment) less refl c.loop-at.invariant (sym c.is_in_doubt.ensures ∙ w.if-is_in_doubt.false))
     ]
+
+pub returns : goal.returns
+returns c =
+    let test : Segment → _ = is_dubious (core_of c.args.tables.now) c.args.birth c.args.patched.now in
+    picked_all test c.args.all.now c.loop-at.out.items c.loop-at.at c.loop-at-test.false c.loop-at.invariant

@@ -1,7 +1,7 @@
-use Rattle.std.proofs.Common.{◌+◌, ◌<◌, ◌∙◌, sym, refl, subst, get_or, length, rules, Vec, Global}
+use Rattle.std.proofs.Common.{◌+◌, ◌∙◌, sym, refl, subst, get_or, Vec, Global}
 use Rattle.draid_machine.specs.declared.names.Segment.{Segment}
 use Rattle.draid_machine.specs.After.{has_landed}
-use Rattle.draid_world.proofs.Picks.{ArePicked, picked_no, picked_yes}
+use Rattle.draid_world.proofs.Picks.{ArePicked, picked_all, picked_no, picked_yes}
 use Rattle.draid_world.proofs.SegmentLists.{no_segment}
 use Rattle.draid_scrubs.proofs.healing.landed.Goals as goal
 use Rattle.draid_scrubs.proofs.healing.landed.Goals.{then-has_landed+in_ok-push, else-has_landed}
@@ -10,7 +10,7 @@ pub loop-at-preserved : goal.loop-at-preserved
 loop-at-preserved c =
     let all = c.args.all.now in
     let at = c.loop-at.at in
-    let less : at < length all = search rules in
+    let less = c.loop-at-test.true in
     let test : Segment → _ = λ s. has_landed c.args.patched.now s.column s.arm s.row in
     elim c.if-has_landed.branch [
       | then-has_landed+in_ok-push w ↦ subst (λ (v : Vec Segment Global). ArePicked test all (at + 1) v.items) (sym w.out-is)
@@ -18,3 +18,8 @@ loop-at-preserved c =
       | else-has_landed w ↦ subst (λ (v : Vec Segment Global). ArePicked test all (at + 1) v.items) (sym w.out-is)
           (picked_no test all c.loop-at.out.items at no_segment (get_or all at no_segment) less refl c.loop-at.invariant (sym c.has_landed.ensures ∙ w.if-has_landed.false))
     ]
+
+pub returns : goal.returns
+returns c =
+    let test : Segment → _ = λ s. has_landed c.args.patched.now s.column s.arm s.row in
+    picked_all test c.args.all.now c.loop-at.out.items c.loop-at.at c.loop-at-test.false c.loop-at.invariant

@@ -1,4 +1,4 @@
-use Rattle.std.proofs.Common.{◌≡◌, ◌+◌, ◌<◌, ◌≤◌, ◌%◌, ◌-◌, subst, arith}
+use Rattle.std.proofs.Common.{◌+◌, ◌<◌, ◌≤◌, ◌%◌, ◌-◌, subst, arith}
 use Rattle.draid_world.specs.World.{core_of, site_layout}
 use Rattle.draid_steps.proofs.Runs.{behind_group, blocked, free_run, in_group}
 use Rattle.draid_steps.proofs.room.next_place.Goals as goal

@@ -1,6 +1,6 @@
 use Rattle.std.proofs.Common.{◌≡◌, ◌<◌, ◌≤◌, ◌+◌, ◌-◌, ◌∷◌, ◌++◌, [], ℕ, true, List, length, map, set, get_or, arith, refl, sym, ap, ◌∙◌, subst}
 use Rattle.std.specs.Prelude.{All, vec_len, vec_capacity}
-use Rattle.std.proofs.lemmas.List.{length-map, get_or-map, map-set}
+use Rattle.std.proofs.lemmas.List.{length-map, length-set, get_or-map, map-set}
 use Rattle.std.proofs.lemmas.List.Elements.{All-set}
 use Rattle.draid_names.specs.declared.arm.Arm.{Arm}
 use Rattle.draid_ranges.specs.Numbers.{Numbers}
@@ -15,6 +15,52 @@ use Rattle.draid_slots.proofs.Rooms.{last_room, rooms_append}
 use Rattle.draid_slots.proofs.Settled.{arm_settled}
 use Rattle.draid_slots.proofs.Spares.{more_once, one_more}
 use Rattle.draid_slots.proofs.slots.Slots.add.Goals as goal
+
+pub index_mut-requires : goal.index_mut-requires
+index_mut-requires c =
+    let s = c.self.inside in
+    let slots = s.slots.items in
+    let t : SlotTable = table_of s.geometry s.perms s.metaslab slots s.detached.items (next_rooms s.next.items) (vec_capacity s.detached - vec_len s.detached) in
+    let M : SlotTable → Type 0 = λ t. MayAttach t c.args.slot c.args.arm in
+    let may : MayAttach t c.args.slot c.args.arm = subst M (sym c.self.view_is) c.in_ok-may_attach.ensures.allowed in
+    let within : c.args.slot < length (map arms_in slots) = (let there = may.known.slot_there in let many = c.self.invariant.sound.slots.children in omega arith) in
+    let below : c.args.slot < length slots = omega (arith, length-map slots arms_in) in
+    omega (arith, below, s.slots.ok.0)
+
+pub add_arm-requires-clause-paired : goal.add_arm-requires-clause-paired
+add_arm-requires-clause-paired c =
+    let s = c.self.inside in
+    let slots = s.slots.items in
+    let t : SlotTable = table_of s.geometry s.perms s.metaslab slots s.detached.items (next_rooms s.next.items) (vec_capacity s.detached - vec_len s.detached) in
+    let M : SlotTable → Type 0 = λ t. MayAttach t c.args.slot c.args.arm in
+    let may : MayAttach t c.args.slot c.args.arm = subst M (sym c.self.view_is) c.in_ok-may_attach.ensures.allowed in
+    let within : c.args.slot < length (map arms_in slots) = (let there = may.known.slot_there in let many = c.self.invariant.sound.slots.children in omega arith) in
+    let below : c.args.slot < length slots = omega (arith, length-map slots arms_in) in
+    subst IsPaired (sym c.index_mut.ensures.value) (c.self.invariant.paired c.args.slot c.index_mut.result.now below)
+
+pub add_arm-requires-clause-room : goal.add_arm-requires-clause-room
+add_arm-requires-clause-room c =
+    let s = c.self.inside in
+    let slots = s.slots.items in
+    let t : SlotTable = table_of s.geometry s.perms s.metaslab slots s.detached.items (next_rooms s.next.items) (vec_capacity s.detached - vec_len s.detached) in
+    let M : SlotTable → Type 0 = λ t. MayAttach t c.args.slot c.args.arm in
+    let may : MayAttach t c.args.slot c.args.arm = subst M (sym c.self.view_is) c.in_ok-may_attach.ensures.allowed in
+    let within : c.args.slot < length (map arms_in slots) = (let there = may.known.slot_there in let many = c.self.invariant.sound.slots.children in omega arith) in
+    let below : c.args.slot < length slots = omega (arith, length-map slots arms_in) in
+    let old : Slot = c.index_mut.result.now in
+    let R : List Arm → Type 0 = λ arms. length arms < 3 in
+    subst R (get_or-map arms_in slots c.args.slot old [] below ∙ ap arms_in (sym c.index_mut.ensures.value)) may.some_room
+
+pub returns-clause-allowed : goal.returns-clause-allowed
+returns-clause-allowed c = c.in_ok-may_attach.ensures.allowed
+
+pub returns-clause-count : goal.returns-clause-count
+returns-clause-count c =
+    let s = c.self.inside in
+    let slots = s.slots.items in
+    let new : Slot = c.add_arm.new.slot in
+    let L : SlotTable → Type 0 = λ t. length (map arms_in (set slots c.args.slot new)) ≡ length t.arms in
+    subst L c.self.view_is (length-map (set slots c.args.slot new) arms_in ∙ length-set slots c.args.slot new ∙ sym (length-map slots arms_in))
 
 pub invariant_of-self : goal.invariant_of-self
 invariant_of-self c =

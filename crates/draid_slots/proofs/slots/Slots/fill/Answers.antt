@@ -1,14 +1,34 @@
-use Rattle.std.proofs.Common.{◌+◌, set, arith, refl, ap, sym, ◌∙◌, subst}
+use Rattle.std.proofs.Common.{◌+◌, set, [], ◌<◌, length, map, get_or, arith, refl, ap, sym, ◌∙◌, subst}
 use Rattle.std.specs.Prelude.{◌-◌, vec_len, vec_capacity}
 use Rattle.std.specs.Vec.{with_item}
-use Rattle.std.proofs.lemmas.List.{length-set}
+use Rattle.std.proofs.lemmas.List.{length-map, length-set}
 use Rattle.draid_ranges.specs.Numbers.{Numbers}
 use Rattle.draid_ranges.specs.Runs.{is_between}
 use Rattle.draid_slots.specs.declared.slot.Slot.{Slot}
 use Rattle.draid_slots.specs.Changes.{ChangesLog}
-use Rattle.draid_slots.specs.Table.{IsThere, SlotTable, next_rooms, table_of}
-use Rattle.draid_slots.proofs.Tables.{IsPlace, changes_log, its_place, kept_log, log_found, sets_log}
+use Rattle.draid_slots.specs.Table.{IsThere, SlotTable, arms_in, next_rooms, table_of}
+use Rattle.draid_slots.proofs.Tables.{IsPlace, changes_log, its_place, kept_log, log_found, sets_log, slot_there}
 use Rattle.draid_slots.proofs.slots.Slots.fill.Goals as goal
+
+pub index_mut-requires : goal.index_mut-requires
+index_mut-requires c =
+    let s = c.self.inside in
+    let slots = s.slots.items in
+    let T : SlotTable → Type 0 = λ t. IsThere t c.args.at in
+    let there : c.args.at.arm < length (get_or (map arms_in slots) c.args.at.slot []) = subst T (sym c.self.view_is) c.requires.there in
+    let below = slot_there (map arms_in slots) c.args.at.slot c.args.at.arm there in
+    omega (arith, below, length-map slots arms_in, s.slots.ok.0)
+
+pub index_mut-requires-2 : goal.index_mut-requires-2
+index_mut-requires-2 c =
+    let s = c.self.inside in
+    let slots = s.slots.items in
+    let T : SlotTable → Type 0 = λ t. IsThere t c.args.at in
+    let there : c.args.at.arm < length (get_or (map arms_in slots) c.args.at.slot []) = subst T (sym c.self.view_is) c.requires.there in
+    let slot : Slot = c.index_mut.result.now in
+    let place : IsPlace slots c.args.at slot = its_place slots c.args.at slot c.self.invariant.paired there c.index_mut.ensures.value in
+    let below = place.log_within in
+    omega (arith, below, slot.logs.ok.0)
 
 pub invariant_of-self : goal.invariant_of-self
 invariant_of-self c =

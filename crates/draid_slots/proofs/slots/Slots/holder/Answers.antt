@@ -1,4 +1,4 @@
-use Rattle.std.proofs.Common.{◌≡◌, ◌<◌, ◌-◌, [], true, List, Some, length, map, arith, sym, ap, ◌∙◌, subst}
+use Rattle.std.proofs.Common.{◌≡◌, ◌<◌, ◌-◌, [], true, List, Some, length, map, get_or, arith, sym, ap, ◌∙◌, subst}
 use Rattle.std.specs.Prelude.{cond, vec_len, vec_capacity}
 use Rattle.std.proofs.lemmas.List.{get_or-map, length-map}
 use Rattle.draid_chain.specs.Chain.{holder_in}
@@ -8,8 +8,28 @@ use Rattle.draid_slots.specs.declared.slot.Slot.{Slot}
 use Rattle.draid_slots.specs.Reading.{first_leaf, holder, holder_of, pool_slice, spare_slot}
 use Rattle.draid_slots.specs.Table.{IsThere, SlotTable, arms_in, arms_of, first_spares, has_leaf, has_spare, next_rooms, table_of}
 use Rattle.draid_slots.proofs.Settled.{its_own}
-use Rattle.draid_slots.proofs.Tables.{IsPlace, arm_found, its_place}
+use Rattle.draid_slots.proofs.Tables.{IsPlace, arm_found, its_place, slot_there}
 use Rattle.draid_slots.proofs.slots.Slots.holder.Goals as goal
+
+pub index-requires : goal.index-requires
+index-requires c =
+    let s = c.self.inside in
+    let slots = s.slots.items in
+    let T : SlotTable → Type 0 = λ t. IsThere t c.args.at in
+    let there : c.args.at.arm < length (get_or (map arms_in slots) c.args.at.slot []) = subst T (sym c.self.view_is) c.requires.there in
+    let below = slot_there (map arms_in slots) c.args.at.slot c.args.at.arm there in
+    omega (arith, below, length-map slots arms_in, s.slots.ok.0)
+
+pub index-arm-requires : goal.index-arm-requires
+index-arm-requires c =
+    let s = c.self.inside in
+    let slots = s.slots.items in
+    let T : SlotTable → Type 0 = λ t. IsThere t c.args.at in
+    let there : c.args.at.arm < length (get_or (map arms_in slots) c.args.at.slot []) = subst T (sym c.self.view_is) c.requires.there in
+    let slot : Slot = c.index.result.now in
+    let place : IsPlace slots c.args.at slot = its_place slots c.args.at slot c.self.invariant.paired there c.index.ensures in
+    let below = place.arm_within in
+    omega (arith, below, slot.arms.ok.0)
 
 pub returns-then-is_leaf : goal.returns-then-is_leaf
 returns-then-is_leaf c =

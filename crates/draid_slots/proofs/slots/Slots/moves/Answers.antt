@@ -6,6 +6,20 @@ use Rattle.draid_slots.specs.Table.{SlotTable, arms_in, arms_of, has_spare}
 use Rattle.draid_slots.proofs.Spares.{held_left}
 use Rattle.draid_slots.proofs.slots.Slots.moves.Goals as goal
 
+pub moves_in-requires-clause-before_arm : goal.moves_in-requires-clause-before_arm
+moves_in-requires-clause-before_arm c =
+    let slots = c.self.inside.slots.items in
+    let F : List Slot → Type 0 = λ slots. has_spare (get_or (map arms_in slots) c.in-Some.slot []) c.args.spare ≡ true in
+    let H : SlotTable → Type 0 = λ t. has_spare (arms_of t c.in-Some.slot) c.args.spare ≡ true in
+    c.requires.before_arm c.in-Some.slot (subst H c.self.view_is (subst F c.deref.ensures.value c.in-Some.ensures.has))
+
+pub moves_in-requires-clause-now_arm : goal.moves_in-requires-clause-now_arm
+moves_in-requires-clause-now_arm c =
+    let slots = c.self.inside.slots.items in
+    let F : List Slot → Type 0 = λ slots. has_spare (get_or (map arms_in slots) c.in-Some.slot []) c.args.spare ≡ true in
+    let H : SlotTable → Type 0 = λ t. has_spare (arms_of t c.in-Some.slot) c.args.spare ≡ true in
+    c.requires.now_arm c.in-Some.slot (subst H c.self.view_is (subst F c.deref.ensures.value c.in-Some.ensures.has))
+
 pub returns-clause-stays : goal.returns-clause-stays
 returns-clause-stays c = λ same lies.
     let s = c.self.inside in

@@ -1,9 +1,96 @@
-use Rattle.std.proofs.Common.{◌≡◌, length, map, arith, sym, ap, ◌∙◌}
+use Rattle.std.proofs.Common.{◌≡◌, ◌-◌, length, map, arith, rules, refl, sym, subst, ap, ◌∙◌}
+use Rattle.std.specs.Prelude.{vec_len, vec_capacity}
 use Rattle.std.proofs.lemmas.List.{length-map}
-use Rattle.draid_slots.specs.Table.{arms_in}
-use Rattle.draid_slots.proofs.Rooms.{all_rooms, length_rooms}
+use Rattle.draid_slots.specs.Changes.{IsRoomier, Keeps}
+use Rattle.draid_slots.specs.Table.{SlotTable, arms_in, next_rooms, table_of}
+use Rattle.draid_slots.proofs.Rooms.{all_rooms, length_rooms, rooms_kept, some_rooms}
 use Rattle.draid_slots.proofs.Tables.{log_there, slot_there}
+use Rattle.draid_slots.proofs.Reserved.{kept_same, keeps_same, roomier_by}
 use Rattle.draid_slots.proofs.slots.Slots.reserve.Goals as goal
+
+pub invariant_of-self : goal.invariant_of-self
+invariant_of-self c =
+    let s = c.self.inside in
+    kept_same s.geometry s.perms s.metaslab s.slots.items c.reserve_slots.new.slots.items s.detached.items s.detached.items c.reserve_slots.ensures.arms c.reserve_slots.ensures.paired refl c.self.invariant
+
+pub returns-in_err-reserve_slots-clause-kept : goal.returns-in_err-reserve_slots-clause-kept
+returns-in_err-reserve_slots-clause-kept c =
+    let s = c.self.inside in
+    let K : SlotTable → Type 0 = λ t. Keeps t (table_of s.geometry s.perms s.metaslab c.reserve_slots.new.slots.items s.detached.items (next_rooms s.next.items) (vec_capacity s.detached - vec_len s.detached)) in
+    subst K c.self.view_is
+    (keeps_same s.geometry s.perms s.metaslab s.slots.items c.reserve_slots.new.slots.items s.detached.items s.detached.items (next_rooms s.next.items) (next_rooms s.next.items) (vec_capacity s.detached - vec_len s.detached) (vec_capacity s.detached - vec_len s.detached)
+    c.reserve_slots.ensures.arms c.reserve_slots.ensures.logs refl)
+
+pub returns-in_err-reserve_slots-clause-roomier : goal.returns-in_err-reserve_slots-clause-roomier
+returns-in_err-reserve_slots-clause-roomier c =
+    let s = c.self.inside in
+    let R : SlotTable → Type 0 = λ t. IsRoomier t (table_of s.geometry s.perms s.metaslab c.reserve_slots.new.slots.items s.detached.items (next_rooms s.next.items) (vec_capacity s.detached - vec_len s.detached)) in
+    subst R c.self.view_is
+    (roomier_by s.geometry s.perms s.metaslab s.slots.items c.reserve_slots.new.slots.items s.detached.items s.detached.items (next_rooms s.next.items) (next_rooms s.next.items) (vec_capacity s.detached - vec_len s.detached) (vec_capacity s.detached - vec_len s.detached)
+    c.reserve_slots.ensures.logs (omega arith) (λ k. omega arith) (omega arith))
+
+pub invariant_of-self-in_err-reserve : goal.invariant_of-self-in_err-reserve
+invariant_of-self-in_err-reserve c =
+    let s = c.self.inside in
+    kept_same s.geometry s.perms s.metaslab s.slots.items c.reserve_slots.new.slots.items s.detached.items c.reserve.new.self.items c.reserve_slots.ensures.arms c.reserve_slots.ensures.paired c.reserve.ensures.items c.self.invariant
+
+pub returns-in_err-reserve-clause-kept : goal.returns-in_err-reserve-clause-kept
+returns-in_err-reserve-clause-kept c =
+    let s = c.self.inside in
+    let K : SlotTable → Type 0 = λ t. Keeps t (table_of s.geometry s.perms s.metaslab c.reserve_slots.new.slots.items c.reserve.new.self.items (next_rooms s.next.items) (vec_capacity c.reserve.new.self - vec_len c.reserve.new.self)) in
+    subst K c.self.view_is
+    (keeps_same s.geometry s.perms s.metaslab s.slots.items c.reserve_slots.new.slots.items s.detached.items c.reserve.new.self.items (next_rooms s.next.items) (next_rooms s.next.items) (vec_capacity s.detached - vec_len s.detached) (vec_capacity c.reserve.new.self - vec_len c.reserve.new.self)
+    c.reserve_slots.ensures.arms c.reserve_slots.ensures.logs c.reserve.ensures.items)
+
+pub returns-in_err-reserve-clause-roomier : goal.returns-in_err-reserve-clause-roomier
+returns-in_err-reserve-clause-roomier c =
+    let s = c.self.inside in
+    let R : SlotTable → Type 0 = λ t. IsRoomier t (table_of s.geometry s.perms s.metaslab c.reserve_slots.new.slots.items c.reserve.new.self.items (next_rooms s.next.items) (vec_capacity c.reserve.new.self - vec_len c.reserve.new.self)) in
+    subst R c.self.view_is
+    (roomier_by s.geometry s.perms s.metaslab s.slots.items c.reserve_slots.new.slots.items s.detached.items c.reserve.new.self.items (next_rooms s.next.items) (next_rooms s.next.items) (vec_capacity s.detached - vec_len s.detached) (vec_capacity c.reserve.new.self - vec_len c.reserve.new.self)
+    c.reserve_slots.ensures.logs (omega arith) (λ k. omega arith) (search rules))
+
+pub invariant_of-self-in_err-reserve_next : goal.invariant_of-self-in_err-reserve_next
+invariant_of-self-in_err-reserve_next c =
+    let s = c.self.inside in
+    kept_same s.geometry s.perms s.metaslab s.slots.items c.reserve_slots.new.slots.items s.detached.items c.reserve.new.self.items c.reserve_slots.ensures.arms c.reserve_slots.ensures.paired c.reserve.ensures.items c.self.invariant
+
+pub returns-in_err-reserve_next-clause-kept : goal.returns-in_err-reserve_next-clause-kept
+returns-in_err-reserve_next-clause-kept c =
+    let s = c.self.inside in
+    let K : SlotTable → Type 0 = λ t. Keeps t (table_of s.geometry s.perms s.metaslab c.reserve_slots.new.slots.items c.reserve.new.self.items (next_rooms c.reserve_next.new.next.items) (vec_capacity c.reserve.new.self - vec_len c.reserve.new.self)) in
+    subst K c.self.view_is
+    (keeps_same s.geometry s.perms s.metaslab s.slots.items c.reserve_slots.new.slots.items s.detached.items c.reserve.new.self.items (next_rooms s.next.items) (next_rooms c.reserve_next.new.next.items) (vec_capacity s.detached - vec_len s.detached) (vec_capacity c.reserve.new.self - vec_len c.reserve.new.self)
+    c.reserve_slots.ensures.arms c.reserve_slots.ensures.logs c.reserve.ensures.items)
+
+pub returns-in_err-reserve_next-clause-roomier : goal.returns-in_err-reserve_next-clause-roomier
+returns-in_err-reserve_next-clause-roomier c =
+    let s = c.self.inside in
+    let R : SlotTable → Type 0 = λ t. IsRoomier t (table_of s.geometry s.perms s.metaslab c.reserve_slots.new.slots.items c.reserve.new.self.items (next_rooms c.reserve_next.new.next.items) (vec_capacity c.reserve.new.self - vec_len c.reserve.new.self)) in
+    subst R c.self.view_is
+    (roomier_by s.geometry s.perms s.metaslab s.slots.items c.reserve_slots.new.slots.items s.detached.items c.reserve.new.self.items (next_rooms s.next.items) (next_rooms c.reserve_next.new.next.items) (vec_capacity s.detached - vec_len s.detached) (vec_capacity c.reserve.new.self - vec_len c.reserve.new.self)
+    c.reserve_slots.ensures.logs (some_rooms s.next.items c.reserve_next.new.next.items c.reserve_next.ensures.count) (rooms_kept s.next.items c.reserve_next.new.next.items c.reserve_next.ensures.kept) (search rules))
+
+pub invariant_of-self-2 : goal.invariant_of-self-2
+invariant_of-self-2 c =
+    let s = c.self.inside in
+    kept_same s.geometry s.perms s.metaslab s.slots.items c.reserve_slots.new.slots.items s.detached.items c.reserve.new.self.items c.reserve_slots.ensures.arms c.reserve_slots.ensures.paired c.reserve.ensures.items c.self.invariant
+
+pub returns-clause-kept : goal.returns-clause-kept
+returns-clause-kept c =
+    let s = c.self.inside in
+    let K : SlotTable → Type 0 = λ t. Keeps t (table_of s.geometry s.perms s.metaslab c.reserve_slots.new.slots.items c.reserve.new.self.items (next_rooms c.reserve_next.new.next.items) (vec_capacity c.reserve.new.self - vec_len c.reserve.new.self)) in
+    subst K c.self.view_is
+    (keeps_same s.geometry s.perms s.metaslab s.slots.items c.reserve_slots.new.slots.items s.detached.items c.reserve.new.self.items (next_rooms s.next.items) (next_rooms c.reserve_next.new.next.items) (vec_capacity s.detached - vec_len s.detached) (vec_capacity c.reserve.new.self - vec_len c.reserve.new.self)
+    c.reserve_slots.ensures.arms c.reserve_slots.ensures.logs c.reserve.ensures.items)
+
+pub returns-clause-roomier : goal.returns-clause-roomier
+returns-clause-roomier c =
+    let s = c.self.inside in
+    let R : SlotTable → Type 0 = λ t. IsRoomier t (table_of s.geometry s.perms s.metaslab c.reserve_slots.new.slots.items c.reserve.new.self.items (next_rooms c.reserve_next.new.next.items) (vec_capacity c.reserve.new.self - vec_len c.reserve.new.self)) in
+    subst R c.self.view_is
+    (roomier_by s.geometry s.perms s.metaslab s.slots.items c.reserve_slots.new.slots.items s.detached.items c.reserve.new.self.items (next_rooms s.next.items) (next_rooms c.reserve_next.new.next.items) (vec_capacity s.detached - vec_len s.detached) (vec_capacity c.reserve.new.self - vec_len c.reserve.new.self)
+    c.reserve_slots.ensures.logs (some_rooms s.next.items c.reserve_next.new.next.items c.reserve_next.ensures.count) (rooms_kept s.next.items c.reserve_next.new.next.items c.reserve_next.ensures.kept) (search rules))
 
 pub returns-clause-room : goal.returns-clause-room
 returns-clause-room c =

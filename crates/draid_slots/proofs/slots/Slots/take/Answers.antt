@@ -1,6 +1,6 @@
 use Rattle.std.proofs.Common.{◌≡◌, ◌<◌, ◌+◌, ◌-◌, ◌∷◌, ◌++◌, [], ℕ, true, List, length, map, set, get_or, arith, refl, sym, ap, ◌∙◌, subst}
 use Rattle.std.specs.Prelude.{remove, vec_len, vec_capacity}
-use Rattle.std.proofs.lemmas.List.{length-map, map-set}
+use Rattle.std.proofs.lemmas.List.{length-map, length-set, map-set}
 use Rattle.std.proofs.lemmas.List.Elements.{All-set}
 use Rattle.draid_names.specs.declared.arm.Arm.{Arm}
 use Rattle.draid_slots.specs.declared.slot.Detached.{Detached}
@@ -13,8 +13,58 @@ use Rattle.draid_slots.specs.Table.{AreOf, IsPaired, SlotTable, arms_in, first_s
 use Rattle.draid_slots.proofs.Moves.{detached_from}
 use Rattle.draid_slots.proofs.Settled.{arm_settled}
 use Rattle.draid_slots.proofs.Spares.{gone_of, less_once, one_less}
-use Rattle.draid_slots.proofs.Tables.{IsPlace, its_place}
+use Rattle.draid_slots.proofs.Tables.{IsPlace, its_place, slot_there}
 use Rattle.draid_slots.proofs.slots.Slots.take.Goals as goal
+
+pub index_mut-requires : goal.index_mut-requires
+index_mut-requires c =
+    let s = c.self.inside in
+    let slots = s.slots.items in
+    let t : SlotTable = table_of s.geometry s.perms s.metaslab slots s.detached.items (next_rooms s.next.items) (vec_capacity s.detached - vec_len s.detached) in
+    let M : SlotTable → Type 0 = λ t. MayDetach t c.args.at in
+    let may : MayDetach t c.args.at = subst M (sym c.self.view_is) c.in_ok-may_detach.ensures.allowed in
+    let below = slot_there (map arms_in slots) c.args.at.slot c.args.at.arm may.there in
+    omega (arith, below, length-map slots arms_in, s.slots.ok.0)
+
+pub remove_arm-arm-requires-clause-paired : goal.remove_arm-arm-requires-clause-paired
+remove_arm-arm-requires-clause-paired c =
+    let s = c.self.inside in
+    let slots = s.slots.items in
+    let t : SlotTable = table_of s.geometry s.perms s.metaslab slots s.detached.items (next_rooms s.next.items) (vec_capacity s.detached - vec_len s.detached) in
+    let M : SlotTable → Type 0 = λ t. MayDetach t c.args.at in
+    let may : MayDetach t c.args.at = subst M (sym c.self.view_is) c.in_ok-may_detach.ensures.allowed in
+    let old : Slot = c.index_mut.result.now in
+    let place : IsPlace slots c.args.at old = its_place slots c.args.at old c.self.invariant.paired may.there c.index_mut.ensures.value in
+    place.paired
+
+pub remove_arm-arm-requires-clause-there : goal.remove_arm-arm-requires-clause-there
+remove_arm-arm-requires-clause-there c =
+    let s = c.self.inside in
+    let slots = s.slots.items in
+    let t : SlotTable = table_of s.geometry s.perms s.metaslab slots s.detached.items (next_rooms s.next.items) (vec_capacity s.detached - vec_len s.detached) in
+    let M : SlotTable → Type 0 = λ t. MayDetach t c.args.at in
+    let may : MayDetach t c.args.at = subst M (sym c.self.view_is) c.in_ok-may_detach.ensures.allowed in
+    let old : Slot = c.index_mut.result.now in
+    let place : IsPlace slots c.args.at old = its_place slots c.args.at old c.self.invariant.paired may.there c.index_mut.ensures.value in
+    place.arm_within
+
+pub push_reserved-requires : goal.push_reserved-requires
+push_reserved-requires c =
+    let s = c.self.inside in
+    let P : SlotTable → Type 0 = λ t. 0 < t.places in
+    let room : 0 < vec_capacity s.detached - vec_len s.detached = subst P (sym c.self.view_is) c.requires.room in
+    omega (arith, room)
+
+pub returns-clause-allowed : goal.returns-clause-allowed
+returns-clause-allowed c = c.in_ok-may_detach.ensures.allowed
+
+pub returns-clause-count : goal.returns-clause-count
+returns-clause-count c =
+    let s = c.self.inside in
+    let slots = s.slots.items in
+    let new : Slot = c.remove_arm-arm.new.slot in
+    let L : SlotTable → Type 0 = λ t. length (map arms_in (set slots c.args.at.slot new)) ≡ length t.arms in
+    subst L c.self.view_is (length-map (set slots c.args.at.slot new) arms_in ∙ length-set slots c.args.at.slot new ∙ sym (length-map slots arms_in))
 
 pub invariant_of-self : goal.invariant_of-self
 invariant_of-self c =
