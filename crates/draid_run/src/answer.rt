@@ -17,12 +17,12 @@ use crate::{fill, replies};
 use draid_area::Area;
 use draid_choose::Chooser;
 use draid_names::{NoMemory, Room};
+use draid_pool::{Pool, PoolFault};
 use draid_rack::Rack;
 use draid_reply::Reply;
 use draid_script::{CommandName, Line, PoolKeys};
 use draid_shelf::Shelf;
 use draid_spec::{Props, Spec, geometry, parse_spec, spec_name};
-use draid_pool::{Pool, PoolFault};
 use std::alloc::Global;
 use std::thread::Threads;
 

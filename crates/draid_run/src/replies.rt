@@ -12,10 +12,10 @@ ghost use Rattle.draid_run.specs.Says.{DamageSays, FreeSays, ReadSays, SumSays};
 use draid_area::Area;
 use draid_choose::Chooser;
 use draid_names::{ObjectFault, Room, WriteFault};
+use draid_pool::{DamageFault, FreeFault, Pool, SumFault};
 use draid_rack::Rack;
 use draid_reply::Reply;
 use draid_script::CommandName;
-use draid_pool::{DamageFault, FreeFault, Pool, SumFault};
 use std::thread::Threads;
 
 /// Writes to an object.

@@ -14,10 +14,10 @@ use crate::status::Status;
 use draid_choose::Chooser;
 use draid_lines::{Lines, ReadFault, Sink, Source};
 use draid_names::{Failed, Room};
+use draid_pool::Pool;
 use draid_reply::{Reply, reply_text};
 use draid_script::{LineFault, ParseFault, parse_line};
 use draid_shelf::Shelf;
-use draid_pool::Pool;
 use std::alloc::Global;
 use std::thread::Threads;
 
