@@ -17,7 +17,7 @@ use Rattle.draid_slots.specs.declared.slot.Detached.{Detached}
 use Rattle.draid_slots.specs.Table.{SlotTable, is_leaf_kind}
 use Rattle.draid_shard.specs.Calls.{OnBothTold}
 use Rattle.draid_shard.specs.Fits.{IsLeaf}
-use Rattle.draid_shard.specs.Slots.{HasSlots, arm_in, named}
+use Rattle.draid_stable.specs.Slots.{HasSlots, arm_in, named}
 use Rattle.draid_shard.specs.States.{IsIn, layout_by}
 use Rattle.draid_shard.specs.declared.shard.Shard.{Shard}
 

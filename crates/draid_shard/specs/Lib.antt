@@ -5,6 +5,5 @@ pub mod Holding
 pub mod Part
 pub mod Reads
 pub mod Rows
-pub mod Slots
 pub mod Stands
 pub mod States

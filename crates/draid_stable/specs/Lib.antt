@@ -1,3 +1,4 @@
 pub mod Images
 pub mod Kits
+pub mod Slots
 pub mod Stable

@@ -1,9 +1,10 @@
--- The arms of the slots, as a state of the metaslab has them.
-use Rattle.std.specs.Prelude.{◌≡◌, ◌≢◌, ◌⊎◌, ℕ, Option, Some, None, Contains, map}
+-- The arms of the slots and the pass, as a state of the metaslab has them.
+use Rattle.std.specs.Prelude.{◌≡◌, ◌≢◌, ◌⊎◌, ℕ, List, [], ◌∷◌, Option, Some, None, Contains, map}
 use Rattle.draid_names.specs.declared.arm.Arm.{Arm}
 use Rattle.draid_names.specs.declared.arm.ArmAt.{ArmAt}
 use Rattle.draid_names.specs.declared.arm.ArmKind.{ArmKind}
 use Rattle.draid_names.specs.declared.arm.ArmKind.TheVariants as kind
+use Rattle.draid_pass.specs.declared.pass.Pass.{Pass}
 use Rattle.draid_slots.specs.Table.{SlotTable, arm_at, arms_of, is_logged}
 use Rattle.draid_slots.specs.declared.slot.Detached.{Detached}
 use Rattle.draid_machine.specs.declared.names.ArmName.{ArmName}
@@ -48,3 +49,21 @@ pub record HasSlots (slots : SlotTable) (q : machine.Core) : Type 0 where
   pub arms : (at : ArmAt) (arm : Arm) → arm_at slots at ≡ Some arm → q.arm (name_of arm) ≡ Some (arm_in slots at arm)
   pub detached : (gone : Detached) → Contains slots.detached gone → IsGone gone (q.arm (named gone.kind gone.number))
   pub only : (n : ArmName) → q.arm n ≢ None → HasArm slots n ⊎ WasArm slots n
+
+-- ---- the pass
+
+-- the names of arms at these places
+abbrev pub names_at : SlotTable → List ArmAt → List ArmName
+names_at slots [] = []
+names_at slots (at ∷ ats) = elim (arm_at slots at) as (λ o. List ArmName) [ None ↦ names_at slots ats | Some arm ↦ name_of arm ∷ names_at slots ats ]
+
+abbrev pub pass_in : SlotTable → Pass → machine.Pass
+pass_in slots p = record {
+  number = p.number;
+  kind = p.kind;
+  targets = names_at slots p.targets.items;
+  max = p.max;
+  next = p.at;
+  errors = p.errors;
+  running = p.running;
+}
