@@ -2,4 +2,5 @@ pub mod Counted
 pub mod Keys
 pub mod Owing
 pub mod Sets
+pub mod Staying
 pub mod Sums

@@ -7,6 +7,7 @@ mod entry;
 mod events;
 mod history;
 mod laws;
+mod listed;
 mod table;
 
 pub use entries::Entries;

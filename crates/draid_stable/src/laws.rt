@@ -1,6 +1,7 @@
 ghost use Rattle.std.specs.Prelude.{◌≡◌, Bool, List, Option, ℕ};
 ghost use Rattle.draid_area.specs.Area.{Content, MayLeave, flushes, writes};
 ghost use Rattle.draid_area.specs.Moments.{IsCrashOutcome};
+ghost use Rattle.draid_entries.specs.Listed.{SaysBlocks};
 ghost use Rattle.draid_machine.specs.State as state;
 ghost use Rattle.draid_machine.specs.declared.names.ArmName.{ArmName};
 ghost use Rattle.draid_machine.specs.declared.names.Held.{Held};
@@ -13,7 +14,7 @@ ghost use Rattle.draid_spec.specs.declared.layout.Geometry.{Geometry};
 ghost use Rattle.draid_segments.specs.Segments.{Pieces};
 ghost use Rattle.draid_shelf.specs.Kits.{CrashedKit, KitTold};
 ghost use Rattle.draid_stable.specs.Kits.{IsStable};
-ghost use Rattle.draid_stable.specs.Images.{LeavesBelow, SaysArms, SaysBlocks, arm_by, held_by};
+ghost use Rattle.draid_stable.specs.Images.{LeavesBelow, SaysArms, arm_by, held_by};
 ghost use Rattle.draid_stable.specs.Stable.{HasRecord, ReadsAs, Stands, area_of};
 
 /// Law: the record of an image that stands in an area is read again as that image, whatever a crash leaves,
