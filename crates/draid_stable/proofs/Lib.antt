@@ -1,2 +1,4 @@
 pub mod Lasting
 pub mod Lists
+pub mod Marked
+pub mod Places

@@ -1,4 +1,5 @@
 pub mod Images
 pub mod Kits
+pub mod Sealing
 pub mod Slots
 pub mod Stable

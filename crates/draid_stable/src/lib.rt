@@ -1,9 +1,13 @@
-//! Records on stable storage: the image that a record says, and that each crash leaves it.
+//! Records on stable storage: the image that a record says, that each crash leaves it, and the making of a record.
 
 #![tactic(auto)]
 
+mod arms;
 mod laws;
+mod marks;
 
+pub use arms::copied_slots;
+pub use marks::Marks;
 pub use laws::{
     flushed_records_stand, records_outlast_crashes, records_say_tables,
     stable_images_outlast_crashes, standing_records_stay,
