@@ -1,5 +1,6 @@
 -- The arms of a slot, and the slots, while they are marked one after another.
 use Rattle.std.proofs.Common.{◌≡◌, ◌<◌, ◌≤◌, ◌+◌, ◌-◌, not, ℕ, suc, Bool, true, false, List, [], ◌∷◌, ap, arith, cond, count_by, filter, length, refl, slice_index_or}
+use Rattle.std.proofs.lemmas.List.Sums.{length-filter}
 use Rattle.std.specs.declared.alloc.Global.{Global}
 use Rattle.std.specs.declared.vec.Vec.{Vec}
 use Rattle.draid_names.specs.declared.arm.Arm.{Arm}
@@ -19,14 +20,17 @@ pub record SlotsUpTo (old new : List (Vec (Arm × Numbers) Global)) (marks : Lis
 
 -- ---- the targets that go
 
-left_count : {X : Type 0} (bad : X → Bool) (xs : List X) → length (filter (λ x. not (bad x)) xs) + count_by bad xs ≡ length xs
+left_count : {X : Type 0} (bad : X → Bool) (xs : List X) → length (filter (λ x. not (bad x)) xs) + length (filter bad xs) ≡ length xs
 left_count bad [] = refl
 left_count {X} bad (x ∷ xs) = by (bad x) (left_count bad xs)
   where
     rest : List X
     rest = filter (λ x. not (bad x)) xs
 
-    by : (b : Bool) → length rest + count_by bad xs ≡ length xs → length (cond (not b) (x ∷ rest) rest) + (cond b 1 0 + count_by bad xs) ≡ suc (length xs)
+    gone : List X
+    gone = filter bad xs
+
+    by : (b : Bool) → length rest + length gone ≡ length xs → length (cond (not b) (x ∷ rest) rest) + length (cond b (x ∷ gone) gone) ≡ suc (length xs)
     by true more = omega (arith, more)
     by false more = omega (arith, more)
 
@@ -34,4 +38,5 @@ pub lost_count : {X : Type 0} (bad : X → Bool) (xs ys : List X) → ys ≡ fil
 lost_count bad xs ys is =
     let n = left_count bad xs in
     let m = ap length is in
-    omega (arith, n, m)
+    let c = length-filter bad xs in
+    omega (arith, n, m, c)

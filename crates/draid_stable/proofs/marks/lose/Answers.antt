@@ -1,4 +1,4 @@
-use Rattle.std.proofs.Common.{◌≡◌, ◌+◌, ◌∙◌, ◌-◌, not, ℕ, Bool, ap, arith, count_by, filter, length, refl, rules, sym}
+use Rattle.std.proofs.Common.{◌≡◌, ◌+◌, ◌∙◌, ◌-◌, not, ℕ, Bool, ap, ap₂, arith, count_by, filter, length, refl, rules, sym}
 use Rattle.std.proofs.lemmas.Fn.{filter_same}
 use Rattle.draid_names.specs.declared.arm.ArmAt.{ArmAt}
 use Rattle.draid_machine.specs.After.{capped}
@@ -13,7 +13,11 @@ returns-clause-told c =
     let bad : ArmAt → Bool = is_lost c.args.marks.now in
     let test : ArmAt → Bool = λ place. not (bad place) in
     let left : c.retain.new.self.items ≡ filter test p.targets.items = filter_same _ test _ (λ x b f' k. search rules) _ _ c.retain.ensures.filtered in
+    let before : c.len-before.result ≡ length p.targets.items = search rules in
+    let after : c.len.result ≡ length c.retain.new.self.items = search rules in
     let errors : c.errors_after-pass.result ≡ capped (p.errors + by_kind p.kind (count_by bad p.targets.items)) =
-        c.errors_after-pass.ensures ∙ ap (λ n. capped (p.errors + by_kind p.kind n)) (lost_count bad p.targets.items c.retain.new.self.items left)
+        c.errors_after-pass.ensures
+        ∙ ap₂ (λ a b. capped (p.errors + by_kind p.kind (a - b))) before after
+        ∙ ap (λ n. capped (p.errors + by_kind p.kind n)) (lost_count bad p.targets.items c.retain.new.self.items left)
     in
     λ i. record (told_pass p) { targets = left i; errors = errors i }
