@@ -1,4 +1,6 @@
+pub mod Images
 pub mod Lasting
 pub mod Lists
+pub mod Made
 pub mod Marked
 pub mod Places

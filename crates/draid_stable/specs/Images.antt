@@ -3,7 +3,6 @@ use Rattle.std.specs.Prelude.{◌≡◌, ◌<◌, ℕ, Bool, true, false, List, 
 use Rattle.std.specs.List.{flat_map, list_any}
 use Rattle.std.specs.Option.{option_map}
 use Rattle.draid_names.specs.declared.arm.ArmAt.{ArmAt}
-use Rattle.draid_names.specs.declared.arm.ArmKind.{ArmKind}
 use Rattle.draid_names.specs.declared.arm.ArmKind.TheVariants as kind
 use Rattle.draid_names.specs.declared.pointer.Pointer.{Pointer}
 use Rattle.draid_ranges.specs.Runs.{has_in}
@@ -16,18 +15,15 @@ use Rattle.draid_machine.specs.State as state
 use Rattle.draid_machine.specs.State.{Image}
 use Rattle.draid_entries.specs.Listed.{has_key, held_of}
 use Rattle.draid_record.specs.Record.{ArmTold, PassTold, RecordTold}
+use Rattle.draid_stable.specs.Slots as slots
 
 -- ---- blocks: each is live
 abbrev pub held_by : List Pointer → Key → Option Held
 held_by blocks key = option_map held_of (find (has_key key) blocks)
 
 -- ---- arms: none is detached
-abbrev pub name_by : ArmKind → ℕ → ArmName
-name_by kind.Leaf number = name.Leaf number
-name_by kind.Spare number = name.Spare number
-
 abbrev pub name_of : ArmTold → ArmName
-name_of told = name_by told.0.kind told.0.number
+name_of told = slots.name_of told.0
 
 abbrev pub arm_of : ArmTold → state.Arm
 arm_of told = record { offline = told.0.offline; fresh = told.0.fresh; log = has_in told.1; gone = None }

@@ -8,14 +8,17 @@ use Rattle.draid_names.specs.declared.pass_kind.PassKind.{PassKind}
 use Rattle.draid_names.specs.declared.pass_kind.PassKind.TheVariants.{Rebuild, Heal}
 use Rattle.draid_ranges.specs.Numbers.{Numbers, has}
 use Rattle.draid_pass.specs.declared.pass.Pass.{Pass}
-use Rattle.draid_slots.specs.Table.{SlotTable, arms_of, is_logged}
+use Rattle.draid_slots.specs.Table.{IsTable, SlotTable, arms_of, is_logged}
 use Rattle.draid_machine.specs.declared.names.ArmName.{ArmName}
 use Rattle.draid_machine.specs.declared.names.Key.{Key}
 use Rattle.draid_machine.specs.After.{capped, seal_arm}
 use Rattle.draid_machine.specs.State as machine
 use Rattle.draid_entries.specs.declared.entries.Entries.{Entries}
 use Rattle.draid_entries.specs.Entries.{held_in}
-use Rattle.draid_record.specs.Record.{ArmTold, PassTold}
+use Rattle.draid_entries.specs.Listed.{ListsBlocks}
+use Rattle.draid_record.specs.Record.{ArmTold, PassTold, told_pass}
+use Rattle.draid_record.specs.declared.record.Record.{Record}
+use Rattle.draid_stable.specs.declared.sealing.Head.{Head}
 use Rattle.draid_stable.specs.Images.{SaysArms, name_of, order_by}
 use Rattle.draid_stable.specs.Slots.{HasSlots, pass_in}
 
@@ -106,3 +109,16 @@ by_kind Heal lost = 0
 
 abbrev pub lose_marked : List (List Bool) → PassTold → PassTold
 lose_marked marks p = record p { targets = filter (λ place. not (is_lost marks place)) p.targets; errors = capped (p.errors + by_kind p.kind (count_by (is_lost marks) p.targets)) }
+
+-- ---- the record of the tables
+
+-- A record has the blocks of the tables that its group's image has, the arms of all slots, and the pass.
+pub record IsMade (head : Head) (entries : Entries) (table : SlotTable) (pass : Option Pass) (last : ℕ) (it : Record) : Type 0 where
+  pub version_is : it.version ≡ head.version
+  pub metaslab_is : it.metaslab ≡ head.metaslab
+  pub group_is : it.group ≡ head.group
+  pub blocks_are : ListsBlocks entries head.group it.blocks.items
+  pub slots_are : CopiesSlots table it.slots.items
+  pub sound : IsTable table
+  pub pass_is : option_map told_pass it.pass ≡ option_map told_pass pass
+  pub last_is : it.last_pass ≡ last
