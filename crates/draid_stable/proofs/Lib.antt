@@ -4,3 +4,4 @@ pub mod Lists
 pub mod Made
 pub mod Marked
 pub mod Places
+pub mod Settled

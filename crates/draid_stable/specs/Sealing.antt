@@ -1,5 +1,5 @@
 -- The record of a group, made from the tables of a metaslab before its devices are flushed, and settled afterwards.
-use Rattle.std.specs.Prelude.{◌≡◌, ◌==◌, ◌+◌, ◌<◌, ◌||◌, ◌&&◌, not, ℕ, Bool, false, List, [], Option, Some, All, count_by, filter, length, slice_get, slice_index_or, option_map}
+use Rattle.std.specs.Prelude.{◌≡◌, ◌==◌, ◌+◌, ◌<◌, ◌||◌, ◌&&◌, not, ℕ, Bool, true, false, List, [], Option, Some, All, IfSome, count_by, filter, length, slice_get, slice_index_or, option_map}
 use Rattle.std.specs.declared.alloc.Global.{Global}
 use Rattle.std.specs.declared.vec.Vec.{Vec}
 use Rattle.draid_names.specs.declared.arm.Arm.{Arm}
@@ -16,7 +16,7 @@ use Rattle.draid_machine.specs.State as machine
 use Rattle.draid_entries.specs.declared.entries.Entries.{Entries}
 use Rattle.draid_entries.specs.Entries.{held_in}
 use Rattle.draid_entries.specs.Listed.{ListsBlocks}
-use Rattle.draid_record.specs.Record.{ArmTold, PassTold, told_pass}
+use Rattle.draid_record.specs.Record.{ArmTold, PassTold, told_pass, told_slots}
 use Rattle.draid_record.specs.declared.record.Record.{Record}
 use Rattle.draid_stable.specs.declared.sealing.Head.{Head}
 use Rattle.draid_stable.specs.Images.{SaysArms, name_of, order_by}
@@ -122,3 +122,19 @@ pub record IsMade (head : Head) (entries : Entries) (table : SlotTable) (pass : 
   pub sound : IsTable table
   pub pass_is : option_map told_pass it.pass ≡ option_map told_pass pass
   pub last_is : it.last_pass ≡ last
+
+-- there is room for one more group in each log of a record, and the targets of its pass are arms of it
+pub record IsReady (it : Record) : Type 0 where
+  pub room : HaveRoom it.slots.items
+  pub targets : IfSome it.pass (λ pass. AreThere (told_slots it.slots.items) pass.targets.items)
+
+-- Where something was written, the marked arms got the group into their logs. The pass lost those among its targets. Nothing else changed.
+pub record IsSettled (old new : Record) (marks : List (List Bool)) (wrote : Bool) : Type 0 where
+  pub version_is : new.version ≡ old.version
+  pub metaslab_is : new.metaslab ≡ old.metaslab
+  pub group_is : new.group ≡ old.group
+  pub blocks_are : new.blocks ≡ old.blocks
+  pub last_is : new.last_pass ≡ old.last_pass
+  pub written : wrote ≡ true → MarksSlots old.slots.items new.slots.items marks old.group
+  pub not_written : wrote ≡ false → new.slots ≡ old.slots
+  pub pass_is : option_map told_pass new.pass ≡ option_map (lose_marked marks) (option_map told_pass old.pass)

@@ -9,7 +9,7 @@ mod sealing;
 
 pub use arms::copied_slots;
 pub use marks::Marks;
-pub use sealing::{Head, record_of_tables};
+pub use sealing::{Head, record_of_tables, settle};
 pub use laws::{
     flushed_records_stand, records_outlast_crashes, records_say_tables,
     stable_images_outlast_crashes, standing_records_stay,

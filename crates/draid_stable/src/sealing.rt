@@ -1,12 +1,14 @@
-ghost use Rattle.std.specs.Prelude.{◌≡◌, IfOk, IfSome};
+ghost use Rattle.std.specs.Prelude.{◌≡◌, ◌<◌, ◌^◌, ℕ, List, IfOk, IfSome, length};
 ghost use Rattle.std.specs.Option.{option_map};
-ghost use Rattle.draid_machine.specs.After.{image_of};
-ghost use Rattle.draid_machine.specs.State.{Core};
-ghost use Rattle.draid_record.specs.Record.{told_pass, told_record};
+ghost use Rattle.draid_machine.specs.After.{image_of, sealed_core};
+ghost use Rattle.draid_machine.specs.Arms.{is_silent, lies_on};
+ghost use Rattle.draid_machine.specs.State.{Core, Layout};
+ghost use Rattle.draid_record.specs.Record.{told_pass, told_record, told_slots};
 ghost use Rattle.draid_stable.specs.Images.{image_by};
-ghost use Rattle.draid_stable.specs.Sealing.{AreTables, IsCurrent, IsMade};
+ghost use Rattle.draid_stable.specs.Sealing.{AreMarked, AreTables, HaveRoom, IsCurrent, IsMade, IsReady, IsSettled};
 
 use crate::arms::copied_slots;
+use crate::marks::{Marks, lose, mark_slots};
 use draid_entries::Entries;
 use draid_names::NoMemory;
 use draid_pass::Pass;
@@ -35,6 +37,7 @@ pub fn record_of_tables(
     requires { IfSome pass.now (IsCurrent slots.now last_pass) }
     ensures image { IfOk result (λ it. (q : Core) → AreTables entries.now slots.now pass.now last_pass q
         → image_by (told_record it) ≡ image_of head.group head.version q) }
+    ensures ready { IfOk result IsReady }
     ensures made { IfOk result (IsMade head entries.now slots.now pass.now last_pass) }
 {
     let blocks = entries.blocks_at(alloc, head.group)?;
@@ -68,4 +71,35 @@ fn copied_pass(alloc: Global, pass: &Option<Pass>) -> Result<Option<Pass>, NoMem
         errors: pass.errors,
         running: pass.running,
     }))
+}
+
+/// Settles a record once the devices are flushed. The marked arms, those that lie on a silent leaf, miss the group
+/// where a block was written in it, and the pass loses them.
+pub fn settle(it: &mut Record, marks: &[Marks], wrote: bool)
+    requires range { it.old.group < 2 ^ 48 }
+    requires count { length marks.now ≡ length it.old.slots.items }
+    requires ready { IsReady it.old }
+    ensures image { (l : Layout) (q : Core) (failed : List ℕ)
+        → AreMarked (told_slots it.old.slots.items) marks.now (lies_on l q (is_silent q failed))
+        → image_by (told_record it.old) ≡ image_of it.old.group it.old.version q
+        → image_by (told_record it.new) ≡ image_of it.old.group it.old.version (sealed_core l q it.old.group failed wrote) }
+    ensures settled { IsSettled it.old it.new marks.now wrote }
+{
+    settle_parts(it, marks, wrote);
+}
+
+/// The parts of a record that are settled: the arms and the pass.
+fn settle_parts(it: &mut Record, marks: &[Marks], wrote: bool)
+    requires range { it.old.group < 2 ^ 48 }
+    requires count { length marks.now ≡ length it.old.slots.items }
+    requires room { HaveRoom it.old.slots.items }
+    ensures { IsSettled it.old it.new marks.now wrote }
+{
+    if wrote {
+        mark_slots(&mut it.slots, marks, it.group);
+    }
+    if let Some(mut pass) = it.pass.take() {
+        lose(&mut pass, marks);
+        it.pass = Some(pass);
+    }
 }

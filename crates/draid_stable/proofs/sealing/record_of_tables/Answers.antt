@@ -1,7 +1,7 @@
 use Rattle.std.proofs.Common.{refl}
 use Rattle.draid_record.specs.declared.record.Record.{Record}
 use Rattle.draid_stable.specs.Sealing.{IsMade}
-use Rattle.draid_stable.proofs.Images.{made_image}
+use Rattle.draid_stable.proofs.Images.{made_image, made_ready}
 use Rattle.draid_stable.proofs.sealing.record_of_tables.Goals as goal
 
 pub returns : goal.returns
@@ -26,4 +26,4 @@ returns c =
       pass_is = c.in_ok-pass.ensures;
       last_is = refl;
     } in
-    record { image = λ q are. made_image a.head a.entries.now a.slots.now a.pass.now a.last_pass it c.requires made q are; made = made }
+    record { image = λ q are. made_image a.head a.entries.now a.slots.now a.pass.now a.last_pass it c.requires made q are; ready = made_ready a.head a.entries.now a.slots.now a.pass.now a.last_pass it c.requires made; made = made }
