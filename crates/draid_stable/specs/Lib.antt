@@ -3,3 +3,4 @@ pub mod Kits
 pub mod Sealing
 pub mod Slots
 pub mod Stable
+pub mod Within

@@ -1,20 +1,24 @@
-ghost use Rattle.std.specs.Prelude.{◌≡◌, Bool, List, Option, ℕ};
+ghost use Rattle.std.specs.Prelude.{◌≡◌, ◌≤◌, Bool, List, Option, length, ℕ};
 ghost use Rattle.draid_area.specs.Area.{Content, MayLeave, flushes, writes};
 ghost use Rattle.draid_area.specs.Moments.{IsCrashOutcome};
-ghost use Rattle.draid_entries.specs.Listed.{SaysBlocks};
+ghost use Rattle.draid_entries.specs.Listed.{ListsBlocks, SaysBlocks};
+ghost use Rattle.draid_entries.specs.declared.entries.Entries.{Entries};
 ghost use Rattle.draid_machine.specs.State as state;
 ghost use Rattle.draid_machine.specs.declared.names.ArmName.{ArmName};
 ghost use Rattle.draid_machine.specs.declared.names.Held.{Held};
 ghost use Rattle.draid_machine.specs.declared.names.Key.{Key};
 ghost use Rattle.draid_machine.specs.declared.names.Segment.{Segment};
 ghost use Rattle.draid_names.specs.declared.pointer.Pointer.{Pointer};
-ghost use Rattle.draid_record.specs.Record.{ArmTold, RecordTold};
+ghost use Rattle.draid_record.specs.Ranges.{AreBlocks};
+ghost use Rattle.draid_record.specs.Record.{ArmTold, RecordTold, spaces_of};
+ghost use Rattle.draid_record.specs.declared.limits.Limits.{Limits};
 ghost use Rattle.draid_record.specs.Written.{IsWhole};
 ghost use Rattle.draid_spec.specs.declared.layout.Geometry.{Geometry};
 ghost use Rattle.draid_segments.specs.Segments.{Pieces};
 ghost use Rattle.draid_shelf.specs.Kits.{CrashedKit, KitTold};
 ghost use Rattle.draid_stable.specs.Kits.{IsStable};
 ghost use Rattle.draid_stable.specs.Images.{LeavesBelow, SaysArms, arm_by, held_by};
+ghost use Rattle.draid_stable.specs.Within.{EntriesFit};
 ghost use Rattle.draid_stable.specs.Stable.{HasRecord, ReadsAs, Stands, area_of};
 
 /// Law: the record of an image that stands in an area is read again as that image, whatever a crash leaves,
@@ -56,4 +60,12 @@ pub fn stable_images_outlast_crashes()
     ensures { (geometry : Geometry) (metaslab : ℕ) (layout : state.Layout) (pieces : Pieces) (image : state.Image)
         (doubt : Segment → Bool) (x y : KitTold) → IsStable geometry metaslab layout pieces image doubt x
         → CrashedKit x y → IsStable geometry metaslab layout pieces image doubt y }
+{}
+
+/// Law: the blocks of a group's image, of tables that fit the ranges of a record, are in those ranges.
+#[tactic(auto, using(crate::proofs::Blocks::blocks_ranged, crate::proofs::Blocks::runs_few))]
+pub fn listed_blocks_are_in_range()
+    ensures blocks { (limits : Limits) (entries : Entries) (blocks : List Pointer) → EntriesFit limits entries
+        → ListsBlocks entries limits.group blocks → AreBlocks limits 0 blocks }
+    ensures spaces { (blocks : List Pointer) → length (spaces_of blocks) ≤ length blocks }
 {}
