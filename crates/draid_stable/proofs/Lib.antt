@@ -1,3 +1,4 @@
+pub mod Armed
 pub mod Blocks
 pub mod Images
 pub mod Lasting
@@ -5,4 +6,6 @@ pub mod Lists
 pub mod Made
 pub mod Marked
 pub mod Places
+pub mod Ranged
 pub mod Settled
+pub mod Targets

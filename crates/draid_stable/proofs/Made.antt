@@ -103,6 +103,18 @@ module _ (table : SlotTable) (all : List (List ArmTold)) (tells : (slot : ℕ) �
       let rest : map name_of ts ≡ map slots.name_of as_ = same_arms ts as_ (omega (arith, count)) (λ k d less. each (suc k) d (omega (arith, less))) in
       λ i. slots.name_of (sym own i) ∷ rest i
 
+  arms_told : (list : List ArmTold) (arms : List Arm) → length list ≡ length arms → ((k : ℕ) (d : ArmTold) → k < length list → slice_get arms k ≡ Some (slice_index_or list k d).0) → map (λ (told : ArmTold). told.0) list ≡ arms
+  arms_told [] [] count each = refl
+  arms_told [] (a ∷ as_) count each = absurd (omega (arith, count))
+  arms_told (t ∷ ts) [] count each = absurd (omega (arith, count))
+  arms_told (t ∷ ts) (a ∷ as_) count each =
+      let own : a ≡ t.0 = some_injective a t.0 (each zero t (omega arith)) in
+      let rest : map (λ (told : ArmTold). told.0) ts ≡ as_ = arms_told ts as_ (omega (arith, count)) (λ k d less. each (suc k) d (omega (arith, less))) in
+      λ i. sym own i ∷ rest i
+
+  pub first_arms : (slot : ℕ) → map (λ (told : ArmTold). told.0) (slice_index_or all slot []) ≡ arms_of table slot
+  first_arms slot = let t = tells slot in arms_told (slice_index_or all slot []) (arms_of table slot) t.count (λ k d less. (t.each k d less).there)
+
   pub told_order : (slot : ℕ) → order_by all slot ≡ map slots.name_of (arms_of table slot)
   told_order slot = let t = tells slot in same_arms (slice_index_or all slot []) (arms_of table slot) t.count (λ k d less. (t.each k d less).there)
 

@@ -44,7 +44,7 @@ zip_flat R [] (ys ∷ yss) z = absurd z
 zip_flat R (xs ∷ xss) [] z = absurd z
 zip_flat {X} R (xs ∷ xss) (ys ∷ yss) z = zip_append R xs ys (flat_map (λ (xs : List X). xs) xss) (flat_map (λ (xs : List X). xs) yss) z.0 (zip_flat R xss yss z.1)
 
-zip_at : {X : Type 0} (R : X → X → Type 0) (xss yss : List (List X)) (k : ℕ) → Zipped (Zipped R) xss yss → Zipped R (slice_index_or xss k []) (slice_index_or yss k [])
+pub zip_at : {X : Type 0} (R : X → X → Type 0) (xss yss : List (List X)) (k : ℕ) → Zipped (Zipped R) xss yss → Zipped R (slice_index_or xss k []) (slice_index_or yss k [])
 zip_at R [] [] k z = tt
 zip_at R [] (ys ∷ yss) k z = absurd z
 zip_at R (xs ∷ xss) [] k z = absurd z
@@ -67,7 +67,7 @@ zip_same : {X : Type 0} (R : X → X → Type 0) → ((x : X) → R x x) → (xs
 zip_same R same [] = tt
 zip_same R same (x ∷ xs) = (same x, zip_same R same xs)
 
-get_is : {X : Type 0} (xs : List X) (k : ℕ) (d : X) → k < length xs → slice_get xs k ≡ Some (slice_index_or xs k d)
+pub get_is : {X : Type 0} (xs : List X) (k : ℕ) (d : X) → k < length xs → slice_get xs k ≡ Some (slice_index_or xs k d)
 get_is [] k d less = absurd (omega (arith, less))
 get_is (x ∷ xs) zero d less = refl
 get_is (x ∷ xs) (suc k) d less = get_is xs k d (omega (arith, less))

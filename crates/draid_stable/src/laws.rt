@@ -1,4 +1,4 @@
-ghost use Rattle.std.specs.Prelude.{◌≡◌, ◌≤◌, Bool, List, Option, length, ℕ};
+ghost use Rattle.std.specs.Prelude.{◌≡◌, ◌≤◌, [], Bool, List, Option, length, ℕ};
 ghost use Rattle.draid_area.specs.Area.{Content, MayLeave, flushes, writes};
 ghost use Rattle.draid_area.specs.Moments.{IsCrashOutcome};
 ghost use Rattle.draid_entries.specs.Listed.{ListsBlocks, SaysBlocks};
@@ -9,16 +9,21 @@ ghost use Rattle.draid_machine.specs.declared.names.Held.{Held};
 ghost use Rattle.draid_machine.specs.declared.names.Key.{Key};
 ghost use Rattle.draid_machine.specs.declared.names.Segment.{Segment};
 ghost use Rattle.draid_names.specs.declared.pointer.Pointer.{Pointer};
-ghost use Rattle.draid_record.specs.Ranges.{AreBlocks};
-ghost use Rattle.draid_record.specs.Record.{ArmTold, RecordTold, spaces_of};
+ghost use Rattle.draid_pass.specs.declared.pass.Pass.{Pass};
+ghost use Rattle.draid_record.specs.Ranges.{AreBlocks, AreSlots, IsRanged};
+ghost use Rattle.draid_record.specs.Record.{ArmTold, RecordTold, spaces_of, told_record, told_slots};
+ghost use Rattle.draid_record.specs.declared.record.Record.{Record};
 ghost use Rattle.draid_record.specs.declared.limits.Limits.{Limits};
 ghost use Rattle.draid_record.specs.Written.{IsWhole};
 ghost use Rattle.draid_spec.specs.declared.layout.Geometry.{Geometry};
 ghost use Rattle.draid_segments.specs.Segments.{Pieces};
+ghost use Rattle.draid_slots.specs.Table.{IsTable, SlotTable};
 ghost use Rattle.draid_shelf.specs.Kits.{CrashedKit, KitTold};
+ghost use Rattle.draid_stable.specs.declared.sealing.Head.{Head};
+ghost use Rattle.draid_stable.specs.Sealing.{IsMade, IsSettled};
 ghost use Rattle.draid_stable.specs.Kits.{IsStable};
 ghost use Rattle.draid_stable.specs.Images.{LeavesBelow, SaysArms, arm_by, held_by};
-ghost use Rattle.draid_stable.specs.Within.{EntriesFit};
+ghost use Rattle.draid_stable.specs.Within.{ArmsFit, EntriesFit, LimitsOf, LogsFit, TablesFit, TellsArms};
 ghost use Rattle.draid_stable.specs.Stable.{HasRecord, ReadsAs, Stands, area_of};
 
 /// Law: the record of an image that stands in an area is read again as that image, whatever a crash leaves,
@@ -68,4 +73,22 @@ pub fn listed_blocks_are_in_range()
     ensures blocks { (limits : Limits) (entries : Entries) (blocks : List Pointer) → EntriesFit limits entries
         → ListsBlocks entries limits.group blocks → AreBlocks limits 0 blocks }
     ensures spaces { (blocks : List Pointer) → length (spaces_of blocks) ≤ length blocks }
+{}
+
+/// Law: the arms of a table that fits the ranges of a record, with logs that do, are in those ranges.
+pub fn told_arms_are_in_range()
+    ensures { (limits : Limits) (table : SlotTable) (slots : List (List ArmTold)) → IsTable table → ArmsFit limits table
+        → TellsArms table slots → LogsFit slots → AreSlots limits [] slots }
+{}
+
+/// Law: the record that is made from tables that fit the ranges of a record is in those ranges, and it still is
+/// once it is settled.
+pub fn made_records_are_in_range()
+    ensures made { (limits : Limits) (head : Head) (entries : Entries) (table : SlotTable) (pass : Option Pass) (last : ℕ)
+        (it : Record) → IsMade head entries table pass last it → LimitsOf limits head → TablesFit limits entries table pass last
+        → LogsFit (told_slots it.slots.items) → IsRanged limits (told_record it) }
+    ensures settled { (limits : Limits) (head : Head) (entries : Entries) (table : SlotTable) (pass : Option Pass) (last : ℕ)
+        (it new : Record) (marks : List (List Bool)) (wrote : Bool) → IsMade head entries table pass last it
+        → LimitsOf limits head → TablesFit limits entries table pass last → IsSettled it new marks wrote
+        → LogsFit (told_slots new.slots.items) → IsRanged limits (told_record new) }
 {}
