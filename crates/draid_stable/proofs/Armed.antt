@@ -1,6 +1,5 @@
 -- The arms of a record are in their ranges.
-use Rattle.std.proofs.Common.{◌≡◌, ◌==◌, ◌<◌, ◌≤◌, ◌+◌, ◌%◌, ◌^◌, ◌||◌, ◌&&◌, ◌⊎◌, inl, inr, not, nat_lt, ℕ, zero, suc, Bool, true, false, List, [], ◌∷◌, ◌++◌, append_assoc, length, map, Option, Some, All, refl, sym, ◌∙◌, ap, ap₂, subst, arith, slice_get, slice_index_or}
-use Rattle.std.specs.Bool.{⊤}
+use Rattle.std.proofs.Common.{◌≡◌, ◌==◌, ◌<◌, ◌≤◌, ◌+◌, ◌||◌, ◌&&◌, ◌⊎◌, inl, inr, not, nat_lt, ℕ, zero, suc, Bool, true, false, List, [], ◌∷◌, ◌++◌, append_assoc, length, map, Some, All, refl, sym, ◌∙◌, ap, ap₂, subst, arith, slice_get, slice_index_or}
 use Rattle.std.specs.List.{list_any}
 use Rattle.std.proofs.lemmas.Bool.{true≢false}
 use Rattle.std.proofs.lemmas.Bool.Decides.{nat_tests}
@@ -37,7 +36,7 @@ seam_length : {X : Type 0} (xs ys : List X) → length (xs ++ ys) ≡ length xs 
 seam_length [] ys = omega arith
 seam_length (x ∷ xs) ys = let n = seam_length xs ys in omega (arith, n)
 
-any_where : {X : Type 0} (p : X → Bool) (xs : List X) (d : X) → list_any p xs ≡ true → (k : ℕ) × (k < length xs) × (p (slice_index_or xs k d) ≡ true)
+pub any_where : {X : Type 0} (p : X → Bool) (xs : List X) (d : X) → list_any p xs ≡ true → (k : ℕ) × (k < length xs) × (p (slice_index_or xs k d) ≡ true)
 any_where p [] d any = absurd (true≢false (sym any))
 any_where p (x ∷ xs) d any = by (p x) refl any (any_where p xs d)
   where

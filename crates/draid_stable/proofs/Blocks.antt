@@ -1,5 +1,5 @@
 -- The blocks of a record are in their ranges.
-use Rattle.std.proofs.Common.{◌≡◌, ◌==◌, ◌<◌, ◌≤◌, ◌+◌, ◌-◌, ◌%◌, ◌&&◌, not, ℕ, suc, Bool, true, false, List, [], ◌∷◌, length, Some, All, if◌then◌else◌, refl, sym, ap, subst, arith, nat_le}
+use Rattle.std.proofs.Common.{◌≡◌, ◌==◌, ◌≤◌, ◌+◌, ◌-◌, ◌&&◌, not, ℕ, suc, Bool, true, false, List, [], ◌∷◌, length, All, if◌then◌else◌, arith, nat_le}
 use Rattle.std.specs.Bool.{⊤}
 use Rattle.std.proofs.lemmas.Bool.Decides.{nat_tests}
 use Rattle.std.proofs.lemmas.List.Elements.{All-head, All-tail}
@@ -9,7 +9,6 @@ use Rattle.draid_machine.proofs.Small.{both_true}
 use Rattle.draid_entries.specs.declared.entries.Entries.{Entries}
 use Rattle.draid_entries.specs.Listed.{AscendFrom, IsListed, ListsBlocks}
 use Rattle.draid_entries.specs.Maps.{staged}
-use Rattle.draid_ranges.specs.declared.run.Run.{Run}
 use Rattle.draid_record.specs.declared.limits.Limits.{Limits}
 use Rattle.draid_record.specs.Ranges.{AreBlocks, IsBlock}
 use Rattle.draid_record.specs.Record.{spaces_from, spaces_of, stripes_of}

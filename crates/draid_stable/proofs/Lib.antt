@@ -1,5 +1,6 @@
 pub mod Armed
 pub mod Blocks
+pub mod Born
 pub mod Images
 pub mod Lasting
 pub mod Lists

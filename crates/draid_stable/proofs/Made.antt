@@ -1,27 +1,25 @@
 -- A record that is made from the tables says the image of their state.
-use Rattle.std.proofs.Common.{◌≡◌, ◌≢◌, ◌<◌, ◌≤◌, ◌+◌, ◌||◌, ◌⊎◌, ℕ, zero, suc, Bool, true, false, List, [], ◌∷◌, ◌++◌, length, map, Option, Some, None, IsSome, All, Contains, find, cond, refl, sym, ◌∙◌, ap, subst, inl, inr, arith, slice_get, slice_index_or, option_map}
+use Rattle.std.proofs.Common.{◌≡◌, ◌≢◌, ◌<◌, ◌≤◌, ◌⊎◌, ℕ, zero, suc, Bool, true, false, List, [], ◌∷◌, length, map, Option, Some, None, IsSome, All, refl, sym, ◌∙◌, ap, subst, inl, inr, arith, slice_get, slice_index_or}
 use Rattle.std.specs.List.{flat_map, list_any}
 use Rattle.std.specs.declared.alloc.Global.{Global}
 use Rattle.std.specs.declared.vec.Vec.{Vec}
 use Rattle.std.proofs.lemmas.Bool.{true≢false, cases_lt}
-use Rattle.std.proofs.lemmas.List.{get_or-map, length-map}
+use Rattle.std.proofs.lemmas.List.{length-map}
 use Rattle.std.proofs.lemmas.List.Elements.{All-append, All-head, All-nil, All-tail}
 use Rattle.std.proofs.lemmas.List.Folds.{list_any-append}
 use Rattle.draid_names.specs.declared.arm.Arm.{Arm}
 use Rattle.draid_names.specs.declared.arm.ArmAt.{ArmAt}
-use Rattle.draid_ranges.specs.Numbers.{Numbers, has}
+use Rattle.draid_ranges.specs.Numbers.{Numbers}
 use Rattle.draid_ranges.specs.Runs.{has_in}
-use Rattle.draid_pass.specs.declared.pass.Pass.{Pass}
 use Rattle.draid_slots.specs.Table.{SlotTable, arm_at, arms_of, is_logged}
-use Rattle.draid_slots.specs.declared.slot.Detached.{Detached}
 use Rattle.draid_machine.specs.declared.names.ArmName.{ArmName}
 use Rattle.draid_machine.specs.Names.{name_eq}
 use Rattle.draid_machine.specs.After.{seal_arm}
 use Rattle.draid_machine.specs.State as machine
 use Rattle.draid_machine.proofs.Small.{name_refl, some_injective, true_left, true_right}
 use Rattle.draid_record.specs.Record.{ArmTold, told_arm, told_slot, told_slots}
-use Rattle.draid_stable.specs.Images.{SaysArms, all_arms, arm_of, has_name, name_of, none_told, order_by, target_of}
-use Rattle.draid_stable.specs.Sealing.{AllAt, CopiesArm, CopiesSlot, CopiesSlots, SaysCore}
+use Rattle.draid_stable.specs.Images.{all_arms, arm_of, has_name, name_of, none_told, order_by, target_of}
+use Rattle.draid_stable.specs.Sealing.{AllAt, CopiesSlot, CopiesSlots, SaysCore}
 use Rattle.draid_stable.specs.Slots as slots
 use Rattle.draid_stable.specs.Slots.{HasArm, HasSlots, WasArm, arm_in, names_at}
 
@@ -53,7 +51,7 @@ flat_any {X} p (xs ∷ xss) zero any =
 flat_any {X} p (xs ∷ xss) (suc k) any =
     list_any-append p xs (flat_map (λ (xs : List X). xs) xss) ∙ true_right (list_any p xs) (list_any p (flat_map (λ (xs : List X). xs) xss)) (flat_any p xss k any)
 
-any_at : {X : Type 0} (p : X → Bool) (xs : List X) (k : ℕ) (d : X) → k < length xs → p (slice_index_or xs k d) ≡ true → list_any p xs ≡ true
+pub any_at : {X : Type 0} (p : X → Bool) (xs : List X) (k : ℕ) (d : X) → k < length xs → p (slice_index_or xs k d) ≡ true → list_any p xs ≡ true
 any_at p [] k d less is = absurd (omega (arith, less))
 any_at p (x ∷ xs) zero d less is = true_left (p x) (list_any p xs) is
 any_at p (x ∷ xs) (suc k) d less is = true_right (p x) (list_any p xs) (any_at p xs k d (omega (arith, less)) is)

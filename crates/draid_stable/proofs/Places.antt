@@ -1,5 +1,5 @@
 -- Lists whose elements go by their places.
-use Rattle.std.proofs.Common.{◌≡◌, ◌<◌, ◌+◌, ℕ, zero, suc, List, [], ◌∷◌, ◌++◌, length, slice_index_or, refl, subst, arith}
+use Rattle.std.proofs.Common.{◌≡◌, ℕ, zero, suc, List, [], ◌∷◌, ◌++◌, length, refl, subst, arith}
 use Rattle.draid_stable.specs.Sealing.{AllAt}
 
 pub none_at : {X : Type 0} (P : ℕ → X → Type 0) → AllAt P []

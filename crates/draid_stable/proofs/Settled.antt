@@ -1,5 +1,5 @@
 -- A record that is settled says the image of the state that the sealing leaves.
-use Rattle.std.proofs.Common.{◌≡◌, ◌==◌, ◌<◌, ◌+◌, ◌||◌, ◌&&◌, not, ℕ, zero, suc, Bool, true, false, List, [], ◌∷◌, ◌++◌, length, map, filter, count_by, Option, Some, None, IfSome, All, find, cond, refl, sym, ◌∙◌, ap, subst, arith, slice_get, slice_index_or, option_map}
+use Rattle.std.proofs.Common.{◌≡◌, ◌==◌, ◌<◌, ◌+◌, ◌||◌, ◌&&◌, not, ℕ, zero, suc, Bool, true, false, List, [], ◌∷◌, ◌++◌, length, map, filter, count_by, Option, Some, None, IfSome, find, cond, refl, sym, ◌∙◌, ap, subst, arith, slice_get, slice_index_or, option_map}
 use Rattle.std.specs.Bool.{⊤}
 use Rattle.std.specs.List.{flat_map}
 use Rattle.std.specs.declared.alloc.Global.{Global}
@@ -23,7 +23,7 @@ use Rattle.draid_record.specs.Record.{ArmTold, PassTold, RecordTold, told_arm, t
 use Rattle.draid_record.specs.declared.record.Record.{Record}
 use Rattle.draid_pass.specs.declared.pass.Pass.{Pass}
 use Rattle.draid_stable.specs.Images.{all_arms, arm_by, arm_of, has_name, held_by, image_by, name_of, none_told, order_by, pass_of, target_of}
-use Rattle.draid_stable.specs.Sealing.{AreMarked, AreThere, IsReady, IsSettled, MarksArm, MarksSlot, MarksSlots, by_kind, is_lost, lose_marked}
+use Rattle.draid_stable.specs.Sealing.{AreMarked, AreThere, IsReady, IsSettled, MarksSlot, MarksSlots, by_kind, is_lost, lose_marked}
 
 -- ---- two lists, element by element
 abbrev pub Zipped : {X : Type 0} → (X → X → Type 0) → List X → List X → Type 0

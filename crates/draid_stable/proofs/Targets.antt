@@ -1,13 +1,11 @@
 -- The pass of a record is in its ranges, and stays so where it loses targets.
-use Rattle.std.proofs.Common.{◌≡◌, ◌==◌, ◌<◌, ◌≤◌, ◌+◌, ◌-◌, ◌*◌, ◌^◌, ◌⊎◌, inl, inr, not, ℕ, zero, suc, Bool, true, false, List, [], ◌∷◌, length, map, filter, Option, Some, None, IfSome, All, cond, if◌then◌else◌, refl, sym, ◌∙◌, ap, subst, arith, min, slice_index_or}
-use Rattle.std.specs.Bool.{⊤}
+use Rattle.std.proofs.Common.{◌≡◌, ◌==◌, ◌<◌, ◌≤◌, ◌+◌, ◌*◌, ◌⊎◌, inl, inr, not, ℕ, zero, suc, Bool, true, false, List, [], ◌∷◌, length, filter, Option, Some, None, IfSome, All, cond, if◌then◌else◌, refl, sym, ap, subst, arith, min, slice_index_or}
 use Rattle.std.proofs.lemmas.Bool.{cases_lt}
 use Rattle.std.proofs.lemmas.Bool.Decides.{nat_tests}
 use Rattle.std.proofs.lemmas.List.Elements.{All-filter, All-head, All-tail}
 use Rattle.draid_names.specs.declared.arm.ArmAt.{ArmAt}
 use Rattle.draid_names.specs.declared.numbers.TheConstants.{LAST_NUMBER, NUMBERS}
 use Rattle.draid_slots.specs.Table.{SlotTable, arms_of}
-use Rattle.draid_machine.specs.After.{capped}
 use Rattle.draid_record.specs.declared.limits.Limits.{Limits}
 use Rattle.draid_record.specs.Ranges.{AreTargets, IsPass}
 use Rattle.draid_record.specs.Record.{ArmTold, PassTold, arm_count, least_arm, least_slot}

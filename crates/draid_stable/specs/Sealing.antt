@@ -6,6 +6,7 @@ use Rattle.draid_names.specs.declared.arm.Arm.{Arm}
 use Rattle.draid_names.specs.declared.arm.ArmAt.{ArmAt}
 use Rattle.draid_names.specs.declared.pass_kind.PassKind.{PassKind}
 use Rattle.draid_names.specs.declared.pass_kind.PassKind.TheVariants.{Rebuild, Heal}
+use Rattle.draid_names.specs.declared.pointer.Pointer.{Pointer}
 use Rattle.draid_ranges.specs.Numbers.{Numbers, has}
 use Rattle.draid_pass.specs.declared.pass.Pass.{Pass}
 use Rattle.draid_slots.specs.Table.{IsTable, SlotTable, arms_of, is_logged}
@@ -122,6 +123,10 @@ pub record IsMade (head : Head) (entries : Entries) (table : SlotTable) (pass : 
   pub sound : IsTable table
   pub pass_is : option_map told_pass it.pass ≡ option_map told_pass pass
   pub last_is : it.last_pass ≡ last
+
+-- whether a block was born in a group
+abbrev pub was_born : ℕ → Pointer → Bool
+was_born group b = b.birth == group
 
 -- there is room for one more group in each log of a record, and the targets of its pass are arms of it
 pub record IsReady (it : Record) : Type 0 where

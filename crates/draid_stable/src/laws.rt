@@ -1,9 +1,11 @@
-ghost use Rattle.std.specs.Prelude.{◌≡◌, ◌≤◌, [], Bool, List, Option, length, ℕ};
+ghost use Rattle.std.specs.Prelude.{◌≡◌, ◌≤◌, [], Bool, List, Option, false, length, true, ℕ};
+ghost use Rattle.std.specs.List.{list_any};
 ghost use Rattle.draid_area.specs.Area.{Content, MayLeave, flushes, writes};
 ghost use Rattle.draid_area.specs.Moments.{IsCrashOutcome};
 ghost use Rattle.draid_entries.specs.Listed.{ListsBlocks, SaysBlocks};
 ghost use Rattle.draid_entries.specs.declared.entries.Entries.{Entries};
 ghost use Rattle.draid_machine.specs.State as state;
+ghost use Rattle.draid_machine.specs.Step.{HasWritten};
 ghost use Rattle.draid_machine.specs.declared.names.ArmName.{ArmName};
 ghost use Rattle.draid_machine.specs.declared.names.Held.{Held};
 ghost use Rattle.draid_machine.specs.declared.names.Key.{Key};
@@ -20,7 +22,7 @@ ghost use Rattle.draid_segments.specs.Segments.{Pieces};
 ghost use Rattle.draid_slots.specs.Table.{IsTable, SlotTable};
 ghost use Rattle.draid_shelf.specs.Kits.{CrashedKit, KitTold};
 ghost use Rattle.draid_stable.specs.declared.sealing.Head.{Head};
-ghost use Rattle.draid_stable.specs.Sealing.{IsMade, IsSettled};
+ghost use Rattle.draid_stable.specs.Sealing.{AreTables, IsMade, IsSettled, was_born};
 ghost use Rattle.draid_stable.specs.Kits.{IsStable};
 ghost use Rattle.draid_stable.specs.Images.{LeavesBelow, SaysArms, arm_by, held_by};
 ghost use Rattle.draid_stable.specs.Within.{ArmsFit, EntriesFit, LimitsOf, LogsFit, TablesFit, TellsArms};
@@ -91,4 +93,15 @@ pub fn made_records_are_in_range()
         (it new : Record) (marks : List (List Bool)) (wrote : Bool) → IsMade head entries table pass last it
         → LimitsOf limits head → TablesFit limits entries table pass last → IsSettled it new marks wrote
         → LogsFit (told_slots new.slots.items) → IsRanged limits (told_record new) }
+{}
+
+/// Law: the record that is made from the tables of a state lists a block that was born in its group just where one was
+/// written in it.
+pub fn made_records_tell_what_was_written()
+    ensures yes { (head : Head) (entries : Entries) (table : SlotTable) (pass : Option Pass) (last : ℕ) (it : Record)
+        (q : state.Core) → IsMade head entries table pass last it → AreTables entries table pass last q
+        → list_any (was_born head.group) it.blocks.items ≡ true → HasWritten q head.group }
+    ensures no { (head : Head) (entries : Entries) (table : SlotTable) (pass : Option Pass) (last : ℕ) (it : Record)
+        (q : state.Core) → IsMade head entries table pass last it → AreTables entries table pass last q
+        → list_any (was_born head.group) it.blocks.items ≡ false → HasWritten q head.group → ⊥ }
 {}

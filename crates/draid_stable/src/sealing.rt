@@ -1,11 +1,12 @@
 ghost use Rattle.std.specs.Prelude.{◌≡◌, ◌<◌, ◌^◌, ℕ, List, IfOk, IfSome, length};
+ghost use Rattle.std.specs.List.{list_any};
 ghost use Rattle.std.specs.Option.{option_map};
 ghost use Rattle.draid_machine.specs.After.{image_of, sealed_core};
 ghost use Rattle.draid_machine.specs.Arms.{is_silent, lies_on};
 ghost use Rattle.draid_machine.specs.State.{Core, Layout};
 ghost use Rattle.draid_record.specs.Record.{told_pass, told_record, told_slots};
 ghost use Rattle.draid_stable.specs.Images.{image_by};
-ghost use Rattle.draid_stable.specs.Sealing.{AreMarked, AreTables, HaveRoom, IsCurrent, IsMade, IsReady, IsSettled};
+ghost use Rattle.draid_stable.specs.Sealing.{AreMarked, AreTables, HaveRoom, IsCurrent, IsMade, IsReady, IsSettled, was_born};
 
 use crate::arms::copied_slots;
 use crate::marks::{Marks, lose, mark_slots};
@@ -71,6 +72,13 @@ fn copied_pass(alloc: Global, pass: &Option<Pass>) -> Result<Option<Pass>, NoMem
         errors: pass.errors,
         running: pass.running,
     }))
+}
+
+/// Whether a block was written in the group of a record: one of its blocks was born in it.
+pub fn has_written(it: &Record) -> bool
+    ensures { result ≡ list_any (was_born it.now.group) it.now.blocks.items }
+{
+    it.blocks.iter().any(|block| block.birth == it.group)
 }
 
 /// Settles a record once the devices are flushed. The marked arms, those that lie on a silent leaf, miss the group

@@ -1,4 +1,4 @@
-use Rattle.std.proofs.Common.{◌≡◌, ◌+◌, ◌∙◌, ◌-◌, not, ℕ, Bool, ap, ap₂, arith, count_by, filter, length, refl, rules, sym}
+use Rattle.std.proofs.Common.{◌≡◌, ◌+◌, ◌∙◌, ◌-◌, not, Bool, ap, ap₂, count_by, filter, length, rules}
 use Rattle.std.proofs.lemmas.Fn.{filter_same}
 use Rattle.draid_names.specs.declared.arm.ArmAt.{ArmAt}
 use Rattle.draid_machine.specs.After.{capped}
