@@ -101,7 +101,7 @@ module _ (limits : Limits) (slots : SlotTable) (sound : IsTable slots) (fit : Ar
   -- two places with arms of one kind and number are one
   one_place : (i j : ℕ) (k m : ℕ) (d e : ArmTold) → j < length (slice_index_or all i []) → m < length (slice_index_or all k [])
       → (is_kind (slice_index_or (slice_index_or all i []) j d).0.kind (slice_index_or (slice_index_or all k []) m e).0.kind
-          && ((slice_index_or (slice_index_or all i []) j d).0.number == (slice_index_or (slice_index_or all k []) m e).0.number)) ≡ true
+      && ((slice_index_or (slice_index_or all i []) j d).0.number == (slice_index_or (slice_index_or all k []) m e).0.number)) ≡ true
       → (i ≡ k) × (j ≡ m)
   one_place i j k m d e l n same =
       let a : Arm = (slice_index_or (slice_index_or all i []) j d).0 in
@@ -159,7 +159,7 @@ module _ (limits : Limits) (slots : SlotTable) (sound : IsTable slots) (fit : Ar
           → (is_kind (slice_index_or (slice_index_or all i []) j none_told).0.kind a.0.kind && ((slice_index_or (slice_index_or all i []) j none_told).0.number == a.0.number)) ≡ true → ⊥
       not_at i j l front same =
           let z = one_place i j (length before) (length here) none_told none_told l own_inside
-              (subst (λ (t : ArmTold). (is_kind (slice_index_or (slice_index_or all i []) j none_told).0.kind t.0.kind && ((slice_index_or (slice_index_or all i []) j none_told).0.number == t.0.number)) ≡ true) (sym own_is) same)
+          (subst (λ (t : ArmTold). (is_kind (slice_index_or (slice_index_or all i []) j none_told).0.kind t.0.kind && ((slice_index_or (slice_index_or all i []) j none_told).0.number == t.0.number)) ≡ true) (sym own_is) same)
           in
           elim front [
             | inl less ↦ (let x = z.0 in absurd (omega (arith, less, x)))
@@ -177,7 +177,7 @@ module _ (limits : Limits) (slots : SlotTable) (sound : IsTable slots) (fit : Ar
       not_here any =
           let j = any_where (λ (told : ArmTold). is_kind told.0.kind a.0.kind && (told.0.number == a.0.number)) here none_told any in
           let same : slice_index_or (slice_index_or all (length before) []) j.0 none_told ≡ slice_index_or here j.0 none_told =
-              ap (λ l. slice_index_or l j.0 none_told) (here_is ∙ sym split) ∙ at_front here (a ∷ more) j.0 none_told j.1
+          ap (λ l. slice_index_or l j.0 none_told) (here_is ∙ sym split) ∙ at_front here (a ∷ more) j.0 none_told j.1
           in
           not_at (length before) j.0 (let l = j.1 in let o = own_inside in omega (arith, l, o)) (inr (refl, j.1))
           (ap (λ (t : ArmTold). is_kind t.0.kind a.0.kind && (t.0.number == a.0.number)) same ∙ j.2)

@@ -72,7 +72,7 @@ module _ (entries : Entries) (group : ℕ) (blocks : List Pointer) (lists : List
   pub none_written : list_any (was_born group) blocks ≡ false → HasWritten q group → ⊥
   none_written none w =
       let sealed : seal_held group (held_in entries w.key) ≡ Some (record w.h { stage = Live }) =
-          ap (seal_held group) (sym (same w.key) ∙ w.found) ∙ kept_back group w.h w.block (birth_low w.h.birth group w.born) w.stays
+      ap (seal_held group) (sym (same w.key) ∙ w.found) ∙ kept_back group w.h w.block (birth_low w.h.birth group w.born) w.stays
       in
       let some : IsSome (seal_held group (held_in entries w.key)) = subst IsSome (sym sealed) refl in
       let z = any_where (has_key w.key) blocks nothing (lists.says.all w.key some) in

@@ -6,7 +6,6 @@ pub mod Lasting
 pub mod Lists
 pub mod Made
 pub mod Marked
-pub mod Places
 pub mod Ranged
 pub mod Settled
 pub mod Targets

@@ -19,7 +19,7 @@ use Rattle.draid_machine.specs.State as machine
 use Rattle.draid_machine.proofs.Small.{name_refl, some_injective, true_left, true_right}
 use Rattle.draid_record.specs.Record.{ArmTold, told_arm, told_slot, told_slots}
 use Rattle.draid_stable.specs.Images.{all_arms, arm_of, has_name, name_of, none_told, order_by, target_of}
-use Rattle.draid_stable.specs.Sealing.{AllAt, CopiesSlot, CopiesSlots, SaysCore}
+use Rattle.draid_stable.specs.Sealing.{AllAt, AreMarked, CopiesSlot, CopiesSlots, SaysCore, is_marked}
 use Rattle.draid_stable.specs.Slots as slots
 use Rattle.draid_stable.specs.Slots.{HasArm, HasSlots, WasArm, arm_in, names_at}
 
@@ -183,3 +183,11 @@ module _ (table : SlotTable) (all : List (List ArmTold)) (tells : (slot : ℕ) �
           → target_of all at ∷ map (target_of all) ats ≡ (elim o as (λ o. List ArmName) [ None ↦ names_at table ats | Some arm ↦ slots.name_of arm ∷ names_at table ats ])
       one None none rest = absurd (let a = is in cc)
       one (Some arm) some rest = let own : told.0 ≡ arm = some_injective told.0 arm (sym is ∙ some) in λ i. slots.name_of (own i) ∷ rest i
+
+-- marks of a table's arms are those of what is told of them
+pub marked_told : (table : SlotTable) (lists : List (Vec (Arm × Numbers) Global)) (marks : List (List Bool)) (test : ArmName → Bool) → CopiesSlots table lists
+    → ((at : ArmAt) (arm : Arm) → arm_at table at ≡ Some arm → is_marked marks at.slot at.arm ≡ test (slots.name_of arm)) → AreMarked (told_slots lists) marks test
+marked_told table lists marks test copies marked = λ slot arm told there.
+    let z = got (slice_index_or (told_slots lists) slot []) arm told none_told there in
+    let t = (each_told table lists copies slot).each arm none_told z.0 in
+    marked (record { slot = slot; arm = arm }) told.0 (t.there ∙ ap (λ (x : ArmTold). Some x.0) z.1)

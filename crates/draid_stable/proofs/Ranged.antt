@@ -151,9 +151,9 @@ module _ (limits : Limits) (head : Head) (entries : Entries) (table : SlotTable)
         record {
           count = length-map new.slots.items tell ∙ m.count ∙ made.slots_are.count;
           same = λ slot.
-            firsts (slice_index_or (told_slots it.slots.items) slot []) (slice_index_or (told_slots new.slots.items) slot [])
-            (zip_at SameArm (told_slots it.slots.items) (told_slots new.slots.items) slot (marked_arms it.slots.items new.slots.items m))
-            ∙ before.same slot;
+              firsts (slice_index_or (told_slots it.slots.items) slot []) (slice_index_or (told_slots new.slots.items) slot [])
+              (zip_at SameArm (told_slots it.slots.items) (told_slots new.slots.items) slot (marked_arms it.slots.items new.slots.items m))
+              ∙ before.same slot;
         }
     news_tell false marked same = subst (λ (v : Vec (Vec (Arm × Numbers) Global) Global). TellsArms table (told_slots v.items)) (sym (same refl)) (tells_arms table it.slots.items made.slots_are)
 

@@ -198,10 +198,10 @@ module _ (l : machine.Layout) (q : machine.Core) (failed : List ℕ) (wrote : Bo
     one_pass : (p : PassTold) → AreThere old.slots p.targets → pass_of new (lose_marked marks p) ≡ lose_some bad (pass_of old p)
     one_pass p there =
         let targets : map (target_of new.slots) (filter (λ place. not (is_lost marks place)) p.targets) ≡ filter (λ n. not (bad n)) (map (target_of old.slots) p.targets) =
-            left bad wrote old.group old.slots new.slots marks s.slots_are s.marked p.targets there
+        left bad wrote old.group old.slots new.slots marks s.slots_are s.marked p.targets there
         in
         let more : capped (p.errors + by_kind p.kind (count_by (is_lost marks) p.targets)) ≡ capped (p.errors + lost_errors p.kind bad (map (target_of old.slots) p.targets)) =
-            ap (λ n. capped (p.errors + n)) (errors bad wrote old.group old.slots new.slots marks s.slots_are s.marked p.kind p.targets there)
+        ap (λ n. capped (p.errors + n)) (errors bad wrote old.group old.slots new.slots marks s.slots_are s.marked p.kind p.targets there)
         in
         λ i. record { number = s.last_is i; kind = p.kind; targets = targets i; max = p.max; next = p.«at»; errors = more i; running = p.running }
 

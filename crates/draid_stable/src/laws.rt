@@ -1,4 +1,4 @@
-ghost use Rattle.std.specs.Prelude.{◌≡◌, ◌≤◌, [], Bool, List, Option, false, length, true, ℕ};
+ghost use Rattle.std.specs.Prelude.{◌≡◌, ◌≤◌, [], Bool, List, Option, Some, false, length, true, ℕ};
 ghost use Rattle.std.specs.List.{list_any};
 ghost use Rattle.draid_area.specs.Area.{Content, MayLeave, flushes, writes};
 ghost use Rattle.draid_area.specs.Moments.{IsCrashOutcome};
@@ -10,6 +10,8 @@ ghost use Rattle.draid_machine.specs.declared.names.ArmName.{ArmName};
 ghost use Rattle.draid_machine.specs.declared.names.Held.{Held};
 ghost use Rattle.draid_machine.specs.declared.names.Key.{Key};
 ghost use Rattle.draid_machine.specs.declared.names.Segment.{Segment};
+ghost use Rattle.draid_names.specs.declared.arm.Arm.{Arm};
+ghost use Rattle.draid_names.specs.declared.arm.ArmAt.{ArmAt};
 ghost use Rattle.draid_names.specs.declared.pointer.Pointer.{Pointer};
 ghost use Rattle.draid_pass.specs.declared.pass.Pass.{Pass};
 ghost use Rattle.draid_record.specs.Ranges.{AreBlocks, AreSlots, IsRanged};
@@ -19,10 +21,11 @@ ghost use Rattle.draid_record.specs.declared.limits.Limits.{Limits};
 ghost use Rattle.draid_record.specs.Written.{IsWhole};
 ghost use Rattle.draid_spec.specs.declared.layout.Geometry.{Geometry};
 ghost use Rattle.draid_segments.specs.Segments.{Pieces};
-ghost use Rattle.draid_slots.specs.Table.{IsTable, SlotTable};
+ghost use Rattle.draid_slots.specs.Table.{IsTable, SlotTable, arm_at};
 ghost use Rattle.draid_shelf.specs.Kits.{CrashedKit, KitTold};
 ghost use Rattle.draid_stable.specs.declared.sealing.Head.{Head};
-ghost use Rattle.draid_stable.specs.Sealing.{AreTables, IsMade, IsSettled, was_born};
+ghost use Rattle.draid_stable.specs.Sealing.{AreMarked, AreTables, IsMade, IsSettled, is_marked, was_born};
+ghost use Rattle.draid_stable.specs.Slots.{name_of};
 ghost use Rattle.draid_stable.specs.Kits.{IsStable};
 ghost use Rattle.draid_stable.specs.Images.{LeavesBelow, SaysArms, arm_by, held_by};
 ghost use Rattle.draid_stable.specs.Within.{ArmsFit, EntriesFit, LimitsOf, LogsFit, TablesFit, TellsArms};
@@ -104,4 +107,12 @@ pub fn made_records_tell_what_was_written()
     ensures no { (head : Head) (entries : Entries) (table : SlotTable) (pass : Option Pass) (last : ℕ) (it : Record)
         (q : state.Core) → IsMade head entries table pass last it → AreTables entries table pass last q
         → list_any (was_born head.group) it.blocks.items ≡ false → HasWritten q head.group → ⊥ }
+{}
+
+/// Law: marks of the arms of a table are marks of those of a record that is made from it.
+pub fn marks_go_over()
+    ensures { (head : Head) (entries : Entries) (table : SlotTable) (pass : Option Pass) (last : ℕ) (it : Record)
+        (marks : List (List Bool)) (test : ArmName → Bool) → IsMade head entries table pass last it
+        → ((at : ArmAt) (arm : Arm) → arm_at table at ≡ Some arm → is_marked marks at.slot at.arm ≡ test (name_of arm))
+        → AreMarked (told_slots it.slots.items) marks test }
 {}

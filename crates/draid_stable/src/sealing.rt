@@ -25,8 +25,8 @@ pub struct Head {
     pub group: u64,
 }
 
-/// The record of a group from the tables of its metaslab: the image of a state that has them. Nothing that is done
-/// with it once the devices are flushed needs memory.
+/// The record of a group from the tables of its metaslab: the image of a state that has them. It is made before the
+/// devices are flushed, so that no memory is wanted for it afterwards.
 pub fn record_of_tables(
     alloc: Global,
     head: Head,

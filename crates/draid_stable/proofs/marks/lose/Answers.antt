@@ -16,8 +16,8 @@ returns-clause-told c =
     let before : c.len-before.result ≡ length p.targets.items = search rules in
     let after : c.len.result ≡ length c.retain.new.self.items = search rules in
     let errors : c.errors_after-pass.result ≡ capped (p.errors + by_kind p.kind (count_by bad p.targets.items)) =
-        c.errors_after-pass.ensures
-        ∙ ap₂ (λ a b. capped (p.errors + by_kind p.kind (a - b))) before after
-        ∙ ap (λ n. capped (p.errors + by_kind p.kind n)) (lost_count bad p.targets.items c.retain.new.self.items left)
+    c.errors_after-pass.ensures
+    ∙ ap₂ (λ a b. capped (p.errors + by_kind p.kind (a - b))) before after
+    ∙ ap (λ n. capped (p.errors + by_kind p.kind n)) (lost_count bad p.targets.items c.retain.new.self.items left)
     in
     λ i. record (told_pass p) { targets = left i; errors = errors i }
