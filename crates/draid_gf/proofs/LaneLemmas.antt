@@ -1,13 +1,13 @@
 -- Look-ups of 16 in vectors of 32 bytes, and the product of a byte from those of its halves.
-use Rattle.std.proofs.Common.{◌≡◌, ℕ, ◌+◌, ◌*◌, ◌/◌, ◌%◌, ◌^◌, ◌<◌, ◌∙◌, List, length, map, get_or, replicate, bit_xor, bit_and, refl, sym, ap, arith, w8, Fits}
+use Rattle.std.proofs.Common.{◌≡◌, ℕ, ◌+◌, ◌*◌, ◌/◌, ◌%◌, ◌^◌, ◌<◌, ◌∙◌, List, [], ◌∷◌, length, map, get_or, replicate, bit_xor, bit_and, refl, sym, ap, arith, w8, Fits}
 use Rattle.std.specs.Prelude.{slice_index}
 use Rattle.std.specs.Simd.Lanes.{zip2, Each1}
 use Rattle.std.proofs.lemmas.List.{length-map, get_or-map}
 use Rattle.std.proofs.lemmas.Grind.{same_number_lists}
 use Rattle.std.proofs.lemmas.Nat.{and_mask}
 use Rattle.std.proofs.lemmas.Simd.{length-zip2, get_or-zip2, get_or-replicate, length-swz_l, get_or-swz_l_below, swz_l, SwzOk, SwzOk-from_below, Each1-get_or, Each1-from_get_or}
-use Rattle.draid_gf.specs.Field.{field_product, IsByte}
-use Rattle.draid_gf.specs.Lanes.{HasLanes}
+use Rattle.draid_gf.specs.Field.{field_product, polynomial_product, polynomial_sum, remainder, IsByte}
+use Rattle.draid_gf.specs.Lanes.{HasLanes, returned_by_four}
 use Rattle.draid_gf.proofs.Computed.{same_at}
 use Rattle.draid_gf.proofs.Product.{field_product-right}
 
@@ -53,11 +53,18 @@ low_halves v long =
 pub high_halves : (v : List ℕ) → length v ≡ 32 → HasLanes 32 (zip2 (λ a b. a / 2 ^ b) v (replicate 32 4)) (λ k. slice_index v k / 16)
 high_halves v long = HasLanes-splat (λ a b. a / 2 ^ b) v 4 long
 
+-- the two high bits of each lane
+pub high_pairs : (v : List ℕ) → length v ≡ 32 → HasLanes 32 (zip2 (λ a b. a / 2 ^ b) v (replicate 32 6)) (λ k. slice_index v k / 64)
+high_pairs v long = HasLanes-splat (λ a b. a / 2 ^ b) v 6 long
+
 pub lane_byte : (v : List ℕ) → length v ≡ 32 → Each1 (Fits w8) v → (k : ℕ) → k < 32 → IsByte (slice_index v k)
 lane_byte v long fits k low = (Each1-get_or (Fits w8) v k 0 (omega arith) fits).fits
 
 pub high_small : (v : List ℕ) → length v ≡ 32 → Each1 (Fits w8) v → (k : ℕ) → k < 32 → slice_index v k / 16 < 16
 high_small v long fits k low = omega (arith, lane_byte v long fits k low)
+
+pub pairs_small : (v : List ℕ) → length v ≡ 32 → Each1 (Fits w8) v → (k : ℕ) → k < 32 → slice_index v k / 64 < 16
+pairs_small v long fits k low = omega (arith, lane_byte v long fits k low)
 
 module _ (js : List ℕ) (f : ℕ → ℕ) (h : HasLanes 32 js f) (small : (k : ℕ) → k < 32 → f k < 16) where
   -- places below 16 may be looked up
@@ -87,3 +94,17 @@ halves = same_at (λ x. bit_xor (x % 16) (16 * (x / 16))) (λ x. x) 256 refl
 pub product_of_halves : (by x : ℕ) → IsByte x → bit_xor (field_product by (x % 16)) (field_product by (16 * (x / 16))) ≡ field_product by x
 product_of_halves by x byte =
     sym ((field_product-right by).sum (x % 16) (16 * (x / 16))) ∙ ap (field_product by) (halves x byte)
+
+-- ---- four times a byte
+abbrev returned_table : List ℕ
+returned_table = 0 ∷ 29 ∷ 58 ∷ 39 ∷ 0 ∷ 0 ∷ 0 ∷ 0 ∷ 0 ∷ 0 ∷ 0 ∷ 0 ∷ 0 ∷ 0 ∷ 0 ∷ 0 ∷ []
+
+in_table : (k : ℕ) → k < 16 → slice_index returned_table k ≡ returned_by_four k
+in_table = same_at (slice_index returned_table) returned_by_four 16 refl
+
+pub returned_twice : (v : List ℕ) → HasLanes 32 v (λ k. slice_index returned_table (k % 16)) → HasLanes 32 v (λ k. returned_by_four (k % 16))
+returned_twice v h = record { long = h.long; each = λ k low. h.each k low ∙ in_table (k % 16) (omega arith) }
+
+pub four_times_byte : (x : ℕ) → IsByte x → bit_xor (x * 2 ^ 2 % 256) (returned_by_four (x / 64)) ≡ field_product 4 x
+unfolding field_product polynomial_product polynomial_sum remainder
+four_times_byte = same_at (λ x. bit_xor (x * 2 ^ 2 % 256) (returned_by_four (x / 64))) (field_product 4) 256 refl

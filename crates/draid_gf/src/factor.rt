@@ -1,7 +1,7 @@
 //! Products of a factor with the bytes of a vector, by two look-ups of 16 each.
 ghost use Rattle.std.specs.Prelude.{◌≡◌, ℕ, ◌*◌, ◌/◌, ◌%◌, ◌<◌, ◌≤◌, map, slice_index};
 ghost use Rattle.draid_gf.specs.Field.{field_product};
-ghost use Rattle.draid_gf.specs.Lanes.{HasLanes};
+ghost use Rattle.draid_gf.specs.Lanes.{HasLanes, returned_by_four};
 
 use crate::element::mul;
 use std::marker::Model;
@@ -65,6 +65,24 @@ impl Factor {
     {
         self.high.swizzle_dyn_within::<16>(lanes >> u8x32::splat(4))
     }
+}
+
+// What comes back of the two bits that leave a byte as it is multiplied by 4: so many times x^8.
+const RETURNED: [u8; 16] = [0, 0x1d, 0x3a, 0x27, 0, 0, 0, 0, 0, 0, 0, 0, 0, 0, 0, 0];
+
+/// Four times each lane.
+#[inline(always)]
+pub fn four_times(lanes: u8x32) -> u8x32
+    ensures { result ≡ map (field_product 4) lanes }
+{
+    (lanes << u8x32::splat(2)) ^ returned(lanes)
+}
+
+#[inline(always)]
+fn returned(lanes: u8x32) -> u8x32
+    ensures { HasLanes 32 result (λ k. returned_by_four (slice_index lanes k / 64)) }
+{
+    twice(&RETURNED).swizzle_dyn_within::<16>(lanes >> u8x32::splat(6))
 }
 
 // The products with 0, `step`, .., 15 times `step`.

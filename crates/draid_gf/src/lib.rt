@@ -12,6 +12,6 @@ mod law;
 mod table;
 
 pub use element::{inv, mul, pow2};
-pub use factor::Factor;
+pub use factor::{Factor, four_times};
 pub use kernel::{mul_into, xor_into};
 pub use law::field_laws;

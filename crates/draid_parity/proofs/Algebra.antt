@@ -1,5 +1,5 @@
 -- The linear equations in two and three missing bytes, and the powers that weigh them.
-use Rattle.std.proofs.Common.{◌≡◌, ℕ, zero, suc, ◌+◌, ◌*◌, ◌^◌, ◌<◌, ◌∙◌, bit_xor, refl, sym, ap, ap₂, subst, arith}
+use Rattle.std.proofs.Common.{◌≡◌, ℕ, zero, suc, ◌+◌, ◌*◌, ◌^◌, ◌<◌, ◌∙◌, bit_xor, refl, sym, ap, ap₂, arith}
 use Rattle.std.specs.Int.Bits.{xor_assoc, xor_self}
 use Rattle.std.proofs.lemmas.Nat.{xor_comm}
 use Rattle.draid_gf.specs.Field.{field_product, field_power, polynomial_product, polynomial_sum, remainder, IsByte}
@@ -145,10 +145,3 @@ two_same v0 v1 t0 t1 y0 y1 t0' t1' y0' y1' first second third fourth solved = re
   sum0 = sym (ap₂ bit_xor third fourth) ∙ solved.sum0 ∙ first;
   sum1 = sym (ap₂ bit_xor (ap (field_product v0) third) (ap (field_product v1) fourth)) ∙ solved.sum1 ∙ second;
 }
-
--- a column that is divided by a power, times that power
-pub divided_by_power : (e power inverse y x : ℕ) → power ≡ field_power 2 e → IsByte inverse → IsByte y → field_product power inverse ≡ 1
-    → x ≡ field_product inverse y → field_product (field_power 2 e) x ≡ y
-divided_by_power e power inverse y x is inverse_byte y_byte one scaled =
-    ap₂ field_product (sym is) scaled
-    ∙ divided power inverse y (subst IsByte (sym is) (field_power-byte 2 e (omega arith))) inverse_byte y_byte one

@@ -1,12 +1,12 @@
 -- Weighted sums by Horner's rule: one more byte at the end.
-use Rattle.std.proofs.Common.{◌≡◌, ℕ, zero, suc, ◌+◌, ◌-◌, ◌^◌, ◌<◌, ◌≤◌, ◌∙◌, List, [], ◌∷◌, ◌++◌, length, map, get_or, take, drop, bit_xor, refl, sym, ap, ap₂, subst, arith, length-append}
+use Rattle.std.proofs.Common.{◌≡◌, ℕ, zero, suc, ◌+◌, ◌-◌, ◌^◌, ◌<◌, ◌≤◌, ◌∙◌, List, [], ◌∷◌, ◌++◌, length, map, get_or, take, drop, bit_xor, sym, ap, ap₂, subst, arith, length-append}
 use Rattle.std.specs.Prelude.{slice_index}
 use Rattle.std.specs.Int.Bits.{xor_assoc, xor_zero_r}
 use Rattle.std.proofs.Math.Seq.{take-suc}
 use Rattle.std.specs.Simd.Lanes.{zip2}
 use Rattle.std.proofs.lemmas.List.{take_all}
 use Rattle.std.proofs.lemmas.Nat.{xor_of_8}
-use Rattle.draid_gf.specs.Field.{field_product, field_power, polynomial_product, polynomial_sum, remainder, IsByte}
+use Rattle.draid_gf.specs.Field.{field_product, field_power, IsByte}
 use Rattle.draid_gf.proofs.Product.{field_product-right, product_byte, product-associative, one-field_product}
 use Rattle.draid_gf.proofs.Linear.{linear_zero}
 use Rattle.draid_gf.proofs.Powers.{field_power-byte}
@@ -50,7 +50,7 @@ next_term c n row c_byte below byte =
     ap (weighted_sum c) (take-suc row n 0 below) ∙ longer c (get_or row n 0) (take n row) c_byte byte
 
 -- ---- the rows from `at` on, as one data column after the other is added
-abbrev front : ℕ → ℕ → ℕ → List (List ℕ) → ℕ → ℕ → ℕ
+abbrev pub front : ℕ → ℕ → ℕ → List (List ℕ) → ℕ → ℕ → ℕ
 front c at p columns m j = weighted_sum c (take m (byte_row (at + j) (drop p columns)))
 
 pub first_lanes : (n at p i c : ℕ) (columns : List (List ℕ)) (v column : List ℕ) → p < length columns → column ≡ column_at columns p → i ≡ p + 1
@@ -109,17 +109,8 @@ weighed0 n v f lanes bytes = record { long = lanes.long; each = λ j low. lanes.
 weighed1 : (n : ℕ) (v w : List ℕ) (f : ℕ → ℕ) → w ≡ map (field_product 2) v → HasLanes n v f → HasLanes n w (λ j. field_product (2 ^ 1) (f j))
 weighed1 n v w f is lanes = subst (λ xs. HasLanes n xs (λ j. field_product 2 (f j))) (sym is) (HasLanes-map n (field_product 2) v f lanes)
 
-four : field_product 2 2 ≡ 4
-unfolding field_product polynomial_product polynomial_sum remainder
-four = refl
-
-weighed2 : (n : ℕ) (u v w : List ℕ) (f : ℕ → ℕ) → v ≡ map (field_product 2) u → w ≡ map (field_product 2) v → HasLanes n u f → HasLanes n w (λ j. field_product (2 ^ 2) (f j))
-weighed2 n u v w f first second lanes =
-    let twice = weighed1 n v w (λ j. field_product 2 (f j)) second (weighed1 n u v f first lanes) in
-    record {
-      long = twice.long;
-      each = λ j low. twice.each j low ∙ sym (product-associative 2 2 (f j) (omega arith) (omega arith)) ∙ ap (λ p. field_product p (f j)) four;
-    }
+weighed2 : (n : ℕ) (v w : List ℕ) (f : ℕ → ℕ) → w ≡ map (field_product 4) v → HasLanes n v f → HasLanes n w (λ j. field_product (2 ^ 2) (f j))
+weighed2 n v w f is lanes = subst (λ xs. HasLanes n xs (λ j. field_product 4 (f j))) (sym is) (HasLanes-map n (field_product 4) v f lanes)
 
 added : (n k m : ℕ) (a row result : List ℕ) (f g : ℕ → ℕ) → m ≡ k → result ≡ zip2 bit_xor a row → HasLanes n a (λ j. field_product (2 ^ m) (f j)) → HasLanes n row g
     → HasLanes n result (λ j. bit_xor (field_product (2 ^ k) (f j)) (g j))
@@ -136,13 +127,23 @@ pub horner1 : (n k : ℕ) (sum twice row result : List ℕ) → k ≡ 1 → twic
     → (f g : ℕ → ℕ) → HasLanes n sum f → ((j : ℕ) → IsByte (f j)) → HasLanes n row g → HasLanes n result (λ j. bit_xor (field_product (2 ^ k) (f j)) (g j))
 horner1 n k sum twice row result same first is f g lanes bytes row_lanes = added n k 1 twice row result f g (sym same) is (weighed1 n sum twice f first lanes) row_lanes
 
-pub horner2 : (n k : ℕ) (sum twice quad row result : List ℕ) → k ≡ 2 → twice ≡ map (field_product 2) sum → quad ≡ map (field_product 2) twice → result ≡ zip2 bit_xor quad row
+pub horner2 : (n k : ℕ) (sum quad row result : List ℕ) → k ≡ 2 → quad ≡ map (field_product 4) sum → result ≡ zip2 bit_xor quad row
     → (f g : ℕ → ℕ) → HasLanes n sum f → ((j : ℕ) → IsByte (f j)) → HasLanes n row g → HasLanes n result (λ j. bit_xor (field_product (2 ^ k) (f j)) (g j))
-horner2 n k sum twice quad row result same first second is f g lanes bytes row_lanes =
-    added n k 2 quad row result f g (sym same) is (weighed2 n sum twice quad f first second lanes) row_lanes
+horner2 n k sum quad row result same first is f g lanes bytes row_lanes = added n k 2 quad row result f g (sym same) is (weighed2 n sum quad f first lanes) row_lanes
 
 pub power_byte : (k : ℕ) → k < 3 → IsByte (2 ^ k)
 power_byte zero kind = omega arith
 power_byte (suc zero) kind = omega arith
 power_byte (suc (suc zero)) kind = omega arith
 power_byte (suc (suc (suc k))) kind = absurd (omega arith)
+
+-- one more data column in a sum
+pub next_sum : (n at p i k : ℕ) (columns : List (List ℕ)) (sum row column result : List ℕ) → k < 3 → p ≤ i → i < length columns → column ≡ column_at columns i
+    → HasLanes n row (λ j. slice_index column (at + j)) → ((j : ℕ) → IsByte (slice_index row j))
+    → ((f g : ℕ → ℕ) → HasLanes n sum f → ((j : ℕ) → IsByte (f j)) → HasLanes n row g → HasLanes n result (λ j. bit_xor (field_product (2 ^ k) (f j)) (g j)))
+    → HasLanes n sum (front (2 ^ k) at p columns (i - p)) → HasLanes n result (front (2 ^ k) at p columns (i + 1 - p))
+next_sum n at p i k columns sum row column result kind above below is lanes bytes horner was =
+    let byte = power_byte k kind in
+    next_lanes n at p i (2 ^ k) columns row column result above below byte is lanes bytes
+    (horner (front (2 ^ k) at p columns (i - p)) (λ j. slice_index column (at + j)) was
+    (λ j. weighted_sum-byte (2 ^ k) (take (i - p) (byte_row (at + j) (drop p columns))) byte) lanes)

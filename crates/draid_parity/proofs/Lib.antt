@@ -10,3 +10,4 @@ pub mod RowLemmas
 pub mod Horner
 pub mod RowsLemmas
 pub mod PairLemmas
+pub mod TripleLemmas

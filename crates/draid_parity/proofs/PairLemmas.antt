@@ -240,10 +240,10 @@ adds_rows at n x old new row rows sums column is lanes bytes long added puts = r
   all = HasLanes-zip2 n bit_xor row rows (λ j. slice_index column (at + j)) (λ j. slice_index rows j) lanes (record { long = long; each = λ j low. refl })
 
 -- ---- the rows are solved
-adds_at : (at n x j : ℕ) (rows : List ℕ) (old new : List (List ℕ)) → AddsRows at n x rows old new → j < n → Adds x (at + j) (slice_index rows j) old new
+pub adds_at : (at n x j : ℕ) (rows : List ℕ) (old new : List (List ℕ)) → AddsRows at n x rows old new → j < n → Adds x (at + j) (slice_index rows j) old new
 adds_at at n x j rows old new adds low = record { count = adds.count; other = adds.other; here = adds.here j low }
 
-below_same : (at n x : ℕ) (rows : List ℕ) (old new : List (List ℕ)) → AddsRows at n x rows old new → (i j : ℕ) → j < at
+pub below_same : (at n x : ℕ) (rows : List ℕ) (old new : List (List ℕ)) → AddsRows at n x rows old new → (i j : ℕ) → j < at
     → slice_index (column_at new i) j ≡ slice_index (column_at old i) j
 below_same at n x rows old new adds i j low = elim (cases_order i x) [
   | inl e ↦ subst (λ m. slice_index (column_at new m) j ≡ slice_index (column_at old m) j) (sym e) (adds.below j low)
@@ -316,3 +316,42 @@ unit_inverse p i byte one inverse = sym (one-field_product i byte) ∙ ap (λ q.
 pub unit_power : (k e : ℕ) → k ≡ 0 → field_power 2 (k * e) ≡ 1
 unfolding field_power
 unit_power k e none = ap (λ m. field_power 2 (m * e)) none ∙ ap (field_power 2) (zero-mul e)
+
+-- ---- one column from one sum
+pub solves_one : (parity at n k x over : ℕ) (part : List ℕ) (old new seen : List (List ℕ)) → seen ≡ old → k < 3 → k < parity → parity ≤ x → x < length old → IsByte over
+    → field_product (field_power 2 (k * (length old - 1 - x))) over ≡ 1
+    → ((j : ℕ) → j < n → IsByte (rest_of parity seen k (at + j)))
+    → HasLanes n part (λ j. field_product over (rest_of parity seen k (at + j)))
+    → AddsRows at n x part old new → SolvesRows parity at n (k ∷ []) (x ∷ []) old new
+solves_one parity at n k x over part old new seen same kind present missing below over_byte inverse bytes_left lanes adds =
+    record {
+      count = adds.count;
+      long = adds.long;
+      stays = λ i away. adds.other i (λ e. away (inl e));
+      below = below_same at n x part old new adds;
+      bytes = λ i j one low. elim one [
+        | inl e ↦ subst (λ m. IsByte (slice_index (column_at new m) (at + j))) (sym e)
+            (subst IsByte (sym (adds.here j low))
+            (xor_of_8 (slice_index (column_at old x) (at + j)) (slice_index part j) (adds.bytes j low)
+            (subst IsByte (sym (lanes.each j low)) (product_byte over (rest_of parity seen k (at + j)) over_byte))))
+        | inr other ↦ absurd other
+      ];
+      solved = λ m j one low. elim one [
+        | inl e ↦ subst (λ i. slice_index (column_at new i) (at + j) ≡ parity_sum i (byte_row (at + j) (drop parity new))) (sym e)
+            (same_from_xor (slice_index (column_at new k) (at + j)) (parity_sum k (byte_row (at + j) (drop parity new))) (nothing j low))
+        | inr other ↦ absurd other
+      ];
+    }
+  where
+    power : ℕ
+    power = field_power 2 (k * (length old - 1 - x))
+
+    nothing : (j : ℕ) → j < n → rest_of parity new k (at + j) ≡ 0
+    nothing j low =
+        let rest = rest_of parity old k (at + j) in
+        let is : rest_of parity seen k (at + j) ≡ rest = ap (λ cs. rest_of parity cs k (at + j)) same in
+        let byte : IsByte rest = subst IsByte is (bytes_left j low) in
+        rest_added parity k x (at + j) (slice_index part j) old new kind present missing below (adds_at at n x j part old new adds low)
+        ∙ xor_none rest (field_product power (slice_index part j))
+        (sym (ap (field_product power) (lanes.each j low ∙ ap (field_product over) is)
+        ∙ divided power over rest (power_byte (k * (length old - 1 - x))) over_byte byte inverse))

@@ -65,12 +65,19 @@ sets_more parity m at n rows old mid new seen same was puts lanes = record {
 }
 
 -- the data columns stay
-drop_same : (p : ℕ) (old new : List (List ℕ)) → length new ≡ length old → ((i : ℕ) → p ≤ i → column_at new i ≡ column_at old i) → drop p new ≡ drop p old
+pub drop_same : (p : ℕ) (old new : List (List ℕ)) → length new ≡ length old → ((i : ℕ) → p ≤ i → column_at new i ≡ column_at old i) → drop p new ≡ drop p old
 drop_same zero old new count same = same_columns new old count (λ i below. same i (omega arith))
 drop_same (suc p) [] [] count same = refl
 drop_same (suc p) [] (y ∷ new) count same = absurd (omega arith)
 drop_same (suc p) (x ∷ old) [] count same = absurd (omega arith)
 drop_same (suc p) (x ∷ old) (y ∷ new) count same = drop_same p old new (omega arith) (λ i above. same (suc i) (omega arith))
+
+-- a parity column stays a sum where another is changed
+pub kept_sum : (parity : ℕ) (old new : List (List ℕ)) (k l : ℕ) → length new ≡ length old → ((i : ℕ) → i ≢ k → column_at new i ≡ column_at old i)
+    → k < parity → l ≢ k → HasSum parity old l → HasSum parity new l
+kept_sum parity old new k l count same below apart sum = λ j.
+    ap (λ c. slice_index c j) (same l apart) ∙ sum j
+    ∙ ap (λ cs. parity_sum l (byte_row j cs)) (sym (drop_same parity old new count (λ i above. same i (λ e. omega arith))))
 
 -- the sums hold in n rows more
 pub sums_more : (parity at n k : ℕ) (old new : List (List ℕ)) → SetsSums parity parity at n old new → k < parity
@@ -98,10 +105,20 @@ sums_whole parity len at k columns below long far sum = λ j. elim (cases_lt j l
   ]
 
 -- ---- solved rows
+pub not_this : (i x : ℕ) → i ≢ x → IsOneOf (x ∷ []) i → ⊥
+not_this i x apart (inl e) = apart e
+not_this i x apart (inr none) = none
+
 pub neither : (i x y : ℕ) → i ≢ x → i ≢ y → IsOneOf (x ∷ y ∷ []) i → ⊥
 neither i x y not_x not_y (inl e) = not_x e
 neither i x y not_x not_y (inr (inl e)) = not_y e
 neither i x y not_x not_y (inr (inr none)) = none
+
+pub none_of : (i x y z : ℕ) → i ≢ x → i ≢ y → i ≢ z → IsOneOf (x ∷ y ∷ z ∷ []) i → ⊥
+none_of i x y z not_x not_y not_z (inl e) = not_x e
+none_of i x y z not_x not_y not_z (inr (inl e)) = not_y e
+none_of i x y z not_x not_y not_z (inr (inr (inl e))) = not_z e
+none_of i x y z not_x not_y not_z (inr (inr (inr none))) = none
 
 same_row : (parity j : ℕ) (old new : List (List ℕ)) → length new ≡ length old → ((i : ℕ) → slice_index (column_at new i) j ≡ slice_index (column_at old i) j)
     → byte_row j (drop parity new) ≡ byte_row j (drop parity old)

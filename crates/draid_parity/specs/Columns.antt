@@ -1,5 +1,5 @@
 -- Stripes as columns of bytes: the parity columns P, Q and R first, then the data columns.
-use Rattle.std.specs.Prelude.{◌≡◌, ◌≢◌, ℕ, Bool, zero, suc, ◌+◌, ◌*◌, ◌<◌, ◌≤◌, List, [], ◌++◌, length, take, drop, replicate, map, slice_index, slice_index_or, slice_set, bit_xor, Contains, count_by, if◌then◌else◌, nat_le, ◌==◌}
+use Rattle.std.specs.Prelude.{◌≡◌, ℕ, Bool, zero, suc, ◌+◌, ◌*◌, ◌<◌, ◌≤◌, List, [], ◌++◌, length, take, drop, replicate, map, slice_index, slice_index_or, slice_set, bit_xor, Contains, count_by, if◌then◌else◌, nat_le, ◌==◌}
 use Rattle.std.specs.List.{list_any}
 use Rattle.draid_gf.specs.Field.{IsByte}
 use Rattle.draid_parity.specs.Codeword.{IsCodeword, parity_sum}
@@ -23,10 +23,6 @@ pub record IsColumn (len : ℕ) (column : List ℕ) : Type 0 where
   pub whole : length column ≡ len
   pub bytes : (j : ℕ) → IsByte (slice_index column j)
 
--- len bytes, or nothing where the column is taken out while it is solved
-abbrev pub IsPart : ℕ → List ℕ → Type 0
-IsPart len column = length column ≢ len → column ≡ []
-
 -- what a column becomes that is written as a slice, which has as many bytes at the end
 abbrev pub written : List ℕ → List ℕ → List ℕ
 written column bytes = take (length column) (bytes ++ drop (length bytes) column)
@@ -34,9 +30,6 @@ written column bytes = take (length column) (bytes ++ drop (length bytes) column
 -- every column has len bytes
 abbrev pub AreColumns : ℕ → List (List ℕ) → Type 0
 AreColumns len columns = (i : ℕ) → i < length columns → length (column_at columns i) ≡ len
-
-abbrev pub AreParts : ℕ → List (List ℕ) → Type 0
-AreParts len columns = (i : ℕ) → i < length columns → IsPart len (column_at columns i)
 
 -- what byte j of parity column k leaves for the data columns that are taken out
 abbrev pub rest_of : ℕ → List (List ℕ) → ℕ → ℕ → ℕ

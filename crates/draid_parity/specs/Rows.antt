@@ -1,8 +1,10 @@
 -- Neighbouring rows of the columns of a stripe.
-use Rattle.std.specs.Prelude.{◌≡◌, ◌≢◌, ◌⊎◌, ℕ, ◌+◌, ◌-◌, ◌*◌, ◌<◌, ◌≤◌, List, [], ◌∷◌, bit_xor, length, drop, slice_index}
+use Rattle.std.specs.Prelude.{◌≡◌, ◌≢◌, ◌⊎◌, ℕ, ◌+◌, ◌-◌, ◌*◌, ◌<◌, ◌≤◌, ◌^◌, List, [], ◌∷◌, bit_xor, length, drop, take, slice_index}
 use Rattle.draid_gf.specs.Field.{field_power, field_product, IsByte}
-use Rattle.draid_parity.specs.Codeword.{parity_sum}
+use Rattle.draid_gf.specs.Lanes.{HasLanes}
+use Rattle.draid_parity.specs.Codeword.{parity_sum, weighted_sum}
 use Rattle.draid_parity.specs.Columns.{byte_row, column_at}
+use Rattle.draid_parity.specs.Equations.{SolvesThree}
 
 -- column k is changed in the n rows from `at` on, where it holds `rows`
 pub record PutsRows (at n k : ℕ) (rows : List ℕ) (old new : List (List ℕ)) : Type 0 where
@@ -64,3 +66,25 @@ pub record SolvesPair (k l e f node between over_first over_second : ℕ) : Type
 -- the part of the second column in the lower sum, where s and t are left of the two sums
 abbrev pub second_part : ℕ → ℕ → ℕ → ℕ → ℕ
 second_part node between s t = field_product between (bit_xor t (field_product node s))
+
+-- P, Q and R of the first so many data columns, in n rows from one on
+pub record AreSums (n at : ℕ) (columns : List (List ℕ)) (many : ℕ) (first second third : List ℕ) : Type 0 where
+  pub p : HasLanes n first (λ j. weighted_sum (2 ^ 0) (take many (byte_row (at + j) (drop 3 columns))))
+  pub q : HasLanes n second (λ j. weighted_sum (2 ^ 1) (take many (byte_row (at + j) (drop 3 columns))))
+  pub r : HasLanes n third (λ j. weighted_sum (2 ^ 2) (take many (byte_row (at + j) (drop 3 columns))))
+
+-- What solves columns with the exponents e, f and g from P, Q and R: the nodes of the first two, and the inverses of what each two nodes differ by.
+pub record SolvesTriple (e f g first second over_second over_third between : ℕ) : Type 0 where
+  pub first_is : first ≡ field_power 2 e
+  pub second_is : second ≡ field_power 2 f
+  pub apart : field_product (bit_xor first second) over_second ≡ 1
+  pub far_apart : field_product (bit_xor first (field_power 2 g)) over_third ≡ 1
+  pub last_apart : field_product (bit_xor second (field_power 2 g)) between ≡ 1
+  pub bytes : IsByte over_second × IsByte over_third × IsByte between
+
+-- n lanes of three columns that solve what P, Q and R leave for them
+pub record SolvesLanes (n e f g : ℕ) (s t u : ℕ → ℕ) (first second third : List ℕ) : Type 0 where
+  pub long : (length first ≡ n) × (length second ≡ n) × (length third ≡ n)
+  pub solved : (j : ℕ) → j < n → SolvesThree (field_power 2 e) (field_power 2 f) (field_power 2 g) (s j) (t j) (u j)
+      (slice_index first j) (slice_index second j) (slice_index third j)
+  pub bytes : (j : ℕ) → j < n → IsByte (slice_index first j) × IsByte (slice_index second j) × IsByte (slice_index third j)

@@ -7,7 +7,6 @@ ghost use Rattle.draid_gf.specs.Field.{field_product, IsByte};
 ghost use Rattle.draid_gf.specs.Lanes.{HasLanes};
 
 use crate::rows::Rows;
-use draid_gf::{mul, mul_into, xor_into};
 use std::alloc::{AllocError, Global};
 use std::marker::Model;
 
@@ -33,15 +32,6 @@ impl Column {
         Ok(Column {
             bytes: vec![in alloc; 0; len]?,
         })
-    }
-
-    /// What stands where a column is taken out.
-    pub fn none(alloc: Global) -> Column
-        ensures { result ≡ [] }
-    {
-        Column {
-            bytes: Vec::new(alloc),
-        }
     }
 
     pub fn as_slice(&self) -> &[u8]
@@ -82,42 +72,6 @@ impl Column {
     {
         put_bytes(&mut self.bytes, at, rows);
     }
-
-    /// Sets each byte to 0.
-    pub fn clear(&mut self)
-        ensures bytes { (j : ℕ) → slice_index self.new j ≡ 0 }
-        ensures len { length self.new ≡ length self.old }
-    {
-        clear_bytes(&mut self.bytes);
-    }
-
-    pub fn copy_from(&mut self, from: &Column)
-        requires { length self.old ≡ length from.now }
-        ensures value { self.new ≡ from.now }
-        ensures bytes { (j : ℕ) → IsByte (slice_index self.new j) }
-    {
-        copy_bytes(&mut self.bytes, from.as_slice());
-    }
-
-    /// Adds `by` times `from`.
-    pub fn add(&mut self, by: u8, from: &Column)
-        requires { length self.old ≡ length from.now }
-        ensures sums { (j : ℕ) → slice_index self.new j
-            ≡ bit_xor (slice_index self.old j) (field_product by (slice_index from.now j)) }
-        ensures len { length self.new ≡ length self.old }
-        ensures bytes { (j : ℕ) → IsByte (slice_index self.new j) }
-    {
-        add_bytes(&mut self.bytes, by, from.as_slice());
-    }
-
-    /// Multiplies each byte by `by`.
-    pub fn scale(&mut self, by: u8)
-        ensures products { (j : ℕ) → slice_index self.new j ≡ field_product by (slice_index self.old j) }
-        ensures len { length self.new ≡ length self.old }
-        ensures bytes { (j : ℕ) → IsByte (slice_index self.new j) }
-    {
-        scale_bytes(&mut self.bytes, by);
-    }
 }
 
 #[inline(always)]
@@ -127,42 +81,4 @@ fn put_bytes<V: Rows>(to: &mut [u8], at: usize, rows: V)
     ensures { to.new ≡ put_chunk at to.old (V.bytes rows) }
 {
     rows.store(to, at);
-}
-
-fn copy_bytes(to: &mut [u8], from: &[u8])
-    requires { length to.old ≡ length from.now }
-    ensures value { to.new ≡ from.now }
-    ensures bytes { (j : ℕ) → IsByte (slice_index to.new j) }
-{
-    to.copy_from_slice(from);
-}
-
-fn clear_bytes(bytes: &mut [u8])
-    ensures { (j : ℕ) → slice_index bytes.new j ≡ 0 }
-{
-    for i in 0..bytes.len() {
-        bytes[i] = 0;
-    }
-}
-
-fn scale_bytes(bytes: &mut [u8], by: u8)
-    ensures products { (j : ℕ) → slice_index bytes.new j ≡ field_product by (slice_index bytes.old j) }
-    ensures bytes { (j : ℕ) → IsByte (slice_index bytes.new j) }
-{
-    for i in 0..bytes.len() {
-        bytes[i] = mul(by, bytes[i]);
-    }
-}
-
-fn add_bytes(to: &mut [u8], by: u8, from: &[u8])
-    requires { length to.old ≡ length from.now }
-    ensures sums { (j : ℕ) → slice_index to.new j
-        ≡ bit_xor (slice_index to.old j) (field_product by (slice_index from.now j)) }
-    ensures bytes { (j : ℕ) → IsByte (slice_index to.new j) }
-{
-    if by == 1 {
-        xor_into(to, from);
-    } else {
-        mul_into(to, by, from);
-    }
 }

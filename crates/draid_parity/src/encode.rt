@@ -1,7 +1,7 @@
 //! Parity columns from data columns, all columns of neighbouring rows at once.
 ghost use Rattle.std.specs.Prelude.{◌≡◌, ℕ, ◌+◌, ◌<◌, ◌≤◌, length, vec_len};
 ghost use Rattle.draid_parity.specs.Columns.{AreColumns, HasSum, column_at};
-ghost use Rattle.draid_parity.specs.Rows.{HasSumBefore, PutsRows, SetsSums};
+ghost use Rattle.draid_parity.specs.Rows.{AddsRows, HasSumBefore, PutsRows, SetsSums};
 
 use crate::column::Column;
 use crate::fused::{one_sum, three_sums, two_sums};
@@ -134,4 +134,16 @@ pub fn put_rows<V: Rows>(columns: &mut Vec<Column>, k: usize, at: usize, rows: V
     ensures { PutsRows at V.COUNT k (V.bytes rows) columns.old.items columns.new.items }
 {
     columns[k].put(at, rows);
+}
+
+/// Adds to column `x` in the rows from `at` on.
+#[inline(always)]
+pub fn add_rows<V: Rows>(columns: &mut Vec<Column>, x: usize, at: usize, rows: V)
+    requires column { x < vec_len columns.old }
+    requires inside { at + V.COUNT ≤ length (column_at columns.old.items x) }
+    requires count { length (V.bytes rows) ≡ V.COUNT }
+    ensures { AddsRows at V.COUNT x (V.bytes rows) columns.old.items columns.new.items }
+{
+    let sums = columns[x].rows::<V>(at).plus(rows);
+    put_rows(columns, x, at, sums);
 }

@@ -4,6 +4,7 @@ ghost use Rattle.draid_gf.specs.Field.{field_product, IsByte};
 ghost use Rattle.draid_gf.specs.Lanes.{HasLanes};
 ghost use Rattle.draid_parity.specs.Codeword.{parity_sum, weighted_sum};
 ghost use Rattle.draid_parity.specs.Columns.{byte_row, column_at};
+ghost use Rattle.draid_parity.specs.Rows.{AreSums};
 
 use crate::column::Column;
 use crate::rows::Rows;
@@ -19,7 +20,7 @@ fn horner<V: Rows>(sum: V, k: u32, row: V) -> V
     match k {
         0 => sum.plus(row),
         1 => sum.twice().plus(row),
-        _ => sum.twice().twice().plus(row),
+        _ => sum.four_times().plus(row),
     }
 }
 
@@ -112,14 +113,64 @@ pub fn three_sums<V: Rows>(columns: &[Column], at: usize) -> (V, V, V)
     ensures third { HasLanes V.COUNT (V.bytes result.2)
         (λ j. parity_sum 2 (byte_row (at + j) (drop 3 columns.now))) }
 {
-    let mut first = columns[3].rows::<V>(at);
-    let mut second = first;
-    let mut third = first;
-    for i in 4..columns.len() {
-        let row = columns[i].rows(at);
-        first = horner(first, 0, row);
-        second = horner(second, 1, row);
-        third = horner(third, 2, row);
+    let (sums, i) = sums_by_fours::<V>(columns, at);
+    match columns.len() - i {
+        0 => sums,
+        1 => one_more(columns, at, i, sums),
+        2 => two_more(columns, at, i, sums),
+        _ => one_more(columns, at, i + 2, two_more(columns, at, i, sums)),
     }
+}
+
+// The same of the first data column and then four a round, and how many columns were read.
+#[inline(always)]
+fn sums_by_fours<V: Rows>(columns: &[Column], at: usize) -> ((V, V, V), usize)
+    requires some { 3 < length columns.now }
+    requires inside { (i : ℕ) → i < length columns.now
+        → at + V.COUNT ≤ length (column_at columns.now i) }
+    ensures sums { AreSums V.COUNT at columns.now (result.1 - 3)
+        (V.bytes result.0.0) (V.bytes result.0.1) (V.bytes result.0.2) }
+    ensures some { 3 < result.1 }
+    ensures inside { result.1 ≤ length columns.now }
+    ensures rest { length columns.now < result.1 + 4 }
+{
+    let row = columns[3].rows::<V>(at);
+    let mut sums = (row, row, row);
+    let mut i = 4;
+    'fours: while columns.len() - i >= 4 {
+        sums = two_more(columns, at, i, sums);
+        sums = two_more(columns, at, i + 2, sums);
+        i += 4;
+    }
+    (sums, i)
+}
+
+// P, Q and R of the data columns before `i`, with columns `i` and `i + 1`.
+#[inline(always)]
+fn two_more<V: Rows>(columns: &[Column], at: usize, i: usize, sums: (V, V, V)) -> (V, V, V)
+    requires data { 3 ≤ i }
+    requires there { i + 1 < length columns.now }
+    requires inside { (i : ℕ) → i < length columns.now
+        → at + V.COUNT ≤ length (column_at columns.now i) }
+    requires sums { AreSums V.COUNT at columns.now (i - 3) (V.bytes sums.0) (V.bytes sums.1) (V.bytes sums.2) }
+    ensures { AreSums V.COUNT at columns.now (i + 2 - 3) (V.bytes result.0) (V.bytes result.1) (V.bytes result.2) }
+{
+    one_more(columns, at, i + 1, one_more(columns, at, i, sums))
+}
+
+// P, Q and R of the data columns before `i`, with column `i`.
+#[inline(always)]
+fn one_more<V: Rows>(columns: &[Column], at: usize, i: usize, sums: (V, V, V)) -> (V, V, V)
+    requires data { 3 ≤ i }
+    requires there { i < length columns.now }
+    requires inside { (i : ℕ) → i < length columns.now
+        → at + V.COUNT ≤ length (column_at columns.now i) }
+    requires sums { AreSums V.COUNT at columns.now (i - 3) (V.bytes sums.0) (V.bytes sums.1) (V.bytes sums.2) }
+    ensures { AreSums V.COUNT at columns.now (i + 1 - 3) (V.bytes result.0) (V.bytes result.1) (V.bytes result.2) }
+{
+    let row = columns[i].rows(at);
+    let first = horner(sums.0, 0, row);
+    let second = horner(sums.1, 1, row);
+    let third = horner(sums.2, 2, row);
     (first, second, third)
 }

@@ -6,10 +6,11 @@ mod column;
 mod encode;
 mod fused;
 mod pair;
-mod restore;
 mod rows;
+mod single;
 mod solve;
 mod stripe;
 mod sums;
+mod triple;
 
 pub use stripe::Stripe;

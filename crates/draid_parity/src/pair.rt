@@ -3,10 +3,10 @@ ghost use Rattle.std.specs.Prelude.{◌≡◌, ◌≢◌, ◌∷◌, [], ℕ, �
 ghost use Rattle.draid_gf.specs.Field.{field_power, field_product, IsByte};
 ghost use Rattle.draid_gf.specs.Lanes.{HasLanes};
 ghost use Rattle.draid_parity.specs.Columns.{AreColumns, HasSum, IsColumn, column_at, rest_of};
-ghost use Rattle.draid_parity.specs.Rows.{AddsRows, IsSolvedBefore, SolvesPair, SolvesRows, second_part};
+ghost use Rattle.draid_parity.specs.Rows.{IsSolvedBefore, SolvesPair, SolvesRows, second_part};
 
 use crate::column::Column;
-use crate::encode::put_rows;
+use crate::encode::add_rows;
 use crate::fused::two_sums;
 use crate::rows::Rows;
 use draid_gf::{Factor, inv, pow2};
@@ -100,18 +100,6 @@ fn rests<V: Rows>(columns: &[Column], parity: usize, at: usize, k: usize, l: usi
     let low = columns[k].rows::<V>(at);
     let high = columns[l].rows::<V>(at);
     (low.plus(first), high.plus(second))
-}
-
-// Adds to column `x` in the rows from `at` on.
-#[inline(always)]
-fn add_rows<V: Rows>(columns: &mut Vec<Column>, x: usize, at: usize, rows: V)
-    requires column { x < vec_len columns.old }
-    requires inside { at + V.COUNT ≤ length (column_at columns.old.items x) }
-    requires count { length (V.bytes rows) ≡ V.COUNT }
-    ensures { AddsRows at V.COUNT x (V.bytes rows) columns.old.items columns.new.items }
-{
-    let sums = columns[x].rows::<V>(at).plus(rows);
-    put_rows(columns, x, at, sums);
 }
 
 // Goes on from row `from` as far as whole vectors go, and says how far that is.

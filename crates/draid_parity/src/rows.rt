@@ -4,7 +4,7 @@ ghost use Rattle.std.specs.Prelude.{◌≡◌, ◌∷◌, ◌++◌, ℕ, ◌+◌
 ghost use Rattle.std.specs.Simd.Lanes.{chunk, put_chunk, zip2};
 ghost use Rattle.draid_gf.specs.Field.{field_product, IsByte};
 
-use draid_gf::{Factor, mul};
+use draid_gf::{Factor, four_times, mul};
 use std::simd::prelude::*;
 
 pub trait Rows: Copy {
@@ -32,6 +32,9 @@ pub trait Rows: Copy {
 
     fn twice(self) -> Self
         ensures { bytes result ≡ map (field_product 2) (bytes self) };
+
+    fn four_times(self) -> Self
+        ensures { bytes result ≡ map (field_product 4) (bytes self) };
 
     fn times(self, factor: &Factor) -> Self
         ensures { bytes result ≡ map (field_product factor.now) (bytes self) };
@@ -62,6 +65,11 @@ impl Rows for u8 {
     #[inline(always)]
     fn twice(self) -> u8 {
         mul(2, self)
+    }
+
+    #[inline(always)]
+    fn four_times(self) -> u8 {
+        mul(4, self)
     }
 
     #[inline(always)]
@@ -100,6 +108,11 @@ impl Rows for u8x32 {
     }
 
     #[inline(always)]
+    fn four_times(self) -> u8x32 {
+        four_times(self)
+    }
+
+    #[inline(always)]
     fn times(self, factor: &Factor) -> u8x32 {
         factor.times(self)
     }
@@ -132,6 +145,11 @@ impl Rows for u8x64 {
     fn twice(self) -> u8x64 {
         let leaves = self.simd_ge(u8x64::splat(0x80));
         (self << u8x64::splat(1)) ^ leaves.select(u8x64::splat(0x1d), u8x64::splat(0))
+    }
+
+    #[inline(always)]
+    fn four_times(self) -> u8x64 {
+        joined(four_times(first_half(self)), four_times(second_half(self)))
     }
 
     #[inline(always)]

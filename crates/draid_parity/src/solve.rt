@@ -6,14 +6,14 @@ ghost use Rattle.draid_parity.specs.Columns.{AreColumns, ChosenSums, HasSum, IsC
 
 use crate::column::Column;
 use crate::pair::restore_two;
-use crate::restore::{restore_one, restore_three};
+use crate::single::restore_one;
 use crate::sums::encode_sum;
-use std::alloc::Global;
+use crate::triple::restore_three;
 
 /// Sets the missing columns from the others.
-pub fn solve_columns(columns: &mut Vec<Column>, alloc: Global, parity: usize, missing: &[u32])
+pub fn solve_columns(columns: &mut Vec<Column>, parity: usize, missing: &[u32])
     requires kind { parity ≤ 3 }
-    requires some { parity ≤ vec_len columns.old }
+    requires some { parity < vec_len columns.old }
     requires few { vec_len columns.old ≤ parity + 255 }
     requires columns { AreColumns (length (column_at columns.old.items 0)) columns.old.items }
     requires enough { length missing.now ≤ parity }
@@ -28,9 +28,9 @@ pub fn solve_columns(columns: &mut Vec<Column>, alloc: Global, parity: usize, mi
     ensures chosen { ChosenSums parity missing.now columns.new.items }
 {
     let (unencoded, lost) = missing.split_at(first_data(missing, parity));
-    solve_data(columns, alloc, parity, missing, lost);
+    solve_data(columns, parity, missing, lost);
     for k in unencoded {
-        encode_sum(columns, alloc, parity, *k as usize);
+        encode_sum(columns, parity, *k as usize);
     }
 }
 
@@ -68,15 +68,9 @@ fn next_present(missing: &[u32], from: u32, parity: u32) -> u32
 
 // Solves the missing data columns, of which there are at most three, from the lowest present parity
 // columns.
-fn solve_data(
-    columns: &mut Vec<Column>,
-    alloc: Global,
-    parity: usize,
-    missing: &[u32],
-    lost: &[u32],
-)
+fn solve_data(columns: &mut Vec<Column>, parity: usize, missing: &[u32], lost: &[u32])
     requires kind { parity ≤ 3 }
-    requires some { parity ≤ vec_len columns.old }
+    requires some { parity < vec_len columns.old }
     requires few { vec_len columns.old ≤ parity + 255 }
     requires columns { AreColumns (length (column_at columns.old.items 0)) columns.old.items }
     requires enough { length missing.now ≤ parity }
@@ -96,7 +90,7 @@ fn solve_data(
         [] => {}
         [x] => {
             let k = next_present(missing, 0, parity as u32);
-            restore_one(columns, alloc, parity, k as usize, *x as usize);
+            restore_one(columns, parity, k as usize, *x as usize);
         }
         [x, y] => {
             let k = next_present(missing, 0, parity as u32);
@@ -110,7 +104,7 @@ fn solve_data(
                 *y as usize,
             );
         }
-        [x, y, z] => restore_three(columns, alloc, *x as usize, *y as usize, *z as usize),
+        [x, y, z] => restore_three(columns, *x as usize, *y as usize, *z as usize),
         _ => unreachable!(),
     }
 }

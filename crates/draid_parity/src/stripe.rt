@@ -19,7 +19,6 @@ pub struct Stripe {
     ndata: u32,
     len: u32,
     columns: Vec<Column>,
-    alloc: Global,
 }
 
 impl Model for Stripe {
@@ -51,7 +50,6 @@ impl Stripe {
             ndata,
             len,
             columns,
-            alloc,
         })
     }
 
@@ -105,6 +103,6 @@ impl Stripe {
         ensures shape { self.new ≡ record self.old { columns = self.new.columns } }
         ensures stripe { IsStripe self.new }
     {
-        solve_columns(&mut self.columns, self.alloc, self.parity as usize, missing);
+        solve_columns(&mut self.columns, self.parity as usize, missing);
     }
 }

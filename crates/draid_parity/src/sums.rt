@@ -1,62 +1,67 @@
-//! The sums P, Q and R of the data columns.
-ghost use Rattle.std.specs.Prelude.{◌≡◌, ℕ, ◌+◌, ◌<◌, ◌≤◌, bit_xor, drop, length, slice_index, slice_set, vec_len};
-ghost use Rattle.draid_gf.specs.Field.{IsByte};
-ghost use Rattle.draid_parity.specs.Codeword.{parity_sum};
-ghost use Rattle.draid_parity.specs.Columns.{AreColumns, AreParts, HasSum, IsColumn, byte_row, column_at, rest_of};
+//! One parity column from the data columns, all columns of neighbouring rows at once.
+ghost use Rattle.std.specs.Prelude.{◌≡◌, ◌≢◌, ◌∷◌, [], ℕ, ◌+◌, ◌<◌, ◌≤◌, length, vec_len};
+ghost use Rattle.draid_parity.specs.Columns.{AreColumns, HasSum, column_at};
+ghost use Rattle.draid_parity.specs.Rows.{IsSolvedBefore, SolvesRows};
 
 use crate::column::Column;
-use draid_gf::pow2;
-use std::alloc::Global;
-use std::mem;
+use crate::encode::put_rows;
+use crate::fused::one_sum;
+use crate::rows::Rows;
+use std::simd::prelude::*;
 
-// Adds sum `k` of the data columns to `sum`. A column that is taken out counts as zero.
-pub fn add_sum(sum: &mut Column, k: u32, summands: &[Column])
-    requires kind { k < 3 }
-    requires few { length summands.now ≤ 255 }
-    requires parts { AreParts (length sum.old) summands.now }
-    requires bytes { (j : ℕ) → IsByte (slice_index sum.old j) }
-
-    ensures sum { (j : ℕ) → slice_index sum.new j
-        ≡ bit_xor (slice_index sum.old j) (parity_sum k (byte_row j summands.now)) }
-    ensures column { IsColumn (length sum.old) sum.new }
-{
-    for i in (0..summands.len()).rev() {
-        if summands[i].len() == sum.len() {
-            sum.add(pow2(k * (summands.len() - 1 - i) as u32), &summands[i]);
-        }
-    }
-}
-
-// Sets parity column `k` to its sum.
-pub fn encode_sum(columns: &mut Vec<Column>, alloc: Global, parity: usize, k: usize)
+// Sets parity column `k` to its sum in the rows from `at` on.
+#[inline(always)]
+fn encode_at<V: Rows>(columns: &mut Vec<Column>, parity: usize, at: usize, k: usize)
     requires kind { parity ≤ 3 }
     requires parity { k < parity }
-    requires some { parity ≤ vec_len columns.old }
-    requires few { vec_len columns.old ≤ parity + 255 }
-    requires columns { AreColumns (length (column_at columns.old.items k)) columns.old.items }
-
-    ensures stays { columns.new.items ≡ slice_set columns.old.items k (column_at columns.new.items k) }
-    ensures column { IsColumn (length (column_at columns.old.items k)) (column_at columns.new.items k) }
-    ensures sum { HasSum parity columns.new.items k }
+    requires some { parity < vec_len columns.old }
+    requires inside { (i : ℕ) → i < vec_len columns.old
+        → at + V.COUNT ≤ length (column_at columns.old.items i) }
+    ensures { SolvesRows parity at V.COUNT (k ∷ []) (k ∷ []) columns.old.items columns.new.items }
 {
-    let mut sum = mem::replace(&mut columns[k], Column::none(alloc));
-    sum.clear();
-    add_sum(&mut sum, k as u32, &columns[parity..]);
-    columns[k] = sum;
+    let sum = one_sum::<V>(columns, parity, at, k as u32);
+    put_rows(columns, k, at, sum);
 }
 
-// Sets `rest` to what parity column `k` leaves for the data columns that are taken out.
-pub fn set_rest(rest: &mut Column, columns: &[Column], parity: usize, k: usize)
-    requires kind { k < 3 }
-    requires some { parity ≤ length columns.now }
-    requires few { length columns.now ≤ parity + 255 }
-    requires parts { AreParts (length rest.old) columns.now }
-    requires whole { length (column_at columns.now k) ≡ length rest.old }
-    requires parity { k < length columns.now }
+// Goes on from row `from` as far as whole vectors go, and says how far that is.
+#[inline(always)]
+fn encode_rows<V: Rows>(columns: &mut Vec<Column>, parity: usize, from: usize, k: usize) -> usize
+    requires step { 1 ≤ V.COUNT }
+    requires kind { parity ≤ 3 }
+    requires parity { k < parity }
+    requires some { parity < vec_len columns.old }
+    requires columns { AreColumns (length (column_at columns.old.items 0)) columns.old.items }
+    requires from { from ≤ length (column_at columns.old.items 0) }
+    requires front { IsSolvedBefore parity from (k ∷ []) (k ∷ []) columns.old.items }
 
-    ensures rest { (j : ℕ) → slice_index rest.new j ≡ rest_of parity columns.now k j }
-    ensures column { IsColumn (length rest.old) rest.new }
+    ensures stays { (i : ℕ) → i ≢ k → column_at columns.new.items i ≡ column_at columns.old.items i }
+    ensures count { vec_len columns.new ≡ vec_len columns.old }
+    ensures columns { AreColumns (length (column_at columns.old.items 0)) columns.new.items }
+    ensures inside { result ≤ length (column_at columns.old.items 0) }
+    ensures far { length (column_at columns.old.items 0) < result + V.COUNT }
+    ensures solved { IsSolvedBefore parity result (k ∷ []) (k ∷ []) columns.new.items }
 {
-    rest.copy_from(&columns[k]);
-    add_sum(rest, k as u32, &columns[parity..]);
+    let len = columns[0].len();
+    let mut at = from;
+    'rows: while len - at >= V::COUNT {
+        encode_at::<V>(columns, parity, at, k);
+        at += V::COUNT;
+    }
+    at
+}
+
+/// Sets parity column `k` to its sum.
+pub fn encode_sum(columns: &mut Vec<Column>, parity: usize, k: usize)
+    requires kind { parity ≤ 3 }
+    requires parity { k < parity }
+    requires some { parity < vec_len columns.old }
+    requires columns { AreColumns (length (column_at columns.old.items 0)) columns.old.items }
+
+    ensures stays { (i : ℕ) → i ≢ k → column_at columns.new.items i ≡ column_at columns.old.items i }
+    ensures count { vec_len columns.new ≡ vec_len columns.old }
+    ensures columns { AreColumns (length (column_at columns.old.items 0)) columns.new.items }
+    ensures sum { HasSum parity columns.new.items k }
+{
+    let at = encode_rows::<u8x64>(columns, parity, 0, k);
+    encode_rows::<u8>(columns, parity, at, k);
 }

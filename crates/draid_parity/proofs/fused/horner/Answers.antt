@@ -17,6 +17,5 @@ pub returns-in_default : goal.returns-in_default
 returns-in_default g c =
     let rows = g.V.Rows in
     let two : c.args.k ≡ 2 = omega arith in
-    horner2 rows.COUNT c.args.k (rows.bytes c.args.sum) (rows.bytes c.twice-in_default.result) (rows.bytes c.twice-in_default-2.result)
-    (rows.bytes c.args.row) (rows.bytes c.plus-in_default.result) two
-    c.twice-in_default.ensures c.twice-in_default-2.ensures c.plus-in_default.ensures
+    horner2 rows.COUNT c.args.k (rows.bytes c.args.sum) (rows.bytes c.four_times.result) (rows.bytes c.args.row) (rows.bytes c.plus-in_default.result) two
+    c.four_times.ensures c.plus-in_default.ensures

@@ -1,7 +1,6 @@
-use Rattle.std.proofs.Common.{◌+◌, ◌-◌, ◌^◌, ◌<◌, ◌≤◌, take, drop, length}
+use Rattle.std.proofs.Common.{◌-◌, ◌^◌, ◌<◌, ◌≤◌, length}
 use Rattle.draid_gf.specs.Lanes.{HasLanes}
-use Rattle.draid_parity.specs.Codeword.{weighted_sum}
-use Rattle.draid_parity.specs.Columns.{byte_row}
+use Rattle.draid_parity.proofs.Horner.{front}
 use Rattle.draid_parity.proofs.fused.paired_sums.Given as goal
 
 abbrev pub invariant-pairs : goal.invariant-pairs
@@ -10,8 +9,8 @@ invariant-pairs g l =
     record {
       some : l.parity < l.i;
       inside : l.i ≤ length l.columns;
-      first : HasLanes rows.COUNT (rows.bytes l.first) (λ j. weighted_sum (2 ^ l.k) (take (l.i - l.parity) (byte_row (l.at + j) (drop l.parity l.columns))));
-      second : HasLanes rows.COUNT (rows.bytes l.second) (λ j. weighted_sum (2 ^ l.l) (take (l.i - l.parity) (byte_row (l.at + j) (drop l.parity l.columns))));
+      first : HasLanes rows.COUNT (rows.bytes l.first) (front (2 ^ l.k) l.at l.parity l.columns (l.i - l.parity));
+      second : HasLanes rows.COUNT (rows.bytes l.second) (front (2 ^ l.l) l.at l.parity l.columns (l.i - l.parity));
     }
 
 abbrev pub decreases-pairs : goal.decreases-pairs

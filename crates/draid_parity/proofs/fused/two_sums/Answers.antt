@@ -1,9 +1,6 @@
-use Rattle.std.proofs.Common.{◌+◌, ◌-◌, ◌^◌, ◌∙◌, [], take, drop, arith}
-use Rattle.std.specs.Prelude.{slice_index}
+use Rattle.std.proofs.Common.{◌+◌, ◌^◌, ◌∙◌, [], arith}
 use Rattle.std.proofs.lemmas.List.{get_or_default}
-use Rattle.draid_parity.specs.Codeword.{weighted_sum}
-use Rattle.draid_parity.specs.Columns.{byte_row}
-use Rattle.draid_parity.proofs.Horner.{next_lanes, whole_lanes, power_byte, weighted_sum-byte}
+use Rattle.draid_parity.proofs.Horner.{next_sum, whole_lanes}
 use Rattle.draid_parity.proofs.fused.two_sums.Goals as goal
 
 pub returns-then-i-columns-clause-first : goal.returns-then-i-columns-clause-first
@@ -11,7 +8,6 @@ returns-then-i-columns-clause-first g c =
     let n = g.V.Rows.COUNT in
     let list = g.V.Rows.bytes in
     let p = c.args.parity in
-    let at = c.args.at in
     let sums = c.paired_sums-first in
     let i = sums.result.2 in
     let columns = c.args.columns.now in
@@ -19,13 +15,11 @@ returns-then-i-columns-clause-first g c =
     let some = sums.ensures.some in
     let past = sums.ensures.past in
     let column = c.index-columns-i.result in
-    let is = c.index-columns-i.is ∙ get_or_default columns i column [] below in
     let row = c.rows-row in
-    let byte = power_byte c.args.k c.requires.kind in
-    whole_lanes n at p (i + 1) (2 ^ c.args.k) columns (list c.horner.result) (omega (arith, past))
-    (next_lanes n at p i (2 ^ c.args.k) columns (list row.result) column (list c.horner.result) (omega (arith, some)) below byte is row.ensures.lanes row.ensures.bytes
-    (c.horner.ensures (λ j. weighted_sum (2 ^ c.args.k) (take (i - p) (byte_row (at + j) (drop p columns)))) (λ j. slice_index column (at + j))
-    sums.ensures.first (λ j. weighted_sum-byte (2 ^ c.args.k) (take (i - p) (byte_row (at + j) (drop p columns))) byte) row.ensures.lanes))
+    let is = c.index-columns-i.is ∙ get_or_default columns i column [] below in
+    whole_lanes n c.args.at p (i + 1) (2 ^ c.args.k) columns (list c.horner.result) (omega (arith, past))
+    (next_sum n c.args.at p i c.args.k columns (list sums.result.0) (list row.result) column (list c.horner.result) c.requires.kind (omega (arith, some)) below is
+    row.ensures.lanes row.ensures.bytes c.horner.ensures sums.ensures.first)
 
 pub returns-else-i-columns-clause-first : goal.returns-else-i-columns-clause-first
 returns-else-i-columns-clause-first g c =
@@ -38,7 +32,6 @@ returns-then-i-columns-clause-second g c =
     let n = g.V.Rows.COUNT in
     let list = g.V.Rows.bytes in
     let p = c.args.parity in
-    let at = c.args.at in
     let sums = c.paired_sums-first in
     let i = sums.result.2 in
     let columns = c.args.columns.now in
@@ -46,13 +39,11 @@ returns-then-i-columns-clause-second g c =
     let some = sums.ensures.some in
     let past = sums.ensures.past in
     let column = c.index-columns-i.result in
-    let is = c.index-columns-i.is ∙ get_or_default columns i column [] below in
     let row = c.rows-row in
-    let byte = power_byte c.args.l c.requires.other in
-    whole_lanes n at p (i + 1) (2 ^ c.args.l) columns (list c.horner-then-i-columns.result) (omega (arith, past))
-    (next_lanes n at p i (2 ^ c.args.l) columns (list row.result) column (list c.horner-then-i-columns.result) (omega (arith, some)) below byte is row.ensures.lanes row.ensures.bytes
-    (c.horner-then-i-columns.ensures (λ j. weighted_sum (2 ^ c.args.l) (take (i - p) (byte_row (at + j) (drop p columns)))) (λ j. slice_index column (at + j))
-    sums.ensures.second (λ j. weighted_sum-byte (2 ^ c.args.l) (take (i - p) (byte_row (at + j) (drop p columns))) byte) row.ensures.lanes))
+    let is = c.index-columns-i.is ∙ get_or_default columns i column [] below in
+    whole_lanes n c.args.at p (i + 1) (2 ^ c.args.l) columns (list c.horner-then-i-columns.result) (omega (arith, past))
+    (next_sum n c.args.at p i c.args.l columns (list sums.result.1) (list row.result) column (list c.horner-then-i-columns.result) c.requires.other (omega (arith, some)) below is
+    row.ensures.lanes row.ensures.bytes c.horner-then-i-columns.ensures sums.ensures.second)
 
 pub returns-else-i-columns-clause-second : goal.returns-else-i-columns-clause-second
 returns-else-i-columns-clause-second g c =

@@ -1,11 +1,11 @@
-use Rattle.std.proofs.Common.{◌≡◌, ◌≢◌, ℕ, ◌+◌, ◌<◌, ◌≤◌, ◌∙◌, ◌⊎◌, inl, inr, List, [], set, length, get_or, ◌++◌, refl, ap, ap₂, sym, subst, arith, length-set, get_or-set_other}
+use Rattle.std.proofs.Common.{◌≡◌, ◌≢◌, ℕ, ◌+◌, ◌<◌, ◌≤◌, ◌∙◌, ◌⊎◌, inl, inr, List, length, get_or, ◌++◌, refl, ap, ap₂, sym, subst, arith}
 use Rattle.std.specs.Prelude.{Contains, slice_index}
 use Rattle.std.proofs.lemmas.List.Elements.{Contains-append_cases}
 use Rattle.std.proofs.lemmas.Bool.{cases_order, cases_lt}
 use Rattle.std.proofs.lemmas.List.{get_or-take, get_or_default, take-append-drop}
 use Rattle.draid_parity.specs.Columns.{HasSum, column_at}
 use Rattle.draid_parity.proofs.Missing.{count_split, contains-take, contains-drop}
-use Rattle.draid_parity.proofs.WeightedSums.{HasSum-set, AreColumns-set}
+use Rattle.draid_parity.proofs.RowsLemmas.{kept_sum}
 use Rattle.draid_parity.proofs.solve.solve_columns.Goals as goal
 
 pub solve_data-requires-clause-all : goal.solve_data-requires-clause-all
@@ -14,9 +14,10 @@ solve_data-requires-clause-all c =
     omega (arith, counted)
 
 -- one more column is encoded
-encoded_more : (parity : ℕ) (columns new : List (List ℕ)) (ks : List ℕ) (n k : ℕ) (column : List ℕ) → k ≡ get_or ks n 0 → new ≡ set columns k column → k < parity
+encoded_more : (parity : ℕ) (columns new : List (List ℕ)) (ks : List ℕ) (n k : ℕ) → k ≡ get_or ks n 0 → length new ≡ length columns
+    → ((i : ℕ) → i ≢ k → column_at new i ≡ column_at columns i) → k < parity
     → HasSum parity new k → ((m : ℕ) → m < n → HasSum parity columns (get_or ks m 0)) → (m : ℕ) → m < n + 1 → HasSum parity new (get_or ks m 0)
-encoded_more parity columns new ks n k column at is below sum before m m_below = cases (cases_lt m n) (cases_order (get_or ks m 0) k)
+encoded_more parity columns new ks n k at count stays below sum before m m_below = cases (cases_lt m n) (cases_order (get_or ks m 0) k)
   where
     same : get_or ks m 0 ≡ k → HasSum parity new (get_or ks m 0)
     same e = subst (HasSum parity new) (sym e) sum
@@ -24,8 +25,8 @@ encoded_more parity columns new ks n k column at is below sum before m m_below =
     cases : (m < n) ⊎ (n ≤ m) → (get_or ks m 0 ≡ k) ⊎ ((get_or ks m 0 < k) ⊎ (k < get_or ks m 0)) → HasSum parity new (get_or ks m 0)
     cases (inr last) order = let e : m ≡ n = omega arith in same (ap (λ i. get_or ks i 0) e ∙ sym at)
     cases (inl early) (inl e) = same e
-    cases (inl early) (inr (inl l)) = HasSum-set parity columns new k (get_or ks m 0) column is below (omega arith) (before m early)
-    cases (inl early) (inr (inr g)) = HasSum-set parity columns new k (get_or ks m 0) column is below (omega arith) (before m early)
+    cases (inl early) (inr (inl l)) = kept_sum parity columns new k (get_or ks m 0) count stays below (λ e. omega arith) (before m early)
+    cases (inl early) (inr (inr g)) = kept_sum parity columns new k (get_or ks m 0) count stays below (λ e. omega arith) (before m early)
 
 pub loop-k-preserved : goal.loop-k-preserved
 loop-k-preserved c =
@@ -42,23 +43,18 @@ loop-k-preserved c =
     ap (λ xs. get_or xs n 0) c.split_at.ensures.front ∙ get_or-take c.first_data.result c.args.missing.now n 0 early in
     let low = c.first_data.ensures.parity n early in
     let below : k < c.args.parity = omega (arith, at, low) in
-    let is = c.encode_sum.ensures.stays in
-    let long = ap length is ∙ length-set old k (column_at new k) in
-    let counted = c.loop-k.invariant.count in
+    let was = c.loop-k.invariant in
+    let counted = was.count in
     let known = c.solve_data.ensures.count in
-    let in_range : k < length old = omega (arith, below, counted, known) in
+    let now = c.encode_sum.ensures in
+    let recounted = now.count in
+    let same : length new ≡ length old = omega (arith, recounted) in
     record {
-      count = long ∙ c.loop-k.invariant.count;
-      columns =
-          AreColumns-set (length (column_at c.args.columns.now.items 0)) old new k (length (column_at old k)) (column_at new k) is in_range
-          (c.loop-k.invariant.columns k in_range) c.loop-k.invariant.columns c.encode_sum.ensures.column.whole;
-      stays = λ i absent.
-          (let apart : i ≢ k = λ e. absent (subst (Contains ks) (sym e) there) in
-          ap (λ cs. column_at cs i) is ∙ get_or-set_other old k i (column_at new k) [] apart ∙ c.loop-k.invariant.stays i absent);
-      kept = λ i absent sum.
-          (let apart : i ≢ k = λ e. absent (subst (Contains ks) (sym e) there) in
-          HasSum-set c.args.parity old new k i (column_at new k) is below apart (c.loop-k.invariant.kept i absent sum));
-      encoded = encoded_more c.args.parity old new ks n k (column_at new k) refl is below c.encode_sum.ensures.sum c.loop-k.invariant.encoded;
+      count = same ∙ was.count;
+      columns = λ i there. now.columns i there ∙ was.columns 0 (omega (arith, counted, known));
+      stays = λ i absent. now.stays i (λ e. absent (subst (Contains ks) (sym e) there)) ∙ was.stays i absent;
+      kept = λ i absent sum. kept_sum c.args.parity old new k i same now.stays below (λ e. absent (subst (Contains ks) (sym e) there)) (was.kept i absent sum);
+      encoded = encoded_more c.args.parity old new ks n k refl same now.stays below now.sum was.encoded;
     }
 
 pub returns-clause-solved : goal.returns-clause-solved
