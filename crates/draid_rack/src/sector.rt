@@ -1,4 +1,4 @@
-ghost use Rattle.std.specs.Prelude.{◌≡◌, IfOk, length};
+ghost use Rattle.std.specs.Prelude.{◌≡◌, ◌≤◌, IfOk, false, length, true, vec_capacity};
 
 use draid_faults::{CrashRule, complement, leave};
 use draid_names::NoMemory;
@@ -8,14 +8,16 @@ use std::mem;
 #[derive(Drop)]
 pub(crate) struct Sector {
     pub bytes: Vec<u8>,
-    /// What it read at the last flush, where it was written since.
+    /// What it read at the last flush, where it was written since. There is room for it from the start, which isn't
+    /// touched before the first write.
     pub flushed: Vec<u8>,
     /// Whether it was written since the last flush.
     pub soft: bool,
     pub harmed: bool,
     /// The rack's clock at the last change.
     pub changed: u64,
-    ghost paired: { length flushed.items ≡ length bytes.items },
+    ghost room: { length bytes.items ≤ vec_capacity flushed },
+    ghost paired: { soft ≡ true → length flushed.items ≡ length bytes.items },
 }
 
 impl Sector {
@@ -26,7 +28,7 @@ impl Sector {
     {
         Ok(Sector {
             bytes: vec![in alloc; 0; bytes as usize]?,
-            flushed: vec![in alloc; 0; bytes as usize]?,
+            flushed: Vec::with_capacity(alloc, bytes as usize)?,
             soft: false,
             harmed: false,
             changed: clock,
@@ -38,7 +40,7 @@ impl Sector {
         ensures { view_of self.new ≡ marked harmed clock (view_of self.old) }
     {
         if !self.soft {
-            self.flushed.copy_from_slice(&self.bytes);
+            keep(&mut self.flushed, &self.bytes);
         }
         self.soft = true;
         self.harmed = harmed;
@@ -83,4 +85,16 @@ impl Sector {
             self.soft = false;
         }
     }
+}
+
+/// Puts a copy of bytes in place of others; there is room for it.
+fn keep(flushed: &mut Vec<u8>, bytes: &[u8])
+    requires { length bytes.now ≤ vec_capacity flushed.old }
+    ensures copy { flushed.new.items ≡ bytes.now }
+    ensures room { vec_capacity flushed.old ≤ vec_capacity flushed.new }
+{
+    flushed.clear();
+    let Ok(()) = flushed.extend_from_slice(bytes) else {
+        unreachable!()
+    };
 }
