@@ -53,6 +53,7 @@ impl Log {
     /// Makes room for so many changes.
     pub fn reserve(&mut self, changes: u32) -> Result<(), AllocError>
         ensures same { Has self.new (has self.old) }
+        ensures apart { AreApart self.new.runs }
         ensures room { OnOk result (changes ≤ self.new.room) }
         ensures kept { self.old.room ≤ self.new.room }
     {
@@ -64,6 +65,7 @@ impl Log {
         requires { group < 2 ^ 48 }
         ensures ok { OnOk result (Has self.new (λ x. has self.old x || x == group)) }
         ensures err { OnErr result (Has self.new (has self.old)) }
+        ensures apart { AreApart self.new.runs }
         ensures room { 0 < self.old.room → IsOk result }
         ensures left { self.old.room ≤ self.new.room + 1 }
     {

@@ -1,5 +1,5 @@
 -- What maps by key and by first stripe have after a change.
-use Rattle.std.proofs.Common.{◌≡◌, ◌==◌, ◌&&◌, ℕ, Bool, true, false, List, [], ◌∷◌, Option, Some, None, cond, if◌then◌else◌, refl, sym, ◌∙◌, ap, ap₂, arith, nat_cmp, Ordering}
+use Rattle.std.proofs.Common.{◌≡◌, ◌==◌, ℕ, true, List, [], ◌∷◌, Option, Some, cond, if◌then◌else◌, refl, sym, ◌∙◌, arith, nat_cmp, Ordering}
 use Rattle.std.specs.Ordering.{ordering_then}
 use Rattle.std.specs.Map.{lookup}
 use Rattle.std.specs.BTreeMap.{is_at}

@@ -1,5 +1,5 @@
 -- What the blocks and tickets of a state owe is the sum over a table's first stripes.
-use Rattle.std.proofs.Common.{◌≡◌, ◌==◌, ◌<◌, ◌≤◌, ◌+◌, ℕ, zero, suc, Bool, true, false, List, [], ◌∷◌, length, Option, Some, None, Contains, cond, if◌then◌else◌, refl, sym, ◌∙◌, ap, subst, arith}
+use Rattle.std.proofs.Common.{◌≡◌, ◌==◌, ◌+◌, ℕ, zero, suc, Bool, true, false, List, [], ◌∷◌, Option, Some, None, Contains, if◌then◌else◌, refl, sym, ◌∙◌, ap, subst, arith}
 use Rattle.std.specs.Ordering.{eq_by_cmp}
 use Rattle.std.specs.Map.{keys_of}
 use Rattle.std.specs.List.{IsDistinct, AllByRecursion}
@@ -13,12 +13,12 @@ use Rattle.draid_machine.specs.State.{Core}
 use Rattle.draid_machine.proofs.Small.{key_refl, some_injective}
 use Rattle.draid_entries.specs.declared.entry.Entry.{Entry}
 use Rattle.draid_entries.specs.declared.entries.Entries.{Entries}
-use Rattle.draid_entries.specs.Entries.{count_of, entry_at, held_in, owed_at, owed_by, sum_below}
+use Rattle.draid_entries.specs.Entries.{entry_at, held_in, owed_at, owed_by, sum_below}
 use Rattle.draid_entries.specs.Maps.{entry_in, first_in, held_at, held_from, key_of}
 use Rattle.draid_entries.specs.Owed.{OwedByBlocks, OwedByKeys, owed_in}
 use Rattle.draid_entries.proofs.Counted.{key_there, led_held}
 use Rattle.draid_entries.proofs.Keys.{key_cmp}
-use Rattle.draid_entries.proofs.Sums.{sum_none, sum_same, sum_set}
+use Rattle.draid_entries.proofs.Sums.{sum_none, sum_set}
 
 -- a member of a list is its head or one of the others
 contains_more : {A : Type 0} (x : A) (xs : List A) (y : A) → Contains xs y → Contains (x ∷ xs) y

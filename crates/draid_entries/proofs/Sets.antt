@@ -7,13 +7,11 @@ use Rattle.draid_machine.proofs.Small.{some_injective}
 use Rattle.draid_names.specs.declared.numbers.TheConstants.{NUMBERS}
 use Rattle.draid_names.specs.declared.pointer.Pointer.{Pointer}
 use Rattle.draid_machine.specs.declared.names.Key.{Key}
-use Rattle.draid_machine.specs.declared.names.Held.{Held}
 use Rattle.draid_machine.specs.declared.names.Stage.{Stage}
 use Rattle.draid_machine.specs.Names.{key_eq}
-use Rattle.draid_machine.specs.After.{set_held}
 use Rattle.draid_entries.specs.declared.entry.Entry.{Entry}
 use Rattle.draid_entries.specs.declared.entries.Entries.{Entries}
-use Rattle.draid_entries.specs.Entries.{SameEntries, SetsEntry, begun, count_of, entry_at, held_in, owed_at, owed_by, sum_below}
+use Rattle.draid_entries.specs.Entries.{SameEntries, SetsEntry, begun, count_of, entry_at, owed_at, owed_by}
 use Rattle.draid_entries.specs.Maps.{Agree, IsFoundAt, entry_in, first_in, held_at, held_from, key_of, staged}
 use Rattle.draid_entries.proofs.Keys.{key_cmp, key_equal, key_itself, key_set, place_set}
 use Rattle.draid_entries.proofs.Sums.{sum_same, sum_set}

@@ -1,4 +1,4 @@
-ghost use Rattle.std.specs.Prelude.{◌≡◌, ◌+◌, ◌<◌, ◌≤◌, ◌↔◌, ◌++◌, ◌∷◌, [], IsTrue, OnErr, OnOk, max};
+ghost use Rattle.std.specs.Prelude.{◌≡◌, ◌+◌, ◌<◌, ◌≤◌, ◌↔◌, ◌++◌, ◌∷◌, [], IfOk, IsTrue, OnErr, OnOk, max};
 ghost use Rattle.draid_entries.specs.History.{AskIs, IsAsked, IsReserved, KeepsOwed, Passes, events_of, left_for_groups, limit_in, owed_of, reserved_of};
 
 use crate::history::{History, ReserveFault};
@@ -22,6 +22,22 @@ impl History {
             reserved: 0,
             limit,
         }
+    }
+
+    /// No event, with so many owed, for which it has the room, and with this limit.
+    pub fn opened(alloc: Global, limit: u64, owed: u64) -> Result<History, NoMemory>
+        ensures events { IfOk result (λ history. events_of history ≡ []) }
+        ensures owed { IfOk result (λ history. (owed_of history ≡ owed) × (reserved_of history ≡ 0)) }
+        ensures limit { IfOk result (λ history. limit_in history ≡ limit) }
+    {
+        let mut events = Vec::new(alloc);
+        events.reserve(owed as usize)?;
+        Ok(History {
+            events,
+            owed,
+            reserved: 0,
+            limit,
+        })
     }
 
     /// The events, in order.

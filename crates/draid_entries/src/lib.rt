@@ -7,9 +7,12 @@ mod entry;
 mod events;
 mod history;
 mod laws;
+mod listed;
+mod live;
 mod table;
 
 pub use entries::Entries;
 pub use entry::{Entry, key_of};
 pub use history::{History, ReserveFault};
 pub use laws::{entries_are_few, entries_owe};
+pub use live::ListFault;

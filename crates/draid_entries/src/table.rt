@@ -1,4 +1,4 @@
-ghost use Rattle.std.specs.Prelude.{◌≡◌, ◌+◌, ◌<◌, ℕ, None, Some, IsSome, OnErr, OnOk};
+ghost use Rattle.std.specs.Prelude.{◌≡◌, ◌+◌, ◌<◌, ◌≤◌, ℕ, None, Some, IfNone, IfSome, IsSome, OnErr, OnOk};
 ghost use Rattle.std.specs.BTreeMap.{Updates};
 ghost use Rattle.std.specs.Ordering.{nat_cmp};
 ghost use Rattle.draid_names.specs.declared.numbers.TheConstants.{NUMBERS};
@@ -38,6 +38,18 @@ impl Entries {
         ensures { result ≡ entry_at self.now first }
     {
         self.firsts.get(&first).copied()
+    }
+
+    /// The first block or open write that begins at a stripe or behind it.
+    pub fn first_from(&self, stripe: u64) -> Option<Entry>
+        ensures there { IfSome result (λ e. entry_at self.now e.pointer.first ≡ Some e) }
+        ensures from { IfSome result (λ e. stripe ≤ e.pointer.first) }
+        ensures low { IfSome result (λ e. e.pointer.first < NUMBERS) }
+        ensures first { IfSome result (λ e. (x : ℕ) → stripe ≤ x → x < e.pointer.first → entry_at self.now x ≡ None) }
+        ensures none { IfNone result ((x : ℕ) → stripe ≤ x → entry_at self.now x ≡ None) }
+    {
+        let (_, entry) = first_from(&self.firsts, stripe)?;
+        Some(entry)
     }
 
     /// A write is begun at the pointer's stripes.
@@ -89,6 +101,19 @@ impl Entries {
         self.firsts.remove(&pointer.first);
         self.keys.remove(&key_of(pointer));
     }
+}
+
+/// The first entry from a stripe on, with the stripe at which it stands.
+fn first_from(firsts: &BTreeMap<u64, Entry>, stripe: u64) -> Option<(u64, Entry)>
+    ensures there { IfSome result (λ e. entry_in firsts.now e.0 ≡ Some e.1) }
+    ensures from { IfSome result (λ e. stripe ≤ e.0) }
+    ensures first { IfSome result (λ e. (x : ℕ) → stripe ≤ x → x < e.0 → entry_in firsts.now x ≡ None) }
+    ensures none { IfNone result ((x : ℕ) → stripe ≤ x → entry_in firsts.now x ≡ None) }
+{
+    firsts
+        .range(stripe..)
+        .next()
+        .map(|(first, entry)| (*first, *entry))
 }
 
 /// Another entry stands at a first stripe that has one.

@@ -47,6 +47,7 @@ impl RangeSet {
     /// Makes room for so many changes.
     pub fn reserve(&mut self, changes: u32) -> Result<(), AllocError>
         ensures same { Has self.new (has self.old) }
+        ensures apart { AreApart self.new.runs }
         ensures room { OnOk result (changes ≤ self.new.room) }
         ensures kept { self.old.room ≤ self.new.room }
     {
@@ -59,6 +60,7 @@ impl RangeSet {
         requires range { last < 2 ^ 48 }
         ensures ok { OnOk result (Has self.new (λ x. has self.old x || is_between first (last + 1) x)) }
         ensures err { OnErr result (Has self.new (has self.old)) }
+        ensures apart { AreApart self.new.runs }
         ensures room { 0 < self.old.room → IsOk result }
         ensures left { self.old.room ≤ self.new.room + 1 }
     {

@@ -1,4 +1,5 @@
 pub mod Lasting
+pub mod Logging
 pub mod Mapped
 pub mod Moves
 pub mod Names

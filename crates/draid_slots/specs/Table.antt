@@ -147,6 +147,9 @@ pub record AreOf (geometry : Geometry) (perms : Perms) (metaslab : ℕ) (arms : 
   pub low : metaslab < geometry.props.metaslabs
   pub slots : AreSlots geometry arms detached
 
+abbrev pub IsTable : SlotTable → Type 0
+IsTable table = AreOf table.geometry table.perms table.metaslab table.arms table.detached
+
 -- ---- how it is kept
 
 abbrev pub arms_in : Slot → List Arm

@@ -13,7 +13,7 @@ ghost use Rattle.draid_chain.specs.Chain.{holder_in};
 ghost use Rattle.draid_chain.specs.Used.{first_in};
 ghost use Rattle.draid_slots.specs.Moves.{ArePlaces, HasMoved, Lies, LiesElsewhere, ArmsWere, has_moved};
 ghost use Rattle.draid_slots.specs.Reading.{IsFirst, IsNone, IsRead, answers, answers_in, holder, is_clean_in, pool_slice, slice_of};
-ghost use Rattle.draid_slots.specs.Table.{AreKept, AreSlots, IsArmOf, IsPaired, IsThere, SlotTable, arm_at, arms_listed, arms_of, has_spare, holds_spare, is_leaving, is_leaving_online, is_logged, log_at, logs_listed, next_rooms, room_at, table_of};
+ghost use Rattle.draid_slots.specs.Table.{AreKept, AreSlots, IsArmOf, IsPaired, IsTable, IsThere, SlotTable, arm_at, arms_listed, arms_of, has_spare, holds_spare, is_leaving, is_leaving_online, is_logged, log_at, logs_listed, next_rooms, room_at, table_of};
 
 use crate::lists::{
     find_arm, last_slot_of, new_slots, reserve_next, reserve_slots, slot_with, slots_of, switch_all,
@@ -120,6 +120,14 @@ impl Slots {
         Ok(())
     }
 
+    /// How many slots there are. What holds of the arms of each is said with it.
+    pub fn children(&self) -> u32
+        ensures count { result ≡ self.now.geometry.spec.children }
+        ensures sound { IsTable self.now }
+    {
+        self.geometry.spec.children
+    }
+
     /// The arms of a slot, in the order of attachment.
     pub fn arms(&self, slot: u32) -> &[Arm]
         requires { slot < self.now.geometry.spec.children }
@@ -210,6 +218,13 @@ impl Slots {
         ensures { result ≡ is_leaving self.now leaf }
     {
         self.detached.iter().any(|gone| matches!(gone.kind, ArmKind::Leaf) && gone.number == leaf)
+    }
+
+    /// The arms that were detached in groups that aren't committed.
+    pub fn detached(&self) -> &[Detached]
+        ensures { result.now ≡ self.now.detached }
+    {
+        self.detached.as_slice()
     }
 
     /// Adds a group to the log of an arm.

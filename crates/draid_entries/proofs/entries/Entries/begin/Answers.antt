@@ -1,9 +1,9 @@
-use Rattle.std.proofs.Common.{Some, None, refl, ap, length, inl, sym, ◌∙◌}
+use Rattle.std.proofs.Common.{Some, None, refl, ap, length, ◌∙◌}
 use Rattle.std.specs.Ordering.{nat_cmp}
 use Rattle.std.specs.Map.{lookup}
 use Rattle.std.specs.BTreeMap.{is_at}
 use Rattle.draid_entries.specs.Entries.{begun}
-use Rattle.draid_entries.specs.Maps.{entry_in, first_in, key_of}
+use Rattle.draid_entries.specs.Maps.{first_in, key_of}
 use Rattle.draid_entries.proofs.Keys.{first_lookup, key_set}
 use Rattle.draid_entries.proofs.Sets.{agrees, agrees_still, comes, key_undone, on_err_of, one_more, one_undone, same_entries, sets, unused_key}
 use Rattle.draid_entries.proofs.entries.Entries.begin.Goals as goal

@@ -1,5 +1,4 @@
-use Rattle.std.proofs.Common.{Some, sym, subst}
-use Rattle.std.specs.Prelude.{IsSome}
+use Rattle.std.proofs.Common.{Some}
 use Rattle.draid_entries.specs.Maps.{staged}
 use Rattle.draid_entries.proofs.Sets.{agrees, sets, turns}
 use Rattle.draid_entries.proofs.entries.Entries.turn.Goals as goal
