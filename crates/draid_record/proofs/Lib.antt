@@ -6,6 +6,7 @@ pub mod Laws
 pub mod Loop
 pub mod Ranged
 pub mod Read
+pub mod Spelled
 pub mod UberWritten
 pub mod Whole
 pub mod WholeWritten

@@ -13,13 +13,13 @@ pub enum RecordFault {
 }
 
 /// A fault of a field: how many bytes are left from the field on, and its kind.
-#[derive(Clone, Copy, Debug, PartialEq, Eq)]
+#[derive(Clone, Copy)]
 pub(crate) struct Fault {
     pub left: usize,
     pub kind: u8,
 }
 
-#[derive(Debug, Drop)]
+#[derive(Drop)]
 pub(crate) enum ReadError {
     NoMemory,
     Field(Fault),

@@ -1,11 +1,12 @@
-ghost use Rattle.std.specs.Prelude.{◌≡◌, ◌++◌, ◌%◌, ℕ, List, Ok, drop, length, slice_index_or};
+ghost use Rattle.std.specs.Prelude.{◌≡◌, ◌<◌, ◌≤◌, ◌++◌, ◌%◌, ℕ, List, Ok, drop, length, slice_index_or};
 ghost use Rattle.byteorder.specs.Endian.{big_number};
+ghost use Rattle.draid_names.specs.declared.numbers.TheConstants.{NUMBERS};
 ghost use Rattle.draid_record.specs.declared.limits.Limits.{Limits};
 ghost use Rattle.draid_record.specs.declared.uber.UberBody.{UberBody};
 ghost use Rattle.draid_record.specs.Grammar.{Spells};
 ghost use Rattle.draid_record.specs.Reading.{read};
 ghost use Rattle.draid_record.specs.Ranges.{IsRanged};
-ghost use Rattle.draid_record.specs.Record.{RecordTold, record_of};
+ghost use Rattle.draid_record.specs.Record.{AreLimits, RecordTold, Spelled, record_of};
 ghost use Rattle.draid_record.specs.Uber.{IsUber, told, uber};
 ghost use Rattle.draid_record.specs.Written.{IsRecord, IsWhole};
 
@@ -32,4 +33,11 @@ pub fn uberblocks_keep_their_ranges()
     ensures slot { (slot : ℕ) (body : UberBody) (bytes : List ℕ) → Spells (uber slot) bytes body → body.group % 2 ≡ slot }
     ensures front { (slot : ℕ) (bytes : List ℕ) (body : UberBody) → told (length bytes) (read (uber slot) bytes) ≡ Ok body
         → (slice_index_or bytes 0 0 ≡ 90) × (big_number 8 (drop 7 bytes) ≡ body.group) }
+{}
+
+/// Law: what is spelled as a record is in the ranges of its fields, and its front has ten bytes.
+pub fn what_is_spelled_is_in_range()
+    ensures ranges { (limits : Limits) (bytes : List ℕ) (value : RecordTold) → AreLimits limits → limits.group < NUMBERS
+        → Spelled limits bytes value → IsRanged limits value }
+    ensures front { (limits : Limits) (bytes : List ℕ) (value : RecordTold) → Spelled limits bytes value → 10 ≤ length bytes }
 {}

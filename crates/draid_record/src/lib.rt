@@ -15,8 +15,11 @@ mod uber;
 mod writing;
 
 pub use fault::RecordFault;
-pub use law::{uberblocks_keep_their_ranges, values_in_range_are_spelled, what_is_written_is_read};
+pub use law::{
+    uberblocks_keep_their_ranges, values_in_range_are_spelled, what_is_spelled_is_in_range,
+    what_is_written_is_read,
+};
 pub use limits::Limits;
-pub use record::{Record, read_record};
+pub use record::{Record, length_of, read_record};
 pub use uber::{UberBody, read_uber, write_uber};
 pub use writing::write_record;

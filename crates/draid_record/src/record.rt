@@ -1,4 +1,5 @@
-ghost use Rattle.std.specs.Prelude.{◌≡◌, ◌+◌, ◌≤◌, Ok, IfOk, IfSome, length};
+ghost use Rattle.std.specs.Prelude.{◌≡◌, ◌+◌, ◌≤◌, Ok, IfOk, IfSome, drop, length};
+ghost use Rattle.byteorder.specs.Endian.{big_number};
 ghost use Rattle.std.specs.Option.{option_map};
 ghost use Rattle.draid_spec.specs.Geometry.{IsGeometry};
 ghost use Rattle.draid_record.specs.Reading.{Gives, Tells, read};
@@ -11,6 +12,7 @@ use crate::fault::{Fault, ReadError, RecordFault};
 use crate::field::{check, exactly, number};
 use crate::limits::Limits;
 use crate::pass::pass;
+use byteorder::{BigEndian, ByteOrder};
 use draid_dtl::Log;
 use draid_names::{Arm, LAST_NUMBER, Pointer};
 use draid_pass::Pass;
@@ -58,6 +60,14 @@ pub fn read_record(
 {
     let limits = limits(geometry, metaslab, group, next_leaf);
     told(alloc, bytes, &limits)
+}
+
+/// The length that a record says at its front.
+pub fn length_of(bytes: &[u8]) -> u64
+    requires { 10 ≤ length bytes.now }
+    ensures { result ≡ big_number 4 (drop 6 bytes.now) }
+{
+    BigEndian::read_uint(&bytes[6..], 4)
 }
 
 /// The metaslab, the group and the number of slots.

@@ -9,8 +9,10 @@ use Rattle.draid_machine.specs.declared.names.ArmName.{ArmName}
 use Rattle.draid_machine.specs.declared.names.Held.{Held}
 use Rattle.draid_machine.specs.State as state
 use Rattle.draid_machine.proofs.Small.{absurd_test, key_true, name_true}
+use Rattle.draid_entries.specs.Listed.{SaysBlocks, has_key, held_of}
+use Rattle.draid_entries.specs.Maps.{key_of}
 use Rattle.draid_record.specs.Record.{ArmTold}
-use Rattle.draid_stable.specs.Images.{SaysArms, SaysBlocks, all_arms, arm_by, arm_of, has_key, has_name, held_by, held_of, key_of, name_of}
+use Rattle.draid_stable.specs.Images.{SaysArms, all_arms, arm_by, arm_of, has_name, held_by, name_of}
 
 module _ {A V : Type 0} (p : A → Bool) (value : A → V) (v : Option V) where
   found : (xs : List A) → All (λ x. p x ≡ true → v ≡ Some (value x)) xs → (IsSome v → list_any p xs ≡ true) → option_map value (find p xs) ≡ v

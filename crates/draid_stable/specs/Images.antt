@@ -3,40 +3,27 @@ use Rattle.std.specs.Prelude.{◌≡◌, ◌<◌, ℕ, Bool, true, false, List, 
 use Rattle.std.specs.List.{flat_map, list_any}
 use Rattle.std.specs.Option.{option_map}
 use Rattle.draid_names.specs.declared.arm.ArmAt.{ArmAt}
-use Rattle.draid_names.specs.declared.arm.ArmKind.{ArmKind}
 use Rattle.draid_names.specs.declared.arm.ArmKind.TheVariants as kind
 use Rattle.draid_names.specs.declared.pointer.Pointer.{Pointer}
 use Rattle.draid_ranges.specs.Runs.{has_in}
 use Rattle.draid_machine.specs.declared.names.Key.{Key}
 use Rattle.draid_machine.specs.declared.names.ArmName.{ArmName}
 use Rattle.draid_machine.specs.declared.names.ArmName.TheVariants as name
-use Rattle.draid_machine.specs.declared.names.Stage.TheVariants.{Live}
 use Rattle.draid_machine.specs.declared.names.Held.{Held}
-use Rattle.draid_machine.specs.Names.{key_eq, name_eq}
+use Rattle.draid_machine.specs.Names.{name_eq}
 use Rattle.draid_machine.specs.State as state
 use Rattle.draid_machine.specs.State.{Image}
+use Rattle.draid_entries.specs.Listed.{has_key, held_of}
 use Rattle.draid_record.specs.Record.{ArmTold, PassTold, RecordTold}
+use Rattle.draid_stable.specs.Slots as slots
 
 -- ---- blocks: each is live
-abbrev pub key_of : Pointer → Key
-key_of b = record { object = b.object; seq = b.seq }
-
-abbrev pub held_of : Pointer → Held
-held_of b = record { first = b.first; stripes = b.stripes; len = b.len; birth = b.birth; digest = b.digest; stage = Live }
-
-abbrev pub has_key : Key → Pointer → Bool
-has_key key b = key_eq (key_of b) key
-
 abbrev pub held_by : List Pointer → Key → Option Held
 held_by blocks key = option_map held_of (find (has_key key) blocks)
 
 -- ---- arms: none is detached
-abbrev pub name_by : ArmKind → ℕ → ArmName
-name_by kind.Leaf number = name.Leaf number
-name_by kind.Spare number = name.Spare number
-
 abbrev pub name_of : ArmTold → ArmName
-name_of told = name_by told.0.kind told.0.number
+name_of told = slots.name_of told.0
 
 abbrev pub arm_of : ArmTold → state.Arm
 arm_of told = record { offline = told.0.offline; fresh = told.0.fresh; log = has_in told.1; gone = None }
@@ -91,11 +78,6 @@ abbrev pub LeavesBelow : ℕ → Image → Type 0
 LeavesBelow next image = (leaf : ℕ) → IsSome (image.core.arm (name.Leaf leaf)) → leaf < next
 
 -- ---- where a list says just what a table has
-
--- each block of the list is that of the table, and the table has no other
-pub record SaysBlocks (blocks : List Pointer) (table : Key → Option Held) : Type 0 where
-  pub each : All (λ b. table (key_of b) ≡ Some (held_of b)) blocks
-  pub all : (key : Key) → IsSome (table key) → list_any (has_key key) blocks ≡ true
 
 -- each arm of the slots is that of the table, and the table has no other
 pub record SaysArms (slots : List (List ArmTold)) (table : ArmName → Option state.Arm) : Type 0 where
