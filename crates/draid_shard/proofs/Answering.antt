@@ -33,7 +33,7 @@ use Rattle.draid_slots.specs.Table as table
 use Rattle.draid_slots.specs.Table.{SlotTable, arm_at, arms_of, is_leaf_kind, is_spare_kind}
 use Rattle.draid_shard.specs.Part.{IsPart, IsRun, Part, layout_in}
 use Rattle.draid_shard.specs.Rows.{AreApart, IsRowsOf, answers_on, arm_no, leaf_on, name_on}
-use Rattle.draid_shard.specs.Slots.{HasSlots, arm_in, name_of, named}
+use Rattle.draid_stable.specs.Slots.{HasSlots, arm_in, name_of, named}
 use Rattle.draid_shard.specs.declared.places.ColumnRows.{ColumnRows}
 use Rattle.draid_shard.proofs.Holders.{holder_there}
 use Rattle.draid_shard.proofs.Homes.{has_column, lays, same_group, slice_follows}
@@ -67,7 +67,7 @@ name_listed [] k n is = absurd (cc)
 name_listed (a ∷ xs) zero n is = true_left (name_eq (name_of a) n) (has_name (map name_of xs) n) (subst (λ m. name_eq m n ≡ true) (sym (some_same (Some (name_of a)) (name_of a) n refl is)) (name_refl n))
 name_listed (a ∷ xs) (suc k) n is = true_right (name_eq (name_of a) n) (has_name (map name_of xs) n) (name_listed xs k n is)
 
-once_apart : (xs : List Arm) (j k : ℕ) (n : ArmName) → IsOnce (map name_of xs) → option_map name_of (slice_get xs j) ≡ Some n → option_map name_of (slice_get xs k) ≡ Some n → j ≡ k
+pub once_apart : (xs : List Arm) (j k : ℕ) (n : ArmName) → IsOnce (map name_of xs) → option_map name_of (slice_get xs j) ≡ Some n → option_map name_of (slice_get xs k) ≡ Some n → j ≡ k
 once_apart [] j k n once a b = absurd (cc)
 once_apart (x ∷ xs) zero zero n once a b = refl
 once_apart (x ∷ xs) zero (suc k) n once a b =

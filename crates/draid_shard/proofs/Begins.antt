@@ -1,5 +1,5 @@
 -- The beginning of a write: legal where a run was given, and refused for what a state says.
-use Rattle.std.proofs.Common.{◌≡◌, ◌+◌, ◌*◌, ◌<◌, ◌≤◌, ◌∙◌, ℕ, Bool, false, Option, Some, None, arith, refl, ap, inl, inr, max, subst}
+use Rattle.std.proofs.Common.{◌≡◌, ◌+◌, ◌*◌, ◌<◌, ◌≤◌, ◌^◌, ◌∙◌, ℕ, Bool, false, Option, Some, None, arith, refl, ap, inl, inr, max, subst}
 use Rattle.std.proofs.Math.Nat.{mul-le-mul}
 use Rattle.std.proofs.lemmas.Bool.{cases_lt}
 use Rattle.std.proofs.lemmas.Bool.Decides.{nat_tests}
@@ -30,12 +30,15 @@ use Rattle.draid_shard.proofs.FreeRuns.{enabled_by, longest_of, run_fits, spot_f
 use Rattle.draid_shard.proofs.Tables.{WasFree, spot_free}
 
 -- a metaslab has few stripes
-pub few_stripes : (geometry : Geometry) → IsGeometry geometry → metaslab_stripes geometry ≤ NUMBERS
-few_stripes geometry is =
+pub low_stripes : (geometry : Geometry) → IsGeometry geometry → metaslab_stripes geometry ≤ 2 ^ 28
+low_stripes geometry is =
     let groups : geometry.ngroups ≤ 64 = (let a = is.slice.most_groups in let d = is.disks in let c = is.spec.most_children in omega (arith, a, d, c)) in
     let two : geometry.props.slices * geometry.ngroups ≤ 1024 * 64 = mul-le-mul is.props.most_slices groups in
     let three : geometry.props.slices * geometry.ngroups * geometry.props.height ≤ 1024 * 64 * 4096 = mul-le-mul two is.props.most_height in
     omega (arith, three)
+
+pub few_stripes : (geometry : Geometry) → IsGeometry geometry → metaslab_stripes geometry ≤ NUMBERS
+few_stripes geometry is = let low = low_stripes geometry is in omega (arith, low)
 
 pub some_height : (geometry : Geometry) → IsGeometry geometry → 0 < geometry.props.height
 some_height geometry is = let least : 8 ≤ geometry.props.height = is.props.least_height in omega (arith, least)

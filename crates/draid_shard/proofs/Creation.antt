@@ -24,7 +24,7 @@ use Rattle.draid_entries.specs.Entries.{count_of, entry_at, owed_at, owed_by}
 use Rattle.draid_entries.proofs.Sums.{sum_none}
 use Rattle.draid_names.specs.declared.numbers.TheConstants.{NUMBERS}
 use Rattle.draid_shard.specs.Fits.{AreHere, HasLeaves, IsLeaf, LogsHaveRoom, Tables, TicketsAreNew, lacking}
-use Rattle.draid_shard.specs.Slots.{HasArm, HasSlots, WasArm, arm_in, name_of}
+use Rattle.draid_stable.specs.Slots.{HasArm, HasSlots, WasArm, arm_in, name_of}
 
 -- ---- slots
 
@@ -53,11 +53,11 @@ lacking_most log from (suc n) = by (log (from + n)) (lacking_most log from n)
     by true few = omega (arith, few)
     by false few = omega (arith, few)
 
-pub rooms_enough : (slots : SlotTable) (from arms : ℕ) → HasRoom slots 3 arms → LogsHaveRoom slots from
-rooms_enough slots from arms room at there =
-    let few = lacking_most (is_logged slots at) from 3 in
+pub rooms_enough : (slots : SlotTable) (from groups changes arms : ℕ) → groups ≤ changes → HasRoom slots changes arms → LogsHaveRoom slots from groups
+rooms_enough slots from groups changes arms enough room at there =
+    let few = lacking_most (is_logged slots at) from groups in
     let more = room.logs at there in
-    omega (arith, few, more)
+    omega (arith, few, more, enough)
 
 -- the one arm of a slot, and where a slot isn't there
 pub record IsOwn (children : ℕ) (at : ArmAt) (arm : Arm) : Type 0 where
@@ -156,6 +156,11 @@ no_tickets entries from none first e put missed there stage = absurd (none_some 
 
 pub none_here : (entries : Entries) (number : ℕ) → ((first : ℕ) → entry_at entries first ≡ None) → AreHere entries number
 none_here entries number none = record { each = λ first e there. absurd (none_some (entry_at entries first) e (none first) there) }
+
+-- no other version is asked for
+pub own_version : (version : ℕ) → (version ≡ 1) ⊎ (version ≡ 2) → (version ≤ version) × (version ≤ 2)
+own_version version (inl one) = (omega arith, omega (arith, one))
+own_version version (inr two) = (omega arith, omega (arith, two))
 
 pub owes_none : (columns : ℕ) (entries : Entries) → ((first : ℕ) → entry_at entries first ≡ None) → owed_by columns entries ≡ 0
 unfolding owed_by

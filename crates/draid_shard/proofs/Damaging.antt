@@ -1,7 +1,8 @@
 -- A sector of a leaf is damaged.
 use Rattle.std.proofs.Common.{◌≡◌, ◌==◌, ◌<◌, ◌&&◌, ℕ, zero, suc, true, false, List, [], ◌∷◌, Option, Some, None, arith, refl, sym, subst, inl, inr}
-use Rattle.std.specs.Prelude.{Contains, MatchOption, Result, Ok, Err, OnErr, OnOk, is_err, option_map}
+use Rattle.std.specs.Prelude.{Contains, IfNone, MatchOption, Result, Ok, Err, OnErr, OnOk, is_err, is_some, option_map}
 use Rattle.std.specs.List.{list_any}
+use Rattle.draid_names.specs.declared.arm.ArmAt.{ArmAt}
 use Rattle.draid_names.specs.declared.arm.ArmKind.{ArmKind}
 use Rattle.draid_names.specs.declared.arm.ArmKind.TheVariants as kind
 use Rattle.draid_names.specs.declared.fault.Failed.{Failed}
@@ -14,10 +15,10 @@ use Rattle.draid_machine.proofs.Small.{absurd_test, both_true, either_true, is_e
 use Rattle.draid_segments.specs.Acts.{Damages}
 use Rattle.draid_entries.specs.declared.history.History.{History}
 use Rattle.draid_slots.specs.declared.slot.Detached.{Detached}
-use Rattle.draid_slots.specs.Table.{SlotTable, is_leaf_kind}
+use Rattle.draid_slots.specs.Table.{IsArmOf, SlotTable, arm_at, is_leaf_kind, is_leaving}
 use Rattle.draid_shard.specs.Calls.{OnBothTold}
 use Rattle.draid_shard.specs.Fits.{IsLeaf}
-use Rattle.draid_shard.specs.Slots.{HasSlots, arm_in, named}
+use Rattle.draid_stable.specs.Slots.{HasSlots, arm_in, named}
 use Rattle.draid_shard.specs.States.{IsIn, layout_by}
 use Rattle.draid_shard.specs.declared.shard.Shard.{Shard}
 
@@ -40,6 +41,12 @@ leaving_there (x ∷ list) leaf is = elim (either_true (is_leaf_kind x.kind && (
   | inr behind ↦ (let z = leaving_there list leaf behind in
       record { gone = z.gone; among = (let a = z.among in (suc a.0, (let less = a.1 in omega (arith, less)), a.2)); kind_is = z.kind_is; number_is = z.number_is })
 ]
+
+-- a leaf that is no arm is leaving
+pub leaves_on : (slots : SlotTable) (leaf : ℕ) (o : Option ArmAt) → is_some o ≡ false → IfNone o ((at : ArmAt) → IsArmOf kind.Leaf leaf (arm_at slots at) → ⊥) → IsLeaf slots leaf → is_leaving slots leaf ≡ true
+leaves_on slots leaf (Some at) some none is = absurd (cc)
+leaves_on slots leaf None some none (inl it) = absurd (none it.0 (it.1, it.2, it.3, it.4))
+leaves_on slots leaf None some none (inr gone) = gone
 
 -- the state has it
 pub leaf_found : (slots : SlotTable) (q : machine.Core) (leaf : ℕ) → HasSlots slots q → IsLeaf slots leaf → (a : machine.Arm) × (q.arm (Leaf leaf) ≡ Some a)

@@ -33,7 +33,7 @@ use Rattle.draid_shard.specs.Fits.{HasLeaves, IsPlaced, Valid}
 use Rattle.draid_shard.specs.Part.{IsPart, IsRun, Part, layout_in}
 use Rattle.draid_shard.specs.Reads.{Columns, IsReadAt, IsSilentAt, ReadsColumns, StandsAt}
 use Rattle.draid_shard.specs.Rows.{rows_on}
-use Rattle.draid_shard.specs.Slots.{HasSlots}
+use Rattle.draid_stable.specs.Slots.{HasSlots}
 use Rattle.draid_shard.specs.States.{IsIn, Leads, layout_by, part_of, stored_in}
 use Rattle.draid_shard.specs.declared.places.ColumnRows.{ColumnRows}
 use Rattle.draid_shard.specs.declared.shard.Shard.{Shard}
@@ -141,16 +141,19 @@ valid_on : {R A : Type 0} (rack : Ghosts R) (old : Shard R A) (r : R) (history :
 valid_on rack old r history shape owed reserved v = record {
   part = v.part;
   version = v.version;
+  asked = v.asked;
   tables = v.tables;
   disabled = v.disabled;
   few = v.few;
   here = v.here;
   slots = v.slots;
+  pass = v.pass;
   logs = v.logs;
   leaves = subst (λ shape. HasLeaves shape old.geometry old.slots) (sym shape) v.leaves;
   groups = v.groups;
   low = v.low;
   tickets = v.tickets;
+  settled = v.settled;
   owed = (let was = v.owed in omega (arith, was, owed, reserved));
 }
 

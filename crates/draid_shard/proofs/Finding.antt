@@ -28,7 +28,7 @@ use Rattle.draid_slots.specs.Table.{SlotTable, arm_at, arms_of, is_logged}
 use Rattle.draid_shard.specs.Part.{IsPart, IsRun, Part, layout_in}
 use Rattle.draid_shard.specs.Reads.{IsReadOn, IsSilent}
 use Rattle.draid_shard.specs.Rows.{IsRowsOf, arm_no}
-use Rattle.draid_shard.specs.Slots.{HasSlots, name_of}
+use Rattle.draid_stable.specs.Slots.{HasSlots, name_of}
 use Rattle.draid_shard.specs.declared.places.ColumnRows.{ColumnRows}
 use Rattle.draid_shard.proofs.Answering.{answers_is, leaf_at_is, listed, order_is}
 use Rattle.draid_shard.proofs.Homes.{has_column, lays}
@@ -57,7 +57,7 @@ module _ (part : Part) (is : IsPart part) (slots : SlotTable) (of : IsOf slots p
     answers : (k : ℕ) (a : Arm) → slice_get (arms_of slots rows.slot) k ≡ Some a → arms.answers (layout_in part) w.core (name_of a) pointer.first ≡ answers_in slots rows.slot rows.slice k
     answers k a at = answers_is part is slots of w reached has pointer run c column rows rows_are k a at
 
-    clean : (k : ℕ) (a : Arm) → slice_get (arms_of slots rows.slot) k ≡ Some a
+    pub clean : (k : ℕ) (a : Arm) → slice_get (arms_of slots rows.slot) k ≡ Some a
         → (arms.answers (layout_in part) w.core (name_of a) pointer.first && is_clean w.core pointer.birth (name_of a)) ≡ is_clean_in slots rows.slot rows.slice rows.birth k
     clean k a at =
         ap₂ (λ x o. x && not (logged o pointer.birth)) (answers k a at) (has.arms (arm_no rows k) a at)

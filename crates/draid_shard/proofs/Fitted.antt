@@ -8,7 +8,7 @@ use Rattle.draid_rack.specs.Rack.{Shape}
 use Rattle.draid_slots.specs.Changes.{IsOf}
 use Rattle.draid_slots.specs.Reading.{slice_of}
 use Rattle.draid_slots.specs.Table.{SlotTable}
-use Rattle.draid_shard.specs.Fits.{AreGroups, HasLeaves, oldest_open}
+use Rattle.draid_shard.specs.Fits.{AreGroups, HasLeaves, birth_groups, oldest_open}
 use Rattle.draid_shard.specs.Part.{IsPart, IsRun, Part}
 use Rattle.draid_shard.specs.Rows.{FitsRows, IsRowsOf}
 use Rattle.draid_shard.specs.declared.places.ColumnRows.{ColumnRows}
@@ -34,7 +34,7 @@ fits_rows part is slots of shape pointer run c column rows rows_are leaves = rec
   inside = let all = rows_inside part is pointer.first pointer.stripes c run column in let first = rows_are.first_is in let count = rows_are.count_is in omega (arith, all, first, count)
 
 -- a birth in an open group, or the next
-pub born_from : (open_group committed birth : ℕ) (closing : Option ℕ) (sealed : Bool) → AreGroups open_group closing committed sealed → birth ≤ open_group + 1 → birth ≤ oldest_open open_group closing + 2
+pub born_from : (open_group committed birth : ℕ) (closing : Option ℕ) (sealed : Bool) → AreGroups open_group closing committed sealed → birth ≤ open_group + 1 → birth < oldest_open open_group closing + birth_groups closing
 born_from open_group committed birth None sealed groups born = omega (arith, born)
 born_from open_group committed birth (Some t) sealed groups born = let e = groups.0 in omega (arith, born, e)
 

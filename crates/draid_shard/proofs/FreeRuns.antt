@@ -27,7 +27,8 @@ use Rattle.draid_shard.specs.declared.fault.Shut.{Shut}
 use Rattle.draid_shard.specs.declared.fault.Shut.TheVariants.{Disabled, Full, Worn}
 use Rattle.draid_shard.specs.Calls.{IsLongest, ShutBy, TakesBlocks}
 use Rattle.draid_shard.specs.Fits.{Tables, is_rebuild}
-use Rattle.draid_shard.specs.States.{IsIn, pass_in}
+use Rattle.draid_shard.specs.States.{IsIn}
+use Rattle.draid_stable.specs.Slots.{pass_in}
 use Rattle.draid_shard.proofs.Held.{held_entry, key_leads}
 use Rattle.draid_shard.proofs.Tables.{WasFree, first_is, spot_free}
 

@@ -1,5 +1,10 @@
 -- A put keeps a shard valid.
-use Rattle.std.proofs.Common.{◌≡◌, ◌+◌, ◌-◌, ◌<◌, ◌≤◌, ℕ, Some, arith, refl, sym, ap, subst}
+use Rattle.std.proofs.Common.{◌≡◌, ◌+◌, ◌-◌, ◌<◌, ◌≤◌, ℕ, List, [], Option, Some, None, IfSome, arith, refl, sym, ap, subst, length}
+use Rattle.std.specs.Prelude.{slice_index_or}
+use Rattle.std.proofs.lemmas.List.Elements.{All-weaker}
+use Rattle.draid_names.specs.declared.arm.Arm.{Arm}
+use Rattle.draid_names.specs.declared.arm.ArmAt.{ArmAt}
+use Rattle.draid_pass.specs.declared.pass.Pass.{Pass}
 use Rattle.draid_names.specs.Numbers.{most_held}
 use Rattle.draid_names.specs.declared.pointer.Pointer.{Pointer}
 use Rattle.draid_rack.specs.declared.Rack.{Ghosts}
@@ -9,14 +14,28 @@ use Rattle.draid_entries.specs.declared.history.History.{History}
 use Rattle.draid_entries.specs.Entries.{SetsEntry, count_of, entry_at, owed_at, owed_by}
 use Rattle.draid_entries.specs.History.{owed_of, reserved_of}
 use Rattle.draid_entries.specs.Maps.{staged}
-use Rattle.draid_slots.specs.Table.{SlotTable}
-use Rattle.draid_shard.specs.Fits.{Valid, oldest_open}
+use Rattle.draid_slots.specs.Table.{SlotTable, arms_of}
+use Rattle.draid_stable.specs.Sealing.{HoldsPass}
+use Rattle.draid_shard.specs.Fits.{Valid, birth_groups, oldest_open}
 use Rattle.draid_shard.specs.Rows.{LogsBirth}
 use Rattle.draid_shard.specs.declared.shard.Shard.{Shard}
 use Rattle.draid_shard.proofs.Fitted.{born_from}
 use Rattle.draid_shard.proofs.Held.{here_turned, tickets_staged}
 use Rattle.draid_shard.proofs.Staging.{leaves_left, logs_left, same_of}
 use Rattle.draid_shard.proofs.Tables.{turned_tables}
+
+-- a pass is as it was where the slots have the same arms
+pub pass_held : (slots new : SlotTable) (last : ℕ) (pass : Option Pass) → new.arms ≡ slots.arms → IfSome pass (HoldsPass slots last) → IfSome pass (HoldsPass new last)
+pass_held slots new last None same held = tt
+pass_held slots new last (Some p) same held = record {
+  current = record {
+    number = held.current.number;
+    targets = All-weaker (λ (place : ArmAt). place.arm < length (arms_of slots place.slot)) (λ (place : ArmAt). place.arm < length (arms_of new place.slot))
+        (λ place less. subst (λ (all : List (List Arm)). place.arm < length (slice_index_or all place.slot [])) (sym same) less) p.targets.items held.current.targets;
+  };
+  ascending = held.ascending;
+  some_max = held.some_max;
+}
 
 module _ {R A : Type 0} (ghosts : Ghosts R) (old : Shard R A) (valid : Valid ghosts old) (pointer : Pointer) (c m next missed : ℕ) (is_open : entry_at old.entries pointer.first ≡ Some (staged (Writing c m) pointer))
     (left : c < old.geometry.g) (up : next ≡ c + 1) (entries : Entries) (sets : SetsEntry old.entries entries pointer (Some (staged (Writing next missed) pointer))) where
@@ -33,7 +52,7 @@ module _ {R A : Type 0} (ghosts : Ghosts R) (old : Shard R A) (valid : Valid gho
   pub low : oldest_open old.open_group old.closing ≤ pointer.birth
   low = valid.tickets pointer.first (staged (Writing c m) pointer) c m is_open refl
 
-  pub high : pointer.birth ≤ oldest_open old.open_group old.closing + 2
+  pub high : pointer.birth < oldest_open old.open_group old.closing + birth_groups old.closing
   high = born_from old.open_group old.committed pointer.birth old.closing old.sealed valid.groups (valid.tables.placed pointer.first (staged (Writing c m) pointer) is_open).is_block.born
 
   pub put_valid : (rack : R) (slots : SlotTable) (history : History) (birth : ℕ) → birth ≡ pointer.birth → LogsBirth birth old.slots slots → ghosts.shape rack ≡ ghosts.shape old.rack
@@ -44,15 +63,19 @@ module _ {R A : Type 0} (ghosts : Ghosts R) (old : Shard R A) (valid : Valid gho
       record {
         part = valid.part;
         version = valid.version;
+        asked = valid.asked;
         tables = turned_tables old.geometry old.open_group old.space old.entries entries pointer (Writing c m) (Writing next missed) valid.tables is_open sets count;
         disabled = valid.disabled;
         few = subst (λ n. n ≤ most_held old.version) (sym count) valid.few;
         here = here_turned old.entries entries pointer (Writing c m) (Writing next missed) old.number is_open sets valid.here;
         slots = same_of old.slots slots old.geometry old.perms old.number pointer.birth at_birth valid.slots;
-        logs = logs_left old.slots slots (oldest_open old.open_group old.closing) pointer.birth low high at_birth valid.logs;
+        pass = pass_held old.slots slots old.last_pass old.pass at_birth.arms valid.pass;
+        logs = logs_left old.slots slots (oldest_open old.open_group old.closing) (birth_groups old.closing) pointer.birth low high at_birth valid.logs;
         leaves = leaves_left (ghosts.shape old.rack) (ghosts.shape rack) old.geometry old.slots slots pointer.birth shape at_birth valid.leaves;
         groups = valid.groups;
         low = valid.low;
         tickets = tickets_staged old.entries entries pointer (Writing next missed) (oldest_open old.open_group old.closing) low valid.tickets sets;
+        settled = λ sealed. tickets_staged old.entries entries pointer (Writing next missed) old.open_group
+            (valid.settled sealed pointer.first (staged (Writing c m) pointer) c m is_open refl) (valid.settled sealed) sets;
         owed = (let was = valid.owed in let less = one_less in omega (arith, was, less, owed, reserved));
       }

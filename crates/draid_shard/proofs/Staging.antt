@@ -1,8 +1,9 @@
 -- Logs get the birth of a ticket: the shard's parts fit together as before.
-use Rattle.std.proofs.Common.{◌≡◌, ◌==◌, ◌+◌, ◌*◌, ◌<◌, ◌≤◌, ◌&&◌, not, ◌∙◌, ℕ, Bool, true, false, [], arith, refl, sym, ap, subst, inl, inr, length, slice_get, if◌then◌else◌}
+use Rattle.std.proofs.Common.{◌≡◌, ◌==◌, ◌+◌, ◌*◌, ◌<◌, ◌≤◌, ◌&&◌, not, ◌∙◌, ℕ, zero, suc, Bool, true, false, [], arith, refl, sym, ap, subst, inl, inr, length, slice_get, if◌then◌else◌}
 use Rattle.std.specs.Prelude.{slice_index_or}
 use Rattle.std.proofs.lemmas.Bool.{cases_eq}
 use Rattle.std.proofs.lemmas.Bool.Decides.{nat_tests}
+use Rattle.draid_names.specs.declared.arm.ArmAt.{ArmAt}
 use Rattle.draid_names.specs.declared.pointer.Pointer.{Pointer}
 use Rattle.draid_spec.specs.declared.layout.Geometry.{Geometry}
 use Rattle.draid_block.specs.Blocks.{column_len, cut_of}
@@ -13,7 +14,7 @@ use Rattle.std.specs.List.{list_any}
 use Rattle.draid_perm.specs.declared.perms.Perms.{Perms}
 use Rattle.draid_slots.specs.declared.slot.Detached.{Detached}
 use Rattle.draid_slots.specs.Changes.{IsOf}
-use Rattle.draid_slots.specs.Table.{SlotTable, is_leaf_kind, is_leaving, is_logged, room_at}
+use Rattle.draid_slots.specs.Table.{SlotTable, is_leaf_kind, is_logged, room_at}
 use Rattle.draid_shard.specs.Fits.{HasLeaves, IsLeaf, LogsHaveRoom, lacking}
 use Rattle.draid_shard.specs.Rows.{HasRoomFor, LogsBirth}
 
@@ -27,20 +28,14 @@ one_less false false kept = omega arith
 abbrev lack : Bool → ℕ
 lack b = if b then 0 else 1
 
-sums : (a b c d e f room left used : ℕ) → a + b + c ≤ room → room ≤ left + used → d + used ≤ a → e ≤ b → f ≤ c → d + e + f ≤ left
-sums a b c d e f room left used x y z u v = omega (arith, x, y, z, u, v)
+add_used : (a b c d used : ℕ) → a ≤ b → c + used ≤ d → a + c + used ≤ b + d
+add_used a b c d used x y = omega (arith, x, y)
 
-sums_2 : (a b c d e f room left used : ℕ) → a + b + c ≤ room → room ≤ left + used → d ≤ a → e + used ≤ b → f ≤ c → d + e + f ≤ left
-sums_2 a b c d e f room left used x y z u v = omega (arith, x, y, z, u, v)
+add_other : (a b c d used : ℕ) → a + used ≤ b → c ≤ d → a + c + used ≤ b + d
+add_other a b c d used x y = omega (arith, x, y)
 
-sums_3 : (a b c d e f room left used : ℕ) → a + b + c ≤ room → room ≤ left + used → d ≤ a → e ≤ b → f + used ≤ c → d + e + f ≤ left
-sums_3 a b c d e f room left used x y z u v = omega (arith, x, y, z, u, v)
-
-three : (log : ℕ → Bool) (from : ℕ) → lacking log from 3 ≡ lack (log from) + lack (log (from + 1)) + lack (log (from + 2))
-three log from = let z : from + 0 ≡ from = omega arith in ap (λ n. 0 + lack (log n) + lack (log (from + 1)) + lack (log (from + 2))) z ∙ first (lack (log from)) (lack (log (from + 1))) (lack (log (from + 2)))
-  where
-    first : (a b c : ℕ) → 0 + a + b + c ≡ a + b + c
-    first a b c = omega arith
+add_less : (a b c d : ℕ) → a ≤ b → c ≤ d → a + c ≤ b + d
+add_less a b c d x y = omega (arith, x, y)
 
 module _ (old new : ℕ → Bool) (birth : ℕ) (others : (group : ℕ) → (group == birth) ≡ false → new group ≡ old group) (kept : old birth ≡ true → new birth ≡ true) where
   here : (x : ℕ) → birth ≡ x → lack (new x) + (if new birth && not (old birth) then 1 else 0) ≤ lack (old x)
@@ -49,55 +44,81 @@ module _ (old new : ℕ → Bool) (birth : ℕ) (others : (group : ℕ) → (gro
   there : (x : ℕ) → (birth ≡ x → ⊥) → lack (new x) ≤ lack (old x)
   there x other = let e : (x == birth) ≡ false = grind (arith, nat_tests, other) in subst (λ b. lack b ≤ lack (old x)) (sym (others x e)) (omega arith)
 
-  pub lacking_less : (from room left : ℕ) → from ≤ birth → birth ≤ from + 2 → lacking old from 3 ≤ room → room ≤ left + (if new birth && not (old birth) then 1 else 0) → lacking new from 3 ≤ left
-  lacking_less from room left low high has used =
-      subst (λ n. n ≤ left) (sym (three new from)) (elim (cases_eq birth from) [
-        | inl one ↦ sums (lack (old from)) (lack (old (from + 1))) (lack (old (from + 2))) (lack (new from)) (lack (new (from + 1))) (lack (new (from + 2))) room left _ sum used
-            (here from one) (there (from + 1) (λ e. absurd (omega (arith, e, one)))) (there (from + 2) (λ e. absurd (omega (arith, e, one))))
-        | inr above ↦ elim (cases_eq birth (from + 1)) [
-          | inl two ↦ sums_2 (lack (old from)) (lack (old (from + 1))) (lack (old (from + 2))) (lack (new from)) (lack (new (from + 1))) (lack (new (from + 2))) room left _ sum used
-              (there from above) (here (from + 1) two) (there (from + 2) (λ e. absurd (omega (arith, e, two))))
-          | inr last ↦ sums_3 (lack (old from)) (lack (old (from + 1))) (lack (old (from + 2))) (lack (new from)) (lack (new (from + 1))) (lack (new (from + 2))) room left _ sum used
-              (there from above) (there (from + 1) last) (here (from + 2) (omega (arith, low, high, above, last)))
-        ]
-      ])
-    where
-      sum : lack (old from) + lack (old (from + 1)) + lack (old (from + 2)) ≤ room
-      sum = subst (λ n. n ≤ room) (three old from) has
+  -- groups that the birth isn't among
+  outside : (from n : ℕ) → from + n ≤ birth → lacking new from n ≤ lacking old from n
+  outside from zero out = omega arith
+  outside from (suc n) out =
+      add_less (lacking new from n) (lacking old from n) (lack (new (from + n))) (lack (old (from + n)))
+      (outside from n (omega (arith, out))) (there (from + n) (λ e. absurd (omega (arith, out, e))))
 
-pub lacking_some : (log : ℕ → Bool) (from birth room : ℕ) → from ≤ birth → birth ≤ from + 2 → log birth ≡ false → lacking log from 3 ≤ room → 0 < room
-lacking_some log from birth room low high out has = elim (cases_eq birth from) [
-  | inl one ↦ (let x = at from one in omega (arith, x, sum))
-  | inr above ↦ elim (cases_eq birth (from + 1)) [
-    | inl two ↦ (let x = at (from + 1) two in omega (arith, x, sum))
-    | inr last ↦ (let x = at (from + 2) (omega (arith, low, high, above, last)) in omega (arith, x, sum))
+  -- groups that it is among
+  inside : (from n : ℕ) → from ≤ birth → birth < from + n → lacking new from n + (if new birth && not (old birth) then 1 else 0) ≤ lacking old from n
+  inside from zero low high = absurd (omega (arith, low, high))
+  inside from (suc n) low high = elim (cases_eq birth (from + n)) [
+    | inl last ↦ add_used (lacking new from n) (lacking old from n) (lack (new (from + n))) (lack (old (from + n))) (if new birth && not (old birth) then 1 else 0)
+        (outside from n (omega (arith, last))) (here (from + n) last)
+    | inr before ↦ add_other (lacking new from n) (lacking old from n) (lack (new (from + n))) (lack (old (from + n))) (if new birth && not (old birth) then 1 else 0)
+        (inside from n low (omega (arith, high, before))) (there (from + n) before)
   ]
-] where
-  sum : lack (log from) + lack (log (from + 1)) + lack (log (from + 2)) ≤ room
-  sum = subst (λ n. n ≤ room) (three log from) has
 
-  at : (x : ℕ) → birth ≡ x → lack (log x) ≡ 1
-  at x same = ap lack (subst (λ y. log y ≡ false) same out)
+  pub lacking_less : (from groups room left : ℕ) → from ≤ birth → birth < from + groups → lacking old from groups ≤ room
+      → room ≤ left + (if new birth && not (old birth) then 1 else 0) → lacking new from groups ≤ left
+  lacking_less from groups room left low high has used = let less = inside from groups low high in omega (arith, less, has, used)
+
+-- a group that the log lacks counts
+lacking_one : (log : ℕ → Bool) (from groups birth : ℕ) → from ≤ birth → birth < from + groups → log birth ≡ false → 0 < lacking log from groups
+lacking_one log from zero birth low high out = absurd (omega (arith, low, high))
+lacking_one log from (suc n) birth low high out = elim (cases_eq birth (from + n)) [
+  | inl last ↦ (let one : lack (log (from + n)) ≡ 1 = ap lack (subst (λ x. log x ≡ false) last out) in omega (arith, one))
+  | inr before ↦ (let some = lacking_one log from n birth low (omega (arith, high, before)) out in omega (arith, some))
+]
 
 -- the birth of a ticket finds room, and leaves room
-pub room_for : (slots : SlotTable) (from birth : ℕ) → from ≤ birth → birth ≤ from + 2 → LogsHaveRoom slots from → HasRoomFor slots birth
-room_for slots from birth low high logs = λ at there out. lacking_some (is_logged slots at) from birth (room_at slots at) low high out (logs at there)
+pub room_for : (slots : SlotTable) (from groups birth : ℕ) → from ≤ birth → birth < from + groups → LogsHaveRoom slots from groups → HasRoomFor slots birth
+room_for slots from groups birth low high logs = λ at there out.
+    let some = lacking_one (is_logged slots at) from groups birth low high out in
+    let few = logs at there in
+    omega (arith, some, few)
 
-pub logs_left : (old new : SlotTable) (from birth : ℕ) → from ≤ birth → birth ≤ from + 2 → LogsBirth birth old new → LogsHaveRoom old from → LogsHaveRoom new from
-logs_left old new from birth low high l logs = λ at there.
-    lacking_less (is_logged old at) (is_logged new at) birth (l.others at) (l.kept at) from (room_at old at) (room_at new at) low high
+pub logs_left : (old new : SlotTable) (from groups birth : ℕ) → from ≤ birth → birth < from + groups → LogsBirth birth old new → LogsHaveRoom old from groups → LogsHaveRoom new from groups
+logs_left old new from groups birth low high l logs = λ at there.
+    lacking_less (is_logged old at) (is_logged new at) birth (l.others at) (l.kept at) from groups (room_at old at) (room_at new at) low high
     (logs at (subst (λ arms. at.arm < length (slice_index_or arms at.slot [])) l.arms there)) (l.room at)
 
+-- from the next group on a log lacks one group less at most
+later_less : (log : ℕ → Bool) (from n : ℕ) → lacking log (from + 1) n ≤ lacking log from (suc n)
+later_less log from zero = omega arith
+later_less log from (suc n) =
+    let next : from + 1 + n ≡ from + suc n = omega arith in
+    add_less (lacking log (from + 1) n) (lacking log from (suc n)) (lack (log (from + 1 + n))) (lack (log (from + suc n)))
+    (later_less log from n) (subst (λ x. lack (log x) ≤ lack (log (from + suc n))) (sym next) (omega arith))
+
+pub logs_later : (slots : SlotTable) (from next groups : ℕ) → next ≡ from + 1 → LogsHaveRoom slots from (suc groups) → LogsHaveRoom slots next groups
+logs_later slots from next groups up logs = subst (λ x. LogsHaveRoom slots x groups) (sym up) (λ at there.
+    let less = later_less (is_logged slots at) from groups in
+    let few = logs at there in
+    omega (arith, less, few))
+
+-- slots with the same logs and no less room
+pub logs_kept : (old new : SlotTable) (from groups : ℕ) → new.arms ≡ old.arms → ((at : ArmAt) (group : ℕ) → is_logged new at group ≡ is_logged old at group)
+    → ((at : ArmAt) → room_at old at ≤ room_at new at) → LogsHaveRoom old from groups → LogsHaveRoom new from groups
+logs_kept old new from groups arms same more logs at there =
+    let few = logs at (subst (λ arms. at.arm < length (slice_index_or arms at.slot [])) arms there) in
+    let is : lacking (is_logged new at) from groups ≡ lacking (is_logged old at) from groups = ap (λ (log : ℕ → Bool). lacking log from groups) (λ i group. same at group i) in
+    let room = more at in
+    omega (arith, few, is, room)
+
 -- ---- devices
+
+-- slots with the same arms and detachments have the same leaves
+pub leaf_was : (old new : SlotTable) (leaf : ℕ) → new.arms ≡ old.arms → new.detached ≡ old.detached → IsLeaf new leaf → IsLeaf old leaf
+leaf_was old new leaf arms detached (inl it) = inl (it.0, it.1, ap (λ arms. slice_get (slice_index_or arms it.0.slot []) it.0.arm) (sym arms) ∙ it.2, it.3, it.4)
+leaf_was old new leaf arms detached (inr gone) =
+    inr (subst (λ list. list_any (λ (gone : Detached). is_leaf_kind gone.kind && (gone.number == leaf)) list ≡ true) detached gone)
+
 pub leaves_left : (shape now : Shape) (geometry : Geometry) (old new : SlotTable) (birth : ℕ) → now ≡ shape → LogsBirth birth old new → HasLeaves shape geometry old → HasLeaves now geometry new
-leaves_left shape now geometry old new birth same l has = subst (λ s. HasLeaves s geometry new) (sym same) (record { bytes = has.bytes; leaves = λ leaf is. has.leaves leaf (was leaf is) })
-  where
-    was : (leaf : ℕ) → IsLeaf new leaf → IsLeaf old leaf
-    was leaf (inl it) = inl (it.0, it.1, ap (λ arms. slice_get (slice_index_or arms it.0.slot []) it.0.arm) (sym l.arms) ∙ it.2, it.3, it.4)
-    was leaf (inr gone) = inr (leaving gone)
-      where
-        leaving : is_leaving new leaf ≡ true → is_leaving old leaf ≡ true
-        leaving e = subst (λ list. list_any (λ (gone : Detached). is_leaf_kind gone.kind && (gone.number == leaf)) list ≡ true) l.detached e
+leaves_left shape now geometry old new birth same l has =
+    subst (λ s. HasLeaves s geometry new) (sym same) (record { bytes = has.bytes; leaves = λ leaf is. has.leaves leaf (leaf_was old new leaf l.arms l.detached is) })
 
 pub same_of : (old new : SlotTable) (geometry : Geometry) (perms : Perms) (number birth : ℕ) → LogsBirth birth old new → IsOf old geometry perms number → IsOf new geometry perms number
 same_of old new geometry perms number birth l of = record {

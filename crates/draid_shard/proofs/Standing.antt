@@ -21,7 +21,7 @@ run_push l w mid new [] e run step = (new, subst (λ x. Step l x e new) run step
 run_push l w mid new (x ∷ xs) e run step = (run.0, run.1, run_push l run.0 mid new xs e run.2 step)
 
 -- a state behind one that was reached is reached
-reached_more : (l : Layout) (w new : State) (e : Event) → IsReached l w → Step l w e new → IsReached l new
+pub reached_more : (l : Layout) (w new : State) (e : Event) → IsReached l w → Step l w e new → IsReached l new
 reached_more l w new e reached step = record {
   version = reached.version;
   one = reached.one;

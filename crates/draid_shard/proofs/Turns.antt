@@ -3,6 +3,7 @@ use Rattle.std.proofs.Common.{◌≡◌, ◌+◌, ◌<◌, ◌≤◌, ◌∙◌,
 use Rattle.std.proofs.lemmas.Bool.Decides.{nat_tests}
 use Rattle.draid_names.specs.Numbers.{most_held}
 use Rattle.draid_names.specs.declared.pointer.Pointer.{Pointer}
+use Rattle.draid_spec.specs.Geometry.{metaslab_stripes}
 use Rattle.draid_metaslab.specs.Spaces.{Stripes}
 use Rattle.draid_machine.specs.declared.event.Event.TheVariants.{Abort, Finish, Free}
 use Rattle.draid_machine.specs.declared.names.Stage.TheVariants.{Writing, Live, Freed}
@@ -21,7 +22,7 @@ use Rattle.draid_shard.specs.Calls.{IsLive, IsOpen}
 use Rattle.draid_shard.specs.Fits.{AreHere, Tables, TicketsAreNew, Valid, oldest_open}
 use Rattle.draid_shard.specs.Holding.{AreFitting}
 use Rattle.draid_shard.specs.States.{IsIn, Leads, layout_by}
-use Rattle.draid_shard.proofs.Begins.{few_stripes}
+use Rattle.draid_shard.proofs.Begins.{few_stripes, oldest_low}
 use Rattle.draid_shard.proofs.Held.{key_leads, set_same, tables_in, with_tables}
 
 -- ---- what a shard is with other tables
@@ -31,24 +32,40 @@ abbrev pub OwesSo : {R A : Type 0} → Shard R A → Entries → History → Typ
 OwesSo old entries history =
     owed_of history + owed_by old.geometry.g old.entries + reserved_of old.history ≡ owed_of old.history + owed_by old.geometry.g entries + reserved_of history
 
+-- tickets that weren't born before a group aren't so afterwards
+abbrev pub KeepsTickets : ℕ → Entries → Entries → Type 0
+KeepsTickets open_group old new = (from : ℕ) → from ≤ open_group → TicketsAreNew old from → TicketsAreNew new from
+
 pub valid_with : {R A : Type 0} (rack : Ghosts R) (old : Shard R A) (space : Stripes) (entries : Entries) (history : History) → Valid rack old
     → Tables old.geometry old.open_group space entries → space.disabled ≡ old.space.disabled → count_of entries ≤ most_held old.version
-    → AreHere entries old.number → TicketsAreNew entries (oldest_open old.open_group old.closing) → OwesSo old entries history → Valid rack (with_tables old space entries history)
+    → AreHere entries old.number → KeepsTickets old.open_group old.entries entries → OwesSo old entries history → Valid rack (with_tables old space entries history)
 valid_with rack old space entries history v tables disabled few here tickets owed = record {
   part = v.part;
   version = v.version;
+  asked = v.asked;
   tables = tables;
   disabled = disabled ∙ v.disabled;
   few = few;
   here = here;
   slots = v.slots;
+  pass = v.pass;
   logs = v.logs;
   leaves = v.leaves;
   groups = v.groups;
   low = v.low;
-  tickets = tickets;
+  tickets = tickets (oldest_open old.open_group old.closing) (oldest_low old.open_group old.closing old.committed old.sealed v.groups) v.tickets;
+  settled = λ sealed. tickets old.open_group (omega arith) (v.settled sealed);
   owed = let all = v.owed in omega (arith, all, owed);
 }
+
+-- what begins at a stripe begins inside
+pub inside_stripes : {R A : Type 0} (rack : Ghosts R) (shard : Shard R A) → Valid rack shard → (e : Entry) → entry_at shard.entries e.pointer.first ≡ Some e
+    → e.pointer.first < metaslab_stripes shard.geometry
+inside_stripes rack shard v e there =
+    let run = (v.tables.placed e.pointer.first e there).run in
+    let some = run.some in
+    let inside = run.inside in
+    omega (arith, some, inside)
 
 pub fitting : {R A : Type 0} (rack : Ghosts R) (shard : Shard R A) → Valid rack shard → AreFitting shard.space shard.entries
 fitting rack shard v = record {

@@ -3,6 +3,7 @@ use Rattle.std.specs.Prelude.{◌≡◌, ◌<◌, ◌≤◌, ◌+◌, ◌-◌, �
 use Rattle.std.specs.declared.vec.Vec.{Vec}
 use Rattle.std.specs.declared.alloc.Global.{Global}
 use Rattle.draid_names.specs.Numbers.{most_held}
+use Rattle.draid_names.specs.declared.numbers.TheConstants.{LAST_NUMBER, NUMBERS, OBJECTS}
 use Rattle.draid_names.specs.declared.pass_kind.PassKind.TheVariants.{Rebuild}
 use Rattle.draid_names.specs.declared.pointer.Pointer.{Pointer}
 use Rattle.draid_block.specs.Blocks.{AreColumns, BlockValue, IsContent, cut_of}
@@ -23,7 +24,7 @@ use Rattle.draid_machine.specs.Step.{Fits, HoldsFewer, IsEnabled, Step}
 use Rattle.draid_segments.specs.Acts.{Acts}
 use Rattle.draid_segments.specs.Reads.{IsAbsent}
 use Rattle.draid_segments.specs.Segments.{Pieces}
-use Rattle.draid_entries.specs.Entries.{count_of, entry_at}
+use Rattle.draid_entries.specs.Entries.{count_of, entry_at, held_in}
 use Rattle.draid_entries.specs.History.{Passes, left_for_groups, limit_in, owed_of, reserved_of, stored_of}
 use Rattle.draid_entries.specs.Maps.{key_of, staged}
 use Rattle.draid_shard.specs.Columns.{ArePieces, row_bytes}
@@ -109,6 +110,18 @@ BeginRefused shard need w begin.NoMemory = ⊤
 
 -- ---- tickets
 
+-- a write of this number to an object may be begun: both are in range, and no block or ticket has them
+pub record IsNewWrite {R A : Type 0} (shard : Shard R A) (object seq : ℕ) : Type 0 where
+  pub object_small : object < OBJECTS
+  pub some_seq : 1 ≤ seq
+  pub seq_small : seq < NUMBERS
+  pub unused : held_in shard.entries (record { object = object; seq = seq }) ≡ None
+
+-- a group up to which a caller may have come: the one after the open one at most, whose number has 48 bits
+pub record IsFloor {R A : Type 0} (shard : Shard R A) (floor : ℕ) : Type 0 where
+  pub upto : floor ≤ shard.open_group + 1
+  pub low : floor ≤ LAST_NUMBER
+
 -- as many events are reserved, and as many may be stored and owed
 pub record SameReserve {R A : Type 0} (old new : Shard R A) : Type 0 where
   pub reserved : reserved_of new.history ≡ reserved_of old.history
@@ -138,6 +151,11 @@ pub record Carries {R A : Type 0} (shard : Shard R A) (ticket : Ticket) (block :
   pub columns : AreColumns block.cut block.bytes block.columns
   pub count : ticket.next ≤ shard.geometry.g
   pub few : ticket.missed ≤ ticket.next
+
+-- a ticket was opened for this write, and carries this block
+pub record Opens {R A : Type 0} (old new : Shard R A) (object seq birth : ℕ) (block : BlockValue) (ticket : Ticket) : Type 0 where
+  pub named : IsTicketOf old object seq birth ticket
+  pub carries : Carries new ticket block
 
 -- The next column of a ticket was put, and landed on these arms. Where it landed on none it is one more that was missed.
 pub record Puts {R A : Type 0} (rack : Ghosts R) (old new : Shard R A) (before now : Ticket) (block : BlockValue) : Type 0 where

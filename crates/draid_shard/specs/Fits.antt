@@ -1,10 +1,10 @@
 -- How the parts of a shard fit together: what each call needs and keeps.
-use Rattle.std.specs.Prelude.{◌≡◌, ◌<◌, ◌≤◌, ◌+◌, ◌⊎◌, ℕ, zero, suc, Bool, true, false, Option, Some, None, if◌then◌else◌}
+use Rattle.std.specs.Prelude.{◌≡◌, ◌<◌, ◌≤◌, ◌+◌, ◌⊎◌, ℕ, zero, suc, Bool, true, false, Option, Some, None, IfSome, length, if◌then◌else◌}
 use Rattle.draid_names.specs.Numbers.{most_held}
 use Rattle.draid_names.specs.declared.arm.Arm.{Arm}
 use Rattle.draid_names.specs.declared.arm.ArmAt.{ArmAt}
 use Rattle.draid_names.specs.declared.arm.ArmKind.TheVariants as kind
-use Rattle.draid_names.specs.declared.numbers.TheConstants.{LAST_NUMBER, LONGEST_BLOCK}
+use Rattle.draid_names.specs.declared.numbers.TheConstants.{LAST_NUMBER, LONGEST_BLOCK, NUMBERS, OBJECTS}
 use Rattle.draid_names.specs.declared.pass_kind.PassKind.TheVariants.{Rebuild, Heal}
 use Rattle.draid_names.specs.declared.pointer.Pointer.{Pointer}
 use Rattle.draid_spec.specs.declared.layout.Geometry.{Geometry}
@@ -22,14 +22,20 @@ use Rattle.draid_entries.specs.declared.entry.Entry.{Entry}
 use Rattle.draid_entries.specs.declared.entries.Entries.{Entries}
 use Rattle.draid_entries.specs.Entries.{count_of, entry_at, owed_by}
 use Rattle.draid_entries.specs.History.{owed_of, reserved_of}
+use Rattle.draid_stable.specs.Sealing.{HoldsPass}
 use Rattle.draid_shard.specs.Part.{IsPart, IsRun}
 use Rattle.draid_shard.specs.States.{part_of}
 use Rattle.draid_shard.specs.declared.shard.Shard.{Shard}
 
 -- ---- stripes
 
--- what a pointer says of its block: its length and stripes fit together, and it was born in the next group at most, whose number has 48 bits
+-- What a pointer says of its block: the object and the number of the write are in their ranges, its length and stripes fit together, and it was born in the next
+-- group at most, whose number has 48 bits.
 pub record IsBlock (geometry : Geometry) (open_group : ℕ) (pointer : Pointer) : Type 0 where
+  pub object_small : pointer.object < OBJECTS
+  pub some_seq : 1 ≤ pointer.seq
+  pub most_seq : pointer.seq < NUMBERS
+  pub digest_len : length pointer.digest ≡ 32
   pub some : 1 ≤ pointer.len
   pub short : pointer.len ≤ LONGEST_BLOCK
   pub stripes : pointer.stripes ≡ stripes_of (cut_of geometry) pointer.len
@@ -73,9 +79,14 @@ abbrev pub lacking : (ℕ → Bool) → ℕ → ℕ → ℕ
 lacking log from zero = 0
 lacking log from (suc n) = lacking log from n + (if log (from + n) then 0 else 1)
 
--- each log has room for the groups in which blocks may be born now: the closing one, the open one and the next
-abbrev pub LogsHaveRoom : SlotTable → ℕ → Type 0
-LogsHaveRoom slots from = (at : ArmAt) → IsThere slots at → lacking (is_logged slots at) from 3 ≤ room_at slots at
+-- in how many groups blocks may be born now: the closing one, if there is one, the open one and the next
+abbrev pub birth_groups : Option ℕ → ℕ
+birth_groups None = 2
+birth_groups (Some t) = 3
+
+-- each log has room for so many groups from one on
+abbrev pub LogsHaveRoom : SlotTable → ℕ → ℕ → Type 0
+LogsHaveRoom slots from groups = (at : ArmAt) → IsThere slots at → lacking (is_logged slots at) from groups ≤ room_at slots at
 
 -- ---- devices
 
@@ -121,16 +132,21 @@ pub record AreHere (entries : Entries) (number : ℕ) : Type 0 where
 pub record Valid {R A : Type 0} (rack : Ghosts R) (shard : Shard R A) : Type 0 where
   pub part : IsPart (part_of shard)
   pub version : (shard.version ≡ 1) ⊎ (shard.version ≡ 2)
+  -- the next seal is to have this version or a later one
+  pub asked : (shard.version ≤ shard.asked) × (shard.asked ≤ 2)
   pub tables : Tables shard.geometry shard.open_group shard.space shard.entries
   -- it takes no block while a rebuild has it
   pub disabled : shard.space.disabled ≡ is_rebuild shard.pass
   pub few : count_of shard.entries ≤ most_held shard.version
   pub here : AreHere shard.entries shard.number
   pub slots : IsOf shard.slots shard.geometry shard.perms shard.number
-  pub logs : LogsHaveRoom shard.slots (oldest_open shard.open_group shard.closing)
+  pub pass : IfSome shard.pass (HoldsPass shard.slots shard.last_pass)
+  pub logs : LogsHaveRoom shard.slots (oldest_open shard.open_group shard.closing) (birth_groups shard.closing)
   pub leaves : HasLeaves (rack.shape shard.rack) shard.geometry shard.slots
   pub groups : AreGroups shard.open_group shard.closing shard.committed shard.sealed
   pub low : shard.open_group ≤ LAST_NUMBER
   pub tickets : TicketsAreNew shard.entries (oldest_open shard.open_group shard.closing)
+  -- a group is sealed without an open ticket that was born up to it
+  pub settled : shard.sealed ≡ true → TicketsAreNew shard.entries shard.open_group
   pub owed : owed_of shard.history
       ≡ owed_by shard.geometry.g shard.entries + owed_for_pass shard.pass + owed_for_group shard.closing shard.sealed + reserved_of shard.history

@@ -1,19 +1,15 @@
 -- For which states of its metaslab a shard stands: what it stores is what they have. What they have besides (which segments are present, in doubt or kept, and
 -- the images) it doesn't store.
-use Rattle.std.specs.Prelude.{◌≡◌, ◌++◌, List, [], ◌∷◌, Some, None, is_some, option_map}
-use Rattle.draid_names.specs.declared.arm.ArmAt.{ArmAt}
+use Rattle.std.specs.Prelude.{◌≡◌, ◌++◌, List, [], ◌∷◌, None, is_some, option_map}
 use Rattle.draid_machine.specs.declared.event.Event.{Event}
-use Rattle.draid_machine.specs.declared.names.ArmName.{ArmName}
 use Rattle.draid_machine.specs.declared.names.Key.{Key}
 use Rattle.draid_machine.specs.State as machine
 use Rattle.draid_machine.specs.Created.{IsReached}
 use Rattle.draid_machine.specs.Step.{Step}
-use Rattle.draid_pass.specs.declared.pass.Pass.{Pass}
-use Rattle.draid_slots.specs.Table.{SlotTable, arm_at}
 use Rattle.draid_entries.specs.Entries.{held_in}
 use Rattle.draid_entries.specs.History.{events_of}
+use Rattle.draid_stable.specs.Slots.{HasSlots, pass_in}
 use Rattle.draid_shard.specs.Part.{Part, layout_in}
-use Rattle.draid_shard.specs.Slots.{HasSlots, name_of}
 use Rattle.draid_shard.specs.declared.shard.Shard.{Shard}
 
 -- the metaslab that the shard is
@@ -22,22 +18,6 @@ part_of shard = record { geometry = shard.geometry; perms = shard.perms; number 
 
 abbrev pub layout_by : {R A : Type 0} → Shard R A → machine.Layout
 layout_by shard = layout_in (part_of shard)
-
--- the names of arms at these places
-abbrev pub names_at : SlotTable → List ArmAt → List ArmName
-names_at slots [] = []
-names_at slots (at ∷ ats) = elim (arm_at slots at) as (λ o. List ArmName) [ None ↦ names_at slots ats | Some arm ↦ name_of arm ∷ names_at slots ats ]
-
-abbrev pub pass_in : SlotTable → Pass → machine.Pass
-pass_in slots p = record {
-  number = p.number;
-  kind = p.kind;
-  targets = names_at slots p.targets.items;
-  max = p.max;
-  next = p.at;
-  errors = p.errors;
-  running = p.running;
-}
 
 pub record IsIn {R A : Type 0} (shard : Shard R A) (w : machine.State) : Type 0 where
   pub held : (key : Key) → w.core.held key ≡ held_in shard.entries key

@@ -2,7 +2,7 @@ ghost use Rattle.std.specs.Prelude.{◌≡◌, ◌≤◌, ◌+◌, ◌↔◌, If
 ghost use Rattle.draid_names.specs.declared.numbers.TheConstants.{LAST_NUMBER};
 ghost use Rattle.draid_machine.specs.declared.event.Event.TheVariants.{Free};
 ghost use Rattle.draid_entries.specs.Maps.{key_of};
-ghost use Rattle.draid_shard.specs.Calls.{IsLive, SameKit, SameReserve};
+ghost use Rattle.draid_shard.specs.Calls.{IsFloor, IsLive, SameKit, SameReserve};
 ghost use Rattle.draid_shard.specs.Fits.{Valid};
 ghost use Rattle.draid_shard.specs.States.{Does};
 
@@ -30,8 +30,7 @@ impl<R: Rack, A: Area> Shard<R, A> {
     /// one. Its stripes stay taken until that group is committed.
     pub fn free(&mut self, pointer: &Pointer, floor: u64) -> Result<u64, NotLive>
         requires valid { Valid R.Rack self.old }
-        requires floor { floor ≤ self.old.open_group + 1 }
-        requires low { floor ≤ LAST_NUMBER }
+        requires floor { IsFloor self.old floor }
         ensures valid { Valid R.Rack self.new }
         ensures kit { SameKit self.old self.new }
         ensures not_live { IsTrue (is_err result) ↔ (IsLive self.old pointer.now → ⊥) }

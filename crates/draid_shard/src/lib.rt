@@ -4,20 +4,31 @@
 #![tactic(auto)]
 
 mod blocks;
+mod commit;
 mod damage;
 mod fault;
 mod fetch;
+mod groups;
 mod laws;
+mod looks;
+mod marks;
 mod opening;
 mod outcome;
 mod places;
 mod put;
+mod reopening;
 mod rooms;
+mod seal;
 mod shard;
 mod ticket;
 mod tickets;
 
-pub use fault::{BeginFault, FetchFault, Missed, NotLive, OpenRefused, Shut};
-pub use laws::{calls_keep_what_stands, fetched_blocks_are_readable, worn_is_what_is_owed};
+pub use fault::{
+    BeginFault, CloseFault, FetchFault, Missed, NotLive, OpenFault, OpenRefused, SealFault, Sealed,
+    Shut,
+};
+pub use laws::{
+    calls_keep_what_stands, fetched_blocks_are_readable, opened_shards_stand, worn_is_what_is_owed,
+};
 pub use shard::Shard;
 pub use ticket::Ticket;

@@ -7,8 +7,9 @@ ghost use Rattle.draid_slots.specs.Changes.{HasRoom, IsNew, IsOf};
 ghost use Rattle.draid_shard.specs.Fits.{Valid};
 ghost use Rattle.draid_shard.specs.Part.{IsPart, Part, layout_in};
 ghost use Rattle.draid_shard.specs.States.{IsIn, part_of, stored_in};
+ghost use Rattle.draid_shard.specs.declared.fault.OpenFault.{OpenFault};
 
-use crate::fault::OpenRefused;
+use crate::fault::{OpenFault, OpenRefused};
 use crate::shard::Shard;
 use draid_area::Area;
 use draid_entries::{Entries, History};
@@ -24,7 +25,7 @@ use std::alloc::Global;
 
 /// In how many groups blocks may be born at a time: a closing one, the open one, and the next, to which a caller may
 /// have come.
-const BIRTH_GROUPS: u32 = 3;
+pub(crate) const BIRTH_GROUPS: u32 = 3;
 
 /// The slots of a new metaslab. Their logs have room for the groups in which blocks may be born.
 fn new_slots(
@@ -62,12 +63,19 @@ impl<R: Rack, A: Area> Shard<R, A> {
         ensures created { IfOk result (λ shard. IsIn shard (created (layout_in (part_of shard)) geometry.props.version)) }
         ensures none { IfOk result (λ shard. (stored_in shard ≡ []) × (reserved_of shard.history ≡ 0) × (limit_in shard.history ≡ events)) }
         ensures refused { IfErr result (λ refused. refused.kit ≡ kit) }
+        ensures why { IfErr result (λ refused. refused.why ≡ OpenFault.NoMemory) }
     {
         let Ok(space) = Space::new(alloc, &geometry, &[]) else {
-            return Err(OpenRefused { kit });
+            return Err(OpenRefused {
+                kit,
+                why: OpenFault::NoMemory,
+            });
         };
         let Ok(slots) = new_slots(alloc, geometry, perms, number) else {
-            return Err(OpenRefused { kit });
+            return Err(OpenRefused {
+                kit,
+                why: OpenFault::NoMemory,
+            });
         };
         Ok(Shard {
             number,

@@ -10,7 +10,7 @@ ghost use Rattle.draid_spec.specs.declared.layout.Geometry.{Geometry};
 ghost use Rattle.draid_entries.specs.Entries.{IsEntered, SameEntries, SetsEntry, begun, count_of, entry_at, held_in};
 ghost use Rattle.draid_entries.specs.History.{KeepsOwed, Passes, left_for_groups};
 ghost use Rattle.draid_entries.specs.Maps.{key_of};
-ghost use Rattle.draid_shard.specs.Calls.{BeginRefused, Carries, IsOpen, IsTicketOf, IsWornFor, SameKit, SameReserve, begins, block_events};
+ghost use Rattle.draid_shard.specs.Calls.{BeginRefused, IsFloor, IsNewWrite, IsOpen, IsWornFor, Opens, SameKit, SameReserve, begins, block_events};
 ghost use Rattle.draid_shard.specs.Fits.{IsBlock, Tables, Valid};
 ghost use Rattle.draid_shard.specs.Holding.{AreFitting, EnterRefused, HoldRefused, StoresAsked};
 ghost use Rattle.draid_shard.specs.States.{Does, DoesNone, IsIn};
@@ -37,16 +37,12 @@ impl<R: Rack, A: Area> Shard<R, A> {
         floor: u64,
     ) -> Result<Ticket, BeginFault>
         requires valid { Valid R.Rack self.old }
-        requires object { object < OBJECTS }
-        requires seq { (1 ≤ seq) × (seq < NUMBERS) }
-        requires unused { held_in self.old.entries (record { object = object; seq = seq }) ≡ None }
-        requires floor { floor ≤ self.old.open_group + 1 }
-        requires low { floor ≤ LAST_NUMBER }
+        requires new { IsNewWrite self.old object seq }
+        requires floor { IsFloor self.old floor }
         requires cut { block.now.cut ≡ cut_of self.old.geometry }
         ensures valid { Valid R.Rack self.new }
         ensures kit { SameKit self.old self.new }
-        ensures carries { IfOk result (λ ticket. Carries self.new ticket block.now) }
-        ensures named { IfOk result (λ ticket. IsTicketOf self.old object seq (max self.old.open_group floor) ticket) }
+        ensures ticket { IfOk result (Opens self.old self.new object seq (max self.old.open_group floor) block.now) }
         ensures event { IfOk result (λ ticket. Does self.old self.new (begins ticket.pointer)) }
         ensures not_worn { OnOk result (IsWornFor self.old (block_events self.old) → ⊥) }
         ensures none { OnErr result (DoesNone self.old self.new) }
@@ -210,7 +206,7 @@ fn enter(
 }
 
 /// Ends an open write without a block: its stripes are free again.
-fn release(space: &mut Space, entries: &mut Entries, pointer: &Pointer)
+pub(crate) fn release(space: &mut Space, entries: &mut Entries, pointer: &Pointer)
     requires tables { AreFitting space.old entries.old }
     requires there { IsEntered entries.old pointer.now }
     ensures tables { (geometry : Geometry) (open_group : ℕ) → Tables geometry open_group space.old entries.old

@@ -12,7 +12,9 @@ use draid_entries::ReserveFault;
 use draid_names::{ArmAt, Failed, NoMemory, Pointer};
 use draid_perm::Perms;
 use draid_rack::{MemoryRack, Rack};
-use draid_shard::{BeginFault, FetchFault, Missed, NotLive, Shard, Shut, Ticket};
+use draid_shard::{
+    BeginFault, CloseFault, FetchFault, Missed, NotLive, SealFault, Sealed, Shard, Shut, Ticket,
+};
 use draid_shelf::Kit;
 use draid_spec::{Geometry, Props, SpecFault, geometry, parse_spec};
 use std::alloc::{AllocError, Global};
@@ -35,8 +37,9 @@ fn first_layout() -> Result<Geometry, SpecFault>
     geometry(parse_spec(b"draid1:2d:3c", 3, 1)?, props)
 }
 
-fn area(alloc: Global) -> Result<MemoryArea, AllocError> {
-    MemoryArea::new(alloc, Vec::new(alloc), Vec::new(alloc))
+/// An empty area whose calls with these numbers fail.
+fn area(alloc: Global, failing: &[u64]) -> Result<MemoryArea, AllocError> {
+    MemoryArea::new(alloc, Vec::new(alloc), Vec::from_slice(alloc, failing)?)
 }
 
 /// An empty metaslab of so many events, over a memory rack whose calls with these numbers fail.
@@ -49,9 +52,27 @@ fn metaslab(
     requires layout { IsGeometry layout }
     ensures valid { IfOk result (Valid ⟦<MemoryRack as Rack>⟧) }
     ensures open_group { IfOk result (λ shard. shard.open_group ≡ 2) }
+    ensures idle { IfOk result (λ shard. shard.closing ≡ None) }
+    ensures empty { IfOk result (λ shard. (key : Key) → held_in shard.entries key ≡ None) }
+{
+    metaslab_over(alloc, layout, [failing, &[]], events)
+}
+
+/// The same over areas of which the even one's calls fail too.
+fn metaslab_over(
+    alloc: Global,
+    layout: Geometry,
+    failing: [&[u64]; 2],
+    events: u64,
+) -> Result<Metaslab, NoMemory>
+    requires layout { IsGeometry layout }
+    ensures valid { IfOk result (Valid ⟦<MemoryRack as Rack>⟧) }
+    ensures open_group { IfOk result (λ shard. shard.open_group ≡ 2) }
+    ensures idle { IfOk result (λ shard. shard.closing ≡ None) }
     ensures empty { IfOk result (λ shard. (key : Key) → held_in shard.entries key ≡ None) }
 {
     let perms = Perms::new(layout.spec.children, layout.props.seed);
+    let [failing, even] = failing;
     let failing = Vec::from_slice(alloc, failing)?;
     let rack = MemoryRack::new(
         alloc,
@@ -62,8 +83,8 @@ fn metaslab(
     )?;
     let kit = Kit {
         rack,
-        even: area(alloc)?,
-        odd: area(alloc)?,
+        even: area(alloc, even)?,
+        odd: area(alloc, &[])?,
     };
     match Shard::create(alloc, 0, layout, perms, kit, events) {
         Ok(shard) => Ok(shard),
@@ -354,5 +375,115 @@ fn refusals_say_why(rt: HostRuntime) -> Result<(), Fail> {
         [Ok(()); 2],
     );
     assert_eq!(rt; refused(rt.alloc(), 4096, &[5; 16384])?, full);
+    Ok(())
+}
+
+/// What is told of the groups of a metaslab: the open one, the closing one and whether it is sealed, and the last that
+/// was committed.
+type Groups = (u64, Option<u64>, bool, u64);
+
+fn groups<R: Rack, A: Area>(shard: &Shard<R, A>) -> Groups {
+    (
+        shard.open_group(),
+        shard.closing(),
+        shard.sealed(),
+        shard.committed(),
+    )
+}
+
+/// What the closing of the first group answers in a metaslab of so many events, and what is told of its groups then.
+fn closed(alloc: Global, events: u64) -> Result<(Result<(), CloseFault>, Groups), Fail> {
+    let mut shard = metaslab(alloc, first_layout()?, &[], events)?;
+    let answer = shard.close_group(2);
+    Ok((answer, groups(&shard)))
+}
+
+// The closing of a group may use the limit up.
+#[test]
+fn a_group_closes_up_to_the_limit(rt: HostRuntime) -> Result<(), Fail> {
+    let worn = Err(CloseFault::Worn { events: 0 });
+    assert_eq!(rt; closed(rt.alloc(), 3)?, (Ok(()), (3, Some(2), false, 1)));
+    assert_eq!(rt; closed(rt.alloc(), 2)?, (worn, (2, None, false, 1)));
+    Ok(())
+}
+
+/// Closes the open group, if none is closing.
+fn close<R: Rack, A: Area>(shard: &mut Shard<R, A>) -> Option<Result<(), CloseFault>>
+    requires valid { Valid R.Rack shard.old }
+    ensures valid { Valid R.Rack shard.new }
+{
+    if shard.closing().is_some() {
+        return None;
+    }
+    let group = shard.open_group();
+    Some(shard.close_group(group))
+}
+
+/// Seals the closing group, if it isn't sealed.
+fn seal<R: Rack, A: Area>(shard: &mut Shard<R, A>) -> Option<Result<Sealed, SealFault>>
+    requires valid { Valid R.Rack shard.old }
+    ensures valid { Valid R.Rack shard.new }
+{
+    let group = shard.closing()?;
+    if shard.sealed() {
+        return None;
+    }
+    Some(shard.seal(group))
+}
+
+/// What sealing a group with one block answers, twice; which leaves have the group in their logs then, whether the group
+/// is sealed, and how many events there are.
+type Sealing = (
+    [Option<Result<Sealed, SealFault>>; 2],
+    [bool; 3],
+    bool,
+    usize,
+);
+
+fn sealing(alloc: Global, failing: [&[u64]; 2]) -> Result<Sealing, Fail> {
+    let mut shard = metaslab_over(alloc, first_layout()?, failing, 4096)?;
+    write(alloc, &mut shard, b"hello")??;
+    close(&mut shard);
+    let answers = [seal(&mut shard), seal(&mut shard)];
+    let logged = [
+        is_logged(&shard, 0),
+        is_logged(&shard, 1),
+        is_logged(&shard, 2),
+    ];
+    Ok((answers, logged, shard.sealed(), shard.events().len()))
+}
+
+// The block is three writes, and then three leaves are flushed. One on which that fails has the group in its log, and the
+// block is thin. Where its area fails, a group isn't sealed, and may be sealed once more.
+#[test]
+fn groups_are_sealed_while_calls_fail(rt: HostRuntime) -> Result<(), Fail> {
+    let whole = Some(Ok(Sealed { thin: 0 }));
+    let thin = Some(Ok(Sealed { thin: 1 }));
+    let failed = Some(Err(SealFault::Area));
+    let table: [([&[u64]; 2], Sealing); 4] = [
+        ([&[], &[]], ([whole, None], [false; 3], true, 7)),
+        ([&[4], &[]], ([thin, None], [false, true, false], true, 7)),
+        ([&[], &[0]], ([failed, whole], [false; 3], true, 7)),
+        ([&[], &[1]], ([failed, whole], [false; 3], true, 7)),
+    ];
+    for (failing, wanted) in table {
+        assert_eq!(rt; sealing(rt.alloc(), failing)?, wanted);
+    }
+    Ok(())
+}
+
+/// What sealing answers while a write of the group is open.
+fn early(alloc: Global) -> Result<Option<Result<Sealed, SealFault>>, Fail> {
+    let mut shard = metaslab(alloc, first_layout()?, &[], 4096)?;
+    let block = Encoded::of(alloc, &shard.geometry, b"hello")?;
+    begin(&mut shard, &block, 0)?;
+    close(&mut shard);
+    Ok(seal(&mut shard))
+}
+
+#[test]
+fn a_seal_waits_for_open_writes(rt: HostRuntime) -> Result<(), Fail> {
+    let not_yet = Some(Err(SealFault::NotYet { tickets: 1 }));
+    assert_eq!(rt; early(rt.alloc())?, not_yet);
     Ok(())
 }

@@ -39,7 +39,7 @@ returns-in-Ok-enter-clause-tables c geometry group t sized =
     held_tables geometry group c.args.space.now c.allocate.new.self c.args.entries.now c.enter.new.entries placed t
     (allocated geometry group c.args.space.now c.args.entries.now c.in-Ok.first c.args.pointer.stripes c.from.result t c.from.ensures c.requires.some
     c.in-Ok.ensures.lowest c.in-Ok.ensures.inside)
-    (record { some = sized.some; short = sized.short; stripes = sized.stripes; born = sized.born; low = sized.low })
+    (record { object_small = sized.object_small; some_seq = sized.some_seq; most_seq = sized.most_seq; digest_len = sized.digest_len; some = sized.some; short = sized.short; stripes = sized.stripes; born = sized.born; low = sized.low })
     (rw c.from.ensures at c.in-Ok.ensures.taken) e.entered
     (space_of geometry group c.args.space.now c.allocate.new.self c.args.entries.now _ t c.in-Ok.ensures.kept (omega (arith, len, count, held)))
 

@@ -27,7 +27,7 @@ returns-clause-valid g c =
     (c.release.ensures.tables c.args.self.now.geometry c.args.self.now.open_group v.tables) c.release.ensures.disabled
     (let few = v.few in let count = c.release.ensures.count in omega (arith, few, count))
     (here_gone c.args.self.now.entries c.release.new.entries c.args.ticket.pointer c.args.self.now.number c.release.ensures.gone v.here)
-    (tickets_gone c.args.self.now.entries c.release.new.entries c.args.ticket.pointer _ v.tickets c.release.ensures.gone)
+    (λ from low was. tickets_gone c.args.self.now.entries c.release.new.entries c.args.ticket.pointer from was c.release.ensures.gone)
     (let owed = c.add.ensures.owed in let reserved = c.add.ensures.reserved in let from = c.from.ensures in let left = c.saturating_sub-left.ensures in omega (arith, turns, owed, reserved, from, left))
 
 pub returns-clause-event : goal.returns-clause-event

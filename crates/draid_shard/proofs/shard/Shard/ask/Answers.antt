@@ -6,7 +6,7 @@ pub returns-clause-valid : goal.returns-clause-valid
 returns-clause-valid g c =
     let v = c.requires.valid in
     let same = c.ask.ensures.same in
-    valid_with g.R.Rack c.args.self.now c.args.self.now.space c.args.self.now.entries c.ask.new.self v v.tables refl v.few v.here v.tickets
+    valid_with g.R.Rack c.args.self.now c.args.self.now.space c.args.self.now.entries c.ask.new.self v v.tables refl v.few v.here (λ from low was. was)
     (let owed = same.owed in let reserved = same.reserved in omega (arith, owed, reserved))
 
 pub returns-clause-none : goal.returns-clause-none

@@ -1,4 +1,4 @@
-use Rattle.std.proofs.Common.{rules, ◌≡◌, ◌<◌, ◌≤◌, ◌+◌, ◌∙◌, false, Some, arith, ap, ap₂, refl, sym, subst, length}
+use Rattle.std.proofs.Common.{rules, ◌≡◌, ◌∙◌, false, Some, arith, ap, ap₂, refl, sym, subst, length}
 use Rattle.std.proofs.lemmas.Bool.{true≢false}
 use Rattle.draid_names.specs.Numbers.{most_held}
 use Rattle.draid_names.specs.declared.pointer.Pointer.{Pointer}
@@ -11,7 +11,7 @@ use Rattle.draid_entries.specs.Entries.{begun, count_of, held_in}
 use Rattle.draid_entries.specs.declared.entry.Entry.{Entry}
 use Rattle.draid_entries.specs.Maps.{key_of}
 use Rattle.draid_machine.proofs.Small.{some_same}
-use Rattle.draid_shard.proofs.Begins.{IsGiven, MayBegin, begins_leads, due_from, due_low, due_upto, oldest_low, owed_begun, refused_by}
+use Rattle.draid_shard.proofs.Begins.{IsGiven, MayBegin, begins_leads, due_from, due_low, due_upto, owed_begun, refused_by}
 use Rattle.draid_shard.proofs.FreeRuns.{fewer}
 use Rattle.draid_shard.proofs.Held.{here_same, here_set, tickets_same, tickets_staged}
 use Rattle.draid_shard.proofs.Turns.{fitting, valid_with}
@@ -30,18 +30,21 @@ returns-in-Ok-clause-valid g c =
     let owes = owed_begun c.args.self.now.geometry.g c.args.self.now.entries c.hold.new.entries p e.entered e.was in
     valid_with g.R.Rack c.args.self.now c.hold.new.space c.hold.new.entries c.hold.new.history v
     (e.tables c.args.self.now.geometry c.args.self.now.open_group v.tables (record {
+      object_small = c.requires.new.object_small;
+      some_seq = c.requires.new.some_seq;
+      most_seq = c.requires.new.seq_small;
+      digest_len = search rules;
       some = c.len.ensures.some;
       short = c.len.ensures.short;
       stripes = c.stripes.ensures.stripes ∙ ap₂ stripes_of c.requires.cut (sym c.len.ensures.len);
-      born = due_upto c.args.self.now.open_group c.max.result c.args.floor c.max.ensures c.requires.floor;
-      low = due_low c.args.self.now.open_group c.max.result c.args.floor c.max.ensures v.low c.requires.low;
+      born = due_upto c.args.self.now.open_group c.max.result c.args.floor c.max.ensures c.requires.floor.upto;
+      low = due_low c.args.self.now.open_group c.max.result c.args.floor c.max.ensures v.low c.requires.floor.low;
     }))
     e.disabled (let count = e.count in omega (arith, less, count))
     (here_set c.args.self.now.entries c.hold.new.entries p (Some (begun p)) c.args.self.now.number
     (λ x is. ap (λ (y : Entry). y.pointer.metaslab) (sym (some_same (Some (begun p)) (begun p) x refl is)) ∙ ap (λ (q : Pointer). q.metaslab) e.placed) e.entered v.here)
-    (tickets_staged c.args.self.now.entries c.hold.new.entries p (Writing 0 0) _
-    (let low = oldest_low c.args.self.now.open_group c.args.self.now.closing c.args.self.now.committed c.args.self.now.sealed v.groups in
-    let from = due_from c.args.self.now.open_group p.birth c.args.floor birth in omega (arith, low, from)) v.tickets e.entered)
+    (λ from low was. tickets_staged c.args.self.now.entries c.hold.new.entries p (Writing 0 0) from
+    (let due = due_from c.args.self.now.open_group p.birth c.args.floor birth in omega (arith, low, due)) was e.entered)
     (let owed = e.stored.owed in let reserved = e.stored.reserved in let asked = c.block_events-asked.ensures in omega (arith, owes, owed, reserved, asked))
 
 pub returns-in-Ok-clause-event : goal.returns-in-Ok-clause-event
@@ -62,9 +65,9 @@ returns-in-Ok-clause-event g c =
       some = (let some = c.stripes.ensures.some in omega (arith, some, stripes));
       lowest = subst (λ n. IsLowest (is_free c.args.self.now.space) c.args.self.now.space.height n p.first) (sym stripes) e.lowest;
       inside = (let inside = e.inside in omega (arith, inside, stripes));
-      unused = ap (held_in c.args.self.now.entries) (ap key_of e.placed) ∙ c.requires.unused;
+      unused = ap (held_in c.args.self.now.entries) (ap key_of e.placed) ∙ c.requires.new.unused;
       from = due_from c.args.self.now.open_group p.birth c.args.floor birth;
-      upto = due_upto c.args.self.now.open_group p.birth c.args.floor birth c.requires.floor;
+      upto = due_upto c.args.self.now.open_group p.birth c.args.floor birth c.requires.floor.upto;
     } in
     record {
       part = refl;
@@ -78,15 +81,19 @@ returns-in-Err-clause-valid g c =
     let e = c.in-Err.ensures in
     valid_with g.R.Rack c.args.self.now c.hold.new.space c.hold.new.entries c.hold.new.history v
     (e.tables c.args.self.now.geometry c.args.self.now.open_group v.tables (record {
+      object_small = c.requires.new.object_small;
+      some_seq = c.requires.new.some_seq;
+      most_seq = c.requires.new.seq_small;
+      digest_len = search rules;
       some = c.len.ensures.some;
       short = c.len.ensures.short;
       stripes = c.stripes.ensures.stripes ∙ ap₂ stripes_of c.requires.cut (sym c.len.ensures.len);
-      born = due_upto c.args.self.now.open_group c.max.result c.args.floor c.max.ensures c.requires.floor;
-      low = due_low c.args.self.now.open_group c.max.result c.args.floor c.max.ensures v.low c.requires.low;
+      born = due_upto c.args.self.now.open_group c.max.result c.args.floor c.max.ensures c.requires.floor.upto;
+      low = due_low c.args.self.now.open_group c.max.result c.args.floor c.max.ensures v.low c.requires.floor.low;
     }))
     e.disabled (let count = e.same.count in let few = v.few in omega (arith, few, count))
     (here_same c.args.self.now.entries c.hold.new.entries c.args.self.now.number v.here e.same)
-    (tickets_same c.args.self.now.entries c.hold.new.entries _ v.tickets e.same)
+    (λ from low was. tickets_same c.args.self.now.entries c.hold.new.entries from was e.same)
     (let owed = e.kept.owed in let reserved = e.kept.reserved in let same = e.same.owed c.args.self.now.geometry.g in omega (arith, owed, reserved, same))
 
 pub returns-in-Err-clause-refused : goal.returns-in-Err-clause-refused

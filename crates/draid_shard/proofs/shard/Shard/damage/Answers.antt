@@ -14,16 +14,19 @@ returns-clause-valid g c =
     record {
       part = v.part;
       version = v.version;
+      asked = v.asked;
       tables = v.tables;
       disabled = v.disabled;
       few = v.few;
       here = v.here;
       slots = v.slots;
+      pass = v.pass;
       logs = v.logs;
       leaves = subst (λ shape. HasLeaves shape c.args.self.now.geometry c.args.self.now.slots) (sym c.damage-done.ensures.shape) v.leaves;
       groups = v.groups;
       low = v.low;
       tickets = v.tickets;
+      settled = v.settled;
       owed = (let was = v.owed in let o = c.add_reserved.ensures.owed in let r = c.add_reserved.ensures.reserved in omega (arith, was, o, r));
     }
 

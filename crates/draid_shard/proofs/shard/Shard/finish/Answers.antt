@@ -36,7 +36,7 @@ returns-then-ticket-self-clause-valid g c =
     (c.release.ensures.tables c.args.self.now.geometry c.args.self.now.open_group v.tables) c.release.ensures.disabled
     (let few = v.few in let count = c.release.ensures.count in omega (arith, few, count))
     (here_gone c.args.self.now.entries c.release.new.entries c.args.ticket.pointer c.args.self.now.number c.release.ensures.gone v.here)
-    (tickets_gone c.args.self.now.entries c.release.new.entries c.args.ticket.pointer _ v.tickets c.release.ensures.gone)
+    (λ from low was. tickets_gone c.args.self.now.entries c.release.new.entries c.args.ticket.pointer from was c.release.ensures.gone)
     (let owed = c.add.ensures.owed in let reserved = c.add.ensures.reserved in omega (arith, turns, owed, reserved))
 
 pub returns-clause-valid : goal.returns-clause-valid
@@ -50,7 +50,7 @@ returns-clause-valid g c =
     (Writing c.args.ticket.next c.args.ticket.missed) Live v.tables c.requires.is_open c.turn.ensures.entered c.turn.ensures.count)
     refl (let few = v.few in let count = c.turn.ensures.count in omega (arith, few, count))
     (here_turned c.args.self.now.entries c.turn.new.self c.args.ticket.pointer (Writing c.args.ticket.next c.args.ticket.missed) Live c.args.self.now.number c.requires.is_open c.turn.ensures.entered v.here)
-    (tickets_block c.args.self.now.entries c.turn.new.self c.args.ticket.pointer Live _ refl v.tickets c.turn.ensures.entered)
+    (λ from low was. tickets_block c.args.self.now.entries c.turn.new.self c.args.ticket.pointer Live from refl was c.turn.ensures.entered)
     (let owed = c.add-2.ensures.owed in let reserved = c.add-2.ensures.reserved in omega (arith, turns, owed, reserved))
 
 pub returns-clause-event : goal.returns-clause-event

@@ -26,7 +26,7 @@ returns-clause-valid g c =
     v.tables is_live c.turn.ensures.entered c.turn.ensures.count)
     refl (let few = v.few in let count = c.turn.ensures.count in omega (arith, few, count))
     (here_turned c.args.self.now.entries c.turn.new.self c.args.pointer.now Live (Freed c.max-group.result) c.args.self.now.number is_live c.turn.ensures.entered v.here)
-    (tickets_block c.args.self.now.entries c.turn.new.self c.args.pointer.now (Freed c.max-group.result) _ refl v.tickets c.turn.ensures.entered)
+    (λ from low was. tickets_block c.args.self.now.entries c.turn.new.self c.args.pointer.now (Freed c.max-group.result) from refl was c.turn.ensures.entered)
     (let owed = c.add.ensures.owed in let reserved = c.add.ensures.reserved in omega (arith, turns, owed, reserved))
 
 pub returns-clause-event : goal.returns-clause-event
@@ -38,6 +38,6 @@ returns-clause-event g c =
         stored = c.add.ensures.stored ∙ ap (λ key. c.args.self.now.history.events.items ++ Free key c.max-group.result ∷ []) c.key_of.ensures;
         leads = λ w reached is_in. frees c.args.self.now c.args.self.now.space c.turn.new.self c.add.new.self c.args.pointer.now c.max-group.result is_live
             (due_from c.args.self.now.open_group c.max-group.result c.args.floor c.max-group.ensures)
-            (due_upto c.args.self.now.open_group c.max-group.result c.args.floor c.max-group.ensures c.requires.floor) c.turn.ensures.entered w is_in;
+            (due_upto c.args.self.now.open_group c.max-group.result c.args.floor c.max-group.ensures c.requires.floor.upto) c.turn.ensures.entered w is_in;
       },
     )

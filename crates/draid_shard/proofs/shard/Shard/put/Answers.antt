@@ -4,7 +4,7 @@ use Rattle.draid_machine.specs.declared.event.Event.TheVariants.{Put}
 use Rattle.draid_machine.specs.declared.names.Stage.TheVariants.{Writing}
 use Rattle.draid_entries.specs.Entries.{IsEntered, SetsEntry}
 use Rattle.draid_entries.specs.Maps.{key_of, staged}
-use Rattle.draid_shard.specs.Fits.{oldest_open}
+use Rattle.draid_shard.specs.Fits.{birth_groups, oldest_open}
 use Rattle.draid_shard.specs.Rows.{HasRoomFor}
 use Rattle.draid_shard.specs.States.{part_of}
 use Rattle.draid_shard.specs.declared.ticket.Ticket.{Ticket}
@@ -50,7 +50,7 @@ land-landed-requires-clause-birth g c =
 pub land-landed-requires-clause-room : goal.land-landed-requires-clause-room
 land-landed-requires-clause-room g c =
     let v = c.requires.valid in
-    subst (HasRoomFor c.args.self.now.slots) (sym c.rows_of-rows.ensures.birth_is) (room_for c.args.self.now.slots (oldest_open c.args.self.now.open_group c.args.self.now.closing) c.args.ticket.now.pointer.birth
+    subst (HasRoomFor c.args.self.now.slots) (sym c.rows_of-rows.ensures.birth_is) (room_for c.args.self.now.slots (oldest_open c.args.self.now.open_group c.args.self.now.closing) (birth_groups c.args.self.now.closing) c.args.ticket.now.pointer.birth
     (v.tickets c.args.ticket.now.pointer.first _ c.args.ticket.now.next c.args.ticket.now.missed c.requires.carries.is_open refl)
     (born_from c.args.self.now.open_group c.args.self.now.committed c.args.ticket.now.pointer.birth c.args.self.now.closing c.args.self.now.sealed v.groups
     (v.tables.placed c.args.ticket.now.pointer.first _ c.requires.carries.is_open).is_block.born) v.logs)

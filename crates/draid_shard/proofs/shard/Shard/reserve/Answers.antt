@@ -5,7 +5,7 @@ use Rattle.draid_shard.proofs.shard.Shard.reserve.Goals as goal
 pub returns-clause-valid : goal.returns-clause-valid
 returns-clause-valid g c =
     let v = c.requires.valid in
-    valid_with g.R.Rack c.args.self.now c.args.self.now.space c.args.self.now.entries c.reserve.new.self v v.tables refl v.few v.here v.tickets
+    valid_with g.R.Rack c.args.self.now c.args.self.now.space c.args.self.now.entries c.reserve.new.self v v.tables refl v.few v.here (λ from low was. was)
     (let owed = c.reserve.ensures.owed in omega (arith, owed))
 
 pub returns-clause-none : goal.returns-clause-none

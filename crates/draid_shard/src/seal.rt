@@ -1,0 +1,223 @@
+ghost use Rattle.std.specs.Prelude.{◌≡◌, ◌≤◌, ◌+◌, ◌^◌, Some, true, false, All, IsSome, IfErr, IfOk, OnOk, length, option_map};
+ghost use Rattle.draid_area.specs.Area.{OnTold, flushes, writes};
+ghost use Rattle.draid_names.specs.declared.fault.DeviceFault.TheVariants as device;
+ghost use Rattle.draid_names.specs.declared.pointer.Pointer.{Pointer};
+ghost use Rattle.draid_machine.specs.Arms.{leaf_answers};
+ghost use Rattle.draid_machine.specs.State as machine;
+ghost use Rattle.draid_rack.specs.Rack.{Shape};
+ghost use Rattle.draid_record.specs.Record.{told_record};
+ghost use Rattle.draid_slots.specs.Table.{IsTable};
+ghost use Rattle.draid_stable.specs.Slots.{HasSlots};
+ghost use Rattle.draid_stable.specs.Stable.{Stands};
+ghost use Rattle.draid_shard.specs.Calls.{SameReserve};
+ghost use Rattle.draid_shard.specs.Fits.{TicketsAreNew, Valid};
+ghost use Rattle.draid_shard.specs.Groups.{KeepsOtherArea, OpenUpto, Seals, Unsealed};
+ghost use Rattle.draid_shard.specs.declared.fault.SealFault.TheVariants as seal;
+ghost use Rattle.draid_shard.specs.Sealing.{AreFlushed, FlushedBelow, IsOnline, IsPlan, WriteRefused, area_by};
+ghost use Rattle.draid_shard.specs.States.{IsIn};
+
+use crate::fault::{SealFault, Sealed};
+use crate::marks::miss_marked;
+use crate::shard::Shard;
+use draid_area::{Area, DeviceFault};
+use draid_columns::flush_leaves;
+use draid_machine::Event;
+use draid_names::{ArmKind, NoMemory};
+use draid_rack::Rack;
+use draid_record::{Record, write_record};
+use draid_slots::Slots;
+use draid_stable::{Head, Marks, has_written, lose_targets, record_of_tables, settle};
+use std::alloc::Global;
+
+/// What a seal takes memory for before it changes anything: the record of the group, the leaves to flush, and room for
+/// those on which that fails and for the marks of arms.
+#[derive(Drop)]
+struct Plan {
+    made: Record,
+    leaves: Vec<u64>,
+    failed: Vec<u64>,
+    marks: Vec<Marks>,
+}
+
+impl<R: Rack, A: Area> Shard<R, A> {
+    /// Seals the closing group: flushes the leaves that aren't offline, those of detachments that aren't committed too,
+    /// and writes the record of the group to its area. A refused seal may be made again.
+    pub fn seal(&mut self, group: u64) -> Result<Sealed, SealFault>
+        requires valid { Valid R.Rack self.old }
+        requires closing { (self.old.closing ≡ Some group) × (self.old.sealed ≡ false) }
+        ensures valid { Valid R.Rack self.new }
+        ensures other { KeepsOtherArea group self.old self.new }
+        ensures sealed { IfOk result (λ it. Seals R.Rack A.told self.old self.new group it.thin) }
+        ensures refused { IfErr result (Unsealed R.Rack A.faults self.old self.new group) }
+        ensures reserve { SameReserve self.old self.new }
+    {
+        let tickets = self.tickets_upto(group);
+        if tickets > 0 {
+            return Err(SealFault::NotYet { tickets });
+        }
+        match self.plan_seal(group) {
+            Ok(plan) => self.seal_by(group, plan),
+            Err(_) => Err(SealFault::NoMemory),
+        }
+    }
+
+    /// Seals the group by a plan, where no open write was begun up to it.
+    fn seal_by(&mut self, group: u64, plan: Plan) -> Result<Sealed, SealFault>
+        requires valid { Valid R.Rack self.old }
+        requires closing { (self.old.closing ≡ Some group) × (self.old.sealed ≡ false) }
+        requires settled { (w : machine.State) → IsIn self.old w → OpenUpto w group 0 }
+        requires tickets { TicketsAreNew self.old.entries (group + 1) }
+        requires plan { IsPlan (R.shape self.old.rack) self.old group plan }
+        ensures valid { Valid R.Rack self.new }
+        ensures other { KeepsOtherArea group self.old self.new }
+        ensures sealed { IfOk result (λ it. Seals R.Rack A.told self.old self.new group it.thin) }
+        ensures refused { IfErr result (Unsealed R.Rack A.faults self.old self.new group) }
+        ensures reserve { SameReserve self.old self.new }
+    {
+        let Plan {
+            mut made,
+            leaves,
+            mut failed,
+            mut marks,
+        } = plan;
+        flush_leaves(&mut self.rack, &leaves, &mut failed);
+        self.mark_silent(&mut marks, &failed);
+        let wrote = has_written(&made);
+        settle(&mut made, &marks, wrote);
+        write_to(self.alloc, &mut self.even, &mut self.odd, group, &made)?;
+        miss_marked(&mut self.slots, &marks, wrote, group);
+        lose_targets(&mut self.pass, &marks);
+        self.sealed = true;
+        self.history.add(Event::Seal { group, failed }, 1);
+        Ok(Sealed {
+            thin: self.thin(group),
+        })
+    }
+
+    /// Takes the memory for the seal of a group.
+    fn plan_seal(&self, group: u64) -> Result<Plan, NoMemory>
+        requires valid { Valid R.Rack self.now }
+        ensures { IfOk result (IsPlan (R.shape self.now.rack) self.now group) }
+    {
+        let head = Head {
+            version: self.asked,
+            metaslab: self.number,
+            group,
+        };
+        let made = record_of_tables(
+            self.alloc,
+            head,
+            &self.entries,
+            &self.slots,
+            &self.pass,
+            self.last_pass,
+        )?;
+        let marks = no_marks(self.alloc, self.slots.children())?;
+        let leaves = leaves_to_flush(self.alloc, &self.rack, &self.slots)?;
+        let failed = Vec::with_capacity(self.alloc, leaves.len())?;
+        Ok(Plan {
+            made,
+            leaves,
+            failed,
+            marks,
+        })
+    }
+}
+
+/// No mark for so many slots.
+fn no_marks(alloc: Global, children: u32) -> Result<Vec<Marks>, NoMemory>
+    ensures { IfOk result (λ marks. length marks.items ≡ children) }
+{
+    let mut marks = Vec::with_capacity(alloc, children as usize)?;
+    for _slot in 0..children {
+        marks.push([false; 3])?;
+    }
+    Ok(marks)
+}
+
+/// The leaves that a seal flushes.
+fn leaves_to_flush<R: Rack>(alloc: Global, rack: &R, slots: &Slots) -> Result<Vec<u64>, NoMemory>
+    requires { IsTable slots.now }
+    ensures { IfOk result (λ leaves. AreFlushed (R.shape rack.now) slots.now leaves.items) }
+{
+    let mut leaves = Vec::new(alloc);
+    let mut from = 0;
+    while let Some(leaf) = rack.leaf_from(from) {
+        add_flushed(slots, leaf, &mut leaves)?;
+        match leaf.checked_add(1) {
+            Some(next) => from = next,
+            None => return Ok(leaves),
+        }
+    }
+    Ok(leaves)
+}
+
+/// Adds a leaf of the rack to those that a seal flushes, if it is one.
+fn add_flushed(slots: &Slots, leaf: u64, leaves: &mut Vec<u64>) -> Result<(), NoMemory>
+    requires { IsTable slots.now }
+    ensures { OnOk result ((shape : Shape) → IsSome (shape.leaves leaf) → FlushedBelow shape slots.now leaves.old.items leaf
+        → FlushedBelow shape slots.now leaves.new.items (leaf + 1)) }
+{
+    if is_flushed(slots, leaf) {
+        leaves.push(leaf)?;
+    }
+    Ok(())
+}
+
+/// Whether a leaf is an arm that isn't offline, or was one that wasn't as it was detached, which isn't committed.
+fn is_flushed(slots: &Slots, leaf: u64) -> bool
+    requires { IsTable slots.now }
+    ensures answers { (q : machine.Core) → HasSlots slots.now q → leaf_answers q leaf ≡ true → result ≡ true }
+    ensures online { (q : machine.Core) → HasSlots slots.now q → result ≡ true → IsOnline q leaf }
+{
+    match slots.find(ArmKind::Leaf, leaf) {
+        Some(at) => !slots.arms(at.slot)[at.arm as usize].offline,
+        None => slots.leaving_online(leaf),
+    }
+}
+
+/// Writes the record of a group to its area, of the two, and flushes that.
+fn write_to<A: Area>(
+    alloc: Global,
+    even: &mut A,
+    odd: &mut A,
+    group: u64,
+    made: &Record,
+) -> Result<(), SealFault>
+    requires { All (λ (b : Pointer). b.first + b.stripes ≤ 2 ^ 49) made.now.blocks.items }
+    ensures stands { OnOk result (OnTold (A.told (area_by even.new odd.new group)) (Stands (told_record made.now))) }
+    ensures other { area_by even.new odd.new (group + 1) ≡ area_by even.old odd.old (group + 1) }
+    ensures refused { IfErr result (WriteRefused (A.faults (area_by even.old odd.old group)) (A.faults (area_by even.new odd.new group))) }
+{
+    let bytes = write_record(alloc, made)?;
+    if group % 2 == 0 {
+        put_record(even, &bytes)
+    } else {
+        put_record(odd, &bytes)
+    }
+}
+
+/// Puts bytes at the front of an area, and flushes it.
+fn put_record<A: Area>(area: &mut A, bytes: &[u8]) -> Result<(), SealFault>
+    ensures told { OnOk result (A.told area.new ≡ option_map (λ x. flushes (writes 0 bytes.now x)) (A.told area.old)) }
+    ensures refused { IfErr result (WriteRefused (A.faults area.old) (A.faults area.new)) }
+{
+    if let Err(fault) = area.write(0, bytes) {
+        return Err(refusal(fault));
+    }
+    match area.flush() {
+        Ok(()) => Ok(()),
+        Err(fault) => Err(refusal(fault)),
+    }
+}
+
+/// What a failure of the area of its records makes of a seal.
+fn refusal(fault: DeviceFault) -> SealFault
+    ensures failed { fault ≡ device.Failed → result ≡ seal.Area }
+    ensures memory { fault ≡ device.NoMemory → result ≡ seal.NoMemory }
+{
+    match fault {
+        DeviceFault::Failed => SealFault::Area,
+        DeviceFault::NoMemory => SealFault::NoMemory,
+    }
+}

@@ -1,0 +1,203 @@
+ghost use Rattle.std.specs.Prelude.{IfOk};
+ghost use Rattle.draid_spec.specs.Geometry.{IsGeometry};
+
+use draid_area::MemoryArea;
+use draid_names::NoMemory;
+use draid_perm::Perms;
+use draid_rack::{MemoryRack, Rack};
+use draid_shard::{OpenFault, Shard};
+use draid_shelf::Kit;
+use draid_spec::{Geometry, Props, SpecFault, geometry, parse_spec};
+use std::alloc::Global;
+use std::test::Fail;
+
+/// The record of metaslab 0 of a new pool of three disks.
+const RECORD: [u8; 84] = [
+    0x44, 0x5a, 0x52, 0x43, 0, 1, 0, 0, 0, 84, 0, 0, 0, 0, 0, 0, 0, 0, 0, 1, 0, 3, // the front
+    1, 0, 0, 0, 0, 0, 0, 0, 0, 0, 0, 0, 0, 0, 0, // slot 0
+    1, 0, 0, 0, 0, 0, 0, 0, 0, 1, 0, 0, 0, 0, 0, // slot 1
+    1, 0, 0, 0, 0, 0, 0, 0, 0, 2, 0, 0, 0, 0, 0, // slot 2
+    0, 0, 0, 0, 0, 0, 0, 0, 0, 0, 0, 0, 0, 0, 0, 0, 0, // no pass, no runs, no blocks
+];
+
+/// What is opened of a metaslab: which of four leaves stay, and how many stripes are free; or why it isn't.
+type Told = Result<([bool; 4], u64), OpenFault>;
+
+/// The layout of that pool, of 64 stripes.
+fn layout() -> Result<Geometry, SpecFault>
+    ensures { IfOk result IsGeometry }
+{
+    let props = Props {
+        sector: 512,
+        height: 8,
+        metaslabs: 1,
+        slices: 4,
+        seed: 1,
+        version: 1,
+    };
+    geometry(parse_spec(b"draid1:2d:3c", 3, 1)?, props)
+}
+
+/// Opens a metaslab from these bytes in the area of group 1, over so many leaves, each with so many sectors more than
+/// the metaslab's. Calls on the area with these numbers fail.
+fn reopened(
+    alloc: Global,
+    bytes: &[u8],
+    leaves: u32,
+    more: u64,
+    failing: &[u64],
+) -> Result<Told, Fail> {
+    let layout = layout()?;
+    let perms = Perms::new(layout.spec.children, layout.props.seed);
+    let rack = MemoryRack::new(
+        alloc,
+        leaves,
+        layout.metaslab_sectors() + more.min(1),
+        layout.props.sector,
+        Vec::new(alloc),
+    )?;
+    let even = MemoryArea::new(alloc, Vec::new(alloc), Vec::new(alloc))?;
+    let odd = MemoryArea::new(
+        alloc,
+        Vec::from_slice(alloc, bytes)?,
+        Vec::from_slice(alloc, failing)?,
+    )?;
+    let kit = Kit { rack, even, odd };
+    let next_leaf = u64::from(layout.spec.children).max(4);
+    match Shard::reopen(alloc, 0, layout, perms, kit, 10_000, 1, next_leaf) {
+        Ok(shard) => Ok(Ok((leaves_of(&shard.rack), shard.space.free_stripes()))),
+        Err(refused) => Ok(Err(refused.why)),
+    }
+}
+
+/// Which of four leaves are there.
+fn leaves_of(rack: &MemoryRack) -> [bool; 4] {
+    [
+        rack.sectors(0).is_some(),
+        rack.sectors(1).is_some(),
+        rack.sectors(2).is_some(),
+        rack.sectors(3).is_some(),
+    ]
+}
+
+/// The record where one byte is another.
+fn changed(place: usize, byte: u8) -> [u8; 84] {
+    let mut bytes = RECORD;
+    if place < 84 {
+        bytes[place] = byte;
+    }
+    bytes
+}
+
+/// The record with two blocks of a stripe each. The second begins at stripe 1, and is of object 7 and this seq; so is
+/// the first, with seq 1.
+fn with_blocks(seq: u8) -> [u8; 244] {
+    let mut bytes = [0u8; 244];
+    bytes[..84].copy_from_slice(&RECORD);
+    bytes[9] = 244;
+    bytes[79] = 1; // a run of stripes, of two
+    bytes[95] = 2;
+    bytes[99] = 2; // two blocks
+    bytes[107] = 7;
+    bytes[115] = 1;
+    bytes[127] = 1;
+    bytes[131] = 5;
+    bytes[139] = 1;
+    bytes[179] = 7;
+    bytes[187] = seq;
+    bytes[195] = 1;
+    bytes[199] = 1;
+    bytes[203] = 5;
+    bytes[211] = 1;
+    bytes
+}
+
+fn bad(at: u64, kind: u8) -> Told {
+    Err(OpenFault::Record { at, kind })
+}
+
+#[test]
+fn leaves_that_a_record_does_not_name_go(rt: HostRuntime) -> Result<(), Fail> {
+    let alloc = rt.alloc();
+    let free = layout()?.metaslab_stripes();
+    let first = [true, true, true, false];
+    assert_eq!(rt; reopened(alloc, &RECORD, 3, 0, &[])?, Ok((first, free)));
+    assert_eq!(rt; reopened(alloc, &RECORD, 4, 0, &[])?, Ok((first, free)));
+    let other = [true, false, true, true];
+    assert_eq!(rt;
+        reopened(alloc, &changed(46, 3), 4, 0, &[])?,
+        Ok((other, free))
+    );
+    Ok(())
+}
+
+#[test]
+fn leaves_that_are_not_there_are_told(rt: HostRuntime) -> Result<(), Fail> {
+    let alloc = rt.alloc();
+    for (place, byte, leaves, at) in [
+        (84, 0, 0, 24),
+        (84, 0, 1, 39),
+        (84, 0, 2, 54),
+        (31, 3, 3, 24),
+        (46, 3, 3, 39),
+        (61, 3, 3, 54),
+    ] {
+        assert_eq!(rt;
+            reopened(alloc, &changed(place, byte), leaves, 0, &[])?,
+            bad(at, 6)
+        );
+    }
+    assert_eq!(rt; reopened(alloc, &RECORD, 3, 1, &[])?, bad(24, 6));
+    Ok(())
+}
+
+#[test]
+fn faults_of_fields_come_before_those_of_leaves(rt: HostRuntime) -> Result<(), Fail> {
+    let alloc = rt.alloc();
+    for (place, byte, at, kind) in [
+        (11, 1, 10, 2),
+        (21, 4, 20, 2),
+        (31, 4, 24, 2),
+        (46, 0, 39, 2),
+        (79, 1, 80, 1),
+        (9, 83, 80, 1),
+        (9, 85, 6, 2),
+    ] {
+        assert_eq!(rt;
+            reopened(alloc, &changed(place, byte), 0, 0, &[])?,
+            bad(at, kind)
+        );
+    }
+    for (len, at, kind) in [
+        (0, 0, 1),
+        (3, 0, 1),
+        (4, 4, 1),
+        (9, 6, 1),
+        (10, 6, 2),
+        (83, 6, 2),
+    ] {
+        assert_eq!(rt; reopened(alloc, &RECORD[..len], 0, 0, &[])?, bad(at, kind));
+    }
+    Ok(())
+}
+
+#[test]
+fn blocks_that_stand_twice_are_told_last(rt: HostRuntime) -> Result<(), Fail> {
+    let alloc = rt.alloc();
+    let free = layout()?.metaslab_stripes().saturating_sub(2);
+    let first = [true, true, true, false];
+    assert_eq!(rt;
+        reopened(alloc, &with_blocks(2), 3, 0, &[])?,
+        Ok((first, free))
+    );
+    assert_eq!(rt; reopened(alloc, &with_blocks(1), 3, 0, &[])?, bad(172, 5));
+    assert_eq!(rt; reopened(alloc, &with_blocks(1), 2, 0, &[])?, bad(54, 6));
+    Ok(())
+}
+
+#[test]
+fn an_area_that_fails_is_told(rt: HostRuntime) -> Result<(), Fail> {
+    let told = reopened(rt.alloc(), &RECORD, 3, 0, &[0])?;
+    assert_eq!(rt; told, Err(OpenFault::Area));
+    Ok(())
+}
