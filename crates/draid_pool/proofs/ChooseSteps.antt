@@ -1,5 +1,5 @@
 -- Every metaslab of a pool is looked at, and one is chosen.
-use Rattle.std.proofs.Common.{◌≡◌, ◌≤◌, ◌<◌, ◌+◌, ◌-◌, ◌/◌, ◌++◌, ◌∙◌, ◌⊎◌, inl, inr, ℕ, zero, suc, List, [], ◌∷◌, Option, Some, None, Ok, Err, arith, refl, sym, ap, subst, slice_set, slice_index_or, length, max, length-append}
+use Rattle.std.proofs.Common.{◌≡◌, ◌≤◌, ◌<◌, ◌+◌, ◌-◌, ◌/◌, ◌++◌, ◌∙◌, inl, inr, ℕ, zero, suc, List, [], ◌∷◌, Option, Some, None, Ok, Err, arith, refl, sym, ap, subst, slice_index_or, length, length-append}
 use Rattle.std.specs.Prelude.{slice_get, All, nat_eq, Result}
 use Rattle.std.specs.HashMap.{get}
 use Rattle.std.specs.List.{AllZip}
@@ -9,14 +9,11 @@ use Rattle.draid_names.specs.declared.numbers.TheConstants.{LAST_NUMBER}
 use Rattle.draid_names.specs.declared.refusal.WriteFault.{WriteFault}
 use Rattle.draid_names.specs.declared.refusal.WriteFault.TheVariants as fault
 use Rattle.draid_names.specs.declared.room.Room.{Room}
-use Rattle.draid_names.specs.declared.pointer.Pointer.{Pointer}
 use Rattle.draid_rack.specs.declared.Rack as racks
 use Rattle.draid_area.specs.declared.Area as areas
 use Rattle.draid_spec.specs.declared.layout.Geometry.{Geometry}
 use Rattle.draid_perm.specs.declared.perms.Perms.{Perms}
 use Rattle.draid_choose.specs.Rooms.{Picks}
-use Rattle.draid_block.specs.Blocks.{cut_of}
-use Rattle.draid_block.specs.Columns.{stripes_of}
 use Rattle.draid_machine.specs.State as machine
 use Rattle.draid_machine.specs.Step.{Fits}
 use Rattle.draid_layouts.specs.Layout.{layout_of}
@@ -28,26 +25,25 @@ use Rattle.draid_shard.specs.Calls as calls
 use Rattle.draid_shard.specs.Calls.{IsWornFor, TakesBlocks, block_events}
 use Rattle.draid_shard.specs.Fits.{Valid, owed_for_group, owed_for_pass}
 use Rattle.draid_shard.specs.Part.{Part, layout_in}
-use Rattle.draid_shard.specs.States.{IsIn, layout_by, part_of}
+use Rattle.draid_shard.specs.States.{layout_by, part_of}
 use Rattle.draid_shard.proofs.Standing.{has_layout}
 use Rattle.std.proofs.lemmas.Nat.{div-add-mod', le-div}
 use Rattle.draid_shard.specs.declared.fault.Shut.{Shut}
 use Rattle.draid_shard.specs.declared.fault.Shut.TheVariants as shut
 use Rattle.draid_shard.specs.declared.shard.Shard.{Shard}
 use Rattle.draid_shard.proofs.OwedAll.{owed_is}
-use Rattle.draid_session.specs.Follows as follows
 use Rattle.draid_session.specs.Follows.{Follows}
 use Rattle.draid_session.specs.Holds.{Hold, Looked, On, View, view_of}
 use Rattle.draid_session.specs.Looks.{CountIs, Looks, LooksFrom, OnlyLooks}
 use Rattle.draid_session.specs.Rooms as rooms_of
 use Rattle.draid_session.specs.Rooms.{IsDisabled, IsFull, IsRoomOf, IsShut, IsWornForBlock, LooksForRoom, longest, stripes_for}
-use Rattle.draid_session.specs.State.{Metaslab, State, Store}
+use Rattle.draid_session.specs.State.{Metaslab, State}
 use Rattle.draid_session.specs.Worn.{IsWorn}
 use Rattle.draid_session.specs.Writes.{Chooses}
 use Rattle.draid_pool.specs.Answers.{WriteDoes, WriteInDoes}
 use Rattle.draid_pool.specs.Carries.{CarriesOut}
 use Rattle.draid_pool.specs.Metaslabs.{IsMetaslab}
-use Rattle.draid_pool.specs.Pools.{Represents, Stands, part_in}
+use Rattle.draid_pool.specs.Pools.{Represents, Stands}
 use Rattle.draid_pool.specs.Shards.{AreShut, HasRoom, HasRoomAt, IsNoSpace, RoomIs, ShutIs}
 use Rattle.draid_pool.specs.declared.pool.Pool.{Pool}
 use Rattle.draid_pool.proofs.FreeSteps.{metaslab_there}

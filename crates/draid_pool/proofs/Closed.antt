@@ -1,6 +1,6 @@
 -- The devices of a pool's metaslabs are given back to a shelf.
-use Rattle.std.proofs.Common.{arith, ◌≡◌, ◌==◌, ◌+◌, ◌<◌, ◌≤◌, ◌++◌, ◌∙◌, inl, inr, ℕ, List, [], ◌∷◌, Option, Some, None, refl, sym, ap, subst, length, length-append, if◌then◌else◌}
-use Rattle.std.specs.Prelude.{Bool, true, false, IsSomeAnd, MatchOption, slice_get, option_and_then, option_map}
+use Rattle.std.proofs.Common.{arith, ◌≡◌, ◌==◌, ◌+◌, ◌≤◌, ◌++◌, ◌∙◌, inl, inr, ℕ, List, [], ◌∷◌, Option, Some, None, refl, sym, ap, subst, length, length-append, if◌then◌else◌}
+use Rattle.std.specs.Prelude.{Bool, true, false, IsSomeAnd, MatchOption, slice_get}
 use Rattle.std.proofs.lemmas.Bool.{cases_eq}
 use Rattle.std.proofs.lemmas.Bool.Decides.{nat_tests}
 use Rattle.std.proofs.lemmas.List.{append-nil, append_assoc}

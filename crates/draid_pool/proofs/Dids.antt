@@ -1,6 +1,6 @@
 -- A shard that stands for a metaslab stands for the one behind a call's event, or behind a call without one.
-use Rattle.std.proofs.Common.{◌≡◌, ◌≤◌, ◌<◌, ◌+◌, ◌-◌, ◌^◌, ◌==◌, ◌++◌, ◌∙◌, [], ◌∷◌, ℕ, Bool, List, Option, Some, None, arith, refl, sym, ap, subst, max, min}
-use Rattle.std.specs.Prelude.{slice_get, count_by}
+use Rattle.std.proofs.Common.{◌≡◌, ◌≤◌, ◌+◌, ◌-◌, ◌^◌, ◌==◌, ◌++◌, ◌∙◌, [], ◌∷◌, ℕ, List, Option, Some, None, arith, refl, sym, ap, subst, min}
+use Rattle.std.specs.Prelude.{count_by}
 use Rattle.draid_rack.specs.Rack.{Told}
 use Rattle.draid_rack.specs.declared.Rack as racks
 use Rattle.draid_area.specs.declared.Area as areas
@@ -14,11 +14,11 @@ use Rattle.draid_shard.specs.Calls.{ActsOn, OnBothTold, SameAreas, SameKit, Same
 use Rattle.draid_shard.specs.Fits.{Valid}
 use Rattle.draid_shard.specs.Part.{Part, layout_in}
 use Rattle.draid_shard.specs.Stands.{StandsFor}
-use Rattle.draid_shard.specs.States.{Does, DoesNone, layout_by, part_of, stored_in}
+use Rattle.draid_shard.specs.States.{Does, DoesNone, layout_by, part_of}
 use Rattle.draid_shard.specs.declared.shard.Shard.{Shard}
 use Rattle.draid_shard.proofs.Standing.{event_stands, none_stands}
-use Rattle.draid_session.specs.Follows.{Acts, Adds, CountsRise, HarmBoth, HarmBy, Rests, failed_in, uses}
-use Rattle.draid_session.specs.Holds.{Did, Looked, Reserved}
+use Rattle.draid_session.specs.Follows.{Acts, CountsRise, HarmBoth, HarmBy, failed_in, uses}
+use Rattle.draid_session.specs.Holds.{Did}
 use Rattle.draid_session.specs.State.{Counts, Metaslab}
 use Rattle.draid_pool.specs.Metaslabs.{IsMetaslab, counts_of, harm_of}
 

@@ -1,20 +1,20 @@
 -- The blocks of a pool of which one is another now, as the pool holds its objects.
-use Rattle.std.proofs.Common.{◌≡◌, ◌≢◌, ◌==◌, ◌≤◌, ◌<◌, ◌+◌, ◌⊎◌, ◌∙◌, inl, inr, ℕ, Bool, true, false, List, [], ◌∷◌, Option, Some, None, arith, refl, sym, ap, subst}
+use Rattle.std.proofs.Common.{◌≡◌, ◌≢◌, ◌==◌, ◌≤◌, ◌∙◌, inl, inr, ℕ, Bool, true, false, List, ◌∷◌, Option, Some, arith, refl, sym, ap, subst}
 use Rattle.sha2.specs.Sha256.{sha256}
 use Rattle.draid_spec.specs.declared.layout.Geometry.{Geometry}
 use Rattle.draid_machine.specs.declared.names.Held.{Held}
 use Rattle.draid_machine.specs.declared.names.Key.{Key}
 use Rattle.draid_machine.specs.declared.names.Stage.TheVariants as stage
-use Rattle.draid_machine.specs.Names.{is_block, key_eq}
+use Rattle.draid_machine.specs.Names.{is_block}
 use Rattle.draid_objects.specs.Blocks.{Blocks, Sets}
-use Rattle.draid_objects.specs.Changes.{Change, Freed, Write, key_of, write_by, write_of}
-use Rattle.draid_objects.specs.Stores.{IsFloor, IsOnlyLive, Stores}
-use Rattle.draid_objects.proofs.Finding.{other_changes, write_object}
+use Rattle.draid_objects.specs.Changes.{Change, Freed, Write, key_of, write_of}
+use Rattle.draid_objects.specs.Stores.{IsFloor, IsOnlyLive}
+use Rattle.draid_objects.proofs.Finding.{other_changes}
 use Rattle.draid_objects.proofs.Keeping.{floor_up, freed_floor, freed_object_floor, object_freed, older_freed}
 use Rattle.draid_objects.proofs.Sealing.{set_cases}
 use Rattle.draid_segments.specs.Segments.{Pieces}
 use Rattle.draid_session.specs.State.{Store}
-use Rattle.draid_pool.specs.Objects.{HasPieces, HoldsObjects, IsLastAt}
+use Rattle.draid_pool.specs.Objects.{HoldsObjects, IsLastAt}
 
 some_is : {A : Type 0} (o : Option A) (x y : A) → o ≡ Some x → o ≡ Some y → x ≡ y
 some_is o x y a b = (let h = sym a ∙ b in cc)

@@ -1,5 +1,5 @@
 -- An object of a pool is freed.
-use Rattle.std.proofs.Common.{◌≡◌, ◌==◌, ◌&&◌, ◌≤◌, ◌<◌, ◌+◌, ◌⊎◌, ◌∙◌, inl, inr, ℕ, Bool, true, false, List, [], ◌∷◌, Option, Some, None, Ok, Err, arith, refl, sym, ap, ap₂, subst, slice_set, slice_index_or, length, max, if◌then◌else◌}
+use Rattle.std.proofs.Common.{◌≡◌, ◌==◌, ◌&&◌, ◌≤◌, ◌+◌, ◌∙◌, inl, inr, ℕ, Bool, true, false, List, [], ◌∷◌, Option, Some, None, Ok, Err, arith, refl, sym, ap, subst, slice_set, slice_index_or, length, max, if◌then◌else◌}
 use Rattle.std.specs.Prelude.{slice_get, nat_eq, cond}
 use Rattle.std.specs.HashMap.{get}
 use Rattle.std.proofs.lemmas.Option.{get_or_from_slice_get, slice_get_within}
@@ -23,12 +23,11 @@ use Rattle.draid_machine.proofs.Small.{absurd_test, equal, is_equal}
 use Rattle.std.proofs.lemmas.Bool.Decides.{nat_tests}
 use Rattle.draid_entries.specs.Maps.{key_of}
 use Rattle.draid_shard.specs.Calls.{IsLive}
-use Rattle.draid_shard.specs.Fits.{AreGroups, Valid}
+use Rattle.draid_shard.specs.Fits.{AreGroups}
 use Rattle.draid_shard.specs.Part.{Part}
 use Rattle.draid_shard.specs.declared.shard.Shard.{Shard}
-use Rattle.draid_session.specs.Holds.{Did, Hold, On, view_of}
+use Rattle.draid_session.specs.Holds.{Did, On, view_of}
 use Rattle.draid_session.specs.State.{Metaslab, State, Store}
-use Rattle.draid_session.specs.Writes.{FreesBlock}
 use Rattle.draid_pool.specs.Answers.{FreeDoes}
 use Rattle.draid_pool.specs.Carries.{CarriesOut}
 use Rattle.draid_pool.specs.Metaslabs.{IsMetaslab}
@@ -38,8 +37,7 @@ use Rattle.draid_pool.specs.Shards.{FreesIn, Goes}
 use Rattle.draid_pool.specs.declared.fault.FreeFault.{FreeFault}
 use Rattle.draid_pool.specs.declared.pool.Pool.{Pool}
 use Rattle.draid_pool.proofs.Entering.{freed_holds, freed_only, only_live}
-use Rattle.draid_pool.proofs.Lists.{present, some_of}
-use Rattle.draid_pool.proofs.Lives.{held_by}
+use Rattle.draid_pool.proofs.Lists.{present}
 use Rattle.draid_pool.proofs.Moved.{Turned, blocks_at, follows_one, moves_one, pointer_on, stands_turned, turn, turn_back, with_metaslab}
 
 -- ---- the table

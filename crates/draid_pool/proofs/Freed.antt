@@ -1,5 +1,5 @@
 -- A block is freed in its shard.
-use Rattle.std.proofs.Common.{◌≡◌, ◌≤◌, ◌<◌, ◌+◌, ◌∙◌, [], ◌∷◌, ℕ, List, Option, Some, arith, refl, sym, ap, ap₂, subst, max}
+use Rattle.std.proofs.Common.{◌≡◌, ◌≤◌, ◌∙◌, [], ◌∷◌, ℕ, refl, sym, ap, max}
 use Rattle.draid_names.specs.declared.numbers.TheConstants.{LAST_NUMBER}
 use Rattle.draid_names.specs.declared.pointer.Pointer.{Pointer}
 use Rattle.draid_rack.specs.declared.Rack as racks
@@ -10,7 +10,7 @@ use Rattle.draid_segments.specs.Segments.{Pieces}
 use Rattle.draid_entries.specs.Maps.{key_of}
 use Rattle.draid_shard.specs.Calls.{SameKit, SameReserve}
 use Rattle.draid_shard.specs.Fits.{Valid}
-use Rattle.draid_shard.specs.Part.{Part, layout_in}
+use Rattle.draid_shard.specs.Part.{Part}
 use Rattle.draid_shard.specs.States.{Does}
 use Rattle.draid_shard.specs.declared.shard.Shard.{Shard}
 use Rattle.draid_session.specs.Holds.{Did, On, view_of}

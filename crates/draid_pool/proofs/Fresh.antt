@@ -1,5 +1,5 @@
 -- A pool that was just created.
-use Rattle.std.proofs.Common.{arith, ◌≡◌, ◌+◌, ◌<◌, ◌≤◌, ◌∙◌, ◌⊎◌, inl, inr, ℕ, zero, suc, Bool, true, false, List, [], ◌∷◌, Option, Some, None, Ok, refl, sym, ap, subst, length, map}
+use Rattle.std.proofs.Common.{arith, ◌≡◌, ◌<◌, ◌∙◌, ◌⊎◌, inl, inr, ℕ, zero, suc, false, List, [], ◌∷◌, Option, Some, None, refl, sym, ap, subst, length, map}
 use Rattle.std.specs.Prelude.{IsSomeAnd, MatchOption, nat_eq, slice_get}
 use Rattle.std.specs.HashMap.{get}
 use Rattle.std.proofs.lemmas.Bool.{cases_lt}
@@ -12,28 +12,25 @@ use Rattle.draid_rack.specs.declared.Rack as racks
 use Rattle.draid_area.specs.Area.{Content}
 use Rattle.draid_area.specs.declared.Area as areas
 use Rattle.draid_spec.specs.declared.layout.Geometry.{Geometry}
-use Rattle.draid_spec.specs.declared.layout.Props.{Props}
-use Rattle.draid_spec.specs.declared.spec.Spec.{Spec}
-use Rattle.draid_spec.specs.Geometry.{IsGeometry, geometry_of}
+use Rattle.draid_spec.specs.Geometry.{IsGeometry}
 use Rattle.draid_perm.specs.declared.perms.Perms.{Perms}
 use Rattle.draid_machine.specs.declared.names.Key.{Key}
 use Rattle.draid_machine.specs.declared.names.Held.{Held as Block}
 use Rattle.draid_machine.specs.Created.{created}
-use Rattle.draid_machine.specs.State as machine
 use Rattle.draid_objects.specs.Blocks.{Blocks, none_held}
 use Rattle.draid_objects.proofs.Keeping.{none_floor, none_stored}
 use Rattle.draid_segments.specs.Segments.{Backed, Pieces}
 use Rattle.draid_segments.proofs.Beginning.{created_backed}
 use Rattle.draid_shelf.specs.Kits.{AreNewChecks, CheckCounts, Held, IsNewArea, IsNewKit, IsNewPool, IsUncounted, KitCounts, KitTold, OnHeld, kit_of, uber_bytes}
 use Rattle.draid_shard.specs.Part.{Part, layout_in}
-use Rattle.draid_shard.specs.States.{IsIn, layout_by, part_of}
+use Rattle.draid_shard.specs.States.{IsIn, layout_by}
 use Rattle.draid_shard.specs.declared.shard.Shard.{Shard}
-use Rattle.draid_session.specs.State.{Counts, Metaslab, State}
+use Rattle.draid_session.specs.State.{Metaslab, State}
 use Rattle.draid_pool.specs.Closing.{OwnCounts, kit_in}
 use Rattle.draid_pool.specs.Metaslabs.{IsMetaslab, counts_of, harm_of}
 use Rattle.draid_pool.specs.Objects.{PointsTo, blocks_of}
-use Rattle.draid_pool.specs.Opening.{AreOpened, IsAsBefore, IsAway, IsBackAgain, IsCalm, IsFresh, IsMade, IsNew, IsOpened, NoOwn, Opens, SameHeld, SameKitCounts, TakesBelow, TakesFirst}
-use Rattle.draid_pool.specs.Pools.{Represents, part_in}
+use Rattle.draid_pool.specs.Opening.{AreOpened, IsAway, IsBackAgain, IsCalm, IsMade, IsNew, IsOpened, NoOwn, Opens, SameHeld, TakesFirst}
+use Rattle.draid_pool.specs.Pools.{Represents}
 use Rattle.draid_pool.specs.declared.pool.Pool.{Pool}
 use Rattle.draid_pool.proofs.Lists.{ext, some_of}
 

@@ -1,5 +1,5 @@
 -- One metaslab of a pool moves, and the others stay.
-use Rattle.std.proofs.Common.{◌≡◌, ◌≢◌, ◌==◌, ◌≤◌, ◌<◌, ◌+◌, ◌⊎◌, ◌∙◌, inl, inr, ℕ, Bool, true, false, List, [], ◌∷◌, Option, Some, None, arith, refl, sym, ap, subst, slice_set, length, if◌then◌else◌}
+use Rattle.std.proofs.Common.{◌≡◌, ◌==◌, ◌≤◌, ◌+◌, ◌∙◌, inl, inr, ℕ, Bool, true, false, List, [], ◌∷◌, Option, Some, arith, refl, sym, ap, subst, slice_set, length, if◌then◌else◌}
 use Rattle.std.specs.Prelude.{slice_get, option_map}
 use Rattle.std.proofs.lemmas.Bool.{cases_eq}
 use Rattle.std.proofs.lemmas.List.{length-set}
@@ -7,25 +7,21 @@ use Rattle.draid_names.specs.declared.numbers.TheConstants.{LAST_NUMBER}
 use Rattle.draid_names.specs.declared.pointer.Pointer.{Pointer}
 use Rattle.draid_rack.specs.declared.Rack as racks
 use Rattle.draid_area.specs.declared.Area as areas
-use Rattle.draid_machine.specs.declared.names.Held.{Held}
 use Rattle.draid_machine.specs.declared.names.Key.{Key}
-use Rattle.draid_machine.specs.declared.names.Stage.TheVariants.{Live}
-use Rattle.draid_machine.specs.State as machine
 use Rattle.draid_machine.proofs.Small.{equal, is_equal}
 use Rattle.draid_segments.specs.Segments.{Pieces}
-use Rattle.draid_objects.specs.Blocks.{Blocks, MovesOne, table_of}
+use Rattle.draid_objects.specs.Blocks.{MovesOne, table_of}
 use Rattle.draid_objects.specs.Changes.{Write, write_of}
-use Rattle.draid_entries.specs.Maps.{held_at, key_of, staged}
+use Rattle.draid_entries.specs.Maps.{key_of}
 use Rattle.draid_shard.specs.Calls.{IsLive}
 use Rattle.draid_shard.specs.Part.{Part, layout_in}
-use Rattle.draid_shard.specs.States.{part_of}
 use Rattle.draid_shard.specs.declared.shard.Shard.{Shard}
 use Rattle.draid_session.specs.Follows as follows
 use Rattle.draid_session.specs.Follows.{Follows}
 use Rattle.draid_session.specs.Holds.{Hold}
 use Rattle.draid_session.specs.State.{Metaslab, State, Store}
 use Rattle.draid_pool.specs.Metaslabs.{IsMetaslab}
-use Rattle.draid_pool.specs.Objects.{HasGroups, HoldsObjects, IsPointerOf, PointsTo, blocks_of, worlds_of}
+use Rattle.draid_pool.specs.Objects.{HoldsObjects, IsPointerOf, PointsTo, blocks_of, worlds_of}
 use Rattle.draid_pool.specs.Pools.{Stands, part_in}
 use Rattle.draid_pool.specs.Shards.{FollowsIn}
 use Rattle.draid_pool.specs.declared.pool.Pool.{Pool}

@@ -1,9 +1,8 @@
 -- The metaslabs of a new pool are opened over the devices that were made for them.
-use Rattle.std.proofs.Common.{arith, ◌≡◌, ◌==◌, ◌+◌, ◌<◌, ◌≤◌, ◌++◌, ◌∙◌, ◌⊎◌, inl, inr, ℕ, zero, suc, List, [], ◌∷◌, Option, Some, None, refl, sym, ap, subst, length, length-append, if◌then◌else◌}
+use Rattle.std.proofs.Common.{arith, ◌≡◌, ◌+◌, ◌<◌, ◌≤◌, ◌++◌, ◌∙◌, ◌⊎◌, inl, inr, ℕ, zero, suc, List, [], ◌∷◌, Option, Some, None, refl, sym, ap, subst, length, length-append}
 use Rattle.std.specs.Prelude.{MatchOption, slice_get}
 use Rattle.std.proofs.lemmas.Bool.{cases_eq, cases_lt}
 use Rattle.std.proofs.lemmas.Option.{slice_get_within}
-use Rattle.draid_names.specs.Faults.{Rose}
 use Rattle.draid_rack.specs.Rack.{Shape}
 use Rattle.draid_rack.specs.declared.Rack as racks
 use Rattle.draid_area.specs.declared.Area as areas
@@ -11,7 +10,7 @@ use Rattle.draid_spec.specs.declared.layout.Geometry.{Geometry}
 use Rattle.draid_perm.specs.declared.perms.Perms.{Perms}
 use Rattle.draid_map.specs.Place.{IsLayout}
 use Rattle.draid_machine.specs.Created.{created}
-use Rattle.draid_shelf.specs.Kits.{Held, KitCounts, KitTold, OnHeld, kit_of, puts_kit, takes_kit}
+use Rattle.draid_shelf.specs.Kits.{Held, KitCounts, KitTold, OnHeld, kit_of, takes_kit}
 use Rattle.draid_shelf.specs.Shelf.{SameOthers}
 use Rattle.draid_shelf.specs.declared.kit.Kit.{Kit}
 use Rattle.draid_entries.specs.History.{limit_in, reserved_of}
@@ -21,7 +20,7 @@ use Rattle.draid_shard.specs.States.{IsIn, part_of, stored_in}
 use Rattle.draid_shard.specs.declared.shard.Shard.{Shard}
 use Rattle.draid_session.specs.State.{limit_of}
 use Rattle.draid_pool.specs.Closing.{Returns, TakesBack, kit_in}
-use Rattle.draid_pool.specs.Opening.{AreOpened, IsBackAgain, IsOpened, SameHeld, SameKitCounts, TakesBelow, TakesFirst}
+use Rattle.draid_pool.specs.Opening.{AreOpened, IsBackAgain, IsOpened, SameHeld, TakesFirst}
 use Rattle.draid_pool.proofs.Closed.{at_end, put_here, put_there}
 use Rattle.draid_pool.proofs.Lists.{present, some_of}
 

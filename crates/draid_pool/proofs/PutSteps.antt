@@ -1,5 +1,5 @@
 -- The columns of a block are put, one after another.
-use Rattle.std.proofs.Common.{◌≡◌, ◌≤◌, ◌<◌, ◌+◌, ◌++◌, ◌∙◌, [], ◌∷◌, ℕ, zero, suc, Bool, false, List, Option, Some, arith, refl, sym, ap, subst, if◌then◌else◌}
+use Rattle.std.proofs.Common.{◌≡◌, ◌+◌, ◌++◌, ◌∙◌, [], ◌∷◌, ℕ, zero, suc, false, List, Option, arith, refl, sym, ap, subst, if◌then◌else◌}
 use Rattle.draid_names.specs.declared.pointer.Pointer.{Pointer}
 use Rattle.draid_rack.specs.declared.Rack as racks
 use Rattle.draid_area.specs.declared.Area as areas
@@ -18,7 +18,6 @@ use Rattle.draid_shard.specs.Calls.{Puts, SameAreas, SameReserve}
 use Rattle.draid_shard.specs.Columns.{ArePieces}
 use Rattle.draid_shard.specs.Fits.{Valid}
 use Rattle.draid_shard.specs.Part.{Part, layout_in}
-use Rattle.draid_shard.specs.States.{part_of}
 use Rattle.draid_shard.specs.declared.shard.Shard.{Shard}
 use Rattle.draid_shard.specs.declared.ticket.Ticket.{Ticket}
 use Rattle.draid_session.specs.Follows.{Acts}

@@ -1,16 +1,13 @@
 -- A block is written to its shard: a ticket, its columns, and its end.
-use Rattle.std.proofs.Common.{◌≡◌, ◌≤◌, ◌<◌, ◌+◌, ◌++◌, ◌∙◌, ◌⊎◌, inl, inr, [], ◌∷◌, ℕ, Bool, true, false, List, Option, Some, None, Ok, Err, arith, refl, sym, ap, ap₂, subst, max, length, nat_lt, if◌then◌else◌}
-use Rattle.sha2.specs.Sha256.{sha256}
+use Rattle.std.proofs.Common.{◌≡◌, ◌≤◌, ◌<◌, ◌+◌, ◌++◌, ◌∙◌, inl, inr, [], ◌∷◌, ℕ, Bool, true, false, List, Option, Some, None, arith, refl, sym, ap, ap₂, subst, max, length, nat_lt, if◌then◌else◌}
 use Rattle.draid_names.specs.declared.numbers.TheConstants.{LAST_NUMBER}
 use Rattle.draid_names.specs.declared.pointer.Pointer.{Pointer}
-use Rattle.draid_spec.specs.declared.layout.Geometry.{Geometry}
 use Rattle.draid_rack.specs.Rack.{OnTold, Told}
 use Rattle.draid_rack.specs.declared.Rack as racks
 use Rattle.draid_area.specs.declared.Area as areas
 use Rattle.draid_parity.specs.Columns.{column_at}
 use Rattle.draid_block.specs.Blocks.{BlockValue, cut_of}
 use Rattle.draid_block.specs.Columns.{stripes_of}
-use Rattle.draid_machine.specs.declared.event.Event.{Event}
 use Rattle.draid_machine.specs.declared.event.Event.TheVariants as event
 use Rattle.draid_machine.specs.declared.names.Held.{Held}
 use Rattle.draid_machine.specs.declared.names.Key.{Key}
@@ -24,36 +21,33 @@ use Rattle.std.specs.Prelude.{IsSome}
 use Rattle.draid_block.specs.Blocks.{AreColumns}
 use Rattle.draid_entries.specs.Owed.{IsOwed}
 use Rattle.draid_machine.specs.State as machine
-use Rattle.draid_machine.specs.Step.{Fits, HoldsFewer, IsEnabled}
-use Rattle.draid_machine.proofs.Small.{key_refl, key_true, none_some}
+use Rattle.draid_machine.proofs.Small.{key_refl, key_true}
 use Rattle.draid_segments.specs.Segments.{Backed, Pieces}
 use Rattle.draid_segments.proofs.Beginning.{pieces_backed}
 use Rattle.draid_entries.specs.Entries.{held_in}
-use Rattle.draid_entries.specs.History.{left_for_groups, limit_in, reserved_of, stored_of}
+use Rattle.draid_entries.specs.History.{stored_of}
 use Rattle.draid_entries.specs.Maps.{held_at, key_of, staged}
-use Rattle.draid_shard.specs.Calls.{BeginRefused, Carries, IsOpen, IsTicketOf, IsWornFor, SameKit, SameReserve, begins, block_events}
+use Rattle.draid_shard.specs.Calls.{BeginRefused, Carries, IsTicketOf, IsWornFor, SameKit, SameReserve, begins, block_events}
 use Rattle.draid_shard.specs.Columns.{ArePieces, row_bytes}
 use Rattle.draid_shard.specs.Fits.{Valid}
 use Rattle.draid_shard.specs.Part.{Part, layout_in}
-use Rattle.draid_shard.specs.Stands.{StandsFor}
-use Rattle.draid_shard.specs.States.{Does, IsIn, layout_by, part_of, stored_in}
+use Rattle.draid_shard.specs.States.{Does, layout_by, part_of}
 use Rattle.draid_shard.specs.declared.fault.BeginFault.TheVariants as begin
 use Rattle.draid_shard.specs.declared.shard.Shard.{Shard}
 use Rattle.draid_shard.specs.declared.ticket.Ticket.{Ticket}
 use Rattle.draid_shard.proofs.Held.{key_leads}
 use Rattle.draid_shard.proofs.OwedAll.{owed_is}
 use Rattle.draid_shard.proofs.Standing.{has_layout}
-use Rattle.draid_session.specs.Holds.{Did, Hold, On, View, view_of}
+use Rattle.draid_session.specs.Holds.{Did, Hold, On, view_of}
 use Rattle.draid_session.specs.Rooms.{IsShut, stripes_for}
-use Rattle.draid_session.specs.State.{Metaslab, limit_of}
+use Rattle.draid_session.specs.State.{Metaslab}
 use Rattle.draid_session.specs.Worn.{IsWorn}
-use Rattle.draid_session.specs.Writes.{HasMissed, PutsColumns, WritesBlock}
+use Rattle.draid_session.specs.Writes.{PutsColumns, WritesBlock}
 use Rattle.draid_pool.specs.Metaslabs.{IsMetaslab}
-use Rattle.draid_pool.specs.Objects.{HasPieces}
-use Rattle.draid_pool.specs.Shards.{FollowsIn, Goes, HasRoom, IsStored, NotStored, SameBut, SamePieces, Stored}
+use Rattle.draid_pool.specs.Shards.{FollowsIn, Goes, HasRoom, NotStored, SameBut, SamePieces, Stored}
 use Rattle.draid_pool.proofs.Dids.{Done, did_quiet}
 use Rattle.draid_pool.proofs.Lists.{some_of}
-use Rattle.draid_pool.proofs.Lives.{held_by, live_by}
+use Rattle.draid_pool.proofs.Lives.{live_by}
 use Rattle.draid_pool.proofs.PutSteps.{follows_more, set_other, set_own}
 
 -- ---- pieces

@@ -1,11 +1,10 @@
 -- A block of an object is written to a metaslab of a pool.
-use Rattle.std.proofs.Common.{◌≡◌, ◌≢◌, ◌==◌, ◌≤◌, ◌<◌, ◌+◌, ◌++◌, ◌⊎◌, ◌∙◌, inl, inr, ℕ, Bool, true, false, List, [], ◌∷◌, Option, Some, None, Ok, Err, arith, refl, sym, ap, subst, slice_set, slice_index_or, length, max, cond, if◌then◌else◌}
+use Rattle.std.proofs.Common.{◌≡◌, ◌==◌, ◌≤◌, ◌<◌, ◌+◌, ◌++◌, ◌⊎◌, ◌∙◌, inl, inr, ℕ, Bool, true, false, List, [], ◌∷◌, Option, Some, None, Ok, Err, arith, refl, sym, ap, subst, slice_set, slice_index_or, if◌then◌else◌}
 use Rattle.std.specs.Prelude.{slice_get, nat_eq}
 use Rattle.std.specs.HashMap.{get}
 use Rattle.std.proofs.lemmas.Option.{get_or_from_slice_get}
 use Rattle.std.proofs.lemmas.Bool.{cases_eq}
 use Rattle.sha2.specs.Sha256.{sha256}
-use Rattle.draid_names.specs.declared.numbers.TheConstants.{LAST_NUMBER}
 use Rattle.draid_names.specs.declared.pointer.Pointer.{Pointer}
 use Rattle.draid_names.specs.declared.refusal.WriteFault.TheVariants as fault
 use Rattle.draid_spec.specs.declared.layout.Geometry.{Geometry}
@@ -16,9 +15,9 @@ use Rattle.draid_machine.specs.declared.names.Key.{Key}
 use Rattle.draid_machine.specs.declared.names.Stage.TheVariants as stage
 use Rattle.draid_machine.specs.Names.{is_block, key_eq}
 use Rattle.draid_machine.specs.After.{set_held}
-use Rattle.draid_machine.proofs.Small.{absurd_test, equal, is_equal, key_refl, key_true}
+use Rattle.draid_machine.proofs.Small.{equal, is_equal, key_refl, key_true}
 use Rattle.draid_segments.specs.Segments.{Pieces}
-use Rattle.draid_objects.specs.Blocks.{Blocks, Sets, held_in}
+use Rattle.draid_objects.specs.Blocks.{Blocks, Sets}
 use Rattle.draid_objects.specs.Changes as changes
 use Rattle.draid_objects.specs.Changes.{Change, Write, Wrote, write_by, write_of}
 use Rattle.draid_objects.specs.Stores.{IsBlockOf}
@@ -28,19 +27,19 @@ use Rattle.draid_objects.proofs.One.{one_set}
 use Rattle.draid_objects.proofs.Sealing.{set_cases}
 use Rattle.draid_entries.specs.Entries as entries
 use Rattle.draid_entries.specs.Maps.{held_at, key_of, staged}
-use Rattle.draid_shard.specs.Part.{Part, layout_in}
+use Rattle.draid_shard.specs.Part.{Part}
 use Rattle.draid_shard.specs.declared.shard.Shard.{Shard}
 use Rattle.draid_session.specs.Follows as follows
 use Rattle.draid_session.specs.Follows.{Follows, UberActs}
-use Rattle.draid_session.specs.Holds.{Committed, CommitFailed, CommitStarved, Hold, LookedUber, NextLeaf, On, OnUber, UberAct, view_of}
+use Rattle.draid_session.specs.Holds.{Committed, CommitFailed, CommitStarved, Hold, LookedUber, NextLeaf, On, OnUber, UberAct}
 use Rattle.draid_session.specs.State.{Metaslab, State, Store}
 use Rattle.draid_session.specs.Writes.{WritesBlock}
-use Rattle.draid_pool.specs.Answers.{MissesIn, ReplaceDoes, WriteInDoes, WritesIn}
+use Rattle.draid_pool.specs.Answers.{ReplaceDoes, WriteInDoes}
 use Rattle.draid_pool.specs.Carries.{CarriesOut}
 use Rattle.draid_pool.specs.Metaslabs.{IsMetaslab}
 use Rattle.draid_pool.specs.Objects.{HasPieces, HoldsObjects, IsLastAt, IsPointerOf, PointsTo, blocks_of, worlds_of}
 use Rattle.draid_pool.specs.Pools.{Awaits, Represents, Stands, part_in}
-use Rattle.draid_pool.specs.Shards.{Goes, HasRoom, IsStored, NotStored, SamePieces, StoreDoes, Stored}
+use Rattle.draid_pool.specs.Shards.{HasRoom, IsStored, NotStored, SamePieces, StoreDoes, Stored}
 use Rattle.draid_pool.specs.declared.store.StoreFault.{StoreFault}
 use Rattle.draid_pool.specs.declared.store.StoreFault.TheVariants as store_fault
 use Rattle.draid_machine.specs.State as machine
@@ -49,7 +48,7 @@ use Rattle.draid_block.specs.Columns.{stripes_of}
 use Rattle.draid_shard.specs.States.{IsIn}
 use Rattle.draid_pool.specs.declared.pool.Pool.{Pool}
 use Rattle.draid_pool.proofs.Entering.{OnlyLast}
-use Rattle.draid_pool.proofs.FreeSteps.{floor_fits, group_low, metaslab_there, pointed, points_on, points_same, same_key}
+use Rattle.draid_pool.proofs.FreeSteps.{floor_fits, group_low, metaslab_there, points_on, points_same, same_key}
 use Rattle.draid_pool.proofs.Lists.{ext, get_set_same, set_back, some_of}
 use Rattle.draid_pool.proofs.Lives.{held_by}
 use Rattle.draid_shard.specs.Calls.{IsLive}

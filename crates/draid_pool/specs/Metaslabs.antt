@@ -1,5 +1,5 @@
 -- For which metaslab of an open pool a shard stands.
-use Rattle.std.specs.Prelude.{◌≡◌, ℕ, Bool, List, Option, option_map}
+use Rattle.std.specs.Prelude.{◌≡◌, ℕ, Bool, Option, option_map}
 use Rattle.draid_rack.specs.Rack.{Told}
 use Rattle.draid_rack.specs.declared.Rack as racks
 use Rattle.draid_area.specs.declared.Area as areas

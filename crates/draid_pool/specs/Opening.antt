@@ -1,7 +1,6 @@
 -- What becomes of a shelf on which a pool is created, and of the pool.
 use Rattle.std.specs.Prelude.{◌≡◌, ◌<◌, ◌≤◌, ◌⊎◌, ℕ, Bool, false, List, [], Option, Some, None, MatchOption, IsSomeAnd, Result, Ok, Err, length, replicate, slice_get}
 use Rattle.draid_names.specs.Faults.{Rose}
-use Rattle.draid_rack.specs.Rack.{Shape}
 use Rattle.draid_rack.specs.declared.Rack as racks
 use Rattle.draid_area.specs.declared.Area as areas
 use Rattle.draid_spec.specs.declared.layout.Geometry.{Geometry}
@@ -14,7 +13,6 @@ use Rattle.draid_machine.specs.Created.{created}
 use Rattle.draid_layouts.specs.Layout.{layout_of}
 use Rattle.draid_entries.specs.History.{limit_in, reserved_of}
 use Rattle.draid_shelf.specs.Kits.{AreNewChecks, Held, IsNewArea, IsNewPool, IsUncounted, KitCounts, OnHeld, uber_bytes}
-use Rattle.draid_shelf.specs.Shelf.{HasLeavesOf, SameOthers}
 use Rattle.draid_shard.specs.Fits.{Valid}
 use Rattle.draid_shard.specs.Part.{Part, layout_in}
 use Rattle.draid_shard.specs.States.{IsIn, part_of, stored_in}

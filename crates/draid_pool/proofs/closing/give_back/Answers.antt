@@ -1,6 +1,5 @@
-use Rattle.std.proofs.Common.{arith, rules, ◌≡◌, ◌+◌, ◌∙◌, ◌++◌, List, Option, [], ◌∷◌, ap, refl, length, length-append}
-use Rattle.draid_area.specs.declared.Area as areas
-use Rattle.draid_shelf.specs.Kits.{KitTold, kit_of}
+use Rattle.std.proofs.Common.{arith, rules, ◌≡◌, ◌+◌, ◌∙◌, ◌++◌, List, [], ◌∷◌, ap, refl, length, length-append}
+use Rattle.draid_shelf.specs.Kits.{kit_of}
 use Rattle.draid_shelf.specs.declared.kit.Kit.{Kit}
 use Rattle.draid_shard.specs.declared.shard.Shard.{Shard}
 use Rattle.draid_pool.specs.Closing.{kit_in}

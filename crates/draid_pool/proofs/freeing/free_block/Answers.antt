@@ -1,4 +1,4 @@
-use Rattle.std.proofs.Common.{◌≡◌, ◌≤◌, ◌+◌, arith, max}
+use Rattle.std.proofs.Common.{arith}
 use Rattle.draid_pool.proofs.Freed.{frees}
 use Rattle.draid_pool.proofs.freeing.free_block.Goals as goal
 

@@ -1,4 +1,4 @@
-use Rattle.std.proofs.Common.{rules, ◌≡◌, ◌∙◌, inr, ℕ, refl, sym}
+use Rattle.std.proofs.Common.{rules, ◌∙◌, inr, refl, sym}
 use Rattle.draid_pool.proofs.Fresh.{away, made_again, no_own, opens}
 use Rattle.draid_pool.proofs.opening.create.Goals as goal
 

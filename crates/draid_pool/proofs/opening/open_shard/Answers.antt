@@ -1,5 +1,4 @@
-use Rattle.std.proofs.Common.{rules, ◌≡◌, ℕ, refl}
-use Rattle.draid_session.specs.State.{limit_of}
+use Rattle.std.proofs.Common.{rules}
 use Rattle.draid_pool.proofs.Opened.{opened}
 use Rattle.draid_pool.proofs.opening.open_shard.Goals as goal
 

@@ -1,4 +1,4 @@
-use Rattle.std.proofs.Common.{rules, ◌≡◌, ◌<◌, ◌≤◌, ◌+◌, ◌∙◌, Some, arith, subst, sym, Bool, true, false}
+use Rattle.std.proofs.Common.{◌≡◌, ◌+◌, ◌∙◌, arith, subst, sym, Bool, true, false}
 use Rattle.std.proofs.lemmas.Bool.{true≢false}
 use Rattle.draid_pool.proofs.Listing.{Counting, counting_all, counting_more, counting_none, counting_not}
 use Rattle.draid_pool.proofs.room.count_shut.Goals as goal

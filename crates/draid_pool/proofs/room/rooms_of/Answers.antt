@@ -1,4 +1,4 @@
-use Rattle.std.proofs.Common.{rules, ◌+◌, ◌∙◌, List, arith, subst, sym}
+use Rattle.std.proofs.Common.{rules, ◌+◌, List, arith, subst, sym}
 use Rattle.draid_names.specs.declared.room.Room.{Room}
 use Rattle.draid_shard.specs.Fits.{Valid}
 use Rattle.draid_pool.specs.Shards.{RoomIs}

@@ -1,7 +1,6 @@
-use Rattle.std.proofs.Common.{◌≡◌, ◌≤◌, ◌<◌, ◌+◌, ◌∙◌, ℕ, suc, arith, ap, refl, sym, subst}
+use Rattle.std.proofs.Common.{◌≡◌, ◌+◌, ◌∙◌, arith, ap, refl, sym, subst}
 use Rattle.draid_names.specs.declared.pointer.Pointer.{Pointer}
 use Rattle.draid_shard.specs.Part.{Part}
-use Rattle.draid_shard.specs.States.{part_of}
 use Rattle.draid_entries.specs.Maps.{key_of}
 use Rattle.draid_session.specs.Writes.{PutsColumns}
 use Rattle.draid_pool.specs.Shards.{Goes, SameBut}

@@ -1,6 +1,4 @@
-use Rattle.std.proofs.Common.{◌≡◌, ◌≤◌, ◌<◌, ◌+◌, ◌∙◌, arith, refl, sym, ap, subst, max}
-use Rattle.draid_names.specs.declared.numbers.TheConstants.{LAST_NUMBER}
-use Rattle.draid_names.specs.declared.pointer.Pointer.{Pointer}
+use Rattle.std.proofs.Common.{◌∙◌, arith, sym, ap, subst}
 use Rattle.draid_shard.specs.Part.{Part}
 use Rattle.draid_pool.specs.Shards.{NotStored, Stored}
 use Rattle.draid_pool.proofs.StoreSteps.{AllPut, Begun, Ended, not_stored, stored}
@@ -18,8 +16,8 @@ returns-in-Ok-finish g c =
       valid = e.valid;
       kit = e.kit;
       reserve = e.reserve;
-      carries = e.carries;
-      named = e.named;
+      carries = e.ticket.carries;
+      named = e.ticket.named;
       does = e.event;
       not_worn = e.not_worn;
       low = (let low = c.requires.valid.low in let last = c.requires.last in omega (arith, low, last));
@@ -57,8 +55,8 @@ returns-in-Err g c =
       valid = e.valid;
       kit = e.kit;
       reserve = e.reserve;
-      carries = e.carries;
-      named = e.named;
+      carries = e.ticket.carries;
+      named = e.ticket.named;
       does = e.event;
       not_worn = e.not_worn;
       low = (let low = c.requires.valid.low in let last = c.requires.last in omega (arith, low, last));

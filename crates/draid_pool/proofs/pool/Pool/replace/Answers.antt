@@ -1,6 +1,4 @@
-use Rattle.std.proofs.Common.{◌≡◌, ◌≤◌, ◌<◌, ◌+◌, ◌∙◌, ℕ, Some, arith, refl, sym, ap}
-use Rattle.std.specs.Prelude.{nat_eq}
-use Rattle.std.specs.HashMap.{get}
+use Rattle.std.proofs.Common.{◌∙◌, arith, refl, sym}
 use Rattle.std.proofs.lemmas.Option.{slice_get_within}
 use Rattle.draid_pool.proofs.FreeSteps.{floor_fits, floor_last, metaslab_there, pointed, shard_at}
 use Rattle.draid_pool.proofs.ReplaceSteps.{replaced_none, replaced_some}

@@ -1,4 +1,4 @@
-use Rattle.std.proofs.Common.{◌∙◌, ◌≡◌, ◌≤◌, ◌<◌, List, ℕ, [], None, Some, ap, sym, subst, length, refl, arith}
+use Rattle.std.proofs.Common.{◌∙◌, ◌≤◌, List, ℕ, None, Some, ap, sym, subst, length, arith}
 use Rattle.std.specs.Prelude.{All}
 use Rattle.std.specs.Fn.{FnReturnsAt}
 use Rattle.std.specs.List.{AllZip}

@@ -1,18 +1,9 @@
-use Rattle.std.proofs.Common.{◌≡◌, ◌≤◌, ◌<◌, ◌+◌, ◌∙◌, ℕ, [], Some, Err, arith, refl, sym, ap, subst, length, slice_get}
+use Rattle.std.proofs.Common.{◌+◌, ◌∙◌, [], arith, refl, sym, ap, length}
 use Rattle.std.specs.Vec.{with_item}
 use Rattle.std.proofs.lemmas.Option.{slice_get_within}
-use Rattle.draid_spec.specs.declared.layout.Geometry.{Geometry}
 use Rattle.draid_block.specs.Blocks.{cut_of}
-use Rattle.draid_block.specs.Columns.{Cut, stripes_of}
-use Rattle.draid_names.specs.declared.refusal.WriteFault.TheVariants as fault
-use Rattle.draid_shard.specs.declared.shard.Shard.{Shard}
-use Rattle.draid_shard.specs.States.{IsIn}
 use Rattle.draid_objects.specs.Changes.{write_of}
-use Rattle.draid_pool.specs.Answers.{WriteInDoes}
-use Rattle.draid_pool.specs.Carries.{CarriesOut}
-use Rattle.draid_pool.specs.Shards.{HasRoom, NotStored, Stored}
 use Rattle.draid_pool.specs.declared.pool.Pool.{Pool}
-use Rattle.draid_pool.specs.Pools.{part_in}
 use Rattle.draid_pool.proofs.FreeSteps.{floor_last, same_represents}
 use Rattle.draid_pool.proofs.WriteSteps.{awaits, between, borrowed, its, its_floor, its_geometry, its_room, its_unused, missed, missed_here, stored_here, unwritten, unwritten_here, wrote}
 use Rattle.draid_pool.proofs.pool.Pool.write_block.Goals as goal
