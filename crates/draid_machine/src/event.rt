@@ -3,7 +3,7 @@ use crate::names::{ArmName, Key, Segment};
 use draid_names::PassKind;
 
 /// What a scrub's landing wrote of one column on one arm.
-#[derive(Debug, Drop)]
+#[derive(Drop)]
 pub struct Patched {
     pub column: u32,
     pub arm: ArmName,
@@ -14,7 +14,7 @@ pub struct Patched {
 }
 
 /// What a call does to a metaslab. `failed` names a leaf once for each call on it that failed.
-#[derive(Debug, Drop)]
+#[derive(Drop)]
 pub enum Event {
     /// A ticket is opened.
     Begin {

@@ -1,25 +1,10 @@
 -- Members of lists, by their places.
-use Rattle.std.proofs.Common.{◌≡◌, ◌+◌, ◌<◌, ◌⊎◌, ◌||◌, ◌==◌, ℕ, zero, suc, Bool, true, false, List, [], ◌∷◌, take, get_or, length, refl, sym, ◌∙◌, inl, inr, arith}
+use Rattle.std.proofs.Common.{◌≡◌, ◌+◌, ◌<◌, ◌⊎◌, ℕ, zero, suc, true, List, [], ◌∷◌, take, get_or, length, sym, ◌∙◌, inl, inr, arith}
 use Rattle.std.proofs.lemmas.Bool.{true≢false}
-use Rattle.std.proofs.lemmas.Bool.Decides.{nat_tests}
 use Rattle.draid_machine.specs.declared.names.ArmName.{ArmName}
-use Rattle.draid_machine.specs.Names.{has_name, has_number, name_eq}
+use Rattle.draid_machine.specs.Names.{has_name, name_eq}
 use Rattle.draid_machine.proofs.Small.{either_true, name_refl, name_true, true_left, true_right}
 use Rattle.draid_passes.proofs.Changes.{has_more}
-
-pub number_at : (xs : List ℕ) (leaf : ℕ) → has_number xs leaf ≡ true → (i : ℕ) × (i < length xs) × (get_or xs i 0 ≡ leaf)
-number_at [] leaf e = absurd (true≢false (sym e))
-number_at (x ∷ xs) leaf e = by (x == leaf) refl e (number_at xs leaf)
-  where
-    by : (b : Bool) → (x == leaf) ≡ b → (b || has_number xs leaf) ≡ true → (has_number xs leaf ≡ true → (i : ℕ) × (i < length xs) × (get_or xs i 0 ≡ leaf))
-        → (i : ℕ) × (i < length (x ∷ xs)) × (get_or (x ∷ xs) i 0 ≡ leaf)
-    by true is e more = (0, omega arith, grind (arith, nat_tests))
-    by false is e more = let z = more e in (suc z.0, (let l = z.1 in omega (arith, l)), z.2)
-
-pub number_here : (xs : List ℕ) (at d : ℕ) → at < length xs → has_number xs (get_or xs at d) ≡ true
-number_here [] at d less = absurd (omega (arith, less))
-number_here (x ∷ xs) zero d less = grind (arith, nat_tests)
-number_here (x ∷ xs) (suc at) d less = let z = number_here xs at d (omega (arith, less)) in grind (arith, nat_tests)
 
 pub name_at_place : (ns : List ArmName) (n d : ArmName) → has_name ns n ≡ true → (i : ℕ) × (i < length ns) × (get_or ns i d ≡ n)
 name_at_place [] n d e = absurd (true≢false (sym e))

@@ -1,7 +1,7 @@
 use draid_names::{Arm, PassKind};
 
 /// What `status` tells of a pool.
-#[derive(Debug, Drop)]
+#[derive(Drop)]
 pub struct View {
     /// The pool's name.
     pub name: String,
@@ -18,7 +18,7 @@ pub struct View {
 }
 
 /// An arm of a child slot.
-#[derive(Debug, Drop)]
+#[derive(Drop)]
 pub struct ArmView {
     pub arm: Arm,
     /// The name of a spare; empty for a leaf.
@@ -28,7 +28,7 @@ pub struct ArmView {
 }
 
 /// A metaslab.
-#[derive(Clone, Copy, Debug, PartialEq, Eq)]
+#[derive(Clone, Copy)]
 pub struct MetaslabView {
     /// How many stripes are free.
     pub free: u64,
@@ -39,7 +39,7 @@ pub struct MetaslabView {
 }
 
 /// A pass over a metaslab.
-#[derive(Clone, Copy, Debug, PartialEq, Eq)]
+#[derive(Clone, Copy)]
 pub struct PassView {
     pub number: u64,
     pub kind: PassKind,

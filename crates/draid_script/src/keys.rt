@@ -23,7 +23,7 @@ const SEED: &[u8] = b"seed";
 const VERSION: &[u8] = b"version";
 
 /// The values of the keys that were given so far.
-#[derive(Clone, Copy, Debug, Default)]
+#[derive(Clone, Copy, Default)]
 pub struct Given {
     pub sector: Option<u32>,
     pub height: Option<u32>,

@@ -5,7 +5,7 @@ use draid_names::NoMemory;
 use std::alloc::{AllocError, AllocFailed};
 
 /// What the words ask for.
-#[derive(Debug, Drop)]
+#[derive(Drop)]
 pub enum Mode {
     /// A script from the source, on a pool in a folder, or in memory where there is none.
     Session { dir: Option<String> },

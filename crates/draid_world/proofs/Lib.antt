@@ -2,6 +2,7 @@ pub mod Anys
 pub mod Chains
 pub mod Joining
 pub mod Keeping
+pub mod Leaves
 pub mod Logs
 pub mod Maps
 pub mod Orders

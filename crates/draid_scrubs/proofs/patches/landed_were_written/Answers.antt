@@ -2,7 +2,7 @@ use Rattle.std.proofs.Common.{◌≡◌, ◌<◌, ◌≤◌, ◌∙◌, true, fa
 use Rattle.draid_machine.specs.After.{was_written}
 use Rattle.draid_machine.specs.Names.{has_number}
 use Rattle.draid_machine.proofs.Small.{absurd_test}
-use Rattle.draid_passes.proofs.Lists.{number_at, number_here}
+use Rattle.draid_world.proofs.Readings.{number_at, number_here}
 use Rattle.draid_scrubs.proofs.patches.landed_were_written.Goals as goal
 
 pub returns-then-not-was_written-clause-no : goal.returns-then-not-was_written-clause-no

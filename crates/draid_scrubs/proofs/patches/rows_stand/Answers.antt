@@ -1,7 +1,7 @@
 use Rattle.std.proofs.Common.{◌≡◌, ◌<◌, ◌≤◌, ◌∙◌, true, false, get_or, length, rules, inl, inr, arith, subst, sym, ap}
 use Rattle.std.proofs.lemmas.Bool.{cases_eq}
 use Rattle.draid_machine.specs.Names.{has_number}
-use Rattle.draid_passes.proofs.Lists.{number_at, number_here}
+use Rattle.draid_world.proofs.Readings.{number_at, number_here}
 use Rattle.draid_world.specs.World.{core_of, site_layout}
 use Rattle.draid_scrubs.specs.Patches.{RowStands}
 use Rattle.draid_scrubs.proofs.patches.rows_stand.Goals as goal

@@ -1,29 +1,21 @@
-use Rattle.std.proofs.Common.{◌≡◌, ◌<◌, ◌≤◌, true, false, get_or, length, rules, inl, inr, arith, subst, sym}
-use Rattle.std.proofs.lemmas.Bool.{cases_eq}
+use Rattle.std.proofs.Common.{◌≡◌, ◌<◌, ◌≤◌, true, false, length, rules}
 use Rattle.draid_machine.specs.Step.{HealsThere}
-use Rattle.draid_passes.proofs.Lists.{number_at, number_here}
 use Rattle.draid_world.specs.World.{core_of, site_layout}
+use Rattle.draid_world.proofs.Leaves.{holds_all, holds_more, holds_not}
 use Rattle.draid_scrubs.proofs.wholes.heals_all.Goals as goal
 
 pub returns-then-not-heals_there-clause-no : goal.returns-then-not-heals_there-clause-no
 returns-then-not-heals_there-clause-no c =
     let less : c.loop-at.at < length c.args.leaves.now = search rules in
     let fails : c.heals_there.result ≡ false = search rules in
-    λ e all. c.heals_there.ensures.no fails (all (get_or c.args.leaves.now c.loop-at.at 0) (number_here c.args.leaves.now c.loop-at.at 0 less))
+    λ e. holds_not (HealsThere (site_layout c.args.site.now) (core_of c.args.tables.now) c.args.held) c.args.leaves.now c.loop-at.at less (c.heals_there.ensures.no fails)
 
 pub loop-at-preserved : goal.loop-at-preserved
 loop-at-preserved c =
     let passes : c.heals_there.result ≡ true = search rules in
-    λ i less. elim (cases_eq i c.loop-at.at) [
-      | inl at ↦ subst (λ k. HealsThere (site_layout c.args.site.now) (core_of c.args.tables.now) c.args.held (get_or c.args.leaves.now k 0)) (sym at)
-          (c.heals_there.ensures.yes passes)
-      | inr other ↦ c.loop-at.invariant i (omega (arith, less, other))
-    ]
+    holds_more (HealsThere (site_layout c.args.site.now) (core_of c.args.tables.now) c.args.held) c.args.leaves.now c.loop-at.at (c.heals_there.ensures.yes passes) c.loop-at.invariant
 
 pub returns-clause-yes : goal.returns-clause-yes
 returns-clause-yes c =
     let past : length c.args.leaves.now ≤ c.loop-at.at = search rules in
-    λ e leaf has.
-    let z = number_at c.args.leaves.now leaf has in
-    let at = z.1 in
-    subst (λ x. HealsThere (site_layout c.args.site.now) (core_of c.args.tables.now) c.args.held x) z.2 (c.loop-at.invariant z.0 (omega (arith, at, past)))
+    λ e. holds_all (HealsThere (site_layout c.args.site.now) (core_of c.args.tables.now) c.args.held) c.args.leaves.now c.loop-at.at past c.loop-at.invariant
