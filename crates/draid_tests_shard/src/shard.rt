@@ -487,3 +487,35 @@ fn a_seal_waits_for_open_writes(rt: HostRuntime) -> Result<(), Fail> {
     assert_eq!(rt; early(rt.alloc())?, not_yet);
     Ok(())
 }
+
+/// Commits the closing group, if it is sealed.
+fn commit<R: Rack, A: Area>(shard: &mut Shard<R, A>)
+    requires valid { Valid R.Rack shard.old }
+    ensures valid { Valid R.Rack shard.new }
+{
+    if let Some(group) = shard.closing() {
+        if shard.sealed() {
+            shard.commit(group);
+        }
+    }
+}
+
+/// The longest run of free stripes once a block was freed, once its group was sealed, and once that was committed; and
+/// what is told of the groups then.
+fn committed(alloc: Global) -> Result<([u64; 3], Groups), Fail> {
+    let mut shard = metaslab(alloc, first_layout()?, &[], 4096)?;
+    let pointer = write(alloc, &mut shard, b"hello")??;
+    shard.free(&pointer, 0).ok();
+    let freed = shard.room(1).run;
+    close(&mut shard);
+    seal(&mut shard);
+    let sealed = shard.room(1).run;
+    commit(&mut shard);
+    Ok(([freed, sealed, shard.room(1).run], groups(&shard)))
+}
+
+#[test]
+fn freed_stripes_come_back_at_the_commit(rt: HostRuntime) -> Result<(), Fail> {
+    assert_eq!(rt; committed(rt.alloc())?, ([7, 7, 8], (3, None, false, 2)));
+    Ok(())
+}
