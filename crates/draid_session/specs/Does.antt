@@ -4,10 +4,10 @@ use Rattle.draid_names.specs.declared.room.Room.{Room}
 use Rattle.draid_names.specs.declared.refusal.WriteFault.TheVariants as fault
 use Rattle.draid_spec.specs.declared.layout.Geometry.{Geometry}
 use Rattle.draid_perm.specs.declared.perms.Perms.{Perms}
-use Rattle.draid_script.specs.Line.{Command, WriteObject, FillObjects, ReadObject, FreeObject, SumObjects, DamageSector}
+use Rattle.draid_script.specs.Line.{Command, ExportPool, SyncPool, CrashPool, WriteObject, FillObjects, ReadObject, FreeObject, SumObjects, DamageSector}
 use Rattle.draid_script.specs.declared.name.CommandName.TheVariants as name
 use Rattle.draid_reply.specs.declared.reply.Reply.{Reply}
-use Rattle.draid_reply.specs.declared.reply.Reply.TheVariants.{NoMemory, Written, NoSpace, Missed, WriteLast, Filled, FillRefused, Contents, NoObject, Unreadable, ReadWorn, Summed, SumRefused, Freed, FreeNoObject, Damaged, DamageRefused, DamageFailed, DamageWorn}
+use Rattle.draid_reply.specs.declared.reply.Reply.TheVariants.{NoMemory, Worn, Last, Exported, Crashed, Synced, Written, NoSpace, Missed, WriteLast, Filled, FillRefused, Contents, NoObject, Unreadable, ReadWorn, Summed, SumRefused, Freed, FreeNoObject, Damaged, DamageRefused, DamageFailed, DamageWorn}
 use Rattle.draid_objects.specs.Changes.{write_of}
 use Rattle.draid_session.specs.State.{Store}
 use Rattle.draid_session.specs.Holds.{Hold}
@@ -15,6 +15,8 @@ use Rattle.draid_session.specs.Looks.{OnlyLooks}
 use Rattle.draid_session.specs.Writes as writes
 use Rattle.draid_session.specs.Reads as reads
 use Rattle.draid_session.specs.Damage as damage
+use Rattle.draid_session.specs.Groups as groups
+use Rattle.draid_session.specs.Phases.{Went, WasWorn, WasLast, Broke}
 
 -- the holds are one that is so
 abbrev pub IsOne : (Hold → Type 0) → List Hold → Type 0
@@ -29,6 +31,16 @@ module _ (geometry : Geometry) (perms : Perms) where
   -- the chooser names a metaslab among the rooms; what a fill writes is given by seed, object and length
   module _ (chosen : List Room → Option ℕ → Type 0) (content : ℕ → ℕ → ℕ → List ℕ) where
     abbrev pub Does : Command → Store → List Hold → Reply → Store → Type 0
+    -- groups
+    Does SyncPool old holds (Synced group thin) new = (new ≡ old) × groups.Syncs geometry perms group thin holds Went
+    Does SyncPool old holds (Worn name.Sync) new = (new ≡ old) × groups.SyncStops geometry perms holds WasWorn
+    Does SyncPool old holds (Last name.Sync) new = (new ≡ old) × groups.SyncStops geometry perms holds WasLast
+    Does SyncPool old holds (NoMemory name.Sync) new = (new ≡ old) × groups.SyncStarves geometry perms holds
+    Does ExportPool old holds (Exported group) new = (new ≡ old) × groups.Exports geometry perms group holds Went
+    Does ExportPool old holds (Worn name.Export) new = (new ≡ old) × groups.ExportStops geometry perms holds WasWorn
+    Does ExportPool old holds (Last name.Export) new = (new ≡ old) × groups.ExportStops geometry perms holds WasLast
+    Does ExportPool old holds (NoMemory name.Export) new = (new ≡ old) × groups.ExportStarves geometry perms holds
+    Does CrashPool old holds Crashed new = (new ≡ old) × (holds ≡ [])
     -- writes
     Does (WriteObject object bytes) old holds (Written o) new = (o ≡ object) × writes.Writes geometry perms chosen object bytes old holds new
     Does (WriteObject object bytes) old holds (NoSpace o run disabled full worn) new =
@@ -62,3 +74,9 @@ module _ (geometry : Geometry) (perms : Perms) where
     Does (DamageSector leaf sector) old holds (DamageWorn l s) new = (l ≡ leaf) × (s ≡ sector) × (new ≡ old) × damage.DamagesWorn geometry leaf sector holds
     Does (DamageSector leaf sector) old holds (NoMemory name.Damage) new = (new ≡ old) × OnlyLooks holds
     Does command old holds reply new = ⊥
+
+  -- the holds of a command that a failing device of the pool ends
+  abbrev pub Broken : Command → List Hold → Type 0
+  Broken SyncPool holds = groups.SyncStops geometry perms holds Broke
+  Broken ExportPool holds = groups.ExportStops geometry perms holds Broke
+  Broken command holds = ⊥

@@ -1,9 +1,12 @@
 pub mod Damage
 pub mod Does
 pub mod Follows
+pub mod Groups
 pub mod Holds
 pub mod Looks
 pub mod Making
+pub mod Opening
+pub mod Phases
 pub mod Reads
 pub mod Rooms
 pub mod Session
