@@ -15,6 +15,8 @@ use Rattle.draid_block.specs.declared.many.Solve.TheVariants.{Bytes, Unreadable}
 use Rattle.draid_block.specs.declared.solve.Fetched.{Fetched}
 use Rattle.draid_objects.specs.Changes.{Write, Wrote, write_of}
 use Rattle.draid_session.specs.Damage as damage
+use Rattle.draid_session.specs.Groups as groups
+use Rattle.draid_session.specs.Phases.{Went, WasWorn, WasLast, Broke}
 use Rattle.draid_session.specs.Does.{IsOne, ReadStarves}
 use Rattle.draid_session.specs.Holds.{Hold, view_of}
 use Rattle.draid_session.specs.Looks.{OnlyLooks}
@@ -26,6 +28,9 @@ use Rattle.draid_pool.specs.declared.fault.DamageFault.{DamageFault}
 use Rattle.draid_pool.specs.declared.fault.DamageFault.TheVariants as damaged
 use Rattle.draid_pool.specs.declared.fault.FreeFault.{FreeFault}
 use Rattle.draid_pool.specs.declared.fault.SumFault.{SumFault}
+use Rattle.draid_pool.specs.declared.fault.SyncFault.{SyncFault}
+use Rattle.draid_pool.specs.declared.fault.SyncFault.TheVariants as sync
+use Rattle.draid_pool.specs.declared.fault.Synced.{Synced}
 
 -- a write, where the chooser may name these metaslabs
 abbrev pub WriteDoes : State → (List Room → Option ℕ → Type 0) → ℕ → List ℕ → Result Unit WriteFault → List Hold → Store → Type 0
@@ -54,6 +59,14 @@ DamageDoes x leaf sector (Err damaged.NoSuch) holds new = (new ≡ x.store) × d
 DamageDoes x leaf sector (Err damaged.Worn) holds new = (new ≡ x.store) × damage.DamagesWorn x.geometry leaf sector holds
 DamageDoes x leaf sector (Err damaged.Failed) holds new = (new ≡ x.store) × damage.Damages x.geometry leaf sector true holds
 DamageDoes x leaf sector (Err damaged.NoMemory) holds new = (new ≡ x.store) × OnlyLooks holds
+
+-- a sync, and why it was stopped
+abbrev pub SyncDoes : State → Result Synced SyncFault → List Hold → Store → Type 0
+SyncDoes x (Ok it) holds new = (new ≡ x.store) × groups.Syncs x.geometry x.perms it.group it.thin holds Went
+SyncDoes x (Err sync.Worn) holds new = (new ≡ x.store) × groups.SyncStops x.geometry x.perms holds WasWorn
+SyncDoes x (Err sync.Last) holds new = (new ≡ x.store) × groups.SyncStops x.geometry x.perms holds WasLast
+SyncDoes x (Err sync.Shelf) holds new = (new ≡ x.store) × groups.SyncStops x.geometry x.perms holds Broke
+SyncDoes x (Err sync.NoMemory) holds new = (new ≡ x.store) × groups.SyncStarves x.geometry x.perms holds
 
 -- ---- parts of calls
 

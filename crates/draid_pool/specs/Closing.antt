@@ -1,13 +1,21 @@
 -- What a shelf holds of a pool that was given back to it.
-use Rattle.std.specs.Prelude.{◌≡◌, ◌≤◌, ℕ, Bool, true, false, List, Option, Some, MatchOption, IsSomeAnd, length, slice_get}
+use Rattle.std.specs.Prelude.{◌≡◌, ◌≤◌, ℕ, Bool, false, List, Option, Some, MatchOption, IsSomeAnd, length, slice_get}
 use Rattle.draid_rack.specs.declared.Rack as racks
 use Rattle.draid_area.specs.declared.Area as areas
+use Rattle.draid_map.specs.Place.{IsLayout}
+use Rattle.draid_machine.specs.Created.{IsReached}
+use Rattle.draid_machine.specs.Images.{IsImage}
+use Rattle.draid_machine.specs.State.{Image}
 use Rattle.draid_layouts.specs.Layout.{layout_of}
 use Rattle.draid_segments.specs.Segments.{Backed, Pieces}
-use Rattle.draid_shelf.specs.Kits.{Both, CheckCounts, CrashedHeld, Held, KitCounts, KitTold, OnHeld, kit_of}
+use Rattle.draid_shelf.specs.Kits.{AreNewChecks, CheckCounts, Held, KitCounts, KitTold, OnHeld, kit_of}
+use Rattle.draid_stable.specs.Kits.{IsStable}
+use Rattle.draid_shard.specs.Groups.{at_version}
 use Rattle.draid_shard.specs.declared.shard.Shard.{Shard}
 use Rattle.draid_session.specs.State.{Counts, Metaslab, State}
 use Rattle.draid_pool.specs.Objects.{HoldsObjects, blocks_of}
+use Rattle.draid_pool.specs.Records.{HasImages, HasLeafNumbers}
+use Rattle.draid_pool.specs.Ubers.{UberStands}
 
 -- ---- kits
 
@@ -23,30 +31,42 @@ pub record SameCounts (x : Counts) (counts : KitCounts) : Type 0 where
 
 -- ---- the pool
 
--- A metaslab's devices are held. Its rack has what the metaslab's state says of blocks with these pieces, and its harm.
-pub record HoldsKit (x : State) (m : ℕ) (pieces : Pieces) (y : Metaslab) (kit : KitTold) : Type 0 where
-  pub backed : Backed (layout_of x.geometry x.perms m) pieces y.world kit.rack
-  pub harm : y.harm ≡ Some kit.rack.harmed
+-- A metaslab's devices are held. Each image that an import may find outlasts each crash of them; harm is as the metaslab has it.
+pub record RestsOn (x : State) (m : ℕ) (pieces : Pieces) (y : Metaslab) (kit : KitTold) : Type 0 where
+  pub reached : IsReached (layout_of x.geometry x.perms m) y.world
+  pub images : (image : Image) → IsImage y.world image
+      → IsStable (at_version image.version x.geometry) m (layout_of x.geometry x.perms m) pieces image y.world.aside kit
+  pub harm : IsSomeAnd y.harm (λ harm. (leaf sector : ℕ) → kit.rack.harmed leaf sector ≡ harm leaf sector)
 
--- All devices of a pool's metaslabs are held, the uberblock's area and those of the check records as before. The pieces are those of what befell the objects.
-pub record HoldsPool (x : State) (old new : Held) : Type 0 where
-  pub uber : new.uber ≡ old.uber
-  pub checks : new.checks ≡ old.checks
-  pub pieces : ℕ → Pieces
+-- All devices of a pool are held, as calls and crashes left them. An import finds one of the groups of its uberblock, of which each metaslab has an image and its
+-- record. The pieces are those of what befell the objects.
+pub record Rests (x : State) (pieces : ℕ → Pieces) (held : Held) : Type 0 where
+  pub layout : IsLayout x.geometry x.perms
+  pub uber : IsSomeAnd held.uber (λ content. UberStands x (Some content))
+  pub checks : IsSomeAnd held.checks AreNewChecks
+  pub many : length x.metaslabs ≡ x.geometry.props.metaslabs
+  pub kits : (m : ℕ) (y : Metaslab) → slice_get x.metaslabs m ≡ Some y → IsSomeAnd (held.kits m) (RestsOn x m (pieces m) y)
+  pub images : HasImages x
+  pub leaves : HasLeafNumbers x
   pub objects : HoldsObjects x.geometry x.committed x.store (blocks_of x.metaslabs) pieces
-  pub kits : (m : ℕ) (y : Metaslab) → slice_get x.metaslabs m ≡ Some y → IsSomeAnd (new.kits m) (HoldsKit x m (pieces m) y)
 
--- with a crash or without one
-abbrev pub IsCrashed : Bool → Option Held → Option Held → Type 0
-IsCrashed true old new = Both CrashedHeld old new
-IsCrashed false old new = new ≡ old
+-- each rack has what the metaslab's state says of blocks with these pieces
+abbrev pub IsBacked : State → (ℕ → Pieces) → Held → Type 0
+IsBacked x pieces held = (m : ℕ) (y : Metaslab) → slice_get x.metaslabs m ≡ Some y
+    → IsSomeAnd (held.kits m) (λ kit. Backed (layout_of x.geometry x.perms m) (pieces m) y.world kit.rack)
 
--- The pool of a state was given back to a shelf. Where that tells, it holds the pool's devices as they were, or after a crash; and it has their counts.
-pub record GivesBack (x : State) (crash : Bool) (old new : Option Held) (counts : ℕ → KitCounts) : Type 0 where
-  pub given : Option Held
-  pub held : OnHeld given (λ held. MatchOption old ⊥ (λ before. HoldsPool x before held))
-  pub crashed : IsCrashed crash given new
+-- the pool is held; where no crash came, all that its states say is on the racks
+pub record HoldsPool (x : State) (crash : Bool) (held : Held) : Type 0 where
+  pub pieces : ℕ → Pieces
+  pub rests : Rests x pieces held
+  pub backed : crash ≡ false → IsBacked x pieces held
+
+-- The pool of a state was given back to a shelf, with a crash or without one. Where that tells, and had the areas of the check records, it holds the pool; and it has
+-- the pool's counts.
+pub record GivesBack (x : State) (crash : Bool) (old new : Option Held) (counts : ℕ → KitCounts) (uber_count : ℕ) : Type 0 where
+  pub held : OnHeld new (λ held. MatchOption old ⊥ (λ before. IsSomeAnd before.checks AreNewChecks → HoldsPool x crash held))
   pub counted : (m : ℕ) (y : Metaslab) → slice_get x.metaslabs m ≡ Some y → SameCounts y.counts (counts m)
+  pub uber : uber_count ≡ x.uber_count
 
 -- ---- shards
 

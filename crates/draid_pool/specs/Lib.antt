@@ -2,8 +2,11 @@ pub mod Answers
 pub mod Batches
 pub mod Carries
 pub mod Closing
+pub mod Importing
 pub mod Metaslabs
 pub mod Objects
 pub mod Opening
 pub mod Pools
+pub mod Records
 pub mod Shards
+pub mod Ubers

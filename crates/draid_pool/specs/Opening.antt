@@ -1,5 +1,5 @@
 -- What becomes of a shelf on which a pool is created, and of the pool.
-use Rattle.std.specs.Prelude.{◌≡◌, ◌<◌, ◌≤◌, ◌⊎◌, ℕ, Bool, false, List, [], Option, Some, None, MatchOption, IsSomeAnd, Result, Ok, Err, length, replicate, slice_get}
+use Rattle.std.specs.Prelude.{◌≡◌, ◌<◌, ◌≤◌, ◌+◌, ◌⊎◌, ℕ, Bool, false, List, [], Option, Some, None, MatchOption, IsSome, IsSomeAnd, IsTrue, Result, Ok, Err, length, replicate, slice_get}
 use Rattle.draid_names.specs.Faults.{Rose}
 use Rattle.draid_rack.specs.declared.Rack as racks
 use Rattle.draid_area.specs.declared.Area as areas
@@ -10,15 +10,17 @@ use Rattle.draid_spec.specs.Geometry.{geometry_of}
 use Rattle.draid_perm.specs.declared.perms.Perms.{Perms}
 use Rattle.draid_map.specs.Place.{IsLayout}
 use Rattle.draid_machine.specs.Created.{created}
-use Rattle.draid_layouts.specs.Layout.{layout_of}
 use Rattle.draid_entries.specs.History.{limit_in, reserved_of}
-use Rattle.draid_shelf.specs.Kits.{AreNewChecks, Held, IsNewArea, IsNewPool, IsUncounted, KitCounts, OnHeld, uber_bytes}
+use Rattle.draid_shelf.specs.Kits.{AreNewChecks, Held, IsNewArea, IsNewRack, KitCounts, OnHeld, uber_bytes}
 use Rattle.draid_shard.specs.Fits.{Valid}
 use Rattle.draid_shard.specs.Part.{Part, layout_in}
 use Rattle.draid_shard.specs.States.{IsIn, part_of, stored_in}
 use Rattle.draid_shard.specs.declared.shard.Shard.{Shard}
+use Rattle.draid_session.specs.Making.{IsFresh}
+use Rattle.draid_session.specs.Session.{uncommitted}
 use Rattle.draid_session.specs.State.{Metaslab, State, limit_of}
-use Rattle.draid_pool.specs.Closing.{OwnCounts, kit_in}
+use Rattle.draid_pool.specs.Closing.{HoldsPool, OwnCounts, SameCounts}
+use Rattle.draid_pool.specs.Records.{HasRecords}
 use Rattle.draid_pool.specs.Pools.{Represents}
 use Rattle.draid_pool.specs.declared.fault.PoolFault.{PoolFault}
 use Rattle.draid_pool.specs.declared.fault.PoolFault.TheVariants as fault
@@ -26,55 +28,40 @@ use Rattle.draid_pool.specs.declared.pool.Pool.{Pool}
 
 -- ---- the pool
 
--- A metaslab of a pool that was just created: nothing was done in it, and no call has failed.
-pub record IsNew (geometry : Geometry) (perms : Perms) (m : ℕ) (y : Metaslab) : Type 0 where
-  pub opened : y.opened ≡ created (layout_of geometry perms m) geometry.props.version
-  pub world : y.world ≡ y.opened
-  pub events : y.events ≡ []
-  pub reserved : y.reserved ≡ 0
-  pub no_rack : (who : Option ℕ) → y.counts.rack who ≡ 0
-  pub no_even : y.counts.even ≡ 0
-  pub no_odd : y.counts.odd ≡ 0
-
--- no sector is harmed
-abbrev pub IsCalm : Option (ℕ → ℕ → Bool) → Type 0
-IsCalm harm = IsSomeAnd harm (λ h. (leaf sector : ℕ) → h leaf sector ≡ false)
-
--- A pool of this layout that was just created: nothing befell it yet. Where the shelf tells, its devices do.
-pub record IsFresh (geometry : Geometry) (told : Option Held) (x : State) : Type 0 where
-  pub geometry_is : x.geometry ≡ geometry
-  pub each : (m : ℕ) (y : Metaslab) → slice_get x.metaslabs m ≡ Some y → IsNew geometry x.perms m y
-  pub calm : OnHeld told (λ held. (m : ℕ) (y : Metaslab) → slice_get x.metaslabs m ≡ Some y → IsCalm y.harm)
-  pub store : x.store ≡ record { changes = []; seq = 0; floor = 0 }
-
+-- A pool of this layout was created, and nothing befell it yet. It tells what it has where the shelf does.
 pub record Opens {R A : Type 0} (rack : racks.Ghosts R) (area : areas.Ghosts A) (geometry : Geometry) (told : Option Held) (pool : Pool R A) : Type 0 where
   pub state : State
   pub represents : Represents rack area pool state
-  pub fresh : IsFresh geometry told state
+  pub fresh : (tells : Bool) → (IsTrue tells → IsSome told) → IsFresh tells geometry state
 
 -- the spec and the properties have a layout
 abbrev pub HasLayout : Spec → Props → Type 0
 HasLayout spec props = (geometry : Geometry) × (geometry_of spec props ≡ Ok geometry)
 
--- the answer; that the shelf failed is said where its count rose
-abbrev pub CreateIs : {R A : Type 0} → racks.Ghosts R → areas.Ghosts A → Spec → Props → Option Held → ℕ → ℕ → Result (Pool R A) PoolFault → Type 0
-CreateIs rack area spec props told before after (Ok pool) = (geometry : Geometry) × (geometry_of spec props ≡ Ok geometry) × Opens rack area geometry told pool
-CreateIs rack area spec props told before after (Err (fault.Spec why)) = geometry_of spec props ≡ Err why
-CreateIs rack area spec props told before after (Err fault.Shelf) = HasLayout spec props × Rose before after
-CreateIs rack area spec props told before after (Err fault.NoMemory) = HasLayout spec props
+-- a call on an area of a pool that was just made has failed, on which none had
+abbrev pub AreaFailed : (ℕ → KitCounts) → OwnCounts → Type 0
+AreaFailed kits own = ((m : ℕ) × (0 < (kits m).even + (kits m).odd)) ⊎ (0 < own.uber)
+
+-- The answer. Where the shelf failed its count rose, or that of an area of the pool that was made.
+abbrev pub CreateIs : {R A : Type 0} → racks.Ghosts R → areas.Ghosts A → Spec → Props → Option Held → ℕ → ℕ → (ℕ → KitCounts) → OwnCounts → Result (Pool R A) PoolFault → Type 0
+CreateIs rack area spec props told before after kits own (Ok pool) = (geometry : Geometry) × (geometry_of spec props ≡ Ok geometry) × Opens rack area geometry told pool
+CreateIs rack area spec props told before after kits own (Err (fault.Spec why)) = geometry_of spec props ≡ Err why
+CreateIs rack area spec props told before after kits own (Err fault.NoPool) = ⊥
+CreateIs rack area spec props told before after kits own (Err (fault.Record metaslab place kind)) = ⊥
+CreateIs rack area spec props told before after kits own (Err fault.Shelf) = HasLayout spec props × (Rose before after ⊎ AreaFailed kits own)
+CreateIs rack area spec props told before after kits own (Err fault.NoMemory) = HasLayout spec props
 
 -- ---- the shelf
 
--- the areas of a new pool are held, and the devices of its metaslabs are away
+-- the areas of the check records are held, as they were made, and all else is away
 pub record IsAway (x : Held) : Type 0 where
-  pub uber : IsSomeAnd x.uber (IsNewArea (replicate uber_bytes 0))
+  pub uber : x.uber ≡ None
   pub checks : IsSomeAnd x.checks AreNewChecks
   pub kits : (m : ℕ) → x.kits m ≡ None
 
--- no call has failed on an area that isn't of a metaslab
-pub record NoOwn (own : OwnCounts) : Type 0 where
-  pub uber : own.uber ≡ 0
-  pub checks : own.checks ≡ record { even = 0; odd = 0 }
+-- no call has failed on the areas of the check records
+abbrev pub NoChecks : OwnCounts → Type 0
+NoChecks own = own.checks ≡ record { even = 0; odd = 0 }
 
 -- the shelf is as before
 pub record IsAsBefore (old new : Option Held) (before after : ℕ → KitCounts) (own now : OwnCounts) : Type 0 where
@@ -83,19 +70,39 @@ pub record IsAsBefore (old new : Option Held) (before after : ℕ → KitCounts)
   pub uber : now.uber ≡ own.uber
   pub checks : now.checks ≡ own.checks
 
--- the shelf holds all devices of a new pool, as they were made
-pub record IsMade (geometry : Geometry) (new : Option Held) (after : ℕ → KitCounts) (now : OwnCounts) : Type 0 where
-  pub held : OnHeld new (IsNewPool geometry)
-  pub counts : (m : ℕ) → m < geometry.props.metaslabs → IsUncounted (after m)
-  pub own : NoOwn now
+-- All devices of a new pool are held: an uberblock to which nothing was written, racks as they were made, and areas of records, to which something may have been.
+pub record HoldsMade (geometry : Geometry) (x : Held) : Type 0 where
+  pub uber : IsSomeAnd x.uber (IsNewArea (replicate uber_bytes 0))
+  pub checks : IsSomeAnd x.checks AreNewChecks
+  pub kits : (m : ℕ) → m < geometry.props.metaslabs → IsSomeAnd (x.kits m) (λ kit. IsNewRack geometry kit.rack)
 
--- What the shelf holds then: with the pool, what isn't of a metaslab; for a layout that isn't there what it held; and after another refusal that too, or all devices
--- of the new pool.
+-- the shelf holds them, and no call has failed but on areas of records
+pub record IsMade (geometry : Geometry) (new : Option Held) (after : ℕ → KitCounts) (now : OwnCounts) : Type 0 where
+  pub held : OnHeld new (HoldsMade geometry)
+  pub counts : (m : ℕ) (who : Option ℕ) → m < geometry.props.metaslabs → (after m).rack who ≡ 0
+  pub uber : now.uber ≡ 0
+  pub checks : NoChecks now
+
+-- the first commit of a new pool was refused, and the pool was given back
+pub record IsRefused (geometry : Geometry) (new : Option Held) (after : ℕ → KitCounts) (now : OwnCounts) : Type 0 where
+  pub fresh : State
+  pub is_fresh : (tells : Bool) → (IsTrue tells → IsSome new) → IsFresh tells geometry fresh
+  pub held : OnHeld new (HoldsPool (uncommitted fresh) false)
+  pub counts : (m : ℕ) (y : Metaslab) → slice_get fresh.metaslabs m ≡ Some y → SameCounts y.counts (after m)
+  pub uber : fresh.uber_count ≤ now.uber
+  pub checks : NoChecks now
+
+-- what a shelf holds of a pool that was made, and of which nothing was committed
+abbrev pub HoldsUncommitted : Geometry → Option Held → (ℕ → KitCounts) → OwnCounts → Type 0
+HoldsUncommitted geometry new after now = IsMade geometry new after now ⊎ IsRefused geometry new after now
+
+-- What the shelf holds then: with the pool, the areas of the check records; for a layout that isn't there what it held; and after another refusal that too, or all
+-- devices of the new pool.
 abbrev pub ShelfIs : {P : Type 0} → Spec → Props → Option Held → Option Held → (ℕ → KitCounts) → (ℕ → KitCounts) → OwnCounts → OwnCounts → Result P PoolFault → Type 0
-ShelfIs spec props old new before after own now (Ok pool) = OnHeld new IsAway × NoOwn now
+ShelfIs spec props old new before after own now (Ok pool) = OnHeld new IsAway × NoChecks now
 ShelfIs spec props old new before after own now (Err (fault.Spec why)) = IsAsBefore old new before after own now
 ShelfIs spec props old new before after own now (Err why) =
-    IsAsBefore old new before after own now ⊎ ((geometry : Geometry) × (geometry_of spec props ≡ Ok geometry) × IsMade geometry new after now)
+    IsAsBefore old new before after own now ⊎ ((geometry : Geometry) × (geometry_of spec props ≡ Ok geometry) × HoldsUncommitted geometry new after now)
 
 -- ---- the metaslabs
 
@@ -107,10 +114,9 @@ pub record IsOpened {R A : Type 0} (rack : racks.Ghosts R) (area : areas.Ghosts 
   pub events : stored_in shard ≡ []
   pub reserved : reserved_of shard.history ≡ 0
   pub limit : limit_in shard.history ≡ limit_of part.geometry
-  pub kit : OnHeld held (λ x. kit_in rack area shard ≡ x.kits part.number)
+  pub told : OnHeld held (λ x. IsSomeAnd (x.kits part.number) (λ kit. rack.told shard.rack ≡ Some kit.rack))
   pub rack_count : (who : Option ℕ) → rack.faults shard.rack who ≡ counts.rack who
-  pub even_count : area.faults shard.even ≡ counts.even
-  pub odd_count : area.faults shard.odd ≡ counts.odd
+  pub records : HasRecords part (created (layout_in part) part.geometry.props.version) (area.told shard.even) (area.told shard.odd)
 
 -- All metaslabs of a new pool.
 pub record AreOpened {R A : Type 0} (rack : racks.Ghosts R) (area : areas.Ghosts A) (geometry : Geometry) (held : Option Held) (counts : ℕ → KitCounts) (shards : List (Shard R A)) : Type 0 where

@@ -1,5 +1,5 @@
 -- For which states a pool stands.
-use Rattle.std.specs.Prelude.{◌≡◌, ◌==◌, ◌<◌, ◌⊎◌, ℕ, false, Option, Some, nat_eq, length, slice_get, if◌then◌else◌}
+use Rattle.std.specs.Prelude.{◌≡◌, ◌==◌, ◌<◌, ◌⊎◌, ℕ, Option, Some, nat_eq, length, slice_get, if◌then◌else◌}
 use Rattle.std.specs.HashMap.{get}
 use Rattle.draid_rack.specs.declared.Rack as racks
 use Rattle.draid_area.specs.declared.Area as areas
@@ -14,6 +14,8 @@ use Rattle.draid_shard.specs.Part.{Part}
 use Rattle.draid_shard.specs.declared.shard.Shard.{Shard}
 use Rattle.draid_session.specs.State.{Metaslab, State}
 use Rattle.draid_pool.specs.Metaslabs.{IsMetaslab}
+use Rattle.draid_pool.specs.Records.{HasImages, HasLeafNumbers}
+use Rattle.draid_pool.specs.Ubers.{IsUber}
 use Rattle.draid_pool.specs.Objects.{HasGroups, HoldsObjects, IsLastAt, PointsTo, blocks_of}
 use Rattle.draid_pool.specs.declared.pool.Pool.{Pool}
 
@@ -21,16 +23,8 @@ use Rattle.draid_pool.specs.declared.pool.Pool.{Pool}
 abbrev pub part_in : State → ℕ → Part
 part_in x m = record { geometry = x.geometry; perms = x.perms; number = m }
 
--- the uberblock is that of a pool that was just created: no call touches it yet
-pub record IsUntouched (x : State) : Type 0 where
-  pub committed : x.committed ≡ 1
-  pub kept_leaf : x.kept_leaf ≡ x.geometry.spec.children
-  pub next_leaf : x.next_leaf ≡ x.geometry.spec.children
-  pub uber_count : x.uber_count ≡ 0
-  pub pending : x.pending ≡ false
-
 -- The pool has one shard for each metaslab of its layout, which stands for it. The metaslabs hold what befell the objects; the table has the pointer of each object
--- that has bytes; the number of the last write and the floor are the pool's.
+-- that has bytes; the number of the last write and the floor are the pool's. The uberblock names a group of which each metaslab has the record.
 pub record Stands {R A : Type 0} (rack : racks.Ghosts R) (area : areas.Ghosts A) (pool : Pool R A) (table : ℕ → Option Pointer) (x : State) : Type 0 where
   pub geometry : x.geometry ≡ pool.geometry
   pub layout : IsLayout x.geometry x.perms
@@ -44,7 +38,9 @@ pub record Stands {R A : Type 0} (rack : racks.Ghosts R) (area : areas.Ghosts A)
   pub objects : (object : ℕ) → PointsTo pool.shards.items (table object) (write_of x.store.changes object)
   pub seq : x.store.seq ≡ pool.seq
   pub floor : x.store.floor ≡ pool.floor
-  pub uber : IsUntouched x
+  pub uber : IsUber area pool.uber x
+  pub images : HasImages x
+  pub leaves : HasLeafNumbers x
 
 -- and each live block is that of its object's last write
 pub record Represents {R A : Type 0} (rack : racks.Ghosts R) (area : areas.Ghosts A) (pool : Pool R A) (x : State) : Type 0 where

@@ -5,6 +5,7 @@ use draid_names::Pointer;
 use draid_rack::Rack;
 use draid_shard::Shard;
 use draid_spec::Geometry;
+use draid_uber::Uber;
 use std::alloc::Global;
 use std::collections::HashMap;
 
@@ -14,6 +15,8 @@ pub struct Pool<R: Rack, A: Area> {
     pub(crate) geometry: Geometry,
     /// The metaslabs, in the order of their numbers.
     pub(crate) shards: Vec<Shard<R, A>>,
+    /// The uberblock, which names the committed group.
+    pub(crate) uber: Uber<A>,
     /// The pointer of each object's bytes.
     pub(crate) objects: HashMap<u64, Pointer>,
     /// The number of the last write that was begun.

@@ -38,13 +38,11 @@ vdev_name_of spec = spec_name_of spec ++ codes "-0"
 unfoldable pub content_of : ℕ → ℕ → ℕ → List ℕ
 content_of seed object len = (fill_via_u64 plus_plus len (of_seed (splitmix_seed 16 ((seed + object) % 2 ^ 64)))).0
 
--- no call on the devices of a metaslab has failed
-pub record IsUncounted (counts : Counts) : Type 0 where
-  pub rack : (who : Option ℕ) → counts.rack who ≡ 0
-  pub even : counts.even ≡ 0
-  pub odd : counts.odd ≡ 0
+-- no call on the rack of a metaslab has failed
+abbrev pub IsUncounted : Counts → Type 0
+IsUncounted counts = (who : Option ℕ) → counts.rack who ≡ 0
 
--- A metaslab of a pool that was just made: its state is that of a new one of the pool's version, nothing is stored or reserved, and no call has failed.
+-- A metaslab of a pool that was just made: its state is that of a new one of the pool's version, nothing is stored or reserved, and no call on its rack has failed.
 pub record IsNew (geometry : Geometry) (perms : Perms) (m : ℕ) (x : Metaslab) : Type 0 where
   pub opened : x.opened ≡ created (layout_of geometry perms m) geometry.props.version
   pub world : x.world ≡ x.opened
@@ -66,7 +64,7 @@ pub record IsFresh (tells : Bool) (geometry : Geometry) (new : State) : Type 0 w
   pub store : new.store ≡ record { changes = []; seq = 0; floor = 0 }
   pub committed : new.committed ≡ 1
   pub leaves : (new.kept_leaf ≡ geometry.spec.children) × (new.next_leaf ≡ geometry.spec.children)
-  pub uber : (new.uber_count ≡ 0) × (new.pending ≡ false)
+  pub pending : new.pending ≡ false
 
 -- a pool was made as `create` asks, with this name and so many stripes
 pub record Makes (tells : Bool) (text : List ℕ) (children : ℕ) (keys : PoolKeys) (called : List ℕ) (stripes : ℕ) (new : State) : Type 0 where
