@@ -9,4 +9,6 @@ pub mod Opening
 pub mod Pools
 pub mod Records
 pub mod Shards
+pub mod Syncing
 pub mod Ubers
+pub mod Whole
