@@ -1,5 +1,5 @@
 -- What a pool is by itself, whatever its devices hold.
-use Rattle.std.specs.Prelude.{◌≡◌, ◌≤◌, ◌+◌, ℕ, true, Some, nat_eq, length, slice_get}
+use Rattle.std.specs.Prelude.{◌≡◌, ◌≤◌, ◌<◌, ◌+◌, ℕ, true, Some, nat_eq, length, slice_get}
 use Rattle.std.specs.HashMap.{get}
 use Rattle.draid_rack.specs.declared.Rack as racks
 use Rattle.draid_area.specs.declared.Area as areas
@@ -7,9 +7,10 @@ use Rattle.draid_perm.specs.declared.perms.Perms.{Perms}
 use Rattle.draid_map.specs.Place.{IsLayout}
 use Rattle.draid_names.specs.declared.numbers.TheConstants.{LAST_NUMBER}
 use Rattle.draid_names.specs.declared.pointer.Pointer.{Pointer}
+use Rattle.draid_machine.specs.declared.names.Held.{Held}
+use Rattle.draid_machine.specs.declared.names.Key.{Key}
 use Rattle.draid_machine.specs.Names.{is_block}
-use Rattle.draid_entries.specs.declared.entry.Entry.{Entry}
-use Rattle.draid_entries.specs.Entries.{entry_at}
+use Rattle.draid_entries.specs.Entries.{held_in}
 use Rattle.draid_shard.specs.Calls.{IsLive}
 use Rattle.draid_shard.specs.Fits as shards
 use Rattle.draid_shard.specs.States.{part_of}
@@ -18,12 +19,13 @@ use Rattle.draid_uber.specs.Slots.{group_of}
 use Rattle.draid_uber.specs.Uber as ubers
 use Rattle.draid_pool.specs.declared.pool.Pool.{Pool}
 
--- One of the shards is that of a layout's metaslab. Its blocks have numbers of writes that were begun, and none of its writes is under way. It has committed a group.
+-- One of the shards is that of a layout's metaslab. Its blocks have numbers of writes that were begun, and none of its writes is under way. It has committed the
+-- group that the uberblock names.
 pub record IsShardOf {R A : Type 0} (rack : racks.Ghosts R) (perms : Perms) (pool : Pool R A) (m : ℕ) (shard : Shard R A) : Type 0 where
   pub valid : shards.Valid rack shard
   pub part : part_of shard ≡ record { geometry = pool.geometry; perms = perms; number = m }
-  pub numbered : (first : ℕ) (e : Entry) → entry_at shard.entries first ≡ Some e → e.pointer.seq ≤ pool.seq
-  pub settled : (first : ℕ) (e : Entry) → entry_at shard.entries first ≡ Some e → is_block e.stage ≡ true
+  pub numbered : (key : Key) (h : Held) → held_in shard.entries key ≡ Some h → key.seq ≤ pool.seq
+  pub settled : (key : Key) (h : Held) → held_in shard.entries key ≡ Some h → is_block h.stage ≡ true
   pub committed : shard.committed ≡ group_of (ubers.kept_of pool.uber)
 
 -- a pointer of an object is that of a live block in its metaslab
@@ -32,6 +34,11 @@ pub record IsPointer {R A : Type 0} (pool : Pool R A) (object : ℕ) (pointer : 
   pub shard : Shard R A
   pub there : slice_get pool.shards.items pointer.metaslab ≡ Some shard
   pub live : IsLive shard pointer
+
+-- and is that of a later write than the object's pointer in the table
+pub record IsNewer {R A : Type 0} (pool : Pool R A) (object : ℕ) (pointer : Pointer) : Type 0 where
+  pub is : IsPointer pool object pointer
+  pub newer : (earlier : Pointer) → get nat_eq pool.objects object ≡ Some earlier → earlier.seq < pointer.seq
 
 -- What each call needs and keeps. A pool is whole also where nothing is known of what its devices held as it was imported.
 pub record IsWhole {R A : Type 0} (rack : racks.Ghosts R) (area : areas.Ghosts A) (pool : Pool R A) : Type 0 where

@@ -3,6 +3,7 @@ ghost use Rattle.draid_session.specs.State.{State};
 ghost use Rattle.draid_shelf.specs.Shelf.{most_metaslabs};
 ghost use Rattle.draid_pool.specs.Closing.{GivesBack, Returns};
 ghost use Rattle.draid_pool.specs.Pools.{Represents};
+ghost use Rattle.draid_pool.specs.Whole.{IsWhole};
 
 use crate::pool::Pool;
 use draid_shard::Shard;
@@ -22,16 +23,17 @@ pub(crate) fn give_back<H: Shelf>(shelf: &mut H, shards: Vec<Shard<H::R, H::A>>)
     }
 }
 
-/// Gives the devices of all metaslabs back to the shelf, and all that it holds a crash, where one is asked for.
+/// Gives the devices of all metaslabs and the uberblock's area back to the shelf, without a sync, and all that it holds
+/// a crash, where one is asked for.
 pub fn close<H: Shelf>(pool: Pool<H::R, H::A>, shelf: &mut H, crash: bool)
-    requires represents { (x : State) × Represents H.R.Rack H.A.Area pool x }
+    requires whole { IsWhole H.R.Rack H.A.Area pool }
     ensures back { (x : State) → Represents H.R.Rack H.A.Area pool x
-        → GivesBack x crash (H.told shelf.old) (H.told shelf.new) (H.counts shelf.new) }
-    ensures uber { H.uber_count shelf.new ≡ H.uber_count shelf.old }
+        → GivesBack x crash (H.told shelf.old) (H.told shelf.new) (H.counts shelf.new) (H.uber_count shelf.new) }
     ensures checks { H.check_counts shelf.new ≡ H.check_counts shelf.old }
     ensures faults { H.faults shelf.new ≡ H.faults shelf.old }
 {
     give_back(shelf, pool.shards);
+    shelf.give_uber(pool.uber.into_area());
     if crash {
         shelf.crash();
     }

@@ -12,6 +12,7 @@ ghost use Rattle.draid_session.specs.State.{State};
 ghost use Rattle.draid_pool.specs.Answers.{DamageDoes};
 ghost use Rattle.draid_pool.specs.Carries.{CarriesOut};
 ghost use Rattle.draid_pool.specs.Pools.{Represents};
+ghost use Rattle.draid_pool.specs.Whole.{IsWhole};
 
 use crate::fault::DamageFault;
 use crate::pool::Pool;
@@ -49,7 +50,8 @@ fn damage_sector<R: Rack, A: Area>(
 impl<R: Rack, A: Area> Pool<R, A> {
     /// Makes each byte of a sector of a leaf its complement, and the sector harmed. It is counted through the metaslabs.
     pub fn damage(&mut self, leaf: u64, sector: u64) -> Result<(), DamageFault>
-        requires represents { (x : State) × Represents R.Rack A.Area self.old x }
+        requires whole { IsWhole R.Rack A.Area self.old }
+        ensures whole { IsWhole R.Rack A.Area self.new }
         ensures step { (x : State) → Represents R.Rack A.Area self.old x
             → CarriesOut R.Rack A.Area self.new x (DamageDoes x leaf sector result) }
     {

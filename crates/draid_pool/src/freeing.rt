@@ -11,6 +11,7 @@ ghost use Rattle.draid_session.specs.State.{State};
 ghost use Rattle.draid_pool.specs.Answers.{FreeDoes};
 ghost use Rattle.draid_pool.specs.Carries.{CarriesOut};
 ghost use Rattle.draid_pool.specs.Pools.{Represents};
+ghost use Rattle.draid_pool.specs.Whole.{IsWhole};
 
 use crate::fault::FreeFault;
 use crate::pool::Pool;
@@ -42,7 +43,8 @@ impl<R: Rack, A: Area> Pool<R, A> {
     /// Frees an object, which has no bytes then. Their block keeps its stripes until its group is committed, and is still
     /// counted in its metaslab.
     pub fn free(&mut self, object: u64) -> Result<(), FreeFault>
-        requires represents { (x : State) × Represents R.Rack A.Area self.old x }
+        requires whole { IsWhole R.Rack A.Area self.old }
+        ensures whole { IsWhole R.Rack A.Area self.new }
         ensures step { (x : State) → Represents R.Rack A.Area self.old x
             → CarriesOut R.Rack A.Area self.new x (FreeDoes x object result) }
     {

@@ -13,10 +13,11 @@ mod reading;
 mod room;
 mod store;
 mod summing;
+mod syncing;
 mod writing;
 
 pub use closing::close;
 pub use draid_names::{ObjectFault, WriteFault};
-pub use fault::{DamageFault, FreeFault, PoolFault, SumFault};
+pub use fault::{DamageFault, FreeFault, PoolFault, SumFault, SyncFault, Synced};
 pub use opening::create;
 pub use pool::Pool;

@@ -5,6 +5,7 @@ ghost use Rattle.draid_spec.specs.Geometry.{IsGeometry};
 ghost use Rattle.draid_map.specs.Place.{IsLayout};
 ghost use Rattle.draid_shelf.specs.Shelf.{HasLeavesOf, SameOthers};
 ghost use Rattle.draid_shelf.specs.Kits.{takes_kit};
+ghost use Rattle.draid_pool.specs.Whole.{IsWhole};
 ghost use Rattle.draid_pool.specs.Opening.{AreOpened, CreateIs, IsBackAgain, IsOpened, ShelfIs, TakesFirst};
 
 use crate::closing::give_back;
@@ -15,6 +16,7 @@ use draid_perm::Perms;
 use draid_shard::Shard;
 use draid_shelf::Shelf;
 use draid_spec::{Geometry, Props, Spec, geometry};
+use draid_uber::Uber;
 use std::alloc::Global;
 use std::collections::HashMap;
 
@@ -85,8 +87,8 @@ fn open_shards<H: Shelf>(
     Ok(shards)
 }
 
-/// Makes a pool of this spec on the shelf, in place of an earlier one, and opens it. What isn't of a metaslab stays on
-/// the shelf. A refusal gives back all that was taken.
+/// Makes a pool of this spec on the shelf, in place of an earlier one, commits its group 1, which is empty, and opens it.
+/// The areas of the check records stay on the shelf. A refusal gives back all that was taken.
 pub fn create<H: Shelf>(
     alloc: Global,
     shelf: &mut H,
@@ -94,7 +96,9 @@ pub fn create<H: Shelf>(
     props: Props,
 ) -> Result<Pool<H::R, H::A>, PoolFault>
     requires spec { IsSpec props.version spec }
-    ensures answer { CreateIs H.R.Rack H.A.Area spec props (H.told shelf.new) (H.faults shelf.old) (H.faults shelf.new) result }
+    ensures whole { IfOk result (IsWhole H.R.Rack H.A.Area) }
+    ensures answer { CreateIs H.R.Rack H.A.Area spec props (H.told shelf.new) (H.faults shelf.old) (H.faults shelf.new) (H.counts shelf.new)
+        (record { uber = H.uber_count shelf.new; checks = H.check_counts shelf.new }) result }
     ensures shelf { ShelfIs spec props (H.told shelf.old) (H.told shelf.new) (H.counts shelf.old) (H.counts shelf.new)
         (record { uber = H.uber_count shelf.old; checks = H.check_counts shelf.old })
         (record { uber = H.uber_count shelf.new; checks = H.check_counts shelf.new }) result }
@@ -104,21 +108,24 @@ pub fn create<H: Shelf>(
         Ok(layout) => layout,
         Err(fault) => return Err(PoolFault::Spec(fault)),
     };
-    match shelf.make(alloc, &layout) {
-        Ok(()) => {}
-        Err(DeviceFault::Failed) => return Err(PoolFault::Shelf),
-        Err(DeviceFault::NoMemory) => return Err(PoolFault::NoMemory),
-    }
+    shelf.make(alloc, &layout)?;
+    let area = shelf.take_uber()?;
+    let Ok(uber) = Uber::create(layout, area) else {
+        unreachable!()
+    };
     match open_shards(alloc, shelf, layout) {
-        Ok(shards) => Ok(Pool {
+        Ok(shards) => commit_first(shelf, Pool {
             geometry: layout,
             shards,
+            uber,
             objects: HashMap::new(alloc),
             seq: 0,
             floor: 0,
             alloc,
         }),
-        Err(DeviceFault::Failed) => Err(PoolFault::Shelf),
-        Err(DeviceFault::NoMemory) => Err(PoolFault::NoMemory),
+        Err(fault) => {
+            shelf.give_uber(uber.into_area());
+            Err(fault.into())
+        }
     }
 }

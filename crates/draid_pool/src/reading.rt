@@ -3,6 +3,7 @@ ghost use Rattle.draid_session.specs.State.{State};
 ghost use Rattle.draid_pool.specs.Answers.{ReadDoes};
 ghost use Rattle.draid_pool.specs.Carries.{CarriesOut, FetchLeads};
 ghost use Rattle.draid_pool.specs.Pools.{Represents};
+ghost use Rattle.draid_pool.specs.Whole.{IsWhole};
 
 use crate::pool::Pool;
 use draid_area::Area;
@@ -14,7 +15,8 @@ use draid_shard::FetchFault;
 impl<R: Rack, A: Area> Pool<R, A> {
     /// Reads the bytes last written to an object.
     pub fn read(&mut self, object: u64) -> Result<Vec<u8>, ObjectFault>
-        requires represents { (x : State) × Represents R.Rack A.Area self.old x }
+        requires whole { IsWhole R.Rack A.Area self.old }
+        ensures whole { IsWhole R.Rack A.Area self.new }
         ensures step { (x : State) → Represents R.Rack A.Area self.old x
             → CarriesOut R.Rack A.Area self.new x (ReadDoes x object result) }
     {
@@ -30,7 +32,8 @@ impl<R: Rack, A: Area> Pool<R, A> {
 
     /// Reads the columns of an object's block.
     pub(crate) fn fetch(&mut self, object: u64) -> Result<Fetched, ObjectFault>
-        requires represents { (x : State) × Represents R.Rack A.Area self.old x }
+        requires whole { IsWhole R.Rack A.Area self.old }
+        ensures whole { IsWhole R.Rack A.Area self.new }
         ensures step { (x : State) → Represents R.Rack A.Area self.old x
             → FetchLeads R.Rack A.Area self.new x object result }
     {

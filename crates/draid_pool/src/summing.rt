@@ -5,6 +5,7 @@ ghost use Rattle.draid_pool.specs.Answers.{SumDoes};
 ghost use Rattle.draid_pool.specs.Batches.{AddIs, FeedIs, FetchesBatch};
 ghost use Rattle.draid_pool.specs.Carries.{CarriesOut};
 ghost use Rattle.draid_pool.specs.Pools.{Represents};
+ghost use Rattle.draid_pool.specs.Whole.{IsWhole};
 
 use crate::fault::SumFault;
 use crate::pool::Pool;
@@ -30,7 +31,8 @@ pub(crate) struct Batch {
 fn fetch_batch<R: Rack, A: Area>(pool: &mut Pool<R, A>, first: u64, count: u64) -> Batch
     requires some { 1 ≤ count }
     requires range { first + count ≤ OBJECTS }
-    requires represents { (x : State) × Represents R.Rack A.Area pool.old x }
+    requires whole { IsWhole R.Rack A.Area pool.old }
+    ensures whole { IsWhole R.Rack A.Area pool.new }
     ensures step { (x : State) → Represents R.Rack A.Area pool.old x
         → FetchesBatch R.Rack A.Area pool.new x first count result }
 {
@@ -96,7 +98,8 @@ pub(crate) fn add_batch<R: Rack, A: Area>(
 ) -> Result<u64, SumFault>
     requires some { 1 ≤ count }
     requires range { first + count ≤ OBJECTS }
-    requires represents { (x : State) × Represents R.Rack A.Area pool.old x }
+    requires whole { IsWhole R.Rack A.Area pool.old }
+    ensures whole { IsWhole R.Rack A.Area pool.new }
     ensures step { (x : State) → Represents R.Rack A.Area pool.old x
         → CarriesOut R.Rack A.Area pool.new x (AddIs x first count hasher.old hasher.new result) }
 {
@@ -127,7 +130,8 @@ impl<R: Rack, A: Area> Pool<R, A> {
         count: u64,
     ) -> Result<[u8; 32], SumFault>
         requires range { first + count ≤ OBJECTS }
-        requires represents { (x : State) × Represents R.Rack A.Area self.old x }
+        requires whole { IsWhole R.Rack A.Area self.old }
+        ensures whole { IsWhole R.Rack A.Area self.new }
         ensures step { (x : State) → Represents R.Rack A.Area self.old x
             → CarriesOut R.Rack A.Area self.new x (SumDoes x first count result) }
     {

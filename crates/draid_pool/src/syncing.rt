@@ -8,6 +8,7 @@ ghost use Rattle.draid_uber.specs.Uber.{kept_of};
 ghost use Rattle.draid_pool.specs.Answers.{SyncDoes};
 ghost use Rattle.draid_pool.specs.Carries.{CarriesOut};
 ghost use Rattle.draid_pool.specs.Pools.{Represents};
+ghost use Rattle.draid_pool.specs.Whole.{IsWhole};
 ghost use Rattle.draid_pool.specs.Syncing.{AreClosing, AreSealed, GroupDoes, Phase, SealDoes, end_of};
 
 use crate::fault::{SyncFault, Synced};
@@ -20,7 +21,8 @@ use draid_shard::{CloseFault, SealFault};
 impl<R: Rack, A: Area> Pool<R, A> {
     /// Commits the group that is open. One that is closing is finished first. A sync that was stopped may be made again.
     pub fn sync(&mut self) -> Result<Synced, SyncFault>
-        requires represents { (x : State) × Represents R.Rack A.Area self.old x }
+        requires whole { IsWhole R.Rack A.Area self.old }
+        ensures whole { IsWhole R.Rack A.Area self.new }
         ensures carries { (x : State) → Represents R.Rack A.Area self.old x
             → CarriesOut R.Rack A.Area self.new x (SyncDoes x result) }
     {
@@ -39,8 +41,9 @@ impl<R: Rack, A: Area> Pool<R, A> {
 
     /// Commits a group, the one behind the committed one, from where it stands in each metaslab.
     fn commit_group(&mut self, group: u64) -> Result<u64, SyncFault>
-        requires represents { (x : State) × Represents R.Rack A.Area self.old x }
+        requires whole { IsWhole R.Rack A.Area self.old }
         requires next { group ≡ group_of (kept_of self.old.uber) + 1 }
+        ensures whole { IsWhole R.Rack A.Area self.new }
         ensures carries { (x : State) → Represents R.Rack A.Area self.old x
             → CarriesOut R.Rack A.Area self.new x (GroupDoes x group result) }
     {
@@ -59,8 +62,9 @@ impl<R: Rack, A: Area> Pool<R, A> {
 
     /// Closes a group in each metaslab where it isn't closing already.
     fn close_all(&mut self, group: u64) -> Result<(), SyncFault>
-        requires represents { (x : State) × Represents R.Rack A.Area self.old x }
+        requires whole { IsWhole R.Rack A.Area self.old }
         requires next { group ≡ group_of (kept_of self.old.uber) + 1 }
+        ensures whole { IsWhole R.Rack A.Area self.new }
         ensures carries { (x : State) → Represents R.Rack A.Area self.old x
             → CarriesOut R.Rack A.Area self.new x (Phase x (groups.ClosePhase x.geometry x.perms group) (end_of result)) }
         ensures closing { OnOk result (AreClosing self.new.shards.items group) }
@@ -82,8 +86,9 @@ impl<R: Rack, A: Area> Pool<R, A> {
 
     /// Seals a group in each metaslab where it isn't sealed already, and counts the blocks that are thin.
     fn seal_all(&mut self, group: u64) -> Result<u64, SyncFault>
-        requires represents { (x : State) × Represents R.Rack A.Area self.old x }
+        requires whole { IsWhole R.Rack A.Area self.old }
         requires closing { AreClosing self.old.shards.items group }
+        ensures whole { IsWhole R.Rack A.Area self.new }
         ensures carries { (x : State) → Represents R.Rack A.Area self.old x
             → CarriesOut R.Rack A.Area self.new x (SealDoes x group result) }
         ensures sealed { OnOk result (AreSealed self.new.shards.items group) }

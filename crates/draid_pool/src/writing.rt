@@ -10,6 +10,7 @@ ghost use Rattle.draid_session.specs.State.{State};
 ghost use Rattle.draid_pool.specs.Answers.{ReplaceDoes, WriteDoes, WriteInDoes};
 ghost use Rattle.draid_pool.specs.Carries.{CarriesOut};
 ghost use Rattle.draid_pool.specs.Pools.{Awaits, Represents};
+ghost use Rattle.draid_pool.specs.Whole.{IsNewer, IsWhole};
 ghost use Rattle.draid_pool.specs.Shards.{HasRoomAt, IsNoSpace};
 
 use crate::freeing::free_block;
@@ -36,7 +37,8 @@ impl<R: Rack, A: Area> Pool<R, A> {
         requires object { object < OBJECTS }
         requires some { 1 ≤ length bytes.now }
         requires short { length bytes.now ≤ LONGEST_BLOCK }
-        requires represents { (x : State) × Represents R.Rack A.Area self.old x }
+        requires whole { IsWhole R.Rack A.Area self.old }
+        ensures whole { IsWhole R.Rack A.Area self.new }
         ensures step { (x : State) → Represents R.Rack A.Area self.old x
             → CarriesOut R.Rack A.Area self.new x (WriteDoes x (FnReturnsAt F.Fn chooser.now) object bytes.now result) }
     {
@@ -58,7 +60,7 @@ impl<R: Rack, A: Area> Pool<R, A> {
 
     /// Why no metaslab took a block, where these are the rooms.
     fn no_space(&self, rooms: &[Room]) -> WriteFault
-        requires represents { (x : State) × Represents R.Rack A.Area self.now x }
+        requires whole { IsWhole R.Rack A.Area self.now }
         ensures { IsNoSpace self.now.shards.items rooms.now result }
     {
         let shards = self.shards.as_slice();
@@ -76,7 +78,8 @@ impl<R: Rack, A: Area> Pool<R, A> {
         requires cut { block.now.cut ≡ cut_of self.old.geometry }
         requires room { HasRoomAt self.old.shards.items metaslab (stripes_of (cut_of self.old.geometry) (length block.now.bytes)) }
         requires last { self.old.seq + 1 < NUMBERS }
-        requires represents { (x : State) × Represents R.Rack A.Area self.old x }
+        requires whole { IsWhole R.Rack A.Area self.old }
+        ensures whole { IsWhole R.Rack A.Area self.new }
         ensures step { (x : State) → Represents R.Rack A.Area self.old x
             → CarriesOut R.Rack A.Area self.new x (WriteInDoes x metaslab object block.now.bytes result) }
     {
@@ -103,7 +106,9 @@ impl<R: Rack, A: Area> Pool<R, A> {
     /// Gives an object the pointer of its new block, and frees the block that it had before.
     fn replace(&mut self, object: u64, pointer: Pointer)
         requires room { 0 < spare self.old.objects }
-        requires awaits { (x : State) × (earlier : Option Write) × Awaits R.Rack A.Area self.old object pointer earlier x }
+        requires whole { IsWhole R.Rack A.Area self.old }
+        requires newer { IsNewer self.old object pointer }
+        ensures whole { IsWhole R.Rack A.Area self.new }
         ensures step { (x : State) (earlier : Option Write) → Awaits R.Rack A.Area self.old object pointer earlier x
             → CarriesOut R.Rack A.Area self.new x (ReplaceDoes x earlier) }
     {

@@ -1,4 +1,5 @@
 pub mod Calls
+pub mod Changes
 pub mod Columns
 pub mod Committing
 pub mod Counting
