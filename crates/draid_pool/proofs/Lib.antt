@@ -26,3 +26,5 @@ pub mod Sums
 pub mod WriteSteps
 pub mod Listing
 pub mod ChooseSteps
+pub mod Walks
+pub mod Turns
