@@ -44,6 +44,7 @@ use Rattle.draid_pool.specs.declared.pool.Pool.{Pool}
 use Rattle.draid_pool.proofs.Absent.{absent_at, absent_rise, at_absent, tried_few}
 use Rattle.draid_pool.proofs.Dids.{none_here}
 use Rattle.draid_pool.proofs.Fetched.{FetchesIn, fetches}
+use Rattle.draid_pool.proofs.Imaged.{keeps_same}
 use Rattle.draid_pool.proofs.Lifted.{HasMetaslab, SetsShard, carries, kept_represents, metaslab_of}
 use Rattle.draid_pool.proofs.Lists.{set_back, some_of}
 use Rattle.draid_pool.proofs.OneHold.{worn_is}
@@ -243,7 +244,7 @@ module _ {R A : Type 0} (rack : racks.Ghosts R) (area : areas.Ghosts A) where
       subst (Represents rack area new) (ap (λ ys. record x { metaslabs = ys }) (set_back x.metaslabs pointer.metaslab z.y z.at))
       (kept_represents rack area pointer.metaslab pool new shard shard' x z.y z.y r set z.at
       (none_here rack area (part_in x pointer.metaslab) (r.stands.pieces pointer.metaslab) shard shard' z.y z.is valid none kit.rack kit.areas reserve.limit reserve.reserved)
-      (record { held = refl; committed = refl }))
+      (record { held = refl; committed = refl }) (keeps_same z.y.world))
 
   pub fetch_worn : (pool new : Pool R A) (shard shard' : Shard R A) (x : State) (o : ℕ) (pointer : Pointer) → Represents rack area pool x → get nat_eq pool.objects o ≡ Some pointer
       → SetsShard rack area pointer.metaslab pool new shard shard' → Valid rack shard' → DoesNone shard shard' → SameKit shard shard' → SameReserve shard shard' → IsWornFor shard 1

@@ -11,6 +11,7 @@ pub mod Fetched
 pub mod FreeSteps
 pub mod Freed
 pub mod Fresh
+pub mod Imaged
 pub mod Lifted
 pub mod Lists
 pub mod Lives

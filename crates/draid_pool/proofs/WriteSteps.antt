@@ -54,6 +54,7 @@ use Rattle.draid_pool.proofs.Lives.{held_by}
 use Rattle.draid_shard.specs.Calls.{IsLive}
 use Rattle.draid_objects.proofs.Imaging.{last_live}
 use Rattle.std.proofs.lemmas.Bool.Decides.{nat_tests}
+use Rattle.draid_pool.proofs.Imaged.{keeps_same}
 use Rattle.draid_pool.proofs.Moved.{Turned, blocks_at, follows_one, moves_one, pointer_on, same_blocks, stands_turned, turn, turn_back, turn_here, turn_other, with_metaslab}
 use Rattle.draid_pool.proofs.ReplaceSteps.{with_pointer}
 
@@ -245,9 +246,9 @@ module _ {R A : Type 0} (rack : racks.Ghosts R) (area : areas.Ghosts A) where
             )
 
     -- ---- nothing was written
-    pub unwritten : (new : Pool R A) → IsMetaslab rack area (part_in x m) (is.stands.pieces m) shard' y → new.shards.items ≡ slice_set pool.shards.items m shard' → new.geometry ≡ pool.geometry
+    pub unwritten : (new : Pool R A) → IsMetaslab rack area (part_in x m) (is.stands.pieces m) shard' y → new.shards.items ≡ slice_set pool.shards.items m shard' → new.geometry ≡ pool.geometry → new.uber ≡ pool.uber → new.uber ≡ pool.uber
         → new.seq ≡ pool.seq → new.floor ≡ pool.floor → ((q : ℕ) → get nat_eq new.objects q ≡ get nat_eq pool.objects q) → Represents rack area new x
-    unwritten new same sets layout seq floor objects =
+    unwritten new same sets layout uber seq floor objects =
         subst (λ ys. Represents rack area new (record x { metaslabs = ys })) (set_back x.metaslabs m y y_there.1) (record {
           stands = stands_turned rack area m pool new shard shard' (λ o. get nat_eq pool.objects o) (λ o. get nat_eq new.objects o) x y y (is.stands.pieces m) x.store is.stands turned
               (subst (λ bs. HoldsObjects x.geometry x.committed x.store bs (turn m (is.stands.pieces m) is.stands.pieces)) (sym (same_blocks x.metaslabs m y y y_there.1 refl))
@@ -260,13 +261,13 @@ module _ {R A : Type 0} (rack : racks.Ghosts R) (area : areas.Ghosts A) where
         })
       where
         turned : Turned rack area m pool new shard shard' x y y (is.stands.pieces m)
-        turned = record { there = at; sets = sets; geometry = layout; at = y_there.1; is = same; committed = refl }
+        turned = record { there = at; sets = sets; geometry = layout; at = y_there.1; is = same; committed = refl; images = keeps_same y.world; uber = uber }
 
     -- ---- too many columns landed nowhere
     pub missed : (columns birth : ℕ) (new : Pool R A) → NotStored rack area (part_in x m) (is.stands.pieces m) object (x.store.seq + 1) pool.floor bytes y shard' columns birth
-        → new.shards.items ≡ slice_set pool.shards.items m shard' → new.geometry ≡ pool.geometry → new.seq ≡ pool.seq + 1 → new.floor ≡ birth
+        → new.shards.items ≡ slice_set pool.shards.items m shard' → new.geometry ≡ pool.geometry → new.uber ≡ pool.uber → new.seq ≡ pool.seq + 1 → new.floor ≡ birth
         → ((q : ℕ) → get nat_eq new.objects q ≡ get nat_eq pool.objects q) → CarriesOut rack area new x (WriteInDoes x m object bytes (Err (fault.Missed columns)))
-    missed columns birth new n sets layout seq floor objects = record {
+    missed columns birth new n sets layout uber seq floor objects = record {
       holds = n.goes.holds;
       reached = with_metaslab x m n.goes.reached;
       store = store;
@@ -294,7 +295,7 @@ module _ {R A : Type 0} (rack : racks.Ghosts R) (area : areas.Ghosts A) where
         store = record { changes = x.store.changes; seq = x.store.seq + 1; floor = birth }
 
         turned : Turned rack area m pool new shard shard' x y n.goes.reached n.now
-        turned = record { there = at; sets = sets; geometry = layout; at = y_there.1; is = n.goes.is; committed = n.goes.done.2 }
+        turned = record { there = at; sets = sets; geometry = layout; at = y_there.1; is = n.goes.is; committed = n.goes.done.2; images = n.goes.images; uber = uber }
 
         low : (birth ≤ x.committed + 2) × (x.store.floor ≤ birth)
         low = group_low rack area pool (λ o. get nat_eq pool.objects o) x m shard y birth is.stands at y_there.1 n.birth_is
@@ -304,7 +305,7 @@ module _ {R A : Type 0} (rack : racks.Ghosts R) (area : areas.Ghosts A) where
 
     -- ---- the block is live
     module _ (pointer : Pointer) (n : Stored rack area (part_in x m) (is.stands.pieces m) object (x.store.seq + 1) pool.floor bytes y shard' pointer) (mid : Pool R A)
-        (sets : mid.shards.items ≡ slice_set pool.shards.items m shard') (layout : mid.geometry ≡ pool.geometry) (seq : mid.seq ≡ pool.seq + 1) (floor : mid.floor ≡ pointer.birth)
+        (sets : mid.shards.items ≡ slice_set pool.shards.items m shard') (layout : mid.geometry ≡ pool.geometry) (uber : mid.uber ≡ pool.uber) (seq : mid.seq ≡ pool.seq + 1) (floor : mid.floor ≡ pointer.birth)
         (objects : (q : ℕ) → get nat_eq mid.objects q ≡ get nat_eq pool.objects q) where
       abbrev w : Write
       w = record { object = object; seq = x.store.seq + 1; metaslab = m; birth = n.birth; bytes = bytes }
@@ -323,7 +324,7 @@ module _ {R A : Type 0} (rack : racks.Ghosts R) (area : areas.Ghosts A) where
       its_key = same_key rack area pointer w stored.object_is stored.seq_is
 
       turned : Turned rack area m pool mid shard shard' x y n.goes.reached n.now
-      turned = record { there = at; sets = sets; geometry = layout; at = y_there.1; is = n.goes.is; committed = stored.others.committed }
+      turned = record { there = at; sets = sets; geometry = layout; at = y_there.1; is = n.goes.is; committed = stored.others.committed; images = n.goes.images; uber = uber }
 
       low : (n.birth ≤ x.committed + 2) × (x.store.floor ≤ n.birth)
       low = group_low rack area pool (λ o. get nat_eq pool.objects o) x m shard y n.birth is.stands at y_there.1 n.birth_is

@@ -1,5 +1,5 @@
 -- What becomes of one metaslab as a block is written to its shard, or freed, fetched or damaged there.
-use Rattle.std.specs.Prelude.{◌≡◌, ◌≤◌, ◌<◌, ℕ, Bool, true, false, List, [], ◌∷◌, Option, Some, Result, Ok, Err, length, max, slice_get}
+use Rattle.std.specs.Prelude.{◌≡◌, ◌≤◌, ◌<◌, ℕ, Bool, true, false, List, [], ◌∷◌, Option, Some, IsSome, Result, Ok, Err, length, max, slice_get}
 use Rattle.std.specs.List.{AllZip}
 use Rattle.sha2.specs.Sha256.{sha256}
 use Rattle.draid_names.specs.declared.pointer.Pointer.{Pointer}
@@ -10,6 +10,7 @@ use Rattle.draid_names.specs.declared.refusal.WriteFault.TheVariants as fault
 use Rattle.draid_rack.specs.declared.Rack as racks
 use Rattle.draid_area.specs.declared.Area as areas
 use Rattle.draid_machine.specs.declared.names.Key.{Key}
+use Rattle.draid_machine.specs.declared.names.ArmName.TheVariants.{Leaf}
 use Rattle.draid_machine.specs.declared.names.Held.{Held}
 use Rattle.draid_machine.specs.declared.names.Stage.TheVariants.{Live, Freed}
 use Rattle.draid_machine.specs.declared.event.Event.TheVariants as event
@@ -46,11 +47,18 @@ FollowsIn l m [] x y = y ≡ x
 FollowsIn l m (hold ∷ holds) x y =
     (act : Act) × (mid : Metaslab) × (hold ≡ On (view_of m x) act) × Acts l act x mid × FollowsIn l m holds mid y
 
+-- the images are as they were, and no leaf is an arm that wasn't one
+pub record KeepsImages (old new : machine.State) : Type 0 where
+  pub image : new.image ≡ old.image
+  pub sealed : new.sealed ≡ old.sealed
+  pub leaves : (leaf : ℕ) → IsSome (new.core.arm (Leaf leaf)) → IsSome (old.core.arm (Leaf leaf))
+
 -- Holds of a metaslab led to one for which the shard stands, with these pieces.
 pub record Goes {R A : Type 0} (rack : racks.Ghosts R) (area : areas.Ghosts A) (part : Part) (pieces : Pieces) (x : Metaslab) (new : Shard R A) (does : List Hold → Metaslab → Type 0) : Type 0 where
   pub holds : List Hold
   pub reached : Metaslab
   pub follows : FollowsIn (layout_in part) part.number holds x reached
+  pub images : KeepsImages x.world reached.world
   pub done : does holds reached
   pub is : IsMetaslab rack area part pieces new reached
 
