@@ -46,8 +46,8 @@ returns g c = record {
       let after = c.damage_sector.new.shard in
       let there = damage_shard g.R.Rack g.A.Area old x k c.from.result before is c.from.ensures c.if-metaslab-from.false c.index_mut.ensures.value in
       let new : Pool g.row.R.Denot g.row.A.Denot
-      = record { geometry = old.geometry; shards = with_item old.shards k after; objects = old.objects; seq = old.seq; floor = old.floor; alloc = old.alloc } in
-      let set : SetsShard g.R.Rack g.A.Area k old new before after = record { there = there; sets = refl; geometry = refl; objects = refl; seq = refl; floor = refl } in
+      = record { geometry = old.geometry; shards = with_item old.shards k after; uber = old.uber; objects = old.objects; seq = old.seq; floor = old.floor; alloc = old.alloc } in
+      let set : SetsShard g.R.Rack g.A.Area k old new before after = record { there = there; sets = refl; geometry = refl; objects = refl; seq = refl; floor = refl; uber = refl } in
       damage_done g.R.Rack g.A.Area old new before after x c.args.leaf c.args.sector c.metaslab_sectors-sectors.result c.from.result c.damage_sector.result is set
       c.metaslab_sectors-sectors.ensures.value c.from.ensures c.if-metaslab-from.false c.damage_sector.ensures.damages);
 }

@@ -50,9 +50,9 @@ returns-in-Ok g c = record {
       let at = shard_at old.shards.items c.in-Some.pointer.metaslab s.0 before s.1 c.index_mut.ensures.value in
       let e = c.in-Ok.ensures in
       let new : Pool g.row.R.Denot g.row.A.Denot
-      = record { geometry = old.geometry; shards = with_item old.shards c.in-Some.pointer.metaslab after; objects = old.objects; seq = old.seq; floor = old.floor; alloc = old.alloc } in
+      = record { geometry = old.geometry; shards = with_item old.shards c.in-Some.pointer.metaslab after; uber = old.uber; objects = old.objects; seq = old.seq; floor = old.floor; alloc = old.alloc } in
       let set : SetsShard g.R.Rack g.A.Area c.in-Some.pointer.metaslab old new before after
-      = record { there = at; sets = refl; geometry = refl; objects = refl; seq = refl; floor = refl } in
+      = record { there = at; sets = refl; geometry = refl; objects = refl; seq = refl; floor = refl; uber = refl } in
       fetch_done g.R.Rack g.A.Area old new before after x c.args.object c.in-Some.pointer c.in-Ok.fetched is there set e.fetches e.valid e.areas e.told e.reserve e.not_worn);
 }
 
@@ -68,9 +68,9 @@ returns-in-Err-Worn g c = record {
       let e = c.in-Err-Worn.ensures in
       let worn : FetchIsWorn before (fault.Worn c.in-Err-Worn.field-0-0) = subst (FetchIsWorn before) c.in-Err-Worn.field-0-is e.worn in
       let new : Pool g.row.R.Denot g.row.A.Denot
-      = record { geometry = old.geometry; shards = with_item old.shards c.in-Some.pointer.metaslab after; objects = old.objects; seq = old.seq; floor = old.floor; alloc = old.alloc } in
+      = record { geometry = old.geometry; shards = with_item old.shards c.in-Some.pointer.metaslab after; uber = old.uber; objects = old.objects; seq = old.seq; floor = old.floor; alloc = old.alloc } in
       let set : SetsShard g.R.Rack g.A.Area c.in-Some.pointer.metaslab old new before after
-      = record { there = at; sets = refl; geometry = refl; objects = refl; seq = refl; floor = refl } in
+      = record { there = at; sets = refl; geometry = refl; objects = refl; seq = refl; floor = refl; uber = refl } in
       fetch_worn g.R.Rack g.A.Area old new before after x c.args.object c.in-Some.pointer is there set e.valid e.none e.kit e.reserve worn.0);
 }
 
@@ -85,8 +85,8 @@ returns-in-Err-NoMemory g c = record {
       let at = shard_at old.shards.items c.in-Some.pointer.metaslab s.0 before s.1 c.index_mut.ensures.value in
       let e = c.in-Err-NoMemory.ensures in
       let new : Pool g.row.R.Denot g.row.A.Denot
-      = record { geometry = old.geometry; shards = with_item old.shards c.in-Some.pointer.metaslab after; objects = old.objects; seq = old.seq; floor = old.floor; alloc = old.alloc } in
+      = record { geometry = old.geometry; shards = with_item old.shards c.in-Some.pointer.metaslab after; uber = old.uber; objects = old.objects; seq = old.seq; floor = old.floor; alloc = old.alloc } in
       let set : SetsShard g.R.Rack g.A.Area c.in-Some.pointer.metaslab old new before after
-      = record { there = at; sets = refl; geometry = refl; objects = refl; seq = refl; floor = refl } in
+      = record { there = at; sets = refl; geometry = refl; objects = refl; seq = refl; floor = refl; uber = refl } in
       fetch_starved g.R.Rack g.A.Area old new before after x c.args.object c.in-Some.pointer is there set e.valid e.none e.kit e.reserve);
 }

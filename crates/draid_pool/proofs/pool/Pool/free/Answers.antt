@@ -9,7 +9,7 @@ use Rattle.draid_pool.proofs.pool.Pool.free.Goals as goal
 pub returns-in_default : goal.returns-in_default
 returns-in_default g c = record {
   step = λ x is.
-      unfreed_step g.R.Rack g.A.Area c.args.object NoObject c.args.self.now _ x is (sym c.remove.ensures.value ∙ c.in_default.is) refl refl refl refl (λ q. c.remove.ensures.updates.0 q);
+      unfreed_step g.R.Rack g.A.Area c.args.object NoObject c.args.self.now _ x is (sym c.remove.ensures.value ∙ c.in_default.is) refl refl refl refl refl (λ q. c.remove.ensures.updates.0 q);
 }
 
 pub index_mut-requires : goal.index_mut-requires
@@ -51,6 +51,6 @@ returns g c = record {
       (let there : get nat_eq c.args.self.now.objects c.args.object ≡ Some c.in-Some.pointer = sym c.remove.ensures.value ∙ c.in-Some.is in
       let found = pointed c.args.self.now.shards.items _ _ c.in-Some.pointer there (is.stands.objects c.args.object) in
       let at = shard_at c.args.self.now.shards.items c.in-Some.pointer found.0 c.index_mut.result.now found.2 c.index_mut.ensures.value in
-      free_step g.R.Rack g.A.Area c.args.object c.in-Some.pointer c.args.self.now _ c.index_mut.result.now c.free_block-self.new.shard c.free_block-self.result x is there at.0 c.free_block-self.ensures.frees refl refl refl
+      free_step g.R.Rack g.A.Area c.args.object c.in-Some.pointer c.args.self.now _ c.index_mut.result.now c.free_block-self.new.shard c.free_block-self.result x is there at.0 c.free_block-self.ensures.frees refl refl refl refl
       refl (λ q. c.remove.ensures.updates.0 q));
 }

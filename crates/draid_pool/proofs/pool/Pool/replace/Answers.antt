@@ -44,11 +44,11 @@ returns-in-Some g c = record {
       let found = pointed c.args.self.now.shards.items _ _ c.in-Some.earlier there a.had in
       let at = shard_at c.args.self.now.shards.items c.in-Some.earlier found.0 c.index_mut.result.now found.2 c.index_mut.ensures.value in
       replaced_some g.R.Rack g.A.Area c.args.object c.args.pointer c.in-Some.earlier c.args.self.now _ c.index_mut.result.now c.free_block-self.new.shard c.free_block-self.result earlier x a there at.0
-      c.free_block-self.ensures.frees refl refl refl refl (λ q. c.in-Ok.ensures.updates.0 q));
+      c.free_block-self.ensures.frees refl refl refl refl refl (λ q. c.in-Ok.ensures.updates.0 q));
 }
 
 pub returns-in_default-earlier : goal.returns-in_default-earlier
 returns-in_default-earlier g c = record {
   step = λ x earlier a.
-      replaced_none g.R.Rack g.A.Area c.args.object c.args.pointer c.args.self.now _ earlier x a (sym c.in-Ok.ensures.old ∙ c.in_default-earlier.is) refl refl refl refl (λ q. c.in-Ok.ensures.updates.0 q);
+      replaced_none g.R.Rack g.A.Area c.args.object c.args.pointer c.args.self.now _ earlier x a (sym c.in-Ok.ensures.old ∙ c.in_default-earlier.is) refl refl refl refl refl (λ q. c.in-Ok.ensures.updates.0 q);
 }

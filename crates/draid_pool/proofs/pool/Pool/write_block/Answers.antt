@@ -16,7 +16,7 @@ returns-then-is_err g c = record {
     store = x.store;
     follows = refl;
     done = (refl, refl);
-    represents = same_represents g.R.Rack g.A.Area c.args.self.now _ x refl refl refl refl (λ q. c.reserve.ensures.entries.2 q) is;
+    represents = same_represents g.R.Rack g.A.Area c.args.self.now _ x refl refl refl refl refl (λ q. c.reserve.ensures.entries.2 q) is;
   };
 }
 
@@ -66,10 +66,10 @@ replace-requires-clause-awaits g c =
     let at = borrowed g.R.Rack g.A.Area c.args.self.now.shards.items c.args.metaslab c.requires.room.shard c.index_mut-shard.result.now c.requires.room.there c.index_mut-shard.ensures.value in
     let shard = c.index_mut-shard.result.now in
     let n = stored_here g.R.Rack g.A.Area c.args.metaslab c.args.object c.args.block.now.bytes c.args.self.now shard c.store.new.shard is.0 is.1 at.0 c.in-Ok.pointer c.in-Ok.ensures.stores in
-    let mid : Pool g.row.R.Denot g.row.A.Denot = record { geometry = c.args.self.now.geometry; shards = with_item c.args.self.now.shards c.args.metaslab c.store.new.shard; objects = c.reserve.new.self; seq = c.args.self.now.seq + 1; floor = c.in-Ok.pointer.birth; alloc = c.args.self.now.alloc } in (
-      between g.R.Rack g.A.Area c.args.metaslab c.args.object c.args.block.now.bytes c.args.self.now shard c.store.new.shard is.0 is.1 at.0 c.in-Ok.pointer n mid refl refl refl refl (λ q. c.reserve.ensures.entries.2 q),
+    let mid : Pool g.row.R.Denot g.row.A.Denot = record { geometry = c.args.self.now.geometry; shards = with_item c.args.self.now.shards c.args.metaslab c.store.new.shard; uber = c.args.self.now.uber; objects = c.reserve.new.self; seq = c.args.self.now.seq + 1; floor = c.in-Ok.pointer.birth; alloc = c.args.self.now.alloc } in (
+      between g.R.Rack g.A.Area c.args.metaslab c.args.object c.args.block.now.bytes c.args.self.now shard c.store.new.shard is.0 is.1 at.0 c.in-Ok.pointer n mid refl refl refl refl refl (λ q. c.reserve.ensures.entries.2 q),
       write_of is.0.store.changes c.args.object,
-      awaits g.R.Rack g.A.Area c.args.metaslab c.args.object c.args.block.now.bytes c.args.self.now shard c.store.new.shard is.0 is.1 at.0 c.in-Ok.pointer n mid refl refl refl refl (λ q. c.reserve.ensures.entries.2 q),
+      awaits g.R.Rack g.A.Area c.args.metaslab c.args.object c.args.block.now.bytes c.args.self.now shard c.store.new.shard is.0 is.1 at.0 c.in-Ok.pointer n mid refl refl refl refl refl (λ q. c.reserve.ensures.entries.2 q),
     )
 
 pub returns-in-Ok : goal.returns-in-Ok
@@ -78,11 +78,11 @@ returns-in-Ok g c = record {
       (let at = borrowed g.R.Rack g.A.Area c.args.self.now.shards.items c.args.metaslab c.requires.room.shard c.index_mut-shard.result.now c.requires.room.there c.index_mut-shard.ensures.value in
       let shard = c.index_mut-shard.result.now in
       let n = stored_here g.R.Rack g.A.Area c.args.metaslab c.args.object c.args.block.now.bytes c.args.self.now shard c.store.new.shard x is at.0 c.in-Ok.pointer c.in-Ok.ensures.stores in
-      let mid : Pool g.row.R.Denot g.row.A.Denot = record { geometry = c.args.self.now.geometry; shards = with_item c.args.self.now.shards c.args.metaslab c.store.new.shard; objects = c.reserve.new.self; seq = c.args.self.now.seq + 1; floor = c.in-Ok.pointer.birth; alloc = c.args.self.now.alloc } in
-      wrote g.R.Rack g.A.Area c.args.metaslab c.args.object c.args.block.now.bytes c.args.self.now shard c.store.new.shard x is at.0 c.in-Ok.pointer n mid refl refl refl refl (λ q. c.reserve.ensures.entries.2 q) c.replace.new.self
-      (c.replace.ensures.step (between g.R.Rack g.A.Area c.args.metaslab c.args.object c.args.block.now.bytes c.args.self.now shard c.store.new.shard x is at.0 c.in-Ok.pointer n mid refl refl refl refl (λ q. c.reserve.ensures.entries.2 q))
+      let mid : Pool g.row.R.Denot g.row.A.Denot = record { geometry = c.args.self.now.geometry; shards = with_item c.args.self.now.shards c.args.metaslab c.store.new.shard; uber = c.args.self.now.uber; objects = c.reserve.new.self; seq = c.args.self.now.seq + 1; floor = c.in-Ok.pointer.birth; alloc = c.args.self.now.alloc } in
+      wrote g.R.Rack g.A.Area c.args.metaslab c.args.object c.args.block.now.bytes c.args.self.now shard c.store.new.shard x is at.0 c.in-Ok.pointer n mid refl refl refl refl refl (λ q. c.reserve.ensures.entries.2 q) c.replace.new.self
+      (c.replace.ensures.step (between g.R.Rack g.A.Area c.args.metaslab c.args.object c.args.block.now.bytes c.args.self.now shard c.store.new.shard x is at.0 c.in-Ok.pointer n mid refl refl refl refl refl (λ q. c.reserve.ensures.entries.2 q))
       (write_of x.store.changes c.args.object)
-      (awaits g.R.Rack g.A.Area c.args.metaslab c.args.object c.args.block.now.bytes c.args.self.now shard c.store.new.shard x is at.0 c.in-Ok.pointer n mid refl refl refl refl (λ q. c.reserve.ensures.entries.2 q))));
+      (awaits g.R.Rack g.A.Area c.args.metaslab c.args.object c.args.block.now.bytes c.args.self.now shard c.store.new.shard x is at.0 c.in-Ok.pointer n mid refl refl refl refl refl (λ q. c.reserve.ensures.entries.2 q))));
 }
 
 pub returns-in-Err-Missed : goal.returns-in-Err-Missed
@@ -90,10 +90,10 @@ returns-in-Err-Missed g c = record {
   step = λ x is.
       (let at = borrowed g.R.Rack g.A.Area c.args.self.now.shards.items c.args.metaslab c.requires.room.shard c.index_mut-shard.result.now c.requires.room.there c.index_mut-shard.ensures.value in
       let shard = c.index_mut-shard.result.now in
-      let new : Pool g.row.R.Denot g.row.A.Denot = record { geometry = c.args.self.now.geometry; shards = with_item c.args.self.now.shards c.args.metaslab c.store.new.shard; objects = c.reserve.new.self; seq = c.args.self.now.seq + 1; floor = c.in-Err-Missed.birth; alloc = c.args.self.now.alloc } in
+      let new : Pool g.row.R.Denot g.row.A.Denot = record { geometry = c.args.self.now.geometry; shards = with_item c.args.self.now.shards c.args.metaslab c.store.new.shard; uber = c.args.self.now.uber; objects = c.reserve.new.self; seq = c.args.self.now.seq + 1; floor = c.in-Err-Missed.birth; alloc = c.args.self.now.alloc } in
       let n = missed_here g.R.Rack g.A.Area c.args.metaslab c.args.object c.args.block.now.bytes c.args.self.now shard c.store.new.shard x is at.0 c.in-Err-Missed.field-0 c.in-Err-Missed.columns c.in-Err-Missed.birth
       c.in-Err-Missed.field-0-is c.in-Err-Missed.ensures.stores in
-      missed g.R.Rack g.A.Area c.args.metaslab c.args.object c.args.block.now.bytes c.args.self.now shard c.store.new.shard x is at.0 c.in-Err-Missed.columns c.in-Err-Missed.birth new n refl refl refl refl (λ q. c.reserve.ensures.entries.2 q));
+      missed g.R.Rack g.A.Area c.args.metaslab c.args.object c.args.block.now.bytes c.args.self.now shard c.store.new.shard x is at.0 c.in-Err-Missed.columns c.in-Err-Missed.birth new n refl refl refl refl refl (λ q. c.reserve.ensures.entries.2 q));
 }
 
 pub returns-in-Err-NoMemory : goal.returns-in-Err-NoMemory
@@ -101,7 +101,7 @@ returns-in-Err-NoMemory g c = record {
   step = λ x is.
       (let at = borrowed g.R.Rack g.A.Area c.args.self.now.shards.items c.args.metaslab c.requires.room.shard c.index_mut-shard.result.now c.requires.room.there c.index_mut-shard.ensures.value in
       let shard = c.index_mut-shard.result.now in
-      let new : Pool g.row.R.Denot g.row.A.Denot = record { geometry = c.args.self.now.geometry; shards = with_item c.args.self.now.shards c.args.metaslab c.store.new.shard; objects = c.reserve.new.self; seq = c.args.self.now.seq; floor = c.args.self.now.floor; alloc = c.args.self.now.alloc } in
+      let new : Pool g.row.R.Denot g.row.A.Denot = record { geometry = c.args.self.now.geometry; shards = with_item c.args.self.now.shards c.args.metaslab c.store.new.shard; uber = c.args.self.now.uber; objects = c.reserve.new.self; seq = c.args.self.now.seq; floor = c.args.self.now.floor; alloc = c.args.self.now.alloc } in
       record {
         holds = [];
         reached = x;
@@ -110,6 +110,6 @@ returns-in-Err-NoMemory g c = record {
         done = (refl, refl);
         represents = unwritten g.R.Rack g.A.Area c.args.metaslab c.args.object c.args.block.now.bytes c.args.self.now shard c.store.new.shard x is at.0 new
             (unwritten_here g.R.Rack g.A.Area c.args.metaslab c.args.object c.args.block.now.bytes c.args.self.now shard c.store.new.shard x is at.0 c.in-Err-NoMemory.field-0 c.in-Err-NoMemory.field-0-is
-            c.in-Err-NoMemory.ensures.stores) refl refl refl refl (λ q. c.reserve.ensures.entries.2 q);
+            c.in-Err-NoMemory.ensures.stores) refl refl refl refl refl (λ q. c.reserve.ensures.entries.2 q);
       });
 }
