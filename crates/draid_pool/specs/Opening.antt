@@ -1,5 +1,5 @@
 -- What becomes of a shelf on which a pool is created, and of the pool.
-use Rattle.std.specs.Prelude.{◌≡◌, ◌<◌, ◌≤◌, ◌+◌, ◌⊎◌, ℕ, Bool, false, List, [], Option, Some, None, MatchOption, IsSome, IsSomeAnd, IsTrue, Result, Ok, Err, length, replicate, slice_get}
+use Rattle.std.specs.Prelude.{◌≡◌, ◌<◌, ◌≤◌, ◌+◌, ◌⊎◌, ℕ, Bool, false, List, [], Option, Some, None, MatchOption, IsSome, IsSomeAnd, IsTrue, is_some, Result, Ok, Err, length, replicate, slice_get}
 use Rattle.draid_names.specs.Faults.{Rose}
 use Rattle.draid_rack.specs.declared.Rack as racks
 use Rattle.draid_area.specs.declared.Area as areas
@@ -28,11 +28,12 @@ use Rattle.draid_pool.specs.declared.pool.Pool.{Pool}
 
 -- ---- the pool
 
--- A pool of this layout was created, and nothing befell it yet. It tells what it has where the shelf does.
+-- A pool of this layout was created, and nothing befell it yet.
 pub record Opens {R A : Type 0} (rack : racks.Ghosts R) (area : areas.Ghosts A) (geometry : Geometry) (told : Option Held) (pool : Pool R A) : Type 0 where
   pub state : State
   pub represents : Represents rack area pool state
-  pub fresh : (tells : Bool) → (IsTrue tells → IsSome told) → IsFresh tells geometry state
+  pub fresh : IsFresh geometry state
+  pub told_is : state.told ≡ is_some told
 
 -- the spec and the properties have a layout
 abbrev pub HasLayout : Spec → Props → Type 0
@@ -86,7 +87,8 @@ pub record IsMade (geometry : Geometry) (new : Option Held) (after : ℕ → Kit
 -- the first commit of a new pool was refused, and the pool was given back
 pub record IsRefused (geometry : Geometry) (new : Option Held) (after : ℕ → KitCounts) (now : OwnCounts) : Type 0 where
   pub fresh : State
-  pub is_fresh : (tells : Bool) → (IsTrue tells → IsSome new) → IsFresh tells geometry fresh
+  pub is_fresh : IsFresh geometry fresh
+  pub told : IsSome new → IsTrue fresh.told
   pub held : OnHeld new (HoldsPool (uncommitted fresh) false)
   pub counts : (m : ℕ) (y : Metaslab) → slice_get fresh.metaslabs m ≡ Some y → SameCounts y.counts (after m)
   pub uber : fresh.uber_count ≤ now.uber

@@ -1,28 +1,25 @@
 -- The session: what its shelf holds between lines, and what each line does to that.
-use Rattle.std.specs.Prelude.{◌≡◌, ◌≤◌, ◌⊎◌, ⊤, ℕ, Bool, true, List, [], ◌∷◌, Option, Some, None, Result, Ok, Err, string_bytes}
-use Rattle.std.specs.List.{AllZip}
+use Rattle.std.specs.Prelude.{◌≡◌, ◌⊎◌, ℕ, true, List, [], ◌∷◌, Option, Some, None, Result, Ok, Err, string_bytes}
 use Rattle.draid_names.specs.declared.room.Room.{Room}
 use Rattle.draid_spec.specs.declared.layout.Geometry.{Geometry}
 use Rattle.draid_script.specs.Grammar.{line_of}
-use Rattle.draid_script.specs.Line.{Command, Silent, CreatePool, ImportPool, ExportPool, SyncPool, CrashPool, WriteObject, FillObjects, ReadObject, FreeObject, SumObjects, DamageSector}
+use Rattle.draid_script.specs.Line.{Command, Silent, CreatePool, ExportPool, SyncPool, CrashPool, WriteObject, FillObjects, ReadObject, FreeObject, SumObjects, DamageSector}
 use Rattle.draid_script.specs.declared.fault.LineFault.{LineFault}
 use Rattle.draid_script.specs.declared.line.PoolKeys.{PoolKeys}
 use Rattle.draid_script.specs.declared.name.CommandName.{CommandName}
 use Rattle.draid_script.specs.declared.name.CommandName.TheVariants as name
 use Rattle.draid_reply.specs.declared.reply.Reply.{Reply}
-use Rattle.draid_reply.specs.declared.reply.Reply.TheVariants.{NoPool, PoolOpen, NoMemory, Created, CreateRefused, Imported, Exported, Crashed}
+use Rattle.draid_reply.specs.declared.reply.Reply.TheVariants.{NoPool, PoolOpen, NoMemory, Created, CreateRefused, Exported, Crashed}
 use Rattle.draid_session.specs.State.{State, Store}
 use Rattle.draid_session.specs.Holds.{Hold}
-use Rattle.draid_session.specs.Follows.{Follows, Rests}
+use Rattle.draid_session.specs.Follows.{Follows}
 use Rattle.draid_session.specs.Does.{Broken, Does}
 use Rattle.draid_session.specs.Making.{IsFresh, Makes, content_of, layout_by, vdev_name_of}
-use Rattle.draid_session.specs.Opening.{HasObjects, Imports, MayFind}
 
--- What a session has of its shelf: it is as it was found; it has no pool, as far as an import could find one; the devices of a new pool were made and are on it, and
--- no pool was opened; a pool is open, in this state; or the pool that was open was given back.
+-- What a session has of its shelf: it is as it was found; the devices of a new pool were made and are on it, and no pool was opened; a pool is open, in this state;
+-- or the pool that was open was given back.
 pub data Desk : Type 0 where
   Untouched : Desk
-  Bare : Desk
   Made : Geometry → Desk
   Open : State → Desk
   Shut : State → Desk
@@ -57,54 +54,22 @@ uncommitted x = record x { committed = 0; pending = true }
 
 -- A pool was to be made, and none was opened: the shelf is as it was; or all that was made is on it, and its first commit wasn't called, or it was refused and may be
 -- on the disk.
-abbrev pub MakesNone : Bool → List ℕ → ℕ → PoolKeys → Desk → Desk → Type 0
-MakesNone tells text children keys old (Shut new) =
-    StaysShut old (Shut new) ⊎ ((geometry : Geometry) × HasLayout text children keys geometry × ((fresh : State) × IsFresh tells geometry fresh × (new ≡ uncommitted fresh)))
-MakesNone tells text children keys old new = (geometry : Geometry) × HasLayout text children keys geometry × (StaysShut old new ⊎ (new ≡ Made geometry))
+abbrev pub MakesNone : List ℕ → ℕ → PoolKeys → Desk → Desk → Type 0
+MakesNone text children keys old (Shut new) =
+    StaysShut old (Shut new) ⊎ ((geometry : Geometry) × HasLayout text children keys geometry × ((fresh : State) × IsFresh geometry fresh × (new ≡ uncommitted fresh)))
+MakesNone text children keys old new = (geometry : Geometry) × HasLayout text children keys geometry × (StaysShut old new ⊎ (new ≡ Made geometry))
 
--- the same but for the counts, which don't fall
-pub record SameButCounts (x y : State) : Type 0 where
-  pub layout : (y.geometry ≡ x.geometry) × (y.perms ≡ x.perms)
-  pub store : y.store ≡ x.store
-  pub committed : y.committed ≡ x.committed
-  pub leaves : (y.kept_leaf ≡ x.kept_leaf) × (y.next_leaf ≡ x.next_leaf)
-  pub pending : y.pending ≡ x.pending
-  pub count : x.uber_count ≤ y.uber_count
-  pub metaslabs : AllZip Rests x.metaslabs y.metaslabs
+-- A pool is made, over whatever the shelf held, or for want of memory none is opened.
+abbrev pub Creates : List ℕ → ℕ → PoolKeys → Desk → Reply → Desk → Type 0
+Creates text children keys old (Created called stripes) (Open new) = Makes text children keys (string_bytes called) stripes new
+Creates text children keys old (CreateRefused why) new = (layout_by text children keys ≡ Err why) × StaysShut old new
+Creates text children keys old (NoMemory name.Create) new = MakesNone text children keys old new
+Creates text children keys old reply new = ⊥
 
--- a refused import gives all back
-abbrev pub GivesBack : Desk → Desk → Type 0
-GivesBack (Shut x) (Shut y) = SameButCounts x y
-GivesBack old new = StaysShut old new
-
--- `tells` is whether the shelf told what it holds as a pool was made.
-module _ (tells : Bool) where
-  -- A pool is made, over whatever the shelf held, or for want of memory none is opened.
-  abbrev pub Creates : List ℕ → ℕ → PoolKeys → Desk → Reply → Desk → Type 0
-  Creates text children keys old (Created called stripes) (Open new) = Makes tells text children keys (string_bytes called) stripes new
-  Creates text children keys old (CreateRefused why) new = (layout_by text children keys ≡ Err why) × StaysShut old new
-  Creates text children keys old (NoMemory name.Create) new = MakesNone tells text children keys old new
-  Creates text children keys old reply new = ⊥
-
-  -- What is found: of what was given back, its pool; and of a shelf of which nothing is known some pool, of which the reply's words are true. Where no gate of the
-  -- uberblock is open, there is none.
-  abbrev pub ImportTurns : Desk → Reply → Desk → Type 0
-  ImportTurns (Shut old) (Imported called group objects) (Open new) =
-      Imports old group new × (string_bytes called ≡ vdev_name_of old.geometry.spec) × HasObjects new.store.changes objects
-  ImportTurns Untouched (Imported called group objects) (Open new) =
-      (new.committed ≡ group) × (string_bytes called ≡ vdev_name_of new.geometry.spec) × HasObjects new.store.changes objects
-  ImportTurns (Shut old) (NoPool name.Import) Bare = MayFind old 0
-  ImportTurns Untouched (NoPool name.Import) Bare = ⊤
-  ImportTurns Bare (NoPool name.Import) Bare = ⊤
-  ImportTurns (Made geometry) (NoPool name.Import) new = new ≡ Made geometry
-  ImportTurns old (NoMemory name.Import) new = GivesBack old new
-  ImportTurns old reply new = ⊥
-
-  abbrev pub ShutTurns : Desk → Command → Reply → Desk → Type 0
-  ShutTurns old (CreatePool text children keys) reply new = Creates text children keys old reply new
-  ShutTurns old ImportPool reply new = ImportTurns old reply new
-  ShutTurns old command (NoPool called) new = (name_of command ≡ Some called) × StaysShut old new
-  ShutTurns old command reply new = ⊥
+abbrev pub ShutTurns : Desk → Command → Reply → Desk → Type 0
+ShutTurns old (CreatePool text children keys) reply new = Creates text children keys old reply new
+ShutTurns old command (NoPool called) new = (name_of command ≡ Some called) × StaysShut old new
+ShutTurns old command reply new = ⊥
 
 -- ---- with a pool
 
@@ -113,7 +78,7 @@ abbrev pub StaysOpen : State → Desk → Type 0
 StaysOpen old new = new ≡ Open old
 
 -- The chooser names a metaslab among the rooms.
-module _ (tells : Bool) (chosen : List Room → Option ℕ → Type 0) where
+module _ (chosen : List Room → Option ℕ → Type 0) where
   -- what a command does to the open pool, by its holds and its own store
   pub record CarriesOut (command : Command) (reply : Reply) (old new : State) : Type 0 where
     pub holds : List Hold
@@ -126,7 +91,6 @@ module _ (tells : Bool) (chosen : List Room → Option ℕ → Type 0) where
   -- an export and a crash give the pool back, and every other command leaves it open
   abbrev pub OpenTurns : State → Command → Reply → Desk → Type 0
   OpenTurns old (CreatePool text children keys) (PoolOpen name.Create) new = StaysOpen old new
-  OpenTurns old ImportPool (PoolOpen name.Import) new = StaysOpen old new
   OpenTurns old ExportPool (Exported group) (Shut new) = CarriesOut ExportPool (Exported group) old new
   OpenTurns old ExportPool (Exported group) new = ⊥
   OpenTurns old CrashPool Crashed (Shut new) = CarriesOut CrashPool Crashed old new
@@ -138,7 +102,7 @@ module _ (tells : Bool) (chosen : List Room → Option ℕ → Type 0) where
 
   abbrev pub ReplyTurns : Desk → Command → Reply → Desk → Type 0
   ReplyTurns (Open old) command reply new = OpenTurns old command reply new
-  ReplyTurns old command reply new = ShutTurns tells old command reply new
+  ReplyTurns old command reply new = ShutTurns old command reply new
 
   -- an empty line and a comment have no reply, and every other line has one
   abbrev pub Turns : Desk → Command → Option Reply → Desk → Type 0
@@ -159,25 +123,19 @@ module _ (tells : Bool) (chosen : List Room → Option ℕ → Type 0) where
 
 -- ---- where a run breaks off
 
--- a call on the shelf or on an area failed; or the uberblock, or a record, has a fault
-pub data Cause : Type 0 where
-  ShelfFails : Cause
-  RecordFails : Cause
-
 -- a failing device ended the command, and its holds up to there came
 pub record BreaksOpen (command : Command) (old new : State) : Type 0 where
   pub holds : List Hold
   pub follows : Follows holds old new
   pub broken : Broken old.geometry old.perms command holds
 
--- What a run is where it breaks off in a command. A pool that is open stays so till the run ends; whatever was taken from the shelf is given back.
-abbrev pub Breaks : Bool → Cause → Desk → Command → Desk → Type 0
-Breaks tells ShelfFails (Open old) command (Open new) = BreaksOpen command old new
-Breaks tells ShelfFails (Open old) command new = ⊥
-Breaks tells ShelfFails old (CreatePool text children keys) new = MakesNone tells text children keys old new
-Breaks tells ShelfFails old ImportPool new = GivesBack old new
-Breaks tells RecordFails Untouched ImportPool new = new ≡ Untouched
-Breaks tells cause old command new = ⊥
+-- What a run is where it breaks off in a command, since a call of the shelf or on an area failed. A pool that is open stays so till the run ends; what was taken
+-- from the shelf for a new one is given back.
+abbrev pub Breaks : Desk → Command → Desk → Type 0
+Breaks (Open old) command (Open new) = BreaksOpen command old new
+Breaks (Open old) command new = ⊥
+Breaks old (CreatePool text children keys) new = MakesNone text children keys old new
+Breaks old command new = ⊥
 
 -- the pool that is open as a run ends is given back, without a sync
 abbrev pub given_back : Desk → Desk
