@@ -195,13 +195,6 @@ module _ {R A : Type 0} (rack : racks.Ghosts R) (area : areas.Ghosts A) where
     pub is : IsMetaslab rack area (part_in x pointer.metaslab) (r.stands.pieces pointer.metaslab) shard y
     pub content : HasPieces x.geometry w (r.stands.pieces pointer.metaslab)
 
-  -- where the pool has a pointer of an object
-  pub shard_of : (pool : Pool R A) (x : State) (o : ℕ) (pointer : Pointer) → Represents rack area pool x → get nat_eq pool.objects o ≡ Some pointer
-      → (shard : Shard R A) × (slice_get pool.shards.items pointer.metaslab ≡ Some shard)
-  shard_of pool x o pointer r there =
-      let z = pointed pool.shards.items (get nat_eq pool.objects o) (write_of x.store.changes o) pointer there (r.stands.objects o) in
-      (z.of.shard, z.of.there)
-
   pub found : (pool : Pool R A) (x : State) (r : Represents rack area pool x) (o : ℕ) (pointer : Pointer) (shard : Shard R A) → get nat_eq pool.objects o ≡ Some pointer
       → slice_get pool.shards.items pointer.metaslab ≡ Some shard → Found pool x r o pointer shard
   found pool x r o pointer shard there at =

@@ -98,22 +98,6 @@ module _ {R A : Type 0} (rack : racks.Ghosts R) (area : areas.Ghosts A) where
       let same = s.shards in
       present x.metaslabs m (omega (arith, below, same))
 
-  -- the floor is one that a shard takes
-  pub floor_fits : (pool : Pool R A) (table : ℕ → Option Pointer) (x : State) (m : ℕ) (shard : Shard R A) → Stands rack area pool table x → slice_get pool.shards.items m ≡ Some shard
-      → pool.floor ≤ shard.open_group + 1
-  floor_fits pool table x m shard s there =
-      let z = metaslab_there pool table x m shard s there in
-      let is = s.each m shard z.0 there z.1 in
-      let committed = s.groups.committed m z.0 z.1 in
-      let same = is.stands.is_in.committed in
-      let next = s.groups.next in
-      let floor = s.floor in
-      let high = open_high shard.open_group shard.closing shard.committed shard.sealed is.valid.groups in
-      omega (arith, high, committed, same, next, floor)
-
-  pub floor_last : (pool : Pool R A) (table : ℕ → Option Pointer) (x : State) → Stands rack area pool table x → pool.floor ≤ LAST_NUMBER
-  floor_last pool table x s = (let last = s.groups.last in let floor = s.floor in omega (arith, last, floor))
-
   -- a group that a shard may use is one of the next two
   pub group_low : (pool : Pool R A) (table : ℕ → Option Pointer) (x : State) (m : ℕ) (shard : Shard R A) (y : Metaslab) (group : ℕ) → Stands rack area pool table x
       → slice_get pool.shards.items m ≡ Some shard → slice_get x.metaslabs m ≡ Some y → group ≡ max y.world.open_group pool.floor → (group ≤ x.committed + 2) × (x.store.floor ≤ group)
@@ -294,12 +278,3 @@ module _ {R A : Type 0} (rack : racks.Ghosts R) (area : areas.Ghosts A) where
         | inl same ↦ put_here (get nat_eq new.objects q) (get nat_eq pool.objects q) object q None (drops q) same ∙ sym (subst (λ o. get nat_eq pool.objects o ≡ None) same none)
         | inr other ↦ put_elsewhere (get nat_eq new.objects q) (get nat_eq pool.objects q) object q None (drops q) (λ same. omega (arith, same, other))
       ]
-
--- ---- the shard of a pointer
-
--- what was borrowed at a place
-pub shard_at : {R A : Type 0} (shards : List (Shard R A)) (p : Pointer) (w : Write) (shard : Shard R A) → IsPointerOf shards p w → shard ≡ slice_index_or shards p.metaslab shard
-    → (slice_get shards p.metaslab ≡ Some shard) × IsLive shard p
-shard_at shards p w shard of value =
-    let same : shard ≡ of.shard = value ∙ get_or_from_slice_get shards p.metaslab of.shard shard of.there in
-    (of.there ∙ ap Some (sym same), subst (λ z. IsLive z p) (sym same) of.live)

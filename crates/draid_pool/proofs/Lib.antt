@@ -21,9 +21,11 @@ pub mod Opened
 pub mod PutSteps
 pub mod ReadSteps
 pub mod ReplaceSteps
+pub mod Sets
 pub mod Steps
 pub mod StoreSteps
 pub mod Sums
+pub mod Wholes
 pub mod WriteSteps
 pub mod Listing
 pub mod ChooseSteps

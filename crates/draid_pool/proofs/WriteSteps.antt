@@ -48,7 +48,7 @@ use Rattle.draid_block.specs.Columns.{stripes_of}
 use Rattle.draid_shard.specs.States.{IsIn}
 use Rattle.draid_pool.specs.declared.pool.Pool.{Pool}
 use Rattle.draid_pool.proofs.Entering.{OnlyLast}
-use Rattle.draid_pool.proofs.FreeSteps.{floor_fits, group_low, metaslab_there, points_on, points_same, same_key}
+use Rattle.draid_pool.proofs.FreeSteps.{group_low, metaslab_there, points_on, points_same, same_key}
 use Rattle.draid_pool.proofs.Lists.{ext, get_set_same, set_back, some_of}
 use Rattle.draid_pool.proofs.Lives.{held_by}
 use Rattle.draid_shard.specs.Calls.{IsLive}
@@ -198,18 +198,6 @@ module _ {R A : Type 0} (rack : racks.Ghosts R) (area : areas.Ghosts A) where
     pub its : IsMetaslab rack area (part_in x m) (is.stands.pieces m) shard y
     its = is.stands.each m shard y at y_there.1
 
-    pub its_geometry : shard.geometry ≡ pool.geometry
-    its_geometry = ap (λ (p : Part). p.geometry) its.part_is ∙ is.stands.geometry
-
-    pub its_room : (own : Shard R A) (len : ℕ) → shard ≡ own → ((w : machine.State) → IsIn own w → HasRoom (stripes_of (cut_of pool.geometry) len) own w)
-        → (w : machine.State) × IsIn shard w × HasRoom (stripes_of (cut_of shard.geometry) len) shard w
-    its_room own len same room = (
-      y.world,
-      its.stands.is_in,
-      subst (λ (geometry : Geometry). HasRoom (stripes_of (cut_of geometry) len) shard y.world) (sym its_geometry)
-          (subst (λ (z : Shard R A). (w : machine.State) → IsIn z w → HasRoom (stripes_of (cut_of pool.geometry) len) z w) (sym same) room y.world its.stands.is_in),
-    )
-
     -- what became of the block here
     pub stored_here : (pointer : Pointer)
         → ((part : Part) (pieces : Pieces) (z : Metaslab) → IsMetaslab rack area part pieces shard z → Stored rack area part pieces object (pool.seq + 1) pool.floor bytes z shard' pointer)
@@ -229,21 +217,6 @@ module _ {R A : Type 0} (rack : racks.Ghosts R) (area : areas.Ghosts A) where
         → IsMetaslab rack area (part_in x m) (is.stands.pieces m) shard' y
     unwritten_here e same stores =
         subst (λ f. StoreDoes rack area (part_in x m) (is.stands.pieces m) object (pool.seq + 1) pool.floor bytes y shard' (Err f)) same (stores (part_in x m) (is.stands.pieces m) y its)
-
-    -- what a write of the next number wants of it
-    pub its_floor : pool.floor ≤ shard.open_group + 1
-    its_floor = floor_fits rack area pool (λ o. get nat_eq pool.objects o) x m shard is.stands at
-
-    pub its_unused : (seq : ℕ) → seq ≡ pool.seq → entries.held_in shard.entries (record { object = object; seq = seq + 1 }) ≡ None
-    its_unused seq same = by (y.world.core.held (record { object = object; seq = seq + 1 })) refl
-      where
-        by : (o : Option Held) → y.world.core.held (record { object = object; seq = seq + 1 }) ≡ o → entries.held_in shard.entries (record { object = object; seq = seq + 1 }) ≡ None
-        by None none = sym (its.stands.is_in.held (record { object = object; seq = seq + 1 })) ∙ none
-        by (Some h) some = absurd (
-            let low = is.stands.holds.numbered m (record { object = object; seq = seq + 1 }) h (blocks_at x.metaslabs m y (record { object = object; seq = seq + 1 }) y_there.1 ∙ some) in
-            let own = is.stands.seq in
-            omega (arith, low, own, same)
-            )
 
     -- ---- nothing was written
     pub unwritten : (new : Pool R A) → IsMetaslab rack area (part_in x m) (is.stands.pieces m) shard' y → new.shards.items ≡ slice_set pool.shards.items m shard' → new.geometry ≡ pool.geometry → new.uber ≡ pool.uber → new.uber ≡ pool.uber
