@@ -31,3 +31,4 @@ pub mod Listing
 pub mod ChooseSteps
 pub mod Walks
 pub mod Turns
+pub mod Stood

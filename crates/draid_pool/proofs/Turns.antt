@@ -53,7 +53,7 @@ use Rattle.draid_pool.specs.Syncing.{CloseIs, Commits, KeepsCommitted, SealIs, T
 use Rattle.draid_pool.specs.declared.fault.SyncFault.{SyncFault}
 use Rattle.draid_pool.specs.declared.fault.SyncFault.TheVariants as sync
 use Rattle.draid_pool.proofs.Damages.{leaf_in}
-use Rattle.draid_pool.proofs.Dids.{Counted, Done, did_quiet, did_with, none_here, records_same}
+use Rattle.draid_pool.proofs.Dids.{Done, did_quiet, did_with, none_here, records_same}
 use Rattle.draid_pool.proofs.Lists.{ext}
 use Rattle.draid_pool.proofs.OneHold.{looks_in, passes_is, worn_is}
 
