@@ -2,25 +2,22 @@
 use Rattle.std.specs.Prelude.{◌≡◌, ℕ, List, Option, Some, None, Result, Ok, Err}
 use Rattle.draid_rack.specs.declared.Rack as racks
 use Rattle.draid_area.specs.declared.Area as areas
-use Rattle.draid_script.specs.Line.{Command, CrashPool, ExportPool, SyncPool}
 use Rattle.draid_script.specs.declared.name.CommandName.{CommandName}
 use Rattle.draid_script.specs.declared.name.CommandName.TheVariants as name
 use Rattle.draid_reply.specs.declared.reply.Reply.{Reply}
 use Rattle.draid_reply.specs.declared.reply.Reply.TheVariants.{Crashed, Exported, Last, NoMemory, NoPool, Synced, Worn}
 use Rattle.draid_session.specs.Follows.{Follows}
-use Rattle.draid_session.specs.Groups as groups
 use Rattle.draid_session.specs.Holds.{Hold}
-use Rattle.draid_session.specs.Phases.{WasLast, WasWorn, Went}
 use Rattle.draid_session.specs.Session.{Desk, Open, Shut}
 use Rattle.draid_session.specs.State.{State, Store}
-use Rattle.draid_pool.specs.Answers.{SyncDoes}
+use Rattle.draid_pool.specs.Answers.{ExportDoes, SyncDoes}
 use Rattle.draid_pool.specs.Carries.{CarriesOut}
 use Rattle.draid_pool.specs.Whole.{IsWhole}
 use Rattle.draid_pool.specs.declared.fault.SyncFault.{SyncFault}
 use Rattle.draid_pool.specs.declared.fault.SyncFault.TheVariants as sync
 use Rattle.draid_pool.specs.declared.fault.Synced.{Synced as Group}
 use Rattle.draid_pool.specs.declared.pool.Pool.{Pool}
-use Rattle.draid_run.specs.Desks.{Broken, IsDesk}
+use Rattle.draid_run.specs.Desks.{IsDesk}
 use Rattle.draid_run.specs.Shelves.{OnShelf}
 use Rattle.draid_run.specs.declared.answer.Stop.{Stop}
 use Rattle.draid_run.specs.declared.answer.Stop.TheVariants as stop
@@ -62,35 +59,54 @@ SyncDid rack area desk result pool = (result ≡ Ok (NoPool name.Sync)) × (pool
 
 -- ---- an export, a crash
 
--- Holds led from one state to another, and are so. What the pool has of its own is as it was.
-pub record Leads (x y : State) (does : List Hold → Type 0) : Type 0 where
+-- the reply of an export: the group that was committed last, or why a sync was refused
+abbrev pub export_reply : Result ℕ SyncFault → Option Reply
+export_reply (Ok group) = Some (Exported group)
+export_reply (Err why) = refusal_of name.Export why
+
+-- it gives the pool back, unless its sync was refused
+abbrev pub desk_behind : Result ℕ SyncFault → State → Desk
+desk_behind (Ok group) y = Shut y
+desk_behind (Err why) y = Open y
+
+-- Holds led from one state to another, and are so.
+pub record Leads (x y : State) (does : List Hold → Store → Type 0) : Type 0 where
   pub holds : List Hold
   pub mid : State
+  pub store : Store
   pub follows : Follows holds x mid
-  pub done : does holds
-  pub made : y ≡ record mid { store = x.store }
+  pub done : does holds store
+  pub made : y ≡ record mid { store = store }
 
--- what an export or a crash makes of a desk, by its reply
-abbrev pub GivesUp : Command → Desk → Reply → Desk → Type 0
-GivesUp ExportPool (Open x) (Exported group) (Shut y) = Leads x y (λ holds. groups.Exports x.geometry x.perms group holds Went)
-GivesUp ExportPool (Open x) (Worn name.Export) (Open y) = Leads x y (λ holds. groups.ExportStops x.geometry x.perms holds WasWorn)
-GivesUp ExportPool (Open x) (Last name.Export) (Open y) = Leads x y (λ holds. groups.ExportStops x.geometry x.perms holds WasLast)
-GivesUp ExportPool (Open x) (NoMemory name.Export) (Open y) = Leads x y (λ holds. groups.ExportStarves x.geometry x.perms holds)
-GivesUp ExportPool (Open x) reply new = ⊥
-GivesUp ExportPool desk reply new = (reply ≡ NoPool name.Export) × (new ≡ desk)
-GivesUp CrashPool (Open x) Crashed (Shut y) = y ≡ x
-GivesUp CrashPool (Open x) reply new = ⊥
-GivesUp CrashPool desk reply new = (reply ≡ NoPool name.Crash) × (new ≡ desk)
-GivesUp command desk reply new = ⊥
+-- the pool did what the answer of its export says, which has this reply
+pub record Exports (x : State) (reply : Option Reply) (new : Desk) : Type 0 where
+  pub answer : Result ℕ SyncFault
+  pub reply_is : export_reply answer ≡ reply
+  pub y : State
+  pub new_is : new ≡ desk_behind answer y
+  pub leads : Leads x y (ExportDoes x answer)
 
--- it was done, and this is its reply
-pub record GaveUp {R A : Type 0} (rack : racks.Ghosts R) (area : areas.Ghosts A) (command : Command) (entry : OnShelf) (old : Desk) (reply : Reply) (now : OnShelf) (pool : Option (Pool R A)) : Type 0 where
+abbrev pub ExportTurns : Desk → Option Reply → Desk → Type 0
+ExportTurns (Open x) reply new = Exports x reply new
+ExportTurns desk reply new = (reply ≡ Some (NoPool name.Export)) × (new ≡ desk)
+
+-- so where it has a reply, and where a device failed
+pub record ExportDid {R A : Type 0} (rack : racks.Ghosts R) (area : areas.Ghosts A) (entry : OnShelf) (old : Desk) (reply : Option Reply) (now : OnShelf) (pool : Option (Pool R A)) : Type 0 where
   pub new : Desk
   pub desk : IsDesk rack area entry now pool new
-  pub gives : GivesUp command old reply new
+  pub turns : ExportTurns old reply new
 
--- or a device failed, and the pool is still open
-abbrev pub ExportIs : {R A : Type 0} → racks.Ghosts R → areas.Ghosts A → OnShelf → OnShelf → Desk → OnShelf → Option (Pool R A) → Result Reply Stop → Type 0
-ExportIs rack area entry before old now pool (Ok reply) = GaveUp rack area ExportPool entry old reply now pool
-ExportIs rack area entry before old now pool (Err stop.Shelf) = Broken rack area ExportPool entry before old now pool
-ExportIs rack area entry before old now pool (Err stop.Unbuilt) = ⊥
+abbrev pub ExportIs : {R A : Type 0} → racks.Ghosts R → areas.Ghosts A → OnShelf → Desk → OnShelf → Option (Pool R A) → Result Reply Stop → Type 0
+ExportIs rack area entry old now pool (Ok reply) = ExportDid rack area entry old (Some reply) now pool
+ExportIs rack area entry old now pool (Err stop.Shelf) = ExportDid rack area entry old None now pool
+ExportIs rack area entry old now pool (Err stop.Unbuilt) = ⊥
+
+-- a crash gives the pool back as it is
+abbrev pub CrashTurns : Desk → Reply → Desk → Type 0
+CrashTurns (Open x) reply new = (reply ≡ Crashed) × (new ≡ Shut x)
+CrashTurns desk reply new = (reply ≡ NoPool name.Crash) × (new ≡ desk)
+
+pub record CrashDid {R A : Type 0} (rack : racks.Ghosts R) (area : areas.Ghosts A) (entry : OnShelf) (old : Desk) (reply : Reply) (now : OnShelf) (pool : Option (Pool R A)) : Type 0 where
+  pub new : Desk
+  pub desk : IsDesk rack area entry now pool new
+  pub turns : CrashTurns old reply new

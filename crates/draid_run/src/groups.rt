@@ -1,12 +1,11 @@
 //! Commands that commit a group, or give the open pool back to the shelf.
 ghost use Rattle.std.specs.Prelude.{◌≡◌, ◌≤◌, None, Ok, Err};
-ghost use Rattle.draid_script.specs.Line.{CrashPool};
 ghost use Rattle.draid_session.specs.Session.{Desk};
 ghost use Rattle.draid_session.specs.State.{State};
 ghost use Rattle.draid_pool.specs.Pools.{Represents};
 ghost use Rattle.draid_pool.specs.Whole.{IsWhole};
 ghost use Rattle.draid_run.specs.Desks.{IsDesk, IsPool};
-ghost use Rattle.draid_run.specs.Groups.{ExportIs, GaveUp, RefusalIs, SyncDid, SyncLeads};
+ghost use Rattle.draid_run.specs.Groups.{CrashDid, ExportIs, RefusalIs, SyncDid, SyncLeads};
 ghost use Rattle.draid_run.specs.Shelves.{OnShelf, on_shelf};
 
 use crate::answer::{Stop, no_pool};
@@ -60,7 +59,7 @@ pub(crate) fn export<H: Shelf>(
 ) -> Result<Reply, Stop>
     requires desk { (x : Desk) × IsPool H.R.Rack H.A.Area pool.old x }
     ensures answer { (entry : OnShelf) (x : Desk) → IsDesk H.R.Rack H.A.Area entry (on_shelf H.Shelf shelf.old) pool.old x
-        → ExportIs H.R.Rack H.A.Area entry (on_shelf H.Shelf shelf.old) x (on_shelf H.Shelf shelf.new) pool.new result }
+        → ExportIs H.R.Rack H.A.Area entry x (on_shelf H.Shelf shelf.new) pool.new result }
     ensures later { H.faults shelf.old ≤ H.faults shelf.new }
 {
     let Some(mut open) = pool.take() else {
@@ -81,8 +80,8 @@ pub(crate) fn export<H: Shelf>(
 /// Gives the pool that is open back to the shelf as it is, and all that the shelf holds a crash.
 pub(crate) fn crash<H: Shelf>(shelf: &mut H, pool: &mut Option<Pool<H::R, H::A>>) -> Reply
     requires desk { (x : Desk) × IsPool H.R.Rack H.A.Area pool.old x }
-    ensures gave_up { (entry : OnShelf) (x : Desk) → IsDesk H.R.Rack H.A.Area entry (on_shelf H.Shelf shelf.old) pool.old x
-        → GaveUp H.R.Rack H.A.Area CrashPool entry x result (on_shelf H.Shelf shelf.new) pool.new }
+    ensures did { (entry : OnShelf) (x : Desk) → IsDesk H.R.Rack H.A.Area entry (on_shelf H.Shelf shelf.old) pool.old x
+        → CrashDid H.R.Rack H.A.Area entry x result (on_shelf H.Shelf shelf.new) pool.new }
     ensures later { H.faults shelf.old ≤ H.faults shelf.new }
 {
     match pool.take() {
