@@ -28,7 +28,8 @@ pub use fault::{
     Shut,
 };
 pub use laws::{
-    calls_keep_what_stands, fetched_blocks_are_readable, opened_shards_stand, worn_is_what_is_owed,
+    calls_keep_what_stands, fetched_blocks_are_readable, opened_shards_stand,
+    valid_shards_have_states, worn_is_what_is_owed,
 };
 pub use shard::Shard;
 pub use ticket::Ticket;

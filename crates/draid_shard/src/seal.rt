@@ -1,4 +1,4 @@
-ghost use Rattle.std.specs.Prelude.{◌≡◌, ◌≤◌, ◌+◌, ◌^◌, Some, true, false, All, IsSome, IfErr, IfOk, OnOk, length, option_map};
+ghost use Rattle.std.specs.Prelude.{◌≡◌, ◌≤◌, ◌+◌, ◌^◌, Some, true, false, All, IsSome, IfErr, IfOk, OnErr, OnOk, length, option_map};
 ghost use Rattle.draid_area.specs.Area.{OnTold, flushes, writes};
 ghost use Rattle.draid_names.specs.declared.fault.DeviceFault.TheVariants as device;
 ghost use Rattle.draid_names.specs.declared.pointer.Pointer.{Pointer};
@@ -10,6 +10,7 @@ ghost use Rattle.draid_slots.specs.Table.{IsTable};
 ghost use Rattle.draid_stable.specs.Slots.{HasSlots};
 ghost use Rattle.draid_stable.specs.Stable.{Stands};
 ghost use Rattle.draid_shard.specs.Calls.{SameReserve};
+ghost use Rattle.draid_shard.specs.Changes.{KeepsBlocks, SealsGroup};
 ghost use Rattle.draid_shard.specs.Fits.{TicketsAreNew, Valid};
 ghost use Rattle.draid_shard.specs.Groups.{KeepsOtherArea, OpenUpto, Seals, Unsealed};
 ghost use Rattle.draid_shard.specs.declared.fault.SealFault.TheVariants as seal;
@@ -48,7 +49,9 @@ impl<R: Rack, A: Area> Shard<R, A> {
         ensures valid { Valid R.Rack self.new }
         ensures other { KeepsOtherArea group self.old self.new }
         ensures sealed { IfOk result (λ it. Seals R.Rack A.told self.old self.new group it.thin) }
+        ensures seals { OnOk result (SealsGroup self.old self.new) }
         ensures refused { IfErr result (Unsealed R.Rack A.faults self.old self.new group) }
+        ensures keeps { OnErr result (KeepsBlocks self.old self.new) }
         ensures reserve { SameReserve self.old self.new }
     {
         let tickets = self.tickets_upto(group);
@@ -71,7 +74,9 @@ impl<R: Rack, A: Area> Shard<R, A> {
         ensures valid { Valid R.Rack self.new }
         ensures other { KeepsOtherArea group self.old self.new }
         ensures sealed { IfOk result (λ it. Seals R.Rack A.told self.old self.new group it.thin) }
+        ensures seals { OnOk result (SealsGroup self.old self.new) }
         ensures refused { IfErr result (Unsealed R.Rack A.faults self.old self.new group) }
+        ensures keeps { OnErr result (KeepsBlocks self.old self.new) }
         ensures reserve { SameReserve self.old self.new }
     {
         let Plan {

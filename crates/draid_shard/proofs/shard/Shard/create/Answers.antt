@@ -1,6 +1,6 @@
 use Rattle.std.proofs.Common.{arith, refl, sym}
 use Rattle.draid_layouts.specs.Layout.{layout_of}
-use Rattle.draid_shard.proofs.Creation.{created_slots, empty_tables, has_leaves, no_tickets, none_here, owes_none, own_version, rooms_enough}
+use Rattle.draid_shard.proofs.Creation.{created_slots, empty_tables, has_leaves, no_tickets, none_here, once_new, owes_none, own_version, rooms_enough}
 use Rattle.draid_shard.proofs.shard.Shard.create.Goals as goal
 
 pub returns-clause-valid : goal.returns-clause-valid
@@ -14,6 +14,7 @@ returns-clause-valid g c = record {
   few = (let count = c.new-3.ensures.count in omega (arith, count));
   here = none_here c.new-3.result c.args.number c.new-3.ensures.none;
   slots = c.in-Ok-new_slots.ensures.of;
+  once = once_new c.args.geometry.spec.children c.in-Ok-new_slots.slots c.in-Ok-new_slots.ensures.new;
   pass = tt;
   logs = rooms_enough c.in-Ok-new_slots.slots 2 2 3 0 (omega arith) c.in-Ok-new_slots.ensures.room;
   leaves = has_leaves (g.R.Rack.shape c.args.kit.rack) c.args.geometry c.in-Ok-new_slots.slots c.requires.rack c.in-Ok-new_slots.ensures.new;
