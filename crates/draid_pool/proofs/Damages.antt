@@ -34,6 +34,7 @@ use Rattle.draid_session.specs.Worn.{ReservesWorn}
 use Rattle.draid_pool.specs.Metaslabs.{IsMetaslab}
 use Rattle.draid_pool.specs.Shards.{DamagesIn, Goes, SameBlocks}
 use Rattle.draid_pool.proofs.Dids.{Done, Raises, did, none_here}
+use Rattle.draid_pool.proofs.Imaged.{step_keeps}
 use Rattle.draid_pool.proofs.OneHold.{looked, passes_is, reserved_here, reserves, with_reserved, worn_is}
 
 -- ---- leaves
@@ -103,7 +104,7 @@ module _ {R A : Type 0} (rack : racks.Ghosts R) (area : areas.Ghosts A) where
   damages old mid new leaf sector failed r reserved never valid does acts raises used limit part pieces x is =
       let y : Metaslab = with_reserved x (reserved_of mid.history) in
       let here : IsMetaslab rack area part pieces mid y = reserved_here rack area part pieces old mid x is r.valid r.none r.kit r.limit in
-      let z : Done rack area part pieces new (Damage leaf sector failed) y = did rack area part pieces mid new (Damage leaf sector failed) y here valid does (acts pieces) (λ v step. refl) limit used raises in
+      let z : Done rack area part pieces new (Damage leaf sector failed) y = did rack area part pieces mid new (Damage leaf sector failed) y here valid does (acts pieces) (λ v step. refl) limit used raises tt in
       record {
         holds = On (view_of part.number x) (Reserved 1) ∷ (On (view_of part.number y) (Did (Damage leaf sector failed) z.reached.world) ∷ []);
         reached = z.reached;
@@ -114,6 +115,7 @@ module _ {R A : Type 0} (rack : racks.Ghosts R) (area : areas.Ghosts A) where
           reserves (layout_in part) 1 (reserved_of mid.history) x (reserved ∙ ap (max 1) (sym is.reserved)),
           (Did (Damage leaf sector failed) z.reached.world, z.reached, refl, z.acts, refl),
         );
+        images = step_keeps (layout_in part) y.world z.reached.world (Damage leaf sector failed) z.step tt;
         done = (
           record { mid = y; after = z.reached.world; are = refl; not_worn = not_worn part pieces old x is never },
           record { held = ap (λ (w : machine.State). w.core.held) z.step.made; committed = ap (λ (w : machine.State). w.committed) z.step.made },
