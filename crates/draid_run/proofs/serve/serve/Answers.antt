@@ -10,7 +10,7 @@ lines-init g c =
     let given_of : Rest → ℕ = λ r. r.given in
     let given = ap given_of c.new-lines.ensures in
     record {
-      serving = serving_start _ _ _ _ _ _ c.new-lines.result c.args.pool.now c.new-lines.ensures c.requires.closed;
+      serving = λ first at. serving_start _ _ _ _ _ _ c.new-lines.result c.args.pool.now c.new-lines.ensures c.requires.closed first at;
       fault = ap (λ (r : Rest). r.fault) c.new-lines.ensures;
       given = omega (arith, given);
       few = omega (arith, given);
@@ -20,19 +20,18 @@ lines-init g c =
     }
 
 pub returns-in-Ok-None-clause-served : goal.returns-in-Ok-None-clause-served
-returns-in-Ok-None-clause-served g c =
-    served_done _ _ _ _ _ _ _ _ _ _ _ _ c.lines.invariant.serving (text_by c.lines.lines c.next_text.new.lines _ _ _ _ c.in-Ok-None.field-0-is c.in-Ok-None.ensures.text)
+returns-in-Ok-None-clause-served g c first at =
+    served_done _ _ _ _ first _ _ _ _ _ _ _ _ (c.lines.invariant.serving first at) (text_by c.lines.lines c.next_text.new.lines _ _ _ _ c.in-Ok-None.field-0-is c.in-Ok-None.ensures.text)
 
 pub returns-in-Err-serve_line-clause-served : goal.returns-in-Err-serve_line-clause-served
-returns-in-Err-serve_line-clause-served g c =
-    let serving = c.lines.invariant.serving in
+returns-in-Err-serve_line-clause-served g c first at =
+    let serving = c.lines.invariant.serving first at in
     let text = text_by c.lines.lines c.next_text.new.lines _ _ _ _ c.in-Ok-Some.field-0-is c.in-Ok-Some.ensures.text in
-    served_line _ _ _ _ _ _ _ _ _ _ _ _ _ text.3 serving _ _ _ _
+    served_line _ _ _ _ first _ _ _ _ _ _ _ _ _ text.3 serving c.lines.invariant.shelf_later _ _ _ _
     (line_by g.H.R.Rack g.H.A.Area (FnReturnsAt g.F.Fn c.args.chooser.now) (on_shelf g.H.Shelf c.args.shelf.now) c.lines.number _ _ c.in-Ok-Some.text.items (on_shelf g.H.Shelf c.lines.shelf) c.lines.pool serving.reached (on_shelf g.H.Shelf c.serve_line.new.shelf) c.serve_line.new.pool (g.K.Sink.held c.lines.sink) (g.K.Sink.held c.serve_line.new.sink) (Err c.in-Err-serve_line.status) (sym c.lines.invariant.given) c.deref.ensures.value (c.in-Err-serve_line.ensures.line (on_shelf g.H.Shelf c.args.shelf.now) serving.reached serving.desk))
 
 pub lines-preserved : goal.lines-preserved
 lines-preserved g c =
-    let serving = c.lines.invariant.serving in
     let text = text_by c.lines.lines c.next_text.new.lines _ _ _ _ c.in-Ok-Some.field-0-is c.in-Ok-Some.ensures.text in
     let one = text.0 in
     let given = c.lines.invariant.given in
@@ -43,8 +42,8 @@ lines-preserved g c =
     let shelf = c.lines.invariant.shelf_later in
     let shelf' = c.serve_line.ensures.shelf_later in
     record {
-      serving = rw one (serving_more _ _ _ _ _ _ _ _ _ _ _ _ _ _ _ _ serving text.3
-          (line_by g.H.R.Rack g.H.A.Area (FnReturnsAt g.F.Fn c.args.chooser.now) (on_shelf g.H.Shelf c.args.shelf.now) c.lines.number c.lines.number _ c.in-Ok-Some.text.items (on_shelf g.H.Shelf c.lines.shelf) c.lines.pool serving.reached (on_shelf g.H.Shelf c.serve_line.new.shelf) c.serve_line.new.pool (g.K.Sink.held c.lines.sink) (g.K.Sink.held c.serve_line.new.sink) (Ok tt) refl c.deref.ensures.value (c.in_default.ensures.line (on_shelf g.H.Shelf c.args.shelf.now) serving.reached serving.desk)));
+      serving = λ first at. (let serving = c.lines.invariant.serving first at in rw one (serving_more _ _ _ _ first _ _ _ _ _ _ _ _ _ _ _ _ serving text.3
+          (line_by g.H.R.Rack g.H.A.Area (FnReturnsAt g.F.Fn c.args.chooser.now) (on_shelf g.H.Shelf c.args.shelf.now) c.lines.number c.lines.number _ c.in-Ok-Some.text.items (on_shelf g.H.Shelf c.lines.shelf) c.lines.pool serving.reached (on_shelf g.H.Shelf c.serve_line.new.shelf) c.serve_line.new.pool (g.K.Sink.held c.lines.sink) (g.K.Sink.held c.serve_line.new.sink) (Ok tt) refl c.deref.ensures.value (c.in_default.ensures.line (on_shelf g.H.Shelf c.args.shelf.now) serving.reached serving.desk))));
       fault = text.2;
       given = omega (arith, one, given);
       few = text.1;
