@@ -32,3 +32,4 @@ pub mod ChooseSteps
 pub mod Walks
 pub mod Turns
 pub mod Stood
+pub mod SyncSteps

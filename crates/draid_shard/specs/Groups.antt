@@ -62,6 +62,11 @@ area_in shard group = if group % 2 == 0 then shard.even else shard.odd
 abbrev pub KeepsOtherArea : {R A : Type 0} → ℕ → Shard R A → Shard R A → Type 0
 KeepsOtherArea group old new = area_in new (group + 1) ≡ area_in old (group + 1)
 
+-- no count of an area falls
+pub record AreasLater {R A : Type 0} (faults : A → ℕ) (old new : Shard R A) : Type 0 where
+  pub even : faults old.even ≤ faults new.even
+  pub odd : faults old.odd ≤ faults new.odd
+
 -- a layout in another version of the format
 abbrev pub at_version : ℕ → Geometry → Geometry
 at_version version geometry = record geometry { props = record geometry.props { version = version } }
@@ -113,12 +118,14 @@ pub record WasDetached (slots : SlotTable) (group leaf : ℕ) : Type 0 where
   pub number_is : gone.number ≡ leaf
   pub upto : gone.group ≤ group
 
--- Of the leaves just those went that were detached up to a group, but for one that is an arm again, or was detached again since.
+-- Of the leaves just those went that were detached up to a group, but for one that is an arm again, or was detached again since. No count falls but theirs.
 pub record DropsDetached {R A : Type 0} (rack : Ghosts R) (old new : Shard R A) (group : ℕ) : Type 0 where
   pub bytes : (rack.shape new.rack).bytes ≡ (rack.shape old.rack).bytes
   pub others : (leaf : ℕ) → (WasDetached old.slots group leaf → ⊥) → (rack.shape new.rack).leaves leaf ≡ (rack.shape old.rack).leaves leaf
   pub stay : (leaf : ℕ) → IsLeaf new.slots leaf → (rack.shape new.rack).leaves leaf ≡ (rack.shape old.rack).leaves leaf
   pub go : (leaf : ℕ) → WasDetached old.slots group leaf → (IsLeaf new.slots leaf → ⊥) → (rack.shape new.rack).leaves leaf ≡ None
+  pub rack_count : rack.faults old.rack None ≤ rack.faults new.rack None
+  pub counts : (leaf : ℕ) → IsLeaf new.slots leaf → rack.faults old.rack (Some leaf) ≤ rack.faults new.rack (Some leaf)
 
 -- ---- opening
 
