@@ -33,3 +33,9 @@ pub mod Walks
 pub mod Turns
 pub mod Stood
 pub mod SyncSteps
+pub mod Naming
+pub mod OnePass
+pub mod Commits
+pub mod WholeGroups
+pub mod Looking
+pub mod SyncCalls

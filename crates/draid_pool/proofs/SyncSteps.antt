@@ -1,7 +1,9 @@
 -- The closing and the sealing of a group in all metaslabs of a pool, one after another.
-use Rattle.std.proofs.Common.{◌≡◌, ◌≢◌, ◌<◌, ◌+◌, ◌++◌, ◌∙◌, [], ◌∷◌, ℕ, zero, suc, List, Option, Some, Ok, Err, arith, refl, sym, ap, subst, slice_set}
+use Rattle.std.proofs.Common.{◌≡◌, ◌≢◌, ◌<◌, ◌≤◌, ◌+◌, ◌++◌, ◌∙◌, [], ◌∷◌, inl, inr, ℕ, zero, suc, true, false, List, Option, Some, None, Ok, Err, arith, refl, sym, ap, subst, slice_set, length}
 use Rattle.std.specs.Prelude.{Result, nat_eq, slice_get}
 use Rattle.std.specs.HashMap.{get}
+use Rattle.std.proofs.lemmas.Bool.{cases_eq}
+use Rattle.std.proofs.lemmas.Option.{slice_get_within}
 use Rattle.draid_rack.specs.declared.Rack as racks
 use Rattle.draid_area.specs.declared.Area as areas
 use Rattle.draid_spec.specs.declared.layout.Geometry.{Geometry}
@@ -9,6 +11,7 @@ use Rattle.draid_perm.specs.declared.perms.Perms.{Perms}
 use Rattle.draid_segments.specs.Segments.{Pieces}
 use Rattle.draid_objects.specs.Changes.{write_of}
 use Rattle.draid_shard.specs.Part.{Part}
+use Rattle.draid_shard.specs.States.{stored_in}
 use Rattle.draid_shard.specs.declared.shard.Shard.{Shard}
 use Rattle.draid_session.specs.Follows as follows
 use Rattle.draid_session.specs.Follows.{Follows}
@@ -25,19 +28,56 @@ use Rattle.draid_pool.specs.declared.fault.SyncFault.{SyncFault}
 use Rattle.draid_pool.specs.declared.fault.SyncFault.TheVariants as sync
 use Rattle.draid_pool.specs.declared.pool.Pool.{Pool}
 use Rattle.draid_pool.proofs.Lifted.{HasMetaslab, SetsShard, metaslab_of}
+use Rattle.draid_pool.proofs.Lists.{get_set_other, get_set_same, some_of}
 use Rattle.draid_pool.proofs.Moved.{each_set, uber_stays, with_metaslab}
 use Rattle.draid_pool.proofs.Steps.{SameLayout, carried, follows_on, own_of, same_layout}
 use Rattle.draid_pool.proofs.Stood.{HasCommitted, Moves, Rest, Stood, represents_of, rest_of, stood_moved, stood_of}
 use Rattle.draid_pool.proofs.Walks.{Walked, walk_stops, walk_went, walked_more}
 
+-- ---- shards
+
+-- each of those below a number is so
+abbrev pub Below : {S : Type 0} → (S → Type 0) → List S → ℕ → Type 0
+Below {S} P shards m = (k : ℕ) (shard : S) → k < m → slice_get shards k ≡ Some shard → P shard
+
+abbrev pub ClosingBelow : {R A : Type 0} → List (Shard R A) → ℕ → ℕ → Type 0
+ClosingBelow {R} {A} shards group m = Below (λ (shard : Shard R A). shard.closing ≡ Some group) shards m
+
+abbrev pub SealedBelow : {R A : Type 0} → List (Shard R A) → ℕ → ℕ → Type 0
+SealedBelow {R} {A} shards group m = Below (λ (shard : Shard R A). (shard.closing ≡ Some group) × (shard.sealed ≡ true)) shards m
+
+abbrev pub IdleBelow : {R A : Type 0} → List (Shard R A) → ℕ → Type 0
+IdleBelow {R} {A} shards m = Below (λ (shard : Shard R A). shard.closing ≡ None) shards m
+
+abbrev pub SyncedBelow : {R A : Type 0} → List (Shard R A) → ℕ → Type 0
+SyncedBelow {R} {A} shards m = Below (λ (shard : Shard R A). groups.is_unsynced shard.committed (stored_in shard) ≡ false) shards m
+
+-- another one comes to its place, and is so too
+pub below_set : {S : Type 0} (P : S → Type 0) (shards : List S) (m : ℕ) (shard shard' : S) → slice_get shards m ≡ Some shard → P shard' → Below P shards m → Below P (slice_set shards m shard') (m + 1)
+below_set P shards m shard shard' there is below k z less at = elim (cases_eq k m) [
+  | inl same ↦ subst P (some_of (slice_get (slice_set shards m shard') m) shard' z (get_set_same shards m shard shard' there) (subst (λ j. slice_get (slice_set shards m shard') j ≡ Some z) same at)) is
+  | inr other ↦ below k z (omega (arith, less, other)) (sym (get_set_other shards m k shard' (λ same. omega (arith, same, other))) ∙ at)
+]
+
+-- the next one is so
+pub below_more : {S : Type 0} (P : S → Type 0) (shards : List S) (m : ℕ) (shard : S) → slice_get shards m ≡ Some shard → P shard → Below P shards m → Below P shards (m + 1)
+below_more P shards m shard there is below k z less at = elim (cases_eq k m) [
+  | inl same ↦ subst P (some_of (slice_get shards m) shard z there (subst (λ j. slice_get shards j ≡ Some z) same at)) is
+  | inr other ↦ below k z (omega (arith, less, other)) at
+]
+
+-- and so are all in the end
+pub below_all : {S : Type 0} (P : S → Type 0) (shards : List S) (m : ℕ) → length shards ≤ m → Below P shards m → (k : ℕ) (shard : S) → slice_get shards k ≡ Some shard → P shard
+below_all P shards m end below k shard at = below k shard (let inside = slice_get_within shards k shard at in omega (arith, inside, end)) at
+
 -- ---- ends
 
 -- a refusal is no way through
-pub not_went : {T : Type 0} (why : SyncFault) → end_of {T = T} (Err why) ≢ Went
-not_went sync.Worn is = absurd (cc)
-not_went sync.Last is = absurd (cc)
-not_went sync.Shelf is = absurd (cc)
-not_went sync.NoMemory is = absurd (cc)
+pub not_went : (T : Type 0) (why : SyncFault) → end_of {T = T} (Err why) ≢ Went
+not_went T sync.Worn is = absurd (cc)
+not_went T sync.Last is = absurd (cc)
+not_went T sync.Shelf is = absurd (cc)
+not_went T sync.NoMemory is = absurd (cc)
 
 module _ {R A : Type 0} (rack : racks.Ghosts R) (area : areas.Ghosts A) where
   -- ---- one metaslab
@@ -61,8 +101,6 @@ module _ {R A : Type 0} (rack : racks.Ghosts R) (area : areas.Ghosts A) where
     represents = represents_of rack area new after stood rest;
   }
     where
-      s = r.stands
-
       z : HasMetaslab rack area pool x r.stands m shard
       z = metaslab_of rack area pool x r.stands m shard set.there
 
@@ -171,7 +209,7 @@ module _ {R A : Type 0} (rack : racks.Ghosts R) (area : areas.Ghosts A) where
       (λ hold done. own_of x c.reached (λ g p store. groups.CloseStops g p group m hold end) (same_layout c.holds x c.reached c.follows) done) in
       carried rack area new x (c.holds ++ o.hold ∷ []) o.reached (Phase x (groups.ClosePhase x.geometry x.perms group) end)
       (follows_on c.holds (o.hold ∷ []) x c.reached o.reached c.follows (o.reached, o.holds, refl)) o.represents
-      (refl, walk_stops P S 0 m x.geometry.props.metaslabs c.holds 0 o.hold end (few P m 0 mid x c below) c.walked (not_went {T = Unit} why) (subst (λ k. S k o.hold end) (none_before m) o.done))
+      (refl, walk_stops P S 0 m x.geometry.props.metaslabs c.holds 0 o.hold end (few P m 0 mid x c below) c.walked (not_went Unit why) (subst (λ k. S k o.hold end) (none_before m) o.done))
 
   -- ---- sealing
 
@@ -205,5 +243,5 @@ module _ {R A : Type 0} (rack : racks.Ghosts R) (area : areas.Ghosts A) where
       (λ hold done. own_of x c.reached (λ g p store. groups.SealStops g p group m hold end) (same_layout c.holds x c.reached c.follows) done) in
       carried rack area new x (c.holds ++ o.hold ∷ []) o.reached (SealDoes x group (Err why))
       (follows_on c.holds (o.hold ∷ []) x c.reached o.reached c.follows (o.reached, o.holds, refl)) o.represents
-      (refl, (0, (sum, walk_stops P S 0 m x.geometry.props.metaslabs c.holds sum o.hold end (few P m sum mid x c below) c.walked (not_went {T = ℕ} why) (subst (λ k. S k o.hold end) (none_before m) o.done),
-      λ went. absurd (not_went {T = ℕ} why went))))
+      (refl, (0, (sum, walk_stops P S 0 m x.geometry.props.metaslabs c.holds sum o.hold end (few P m sum mid x c below) c.walked (not_went ℕ why) (subst (λ k. S k o.hold end) (none_before m) o.done),
+      λ went. absurd (not_went ℕ why went))))

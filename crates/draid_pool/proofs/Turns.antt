@@ -1,6 +1,6 @@
 -- One metaslab as a group is closed, sealed and committed there.
-use Rattle.std.proofs.Common.{◌≡◌, ◌≢◌, ◌==◌, ◌%◌, ◌<◌, ◌≤◌, ◌+◌, ◌∙◌, [], ◌∷◌, inl, inr, ℕ, zero, suc, Bool, true, false, List, Option, Some, None, Ok, Err, IsSome, Contains, arith, refl, sym, ap, subst, length, if◌then◌else◌}
-use Rattle.std.specs.Prelude.{Vec, is_some}
+use Rattle.std.proofs.Common.{◌≡◌, ◌≢◌, ◌==◌, ◌%◌, ◌<◌, ◌≤◌, ◌+◌, ◌∙◌, [], ◌∷◌, inl, inr, ℕ, zero, suc, Bool, true, false, List, Option, Some, None, Ok, Err, IsSome, Contains, Vec, Global, arith, refl, sym, ap, subst, length, if◌then◌else◌}
+use Rattle.std.specs.Prelude.{is_some}
 use Rattle.std.proofs.lemmas.Bool.Decides.{nat_tests}
 use Rattle.draid_names.specs.Faults.{Rose}
 use Rattle.draid_rack.specs.Rack.{OnTold, Told}
@@ -55,7 +55,21 @@ use Rattle.draid_pool.specs.declared.fault.SyncFault.TheVariants as sync
 use Rattle.draid_pool.proofs.Damages.{leaf_in}
 use Rattle.draid_pool.proofs.Dids.{Done, did_quiet, did_with, none_here, records_same}
 use Rattle.draid_pool.proofs.Lists.{ext}
-use Rattle.draid_pool.proofs.OneHold.{looks_in, passes_is, worn_is}
+use Rattle.draid_pool.proofs.OneHold.{passes_is, rests, worn_is}
+
+-- ---- faults
+
+-- why a pool's group isn't closed
+abbrev pub close_fault : CloseFault → SyncFault
+close_fault (close.Worn events) = sync.Worn
+close_fault close.Last = sync.Last
+close_fault close.NoMemory = sync.NoMemory
+
+-- why a pool's group isn't sealed
+abbrev pub seal_fault : SealFault → SyncFault
+seal_fault (seal.NotYet tickets) = sync.NoMemory
+seal_fault seal.Area = sync.Shelf
+seal_fault seal.NoMemory = sync.NoMemory
 
 -- ---- states
 
@@ -112,8 +126,9 @@ module _ {R A : Type 0} (rack : racks.Ghosts R) (area : areas.Ghosts A) where
       by true = refl
       by false = refl
 
-  state_sound : (shard : Shard R A) (x : Metaslab) (pieces : Pieces) → IsMetaslab rack area (part_of shard) pieces shard x → Sound (layout_by shard) x.world
-  state_sound shard x pieces is = reached_sound (layout_by shard) (has_layout (part_of shard) is.valid.part) x.world is.stands.reached
+  pub state_sound : (part : Part) (pieces : Pieces) (shard : Shard R A) (x : Metaslab) → IsMetaslab rack area part pieces shard x → Sound (layout_in part) x.world
+  state_sound part pieces shard x is =
+      subst (λ p. Sound (layout_in p) x.world) is.part_is (reached_sound (layout_by shard) (has_layout (part_of shard) is.valid.part) x.world is.stands.reached)
 
   -- the record of the committed image stands where the next group's area alone may have changed
   committed_record : (part : Part) (pieces : Pieces) (old new : Shard R A) (group : ℕ) (x : Metaslab) (image : machine.Image) → IsMetaslab rack area part pieces old x → KeepsOtherArea group old new
@@ -130,7 +145,7 @@ module _ {R A : Type 0} (rack : racks.Ghosts R) (area : areas.Ghosts A) where
 
   look : (part : Part) (pieces : Pieces) (new : Shard R A) (x : Metaslab) (does : Hold → Metaslab → Type 0) → IsMetaslab rack area part pieces new x → does (On (view_of part.number x) Looked) x
       → Turns rack area part pieces x new does
-  look part pieces new x does is done = record { act = Looked; reached = x; acts = (looks_in (layout_in part) part.number x).3; done = done; is = is }
+  look part pieces new x does is done = record { act = Looked; reached = x; acts = (rests x x.reserved, refl); done = done; is = is }
 
   -- ---- closing
 
@@ -152,12 +167,6 @@ module _ {R A : Type 0} (rack : racks.Ghosts R) (area : areas.Ghosts A) where
         is = d.is;
       }
 
-  -- why a pool's group isn't closed
-  abbrev pub close_fault : CloseFault → SyncFault
-  close_fault (close.Worn events) = sync.Worn
-  close_fault close.Last = sync.Last
-  close_fault close.NoMemory = sync.NoMemory
-
   close_stops : (part : Part) (pieces : Pieces) (old : Shard R A) (group : ℕ) (x : Metaslab) (why : CloseFault) → IsMetaslab rack area part pieces old x → old.closing ≡ None → CloseRefused old group why
       → CloseIs part group (Err (close_fault why)) (On (view_of part.number x) Looked)
   close_stops part pieces old group x (close.Worn events) is idle why = (refl, is.stands.is_in.closing ∙ idle, worn_is rack area part pieces old x 3 0 is why.0)
@@ -165,20 +174,20 @@ module _ {R A : Type 0} (rack : racks.Ghosts R) (area : areas.Ghosts A) where
       (refl, is.stands.is_in.closing ∙ idle, (λ worn. why.0 (passes_is rack area part pieces old x 3 0 is worn)), why.1)
   close_stops part pieces old group x close.NoMemory is idle why = refl
 
-  pub not_closed : (part : Part) (pieces : Pieces) (old new : Shard R A) (group : ℕ) (x : Metaslab) (why : CloseFault) → IsMetaslab rack area part pieces old x → Valid rack new → DoesNone old new
-      → SameKit old new → SameReserve old new → old.closing ≡ None → CloseRefused old group why
-      → Turns rack area part pieces x new (λ hold y. CloseIs part group (Err (close_fault why)) hold × KeepsCommitted x.world y.world)
-  not_closed part pieces old new group x why is valid none kit reserve idle refused =
-      look part pieces new x (λ hold y. CloseIs part group (Err (close_fault why)) hold × KeepsCommitted x.world y.world)
+  pub not_closed : (part : Part) (pieces : Pieces) (old new : Shard R A) (group : ℕ) (x : Metaslab) (why : CloseFault) (fault : SyncFault) → IsMetaslab rack area part pieces old x → Valid rack new
+      → DoesNone old new → SameKit old new → SameReserve old new → old.closing ≡ None → CloseRefused old group why → close_fault why ≡ fault
+      → Turns rack area part pieces x new (λ hold y. CloseIs part group (Err fault) hold × KeepsCommitted x.world y.world)
+  not_closed part pieces old new group x why fault is valid none kit reserve idle refused same =
+      look part pieces new x (λ hold y. CloseIs part group (Err fault) hold × KeepsCommitted x.world y.world)
       (none_here rack area part pieces old new x is valid none kit.rack kit.areas reserve.limit reserve.reserved)
-      (close_stops part pieces old group x why is idle refused, kept_here x.world)
+      (subst (λ f. CloseIs part group (Err f) (On (view_of part.number x) Looked)) same (close_stops part pieces old group x why is idle refused), kept_here x.world)
 
   -- ---- sealing
 
   sealed_record : (pieces : Pieces) (old new : Shard R A) (group thin : ℕ) (x : Metaslab) → IsMetaslab rack area (part_of old) pieces old x → (s : Seals rack area.told old new group thin)
       → KeepsOtherArea group old new → (v : machine.State) → Step (layout_by old) x.world (event.Seal group s.failed) v → HasRecords (part_of old) v (area.told new.even) (area.told new.odd)
   sealed_record pieces old new group thin x is s other v step image (inl here) =
-      let sound = (state_sound old x pieces is).groups in
+      let sound = (state_sound (part_of old) pieces old x is).groups in
       let own : x.world.image ≡ image = sym (ap (λ (w : machine.State). w.image) step.made) ∙ here in
       let of : image.group ≡ x.world.committed = ap (λ (i : machine.Image). i.group) (sym own) ∙ sound.image_is in
       let next = (sound.closing_is group step.closing).0 in
@@ -232,12 +241,6 @@ module _ {R A : Type 0} (rack : racks.Ghosts R) (area : areas.Ghosts A) where
   flushed_harm (Some x) (Some y) leaves =
       ap Some (ext x.harmed y.harmed (λ leaf. ext (x.harmed leaf) (y.harmed leaf) (λ sector. sym (leaves.harm leaf sector refl))))
 
-  -- why a pool's group isn't sealed
-  abbrev pub seal_fault : SealFault → SyncFault
-  seal_fault (seal.NotYet tickets) = sync.NoMemory
-  seal_fault seal.Area = sync.Shelf
-  seal_fault seal.NoMemory = sync.NoMemory
-
   module _ (pieces : Pieces) (old new : Shard R A) (group : ℕ) (x : Metaslab) (is : IsMetaslab rack area (part_of old) pieces old x) (valid : Valid rack new) (other : KeepsOtherArea group old new)
       (reserve : SameReserve old new) (later : AreasLater area.faults old new) (closing : old.closing ≡ Some group) (open_ : old.sealed ≡ false) where
     reached : Metaslab
@@ -252,7 +255,7 @@ module _ {R A : Type 0} (rack : racks.Ghosts R) (area : areas.Ghosts A) where
 
     old_record : HasRecords (part_of old) x.world (area.told new.even) (area.told new.odd)
     old_record image (inl own) =
-        let sound = (state_sound old x pieces is).groups in
+        let sound = (state_sound (part_of old) pieces old x is).groups in
         let of : image.group ≡ x.world.committed = ap (λ (i : machine.Image). i.group) (sym own) ∙ sound.image_is in
         let next = (sound.closing_is group (is.stands.is_in.closing ∙ closing)).0 in
         committed_record (part_of old) pieces old new group x image is other (omega (arith, of, next)) own
@@ -278,9 +281,9 @@ module _ {R A : Type 0} (rack : racks.Ghosts R) (area : areas.Ghosts A) where
       records = old_record;
     }
 
-    rests : (why : SealFault) → Unsealed rack area.faults old new group why → Rests x reached
+    rests_on : (why : SealFault) → Unsealed rack area.faults old new group why → Rests x reached
     unfolding reached
-    rests why u = record {
+    rests_on why u = record {
       opened = refl;
       events = refl;
       world = refl;
@@ -298,7 +301,7 @@ module _ {R A : Type 0} (rack : racks.Ghosts R) (area : areas.Ghosts A) where
     failed_area u = record {
       act = AreaFailed group;
       reached = reached;
-      acts = (rests seal.Area u, refl, subst (λ c. Rose (area_count group c) (area_count group (counts_of rack area new))) (sym is.counts)
+      acts = (rests_on seal.Area u, refl, subst (λ c. Rose (area_count group c) (area_count group (counts_of rack area new))) (sym is.counts)
           (subst (λ n. Rose n (area_count group (counts_of rack area new))) (sym (area_counts group old)) (subst (λ n. Rose (area.faults (area_in old group)) n) (sym (area_counts group new)) u.why.1)));
       done = ((refl, refl, is.stands.is_in.closing ∙ closing, unsealed), kept_here x.world);
       is = flushed seal.Area u;
@@ -309,7 +312,7 @@ module _ {R A : Type 0} (rack : racks.Ghosts R) (area : areas.Ghosts A) where
     starved why u = record {
       act = Looked;
       reached = reached;
-      acts = (rests why u, refl);
+      acts = (rests_on why u, refl);
       done = ((refl, is.stands.is_in.closing ∙ closing, unsealed), kept_here x.world);
       is = flushed why u;
     }
@@ -319,12 +322,13 @@ module _ {R A : Type 0} (rack : racks.Ghosts R) (area : areas.Ghosts A) where
     not_sealed_here seal.Area u = failed_area u
     not_sealed_here seal.NoMemory u = starved seal.NoMemory u
 
-  pub not_sealed : (part : Part) (pieces : Pieces) (old new : Shard R A) (group : ℕ) (x : Metaslab) (why : SealFault) → IsMetaslab rack area part pieces old x → Valid rack new → KeepsOtherArea group old new
-      → SameReserve old new → AreasLater area.faults old new → old.closing ≡ Some group → old.sealed ≡ false → Unsealed rack area.faults old new group why
-      → Turns rack area part pieces x new (λ hold y. SealIs part group (Err (seal_fault why)) hold × KeepsCommitted x.world y.world)
-  not_sealed part pieces old new group x why is valid other reserve later closing open_ u =
-      subst (λ p. IsMetaslab rack area p pieces old x → Turns rack area p pieces x new (λ hold y. SealIs p group (Err (seal_fault why)) hold × KeepsCommitted x.world y.world)) is.part_is
-      (λ here. not_sealed_here pieces old new group x here valid other reserve later closing open_ why u) is
+  pub not_sealed : (part : Part) (pieces : Pieces) (old new : Shard R A) (group : ℕ) (x : Metaslab) (why : SealFault) (fault : SyncFault) → IsMetaslab rack area part pieces old x → Valid rack new
+      → KeepsOtherArea group old new → SameReserve old new → AreasLater area.faults old new → old.closing ≡ Some group → old.sealed ≡ false → Unsealed rack area.faults old new group why → seal_fault why ≡ fault
+      → Turns rack area part pieces x new (λ hold y. SealIs part group (Err fault) hold × KeepsCommitted x.world y.world)
+  not_sealed part pieces old new group x why fault is valid other reserve later closing open_ u same =
+      subst (λ p. IsMetaslab rack area p pieces old x → Turns rack area p pieces x new (λ hold y. SealIs p group (Err fault) hold × KeepsCommitted x.world y.world)) is.part_is
+      (λ here. subst (λ f. Turns rack area (part_of old) pieces x new (λ hold y. SealIs (part_of old) group (Err f) hold × KeepsCommitted x.world y.world)) same
+      (not_sealed_here pieces old new group x here valid other reserve later closing open_ why u)) is
 
   -- open tickets are none where all is settled
   pub no_tickets : (old : Shard R A) (w : machine.State) (group tickets : ℕ) → IsIn old w → ((key : Key) (h : Held) → held_in old.entries key ≡ Some h → is_block h.stage ≡ true) → OpenUpto w group tickets
@@ -334,7 +338,7 @@ module _ {R A : Type 0} (rack : racks.Ghosts R) (area : areas.Ghosts A) where
       by : (keys : List Key) → o.keys ≡ keys → ⊥
       by [] are = (let many = o.many in let none : length o.keys ≡ 0 = ap length are in omega (arith, many, none, some))
       by (key ∷ keys) are =
-          let z = o.each key (subst (λ ks. Contains ks key) (sym are) (Contains-head key keys)) in
+          let z = o.each key (subst (λ ks. Contains ks key) (sym are) (let here : Contains (key ∷ keys) key = (0, (let less : 0 < suc (length keys) = omega arith in less), refl) in here)) in
           absurd_test (is_block z.0.stage) (settled key z.0 (sym (is_in.held key) ∙ z.1)) z.2
 
   -- ---- committing
@@ -350,10 +354,7 @@ module _ {R A : Type 0} (rack : racks.Ghosts R) (area : areas.Ghosts A) where
     pub leaves : (leaf : ℕ) → IsSome (v.core.arm (Leaf leaf)) → IsSome (w.core.arm (Leaf leaf))
 
   from_kept : (b : Bool) (o : Option machine.Arm) → IsSome (if b then None else o) → IsSome o
-  from_kept true o some = absurd (none_is some)
-    where
-      none_is : IsSome {A = machine.Arm} None → ⊥
-      none_is some = absurd_test false some refl
+  from_kept true o some = absurd_test false some refl
   from_kept false o some = some
 
   commits_state : (l : machine.Layout) (w v : machine.State) (group : ℕ) → Sound l w → Step l w (event.Commit group) v → CommitsState group w v
@@ -371,7 +372,7 @@ module _ {R A : Type 0} (rack : racks.Ghosts R) (area : areas.Ghosts A) where
       → Turns rack area (part_of old) pieces x new (λ hold y. groups.Commits old.geometry old.perms group old.number hold × CommitsState group x.world y.world)
   commit_here pieces old new group x is z =
       let e : Event = event.Commit group in
-      let sound = state_sound old x pieces is in
+      let sound = state_sound (part_of old) pieces old x is in
       let records : (v : machine.State) → Step (layout_by old) x.world e v → HasRecords (part_of old) v (area.told new.even) (area.told new.odd)
       = (λ (v : machine.State) (step : Step (layout_by old) x.world e v) (image : machine.Image) (here : IsImage v image).
       (let c = commits_state (layout_by old) x.world v group sound step in

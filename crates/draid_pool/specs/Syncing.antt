@@ -1,5 +1,5 @@
 -- The parts of a sync.
-use Rattle.std.specs.Prelude.{◌≡◌, ◌+◌, ◌<◌, ◌≤◌, ℕ, List, true, Option, Some, None, Result, Ok, Err, length, slice_get}
+use Rattle.std.specs.Prelude.{◌≡◌, ◌+◌, ◌<◌, ◌≤◌, ℕ, Bool, List, true, false, Option, Some, None, Result, Ok, Err, length, slice_get}
 use Rattle.draid_rack.specs.declared.Rack as racks
 use Rattle.draid_area.specs.declared.Area as areas
 use Rattle.draid_machine.specs.declared.event.Event.TheVariants as event
@@ -17,7 +17,7 @@ use Rattle.draid_shard.specs.Changes.{CommitsGroup}
 use Rattle.draid_shard.specs.Fits.{Valid}
 use Rattle.draid_shard.specs.Groups.{DropsDetached}
 use Rattle.draid_shard.specs.Part.{Part, layout_in}
-use Rattle.draid_shard.specs.States.{Does, part_of}
+use Rattle.draid_shard.specs.States.{Does, part_of, stored_in}
 use Rattle.draid_shard.specs.declared.shard.Shard.{Shard}
 use Rattle.draid_pool.specs.Metaslabs.{IsMetaslab}
 use Rattle.draid_pool.specs.Records.{LeavesAreBelow}
@@ -109,3 +109,9 @@ pub record CommitsBelow {R A : Type 0} (rack : racks.Ghosts R) (group m : ℕ) (
 abbrev pub FoundClosing : {R A : Type 0} → List (Shard R A) → Option ℕ → Type 0
 FoundClosing {R = R} {A = A} shards None = (m : ℕ) (shard : Shard R A) → slice_get shards m ≡ Some shard → shard.closing ≡ None
 FoundClosing {R = R} {A = A} shards (Some group) = (m : ℕ) × (shard : Shard R A) × (slice_get shards m ≡ Some shard) × (shard.closing ≡ Some group)
+
+-- one of the shards stores something that no sync has made safe, or none does
+abbrev pub FoundUnsynced : {R A : Type 0} → List (Shard R A) → Bool → Type 0
+FoundUnsynced {R = R} {A = A} shards true =
+    (m : ℕ) × (shard : Shard R A) × (slice_get shards m ≡ Some shard) × (groups.is_unsynced shard.committed (stored_in shard) ≡ true)
+FoundUnsynced {R = R} {A = A} shards false = (m : ℕ) (shard : Shard R A) → slice_get shards m ≡ Some shard → groups.is_unsynced shard.committed (stored_in shard) ≡ false

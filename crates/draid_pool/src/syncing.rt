@@ -1,6 +1,6 @@
 //! Groups of a pool: one is closed in all metaslabs and sealed in all, then the uberblock names it, and then it is
 //! committed in all.
-ghost use Rattle.std.specs.Prelude.{◌≡◌, ◌≤◌, ◌×◌, ◌+◌, ℕ, false, All, Ok, Err, Some, None, IfOk, IsTrue, OnOk, Vec, length};
+ghost use Rattle.std.specs.Prelude.{◌≡◌, ◌≤◌, ◌+◌, ℕ, true, false, All, Ok, Err, Some, None, IfOk, IsTrue, OnOk, Vec, length};
 ghost use Rattle.draid_names.specs.declared.numbers.TheConstants.{NUMBERS};
 ghost use Rattle.draid_machine.specs.Names.{is_block};
 ghost use Rattle.draid_machine.specs.declared.names.Held.{Held};
@@ -19,10 +19,12 @@ ghost use Rattle.draid_pool.specs.Carries.{CarriesOut};
 ghost use Rattle.draid_pool.specs.Metaslabs.{IsMetaslab};
 ghost use Rattle.draid_pool.specs.Pools.{Represents};
 ghost use Rattle.draid_pool.specs.Whole.{IsWhole};
-ghost use Rattle.draid_pool.specs.Syncing.{AreClosing, AreSealed, CloseIs, CommitsBelow, FoundClosing, GroupDoes, KeepsCommitted, KeepsTable, Phase, SealDoes, SealIs, Turns, end_of};
+ghost use Rattle.draid_pool.specs.Syncing.{AreClosing, AreSealed, CloseIs, CommitsBelow, FoundClosing, FoundUnsynced};
+ghost use Rattle.draid_pool.specs.Syncing.{GroupDoes, KeepsCommitted, KeepsTable, Phase, SealDoes, SealIs, Turns, end_of};
 
 use crate::fault::{SyncFault, Synced};
 use crate::pool::Pool;
+use crate::unsynced::is_unsynced;
 use draid_area::Area;
 use draid_names::DeviceFault;
 use draid_rack::Rack;
