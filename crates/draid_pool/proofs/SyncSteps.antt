@@ -1,15 +1,16 @@
 -- The closing and the sealing of a group in all metaslabs of a pool, one after another.
-use Rattle.std.proofs.Common.{◌≡◌, ◌≢◌, ◌<◌, ◌≤◌, ◌+◌, ◌++◌, ◌∙◌, [], ◌∷◌, inl, inr, ℕ, zero, suc, true, false, List, Option, Some, None, Ok, Err, arith, refl, sym, ap, subst, slice_set, length}
+use Rattle.std.proofs.Common.{◌≡◌, ◌≢◌, ◌<◌, ◌≤◌, ◌+◌, ◌++◌, ◌∙◌, [], ◌∷◌, inl, inr, ℕ, zero, suc, true, false, List, Option, Some, None, Ok, Err, arith, refl, sym, ap, subst, slice_index_or, slice_set, length}
 use Rattle.std.specs.Prelude.{Result, nat_eq, slice_get}
 use Rattle.std.specs.HashMap.{get}
 use Rattle.std.proofs.lemmas.Bool.{cases_eq}
-use Rattle.std.proofs.lemmas.Option.{slice_get_within}
+use Rattle.std.proofs.lemmas.Option.{slice_get-get_or, slice_get_within}
 use Rattle.draid_rack.specs.declared.Rack as racks
 use Rattle.draid_area.specs.declared.Area as areas
 use Rattle.draid_spec.specs.declared.layout.Geometry.{Geometry}
 use Rattle.draid_perm.specs.declared.perms.Perms.{Perms}
 use Rattle.draid_segments.specs.Segments.{Pieces}
 use Rattle.draid_objects.specs.Changes.{write_of}
+use Rattle.draid_shard.specs.Fits.{Valid}
 use Rattle.draid_shard.specs.Part.{Part}
 use Rattle.draid_shard.specs.States.{stored_in}
 use Rattle.draid_shard.specs.declared.shard.Shard.{Shard}
@@ -23,7 +24,8 @@ use Rattle.draid_pool.specs.Carries.{CarriesOut}
 use Rattle.draid_pool.specs.Metaslabs.{IsMetaslab}
 use Rattle.draid_pool.specs.Pools.{Represents, part_in}
 use Rattle.draid_pool.specs.Records.{HasImage}
-use Rattle.draid_pool.specs.Syncing.{CloseIs, KeepsCommitted, Phase, SealDoes, SealIs, Turns, end_of}
+use Rattle.draid_pool.specs.Syncing.{CloseIs, KeepsCommitted, KeepsTable, Phase, SealDoes, SealIs, Turns, end_of}
+use Rattle.draid_pool.specs.Whole.{IsWhole}
 use Rattle.draid_pool.specs.declared.fault.SyncFault.{SyncFault}
 use Rattle.draid_pool.specs.declared.fault.SyncFault.TheVariants as sync
 use Rattle.draid_pool.specs.declared.pool.Pool.{Pool}
@@ -32,6 +34,7 @@ use Rattle.draid_pool.proofs.Lists.{get_set_other, get_set_same, some_of}
 use Rattle.draid_pool.proofs.Moved.{each_set, uber_stays, with_metaslab}
 use Rattle.draid_pool.proofs.Steps.{SameLayout, carried, follows_on, own_of, same_layout}
 use Rattle.draid_pool.proofs.Stood.{HasCommitted, Moves, Rest, Stood, represents_of, rest_of, stood_moved, stood_of}
+use Rattle.draid_pool.proofs.Wholes.{whole_same}
 use Rattle.draid_pool.proofs.Walks.{Walked, walk_stops, walk_went, walked_more}
 
 -- ---- shards
@@ -51,6 +54,10 @@ IdleBelow {R} {A} shards m = Below (λ (shard : Shard R A). shard.closing ≡ No
 
 abbrev pub SyncedBelow : {R A : Type 0} → List (Shard R A) → ℕ → Type 0
 SyncedBelow {R} {A} shards m = Below (λ (shard : Shard R A). groups.is_unsynced shard.committed (stored_in shard) ≡ false) shards m
+
+-- what was borrowed stands there
+pub borrowed_at : {S : Type 0} (shards : List S) (m : ℕ) (shard : S) → m < length shards → shard ≡ slice_index_or shards m shard → slice_get shards m ≡ Some shard
+borrowed_at shards m shard below is = slice_get-get_or shards m shard below ∙ ap Some (sym is)
 
 -- another one comes to its place, and is so too
 pub below_set : {S : Type 0} (P : S → Type 0) (shards : List S) (m : ℕ) (shard shard' : S) → slice_get shards m ≡ Some shard → P shard' → Below P shards m → Below P (slice_set shards m shard') (m + 1)
@@ -79,7 +86,22 @@ not_went T sync.Last is = absurd (cc)
 not_went T sync.Shelf is = absurd (cc)
 not_went T sync.NoMemory is = absurd (cc)
 
+-- all are so, and another one too
+pub all_set : {S : Type 0} (P : S → Type 0) (shards : List S) (m : ℕ) (shard shard' : S) → slice_get shards m ≡ Some shard → P shard' → ((k : ℕ) (z : S) → slice_get shards k ≡ Some z → P z)
+    → (k : ℕ) (z : S) → slice_get (slice_set shards m shard') k ≡ Some z → P z
+all_set P shards m shard shard' there is all k z at = elim (cases_eq k m) [
+  | inl same ↦ subst P (some_of (slice_get (slice_set shards m shard') m) shard' z (get_set_same shards m shard shard' there) (subst (λ j. slice_get (slice_set shards m shard') j ≡ Some z) same at)) is
+  | inr other ↦ all k z (sym (get_set_other shards m k shard' (λ same. omega (arith, same, other))) ∙ at)
+]
+
 module _ {R A : Type 0} (rack : racks.Ghosts R) (area : areas.Ghosts A) where
+  -- one shard of a whole pool is another one that kept its blocks
+  pub whole_on : (m : ℕ) (pool new : Pool R A) (shard shard' : Shard R A) → IsWhole rack area pool → SetsShard rack area m pool new shard shard' → Valid rack shard' → KeepsTable shard shard' → IsWhole rack area new
+  whole_on m pool new shard shard' w set valid table =
+      whole_same rack area m pool new shard shard' w
+      (record { there = set.there; sets = set.sets; geometry = set.geometry; uber = set.uber; valid = valid; part = table.part; committed = table.committed }) table.entries set.seq set.floor
+      (λ q. ap (λ os. get nat_eq os q) set.objects)
+
   -- ---- one metaslab
 
   -- one hold more led to a state for which the pool stands
