@@ -3,7 +3,7 @@ use Rattle.std.proofs.Common.{◌≡◌, ◌+◌, ◌<◌, ◌≤◌, ◌⊎◌,
 use Rattle.std.specs.Prelude.{All}
 use Rattle.std.specs.List.{AllZip}
 use Rattle.std.proofs.lemmas.List.{append-nil, append_assoc}
-use Rattle.std.proofs.lemmas.List.Elements.{All-cons, All-nil}
+use Rattle.std.proofs.lemmas.List.Elements.{All-nil, All-push}
 use Rattle.sha2.specs.declared.Sha256.{Sha256}
 use Rattle.draid_names.specs.declared.refusal.ObjectFault.{ObjectFault}
 use Rattle.draid_names.specs.declared.refusal.ObjectFault.TheVariants as object

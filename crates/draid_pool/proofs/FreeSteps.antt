@@ -81,11 +81,11 @@ pub other_key : (k j : Key) → (k.object == j.object) ≡ false → key_eq k j 
 other_key k j other = ap (λ b. b && (k.seq == j.seq)) other
 
 -- the open group is one of the next two behind the committed one
-open_high : (o : ℕ) (closing : Option ℕ) (c : ℕ) (sealed : Bool) → AreGroups o closing c sealed → c + 1 ≤ o
+pub open_high : (o : ℕ) (closing : Option ℕ) (c : ℕ) (sealed : Bool) → AreGroups o closing c sealed → c + 1 ≤ o
 open_high o None c sealed groups = (let is = groups.0 in omega (arith, is))
 open_high o (Some t) c sealed groups = (let is = groups.0 in let closing = groups.1 in omega (arith, is, closing))
 
-open_low : (o : ℕ) (closing : Option ℕ) (c : ℕ) (sealed : Bool) → AreGroups o closing c sealed → o ≤ c + 2
+pub open_low : (o : ℕ) (closing : Option ℕ) (c : ℕ) (sealed : Bool) → AreGroups o closing c sealed → o ≤ c + 2
 open_low o None c sealed groups = (let is = groups.0 in omega (arith, is))
 open_low o (Some t) c sealed groups = (let is = groups.0 in let closing = groups.1 in omega (arith, is, closing))
 

@@ -219,7 +219,7 @@ module _ {R A : Type 0} (rack : racks.Ghosts R) (area : areas.Ghosts A) where
         subst (λ f. StoreDoes rack area (part_in x m) (is.stands.pieces m) object (pool.seq + 1) pool.floor bytes y shard' (Err f)) same (stores (part_in x m) (is.stands.pieces m) y its)
 
     -- ---- nothing was written
-    pub unwritten : (new : Pool R A) → IsMetaslab rack area (part_in x m) (is.stands.pieces m) shard' y → new.shards.items ≡ slice_set pool.shards.items m shard' → new.geometry ≡ pool.geometry → new.uber ≡ pool.uber → new.uber ≡ pool.uber
+    pub unwritten : (new : Pool R A) → IsMetaslab rack area (part_in x m) (is.stands.pieces m) shard' y → new.shards.items ≡ slice_set pool.shards.items m shard' → new.geometry ≡ pool.geometry → new.uber ≡ pool.uber
         → new.seq ≡ pool.seq → new.floor ≡ pool.floor → ((q : ℕ) → get nat_eq new.objects q ≡ get nat_eq pool.objects q) → Represents rack area new x
     unwritten new same sets layout uber seq floor objects =
         subst (λ ys. Represents rack area new (record x { metaslabs = ys })) (set_back x.metaslabs m y y_there.1) (record {
