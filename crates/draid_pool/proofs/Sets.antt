@@ -2,14 +2,13 @@
 use Rattle.std.proofs.Common.{◌≡◌, ◌==◌, ◌+◌, ◌∙◌, ℕ, Bool, true, false, Option, Some, None, arith, refl, sym, ap, subst, max, if◌then◌else◌}
 use Rattle.std.specs.Prelude.{option_map}
 use Rattle.draid_names.specs.declared.pointer.Pointer.{Pointer}
-use Rattle.draid_machine.specs.declared.names.Held.{Held}
 use Rattle.draid_machine.specs.declared.names.Key.{Key}
 use Rattle.draid_machine.specs.declared.names.Stage.TheVariants.{Live}
 use Rattle.draid_machine.specs.Names.{key_eq}
 use Rattle.draid_machine.proofs.Small.{equal, is_equal, key_true}
 use Rattle.draid_entries.specs.declared.entries.Entries.{Entries}
 use Rattle.draid_entries.specs.declared.entry.Entry.{Entry}
-use Rattle.draid_entries.specs.Entries.{SameEntries, SetsEntry, begun, entry_at, held_in, owed_at, owed_by}
+use Rattle.draid_entries.specs.Entries.{SetsEntry, begun, entry_at, held_in, owed_at, owed_by}
 use Rattle.draid_entries.specs.Maps.{held_at, key_of, staged}
 use Rattle.draid_shard.specs.Calls.{IsTicketOf}
 use Rattle.draid_shard.specs.Changes.{KeepsBlocks, SameGroups, SetsBlock}

@@ -8,7 +8,6 @@ use Rattle.draid_objects.specs.Changes.{write_of}
 use Rattle.draid_shard.specs.Changes.{KeepsBlocks}
 use Rattle.draid_pool.specs.Shards.{DropsBlock, StoreSets}
 use Rattle.draid_pool.specs.declared.pool.Pool.{Pool}
-use Rattle.draid_pool.specs.declared.store.StoreFault.TheVariants.{Missed, NoMemory}
 use Rattle.draid_pool.proofs.FreeSteps.{same_represents}
 use Rattle.draid_pool.proofs.Wholes.{Replaces, whole_dropped, whole_floor, whole_geometry, whole_kept, whole_room, whole_stored, whole_table, whole_unused, whole_valid}
 use Rattle.draid_pool.proofs.WriteSteps.{awaits, between, borrowed, missed, missed_here, stored_here, unwritten, unwritten_here, wrote}
