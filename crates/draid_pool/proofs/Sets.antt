@@ -29,8 +29,6 @@ groups_then old mid new a b = record {
 }
 
 -- ---- nothing changes
-pub kept_none : {R A : Type 0} (shard : Shard R A) → KeepsBlocks shard shard
-kept_none shard = record { entries = record { at = λ first. refl; held = λ key. refl; count = refl; owed = λ columns. refl }; groups = same_groups shard }
 
 pub kept_then : {R A : Type 0} (old mid new : Shard R A) → KeepsBlocks old mid → KeepsBlocks mid new → KeepsBlocks old new
 kept_then old mid new a b = record {
