@@ -34,7 +34,7 @@ use Rattle.draid_session.specs.Worn.{ReservesWorn}
 use Rattle.draid_pool.specs.Metaslabs.{IsMetaslab}
 use Rattle.draid_pool.specs.Shards.{DamagesIn, Goes, SameBlocks}
 use Rattle.draid_pool.proofs.Dids.{Done, Raises, did, none_here}
-use Rattle.draid_pool.proofs.Imaged.{step_keeps}
+use Rattle.draid_pool.proofs.Imaged.{keeps_same, step_keeps}
 use Rattle.draid_pool.proofs.OneHold.{looked, passes_is, reserved_here, reserves, with_reserved, worn_is}
 
 -- ---- leaves
@@ -122,6 +122,25 @@ module _ {R A : Type 0} (rack : racks.Ghosts R) (area : areas.Ghosts A) where
         );
         is = z.is;
       }
+
+  -- there is no such leaf
+  pub damages_nowhere : (shard : Shard R A) (leaf : ℕ) → (IsLeaf shard.slots leaf → ⊥) → (part : Part) (pieces : Pieces) (x : Metaslab) → IsMetaslab rack area part pieces shard x
+      → Goes rack area part pieces x shard (λ holds y. ((holds ≡ On (view_of part.number x) Looked ∷ []) × (HasLeaf (view_of part.number x) leaf → ⊥)) × SameBlocks x y)
+  damages_nowhere shard leaf none part pieces x is =
+      looked rack area part pieces shard x (λ holds y. ((holds ≡ On (view_of part.number x) Looked ∷ []) × (HasLeaf (view_of part.number x) leaf → ⊥)) × SameBlocks x y) is
+      ((refl, λ has. none (leaf_in shard.slots x.world.core leaf is.stands.is_in.slots has)), record { held = refl; committed = refl })
+
+  -- memory was wanting
+  pub damages_starved : (old new : Shard R A) → Reserves old new → reserved_of new.history ≡ reserved_of old.history → (part : Part) (pieces : Pieces) (x : Metaslab) → IsMetaslab rack area part pieces old x
+      → Goes rack area part pieces x new (λ holds y. (holds ≡ []) × SameBlocks x y)
+  damages_starved old new r reserved part pieces x is = record {
+    holds = [];
+    reached = x;
+    follows = refl;
+    images = keeps_same x.world;
+    done = (refl, record { held = refl; committed = refl });
+    is = none_here rack area part pieces old new x is r.valid r.none r.kit.rack r.kit.areas r.limit reserved;
+  }
 
   -- no event could be reserved
   pub damages_worn : (old new : Shard R A) (leaf : ℕ) → Reserves old new → reserved_of new.history ≡ reserved_of old.history → IsLeaf old.slots leaf

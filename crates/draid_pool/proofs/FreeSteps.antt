@@ -1,10 +1,9 @@
 -- An object of a pool is freed.
-use Rattle.std.proofs.Common.{◌≡◌, ◌==◌, ◌&&◌, ◌≤◌, ◌+◌, ◌∙◌, inl, inr, ℕ, Bool, true, false, List, [], ◌∷◌, Option, Some, None, Ok, Err, arith, refl, sym, ap, subst, slice_set, slice_index_or, length, max, if◌then◌else◌}
+use Rattle.std.proofs.Common.{◌≡◌, ◌==◌, ◌&&◌, ◌≤◌, ◌+◌, ◌∙◌, inl, inr, ℕ, Bool, true, false, List, [], ◌∷◌, Option, Some, None, Ok, Err, arith, refl, sym, ap, subst, slice_set, length, max, if◌then◌else◌}
 use Rattle.std.specs.Prelude.{slice_get, nat_eq, cond}
 use Rattle.std.specs.HashMap.{get}
-use Rattle.std.proofs.lemmas.Option.{get_or_from_slice_get, slice_get_within}
+use Rattle.std.proofs.lemmas.Option.{slice_get_within}
 use Rattle.std.proofs.lemmas.Bool.{cases_eq}
-use Rattle.draid_names.specs.declared.numbers.TheConstants.{LAST_NUMBER}
 use Rattle.draid_names.specs.declared.pointer.Pointer.{Pointer}
 use Rattle.draid_rack.specs.declared.Rack as racks
 use Rattle.draid_area.specs.declared.Area as areas
@@ -22,7 +21,6 @@ use Rattle.draid_objects.proofs.One.{one_set}
 use Rattle.draid_machine.proofs.Small.{absurd_test, equal, is_equal}
 use Rattle.std.proofs.lemmas.Bool.Decides.{nat_tests}
 use Rattle.draid_entries.specs.Maps.{key_of}
-use Rattle.draid_shard.specs.Calls.{IsLive}
 use Rattle.draid_shard.specs.Fits.{AreGroups}
 use Rattle.draid_shard.specs.Part.{Part}
 use Rattle.draid_shard.specs.declared.shard.Shard.{Shard}
@@ -81,11 +79,11 @@ pub other_key : (k j : Key) → (k.object == j.object) ≡ false → key_eq k j 
 other_key k j other = ap (λ b. b && (k.seq == j.seq)) other
 
 -- the open group is one of the next two behind the committed one
-open_high : (o : ℕ) (closing : Option ℕ) (c : ℕ) (sealed : Bool) → AreGroups o closing c sealed → c + 1 ≤ o
+pub open_high : (o : ℕ) (closing : Option ℕ) (c : ℕ) (sealed : Bool) → AreGroups o closing c sealed → c + 1 ≤ o
 open_high o None c sealed groups = (let is = groups.0 in omega (arith, is))
 open_high o (Some t) c sealed groups = (let is = groups.0 in let closing = groups.1 in omega (arith, is, closing))
 
-open_low : (o : ℕ) (closing : Option ℕ) (c : ℕ) (sealed : Bool) → AreGroups o closing c sealed → o ≤ c + 2
+pub open_low : (o : ℕ) (closing : Option ℕ) (c : ℕ) (sealed : Bool) → AreGroups o closing c sealed → o ≤ c + 2
 open_low o None c sealed groups = (let is = groups.0 in omega (arith, is))
 open_low o (Some t) c sealed groups = (let is = groups.0 in let closing = groups.1 in omega (arith, is, closing))
 

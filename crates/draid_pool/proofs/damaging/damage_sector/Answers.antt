@@ -1,8 +1,16 @@
-use Rattle.std.proofs.Common.{◌∙◌, Ok, Err, true, false}
+use Rattle.std.proofs.Common.{◌∙◌, Ok, Err, true, false, rules}
 use Rattle.draid_shard.proofs.Shown.{state_shown}
-use Rattle.draid_pool.proofs.Damages.{damages, damages_worn, leaf_stays, raises_damage}
-use Rattle.draid_pool.proofs.Sets.{kept_none, kept_then}
+use Rattle.draid_pool.proofs.Damages.{damages, damages_nowhere, damages_starved, damages_worn, leaf_stays, raises_damage}
+use Rattle.draid_pool.proofs.Sets.{kept_then}
 use Rattle.draid_pool.proofs.damaging.damage_sector.Goals as goal
+
+pub returns-then-not-has_leaf-clause-damages : goal.returns-then-not-has_leaf-clause-damages
+returns-then-not-has_leaf-clause-damages g c = damages_nowhere g.R.Rack g.A.Area c.args.shard.now c.args.leaf (λ is. search (rules, c.has_leaf.ensures, c.if-not-has_leaf.true))
+
+pub returns-in-Err-NoMemory-clause-damages : goal.returns-in-Err-NoMemory-clause-damages
+returns-in-Err-NoMemory-clause-damages g c =
+    let e = c.in-Err-NoMemory.ensures in
+    damages_starved g.R.Rack g.A.Area c.args.shard.now c.reserve.new.self (record { valid = e.valid; none = e.none; kit = e.kit; limit = e.limit }) e.same
 
 pub returns-in-Err-Worn : goal.returns-in-Err-Worn
 returns-in-Err-Worn g c =

@@ -21,6 +21,7 @@ solve_many-requires-clause-fetched g c κs within =
 pub returns-in_default : goal.returns-in_default
 returns-in_default g c = record {
   whole = c.fetch_batch-batch.ensures.whole;
+  added = tt;
   step = λ x is.
       unsolved g.R.Rack g.A.Area x c.args.first c.args.count c.fetch_batch-batch.result c.args.hasher.now c.args.hasher.now c.fetch_batch-batch.new.pool c.requires.some
       (c.fetch_batch-batch.ensures.step x is);
@@ -38,6 +39,7 @@ feed-requires g c =
 pub returns-in_err-feed : goal.returns-in_err-feed
 returns-in_err-feed g c = record {
   whole = c.fetch_batch-batch.ensures.whole;
+  added = (let p = err_from_is_err_and c.from_residual.result c.from_residual.ensures.1 in rw p.1 tt);
   step = λ x is.
       (let new = c.fetch_batch-batch.new.pool in
       let solved = subst (λ (bs : List Fetched). AllZip (IsSolved (cut_of new.geometry)) bs c.in-Ok.solves.items) c.deref.ensures.value c.in-Ok.ensures.answers in
@@ -66,6 +68,7 @@ returns-in-None g c = record {
 pub returns : goal.returns
 returns g c = record {
   whole = c.fetch_batch-batch.ensures.whole;
+  added = tt;
   step = λ x is.
       (let new = c.fetch_batch-batch.new.pool in
       let solved = subst (λ (bs : List Fetched). AllZip (IsSolved (cut_of new.geometry)) bs c.in-Ok.solves.items) c.deref.ensures.value c.in-Ok.ensures.answers in

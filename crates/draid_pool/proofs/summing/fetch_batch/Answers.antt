@@ -1,4 +1,4 @@
-use Rattle.std.proofs.Common.{◌≡◌, ◌≤◌, ◌+◌, ◌∙◌, All, List, Vec, Global, Some, None, arith, ap, length, refl, sym, subst}
+use Rattle.std.proofs.Common.{◌≤◌, ◌+◌, ◌∙◌, All, List, Vec, Global, Some, None, arith, ap, length, refl, sym, subst}
 use Rattle.std.proofs.ResultArms.{subst_both}
 use Rattle.draid_block.specs.Blocks.{cut_of}
 use Rattle.draid_block.specs.Solving.{IsFetched}
@@ -85,7 +85,7 @@ returns g c =
     let i = c.loop-object.invariant in
     let P : Pool g.row.R.Denot g.row.A.Denot → Vec Fetched Global → Type 0
     = λ p v. IsWhole g.R.Rack g.A.Area p × All (IsFetched (cut_of p.geometry)) v.items × (1 ≤ length v.items) × (length v.items ≤ c.args.count) in
-    let z : P _ _ = elim c.loop-object-test.branch [
+    let z : P c.loop-object-test.pool c.loop-object-test.blocks = elim c.loop-object-test.branch [
       | else-loop-object-test w ↦
           let ends = w.loop-object-test.false in
           let some = c.requires.some in

@@ -18,6 +18,7 @@ pub returns-in_default : goal.returns-in_default
 returns-in_default g c = record {
   whole = c.requires.whole;
   geometry = refl;
+  fetched = tt;
   step = λ x is. fetch_none g.R.Rack g.A.Area c.args.self.now x c.args.object is (sym c.get.ensures.value ∙ (sym c.copied.ensures ∙ c.in_default.is));
 }
 
@@ -81,6 +82,7 @@ returns-in-Err-Worn g c =
     record {
       whole = whole_kept g.R.Rack g.A.Area m old new before after w r e.none.keeps refl refl (λ q. refl);
       geometry = refl;
+      fetched = tt;
       step = λ x is. fetch_worn g.R.Rack g.A.Area old new before after x c.args.object c.in-Some.pointer is there set e.valid e.none.none e.kit e.reserve worn.0;
     }
 
@@ -102,5 +104,6 @@ returns-in-Err-NoMemory g c =
     record {
       whole = whole_kept g.R.Rack g.A.Area m old new before after w r e.none.keeps refl refl (λ q. refl);
       geometry = refl;
+      fetched = tt;
       step = λ x is. fetch_starved g.R.Rack g.A.Area old new before after x c.args.object c.in-Some.pointer is there set e.valid e.none.none e.kit e.reserve;
     }
