@@ -217,20 +217,20 @@ module _ {R A : Type 0} (rack : racks.Ghosts R) (area : areas.Ghosts A) (chosen 
 
 -- ---- the pool is given back, or stays open
 
-module _ {R A : Type 0} (rack : racks.Ghosts R) (area : areas.Ghosts A) (entry before now : OnShelf) (desk : Option (Pool R A)) (open new : Pool R A) (some : desk ≡ Some open) where
-  on_open : (P : Desk → Type 0) → ((y : State) → Represents rack area open y → IsOut y before → P (Open y)) → (x : Desk) → IsDesk rack area entry before desk x → P x
+module _ {R A : Type 0} (rack : racks.Ghosts R) (area : areas.Ghosts A) (entry before now : OnShelf) (desk : Option (Pool R A)) (was new : Pool R A) (some : desk ≡ Some was) where
+  on_open : (P : Desk → Type 0) → ((y : State) → Represents rack area was y → IsOut y before → P (Open y)) → (x : Desk) → IsDesk rack area entry before desk x → P x
   on_open P f x is = by x (subst (λ d. IsPool rack area d x) some is.stands) is.shelf where
-    by : (x : Desk) → IsPool rack area (Some open) x → IsShelf x entry before → P x
+    by : (x : Desk) → IsPool rack area (Some was) x → IsShelf x entry before → P x
     by Untouched stands shelf = absurd stands
     by (Made geometry) stands shelf = absurd stands
     by (Shut y) stands shelf = absurd stands
     by (Open y) stands shelf = f y stands.1 shelf
 
-  pub exported : (result : Result ℕ SyncFault) (group : ℕ) → result ≡ Ok group → ((y : State) → Represents rack area open y → CarriesOut rack area new y (ExportDoes y result))
+  pub exported : (result : Result ℕ SyncFault) (group : ℕ) → result ≡ Ok group → ((y : State) → Represents rack area was y → CarriesOut rack area new y (ExportDoes y result))
       → ((y : State) → Represents rack area new y → GivesBack y Bool.false before.held now.held now.counts now.own.uber) → now.own.checks ≡ before.own.checks → (left : Option (Pool R A)) → left ≡ None
       → (x : Desk) → IsDesk rack area entry before desk x → ExportDid rack area entry x (Some (Exported group)) now left
   exported result group is does back checks left none = on_open (λ x. ExportDid rack area entry x (Some (Exported group)) now left) by where
-    by : (y : State) → Represents rack area open y → IsOut y before → ExportDid rack area entry (Open y) (Some (Exported group)) now left
+    by : (y : State) → Represents rack area was y → IsOut y before → ExportDid rack area entry (Open y) (Some (Exported group)) now left
     by y stands out =
         let c = does y stands in
         let z : State = record c.reached { store = c.store } in
@@ -250,7 +250,7 @@ module _ {R A : Type 0} (rack : racks.Ghosts R) (area : areas.Ghosts A) (entry b
         }
 
   pub export_refused : (result : Result ℕ SyncFault) (why : SyncFault) (said : Result Reply Stop) → result ≡ Err why → RefusalIs name.Export why said → IsWhole rack area new
-      → ((y : State) → Represents rack area open y → CarriesOut rack area new y (ExportDoes y result)) → (x : Desk) → IsDesk rack area entry before desk x → ExportIs rack area entry x before (Some new) said
+      → ((y : State) → Represents rack area was y → CarriesOut rack area new y (ExportDoes y result)) → (x : Desk) → IsDesk rack area entry before desk x → ExportIs rack area entry x before (Some new) said
   export_refused result why said is refused whole does = by said refused where
     stays : (reply : Option Reply) → refusal_of name.Export why ≡ reply → (x : Desk) → IsDesk rack area entry before desk x → ExportDid rack area entry x reply before (Some new)
     stays reply same = on_open (λ x. ExportDid rack area entry x reply before (Some new)) (λ y stands out.
@@ -273,7 +273,7 @@ module _ {R A : Type 0} (rack : racks.Ghosts R) (area : areas.Ghosts A) (entry b
     by (Err stop.Shelf) refused = stays None refused
     by (Err stop.Unbuilt) refused = absurd refused
 
-  pub crashed : ((y : State) → Represents rack area open y → GivesBack y Bool.true before.held now.held now.counts now.own.uber) → now.own.checks ≡ before.own.checks → (left : Option (Pool R A)) → left ≡ None
+  pub crashed : ((y : State) → Represents rack area was y → GivesBack y Bool.true before.held now.held now.counts now.own.uber) → now.own.checks ≡ before.own.checks → (left : Option (Pool R A)) → left ≡ None
       → (x : Desk) → IsDesk rack area entry before desk x → CrashDid rack area entry x Crashed now left
   crashed back checks left none = on_open (λ x. CrashDid rack area entry x Crashed now left) (λ y stands out. record {
     new = Shut y;
