@@ -65,8 +65,8 @@ module _ {R A : Type 0} (rack : racks.Ghosts R) (area : areas.Ghosts A) where
 
 -- ---- in the words of a session
 
-ok_same : {T E : Type 0} (a b : T) → Result.Ok {T} {E} a ≡ Ok b → a ≡ b
-ok_same a b is = cc is
+ok_same : (a b : Reply) (x y : Result Reply Stop) → x ≡ Ok a → y ≡ Ok b → x ≡ y → a ≡ b
+ok_same a b x y one other same = cc one other same
 
 some_same : {T : Type 0} (a b : T) → Some a ≡ Some b → a ≡ b
 some_same a b is = cc is
@@ -107,9 +107,9 @@ module _ {R A : Type 0} (rack : racks.Ghosts R) (area : areas.Ghosts A) (chosen 
 
   -- ---- a sync leaves the shelf alone
   pub by_sync : (x : Desk) (reply : Reply) (desk new : Option (Pool R A)) → IsDesk rack area entry now desk x → SyncDid rack area x (Ok reply) new → Turned rack area chosen (Ok SyncPool) entry x (Some reply) now new
-  by_sync Untouched reply desk new is did = told Untouched reply SyncPool name.Sync desk new (ok_same reply (NoPool name.Sync) did.0) did.1 (record { stands = tt; shelf = is.shelf }) (refl, refl)
-  by_sync (Made geometry) reply desk new is did = told (Made geometry) reply SyncPool name.Sync desk new (ok_same reply (NoPool name.Sync) did.0) did.1 (record { stands = tt; shelf = is.shelf }) (refl, refl)
-  by_sync (Shut y) reply desk new is did = told (Shut y) reply SyncPool name.Sync desk new (ok_same reply (NoPool name.Sync) did.0) did.1 (record { stands = tt; shelf = is.shelf }) (refl, refl)
+  by_sync Untouched reply desk new is did = told Untouched reply SyncPool name.Sync desk new (ok_same reply (NoPool name.Sync) (Ok reply) (Ok (NoPool name.Sync)) refl refl did.0) did.1 (record { stands = tt; shelf = is.shelf }) (refl, refl)
+  by_sync (Made geometry) reply desk new is did = told (Made geometry) reply SyncPool name.Sync desk new (ok_same reply (NoPool name.Sync) (Ok reply) (Ok (NoPool name.Sync)) refl refl did.0) did.1 (record { stands = tt; shelf = is.shelf }) (refl, refl)
+  by_sync (Shut y) reply desk new is did = told (Shut y) reply SyncPool name.Sync desk new (ok_same reply (NoPool name.Sync) (Ok reply) (Ok (NoPool name.Sync)) refl refl did.0) did.1 (record { stands = tt; shelf = is.shelf }) (refl, refl)
   by_sync (Open y) reply desk None is did = absurd did
   by_sync (Open y) reply desk (Some new) is did =
       let c = did.1 in
@@ -161,6 +161,10 @@ module _ {R A : Type 0} (rack : racks.Ghosts R) (area : areas.Ghosts A) (chosen 
 
   pub export_breaks : (x : Desk) (new : Option (Pool R A)) → ExportDid rack area entry x None now new → Broken rack area ExportPool entry before x now new
   export_breaks x new did = by x did.turns where
+    open_behind : (answer : Result ℕ SyncFault) (y : State) → export_reply answer ≡ None → desk_behind answer y ≡ Open y
+    open_behind (Ok group) y is = absurd (cc is)
+    open_behind (Err why) y is = refl
+
     by : (x : Desk) → ExportTurns x None did.new → Broken rack area ExportPool entry before x now new
     by Untouched turns = absurd (cc (turns.0))
     by (Made geometry) turns = absurd (cc (turns.0))
@@ -176,10 +180,6 @@ module _ {R A : Type 0} (rack : racks.Ghosts R) (area : areas.Ghosts A) (chosen 
           breaks = record { holds = l.holds; follows = follows; broken = f.1 };
           cause = broken_shows l.holds y turns.y (export_broke y.geometry y.perms l.holds f.1) follows;
         }
-
-    open_behind : (answer : Result ℕ SyncFault) (y : State) → export_reply answer ≡ None → desk_behind answer y ≡ Open y
-    open_behind (Ok group) y is = absurd (cc is)
-    open_behind (Err why) y is = refl
 
   -- ---- a crash
   pub by_crash : (x : Desk) (reply : Reply) (new : Option (Pool R A)) → CrashDid rack area entry x reply now new → Turned rack area chosen (Ok CrashPool) entry x (Some reply) now new
