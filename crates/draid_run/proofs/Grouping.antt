@@ -66,7 +66,7 @@ module _ {R A : Type 0} (rack : racks.Ghosts R) (area : areas.Ghosts A) where
 -- ---- in the words of a session
 
 ok_same : (a b : Reply) (x y : Result Reply Stop) → x ≡ Ok a → y ≡ Ok b → x ≡ y → a ≡ b
-ok_same a b x y one other same = cc one other same
+ok_same a b x y one other same = (let z = sym one ∙ same ∙ other in cc)
 
 some_same : {T : Type 0} (a b : T) → Some a ≡ Some b → a ≡ b
 some_same a b is = cc is

@@ -41,13 +41,13 @@ returns-in-Damage-clause-answer g c entry x desk =
 
 pub returns-in-Sync-clause-answer : goal.returns-in-Sync-clause-answer
 returns-in-Sync-clause-answer g c entry x desk =
-    subst (λ (l : Line). AnswerIs g.H.R.Rack g.H.A.Area (FnReturnsAt g.F.Fn c.args.chooser.now) (command_in l) entry (on_shelf g.H.Shelf c.args.shelf.now) c.args.pool.now x (on_shelf g.H.Shelf c.args.shelf.now) c.sync.new.pool c.said-in-Sync.result) (sym c.in-Sync.is)
-    (answer_sync g.H.R.Rack g.H.A.Area (FnReturnsAt g.F.Fn c.args.chooser.now) entry (on_shelf g.H.Shelf c.args.shelf.now) (on_shelf g.H.Shelf c.args.shelf.now) c.args.pool.now x c.sync.new.pool c.sync.result c.said-in-Sync.result c.said-in-Sync.ensures refl desk (c.sync.ensures.did x desk.stands))
+    subst (λ (l : Line). AnswerIs g.H.R.Rack g.H.A.Area (FnReturnsAt g.F.Fn c.args.chooser.now) (command_in l) entry (on_shelf g.H.Shelf c.args.shelf.now) c.args.pool.now x (on_shelf g.H.Shelf c.args.shelf.now) c.sync.new.pool c.said.result) (sym c.in-Sync.is)
+    (answer_sync g.H.R.Rack g.H.A.Area (FnReturnsAt g.F.Fn c.args.chooser.now) entry (on_shelf g.H.Shelf c.args.shelf.now) (on_shelf g.H.Shelf c.args.shelf.now) c.args.pool.now x c.sync.new.pool c.sync.result c.said.result c.said.ensures refl desk (c.sync.ensures.did x desk.stands))
 
 pub returns-in-Export-clause-answer : goal.returns-in-Export-clause-answer
 returns-in-Export-clause-answer g c entry x desk =
-    subst (λ (l : Line). AnswerIs g.H.R.Rack g.H.A.Area (FnReturnsAt g.F.Fn c.args.chooser.now) (command_in l) entry (on_shelf g.H.Shelf c.args.shelf.now) c.args.pool.now x (on_shelf g.H.Shelf c.export.new.shelf) c.export.new.pool c.said-in-Export.result) (sym c.in-Export.is)
-    (answer_export g.H.R.Rack g.H.A.Area (FnReturnsAt g.F.Fn c.args.chooser.now) entry (on_shelf g.H.Shelf c.args.shelf.now) (on_shelf g.H.Shelf c.export.new.shelf) c.args.pool.now x c.export.new.pool c.export.result c.said-in-Export.result c.said-in-Export.ensures (c.export.ensures.answer entry x desk))
+    subst (λ (l : Line). AnswerIs g.H.R.Rack g.H.A.Area (FnReturnsAt g.F.Fn c.args.chooser.now) (command_in l) entry (on_shelf g.H.Shelf c.args.shelf.now) c.args.pool.now x (on_shelf g.H.Shelf c.export.new.shelf) c.export.new.pool c.said-2.result) (sym c.in-Export.is)
+    (answer_export g.H.R.Rack g.H.A.Area (FnReturnsAt g.F.Fn c.args.chooser.now) entry (on_shelf g.H.Shelf c.args.shelf.now) (on_shelf g.H.Shelf c.export.new.shelf) c.args.pool.now x c.export.new.pool c.export.result c.said-2.result c.said-2.ensures (c.export.ensures.answer entry x desk))
 
 pub returns-in-Crash-clause-answer : goal.returns-in-Crash-clause-answer
 returns-in-Crash-clause-answer g c entry x desk =
