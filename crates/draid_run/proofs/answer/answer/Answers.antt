@@ -46,8 +46,8 @@ returns-in-Sync-clause-answer g c entry x desk =
 
 pub returns-in-Export-clause-answer : goal.returns-in-Export-clause-answer
 returns-in-Export-clause-answer g c entry x desk =
-    subst (λ (l : Line). AnswerIs g.H.R.Rack g.H.A.Area (FnReturnsAt g.F.Fn c.args.chooser.now) (command_in l) entry (on_shelf g.H.Shelf c.args.shelf.now) c.args.pool.now x (on_shelf g.H.Shelf c.export.new.shelf) c.export.new.pool c.said-2.result) (sym c.in-Export.is)
-    (answer_export g.H.R.Rack g.H.A.Area (FnReturnsAt g.F.Fn c.args.chooser.now) entry (on_shelf g.H.Shelf c.args.shelf.now) (on_shelf g.H.Shelf c.export.new.shelf) c.args.pool.now x c.export.new.pool c.export.result c.said-2.result c.said-2.ensures (c.export.ensures.answer entry x desk))
+    subst (λ (l : Line). AnswerIs g.H.R.Rack g.H.A.Area (FnReturnsAt g.F.Fn c.args.chooser.now) (command_in l) entry (on_shelf g.H.Shelf c.args.shelf.now) c.args.pool.now x (on_shelf g.H.Shelf c.export.new.shelf) c.export.new.pool c.said-in-Export.result) (sym c.in-Export.is)
+    (answer_export g.H.R.Rack g.H.A.Area (FnReturnsAt g.F.Fn c.args.chooser.now) entry (on_shelf g.H.Shelf c.args.shelf.now) (on_shelf g.H.Shelf c.export.new.shelf) c.args.pool.now x c.export.new.pool c.export.result c.said-in-Export.result c.said-in-Export.ensures (c.export.ensures.answer entry x desk))
 
 pub returns-in-Crash-clause-answer : goal.returns-in-Crash-clause-answer
 returns-in-Crash-clause-answer g c entry x desk =
