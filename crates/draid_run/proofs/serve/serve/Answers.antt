@@ -54,7 +54,7 @@ lines-preserved g c =
     }
 
 pub serve_line-requires-clause-desk : goal.serve_line-requires-clause-desk
-serve_line-requires-clause-desk g c = (let serving = c.lines.invariant.serving Untouched (as_found (on_shelf g.H.Shelf c.args.shelf.now)) in (serving.reached, serving.desk.stands))
+serve_line-requires-clause-desk g c κs within = (let serving = c.lines.invariant.serving Untouched (as_found (on_shelf g.H.Shelf c.args.shelf.now)) in (serving.reached, serving.desk.stands))
 
 pub returns-in-Err-serve_line-clause-source_cause : goal.returns-in-Err-serve_line-clause-source_cause
 returns-in-Err-serve_line-clause-source_cause g c is =

@@ -22,7 +22,7 @@ returns-clause-run g c first at =
     c.in-Ok.ensures.session c.serve-ended.ensures.no_usage (c.serve-ended.ensures.served first at) c.end_run-2.ensures.line (c.give_back.ensures.leaves (on_shelf g.H.Shelf c.args.shelf.now))
 
 pub give_back-requires-clause-desk : goal.give_back-requires-clause-desk
-give_back-requires-clause-desk g c = (let served = c.serve-ended.ensures.served Untouched (as_found (on_shelf g.H.Shelf c.args.shelf.now)) in (served.last, served.desk.stands))
+give_back-requires-clause-desk g c κs within = (let served = c.serve-ended.ensures.served Untouched (as_found (on_shelf g.H.Shelf c.args.shelf.now)) in (served.last, served.desk.stands))
 
 pub returns-clause-shelf_fault : goal.returns-clause-shelf_fault
 returns-clause-shelf_fault g c is =
