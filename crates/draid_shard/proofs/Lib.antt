@@ -11,6 +11,7 @@ pub mod Dropping
 pub mod Fetches
 pub mod Fetching
 pub mod Finding
+pub mod FirstRecord
 pub mod Fitted
 pub mod FreeRuns
 pub mod Held

@@ -16,6 +16,7 @@ mod opening;
 mod outcome;
 mod places;
 mod put;
+mod records;
 mod reopening;
 mod rooms;
 mod seal;

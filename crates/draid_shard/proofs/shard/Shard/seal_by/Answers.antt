@@ -132,7 +132,7 @@ stands g c w reached at =
     on_told (g.A.Area.told (area_by c.write_to.new.even c.write_to.new.odd c.args.group)) (Stands (told_record c.settle.new.it))
     (HasRecord (at_version old.asked old.geometry) old.number (image_of c.args.group old.asked (sealed_core (layout_by old) w.core c.args.group c.flush_leaves.new.failed.items c.has_written-wrote.result)))
     (has_record g.R.Rack old c.requires.valid c.args.group c.requires.closing.0 c.args.plan c.requires.plan w reached at c.settle.new.it c.mark_silent.new.marks.items c.flush_leaves.new.failed.items
-    c.has_written-wrote.result (settled g c) (settles g c) (silent g c)) c.in_ok-write_to.ensures.stands
+    c.has_written-wrote.result (settled g c) (settles g c) (silent g c)) c.in-Ok.ensures.stands
 
 pub returns-clause-sealed : goal.returns-clause-sealed
 unfolding does
