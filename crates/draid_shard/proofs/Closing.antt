@@ -20,6 +20,7 @@ use Rattle.draid_shard.specs.States.{IsIn, Leads, layout_by}
 use Rattle.draid_shard.specs.declared.shard.Shard.{Shard}
 use Rattle.draid_stable.specs.Slots.{HasArm, HasSlots, WasArm, arm_in, name_of}
 use Rattle.draid_shard.proofs.Creation.{rooms_enough, still_of}
+use Rattle.draid_shard.proofs.Once.{once_kept}
 use Rattle.draid_shard.proofs.PutKept.{pass_held}
 use Rattle.draid_shard.proofs.Putting.{pass_same}
 use Rattle.draid_shard.proofs.Staging.{leaf_was, logs_kept}
@@ -62,6 +63,7 @@ module _ {R A : Type 0} (ghosts : Ghosts R) (old : Shard R A) (slots : SlotTable
     few = v.few;
     here = v.here;
     slots = still_of old.slots slots old.geometry old.perms old.number kept v.slots;
+    once = once_kept old.slots slots kept.arms_stay kept.detached_stay v.once;
     pass = pass_held old.slots slots old.last_pass old.pass kept.arms_stay v.pass;
     logs = logs_kept old.slots slots (oldest_open old.open_group old.closing) (birth_groups old.closing) kept.arms_stay kept.logs_stay roomier.logs v.logs;
     leaves = leaves_kept v;
@@ -132,6 +134,7 @@ module _ {R A : Type 0} (ghosts : Ghosts R) (old : Shard R A) (slots : SlotTable
       few = v.few;
       here = v.here;
       slots = still_of old.slots slots old.geometry old.perms old.number kept v.slots;
+      once = once_kept old.slots slots kept.arms_stay kept.detached_stay v.once;
       pass = pass_held old.slots slots old.last_pass old.pass kept.arms_stay v.pass;
       logs = rooms_enough slots group 3 3 0 (omega arith) room;
       leaves = leaves_kept v;

@@ -40,6 +40,7 @@ use Rattle.draid_stable.specs.Slots.{HasArm, HasSlots, IsGone, WasArm, arm_in, n
 use Rattle.draid_shard.proofs.Among.{any_among, any_kept, kept_among, was_among}
 use Rattle.draid_shard.proofs.Dropping.{leaf_by, stays_by}
 use Rattle.draid_shard.proofs.Homes.{lays}
+use Rattle.draid_shard.proofs.Once.{once_fewer}
 use Rattle.draid_shard.proofs.PutKept.{pass_held}
 use Rattle.draid_shard.proofs.Putting.{pass_same}
 use Rattle.draid_shard.proofs.Staging.{logs_kept, logs_later}
@@ -206,6 +207,8 @@ module _ {R A : Type 0} (ghosts : Ghosts R) (old : Shard R A) (valid : Valid gho
       perms_are = commits.same.perms_are ∙ valid.slots.perms_are;
       metaslab_is = commits.same.metaslab_is ∙ valid.slots.metaslab_is;
     };
+    once = once_fewer old.slots slots commits.arms_stay (λ gone among. (was_among (λ (gone : Detached). nat_lt group gone.group) old.slots.detached gone
+        (subst (λ (list : List Detached). Contains list gone) commits.detached_later among)).0) valid.once;
     pass = pass_held old.slots slots old.last_pass old.pass commits.arms_stay valid.pass;
     logs = logs;
     leaves = leaves;

@@ -23,7 +23,7 @@ use Rattle.draid_entries.specs.declared.entries.Entries.{Entries}
 use Rattle.draid_entries.specs.Entries.{count_of, entry_at, owed_at, owed_by}
 use Rattle.draid_entries.proofs.Sums.{sum_none}
 use Rattle.draid_names.specs.declared.numbers.TheConstants.{NUMBERS}
-use Rattle.draid_shard.specs.Fits.{AreHere, HasLeaves, IsLeaf, LogsHaveRoom, Tables, TicketsAreNew, lacking}
+use Rattle.draid_shard.specs.Fits.{AreHere, HasLeaves, IsLeaf, LogsHaveRoom, NamesOnce, Tables, TicketsAreNew, lacking}
 use Rattle.draid_stable.specs.Slots.{HasArm, HasSlots, WasArm, arm_in, name_of}
 
 -- ---- slots
@@ -77,6 +77,23 @@ own_arm children slots at arm is there = elim (cases_lt at.slot children) [
   none : children ≤ at.slot → arms_of slots at.slot ≡ []
   none past = get_or_past slots.arms at.slot [] (let count = is.count in omega (arith, count, past))
 
+no_gone : (children : ℕ) (slots : SlotTable) → IsNew children slots → (gone : Detached) → Contains slots.detached gone → ⊥
+no_gone children slots is gone among = let less = among.1 in let none : length slots.detached ≡ 0 = ap length is.detached_none in omega (arith, less, none)
+
+-- each name is that of one arm
+pub once_new : (children : ℕ) (slots : SlotTable) → IsNew children slots → NamesOnce slots
+once_new children slots is = record {
+  arms = λ at other a b there also name.
+      (let x = own_arm children slots at a is there in
+      let y = own_arm children slots other b is also in
+      let slot = leaf_number at.slot other.slot (ap name_of (sym x.is) ∙ name ∙ ap name_of y.is) in
+      λ i. record { slot = slot i; arm = (x.first ∙ sym y.first) i });
+  detached = λ gone other among also name. absurd (no_gone children slots is gone among);
+  apart = λ at a gone there among name. no_gone children slots is gone among;
+} where
+  leaf_number : (m n : ℕ) → Leaf m ≡ Leaf n → m ≡ n
+  leaf_number m n same = cc
+
 -- just the leaves of the children are there
 pub has_leaves : (shape : Shape) (geometry : Geometry) (slots : SlotTable) → HasJust shape geometry.spec.children (metaslab_sectors geometry) geometry.props.sector
     → IsNew geometry.spec.children slots → HasLeaves shape geometry slots
@@ -97,7 +114,7 @@ pub created_slots : (l : machine.Layout) (children : ℕ) (slots : SlotTable) �
 created_slots l children slots same is = record {
   order = λ slot. order slot (cases_lt slot children);
   arms = λ at arm there. arms at arm (own_arm children slots at arm is there);
-  detached = λ gone among. absurd (nothing gone among);
+  detached = λ gone among. absurd (no_gone children slots is gone among);
   only = only;
 } where
   inside : (slot : ℕ) → slot < children → nat_lt slot l.slots ≡ true
@@ -116,9 +133,6 @@ created_slots l children slots same is = record {
   arms : (at : ArmAt) (arm : Arm) → IsOwn children at arm → created_arm l (name_of arm) ≡ Some (arm_in slots at arm)
   arms at arm own = subst (λ arm. created_arm l (name_of arm) ≡ Some (arm_in slots at arm)) (sym own.is)
       (ap (λ b. if b then Some new_of else None) (inside at.slot own.below) ∙ new_in at)
-
-  nothing : (gone : Detached) → Contains slots.detached gone → ⊥
-  nothing gone among = let less = among.1 in let none : length slots.detached ≡ 0 = ap length is.detached_none in omega (arith, less, none)
 
   only : (n : ArmName) → created_arm l n ≢ None → HasArm slots n ⊎ WasArm slots n
   only (Leaf m) some = by (cases_lt m children)

@@ -28,6 +28,7 @@ use Rattle.draid_entries.specs.Maps.{held_at, key_of, staged}
 use Rattle.draid_slots.specs.Changes.{IsOf}
 use Rattle.draid_slots.specs.Table.{SlotTable}
 use Rattle.draid_shard.specs.Calls.{AreFetched, CountsFailed, Fetches, IsLive}
+use Rattle.draid_shard.specs.Changes.{KeepsBlocks}
 use Rattle.draid_shard.specs.Columns.{row_bytes}
 use Rattle.draid_shard.specs.Fits.{HasLeaves, IsPlaced, Valid}
 use Rattle.draid_shard.specs.Part.{IsPart, IsRun, Part, layout_in}
@@ -38,6 +39,7 @@ use Rattle.draid_shard.specs.States.{IsIn, Leads, layout_by, part_of, stored_in}
 use Rattle.draid_shard.specs.declared.places.ColumnRows.{ColumnRows}
 use Rattle.draid_shard.specs.declared.shard.Shard.{Shard}
 use Rattle.draid_shard.proofs.Answering.{row_leaf}
+use Rattle.draid_shard.proofs.Changed.{same_entries}
 use Rattle.draid_shard.proofs.Damaging.{same_in}
 use Rattle.draid_shard.proofs.Finding.{columns_apart, reading_found, reading_none}
 use Rattle.draid_shard.proofs.Held.{key_leads}
@@ -147,6 +149,7 @@ valid_on rack old r history shape owed reserved v = record {
   few = v.few;
   here = v.here;
   slots = v.slots;
+  once = v.once;
   pass = v.pass;
   logs = v.logs;
   leaves = subst (λ shape. HasLeaves shape old.geometry old.slots) (sym shape) v.leaves;
@@ -222,6 +225,7 @@ module _ {R A : Type 0} (rack : Ghosts R) (old new : Shard R A) (valid : Valid r
     live = live;
     pointer_is = pointer_is;
     fetched_is = is_fetched;
+    keeps = subst (KeepsBlocks old) (sym after) (record { entries = same_entries old.entries; groups = record { open_group_is = refl; closing = refl; sealed = refl; committed = refl } });
     failed = failed;
     does = record { part = ap (λ s. part_of s) after; stored = stored; leads = leads };
     counts = counts;
@@ -237,6 +241,10 @@ fetches_asked rack old new history pointer fetched same f = record {
   live = f.live;
   pointer_is = f.pointer_is;
   fetched_is = f.fetched_is;
+  keeps = (let same = f.keeps.groups in record {
+    entries = f.keeps.entries;
+    groups = record { open_group_is = same.open_group_is; closing = same.closing; sealed = same.sealed; committed = same.committed };
+  });
   failed = f.failed;
   does = record {
     part = f.does.part;

@@ -1,6 +1,7 @@
 pub mod Among
 pub mod Answering
 pub mod Begins
+pub mod Changed
 pub mod Closing
 pub mod Committing
 pub mod Counting
@@ -10,6 +11,7 @@ pub mod Dropping
 pub mod Fetches
 pub mod Fetching
 pub mod Finding
+pub mod FirstRecord
 pub mod Fitted
 pub mod FreeRuns
 pub mod Held
@@ -19,6 +21,7 @@ pub mod Landings
 pub mod LeavesFlushed
 pub mod Missing
 pub mod Opened
+pub mod Once
 pub mod OwedAll
 pub mod PutKept
 pub mod Puts
@@ -29,6 +32,7 @@ pub mod Releasing
 pub mod Reopened
 pub mod SealRecords
 pub mod SealSteps
+pub mod Shown
 pub mod Silent
 pub mod Staging
 pub mod Standing

@@ -21,6 +21,7 @@ use Rattle.draid_shard.specs.Rows.{LogsBirth}
 use Rattle.draid_shard.specs.declared.shard.Shard.{Shard}
 use Rattle.draid_shard.proofs.Fitted.{born_from}
 use Rattle.draid_shard.proofs.Held.{here_turned, tickets_staged}
+use Rattle.draid_shard.proofs.Once.{once_kept}
 use Rattle.draid_shard.proofs.Staging.{leaves_left, logs_left, same_of}
 use Rattle.draid_shard.proofs.Tables.{turned_tables}
 
@@ -69,6 +70,7 @@ module _ {R A : Type 0} (ghosts : Ghosts R) (old : Shard R A) (valid : Valid gho
         few = subst (λ n. n ≤ most_held old.version) (sym count) valid.few;
         here = here_turned old.entries entries pointer (Writing c m) (Writing next missed) old.number is_open sets valid.here;
         slots = same_of old.slots slots old.geometry old.perms old.number pointer.birth at_birth valid.slots;
+        once = once_kept old.slots slots at_birth.arms at_birth.detached valid.once;
         pass = pass_held old.slots slots old.last_pass old.pass at_birth.arms valid.pass;
         logs = logs_left old.slots slots (oldest_open old.open_group old.closing) (birth_groups old.closing) pointer.birth low high at_birth valid.logs;
         leaves = leaves_left (ghosts.shape old.rack) (ghosts.shape rack) old.geometry old.slots slots pointer.birth shape at_birth valid.leaves;

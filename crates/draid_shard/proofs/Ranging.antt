@@ -95,7 +95,15 @@ pub record NumbersFit (slots : SlotTable) (next : ℕ) : Type 0 where
   pub small : (at : ArmAt) (arm : Arm) → arm_at slots at ≡ Some arm → arm.number < 2 ^ 64
   pub leaves : (at : ArmAt) (arm : Arm) → arm_at slots at ≡ Some arm → arm.kind ≡ kind.Leaf → arm.number < next
 
-module _ {R A : Type 0} (rack : Ghosts R) (shard : Shard R A) (v : Valid rack shard) (group next : ℕ) (closing : shard.closing ≡ Some group) (w : machine.State) (reached : IsReached (layout_by shard) w)
+-- the closing group has a number of 48 bits
+pub closing_low : {R A : Type 0} (rack : Ghosts R) (shard : Shard R A) → Valid rack shard → (group : ℕ) → shard.closing ≡ Some group → group < NUMBERS
+closing_low rack shard v group closing =
+    let groups = subst (λ c. fits.AreGroups shard.open_group c shard.committed shard.sealed) closing v.groups in
+    let open_group = groups.0 in
+    let low = v.low in
+    omega (arith, open_group, low)
+
+module _ {R A : Type 0} (rack : Ghosts R) (shard : Shard R A) (v : Valid rack shard) (group next : ℕ) (group_low : group < NUMBERS) (w : machine.State) (reached : IsReached (layout_by shard) w)
     (is_in : IsIn shard w) where
   abbrev limits : Limits
   limits = limits_of (at_version shard.asked shard.geometry) shard.number group next
@@ -105,14 +113,6 @@ module _ {R A : Type 0} (rack : Ghosts R) (shard : Shard R A) (v : Valid rack sh
 
   owned : Owned (layout_by shard) w
   owned = every_segment (layout_by shard) w (lays (part_of shard) v.part) reached
-
-  pub group_low : group < NUMBERS
-  group_low = subst (λ o. o ≡ Some group → group < NUMBERS) refl (by shard.closing refl) closing
-    where
-      by : (o : Option ℕ) → shard.closing ≡ o → shard.closing ≡ Some group → group < NUMBERS
-      by o same is =
-          let groups = subst (λ c. fits.AreGroups shard.open_group c shard.committed shard.sealed) is v.groups in
-          let open_group = groups.0 in let low = v.low in omega (arith, open_group, low)
 
   asked_is : fitting.IsVersion shard.asked
   asked_is = subst fitting.IsVersion is_in.asked fit.versions.asked

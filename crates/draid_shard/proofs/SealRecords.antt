@@ -4,6 +4,7 @@ use Rattle.std.specs.List.{list_any}
 use Rattle.draid_names.specs.declared.arm.Arm.{Arm}
 use Rattle.draid_names.specs.declared.arm.ArmAt.{ArmAt}
 use Rattle.draid_names.specs.declared.arm.ArmKind.TheVariants as kind
+use Rattle.draid_names.specs.declared.numbers.TheConstants.{NUMBERS}
 use Rattle.draid_rack.specs.declared.Rack.{Ghosts}
 use Rattle.draid_area.specs.Area as content
 use Rattle.draid_machine.specs.declared.names.ArmName.TheVariants.{Leaf}
@@ -20,7 +21,7 @@ use Rattle.draid_record.specs.Record.{limits_of, told_record, told_slots}
 use Rattle.draid_record.specs.Written.{body_bytes}
 use Rattle.draid_slots.specs.Table.{arm_at, is_logged}
 use Rattle.draid_stable.specs.Images.{LeavesBelow, image_by}
-use Rattle.draid_stable.specs.Sealing.{AreMarked, AreTables, IsSettled, was_born}
+use Rattle.draid_stable.specs.Sealing.{AreMarked, AreTables, IsMade, IsSettled, was_born}
 use Rattle.draid_stable.specs.Slots.{arm_in, name_of, named}
 use Rattle.draid_stable.specs.Stable.{HasRecord, Stands}
 use Rattle.draid_stable.specs.Within.{LogsFit}
@@ -35,7 +36,7 @@ use Rattle.draid_shard.specs.States.{IsIn, layout_by, part_of}
 use Rattle.draid_shard.specs.declared.seal.Plan.{Plan}
 use Rattle.draid_shard.specs.declared.shard.Shard.{Shard}
 use Rattle.draid_shard.proofs.Homes.{lays}
-use Rattle.draid_shard.proofs.Ranging.{NumbersFit, tables_fit}
+use Rattle.draid_shard.proofs.Ranging.{NumbersFit, closing_low, tables_fit}
 use Rattle.draid_shard.proofs.SealSteps.{marked_here}
 
 -- what settling makes of the image that a record says
@@ -43,6 +44,44 @@ abbrev pub Settles : Record → Record → List (List Bool) → Bool → Type 0
 Settles old new marks wrote =
     (l : machine.Layout) (q : machine.Core) (failed : List ℕ) → AreMarked (told_slots old.slots.items) marks (lies_on l q (is_silent q failed)) → image_by (told_record old) ≡ image_of old.group old.version q
     → image_by (told_record new) ≡ image_of old.group old.version (sealed_core l q old.group failed wrote)
+
+-- ---- a record that was made and settled, in whatever group
+
+module _ {R A : Type 0} (rack : Ghosts R) (old : Shard R A) (v : Valid rack old) (group : ℕ) (low : group < NUMBERS) (some_group : 0 < group) (w : machine.State) (reached : IsReached (layout_by old) w)
+    (at : IsIn old w) (made new : Record) (is_made : IsMade (head_of old group) old.entries old.slots old.pass old.last_pass made) (marks : List (List Bool)) (wrote : Bool)
+    (settled : IsSettled made new marks wrote) (core : machine.Core) (says : image_by (told_record new) ≡ record { group = group; version = old.asked; core = core })
+    (arms : (place : ArmAt) (a : Arm) → arm_at old.slots place ≡ Some a → a.kind ≡ kind.Leaf → IsSome (core.arm (Leaf a.number))) where
+  abbrev image : machine.Image
+  image = record { group = group; version = old.asked; core = core }
+
+  clean : (place : ArmAt) (a : Arm) → arm_at old.slots place ≡ Some a → is_logged old.slots place 0 ≡ false
+  clean place a there = by (is_logged old.slots place 0) refl
+    where
+      by : (b : Bool) → is_logged old.slots place 0 ≡ b → b ≡ false
+      by false is = refl
+      by true is = absurd (let one = (every_log (layout_by old) w (lays (part_of old) v.part) reached).low (name_of a) (arm_in old.slots place a) 0 (at.slots.arms place a there) is in omega (arith, one))
+
+  numbers : (next : ℕ) → LeavesBelow next image → NumbersFit old.slots next
+  numbers next below = record {
+    small = copied_small old.slots made.slots.items is_made.slots_are;
+    leaves = λ place a there leaf. below a.number (arms place a there leaf);
+  }
+
+  logs_fit : length (body_bytes (told_record new)) + 10 < 2 ^ 32 → LogsFit (told_slots new.slots.items)
+  logs_fit short = settled_fits (head_of old group) old.entries old.slots old.pass old.last_pass made new marks wrote is_made settled some_group clean (omega (arith, short))
+
+  pub record_stands : (x : content.Content) → Stands (told_record new) x → HasRecord (at_version old.asked old.geometry) old.number image x
+  record_stands x stands = record {
+    value = told_record new;
+    says = says;
+    stands = stands;
+    ranged = λ next below.
+        settled_ranged (limits_of (at_version old.asked old.geometry) old.number group next) (head_of old group) old.entries old.slots old.pass old.last_pass made is_made
+        (record { version_is = refl; metaslab_is = refl; group_is = refl })
+        (tables_fit rack old v group next low w reached at (reached_sound (layout_by old) (lays (part_of old) v.part) w reached) (numbers next below)) new marks wrote settled (logs_fit stands.short);
+  }
+
+-- ---- that of a group that is sealed
 
 module _ {R A : Type 0} (rack : Ghosts R) (old : Shard R A) (v : Valid rack old) (group : ℕ) (closing : old.closing ≡ Some group) (plan : Plan) (is_plan : IsPlan (rack.shape old.rack) old group plan)
     (w : machine.State) (reached : IsReached (layout_by old) w) (at : IsIn old w) where
@@ -67,13 +106,6 @@ module _ {R A : Type 0} (rack : Ghosts R) (old : Shard R A) (v : Valid rack old)
   pub some_group : 0 < group
   some_group = let a = sound.groups.some in let b = (sound.groups.closing_is group (at.closing ∙ closing)).0 in omega (arith, a, b)
 
-  clean : (place : ArmAt) (a : Arm) → arm_at old.slots place ≡ Some a → is_logged old.slots place 0 ≡ false
-  clean place a there = by (is_logged old.slots place 0) refl
-    where
-      by : (b : Bool) → is_logged old.slots place 0 ≡ b → b ≡ false
-      by false is = refl
-      by true is = absurd (let one = (every_log (layout_by old) w (lays (part_of old) v.part) reached).low (name_of a) (arm_in old.slots place a) 0 (at.slots.arms place a there) is in omega (arith, one))
-
   module _ (new : Record) (marks : List (List Bool)) (failed : List ℕ) (wrote : Bool) (settled : IsSettled plan.made new marks wrote) (settles : Settles plan.made new marks wrote) (silent : AreSilent old.slots failed marks) where
     abbrev pub sealed_image : machine.Image
     sealed_image = image_of group old.asked (sealed_core (layout_by old) w.core group failed wrote)
@@ -87,27 +119,11 @@ module _ {R A : Type 0} (rack : Ghosts R) (old : Shard R A) (v : Valid rack old)
         (is_plan.image w.core tables ∙ (λ i. image_of (sym m.group_is i) (sym m.version_is i) w.core))
         ∙ (λ i. image_of (m.group_is i) (m.version_is i) (sealed_core (layout_by old) w.core (m.group_is i) failed wrote))
 
-    numbers : (next : ℕ) → LeavesBelow next sealed_image → NumbersFit old.slots next
-    numbers next below = record {
-      small = copied_small old.slots plan.made.slots.items is_plan.made.slots_are;
-      leaves = λ place a there leaf. below a.number (named_here place a there leaf);
-    } where
-      named_here : (place : ArmAt) (a : Arm) → arm_at old.slots place ≡ Some a → a.kind ≡ kind.Leaf → IsSome (sealed_image.core.arm (Leaf a.number))
-      named_here place a there leaf =
-          subst (λ o. IsSome (seal_arm (map_arm (log_if (wrote && lies_on (layout_by old) w.core (is_silent w.core failed) (Leaf a.number)) group) o)))
-          (sym (subst (λ k. w.core.arm (named k a.number) ≡ Some (arm_in old.slots place a)) leaf (at.slots.arms place a there))) refl
-
-    logs_fit : length (body_bytes (told_record new)) + 10 < 2 ^ 32 → LogsFit (told_slots new.slots.items)
-    logs_fit short =
-        settled_fits (head_of old group) old.entries old.slots old.pass old.last_pass plan.made new marks wrote is_plan.made settled some_group clean (omega (arith, short))
+    named_here : (place : ArmAt) (a : Arm) → arm_at old.slots place ≡ Some a → a.kind ≡ kind.Leaf → IsSome (sealed_image.core.arm (Leaf a.number))
+    named_here place a there leaf =
+        subst (λ o. IsSome (seal_arm (map_arm (log_if (wrote && lies_on (layout_by old) w.core (is_silent w.core failed) (Leaf a.number)) group) o)))
+        (sym (subst (λ k. w.core.arm (named k a.number) ≡ Some (arm_in old.slots place a)) leaf (at.slots.arms place a there))) refl
 
     pub has_record : (x : content.Content) → Stands (told_record new) x → HasRecord (at_version old.asked old.geometry) old.number sealed_image x
-    has_record x stands = record {
-      value = told_record new;
-      says = says;
-      stands = stands;
-      ranged = λ next below.
-          settled_ranged (limits_of (at_version old.asked old.geometry) old.number group next) (head_of old group) old.entries old.slots old.pass old.last_pass plan.made is_plan.made
-          (record { version_is = refl; metaslab_is = refl; group_is = refl })
-          (tables_fit rack old v group next closing w reached at sound (numbers next below)) new marks wrote settled (logs_fit stands.short);
-    }
+    has_record x stands =
+        record_stands rack old v group (closing_low rack old v group closing) some_group w reached at plan.made new is_plan.made marks wrote settled sealed_image.core says named_here x stands

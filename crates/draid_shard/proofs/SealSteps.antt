@@ -44,6 +44,7 @@ use Rattle.draid_shard.specs.Sealing.{AreFlushed, AreSilent, IsOnline, MarksTabl
 use Rattle.draid_shard.specs.States.{IsIn, layout_by, part_of}
 use Rattle.draid_shard.specs.declared.shard.Shard.{Shard}
 use Rattle.draid_shard.proofs.LeavesFlushed.{answers_leaf}
+use Rattle.draid_shard.proofs.Once.{once_kept}
 use Rattle.draid_shard.proofs.Putting.{pass_same}
 use Rattle.draid_shard.proofs.Silent.{same_number, silent_is}
 use Rattle.draid_shard.proofs.Staging.{leaves_left, logs_left, same_of}
@@ -356,6 +357,7 @@ module _ {R A : Type 0} (ghosts : Ghosts R) (old : Shard R A) (v : Valid ghosts 
     few = v.few;
     here = v.here;
     slots = same_of old.slots slots old.geometry old.perms old.number group table.logs v.slots;
+    once = once_kept old.slots slots table.logs.arms table.logs.detached v.once;
     pass = less_held marks old.slots slots old.last_pass old.pass pass loses table.logs.arms v.pass;
     logs = logs_left old.slots slots (oldest_open old.open_group old.closing) (birth_groups old.closing) group (birth_low old.open_group group old.closing closing) (birth_high old.open_group group old.closing closing) table.logs v.logs;
     leaves = leaves_left (ghosts.shape old.rack) (ghosts.shape rack) old.geometry old.slots slots group shape table.logs v.leaves;

@@ -48,6 +48,7 @@ valid_with rack old space entries history v tables disabled few here tickets owe
   few = few;
   here = here;
   slots = v.slots;
+  once = v.once;
   pass = v.pass;
   logs = v.logs;
   leaves = v.leaves;

@@ -24,9 +24,10 @@ use Rattle.draid_machine.specs.Step.{Fits, HoldsFewer, IsEnabled, Step}
 use Rattle.draid_segments.specs.Acts.{Acts}
 use Rattle.draid_segments.specs.Reads.{IsAbsent}
 use Rattle.draid_segments.specs.Segments.{Pieces}
-use Rattle.draid_entries.specs.Entries.{count_of, entry_at, held_in}
+use Rattle.draid_entries.specs.Entries.{begun, count_of, entry_at, held_in}
 use Rattle.draid_entries.specs.History.{Passes, left_for_groups, limit_in, owed_of, reserved_of, stored_of}
 use Rattle.draid_entries.specs.Maps.{key_of, staged}
+use Rattle.draid_shard.specs.Changes.{KeepsBlocks, SetsBlock}
 use Rattle.draid_shard.specs.Columns.{ArePieces, row_bytes}
 use Rattle.draid_shard.specs.States.{Does, IsIn, layout_by}
 use Rattle.draid_shard.specs.declared.fault.BeginFault.{BeginFault}
@@ -152,10 +153,12 @@ pub record Carries {R A : Type 0} (shard : Shard R A) (ticket : Ticket) (block :
   pub count : ticket.next ≤ shard.geometry.g
   pub few : ticket.missed ≤ ticket.next
 
--- a ticket was opened for this write, and carries this block
+-- a ticket was opened for this write where no block or ticket begins, and carries this block
 pub record Opens {R A : Type 0} (old new : Shard R A) (object seq birth : ℕ) (block : BlockValue) (ticket : Ticket) : Type 0 where
   pub named : IsTicketOf old object seq birth ticket
   pub carries : Carries new ticket block
+  pub was : entry_at old.entries ticket.pointer.first ≡ None
+  pub enters : SetsBlock old new ticket.pointer (Some (begun ticket.pointer))
 
 -- The next column of a ticket was put, and landed on these arms. Where it landed on none it is one more that was missed.
 pub record Puts {R A : Type 0} (rack : Ghosts R) (old new : Shard R A) (before now : Ticket) (block : BlockValue) : Type 0 where
@@ -165,6 +168,7 @@ pub record Puts {R A : Type 0} (rack : Ghosts R) (old new : Shard R A) (before n
   pub pointer : now.pointer ≡ before.pointer
   pub next : now.next ≡ before.next + 1
   pub missed : now.missed ≡ before.missed + (if is_nil landed then 1 else 0)
+  pub sets : SetsBlock old new before.pointer (Some (staged (stage.Writing now.next now.missed) before.pointer))
   pub acts : (pieces : Pieces) → ArePieces old.geometry.props.sector old.geometry.g before.pointer.stripes block.columns (key_of before.pointer) pieces
       → ActsOn rack old new (event.Put (key_of before.pointer) landed failed) pieces
   pub counts : CountsFailed failed (rack.faults old.rack) (rack.faults new.rack)
@@ -186,6 +190,7 @@ pub record Fetches {R A : Type 0} (rack : Ghosts R) (old new : Shard R A) (point
   pub live : IsLive old pointer
   pub pointer_is : fetched.pointer ≡ pointer
   pub fetched_is : IsFetched (cut_of old.geometry) fetched
+  pub keeps : KeepsBlocks old new
   pub failed : Vec ℕ Global
   pub does : Does old new (event.Fetch (key_of pointer) failed)
   pub counts : CountsFailed failed.items (rack.faults old.rack) (rack.faults new.rack)

@@ -1,5 +1,5 @@
 -- How the parts of a shard fit together: what each call needs and keeps.
-use Rattle.std.specs.Prelude.{◌≡◌, ◌<◌, ◌≤◌, ◌+◌, ◌⊎◌, ℕ, zero, suc, Bool, true, false, Option, Some, None, IfSome, length, if◌then◌else◌}
+use Rattle.std.specs.Prelude.{◌≡◌, ◌<◌, ◌≤◌, ◌+◌, ◌⊎◌, ℕ, zero, suc, Bool, true, false, Option, Some, None, IfSome, Contains, length, if◌then◌else◌}
 use Rattle.draid_names.specs.Numbers.{most_held}
 use Rattle.draid_names.specs.declared.arm.Arm.{Arm}
 use Rattle.draid_names.specs.declared.arm.ArmAt.{ArmAt}
@@ -17,12 +17,14 @@ use Rattle.draid_metaslab.specs.Spaces.{Stripes, is_free}
 use Rattle.draid_machine.specs.declared.names.Stage.TheVariants.{Writing}
 use Rattle.draid_pass.specs.declared.pass.Pass.{Pass}
 use Rattle.draid_slots.specs.Changes.{IsOf}
+use Rattle.draid_slots.specs.declared.slot.Detached.{Detached}
 use Rattle.draid_slots.specs.Table.{IsThere, SlotTable, arm_at, is_leaving, is_logged, room_at}
 use Rattle.draid_entries.specs.declared.entry.Entry.{Entry}
 use Rattle.draid_entries.specs.declared.entries.Entries.{Entries}
 use Rattle.draid_entries.specs.Entries.{count_of, entry_at, owed_by}
 use Rattle.draid_entries.specs.History.{owed_of, reserved_of}
 use Rattle.draid_stable.specs.Sealing.{HoldsPass}
+use Rattle.draid_stable.specs.Slots.{name_of, named}
 use Rattle.draid_shard.specs.Part.{IsPart, IsRun}
 use Rattle.draid_shard.specs.States.{part_of}
 use Rattle.draid_shard.specs.declared.shard.Shard.{Shard}
@@ -88,6 +90,15 @@ birth_groups (Some t) = 3
 abbrev pub LogsHaveRoom : SlotTable → ℕ → ℕ → Type 0
 LogsHaveRoom slots from groups = (at : ArmAt) → IsThere slots at → lacking (is_logged slots at) from groups ≤ room_at slots at
 
+-- ---- names
+
+-- no name stands twice among the arms and those whose detachment isn't committed
+pub record NamesOnce (slots : SlotTable) : Type 0 where
+  pub arms : (at other : ArmAt) (a b : Arm) → arm_at slots at ≡ Some a → arm_at slots other ≡ Some b → name_of a ≡ name_of b → at ≡ other
+  pub detached : (gone other : Detached) → Contains slots.detached gone → Contains slots.detached other → named gone.kind gone.number ≡ named other.kind other.number
+      → gone ≡ other
+  pub apart : (at : ArmAt) (a : Arm) (gone : Detached) → arm_at slots at ≡ Some a → Contains slots.detached gone → name_of a ≡ named gone.kind gone.number → ⊥
+
 -- ---- devices
 
 -- a leaf is an arm of a slot, or was one and its detachment isn't committed
@@ -140,6 +151,7 @@ pub record Valid {R A : Type 0} (rack : Ghosts R) (shard : Shard R A) : Type 0 w
   pub few : count_of shard.entries ≤ most_held shard.version
   pub here : AreHere shard.entries shard.number
   pub slots : IsOf shard.slots shard.geometry shard.perms shard.number
+  pub once : NamesOnce shard.slots
   pub pass : IfSome shard.pass (HoldsPass shard.slots shard.last_pass)
   pub logs : LogsHaveRoom shard.slots (oldest_open shard.open_group shard.closing) (birth_groups shard.closing)
   pub leaves : HasLeaves (rack.shape shard.rack) shard.geometry shard.slots

@@ -3,7 +3,7 @@ use Rattle.std.specs.Prelude.{◌≡◌, ◌==◌, ◌<◌, ◌≤◌, ◌+◌, 
 use Rattle.std.specs.declared.alloc.Global.{Global}
 use Rattle.std.specs.declared.vec.Vec.{Vec}
 use Rattle.draid_names.specs.Faults.{Rose}
-use Rattle.draid_names.specs.declared.numbers.TheConstants.{LAST_NUMBER}
+use Rattle.draid_names.specs.declared.numbers.TheConstants.{LAST_NUMBER, NUMBERS}
 use Rattle.draid_spec.specs.declared.layout.Geometry.{Geometry}
 use Rattle.draid_area.specs.Area as content
 use Rattle.draid_rack.specs.Moments.{LeavesTold}
@@ -86,6 +86,7 @@ pub record Seals {R A : Type 0} (rack : Ghosts R) (told : A → Option content.C
       → after.sealed ≡ Some image → content.OnTold (told (area_in new group)) (HasRecord (at_version image.version old.geometry) old.number image)
   pub thin_is : (w after : machine.State) → Step (layout_by old) w (event.Seal group failed) after → IsReached (layout_by old) w → IsIn old w
       → ThinIs (layout_by old) after.core group thin
+  pub low : thin ≤ NUMBERS
   pub counts : CountsFailed failed.items (rack.faults old.rack) (rack.faults new.rack)
 
 -- why a group isn't sealed: open tickets that were born up to it, before all else; else the area's failure, or want of memory

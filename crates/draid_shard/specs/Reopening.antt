@@ -31,6 +31,12 @@ OpenIsRefused rack faults told geometry number old new group next (fault.Record 
     × (opening_of (limits_of geometry number group next) (has_leaf (rack.shape old.rack) (metaslab_sectors geometry)) bytes ≡ Err (Bad place kind))
 OpenIsRefused rack faults told geometry number old new group next fault.NoMemory = ⊤
 
+-- why a metaslab isn't created: a call on the area of the record of group 1 failed, or memory was wanting
+abbrev pub CreateIsRefused : ℕ → ℕ → OpenFault → Type 0
+CreateIsRefused before now fault.Area = Rose before now
+CreateIsRefused before now (fault.Record place kind) = ⊥
+CreateIsRefused before now fault.NoMemory = ⊤
+
 -- the tables of the record that the area gave
 pub record ReadsTables {R A : Type 0} (rack : Ghosts R) (told : A → Option content.Content) (geometry : Geometry) (perms : Perms) (number : ℕ) (kit : Kit R A) (group next : ℕ) (t : Tables) : Type 0 where
   pub bytes : List ℕ

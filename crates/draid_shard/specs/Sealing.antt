@@ -1,6 +1,5 @@
 -- What the parts of a seal do.
 use Rattle.std.specs.Prelude.{◌≡◌, ◌==◌, ◌<◌, ◌≤◌, ◌^◌, ◌%◌, ◌||◌, ◌&&◌, not, ⊤, ℕ, Bool, true, false, nat_lt, List, [], Option, Some, None, All, IsSome, length, slice_index_or, vec_capacity, option_map, if◌then◌else◌}
-use Rattle.draid_names.specs.Faults.{Rose}
 use Rattle.draid_names.specs.declared.arm.Arm.{Arm}
 use Rattle.draid_names.specs.declared.arm.ArmAt.{ArmAt}
 use Rattle.draid_chain.specs.Chain.{stands_before}
@@ -19,8 +18,6 @@ use Rattle.draid_stable.specs.Slots.{HasSlots}
 use Rattle.draid_stable.specs.declared.sealing.Head.{Head}
 use Rattle.draid_machine.specs.After.{image_of}
 use Rattle.draid_shard.specs.Rows.{LogsBirth}
-use Rattle.draid_shard.specs.declared.fault.SealFault.{SealFault}
-use Rattle.draid_shard.specs.declared.fault.SealFault.TheVariants as seal
 use Rattle.draid_shard.specs.declared.seal.Plan.{Plan}
 use Rattle.draid_shard.specs.declared.shard.Shard.{Shard}
 
@@ -105,9 +102,3 @@ pub record MarksArms (old new : SlotTable) (marks : List Bool) (slot arm group :
 
 abbrev pub area_by : {A : Type 0} → A → A → ℕ → A
 area_by even odd group = if group % 2 == 0 then even else odd
-
--- why a record wasn't written: a call on its area failed, or memory was wanting
-abbrev pub WriteRefused : ℕ → ℕ → SealFault → Type 0
-WriteRefused before now (seal.NotYet tickets) = ⊥
-WriteRefused before now seal.Area = Rose before now
-WriteRefused before now seal.NoMemory = ⊤

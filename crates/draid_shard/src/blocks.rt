@@ -1,8 +1,10 @@
-ghost use Rattle.std.specs.Prelude.{◌≡◌, ◌≤◌, ◌+◌, ◌↔◌, IfOk, IsTrue, OnErr, is_err, max};
+ghost use Rattle.std.specs.Prelude.{◌≡◌, ◌≤◌, ◌+◌, ◌↔◌, IfOk, IsTrue, OnErr, Some, is_err, max};
 ghost use Rattle.draid_names.specs.declared.numbers.TheConstants.{LAST_NUMBER};
 ghost use Rattle.draid_machine.specs.declared.event.Event.TheVariants.{Free};
-ghost use Rattle.draid_entries.specs.Maps.{key_of};
+ghost use Rattle.draid_machine.specs.declared.names.Stage.TheVariants.{Freed};
+ghost use Rattle.draid_entries.specs.Maps.{key_of, staged};
 ghost use Rattle.draid_shard.specs.Calls.{IsFloor, IsLive, SameKit, SameReserve};
+ghost use Rattle.draid_shard.specs.Changes.{SetsBlock};
 ghost use Rattle.draid_shard.specs.Fits.{Valid};
 ghost use Rattle.draid_shard.specs.States.{Does};
 
@@ -35,6 +37,7 @@ impl<R: Rack, A: Area> Shard<R, A> {
         ensures kit { SameKit self.old self.new }
         ensures not_live { IsTrue (is_err result) ↔ (IsLive self.old pointer.now → ⊥) }
         ensures event { IfOk result (λ group. (group ≡ max self.old.open_group floor) × Does self.old self.new (Free (key_of pointer.now) group)) }
+        ensures sets { IfOk result (λ group. SetsBlock self.old self.new pointer.now (Some (staged (Freed group) pointer.now))) }
         ensures same { OnErr result (self.new ≡ self.old) }
         ensures reserve { SameReserve self.old self.new }
     {

@@ -6,6 +6,7 @@ ghost use Rattle.draid_segments.specs.Segments.{Pieces};
 ghost use Rattle.draid_spec.specs.declared.layout.Geometry.{Geometry};
 ghost use Rattle.draid_entries.specs.Entries.{entry_at};
 ghost use Rattle.draid_shard.specs.Calls.{ActsOn, SameAreas, SameReserve};
+ghost use Rattle.draid_shard.specs.Changes.{CommitsGroup};
 ghost use Rattle.draid_shard.specs.Committing.{DropsFreed, DropsListed, DropsOne, DropsSome, StaysLeaf, is_freed_entry, later_than};
 ghost use Rattle.draid_slots.specs.declared.slot.Detached.{Detached};
 ghost use Rattle.draid_slots.specs.Table.{is_leaf_kind};
@@ -32,6 +33,7 @@ impl<R: Rack, A: Area> Shard<R, A> {
         ensures valid { Valid R.Rack self.new }
         ensures areas { SameAreas self.old self.new }
         ensures event { Does self.old self.new (Commit group) }
+        ensures commits { CommitsGroup self.old self.new group }
         ensures acts { (pieces : Pieces) → ActsOn R.Rack self.old self.new (Commit group) pieces }
         // Of the leaves those alone go that were detached up to the group and are no arms.
         ensures leaves { DropsDetached R.Rack self.old self.new group }

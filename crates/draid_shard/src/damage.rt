@@ -5,6 +5,7 @@ ghost use Rattle.draid_rack.specs.Rack.{Counts};
 ghost use Rattle.draid_segments.specs.Segments.{Pieces};
 ghost use Rattle.draid_entries.specs.History.{limit_in, reserved_of};
 ghost use Rattle.draid_shard.specs.Calls.{ActsOn, SameAreas};
+ghost use Rattle.draid_shard.specs.Changes.{KeepsBlocks};
 ghost use Rattle.draid_shard.specs.Fits.{IsLeaf, Valid};
 ghost use Rattle.draid_shard.specs.States.{Does};
 
@@ -25,6 +26,7 @@ impl<R: Rack, A: Area> Shard<R, A> {
         ensures areas { SameAreas self.old self.new }
         ensures event { Does self.old self.new (Damage leaf sector (is_err result)) }
         ensures acts { (pieces : Pieces) → ActsOn R.Rack self.old self.new (Damage leaf sector (is_err result)) pieces }
+        ensures keeps { KeepsBlocks self.old self.new }
         ensures cause { Counts (Some leaf) result (R.faults self.old.rack) (R.faults self.new.rack) }
         ensures reserve { reserved_of self.new.history + 1 ≡ reserved_of self.old.history }
         ensures limit { limit_in self.new.history ≡ limit_in self.old.history }

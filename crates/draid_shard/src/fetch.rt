@@ -3,11 +3,12 @@ ghost use Rattle.draid_block.specs.Blocks.{cut_of};
 ghost use Rattle.draid_block.specs.Solving.{IsFetched};
 ghost use Rattle.draid_entries.specs.History.{IsAsked};
 ghost use Rattle.draid_shard.specs.Calls.{CountsFailed, FetchIsWorn, Fetches, IsLive, IsWornFor, SameAreas, SameKit, SameReserve};
+ghost use Rattle.draid_shard.specs.Changes.{DoesNothing};
 ghost use Rattle.draid_shard.specs.Fits.{Valid};
 ghost use Rattle.draid_shard.specs.Part.{IsRun};
 ghost use Rattle.draid_shard.specs.Reads.{AreWhole, ReadsColumns, ReadsOn, Replaces, column_after, failed_after};
 ghost use Rattle.draid_shard.specs.Rows.{CountsOn, FitsRows};
-ghost use Rattle.draid_shard.specs.States.{DoesNone, part_of};
+ghost use Rattle.draid_shard.specs.States.{part_of};
 
 use crate::fault::FetchFault;
 use crate::outcome::Outcome;
@@ -44,7 +45,7 @@ impl<R: Rack, A: Area> Shard<R, A> {
         ensures not_worn { OnOk result (IsWornFor self.old 1 → ⊥) }
         ensures fetched { IfOk result (λ fetched. (fetched.pointer ≡ pointer.now) × IsFetched (cut_of self.old.geometry) fetched) }
         ensures fetches { IfOk result (Fetches R.Rack self.old self.new pointer.now) }
-        ensures none { OnErr result (DoesNone self.old self.new) }
+        ensures none { OnErr result (DoesNothing self.old self.new) }
         ensures kit { OnErr result (SameKit self.old self.new) }
         ensures reserve { SameReserve self.old self.new }
     {

@@ -3,9 +3,10 @@ ghost use Rattle.draid_names.specs.declared.numbers.TheConstants.{LAST_NUMBER};
 ghost use Rattle.draid_machine.specs.declared.event.Event.TheVariants.{Close};
 ghost use Rattle.draid_entries.specs.History.{Passes};
 ghost use Rattle.draid_shard.specs.Calls.{SameKit, SameReserve};
+ghost use Rattle.draid_shard.specs.Changes.{ClosesGroup, DoesNothing};
 ghost use Rattle.draid_shard.specs.Fits.{Valid};
 ghost use Rattle.draid_shard.specs.Groups.{CloseRefused, group_events};
-ghost use Rattle.draid_shard.specs.States.{Does, DoesNone};
+ghost use Rattle.draid_shard.specs.States.{Does};
 
 use crate::fault::CloseFault;
 use crate::opening::BIRTH_GROUPS;
@@ -57,7 +58,8 @@ impl<R: Rack, A: Area> Shard<R, A> {
         ensures kit { SameKit self.old self.new }
         ensures event { OnOk result (Does self.old self.new (Close group)) }
         ensures not_worn { OnOk result ((Passes self.old.history group_events 0 → ⊥) × (group < LAST_NUMBER)) }
-        ensures none { OnErr result (DoesNone self.old self.new) }
+        ensures closes { OnOk result (ClosesGroup self.old self.new group) }
+        ensures none { OnErr result (DoesNothing self.old self.new) }
         ensures refused { IfErr result (CloseRefused self.old group) }
         ensures reserve { SameReserve self.old self.new }
     {

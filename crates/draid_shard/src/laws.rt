@@ -67,6 +67,11 @@ pub fn worn_is_what_is_owed<R: Rack, A: Area>()
         → (IsOwed shard.geometry.g w owed ↔ (owed + reserved_of shard.history ≡ owed_of shard.history)) }
 {}
 
+/// Law: a valid shard stands for some state of its metaslab.
+pub fn valid_shards_have_states<R: Rack, A: Area>()
+    ensures { (shard : Shard R A) → Valid R.Rack shard → (w : machine.State) × IsIn shard w }
+{}
+
 /// Law: a metaslab that was opened from the record of a state's image, over a rack on which that image is firm but for
 /// what is in doubt, stands for the state that the opening from that image gives.
 pub fn opened_shards_stand<R: Rack, A: Area>()

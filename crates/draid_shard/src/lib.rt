@@ -16,6 +16,7 @@ mod opening;
 mod outcome;
 mod places;
 mod put;
+mod records;
 mod reopening;
 mod rooms;
 mod seal;
@@ -28,7 +29,8 @@ pub use fault::{
     Shut,
 };
 pub use laws::{
-    calls_keep_what_stands, fetched_blocks_are_readable, opened_shards_stand, worn_is_what_is_owed,
+    calls_keep_what_stands, fetched_blocks_are_readable, opened_shards_stand,
+    valid_shards_have_states, worn_is_what_is_owed,
 };
 pub use shard::Shard;
 pub use ticket::Ticket;

@@ -1,4 +1,5 @@
-ghost use Rattle.std.specs.Prelude.{◌≡◌, ◌+◌, ◌<◌, ◌↔◌, Some, IsTrue, false, true};
+ghost use Rattle.std.specs.Prelude.{◌≡◌, ◌+◌, ◌<◌, ◌≤◌, ◌↔◌, Some, IsTrue, false, true};
+ghost use Rattle.draid_names.specs.declared.numbers.TheConstants.{NUMBERS};
 ghost use Rattle.draid_machine.specs.Names.{is_block, is_freed_by};
 ghost use Rattle.draid_machine.specs.Created.{IsReached};
 ghost use Rattle.draid_machine.specs.State as machine;
@@ -39,7 +40,8 @@ impl<R: Rack, A: Area> Shard<R, A> {
     /// is clean.
     pub(crate) fn thin(&self, group: u64) -> u64
         requires valid { Valid R.Rack self.now }
-        ensures { (w : machine.State) → IsReached (layout_by self.now) w → IsIn self.now w
+        ensures low { result ≤ NUMBERS }
+        ensures is { (w : machine.State) → IsReached (layout_by self.now) w → IsIn self.now w
             → ThinIs (layout_by self.now) w.core group result }
     {
         let mut thin = 0;

@@ -1,17 +1,21 @@
-ghost use Rattle.std.specs.Prelude.{◌≡◌, [], IfErr, IfOk};
+ghost use Rattle.std.specs.Prelude.{◌≡◌, [], IfErr, IfOk, OnOk};
+ghost use Rattle.draid_area.specs.Area.{OnTold};
 ghost use Rattle.draid_rack.specs.Rack.{HasJust};
 ghost use Rattle.draid_spec.specs.Geometry.{metaslab_sectors};
 ghost use Rattle.draid_machine.specs.Created.{created};
 ghost use Rattle.draid_entries.specs.History.{limit_in, reserved_of};
 ghost use Rattle.draid_slots.specs.Changes.{HasRoom, IsNew, IsOf};
+ghost use Rattle.draid_stable.specs.Stable.{HasRecord};
 ghost use Rattle.draid_shard.specs.Fits.{Valid};
+ghost use Rattle.draid_shard.specs.Groups.{at_version};
 ghost use Rattle.draid_shard.specs.Part.{IsPart, Part, layout_in};
-ghost use Rattle.draid_shard.specs.States.{IsIn, part_of, stored_in};
-ghost use Rattle.draid_shard.specs.declared.fault.OpenFault.{OpenFault};
+ghost use Rattle.draid_shard.specs.Reopening.{CreateIsRefused};
+ghost use Rattle.draid_shard.specs.States.{IsIn, layout_by, part_of, stored_in};
 
 use crate::fault::{OpenFault, OpenRefused};
+use crate::records::write_to;
 use crate::shard::Shard;
-use draid_area::Area;
+use draid_area::{Area, DeviceFault};
 use draid_entries::{Entries, History};
 use draid_machine::Event;
 use draid_metaslab::Space;
@@ -45,8 +49,8 @@ fn new_slots(
 }
 
 impl<R: Rack, A: Area> Shard<R, A> {
-    /// An empty metaslab over devices that have the layout's leaves, each with the metaslab's sectors. So many events
-    /// may be stored and owed.
+    /// An empty metaslab over devices that have the layout's leaves, each with the metaslab's sectors. Its group 1, which
+    /// has no block, is committed: the record of it is written to its area. So many events may be stored and owed.
     pub fn create(
         alloc: Global,
         number: u32,
@@ -59,23 +63,57 @@ impl<R: Rack, A: Area> Shard<R, A> {
         requires rack { HasJust (R.shape kit.rack) geometry.spec.children (metaslab_sectors geometry) geometry.props.sector }
         ensures valid { IfOk result (Valid R.Rack) }
         ensures part { IfOk result (λ shard. part_of shard ≡ record { geometry = geometry; perms = perms; number = number }) }
-        ensures kit { IfOk result (λ shard. (shard.rack ≡ kit.rack) × (shard.even ≡ kit.even) × (shard.odd ≡ kit.odd)) }
+        ensures kit { IfOk result (λ shard. (shard.rack ≡ kit.rack) × (shard.even ≡ kit.even)) }
+        ensures record { IfOk result (λ shard. OnTold (A.told shard.odd)
+            (HasRecord (at_version geometry.props.version geometry) number (created (layout_in (part_of shard)) geometry.props.version).image)) }
         ensures created { IfOk result (λ shard. IsIn shard (created (layout_in (part_of shard)) geometry.props.version)) }
         ensures none { IfOk result (λ shard. (stored_in shard ≡ []) × (reserved_of shard.history ≡ 0) × (limit_in shard.history ≡ events)) }
-        ensures refused { IfErr result (λ refused. refused.kit ≡ kit) }
-        ensures why { IfErr result (λ refused. refused.why ≡ OpenFault.NoMemory) }
+        // The area of odd groups may have been written.
+        ensures refused { IfErr result (λ refused. (refused.kit.rack ≡ kit.rack) × (refused.kit.even ≡ kit.even)) }
+        ensures why { IfErr result (λ refused. CreateIsRefused (A.faults kit.odd) (A.faults refused.kit.odd) refused.why) }
+    {
+        let mut shard = match Shard::empty(alloc, number, geometry, perms, kit, events) {
+            Ok(shard) => shard,
+            Err(kit) => {
+                return Err(OpenRefused {
+                    kit,
+                    why: OpenFault::NoMemory,
+                });
+            }
+        };
+        match shard.write_first() {
+            Ok(()) => Ok(shard),
+            Err(why) => Err(OpenRefused {
+                kit: shard.into_kit(),
+                why,
+            }),
+        }
+    }
+
+    /// An empty metaslab, of which no record is written. Where memory is wanting the devices come back.
+    fn empty(
+        alloc: Global,
+        number: u32,
+        geometry: Geometry,
+        perms: Perms,
+        kit: Kit<R, A>,
+        events: u64,
+    ) -> Result<Shard<R, A>, Kit<R, A>>
+        requires part { IsPart (record { geometry = geometry; perms = perms; number = number }) }
+        requires rack { HasJust (R.shape kit.rack) geometry.spec.children (metaslab_sectors geometry) geometry.props.sector }
+        ensures valid { IfOk result (Valid R.Rack) }
+        ensures part { IfOk result (λ shard. part_of shard ≡ record { geometry = geometry; perms = perms; number = number }) }
+        ensures kit { IfOk result (λ shard. (shard.rack ≡ kit.rack) × (shard.even ≡ kit.even) × (shard.odd ≡ kit.odd)) }
+        ensures version { IfOk result (λ shard. shard.asked ≡ geometry.props.version) }
+        ensures created { IfOk result (λ shard. IsIn shard (created (layout_in (part_of shard)) geometry.props.version)) }
+        ensures none { IfOk result (λ shard. (stored_in shard ≡ []) × (reserved_of shard.history ≡ 0) × (limit_in shard.history ≡ events)) }
+        ensures back { IfErr result (λ back. back ≡ kit) }
     {
         let Ok(space) = Space::new(alloc, &geometry, &[]) else {
-            return Err(OpenRefused {
-                kit,
-                why: OpenFault::NoMemory,
-            });
+            return Err(kit);
         };
         let Ok(slots) = new_slots(alloc, geometry, perms, number) else {
-            return Err(OpenRefused {
-                kit,
-                why: OpenFault::NoMemory,
-            });
+            return Err(kit);
         };
         Ok(Shard {
             number,
@@ -99,6 +137,25 @@ impl<R: Rack, A: Area> Shard<R, A> {
             asked: geometry.props.version,
             alloc,
         })
+    }
+
+    /// Writes the record of group 1 of a metaslab that is new.
+    fn write_first(&mut self) -> Result<(), OpenFault>
+        requires valid { Valid R.Rack self.old }
+        requires created { IsIn self.old (created (layout_by self.old) self.old.asked) }
+        ensures same { self.new ≡ record self.old { odd = self.new.odd } }
+        ensures record { OnOk result (OnTold (A.told self.new.odd)
+            (HasRecord (at_version self.old.asked self.old.geometry) self.old.number (created (layout_by self.old) self.old.asked).image)) }
+        ensures refused { IfErr result (CreateIsRefused (A.faults self.old.odd) (A.faults self.new.odd)) }
+    {
+        let Ok(made) = self.record_of(1) else {
+            return Err(OpenFault::NoMemory);
+        };
+        match write_to(self.alloc, &mut self.even, &mut self.odd, 1, &made) {
+            Ok(()) => Ok(()),
+            Err(DeviceFault::Failed) => Err(OpenFault::Area),
+            Err(DeviceFault::NoMemory) => Err(OpenFault::NoMemory),
+        }
     }
 
     /// What was done since the opening, in order.

@@ -1,32 +1,28 @@
-ghost use Rattle.std.specs.Prelude.{◌≡◌, ◌≤◌, ◌+◌, ◌^◌, Some, true, false, All, IsSome, IfErr, IfOk, OnOk, length, option_map};
-ghost use Rattle.draid_area.specs.Area.{OnTold, flushes, writes};
-ghost use Rattle.draid_names.specs.declared.fault.DeviceFault.TheVariants as device;
-ghost use Rattle.draid_names.specs.declared.pointer.Pointer.{Pointer};
+ghost use Rattle.std.specs.Prelude.{◌≡◌, ◌+◌, Some, true, false, IsSome, IfErr, IfOk, OnErr, OnOk, length};
 ghost use Rattle.draid_machine.specs.Arms.{leaf_answers};
 ghost use Rattle.draid_machine.specs.State as machine;
 ghost use Rattle.draid_rack.specs.Rack.{Shape};
-ghost use Rattle.draid_record.specs.Record.{told_record};
 ghost use Rattle.draid_slots.specs.Table.{IsTable};
 ghost use Rattle.draid_stable.specs.Slots.{HasSlots};
-ghost use Rattle.draid_stable.specs.Stable.{Stands};
 ghost use Rattle.draid_shard.specs.Calls.{SameReserve};
+ghost use Rattle.draid_shard.specs.Changes.{KeepsBlocks, SealsGroup};
 ghost use Rattle.draid_shard.specs.Fits.{TicketsAreNew, Valid};
 ghost use Rattle.draid_shard.specs.Groups.{KeepsOtherArea, OpenUpto, Seals, Unsealed};
-ghost use Rattle.draid_shard.specs.declared.fault.SealFault.TheVariants as seal;
-ghost use Rattle.draid_shard.specs.Sealing.{AreFlushed, FlushedBelow, IsOnline, IsPlan, WriteRefused, area_by};
+ghost use Rattle.draid_shard.specs.Sealing.{AreFlushed, FlushedBelow, IsOnline, IsPlan};
 ghost use Rattle.draid_shard.specs.States.{IsIn};
 
 use crate::fault::{SealFault, Sealed};
 use crate::marks::miss_marked;
+use crate::records::write_to;
 use crate::shard::Shard;
 use draid_area::{Area, DeviceFault};
 use draid_columns::flush_leaves;
 use draid_machine::Event;
 use draid_names::{ArmKind, NoMemory};
 use draid_rack::Rack;
-use draid_record::{Record, write_record};
+use draid_record::Record;
 use draid_slots::Slots;
-use draid_stable::{Head, Marks, has_written, lose_targets, record_of_tables, settle};
+use draid_stable::{Marks, has_written, lose_targets, settle};
 use std::alloc::Global;
 
 /// What a seal takes memory for before it changes anything: the record of the group, the leaves to flush, and room for
@@ -48,7 +44,9 @@ impl<R: Rack, A: Area> Shard<R, A> {
         ensures valid { Valid R.Rack self.new }
         ensures other { KeepsOtherArea group self.old self.new }
         ensures sealed { IfOk result (λ it. Seals R.Rack A.told self.old self.new group it.thin) }
+        ensures seals { OnOk result (SealsGroup self.old self.new) }
         ensures refused { IfErr result (Unsealed R.Rack A.faults self.old self.new group) }
+        ensures keeps { OnErr result (KeepsBlocks self.old self.new) }
         ensures reserve { SameReserve self.old self.new }
     {
         let tickets = self.tickets_upto(group);
@@ -71,7 +69,9 @@ impl<R: Rack, A: Area> Shard<R, A> {
         ensures valid { Valid R.Rack self.new }
         ensures other { KeepsOtherArea group self.old self.new }
         ensures sealed { IfOk result (λ it. Seals R.Rack A.told self.old self.new group it.thin) }
+        ensures seals { OnOk result (SealsGroup self.old self.new) }
         ensures refused { IfErr result (Unsealed R.Rack A.faults self.old self.new group) }
+        ensures keeps { OnErr result (KeepsBlocks self.old self.new) }
         ensures reserve { SameReserve self.old self.new }
     {
         let Plan {
@@ -84,7 +84,11 @@ impl<R: Rack, A: Area> Shard<R, A> {
         self.mark_silent(&mut marks, &failed);
         let wrote = has_written(&made);
         settle(&mut made, &marks, wrote);
-        write_to(self.alloc, &mut self.even, &mut self.odd, group, &made)?;
+        match write_to(self.alloc, &mut self.even, &mut self.odd, group, &made) {
+            Ok(()) => {}
+            Err(DeviceFault::Failed) => return Err(SealFault::Area),
+            Err(DeviceFault::NoMemory) => return Err(SealFault::NoMemory),
+        }
         miss_marked(&mut self.slots, &marks, wrote, group);
         lose_targets(&mut self.pass, &marks);
         self.sealed = true;
@@ -99,19 +103,7 @@ impl<R: Rack, A: Area> Shard<R, A> {
         requires valid { Valid R.Rack self.now }
         ensures { IfOk result (IsPlan (R.shape self.now.rack) self.now group) }
     {
-        let head = Head {
-            version: self.asked,
-            metaslab: self.number,
-            group,
-        };
-        let made = record_of_tables(
-            self.alloc,
-            head,
-            &self.entries,
-            &self.slots,
-            &self.pass,
-            self.last_pass,
-        )?;
+        let made = self.record_of(group)?;
         let marks = no_marks(self.alloc, self.slots.children())?;
         let leaves = leaves_to_flush(self.alloc, &self.rack, &self.slots)?;
         let failed = Vec::with_capacity(self.alloc, leaves.len())?;
@@ -173,51 +165,5 @@ fn is_flushed(slots: &Slots, leaf: u64) -> bool
     match slots.find(ArmKind::Leaf, leaf) {
         Some(at) => !slots.arms(at.slot)[at.arm as usize].offline,
         None => slots.leaving_online(leaf),
-    }
-}
-
-/// Writes the record of a group to its area, of the two, and flushes that.
-fn write_to<A: Area>(
-    alloc: Global,
-    even: &mut A,
-    odd: &mut A,
-    group: u64,
-    made: &Record,
-) -> Result<(), SealFault>
-    requires { All (λ (b : Pointer). b.first + b.stripes ≤ 2 ^ 49) made.now.blocks.items }
-    ensures stands { OnOk result (OnTold (A.told (area_by even.new odd.new group)) (Stands (told_record made.now))) }
-    ensures other { area_by even.new odd.new (group + 1) ≡ area_by even.old odd.old (group + 1) }
-    ensures refused { IfErr result (WriteRefused (A.faults (area_by even.old odd.old group)) (A.faults (area_by even.new odd.new group))) }
-{
-    let bytes = write_record(alloc, made)?;
-    if group % 2 == 0 {
-        put_record(even, &bytes)
-    } else {
-        put_record(odd, &bytes)
-    }
-}
-
-/// Puts bytes at the front of an area, and flushes it.
-fn put_record<A: Area>(area: &mut A, bytes: &[u8]) -> Result<(), SealFault>
-    ensures told { OnOk result (A.told area.new ≡ option_map (λ x. flushes (writes 0 bytes.now x)) (A.told area.old)) }
-    ensures refused { IfErr result (WriteRefused (A.faults area.old) (A.faults area.new)) }
-{
-    if let Err(fault) = area.write(0, bytes) {
-        return Err(refusal(fault));
-    }
-    match area.flush() {
-        Ok(()) => Ok(()),
-        Err(fault) => Err(refusal(fault)),
-    }
-}
-
-/// What a failure of the area of its records makes of a seal.
-fn refusal(fault: DeviceFault) -> SealFault
-    ensures failed { fault ≡ device.Failed → result ≡ seal.Area }
-    ensures memory { fault ≡ device.NoMemory → result ≡ seal.NoMemory }
-{
-    match fault {
-        DeviceFault::Failed => SealFault::Area,
-        DeviceFault::NoMemory => SealFault::NoMemory,
     }
 }

@@ -3,17 +3,19 @@ ghost use Rattle.draid_names.specs.declared.numbers.TheConstants.{LAST_NUMBER, N
 ghost use Rattle.draid_block.specs.Blocks.{cut_of};
 ghost use Rattle.draid_block.specs.Columns.{stripes_of};
 ghost use Rattle.draid_machine.specs.declared.event.Event.TheVariants.{Abort, Begin, Finish};
+ghost use Rattle.draid_machine.specs.declared.names.Stage.TheVariants.{Live};
 ghost use Rattle.draid_machine.specs.State as machine;
 ghost use Rattle.draid_metaslab.specs.Spaces.{is_free};
 ghost use Rattle.draid_metaslab.specs.Spots.{IsLowest};
 ghost use Rattle.draid_spec.specs.declared.layout.Geometry.{Geometry};
 ghost use Rattle.draid_entries.specs.Entries.{IsEntered, SameEntries, SetsEntry, begun, count_of, entry_at, held_in};
 ghost use Rattle.draid_entries.specs.History.{KeepsOwed, Passes, left_for_groups};
-ghost use Rattle.draid_entries.specs.Maps.{key_of};
+ghost use Rattle.draid_entries.specs.Maps.{key_of, staged};
 ghost use Rattle.draid_shard.specs.Calls.{BeginRefused, IsFloor, IsNewWrite, IsOpen, IsWornFor, Opens, SameKit, SameReserve, begins, block_events};
+ghost use Rattle.draid_shard.specs.Changes.{DoesNothing, SetsBlock};
 ghost use Rattle.draid_shard.specs.Fits.{IsBlock, Tables, Valid};
 ghost use Rattle.draid_shard.specs.Holding.{AreFitting, EnterRefused, HoldRefused, StoresAsked};
-ghost use Rattle.draid_shard.specs.States.{Does, DoesNone, IsIn};
+ghost use Rattle.draid_shard.specs.States.{Does, IsIn};
 
 use crate::fault::{BeginFault, Missed};
 use crate::shard::Shard;
@@ -45,7 +47,7 @@ impl<R: Rack, A: Area> Shard<R, A> {
         ensures ticket { IfOk result (Opens self.old self.new object seq (max self.old.open_group floor) block.now) }
         ensures event { IfOk result (λ ticket. Does self.old self.new (begins ticket.pointer)) }
         ensures not_worn { OnOk result (IsWornFor self.old (block_events self.old) → ⊥) }
-        ensures none { OnErr result (DoesNone self.old self.new) }
+        ensures none { OnErr result (DoesNothing self.old self.new) }
         ensures refused { IfErr result (λ fault. (w : machine.State) → IsIn self.old w
             → BeginRefused self.old (stripes_of (cut_of self.old.geometry) (length block.now.bytes)) w fault) }
         ensures reserve { SameReserve self.old self.new }
@@ -96,6 +98,8 @@ impl<R: Rack, A: Area> Shard<R, A> {
         ensures event { Does self.old self.new (Finish (key_of ticket.pointer)) }
         ensures live { IfOk result (λ pointer. (ticket.missed ≤ self.old.geometry.spec.parity) × (pointer ≡ ticket.pointer)) }
         ensures missed { IfErr result (λ e. (self.old.geometry.spec.parity < ticket.missed) × (e.columns ≡ ticket.missed)) }
+        ensures sets { OnOk result (SetsBlock self.old self.new ticket.pointer (Some (staged Live ticket.pointer))) }
+        ensures gone { OnErr result (SetsBlock self.old self.new ticket.pointer None) }
         ensures reserve { SameReserve self.old self.new }
     {
         let pointer = ticket.pointer;
@@ -121,6 +125,7 @@ impl<R: Rack, A: Area> Shard<R, A> {
         ensures valid { Valid R.Rack self.new }
         ensures kit { SameKit self.old self.new }
         ensures event { Does self.old self.new (Abort (key_of ticket.pointer)) }
+        ensures gone { SetsBlock self.old self.new ticket.pointer None }
         ensures reserve { SameReserve self.old self.new }
     {
         release(&mut self.space, &mut self.entries, &ticket.pointer);

@@ -1,6 +1,7 @@
 use Rattle.std.proofs.Common.{◌∙◌, ◌++◌, ◌∷◌, [], List, arith, ap, refl}
 use Rattle.draid_machine.specs.declared.event.Event.{Event}
 use Rattle.draid_machine.specs.declared.event.Event.TheVariants.{Close}
+use Rattle.draid_shard.proofs.Changed.{same_entries}
 use Rattle.draid_shard.proofs.Closing.{closed_valid, closes, kept_in, kept_valid}
 use Rattle.draid_shard.proofs.shard.Shard.close_group.Goals as goal
 
@@ -10,9 +11,12 @@ returns-in_default-clause-valid g c =
 
 pub returns-in_default-clause-none : goal.returns-in_default-clause-none
 returns-in_default-clause-none g c = record {
-  part = refl;
-  stored = c.in-Ok.ensures.same.events;
-  stays = kept_in g.R.Rack c.args.self.now c.reserve.new.self c.in_default.ensures.kept c.ask_for_group.new.self;
+  none = record {
+    part = refl;
+    stored = c.in-Ok.ensures.same.events;
+    stays = kept_in g.R.Rack c.args.self.now c.reserve.new.self c.in_default.ensures.kept c.ask_for_group.new.self;
+  };
+  keeps = record { entries = same_entries c.args.self.now.entries; groups = record { open_group_is = refl; closing = refl; sealed = refl; committed = refl } };
 }
 
 pub returns-clause-valid : goal.returns-clause-valid

@@ -1,41 +1,31 @@
-use Rattle.std.proofs.Common.{arith, refl, sym}
-use Rattle.draid_layouts.specs.Layout.{layout_of}
-use Rattle.draid_shard.proofs.Creation.{created_slots, empty_tables, has_leaves, no_tickets, none_here, owes_none, own_version, rooms_enough}
+use Rattle.std.proofs.Common.{◌≡◌, ◌∙◌, ap, subst, sym}
+use Rattle.draid_area.specs.Area.{OnTold}
+use Rattle.draid_machine.specs.Created.{created}
+use Rattle.draid_stable.specs.Stable.{HasRecord}
+use Rattle.draid_shard.specs.Fits.{Valid}
+use Rattle.draid_shard.specs.Groups.{at_version}
+use Rattle.draid_shard.specs.Part.{Part, layout_in}
+use Rattle.draid_shard.specs.States.{IsIn, part_of}
+use Rattle.draid_shard.proofs.FirstRecord.{odd_in, odd_valid}
 use Rattle.draid_shard.proofs.shard.Shard.create.Goals as goal
 
-pub returns-clause-valid : goal.returns-clause-valid
-returns-clause-valid g c = record {
-  part = c.requires.part;
-  version = c.requires.part.layout.geometry_is.version;
-  asked = own_version c.args.geometry.props.version c.requires.part.layout.geometry_is.version;
-  tables = empty_tables c.args.geometry 2 c.in-Ok.space c.new-3.result c.in-Ok.ensures.sizes.0 c.in-Ok.ensures.sizes.1 c.in-Ok.ensures.held.0 c.new-3.ensures.count c.new-3.ensures.none
-      c.in-Ok.ensures.free;
-  disabled = c.in-Ok.ensures.enabled;
-  few = (let count = c.new-3.ensures.count in omega (arith, count));
-  here = none_here c.new-3.result c.args.number c.new-3.ensures.none;
-  slots = c.in-Ok-new_slots.ensures.of;
-  pass = tt;
-  logs = rooms_enough c.in-Ok-new_slots.slots 2 2 3 0 (omega arith) c.in-Ok-new_slots.ensures.room;
-  leaves = has_leaves (g.R.Rack.shape c.args.kit.rack) c.args.geometry c.in-Ok-new_slots.slots c.requires.rack c.in-Ok-new_slots.ensures.new;
-  groups = (refl, refl);
-  low = omega arith;
-  tickets = no_tickets c.new-3.result 2 c.new-3.ensures.none;
-  settled = λ sealed. no_tickets c.new-3.result 2 c.new-3.ensures.none;
-  owed = (let own = owes_none c.args.geometry.g c.new-3.result c.new-3.ensures.none in let none = c.new-2.ensures.none in omega (arith, own, none.0, none.1));
-}
+pub returns-in-Ok-write_first-clause-valid : goal.returns-in-Ok-write_first-clause-valid
+returns-in-Ok-write_first-clause-valid g c =
+    subst (Valid g.R.Rack) (sym c.write_first.ensures.same) (odd_valid g.R.Rack c.in-Ok.shard c.write_first.new.self.odd c.in-Ok.ensures.valid)
 
-pub returns-clause-created : goal.returns-clause-created
-returns-clause-created g c = record {
-  held = λ key. sym (c.new-3.ensures.held key);
-  slots = created_slots (layout_of c.args.geometry c.args.perms c.args.number) c.args.geometry.spec.children c.in-Ok-new_slots.slots refl c.in-Ok-new_slots.ensures.new;
-  pass = refl;
-  last = refl;
-  open_group_is = refl;
-  closing = refl;
-  sealed = refl;
-  committed = refl;
-  version = refl;
-  asked = refl;
-  serial = refl;
-  no_loan = refl;
-}
+pub returns-in-Ok-write_first-clause-record : goal.returns-in-Ok-write_first-clause-record
+returns-in-Ok-write_first-clause-record g c =
+    let version = c.args.geometry.props.version in
+    let given : Part = record { geometry = c.args.geometry; perms = c.args.perms; number = c.args.number } in
+    let told = g.A.Area.told c.write_first.new.self.odd in
+    let own : OnTold told (HasRecord (at_version version c.args.geometry) c.args.number (created (layout_in given) version).image) =
+    subst (λ (p : Part). OnTold told (HasRecord (at_version version p.geometry) p.number (created (layout_in p) version).image)) c.in-Ok.ensures.part
+    (subst (λ n. OnTold told (HasRecord (at_version n c.in-Ok.shard.geometry) c.in-Ok.shard.number (created (layout_in (part_of c.in-Ok.shard)) n).image)) c.in-Ok.ensures.version
+    c.in-Ok-write_first.ensures.record) in
+    subst (λ (p : Part). OnTold told (HasRecord (at_version version c.args.geometry) c.args.number (created (layout_in p) version).image))
+    (sym (ap part_of c.write_first.ensures.same ∙ c.in-Ok.ensures.part)) own
+
+pub returns-in-Ok-write_first-clause-created : goal.returns-in-Ok-write_first-clause-created
+returns-in-Ok-write_first-clause-created g c =
+    subst (λ s. IsIn s (created (layout_in (part_of s)) c.args.geometry.props.version)) (sym c.write_first.ensures.same)
+    (odd_in c.in-Ok.shard c.write_first.new.self.odd (created (layout_in (part_of c.in-Ok.shard)) c.args.geometry.props.version) c.in-Ok.ensures.created)

@@ -20,6 +20,7 @@ returns-clause-valid g c =
       few = v.few;
       here = v.here;
       slots = v.slots;
+      once = v.once;
       pass = v.pass;
       logs = v.logs;
       leaves = subst (λ shape. HasLeaves shape c.args.self.now.geometry c.args.self.now.slots) (sym c.damage-done.ensures.shape) v.leaves;

@@ -10,6 +10,7 @@ use Rattle.draid_stable.proofs.There.{whole_parts}
 use Rattle.draid_shard.specs.Fits.{is_rebuild}
 use Rattle.draid_shard.specs.Groups.{area_of_kit}
 use Rattle.draid_shard.proofs.Creation.{own_version}
+use Rattle.draid_shard.proofs.Once.{told_once}
 use Rattle.draid_shard.proofs.Reopened.{are_here, both_same, drops_but, enough_room, leaves_there, no_writes, tables_fit, told_read}
 use Rattle.draid_shard.proofs.shard.Shard.reopen.Goals as goal
 
@@ -36,6 +37,7 @@ returns-clause-valid g c =
       few = (let count = t.entries.count in let few = r.ranged.few in omega (arith, count, few));
       here = are_here geometry c.args.number c.args.group c.args.next_leaf r.value.blocks is c.requires.group.1 blocks c.in-Ok.tables.entries t.entries;
       slots = record { geometry_is = t.of.geometry_is; perms_are = t.of.perms_are; metaslab_is = t.of.metaslab_is ∙ r.ranged.metaslab_is };
+      once = told_once limits r.value.slots r.ranged.slots_are c.in-Ok.tables.slots t.arms t.detached;
       pass = t.holds;
       logs = enough_room c.in-Ok.tables.slots (c.args.group + 1) 2 0 t.room;
       leaves = leaves_there (g.R.Rack.shape c.args.kit.rack) (g.R.Rack.shape c.keep_arms.new.rack) geometry c.in-Ok.tables.slots r.value.slots t.arms t.detached parts.lacks c.requires.bytes

@@ -132,7 +132,7 @@ stands g c w reached at =
     on_told (g.A.Area.told (area_by c.write_to.new.even c.write_to.new.odd c.args.group)) (Stands (told_record c.settle.new.it))
     (HasRecord (at_version old.asked old.geometry) old.number (image_of c.args.group old.asked (sealed_core (layout_by old) w.core c.args.group c.flush_leaves.new.failed.items c.has_written-wrote.result)))
     (has_record g.R.Rack old c.requires.valid c.args.group c.requires.closing.0 c.args.plan c.requires.plan w reached at c.settle.new.it c.mark_silent.new.marks.items c.flush_leaves.new.failed.items
-    c.has_written-wrote.result (settled g c) (settles g c) (silent g c)) c.in_ok-write_to.ensures.stands
+    c.has_written-wrote.result (settled g c) (settles g c) (silent g c)) c.in-Ok.ensures.stands
 
 pub returns-clause-sealed : goal.returns-clause-sealed
 unfolding does
@@ -151,8 +151,9 @@ returns-clause-sealed g c =
           subst (λ (i : machine.Image). content.OnTold (g.A.Area.told (area_by c.write_to.new.even c.write_to.new.odd c.args.group)) (HasRecord (at_version i.version old.geometry) old.number i))
           (image_is g at_add w after image reached at step is) (stands g at_add w reached at);
       thin_is = λ w after step reached at.
-          c.thin.ensures after (reached_more (layout_by old) w after (Seal c.args.group c.flush_leaves.new.failed) reached step)
+          c.thin.ensures.is after (reached_more (layout_by old) w after (Seal c.args.group c.flush_leaves.new.failed) reached step)
           (subst (IsIn (record old { rack = c.flush_leaves.new.rack; even = c.write_to.new.even; odd = c.write_to.new.odd; slots = c.miss_marked.new.slots; pass = c.lose_targets.new.pass; sealed = true; history = c.add.new.self }))
           (sym (state_is g at_add w after reached at step)) ((does g at_add).leads w reached at).is_in);
+      low = c.thin.ensures.low;
       counts = record { later = cause.later; cause = cause.cause };
     }
