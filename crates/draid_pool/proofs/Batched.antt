@@ -3,7 +3,7 @@ use Rattle.std.proofs.Common.{◌≡◌, ◌+◌, ◌<◌, ◌≤◌, ◌⊎◌,
 use Rattle.std.specs.Prelude.{All}
 use Rattle.std.specs.List.{AllZip}
 use Rattle.std.proofs.lemmas.List.{append-nil, append_assoc}
-use Rattle.std.proofs.lemmas.List.Elements.{All-cons, All-nil}
+use Rattle.std.proofs.lemmas.List.Elements.{All-nil, All-push}
 use Rattle.sha2.specs.declared.Sha256.{Sha256}
 use Rattle.draid_names.specs.declared.refusal.ObjectFault.{ObjectFault}
 use Rattle.draid_names.specs.declared.refusal.ObjectFault.TheVariants as object
@@ -60,13 +60,18 @@ fetches_more x first object [] block front back at is next =
 fetches_more x first object (b ∷ bs) block front back at is next =
     (is.0, is.1 ++ back, ap (λ hs. hs ++ back) is.2 ∙ append_assoc is.0 is.1 back, is.3, fetches_more x (first + 1) object bs block is.1 back (omega (arith, at)) is.4 next)
 
-all_fetched : (x : State) (first : ℕ) (blocks : List Fetched) (holds : List Hold) → FetchesBlocks x first blocks holds → All (IsFetched (cut_of x.geometry)) blocks
-all_fetched x first [] holds is = All-nil (IsFetched (cut_of x.geometry))
-all_fetched x first (b ∷ bs) holds is = All-cons (IsFetched (cut_of x.geometry)) b bs is.3.block (all_fetched x (first + 1) bs is.1 is.4)
+-- the blocks of a layout that were fetched
+pub none_fetched : (cut : Cut) (blocks : List Fetched) → blocks ≡ [] → All (IsFetched cut) blocks
+none_fetched cut blocks none = subst (All (IsFetched cut)) (sym none) (All-nil (IsFetched cut))
 
-ends_short : (x reached : State) (first count many : ℕ) (fault : Option ObjectFault) (holds : List Hold) → EndsBatch x reached first count many fault holds → many ≤ count
-ends_short x reached first count many None holds is = is.1
-ends_short x reached first count many (Some why) holds is = (let below = is.0 in omega (arith, below))
+pub more_fetched : (cut : Cut) (blocks blocks' : List Fetched) (block : Fetched) → All (IsFetched cut) blocks → IsFetched cut block → blocks' ≡ blocks ++ block ∷ [] → All (IsFetched cut) blocks'
+more_fetched cut blocks blocks' block all one more = subst (All (IsFetched cut)) (sym more) (All-push (IsFetched cut) blocks block all one)
+
+pub one_longer : (blocks blocks' : List Fetched) (block : Fetched) → blocks' ≡ blocks ++ block ∷ [] → length blocks' ≡ length blocks + 1
+one_longer blocks blocks' block more = (let long = ap (λ (bs : List Fetched). length bs) more ∙ length-append blocks (block ∷ []) in omega (arith, long))
+
+pub some_fault : (why : ObjectFault) (P : Type 0) → Some why ≡ None → P
+some_fault why P none = absurd (cc)
 
 -- ---- holds that fetch
 
@@ -310,16 +315,6 @@ module _ {R A : Type 0} (rack : racks.Ghosts R) (area : areas.Ghosts A) where
   -- what the blocks are solved with
   batch_layout : (x : State) (first count : ℕ) (batch : Batch) (new : Pool R A) → (b : FetchesBatch rack area new x first count batch) → new.geometry ≡ x.geometry
   batch_layout x first count batch new b = sym b.represents.stands.geometry ∙ (same_layout (b.front ++ b.back) x b.reached b.follows).geometry
-
-  pub batch_geometry : (x : State) (first count : ℕ) (batch : Batch) (new : Pool R A) → FetchesBatch rack area new x first count batch → IsGeometry new.geometry
-  batch_geometry x first count batch new b = subst IsGeometry b.represents.stands.geometry b.represents.stands.layout.geometry_is
-
-  pub batch_fetched : (x : State) (first count : ℕ) (batch : Batch) (new : Pool R A) → FetchesBatch rack area new x first count batch → All (IsFetched (cut_of new.geometry)) batch.blocks.items
-  batch_fetched x first count batch new b =
-      subst (λ (g : Geometry). All (IsFetched (cut_of g)) batch.blocks.items) (sym (batch_layout x first count batch new b)) (all_fetched x first batch.blocks.items b.front b.fetches)
-
-  pub batch_short : (x : State) (first count : ℕ) (batch : Batch) (new : Pool R A) → FetchesBatch rack area new x first count batch → length batch.blocks.items ≤ count
-  batch_short x first count batch new b = ends_short x b.reached first count (length batch.blocks.items) batch.fault b.back b.ends
 
   -- memory was wanting for the answers
   pub unsolved : (x : State) (first count : ℕ) (batch : Batch) (hasher hasher' : Sha256) (new : Pool R A) → 1 ≤ count → FetchesBatch rack area new x first count batch

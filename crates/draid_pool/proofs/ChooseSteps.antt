@@ -45,10 +45,12 @@ use Rattle.draid_pool.specs.Carries.{CarriesOut}
 use Rattle.draid_pool.specs.Metaslabs.{IsMetaslab}
 use Rattle.draid_pool.specs.Pools.{Represents, Stands}
 use Rattle.draid_pool.specs.Shards.{AreShut, HasRoom, HasRoomAt, IsNoSpace, RoomIs, ShutIs}
+use Rattle.draid_pool.specs.Whole.{IsWhole}
 use Rattle.draid_pool.specs.declared.pool.Pool.{Pool}
 use Rattle.draid_pool.proofs.FreeSteps.{metaslab_there}
 use Rattle.draid_pool.proofs.Lists.{set_back}
 use Rattle.draid_pool.proofs.StoreSteps.{worn_for}
+use Rattle.draid_pool.proofs.Wholes.{whole_valid}
 use Rattle.draid_pool.proofs.WriteSteps.{follows_both}
 
 -- ---- looks
@@ -248,6 +250,41 @@ module _ {R A : Type 0} (rack : racks.Ghosts R) (area : areas.Ghosts A) where
   )
 
   -- ---- the pool
+  -- each shard has its room
+  pub as_long : (need : ℕ) (shards : List (Shard R A)) (rooms : List Room) → AllZip (RoomIs need) shards rooms → length rooms ≡ length shards
+  as_long need [] [] zip = refl
+  as_long need [] (room ∷ rooms) zip = absurd zip
+  as_long need (z ∷ zs) [] zip = absurd zip
+  as_long need (z ∷ zs) (r ∷ rs) zip = ap suc (as_long need zs rs zip.1)
+
+  module _ (pool : Pool R A) (w : IsWhole rack area pool) (need : ℕ) (rooms : List Room) (zip : AllZip (RoomIs need) pool.shards.items rooms) where
+    -- the room of the metaslab that was named
+    pub has_room : (m : ℕ) → 1 ≤ need → Picks rooms (Some m) → HasRoomAt pool.shards.items m need
+    has_room m some picks =
+        let fit = picks.some m refl in
+        let at = room_at m pool.shards.items rooms fit.0 zip fit.1 in
+        record { shard = at.0; there = at.1; room = λ w in_. room_in at.0 w fit.0 (tall at.0 at.1) (at.2.run w in_) at.2.wanted fit.2 }
+      where
+        tall : (shard : Shard R A) → slice_get pool.shards.items m ≡ Some shard → 0 < (layout_by shard).height
+        tall shard there = (has_layout (part_of shard) (whole_valid rack area pool m shard w there).part).tall
+
+        room_at : (m : ℕ) (shards : List (Shard R A)) (rooms : List Room) (room : Room) → AllZip (RoomIs need) shards rooms → slice_get rooms m ≡ Some room
+            → (shard : Shard R A) × (slice_get shards m ≡ Some shard) × RoomIs need shard room
+        room_at m [] [] room z there = absurd (cc)
+        room_at m [] (r ∷ rs) room z there = absurd z
+        room_at m (q ∷ qs) [] room z there = absurd z
+        room_at zero (q ∷ qs) (r ∷ rs) room z there = (q, refl, subst (λ (v : Room). RoomIs need q v) (let same : r ≡ room = cc in same) z.0)
+        room_at (suc m) (q ∷ qs) (r ∷ rs) room z there = room_at m qs rs room z.1 there
+
+        room_in : (shard : Shard R A) (w : machine.State) (room : Room) → 0 < (layout_by shard).height → calls.IsRoom shard w room.run → room.need ≡ need → room.need ≤ room.run → HasRoom need shard w
+        room_in shard w room tall run wanted large = elim run [
+          | inl z ↦ absurd (let none = z.1 in omega (arith, none, wanted, large, some))
+          | inr z ↦ elim (z.1.fits) [
+            | inl none ↦ absurd (omega (arith, none, wanted, large, some))
+            | inr fits ↦ record { takes = z.0; first = fits.0; fits = fits_less (layout_by shard) w.core fits.0 need room.run tall some (omega (arith, wanted, large)) fits.1 }
+          ]
+        ]
+
   module _ (pool : Pool R A) (x : State) (is : Represents rack area pool x) where
     s : Stands rack area pool (λ o. get nat_eq pool.objects o) x
     s = is.stands
@@ -258,25 +295,6 @@ module _ {R A : Type 0} (rack : racks.Ghosts R) (area : areas.Ghosts A) where
       where
         none_plus : (k : ℕ) → k ≡ 0 + k
         none_plus k = omega arith
-
-    pub all_valid : All (Valid rack) pool.shards.items
-    all_valid k d below =
-        let there = slice_get-get_or pool.shards.items k d below in
-        let y = metaslab_there rack area pool (λ o. get nat_eq pool.objects o) x k (slice_index_or pool.shards.items k d) is.stands there in
-        (is.stands.each k (slice_index_or pool.shards.items k d) y.0 there y.1).valid
-
-    pub few_shards : length pool.shards.items ≤ 64
-    few_shards =
-        let long = is.stands.shards in
-        let many = is.stands.many in
-        let most = is.stands.layout.geometry_is.props.most_metaslabs in
-        omega (arith, long, many, most)
-
-    pub as_long : (need : ℕ) (shards : List (Shard R A)) (rooms : List Room) → AllZip (RoomIs need) shards rooms → length rooms ≡ length shards
-    as_long need [] [] zip = refl
-    as_long need [] (room ∷ rooms) zip = absurd zip
-    as_long need (z ∷ zs) [] zip = absurd zip
-    as_long need (z ∷ zs) (r ∷ rs) zip = ap suc (as_long need zs rs zip.1)
 
     looked_all : Looks x.geometry.props.metaslabs (looks_at 0 x.metaslabs) (seen_at 0 x.metaslabs)
     looked_all = subst (λ n. LooksFrom 0 n (looks_at 0 x.metaslabs) (seen_at 0 x.metaslabs)) is.stands.many (looked 0 x.metaslabs)
@@ -353,35 +371,6 @@ module _ {R A : Type 0} (rack : racks.Ghosts R) (area : areas.Ghosts A) where
         done = (record { m = m; chooses = chooses chosen m named; last = (let own = is.stands.seq in omega (arith, last, own)) }, refl);
         represents = is;
       }
-
-      -- the room of the metaslab that was named
-      pub has_room : (m : ℕ) → 1 ≤ need → Picks rooms (Some m) → HasRoomAt pool.shards.items m need
-      has_room m some picks =
-          let fit = picks.some m refl in
-          let at = room_at m pool.shards.items rooms fit.0 zip fit.1 in
-          record { shard = at.0; there = at.1; room = λ w in_. room_in at.0 w fit.0 (tall at.0 at.1) (at.2.run w in_) at.2.wanted fit.2 }
-        where
-          tall : (shard : Shard R A) → slice_get pool.shards.items m ≡ Some shard → 0 < (layout_by shard).height
-          tall shard there =
-              let y = metaslab_there rack area pool (λ o. get nat_eq pool.objects o) x m shard is.stands there in
-              (has_layout (part_of shard) (is.stands.each m shard y.0 there y.1).valid.part).tall
-
-          room_at : (m : ℕ) (shards : List (Shard R A)) (rooms : List Room) (room : Room) → AllZip (RoomIs need) shards rooms → slice_get rooms m ≡ Some room
-              → (shard : Shard R A) × (slice_get shards m ≡ Some shard) × RoomIs need shard room
-          room_at m [] [] room z there = absurd (cc)
-          room_at m [] (r ∷ rs) room z there = absurd z
-          room_at m (q ∷ qs) [] room z there = absurd z
-          room_at zero (q ∷ qs) (r ∷ rs) room z there = (q, refl, subst (λ (v : Room). RoomIs need q v) (let same : r ≡ room = cc in same) z.0)
-          room_at (suc m) (q ∷ qs) (r ∷ rs) room z there = room_at m qs rs room z.1 there
-
-          room_in : (shard : Shard R A) (w : machine.State) (room : Room) → 0 < (layout_by shard).height → calls.IsRoom shard w room.run → room.need ≡ need → room.need ≤ room.run → HasRoom need shard w
-          room_in shard w room tall run wanted large = elim run [
-            | inl z ↦ absurd (let none = z.1 in omega (arith, none, wanted, large, some))
-            | inr z ↦ elim (z.1.fits) [
-              | inl none ↦ absurd (omega (arith, none, wanted, large, some))
-              | inr fits ↦ record { takes = z.0; first = fits.0; fits = fits_less (layout_by shard) w.core fits.0 need room.run tall some (omega (arith, wanted, large)) fits.1 }
-            ]
-          ]
 
       -- what a write in the named metaslab did is what the write did
       pub written_as : (chosen : List Room → Option ℕ → Type 0) (object m : ℕ) (result : Result Unit WriteFault) (new : Pool R A) → chosen rooms (Some m) → pool.seq < LAST_NUMBER

@@ -6,11 +6,9 @@ use Rattle.draid_rack.specs.declared.Rack as racks
 use Rattle.draid_area.specs.declared.Area as areas
 use Rattle.draid_spec.specs.declared.layout.Geometry.{Geometry}
 use Rattle.draid_spec.specs.Geometry.{metaslab_sectors}
-use Rattle.draid_machine.specs.State as machine
 use Rattle.draid_machine.specs.declared.event.Event.TheVariants as event
 use Rattle.draid_segments.specs.Segments.{Pieces}
 use Rattle.draid_shard.specs.Part.{Part}
-use Rattle.draid_shard.specs.States.{IsIn}
 use Rattle.draid_shard.specs.declared.shard.Shard.{Shard}
 use Rattle.draid_session.specs.Damage.{metaslab_at, sector_within}
 use Rattle.draid_session.specs.Holds.{Did, Hold, Looked, On, Reserved, view_of}
@@ -21,11 +19,13 @@ use Rattle.draid_pool.specs.Carries.{CarriesOut}
 use Rattle.draid_pool.specs.Metaslabs.{IsMetaslab}
 use Rattle.draid_pool.specs.Pools.{Represents, part_in}
 use Rattle.draid_pool.specs.Shards.{Goes, SameBlocks, SectorDoes}
+use Rattle.draid_pool.specs.Whole.{IsWhole}
 use Rattle.draid_pool.specs.declared.fault.DamageFault.{DamageFault}
 use Rattle.draid_pool.specs.declared.fault.DamageFault.TheVariants as fault
 use Rattle.draid_pool.specs.declared.pool.Pool.{Pool}
 use Rattle.draid_pool.proofs.Lifted.{HasMetaslab, SetsShard, carries, carries_none, metaslab_of, shard_at}
 use Rattle.draid_pool.proofs.Lists.{present}
+use Rattle.draid_pool.proofs.Wholes.{whole_geometry}
 
 -- what was done to the sector of a metaslab was done to that of the pool
 damage_does : (x : State) (leaf sector k within : ℕ) (y : Metaslab) → k ≡ metaslab_at x.geometry sector → within ≡ sector_within x.geometry sector → k < x.geometry.props.metaslabs
@@ -69,25 +69,17 @@ damage_does x leaf sector k within y at in_it below (Err fault.NoMemory) holds s
 
 module _ {R A : Type 0} (rack : racks.Ghosts R) (area : areas.Ghosts A) where
   -- the shard of a metaslab below their number
-  pub damage_shard : (pool : Pool R A) (x : State) (k metaslabs : ℕ) (shard : Shard R A) → Represents rack area pool x → metaslabs ≡ pool.geometry.props.metaslabs → k < metaslabs
+  pub damage_shard : (pool : Pool R A) (k metaslabs : ℕ) (shard : Shard R A) → IsWhole rack area pool → metaslabs ≡ pool.geometry.props.metaslabs → k < metaslabs
       → shard ≡ slice_index_or pool.shards.items k shard → slice_get pool.shards.items k ≡ Some shard
-  damage_shard pool x k metaslabs shard r are below value =
-      let many = r.stands.many in
-      let shards = r.stands.shards in
-      let same = ap (λ (g : Geometry). g.props.metaslabs) r.stands.geometry in
-      let z = present pool.shards.items k (omega (arith, many, shards, same, are, below)) in
+  damage_shard pool k metaslabs shard w are below value =
+      let many = w.many in
+      let z = present pool.shards.items k (omega (arith, many, are, below)) in
       shard_at pool.shards.items k z.0 shard z.1 value
 
-  pub shard_state : (pool : Pool R A) (x : State) (k : ℕ) (shard : Shard R A) → Represents rack area pool x → slice_get pool.shards.items k ≡ Some shard → (w : machine.State) × IsIn shard w
-  shard_state pool x k shard r there =
-      let z : HasMetaslab rack area pool x r.stands k shard = metaslab_of rack area pool x r.stands k shard there in
-      (z.y.world, z.is.stands.is_in)
-
-  pub sector_below : (pool : Pool R A) (x : State) (k sector sectors : ℕ) (shard : Shard R A) → Represents rack area pool x → slice_get pool.shards.items k ≡ Some shard
+  pub sector_below : (pool : Pool R A) (k sector sectors : ℕ) (shard : Shard R A) → IsWhole rack area pool → slice_get pool.shards.items k ≡ Some shard
       → sectors ≡ metaslab_sectors pool.geometry → 0 < sectors → sector % sectors < metaslab_sectors shard.geometry
-  sector_below pool x k sector sectors shard r there is some =
-      let z : HasMetaslab rack area pool x r.stands k shard = metaslab_of rack area pool x r.stands k shard there in
-      let same = is ∙ ap metaslab_sectors (sym r.stands.geometry ∙ sym (ap (λ (p : Part). p.geometry) z.is.part_is)) in
+  sector_below pool k sector sectors shard w there is some =
+      let same = is ∙ ap metaslab_sectors (sym (whole_geometry rack area pool k shard w there)) in
       subst (λ n. sector % sectors < n) same (mod-lt sector some)
 
   pub damage_none : (pool : Pool R A) (x : State) (leaf sector sectors metaslabs : ℕ) → Represents rack area pool x → sectors ≡ metaslab_sectors pool.geometry → metaslabs ≡ pool.geometry.props.metaslabs

@@ -34,6 +34,7 @@ use Rattle.draid_session.specs.Worn.{ReservesWorn}
 use Rattle.draid_pool.specs.Metaslabs.{IsMetaslab}
 use Rattle.draid_pool.specs.Shards.{DamagesIn, Goes, SameBlocks}
 use Rattle.draid_pool.proofs.Dids.{Done, Raises, did, none_here}
+use Rattle.draid_pool.proofs.Imaged.{keeps_same, step_keeps}
 use Rattle.draid_pool.proofs.OneHold.{looked, passes_is, reserved_here, reserves, with_reserved, worn_is}
 
 -- ---- leaves
@@ -103,7 +104,7 @@ module _ {R A : Type 0} (rack : racks.Ghosts R) (area : areas.Ghosts A) where
   damages old mid new leaf sector failed r reserved never valid does acts raises used limit part pieces x is =
       let y : Metaslab = with_reserved x (reserved_of mid.history) in
       let here : IsMetaslab rack area part pieces mid y = reserved_here rack area part pieces old mid x is r.valid r.none r.kit r.limit in
-      let z : Done rack area part pieces new (Damage leaf sector failed) y = did rack area part pieces mid new (Damage leaf sector failed) y here valid does (acts pieces) (λ v step. refl) limit used raises in
+      let z : Done rack area part pieces new (Damage leaf sector failed) y = did rack area part pieces mid new (Damage leaf sector failed) y here valid does (acts pieces) (λ v step. refl) limit used raises tt in
       record {
         holds = On (view_of part.number x) (Reserved 1) ∷ (On (view_of part.number y) (Did (Damage leaf sector failed) z.reached.world) ∷ []);
         reached = z.reached;
@@ -114,12 +115,32 @@ module _ {R A : Type 0} (rack : racks.Ghosts R) (area : areas.Ghosts A) where
           reserves (layout_in part) 1 (reserved_of mid.history) x (reserved ∙ ap (max 1) (sym is.reserved)),
           (Did (Damage leaf sector failed) z.reached.world, z.reached, refl, z.acts, refl),
         );
+        images = step_keeps (layout_in part) y.world z.reached.world (Damage leaf sector failed) z.step tt;
         done = (
           record { mid = y; after = z.reached.world; are = refl; not_worn = not_worn part pieces old x is never },
           record { held = ap (λ (w : machine.State). w.core.held) z.step.made; committed = ap (λ (w : machine.State). w.committed) z.step.made },
         );
         is = z.is;
       }
+
+  -- there is no such leaf
+  pub damages_nowhere : (shard : Shard R A) (leaf : ℕ) → (IsLeaf shard.slots leaf → ⊥) → (part : Part) (pieces : Pieces) (x : Metaslab) → IsMetaslab rack area part pieces shard x
+      → Goes rack area part pieces x shard (λ holds y. ((holds ≡ On (view_of part.number x) Looked ∷ []) × (HasLeaf (view_of part.number x) leaf → ⊥)) × SameBlocks x y)
+  damages_nowhere shard leaf none part pieces x is =
+      looked rack area part pieces shard x (λ holds y. ((holds ≡ On (view_of part.number x) Looked ∷ []) × (HasLeaf (view_of part.number x) leaf → ⊥)) × SameBlocks x y) is
+      ((refl, λ has. none (leaf_in shard.slots x.world.core leaf is.stands.is_in.slots has)), record { held = refl; committed = refl })
+
+  -- memory was wanting
+  pub damages_starved : (old new : Shard R A) → Reserves old new → reserved_of new.history ≡ reserved_of old.history → (part : Part) (pieces : Pieces) (x : Metaslab) → IsMetaslab rack area part pieces old x
+      → Goes rack area part pieces x new (λ holds y. (holds ≡ []) × SameBlocks x y)
+  damages_starved old new r reserved part pieces x is = record {
+    holds = [];
+    reached = x;
+    follows = refl;
+    images = keeps_same x.world;
+    done = (refl, record { held = refl; committed = refl });
+    is = none_here rack area part pieces old new x is r.valid r.none r.kit.rack r.kit.areas r.limit reserved;
+  }
 
   -- no event could be reserved
   pub damages_worn : (old new : Shard R A) (leaf : ℕ) → Reserves old new → reserved_of new.history ≡ reserved_of old.history → IsLeaf old.slots leaf

@@ -21,6 +21,8 @@ use Rattle.draid_session.specs.Follows.{Acts, CountsRise, HarmBoth, HarmBy, fail
 use Rattle.draid_session.specs.Holds.{Did}
 use Rattle.draid_session.specs.State.{Counts, Metaslab}
 use Rattle.draid_pool.specs.Metaslabs.{IsMetaslab, counts_of, harm_of}
+use Rattle.draid_pool.specs.Records.{HasRecords}
+use Rattle.draid_pool.proofs.Imaged.{LeavesImages, records_kept, step_keeps}
 
 pub run_push : (l : machine.Layout) (w mid new : machine.State) (es : List Event) (e : Event) → Run l w es mid → Step l mid e new → Run l w (es ++ e ∷ []) new
 run_push l w mid new [] e run step = (new, subst (λ x. Step l x e new) run step, refl)
@@ -41,6 +43,13 @@ harm_by l w v e step pieces (Some x) (Some y) h = record {
 }
 
 -- the counts of devices that a call may have raised
+pub record Counted {R A : Type 0} (rack : racks.Ghosts R) (area : areas.Ghosts A) (failed : List ℕ) (old new : Shard R A) : Type 0 where
+  pub even : area.faults old.even ≤ area.faults new.even
+  pub odd : area.faults old.odd ≤ area.faults new.odd
+  pub later : (who : Option ℕ) → rack.faults old.rack who ≤ rack.faults new.rack who
+  pub cause : (leaf : ℕ) → min (rack.faults old.rack (Some leaf) + count_by (λ l. l == leaf) failed) (2 ^ 64 - 1) ≤ rack.faults new.rack (Some leaf)
+
+-- and those of a call that leaves the areas
 pub record Raises {R A : Type 0} (rack : racks.Ghosts R) (area : areas.Ghosts A) (failed : List ℕ) (old new : Shard R A) : Type 0 where
   pub areas_are : SameAreas old new
   pub later : (who : Option ℕ) → rack.faults old.rack who ≤ rack.faults new.rack who
@@ -54,20 +63,30 @@ pub record Done {R A : Type 0} (rack : racks.Ghosts R) (area : areas.Ghosts A) (
   pub is : IsMetaslab rack area part pieces new reached
 
 module _ {R A : Type 0} (rack : racks.Ghosts R) (area : areas.Ghosts A) where
-  rises : (failed : List ℕ) (old new : Shard R A) (w v : machine.State) (counts : Counts) → counts ≡ counts_of rack area old → Raises rack area failed old new
+  rises : (failed : List ℕ) (old new : Shard R A) (w v : machine.State) (counts : Counts) → counts ≡ counts_of rack area old → Counted rack area failed old new
       → CountsRise w v failed counts (counts_of rack area new)
-  rises failed old new w v counts same r = rw same (record {
-    rack = r.later None;
+  rises failed old new w v counts same r = rw same (record { rack = r.later None; even = r.even; odd = r.odd; leaves = λ leaf stays. r.cause leaf })
+
+  pub counted : (failed : List ℕ) (old new : Shard R A) → Raises rack area failed old new → Counted rack area failed old new
+  counted failed old new r = record {
     even = (let e = ap area.faults r.areas_are.even in omega (arith, e));
     odd = (let e = ap area.faults r.areas_are.odd in omega (arith, e));
-    leaves = λ leaf stays. r.cause leaf;
-  })
+    later = r.later;
+    cause = r.cause;
+  }
+
+  -- the areas have the records that they had
+  pub records_same : (part : Part) (w : machine.State) (old new : Shard R A) → SameAreas old new → HasRecords part w (area.told old.even) (area.told old.odd)
+      → HasRecords part w (area.told new.even) (area.told new.odd)
+  records_same part w old new same has =
+      subst (λ a. HasRecords part w (area.told a) (area.told new.odd)) (sym same.even) (subst (λ a. HasRecords part w (area.told old.even) (area.told a)) (sym same.odd) has)
 
   did_here : (pieces : Pieces) (old new : Shard R A) (e : Event) (x : Metaslab) → IsMetaslab rack area (part_of old) pieces old x → Valid rack new → Does old new e → ActsOn rack old new e pieces
       → ((v : machine.State) (step : Step (layout_by old) x.world e v) → segments.pieces_after (layout_by old) x.world e v step pieces pieces ≡ pieces)
-      → limit_in new.history ≡ limit_in old.history → reserved_of new.history + uses x.world e ≡ reserved_of old.history → Raises rack area (failed_in e) old new
+      → limit_in new.history ≡ limit_in old.history → reserved_of new.history + uses x.world e ≡ reserved_of old.history → Counted rack area (failed_in e) old new
+      → ((v : machine.State) → Step (layout_by old) x.world e v → HasRecords (part_of old) v (area.told new.even) (area.told new.odd))
       → Done rack area (part_of old) pieces new e x
-  did_here pieces old new e x is valid does acts same limit reserved raises =
+  did_here pieces old new e x is valid does acts same limit reserved counts records =
       let z = event_stands rack old new e x.world pieces pieces is.valid.part does acts is.stands (λ v step key none. refl) in
       let l = layout_by old in
       let reached : Metaslab = record {
@@ -87,7 +106,7 @@ module _ {R A : Type 0} (rack : racks.Ghosts R) (area : areas.Ghosts A) where
           legal = z.1;
           world = refl;
           reserved = reserved ∙ sym is.reserved;
-          counts = rises (failed_in e) old new x.world z.0 x.counts is.counts raises;
+          counts = rises (failed_in e) old new x.world z.0 x.counts is.counts counts;
           harm = subst (λ h. HarmBoth h (harm_of (rack.told new.rack)) (HarmBy l x.world e z.0)) (sym is.harm)
               (harm_by l x.world z.0 e z.1 pieces (rack.told old.rack) (rack.told new.rack) (acts x.world z.0 z.1 is.stands.reached is.stands.is_in));
         };
@@ -101,16 +120,29 @@ module _ {R A : Type 0} (rack : racks.Ghosts R) (area : areas.Ghosts A) where
           reserved = refl;
           counts = refl;
           harm = refl;
+          records = records z.0 z.1;
         };
       }
 
+  -- an event, where its images' records stand then
+  pub did_with : (part : Part) (pieces : Pieces) (old new : Shard R A) (e : Event) (x : Metaslab) → IsMetaslab rack area part pieces old x → Valid rack new → Does old new e → ActsOn rack old new e pieces
+      → ((v : machine.State) (step : Step (layout_by old) x.world e v) → segments.pieces_after (layout_by old) x.world e v step pieces pieces ≡ pieces)
+      → limit_in new.history ≡ limit_in old.history → reserved_of new.history + uses x.world e ≡ reserved_of old.history → Counted rack area (failed_in e) old new
+      → ((v : machine.State) → Step (layout_in part) x.world e v → HasRecords part v (area.told new.even) (area.told new.odd))
+      → Done rack area part pieces new e x
+  did_with part pieces old new e x is valid does acts same limit reserved counts =
+      subst (λ p. IsMetaslab rack area p pieces old x → ((v : machine.State) → Step (layout_in p) x.world e v → HasRecords p v (area.told new.even) (area.told new.odd)) → Done rack area p pieces new e x) is.part_is
+      (λ here records. did_here pieces old new e x here valid does acts same limit reserved counts records) is
+
+  -- one that leaves the images
   pub did : (part : Part) (pieces : Pieces) (old new : Shard R A) (e : Event) (x : Metaslab) → IsMetaslab rack area part pieces old x → Valid rack new → Does old new e → ActsOn rack old new e pieces
       → ((v : machine.State) (step : Step (layout_by old) x.world e v) → segments.pieces_after (layout_by old) x.world e v step pieces pieces ≡ pieces)
       → limit_in new.history ≡ limit_in old.history → reserved_of new.history + uses x.world e ≡ reserved_of old.history → Raises rack area (failed_in e) old new
-      → Done rack area part pieces new e x
-  did part pieces old new e x is valid does acts same limit reserved raises =
-      subst (λ p. IsMetaslab rack area p pieces old x → Done rack area p pieces new e x) is.part_is
-      (λ here. did_here pieces old new e x here valid does acts same limit reserved raises) is
+      → LeavesImages e → Done rack area part pieces new e x
+  did part pieces old new e x is valid does acts same limit reserved raises leaves =
+      did_with part pieces old new e x is valid does acts same limit reserved (counted (failed_in e) old new raises)
+      (λ v step. records_kept part x.world v (area.told new.even) (area.told new.odd) (step_keeps (layout_in part) x.world v e step leaves)
+      (records_same part x.world old new raises.areas_are is.records))
 
   -- a call that changed nothing of what is told
   pub none_here : (part : Part) (pieces : Pieces) (old new : Shard R A) (x : Metaslab) → IsMetaslab rack area part pieces old x → Valid rack new → DoesNone old new
@@ -126,6 +158,7 @@ module _ {R A : Type 0} (rack : racks.Ghosts R) (area : areas.Ghosts A) where
     reserved = is.reserved ∙ sym reserved;
     counts = is.counts ∙ sym (λ i. record { rack = rack.faults (rack_is i); even = area.faults (areas_are.even i); odd = area.faults (areas_are.odd i) });
     harm = is.harm ∙ ap (λ r. harm_of (rack.told r)) (sym rack_is);
+    records = records_same part x.world old new areas_are is.records;
   }
 
 -- ---- calls of which the rack knows nothing
@@ -146,10 +179,10 @@ pub did_quiet : {R A : Type 0} (rack : racks.Ghosts R) (area : areas.Ghosts A) (
     → IsMetaslab rack area part pieces old x → Valid rack new → Does old new e → SameKit old new → SameReserve old new
     → ((w after : machine.State) (step : Step (layout_by old) w e after) → (a b : Told) → b ≡ a → segments.Acts (layout_by old) w e after step pieces a b)
     → ((v : machine.State) (step : Step (layout_by old) x.world e v) → segments.pieces_after (layout_by old) x.world e v step pieces pieces ≡ pieces)
-    → uses x.world e ≡ 0 → failed_in e ≡ [] → Done rack area part pieces new e x
-did_quiet rack area part pieces old new e x is valid does kit reserve quiet same used failed =
+    → uses x.world e ≡ 0 → failed_in e ≡ [] → LeavesImages e → Done rack area part pieces new e x
+did_quiet rack area part pieces old new e x is valid does kit reserve quiet same used failed leaves =
     did rack area part pieces old new e x is valid does acts same reserve.limit (let r = reserve.reserved in omega (arith, r, used))
-    (subst (λ f. Raises rack area f old new) (sym failed) (raises_none rack area old new kit))
+    (subst (λ f. Raises rack area f old new) (sym failed) (raises_none rack area old new kit)) leaves
   where
     on : (w after : machine.State) (step : Step (layout_by old) w e after) (o p : Option Told) → p ≡ o → OnBothTold o p (segments.Acts (layout_by old) w e after step pieces)
     on w after step None p is = is

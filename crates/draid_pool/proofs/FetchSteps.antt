@@ -44,6 +44,7 @@ use Rattle.draid_pool.specs.declared.pool.Pool.{Pool}
 use Rattle.draid_pool.proofs.Absent.{absent_at, absent_rise, at_absent, tried_few}
 use Rattle.draid_pool.proofs.Dids.{none_here}
 use Rattle.draid_pool.proofs.Fetched.{FetchesIn, fetches}
+use Rattle.draid_pool.proofs.Imaged.{keeps_same}
 use Rattle.draid_pool.proofs.Lifted.{HasMetaslab, SetsShard, carries, kept_represents, metaslab_of}
 use Rattle.draid_pool.proofs.Lists.{set_back, some_of}
 use Rattle.draid_pool.proofs.OneHold.{worn_is}
@@ -194,13 +195,6 @@ module _ {R A : Type 0} (rack : racks.Ghosts R) (area : areas.Ghosts A) where
     pub is : IsMetaslab rack area (part_in x pointer.metaslab) (r.stands.pieces pointer.metaslab) shard y
     pub content : HasPieces x.geometry w (r.stands.pieces pointer.metaslab)
 
-  -- where the pool has a pointer of an object
-  pub shard_of : (pool : Pool R A) (x : State) (o : ℕ) (pointer : Pointer) → Represents rack area pool x → get nat_eq pool.objects o ≡ Some pointer
-      → (shard : Shard R A) × (slice_get pool.shards.items pointer.metaslab ≡ Some shard)
-  shard_of pool x o pointer r there =
-      let z = pointed pool.shards.items (get nat_eq pool.objects o) (write_of x.store.changes o) pointer there (r.stands.objects o) in
-      (z.of.shard, z.of.there)
-
   pub found : (pool : Pool R A) (x : State) (r : Represents rack area pool x) (o : ℕ) (pointer : Pointer) (shard : Shard R A) → get nat_eq pool.objects o ≡ Some pointer
       → slice_get pool.shards.items pointer.metaslab ≡ Some shard → Found pool x r o pointer shard
   found pool x r o pointer shard there at =
@@ -243,7 +237,7 @@ module _ {R A : Type 0} (rack : racks.Ghosts R) (area : areas.Ghosts A) where
       subst (Represents rack area new) (ap (λ ys. record x { metaslabs = ys }) (set_back x.metaslabs pointer.metaslab z.y z.at))
       (kept_represents rack area pointer.metaslab pool new shard shard' x z.y z.y r set z.at
       (none_here rack area (part_in x pointer.metaslab) (r.stands.pieces pointer.metaslab) shard shard' z.y z.is valid none kit.rack kit.areas reserve.limit reserve.reserved)
-      (record { held = refl; committed = refl }))
+      (record { held = refl; committed = refl }) (keeps_same z.y.world))
 
   pub fetch_worn : (pool new : Pool R A) (shard shard' : Shard R A) (x : State) (o : ℕ) (pointer : Pointer) → Represents rack area pool x → get nat_eq pool.objects o ≡ Some pointer
       → SetsShard rack area pointer.metaslab pool new shard shard' → Valid rack shard' → DoesNone shard shard' → SameKit shard shard' → SameReserve shard shard' → IsWornFor shard 1

@@ -27,6 +27,7 @@ use Rattle.draid_session.specs.Worn.{IsWorn}
 use Rattle.draid_pool.specs.Metaslabs.{IsMetaslab, harm_of}
 use Rattle.draid_pool.specs.Shards.{Goes, SameBlocks}
 use Rattle.draid_pool.proofs.Dids.{Done, did, told_same}
+use Rattle.draid_pool.proofs.Imaged.{step_keeps}
 use Rattle.draid_pool.proofs.OneHold.{passes_is}
 
 -- The block of a pointer was fetched in one hold. These columns are absent; and for bytes of which its pieces are, it is readable, or more columns are bad than
@@ -57,12 +58,13 @@ module _ {R A : Type 0} (rack : racks.Ghosts R) (area : areas.Ghosts A) where
       let acts : ActsOn rack old new (Fetch (key_of pointer) f.failed) pieces = λ w after step reached is_in. told_same (rack.told old.rack) (rack.told new.rack) told in
       let z : Done rack area (part_of old) pieces new (Fetch (key_of pointer) f.failed) x
       = did rack area (part_of old) pieces old new (Fetch (key_of pointer) f.failed) x is valid f.does acts (λ v step. refl) reserve.limit (let r = reserve.reserved in omega (arith, r))
-      (record { areas_are = same; later = f.counts.later; cause = f.counts.cause }) in
+      (record { areas_are = same; later = f.counts.later; cause = f.counts.cause }) tt in
       let stands = is.stands in
       record {
         holds = On (view_of old.number x) (Did (Fetch (key_of pointer) f.failed) z.reached.world) ∷ [];
         reached = z.reached;
         follows = (Did (Fetch (key_of pointer) f.failed) z.reached.world, z.reached, refl, z.acts, refl);
+        images = step_keeps (layout_by old) x.world z.reached.world (Fetch (key_of pointer) f.failed) z.step tt;
         done = record {
           failed = f.failed;
           h = z.step.h;

@@ -35,6 +35,7 @@ use Rattle.draid_pool.specs.Objects.{HoldsObjects, IsPointerOf, PointsTo, blocks
 use Rattle.draid_pool.specs.Pools.{Represents, Stands, part_in}
 use Rattle.draid_pool.specs.Shards.{FreesIn, Goes}
 use Rattle.draid_pool.specs.declared.fault.FreeFault.{FreeFault}
+use Rattle.draid_pool.specs.Ubers.{IsUber}
 use Rattle.draid_pool.specs.declared.pool.Pool.{Pool}
 use Rattle.draid_pool.proofs.Entering.{freed_holds, freed_only, only_live}
 use Rattle.draid_pool.proofs.Lists.{present}
@@ -80,11 +81,11 @@ pub other_key : (k j : Key) → (k.object == j.object) ≡ false → key_eq k j 
 other_key k j other = ap (λ b. b && (k.seq == j.seq)) other
 
 -- the open group is one of the next two behind the committed one
-open_high : (o : ℕ) (closing : Option ℕ) (c : ℕ) (sealed : Bool) → AreGroups o closing c sealed → c + 1 ≤ o
+pub open_high : (o : ℕ) (closing : Option ℕ) (c : ℕ) (sealed : Bool) → AreGroups o closing c sealed → c + 1 ≤ o
 open_high o None c sealed groups = (let is = groups.0 in omega (arith, is))
 open_high o (Some t) c sealed groups = (let is = groups.0 in let closing = groups.1 in omega (arith, is, closing))
 
-open_low : (o : ℕ) (closing : Option ℕ) (c : ℕ) (sealed : Bool) → AreGroups o closing c sealed → o ≤ c + 2
+pub open_low : (o : ℕ) (closing : Option ℕ) (c : ℕ) (sealed : Bool) → AreGroups o closing c sealed → o ≤ c + 2
 open_low o None c sealed groups = (let is = groups.0 in omega (arith, is))
 open_low o (Some t) c sealed groups = (let is = groups.0 in let closing = groups.1 in omega (arith, is, closing))
 
@@ -96,22 +97,6 @@ module _ {R A : Type 0} (rack : racks.Ghosts R) (area : areas.Ghosts A) where
       let below = slice_get_within pool.shards.items m shard there in
       let same = s.shards in
       present x.metaslabs m (omega (arith, below, same))
-
-  -- the floor is one that a shard takes
-  pub floor_fits : (pool : Pool R A) (table : ℕ → Option Pointer) (x : State) (m : ℕ) (shard : Shard R A) → Stands rack area pool table x → slice_get pool.shards.items m ≡ Some shard
-      → pool.floor ≤ shard.open_group + 1
-  floor_fits pool table x m shard s there =
-      let z = metaslab_there pool table x m shard s there in
-      let is = s.each m shard z.0 there z.1 in
-      let committed = s.groups.committed m z.0 z.1 in
-      let same = is.stands.is_in.committed in
-      let next = s.groups.next in
-      let floor = s.floor in
-      let high = open_high shard.open_group shard.closing shard.committed shard.sealed is.valid.groups in
-      omega (arith, high, committed, same, next, floor)
-
-  pub floor_last : (pool : Pool R A) (table : ℕ → Option Pointer) (x : State) → Stands rack area pool table x → pool.floor ≤ LAST_NUMBER
-  floor_last pool table x s = (let last = s.groups.last in let floor = s.floor in omega (arith, last, floor))
 
   -- a group that a shard may use is one of the next two
   pub group_low : (pool : Pool R A) (table : ℕ → Option Pointer) (x : State) (m : ℕ) (shard : Shard R A) (y : Metaslab) (group : ℕ) → Stands rack area pool table x
@@ -135,10 +120,10 @@ module _ {R A : Type 0} (rack : racks.Ghosts R) (area : areas.Ghosts A) where
   pub free_step : (object : ℕ) (p : Pointer) (pool new : Pool R A) (shard shard' : Shard R A) (group : ℕ) (x : State) → Represents rack area pool x → get nat_eq pool.objects object ≡ Some p
       → slice_get pool.shards.items p.metaslab ≡ Some shard
       → ((part : Part) (pieces : Pieces) (y : Metaslab) → IsMetaslab rack area part pieces shard y → Goes rack area part pieces y shard' (FreesIn part.number p pool.floor group y))
-      → new.shards.items ≡ slice_set pool.shards.items p.metaslab shard' → new.geometry ≡ pool.geometry → new.seq ≡ pool.seq → new.floor ≡ group
+      → new.shards.items ≡ slice_set pool.shards.items p.metaslab shard' → new.geometry ≡ pool.geometry → new.uber ≡ pool.uber → new.seq ≡ pool.seq → new.floor ≡ group
       → ((q : ℕ) → get nat_eq new.objects q ≡ cond (nat_eq object q) None (get nat_eq pool.objects q))
       → CarriesOut rack area new x (FreeDoes x object (Ok tt))
-  free_step object p pool new shard shard' group x is there at frees sets layout seq floor objects = by
+  free_step object p pool new shard shard' group x is there at frees sets layout uber seq floor objects = by
     where
       s : Stands rack area pool (λ o. get nat_eq pool.objects o) x
       s = is.stands
@@ -180,7 +165,7 @@ module _ {R A : Type 0} (rack : racks.Ghosts R) (area : areas.Ghosts A) where
       store = record { changes = Freed p.object group ∷ x.store.changes; seq = x.store.seq; floor = group }
 
       turned : Turned rack area m pool new shard shard' x y g.reached (s.pieces m)
-      turned = record { there = at; sets = sets; geometry = layout; at = y_there.1; is = g.is; committed = g.done.committed }
+      turned = record { there = at; sets = sets; geometry = layout; at = y_there.1; is = g.is; committed = g.done.committed; images = g.images; uber = uber }
 
       low : (group ≤ x.committed + 2) × (x.store.floor ≤ group)
       low = group_low pool (λ o. get nat_eq pool.objects o) x m shard y group s at y_there.1 g.done.group_is
@@ -249,9 +234,9 @@ module _ {R A : Type 0} (rack : racks.Ghosts R) (area : areas.Ghosts A) where
   -- ---- an object without bytes
 
   -- nothing changed but a table that says the same
-  pub same_stands : (pool new : Pool R A) (table table' : ℕ → Option Pointer) (x : State) → new.shards.items ≡ pool.shards.items → new.geometry ≡ pool.geometry → new.seq ≡ pool.seq → new.floor ≡ pool.floor
+  pub same_stands : (pool new : Pool R A) (table table' : ℕ → Option Pointer) (x : State) → new.shards.items ≡ pool.shards.items → new.geometry ≡ pool.geometry → new.uber ≡ pool.uber → new.seq ≡ pool.seq → new.floor ≡ pool.floor
       → ((q : ℕ) → table' q ≡ table q) → Stands rack area pool table x → Stands rack area new table' x
-  same_stands pool new table table' x shards layout seq floor tables s = record {
+  same_stands pool new table table' x shards layout uber seq floor tables s = record {
     geometry = s.geometry ∙ sym layout;
     layout = s.layout;
     many = s.many;
@@ -263,27 +248,29 @@ module _ {R A : Type 0} (rack : racks.Ghosts R) (area : areas.Ghosts A) where
     objects = λ o. subst (λ zs. PointsTo zs (table' o) (write_of x.store.changes o)) (sym shards) (points_same pool.shards.items (table o) (table' o) (write_of x.store.changes o) (tables o) (s.objects o));
     seq = s.seq ∙ sym seq;
     floor = s.floor ∙ sym floor;
-    uber = s.uber;
+    uber = subst (λ u. IsUber area u x) (sym uber) s.uber;
+    images = s.images;
+    leaves = s.leaves;
   }
 
-  pub same_represents : (pool new : Pool R A) (x : State) → new.shards.items ≡ pool.shards.items → new.geometry ≡ pool.geometry → new.seq ≡ pool.seq → new.floor ≡ pool.floor
+  pub same_represents : (pool new : Pool R A) (x : State) → new.shards.items ≡ pool.shards.items → new.geometry ≡ pool.geometry → new.uber ≡ pool.uber → new.seq ≡ pool.seq → new.floor ≡ pool.floor
       → ((q : ℕ) → get nat_eq new.objects q ≡ get nat_eq pool.objects q) → Represents rack area pool x → Represents rack area new x
-  same_represents pool new x shards layout seq floor tables is = record {
-    stands = same_stands pool new (λ o. get nat_eq pool.objects o) (λ o. get nat_eq new.objects o) x shards layout seq floor tables is.stands;
+  same_represents pool new x shards layout uber seq floor tables is = record {
+    stands = same_stands pool new (λ o. get nat_eq pool.objects o) (λ o. get nat_eq new.objects o) x shards layout uber seq floor tables is.stands;
     only = is.only;
   }
 
   pub unfreed_step : (object : ℕ) (fault : FreeFault) (pool new : Pool R A) (x : State) → Represents rack area pool x → get nat_eq pool.objects object ≡ None
-      → new.shards.items ≡ pool.shards.items → new.geometry ≡ pool.geometry → new.seq ≡ pool.seq → new.floor ≡ pool.floor
+      → new.shards.items ≡ pool.shards.items → new.geometry ≡ pool.geometry → new.uber ≡ pool.uber → new.seq ≡ pool.seq → new.floor ≡ pool.floor
       → ((q : ℕ) → get nat_eq new.objects q ≡ cond (nat_eq object q) None (get nat_eq pool.objects q))
       → CarriesOut rack area new x (FreeDoes x object (Err fault))
-  unfreed_step object fault pool new x is none shards layout seq floor drops = record {
+  unfreed_step object fault pool new x is none shards layout uber seq floor drops = record {
     holds = [];
     reached = x;
     store = x.store;
     follows = refl;
     done = (refl, refl, pointed_none pool.shards.items (get nat_eq pool.objects object) (write_of x.store.changes object) none (is.stands.objects object));
-    represents = same_represents pool new x shards layout seq floor tables is;
+    represents = same_represents pool new x shards layout uber seq floor tables is;
   }
     where
       tables : (q : ℕ) → get nat_eq new.objects q ≡ get nat_eq pool.objects q
@@ -291,12 +278,3 @@ module _ {R A : Type 0} (rack : racks.Ghosts R) (area : areas.Ghosts A) where
         | inl same ↦ put_here (get nat_eq new.objects q) (get nat_eq pool.objects q) object q None (drops q) same ∙ sym (subst (λ o. get nat_eq pool.objects o ≡ None) same none)
         | inr other ↦ put_elsewhere (get nat_eq new.objects q) (get nat_eq pool.objects q) object q None (drops q) (λ same. omega (arith, same, other))
       ]
-
--- ---- the shard of a pointer
-
--- what was borrowed at a place
-pub shard_at : {R A : Type 0} (shards : List (Shard R A)) (p : Pointer) (w : Write) (shard : Shard R A) → IsPointerOf shards p w → shard ≡ slice_index_or shards p.metaslab shard
-    → (slice_get shards p.metaslab ≡ Some shard) × IsLive shard p
-shard_at shards p w shard of value =
-    let same : shard ≡ of.shard = value ∙ get_or_from_slice_get shards p.metaslab of.shard shard of.there in
-    (of.there ∙ ap Some (sym same), subst (λ z. IsLive z p) (sym same) of.live)

@@ -10,7 +10,7 @@ use Rattle.draid_segments.specs.Segments.{Pieces}
 use Rattle.draid_entries.specs.Maps.{key_of}
 use Rattle.draid_shard.specs.Calls.{SameKit, SameReserve}
 use Rattle.draid_shard.specs.Fits.{Valid}
-use Rattle.draid_shard.specs.Part.{Part}
+use Rattle.draid_shard.specs.Part.{Part, layout_in}
 use Rattle.draid_shard.specs.States.{Does}
 use Rattle.draid_shard.specs.declared.shard.Shard.{Shard}
 use Rattle.draid_session.specs.Holds.{Did, On, view_of}
@@ -18,17 +18,19 @@ use Rattle.draid_session.specs.State.{Metaslab}
 use Rattle.draid_pool.specs.Metaslabs.{IsMetaslab}
 use Rattle.draid_pool.specs.Shards.{FreesIn, Goes}
 use Rattle.draid_pool.proofs.Dids.{Done, did_quiet}
+use Rattle.draid_pool.proofs.Imaged.{step_keeps}
 
 pub frees : {R A : Type 0} (rack : racks.Ghosts R) (area : areas.Ghosts A) (old new : Shard R A) (pointer : Pointer) (floor group : ℕ) → Valid rack new → SameKit old new → SameReserve old new
     → group ≡ max old.open_group floor → Does old new (Free (key_of pointer) group) → group ≤ LAST_NUMBER
     → (part : Part) (pieces : Pieces) (x : Metaslab) → IsMetaslab rack area part pieces old x → Goes rack area part pieces x new (FreesIn part.number pointer floor group x)
 frees rack area old new pointer floor group valid kit reserve group_is does low part pieces x is =
     let z : Done rack area part pieces new (Free (key_of pointer) group) x
-    = did_quiet rack area part pieces old new (Free (key_of pointer) group) x is valid does kit reserve (λ w after step a b same. same) (λ v step. refl) refl refl in
+    = did_quiet rack area part pieces old new (Free (key_of pointer) group) x is valid does kit reserve (λ w after step a b same. same) (λ v step. refl) refl refl tt in
     record {
       holds = On (view_of part.number x) (Did (Free (key_of pointer) group) z.reached.world) ∷ [];
       reached = z.reached;
       follows = (Did (Free (key_of pointer) group) z.reached.world, z.reached, refl, z.acts, refl);
+      images = step_keeps (layout_in part) x.world z.reached.world (Free (key_of pointer) group) z.step tt;
       done = record {
         are = refl;
         group_is = group_is ∙ ap (λ g. max g floor) (sym is.stands.is_in.open_group_is);

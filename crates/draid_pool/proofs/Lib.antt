@@ -11,6 +11,7 @@ pub mod Fetched
 pub mod FreeSteps
 pub mod Freed
 pub mod Fresh
+pub mod Imaged
 pub mod Lifted
 pub mod Lists
 pub mod Lives
@@ -20,9 +21,11 @@ pub mod Opened
 pub mod PutSteps
 pub mod ReadSteps
 pub mod ReplaceSteps
+pub mod Sets
 pub mod Steps
 pub mod StoreSteps
 pub mod Sums
+pub mod Wholes
 pub mod WriteSteps
 pub mod Listing
 pub mod ChooseSteps

@@ -20,7 +20,7 @@ use Rattle.draid_pool.specs.Carries.{CarriesOut}
 use Rattle.draid_pool.specs.Metaslabs.{IsMetaslab}
 use Rattle.draid_pool.specs.Objects.{HoldsObjects, IsLastAt, PointsTo, blocks_of}
 use Rattle.draid_pool.specs.Pools.{Represents, Stands, part_in}
-use Rattle.draid_pool.specs.Shards.{Goes, SameBlocks}
+use Rattle.draid_pool.specs.Shards.{Goes, KeepsImages, SameBlocks}
 use Rattle.draid_pool.specs.declared.pool.Pool.{Pool}
 use Rattle.draid_pool.proofs.Lists.{present}
 use Rattle.draid_pool.proofs.Moved.{Turned, follows_one, pointer_on, same_blocks, stands_turned, turn, turn_back, with_metaslab}
@@ -38,6 +38,7 @@ module _ {R A : Type 0} (rack : racks.Ghosts R) (area : areas.Ghosts A) where
     pub objects : new.objects ≡ pool.objects
     pub seq : new.seq ≡ pool.seq
     pub floor : new.floor ≡ pool.floor
+    pub uber : new.uber ≡ pool.uber
 
   -- the metaslab of a shard
   pub record HasMetaslab (pool : Pool R A) (x : State) (s : Stands rack area pool (λ object. get nat_eq pool.objects object) x) (m : ℕ) (shard : Shard R A) : Type 0 where
@@ -63,11 +64,11 @@ module _ {R A : Type 0} (rack : racks.Ghosts R) (area : areas.Ghosts A) where
       pointer_on rack area m pool new shard shard' (λ object. get nat_eq pool.objects object) x y y' now p w s t (λ here. ap (λ held. held (key_of p)) same) is
 
   pub kept_represents : (m : ℕ) (pool new : Pool R A) (shard shard' : Shard R A) (x : State) (y y' : Metaslab) → (r : Represents rack area pool x) → SetsShard m pool new shard shard'
-      → slice_get x.metaslabs m ≡ Some y → IsMetaslab rack area (part_in x m) (r.stands.pieces m) shard' y' → SameBlocks y y'
+      → slice_get x.metaslabs m ≡ Some y → IsMetaslab rack area (part_in x m) (r.stands.pieces m) shard' y' → SameBlocks y y' → KeepsImages y.world y'.world
       → Represents rack area new (record (with_metaslab x m y') { store = x.store })
-  kept_represents m pool new shard shard' x y y' r set at is same =
+  kept_represents m pool new shard shard' x y y' r set at is same images =
       let s = r.stands in
-      let t : Turned rack area m pool new shard shard' x y y' (s.pieces m) = record { there = set.there; sets = set.sets; geometry = set.geometry; at = at; is = is; committed = same.committed } in
+      let t : Turned rack area m pool new shard shard' x y y' (s.pieces m) = record { there = set.there; sets = set.sets; geometry = set.geometry; at = at; is = is; committed = same.committed; images = images; uber = set.uber } in
       let blocks : blocks_of (slice_set x.metaslabs m y') ≡ blocks_of x.metaslabs = same_blocks x.metaslabs m y y' at same.held in
       let holds : HoldsObjects x.geometry x.committed x.store (blocks_of (slice_set x.metaslabs m y')) (turn m (s.pieces m) s.pieces)
       = subst (λ b. HoldsObjects x.geometry x.committed x.store b (turn m (s.pieces m) s.pieces)) (sym blocks)
@@ -93,7 +94,7 @@ module _ {R A : Type 0} (rack : racks.Ghosts R) (area : areas.Ghosts A) where
         store = x.store;
         follows = follows_one m goes.holds x y goes.reached at goes.follows;
         done = z.1;
-        represents = kept_represents m pool new shard shard' x y goes.reached r set at goes.is z.0;
+        represents = kept_represents m pool new shard shard' x y goes.reached r set at goes.is z.0 goes.images;
       }
 
   -- nothing was done

@@ -19,12 +19,16 @@ use Rattle.draid_shard.specs.declared.shard.Shard.{Shard}
 use Rattle.draid_session.specs.Follows as follows
 use Rattle.draid_session.specs.Follows.{Follows}
 use Rattle.draid_session.specs.Holds.{Hold}
+use Rattle.draid_session.specs.Opening.{MayFind}
 use Rattle.draid_session.specs.State.{Metaslab, State, Store}
 use Rattle.draid_pool.specs.Metaslabs.{IsMetaslab}
 use Rattle.draid_pool.specs.Objects.{HoldsObjects, IsPointerOf, PointsTo, blocks_of, worlds_of}
 use Rattle.draid_pool.specs.Pools.{Stands, part_in}
-use Rattle.draid_pool.specs.Shards.{FollowsIn}
+use Rattle.draid_pool.specs.Records.{HasImage, HasImages, HasLeafNumbers, LeavesAreBelow}
+use Rattle.draid_pool.specs.Shards.{FollowsIn, KeepsImages}
+use Rattle.draid_pool.specs.Ubers.{IsUber}
 use Rattle.draid_pool.specs.declared.pool.Pool.{Pool}
+use Rattle.draid_pool.proofs.Imaged.{image_kept, leaves_kept}
 use Rattle.draid_pool.proofs.Lists.{ext, get_set_other, get_set_same, set_back, set_twice, some_of}
 use Rattle.draid_pool.proofs.Lives.{held_by, live_by}
 
@@ -95,7 +99,28 @@ turn_back m pieces = ext (turn m (pieces m) pieces) pieces (λ k. elim (cases_eq
 
 -- ---- a pool of which one shard moved
 
+-- what is so of each metaslab, and of another one at its place
+pub each_set : (xs : List Metaslab) (m : ℕ) (y y' : Metaslab) (P : Metaslab → Type 0) → slice_get xs m ≡ Some y → P y' → ((k : ℕ) (v : Metaslab) → slice_get xs k ≡ Some v → P v)
+    → (k : ℕ) (v : Metaslab) → slice_get (slice_set xs m y') k ≡ Some v → P v
+each_set xs m y y' P at is each k v there = elim (cases_eq k m) [
+  | inl same ↦ subst P (some_of (slice_get (slice_set xs m y') m) y' v (get_set_same xs m y y' at) (subst (λ j. slice_get (slice_set xs m y') j ≡ Some v) same there)) is
+  | inr other ↦ each k v (sym (get_set_other xs m k y' (λ same. omega (arith, same, other))) ∙ there)
+]
+
 module _ {R A : Type 0} (rack : racks.Ghosts R) (area : areas.Ghosts A) where
+  -- the uberblock has nothing of the metaslabs
+  pub uber_stays : (old new : Pool R A) (x : State) (metaslabs : List Metaslab) (store : Store) → new.uber ≡ old.uber → IsUber area old.uber x
+      → IsUber area new.uber (record x { metaslabs = metaslabs; store = store })
+  uber_stays old new x metaslabs store same is = subst (λ u. IsUber area u (record x { metaslabs = metaslabs; store = store })) (sym same) (record {
+    valid = is.valid;
+    layout = is.layout;
+    version = is.version;
+    kept = is.kept;
+    next_leaf = is.next_leaf;
+    count = is.count;
+    stands = record { pending = is.stands.pending; are = is.stands.are; stands = is.stands.stands };
+  })
+
   pub record Turned (m : ℕ) (pool new : Pool R A) (shard shard' : Shard R A) (x : State) (y y' : Metaslab) (now : Pieces) : Type 0 where
     pub there : slice_get pool.shards.items m ≡ Some shard
     pub sets : new.shards.items ≡ slice_set pool.shards.items m shard'
@@ -103,6 +128,8 @@ module _ {R A : Type 0} (rack : racks.Ghosts R) (area : areas.Ghosts A) where
     pub at : slice_get x.metaslabs m ≡ Some y
     pub is : IsMetaslab rack area (part_in x m) now shard' y'
     pub committed : y'.world.committed ≡ y.world.committed
+    pub images : KeepsImages y.world y'.world
+    pub uber : new.uber ≡ pool.uber
 
   -- a block that the moved metaslab has yet is live there
   pub pointer_on : (m : ℕ) (pool new : Pool R A) (shard shard' : Shard R A) (table : ℕ → Option Pointer) (x : State) (y y' : Metaslab) (now : Pieces) (p : Pointer) (w : Write)
@@ -157,7 +184,12 @@ module _ {R A : Type 0} (rack : racks.Ghosts R) (area : areas.Ghosts A) where
     objects = objects;
     seq = seq;
     floor = floor;
-    uber = record { committed = s.uber.committed; kept_leaf = s.uber.kept_leaf; next_leaf = s.uber.next_leaf; uber_count = s.uber.uber_count; pending = s.uber.pending };
+    uber = uber_stays pool new x (slice_set x.metaslabs m y') store t.uber s.uber;
+    images = λ group k v may some. each_set x.metaslabs m y y' (HasImage group) t.at (image_kept group y y' t.images (s.images group m y may some t.at)) (λ n z. s.images group n z may some) k v;
+    leaves = record {
+      order = s.leaves.order;
+      each = each_set x.metaslabs m y y' (λ z. LeavesAreBelow x.kept_leaf x.next_leaf z.world) t.at (leaves_kept x.kept_leaf x.next_leaf y.world y'.world t.images (s.leaves.each m y t.at)) s.leaves.each;
+    };
   }
     where
       each : (k : ℕ) (z : Shard R A) (v : Metaslab) → slice_get new.shards.items k ≡ Some z → slice_get (slice_set x.metaslabs m y') k ≡ Some v
@@ -176,9 +208,4 @@ module _ {R A : Type 0} (rack : racks.Ghosts R) (area : areas.Ghosts A) where
       ]
 
       committed : (k : ℕ) (v : Metaslab) → slice_get (slice_set x.metaslabs m y') k ≡ Some v → v.world.committed ≡ x.committed
-      committed k v b = elim (cases_eq k m) [
-        | inl is ↦
-            let at : y' ≡ v = some_of (slice_get (slice_set x.metaslabs m y') m) y' v (get_set_same x.metaslabs m y y' t.at) (subst (λ j. slice_get (slice_set x.metaslabs m y') j ≡ Some v) is b) in
-            subst (λ q. q.world.committed ≡ x.committed) at (t.committed ∙ s.groups.committed m y t.at)
-        | inr other ↦ s.groups.committed k v (sym (get_set_other x.metaslabs m k y' (λ is. omega (arith, is, other))) ∙ b)
-      ]
+      committed = each_set x.metaslabs m y y' (λ z. z.world.committed ≡ x.committed) t.at (t.committed ∙ s.groups.committed m y t.at) s.groups.committed

@@ -21,6 +21,8 @@ use Rattle.draid_session.specs.State.{Metaslab}
 use Rattle.draid_session.specs.Worn as worn
 use Rattle.draid_pool.specs.Metaslabs.{IsMetaslab, harm_of}
 use Rattle.draid_pool.specs.Shards.{FollowsIn, Goes}
+use Rattle.draid_pool.proofs.Dids.{records_same}
+use Rattle.draid_pool.proofs.Imaged.{keeps_same}
 
 -- a metaslab in which so many events are reserved
 abbrev pub with_reserved : Metaslab → ℕ → Metaslab
@@ -56,6 +58,7 @@ module _ {R A : Type 0} (rack : racks.Ghosts R) (area : areas.Ghosts A) where
         reserved = refl;
         counts = is.counts ∙ sym (λ i. record { rack = rack.faults (kit.rack i); even = area.faults (kit.areas.even i); odd = area.faults (kit.areas.odd i) });
         harm = is.harm ∙ ap (λ r. harm_of (rack.told r)) (sym kit.rack);
+        records = records_same rack area part x.world old new kit.areas is.records;
       }
 
   -- ---- what is worn
@@ -102,4 +105,4 @@ module _ {R A : Type 0} (rack : racks.Ghosts R) (area : areas.Ghosts A) where
   -- the shard was looked at, and stands for what it stood for
   pub looked : (part : Part) (pieces : Pieces) (new : Shard R A) (x : Metaslab) (does : List Hold → Metaslab → Type 0) → IsMetaslab rack area part pieces new x
       → does (On (view_of part.number x) Looked ∷ []) x → Goes rack area part pieces x new does
-  looked part pieces new x does is done = record { holds = On (view_of part.number x) Looked ∷ []; reached = x; follows = looks_in (layout_in part) part.number x; done = done; is = is }
+  looked part pieces new x does is done = record { holds = On (view_of part.number x) Looked ∷ []; reached = x; follows = looks_in (layout_in part) part.number x; images = keeps_same x.world; done = done; is = is }

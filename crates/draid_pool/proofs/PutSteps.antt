@@ -27,6 +27,7 @@ use Rattle.draid_session.specs.Writes.{PutsColumn, PutsColumns}
 use Rattle.draid_pool.specs.Metaslabs.{IsMetaslab}
 use Rattle.draid_pool.specs.Shards.{FollowsIn, Goes, SameBut}
 use Rattle.draid_pool.proofs.Dids.{Done, did}
+use Rattle.draid_pool.proofs.Imaged.{keeps_same, keeps_then, step_keeps}
 
 -- what a table has of another key
 pub set_other : (f : Key → Option Held) (key k : Key) (v : Option Held) → key_eq key k ≡ false → set_held f key v k ≡ f k
@@ -58,6 +59,7 @@ put_none rack area shard pointer block part pieces x is rows = record {
   holds = [];
   reached = x;
   follows = refl;
+  images = keeps_same x.world;
   done = (refl, record { held = λ k other. refl; committed = refl });
   is = is;
 }
@@ -68,6 +70,7 @@ put_more rack area old mid new before now block n valid areas_are reserve put so
   holds = g.holds ++ hold ∷ [];
   reached = z.reached;
   follows = follows_more (layout_in part) part.number g.holds x g.reached z.reached (Did e z.reached.world) g.follows z.acts;
+  images = keeps_then x.world g.reached.world z.reached.world g.images (step_keeps (layout_in part) g.reached.world z.reached.world e z.step tt);
   done = (
     puts_more key part.number n g.holds hold g.done.0 (record { v = view_of part.number g.reached; landed = put.landed; failed = put.failed; after = z.reached.world; did = refl; there = refl }),
     record {
@@ -92,7 +95,7 @@ put_more rack area old mid new before now block n valid areas_are reserve put so
 
     z : Done rack area part pieces new e g.reached
     z = did rack area part pieces mid new e g.reached g.is valid put.does (put.acts pieces here) (λ v step. refl) reserve.limit (let r = reserve.reserved in omega (arith, r))
-        (record { areas_are = areas_are; later = put.counts.later; cause = put.counts.cause })
+        (record { areas_are = areas_are; later = put.counts.later; cause = put.counts.cause }) tt
 
     hold : Hold
     hold = On (view_of part.number g.reached) (Did e z.reached.world)

@@ -55,12 +55,6 @@ pub reads_worn : (x : State) (o : ℕ) (is : IsWornAt x o) → reads.ReadsWorn x
 reads_worn x o is = record { w = is.w; v = view_of is.w.metaslab is.y; written = is.written; looked = record { looked = refl; there = refl }; worn = is.worn }
 
 module _ {R A : Type 0} (rack : racks.Ghosts R) (area : areas.Ghosts A) where
-  pub pool_geometry : (pool : Pool R A) (x : State) → Represents rack area pool x → IsGeometry pool.geometry
-  pool_geometry pool x r = subst IsGeometry r.stands.geometry r.stands.layout.geometry_is
-
-  pub block_fetched : (pool : Pool R A) (x : State) (o : ℕ) (fetched : Fetched) → CarriesOut rack area pool x (FetchIs x o fetched) → IsFetched (cut_of pool.geometry) fetched
-  block_fetched pool x o fetched c = subst (λ (g : Geometry). IsFetched (cut_of g) fetched) (sym (pool_layout rack area pool x (FetchIs x o fetched) c)) c.done.block
-
   pub read_solved : (pool : Pool R A) (x : State) (o : ℕ) (fetched : Fetched) (solve : Solve) → CarriesOut rack area pool x (FetchIs x o fetched) → IsSolved (cut_of pool.geometry) fetched solve
       → CarriesOut rack area pool x (ReadDoes x o (reading_of solve))
   read_solved pool x o fetched solve c solved =

@@ -64,10 +64,10 @@ other_object k j other = by (key_eq k j) refl
 
 module _ {R A : Type 0} (rack : racks.Ghosts R) (area : areas.Ghosts A) where
   pub replaced_none : (object : ℕ) (pointer : Pointer) (pool new : Pool R A) (earlier : Option Write) (x : State) → Awaits rack area pool object pointer earlier x → get nat_eq pool.objects object ≡ None
-      → new.shards.items ≡ pool.shards.items → new.geometry ≡ pool.geometry → new.seq ≡ pool.seq → new.floor ≡ pool.floor
+      → new.shards.items ≡ pool.shards.items → new.geometry ≡ pool.geometry → new.uber ≡ pool.uber → new.seq ≡ pool.seq → new.floor ≡ pool.floor
       → ((q : ℕ) → get nat_eq new.objects q ≡ cond (nat_eq object q) (Some pointer) (get nat_eq pool.objects q))
       → CarriesOut rack area new x (ReplaceDoes x earlier)
-  replaced_none object pointer pool new earlier x a none shards layout seq floor sets =
+  replaced_none object pointer pool new earlier x a none shards layout uber seq floor sets =
       subst (λ e. CarriesOut rack area new x (ReplaceDoes x e)) (sym nothing) (record {
         holds = [];
         reached = x;
@@ -75,7 +75,7 @@ module _ {R A : Type 0} (rack : racks.Ghosts R) (area : areas.Ghosts A) where
         follows = refl;
         done = (x.store.floor, (refl, refl), refl);
         represents = record {
-          stands = same_stands rack area pool new (with_pointer object pointer (λ o. get nat_eq pool.objects o)) (λ o. get nat_eq new.objects o) x shards layout seq floor
+          stands = same_stands rack area pool new (with_pointer object pointer (λ o. get nat_eq pool.objects o)) (λ o. get nat_eq new.objects o) x shards layout uber seq floor
               (entered (λ o. get nat_eq new.objects o) object pointer (λ o. get nat_eq pool.objects o) sets) a.stands;
           only = λ m k h at live. elim (a.only m k h at live) [
             | inl is ↦ is
@@ -90,10 +90,10 @@ module _ {R A : Type 0} (rack : racks.Ghosts R) (area : areas.Ghosts A) where
   pub replaced_some : (object : ℕ) (pointer p : Pointer) (pool new : Pool R A) (shard shard' : Shard R A) (group : ℕ) (earlier : Option Write) (x : State) → Awaits rack area pool object pointer earlier x
       → get nat_eq pool.objects object ≡ Some p → slice_get pool.shards.items p.metaslab ≡ Some shard
       → ((part : Part) (pieces : Pieces) (y : Metaslab) → IsMetaslab rack area part pieces shard y → Goes rack area part pieces y shard' (FreesIn part.number p pool.floor group y))
-      → new.shards.items ≡ slice_set pool.shards.items p.metaslab shard' → new.geometry ≡ pool.geometry → new.seq ≡ pool.seq → new.floor ≡ group
+      → new.shards.items ≡ slice_set pool.shards.items p.metaslab shard' → new.geometry ≡ pool.geometry → new.uber ≡ pool.uber → new.seq ≡ pool.seq → new.floor ≡ group
       → ((q : ℕ) → get nat_eq new.objects q ≡ cond (nat_eq object q) (Some pointer) (get nat_eq pool.objects q))
       → CarriesOut rack area new x (ReplaceDoes x earlier)
-  replaced_some object pointer p pool new shard shard' group earlier x a there at frees sets layout seq floor objects = subst (λ e. CarriesOut rack area new x (ReplaceDoes x e)) (sym found.1) by
+  replaced_some object pointer p pool new shard shard' group earlier x a there at frees sets layout uber seq floor objects = subst (λ e. CarriesOut rack area new x (ReplaceDoes x e)) (sym found.1) by
     where
       table : ℕ → Option Pointer
       table = with_pointer object pointer (λ o. get nat_eq pool.objects o)
@@ -150,7 +150,7 @@ module _ {R A : Type 0} (rack : racks.Ghosts R) (area : areas.Ghosts A) where
       store = record x.store { floor = group }
 
       turned : Turned rack area m pool new shard shard' x y g.reached (s.pieces m)
-      turned = record { there = at; sets = sets; geometry = layout; at = y_there.1; is = g.is; committed = g.done.committed }
+      turned = record { there = at; sets = sets; geometry = layout; at = y_there.1; is = g.is; committed = g.done.committed; images = g.images; uber = uber }
 
       low : (group ≤ x.committed + 2) × (x.store.floor ≤ group)
       low = group_low rack area pool (with_pointer object pointer (λ o. get nat_eq pool.objects o)) x m shard y group s at y_there.1 g.done.group_is

@@ -44,8 +44,9 @@ use Rattle.draid_session.specs.State.{Metaslab}
 use Rattle.draid_session.specs.Worn.{IsWorn}
 use Rattle.draid_session.specs.Writes.{PutsColumns, WritesBlock}
 use Rattle.draid_pool.specs.Metaslabs.{IsMetaslab}
-use Rattle.draid_pool.specs.Shards.{FollowsIn, Goes, HasRoom, NotStored, SameBut, SamePieces, Stored}
+use Rattle.draid_pool.specs.Shards.{FollowsIn, Goes, HasRoom, KeepsImages, NotStored, SameBut, SamePieces, Stored}
 use Rattle.draid_pool.proofs.Dids.{Done, did_quiet}
+use Rattle.draid_pool.proofs.Imaged.{keeps_then, step_keeps}
 use Rattle.draid_pool.proofs.Lists.{some_of}
 use Rattle.draid_pool.proofs.Lives.{live_by}
 use Rattle.draid_pool.proofs.PutSteps.{follows_more, set_other, set_own}
@@ -84,6 +85,7 @@ other_pieces rack area part shard x key pieces now is none same = record {
   reserved = is.reserved;
   counts = is.counts;
   harm = is.harm;
+  records = is.records;
 }
   where
     held : (k : Key) → IsSome (x.world.core.held k) → now k ≡ pieces k
@@ -181,14 +183,14 @@ module _ {R A : Type 0} (rack : racks.Ghosts R) (area : areas.Ghosts A) (object 
     one : Done rack area part now mid (begins p) x
     one = did_quiet rack area part now old mid (begins p) x
         (other_pieces rack area part old x key pieces now is unheld (rows_same key part.geometry.props.sector block.columns pieces)) b.valid b.does b.kit b.reserve (λ w after step s t same. same) (λ v step. refl)
-        refl refl
+        refl refl tt
 
     two : Goes rack area part now one.reached put (λ holds y. PutsColumns (key_of p) part.number part.geometry.g holds × SameBut (key_of p) one.reached.world y.world)
     two = a.puts part now one.reached one.is
         (subst (λ k. ArePieces part.geometry.props.sector part.geometry.g p.stripes block.columns k now) (sym p_key) (rows_are key part.geometry.props.sector part.geometry.g p.stripes block.columns pieces))
 
     three : Done rack area part now new (event.Finish (key_of done.pointer)) two.reached
-    three = did_quiet rack area part now put new (event.Finish (key_of done.pointer)) two.reached two.is d.valid d.does d.kit d.reserve (λ w after step s t same. same) (λ v step. refl) refl refl
+    three = did_quiet rack area part now put new (event.Finish (key_of done.pointer)) two.reached two.is d.valid d.does d.kit d.reserve (λ w after step s t same. same) (λ v step. refl) refl refl tt
 
     done_key : key_of done.pointer ≡ key
     done_key = ap key_of a.pointer ∙ p_key
@@ -210,6 +212,12 @@ module _ {R A : Type 0} (rack : racks.Ghosts R) (area : areas.Ghosts A) (object 
       one.acts,
       follows_more (layout_in part) part.number two.holds one.reached two.reached three.reached (Did (event.Finish (key_of done.pointer)) three.reached.world) two.follows three.acts,
     )
+
+    images : KeepsImages x.world three.reached.world
+    images =
+        keeps_then x.world one.reached.world three.reached.world (step_keeps (layout_in part) x.world one.reached.world (begins p) one.step tt)
+        (keeps_then one.reached.world two.reached.world three.reached.world two.images
+        (step_keeps (layout_in part) two.reached.world three.reached.world (event.Finish (key_of done.pointer)) three.step tt))
 
     -- what is held of the ticket as it ends
     abbrev ticket : Held
@@ -293,6 +301,7 @@ module _ {R A : Type 0} (rack : racks.Ghosts R) (area : areas.Ghosts A) (object 
         holds = all_holds;
         reached = three.reached;
         follows = followed;
+        images = images;
         done = (
           writes,
           record {
@@ -339,6 +348,7 @@ module _ {R A : Type 0} (rack : racks.Ghosts R) (area : areas.Ghosts A) (object 
         holds = all_holds;
         reached = three.reached;
         follows = followed;
+        images = images;
         done = (writes, held, ap (λ (w : machine.State). w.committed) made ∙ others.committed);
         is = three.is;
       };

@@ -74,11 +74,6 @@ module _ {R A : Type 0} (rack : racks.Ghosts R) (area : areas.Ghosts A) where
         represents = settled rack area new s.reached (AddIs s.reached (first + summed) count hasher hasher' (Ok added)) c a.store;
       }
 
-  -- the objects that were added are some of those that were left
-  pub some_added : (x : State) (first count added : ℕ) (hasher hasher' : Sha256) (new : Pool R A) → CarriesOut rack area new x (AddIs x first count hasher hasher' (Ok added))
-      → (1 ≤ added) × (added ≤ count)
-  some_added x first count added hasher hasher' new c = (c.done.some, c.done.within)
-
   pub sum_stops : (mid new : Pool R A) (x : State) (first summed count : ℕ) (hasher hasher' : Sha256) (fault : SumFault) → Summing mid x first summed hasher → summed ≤ count
       → ((y : State) → Represents rack area mid y → CarriesOut rack area new y (AddIs y (first + summed) (count - summed) hasher hasher' (Err fault))) → CarriesOut rack area new x (SumDoes x first count (Err fault))
   sum_stops mid new x first summed count hasher hasher' fault s below moves =

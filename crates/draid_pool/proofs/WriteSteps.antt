@@ -48,12 +48,13 @@ use Rattle.draid_block.specs.Columns.{stripes_of}
 use Rattle.draid_shard.specs.States.{IsIn}
 use Rattle.draid_pool.specs.declared.pool.Pool.{Pool}
 use Rattle.draid_pool.proofs.Entering.{OnlyLast}
-use Rattle.draid_pool.proofs.FreeSteps.{floor_fits, group_low, metaslab_there, points_on, points_same, same_key}
+use Rattle.draid_pool.proofs.FreeSteps.{group_low, metaslab_there, points_on, points_same, same_key}
 use Rattle.draid_pool.proofs.Lists.{ext, get_set_same, set_back, some_of}
 use Rattle.draid_pool.proofs.Lives.{held_by}
 use Rattle.draid_shard.specs.Calls.{IsLive}
 use Rattle.draid_objects.proofs.Imaging.{last_live}
 use Rattle.std.proofs.lemmas.Bool.Decides.{nat_tests}
+use Rattle.draid_pool.proofs.Imaged.{keeps_same}
 use Rattle.draid_pool.proofs.Moved.{Turned, blocks_at, follows_one, moves_one, pointer_on, same_blocks, stands_turned, turn, turn_back, turn_here, turn_other, with_metaslab}
 use Rattle.draid_pool.proofs.ReplaceSteps.{with_pointer}
 
@@ -197,18 +198,6 @@ module _ {R A : Type 0} (rack : racks.Ghosts R) (area : areas.Ghosts A) where
     pub its : IsMetaslab rack area (part_in x m) (is.stands.pieces m) shard y
     its = is.stands.each m shard y at y_there.1
 
-    pub its_geometry : shard.geometry ≡ pool.geometry
-    its_geometry = ap (λ (p : Part). p.geometry) its.part_is ∙ is.stands.geometry
-
-    pub its_room : (own : Shard R A) (len : ℕ) → shard ≡ own → ((w : machine.State) → IsIn own w → HasRoom (stripes_of (cut_of pool.geometry) len) own w)
-        → (w : machine.State) × IsIn shard w × HasRoom (stripes_of (cut_of shard.geometry) len) shard w
-    its_room own len same room = (
-      y.world,
-      its.stands.is_in,
-      subst (λ (geometry : Geometry). HasRoom (stripes_of (cut_of geometry) len) shard y.world) (sym its_geometry)
-          (subst (λ (z : Shard R A). (w : machine.State) → IsIn z w → HasRoom (stripes_of (cut_of pool.geometry) len) z w) (sym same) room y.world its.stands.is_in),
-    )
-
     -- what became of the block here
     pub stored_here : (pointer : Pointer)
         → ((part : Part) (pieces : Pieces) (z : Metaslab) → IsMetaslab rack area part pieces shard z → Stored rack area part pieces object (pool.seq + 1) pool.floor bytes z shard' pointer)
@@ -229,25 +218,10 @@ module _ {R A : Type 0} (rack : racks.Ghosts R) (area : areas.Ghosts A) where
     unwritten_here e same stores =
         subst (λ f. StoreDoes rack area (part_in x m) (is.stands.pieces m) object (pool.seq + 1) pool.floor bytes y shard' (Err f)) same (stores (part_in x m) (is.stands.pieces m) y its)
 
-    -- what a write of the next number wants of it
-    pub its_floor : pool.floor ≤ shard.open_group + 1
-    its_floor = floor_fits rack area pool (λ o. get nat_eq pool.objects o) x m shard is.stands at
-
-    pub its_unused : (seq : ℕ) → seq ≡ pool.seq → entries.held_in shard.entries (record { object = object; seq = seq + 1 }) ≡ None
-    its_unused seq same = by (y.world.core.held (record { object = object; seq = seq + 1 })) refl
-      where
-        by : (o : Option Held) → y.world.core.held (record { object = object; seq = seq + 1 }) ≡ o → entries.held_in shard.entries (record { object = object; seq = seq + 1 }) ≡ None
-        by None none = sym (its.stands.is_in.held (record { object = object; seq = seq + 1 })) ∙ none
-        by (Some h) some = absurd (
-            let low = is.stands.holds.numbered m (record { object = object; seq = seq + 1 }) h (blocks_at x.metaslabs m y (record { object = object; seq = seq + 1 }) y_there.1 ∙ some) in
-            let own = is.stands.seq in
-            omega (arith, low, own, same)
-            )
-
     -- ---- nothing was written
-    pub unwritten : (new : Pool R A) → IsMetaslab rack area (part_in x m) (is.stands.pieces m) shard' y → new.shards.items ≡ slice_set pool.shards.items m shard' → new.geometry ≡ pool.geometry
+    pub unwritten : (new : Pool R A) → IsMetaslab rack area (part_in x m) (is.stands.pieces m) shard' y → new.shards.items ≡ slice_set pool.shards.items m shard' → new.geometry ≡ pool.geometry → new.uber ≡ pool.uber
         → new.seq ≡ pool.seq → new.floor ≡ pool.floor → ((q : ℕ) → get nat_eq new.objects q ≡ get nat_eq pool.objects q) → Represents rack area new x
-    unwritten new same sets layout seq floor objects =
+    unwritten new same sets layout uber seq floor objects =
         subst (λ ys. Represents rack area new (record x { metaslabs = ys })) (set_back x.metaslabs m y y_there.1) (record {
           stands = stands_turned rack area m pool new shard shard' (λ o. get nat_eq pool.objects o) (λ o. get nat_eq new.objects o) x y y (is.stands.pieces m) x.store is.stands turned
               (subst (λ bs. HoldsObjects x.geometry x.committed x.store bs (turn m (is.stands.pieces m) is.stands.pieces)) (sym (same_blocks x.metaslabs m y y y_there.1 refl))
@@ -260,13 +234,13 @@ module _ {R A : Type 0} (rack : racks.Ghosts R) (area : areas.Ghosts A) where
         })
       where
         turned : Turned rack area m pool new shard shard' x y y (is.stands.pieces m)
-        turned = record { there = at; sets = sets; geometry = layout; at = y_there.1; is = same; committed = refl }
+        turned = record { there = at; sets = sets; geometry = layout; at = y_there.1; is = same; committed = refl; images = keeps_same y.world; uber = uber }
 
     -- ---- too many columns landed nowhere
     pub missed : (columns birth : ℕ) (new : Pool R A) → NotStored rack area (part_in x m) (is.stands.pieces m) object (x.store.seq + 1) pool.floor bytes y shard' columns birth
-        → new.shards.items ≡ slice_set pool.shards.items m shard' → new.geometry ≡ pool.geometry → new.seq ≡ pool.seq + 1 → new.floor ≡ birth
+        → new.shards.items ≡ slice_set pool.shards.items m shard' → new.geometry ≡ pool.geometry → new.uber ≡ pool.uber → new.seq ≡ pool.seq + 1 → new.floor ≡ birth
         → ((q : ℕ) → get nat_eq new.objects q ≡ get nat_eq pool.objects q) → CarriesOut rack area new x (WriteInDoes x m object bytes (Err (fault.Missed columns)))
-    missed columns birth new n sets layout seq floor objects = record {
+    missed columns birth new n sets layout uber seq floor objects = record {
       holds = n.goes.holds;
       reached = with_metaslab x m n.goes.reached;
       store = store;
@@ -294,7 +268,7 @@ module _ {R A : Type 0} (rack : racks.Ghosts R) (area : areas.Ghosts A) where
         store = record { changes = x.store.changes; seq = x.store.seq + 1; floor = birth }
 
         turned : Turned rack area m pool new shard shard' x y n.goes.reached n.now
-        turned = record { there = at; sets = sets; geometry = layout; at = y_there.1; is = n.goes.is; committed = n.goes.done.2 }
+        turned = record { there = at; sets = sets; geometry = layout; at = y_there.1; is = n.goes.is; committed = n.goes.done.2; images = n.goes.images; uber = uber }
 
         low : (birth ≤ x.committed + 2) × (x.store.floor ≤ birth)
         low = group_low rack area pool (λ o. get nat_eq pool.objects o) x m shard y birth is.stands at y_there.1 n.birth_is
@@ -304,7 +278,7 @@ module _ {R A : Type 0} (rack : racks.Ghosts R) (area : areas.Ghosts A) where
 
     -- ---- the block is live
     module _ (pointer : Pointer) (n : Stored rack area (part_in x m) (is.stands.pieces m) object (x.store.seq + 1) pool.floor bytes y shard' pointer) (mid : Pool R A)
-        (sets : mid.shards.items ≡ slice_set pool.shards.items m shard') (layout : mid.geometry ≡ pool.geometry) (seq : mid.seq ≡ pool.seq + 1) (floor : mid.floor ≡ pointer.birth)
+        (sets : mid.shards.items ≡ slice_set pool.shards.items m shard') (layout : mid.geometry ≡ pool.geometry) (uber : mid.uber ≡ pool.uber) (seq : mid.seq ≡ pool.seq + 1) (floor : mid.floor ≡ pointer.birth)
         (objects : (q : ℕ) → get nat_eq mid.objects q ≡ get nat_eq pool.objects q) where
       abbrev w : Write
       w = record { object = object; seq = x.store.seq + 1; metaslab = m; birth = n.birth; bytes = bytes }
@@ -323,7 +297,7 @@ module _ {R A : Type 0} (rack : racks.Ghosts R) (area : areas.Ghosts A) where
       its_key = same_key rack area pointer w stored.object_is stored.seq_is
 
       turned : Turned rack area m pool mid shard shard' x y n.goes.reached n.now
-      turned = record { there = at; sets = sets; geometry = layout; at = y_there.1; is = n.goes.is; committed = stored.others.committed }
+      turned = record { there = at; sets = sets; geometry = layout; at = y_there.1; is = n.goes.is; committed = stored.others.committed; images = n.goes.images; uber = uber }
 
       low : (n.birth ≤ x.committed + 2) × (x.store.floor ≤ n.birth)
       low = group_low rack area pool (λ o. get nat_eq pool.objects o) x m shard y n.birth is.stands at y_there.1 n.birth_is

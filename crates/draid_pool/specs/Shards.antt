@@ -1,5 +1,5 @@
 -- What becomes of one metaslab as a block is written to its shard, or freed, fetched or damaged there.
-use Rattle.std.specs.Prelude.{◌≡◌, ◌≤◌, ◌<◌, ℕ, Bool, true, false, List, [], ◌∷◌, Option, Some, Result, Ok, Err, length, max, slice_get}
+use Rattle.std.specs.Prelude.{◌≡◌, ◌≤◌, ◌<◌, ℕ, Bool, true, false, List, [], ◌∷◌, Option, Some, None, IsSome, Result, Ok, Err, length, max, slice_get}
 use Rattle.std.specs.List.{AllZip}
 use Rattle.sha2.specs.Sha256.{sha256}
 use Rattle.draid_names.specs.declared.pointer.Pointer.{Pointer}
@@ -10,6 +10,7 @@ use Rattle.draid_names.specs.declared.refusal.WriteFault.TheVariants as fault
 use Rattle.draid_rack.specs.declared.Rack as racks
 use Rattle.draid_area.specs.declared.Area as areas
 use Rattle.draid_machine.specs.declared.names.Key.{Key}
+use Rattle.draid_machine.specs.declared.names.ArmName.TheVariants.{Leaf}
 use Rattle.draid_machine.specs.declared.names.Held.{Held}
 use Rattle.draid_machine.specs.declared.names.Stage.TheVariants.{Live, Freed}
 use Rattle.draid_machine.specs.declared.event.Event.TheVariants as event
@@ -18,8 +19,10 @@ use Rattle.draid_machine.specs.Names.{key_eq}
 use Rattle.draid_machine.specs.State as machine
 use Rattle.draid_machine.specs.Step.{Fits}
 use Rattle.draid_segments.specs.Segments.{Pieces}
+use Rattle.draid_entries.specs.Entries.{entry_at}
 use Rattle.draid_entries.specs.Maps.{held_at, key_of, staged}
 use Rattle.draid_shard.specs.Calls.{IsLive, IsRoom, ShutBy, TakesBlocks}
+use Rattle.draid_shard.specs.Changes.{KeepsBlocks, SetsBlock}
 use Rattle.draid_shard.specs.Part.{Part, layout_in}
 use Rattle.draid_shard.specs.States.{IsIn, layout_by}
 use Rattle.draid_shard.specs.declared.fault.Shut.{Shut}
@@ -46,11 +49,18 @@ FollowsIn l m [] x y = y ≡ x
 FollowsIn l m (hold ∷ holds) x y =
     (act : Act) × (mid : Metaslab) × (hold ≡ On (view_of m x) act) × Acts l act x mid × FollowsIn l m holds mid y
 
+-- the images are as they were, and no leaf is an arm that wasn't one
+pub record KeepsImages (old new : machine.State) : Type 0 where
+  pub image : new.image ≡ old.image
+  pub sealed : new.sealed ≡ old.sealed
+  pub leaves : (leaf : ℕ) → IsSome (new.core.arm (Leaf leaf)) → IsSome (old.core.arm (Leaf leaf))
+
 -- Holds of a metaslab led to one for which the shard stands, with these pieces.
 pub record Goes {R A : Type 0} (rack : racks.Ghosts R) (area : areas.Ghosts A) (part : Part) (pieces : Pieces) (x : Metaslab) (new : Shard R A) (does : List Hold → Metaslab → Type 0) : Type 0 where
   pub holds : List Hold
   pub reached : Metaslab
   pub follows : FollowsIn (layout_in part) part.number holds x reached
+  pub images : KeepsImages x.world reached.world
   pub done : does holds reached
   pub is : IsMetaslab rack area part pieces new reached
 
@@ -122,6 +132,27 @@ abbrev pub StoreDoes : {R A : Type 0} → racks.Ghosts R → areas.Ghosts A → 
 StoreDoes rack area part pieces object seq floor bytes x new (Ok pointer) = Stored rack area part pieces object seq floor bytes x new pointer
 StoreDoes rack area part pieces object seq floor bytes x new (Err (store.Missed columns birth)) = NotStored rack area part pieces object seq floor bytes x new columns birth
 StoreDoes rack area part pieces object seq floor bytes x new (Err store.NoMemory) = IsMetaslab rack area part pieces new x
+
+-- A block of this write came where none began, and nothing else changed.
+pub record StoresBlock {R A : Type 0} (old new : Shard R A) (object seq floor : ℕ) (pointer : Pointer) : Type 0 where
+  pub key : key_of pointer ≡ record { object = object; seq = seq }
+  pub metaslab_is : pointer.metaslab ≡ old.number
+  pub birth_is : pointer.birth ≡ max old.open_group floor
+  pub was : entry_at old.entries pointer.first ≡ None
+  pub sets : SetsBlock old new pointer (Some (staged Live pointer))
+
+-- nothing begins where a write was begun and given up, as none did before
+pub record DropsBlock {R A : Type 0} (old new : Shard R A) (floor birth : ℕ) : Type 0 where
+  pub birth_is : birth ≡ max old.open_group floor
+  pub pointer : Pointer
+  pub was : entry_at old.entries pointer.first ≡ None
+  pub sets : SetsBlock old new pointer None
+
+-- what a write changed of the blocks, by its answer
+abbrev pub StoreSets : {R A : Type 0} → Shard R A → Shard R A → (object seq floor : ℕ) → Result Pointer StoreFault → Type 0
+StoreSets old new object seq floor (Ok pointer) = StoresBlock old new object seq floor pointer
+StoreSets old new object seq floor (Err (store.Missed columns birth)) = DropsBlock old new floor birth
+StoreSets old new object seq floor (Err store.NoMemory) = KeepsBlocks old new
 
 -- ---- freeing
 

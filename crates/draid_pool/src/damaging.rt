@@ -1,10 +1,10 @@
 ghost use Rattle.std.specs.Prelude.{◌≡◌, ◌<◌};
 ghost use Rattle.draid_spec.specs.Geometry.{metaslab_sectors};
-ghost use Rattle.draid_machine.specs.State as machine;
 ghost use Rattle.draid_segments.specs.Segments.{Pieces};
+ghost use Rattle.draid_shard.specs.Changes.{KeepsBlocks};
 ghost use Rattle.draid_shard.specs.Fits.{Valid};
 ghost use Rattle.draid_shard.specs.Part.{Part};
-ghost use Rattle.draid_shard.specs.States.{IsIn};
+ghost use Rattle.draid_shard.specs.States.{part_of};
 ghost use Rattle.draid_session.specs.State.{Metaslab};
 ghost use Rattle.draid_pool.specs.Metaslabs.{IsMetaslab};
 ghost use Rattle.draid_pool.specs.Shards.{Goes, SameBlocks, SectorDoes};
@@ -28,8 +28,10 @@ fn damage_sector<R: Rack, A: Area>(
     sector: u64,
 ) -> Result<(), DamageFault>
     requires valid { Valid R.Rack shard.old }
-    requires state { (w : machine.State) × IsIn shard.old w }
     requires sector { sector < metaslab_sectors shard.old.geometry }
+    ensures valid { Valid R.Rack shard.new }
+    ensures part { part_of shard.new ≡ part_of shard.old }
+    ensures keeps { KeepsBlocks shard.old shard.new }
     ensures damages { (part : Part) (pieces : Pieces) (x : Metaslab) → IsMetaslab R.Rack A.Area part pieces shard.old x
         → Goes R.Rack A.Area part pieces x shard.new (λ holds y. SectorDoes part leaf sector x result holds × SameBlocks x y) }
 {

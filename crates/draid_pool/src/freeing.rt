@@ -1,9 +1,13 @@
-ghost use Rattle.std.specs.Prelude.{◌≡◌, ◌≤◌, ◌+◌};
+ghost use Rattle.std.specs.Prelude.{◌≡◌, ◌≤◌, ◌+◌, Some, max};
 ghost use Rattle.draid_names.specs.declared.numbers.TheConstants.{LAST_NUMBER};
+ghost use Rattle.draid_machine.specs.declared.names.Stage.TheVariants.{Freed};
 ghost use Rattle.draid_segments.specs.Segments.{Pieces};
+ghost use Rattle.draid_entries.specs.Maps.{staged};
 ghost use Rattle.draid_shard.specs.Calls.{IsLive};
+ghost use Rattle.draid_shard.specs.Changes.{SetsBlock};
 ghost use Rattle.draid_shard.specs.Fits.{Valid};
 ghost use Rattle.draid_shard.specs.Part.{Part};
+ghost use Rattle.draid_shard.specs.States.{part_of};
 ghost use Rattle.draid_session.specs.State.{Metaslab};
 ghost use Rattle.draid_pool.specs.Metaslabs.{IsMetaslab};
 ghost use Rattle.draid_pool.specs.Shards.{FreesIn, Goes};
@@ -30,6 +34,10 @@ pub(crate) fn free_block<R: Rack, A: Area>(
     requires live { IsLive shard.old pointer.now }
     requires floor { floor ≤ shard.old.open_group + 1 }
     requires last { floor ≤ LAST_NUMBER }
+    ensures valid { Valid R.Rack shard.new }
+    ensures part { part_of shard.new ≡ part_of shard.old }
+    ensures group { result ≡ max shard.old.open_group floor }
+    ensures sets { SetsBlock shard.old shard.new pointer.now (Some (staged (Freed result) pointer.now)) }
     ensures frees { (part : Part) (pieces : Pieces) (x : Metaslab) → IsMetaslab R.Rack A.Area part pieces shard.old x
         → Goes R.Rack A.Area part pieces x shard.new (FreesIn part.number pointer.now floor result x) }
 {

@@ -1,4 +1,6 @@
-ghost use Rattle.std.specs.Prelude.{◌≡◌};
+ghost use Rattle.std.specs.Prelude.{◌≡◌, IfOk};
+ghost use Rattle.draid_block.specs.Blocks.{cut_of};
+ghost use Rattle.draid_block.specs.Solving.{IsFetched};
 ghost use Rattle.draid_session.specs.State.{State};
 ghost use Rattle.draid_pool.specs.Answers.{ReadDoes};
 ghost use Rattle.draid_pool.specs.Carries.{CarriesOut, FetchLeads};
@@ -34,6 +36,8 @@ impl<R: Rack, A: Area> Pool<R, A> {
     pub(crate) fn fetch(&mut self, object: u64) -> Result<Fetched, ObjectFault>
         requires whole { IsWhole R.Rack A.Area self.old }
         ensures whole { IsWhole R.Rack A.Area self.new }
+        ensures geometry { self.new.geometry ≡ self.old.geometry }
+        ensures fetched { IfOk result (IsFetched (cut_of self.old.geometry)) }
         ensures step { (x : State) → Represents R.Rack A.Area self.old x
             → FetchLeads R.Rack A.Area self.new x object result }
     {

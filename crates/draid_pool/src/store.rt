@@ -1,12 +1,14 @@
-ghost use Rattle.std.specs.Prelude.{◌≡◌, ◌≤◌, ◌<◌, ◌+◌, None, length};
+ghost use Rattle.std.specs.Prelude.{◌≡◌, ◌≤◌, ◌<◌, ◌+◌, None, Some, length};
 ghost use Rattle.draid_block.specs.Blocks.{cut_of};
 ghost use Rattle.draid_block.specs.Columns.{stripes_of};
 ghost use Rattle.draid_machine.specs.State as machine;
+ghost use Rattle.draid_machine.specs.declared.names.Stage.TheVariants.{Writing};
 ghost use Rattle.draid_names.specs.declared.numbers.TheConstants.{LAST_NUMBER};
 ghost use Rattle.draid_segments.specs.Segments.{Pieces};
 ghost use Rattle.draid_entries.specs.Entries.{held_in};
-ghost use Rattle.draid_entries.specs.Maps.{key_of};
+ghost use Rattle.draid_entries.specs.Maps.{key_of, staged};
 ghost use Rattle.draid_shard.specs.Calls.{Carries};
+ghost use Rattle.draid_shard.specs.Changes.{SetsBlock};
 ghost use Rattle.draid_shard.specs.Columns.{ArePieces};
 ghost use Rattle.draid_shard.specs.Fits.{Valid};
 ghost use Rattle.draid_shard.specs.Part.{Part};
@@ -14,7 +16,7 @@ ghost use Rattle.draid_shard.specs.States.{IsIn, part_of};
 ghost use Rattle.draid_session.specs.State.{Metaslab};
 ghost use Rattle.draid_session.specs.Writes.{PutsColumns};
 ghost use Rattle.draid_pool.specs.Metaslabs.{IsMetaslab};
-ghost use Rattle.draid_pool.specs.Shards.{Goes, HasRoom, SameBut, StoreDoes};
+ghost use Rattle.draid_pool.specs.Shards.{Goes, HasRoom, SameBut, StoreDoes, StoreSets};
 
 use draid_area::Area;
 use draid_block::Encoded;
@@ -40,6 +42,7 @@ fn put_all<R: Rack, A: Area>(shard: &mut Shard<R, A>, ticket: &mut Ticket, block
     ensures all { ticket.new.next ≡ shard.old.geometry.g }
     ensures pointer { ticket.new.pointer ≡ ticket.old.pointer }
     ensures part { part_of shard.new ≡ part_of shard.old }
+    ensures sets { SetsBlock shard.old shard.new ticket.old.pointer (Some (staged (Writing ticket.new.next ticket.new.missed) ticket.old.pointer)) }
     ensures puts { (part : Part) (pieces : Pieces) (x : Metaslab) → IsMetaslab R.Rack A.Area part pieces shard.old x
         → ArePieces part.geometry.props.sector part.geometry.g ticket.old.pointer.stripes block.now.columns (key_of ticket.old.pointer) pieces
         → Goes R.Rack A.Area part pieces x shard.new (λ holds y. PutsColumns (key_of ticket.old.pointer) part.number part.geometry.g holds
@@ -67,6 +70,9 @@ pub(crate) fn store<R: Rack, A: Area>(
     requires last { floor ≤ LAST_NUMBER }
     requires cut { block.now.cut ≡ cut_of shard.old.geometry }
     requires room { (w : machine.State) × IsIn shard.old w × HasRoom (stripes_of (cut_of shard.old.geometry) (length block.now.bytes)) shard.old w }
+    ensures valid { Valid R.Rack shard.new }
+    ensures part { part_of shard.new ≡ part_of shard.old }
+    ensures sets { StoreSets shard.old shard.new object seq floor result }
     ensures stores { (part : Part) (pieces : Pieces) (x : Metaslab) → IsMetaslab R.Rack A.Area part pieces shard.old x
         → StoreDoes R.Rack A.Area part pieces object seq floor block.now.bytes x shard.new result }
 {

@@ -1,5 +1,7 @@
 //! Sums of many objects: their blocks are fetched and solved in batches.
-ghost use Rattle.std.specs.Prelude.{◌≡◌, ◌≤◌, ◌+◌, length};
+ghost use Rattle.std.specs.Prelude.{◌≡◌, ◌≤◌, ◌+◌, All, IfOk, None, length};
+ghost use Rattle.draid_block.specs.Blocks.{cut_of};
+ghost use Rattle.draid_block.specs.Solving.{IsFetched};
 ghost use Rattle.draid_session.specs.State.{State};
 ghost use Rattle.draid_pool.specs.Answers.{SumDoes};
 ghost use Rattle.draid_pool.specs.Batches.{AddIs, FeedIs, FetchesBatch};
@@ -33,6 +35,9 @@ fn fetch_batch<R: Rack, A: Area>(pool: &mut Pool<R, A>, first: u64, count: u64) 
     requires range { first + count ≤ OBJECTS }
     requires whole { IsWhole R.Rack A.Area pool.old }
     ensures whole { IsWhole R.Rack A.Area pool.new }
+    ensures fetched { All (IsFetched (cut_of pool.new.geometry)) result.blocks.items }
+    ensures some { result.fault ≡ None → 1 ≤ length result.blocks.items }
+    ensures few { length result.blocks.items ≤ count }
     ensures step { (x : State) → Represents R.Rack A.Area pool.old x
         → FetchesBatch R.Rack A.Area pool.new x first count result }
 {
@@ -100,6 +105,7 @@ pub(crate) fn add_batch<R: Rack, A: Area>(
     requires range { first + count ≤ OBJECTS }
     requires whole { IsWhole R.Rack A.Area pool.old }
     ensures whole { IsWhole R.Rack A.Area pool.new }
+    ensures added { IfOk result (λ added. (1 ≤ added) × (added ≤ count)) }
     ensures step { (x : State) → Represents R.Rack A.Area pool.old x
         → CarriesOut R.Rack A.Area pool.new x (AddIs x first count hasher.old hasher.new result) }
 {

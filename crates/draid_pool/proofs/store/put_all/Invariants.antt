@@ -1,5 +1,8 @@
-use Rattle.std.proofs.Common.{◌≡◌}
+use Rattle.std.proofs.Common.{◌≡◌, Some}
+use Rattle.draid_machine.specs.declared.names.Stage.TheVariants.{Writing}
+use Rattle.draid_entries.specs.Maps.{staged}
 use Rattle.draid_shard.specs.Calls.{Carries}
+use Rattle.draid_shard.specs.Changes.{SetsBlock}
 use Rattle.draid_shard.specs.Fits.{Valid}
 use Rattle.draid_shard.specs.States.{part_of}
 use Rattle.draid_pool.proofs.PutSteps.{PutSome}
@@ -12,5 +15,6 @@ invariant-loop-column g l = record {
   carries : Carries l.shard l.ticket l.block;
   next : l.ticket.next ≡ l._column;
   pointer : l.ticket.pointer ≡ l.initial.ticket.pointer;
+  sets : SetsBlock l.initial.shard l.shard l.initial.ticket.pointer (Some (staged (Writing l.ticket.next l.ticket.missed) l.initial.ticket.pointer));
   some : PutSome g.R.Rack g.A.Area l.initial.shard l.shard l.initial.ticket.pointer l.block l._column;
 }

@@ -1,6 +1,9 @@
-use Rattle.std.proofs.Common.{◌∙◌, arith, sym, ap, subst}
+use Rattle.std.proofs.Common.{◌∙◌, Some, arith, sym, ap, subst}
+use Rattle.draid_machine.specs.declared.names.Stage.TheVariants.{Writing}
+use Rattle.draid_entries.specs.Maps.{staged}
 use Rattle.draid_shard.specs.Part.{Part}
-use Rattle.draid_pool.specs.Shards.{NotStored, Stored}
+use Rattle.draid_pool.specs.Shards.{DropsBlock, NotStored, Stored}
+use Rattle.draid_pool.proofs.Sets.{drops_block, stores_block}
 use Rattle.draid_pool.proofs.StoreSteps.{AllPut, Begun, Ended, not_stored, stored}
 use Rattle.draid_pool.proofs.store.store.Goals as goal
 
@@ -35,6 +38,10 @@ returns-in-Ok-finish g c =
       does = f.event;
     } in
     record {
+      valid = f.valid;
+      part = f.event.part ∙ (p.part ∙ e.event.part);
+      sets = stores_block old c.begin.new.self c.put_all.new.shard c.finish.new.self c.args.object c.args.seq c.args.floor c.in-Ok.ticket c.put_all.new.ticket (Some (staged (Writing c.put_all.new.ticket.next c.put_all.new.ticket.missed) c.in-Ok.ticket.pointer)) e.ticket.was
+          e.ticket.named e.ticket.enters p.sets p.pointer c.in-Ok-finish.pointer f.live.1 f.sets;
       stores = λ part pieces x is.
           (let few = f.live.0 in
           let parity = ap (λ (q : Part). q.geometry.spec.parity) p.part ∙ (ap (λ (q : Part). q.geometry.spec.parity) e.event.part ∙ ap (λ (q : Part). q.geometry.spec.parity) is.part_is) in
@@ -74,6 +81,10 @@ returns-in-Err g c =
       does = f.event;
     } in
     record {
+      valid = f.valid;
+      part = f.event.part ∙ (p.part ∙ e.event.part);
+      sets = drops_block old c.begin.new.self c.put_all.new.shard c.finish.new.self c.args.object c.args.seq c.args.floor c.in-Ok.ticket c.put_all.new.ticket (Some (staged (Writing c.put_all.new.ticket.next c.put_all.new.ticket.missed) c.in-Ok.ticket.pointer)) e.ticket.was
+          e.ticket.named e.ticket.enters p.sets p.pointer f.gone;
       stores = λ part pieces x is.
           (let many = f.missed.0 in
           let parity = ap (λ (q : Part). q.geometry.spec.parity) p.part ∙ (ap (λ (q : Part). q.geometry.spec.parity) e.event.part ∙ ap (λ (q : Part). q.geometry.spec.parity) is.part_is) in

@@ -7,23 +7,21 @@ use Rattle.draid_block.specs.Solving.{IsFetched}
 use Rattle.draid_block.specs.declared.many.Solve.{Solve}
 use Rattle.draid_block.specs.declared.solve.Fetched.{Fetched}
 use Rattle.draid_pool.specs.Batches.{FeedsAll, FirstUnread}
-use Rattle.draid_pool.proofs.Batched.{batch_added, batch_fetched, batch_geometry, batch_short, batch_stops, solved_length, unread_in, unsolved}
+use Rattle.draid_pool.proofs.Batched.{batch_added, batch_stops, solved_length, unread_in, unsolved}
 use Rattle.draid_pool.proofs.summing.add_batch.Goals as goal
 
 pub solve_many-requires-clause-geometry : goal.solve_many-requires-clause-geometry
-solve_many-requires-clause-geometry g c κs within =
-    let is = c.requires.represents in
-    batch_geometry g.R.Rack g.A.Area is.0 c.args.first c.args.count c.fetch_batch-batch.result c.fetch_batch-batch.new.pool (c.fetch_batch-batch.ensures.step is.0 is.1)
+solve_many-requires-clause-geometry g c κs within = c.fetch_batch-batch.ensures.whole.layout.geometry_is
 
 pub solve_many-requires-clause-fetched : goal.solve_many-requires-clause-fetched
 solve_many-requires-clause-fetched g c κs within =
-    let is = c.requires.represents in
     let new = c.fetch_batch-batch.new.pool in
-    subst (All (IsFetched (cut_of new.geometry))) (sym c.deref.ensures.value)
-    (batch_fetched g.R.Rack g.A.Area is.0 c.args.first c.args.count c.fetch_batch-batch.result new (c.fetch_batch-batch.ensures.step is.0 is.1))
+    subst (All (IsFetched (cut_of new.geometry))) (sym c.deref.ensures.value) c.fetch_batch-batch.ensures.fetched
 
 pub returns-in_default : goal.returns-in_default
 returns-in_default g c = record {
+  whole = c.fetch_batch-batch.ensures.whole;
+  added = tt;
   step = λ x is.
       unsolved g.R.Rack g.A.Area x c.args.first c.args.count c.fetch_batch-batch.result c.args.hasher.now c.args.hasher.now c.fetch_batch-batch.new.pool c.requires.some
       (c.fetch_batch-batch.ensures.step x is);
@@ -31,16 +29,17 @@ returns-in_default g c = record {
 
 pub feed-requires : goal.feed-requires
 feed-requires g c =
-    let is = c.requires.represents in
     let new = c.fetch_batch-batch.new.pool in
     let solved = subst (λ (bs : List Fetched). AllZip (IsSolved (cut_of new.geometry)) bs c.in-Ok.solves.items) c.deref.ensures.value c.in-Ok.ensures.answers in
     let long = ap length c.deref-2.ensures.value ∙ solved_length (cut_of new.geometry) _ c.in-Ok.solves.items solved in
-    let short = batch_short g.R.Rack g.A.Area is.0 c.args.first c.args.count c.fetch_batch-batch.result new (c.fetch_batch-batch.ensures.step is.0 is.1) in
+    let short = c.fetch_batch-batch.ensures.few in
     let range = c.requires.range in
     record { range = omega (arith, long, short, range) }
 
 pub returns-in_err-feed : goal.returns-in_err-feed
 returns-in_err-feed g c = record {
+  whole = c.fetch_batch-batch.ensures.whole;
+  added = tt;
   step = λ x is.
       (let new = c.fetch_batch-batch.new.pool in
       let solved = subst (λ (bs : List Fetched). AllZip (IsSolved (cut_of new.geometry)) bs c.in-Ok.solves.items) c.deref.ensures.value c.in-Ok.ensures.answers in
@@ -52,6 +51,12 @@ returns-in_err-feed g c = record {
 
 pub returns-in-None : goal.returns-in-None
 returns-in-None g c = record {
+  whole = c.fetch_batch-batch.ensures.whole;
+  added =
+      (let some = c.fetch_batch-batch.ensures.some c.in-None.is in
+      let few = c.fetch_batch-batch.ensures.few in
+      let added = c.len-added.ensures in
+      (omega (arith, some, added), omega (arith, few, added)));
   step = λ x is.
       (let new = c.fetch_batch-batch.new.pool in
       let solved = subst (λ (bs : List Fetched). AllZip (IsSolved (cut_of new.geometry)) bs c.in-Ok.solves.items) c.deref.ensures.value c.in-Ok.ensures.answers in
@@ -62,6 +67,8 @@ returns-in-None g c = record {
 
 pub returns : goal.returns
 returns g c = record {
+  whole = c.fetch_batch-batch.ensures.whole;
+  added = tt;
   step = λ x is.
       (let new = c.fetch_batch-batch.new.pool in
       let solved = subst (λ (bs : List Fetched). AllZip (IsSolved (cut_of new.geometry)) bs c.in-Ok.solves.items) c.deref.ensures.value c.in-Ok.ensures.answers in

@@ -1,12 +1,14 @@
 use Rattle.std.proofs.Common.{◌/◌, refl}
 use Rattle.std.specs.Vec.{with_item}
 use Rattle.draid_pool.specs.declared.pool.Pool.{Pool}
-use Rattle.draid_pool.proofs.DamageSteps.{damage_done, damage_none, damage_shard, sector_below, shard_state}
-use Rattle.draid_pool.proofs.Lifted.{SetsShard, metaslab_of}
+use Rattle.draid_pool.proofs.DamageSteps.{damage_done, damage_none, damage_shard, sector_below}
+use Rattle.draid_pool.proofs.Lifted.{SetsShard}
+use Rattle.draid_pool.proofs.Wholes.{Replaces, whole_kept, whole_valid}
 use Rattle.draid_pool.proofs.pool.Pool.damage.Goals as goal
 
 pub returns-then-metaslab-from : goal.returns-then-metaslab-from
 returns-then-metaslab-from g c = record {
+  whole = c.requires.whole;
   step = λ x is.
       damage_none g.R.Rack g.A.Area c.args.self.now x c.args.leaf c.args.sector c.metaslab_sectors-sectors.result c.from.result is c.metaslab_sectors-sectors.ensures.value c.from.ensures
       c.if-metaslab-from.true;
@@ -14,40 +16,35 @@ returns-then-metaslab-from g c = record {
 
 pub damage_sector-requires-clause-valid : goal.damage_sector-requires-clause-valid
 damage_sector-requires-clause-valid g c =
-    let is = c.requires.represents in
     let k = c.args.sector / c.metaslab_sectors-sectors.result in
     let shard = c.index_mut.result.now in
-    let there = damage_shard g.R.Rack g.A.Area c.args.self.now is.0 k c.from.result shard is.1 c.from.ensures c.if-metaslab-from.false c.index_mut.ensures.value in
-    (metaslab_of g.R.Rack g.A.Area c.args.self.now is.0 is.1.stands k shard there).is.valid
-
-pub damage_sector-requires-clause-state : goal.damage_sector-requires-clause-state
-damage_sector-requires-clause-state g c =
-    let is = c.requires.represents in
-    let k = c.args.sector / c.metaslab_sectors-sectors.result in
-    let shard = c.index_mut.result.now in
-    let there = damage_shard g.R.Rack g.A.Area c.args.self.now is.0 k c.from.result shard is.1 c.from.ensures c.if-metaslab-from.false c.index_mut.ensures.value in
-    shard_state g.R.Rack g.A.Area c.args.self.now is.0 k shard is.1 there
+    let there = damage_shard g.R.Rack g.A.Area c.args.self.now k c.from.result shard c.requires.whole c.from.ensures c.if-metaslab-from.false c.index_mut.ensures.value in
+    whole_valid g.R.Rack g.A.Area c.args.self.now k shard c.requires.whole there
 
 pub damage_sector-requires-clause-sector : goal.damage_sector-requires-clause-sector
 damage_sector-requires-clause-sector g c =
-    let is = c.requires.represents in
     let k = c.args.sector / c.metaslab_sectors-sectors.result in
     let shard = c.index_mut.result.now in
-    let there = damage_shard g.R.Rack g.A.Area c.args.self.now is.0 k c.from.result shard is.1 c.from.ensures c.if-metaslab-from.false c.index_mut.ensures.value in
-    sector_below g.R.Rack g.A.Area c.args.self.now is.0 k c.args.sector c.metaslab_sectors-sectors.result shard is.1 there c.metaslab_sectors-sectors.ensures.value
+    let there = damage_shard g.R.Rack g.A.Area c.args.self.now k c.from.result shard c.requires.whole c.from.ensures c.if-metaslab-from.false c.index_mut.ensures.value in
+    sector_below g.R.Rack g.A.Area c.args.self.now k c.args.sector c.metaslab_sectors-sectors.result shard c.requires.whole there c.metaslab_sectors-sectors.ensures.value
     c.metaslab_sectors-sectors.ensures.some
 
 pub returns : goal.returns
-returns g c = record {
-  step = λ x is.
-      (let old = c.args.self.now in
-      let k = c.args.sector / c.metaslab_sectors-sectors.result in
-      let before = c.index_mut.result.now in
-      let after = c.damage_sector.new.shard in
-      let there = damage_shard g.R.Rack g.A.Area old x k c.from.result before is c.from.ensures c.if-metaslab-from.false c.index_mut.ensures.value in
-      let new : Pool g.row.R.Denot g.row.A.Denot
-      = record { geometry = old.geometry; shards = with_item old.shards k after; objects = old.objects; seq = old.seq; floor = old.floor; alloc = old.alloc } in
-      let set : SetsShard g.R.Rack g.A.Area k old new before after = record { there = there; sets = refl; geometry = refl; objects = refl; seq = refl; floor = refl } in
-      damage_done g.R.Rack g.A.Area old new before after x c.args.leaf c.args.sector c.metaslab_sectors-sectors.result c.from.result c.damage_sector.result is set
-      c.metaslab_sectors-sectors.ensures.value c.from.ensures c.if-metaslab-from.false c.damage_sector.ensures.damages);
-}
+returns g c =
+    let old = c.args.self.now in
+    let k = c.args.sector / c.metaslab_sectors-sectors.result in
+    let before = c.index_mut.result.now in
+    let after = c.damage_sector.new.shard in
+    let there = damage_shard g.R.Rack g.A.Area old k c.from.result before c.requires.whole c.from.ensures c.if-metaslab-from.false c.index_mut.ensures.value in
+    let e = c.damage_sector.ensures in
+    let new : Pool g.row.R.Denot g.row.A.Denot
+    = record { geometry = old.geometry; shards = with_item old.shards k after; uber = old.uber; objects = old.objects; seq = old.seq; floor = old.floor; alloc = old.alloc } in
+    let r : Replaces g.R.Rack g.A.Area k old new before after
+    = record { there = there; sets = refl; geometry = refl; uber = refl; valid = e.valid; part = e.part; groups = e.keeps.groups } in
+    let set : SetsShard g.R.Rack g.A.Area k old new before after = record { there = there; sets = refl; geometry = refl; objects = refl; seq = refl; floor = refl; uber = refl } in
+    record {
+      whole = whole_kept g.R.Rack g.A.Area k old new before after c.requires.whole r e.keeps refl refl (λ q. refl);
+      step = λ x is.
+          damage_done g.R.Rack g.A.Area old new before after x c.args.leaf c.args.sector c.metaslab_sectors-sectors.result c.from.result c.damage_sector.result is set
+          c.metaslab_sectors-sectors.ensures.value c.from.ensures c.if-metaslab-from.false e.damages;
+    }

@@ -1,56 +1,63 @@
 use Rattle.std.proofs.Common.{◌≡◌, ◌∙◌, Some, arith, refl, sym}
 use Rattle.std.specs.Prelude.{nat_eq}
 use Rattle.std.specs.HashMap.{get}
+use Rattle.std.specs.Vec.{with_item}
 use Rattle.std.proofs.lemmas.Option.{slice_get_within}
 use Rattle.draid_pool.specs.declared.fault.FreeFault.TheVariants.{NoObject}
-use Rattle.draid_pool.proofs.FreeSteps.{floor_fits, floor_last, free_step, metaslab_there, pointed, shard_at, unfreed_step}
+use Rattle.draid_pool.specs.declared.pool.Pool.{Pool}
+use Rattle.draid_pool.proofs.FreeSteps.{free_step, unfreed_step}
+use Rattle.draid_pool.proofs.Wholes.{Replaces, others_left, removed, whole_floor, whole_freed, whole_shard, whole_table, whole_valid}
 use Rattle.draid_pool.proofs.pool.Pool.free.Goals as goal
 
 pub returns-in_default : goal.returns-in_default
-returns-in_default g c = record {
-  step = λ x is.
-      unfreed_step g.R.Rack g.A.Area c.args.object NoObject c.args.self.now _ x is (sym c.remove.ensures.value ∙ c.in_default.is) refl refl refl refl (λ q. c.remove.ensures.updates.0 q);
-}
+returns-in_default g c =
+    let old = c.args.self.now in
+    let new : Pool g.row.R.Denot g.row.A.Denot
+    = record { geometry = old.geometry; shards = old.shards; uber = old.uber; objects = c.remove.new.self; seq = old.seq; floor = old.floor; alloc = old.alloc } in
+    record {
+      whole = whole_table g.R.Rack g.A.Area old new c.requires.whole refl refl refl refl refl
+          (λ o q at. c.requires.whole.objects o q (removed (λ i. get nat_eq new.objects i) (λ i. get nat_eq old.objects i) c.args.object (λ i. c.remove.ensures.updates.0 i) o q at).0);
+      step = λ x is.
+          unfreed_step g.R.Rack g.A.Area c.args.object NoObject old new x is (sym c.remove.ensures.value ∙ c.in_default.is) refl refl refl refl refl (λ q. c.remove.ensures.updates.0 q);
+    }
 
 pub index_mut-requires : goal.index_mut-requires
 index_mut-requires g c =
-    let is = c.requires.represents in
-    let found = pointed c.args.self.now.shards.items _ _ c.in-Some.pointer (sym c.remove.ensures.value ∙ c.in-Some.is) (is.1.stands.objects c.args.object) in
-    let below = slice_get_within c.args.self.now.shards.items c.in-Some.pointer.metaslab found.2.shard found.2.there in
+    let of = c.requires.whole.objects c.args.object c.in-Some.pointer (sym c.remove.ensures.value ∙ c.in-Some.is) in
+    let below = slice_get_within c.args.self.now.shards.items c.in-Some.pointer.metaslab of.shard of.there in
     let len = c.args.self.now.shards.ok.0 in
     omega (arith, below, len)
 
-pub free_block-self-requires-clause-valid : goal.free_block-self-requires-clause-valid
-free_block-self-requires-clause-valid g c =
-    let is = c.requires.represents in
-    let s = is.1.stands in
-    let found = pointed c.args.self.now.shards.items _ _ c.in-Some.pointer (sym c.remove.ensures.value ∙ c.in-Some.is) (s.objects c.args.object) in
-    let at = shard_at c.args.self.now.shards.items c.in-Some.pointer found.0 c.index_mut.result.now found.2 c.index_mut.ensures.value in
-    let y = metaslab_there g.R.Rack g.A.Area c.args.self.now _ is.0 c.in-Some.pointer.metaslab c.index_mut.result.now s at.0 in
-    (s.each c.in-Some.pointer.metaslab c.index_mut.result.now y.0 at.0 y.1).valid
-
-pub free_block-self-requires-clause-live : goal.free_block-self-requires-clause-live
-free_block-self-requires-clause-live g c =
-    let is = c.requires.represents in
-    let found = pointed c.args.self.now.shards.items _ _ c.in-Some.pointer (sym c.remove.ensures.value ∙ c.in-Some.is) (is.1.stands.objects c.args.object) in
-    (shard_at c.args.self.now.shards.items c.in-Some.pointer found.0 c.index_mut.result.now found.2 c.index_mut.ensures.value).1
-
-pub free_block-self-requires-clause-floor : goal.free_block-self-requires-clause-floor
-free_block-self-requires-clause-floor g c =
-    let is = c.requires.represents in
-    let found = pointed c.args.self.now.shards.items _ _ c.in-Some.pointer (sym c.remove.ensures.value ∙ c.in-Some.is) (is.1.stands.objects c.args.object) in
-    let at = shard_at c.args.self.now.shards.items c.in-Some.pointer found.0 c.index_mut.result.now found.2 c.index_mut.ensures.value in
-    floor_fits g.R.Rack g.A.Area c.args.self.now _ is.0 c.in-Some.pointer.metaslab c.index_mut.result.now is.1.stands at.0
-
-pub free_block-self-requires-clause-last : goal.free_block-self-requires-clause-last
-free_block-self-requires-clause-last g c = (let is = c.requires.represents in floor_last g.R.Rack g.A.Area c.args.self.now _ is.0 is.1.stands)
+pub free_block-self-requires : goal.free_block-self-requires
+free_block-self-requires g c =
+    let w = c.requires.whole in
+    let of = w.objects c.args.object c.in-Some.pointer (sym c.remove.ensures.value ∙ c.in-Some.is) in
+    let at = whole_shard g.R.Rack g.A.Area c.args.self.now c.args.object c.in-Some.pointer c.index_mut.result.now of c.index_mut.ensures.value in
+    record {
+      valid = whole_valid g.R.Rack g.A.Area c.args.self.now c.in-Some.pointer.metaslab c.index_mut.result.now w at.0;
+      live = at.1;
+      floor = whole_floor g.R.Rack g.A.Area c.args.self.now c.in-Some.pointer.metaslab c.index_mut.result.now w at.0;
+      last = w.low;
+    }
 
 pub returns : goal.returns
-returns g c = record {
-  step = λ x is.
-      (let there : get nat_eq c.args.self.now.objects c.args.object ≡ Some c.in-Some.pointer = sym c.remove.ensures.value ∙ c.in-Some.is in
-      let found = pointed c.args.self.now.shards.items _ _ c.in-Some.pointer there (is.stands.objects c.args.object) in
-      let at = shard_at c.args.self.now.shards.items c.in-Some.pointer found.0 c.index_mut.result.now found.2 c.index_mut.ensures.value in
-      free_step g.R.Rack g.A.Area c.args.object c.in-Some.pointer c.args.self.now _ c.index_mut.result.now c.free_block-self.new.shard c.free_block-self.result x is there at.0 c.free_block-self.ensures.frees refl refl refl
-      refl (λ q. c.remove.ensures.updates.0 q));
-}
+returns g c =
+    let there : get nat_eq c.args.self.now.objects c.args.object ≡ Some c.in-Some.pointer = sym c.remove.ensures.value ∙ c.in-Some.is in
+    let w = c.requires.whole in
+    let old = c.args.self.now in
+    let p = c.in-Some.pointer in
+    let before = c.index_mut.result.now in
+    let after = c.free_block-self.new.shard in
+    let group = c.free_block-self.result in
+    let at = whole_shard g.R.Rack g.A.Area old c.args.object p before (w.objects c.args.object p there) c.index_mut.ensures.value in
+    let e = c.free_block-self.ensures in
+    let new : Pool g.row.R.Denot g.row.A.Denot
+    = record { geometry = old.geometry; shards = with_item old.shards p.metaslab after; uber = old.uber; objects = c.remove.new.self; seq = old.seq; floor = group; alloc = old.alloc } in
+    let r : Replaces g.R.Rack g.A.Area p.metaslab old new before after
+    = record { there = at.0; sets = refl; geometry = refl; uber = refl; valid = e.valid; part = e.part; groups = e.sets.groups } in
+    record {
+      whole = whole_freed g.R.Rack g.A.Area old new before after p group w r at.1 e.sets e.group refl refl
+          (others_left g.R.Rack g.A.Area old c.args.object p (λ i. get nat_eq new.objects i) w there (λ i. c.remove.ensures.updates.0 i));
+      step = λ x is.
+          free_step g.R.Rack g.A.Area c.args.object p old new before after group x is there at.0 e.frees refl refl refl refl refl (λ q. c.remove.ensures.updates.0 q);
+    }

@@ -4,23 +4,20 @@ use Rattle.draid_shard.specs.Fits.{Valid}
 use Rattle.draid_shard.specs.declared.fault.Shut.TheVariants as shut
 use Rattle.draid_shard.specs.declared.shard.Shard.{Shard}
 use Rattle.draid_pool.specs.Shards.{AreShut}
-use Rattle.draid_pool.proofs.ChooseSteps.{all_valid}
+use Rattle.draid_pool.proofs.Wholes.{all_whole}
 use Rattle.draid_pool.proofs.pool.Pool.no_space.Goals as goal
 
 pub count_shut-requires-clause-valid : goal.count_shut-requires-clause-valid
 count_shut-requires-clause-valid g c =
-    let is = c.requires.represents in
-    subst (λ (xs : List (Shard g.row.R.Denot g.row.A.Denot)). All (Valid g.R.Rack) xs) (sym c.as_slice-shards.ensures.value) (all_valid g.R.Rack g.A.Area c.args.self.now is.0 is.1)
+    subst (λ (xs : List (Shard g.row.R.Denot g.row.A.Denot)). All (Valid g.R.Rack) xs) (sym c.as_slice-shards.ensures.value) (all_whole g.R.Rack g.A.Area c.args.self.now c.requires.whole)
 
 pub count_shut-requires-2-clause-valid : goal.count_shut-requires-2-clause-valid
 count_shut-requires-2-clause-valid g c =
-    let is = c.requires.represents in
-    subst (λ (xs : List (Shard g.row.R.Denot g.row.A.Denot)). All (Valid g.R.Rack) xs) (sym c.as_slice-shards.ensures.value) (all_valid g.R.Rack g.A.Area c.args.self.now is.0 is.1)
+    subst (λ (xs : List (Shard g.row.R.Denot g.row.A.Denot)). All (Valid g.R.Rack) xs) (sym c.as_slice-shards.ensures.value) (all_whole g.R.Rack g.A.Area c.args.self.now c.requires.whole)
 
 pub count_shut-requires-3-clause-valid : goal.count_shut-requires-3-clause-valid
 count_shut-requires-3-clause-valid g c =
-    let is = c.requires.represents in
-    subst (λ (xs : List (Shard g.row.R.Denot g.row.A.Denot)). All (Valid g.R.Rack) xs) (sym c.as_slice-shards.ensures.value) (all_valid g.R.Rack g.A.Area c.args.self.now is.0 is.1)
+    subst (λ (xs : List (Shard g.row.R.Denot g.row.A.Denot)). All (Valid g.R.Rack) xs) (sym c.as_slice-shards.ensures.value) (all_whole g.R.Rack g.A.Area c.args.self.now c.requires.whole)
 
 pub returns : goal.returns
 returns g c = (

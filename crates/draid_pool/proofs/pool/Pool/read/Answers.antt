@@ -1,10 +1,15 @@
+use Rattle.std.proofs.Common.{subst, sym}
 use Rattle.std.proofs.lemmas.Result.{err_from_is_err_and}
+use Rattle.draid_spec.specs.declared.layout.Geometry.{Geometry}
+use Rattle.draid_block.specs.Blocks.{cut_of}
+use Rattle.draid_block.specs.Solving.{IsFetched}
 use Rattle.draid_block.specs.declared.many.Solve.TheVariants.{Bytes, Unreadable}
-use Rattle.draid_pool.proofs.ReadSteps.{block_fetched, pool_geometry, read_solved, read_starved, unread, unread_is}
+use Rattle.draid_pool.proofs.ReadSteps.{read_solved, read_starved, unread, unread_is}
 use Rattle.draid_pool.proofs.pool.Pool.read.Goals as goal
 
 pub returns-in_err-fetched : goal.returns-in_err-fetched
 returns-in_err-fetched g c = record {
+  whole = c.in_err-fetched.ensures.whole;
   step = λ x is.
       (let p = err_from_is_err_and c.from_residual.result c.from_residual.ensures.1 in
       let f = c.in_err-fetched.ensures.step x is in
@@ -12,17 +17,15 @@ returns-in_err-fetched g c = record {
 }
 
 pub solve_block-requires-clause-geometry : goal.solve_block-requires-clause-geometry
-solve_block-requires-clause-geometry g c =
-    let is = c.requires.represents in
-    pool_geometry g.R.Rack g.A.Area c.fetch.new.self _ (c.in_ok-fetched.ensures.step is.0 is.1).represents
+solve_block-requires-clause-geometry g c = c.in_ok-fetched.ensures.whole.layout.geometry_is
 
 pub solve_block-requires-clause-fetched : goal.solve_block-requires-clause-fetched
 solve_block-requires-clause-fetched g c =
-    let is = c.requires.represents in
-    block_fetched g.R.Rack g.A.Area c.fetch.new.self is.0 c.args.object c.in_ok-fetched.fetched (c.in_ok-fetched.ensures.step is.0 is.1)
+    subst (λ (geometry : Geometry). IsFetched (cut_of geometry) c.in_ok-fetched.fetched) (sym c.in_ok-fetched.ensures.geometry) c.in_ok-fetched.ensures.fetched
 
 pub returns-in-Ok : goal.returns-in-Ok
 returns-in-Ok g c = record {
+  whole = c.in_ok-fetched.ensures.whole;
   step = λ x is.
       (let e = c.in-Ok.ensures in
       read_solved g.R.Rack g.A.Area c.fetch.new.self x c.args.object c.in_ok-fetched.fetched (Bytes c.in-Ok.bytes) (c.in_ok-fetched.ensures.step x is)
@@ -31,6 +34,7 @@ returns-in-Ok g c = record {
 
 pub returns-in-Err-Unreadable : goal.returns-in-Err-Unreadable
 returns-in-Err-Unreadable g c = record {
+  whole = c.in_ok-fetched.ensures.whole;
   step = λ x is.
       (let e = c.in-Err-Unreadable.ensures in
       read_solved g.R.Rack g.A.Area c.fetch.new.self x c.args.object c.in_ok-fetched.fetched (Unreadable c.in-Err-Unreadable.absent c.in-Err-Unreadable.tried) (c.in_ok-fetched.ensures.step x is)
@@ -39,5 +43,6 @@ returns-in-Err-Unreadable g c = record {
 
 pub returns : goal.returns
 returns g c = record {
+  whole = c.in_ok-fetched.ensures.whole;
   step = λ x is. read_starved g.R.Rack g.A.Area c.fetch.new.self x c.args.object c.in_ok-fetched.fetched (c.in_ok-fetched.ensures.step x is);
 }

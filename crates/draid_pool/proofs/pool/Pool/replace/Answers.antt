@@ -1,54 +1,63 @@
-use Rattle.std.proofs.Common.{◌∙◌, arith, refl, sym}
+use Rattle.std.proofs.Common.{◌≡◌, ◌∙◌, Some, arith, refl, sym}
+use Rattle.std.specs.Prelude.{nat_eq}
+use Rattle.std.specs.HashMap.{get}
+use Rattle.std.specs.Vec.{with_item}
 use Rattle.std.proofs.lemmas.Option.{slice_get_within}
-use Rattle.draid_pool.proofs.FreeSteps.{floor_fits, floor_last, metaslab_there, pointed, shard_at}
+use Rattle.draid_pool.specs.declared.pool.Pool.{Pool}
 use Rattle.draid_pool.proofs.ReplaceSteps.{replaced_none, replaced_some}
+use Rattle.draid_pool.proofs.Wholes.{Replaces, others_beside, pointers_with, whole_floor, whole_freed, whole_shard, whole_table, whole_valid}
 use Rattle.draid_pool.proofs.pool.Pool.replace.Goals as goal
 
 pub index_mut-requires : goal.index_mut-requires
 index_mut-requires g c =
-    let a = c.requires.awaits in
-    let found = pointed c.args.self.now.shards.items _ _ c.in-Some.earlier (sym c.in-Ok.ensures.old ∙ c.in-Some.is) a.2.had in
-    let below = slice_get_within c.args.self.now.shards.items c.in-Some.earlier.metaslab found.2.shard found.2.there in
+    let of = c.requires.whole.objects c.args.object c.in-Some.earlier (sym c.in-Ok.ensures.old ∙ c.in-Some.is) in
+    let below = slice_get_within c.args.self.now.shards.items c.in-Some.earlier.metaslab of.shard of.there in
     let len = c.args.self.now.shards.ok.0 in
     omega (arith, below, len)
 
-pub free_block-self-requires-clause-valid : goal.free_block-self-requires-clause-valid
-free_block-self-requires-clause-valid g c =
-    let a = c.requires.awaits in
-    let s = a.2.stands in
-    let found = pointed c.args.self.now.shards.items _ _ c.in-Some.earlier (sym c.in-Ok.ensures.old ∙ c.in-Some.is) a.2.had in
-    let at = shard_at c.args.self.now.shards.items c.in-Some.earlier found.0 c.index_mut.result.now found.2 c.index_mut.ensures.value in
-    let y = metaslab_there g.R.Rack g.A.Area c.args.self.now _ a.0 c.in-Some.earlier.metaslab c.index_mut.result.now s at.0 in
-    (s.each c.in-Some.earlier.metaslab c.index_mut.result.now y.0 at.0 y.1).valid
-
-pub free_block-self-requires-clause-live : goal.free_block-self-requires-clause-live
-free_block-self-requires-clause-live g c =
-    let a = c.requires.awaits in
-    let found = pointed c.args.self.now.shards.items _ _ c.in-Some.earlier (sym c.in-Ok.ensures.old ∙ c.in-Some.is) a.2.had in
-    (shard_at c.args.self.now.shards.items c.in-Some.earlier found.0 c.index_mut.result.now found.2 c.index_mut.ensures.value).1
-
-pub free_block-self-requires-clause-floor : goal.free_block-self-requires-clause-floor
-free_block-self-requires-clause-floor g c =
-    let a = c.requires.awaits in
-    let found = pointed c.args.self.now.shards.items _ _ c.in-Some.earlier (sym c.in-Ok.ensures.old ∙ c.in-Some.is) a.2.had in
-    let at = shard_at c.args.self.now.shards.items c.in-Some.earlier found.0 c.index_mut.result.now found.2 c.index_mut.ensures.value in
-    floor_fits g.R.Rack g.A.Area c.args.self.now _ a.0 c.in-Some.earlier.metaslab c.index_mut.result.now a.2.stands at.0
-
-pub free_block-self-requires-clause-last : goal.free_block-self-requires-clause-last
-free_block-self-requires-clause-last g c = (let a = c.requires.awaits in floor_last g.R.Rack g.A.Area c.args.self.now _ a.0 a.2.stands)
+pub free_block-self-requires : goal.free_block-self-requires
+free_block-self-requires g c =
+    let w = c.requires.whole in
+    let of = w.objects c.args.object c.in-Some.earlier (sym c.in-Ok.ensures.old ∙ c.in-Some.is) in
+    let at = whole_shard g.R.Rack g.A.Area c.args.self.now c.args.object c.in-Some.earlier c.index_mut.result.now of c.index_mut.ensures.value in
+    record {
+      valid = whole_valid g.R.Rack g.A.Area c.args.self.now c.in-Some.earlier.metaslab c.index_mut.result.now w at.0;
+      live = at.1;
+      floor = whole_floor g.R.Rack g.A.Area c.args.self.now c.in-Some.earlier.metaslab c.index_mut.result.now w at.0;
+      last = w.low;
+    }
 
 pub returns-in-Some : goal.returns-in-Some
-returns-in-Some g c = record {
-  step = λ x earlier a.
-      (let there = sym c.in-Ok.ensures.old ∙ c.in-Some.is in
-      let found = pointed c.args.self.now.shards.items _ _ c.in-Some.earlier there a.had in
-      let at = shard_at c.args.self.now.shards.items c.in-Some.earlier found.0 c.index_mut.result.now found.2 c.index_mut.ensures.value in
-      replaced_some g.R.Rack g.A.Area c.args.object c.args.pointer c.in-Some.earlier c.args.self.now _ c.index_mut.result.now c.free_block-self.new.shard c.free_block-self.result earlier x a there at.0
-      c.free_block-self.ensures.frees refl refl refl refl (λ q. c.in-Ok.ensures.updates.0 q));
-}
+returns-in-Some g c =
+    let there : get nat_eq c.args.self.now.objects c.args.object ≡ Some c.in-Some.earlier = sym c.in-Ok.ensures.old ∙ c.in-Some.is in
+    let w = c.requires.whole in
+    let old = c.args.self.now in
+    let p = c.in-Some.earlier in
+    let before = c.index_mut.result.now in
+    let after = c.free_block-self.new.shard in
+    let group = c.free_block-self.result in
+    let at = whole_shard g.R.Rack g.A.Area old c.args.object p before (w.objects c.args.object p there) c.index_mut.ensures.value in
+    let e = c.free_block-self.ensures in
+    let new : Pool g.row.R.Denot g.row.A.Denot
+    = record { geometry = old.geometry; shards = with_item old.shards p.metaslab after; uber = old.uber; objects = c.insert.new.self; seq = old.seq; floor = group; alloc = old.alloc } in
+    let r : Replaces g.R.Rack g.A.Area p.metaslab old new before after
+    = record { there = at.0; sets = refl; geometry = refl; uber = refl; valid = e.valid; part = e.part; groups = e.sets.groups } in
+    record {
+      whole = whole_freed g.R.Rack g.A.Area old new before after p group w r at.1 e.sets e.group refl refl
+          (others_beside g.R.Rack g.A.Area old c.args.object c.args.pointer p (λ i. get nat_eq new.objects i) w c.requires.newer there (λ i. c.in-Ok.ensures.updates.0 i));
+      step = λ x earlier a.
+          replaced_some g.R.Rack g.A.Area c.args.object c.args.pointer p old new before after group earlier x a there at.0
+          e.frees refl refl refl refl refl (λ q. c.in-Ok.ensures.updates.0 q);
+    }
 
 pub returns-in_default-earlier : goal.returns-in_default-earlier
-returns-in_default-earlier g c = record {
-  step = λ x earlier a.
-      replaced_none g.R.Rack g.A.Area c.args.object c.args.pointer c.args.self.now _ earlier x a (sym c.in-Ok.ensures.old ∙ c.in_default-earlier.is) refl refl refl refl (λ q. c.in-Ok.ensures.updates.0 q);
-}
+returns-in_default-earlier g c =
+    let old = c.args.self.now in
+    let new : Pool g.row.R.Denot g.row.A.Denot
+    = record { geometry = old.geometry; shards = old.shards; uber = old.uber; objects = c.insert.new.self; seq = old.seq; floor = old.floor; alloc = old.alloc } in
+    record {
+      whole = whole_table g.R.Rack g.A.Area old new c.requires.whole refl refl refl refl refl
+          (pointers_with g.R.Rack g.A.Area old c.args.object c.args.pointer (λ i. get nat_eq new.objects i) c.requires.whole c.requires.newer (λ i. c.in-Ok.ensures.updates.0 i));
+      step = λ x earlier a.
+          replaced_none g.R.Rack g.A.Area c.args.object c.args.pointer old new earlier x a (sym c.in-Ok.ensures.old ∙ c.in_default-earlier.is) refl refl refl refl refl (λ q. c.in-Ok.ensures.updates.0 q);
+    }

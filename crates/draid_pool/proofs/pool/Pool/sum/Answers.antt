@@ -1,22 +1,21 @@
 use Rattle.std.proofs.Common.{◌+◌, ◌-◌, arith}
 use Rattle.std.proofs.lemmas.Result.{err_from_is_err_and}
-use Rattle.draid_pool.proofs.Sums.{some_added, sum_done, sum_stops, summing_more, summing_none}
+use Rattle.draid_pool.proofs.Sums.{sum_done, sum_stops, summing_more, summing_none}
 use Rattle.draid_pool.proofs.pool.Pool.sum.Goals as goal
 
 pub loop-summed-init : goal.loop-summed-init
 loop-summed-init g c = record {
   summing = λ x is. summing_none g.R.Rack g.A.Area c.args.self.now x c.args.first c.new-hasher.result c.new-hasher.ensures is;
+  whole = c.requires.whole;
   bound = omega arith;
 }
 
-pub add_batch-requires-clause-represents : goal.add_batch-requires-clause-represents
-add_batch-requires-clause-represents g c κs within =
-    let is = c.requires.represents in
-    let s = c.loop-summed.invariant.summing is.0 is.1 in
-    (s.reached, s.represents)
+pub add_batch-requires-clause-whole : goal.add_batch-requires-clause-whole
+add_batch-requires-clause-whole g c κs within = c.loop-summed.invariant.whole
 
 pub returns-in_err-summed : goal.returns-in_err-summed
 returns-in_err-summed g c = record {
+  whole = c.in_err-summed.ensures.whole;
   step = λ x is.
       (let p = err_from_is_err_and c.from_residual.result c.from_residual.ensures.1 in
       rw (p.1, p.2) (sum_stops g.R.Rack g.A.Area c.loop-summed.self c.add_batch.new.pool x c.args.first c.loop-summed.summed c.args.count c.loop-summed.hasher c.add_batch.new.hasher
@@ -25,10 +24,7 @@ returns-in_err-summed g c = record {
 
 pub overflow_add-summed : goal.overflow_add-summed
 overflow_add-summed g c =
-    let is = c.requires.represents in
-    let s = c.loop-summed.invariant.summing is.0 is.1 in
-    let some = some_added g.R.Rack g.A.Area s.reached (c.args.first + c.loop-summed.summed) (c.args.count - c.loop-summed.summed) c.in_ok-summed.field-0 c.loop-summed.hasher c.add_batch.new.hasher
-    c.add_batch.new.pool (c.in_ok-summed.ensures.step s.reached s.represents) in
+    let some = c.in_ok-summed.ensures.added in
     let within = some.1 in
     let below = c.loop-summed-test.true in
     let fits = c.ranges.count.fits in
@@ -36,23 +32,18 @@ overflow_add-summed g c =
 
 pub loop-summed-smaller : goal.loop-summed-smaller
 loop-summed-smaller g c =
-    let is = c.requires.represents in
-    let s = c.loop-summed.invariant.summing is.0 is.1 in
-    let some = some_added g.R.Rack g.A.Area s.reached (c.args.first + c.loop-summed.summed) (c.args.count - c.loop-summed.summed) c.in_ok-summed.field-0 c.loop-summed.hasher c.add_batch.new.hasher
-    c.add_batch.new.pool (c.in_ok-summed.ensures.step s.reached s.represents) in
+    let some = c.in_ok-summed.ensures.added in
     let more = some.0 in
     let below = c.loop-summed-test.true in
     omega (arith, more, below)
 
 pub loop-summed-preserved : goal.loop-summed-preserved
 loop-summed-preserved g c =
-    let is = c.requires.represents in
-    let s = c.loop-summed.invariant.summing is.0 is.1 in
-    let some = some_added g.R.Rack g.A.Area s.reached (c.args.first + c.loop-summed.summed) (c.args.count - c.loop-summed.summed) c.in_ok-summed.field-0 c.loop-summed.hasher c.add_batch.new.hasher
-    c.add_batch.new.pool (c.in_ok-summed.ensures.step s.reached s.represents) in
+    let some = c.in_ok-summed.ensures.added in
     let within = some.1 in
     let below = c.loop-summed-test.true in
     record {
+      whole = c.in_ok-summed.ensures.whole;
       summing = λ x given.
           summing_more g.R.Rack g.A.Area c.loop-summed.self c.add_batch.new.pool x c.args.first c.loop-summed.summed (c.args.count - c.loop-summed.summed)
           c.in_ok-summed.field-0 c.loop-summed.hasher c.add_batch.new.hasher (c.loop-summed.invariant.summing x given) (λ y represents. c.in_ok-summed.ensures.step y represents);
@@ -61,6 +52,7 @@ loop-summed-preserved g c =
 
 pub returns : goal.returns
 returns g c = record {
+  whole = c.loop-summed.invariant.whole;
   step = λ x is.
       (let end = c.loop-summed-test.false in
       let bound = c.loop-summed.invariant.bound in

@@ -1,24 +1,33 @@
-use Rattle.std.proofs.Common.{◌+◌, ◌∙◌, [], arith, refl, sym, ap, length}
+use Rattle.std.proofs.Common.{◌+◌, ◌∙◌, [], Err, arith, refl, sym, ap, length, subst}
 use Rattle.std.specs.Vec.{with_item}
 use Rattle.std.proofs.lemmas.Option.{slice_get_within}
 use Rattle.draid_block.specs.Blocks.{cut_of}
 use Rattle.draid_objects.specs.Changes.{write_of}
+use Rattle.draid_shard.specs.Changes.{KeepsBlocks}
+use Rattle.draid_pool.specs.Shards.{DropsBlock, StoreSets}
 use Rattle.draid_pool.specs.declared.pool.Pool.{Pool}
-use Rattle.draid_pool.proofs.FreeSteps.{floor_last, same_represents}
-use Rattle.draid_pool.proofs.WriteSteps.{awaits, between, borrowed, its, its_floor, its_geometry, its_room, its_unused, missed, missed_here, stored_here, unwritten, unwritten_here, wrote}
+use Rattle.draid_pool.specs.declared.store.StoreFault.TheVariants.{Missed, NoMemory}
+use Rattle.draid_pool.proofs.FreeSteps.{same_represents}
+use Rattle.draid_pool.proofs.Wholes.{Replaces, whole_dropped, whole_floor, whole_geometry, whole_kept, whole_room, whole_stored, whole_table, whole_unused, whole_valid}
+use Rattle.draid_pool.proofs.WriteSteps.{awaits, between, borrowed, missed, missed_here, stored_here, unwritten, unwritten_here, wrote}
 use Rattle.draid_pool.proofs.pool.Pool.write_block.Goals as goal
 
 pub returns-then-is_err : goal.returns-then-is_err
-returns-then-is_err g c = record {
-  step = λ x is. record {
-    holds = [];
-    reached = x;
-    store = x.store;
-    follows = refl;
-    done = (refl, refl);
-    represents = same_represents g.R.Rack g.A.Area c.args.self.now _ x refl refl refl refl (λ q. c.reserve.ensures.entries.2 q) is;
-  };
-}
+returns-then-is_err g c =
+    let old = c.args.self.now in
+    let new : Pool g.row.R.Denot g.row.A.Denot
+    = record { geometry = old.geometry; shards = old.shards; uber = old.uber; objects = c.reserve.new.self; seq = old.seq; floor = old.floor; alloc = old.alloc } in
+    record {
+      whole = whole_table g.R.Rack g.A.Area old new c.requires.whole refl refl refl refl refl (λ o q at. c.requires.whole.objects o q (sym (c.reserve.ensures.entries.2 o) ∙ at));
+      step = λ x is. record {
+        holds = [];
+        reached = x;
+        store = x.store;
+        follows = refl;
+        done = (refl, refl);
+        represents = same_represents g.R.Rack g.A.Area old new x refl refl refl refl refl (λ q. c.reserve.ensures.entries.2 q) is;
+      };
+    }
 
 pub index_mut-shard-requires : goal.index_mut-shard-requires
 index_mut-shard-requires g c =
@@ -28,88 +37,116 @@ index_mut-shard-requires g c =
 
 pub store-requires-clause-valid : goal.store-requires-clause-valid
 store-requires-clause-valid g c =
-    let is = c.requires.represents in
     let at = borrowed g.R.Rack g.A.Area c.args.self.now.shards.items c.args.metaslab c.requires.room.shard c.index_mut-shard.result.now c.requires.room.there c.index_mut-shard.ensures.value in
-    (its g.R.Rack g.A.Area c.args.metaslab c.args.object c.args.block.now.bytes c.args.self.now c.index_mut-shard.result.now c.index_mut-shard.result.now is.0 is.1 at.0).valid
+    whole_valid g.R.Rack g.A.Area c.args.self.now c.args.metaslab c.index_mut-shard.result.now c.requires.whole at.0
 
 pub store-requires-clause-unused : goal.store-requires-clause-unused
 store-requires-clause-unused g c =
-    let is = c.requires.represents in
     let at = borrowed g.R.Rack g.A.Area c.args.self.now.shards.items c.args.metaslab c.requires.room.shard c.index_mut-shard.result.now c.requires.room.there c.index_mut-shard.ensures.value in
-    its_unused g.R.Rack g.A.Area c.args.metaslab c.args.object c.args.block.now.bytes c.args.self.now c.index_mut-shard.result.now c.index_mut-shard.result.now is.0 is.1 at.0 c.args.self.now.seq refl
+    whole_unused g.R.Rack g.A.Area c.args.self.now c.args.metaslab c.args.object (c.args.self.now.seq + 1) c.index_mut-shard.result.now c.requires.whole at.0 refl
 
 pub store-requires-clause-floor : goal.store-requires-clause-floor
 store-requires-clause-floor g c =
-    let is = c.requires.represents in
     let at = borrowed g.R.Rack g.A.Area c.args.self.now.shards.items c.args.metaslab c.requires.room.shard c.index_mut-shard.result.now c.requires.room.there c.index_mut-shard.ensures.value in
-    its_floor g.R.Rack g.A.Area c.args.metaslab c.args.object c.args.block.now.bytes c.args.self.now c.index_mut-shard.result.now c.index_mut-shard.result.now is.0 is.1 at.0
+    whole_floor g.R.Rack g.A.Area c.args.self.now c.args.metaslab c.index_mut-shard.result.now c.requires.whole at.0
 
 pub store-requires-clause-last : goal.store-requires-clause-last
-store-requires-clause-last g c = (let is = c.requires.represents in floor_last g.R.Rack g.A.Area c.args.self.now _ is.0 is.1.stands)
+store-requires-clause-last g c = c.requires.whole.low
 
 pub store-requires-clause-cut : goal.store-requires-clause-cut
 store-requires-clause-cut g c =
-    let is = c.requires.represents in
     let at = borrowed g.R.Rack g.A.Area c.args.self.now.shards.items c.args.metaslab c.requires.room.shard c.index_mut-shard.result.now c.requires.room.there c.index_mut-shard.ensures.value in
-    c.requires.cut ∙ sym (ap cut_of (its_geometry g.R.Rack g.A.Area c.args.metaslab c.args.object c.args.block.now.bytes c.args.self.now c.index_mut-shard.result.now c.index_mut-shard.result.now is.0 is.1 at.0))
+    c.requires.cut ∙ sym (ap cut_of (whole_geometry g.R.Rack g.A.Area c.args.self.now c.args.metaslab c.index_mut-shard.result.now c.requires.whole at.0))
 
 pub store-requires-clause-room : goal.store-requires-clause-room
 store-requires-clause-room g c =
-    let is = c.requires.represents in
     let at = borrowed g.R.Rack g.A.Area c.args.self.now.shards.items c.args.metaslab c.requires.room.shard c.index_mut-shard.result.now c.requires.room.there c.index_mut-shard.ensures.value in
-    its_room g.R.Rack g.A.Area c.args.metaslab c.args.object c.args.block.now.bytes c.args.self.now c.index_mut-shard.result.now c.index_mut-shard.result.now is.0 is.1 at.0 c.requires.room.shard
-    (length c.args.block.now.bytes) at.1 c.requires.room.room
+    whole_room g.R.Rack g.A.Area c.args.self.now c.args.metaslab (length c.args.block.now.bytes) c.requires.room.shard c.index_mut-shard.result.now c.requires.whole at.0 at.1 c.requires.room.room
 
-pub replace-requires-clause-awaits : goal.replace-requires-clause-awaits
-replace-requires-clause-awaits g c =
-    let is = c.requires.represents in
-    let at = borrowed g.R.Rack g.A.Area c.args.self.now.shards.items c.args.metaslab c.requires.room.shard c.index_mut-shard.result.now c.requires.room.there c.index_mut-shard.ensures.value in
+pub replace-requires-clause-whole : goal.replace-requires-clause-whole
+replace-requires-clause-whole g c =
+    let w = c.requires.whole in
+    let old = c.args.self.now in
     let shard = c.index_mut-shard.result.now in
-    let n = stored_here g.R.Rack g.A.Area c.args.metaslab c.args.object c.args.block.now.bytes c.args.self.now shard c.store.new.shard is.0 is.1 at.0 c.in-Ok.pointer c.in-Ok.ensures.stores in
-    let mid : Pool g.row.R.Denot g.row.A.Denot = record { geometry = c.args.self.now.geometry; shards = with_item c.args.self.now.shards c.args.metaslab c.store.new.shard; objects = c.reserve.new.self; seq = c.args.self.now.seq + 1; floor = c.in-Ok.pointer.birth; alloc = c.args.self.now.alloc } in (
-      between g.R.Rack g.A.Area c.args.metaslab c.args.object c.args.block.now.bytes c.args.self.now shard c.store.new.shard is.0 is.1 at.0 c.in-Ok.pointer n mid refl refl refl refl (λ q. c.reserve.ensures.entries.2 q),
-      write_of is.0.store.changes c.args.object,
-      awaits g.R.Rack g.A.Area c.args.metaslab c.args.object c.args.block.now.bytes c.args.self.now shard c.store.new.shard is.0 is.1 at.0 c.in-Ok.pointer n mid refl refl refl refl (λ q. c.reserve.ensures.entries.2 q),
-    )
+    let at = borrowed g.R.Rack g.A.Area old.shards.items c.args.metaslab c.requires.room.shard shard c.requires.room.there c.index_mut-shard.ensures.value in
+    let e = c.in-Ok.ensures in
+    let mid : Pool g.row.R.Denot g.row.A.Denot
+    = record { geometry = old.geometry; shards = with_item old.shards c.args.metaslab c.store.new.shard; uber = old.uber; objects = c.reserve.new.self; seq = old.seq + 1; floor = c.in-Ok.pointer.birth; alloc = old.alloc } in
+    let r : Replaces g.R.Rack g.A.Area c.args.metaslab old mid shard c.store.new.shard
+    = record { there = at.0; sets = refl; geometry = refl; uber = refl; valid = e.valid; part = e.part; groups = e.sets.sets.groups } in
+    (whole_stored g.R.Rack g.A.Area c.args.metaslab c.args.object old mid shard c.store.new.shard c.in-Ok.pointer w r e.sets refl refl (λ q. c.reserve.ensures.entries.2 q)).0
+
+pub replace-requires-clause-newer : goal.replace-requires-clause-newer
+replace-requires-clause-newer g c =
+    let w = c.requires.whole in
+    let old = c.args.self.now in
+    let shard = c.index_mut-shard.result.now in
+    let at = borrowed g.R.Rack g.A.Area old.shards.items c.args.metaslab c.requires.room.shard shard c.requires.room.there c.index_mut-shard.ensures.value in
+    let e = c.in-Ok.ensures in
+    let mid : Pool g.row.R.Denot g.row.A.Denot
+    = record { geometry = old.geometry; shards = with_item old.shards c.args.metaslab c.store.new.shard; uber = old.uber; objects = c.reserve.new.self; seq = old.seq + 1; floor = c.in-Ok.pointer.birth; alloc = old.alloc } in
+    let r : Replaces g.R.Rack g.A.Area c.args.metaslab old mid shard c.store.new.shard
+    = record { there = at.0; sets = refl; geometry = refl; uber = refl; valid = e.valid; part = e.part; groups = e.sets.sets.groups } in
+    (whole_stored g.R.Rack g.A.Area c.args.metaslab c.args.object old mid shard c.store.new.shard c.in-Ok.pointer w r e.sets refl refl (λ q. c.reserve.ensures.entries.2 q)).1
 
 pub returns-in-Ok : goal.returns-in-Ok
-returns-in-Ok g c = record {
-  step = λ x is.
-      (let at = borrowed g.R.Rack g.A.Area c.args.self.now.shards.items c.args.metaslab c.requires.room.shard c.index_mut-shard.result.now c.requires.room.there c.index_mut-shard.ensures.value in
-      let shard = c.index_mut-shard.result.now in
-      let n = stored_here g.R.Rack g.A.Area c.args.metaslab c.args.object c.args.block.now.bytes c.args.self.now shard c.store.new.shard x is at.0 c.in-Ok.pointer c.in-Ok.ensures.stores in
-      let mid : Pool g.row.R.Denot g.row.A.Denot = record { geometry = c.args.self.now.geometry; shards = with_item c.args.self.now.shards c.args.metaslab c.store.new.shard; objects = c.reserve.new.self; seq = c.args.self.now.seq + 1; floor = c.in-Ok.pointer.birth; alloc = c.args.self.now.alloc } in
-      wrote g.R.Rack g.A.Area c.args.metaslab c.args.object c.args.block.now.bytes c.args.self.now shard c.store.new.shard x is at.0 c.in-Ok.pointer n mid refl refl refl refl (λ q. c.reserve.ensures.entries.2 q) c.replace.new.self
-      (c.replace.ensures.step (between g.R.Rack g.A.Area c.args.metaslab c.args.object c.args.block.now.bytes c.args.self.now shard c.store.new.shard x is at.0 c.in-Ok.pointer n mid refl refl refl refl (λ q. c.reserve.ensures.entries.2 q))
-      (write_of x.store.changes c.args.object)
-      (awaits g.R.Rack g.A.Area c.args.metaslab c.args.object c.args.block.now.bytes c.args.self.now shard c.store.new.shard x is at.0 c.in-Ok.pointer n mid refl refl refl refl (λ q. c.reserve.ensures.entries.2 q))));
-}
+returns-in-Ok g c =
+    let w = c.requires.whole in
+    let old = c.args.self.now in
+    let shard = c.index_mut-shard.result.now in
+    let at = borrowed g.R.Rack g.A.Area old.shards.items c.args.metaslab c.requires.room.shard shard c.requires.room.there c.index_mut-shard.ensures.value in
+    let e = c.in-Ok.ensures in
+    let mid : Pool g.row.R.Denot g.row.A.Denot
+    = record { geometry = old.geometry; shards = with_item old.shards c.args.metaslab c.store.new.shard; uber = old.uber; objects = c.reserve.new.self; seq = old.seq + 1; floor = c.in-Ok.pointer.birth; alloc = old.alloc } in
+    record {
+      whole = c.replace.ensures.whole;
+      step = λ x is.
+          (let n = stored_here g.R.Rack g.A.Area c.args.metaslab c.args.object c.args.block.now.bytes old shard c.store.new.shard x is at.0 c.in-Ok.pointer e.stores in
+          wrote g.R.Rack g.A.Area c.args.metaslab c.args.object c.args.block.now.bytes old shard c.store.new.shard x is at.0 c.in-Ok.pointer n mid refl refl refl refl refl (λ q. c.reserve.ensures.entries.2 q) c.replace.new.self
+          (c.replace.ensures.step (between g.R.Rack g.A.Area c.args.metaslab c.args.object c.args.block.now.bytes old shard c.store.new.shard x is at.0 c.in-Ok.pointer n mid refl refl refl refl refl (λ q. c.reserve.ensures.entries.2 q)) (write_of x.store.changes c.args.object)
+          (awaits g.R.Rack g.A.Area c.args.metaslab c.args.object c.args.block.now.bytes old shard c.store.new.shard x is at.0 c.in-Ok.pointer n mid refl refl refl refl refl (λ q. c.reserve.ensures.entries.2 q))));
+    }
 
 pub returns-in-Err-Missed : goal.returns-in-Err-Missed
-returns-in-Err-Missed g c = record {
-  step = λ x is.
-      (let at = borrowed g.R.Rack g.A.Area c.args.self.now.shards.items c.args.metaslab c.requires.room.shard c.index_mut-shard.result.now c.requires.room.there c.index_mut-shard.ensures.value in
-      let shard = c.index_mut-shard.result.now in
-      let new : Pool g.row.R.Denot g.row.A.Denot = record { geometry = c.args.self.now.geometry; shards = with_item c.args.self.now.shards c.args.metaslab c.store.new.shard; objects = c.reserve.new.self; seq = c.args.self.now.seq + 1; floor = c.in-Err-Missed.birth; alloc = c.args.self.now.alloc } in
-      let n = missed_here g.R.Rack g.A.Area c.args.metaslab c.args.object c.args.block.now.bytes c.args.self.now shard c.store.new.shard x is at.0 c.in-Err-Missed.field-0 c.in-Err-Missed.columns c.in-Err-Missed.birth
-      c.in-Err-Missed.field-0-is c.in-Err-Missed.ensures.stores in
-      missed g.R.Rack g.A.Area c.args.metaslab c.args.object c.args.block.now.bytes c.args.self.now shard c.store.new.shard x is at.0 c.in-Err-Missed.columns c.in-Err-Missed.birth new n refl refl refl refl (λ q. c.reserve.ensures.entries.2 q));
-}
+returns-in-Err-Missed g c =
+    let w = c.requires.whole in
+    let old = c.args.self.now in
+    let shard = c.index_mut-shard.result.now in
+    let at = borrowed g.R.Rack g.A.Area old.shards.items c.args.metaslab c.requires.room.shard shard c.requires.room.there c.index_mut-shard.ensures.value in
+    let e = c.in-Err-Missed.ensures in
+    let new : Pool g.row.R.Denot g.row.A.Denot
+    = record { geometry = old.geometry; shards = with_item old.shards c.args.metaslab c.store.new.shard; uber = old.uber; objects = c.reserve.new.self; seq = old.seq + 1; floor = c.in-Err-Missed.birth; alloc = old.alloc } in
+    let drops : DropsBlock shard c.store.new.shard old.floor c.in-Err-Missed.birth
+    = subst (λ f. StoreSets shard c.store.new.shard c.args.object (old.seq + 1) old.floor (Err f)) c.in-Err-Missed.field-0-is e.sets in
+    let r : Replaces g.R.Rack g.A.Area c.args.metaslab old new shard c.store.new.shard
+    = record { there = at.0; sets = refl; geometry = refl; uber = refl; valid = e.valid; part = e.part; groups = drops.sets.groups } in
+    record {
+      whole = whole_dropped g.R.Rack g.A.Area c.args.metaslab c.in-Err-Missed.birth old new shard c.store.new.shard w r drops refl refl (λ q. c.reserve.ensures.entries.2 q);
+      step = λ x is.
+          (let n = missed_here g.R.Rack g.A.Area c.args.metaslab c.args.object c.args.block.now.bytes old shard c.store.new.shard x is at.0 c.in-Err-Missed.field-0 c.in-Err-Missed.columns c.in-Err-Missed.birth c.in-Err-Missed.field-0-is e.stores in
+          missed g.R.Rack g.A.Area c.args.metaslab c.args.object c.args.block.now.bytes old shard c.store.new.shard x is at.0 c.in-Err-Missed.columns c.in-Err-Missed.birth new n refl refl refl refl refl (λ q. c.reserve.ensures.entries.2 q));
+    }
 
 pub returns-in-Err-NoMemory : goal.returns-in-Err-NoMemory
-returns-in-Err-NoMemory g c = record {
-  step = λ x is.
-      (let at = borrowed g.R.Rack g.A.Area c.args.self.now.shards.items c.args.metaslab c.requires.room.shard c.index_mut-shard.result.now c.requires.room.there c.index_mut-shard.ensures.value in
-      let shard = c.index_mut-shard.result.now in
-      let new : Pool g.row.R.Denot g.row.A.Denot = record { geometry = c.args.self.now.geometry; shards = with_item c.args.self.now.shards c.args.metaslab c.store.new.shard; objects = c.reserve.new.self; seq = c.args.self.now.seq; floor = c.args.self.now.floor; alloc = c.args.self.now.alloc } in
-      record {
+returns-in-Err-NoMemory g c =
+    let w = c.requires.whole in
+    let old = c.args.self.now in
+    let shard = c.index_mut-shard.result.now in
+    let at = borrowed g.R.Rack g.A.Area old.shards.items c.args.metaslab c.requires.room.shard shard c.requires.room.there c.index_mut-shard.ensures.value in
+    let e = c.in-Err-NoMemory.ensures in
+    let new : Pool g.row.R.Denot g.row.A.Denot
+    = record { geometry = old.geometry; shards = with_item old.shards c.args.metaslab c.store.new.shard; uber = old.uber; objects = c.reserve.new.self; seq = old.seq; floor = old.floor; alloc = old.alloc } in
+    let keeps : KeepsBlocks shard c.store.new.shard = subst (λ f. StoreSets shard c.store.new.shard c.args.object (old.seq + 1) old.floor (Err f)) c.in-Err-NoMemory.field-0-is e.sets in
+    let r : Replaces g.R.Rack g.A.Area c.args.metaslab old new shard c.store.new.shard
+    = record { there = at.0; sets = refl; geometry = refl; uber = refl; valid = e.valid; part = e.part; groups = keeps.groups } in
+    record {
+      whole = whole_kept g.R.Rack g.A.Area c.args.metaslab old new shard c.store.new.shard w r keeps refl refl (λ q. c.reserve.ensures.entries.2 q);
+      step = λ x is. record {
         holds = [];
         reached = x;
         store = x.store;
         follows = refl;
         done = (refl, refl);
-        represents = unwritten g.R.Rack g.A.Area c.args.metaslab c.args.object c.args.block.now.bytes c.args.self.now shard c.store.new.shard x is at.0 new
-            (unwritten_here g.R.Rack g.A.Area c.args.metaslab c.args.object c.args.block.now.bytes c.args.self.now shard c.store.new.shard x is at.0 c.in-Err-NoMemory.field-0 c.in-Err-NoMemory.field-0-is
-            c.in-Err-NoMemory.ensures.stores) refl refl refl refl (λ q. c.reserve.ensures.entries.2 q);
-      });
-}
+        represents = unwritten g.R.Rack g.A.Area c.args.metaslab c.args.object c.args.block.now.bytes old shard c.store.new.shard x is at.0 new (unwritten_here g.R.Rack g.A.Area c.args.metaslab c.args.object c.args.block.now.bytes old shard c.store.new.shard x is at.0 c.in-Err-NoMemory.field-0 c.in-Err-NoMemory.field-0-is e.stores) refl refl refl refl refl (λ q. c.reserve.ensures.entries.2 q);
+      };
+    }

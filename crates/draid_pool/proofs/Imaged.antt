@@ -1,0 +1,84 @@
+-- Calls that leave the images of a metaslab as they are, and with them what an import may take.
+use Rattle.std.proofs.Common.{◌≡◌, ◌∙◌, inl, inr, ℕ, Bool, true, false, Option, Some, None, IsSome, refl, sym, ap, subst}
+use Rattle.std.specs.Prelude.{⊤, nat_lt, if◌then◌else◌}
+use Rattle.draid_area.specs.Area.{Content}
+use Rattle.draid_machine.specs.declared.event.Event.{Event}
+use Rattle.draid_machine.specs.declared.event.Event.TheVariants.{Begin, Put, Finish, Abort, Free, Fetch, Damage, Close}
+use Rattle.draid_machine.specs.declared.names.ArmName.TheVariants.{Leaf}
+use Rattle.draid_machine.specs.declared.names.Key.{Key}
+use Rattle.draid_machine.specs.declared.names.Held.{Held}
+use Rattle.draid_machine.specs.After.{gone_state, live_state, map_arm}
+use Rattle.draid_machine.specs.Images.{IsImage}
+use Rattle.draid_machine.specs.State as machine
+use Rattle.draid_machine.specs.Step.{Step}
+use Rattle.draid_shard.specs.Part.{Part}
+use Rattle.draid_session.specs.State.{Metaslab}
+use Rattle.draid_pool.specs.Records.{HasImage, HasRecords, LeavesAreBelow}
+use Rattle.draid_pool.specs.Shards.{KeepsImages}
+
+pub keeps_same : (w : machine.State) → KeepsImages w w
+keeps_same w = record { image = refl; sealed = refl; leaves = λ leaf some. some }
+
+pub keeps_then : (w mid v : machine.State) → KeepsImages w mid → KeepsImages mid v → KeepsImages w v
+keeps_then w mid v a b = record { image = b.image ∙ a.image; sealed = b.sealed ∙ a.sealed; leaves = λ leaf some. a.leaves leaf (b.leaves leaf some) }
+
+-- ---- events
+
+-- those that leave the images and the arms as they are
+abbrev pub LeavesImages : Event → Type 0
+LeavesImages (Begin key first stripes len birth digest) = ⊤
+LeavesImages (Put key landed failed) = ⊤
+LeavesImages (Finish key) = ⊤
+LeavesImages (Abort key) = ⊤
+LeavesImages (Free key group) = ⊤
+LeavesImages (Fetch key failed) = ⊤
+LeavesImages (Damage leaf sector failed) = ⊤
+LeavesImages (Close group) = ⊤
+LeavesImages e = ⊥
+
+made_keeps : (w v s : machine.State) → v ≡ s → KeepsImages w s → KeepsImages w v
+made_keeps w v s made keeps = subst (KeepsImages w) (sym made) keeps
+
+from_mapped : (f : machine.Arm → machine.Arm) (o : Option machine.Arm) → IsSome (map_arm f o) → IsSome o
+from_mapped f None some = some
+from_mapped f (Some a) some = refl
+
+finish_keeps : (w : machine.State) (key : Key) (h : Held) (b : Bool)
+    → KeepsImages w (if b then gone_state w key else live_state w key h)
+finish_keeps w key h true = record { image = refl; sealed = refl; leaves = λ leaf some. some }
+finish_keeps w key h false = record { image = refl; sealed = refl; leaves = λ leaf some. some }
+
+pub step_keeps : (l : machine.Layout) (w v : machine.State) (e : Event) → Step l w e v → LeavesImages e → KeepsImages w v
+step_keeps l w v (Begin key first stripes len birth digest) step leaves = made_keeps w v _ step.made (record { image = refl; sealed = refl; leaves = λ leaf some. some })
+step_keeps l w v (Put key landed failed) step leaves =
+    made_keeps w v _ step.made (record { image = refl; sealed = refl; leaves = λ leaf some. from_mapped _ (w.core.arm (Leaf leaf)) some })
+step_keeps l w v (Finish key) step leaves = made_keeps w v _ step.made (finish_keeps w key step.h (nat_lt l.parity step.m))
+step_keeps l w v (Abort key) step leaves = made_keeps w v _ step.made (record { image = refl; sealed = refl; leaves = λ leaf some. some })
+step_keeps l w v (Free key group) step leaves = made_keeps w v _ step.made (record { image = refl; sealed = refl; leaves = λ leaf some. some })
+step_keeps l w v (Fetch key failed) step leaves = made_keeps w v w step.made (keeps_same w)
+step_keeps l w v (Damage leaf sector failed) step leaves = made_keeps w v w step.made (keeps_same w)
+step_keeps l w v (Close group) step leaves = made_keeps w v _ step.made (record { image = refl; sealed = refl; leaves = λ leaf some. some })
+step_keeps l w v e step leaves = absurd leaves
+
+-- ---- what an import may take
+
+image_before : (w v : machine.State) (image : machine.Image) → KeepsImages w v → IsImage v image → IsImage w image
+image_before w v image keeps (inl is) = inl (sym keeps.image ∙ is)
+image_before w v image keeps (inr is) = inr (sym keeps.sealed ∙ is)
+
+image_after : (w v : machine.State) (image : machine.Image) → KeepsImages w v → IsImage w image → IsImage v image
+image_after w v image keeps (inl is) = inl (keeps.image ∙ is)
+image_after w v image keeps (inr is) = inr (keeps.sealed ∙ is)
+
+pub records_kept : (part : Part) (w v : machine.State) (even odd : Option Content) → KeepsImages w v → HasRecords part w even odd → HasRecords part v even odd
+records_kept part w v even odd keeps has image is = has image (image_before w v image keeps is)
+
+pub image_kept : (group : ℕ) (y y' : Metaslab) → KeepsImages y.world y'.world → HasImage group y → HasImage group y'
+image_kept group y y' keeps has = record { image = has.image; is = image_after y.world y'.world has.image keeps has.is; of = has.of }
+
+pub leaves_kept : (kept_leaf next_leaf : ℕ) (w v : machine.State) → KeepsImages w v → LeavesAreBelow kept_leaf next_leaf w → LeavesAreBelow kept_leaf next_leaf v
+leaves_kept kept_leaf next_leaf w v keeps below = record {
+  kept = λ leaf some. below.kept leaf (subst (λ (image : machine.Image). IsSome (image.core.arm (Leaf leaf))) keeps.image some);
+  sealed = λ image is. below.sealed image (sym keeps.sealed ∙ is);
+  now = λ leaf some. below.now leaf (keeps.leaves leaf some);
+}
