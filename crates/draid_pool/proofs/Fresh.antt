@@ -1,6 +1,6 @@
 -- A pool that was just created.
-use Rattle.std.proofs.Common.{arith, ◌≡◌, ◌==◌, ◌+◌, ◌<◌, ◌≤◌, ◌∙◌, ◌⊎◌, inl, inr, ℕ, zero, suc, Bool, true, false, List, [], ◌∷◌, Option, Some, None, refl, sym, ap, subst, length, map, if◌then◌else◌}
-use Rattle.std.specs.Prelude.{All, IsSome, IsSomeAnd, IsTrue, MatchOption, is_some, nat_eq, nat_lt, option_map, replicate, slice_get}
+use Rattle.std.proofs.Common.{arith, ◌≡◌, ◌<◌, ◌∙◌, ◌⊎◌, inl, inr, ℕ, zero, suc, Bool, true, false, List, [], ◌∷◌, Option, Some, None, refl, sym, ap, subst, length, map, if◌then◌else◌}
+use Rattle.std.specs.Prelude.{IsSome, IsSomeAnd, IsTrue, MatchOption, is_some, nat_eq, nat_lt, option_map, replicate, slice_get}
 use Rattle.std.specs.HashMap.{get}
 use Rattle.std.proofs.lemmas.Bool.{cases_lt}
 use Rattle.std.proofs.lemmas.Bool.Decides.{nat_tests}
@@ -17,6 +17,7 @@ use Rattle.draid_area.specs.declared.Area as areas
 use Rattle.draid_spec.specs.declared.layout.Geometry.{Geometry}
 use Rattle.draid_spec.specs.Geometry.{IsGeometry}
 use Rattle.draid_perm.specs.declared.perms.Perms.{Perms}
+use Rattle.draid_map.specs.Place.{IsLayout}
 use Rattle.draid_machine.specs.declared.names.ArmName.TheVariants.{Leaf}
 use Rattle.draid_machine.specs.declared.names.Key.{Key}
 use Rattle.draid_machine.specs.declared.names.Held.{Held as Block}
@@ -28,7 +29,7 @@ use Rattle.draid_objects.proofs.Keeping.{none_floor, none_stored}
 use Rattle.draid_record.specs.declared.uber.UberBody.{UberBody}
 use Rattle.draid_segments.specs.Segments.{Backed, Pieces}
 use Rattle.draid_segments.proofs.Beginning.{created_backed}
-use Rattle.draid_shelf.specs.Kits.{AreNewChecks, CheckCounts, ChecksTold, Held, IsNewArea, IsNewKit, IsNewPool, IsNewRack, IsUncounted, KitCounts, KitTold, OnHeld, gives_uber, takes_uber, uber_bytes}
+use Rattle.draid_shelf.specs.Kits.{AreNewChecks, ChecksTold, Held, IsNewArea, IsNewKit, IsNewPool, IsNewRack, IsUncounted, KitCounts, KitTold, OnHeld, gives_uber, takes_uber, uber_bytes}
 use Rattle.draid_shard.specs.Part.{Part, layout_in}
 use Rattle.draid_shard.specs.States.{IsIn, layout_by}
 use Rattle.draid_shard.specs.declared.shard.Shard.{Shard}
@@ -39,13 +40,13 @@ use Rattle.draid_uber.specs.Uber.{area_of, kept_of, layout_of, next_leaf_of, nex
 use Rattle.draid_session.specs.Making.{IsCalm, IsFresh, IsNew}
 use Rattle.draid_session.specs.Opening.{MayFind}
 use Rattle.draid_session.specs.Session.{uncommitted}
-use Rattle.draid_session.specs.State.{Metaslab, State, Store}
-use Rattle.draid_pool.specs.Closing.{HoldsPool, OwnCounts, Returns, SameCounts, TakesBack, kit_in}
+use Rattle.draid_session.specs.State.{Metaslab, State}
+use Rattle.draid_pool.specs.Closing.{HoldsPool, OwnCounts, Returns, TakesBack}
 use Rattle.draid_pool.specs.Metaslabs.{IsMetaslab, counts_of, harm_of}
 use Rattle.draid_pool.specs.Objects.{HoldsObjects, PointsTo, blocks_of}
-use Rattle.draid_pool.specs.Opening.{AreOpened, HasNewKits, HoldsMade, IsAway, IsBackAgain, IsMade, IsNewUber, IsOpened, IsRefused, NoChecks, Opens, SameButRecords, TakesFirst, rack_in}
+use Rattle.draid_pool.specs.Opening.{AreOpened, HasNewKits, HoldsMade, IsAway, IsBackAgain, IsMade, IsOpened, IsRefused, NoChecks, Opens, SameButRecords, TakesFirst, rack_in}
 use Rattle.draid_pool.specs.Pools.{Represents}
-use Rattle.draid_pool.specs.Records.{HasImage, HasImages, HasLeafNumbers}
+use Rattle.draid_pool.specs.Records.{HasImages, HasLeafNumbers, HasRecords, LeavesAreBelow}
 use Rattle.draid_pool.specs.Ubers.{IsPending, IsUber, body_of}
 use Rattle.draid_pool.specs.Whole.{IsWhole}
 use Rattle.draid_pool.specs.declared.pool.Pool.{Pool}
@@ -151,7 +152,7 @@ module _ {R A : Type 0} (rack : racks.Ghosts R) (area : areas.Ghosts A) where
       reserved = sym is.reserved;
       counts = refl;
       harm = refl;
-      records = subst (λ (w : machine.State). Rattle.draid_pool.specs.Records.HasRecords (record { geometry = geometry; perms = opened.perms; number = m }) w (area.told shard.even) (area.told shard.odd))
+      records = subst (λ (w : machine.State). HasRecords (record { geometry = geometry; perms = opened.perms; number = m }) w (area.told shard.even) (area.told shard.odd))
           (sym (world_is m shard is)) is.records;
     }
 
@@ -228,7 +229,7 @@ module _ {R A : Type 0} (rack : racks.Ghosts R) (area : areas.Ghosts A) where
           (let u = unmapped metaslab_of shards m y (ap (λ (ys : List Metaslab). slice_get ys m) (sym are) ∙ there) in
           let below = leaf_below m u.0 in
           let is = opened.each m u.0 u.1 in
-          subst (λ (z : Metaslab). Rattle.draid_pool.specs.Records.LeavesAreBelow x.kept_leaf x.next_leaf z.world) u.2 (record {
+          subst (λ (z : Metaslab). LeavesAreBelow x.kept_leaf x.next_leaf z.world) u.2 (record {
             kept = λ leaf some. (let less = below leaf is some in omega (arith, less, kept));
             sealed = λ image sealed. absurd (cc);
             now = λ leaf some. (let less = below leaf is some in omega (arith, less, next));
@@ -258,7 +259,7 @@ module _ {R A : Type 0} (rack : racks.Ghosts R) (area : areas.Ghosts A) where
           seq = sym seq;
           floor = sym floor;
           uber = uber;
-          images = images_first (state_of geometry opened.perms shards count told) refl (λ group found some. elim found [ | inl is ↦ is | inr is ↦ absurd (let none = is.0 in cc) ]);
+          images = images_first (state_of geometry opened.perms shards count told) refl (λ group found some. elim found [ inl is ↦ is | inr is ↦ absurd (let none = is.0 in cc) ]);
           leaves = leaves_first (state_of geometry opened.perms shards count told) refl refl refl;
         };
         only = λ m k h is live. absurd (not_held m k h is);
@@ -276,7 +277,7 @@ module _ {R A : Type 0} (rack : racks.Ghosts R) (area : areas.Ghosts A) where
         holds = holds_none 0;
         uber = record { pending = body ∷ []; are = All-cons (IsPending x) body [] (refl, is) (All-nil (IsPending x)); stands = stands };
         images = images_first x refl
-            (λ group found some. elim found [ | inl is ↦ absurd (omega (arith, is, some)) | inr is ↦ (let at = is.1 in omega (arith, at)) ]);
+            (λ group found some. elim found [ inl is ↦ absurd (omega (arith, is, some)) | inr is ↦ (let at = is.1 in omega (arith, at)) ]);
         leaves = leaves_first x refl refl refl;
       }
 
@@ -303,7 +304,7 @@ module _ {R A : Type 0} (rack : racks.Ghosts R) (area : areas.Ghosts A) where
         → ubers.Valid area.size pool.uber → layout_of pool.uber ≡ geometry → group_of (kept_of pool.uber) ≡ 1 → IsWhole rack area pool
     first_whole pool used items floor empty valid layout first = record {
       perms = opened.perms;
-      layout = subst (λ (x : Geometry). Rattle.draid_map.specs.Place.IsLayout x opened.perms) (sym used) opened.are_perms;
+      layout = subst (λ (x : Geometry). IsLayout x opened.perms) (sym used) opened.are_perms;
       many = ap (λ (xs : List (Shard R A)). length xs) items ∙ (opened.many ∙ ap (λ (x : Geometry). x.props.metaslabs) (sym used));
       shards = λ m shard there.
           (let at : slice_get shards m ≡ Some shard = ap (λ (xs : List (Shard R A)). slice_get xs m) (sym items) ∙ there in

@@ -26,7 +26,7 @@ use Rattle.draid_shard.specs.Part.{Part, layout_in}
 use Rattle.draid_shard.specs.States.{IsIn, part_of, stored_in}
 use Rattle.draid_shard.specs.declared.shard.Shard.{Shard}
 use Rattle.draid_session.specs.State.{limit_of}
-use Rattle.draid_pool.specs.Closing.{Returns, TakesBack, kit_in}
+use Rattle.draid_pool.specs.Closing.{Returns, TakesBack}
 use Rattle.draid_pool.specs.Opening.{AreOpened, IsBackAgain, IsOpened, RecordsFailed, SameButRecords, TakesFirst, rack_in}
 use Rattle.draid_pool.specs.Records.{HasRecords, area_for}
 use Rattle.draid_pool.proofs.Closed.{at_end, kit_is, put_here, put_there}

@@ -1,4 +1,4 @@
-use Rattle.std.proofs.Common.{rules, ◌∙◌, [], ◌∷◌, None, Some, Option, ap, inl, inr, refl, subst, sym}
+use Rattle.std.proofs.Common.{rules, ◌∙◌, [], ◌∷◌, Option, ap, inl, inr, refl, subst, sym}
 use Rattle.std.specs.Prelude.{is_some}
 use Rattle.draid_record.specs.declared.uber.UberBody.{UberBody}
 use Rattle.draid_shelf.specs.Kits.{gives_uber}
