@@ -301,8 +301,8 @@ module _ {R A : Type 0} (rack : racks.Ghosts R) (area : areas.Ghosts A) where
 
     -- a pool whose uberblock names the first group is whole
     pub first_whole : (pool : Pool R A) → pool.geometry ≡ geometry → pool.shards.items ≡ shards → pool.floor ≡ 0 → ((q : ℕ) → get nat_eq pool.objects q ≡ None)
-        → ubers.Valid area.size pool.uber → layout_of pool.uber ≡ geometry → group_of (kept_of pool.uber) ≡ 1 → IsWhole rack area pool
-    first_whole pool used items floor empty valid layout first = record {
+        → ubers.Valid area.size pool.uber → layout_of pool.uber ≡ geometry → version_of pool.uber ≡ geometry.props.version → group_of (kept_of pool.uber) ≡ 1 → IsWhole rack area pool
+    first_whole pool used items floor empty valid layout version first = record {
       perms = opened.perms;
       layout = subst (λ (x : Geometry). IsLayout x opened.perms) (sym used) opened.are_perms;
       many = ap (λ (xs : List (Shard R A)). length xs) items ∙ (opened.many ∙ ap (λ (x : Geometry). x.props.metaslabs) (sym used));
@@ -318,6 +318,7 @@ module _ {R A : Type 0} (rack : racks.Ghosts R) (area : areas.Ghosts A) where
           });
       uber = valid;
       uber_layout = layout ∙ sym used;
+      uber_version = version ∙ ap (λ (x : Geometry). x.props.version) (sym used);
       objects = λ object pointer there. (let none = empty object in absurd (cc));
       floor = omega (arith, floor);
       low = omega (arith, floor);

@@ -24,7 +24,7 @@ returns-in-Ok-commit-clause-whole g c =
     let e = c.in-Ok-commit.ensures in
     first_whole g.H.R.Rack g.H.A.Area c.args.layout c.requires.layout (shelf.told c.args.shelf.now) (shelf.counts c.args.shelf.now) c.in-Ok.shards.items c.in-Ok.ensures.opened
     _ refl refl refl (λ q. search rules) e.valid (first_layout g.H.R.Rack g.H.A.Area c.args.layout c.args.uber c.commit.new.self u.layout u.version u.next_leaf e.layout)
-    (ap (λ (kept : Option UberBody). group_of kept) e.kept)
+    (e.version ∙ u.version) (ap (λ (kept : Option UberBody). group_of kept) e.kept)
 
 pub returns-in-Ok-commit-clause-opens : goal.returns-in-Ok-commit-clause-opens
 returns-in-Ok-commit-clause-opens g c =
