@@ -48,6 +48,7 @@ pub record IsWhole {R A : Type 0} (rack : racks.Ghosts R) (area : areas.Ghosts A
   pub shards : (m : ℕ) (shard : Shard R A) → slice_get pool.shards.items m ≡ Some shard → IsShardOf rack perms pool m shard
   pub uber : ubers.Valid area.size pool.uber
   pub uber_layout : ubers.layout_of pool.uber ≡ pool.geometry
+  pub uber_version : ubers.version_of pool.uber ≡ pool.geometry.props.version
   pub objects : (object : ℕ) (pointer : Pointer) → get nat_eq pool.objects object ≡ Some pointer → IsPointer pool object pointer
   pub floor : pool.floor ≤ group_of (ubers.kept_of pool.uber) + 2
   pub low : pool.floor ≤ LAST_NUMBER
