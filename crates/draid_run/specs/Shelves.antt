@@ -1,12 +1,12 @@
 -- What a shelf holds between lines and as a run ends.
-use Rattle.std.specs.Prelude.{◌≡◌, ◌<◌, ◌+◌, ◌⊎◌, ℕ, Bool, Option, Some, IsSome, IsTrue, is_some, slice_get}
+use Rattle.std.specs.Prelude.{◌≡◌, ◌<◌, ◌+◌, ◌⊎◌, ℕ, Bool, Option, Some, IsSome, IsSomeAnd, IsTrue, is_some, slice_get}
 use Rattle.draid_names.specs.Faults.{Rose}
-use Rattle.draid_shelf.specs.Kits.{Held, KitCounts, OnHeld}
+use Rattle.draid_shelf.specs.Kits.{AreNewChecks, Held, KitCounts, OnHeld}
 use Rattle.draid_shelf.specs.declared.Shelf as shelves
 use Rattle.draid_session.specs.Session.{Desk, Untouched, Made, Open, Shut}
 use Rattle.draid_session.specs.State.{Metaslab, State}
 use Rattle.draid_pool.specs.Closing.{HoldsPool, OwnCounts, SameCounts}
-use Rattle.draid_pool.specs.Opening.{AreaFailed, IsAsBefore, IsAway, IsMade, NoChecks}
+use Rattle.draid_pool.specs.Opening.{AreaFailed, IsAsBefore, IsMade, NoChecks}
 
 -- What a shelf tells that it holds, and how often calls have failed: on the devices of each metaslab, on the areas that aren't of a metaslab, and on itself.
 pub record OnShelf : Type 0 where
@@ -27,10 +27,14 @@ on_shelf shelf x = record {
 abbrev pub IsSame : OnShelf → OnShelf → Type 0
 IsSame old new = IsAsBefore old.held new.held old.counts new.counts old.own new.own
 
+-- the areas of the check records are held, as they were made
+abbrev pub HasChecks : Held → Type 0
+HasChecks held = IsSomeAnd held.checks AreNewChecks
+
 -- The devices of an open pool are away; the areas of the check records are as they were made, and no call has failed on them. Whether the shelf tells is as the
 -- pool was opened.
 pub record IsOut (x : State) (now : OnShelf) : Type 0 where
-  pub held : OnHeld now.held IsAway
+  pub held : OnHeld now.held HasChecks
   pub checks : NoChecks now.own
   pub told : x.told ≡ is_some now.held
 
