@@ -1,26 +1,39 @@
 -- The devices of a pool's metaslabs are given back to a shelf.
-use Rattle.std.proofs.Common.{arith, ◌≡◌, ◌==◌, ◌+◌, ◌≤◌, ◌++◌, ◌∙◌, inl, inr, ℕ, List, [], ◌∷◌, Option, Some, None, refl, sym, ap, subst, length, length-append, if◌then◌else◌}
-use Rattle.std.specs.Prelude.{Bool, true, false, IsSomeAnd, MatchOption, slice_get}
+use Rattle.std.proofs.Common.{arith, ◌≡◌, ◌==◌, ◌%◌, ◌+◌, ◌≤◌, ◌++◌, ◌∙◌, inl, inr, ℕ, List, [], ◌∷◌, Option, Some, None, refl, sym, ap, subst, length, length-append, if◌then◌else◌}
+use Rattle.std.specs.Prelude.{⊤, Bool, true, false, IsSomeAnd, MatchOption, slice_get}
 use Rattle.std.proofs.lemmas.Bool.{cases_eq}
 use Rattle.std.proofs.lemmas.Bool.Decides.{nat_tests}
 use Rattle.std.proofs.lemmas.List.{append-nil, append_assoc}
 use Rattle.std.proofs.lemmas.Option.{slice_get_within}
-use Rattle.draid_rack.specs.Rack.{OnTold, Told}
+use Rattle.draid_rack.specs.Rack.{Told}
 use Rattle.draid_rack.specs.declared.Rack as racks
 use Rattle.draid_area.specs.Area.{Content}
+use Rattle.draid_area.specs.Moments as area_moments
 use Rattle.draid_area.specs.declared.Area as areas
-use Rattle.draid_shelf.specs.Kits.{Both, CrashedHeld, Held, KitCounts, KitTold, OnHeld, gives_kit, kit_of}
+use Rattle.draid_names.specs.declared.pointer.Pointer.{Pointer}
+use Rattle.draid_map.specs.Place.{IsLayout}
+use Rattle.draid_machine.specs.Created.{IsReached}
+use Rattle.draid_layouts.specs.Layout.{layout_of}
+use Rattle.draid_segments.specs.Segments.{Backed, Pieces}
+use Rattle.draid_shelf.specs.Kits.{AreNewChecks, Both, CrashedChecks, CrashedHeld, CrashedKit, Held, IsNewArea, KitCounts, KitTold, OnHeld, gives_kit, gives_uber, kit_of, puts_uber}
 use Rattle.draid_shelf.specs.Shelf.{SameOthers}
+use Rattle.draid_stable.specs.Stable as stable
+use Rattle.draid_stable.specs.Stable.{HasRecord}
+use Rattle.draid_stable.proofs.Lasting.{stable_left}
 use Rattle.draid_shard.specs.declared.shard.Shard.{Shard}
+use Rattle.draid_shard.specs.Groups.{at_version}
 use Rattle.draid_shard.specs.Part.{Part, layout_in}
 use Rattle.draid_shard.specs.States.{layout_by}
+use Rattle.draid_uber.specs.Uber.{area_of}
+use Rattle.draid_uber.proofs.Imports.{crash_stands}
 use Rattle.draid_session.specs.State.{Metaslab, State}
-use Rattle.draid_segments.specs.Segments.{Backed, Pieces}
-use Rattle.draid_pool.specs.Closing.{HoldsKit, HoldsPool, IsCrashed, Returns, SameCounts, TakesBack, kit_in}
+use Rattle.draid_pool.specs.Closing.{HoldsPool, Rests, RestsOn, Returns, SameCounts, TakesBack, kit_in}
 use Rattle.draid_pool.specs.Metaslabs.{IsMetaslab, harm_of}
+use Rattle.draid_pool.specs.Objects.{HoldsObjects, blocks_of}
 use Rattle.draid_pool.specs.Pools.{Stands, part_in}
+use Rattle.draid_pool.specs.Records.{HasImages, HasLeafNumbers, area_for}
+use Rattle.draid_pool.specs.Ubers.{UberStands, kept_in}
 use Rattle.draid_pool.specs.declared.pool.Pool.{Pool}
-use Rattle.draid_names.specs.declared.pointer.Pointer.{Pointer}
 use Rattle.draid_pool.proofs.Lists.{present, some_of}
 
 pub at_end : {A : Type 0} (xs : List A) (x : A) (ys : List A) (n : ℕ) → n ≡ length xs → slice_get (xs ++ x ∷ ys) n ≡ Some x
@@ -163,67 +176,187 @@ module _ {R A : Type 0} (rack : racks.Ghosts R) (area : areas.Ghosts A) where
         others = g.others;
       }
 
--- what a kit tells of its rack
-rack_told : (r : Option Told) (e o : Option Content) (kit : KitTold) → kit_of r e o ≡ Some kit → r ≡ Some kit.rack
-rack_told None e o kit is = absurd (cc)
-rack_told (Some r) None o kit is = absurd (cc)
-rack_told (Some r) (Some e) None kit is = absurd (cc)
-rack_told (Some r) (Some e) (Some o) kit is = (let same : record { rack = r; even = e; odd = o } ≡ kit = some_of (Some kit) (record { rack = r; even = e; odd = o }) kit (sym is) refl in ap (λ (k : KitTold). Some k.rack) same)
+-- what a kit tells, by its parts
+pub record KitIs (r : Option Told) (e o : Option Content) (kit : KitTold) : Type 0 where
+  pub rack : r ≡ Some kit.rack
+  pub even : e ≡ Some kit.even
+  pub odd : o ≡ Some kit.odd
 
-on_some : (o : Option Told) (r : Told) (P : Told → Type 0) → o ≡ Some r → OnTold o P → P r
-on_some None r P is h = absurd (cc)
-on_some (Some x) r P is h = subst P (some_of (Some x) x r refl is) h
+pub kit_is : (r : Option Told) (e o : Option Content) (kit : KitTold) → kit_of r e o ≡ Some kit → KitIs r e o kit
+kit_is None e o kit is = absurd (cc)
+kit_is (Some r) None o kit is = absurd (cc)
+kit_is (Some r) (Some e) None kit is = absurd (cc)
+kit_is (Some r) (Some e) (Some o) kit is =
+    let same : record { rack = r; even = e; odd = o } ≡ kit = some_of (Some kit) (record { rack = r; even = e; odd = o }) kit (sym is) refl in
+    record { rack = ap (λ (k : KitTold). Some k.rack) same; even = ap (λ (k : KitTold). Some k.even) same; odd = ap (λ (k : KitTold). Some k.odd) same }
+
+on_some : {X : Type 0} (o : Option X) (x : X) (P : X → Type 0) → o ≡ Some x → MatchOption o ⊤ P → P x
+on_some None x P is h = absurd (cc)
+on_some (Some y) x P is h = subst P (some_of (Some y) y x refl is) h
+
+some_and : {X : Type 0} (o : Option X) (x : X) (P : X → Type 0) → o ≡ Some x → P x → IsSomeAnd o P
+some_and o x P is h = subst (λ z. IsSomeAnd z P) (sym is) h
+
+-- the area of a group, of two that tell
+area_told : (group : ℕ) (e o : Option Content) (kit : KitTold) (P : Content → Type 0) → e ≡ Some kit.even → o ≡ Some kit.odd → MatchOption (area_for group e o) ⊤ P
+    → P (stable.area_of group kit.even kit.odd)
+area_told group e o kit P even odd h = by (group % 2 == 0) h
+  where
+    by : (b : Bool) → MatchOption (if b then e else o) ⊤ P → P (if b then kit.even else kit.odd)
+    by true h = on_some e kit.even P even h
+    by false h = on_some o kit.odd P odd h
 
 module _ {R A : Type 0} (rack : racks.Ghosts R) (area : areas.Ghosts A) where
-  holds_kit : (x : State) (m : ℕ) (pieces : Pieces) (shard : Shard R A) (y : Metaslab) (kit : KitTold) → IsMetaslab rack area (part_in x m) pieces shard y → kit_in rack area shard ≡ Some kit
-      → HoldsKit x m pieces y kit
-  holds_kit x m pieces shard y kit is told =
-      let r = rack_told (rack.told shard.rack) (area.told shard.even) (area.told shard.odd) kit told in
+  -- Shards that stand for the metaslabs of a state, and an uberblock whose area tells what an import may find of it.
+  pub record Parts (shards : List (Shard R A)) (content : Option Content) (x : State) : Type 0 where
+    pub layout : IsLayout x.geometry x.perms
+    pub many : length x.metaslabs ≡ x.geometry.props.metaslabs
+    pub shards_are : length shards ≡ length x.metaslabs
+    pub pieces : ℕ → Pieces
+    pub each : (m : ℕ) (shard : Shard R A) (y : Metaslab) → slice_get shards m ≡ Some shard → slice_get x.metaslabs m ≡ Some y
+        → IsMetaslab rack area (part_in x m) (pieces m) shard y
+    pub holds : HoldsObjects x.geometry x.committed x.store (blocks_of x.metaslabs) pieces
+    pub uber : UberStands x content
+    pub images : HasImages x
+    pub leaves : HasLeafNumbers x
+
+  pub stands_parts : (pool : Pool R A) (table : ℕ → Option Pointer) (x : State) → Stands rack area pool table x → Parts pool.shards.items (area.told (area_of pool.uber)) x
+  stands_parts pool table x s = record {
+    layout = s.layout;
+    many = s.many;
+    shards_are = s.shards;
+    pieces = s.pieces;
+    each = s.each;
+    holds = s.holds;
+    uber = s.uber.stands;
+    images = s.images;
+    leaves = s.leaves;
+  }
+
+  backed : (x : State) (m : ℕ) (pieces : Pieces) (shard : Shard R A) (y : Metaslab) (kit : KitTold) → IsMetaslab rack area (part_in x m) pieces shard y → rack.told shard.rack ≡ Some kit.rack
+      → Backed (layout_of x.geometry x.perms m) pieces y.world kit.rack
+  backed x m pieces shard y kit is told =
+      subst (λ (p : Part). Backed (layout_in p) pieces y.world kit.rack) is.part_is (on_some (rack.told shard.rack) kit.rack (Backed (layout_by shard) pieces y.world) told is.stands.segments)
+
+  rests_on : (x : State) (m : ℕ) (pieces : Pieces) (shard : Shard R A) (y : Metaslab) (kit : KitTold) → IsMetaslab rack area (part_in x m) pieces shard y → kit_in rack area shard ≡ Some kit
+      → RestsOn x m pieces y kit
+  rests_on x m pieces shard y kit is told =
+      let k = kit_is (rack.told shard.rack) (area.told shard.even) (area.told shard.odd) kit told in
       record {
-        backed = subst (λ (p : Part). Backed (layout_in p) pieces y.world kit.rack) is.part_is (on_some (rack.told shard.rack) kit.rack (Backed (layout_by shard) pieces y.world) r is.stands.segments);
-        harm = is.harm ∙ ap harm_of r;
+        reached = subst (λ (p : Part). IsReached (layout_in p) y.world) is.part_is is.stands.reached;
+        images = λ image of. record {
+          recorded = area_told image.group (area.told shard.even) (area.told shard.odd) kit (HasRecord (at_version image.version x.geometry) m image) k.even k.odd (is.records image of);
+          firm = (backed x m pieces shard y kit is k.rack).images image of;
+        };
+        harm = some_and y.harm kit.rack.harmed (λ harm. (leaf sector : ℕ) → kit.rack.harmed leaf sector ≡ harm leaf sector) (is.harm ∙ ap harm_of k.rack) (λ leaf sector. refl);
       }
 
-  module _ (pool : Pool R A) (table : ℕ → Option Pointer) (x : State) (stands : Stands rack area pool table x) (old new : Option Held) (before after : ℕ → KitCounts)
-      (r : Returns rack area pool.shards.items old new before after) where
-    shard_at : (m : ℕ) (y : Metaslab) → slice_get x.metaslabs m ≡ Some y → (shard : Shard R A) × (slice_get pool.shards.items m ≡ Some shard)
-    shard_at m y there = (let within = slice_get_within x.metaslabs m y there in let many = stands.shards in present pool.shards.items m (omega (arith, within, many)))
+  module _ (shards : List (Shard R A)) (content : Option Content) (x : State) (p : Parts shards content x) where
+    shard_at : (m : ℕ) (y : Metaslab) → slice_get x.metaslabs m ≡ Some y → (shard : Shard R A) × (slice_get shards m ≡ Some shard)
+    shard_at m y there = (let within = slice_get_within x.metaslabs m y there in let many = p.shards_are in present shards m (omega (arith, within, many)))
 
-    some_and : (o : Option KitTold) (kit : KitTold) (P : KitTold → Type 0) → o ≡ Some kit → P kit → IsSomeAnd o P
-    some_and o kit P is h = subst (λ z. IsSomeAnd z P) (sym is) h
-
-    pool_held : (a b : Option Held) → OnHeld b (λ y. MatchOption a ⊥ (λ x. TakesBack rack area pool.shards.items x y)) → OnHeld b (λ held. MatchOption a ⊥ (λ before. HoldsPool x before held))
-    pool_held a None h = tt
-    pool_held None (Some b) h = absurd h
-    pool_held (Some a) (Some b) h = record {
-      uber = h.uber;
-      checks = h.checks;
-      pieces = stands.pieces;
-      objects = stands.holds;
-      kits = λ m y there.
+    -- what stands in for all that was given back
+    held_again : (u : Content) (a b : Held) → content ≡ Some u → TakesBack rack area shards a b → IsSomeAnd a.checks AreNewChecks → HoldsPool x false (puts_uber (Some u) b)
+    held_again u a b is t new = record {
+      pieces = p.pieces;
+      rests = record {
+        layout = p.layout;
+        uber = subst (λ o. UberStands x o) is p.uber;
+        checks = subst (λ o. IsSomeAnd o AreNewChecks) (sym t.checks) new;
+        many = p.many;
+        kits = λ m y there.
+            (let s = shard_at m y there in
+            let k = t.kits m s.0 s.1 in
+            some_and (b.kits m) k.0 (RestsOn x m (p.pieces m) y) k.2 (rests_on x m (p.pieces m) s.0 y k.0 (p.each m s.0 y s.1 there) k.1));
+        images = p.images;
+        leaves = p.leaves;
+        objects = p.holds;
+      };
+      backed = λ none m y there.
           (let s = shard_at m y there in
-          let k = h.kits m s.0 s.1 in
-          some_and (b.kits m) k.0 (HoldsKit x m (stands.pieces m) y) k.2 (holds_kit x m (stands.pieces m) s.0 y k.0 (stands.each m s.0 y s.1 there) k.1));
+          let k = t.kits m s.0 s.1 in
+          let told = (kit_is (rack.told s.0.rack) (area.told s.0.even) (area.told s.0.odd) k.0 k.1).rack in
+          some_and (b.kits m) k.0 (λ kit. Backed (layout_of x.geometry x.perms m) (p.pieces m) y.world kit.rack) k.2 (backed x m (p.pieces m) s.0 y k.0 (p.each m s.0 y s.1 there) told));
     }
 
-    pub holds_pool : OnHeld new (λ held. MatchOption old ⊥ (λ before. HoldsPool x before held))
-    holds_pool = pool_held old new r.held
+    all_again : (c : Option Content) (a b : Option Held) → content ≡ c → OnHeld b (λ y. MatchOption a ⊥ (λ z. TakesBack rack area shards z y))
+        → OnHeld (gives_uber c b) (λ held. MatchOption a ⊥ (λ before. IsSomeAnd before.checks AreNewChecks → HoldsPool x false held))
+    all_again None a b is h = tt
+    all_again (Some u) a None is h = tt
+    all_again (Some u) None (Some b) is h = absurd h
+    all_again (Some u) (Some a) (Some b) is h = held_again u a b is h
 
-    pub counted_as : (m : ℕ) (y : Metaslab) → slice_get x.metaslabs m ≡ Some y → SameCounts y.counts (after m)
-    counted_as m y there =
-        let s = shard_at m y there in
-        let same = (stands.each m s.0 y s.1 there).counts in
-        record {
-          rack = λ who. r.rack_count m s.0 who s.1 ∙ ap (λ c. c.rack who) (sym same);
-          even = r.even_count m s.0 s.1 ∙ ap (λ c. c.even) (sym same);
-          odd = r.odd_count m s.0 s.1 ∙ ap (λ c. c.odd) (sym same);
-        }
+    module _ (old mid : Option Held) (before after : ℕ → KitCounts) (r : Returns rack area shards old mid before after) where
+      pub holds_pool : (new : Option Held) → new ≡ gives_uber content mid → OnHeld new (λ held. MatchOption old ⊥ (λ before. IsSomeAnd before.checks AreNewChecks → HoldsPool x false held))
+      holds_pool new gives = subst (λ o. OnHeld o (λ held. MatchOption old ⊥ (λ before. IsSomeAnd before.checks AreNewChecks → HoldsPool x false held))) (sym gives) (all_again content old mid refl r.held)
 
-pub crashed : (crash : Bool) (o n : Option Held) → crash ≡ true → Both CrashedHeld o n → IsCrashed crash o n
-crashed crash o n is h = subst (λ b. IsCrashed b o n) (sym is) h
+      pub counted_as : (last : ℕ → KitCounts) → ((m : ℕ) → last m ≡ after m) → (m : ℕ) (y : Metaslab) → slice_get x.metaslabs m ≡ Some y → SameCounts y.counts (last m)
+      counted_as last kept m y there =
+          let s = shard_at m y there in
+          let same = (p.each m s.0 y s.1 there).counts in
+          record {
+            rack = λ who. ap (λ (c : KitCounts). c.rack who) (kept m) ∙ (r.rack_count m s.0 who s.1 ∙ ap (λ c. c.rack who) (sym same));
+            even = ap (λ (c : KitCounts). c.even) (kept m) ∙ (r.even_count m s.0 s.1 ∙ ap (λ c. c.even) (sym same));
+            odd = ap (λ (c : KitCounts). c.odd) (kept m) ∙ (r.odd_count m s.0 s.1 ∙ ap (λ c. c.odd) (sym same));
+          }
 
-pub not_crashed : (crash : Bool) (o : Option Held) → crash ≡ false → IsCrashed crash o o
-not_crashed crash o is = subst (λ b. IsCrashed b o o) (sym is) refl
+-- ---- a crash
 
-pub same_counts : (y : Metaslab) (a b : KitCounts) → b ≡ a → SameCounts y.counts a → SameCounts y.counts b
-same_counts y a b is h = subst (λ c. SameCounts y.counts c) (sym is) h
+both_some : {X : Type 0} (C : X → X → Type 0) (P Q : X → Type 0) (o n : Option X) → IsSomeAnd o P → Both C o n → ((a b : X) → P a → C a b → Q b) → IsSomeAnd n Q
+both_some C P Q None n h both step = absurd h
+both_some C P Q (Some a) None h both step = absurd both
+both_some C P Q (Some a) (Some b) h both step = step a b h both
+
+some_map : {X : Type 0} (o : Option X) (P Q : X → Type 0) → IsSomeAnd o P → ((x : X) → P x → Q x) → IsSomeAnd o Q
+some_map None P Q h step = absurd h
+some_map (Some x) P Q h step = step x h
+
+nothing_left : (bytes : List ℕ) → length bytes ≤ 0 → bytes ≡ []
+nothing_left [] few = refl
+nothing_left (b ∷ bytes) few = absurd (omega (arith, few))
+
+new_crashed : (x y : Content) → IsNewArea [] x → area_moments.IsCrashOutcome x y → IsNewArea [] y
+new_crashed x y new crash =
+    let most = crash.left.most in
+    let none : length x.bytes ≡ 0 = ap length new.bytes_are in
+    let empty : y.bytes ≡ [] = nothing_left y.bytes (omega (arith, most, none)) in
+    record { bytes_are = empty; firm = crash.firm ∙ ap length empty; soft = crash.soft }
+
+module _ (x : State) (pieces : ℕ → Pieces) where
+  kit_crashed : (m : ℕ) (y : Metaslab) (a b : KitTold) → RestsOn x m (pieces m) y a → CrashedKit a b → RestsOn x m (pieces m) y b
+  kit_crashed m y a b r crash = record {
+    reached = r.reached;
+    images = λ image of. stable_left (at_version image.version x.geometry) m (layout_of x.geometry x.perms m) (pieces m) image y.world.aside a b (r.images image of) crash;
+    harm = some_map y.harm (λ harm. (leaf sector : ℕ) → a.rack.harmed leaf sector ≡ harm leaf sector) (λ harm. (leaf sector : ℕ) → b.rack.harmed leaf sector ≡ harm leaf sector) r.harm
+        (λ harm same leaf sector. crash.rack.harmed leaf sector ∙ same leaf sector);
+  }
+
+  pub rests_crashed : (held left : Held) → Rests x pieces held → CrashedHeld held left → Rests x pieces left
+  rests_crashed held left r crash = record {
+    layout = r.layout;
+    uber = both_some area_moments.IsCrashOutcome (λ c. UberStands x (Some c)) (λ c. UberStands x (Some c)) held.uber left.uber r.uber crash.uber
+        (λ a b s outcome. record { pending = s.pending; are = s.are; stands = crash_stands (kept_in x) s.pending (Some a) (Some b) s.stands outcome });
+    checks = both_some CrashedChecks AreNewChecks AreNewChecks held.checks left.checks r.checks crash.checks
+        (λ a b new outcome. record { even = new_crashed a.even b.even new.even outcome.even; odd = new_crashed a.odd b.odd new.odd outcome.odd });
+    many = r.many;
+    kits = λ m y there. both_some CrashedKit (RestsOn x m (pieces m) y) (RestsOn x m (pieces m) y) (held.kits m) (left.kits m) (r.kits m y there) (crash.kits m) (kit_crashed m y);
+    images = r.images;
+    leaves = r.leaves;
+    objects = r.objects;
+  }
+
+-- the pool is held after a crash too, where one was asked for
+pub pool_crashed : (x : State) (crash : Bool) (old mid new : Option Held) → crash ≡ true → Both CrashedHeld mid new
+    → OnHeld mid (λ held. MatchOption old ⊥ (λ before. IsSomeAnd before.checks AreNewChecks → HoldsPool x false held))
+    → OnHeld new (λ held. MatchOption old ⊥ (λ before. IsSomeAnd before.checks AreNewChecks → HoldsPool x crash held))
+pool_crashed x crash old mid None is both h = tt
+pool_crashed x crash old None (Some y) is both h = absurd (cc)
+pool_crashed x crash None (Some z) (Some y) is both h = absurd h
+pool_crashed x crash (Some w) (Some z) (Some y) is both h = λ new.
+    (let p = h new in
+    record { pieces = p.pieces; rests = rests_crashed x p.pieces z y p.rests both; backed = λ none. absurd (cc) })
+
+pub pool_uncrashed : (x : State) (crash : Bool) (old new : Option Held) → crash ≡ false
+    → OnHeld new (λ held. MatchOption old ⊥ (λ before. IsSomeAnd before.checks AreNewChecks → HoldsPool x false held))
+    → OnHeld new (λ held. MatchOption old ⊥ (λ before. IsSomeAnd before.checks AreNewChecks → HoldsPool x crash held))
+pool_uncrashed x crash old new is h = subst (λ c. OnHeld new (λ held. MatchOption old ⊥ (λ before. IsSomeAnd before.checks AreNewChecks → HoldsPool x c held))) (sym is) h

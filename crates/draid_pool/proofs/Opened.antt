@@ -1,27 +1,35 @@
 -- The metaslabs of a new pool are opened over the devices that were made for them.
-use Rattle.std.proofs.Common.{arith, ◌≡◌, ◌+◌, ◌<◌, ◌≤◌, ◌++◌, ◌∙◌, ◌⊎◌, inl, inr, ℕ, zero, suc, List, [], ◌∷◌, Option, Some, None, refl, sym, ap, subst, length, length-append}
-use Rattle.std.specs.Prelude.{MatchOption, slice_get}
+use Rattle.std.proofs.Common.{arith, ◌≡◌, ◌+◌, ◌<◌, ◌≤◌, ◌++◌, ◌∙◌, ◌⊎◌, inl, inr, ℕ, zero, suc, List, [], ◌∷◌, Option, Some, None, Ok, Err, refl, sym, ap, subst, length, length-append}
+use Rattle.std.specs.Prelude.{IsErrOf, IsSomeAnd, MatchOption, slice_get}
 use Rattle.std.proofs.lemmas.Bool.{cases_eq, cases_lt}
 use Rattle.std.proofs.lemmas.Option.{slice_get_within}
-use Rattle.draid_rack.specs.Rack.{Shape}
+use Rattle.draid_names.specs.Faults.{Rose}
+use Rattle.draid_names.specs.declared.fault.DeviceFault.{DeviceFault}
+use Rattle.draid_rack.specs.Rack.{Shape, Told}
 use Rattle.draid_rack.specs.declared.Rack as racks
+use Rattle.draid_area.specs.Area.{Content, OnTold}
 use Rattle.draid_area.specs.declared.Area as areas
 use Rattle.draid_spec.specs.declared.layout.Geometry.{Geometry}
 use Rattle.draid_perm.specs.declared.perms.Perms.{Perms}
 use Rattle.draid_map.specs.Place.{IsLayout}
 use Rattle.draid_machine.specs.Created.{created}
-use Rattle.draid_shelf.specs.Kits.{Held, KitCounts, KitTold, OnHeld, kit_of, takes_kit}
+use Rattle.draid_machine.specs.Images.{IsImage}
+use Rattle.draid_machine.specs.State.{Image}
+use Rattle.draid_shelf.specs.Kits.{Held, KitCounts, KitTold, NeedsKit, OnHeld, kit_of, takes_kit}
 use Rattle.draid_shelf.specs.Shelf.{SameOthers}
 use Rattle.draid_shelf.specs.declared.kit.Kit.{Kit}
 use Rattle.draid_entries.specs.History.{limit_in, reserved_of}
+use Rattle.draid_stable.specs.Stable.{HasRecord}
 use Rattle.draid_shard.specs.Fits.{Valid}
+use Rattle.draid_shard.specs.Groups.{at_version}
 use Rattle.draid_shard.specs.Part.{Part, layout_in}
 use Rattle.draid_shard.specs.States.{IsIn, part_of, stored_in}
 use Rattle.draid_shard.specs.declared.shard.Shard.{Shard}
 use Rattle.draid_session.specs.State.{limit_of}
-use Rattle.draid_pool.specs.Closing.{Returns, TakesBack, kit_in}
-use Rattle.draid_pool.specs.Opening.{AreOpened, IsBackAgain, IsOpened, SameHeld, TakesFirst}
-use Rattle.draid_pool.proofs.Closed.{at_end, put_here, put_there}
+use Rattle.draid_pool.specs.Closing.{Returns, TakesBack}
+use Rattle.draid_pool.specs.Opening.{AreOpened, IsBackAgain, IsOpened, RecordsFailed, SameButRecords, TakesFirst, rack_in}
+use Rattle.draid_pool.specs.Records.{HasRecords, area_for}
+use Rattle.draid_pool.proofs.Closed.{at_end, kit_is, put_here, put_there}
 use Rattle.draid_pool.proofs.Lists.{present, some_of}
 
 -- what is below a place of two lists, one after the other
@@ -30,30 +38,60 @@ get_before [] ys m below = absurd (omega (arith, below))
 get_before (x ∷ xs) ys zero below = refl
 get_before (x ∷ xs) ys (suc m) below = get_before xs ys m (omega (arith, below))
 
+-- a count that rose since a moment rose since an earlier one
+pub rose_since : (first middle last : ℕ) → first ≤ middle → Rose middle last → Rose first last
+rose_since first middle last later rose = omega (arith, later, rose)
+
+-- a failure is one whatever the answer would have been
+pub failed_too : {T U : Type 0} (fault : DeviceFault) → IsErrOf {T = T} (Err fault) DeviceFault.Failed → IsErrOf {T = U} (Err fault) DeviceFault.Failed
+failed_too fault failed = (let same : fault ≡ DeviceFault.Failed = cc in ap Err same)
+
+-- ---- one metaslab
+
+-- the record that a new metaslab writes is that of its one image
+pub records_first : (part : Part) (even odd : Option Content) → OnTold odd (HasRecord (at_version part.geometry.props.version part.geometry) part.number (created (layout_in part) part.geometry.props.version).image)
+    → HasRecords part (created (layout_in part) part.geometry.props.version) even odd
+records_first part even odd h = λ image of. by image of
+  where
+    by : (image : Image) → IsImage (created (layout_in part) part.geometry.props.version) image
+        → OnTold (area_for image.group even odd) (HasRecord (at_version image.version part.geometry) part.number image)
+    by image (inl is) = subst (λ (i : Image). OnTold (area_for i.group even odd) (HasRecord (at_version i.version part.geometry) part.number i)) is h
+    by image (inr is) = absurd (cc)
+
+-- a kit that was taken was held, and its rack tells what was
+rack_held : {T : Type 0} (got : T) (o : Option Held) (r : Option Told) (e d : Option Content) (n : ℕ) → OnHeld o (λ x. kit_of r e d ≡ x.kits n) → NeedsKit n (Ok got) o
+    → OnHeld o (λ x. IsSomeAnd (x.kits n) (λ kit. r ≡ Some kit.rack))
+rack_held got None r e d n is needs = tt
+rack_held got (Some x) r e d n is needs = by (x.kits n) refl
+  where
+    by : (k : Option KitTold) → x.kits n ≡ k → IsSomeAnd k (λ kit. r ≡ Some kit.rack)
+    by None none = (let failed = needs none in absurd (cc))
+    by (Some k) there = (kit_is r e d k (is ∙ there)).rack
+
+-- what a rack tells that was held
+held_rack : (o : Option KitTold) (r : Option Told) → IsSomeAnd o (λ kit. r ≡ Some kit.rack) → r ≡ rack_in o
+held_rack None r h = absurd h
+held_rack (Some kit) r h = h
+
 module _ {R A : Type 0} (rack : racks.Ghosts R) (area : areas.Ghosts A) where
-  -- ---- one metaslab
-
-  -- the kit of a new metaslab is the one that was held
-  same_kit : (o : Option Held) (kit : Kit R A) (shard : Shard R A) (n : ℕ) → shard.rack ≡ kit.rack → shard.even ≡ kit.even → shard.odd ≡ kit.odd
-      → OnHeld o (λ held. kit_of (rack.told kit.rack) (area.told kit.even) (area.told kit.odd) ≡ held.kits n) → OnHeld o (λ x. kit_in rack area shard ≡ x.kits n)
-  same_kit None kit shard n r e d h = tt
-  same_kit (Some x) kit shard n r e d h = (λ i. kit_of (rack.told (r i)) (area.told (e i)) (area.told (d i))) ∙ h
-
   pub opened : (part : Part) (held : Option Held) (counts : KitCounts) (kit : Kit R A) (shard : Shard R A) (events : ℕ) → Valid rack shard → part_of shard ≡ part
       → IsIn shard (created (layout_in (part_of shard)) part.geometry.props.version) → stored_in shard ≡ [] → reserved_of shard.history ≡ 0 → limit_in shard.history ≡ events → events ≡ limit_of part.geometry
-      → shard.rack ≡ kit.rack → shard.even ≡ kit.even → shard.odd ≡ kit.odd → OnHeld held (λ x. kit_of (rack.told kit.rack) (area.told kit.even) (area.told kit.odd) ≡ x.kits part.number)
-      → ((who : Option ℕ) → rack.faults kit.rack who ≡ counts.rack who) → area.faults kit.even ≡ counts.even → area.faults kit.odd ≡ counts.odd → IsOpened rack area part held counts shard
-  opened part held counts kit shard events valid part_is is_in stored reserved limit events_are r e d told rack_count even_count odd_count = record {
+      → shard.rack ≡ kit.rack
+      → OnTold (area.told shard.odd) (HasRecord (at_version part.geometry.props.version part.geometry) part.number (created (layout_in (part_of shard)) part.geometry.props.version).image)
+      → OnHeld held (λ x. kit_of (rack.told kit.rack) (area.told kit.even) (area.told kit.odd) ≡ x.kits part.number) → NeedsKit part.number (Ok kit) held
+      → ((who : Option ℕ) → rack.faults kit.rack who ≡ counts.rack who) → IsOpened rack area part held counts shard
+  opened part held counts kit shard events valid part_is is_in stored reserved limit events_are r recorded told needs rack_count = record {
     valid = valid;
     part_is = part_is;
     created_is = subst (λ (p : Part). IsIn shard (created (layout_in p) part.geometry.props.version)) part_is is_in;
     events = stored;
     reserved = reserved;
     limit = limit ∙ events_are;
-    kit = same_kit held kit shard part.number r e d told;
+    told = subst (λ (s : R). OnHeld held (λ x. IsSomeAnd (x.kits part.number) (λ kit. rack.told s ≡ Some kit.rack))) (sym r)
+        (rack_held kit held (rack.told kit.rack) (area.told kit.even) (area.told kit.odd) part.number told needs);
     rack_count = λ who. ap (λ (x : R). rack.faults x who) r ∙ rack_count who;
-    even_count = ap area.faults e ∙ even_count;
-    odd_count = ap area.faults d ∙ odd_count;
+    records = records_first part (area.told shard.even) (area.told shard.odd)
+        (subst (λ (p : Part). OnTold (area.told shard.odd) (HasRecord (at_version part.geometry.props.version part.geometry) part.number (created (layout_in p) part.geometry.props.version).image)) part_is recorded);
   }
 
   -- ---- all metaslabs
@@ -99,10 +137,10 @@ module _ {R A : Type 0} (rack : racks.Ghosts R) (area : areas.Ghosts A) where
   }
 
   -- what was held for a metaslab that isn't open yet was so from the beginning
-  from_first : (n : ℕ) (old mid : Option Held) (kit : Option KitTold) → TakesFirst n old mid → OnHeld mid (λ y. kit ≡ y.kits n) → OnHeld old (λ x. kit ≡ x.kits n)
-  from_first n None mid kit t h = tt
-  from_first n (Some x) None kit t h = absurd t
-  from_first n (Some x) (Some y) kit t h = h ∙ t.others n (omega arith)
+  from_first : (n : ℕ) (old mid : Option Held) (P : Option KitTold → Type 0) → TakesFirst n old mid → OnHeld mid (λ y. P (y.kits n)) → OnHeld old (λ x. P (x.kits n))
+  from_first n None mid P t h = tt
+  from_first n (Some x) None P t h = absurd t
+  from_first n (Some x) (Some y) P t h = subst P (t.others n (omega arith)) h
 
   pub opening_more : (geometry : Geometry) (perms : Perms) (n : ℕ) (leaves mid_leaves leaves' : ℕ → Option Shape) (old mid new : Option Held) (before middle after : ℕ → KitCounts)
       (shards shards' : List (Shard R A)) (shard : Shard R A) → Opening geometry perms n leaves mid_leaves old mid before middle shards → shards' ≡ shards ++ shard ∷ []
@@ -128,10 +166,9 @@ module _ {R A : Type 0} (rack : racks.Ghosts R) (area : areas.Ghosts A) where
           events = is.events;
           reserved = is.reserved;
           limit = is.limit;
-          kit = from_first n old mid (kit_in rack area shard) o.told is.kit;
+          told = from_first n old mid (λ k. IsSomeAnd k (λ kit. rack.told shard.rack ≡ Some kit.rack)) o.told is.told;
           rack_count = λ who. is.rack_count who ∙ ap (λ (c : KitCounts). c.rack who) unused;
-          even_count = is.even_count ∙ ap (λ (c : KitCounts). c.even) unused;
-          odd_count = is.odd_count ∙ ap (λ (c : KitCounts). c.odd) unused;
+          records = is.records;
         }
 
         each : (m : ℕ) (s : Shard R A) → slice_get shards' m ≡ Some s → (m < n) ⊎ (n ≤ m) → IsOpened rack area (record { geometry = geometry; perms = perms; number = m }) old (before m) s
@@ -149,23 +186,23 @@ module _ {R A : Type 0} (rack : racks.Ghosts R) (area : areas.Ghosts A) where
             (subst (λ (x : Shard R A). IsOpened rack area (record { geometry = geometry; perms = perms; number = n }) old (before n) x) same own)
 
   -- where one is refused, those that were open are given back
-  module _ (geometry : Geometry) (perms : Perms) (n : ℕ) (leaves mid_leaves : ℕ → Option Shape) (first : Option Held) (before : ℕ → KitCounts) (shards : List (Shard R A)) where
-    back_held : (old mid last new : Option Held) (middle : ℕ → KitCounts) → ((m : ℕ) (shard : Shard R A) → slice_get shards m ≡ Some shard → OnHeld old (λ x. kit_in rack area shard ≡ x.kits m)) → length shards ≡ n
-        → TakesFirst n old mid → OnHeld last (λ y. MatchOption mid ⊥ (λ x. SameHeld x y)) → OnHeld new (λ y. MatchOption last ⊥ (λ x. TakesBack rack area shards x y))
-        → OnHeld new (λ y. MatchOption old ⊥ (λ x. SameHeld x y))
-    back_held old mid last None middle own many t b r = tt
-    back_held old mid None (Some y) middle own many t b r = absurd r
-    back_held old None (Some l) (Some y) middle own many t b r = absurd b
-    back_held None (Some z) (Some l) (Some y) middle own many t b r = absurd (cc)
-    back_held (Some x) (Some z) (Some l) (Some y) middle own many t b r = record {
+  module _ (n : ℕ) (shards : List (Shard R A)) where
+    back_held : (old mid last new : Option Held) → ((m : ℕ) (shard : Shard R A) → slice_get shards m ≡ Some shard → OnHeld old (λ x. IsSomeAnd (x.kits m) (λ kit. rack.told shard.rack ≡ Some kit.rack)))
+        → length shards ≡ n → TakesFirst n old mid → OnHeld last (λ y. MatchOption mid ⊥ (λ x. SameButRecords x y)) → OnHeld new (λ y. MatchOption last ⊥ (λ x. TakesBack rack area shards x y))
+        → OnHeld new (λ y. MatchOption old ⊥ (λ x. SameButRecords x y))
+    back_held old mid last None own many t b r = tt
+    back_held old mid None (Some y) own many t b r = absurd r
+    back_held old None (Some l) (Some y) own many t b r = absurd b
+    back_held None (Some z) (Some l) (Some y) own many t b r = absurd (cc)
+    back_held (Some x) (Some z) (Some l) (Some y) own many t b r = record {
       uber = r.uber ∙ (b.uber ∙ t.uber);
       checks = r.checks ∙ (b.checks ∙ t.checks);
       kits = λ m. elim (cases_lt m n) [
         | inl below ↦
             (let s = present shards m (omega (arith, below, many)) in
             let k = r.kits m s.0 s.1 in
-            k.2 ∙ (sym k.1 ∙ own m s.0 s.1))
-        | inr past ↦ r.others m (omega (arith, past, many)) ∙ (b.kits m ∙ t.others m past)
+            ap rack_in k.2 ∙ (sym (kit_is (rack.told s.0.rack) (area.told s.0.even) (area.told s.0.odd) k.0 k.1).rack ∙ held_rack (x.kits m) (rack.told s.0.rack) (own m s.0 s.1)))
+        | inr past ↦ ap rack_in (r.others m (omega (arith, past, many))) ∙ (b.kits m ∙ ap rack_in (t.others m past))
       ];
     }
 
@@ -174,27 +211,22 @@ module _ {R A : Type 0} (rack : racks.Ghosts R) (area : areas.Ghosts A) where
   opening_back geometry perms n leaves mid_leaves old mid last new before middle late after shards o b r =
       let many = o.many in
       record {
-        held = back_held geometry perms n leaves mid_leaves old before shards old mid last new middle (λ m shard there. (o.each m shard there).kit) o.many o.told b.held r.held;
-        counts = λ m. elim (cases_lt m n) [
-          | inl below ↦
-              (let s = present shards m (omega (arith, below, many)) in
-              let is = o.each m s.0 s.1 in
-              record {
-                rack = λ who. r.rack_count m s.0 who s.1 ∙ is.rack_count who;
-                even = r.even_count m s.0 s.1 ∙ is.even_count;
-                odd = r.odd_count m s.0 s.1 ∙ is.odd_count;
-              })
-          | inr past ↦
-              (let same = r.others m (omega (arith, past, many)) in
-              let kept = b.counts m in
-              let unused = o.counts m past in
-              record {
-                rack = λ who. ap (λ (c : KitCounts). c.rack who) same ∙ (kept.rack who ∙ ap (λ (c : KitCounts). c.rack who) unused);
-                even = ap (λ (c : KitCounts). c.even) same ∙ (kept.even ∙ ap (λ (c : KitCounts). c.even) unused);
-                odd = ap (λ (c : KitCounts). c.odd) same ∙ (kept.odd ∙ ap (λ (c : KitCounts). c.odd) unused);
-              })
+        held = back_held n shards old mid last new (λ m shard there. (o.each m shard there).told) o.many o.told b.held r.held;
+        counts = λ m who. elim (cases_lt m n) [
+          | inl below ↦ (let s = present shards m (omega (arith, below, many)) in r.rack_count m s.0 who s.1 ∙ (o.each m s.0 s.1).rack_count who)
+          | inr past ↦ ap (λ (c : KitCounts). c.rack who) (r.others m (omega (arith, past, many))) ∙ (b.counts m who ∙ ap (λ (c : KitCounts). c.rack who) (o.counts m past))
         ];
       }
+
+  -- a failure of the areas of the one that was refused is counted still
+  pub refused_counted : (geometry : Geometry) (perms : Perms) (n : ℕ) (leaves mid_leaves : ℕ → Option Shape) (old mid last new : Option Held) (before middle late after : ℕ → KitCounts) (shards : List (Shard R A)) (first since last_count : ℕ)
+      → Opening geometry perms n leaves mid_leaves old mid before middle shards → Returns rack area shards last new late after → first ≤ since → Rose since last_count ⊎ (0 < (late n).odd)
+      → Rose first last_count ⊎ RecordsFailed after
+  refused_counted geometry perms n leaves mid_leaves old mid last new before middle late after shards first since last_count o r later (inl rose) = inl (rose_since first since last_count later rose)
+  refused_counted geometry perms n leaves mid_leaves old mid last new before middle late after shards first since last_count o r later (inr some) =
+      let many = o.many in
+      let kept : (after n).odd ≡ (late n).odd = ap (λ (c : KitCounts). c.odd) (r.others n (omega (arith, many))) in
+      inr (n, omega (arith, kept, some))
 
   pub opening_all : (geometry : Geometry) (perms : Perms) (n : ℕ) (leaves leaves' : ℕ → Option Shape) (old new : Option Held) (before after : ℕ → KitCounts) (shards : List (Shard R A))
       → Opening geometry perms n leaves leaves' old new before after shards → IsLayout geometry perms → n ≡ geometry.props.metaslabs → AreOpened rack area geometry old before shards

@@ -1,7 +1,9 @@
 -- What becomes of a shelf on which a pool is created, and of the pool.
-use Rattle.std.specs.Prelude.{◌≡◌, ◌<◌, ◌≤◌, ◌+◌, ◌⊎◌, ℕ, Bool, false, List, [], Option, Some, None, MatchOption, IsSome, IsSomeAnd, IsTrue, is_some, Result, Ok, Err, length, replicate, slice_get}
+use Rattle.std.specs.Prelude.{◌≡◌, ◌<◌, ◌≤◌, ◌+◌, ◌⊎◌, ℕ, false, List, [], Option, Some, None, MatchOption, IsSome, IsSomeAnd, IsTrue, is_some, option_map, Result, Ok, Err, length, replicate, slice_get}
 use Rattle.draid_names.specs.Faults.{Rose}
+use Rattle.draid_rack.specs.Rack.{Told}
 use Rattle.draid_rack.specs.declared.Rack as racks
+use Rattle.draid_area.specs.Area.{OnTold}
 use Rattle.draid_area.specs.declared.Area as areas
 use Rattle.draid_spec.specs.declared.layout.Geometry.{Geometry}
 use Rattle.draid_spec.specs.declared.layout.Props.{Props}
@@ -11,11 +13,15 @@ use Rattle.draid_perm.specs.declared.perms.Perms.{Perms}
 use Rattle.draid_map.specs.Place.{IsLayout}
 use Rattle.draid_machine.specs.Created.{created}
 use Rattle.draid_entries.specs.History.{limit_in, reserved_of}
-use Rattle.draid_shelf.specs.Kits.{AreNewChecks, Held, IsNewArea, IsNewRack, KitCounts, OnHeld, uber_bytes}
+use Rattle.draid_shelf.specs.Kits.{AreNewChecks, Held, IsNewArea, IsNewKit, IsNewRack, KitCounts, KitTold, OnHeld, uber_bytes}
 use Rattle.draid_shard.specs.Fits.{Valid}
 use Rattle.draid_shard.specs.Part.{Part, layout_in}
 use Rattle.draid_shard.specs.States.{IsIn, part_of, stored_in}
 use Rattle.draid_shard.specs.declared.shard.Shard.{Shard}
+use Rattle.draid_uber.specs.declared.uber.Uber.{Uber}
+use Rattle.draid_uber.specs.Slots.{StandsTold}
+use Rattle.draid_uber.specs.Uber.{area_of, kept_of, layout_of, next_leaf_of, version_of}
+use Rattle.draid_uber.specs.Uber as ubers
 use Rattle.draid_session.specs.Making.{IsFresh}
 use Rattle.draid_session.specs.Session.{uncommitted}
 use Rattle.draid_session.specs.State.{Metaslab, State, limit_of}
@@ -139,18 +145,41 @@ pub record TakesBelow (n : ℕ) (old new : Held) : Type 0 where
 abbrev pub TakesFirst : ℕ → Option Held → Option Held → Type 0
 TakesFirst n old new = MatchOption old (new ≡ None) (λ x. MatchOption new ⊥ (λ y. TakesBelow n x y))
 
--- the same is held
-pub record SameHeld (old new : Held) : Type 0 where
+-- what the rack of a kit tells
+abbrev pub rack_in : Option KitTold → Option Told
+rack_in kit = option_map (λ x. x.rack) kit
+
+-- the same is held, but for what stands on the areas of records
+pub record SameButRecords (old new : Held) : Type 0 where
   pub uber : new.uber ≡ old.uber
   pub checks : new.checks ≡ old.checks
-  pub kits : (m : ℕ) → new.kits m ≡ old.kits m
+  pub kits : (m : ℕ) → rack_in (new.kits m) ≡ rack_in (old.kits m)
 
-pub record SameKitCounts (old new : KitCounts) : Type 0 where
-  pub rack : (who : Option ℕ) → new.rack who ≡ old.rack who
-  pub even : new.even ≡ old.even
-  pub odd : new.odd ≡ old.odd
-
--- what was taken is held again, with its counts
+-- what was taken is held again, with the counts of its racks
 pub record IsBackAgain (old new : Option Held) (before after : ℕ → KitCounts) : Type 0 where
-  pub held : OnHeld new (λ y. MatchOption old ⊥ (λ x. SameHeld x y))
-  pub counts : (m : ℕ) → SameKitCounts (before m) (after m)
+  pub held : OnHeld new (λ y. MatchOption old ⊥ (λ x. SameButRecords x y))
+  pub counts : (m : ℕ) (who : Option ℕ) → (after m).rack who ≡ (before m).rack who
+
+-- a call on the areas of a metaslab's records has failed
+abbrev pub RecordsFailed : (ℕ → KitCounts) → Type 0
+RecordsFailed kits = (m : ℕ) × (0 < (kits m).even + (kits m).odd)
+
+-- ---- the uberblock
+
+-- the uberblock of a new pool, to whose area nothing was written
+pub record IsNewUber {A : Type 0} (area : areas.Ghosts A) (geometry : Geometry) (uber : Uber A) : Type 0 where
+  pub valid : ubers.Valid area.size uber
+  pub kept : kept_of uber ≡ None
+  pub layout : layout_of uber ≡ geometry
+  pub version : version_of uber ≡ geometry.props.version
+  pub next_leaf : next_leaf_of uber ≡ geometry.spec.children
+  pub stands : StandsTold None [] (area.told (area_of uber))
+  pub zeros : OnTold (area.told (area_of uber)) (IsNewArea (replicate uber_bytes 0))
+  pub count : area.faults (area_of uber) ≡ 0
+
+-- the devices of a new pool are held, but for the area of the uberblock, which is taken
+pub record HasNewKits (geometry : Geometry) (x : Held) : Type 0 where
+  pub uber : x.uber ≡ None
+  pub checks : IsSomeAnd x.checks AreNewChecks
+  pub kits : (m : ℕ) → m < geometry.props.metaslabs → IsSomeAnd (x.kits m) (IsNewKit geometry)
+  pub no_other : (m : ℕ) → geometry.props.metaslabs ≤ m → x.kits m ≡ None

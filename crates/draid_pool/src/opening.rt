@@ -1,19 +1,20 @@
-ghost use Rattle.std.specs.Prelude.{◌≡◌, ◌<◌, ◌≤◌, ℕ, IfOk, IsErrOf, IsSomeAnd, OnErr, OnOk};
+ghost use Rattle.std.specs.Prelude.{◌≡◌, ◌⊎◌, ◌<◌, ◌≤◌, ℕ, IfOk, IsErrOf, IsSomeAnd, OnErr, OnOk};
 ghost use Rattle.draid_names.specs.Faults.{Rose};
 ghost use Rattle.draid_spec.specs.Spec.{IsSpec};
 ghost use Rattle.draid_spec.specs.Geometry.{IsGeometry};
 ghost use Rattle.draid_map.specs.Place.{IsLayout};
 ghost use Rattle.draid_shelf.specs.Shelf.{HasLeavesOf, SameOthers};
-ghost use Rattle.draid_shelf.specs.Kits.{takes_kit};
+ghost use Rattle.draid_shelf.specs.Kits.{IsUncounted, OnHeld, takes_kit};
 ghost use Rattle.draid_pool.specs.Whole.{IsWhole};
-ghost use Rattle.draid_pool.specs.Opening.{AreOpened, CreateIs, IsBackAgain, IsOpened, ShelfIs, TakesFirst};
+ghost use Rattle.draid_pool.specs.Opening.{AreOpened, AreaFailed, CreateIs, HasNewKits, HoldsUncommitted, IsAsBefore, IsAway, IsBackAgain, IsNewUber, IsOpened, Opens, RecordsFailed, ShelfIs, TakesFirst};
 
 use crate::closing::give_back;
 use crate::fault::PoolFault;
 use crate::pool::Pool;
+use draid_area::Area;
 use draid_names::DeviceFault;
 use draid_perm::Perms;
-use draid_shard::Shard;
+use draid_shard::{OpenFault, OpenRefused, Shard};
 use draid_shelf::Shelf;
 use draid_spec::{Geometry, Props, Spec, geometry};
 use draid_uber::Uber;
@@ -22,6 +23,16 @@ use std::collections::HashMap;
 
 /// How many events all metaslabs of a pool may store, with those that are owed.
 const EVENTS: u64 = 1 << 24;
+
+/// Why a new metaslab wasn't made: its area failed, or there was no memory.
+fn device_fault(why: OpenFault) -> DeviceFault
+    ensures { result ≡ DeviceFault.Failed → why ≡ OpenFault.Area }
+{
+    match why {
+        OpenFault::Area => DeviceFault::Failed,
+        OpenFault::Record { .. } | OpenFault::NoMemory => DeviceFault::NoMemory,
+    }
+}
 
 /// Takes the devices of a new metaslab, and opens it. After a refusal they are on the shelf.
 fn open_shard<H: Shelf>(
@@ -42,15 +53,15 @@ fn open_shard<H: Shelf>(
     ensures uber { H.uber_count shelf.new ≡ H.uber_count shelf.old }
     ensures checks { H.check_counts shelf.new ≡ H.check_counts shelf.old }
     ensures later { H.faults shelf.old ≤ H.faults shelf.new }
-    ensures cause { IsErrOf result DeviceFault.Failed → Rose (H.faults shelf.old) (H.faults shelf.new) }
+    ensures cause { IsErrOf result DeviceFault.Failed → Rose (H.faults shelf.old) (H.faults shelf.new) ⊎ (0 < (H.counts shelf.new number).odd) }
 {
     let kit = shelf.take(number, &layout)?;
     let events = EVENTS / u64::from(layout.props.metaslabs);
     match Shard::create(alloc, number, layout, perms, kit, events) {
         Ok(shard) => Ok(shard),
-        Err(refused) => {
-            shelf.give(number, refused.kit);
-            Err(DeviceFault::NoMemory)
+        Err(OpenRefused { kit, why }) => {
+            shelf.give(number, kit);
+            Err(device_fault(why))
         }
     }
 }
@@ -69,7 +80,7 @@ fn open_shards<H: Shelf>(
     ensures uber { H.uber_count shelf.new ≡ H.uber_count shelf.old }
     ensures checks { H.check_counts shelf.new ≡ H.check_counts shelf.old }
     ensures later { H.faults shelf.old ≤ H.faults shelf.new }
-    ensures cause { IsErrOf result DeviceFault.Failed → Rose (H.faults shelf.old) (H.faults shelf.new) }
+    ensures cause { IsErrOf result DeviceFault.Failed → Rose (H.faults shelf.old) (H.faults shelf.new) ⊎ RecordsFailed (H.counts shelf.new) }
 {
     let perms = Perms::new(layout.spec.children, layout.props.seed);
     let Ok(mut shards) = Vec::with_capacity(alloc, layout.props.metaslabs as usize) else {
@@ -85,6 +96,82 @@ fn open_shards<H: Shelf>(
         }
     }
     Ok(shards)
+}
+
+/// Opens a new pool over the devices that were made for it, and commits its group 1, which is empty. A refusal gives
+/// back all that was taken, and the uberblock's area.
+fn open_pool<H: Shelf>(
+    alloc: Global,
+    shelf: &mut H,
+    layout: Geometry,
+    uber: Uber<H::A>,
+) -> Result<Pool<H::R, H::A>, DeviceFault>
+    requires layout { IsGeometry layout }
+    requires uber { IsNewUber H.A.Area layout uber }
+    requires held { OnHeld (H.told shelf.old) (HasNewKits layout) }
+    requires leaves { (m : ℕ) → m < layout.props.metaslabs → IsSomeAnd (H.leaves shelf.old m) (HasLeavesOf layout) }
+    requires counts { (m : ℕ) → m < layout.props.metaslabs → IsUncounted (H.counts shelf.old m) }
+    requires checks { H.check_counts shelf.old ≡ record { even = 0; odd = 0 } }
+    ensures whole { IfOk result (IsWhole H.R.Rack H.A.Area) }
+    ensures opens { IfOk result (Opens H.R.Rack H.A.Area layout (H.told shelf.new)) }
+    ensures away { OnOk result (OnHeld (H.told shelf.new) IsAway) }
+    ensures back { OnErr result (HoldsUncommitted layout (H.told shelf.new) (H.counts shelf.new) (record { uber = H.uber_count shelf.new; checks = H.check_counts shelf.new })) }
+    ensures checks { H.check_counts shelf.new ≡ H.check_counts shelf.old }
+    ensures later { H.faults shelf.old ≤ H.faults shelf.new }
+    ensures cause { IsErrOf result DeviceFault.Failed → Rose (H.faults shelf.old) (H.faults shelf.new)
+        ⊎ AreaFailed (H.counts shelf.new) (record { uber = H.uber_count shelf.new; checks = H.check_counts shelf.new }) }
+{
+    let mut uber = uber;
+    let shards = match open_shards(alloc, shelf, layout) {
+        Ok(shards) => shards,
+        Err(fault) => {
+            shelf.give_uber(uber.into_area());
+            return Err(fault);
+        }
+    };
+    match uber.commit(1) {
+        Ok(()) => Ok(Pool {
+            geometry: layout,
+            shards,
+            uber,
+            objects: HashMap::new(alloc),
+            seq: 0,
+            floor: 0,
+            alloc,
+        }),
+        Err(fault) => {
+            give_back(shelf, shards);
+            shelf.give_uber(uber.into_area());
+            Err(fault)
+        }
+    }
+}
+
+/// Makes the devices of a new pool on the shelf, in place of an earlier one, and opens it.
+fn make_pool<H: Shelf>(
+    alloc: Global,
+    shelf: &mut H,
+    layout: Geometry,
+) -> Result<Pool<H::R, H::A>, DeviceFault>
+    requires layout { IsGeometry layout }
+    ensures whole { IfOk result (IsWhole H.R.Rack H.A.Area) }
+    ensures opens { IfOk result (Opens H.R.Rack H.A.Area layout (H.told shelf.new)) }
+    ensures away { OnOk result (OnHeld (H.told shelf.new) IsAway) }
+    ensures checks { OnOk result (H.check_counts shelf.new ≡ record { even = 0; odd = 0 }) }
+    ensures back { OnErr result (IsAsBefore (H.told shelf.old) (H.told shelf.new) (H.counts shelf.old) (H.counts shelf.new)
+        (record { uber = H.uber_count shelf.old; checks = H.check_counts shelf.old })
+        (record { uber = H.uber_count shelf.new; checks = H.check_counts shelf.new })
+        ⊎ HoldsUncommitted layout (H.told shelf.new) (H.counts shelf.new) (record { uber = H.uber_count shelf.new; checks = H.check_counts shelf.new })) }
+    ensures later { H.faults shelf.old ≤ H.faults shelf.new }
+    ensures cause { IsErrOf result DeviceFault.Failed → Rose (H.faults shelf.old) (H.faults shelf.new)
+        ⊎ AreaFailed (H.counts shelf.new) (record { uber = H.uber_count shelf.new; checks = H.check_counts shelf.new }) }
+{
+    shelf.make(alloc, &layout)?;
+    let area = shelf.take_uber()?;
+    let Ok(uber) = Uber::create(layout, area) else {
+        unreachable!()
+    };
+    open_pool(alloc, shelf, layout, uber)
 }
 
 /// Makes a pool of this spec on the shelf, in place of an earlier one, commits its group 1, which is empty, and opens it.
@@ -104,28 +191,12 @@ pub fn create<H: Shelf>(
         (record { uber = H.uber_count shelf.new; checks = H.check_counts shelf.new }) result }
     ensures later { H.faults shelf.old ≤ H.faults shelf.new }
 {
-    let layout = match geometry(spec, props) {
-        Ok(layout) => layout,
-        Err(fault) => return Err(PoolFault::Spec(fault)),
-    };
-    shelf.make(alloc, &layout)?;
-    let area = shelf.take_uber()?;
-    let Ok(uber) = Uber::create(layout, area) else {
-        unreachable!()
-    };
-    match open_shards(alloc, shelf, layout) {
-        Ok(shards) => commit_first(shelf, Pool {
-            geometry: layout,
-            shards,
-            uber,
-            objects: HashMap::new(alloc),
-            seq: 0,
-            floor: 0,
-            alloc,
-        }),
-        Err(fault) => {
-            shelf.give_uber(uber.into_area());
-            Err(fault.into())
-        }
+    match geometry(spec, props) {
+        Ok(layout) => match make_pool(alloc, shelf, layout) {
+            Ok(pool) => Ok(pool),
+            Err(DeviceFault::Failed) => Err(PoolFault::Shelf),
+            Err(DeviceFault::NoMemory) => Err(PoolFault::NoMemory),
+        },
+        Err(fault) => Err(PoolFault::Spec(fault)),
     }
 }

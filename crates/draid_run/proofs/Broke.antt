@@ -1,5 +1,5 @@
 -- A sync or an export that a failing device ended: on an area of the pool a call has failed.
-use Rattle.std.proofs.Common.{◌≡◌, ◌≢◌, ◌∙◌, ◌==◌, ◌<◌, ◌≤◌, ◌+◌, ◌%◌, ◌⊎◌, inl, inr, arith, refl, sym, ap, subst, ℕ, zero, suc, Bool, true, false, List, [], ◌∷◌, ◌++◌, Option, Some, append_assoc}
+use Rattle.std.proofs.Common.{◌≡◌, ◌≢◌, ◌∙◌, ◌==◌, ◌<◌, ◌≤◌, ◌+◌, ◌%◌, ◌⊎◌, inl, inr, arith, refl, sym, ap, subst, ℕ, zero, suc, Bool, true, false, List, [], ◌∷◌, ◌++◌, Option, Some, append_assoc, if◌then◌else◌}
 use Rattle.std.specs.Prelude.{⊤, slice_get, slice_set}
 use Rattle.std.proofs.lemmas.Option.{slice_get_within}
 use Rattle.draid_names.specs.Faults.{Rose}
@@ -105,7 +105,7 @@ module _ (geometry : Geometry) (perms : Perms) where
   export_broke holds s =
       let e = s.exports in
       elim e.does [
-        | inl none ↦ absurd (cc (none.2.0))
+        | inl none ↦ absurd (cc (none.2))
         | inr some ↦ behind_of holds e.looks (OnUber e.u LookedUber ∷ e.rest) e.are (behind (OnUber e.u LookedUber ∷ []) e.rest (syncs_broke s.group some.1.0 e.rest some.1.1))
       ]
 
@@ -120,7 +120,7 @@ rose_some before now rose = omega (arith, rose)
 
 area_some : (group : ℕ) (before after : Counts) → Rose (area_count group before) (area_count group after) → 0 < after.even + after.odd
 area_some group before after = by (group % 2 == 0) where
-  by : (b : Bool) → Rose (elim b as (λ _. ℕ) [ true ↦ before.even | false ↦ before.odd ]) (elim b as (λ _. ℕ) [ true ↦ after.even | false ↦ after.odd ]) → 0 < after.even + after.odd
+  by : (b : Bool) → Rose (if b then before.even else before.odd) (if b then after.even else after.odd) → 0 < after.even + after.odd
   by true rose = omega (arith, rose)
   by false rose = omega (arith, rose)
 

@@ -7,16 +7,16 @@ use Rattle.draid_shelf.specs.Kits.{AreNewChecks, Held, OnHeld}
 use Rattle.draid_session.specs.Session.{Desk, Untouched, Made, Open, Shut}
 use Rattle.draid_session.specs.State.{Metaslab, State}
 use Rattle.draid_pool.specs.Closing.{GivesBack, HoldsPool, SameCounts}
-use Rattle.draid_pool.specs.Opening.{AreaFailed, IsAway}
+use Rattle.draid_pool.specs.Opening.{AreaFailed}
 use Rattle.draid_pool.specs.Pools.{Represents}
 use Rattle.draid_pool.specs.declared.pool.Pool.{Pool}
 use Rattle.draid_run.specs.Desks.{IsDesk, LeavesDesk}
-use Rattle.draid_run.specs.Shelves.{AreaHasFailed, HasFailed, HasFault, HoldsAll, HoldsShut, IsOut, OnShelf}
+use Rattle.draid_run.specs.Shelves.{AreaHasFailed, HasChecks, HasFailed, HasFault, HoldsAll, HoldsShut, IsOut, OnShelf}
 
-all_held : (x : State) (crash : Bool) (new old : Option Held) → OnHeld new (λ held. MatchOption old ⊥ (λ before. IsSomeAnd before.checks AreNewChecks → HoldsPool x crash held)) → OnHeld old IsAway → OnHeld new (HoldsAll x)
+all_held : (x : State) (crash : Bool) (new old : Option Held) → OnHeld new (λ held. MatchOption old ⊥ (λ before. IsSomeAnd before.checks AreNewChecks → HoldsPool x crash held)) → OnHeld old HasChecks → OnHeld new (HoldsAll x)
 all_held x crash None old holds away = tt
 all_held x crash (Some held) None holds away = absurd holds
-all_held x crash (Some held) (Some before) holds away = record { crash = crash; holds = holds away.checks }
+all_held x crash (Some held) (Some before) holds away = record { crash = crash; holds = holds away }
 
 told_then : (x : State) (P : Held → Held → Type 0) (new old : Option Held) → OnHeld new (λ held. MatchOption old ⊥ (λ before. P before held)) → x.told ≡ is_some old → IsSome new → IsTrue x.told
 told_then x P None old holds told is = absurd (cc)

@@ -1,5 +1,5 @@
 -- What a sync, an export and a crash did, in the words of a session.
-use Rattle.std.proofs.Common.{◌≡◌, ◌∙◌, refl, sym, ap, subst, ℕ, List, [], Option, Some, None, Result, Ok, Err}
+use Rattle.std.proofs.Common.{◌≡◌, ◌∙◌, refl, sym, ap, subst, ℕ, Bool, List, [], Option, Some, None, Result, Ok, Err}
 use Rattle.draid_names.specs.declared.room.Room.{Room}
 use Rattle.draid_rack.specs.declared.Rack as racks
 use Rattle.draid_area.specs.declared.Area as areas
@@ -16,19 +16,22 @@ use Rattle.draid_session.specs.Session.{Desk, Untouched, Made, Open, Shut, Turns
 use Rattle.draid_session.specs.State.{State, Store}
 use Rattle.draid_pool.specs.Answers.{ExportDoes, SyncDoes}
 use Rattle.draid_pool.specs.Carries.{CarriesOut}
+use Rattle.draid_pool.specs.Closing.{GivesBack}
 use Rattle.draid_pool.specs.Pools.{Represents}
 use Rattle.draid_pool.specs.Whole.{IsWhole}
 use Rattle.draid_pool.specs.declared.fault.SyncFault.{SyncFault}
 use Rattle.draid_pool.specs.declared.fault.SyncFault.TheVariants as sync
 use Rattle.draid_pool.specs.declared.fault.Synced.{Synced as Group}
 use Rattle.draid_pool.specs.declared.pool.Pool.{Pool}
-use Rattle.draid_run.specs.Desks.{Broken, IsDesk, IsPool, ReplyDoes, Turned}
-use Rattle.draid_run.specs.Groups.{CrashDid, CrashTurns, ExportDid, ExportTurns, Leads, RefusalIs, SyncDid, SyncLeads, desk_behind, export_reply, refusal_of, sync_reply}
-use Rattle.draid_run.specs.Shelves.{OnShelf}
+use Rattle.draid_run.specs.Desks.{Broken, IsDesk, IsPool, IsShelf, ReplyDoes, Turned}
+use Rattle.draid_run.specs.Groups.{CrashDid, CrashTurns, ExportDid, ExportIs, ExportTurns, Leads, RefusalIs, SyncDid, SyncLeads, desk_behind, export_reply, refusal_of, sync_reply}
+use Rattle.draid_run.specs.Serve.{AnswerIs, IsSaid}
+use Rattle.draid_run.specs.Shelves.{IsOut, OnShelf}
 use Rattle.draid_run.specs.declared.answer.Stop.{Stop}
 use Rattle.draid_run.specs.declared.answer.Stop.TheVariants as stop
 use Rattle.draid_run.proofs.Broke.{broken_shows, export_broke, sync_broke}
 use Rattle.draid_run.proofs.Following.{same_store}
+use Rattle.draid_run.proofs.GivenBack.{shelf_has}
 use Rattle.draid_run.proofs.Steps.{by_answer, still_out}
 
 module _ {R A : Type 0} (rack : racks.Ghosts R) (area : areas.Ghosts A) where
@@ -62,8 +65,8 @@ module _ {R A : Type 0} (rack : racks.Ghosts R) (area : areas.Ghosts A) where
 
 -- ---- in the words of a session
 
-ok_same : {T E : Type 0} (a b : T) → Result.Ok {T} {E} a ≡ Ok b → a ≡ b
-ok_same a b is = cc is
+ok_same : (a b : Reply) (x y : Result Reply Stop) → x ≡ Ok a → y ≡ Ok b → x ≡ y → a ≡ b
+ok_same a b x y one other same = (let z = sym one ∙ same ∙ other in cc)
 
 some_same : {T : Type 0} (a b : T) → Some a ≡ Some b → a ≡ b
 some_same a b is = cc is
@@ -104,9 +107,9 @@ module _ {R A : Type 0} (rack : racks.Ghosts R) (area : areas.Ghosts A) (chosen 
 
   -- ---- a sync leaves the shelf alone
   pub by_sync : (x : Desk) (reply : Reply) (desk new : Option (Pool R A)) → IsDesk rack area entry now desk x → SyncDid rack area x (Ok reply) new → Turned rack area chosen (Ok SyncPool) entry x (Some reply) now new
-  by_sync Untouched reply desk new is did = told Untouched reply SyncPool name.Sync desk new (ok_same reply (NoPool name.Sync) did.0) did.1 (record { stands = tt; shelf = is.shelf }) (refl, refl)
-  by_sync (Made geometry) reply desk new is did = told (Made geometry) reply SyncPool name.Sync desk new (ok_same reply (NoPool name.Sync) did.0) did.1 (record { stands = tt; shelf = is.shelf }) (refl, refl)
-  by_sync (Shut y) reply desk new is did = told (Shut y) reply SyncPool name.Sync desk new (ok_same reply (NoPool name.Sync) did.0) did.1 (record { stands = tt; shelf = is.shelf }) (refl, refl)
+  by_sync Untouched reply desk new is did = told Untouched reply SyncPool name.Sync desk new (ok_same reply (NoPool name.Sync) (Ok reply) (Ok (NoPool name.Sync)) refl refl did.0) did.1 (record { stands = tt; shelf = is.shelf }) (refl, refl)
+  by_sync (Made geometry) reply desk new is did = told (Made geometry) reply SyncPool name.Sync desk new (ok_same reply (NoPool name.Sync) (Ok reply) (Ok (NoPool name.Sync)) refl refl did.0) did.1 (record { stands = tt; shelf = is.shelf }) (refl, refl)
+  by_sync (Shut y) reply desk new is did = told (Shut y) reply SyncPool name.Sync desk new (ok_same reply (NoPool name.Sync) (Ok reply) (Ok (NoPool name.Sync)) refl refl did.0) did.1 (record { stands = tt; shelf = is.shelf }) (refl, refl)
   by_sync (Open y) reply desk None is did = absurd did
   by_sync (Open y) reply desk (Some new) is did =
       let c = did.1 in
@@ -158,6 +161,10 @@ module _ {R A : Type 0} (rack : racks.Ghosts R) (area : areas.Ghosts A) (chosen 
 
   pub export_breaks : (x : Desk) (new : Option (Pool R A)) → ExportDid rack area entry x None now new → Broken rack area ExportPool entry before x now new
   export_breaks x new did = by x did.turns where
+    open_behind : (answer : Result ℕ SyncFault) (y : State) → export_reply answer ≡ None → desk_behind answer y ≡ Open y
+    open_behind (Ok group) y is = absurd (cc is)
+    open_behind (Err why) y is = refl
+
     by : (x : Desk) → ExportTurns x None did.new → Broken rack area ExportPool entry before x now new
     by Untouched turns = absurd (cc (turns.0))
     by (Made geometry) turns = absurd (cc (turns.0))
@@ -174,10 +181,6 @@ module _ {R A : Type 0} (rack : racks.Ghosts R) (area : areas.Ghosts A) (chosen 
           cause = broken_shows l.holds y turns.y (export_broke y.geometry y.perms l.holds f.1) follows;
         }
 
-    open_behind : (answer : Result ℕ SyncFault) (y : State) → export_reply answer ≡ None → desk_behind answer y ≡ Open y
-    open_behind (Ok group) y is = absurd (cc is)
-    open_behind (Err why) y is = refl
-
   -- ---- a crash
   pub by_crash : (x : Desk) (reply : Reply) (new : Option (Pool R A)) → CrashDid rack area entry x reply now new → Turned rack area chosen (Ok CrashPool) entry x (Some reply) now new
   by_crash x reply new did = record { new = did.new; desk = did.desk; turns = by x did.turns } where
@@ -189,3 +192,91 @@ module _ {R A : Type 0} (rack : racks.Ghosts R) (area : areas.Ghosts A) (chosen 
         subst (λ r. TurnsBy chosen (Ok CrashPool) (Open y) (Some r) did.new) (sym turns.0)
         (subst (λ d. TurnsBy chosen (Ok CrashPool) (Open y) (Some Crashed) d) (sym turns.1)
         (record { holds = []; mid = y; store = y.store; follows = refl; does = (refl, refl); made = refl }))
+
+  -- ---- the answers of the commands
+  module _ (pool : Option (Pool R A)) (x : Desk) (new : Option (Pool R A)) where
+    pub answer_sync : (given : Result Reply Stop) (result : Result (Option Reply) Stop) → IsSaid given result → before ≡ now → IsDesk rack area entry before pool x → SyncDid rack area x given new
+        → AnswerIs rack area chosen SyncPool entry before pool x now new result
+    answer_sync (Ok reply) result said same is did =
+        subst (AnswerIs rack area chosen SyncPool entry before pool x now new) (sym said) (by_sync x reply pool new (subst (λ b. IsDesk rack area entry b pool x) same is) did)
+    answer_sync (Err stop.Shelf) result said same is did =
+        subst (AnswerIs rack area chosen SyncPool entry before pool x now new) (sym said) (sync_breaks x pool new (subst (λ b. IsDesk rack area entry b pool x) same is) did)
+    answer_sync (Err stop.Unbuilt) result said same is did = absurd (not_unbuilt x new did)
+      where
+        not_unbuilt : (x : Desk) (new : Option (Pool R A)) → SyncDid rack area x (Err stop.Unbuilt) new → ⊥
+        not_unbuilt Untouched new did = cc (did.0)
+        not_unbuilt (Made geometry) new did = cc (did.0)
+        not_unbuilt (Shut y) new did = cc (did.0)
+        not_unbuilt (Open y) None did = did
+        not_unbuilt (Open y) (Some p) did = did.1
+
+    pub answer_export : (given : Result Reply Stop) (result : Result (Option Reply) Stop) → IsSaid given result → ExportIs rack area entry x now new given → AnswerIs rack area chosen ExportPool entry before pool x now new result
+    answer_export (Ok reply) result said did = subst (AnswerIs rack area chosen ExportPool entry before pool x now new) (sym said) (by_export x reply new did)
+    answer_export (Err stop.Shelf) result said did = subst (AnswerIs rack area chosen ExportPool entry before pool x now new) (sym said) (export_breaks x new did)
+    answer_export (Err stop.Unbuilt) result said did = absurd did
+
+-- ---- the pool is given back, or stays open
+
+module _ {R A : Type 0} (rack : racks.Ghosts R) (area : areas.Ghosts A) (entry before now : OnShelf) (desk : Option (Pool R A)) (was new : Pool R A) (some : desk ≡ Some was) where
+  on_open : (P : Desk → Type 0) → ((y : State) → Represents rack area was y → IsOut y before → P (Open y)) → (x : Desk) → IsDesk rack area entry before desk x → P x
+  on_open P f x is = by x (subst (λ d. IsPool rack area d x) some is.stands) is.shelf where
+    by : (x : Desk) → IsPool rack area (Some was) x → IsShelf x entry before → P x
+    by Untouched stands shelf = absurd stands
+    by (Made geometry) stands shelf = absurd stands
+    by (Shut y) stands shelf = absurd stands
+    by (Open y) stands shelf = f y stands.1 shelf
+
+  pub exported : (result : Result ℕ SyncFault) (group : ℕ) → result ≡ Ok group → ((y : State) → Represents rack area was y → CarriesOut rack area new y (ExportDoes y result))
+      → ((y : State) → Represents rack area new y → GivesBack y Bool.false before.held now.held now.counts now.own.uber) → now.own.checks ≡ before.own.checks → (left : Option (Pool R A)) → left ≡ None
+      → (x : Desk) → IsDesk rack area entry before desk x → ExportDid rack area entry x (Some (Exported group)) now left
+  exported result group is does back checks left none = on_open (λ x. ExportDid rack area entry x (Some (Exported group)) now left) by where
+    by : (y : State) → Represents rack area was y → IsOut y before → ExportDid rack area entry (Open y) (Some (Exported group)) now left
+    by y stands out =
+        let c = does y stands in
+        let z : State = record c.reached { store = c.store } in
+        record {
+          new = Shut z;
+          desk = record {
+            stands = subst (λ l. IsPool rack area l (Shut z)) (sym none) tt;
+            shelf = shelf_has z Bool.false before now (back z c.represents) checks (still_out y c.reached before c.holds c.follows out c.store);
+          };
+          turns = record {
+            answer = result;
+            reply_is = ap export_reply is;
+            y = z;
+            new_is = sym (ap (λ r. desk_behind r z) is);
+            leads = record { holds = c.holds; mid = c.reached; store = c.store; follows = c.follows; done = c.done; made = refl };
+          };
+        }
+
+  pub export_refused : (result : Result ℕ SyncFault) (why : SyncFault) (said : Result Reply Stop) → result ≡ Err why → RefusalIs name.Export why said → IsWhole rack area new
+      → ((y : State) → Represents rack area was y → CarriesOut rack area new y (ExportDoes y result)) → (x : Desk) → IsDesk rack area entry before desk x → ExportIs rack area entry x before (Some new) said
+  export_refused result why said is refused whole does = by said refused where
+    stays : (reply : Option Reply) → refusal_of name.Export why ≡ reply → (x : Desk) → IsDesk rack area entry before desk x → ExportDid rack area entry x reply before (Some new)
+    stays reply same = on_open (λ x. ExportDid rack area entry x reply before (Some new)) (λ y stands out.
+        (let c = does y stands in
+        let z : State = record c.reached { store = c.store } in
+        record {
+          new = Open z;
+          desk = record { stands = (whole, c.represents); shelf = still_out y c.reached before c.holds c.follows out c.store };
+          turns = record {
+            answer = result;
+            reply_is = ap export_reply is ∙ same;
+            y = z;
+            new_is = sym (ap (λ r. desk_behind r z) is);
+            leads = record { holds = c.holds; mid = c.reached; store = c.store; follows = c.follows; done = c.done; made = refl };
+          };
+        }))
+
+    by : (said : Result Reply Stop) → RefusalIs name.Export why said → (x : Desk) → IsDesk rack area entry before desk x → ExportIs rack area entry x before (Some new) said
+    by (Ok reply) refused = stays (Some reply) refused
+    by (Err stop.Shelf) refused = stays None refused
+    by (Err stop.Unbuilt) refused = absurd refused
+
+  pub crashed : ((y : State) → Represents rack area was y → GivesBack y Bool.true before.held now.held now.counts now.own.uber) → now.own.checks ≡ before.own.checks → (left : Option (Pool R A)) → left ≡ None
+      → (x : Desk) → IsDesk rack area entry before desk x → CrashDid rack area entry x Crashed now left
+  crashed back checks left none = on_open (λ x. CrashDid rack area entry x Crashed now left) (λ y stands out. record {
+    new = Shut y;
+    desk = record { stands = subst (λ l. IsPool rack area l (Shut y)) (sym none) tt; shelf = shelf_has y Bool.true before now (back y stands) checks out };
+    turns = (refl, refl);
+  })

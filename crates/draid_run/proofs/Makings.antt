@@ -21,13 +21,13 @@ use Rattle.draid_session.specs.Session.{Desk, Untouched, Made, Open, Shut, Break
 use Rattle.draid_session.specs.State.{State}
 use Rattle.draid_pool.specs.Closing.{HoldsPool, SameCounts}
 use Rattle.draid_pool.specs.Opening as opening
-use Rattle.draid_pool.specs.Opening.{HoldsMade, HoldsUncommitted, IsAsBefore, IsRefused, ShelfIs}
+use Rattle.draid_pool.specs.Opening.{HoldsMade, HoldsUncommitted, IsAsBefore, IsAway, IsRefused, ShelfIs}
 use Rattle.draid_pool.specs.declared.fault.PoolFault.{PoolFault}
 use Rattle.draid_pool.specs.declared.fault.PoolFault.TheVariants as fault
 use Rattle.draid_pool.specs.declared.pool.Pool.{Pool}
 use Rattle.draid_run.specs.Desks.{Broken, IsDesk, IsPool, IsShelf}
 use Rattle.draid_run.specs.Making.{CreateDid, CreateTurns, MakeIs, OpensAs, PoolIs}
-use Rattle.draid_run.specs.Shelves.{HasFailed, HasFault, HoldsAll, HoldsShut, IsSame, OnShelf}
+use Rattle.draid_run.specs.Shelves.{HasChecks, HasFailed, HasFault, HoldsAll, HoldsShut, IsSame, OnShelf}
 use Rattle.draid_run.specs.declared.answer.Made as answer
 
 -- what stands behind all checks is what passed them
@@ -41,6 +41,10 @@ by_checks (Err e) b c big f l layout is = absurd (cc)
 same_spec : (spec : Spec) (props : Props) (layout : Geometry) → geometry_of spec props ≡ Ok layout → layout.spec ≡ spec
 same_spec spec props layout is =
     sym (ap (λ (g : Geometry). g.spec) (by_checks (checked_version props.version) (checked_width spec) (checked_props props) (nat_lt 67108864 (total_of props (layout_of spec props).rows)) _ (layout_of spec props) layout is))
+
+has_checks : (held : Option Held) → OnHeld held IsAway → OnHeld held HasChecks
+has_checks None away = tt
+has_checks (Some held) away = away.checks
 
 -- a desk without a pool stands as the shelf stays as it is
 pub same_shelf : (x : Desk) (entry before now : OnShelf) → ((y : State) → x ≡ Open y → ⊥) → IsSame before now → IsShelf x entry before → IsShelf x entry now
@@ -122,7 +126,7 @@ module _ {R A : Type 0} (rack : racks.Ghosts R) (area : areas.Ghosts A) where
         by None o s = absurd o
         by (Some p) o s = record {
           new = Open o.1.opens.state;
-          desk = record { stands = (o.0, o.1.opens.represents); shelf = record { held = s.0; checks = s.1; told = o.1.opens.told_is } };
+          desk = record { stands = (o.0, o.1.opens.represents); shelf = record { held = has_checks now.held s.0; checks = s.1; told = o.1.opens.told_is } };
           turns = turns_made x m o.1.opens.state stands (record {
             geometry = o.1.geometry;
             layout = layout_is (Ok o.1.geometry) o.1.layout;

@@ -37,6 +37,10 @@ text_by lines lines' left left' next next' is text =
     let P : Option (Vec ℕ Global) → Type 0 = λ n. TextIs lines lines' left left' (Ok n) in
     subst P is text
 
+-- the shelf as it is
+pub as_found : (entry : OnShelf) → HoldsDesk Untouched entry entry
+as_found entry = record { held = refl; counts = λ m. refl; uber = refl; checks = refl }
+
 -- what failed in a line failed since the entry
 rose_from : (entry before now : ℕ) → entry ≤ before → Rose before now → Rose entry now
 rose_from entry before now later rose = omega (arith, later, rose)
@@ -61,6 +65,15 @@ module _ {R A : Type 0} (rack : racks.Ghosts R) (area : areas.Ghosts A) (chosen 
       let P : ℕ → Type 0 = λ n. LineIs rack area chosen n text entry before pool x now pool' held held' result in
       let Q : List ℕ → Type 0 = λ t. LineIs rack area chosen number' t entry before pool x now pool' held held' result in
       subst Q texts (subst P numbers line)
+
+  -- a line that wasn't run has no fault of the source's, nor of the words
+  pub line_no_source : (number : ℕ) (text : List ℕ) (before : OnShelf) (pool : Option (Pool R A)) (x : Desk) (now : OnShelf) (pool' : Option (Pool R A)) (held held' : Option (List ℕ)) (status : Status)
+      → LineIs rack area chosen number text entry before pool x now pool' held held' (Err status) → status ≡ SourceFault → ⊥
+  line_no_source number text before pool x now pool' held held' status line is = subst (λ s. LineIs rack area chosen number text entry before pool x now pool' held held' (Err s)) is line
+
+  pub line_no_usage : (number : ℕ) (text : List ℕ) (before : OnShelf) (pool : Option (Pool R A)) (x : Desk) (now : OnShelf) (pool' : Option (Pool R A)) (held held' : Option (List ℕ)) (status : Status)
+      → LineIs rack area chosen number text entry before pool x now pool' held held' (Err status) → status ≡ Usage → ⊥
+  line_no_usage number text before pool x now pool' held held' status line is = subst (λ s. LineIs rack area chosen number text entry before pool x now pool' held held' (Err s)) is line
 
   -- a desk without a pool
   shut_desk : (first : Desk) → HoldsDesk first entry entry → IsDesk rack area entry entry None first

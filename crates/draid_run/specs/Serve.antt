@@ -47,6 +47,11 @@ pub record BrokenLine {R A : Type 0} (rack : racks.Ghosts R) (area : areas.Ghost
   pub line : line_of text ≡ Ok command
   pub broken : Broken rack area command entry before old now pool
 
+-- a command that has a reply was answered by it
+abbrev pub IsSaid : Result Reply Stop → Result (Option Reply) Stop → Type 0
+IsSaid (Ok reply) result = result ≡ Ok (Some reply)
+IsSaid (Err stop) result = result ≡ Err stop
+
 module _ {R A : Type 0} (rack : racks.Ghosts R) (area : areas.Ghosts A) (chosen : List Room → Option ℕ → Type 0) where
   -- the reply to a command, or why it has none
   abbrev pub AnswerIs : Command → OnShelf → OnShelf → Option (Pool R A) → Desk → OnShelf → Option (Pool R A) → Result (Option Reply) Stop → Type 0

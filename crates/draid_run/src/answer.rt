@@ -9,7 +9,7 @@ ghost use Rattle.draid_session.specs.Session.{Desk};
 ghost use Rattle.draid_run.specs.Desks.{IsDesk, IsPool, PoolDid, ReplyDoes};
 ghost use Rattle.draid_run.specs.Making.{CreateIs, MakeIs};
 ghost use Rattle.draid_run.specs.Says.{DamageSays, FreeSays, ReadSays, SumSays};
-ghost use Rattle.draid_run.specs.Serve.{AnswerIs};
+ghost use Rattle.draid_run.specs.Serve.{AnswerIs, IsSaid};
 ghost use Rattle.draid_run.specs.Shelves.{OnShelf, on_shelf};
 
 use crate::{fill, groups, replies};
@@ -227,6 +227,16 @@ fn damage<R: Rack, A: Area>(pool: &mut Option<Pool<R, A>>, leaf: u64, sector: u6
     }
 }
 
+/// The answer to a command that has a reply, unless the run ends there.
+fn said(reply: Result<Reply, Stop>) -> Result<Option<Reply>, Stop>
+    ensures { IsSaid reply result }
+{
+    match reply {
+        Ok(reply) => Ok(Some(reply)),
+        Err(stop) => Err(stop),
+    }
+}
+
 /// Does what a line asks for. An empty line and a comment have no reply.
 pub(crate) fn answer<H: Shelf, F: Fn(&[Room]) -> Option<u32>>(
     rt: &(impl Threads + Sync),
@@ -250,8 +260,8 @@ pub(crate) fn answer<H: Shelf, F: Fn(&[Room]) -> Option<u32>>(
             children,
             keys,
         } => Ok(Some(create(alloc, shelf, pool, &spec, children, keys)?)),
-        Line::Sync => Ok(Some(groups::sync(pool)?)),
-        Line::Export => Ok(Some(groups::export(shelf, pool)?)),
+        Line::Sync => said(groups::sync(pool)),
+        Line::Export => said(groups::export(shelf, pool)),
         Line::Crash => Ok(Some(groups::crash(shelf, pool))),
         Line::Write { object, bytes } => Ok(Some(write(pool, chooser, object, &bytes))),
         Line::Fill {

@@ -1,4 +1,4 @@
-ghost use Rattle.std.specs.Prelude.{◌≡◌, ◌<◌, ◌↔◌, ℕ, Option, Some, IfOk, IsSome, IsSomeAnd, IsTrue, MatchOption, OnOk, OnErr, ⊤};
+ghost use Rattle.std.specs.Prelude.{◌≡◌, ◌<◌, ◌↔◌, ℕ, Option, None, Some, IfOk, IsSome, IsSomeAnd, IsTrue, MatchOption, OnOk, OnErr, ⊤};
 ghost use Rattle.draid_spec.specs.Geometry.{IsGeometry};
 ghost use Rattle.draid_rack.specs.Rack.{Shape};
 ghost use Rattle.draid_shelf.specs.Shelf.{HasLeavesOf, IsKnown, SameOthers, most_metaslabs};
@@ -67,6 +67,7 @@ pub trait Shelf {
     /// Takes the area of the uberblock.
     fn take_uber(&mut self) -> Result<Self::A, DeviceFault>
         ensures area { IfOk result (λ area. OnHeld (told self.old) (λ held. Self.A.told area ≡ held.uber)) }
+        ensures untold { IfOk result (λ area. told self.old ≡ None → Self.A.told area ≡ None) }
         ensures told { OnOk result (told self.new ≡ takes_uber (told self.old)) }
         ensures size { IfOk result (λ area. MatchOption (uber_size self.old) ⊤ (λ n. Self.A.size area ≡ n)) }
         ensures count { IfOk result (λ area. Self.A.faults area ≡ uber_count self.old) }

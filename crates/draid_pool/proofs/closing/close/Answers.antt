@@ -1,33 +1,53 @@
-use Rattle.std.proofs.Common.{ℕ, Option}
+use Rattle.std.proofs.Common.{◌∙◌, ℕ, Option, ap, sym}
 use Rattle.std.specs.Prelude.{nat_eq}
 use Rattle.std.specs.HashMap.{get}
 use Rattle.draid_names.specs.declared.pointer.Pointer.{Pointer}
-use Rattle.draid_pool.proofs.Closed.{counted_as, crashed, holds_pool, not_crashed, same_counts}
+use Rattle.draid_shelf.specs.Kits.{gives_uber}
+use Rattle.draid_uber.specs.Uber.{area_of}
+use Rattle.draid_pool.proofs.Closed.{counted_as, holds_pool, pool_crashed, pool_uncrashed, stands_parts}
+use Rattle.draid_pool.proofs.Failing.{shows_there}
 use Rattle.draid_pool.proofs.closing.close.Goals as goal
 
 pub returns-then-crash-clause-back : goal.returns-then-crash-clause-back
 returns-then-crash-clause-back g c = λ x represents.
     let shelf = g.H.Shelf in
     let table : ℕ → Option Pointer = λ object. get nat_eq c.args.pool.objects object in
+    let content = g.H.A.Area.told (area_of c.args.pool.uber) in
+    let parts = stands_parts g.H.R.Rack g.H.A.Area c.args.pool table x represents.stands in
+    let held = holds_pool g.H.R.Rack g.H.A.Area c.args.pool.shards.items content x parts (shelf.told c.args.shelf.now) (shelf.told c.give_back.new.shelf) (shelf.counts c.args.shelf.now) (shelf.counts c.give_back.new.shelf)
+    c.give_back.ensures.returns (shelf.told c.give_uber.new.self) (c.give_uber.ensures.told ∙ ap (λ a. gives_uber (g.H.A.Area.told a) (shelf.told c.give_back.new.shelf)) c.into_area.ensures) in
     record {
-      given = shelf.told c.give_back.new.shelf;
-      held = holds_pool g.H.R.Rack g.H.A.Area c.args.pool table x represents.stands (shelf.told c.args.shelf.now) (shelf.told c.give_back.new.shelf) (shelf.counts c.args.shelf.now) (shelf.counts c.give_back.new.shelf)
-          c.give_back.ensures.returns;
-      crashed = crashed c.args.crash (shelf.told c.give_back.new.shelf) (shelf.told c.crash.new.self) c.if-crash.true c.crash.ensures.told;
-      counted = λ m y there. same_counts y (shelf.counts c.give_back.new.shelf m) (shelf.counts c.crash.new.self m) (c.crash.ensures.counts m)
-          (counted_as g.H.R.Rack g.H.A.Area c.args.pool table x represents.stands (shelf.told c.args.shelf.now) (shelf.told c.give_back.new.shelf) (shelf.counts c.args.shelf.now) (shelf.counts c.give_back.new.shelf)
-          c.give_back.ensures.returns m y there);
+      held = pool_crashed x c.args.crash (shelf.told c.args.shelf.now) (shelf.told c.give_uber.new.self) (shelf.told c.crash.new.self) c.if-crash.true c.crash.ensures.told held;
+      counted = counted_as g.H.R.Rack g.H.A.Area c.args.pool.shards.items content x parts (shelf.told c.args.shelf.now) (shelf.told c.give_back.new.shelf) (shelf.counts c.args.shelf.now) (shelf.counts c.give_back.new.shelf)
+          c.give_back.ensures.returns (shelf.counts c.crash.new.self) (λ m. c.crash.ensures.counts m ∙ c.give_uber.ensures.counts m);
+      uber = c.crash.ensures.uber_count ∙ (c.give_uber.ensures.count ∙ (ap g.H.A.Area.faults c.into_area.ensures ∙ sym represents.stands.uber.count));
     }
 
 pub returns-clause-back : goal.returns-clause-back
 returns-clause-back g c = λ x represents.
     let shelf = g.H.Shelf in
     let table : ℕ → Option Pointer = λ object. get nat_eq c.args.pool.objects object in
+    let content = g.H.A.Area.told (area_of c.args.pool.uber) in
+    let parts = stands_parts g.H.R.Rack g.H.A.Area c.args.pool table x represents.stands in
+    let held = holds_pool g.H.R.Rack g.H.A.Area c.args.pool.shards.items content x parts (shelf.told c.args.shelf.now) (shelf.told c.give_back.new.shelf) (shelf.counts c.args.shelf.now) (shelf.counts c.give_back.new.shelf)
+    c.give_back.ensures.returns (shelf.told c.give_uber.new.self) (c.give_uber.ensures.told ∙ ap (λ a. gives_uber (g.H.A.Area.told a) (shelf.told c.give_back.new.shelf)) c.into_area.ensures) in
     record {
-      given = shelf.told c.give_back.new.shelf;
-      held = holds_pool g.H.R.Rack g.H.A.Area c.args.pool table x represents.stands (shelf.told c.args.shelf.now) (shelf.told c.give_back.new.shelf) (shelf.counts c.args.shelf.now) (shelf.counts c.give_back.new.shelf)
-          c.give_back.ensures.returns;
-      crashed = not_crashed c.args.crash (shelf.told c.give_back.new.shelf) c.if-crash.false;
-      counted = counted_as g.H.R.Rack g.H.A.Area c.args.pool table x represents.stands (shelf.told c.args.shelf.now) (shelf.told c.give_back.new.shelf) (shelf.counts c.args.shelf.now) (shelf.counts c.give_back.new.shelf)
-          c.give_back.ensures.returns;
+      held = pool_uncrashed x c.args.crash (shelf.told c.args.shelf.now) (shelf.told c.give_uber.new.self) c.if-crash.false held;
+      counted = counted_as g.H.R.Rack g.H.A.Area c.args.pool.shards.items content x parts (shelf.told c.args.shelf.now) (shelf.told c.give_back.new.shelf) (shelf.counts c.args.shelf.now) (shelf.counts c.give_back.new.shelf)
+          c.give_back.ensures.returns (shelf.counts c.give_uber.new.self) (λ m. c.give_uber.ensures.counts m);
+      uber = c.give_uber.ensures.count ∙ (ap g.H.A.Area.faults c.into_area.ensures ∙ sym represents.stands.uber.count);
     }
+
+pub returns-then-crash-clause-failed : goal.returns-then-crash-clause-failed
+returns-then-crash-clause-failed g c =
+    let shelf = g.H.Shelf in
+    shows_there g.H.R.Rack g.H.A.Area c.args.pool (shelf.told c.args.shelf.now) (shelf.told c.give_back.new.shelf) (shelf.counts c.args.shelf.now) (shelf.counts c.give_back.new.shelf) (shelf.counts c.crash.new.self)
+    (record { uber = shelf.uber_count c.crash.new.self; checks = shelf.check_counts c.crash.new.self }) c.give_back.ensures.returns
+    (λ m. c.crash.ensures.counts m ∙ c.give_uber.ensures.counts m) (c.crash.ensures.uber_count ∙ (c.give_uber.ensures.count ∙ ap g.H.A.Area.faults c.into_area.ensures))
+
+pub returns-clause-failed : goal.returns-clause-failed
+returns-clause-failed g c =
+    let shelf = g.H.Shelf in
+    shows_there g.H.R.Rack g.H.A.Area c.args.pool (shelf.told c.args.shelf.now) (shelf.told c.give_back.new.shelf) (shelf.counts c.args.shelf.now) (shelf.counts c.give_back.new.shelf) (shelf.counts c.give_uber.new.self)
+    (record { uber = shelf.uber_count c.give_uber.new.self; checks = shelf.check_counts c.give_uber.new.self }) c.give_back.ensures.returns
+    (λ m. c.give_uber.ensures.counts m) (c.give_uber.ensures.count ∙ ap g.H.A.Area.faults c.into_area.ensures)

@@ -1,9 +1,10 @@
-use Rattle.std.proofs.Common.{arith, ◌≡◌, ◌∙◌, ℕ, Option, refl, subst, sym}
+use Rattle.std.proofs.Common.{arith, ◌≡◌, ◌⊎◌, ◌<◌, ◌∙◌, ℕ, Option, refl, subst, sym}
 use Rattle.std.specs.Prelude.{IsSomeAnd}
+use Rattle.draid_names.specs.Faults.{Rose}
 use Rattle.draid_rack.specs.Rack.{Shape}
 use Rattle.draid_shelf.specs.Shelf.{HasLeavesOf}
 use Rattle.draid_pool.specs.Opening.{TakesFirst}
-use Rattle.draid_pool.proofs.Opened.{opening_all, opening_back, opening_more, opening_none}
+use Rattle.draid_pool.proofs.Opened.{opening_all, opening_back, opening_more, opening_none, refused_counted, failed_too}
 use Rattle.draid_pool.proofs.opening.open_shards.Goals as goal
 
 pub loop-number-init : goal.loop-number-init
@@ -29,6 +30,14 @@ returns-in-Err-clause-back g c =
     opening_back g.H.R.Rack g.H.A.Area c.args.layout c.new-perms.result c.loop-number.number (shelf.leaves c.args.shelf.now) (shelf.leaves c.loop-number.shelf) (shelf.told c.args.shelf.now) (shelf.told c.loop-number.shelf)
     (shelf.told c.open_shard.new.shelf) (shelf.told c.give_back.new.shelf) (shelf.counts c.args.shelf.now) (shelf.counts c.loop-number.shelf) (shelf.counts c.open_shard.new.shelf) (shelf.counts c.give_back.new.shelf)
     c.loop-number.shards.items c.loop-number.invariant.opening c.in-Err.ensures.back c.give_back.ensures.returns
+
+pub returns-in-Err-clause-cause : goal.returns-in-Err-clause-cause
+returns-in-Err-clause-cause g c failed =
+    let shelf = g.H.Shelf in
+    refused_counted g.H.R.Rack g.H.A.Area c.args.layout c.new-perms.result c.loop-number.number (shelf.leaves c.args.shelf.now) (shelf.leaves c.loop-number.shelf) (shelf.told c.args.shelf.now) (shelf.told c.loop-number.shelf)
+    (shelf.told c.open_shard.new.shelf) (shelf.told c.give_back.new.shelf) (shelf.counts c.args.shelf.now) (shelf.counts c.loop-number.shelf) (shelf.counts c.open_shard.new.shelf) (shelf.counts c.give_back.new.shelf)
+    c.loop-number.shards.items (shelf.faults c.args.shelf.now) (shelf.faults c.loop-number.shelf) (shelf.faults c.give_back.new.shelf) c.loop-number.invariant.opening c.give_back.ensures.returns c.loop-number.invariant.later
+    (subst (λ (n : ℕ). Rose (shelf.faults c.loop-number.shelf) n ⊎ (0 < (shelf.counts c.open_shard.new.shelf c.loop-number.number).odd)) (sym c.give_back.ensures.faults) (c.in-Err.ensures.cause (failed_too c.in-Err.fault failed)))
 
 pub loop-number-preserved : goal.loop-number-preserved
 loop-number-preserved g c =

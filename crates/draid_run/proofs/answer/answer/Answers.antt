@@ -1,9 +1,11 @@
-use Rattle.std.proofs.Common.{Ok, Some, subst, sym}
+use Rattle.std.proofs.Common.{Ok, Some, refl, subst, sym}
 use Rattle.std.specs.Fn.{FnReturnsAt}
 use Rattle.draid_script.specs.Line.{WriteObject, command_in}
 use Rattle.draid_script.specs.declared.line.Line.{Line}
 use Rattle.draid_run.specs.Desks.{Turned}
 use Rattle.draid_run.specs.Shelves.{on_shelf}
+use Rattle.draid_run.specs.Serve.{AnswerIs}
+use Rattle.draid_run.proofs.Grouping.{answer_export, answer_sync, by_crash}
 use Rattle.draid_run.proofs.Steps.{by_damage, by_fill, by_free, by_read, by_sum, by_write}
 use Rattle.draid_run.proofs.answer.answer.Goals as goal
 
@@ -36,3 +38,18 @@ pub returns-in-Damage-clause-answer : goal.returns-in-Damage-clause-answer
 returns-in-Damage-clause-answer g c entry x desk =
     subst (λ (l : Line). Turned g.H.R.Rack g.H.A.Area (FnReturnsAt g.F.Fn c.args.chooser.now) (Ok (command_in l)) entry x (Some c.damage.result) (on_shelf g.H.Shelf c.args.shelf.now) c.damage.new.pool) (sym c.in-Damage.is)
     (by_damage g.H.R.Rack g.H.A.Area (FnReturnsAt g.F.Fn c.args.chooser.now) entry (on_shelf g.H.Shelf c.args.shelf.now) c.args.pool.now c.damage.result c.in-Damage.leaf c.in-Damage.sector x c.damage.new.pool desk (c.damage.ensures.did x desk.stands))
+
+pub returns-in-Sync-clause-answer : goal.returns-in-Sync-clause-answer
+returns-in-Sync-clause-answer g c entry x desk =
+    subst (λ (l : Line). AnswerIs g.H.R.Rack g.H.A.Area (FnReturnsAt g.F.Fn c.args.chooser.now) (command_in l) entry (on_shelf g.H.Shelf c.args.shelf.now) c.args.pool.now x (on_shelf g.H.Shelf c.args.shelf.now) c.sync.new.pool c.said.result) (sym c.in-Sync.is)
+    (answer_sync g.H.R.Rack g.H.A.Area (FnReturnsAt g.F.Fn c.args.chooser.now) entry (on_shelf g.H.Shelf c.args.shelf.now) (on_shelf g.H.Shelf c.args.shelf.now) c.args.pool.now x c.sync.new.pool c.sync.result c.said.result c.said.ensures refl desk (c.sync.ensures.did x desk.stands))
+
+pub returns-in-Export-clause-answer : goal.returns-in-Export-clause-answer
+returns-in-Export-clause-answer g c entry x desk =
+    subst (λ (l : Line). AnswerIs g.H.R.Rack g.H.A.Area (FnReturnsAt g.F.Fn c.args.chooser.now) (command_in l) entry (on_shelf g.H.Shelf c.args.shelf.now) c.args.pool.now x (on_shelf g.H.Shelf c.export.new.shelf) c.export.new.pool c.said-in-Export.result) (sym c.in-Export.is)
+    (answer_export g.H.R.Rack g.H.A.Area (FnReturnsAt g.F.Fn c.args.chooser.now) entry (on_shelf g.H.Shelf c.args.shelf.now) (on_shelf g.H.Shelf c.export.new.shelf) c.args.pool.now x c.export.new.pool c.export.result c.said-in-Export.result c.said-in-Export.ensures (c.export.ensures.answer entry x desk))
+
+pub returns-in-Crash-clause-answer : goal.returns-in-Crash-clause-answer
+returns-in-Crash-clause-answer g c entry x desk =
+    subst (λ (l : Line). Turned g.H.R.Rack g.H.A.Area (FnReturnsAt g.F.Fn c.args.chooser.now) (Ok (command_in l)) entry x (Some c.crash.result) (on_shelf g.H.Shelf c.crash.new.shelf) c.crash.new.pool) (sym c.in-Crash.is)
+    (by_crash g.H.R.Rack g.H.A.Area (FnReturnsAt g.F.Fn c.args.chooser.now) entry (on_shelf g.H.Shelf c.args.shelf.now) (on_shelf g.H.Shelf c.crash.new.shelf) x c.crash.result c.crash.new.pool (c.crash.ensures.did entry x desk))

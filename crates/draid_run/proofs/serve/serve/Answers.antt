@@ -1,8 +1,9 @@
 use Rattle.std.proofs.Common.{arith, Ok, Err, ap, sym, refl, ℕ}
 use Rattle.std.specs.Fn.{FnReturnsAt}
 use Rattle.draid_lines.specs.Lines.{Rest}
+use Rattle.draid_session.specs.Session.{Untouched}
 use Rattle.draid_run.specs.Shelves.{on_shelf}
-use Rattle.draid_run.proofs.Serving.{line_by, served_done, served_line, serving_more, serving_start, text_by}
+use Rattle.draid_run.proofs.Serving.{as_found, line_by, line_no_source, line_no_usage, served_done, served_line, serving_more, serving_start, text_by}
 use Rattle.draid_run.proofs.serve.serve.Goals as goal
 
 pub lines-init : goal.lines-init
@@ -51,3 +52,16 @@ lines-preserved g c =
       sink_later = omega (arith, sink, sink');
       shelf_later = omega (arith, shelf, shelf');
     }
+
+pub serve_line-requires-clause-desk : goal.serve_line-requires-clause-desk
+serve_line-requires-clause-desk g c κs within = (let serving = c.lines.invariant.serving Untouched (as_found (on_shelf g.H.Shelf c.args.shelf.now)) in (serving.reached, serving.desk.stands))
+
+pub returns-in-Err-serve_line-clause-source_cause : goal.returns-in-Err-serve_line-clause-source_cause
+returns-in-Err-serve_line-clause-source_cause g c is =
+    let serving = c.lines.invariant.serving Untouched (as_found (on_shelf g.H.Shelf c.args.shelf.now)) in
+    absurd (line_no_source g.H.R.Rack g.H.A.Area (FnReturnsAt g.F.Fn c.args.chooser.now) (on_shelf g.H.Shelf c.args.shelf.now) _ _ _ _ serving.reached _ _ _ _ c.in-Err-serve_line.status (c.in-Err-serve_line.ensures.line (on_shelf g.H.Shelf c.args.shelf.now) serving.reached serving.desk) is)
+
+pub returns-in-Err-serve_line-clause-no_usage : goal.returns-in-Err-serve_line-clause-no_usage
+returns-in-Err-serve_line-clause-no_usage g c is =
+    let serving = c.lines.invariant.serving Untouched (as_found (on_shelf g.H.Shelf c.args.shelf.now)) in
+    line_no_usage g.H.R.Rack g.H.A.Area (FnReturnsAt g.F.Fn c.args.chooser.now) (on_shelf g.H.Shelf c.args.shelf.now) _ _ _ _ serving.reached _ _ _ _ c.in-Err-serve_line.status (c.in-Err-serve_line.ensures.line (on_shelf g.H.Shelf c.args.shelf.now) serving.reached serving.desk) is

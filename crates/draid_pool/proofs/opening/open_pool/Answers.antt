@@ -1,0 +1,56 @@
+use Rattle.std.proofs.Common.{rules, ◌∙◌, [], ◌∷◌, Option, ap, inl, inr, refl, subst, sym}
+use Rattle.std.specs.Prelude.{is_some}
+use Rattle.draid_record.specs.declared.uber.UberBody.{UberBody}
+use Rattle.draid_shelf.specs.Kits.{gives_uber}
+use Rattle.draid_uber.specs.Slots.{StandsTold, group_of}
+use Rattle.draid_uber.specs.Uber.{area_of, next_of}
+use Rattle.draid_pool.proofs.Fresh.{away, first_body, first_layout, first_whole, is_uber, made_again, opens, refused}
+use Rattle.draid_pool.proofs.opening.open_pool.Goals as goal
+
+pub returns-in-Err-clause-back : goal.returns-in-Err-clause-back
+returns-in-Err-clause-back g c =
+    let shelf = g.H.Shelf in
+    let u = c.requires.uber in
+    let e = c.give_uber.ensures in
+    inl (made_again c.args.layout (g.H.A.Area.told (area_of c.args.uber)) (shelf.told c.args.shelf.now) (shelf.told c.open_shards.new.shelf) (shelf.told c.give_uber.new.self)
+    (shelf.counts c.args.shelf.now) (shelf.counts c.open_shards.new.shelf) (shelf.counts c.give_uber.new.self) _ c.requires.held c.requires.counts c.in-Err.ensures.back u.zeros
+    (e.told ∙ ap (λ a. gives_uber (g.H.A.Area.told a) (shelf.told c.open_shards.new.shelf)) c.into_area.ensures) e.counts (e.count ∙ (ap g.H.A.Area.faults c.into_area.ensures ∙ u.count))
+    (e.check_counts ∙ (c.open_shards.ensures.checks ∙ c.requires.checks)))
+
+pub returns-in-Ok-commit-clause-whole : goal.returns-in-Ok-commit-clause-whole
+returns-in-Ok-commit-clause-whole g c =
+    let shelf = g.H.Shelf in
+    let u = c.requires.uber in
+    let e = c.in-Ok-commit.ensures in
+    first_whole g.H.R.Rack g.H.A.Area c.args.layout c.requires.layout (shelf.told c.args.shelf.now) (shelf.counts c.args.shelf.now) c.in-Ok.shards.items c.in-Ok.ensures.opened
+    _ refl refl refl (λ q. search rules) e.valid (first_layout g.H.R.Rack g.H.A.Area c.args.layout c.args.uber c.commit.new.self u.layout u.version u.next_leaf e.layout)
+    (e.version ∙ u.version) (ap (λ (kept : Option UberBody). group_of kept) e.kept)
+
+pub returns-in-Ok-commit-clause-opens : goal.returns-in-Ok-commit-clause-opens
+returns-in-Ok-commit-clause-opens g c =
+    let shelf = g.H.Shelf in
+    let u = c.requires.uber in
+    let e = c.in-Ok-commit.ensures in
+    let o = c.in-Ok.ensures.opened in
+    let before = subst (λ kept. StandsTold kept [] (g.H.A.Area.told (area_of c.args.uber))) (sym u.kept) u.stands in
+    opens g.H.R.Rack g.H.A.Area c.args.layout c.requires.layout (shelf.told c.args.shelf.now) (shelf.counts c.args.shelf.now) c.in-Ok.shards.items o
+    (shelf.told c.open_shards.new.shelf) _ c.requires.held c.in-Ok.ensures.told c.requires.counts refl refl refl refl (λ q. search rules)
+    (is_uber g.H.R.Rack g.H.A.Area c.args.layout c.args.uber c.commit.new.self u.layout u.version u.next_leaf o.perms c.in-Ok.shards.items (is_some (shelf.told c.args.shelf.now))
+    e.valid e.kept e.layout e.version e.leaf (e.committed [] before))
+
+pub returns-in-Ok-commit-clause-away : goal.returns-in-Ok-commit-clause-away
+returns-in-Ok-commit-clause-away g c = away c.args.layout (g.H.Shelf.told c.args.shelf.now) (g.H.Shelf.told c.open_shards.new.shelf) c.requires.held c.in-Ok.ensures.told
+
+pub returns-in-Err-commit-clause-back : goal.returns-in-Err-commit-clause-back
+returns-in-Err-commit-clause-back g c =
+    let shelf = g.H.Shelf in
+    let u = c.requires.uber in
+    let e = c.in-Err-commit.ensures in
+    let again = c.give_uber-in-Err-commit.ensures in
+    let before = subst (λ kept. StandsTold kept [] (g.H.A.Area.told (area_of c.args.uber))) (sym u.kept) u.stands in
+    inr (refused g.H.R.Rack g.H.A.Area c.args.layout c.requires.layout (shelf.told c.args.shelf.now) (shelf.counts c.args.shelf.now) c.in-Ok.shards.items c.in-Ok.ensures.opened
+    (shelf.told c.open_shards.new.shelf) (shelf.told c.give_back.new.shelf) (shelf.told c.give_uber-in-Err-commit.new.self) (shelf.counts c.open_shards.new.shelf) (shelf.counts c.give_back.new.shelf) (shelf.counts c.give_uber-in-Err-commit.new.self)
+    c.give_back.ensures.returns (g.H.A.Area.told (area_of c.commit.new.self)) (again.told ∙ ap (λ a. gives_uber (g.H.A.Area.told a) (shelf.told c.give_back.new.shelf)) c.into_area-in-Err-commit.ensures)
+    c.in-Ok.ensures.told c.requires.held (next_of c.args.uber 1) _ (first_body g.H.R.Rack g.H.A.Area c.args.layout c.args.uber c.commit.new.self u.layout u.version u.next_leaf)
+    (subst (λ kept. StandsTold kept (next_of c.args.uber 1 ∷ []) (g.H.A.Area.told (area_of c.commit.new.self))) u.kept (e.refused [] before)) c.requires.counts again.counts
+    (again.check_counts ∙ (c.give_back.ensures.checks ∙ (c.open_shards.ensures.checks ∙ c.requires.checks))))
