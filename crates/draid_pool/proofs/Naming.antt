@@ -10,7 +10,7 @@ use Rattle.draid_area.specs.declared.Area as areas
 use Rattle.draid_spec.specs.declared.layout.Geometry.{Geometry}
 use Rattle.draid_record.specs.declared.uber.UberBody.{UberBody}
 use Rattle.draid_machine.specs.State as machine
-use Rattle.draid_machine.proofs.Small.{absurd_test, some_injective}
+use Rattle.draid_machine.proofs.Small.{absurd_test, bool_cases, is_equal, some_injective}
 use Rattle.draid_objects.proofs.Keeping.{commit_kept}
 use Rattle.draid_shard.specs.Part.{Part, layout_in}
 use Rattle.draid_shard.specs.declared.shard.Shard.{Shard}
@@ -56,8 +56,7 @@ abbrev pub refused_state : State → ℕ → State
 refused_state x count = record x { pending = true; uber_count = count }
 
 none_is : (group : ℕ) → 0 < group → (group == 0) ≡ false
-none_is zero some = absurd (omega (arith, some))
-none_is (suc n) some = refl
+none_is group some = elim (bool_cases (group == 0)) [ | inl none ↦ absurd (let same = is_equal group 0 none in omega (arith, same, some)) | inr other ↦ other ]
 
 module _ {A : Type 0} (area : areas.Ghosts A) (old new : Uber A) (group : ℕ) (x : State) (is : IsUber area old x) where
   -- what the commit writes

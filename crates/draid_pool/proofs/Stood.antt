@@ -66,7 +66,7 @@ module _ {R A : Type 0} (rack : racks.Ghosts R) (area : areas.Ghosts A) where
   abbrev pub HasCommitted : State → ℕ → Metaslab → Type 0
   HasCommitted x m y = y.world.committed ≡ x.committed
 
-  pub stood_of : (pool : Pool R A) (x : State) → Represents rack area pool x → Stood pool.shards.items (pointers_of pool) x (HasCommitted x)
+  unfoldable pub stood_of : (pool : Pool R A) (x : State) → Represents rack area pool x → Stood pool.shards.items (pointers_of pool) x (HasCommitted x)
   stood_of pool x r = (let s = r.stands in record {
     layout = s.layout;
     many = s.many;

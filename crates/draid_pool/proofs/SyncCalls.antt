@@ -10,7 +10,7 @@ use Rattle.draid_rack.specs.declared.Rack as racks
 use Rattle.draid_area.specs.declared.Area as areas
 use Rattle.draid_spec.specs.declared.layout.Geometry.{Geometry}
 use Rattle.draid_perm.specs.declared.perms.Perms.{Perms}
-use Rattle.draid_machine.proofs.Small.{absurd_test, none_some}
+use Rattle.draid_machine.proofs.Small.{absurd_test, bool_cases, is_equal, none_some}
 use Rattle.draid_shard.specs.declared.shard.Shard.{Shard}
 use Rattle.draid_uber.specs.Slots.{group_of}
 use Rattle.draid_uber.specs.Uber.{area_of, kept_of}
@@ -51,8 +51,10 @@ end_same sync.NoMemory = refl
 
 -- the committed group of a state
 group_from : (n next_leaf : ℕ) (geometry : Geometry) → group_of (if n == 0 then None else Some (body_of geometry n next_leaf)) ≡ n
-group_from zero next_leaf geometry = refl
-group_from (suc n) next_leaf geometry = refl
+group_from n next_leaf geometry = elim (bool_cases (n == 0)) [
+  | inl none ↦ ap (λ b. group_of (if b then None else Some (body_of geometry n next_leaf))) none ∙ sym (is_equal n 0 none)
+  | inr other ↦ ap (λ b. group_of (if b then None else Some (body_of geometry n next_leaf))) other
+]
 
 -- what a phase says of the layout and its permutations
 abbrev Says : Type 1
@@ -93,12 +95,6 @@ module _ {R A : Type 0} (rack : racks.Ghosts R) (area : areas.Ghosts A) where
     stood : Stood rack area pool.shards.items pointers x (λ m y. y.world.committed ≡ x.committed)
     stood = stood_of rack area pool x r
 
-    named_all : Names area pool.uber new.uber group → CommitsBelow rack group (length pool.shards.items) pool.shards.items new.shards.items
-        → CommitsAll rack area pool.shards.items new.shards.items pointers (named_state x group count) group
-    named_all n commits =
-        commits_all rack area pool.shards.items new.shards.items pointers (named_state x group count) group commits refl refl refl
-        (stood_named rack area pool.shards.items pointers x (λ m y. y.world.committed ≡ x.committed) stood group sealed count (CommittedBelow group 0) behind (λ m y at less. absurd (omega (arith, less))))
-
     pub named_sealed : Names area pool.uber new.uber group → area.faults (area_of pool.uber) ≤ area.faults (area_of new.uber)
         → CommitsBelow rack group (length pool.shards.items) pool.shards.items new.shards.items
         → CarriesOut rack area new x (Phase x (Chain (groups.Names x.geometry x.perms group) (groups.CommitPhase x.geometry x.perms group)) Went)
@@ -109,18 +105,17 @@ module _ {R A : Type 0} (rack : racks.Ghosts R) (area : areas.Ghosts A) where
         (represents_of rack area new reached own rest)
         (refl, inl (OnUber view (Committed group) ∷ [], c.holds, refl, (refl, behind), (c.each, refl)))
       where
-        c : CommitsAll rack area pool.shards.items new.shards.items pointers (named_state x group count) group
-        c = named_all n commits
+        c : CommitsAll rack area pool.shards.items new.shards.items pointers (named_state x group count) group commits refl refl refl
+        c = commits_all rack area pool.shards.items new.shards.items pointers (named_state x group count) group commits refl refl refl
+            (stood_named rack area pool.shards.items pointers x (λ m y. y.world.committed ≡ x.committed) stood group sealed count (CommittedBelow group 0) behind (λ m y at less. absurd (omega (arith, less))))
 
         reached : State
         reached = record (named_state x group count) { metaslabs = c.metaslabs }
 
         own : Stood rack area new.shards.items (λ object. get nat_eq new.objects object) reached (λ m y. y.world.committed ≡ group)
-        unfolding reached
         own = subst (λ os. Stood rack area new.shards.items (λ object. get nat_eq os object) (record (named_state x group count) { metaslabs = c.metaslabs }) (λ m y. y.world.committed ≡ group)) (sym objects) c.stood
 
         rest : Rest rack area new reached
-        unfolding reached count
         rest = record {
           geometry = r.stands.geometry ∙ sym geometry;
           next = (let fits = r.stands.groups.next in omega (arith, fits, behind));
@@ -141,7 +136,6 @@ module _ {R A : Type 0} (rack : racks.Ghosts R) (area : areas.Ghosts A) where
             (stood_refused rack area pool.shards.items pointers x (λ m y. y.world.committed ≡ x.committed) stood group sealed count behind))
 
         rest : Rest rack area new (refused_state x count)
-        unfolding count
         rest = record {
           geometry = r.stands.geometry ∙ sym geometry;
           next = r.stands.groups.next;

@@ -115,6 +115,7 @@ module _ {R A : Type 0} (rack : racks.Ghosts R) (area : areas.Ghosts A) where
   pub turned : (m : ℕ) (pool new : Pool R A) (shard shard' : Shard R A) (x : State) (does : Part → Hold → Type 0) → Represents rack area pool x → SetsShard rack area m pool new shard shard'
       → ((part : Part) (pieces : Pieces) (y : Metaslab) → IsMetaslab rack area part pieces shard y → Turns rack area part pieces y shard' (λ hold z. does part hold × KeepsCommitted y.world z.world))
       → OneMore new x (does (part_in x m))
+  unfolding stood_of
   turned m pool new shard shard' x does r set turns = record {
     hold = On (view_of m z.y) t.act;
     reached = after;

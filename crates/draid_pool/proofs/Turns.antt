@@ -105,6 +105,16 @@ seal_keeps l w v group failed step = subst (KeepsCommitted w) (sym step.made) (r
   };
 })
 
+-- what a commit does to a state
+pub record CommitsState (group : ℕ) (w v : machine.State) : Type 0 where
+  pub held : v.core.held ≡ without_freed group w.core.held
+  pub committed : v.committed ≡ group
+  pub sealed : w.sealed ≡ Some v.image
+  pub closing : w.closing ≡ Some group
+  pub of : v.image.group ≡ group
+  pub none : v.sealed ≡ None
+  pub leaves : (leaf : ℕ) → IsSome (v.core.arm (Leaf leaf)) → IsSome (w.core.arm (Leaf leaf))
+
 -- ---- areas
 
 -- two groups on are of the same area
@@ -342,16 +352,6 @@ module _ {R A : Type 0} (rack : racks.Ghosts R) (area : areas.Ghosts A) where
           absurd_test (is_block z.0.stage) (settled key z.0 (sym (is_in.held key) ∙ z.1)) z.2
 
   -- ---- committing
-
-  -- what a commit does to a state
-  pub record CommitsState (group : ℕ) (w v : machine.State) : Type 0 where
-    pub held : v.core.held ≡ without_freed group w.core.held
-    pub committed : v.committed ≡ group
-    pub sealed : w.sealed ≡ Some v.image
-    pub closing : w.closing ≡ Some group
-    pub of : v.image.group ≡ group
-    pub none : v.sealed ≡ None
-    pub leaves : (leaf : ℕ) → IsSome (v.core.arm (Leaf leaf)) → IsSome (w.core.arm (Leaf leaf))
 
   from_kept : (b : Bool) (o : Option machine.Arm) → IsSome (if b then None else o) → IsSome o
   from_kept true o some = absurd_test false some refl

@@ -89,7 +89,7 @@ module _ {R A : Type 0} (rack : racks.Ghosts R) (area : areas.Ghosts A) where
     uber_layout = n.layout ∙ (w.uber_layout ∙ sym geometry);
     uber_version = n.version ∙ (w.uber_version ∙ ap (λ (g : Geometry). g.props.version) (sym geometry));
     objects = λ o q at. (let of = w.objects o q (sym (ap (λ os. get nat_eq os o) objects) ∙ at) in
-    record { object_is = of.object_is; shard = of.shard; there = ap (λ zs. slice_get zs q.metaslab) shards ∙ of.there; live = of.live });
+      record { object_is = of.object_is; shard = of.shard; there = ap (λ zs. slice_get zs q.metaslab) shards ∙ of.there; live = of.live });
     floor = (let fits = w.floor in let same = ap group_of n.kept in omega (arith, fits, same, floor));
     low = (let low = w.low in omega (arith, low, floor));
   }
@@ -140,5 +140,6 @@ module _ {R A : Type 0} (rack : racks.Ghosts R) (area : areas.Ghosts A) where
           }
 
       pointer : (o : ℕ) (q : Pointer) → IsPointer pool o q → IsPointer new o q
-      pointer o q of = (let after = commits_at q.metaslab of.shard of.there in
-      record { object_is = of.object_is; shard = after.0; there = after.1; live = live_on group of.shard after.0 q (after.2).commits.entries of.live })
+      pointer o q of =
+          let after = commits_at q.metaslab of.shard of.there in
+          record { object_is = of.object_is; shard = after.0; there = after.1; live = live_on group of.shard after.0 q (after.2).commits.entries of.live }

@@ -27,7 +27,7 @@ close_in-requires-clause-valid g c =
     let i = l.invariant in
     let shard = c.index_mut.result.now in
     let below = c.loop-metaslab-test.true in
-    let len = c.len.ensures in
+    let len = c.len-metaslab-end.ensures in
     let vec = c.args.self.now.shards.ok.0 in
     let many = i.many in
     let there = borrowed_at l.self.shards.items l.metaslab shard (omega (arith, below, len, vec, many)) c.index_mut.ensures.value in
@@ -39,7 +39,7 @@ close_in-requires-clause-next g c =
     let i = l.invariant in
     let shard = c.index_mut.result.now in
     let below = c.loop-metaslab-test.true in
-    let len = c.len.ensures in
+    let len = c.len-metaslab-end.ensures in
     let vec = c.args.self.now.shards.ok.0 in
     let many = i.many in
     let there = borrowed_at l.self.shards.items l.metaslab shard (omega (arith, below, len, vec, many)) c.index_mut.ensures.value in
@@ -48,13 +48,13 @@ close_in-requires-clause-next g c =
     let same = ap (λ u. group_of (kept_of u)) i.uber in
     omega (arith, committed, next, same)
 
-pub returns-in_err-close_in-clause-whole : goal.returns-in_err-close_in-clause-whole
-returns-in_err-close_in-clause-whole g c =
+pub returns-in-Err-clause-whole : goal.returns-in-Err-clause-whole
+returns-in-Err-clause-whole g c =
     let l = c.loop-metaslab in
     let i = l.invariant in
     let shard = c.index_mut.result.now in
     let below = c.loop-metaslab-test.true in
-    let len = c.len.ensures in
+    let len = c.len-metaslab-end.ensures in
     let vec = c.args.self.now.shards.ok.0 in
     let many = i.many in
     let there = borrowed_at l.self.shards.items l.metaslab shard (omega (arith, below, len, vec, many)) c.index_mut.ensures.value in
@@ -65,13 +65,13 @@ returns-in_err-close_in-clause-whole g c =
     let e = c.close_in.ensures in
     whole_on g.R.Rack g.A.Area l.metaslab l.self new shard after i.whole set e.valid e.table
 
-pub returns-in_err-close_in-clause-carries : goal.returns-in_err-close_in-clause-carries
-returns-in_err-close_in-clause-carries g c = λ x is.
+pub returns-in-Err-clause-carries : goal.returns-in-Err-clause-carries
+returns-in-Err-clause-carries g c = λ x is.
     let l = c.loop-metaslab in
     let i = l.invariant in
     let shard = c.index_mut.result.now in
     let below = c.loop-metaslab-test.true in
-    let len = c.len.ensures in
+    let len = c.len-metaslab-end.ensures in
     let vec = c.args.self.now.shards.ok.0 in
     let many = i.many in
     let there = borrowed_at l.self.shards.items l.metaslab shard (omega (arith, below, len, vec, many)) c.index_mut.ensures.value in
@@ -79,9 +79,12 @@ returns-in_err-close_in-clause-carries g c = λ x is.
     let new : Pool g.row.R.Denot g.row.A.Denot
     = record { geometry = l.self.geometry; shards = with_item l.self.shards l.metaslab after; uber = l.self.uber; objects = l.self.objects; seq = l.self.seq; floor = l.self.floor; alloc = l.self.alloc } in
     let set : SetsShard g.R.Rack g.A.Area l.metaslab l.self new shard after = record { there = there; sets = refl; geometry = refl; objects = refl; seq = refl; floor = refl; uber = refl } in
-    let e = c.in_err-close_in.ensures in
+    let e = c.in-Err.ensures in
     let all = i.whole.many in
-    close_all_stops g.R.Rack g.A.Area c.args.group l.metaslab l.self new shard after x c.in_err-close_in.field-0 (i.carries x is) set (omega (arith, below, len, vec, many, all)) e.closes
+    close_all_stops g.R.Rack g.A.Area c.args.group l.metaslab l.self new shard after x c.in-Err.fault (i.carries x is) set (omega (arith, below, len, vec, many, all)) e.closes
+
+pub returns-in-Err-clause-cause : goal.returns-in-Err-clause-cause
+returns-in-Err-clause-cause g c = λ is. absurd (c.in-Err.ensures.not_shelf is)
 
 pub loop-metaslab-preserved : goal.loop-metaslab-preserved
 loop-metaslab-preserved g c =
@@ -89,7 +92,7 @@ loop-metaslab-preserved g c =
     let i = l.invariant in
     let shard = c.index_mut.result.now in
     let below = c.loop-metaslab-test.true in
-    let len = c.len.ensures in
+    let len = c.len-metaslab-end.ensures in
     let vec = c.args.self.now.shards.ok.0 in
     let many = i.many in
     let there = borrowed_at l.self.shards.items l.metaslab shard (omega (arith, below, len, vec, many)) c.index_mut.ensures.value in
@@ -97,7 +100,7 @@ loop-metaslab-preserved g c =
     let new : Pool g.row.R.Denot g.row.A.Denot
     = record { geometry = l.self.geometry; shards = with_item l.self.shards l.metaslab after; uber = l.self.uber; objects = l.self.objects; seq = l.self.seq; floor = l.self.floor; alloc = l.self.alloc } in
     let set : SetsShard g.R.Rack g.A.Area l.metaslab l.self new shard after = record { there = there; sets = refl; geometry = refl; objects = refl; seq = refl; floor = refl; uber = refl } in
-    let e = c.in_ok-close_in.ensures in
+    let e = c.in-Ok.ensures in
     record {
       whole = whole_on g.R.Rack g.A.Area l.metaslab l.self new shard after i.whole set e.valid e.table;
       carries = λ x is. close_more g.R.Rack g.A.Area c.args.group l.metaslab l.self new shard after x (i.carries x is) set e.closes;
@@ -111,7 +114,7 @@ returns-clause-carries g c = λ x is.
     let l = c.loop-metaslab in
     let i = l.invariant in
     let end = c.loop-metaslab-test.false in
-    let len = c.len.ensures in
+    let len = c.len-metaslab-end.ensures in
     let vec = c.args.self.now.shards.ok.0 in
     let many = i.many in
     let all = i.whole.many in
@@ -123,7 +126,7 @@ returns-clause-closing g c =
     let l = c.loop-metaslab in
     let i = l.invariant in
     let end = c.loop-metaslab-test.false in
-    let len = c.len.ensures in
+    let len = c.len-metaslab-end.ensures in
     let vec = c.args.self.now.shards.ok.0 in
     let many = i.many in
     below_all (λ (z : Shard g.row.R.Denot g.row.A.Denot). z.closing ≡ Some c.args.group) l.self.shards.items l.metaslab (omega (arith, end, len, vec, many)) i.closing

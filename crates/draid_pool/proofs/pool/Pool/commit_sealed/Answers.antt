@@ -1,5 +1,7 @@
-use Rattle.std.proofs.Common.{refl}
+use Rattle.std.proofs.Common.{Err, ap, inl, refl}
+use Rattle.draid_uber.specs.Uber.{area_of}
 use Rattle.draid_pool.specs.declared.pool.Pool.{Pool}
+use Rattle.draid_pool.proofs.Causes.{rose_some}
 use Rattle.draid_pool.proofs.Naming.{Names, Refuses}
 use Rattle.draid_pool.proofs.SyncCalls.{named_sealed, refused_failed, refused_starved}
 use Rattle.draid_pool.proofs.WholeGroups.{sealed_next, whole_committed, whole_refused}
@@ -50,7 +52,7 @@ returns-in-Err-Failed-clause-carries g c = λ x is.
     = record { geometry = old.geometry; shards = old.shards; uber = uber; objects = old.objects; seq = old.seq; floor = old.floor; alloc = old.alloc } in
     let e = c.in-Err-Failed.ensures in
     let refused : Refuses g.A.Area old.uber uber c.args.group = record { valid = e.valid; stands = e.refused; kept = e.same; layout = e.same_layout; version = e.version; next_leaf = e.leaf } in
-    refused_failed g.R.Rack g.A.Area old new c.args.group x is c.requires.sealed c.requires.next refl refl refl refl refused (e.cause.cause c.in-Err-Failed.field-0-is) refl
+    refused_failed g.R.Rack g.A.Area old new c.args.group x is c.requires.sealed c.requires.next refl refl refl refl refused (e.cause.cause (ap Err c.in-Err-Failed.field-0-is)) refl
 
 pub returns-in-Err-NoMemory-clause-whole : goal.returns-in-Err-NoMemory-clause-whole
 returns-in-Err-NoMemory-clause-whole g c =
@@ -71,3 +73,8 @@ returns-in-Err-NoMemory-clause-carries g c = λ x is.
     let e = c.in-Err-NoMemory.ensures in
     let refused : Refuses g.A.Area old.uber uber c.args.group = record { valid = e.valid; stands = e.refused; kept = e.same; layout = e.same_layout; version = e.version; next_leaf = e.leaf } in
     refused_starved g.R.Rack g.A.Area old new c.args.group x is c.requires.sealed c.requires.next refl refl refl refl refused e.cause.later refl
+
+pub returns-in-Err-Failed-clause-cause : goal.returns-in-Err-Failed-clause-cause
+returns-in-Err-Failed-clause-cause g c = λ is.
+    let e = c.in-Err-Failed.ensures in
+    inl (rose_some (g.A.Area.faults (area_of c.args.self.now.uber)) (g.A.Area.faults (area_of c.commit.new.self)) (e.cause.cause (ap Err c.in-Err-Failed.field-0-is)))

@@ -1,4 +1,4 @@
-use Rattle.std.proofs.Common.{◌≡◌, ◌<◌, ◌≤◌, ◌+◌, ◌*◌, ◌∙◌, Some, true, arith, refl, sym, ap, subst, length}
+use Rattle.std.proofs.Common.{◌≡◌, ◌<◌, ◌≤◌, ◌+◌, ◌*◌, ◌∙◌, Some, true, inr, arith, refl, length}
 use Rattle.std.specs.Prelude.{slice_get}
 use Rattle.std.specs.Vec.{with_item}
 use Rattle.std.proofs.lemmas.List.{length-set}
@@ -6,6 +6,7 @@ use Rattle.draid_names.specs.declared.numbers.TheConstants.{NUMBERS}
 use Rattle.draid_session.specs.Groups as groups
 use Rattle.draid_shard.specs.declared.shard.Shard.{Shard}
 use Rattle.draid_pool.specs.declared.pool.Pool.{Pool}
+use Rattle.draid_pool.proofs.Lists.{get_set_same}
 use Rattle.draid_pool.proofs.Lifted.{SetsShard}
 use Rattle.draid_pool.proofs.SyncSteps.{all_set, below_all, below_set, borrowed_at, came_none, seal_all_stops, seal_all_went, seal_more, whole_on}
 use Rattle.draid_pool.proofs.Wholes.{few_whole, whole_valid}
@@ -28,7 +29,7 @@ seal_in-requires-clause-valid g c =
     let i = l.invariant in
     let shard = c.index_mut.result.now in
     let below = c.loop-metaslab-test.true in
-    let len = c.len.ensures in
+    let len = c.len-metaslab-end.ensures in
     let vec = c.args.self.now.shards.ok.0 in
     let many = i.many in
     let there = borrowed_at l.self.shards.items l.metaslab shard (omega (arith, below, len, vec, many)) c.index_mut.ensures.value in
@@ -40,7 +41,7 @@ seal_in-requires-clause-closing g c =
     let i = l.invariant in
     let shard = c.index_mut.result.now in
     let below = c.loop-metaslab-test.true in
-    let len = c.len.ensures in
+    let len = c.len-metaslab-end.ensures in
     let vec = c.args.self.now.shards.ok.0 in
     let many = i.many in
     let there = borrowed_at l.self.shards.items l.metaslab shard (omega (arith, below, len, vec, many)) c.index_mut.ensures.value in
@@ -52,19 +53,19 @@ seal_in-requires-clause-settled g c =
     let i = l.invariant in
     let shard = c.index_mut.result.now in
     let below = c.loop-metaslab-test.true in
-    let len = c.len.ensures in
+    let len = c.len-metaslab-end.ensures in
     let vec = c.args.self.now.shards.ok.0 in
     let many = i.many in
     let there = borrowed_at l.self.shards.items l.metaslab shard (omega (arith, below, len, vec, many)) c.index_mut.ensures.value in
     (i.whole.shards l.metaslab shard there).settled
 
-pub returns-in_err-thin-clause-whole : goal.returns-in_err-thin-clause-whole
-returns-in_err-thin-clause-whole g c =
+pub returns-in-Err-clause-whole : goal.returns-in-Err-clause-whole
+returns-in-Err-clause-whole g c =
     let l = c.loop-metaslab in
     let i = l.invariant in
     let shard = c.index_mut.result.now in
     let below = c.loop-metaslab-test.true in
-    let len = c.len.ensures in
+    let len = c.len-metaslab-end.ensures in
     let vec = c.args.self.now.shards.ok.0 in
     let many = i.many in
     let there = borrowed_at l.self.shards.items l.metaslab shard (omega (arith, below, len, vec, many)) c.index_mut.ensures.value in
@@ -75,13 +76,13 @@ returns-in_err-thin-clause-whole g c =
     let e = c.seal_in.ensures in
     whole_on g.R.Rack g.A.Area l.metaslab l.self new shard after i.whole set e.valid e.table
 
-pub returns-in_err-thin-clause-carries : goal.returns-in_err-thin-clause-carries
-returns-in_err-thin-clause-carries g c = λ x is.
+pub returns-in-Err-clause-carries : goal.returns-in-Err-clause-carries
+returns-in-Err-clause-carries g c = λ x is.
     let l = c.loop-metaslab in
     let i = l.invariant in
     let shard = c.index_mut.result.now in
     let below = c.loop-metaslab-test.true in
-    let len = c.len.ensures in
+    let len = c.len-metaslab-end.ensures in
     let vec = c.args.self.now.shards.ok.0 in
     let many = i.many in
     let there = borrowed_at l.self.shards.items l.metaslab shard (omega (arith, below, len, vec, many)) c.index_mut.ensures.value in
@@ -89,17 +90,29 @@ returns-in_err-thin-clause-carries g c = λ x is.
     let new : Pool g.row.R.Denot g.row.A.Denot
     = record { geometry = l.self.geometry; shards = with_item l.self.shards l.metaslab after; uber = l.self.uber; objects = l.self.objects; seq = l.self.seq; floor = l.self.floor; alloc = l.self.alloc } in
     let set : SetsShard g.R.Rack g.A.Area l.metaslab l.self new shard after = record { there = there; sets = refl; geometry = refl; objects = refl; seq = refl; floor = refl; uber = refl } in
-    let e = c.in_err-thin.ensures in
+    let e = c.in-Err.ensures in
     let all = i.whole.many in
-    seal_all_stops g.R.Rack g.A.Area c.args.group l.metaslab l.thin l.self new shard after x c.in_err-thin.field-0 (i.carries x is) set (omega (arith, below, len, vec, many, all)) e.seals
+    seal_all_stops g.R.Rack g.A.Area c.args.group l.metaslab l.thin l.self new shard after x c.in-Err.fault (i.carries x is) set (omega (arith, below, len, vec, many, all)) e.seals
+
+pub returns-in-Err-clause-cause : goal.returns-in-Err-clause-cause
+returns-in-Err-clause-cause g c = λ is.
+    let l = c.loop-metaslab in
+    let i = l.invariant in
+    let shard = c.index_mut.result.now in
+    let below = c.loop-metaslab-test.true in
+    let len = c.len-metaslab-end.ensures in
+    let vec = c.args.self.now.shards.ok.0 in
+    let many = i.many in
+    let there = borrowed_at l.self.shards.items l.metaslab shard (omega (arith, below, len, vec, many)) c.index_mut.ensures.value in
+    inr (l.metaslab, c.seal_in.new.shard, get_set_same l.self.shards.items l.metaslab shard c.seal_in.new.shard there, c.in-Err.ensures.cause is)
 
 pub overflow_add-thin : goal.overflow_add-thin
 overflow_add-thin g c =
     let l = c.loop-metaslab in
     let low = l.invariant.low in
-    let own = c.in_ok-thin.ensures.low in
+    let own = c.in-Ok.ensures.low in
     let below = c.loop-metaslab-test.true in
-    let len = c.len.ensures in
+    let len = c.len-metaslab-end.ensures in
     let vec = c.args.self.now.shards.ok.0 in
     let few = few_whole g.R.Rack g.A.Area c.args.self.now c.requires.whole in
     omega (arith, low, own, below, len, vec, few)
@@ -110,7 +123,7 @@ loop-metaslab-preserved g c =
     let i = l.invariant in
     let shard = c.index_mut.result.now in
     let below = c.loop-metaslab-test.true in
-    let len = c.len.ensures in
+    let len = c.len-metaslab-end.ensures in
     let vec = c.args.self.now.shards.ok.0 in
     let many = i.many in
     let there = borrowed_at l.self.shards.items l.metaslab shard (omega (arith, below, len, vec, many)) c.index_mut.ensures.value in
@@ -118,12 +131,12 @@ loop-metaslab-preserved g c =
     let new : Pool g.row.R.Denot g.row.A.Denot
     = record { geometry = l.self.geometry; shards = with_item l.self.shards l.metaslab after; uber = l.self.uber; objects = l.self.objects; seq = l.self.seq; floor = l.self.floor; alloc = l.self.alloc } in
     let set : SetsShard g.R.Rack g.A.Area l.metaslab l.self new shard after = record { there = there; sets = refl; geometry = refl; objects = refl; seq = refl; floor = refl; uber = refl } in
-    let e = c.in_ok-thin.ensures in
+    let e = c.in-Ok.ensures in
     let low = i.low in
     let own = e.low in
     record {
       whole = whole_on g.R.Rack g.A.Area l.metaslab l.self new shard after i.whole set e.valid e.table;
-      carries = λ x is. seal_more g.R.Rack g.A.Area c.args.group l.metaslab l.thin c.in_ok-thin.field-0 l.self new shard after x (i.carries x is) set e.seals;
+      carries = λ x is. seal_more g.R.Rack g.A.Area c.args.group l.metaslab l.thin c.in-Ok.sealed l.self new shard after x (i.carries x is) set e.seals;
       closing = all_set (λ (z : Shard g.row.R.Denot g.row.A.Denot). z.closing ≡ Some c.args.group) l.self.shards.items l.metaslab shard after there e.sealed.0 i.closing;
       sealed = below_set (λ (z : Shard g.row.R.Denot g.row.A.Denot). (z.closing ≡ Some c.args.group) × (z.sealed ≡ true)) l.self.shards.items l.metaslab shard after there e.sealed i.sealed;
       low = omega (arith, low, own);
@@ -136,7 +149,7 @@ returns-clause-carries g c = λ x is.
     let l = c.loop-metaslab in
     let i = l.invariant in
     let end = c.loop-metaslab-test.false in
-    let len = c.len.ensures in
+    let len = c.len-metaslab-end.ensures in
     let vec = c.args.self.now.shards.ok.0 in
     let many = i.many in
     let all = i.whole.many in
@@ -148,7 +161,7 @@ returns-clause-sealed g c =
     let l = c.loop-metaslab in
     let i = l.invariant in
     let end = c.loop-metaslab-test.false in
-    let len = c.len.ensures in
+    let len = c.len-metaslab-end.ensures in
     let vec = c.args.self.now.shards.ok.0 in
     let many = i.many in
     below_all (λ (z : Shard g.row.R.Denot g.row.A.Denot). (z.closing ≡ Some c.args.group) × (z.sealed ≡ true)) l.self.shards.items l.metaslab (omega (arith, end, len, vec, many)) i.sealed
