@@ -1,5 +1,5 @@
 -- What a sync that was stopped by a failing area shows.
-use Rattle.std.proofs.Common.{◌≡◌, ◌==◌, ◌%◌, ◌<◌, ◌+◌, ℕ, Bool, true, false, Ok, Err, arith, ap}
+use Rattle.std.proofs.Common.{◌≡◌, ◌==◌, ◌%◌, ◌<◌, ◌+◌, ℕ, Bool, true, false, Err, arith, ap, if◌then◌else◌}
 use Rattle.std.specs.Prelude.{IsErrOf}
 use Rattle.draid_names.specs.Faults.{Rose}
 use Rattle.draid_shard.specs.Groups.{area_in}

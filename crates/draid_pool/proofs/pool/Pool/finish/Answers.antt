@@ -1,3 +1,6 @@
+use Rattle.std.proofs.Common.{ℕ}
+use Rattle.draid_pool.specs.declared.fault.SyncFault.TheVariants as sync
+use Rattle.draid_pool.proofs.Causes.{err_on}
 use Rattle.draid_pool.proofs.SyncCalls.{finish_stops, finishes_none, finishes_some}
 use Rattle.draid_pool.proofs.WholeGroups.{closing_next}
 use Rattle.draid_pool.proofs.pool.Pool.finish.Goals as goal
@@ -17,3 +20,6 @@ returns-in-Err-clause-carries g c = λ x is.
 
 pub returns-in-None-clause-carries : goal.returns-in-None-clause-carries
 returns-in-None-clause-carries g c = λ x is. finishes_none g.R.Rack g.A.Area c.args.self.now x is c.in-None.ensures.found
+
+pub returns-in-Err-clause-cause : goal.returns-in-Err-clause-cause
+returns-in-Err-clause-cause g c = λ is. c.in-Err.ensures.cause (err_on Unit ℕ c.in-Err.fault sync.Shelf is)
