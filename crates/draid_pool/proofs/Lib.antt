@@ -30,3 +30,14 @@ pub mod Wholes
 pub mod WriteSteps
 pub mod Listing
 pub mod ChooseSteps
+pub mod Walks
+pub mod Turns
+pub mod Stood
+pub mod SyncSteps
+pub mod Naming
+pub mod OnePass
+pub mod Commits
+pub mod WholeGroups
+pub mod Looking
+pub mod SyncCalls
+pub mod Causes
