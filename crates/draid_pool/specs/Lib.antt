@@ -3,7 +3,6 @@ pub mod Batches
 pub mod Carries
 pub mod Closing
 pub mod Failing
-pub mod Importing
 pub mod Metaslabs
 pub mod Objects
 pub mod Opening

@@ -1,9 +1,9 @@
 -- What a shelf holds between lines and as a run ends.
-use Rattle.std.specs.Prelude.{◌≡◌, ◌<◌, ◌+◌, ◌⊎◌, ⊤, ℕ, Bool, Option, Some, None, IsSomeAnd, is_some, slice_get}
+use Rattle.std.specs.Prelude.{◌≡◌, ◌<◌, ◌+◌, ◌⊎◌, ℕ, Bool, Option, Some, IsSome, IsSomeAnd, IsTrue, is_some, slice_get}
 use Rattle.draid_names.specs.Faults.{Rose}
 use Rattle.draid_shelf.specs.Kits.{AreNewChecks, Held, KitCounts, OnHeld}
 use Rattle.draid_shelf.specs.declared.Shelf as shelves
-use Rattle.draid_session.specs.Session.{Desk, Untouched, Bare, Made, Open, Shut, Foreign, Unknown}
+use Rattle.draid_session.specs.Session.{Desk, Untouched, Made, Open, Shut}
 use Rattle.draid_session.specs.State.{Metaslab, State}
 use Rattle.draid_pool.specs.Closing.{HoldsPool, OwnCounts, SameCounts}
 use Rattle.draid_pool.specs.Opening.{AreaFailed, IsAsBefore, IsMade, NoChecks}
@@ -43,27 +43,20 @@ pub record HoldsAll (x : State) (held : Held) : Type 0 where
   pub crash : Bool
   pub holds : HoldsPool x crash held
 
--- The pool of a state was given back: where the shelf tells, it holds the pool. All counts are those of the state.
+-- The pool of a state was given back: where the shelf tells, it holds the pool, and it told as the pool was opened. All counts are those of the state.
 pub record HoldsShut (x : State) (now : OnShelf) : Type 0 where
   pub held : OnHeld now.held (HoldsAll x)
-  pub told : x.told ≡ is_some now.held
+  pub told : IsSome now.held → IsTrue x.told
   pub counts : (m : ℕ) (y : Metaslab) → slice_get x.metaslabs m ≡ Some y → SameCounts y.counts (now.counts m)
   pub uber : now.own.uber ≡ x.uber_count
   pub checks : NoChecks now.own
 
--- it tells that it has no pool
-abbrev pub HasNone : OnShelf → Type 0
-HasNone now = IsSomeAnd now.held (λ held. held.uber ≡ None)
-
--- What a shelf holds, where no pool is open: what it held at the entry, no pool, a new pool as it was made, or the pool that was given back.
+-- What a shelf holds, where no pool is open: what it held at the entry, a new pool as it was made, or the pool that was given back.
 abbrev pub HoldsDesk : Desk → OnShelf → OnShelf → Type 0
 HoldsDesk Untouched entry now = IsSame entry now
-HoldsDesk Bare entry now = HasNone now
 HoldsDesk (Made geometry) entry now = IsMade geometry now.held now.counts now.own
 HoldsDesk (Open state) entry now = ⊥
 HoldsDesk (Shut state) entry now = HoldsShut state now
-HoldsDesk Foreign entry now = ⊥
-HoldsDesk Unknown entry now = ⊤
 
 -- ---- failures
 
@@ -78,5 +71,4 @@ AreaHasFailed x = ((m : ℕ) × (y : Metaslab) × (slice_get x.metaslabs m ≡ S
 -- the one or the other, by whether a pool is open
 abbrev pub HasFault : OnShelf → OnShelf → Desk → Type 0
 HasFault entry now (Open x) = AreaHasFailed x
-HasFault entry now Foreign = ⊤
 HasFault entry now desk = HasFailed entry now
