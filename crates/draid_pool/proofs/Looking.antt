@@ -1,5 +1,5 @@
 -- Looks at all metaslabs of a pool, which leave them as they are.
-use Rattle.std.proofs.Common.{◌≡◌, ◌<◌, ◌+◌, ◌++◌, ◌∙◌, [], ◌∷◌, ℕ, zero, suc, List, Option, Some, Contains, arith, refl, sym, ap, subst, get_or, length, length-append}
+use Rattle.std.proofs.Common.{◌≡◌, ◌<◌, ◌+◌, ◌++◌, ◌∙◌, [], ◌∷◌, ℕ, zero, suc, List, Some, Contains, arith, refl, sym, ap, subst, get_or, length, length-append}
 use Rattle.std.specs.Prelude.{slice_get}
 use Rattle.std.proofs.lemmas.List.{append_assoc}
 use Rattle.draid_machine.proofs.Small.{none_some}

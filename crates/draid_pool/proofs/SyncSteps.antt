@@ -1,15 +1,13 @@
 -- The closing and the sealing of a group in all metaslabs of a pool, one after another.
-use Rattle.std.proofs.Common.{◌≡◌, ◌≢◌, ◌<◌, ◌≤◌, ◌+◌, ◌++◌, ◌∙◌, [], ◌∷◌, inl, inr, ℕ, zero, suc, true, false, List, Option, Some, None, Ok, Err, arith, refl, sym, ap, subst, slice_index_or, slice_set, length}
-use Rattle.std.specs.Prelude.{Result, nat_eq, slice_get}
+use Rattle.std.proofs.Common.{◌≡◌, ◌≢◌, ◌<◌, ◌≤◌, ◌+◌, ◌++◌, ◌∙◌, [], ◌∷◌, inl, inr, ℕ, suc, true, false, List, Some, None, Ok, Err, arith, refl, sym, ap, subst, slice_index_or, slice_set, length}
+use Rattle.std.specs.Prelude.{nat_eq, slice_get}
 use Rattle.std.specs.HashMap.{get}
 use Rattle.std.proofs.lemmas.Bool.{cases_eq}
 use Rattle.std.proofs.lemmas.Option.{slice_get-get_or, slice_get_within}
 use Rattle.draid_rack.specs.declared.Rack as racks
 use Rattle.draid_area.specs.declared.Area as areas
 use Rattle.draid_spec.specs.declared.layout.Geometry.{Geometry}
-use Rattle.draid_perm.specs.declared.perms.Perms.{Perms}
 use Rattle.draid_segments.specs.Segments.{Pieces}
-use Rattle.draid_objects.specs.Changes.{write_of}
 use Rattle.draid_shard.specs.Fits.{Valid}
 use Rattle.draid_shard.specs.Part.{Part}
 use Rattle.draid_shard.specs.States.{stored_in}
@@ -19,11 +17,10 @@ use Rattle.draid_session.specs.Follows.{Follows}
 use Rattle.draid_session.specs.Groups as groups
 use Rattle.draid_session.specs.Holds.{Hold, On, view_of}
 use Rattle.draid_session.specs.Phases.{End, Walk, Went}
-use Rattle.draid_session.specs.State.{Metaslab, State, Store}
+use Rattle.draid_session.specs.State.{Metaslab, State}
 use Rattle.draid_pool.specs.Carries.{CarriesOut}
 use Rattle.draid_pool.specs.Metaslabs.{IsMetaslab}
 use Rattle.draid_pool.specs.Pools.{Represents, part_in}
-use Rattle.draid_pool.specs.Records.{HasImage}
 use Rattle.draid_pool.specs.Syncing.{CloseIs, KeepsCommitted, KeepsTable, Phase, SealDoes, SealIs, Turns, end_of}
 use Rattle.draid_pool.specs.Whole.{IsWhole}
 use Rattle.draid_pool.specs.declared.fault.SyncFault.{SyncFault}
@@ -32,8 +29,8 @@ use Rattle.draid_pool.specs.declared.pool.Pool.{Pool}
 use Rattle.draid_pool.proofs.Lifted.{HasMetaslab, SetsShard, metaslab_of}
 use Rattle.draid_pool.proofs.Lists.{get_set_other, get_set_same, some_of}
 use Rattle.draid_pool.proofs.Moved.{each_set, uber_stays, with_metaslab}
-use Rattle.draid_pool.proofs.Steps.{SameLayout, carried, follows_on, own_of, same_layout}
-use Rattle.draid_pool.proofs.Stood.{HasCommitted, Moves, Rest, Stood, represents_of, rest_of, stood_moved, stood_of}
+use Rattle.draid_pool.proofs.Steps.{carried, follows_on, own_of, same_layout}
+use Rattle.draid_pool.proofs.Stood.{HasCommitted, Moves, Rest, Stood, represents_of, stood_moved, stood_of}
 use Rattle.draid_pool.proofs.Wholes.{whole_same}
 use Rattle.draid_pool.proofs.Walks.{Walked, walk_stops, walk_went, walked_more}
 
@@ -265,6 +262,14 @@ module _ {R A : Type 0} (rack : racks.Ghosts R) (area : areas.Ghosts A) where
       (turned m mid new shard shard' c.reached (λ part. SealIs part group (Err why)) c.represents set turns)
       (λ hold done. own_of x c.reached (λ g p store. groups.SealStops g p group m hold end) (same_layout c.holds x c.reached c.follows) done) in
       carried rack area new x (c.holds ++ o.hold ∷ []) o.reached (SealDoes x group (Err why))
-      (follows_on c.holds (o.hold ∷ []) x c.reached o.reached c.follows (o.reached, o.holds, refl)) o.represents
-      (refl, (0, (sum, walk_stops P S 0 m x.geometry.props.metaslabs c.holds sum o.hold end (few P m sum mid x c below) c.walked (not_went ℕ why) (subst (λ k. S k o.hold end) (none_before m) o.done),
-      λ went. absurd (not_went ℕ why went))))
+      (follows_on c.holds (o.hold ∷ []) x c.reached o.reached c.follows (o.reached, o.holds, refl)) o.represents (
+        refl,
+        (
+          0,
+          (
+            sum,
+            walk_stops P S 0 m x.geometry.props.metaslabs c.holds sum o.hold end (few P m sum mid x c below) c.walked (not_went ℕ why) (subst (λ k. S k o.hold end) (none_before m) o.done),
+            λ went. absurd (not_went ℕ why went),
+          ),
+        ),
+      )

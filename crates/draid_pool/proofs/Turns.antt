@@ -1,7 +1,6 @@
 -- One metaslab as a group is closed, sealed and committed there.
-use Rattle.std.proofs.Common.{◌≡◌, ◌≢◌, ◌==◌, ◌%◌, ◌<◌, ◌≤◌, ◌+◌, ◌∙◌, [], ◌∷◌, inl, inr, ℕ, zero, suc, Bool, true, false, List, Option, Some, None, Ok, Err, IsSome, Contains, Vec, Global, arith, refl, sym, ap, subst, length, if◌then◌else◌}
+use Rattle.std.proofs.Common.{◌≡◌, ◌==◌, ◌%◌, ◌<◌, ◌+◌, ◌∙◌, [], ◌∷◌, inl, inr, ℕ, suc, Bool, true, false, List, Option, Some, None, Ok, Err, IsSome, Contains, Vec, Global, arith, refl, sym, ap, subst, length, if◌then◌else◌}
 use Rattle.std.specs.Prelude.{is_some}
-use Rattle.std.proofs.lemmas.Bool.Decides.{nat_tests}
 use Rattle.draid_names.specs.Faults.{Rose}
 use Rattle.draid_rack.specs.Rack.{OnTold, Told}
 use Rattle.draid_rack.specs.Moments.{Leaves, LeavesTold}
@@ -13,7 +12,7 @@ use Rattle.draid_machine.specs.declared.event.Event.TheVariants as event
 use Rattle.draid_machine.specs.declared.names.ArmName.TheVariants.{Leaf}
 use Rattle.draid_machine.specs.declared.names.Held.{Held}
 use Rattle.draid_machine.specs.declared.names.Key.{Key}
-use Rattle.draid_machine.specs.After.{each_arm, image_of, map_arm, seal_arm, seal_state}
+use Rattle.draid_machine.specs.After.{image_of, map_arm, seal_arm, seal_state}
 use Rattle.draid_machine.specs.Created.{IsReached}
 use Rattle.draid_machine.specs.Images.{IsImage}
 use Rattle.draid_machine.specs.Names.{is_block}
@@ -23,7 +22,6 @@ use Rattle.draid_machine.specs.Step.{Step}
 use Rattle.draid_machine.proofs.Rows.{reached_sound}
 use Rattle.draid_machine.proofs.Small.{absurd_test, none_some, some_injective}
 use Rattle.draid_objects.specs.Blocks.{without_freed}
-use Rattle.draid_segments.specs.Acts as segments
 use Rattle.draid_segments.specs.Acts.{nowhere}
 use Rattle.draid_segments.specs.Segments.{Backed, Pieces}
 use Rattle.draid_segments.proofs.Beginning.{flushed_backed}
@@ -31,11 +29,10 @@ use Rattle.draid_entries.specs.Entries.{held_in}
 use Rattle.draid_entries.specs.History as history
 use Rattle.draid_entries.specs.History.{limit_in, reserved_of}
 use Rattle.draid_stable.specs.Stable.{HasRecord}
-use Rattle.draid_shard.specs.Calls.{SameAreas, SameKit, SameReserve}
-use Rattle.draid_shard.specs.Fits.{IsLeaf, Valid}
-use Rattle.draid_shard.specs.Groups.{AreasLater, CloseRefused, KeepsOtherArea, OpenUpto, SealIsRefused, Seals, Unsealed, area_in, at_version}
+use Rattle.draid_shard.specs.Calls.{SameKit, SameReserve}
+use Rattle.draid_shard.specs.Fits.{Valid}
+use Rattle.draid_shard.specs.Groups.{AreasLater, CloseRefused, KeepsOtherArea, OpenUpto, Seals, Unsealed, area_in, at_version}
 use Rattle.draid_shard.specs.Part.{Part, layout_in}
-use Rattle.draid_shard.specs.Stands.{StandsFor}
 use Rattle.draid_shard.specs.States.{Does, DoesNone, IsIn, layout_by, part_of}
 use Rattle.draid_shard.specs.declared.fault.CloseFault.{CloseFault}
 use Rattle.draid_shard.specs.declared.fault.CloseFault.TheVariants as close
@@ -43,13 +40,13 @@ use Rattle.draid_shard.specs.declared.fault.SealFault.{SealFault}
 use Rattle.draid_shard.specs.declared.fault.SealFault.TheVariants as seal
 use Rattle.draid_shard.specs.declared.shard.Shard.{Shard}
 use Rattle.draid_shard.proofs.Standing.{has_layout}
-use Rattle.draid_session.specs.Follows.{Acts, CountsRise, Rests, area_count}
+use Rattle.draid_session.specs.Follows.{CountsRise, Rests, area_count}
 use Rattle.draid_session.specs.Groups as groups
 use Rattle.draid_session.specs.Holds.{AreaFailed, Did, Hold, Looked, On, view_of}
-use Rattle.draid_session.specs.State.{Counts, Metaslab}
+use Rattle.draid_session.specs.State.{Metaslab}
 use Rattle.draid_pool.specs.Metaslabs.{IsMetaslab, counts_of, harm_of}
-use Rattle.draid_pool.specs.Records.{HasRecords, LeavesAreBelow, area_for}
-use Rattle.draid_pool.specs.Syncing.{CloseIs, Commits, KeepsCommitted, SealIs, Turns, end_of}
+use Rattle.draid_pool.specs.Records.{HasRecords, area_for}
+use Rattle.draid_pool.specs.Syncing.{CloseIs, Commits, KeepsCommitted, SealIs, Turns}
 use Rattle.draid_pool.specs.declared.fault.SyncFault.{SyncFault}
 use Rattle.draid_pool.specs.declared.fault.SyncFault.TheVariants as sync
 use Rattle.draid_pool.proofs.Damages.{leaf_in}
@@ -96,7 +93,7 @@ seal_keeps : (l : machine.Layout) (w v : machine.State) (group : ℕ) (failed : 
 seal_keeps l w v group failed step = subst (KeepsCommitted w) (sym step.made) (record {
   held = refl;
   committed = refl;
-  images = λ image is. elim is [ | inl here ↦ inl here | inr here ↦ absurd (none_some w.sealed image step.unsealed here) ];
+  images = λ image is. elim is [ inl here ↦ inl here | inr here ↦ absurd (none_some w.sealed image step.unsealed here) ];
   leaves = λ kept_leaf next_leaf below. record {
     kept = below.kept;
     sealed = λ image is leaf some.
@@ -311,8 +308,12 @@ module _ {R A : Type 0} (rack : racks.Ghosts R) (area : areas.Ghosts A) where
     failed_area u = record {
       act = AreaFailed group;
       reached = reached;
-      acts = (rests_on seal.Area u, refl, subst (λ c. Rose (area_count group c) (area_count group (counts_of rack area new))) (sym is.counts)
-          (subst (λ n. Rose n (area_count group (counts_of rack area new))) (sym (area_counts group old)) (subst (λ n. Rose (area.faults (area_in old group)) n) (sym (area_counts group new)) u.why.1)));
+      acts = (
+        rests_on seal.Area u,
+        refl,
+        subst (λ c. Rose (area_count group c) (area_count group (counts_of rack area new))) (sym is.counts)
+            (subst (λ n. Rose n (area_count group (counts_of rack area new))) (sym (area_counts group old)) (subst (λ n. Rose (area.faults (area_in old group)) n) (sym (area_counts group new)) u.why.1)),
+      );
       done = ((refl, refl, is.stands.is_in.closing ∙ closing, unsealed), kept_here x.world);
       is = flushed seal.Area u;
     }

@@ -1,5 +1,4 @@
-use Rattle.std.proofs.Common.{◌≡◌, ◌<◌, ◌≤◌, ◌∙◌, arith, length, sym}
-use Rattle.std.proofs.lemmas.Option.{slice_get-get_or}
+use Rattle.std.proofs.Common.{arith}
 use Rattle.draid_pool.proofs.Commits.{below_more}
 use Rattle.draid_pool.proofs.SyncSteps.{borrowed_at}
 use Rattle.draid_pool.proofs.syncing.commit_all.Goals as goal

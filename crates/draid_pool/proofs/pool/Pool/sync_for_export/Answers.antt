@@ -1,4 +1,4 @@
-use Rattle.std.proofs.Common.{ℕ, false, true, subst}
+use Rattle.std.proofs.Common.{ℕ, subst}
 use Rattle.draid_pool.specs.Syncing.{FoundUnsynced}
 use Rattle.draid_pool.specs.declared.fault.SyncFault.TheVariants as sync
 use Rattle.draid_pool.specs.declared.fault.Synced.{Synced}
