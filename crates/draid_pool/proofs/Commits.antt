@@ -39,10 +39,7 @@ same_list (x ∷ xs) (y ∷ ys) same =
 -- ---- the shards
 
 module _ {R A : Type 0} (rack : racks.Ghosts R) where
-  -- none yet
-  pub below_none : (group : ℕ) (shards : List (Shard R A)) → CommitsBelow rack group 0 shards shards
-  below_none group shards = record { many = refl; below = λ k shard less. absurd (omega (arith, less)); others = λ k from. refl }
-
+  -- the next one commits
   pub below_more : (group m : ℕ) (old now : List (Shard R A)) (shard after : Shard R A) → CommitsBelow rack group m old now → slice_get now m ≡ Some shard → Commits rack group shard after
       → CommitsBelow rack group (m + 1) old (slice_set now m after)
   below_more group m old now shard after b there commits = record {

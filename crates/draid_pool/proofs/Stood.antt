@@ -80,9 +80,6 @@ module _ {R A : Type 0} (rack : racks.Ghosts R) (area : areas.Ghosts A) where
     groups_are = s.groups.committed;
   })
 
-  pub rest_of : (pool : Pool R A) (x : State) → Represents rack area pool x → Rest pool x
-  rest_of pool x r = (let s = r.stands in record { geometry = s.geometry; next = s.groups.next; last = s.groups.last; seq = s.seq; floor = s.floor; uber = s.uber })
-
   pub represents_of : (pool : Pool R A) (x : State) → Stood pool.shards.items (pointers_of pool) x (HasCommitted x) → Rest pool x → Represents rack area pool x
   represents_of pool x s rest = record {
     stands = record {

@@ -156,11 +156,6 @@ module _ {R A : Type 0} (rack : racks.Ghosts R) (area : areas.Ghosts A) where
 
   -- ---- closing
 
-  pub still_closing : (part : Part) (pieces : Pieces) (shard : Shard R A) (group : ℕ) (x : Metaslab) → IsMetaslab rack area part pieces shard x → shard.closing ≡ Some group
-      → Turns rack area part pieces x shard (λ hold y. CloseIs part group (Ok tt) hold × KeepsCommitted x.world y.world)
-  still_closing part pieces shard group x is closing =
-      look part pieces shard x (λ hold y. CloseIs part group (Ok tt) hold × KeepsCommitted x.world y.world) is ((refl, is.stands.is_in.closing ∙ closing, refl), kept_here x.world)
-
   pub closed : (part : Part) (pieces : Pieces) (old new : Shard R A) (group : ℕ) (x : Metaslab) → IsMetaslab rack area part pieces old x → Valid rack new → Does old new (event.Close group) → SameKit old new
       → SameReserve old new → (history.Passes old.history 3 0 → ⊥) → Turns rack area part pieces x new (λ hold y. CloseIs part group (Ok tt) hold × KeepsCommitted x.world y.world)
   closed part pieces old new group x is valid does kit reserve fits =
@@ -228,12 +223,6 @@ module _ {R A : Type 0} (rack : racks.Ghosts R) (area : areas.Ghosts A) where
   sealed part pieces old new group thin x is valid s other reserve later =
       subst (λ p. IsMetaslab rack area p pieces old x → Turns rack area p pieces x new (λ hold y. SealIs p group (Ok thin) hold × KeepsCommitted x.world y.world)) is.part_is
       (λ here. sealed_here pieces old new group thin x here valid s other reserve later) is
-
-  pub still_sealed : (part : Part) (pieces : Pieces) (shard : Shard R A) (group : ℕ) (x : Metaslab) → IsMetaslab rack area part pieces shard x → shard.closing ≡ Some group → shard.sealed ≡ true
-      → Turns rack area part pieces x shard (λ hold y. SealIs part group (Ok 0) hold × KeepsCommitted x.world y.world)
-  still_sealed part pieces shard group x is closing done =
-      look part pieces shard x (λ hold y. SealIs part group (Ok 0) hold × KeepsCommitted x.world y.world) is
-      ((refl, is.stands.is_in.closing ∙ closing, (λ none. absurd_test (is_some x.world.sealed) (is.stands.is_in.sealed ∙ done) (ap is_some none)), refl), kept_here x.world)
 
   -- ---- a seal that is refused
 
