@@ -14,13 +14,21 @@ const CREATE: &str = "create draid1:2d:3c:0s 3 sector=512 height=8 metaslabs=1 s
 
 const CREATED: &str = "create draid1:2d:3c:0s-0 stripes=32\n";
 
+/// An area of a pool of one metaslab.
+#[derive(Clone, Copy, Debug)]
+enum PoolArea {
+    Even,
+    Odd,
+    Uber,
+}
+
 /// Which calls of the devices fail, by their numbers.
 #[derive(Clone, Copy, Debug)]
 struct Failing {
     shelf: &'static [u64],
     rack: &'static [u64],
     /// A call of an area.
-    area: Option<(Place, u64)>,
+    area: Option<(PoolArea, u64)>,
     source: &'static [u64],
     sink: &'static [u64],
 }
@@ -70,8 +78,13 @@ fn run_chosen<R: AllocGlobal + Threads + Sync, F: Fn(&[Room]) -> Option<u32>>(
     for metaslab in 0..64 {
         shelf.fail(Place::Rack(metaslab), Vec::from_slice(alloc, failing.rack)?);
     }
-    if let Some((place, call)) = failing.area {
-        shelf.fail(place, Vec::from_slice(alloc, &[call])?);
+    if let Some((area, call)) = failing.area {
+        let calls = Vec::from_slice(alloc, &[call])?;
+        match area {
+            PoolArea::Even => shelf.fail(Place::Even(0), calls),
+            PoolArea::Odd => shelf.fail(Place::Odd(0), calls),
+            PoolArea::Uber => shelf.fail(Place::Uber, calls),
+        }
     }
     let mut source = MemorySource::new(script, Vec::from_slice(alloc, failing.source)?);
     let mut sink = MemorySink::new(alloc, Vec::from_slice(alloc, failing.sink)?);
@@ -192,14 +205,20 @@ fn a_shelf_that_fails_ends_the_run(rt: HostRuntime) -> Result<(), Fail> {
 /// How often areas are called by a create and two syncs. A record is written and flushed. A commit of the uberblock flushes
 /// the area and reads the gate of its slot, then writes and flushes the body and the gate; before these it shuts the gate
 /// that stands open since the group before the last.
-const AREA_CALLS: [(Place, u64); 3] = [(Place::Odd(0), 4), (Place::Even(0), 2), (Place::Uber, 20)];
+const AREA_CALLS: [(PoolArea, u64); 3] = [
+    (PoolArea::Odd, 4),
+    (PoolArea::Even, 2),
+    (PoolArea::Uber, 20),
+];
 
 #[test]
 fn areas_that_fail_end_the_run(rt: HostRuntime) -> Result<(), Fail> {
-    for (place, calls) in AREA_CALLS {
+    for (area, calls) in AREA_CALLS {
         for call in 0..calls + 1 {
-            let area = Some((place, call));
-            let failing = Failing { area, ..NONE };
+            let failing = Failing {
+                area: Some((area, call)),
+                ..NONE
+            };
             let script = created(rt.alloc(), "write 7 aa\nsync\nsync\n")?;
             let (ended, printed) = run_words(&rt, "session", script, &failing)?;
             assert_eq!(rt; ended == Status::ShelfFault, call < calls);
