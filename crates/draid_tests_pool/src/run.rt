@@ -211,19 +211,28 @@ const AREA_CALLS: [(PoolArea, u64); 3] = [
     (PoolArea::Uber, 20),
 ];
 
+/// Whether this call of an area ends the run of a create and two syncs, as it fails.
+fn ends_at<R: AllocGlobal + Threads + Sync>(
+    rt: &R,
+    area: PoolArea,
+    call: u64,
+) -> Result<bool, AllocError> {
+    let failing = Failing {
+        area: Some((area, call)),
+        ..NONE
+    };
+    let script = created(rt.alloc(), "write 7 aa\nsync\nsync\n")?;
+    let (ended, printed) = run_words(rt, "session", script, &failing)?;
+    Ok(ended == Status::ShelfFault && printed.ends_with(b"shelf fault\n"))
+}
+
 #[test]
 fn areas_that_fail_end_the_run(rt: HostRuntime) -> Result<(), Fail> {
     for (area, calls) in AREA_CALLS {
-        for call in 0..calls + 1 {
-            let failing = Failing {
-                area: Some((area, call)),
-                ..NONE
-            };
-            let script = created(rt.alloc(), "write 7 aa\nsync\nsync\n")?;
-            let (ended, printed) = run_words(&rt, "session", script, &failing)?;
-            assert_eq!(rt; ended == Status::ShelfFault, call < calls);
-            assert_eq!(rt; printed.ends_with(b"shelf fault\n"), call < calls);
+        for call in 0..calls {
+            assert!(rt; ends_at(&rt, area, call)?);
         }
+        assert!(rt; !ends_at(&rt, area, calls)?);
     }
     Ok(())
 }
