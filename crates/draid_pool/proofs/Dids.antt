@@ -14,7 +14,7 @@ use Rattle.draid_shard.specs.Calls.{ActsOn, OnBothTold, SameAreas, SameKit, Same
 use Rattle.draid_shard.specs.Fits.{Valid}
 use Rattle.draid_shard.specs.Part.{Part, layout_in}
 use Rattle.draid_shard.specs.Stands.{StandsFor}
-use Rattle.draid_shard.specs.States.{Does, DoesNone, layout_by, part_of}
+use Rattle.draid_shard.specs.States.{Does, DoesNone, IsIn, layout_by, part_of}
 use Rattle.draid_shard.specs.declared.shard.Shard.{Shard}
 use Rattle.draid_shard.proofs.Standing.{event_stands, none_stands}
 use Rattle.draid_session.specs.Follows.{Acts, CountsRise, HarmBoth, HarmBy, failed_in, uses}
@@ -42,14 +42,7 @@ harm_by l w v e step pieces (Some x) (Some y) h = record {
   harm_after = λ leaf sector. refl;
 }
 
--- the counts of devices that a call may have raised
-pub record Counted {R A : Type 0} (rack : racks.Ghosts R) (area : areas.Ghosts A) (failed : List ℕ) (old new : Shard R A) : Type 0 where
-  pub even : area.faults old.even ≤ area.faults new.even
-  pub odd : area.faults old.odd ≤ area.faults new.odd
-  pub later : (who : Option ℕ) → rack.faults old.rack who ≤ rack.faults new.rack who
-  pub cause : (leaf : ℕ) → min (rack.faults old.rack (Some leaf) + count_by (λ l. l == leaf) failed) (2 ^ 64 - 1) ≤ rack.faults new.rack (Some leaf)
-
--- and those of a call that leaves the areas
+-- the counts of devices that a call may have raised which leaves the areas
 pub record Raises {R A : Type 0} (rack : racks.Ghosts R) (area : areas.Ghosts A) (failed : List ℕ) (old new : Shard R A) : Type 0 where
   pub areas_are : SameAreas old new
   pub later : (who : Option ℕ) → rack.faults old.rack who ≤ rack.faults new.rack who
@@ -63,16 +56,12 @@ pub record Done {R A : Type 0} (rack : racks.Ghosts R) (area : areas.Ghosts A) (
   pub is : IsMetaslab rack area part pieces new reached
 
 module _ {R A : Type 0} (rack : racks.Ghosts R) (area : areas.Ghosts A) where
-  rises : (failed : List ℕ) (old new : Shard R A) (w v : machine.State) (counts : Counts) → counts ≡ counts_of rack area old → Counted rack area failed old new
-      → CountsRise w v failed counts (counts_of rack area new)
-  rises failed old new w v counts same r = rw same (record { rack = r.later None; even = r.even; odd = r.odd; leaves = λ leaf stays. r.cause leaf })
-
-  pub counted : (failed : List ℕ) (old new : Shard R A) → Raises rack area failed old new → Counted rack area failed old new
-  counted failed old new r = record {
+  rises : (failed : List ℕ) (old new : Shard R A) (w v : machine.State) → Raises rack area failed old new → CountsRise w v failed (counts_of rack area old) (counts_of rack area new)
+  rises failed old new w v r = record {
+    rack = r.later None;
     even = (let e = ap area.faults r.areas_are.even in omega (arith, e));
     odd = (let e = ap area.faults r.areas_are.odd in omega (arith, e));
-    later = r.later;
-    cause = r.cause;
+    leaves = λ leaf stays. r.cause leaf;
   }
 
   -- the areas have the records that they had
@@ -83,7 +72,8 @@ module _ {R A : Type 0} (rack : racks.Ghosts R) (area : areas.Ghosts A) where
 
   did_here : (pieces : Pieces) (old new : Shard R A) (e : Event) (x : Metaslab) → IsMetaslab rack area (part_of old) pieces old x → Valid rack new → Does old new e → ActsOn rack old new e pieces
       → ((v : machine.State) (step : Step (layout_by old) x.world e v) → segments.pieces_after (layout_by old) x.world e v step pieces pieces ≡ pieces)
-      → limit_in new.history ≡ limit_in old.history → reserved_of new.history + uses x.world e ≡ reserved_of old.history → Counted rack area (failed_in e) old new
+      → limit_in new.history ≡ limit_in old.history → reserved_of new.history + uses x.world e ≡ reserved_of old.history
+      → ((v : machine.State) → Step (layout_by old) x.world e v → IsIn new v → CountsRise x.world v (failed_in e) (counts_of rack area old) (counts_of rack area new))
       → ((v : machine.State) → Step (layout_by old) x.world e v → HasRecords (part_of old) v (area.told new.even) (area.told new.odd))
       → Done rack area (part_of old) pieces new e x
   did_here pieces old new e x is valid does acts same limit reserved counts records =
@@ -106,7 +96,7 @@ module _ {R A : Type 0} (rack : racks.Ghosts R) (area : areas.Ghosts A) where
           legal = z.1;
           world = refl;
           reserved = reserved ∙ sym is.reserved;
-          counts = rises (failed_in e) old new x.world z.0 x.counts is.counts counts;
+          counts = subst (λ n. CountsRise x.world z.0 (failed_in e) n (counts_of rack area new)) (sym is.counts) (counts z.0 z.1 z.2.is_in);
           harm = subst (λ h. HarmBoth h (harm_of (rack.told new.rack)) (HarmBy l x.world e z.0)) (sym is.harm)
               (harm_by l x.world z.0 e z.1 pieces (rack.told old.rack) (rack.told new.rack) (acts x.world z.0 z.1 is.stands.reached is.stands.is_in));
         };
@@ -124,15 +114,18 @@ module _ {R A : Type 0} (rack : racks.Ghosts R) (area : areas.Ghosts A) where
         };
       }
 
-  -- an event, where its images' records stand then
+  -- an event, where the counts rise as it says and its images' records stand then
   pub did_with : (part : Part) (pieces : Pieces) (old new : Shard R A) (e : Event) (x : Metaslab) → IsMetaslab rack area part pieces old x → Valid rack new → Does old new e → ActsOn rack old new e pieces
       → ((v : machine.State) (step : Step (layout_by old) x.world e v) → segments.pieces_after (layout_by old) x.world e v step pieces pieces ≡ pieces)
-      → limit_in new.history ≡ limit_in old.history → reserved_of new.history + uses x.world e ≡ reserved_of old.history → Counted rack area (failed_in e) old new
+      → limit_in new.history ≡ limit_in old.history → reserved_of new.history + uses x.world e ≡ reserved_of old.history
+      → ((v : machine.State) → Step (layout_in part) x.world e v → IsIn new v → CountsRise x.world v (failed_in e) (counts_of rack area old) (counts_of rack area new))
       → ((v : machine.State) → Step (layout_in part) x.world e v → HasRecords part v (area.told new.even) (area.told new.odd))
       → Done rack area part pieces new e x
-  did_with part pieces old new e x is valid does acts same limit reserved counts =
-      subst (λ p. IsMetaslab rack area p pieces old x → ((v : machine.State) → Step (layout_in p) x.world e v → HasRecords p v (area.told new.even) (area.told new.odd)) → Done rack area p pieces new e x) is.part_is
-      (λ here records. did_here pieces old new e x here valid does acts same limit reserved counts records) is
+  did_with part pieces old new e x is valid does acts same limit reserved =
+      subst (λ p. IsMetaslab rack area p pieces old x
+      → ((v : machine.State) → Step (layout_in p) x.world e v → IsIn new v → CountsRise x.world v (failed_in e) (counts_of rack area old) (counts_of rack area new))
+      → ((v : machine.State) → Step (layout_in p) x.world e v → HasRecords p v (area.told new.even) (area.told new.odd)) → Done rack area p pieces new e x) is.part_is
+      (λ here counts records. did_here pieces old new e x here valid does acts same limit reserved counts records) is
 
   -- one that leaves the images
   pub did : (part : Part) (pieces : Pieces) (old new : Shard R A) (e : Event) (x : Metaslab) → IsMetaslab rack area part pieces old x → Valid rack new → Does old new e → ActsOn rack old new e pieces
@@ -140,7 +133,7 @@ module _ {R A : Type 0} (rack : racks.Ghosts R) (area : areas.Ghosts A) where
       → limit_in new.history ≡ limit_in old.history → reserved_of new.history + uses x.world e ≡ reserved_of old.history → Raises rack area (failed_in e) old new
       → LeavesImages e → Done rack area part pieces new e x
   did part pieces old new e x is valid does acts same limit reserved raises leaves =
-      did_with part pieces old new e x is valid does acts same limit reserved (counted (failed_in e) old new raises)
+      did_with part pieces old new e x is valid does acts same limit reserved (λ v step is_in. rises (failed_in e) old new x.world v raises)
       (λ v step. records_kept part x.world v (area.told new.even) (area.told new.odd) (step_keeps (layout_in part) x.world v e step leaves)
       (records_same part x.world old new raises.areas_are is.records))
 

@@ -29,3 +29,13 @@ pub mod Wholes
 pub mod WriteSteps
 pub mod Listing
 pub mod ChooseSteps
+pub mod Walks
+pub mod Turns
+pub mod Stood
+pub mod SyncSteps
+pub mod Naming
+pub mod OnePass
+pub mod Commits
+pub mod WholeGroups
+pub mod Looking
+pub mod SyncCalls

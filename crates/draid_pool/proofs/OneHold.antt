@@ -28,7 +28,7 @@ use Rattle.draid_pool.proofs.Imaged.{keeps_same}
 abbrev pub with_reserved : Metaslab → ℕ → Metaslab
 with_reserved x reserved = record x { reserved = reserved }
 
-rests : (x : Metaslab) (reserved : ℕ) → Rests x (with_reserved x reserved)
+pub rests : (x : Metaslab) (reserved : ℕ) → Rests x (with_reserved x reserved)
 rests x reserved = record {
   opened = refl;
   events = refl;

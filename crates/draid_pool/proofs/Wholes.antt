@@ -21,10 +21,10 @@ use Rattle.draid_machine.specs.State as machine
 use Rattle.draid_machine.specs.Names.{is_block, key_eq}
 use Rattle.draid_machine.proofs.Small.{equal, is_equal, key_true, some_injective}
 use Rattle.draid_entries.specs.declared.entry.Entry.{Entry}
-use Rattle.draid_entries.specs.Entries.{entry_at, held_in}
+use Rattle.draid_entries.specs.Entries.{SameEntries, entry_at, held_in}
 use Rattle.draid_entries.specs.Maps.{held_at, key_of, staged}
 use Rattle.draid_shard.specs.Calls.{IsLive}
-use Rattle.draid_shard.specs.Changes.{KeepsBlocks, SameGroups, SetsBlock}
+use Rattle.draid_shard.specs.Changes.{KeepsBlocks, SetsBlock}
 use Rattle.draid_shard.specs.Fits.{Valid}
 use Rattle.draid_shard.specs.Part.{Part}
 use Rattle.draid_shard.specs.States.{IsIn, part_of}
@@ -80,10 +80,10 @@ numbered_set shard shard' seq seq' p entry sets own up n = record {
   ];
 }
 
-numbered_kept : {R A : Type 0} (shard shard' : Shard R A) (seq : ℕ) → KeepsBlocks shard shard' → Numbered seq shard → Numbered seq shard'
-numbered_kept shard shard' seq keeps n = record {
-  numbered = λ key h there. n.numbered key h (sym (keeps.entries.held key) ∙ there);
-  settled = λ key h there. n.settled key h (sym (keeps.entries.held key) ∙ there);
+numbered_kept : {R A : Type 0} (shard shard' : Shard R A) (seq : ℕ) → SameEntries shard.entries shard'.entries → Numbered seq shard → Numbered seq shard'
+numbered_kept shard shard' seq same n = record {
+  numbered = λ key h there. n.numbered key h (sym (same.held key) ∙ there);
+  settled = λ key h there. n.settled key h (sym (same.held key) ∙ there);
 }
 
 -- a live block beside the place that changed is live yet
@@ -159,7 +159,7 @@ module _ {R A : Type 0} (rack : racks.Ghosts R) (area : areas.Ghosts A) where
     pub uber : new.uber ≡ pool.uber
     pub valid : Valid rack shard'
     pub part : part_of shard' ≡ part_of shard
-    pub groups : SameGroups shard shard'
+    pub committed : shard'.committed ≡ shard.committed
 
   same_shard : (perms : Perms) (pool new : Pool R A) (k : ℕ) (z : Shard R A) → IsShardOf rack perms pool k z → new.geometry ≡ pool.geometry → new.uber ≡ pool.uber → pool.seq ≤ new.seq
       → IsShardOf rack perms new k z
@@ -180,6 +180,7 @@ module _ {R A : Type 0} (rack : racks.Ghosts R) (area : areas.Ghosts A) where
     shards = each;
     uber = subst (ubers.Valid area.size) (sym r.uber) w.uber;
     uber_layout = ap (λ u. ubers.layout_of u) r.uber ∙ (w.uber_layout ∙ sym r.geometry);
+    uber_version = ap (λ u. ubers.version_of u) r.uber ∙ (w.uber_version ∙ ap (λ (g : Geometry). g.props.version) (sym r.geometry));
     objects = objects;
     floor = subst (λ u. new.floor ≤ group_of (kept_of u) + 2) (sym r.uber) floor;
     low = low;
@@ -193,7 +194,7 @@ module _ {R A : Type 0} (rack : racks.Ghosts R) (area : areas.Ghosts A) where
             part = r.part ∙ (was.part ∙ ap (λ (g : Geometry). record { geometry = g; perms = w.perms; number = m }) (sym r.geometry));
             numbered = n.numbered;
             settled = n.settled;
-            committed = r.groups.committed ∙ (was.committed ∙ ap (λ u. group_of (kept_of u)) (sym r.uber));
+            committed = r.committed ∙ (was.committed ∙ ap (λ u. group_of (kept_of u)) (sym r.uber));
           }
 
       each : (k : ℕ) (z : Shard R A) → slice_get new.shards.items k ≡ Some z → IsShardOf rack w.perms new k z
@@ -302,13 +303,18 @@ module _ {R A : Type 0} (rack : racks.Ghosts R) (area : areas.Ghosts A) where
           none_live o none some = (let h = sym none ∙ some in cc)
 
   -- no block changed
-  pub whole_kept : (m : ℕ) (pool new : Pool R A) (shard shard' : Shard R A) → IsWhole rack area pool → Replaces m pool new shard shard' → KeepsBlocks shard shard' → new.seq ≡ pool.seq
+  pub whole_same : (m : ℕ) (pool new : Pool R A) (shard shard' : Shard R A) → IsWhole rack area pool → Replaces m pool new shard shard' → SameEntries shard.entries shard'.entries → new.seq ≡ pool.seq
       → new.floor ≡ pool.floor → ((q : ℕ) → get nat_eq new.objects q ≡ get nat_eq pool.objects q) → IsWhole rack area new
-  whole_kept m pool new shard shard' w r keeps seq floor objects =
+  whole_same m pool new shard shard' w r same seq floor objects =
       let fits = w.floor in
       let low = w.low in
-      whole_replaced m pool new shard shard' w r (omega (arith, seq)) (subst (λ n. Numbered n shard') (sym seq) (numbered_kept shard shard' pool.seq keeps (numbered_here pool m shard w r.there)))
-      (λ o q at. pointer_replaced m pool new shard shard' o q r (λ live. keeps.entries.at q.first ∙ live) (w.objects o q (sym (objects o) ∙ at))) (omega (arith, fits, floor)) (omega (arith, low, floor))
+      whole_replaced m pool new shard shard' w r (omega (arith, seq)) (subst (λ n. Numbered n shard') (sym seq) (numbered_kept shard shard' pool.seq same (numbered_here pool m shard w r.there)))
+      (λ o q at. pointer_replaced m pool new shard shard' o q r (λ live. same.at q.first ∙ live) (w.objects o q (sym (objects o) ∙ at))) (omega (arith, fits, floor)) (omega (arith, low, floor))
+
+  -- and no group
+  pub whole_kept : (m : ℕ) (pool new : Pool R A) (shard shard' : Shard R A) → IsWhole rack area pool → Replaces m pool new shard shard' → KeepsBlocks shard shard' → new.seq ≡ pool.seq
+      → new.floor ≡ pool.floor → ((q : ℕ) → get nat_eq new.objects q ≡ get nat_eq pool.objects q) → IsWhole rack area new
+  whole_kept m pool new shard shard' w r keeps seq floor objects = whole_same m pool new shard shard' w r keeps.entries seq floor objects
 
   -- a block was freed to which no pointer of the table leads then
   pub whole_freed : (pool new : Pool R A) (shard shard' : Shard R A) (p : Pointer) (group : ℕ) → IsWhole rack area pool → Replaces p.metaslab pool new shard shard' → IsLive shard p
@@ -339,6 +345,7 @@ module _ {R A : Type 0} (rack : racks.Ghosts R) (area : areas.Ghosts A) where
     shards = λ k z there. same_shard w.perms pool new k z (w.shards k z (sym (ap (λ zs. slice_get zs k) shards) ∙ there)) geometry uber (omega (arith, seq));
     uber = subst (ubers.Valid area.size) (sym uber) w.uber;
     uber_layout = ap (λ u. ubers.layout_of u) uber ∙ (w.uber_layout ∙ sym geometry);
+    uber_version = ap (λ u. ubers.version_of u) uber ∙ (w.uber_version ∙ ap (λ (g : Geometry). g.props.version) (sym geometry));
     objects = λ o q at. (let of = objects o q at in record { object_is = of.object_is; shard = of.shard; there = ap (λ zs. slice_get zs q.metaslab) shards ∙ of.there; live = of.live });
     floor = subst (λ u. new.floor ≤ group_of (kept_of u) + 2) (sym uber) (let fits = w.floor in omega (arith, fits, floor));
     low = (let low = w.low in omega (arith, low, floor));

@@ -1,10 +1,26 @@
 -- The parts of a sync.
-use Rattle.std.specs.Prelude.{◌≡◌, ◌+◌, ℕ, List, true, Option, Some, Result, Ok, Err, slice_get}
+use Rattle.std.specs.Prelude.{◌≡◌, ◌+◌, ◌<◌, ◌≤◌, ℕ, Bool, List, true, false, Option, Some, None, Result, Ok, Err, length, slice_get}
+use Rattle.draid_rack.specs.declared.Rack as racks
+use Rattle.draid_area.specs.declared.Area as areas
+use Rattle.draid_machine.specs.declared.event.Event.TheVariants as event
+use Rattle.draid_machine.specs.Images.{IsImage}
+use Rattle.draid_machine.specs.State as machine
+use Rattle.draid_segments.specs.Segments.{Pieces}
+use Rattle.draid_entries.specs.Entries.{SameEntries}
+use Rattle.draid_session.specs.Follows.{Acts}
 use Rattle.draid_session.specs.Groups as groups
-use Rattle.draid_session.specs.Holds.{Hold}
+use Rattle.draid_session.specs.Holds.{Act, Hold, On, view_of}
 use Rattle.draid_session.specs.Phases.{End, Went, WasWorn, WasLast, Starved, Broke}
-use Rattle.draid_session.specs.State.{State, Store}
+use Rattle.draid_session.specs.State.{Metaslab, State, Store}
+use Rattle.draid_shard.specs.Calls.{ActsOn, SameAreas, SameReserve}
+use Rattle.draid_shard.specs.Changes.{CommitsGroup}
+use Rattle.draid_shard.specs.Fits.{Valid}
+use Rattle.draid_shard.specs.Groups.{DropsDetached}
+use Rattle.draid_shard.specs.Part.{Part, layout_in}
+use Rattle.draid_shard.specs.States.{Does, part_of, stored_in}
 use Rattle.draid_shard.specs.declared.shard.Shard.{Shard}
+use Rattle.draid_pool.specs.Metaslabs.{IsMetaslab}
+use Rattle.draid_pool.specs.Records.{LeavesAreBelow}
 use Rattle.draid_pool.specs.declared.fault.SyncFault.{SyncFault}
 use Rattle.draid_pool.specs.declared.fault.SyncFault.TheVariants as sync
 
@@ -37,3 +53,65 @@ AreClosing {R = R} {A = A} shards group = (m : ℕ) (shard : Shard R A) → slic
 -- and is sealed there
 abbrev pub AreSealed : {R A : Type 0} → List (Shard R A) → ℕ → Type 0
 AreSealed {R = R} {A = A} shards group = (m : ℕ) (shard : Shard R A) → slice_get shards m ≡ Some shard → (shard.closing ≡ Some group) × (shard.sealed ≡ true)
+
+-- ---- one metaslab
+
+-- One hold of a metaslab led to one for which the shard stands, with these pieces.
+pub record Turns {R A : Type 0} (rack : racks.Ghosts R) (area : areas.Ghosts A) (part : Part) (pieces : Pieces) (x : Metaslab) (new : Shard R A) (does : Hold → Metaslab → Type 0) : Type 0 where
+  pub act : Act
+  pub reached : Metaslab
+  pub acts : Acts (layout_in part) act x reached
+  pub done : does (On (view_of part.number x) act) reached
+  pub is : IsMetaslab rack area part pieces new reached
+
+-- What the closing and the sealing of a group leave: what is held, the committed group, the images that were there, and that leaves have low numbers.
+pub record KeepsCommitted (old new : machine.State) : Type 0 where
+  pub held : new.core.held ≡ old.core.held
+  pub committed : new.committed ≡ old.committed
+  pub images : (image : machine.Image) → IsImage old image → IsImage new image
+  pub leaves : (kept_leaf next_leaf : ℕ) → LeavesAreBelow kept_leaf next_leaf old → LeavesAreBelow kept_leaf next_leaf new
+
+-- all blocks, tickets and the committed group are as they were, whatever the state
+pub record KeepsTable {R A : Type 0} (old new : Shard R A) : Type 0 where
+  pub part : part_of new ≡ part_of old
+  pub entries : SameEntries old.entries new.entries
+  pub committed : new.committed ≡ old.committed
+
+-- a metaslab's group was closed, or why it wasn't
+abbrev pub CloseIs : Part → ℕ → Result Unit SyncFault → Hold → Type 0
+CloseIs part group (Ok done) hold = groups.Closes part.geometry part.perms group part.number hold 0
+CloseIs part group (Err why) hold = groups.CloseStops part.geometry part.perms group part.number hold (end_of {T = Unit} (Err why))
+
+-- a metaslab's group was sealed, and so many of its blocks are thin; or why it wasn't
+abbrev pub SealIs : Part → ℕ → Result ℕ SyncFault → Hold → Type 0
+SealIs part group (Ok thin) hold = groups.Seals part.geometry part.perms group part.number hold thin
+SealIs part group (Err why) hold = groups.SealStops part.geometry part.perms group part.number hold (end_of {T = ℕ} (Err why))
+
+-- a shard committed its group
+pub record Commits {R A : Type 0} (rack : racks.Ghosts R) (group : ℕ) (old new : Shard R A) : Type 0 where
+  pub valid : Valid rack new
+  pub areas : SameAreas old new
+  pub does : Does old new (event.Commit group)
+  pub commits : CommitsGroup old new group
+  pub acts : (pieces : Pieces) → ActsOn rack old new (event.Commit group) pieces
+  pub leaves : DropsDetached rack old new group
+  pub reserve : SameReserve old new
+
+-- ---- all metaslabs
+
+-- each shard below a number committed its group, and the others are as they were
+pub record CommitsBelow {R A : Type 0} (rack : racks.Ghosts R) (group m : ℕ) (old new : List (Shard R A)) : Type 0 where
+  pub many : length new ≡ length old
+  pub below : (k : ℕ) (shard : Shard R A) → k < m → slice_get old k ≡ Some shard → (after : Shard R A) × (slice_get new k ≡ Some after) × Commits rack group shard after
+  pub others : (k : ℕ) → m ≤ k → slice_get new k ≡ slice_get old k
+
+-- a group that is closing in one of the shards, or None where none is
+abbrev pub FoundClosing : {R A : Type 0} → List (Shard R A) → Option ℕ → Type 0
+FoundClosing {R = R} {A = A} shards None = (m : ℕ) (shard : Shard R A) → slice_get shards m ≡ Some shard → shard.closing ≡ None
+FoundClosing {R = R} {A = A} shards (Some group) = (m : ℕ) × (shard : Shard R A) × (slice_get shards m ≡ Some shard) × (shard.closing ≡ Some group)
+
+-- one of the shards stores something that no sync has made safe, or none does
+abbrev pub FoundUnsynced : {R A : Type 0} → List (Shard R A) → Bool → Type 0
+FoundUnsynced {R = R} {A = A} shards true =
+    (m : ℕ) × (shard : Shard R A) × (slice_get shards m ≡ Some shard) × (groups.is_unsynced shard.committed (stored_in shard) ≡ true)
+FoundUnsynced {R = R} {A = A} shards false = (m : ℕ) (shard : Shard R A) → slice_get shards m ≡ Some shard → groups.is_unsynced shard.committed (stored_in shard) ≡ false

@@ -14,6 +14,7 @@ mod room;
 mod store;
 mod summing;
 mod syncing;
+mod unsynced;
 mod writing;
 
 pub use closing::close;

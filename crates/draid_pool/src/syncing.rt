@@ -1,22 +1,89 @@
 //! Groups of a pool: one is closed in all metaslabs and sealed in all, then the uberblock names it, and then it is
 //! committed in all.
-ghost use Rattle.std.specs.Prelude.{◌≡◌, ◌+◌, ℕ, Ok, Err, Some, None, IfOk, OnOk, IsErrOf};
+ghost use Rattle.std.specs.Prelude.{◌≡◌, ◌≤◌, ◌+◌, ℕ, true, false, All, Ok, Err, Some, None, IfOk, IsTrue, OnOk, Vec, length};
+ghost use Rattle.draid_names.specs.declared.numbers.TheConstants.{NUMBERS};
+ghost use Rattle.draid_machine.specs.Names.{is_block};
+ghost use Rattle.draid_machine.specs.declared.names.Held.{Held};
+ghost use Rattle.draid_machine.specs.declared.names.Key.{Key};
+ghost use Rattle.draid_segments.specs.Segments.{Pieces};
+ghost use Rattle.draid_entries.specs.Entries.{held_in};
+ghost use Rattle.draid_shard.specs.Fits.{Valid};
+ghost use Rattle.draid_shard.specs.Part.{Part};
 ghost use Rattle.draid_session.specs.Groups as groups;
-ghost use Rattle.draid_session.specs.State.{State};
+ghost use Rattle.draid_session.specs.Phases.{Chain};
+ghost use Rattle.draid_session.specs.State.{Metaslab, State};
 ghost use Rattle.draid_uber.specs.Slots.{group_of};
 ghost use Rattle.draid_uber.specs.Uber.{kept_of};
 ghost use Rattle.draid_pool.specs.Answers.{ExportDoes, SyncDoes};
 ghost use Rattle.draid_pool.specs.Carries.{CarriesOut};
+ghost use Rattle.draid_pool.specs.Metaslabs.{IsMetaslab};
 ghost use Rattle.draid_pool.specs.Pools.{Represents};
 ghost use Rattle.draid_pool.specs.Whole.{IsWhole};
-ghost use Rattle.draid_pool.specs.Syncing.{AreClosing, AreSealed, GroupDoes, Phase, SealDoes, end_of};
+ghost use Rattle.draid_pool.specs.Syncing.{AreClosing, AreSealed, CloseIs, CommitsBelow, FoundClosing, FoundUnsynced};
+ghost use Rattle.draid_pool.specs.Syncing.{GroupDoes, KeepsCommitted, KeepsTable, Phase, SealDoes, SealIs, Turns, end_of};
 
 use crate::fault::{SyncFault, Synced};
 use crate::pool::Pool;
+use crate::unsynced::is_unsynced;
 use draid_area::Area;
 use draid_names::DeviceFault;
 use draid_rack::Rack;
-use draid_shard::{CloseFault, SealFault};
+use draid_shard::{CloseFault, SealFault, Shard};
+
+/// Closes a group in a shard where it isn't closing already.
+fn close_in<R: Rack, A: Area>(shard: &mut Shard<R, A>, group: u64) -> Result<(), SyncFault>
+    requires valid { Valid R.Rack shard.old }
+    requires next { group ≡ shard.old.committed + 1 }
+    ensures valid { Valid R.Rack shard.new }
+    ensures table { KeepsTable shard.old shard.new }
+    ensures closing { OnOk result (shard.new.closing ≡ Some group) }
+    ensures closes { (part : Part) (pieces : Pieces) (x : Metaslab) → IsMetaslab R.Rack A.Area part pieces shard.old x
+        → Turns R.Rack A.Area part pieces x shard.new (λ hold y. CloseIs part group result hold × KeepsCommitted x.world y.world) }
+{
+    if shard.closing().is_some() {
+        return Ok(());
+    }
+    match shard.close_group(group) {
+        Ok(()) => Ok(()),
+        Err(CloseFault::Worn { .. }) => Err(SyncFault::Worn),
+        Err(CloseFault::Last) => Err(SyncFault::Last),
+        Err(CloseFault::NoMemory) => Err(SyncFault::NoMemory),
+    }
+}
+
+/// Seals a group in a shard where it isn't sealed already, and counts the blocks that are thin.
+fn seal_in<R: Rack, A: Area>(shard: &mut Shard<R, A>, group: u64) -> Result<u64, SyncFault>
+    requires valid { Valid R.Rack shard.old }
+    requires closing { shard.old.closing ≡ Some group }
+    requires settled { (key : Key) (h : Held) → held_in shard.old.entries key ≡ Some h → is_block h.stage ≡ true }
+    ensures valid { Valid R.Rack shard.new }
+    ensures table { KeepsTable shard.old shard.new }
+    ensures sealed { OnOk result ((shard.new.closing ≡ Some group) × (shard.new.sealed ≡ true)) }
+    ensures low { IfOk result (λ thin. thin ≤ NUMBERS) }
+    ensures seals { (part : Part) (pieces : Pieces) (x : Metaslab) → IsMetaslab R.Rack A.Area part pieces shard.old x
+        → Turns R.Rack A.Area part pieces x shard.new (λ hold y. SealIs part group result hold × KeepsCommitted x.world y.world) }
+{
+    if shard.sealed() {
+        return Ok(0);
+    }
+    match shard.seal(group) {
+        Ok(sealed) => Ok(sealed.thin),
+        Err(SealFault::NotYet { .. }) => unreachable!(),
+        Err(SealFault::Area) => Err(SyncFault::Shelf),
+        Err(SealFault::NoMemory) => Err(SyncFault::NoMemory),
+    }
+}
+
+/// Commits a group in each shard, where it is sealed.
+fn commit_all<R: Rack, A: Area>(shards: &mut Vec<Shard<R, A>>, group: u64)
+    requires valid { All (Valid R.Rack) shards.old.items }
+    requires sealed { AreSealed shards.old.items group }
+    ensures commits { CommitsBelow R.Rack group (length shards.old.items) shards.old.items shards.new.items }
+{
+    for metaslab in 0..shards.len() {
+        shards[metaslab].commit(group);
+    }
+}
 
 impl<R: Rack, A: Area> Pool<R, A> {
     /// Commits the group that is open. One that is closing is finished first. A sync that was stopped may be made again.
@@ -26,9 +93,7 @@ impl<R: Rack, A: Area> Pool<R, A> {
         ensures carries { (x : State) → Represents R.Rack A.Area self.old x
             → CarriesOut R.Rack A.Area self.new x (SyncDoes x result) }
     {
-        if let Some(group) = self.closing() {
-            self.commit_group(group)?;
-        }
+        self.finish()?;
         let group = self.uber.committed() + 1;
         let thin = self.commit_group(group)?;
         Ok(Synced { group, thin })
@@ -43,15 +108,38 @@ impl<R: Rack, A: Area> Pool<R, A> {
             → CarriesOut R.Rack A.Area self.new x (ExportDoes x result) }
     {
         if !self.unsynced() {
-            return Ok(self.committed());
+            return Ok(self.uber.committed());
         }
         let synced = self.sync()?;
         Ok(synced.group)
     }
 
+    /// Commits a group that is closing in a metaslab, if there is one.
+    fn finish(&mut self) -> Result<(), SyncFault>
+        requires whole { IsWhole R.Rack A.Area self.old }
+        ensures whole { IsWhole R.Rack A.Area self.new }
+        ensures carries { (x : State) → Represents R.Rack A.Area self.old x
+            → CarriesOut R.Rack A.Area self.new x (Phase x (groups.Finishes x.geometry x.perms) (end_of result)) }
+    {
+        match self.closing() {
+            Some(group) => match self.commit_group(group) {
+                Ok(_) => Ok(()),
+                Err(fault) => Err(fault),
+            },
+            None => Ok(()),
+        }
+    }
+
     /// The group that is closing in a metaslab.
-    fn closing(&self) -> Option<u64> {
-        self.shards.iter().find_map(|shard| shard.closing())
+    fn closing(&self) -> Option<u64>
+        ensures found { FoundClosing self.now.shards.items result }
+    {
+        for shard in &self.shards {
+            if let Some(group) = shard.closing() {
+                return Some(group);
+            }
+        }
+        None
     }
 
     /// Commits a group, the one behind the committed one, from where it stands in each metaslab.
@@ -64,14 +152,7 @@ impl<R: Rack, A: Area> Pool<R, A> {
     {
         self.close_all(group)?;
         let thin = self.seal_all(group)?;
-        match self.uber.commit(group) {
-            Ok(()) => {}
-            Err(DeviceFault::Failed) => return Err(SyncFault::Shelf),
-            Err(DeviceFault::NoMemory) => return Err(SyncFault::NoMemory),
-        }
-        for shard in &mut self.shards {
-            shard.commit(group);
-        }
+        self.commit_sealed(group)?;
         Ok(thin)
     }
 
@@ -85,16 +166,8 @@ impl<R: Rack, A: Area> Pool<R, A> {
         ensures closing { OnOk result (AreClosing self.new.shards.items group) }
         ensures uber { self.new.uber ≡ self.old.uber }
     {
-        for shard in &mut self.shards {
-            if shard.closing().is_some() {
-                continue;
-            }
-            match shard.close_group(group) {
-                Ok(_) => {}
-                Err(CloseFault::Worn { .. }) => return Err(SyncFault::Worn),
-                Err(CloseFault::Last) => return Err(SyncFault::Last),
-                Err(CloseFault::NoMemory) => return Err(SyncFault::NoMemory),
-            }
+        for metaslab in 0..self.shards.len() {
+            close_in(&mut self.shards[metaslab], group)?;
         }
         Ok(())
     }
@@ -110,17 +183,41 @@ impl<R: Rack, A: Area> Pool<R, A> {
         ensures uber { self.new.uber ≡ self.old.uber }
     {
         let mut thin = 0;
-        for shard in &mut self.shards {
-            if shard.sealed() {
-                continue;
-            }
-            match shard.seal(group) {
-                Ok(sealed) => thin += sealed.thin,
-                Err(SealFault::NotYet { .. }) => unreachable!(),
-                Err(SealFault::Area) => return Err(SyncFault::Shelf),
-                Err(SealFault::NoMemory) => return Err(SyncFault::NoMemory),
-            }
+        for metaslab in 0..self.shards.len() {
+            thin += seal_in(&mut self.shards[metaslab], group)?;
         }
         Ok(thin)
+    }
+
+    /// Has the uberblock name a group that is sealed in each metaslab, and commits it there.
+    fn commit_sealed(&mut self, group: u64) -> Result<(), SyncFault>
+        requires whole { IsWhole R.Rack A.Area self.old }
+        requires next { group ≡ group_of (kept_of self.old.uber) + 1 }
+        requires sealed { AreSealed self.old.shards.items group }
+        ensures whole { IsWhole R.Rack A.Area self.new }
+        ensures carries { (x : State) → Represents R.Rack A.Area self.old x
+            → CarriesOut R.Rack A.Area self.new x (Phase x
+            (Chain (groups.Names x.geometry x.perms group) (groups.CommitPhase x.geometry x.perms group)) (end_of result)) }
+    {
+        match self.uber.commit(group) {
+            Ok(()) => {
+                commit_all(&mut self.shards, group);
+                Ok(())
+            }
+            Err(DeviceFault::Failed) => Err(SyncFault::Shelf),
+            Err(DeviceFault::NoMemory) => Err(SyncFault::NoMemory),
+        }
+    }
+
+    /// Whether a metaslab has something that no sync has made safe.
+    fn unsynced(&self) -> bool
+        ensures found { FoundUnsynced self.now.shards.items result }
+    {
+        for shard in &self.shards {
+            if is_unsynced(shard.committed(), shard.events()) {
+                return true;
+            }
+        }
+        false
     }
 }

@@ -19,7 +19,7 @@ use Rattle.draid_machine.specs.After.{commit_state, is_freed_block, is_gone_arm,
 use Rattle.draid_machine.specs.Created.{IsReached}
 use Rattle.draid_machine.specs.State as machine
 use Rattle.draid_machine.proofs.Fitted.{every_fit}
-use Rattle.draid_machine.proofs.Small.{bool_cases, kept_some, none_some, some_same, true_both}
+use Rattle.draid_machine.proofs.Small.{bool_cases, kept_some, none_some, some_injective, some_same, true_both}
 use Rattle.draid_segments.specs.Acts.{DropsBut, StaysAfter}
 use Rattle.draid_segments.specs.Segments.{Pieces}
 use Rattle.draid_entries.specs.declared.entry.Entry.{Entry}
@@ -295,6 +295,8 @@ module _ {R A : Type 0} (ghosts : Ghosts R) (old : Shard R A) (valid : Valid gho
     stay = λ leaf is. same_leaf leaf (leaf_stays leaf is);
     go = λ leaf was none. listed.drops.leaves leaf
         ∙ ap (λ b. if b then None else (ghosts.shape old.rack).leaves leaf) (listed.all leaf (among_by leaf was) (λ stays. none (leaf_by old.slots slots group leaf commits stays)));
+    rack_count = listed.drops.counts None (λ leaf is. absurd (none_some None leaf refl is));
+    counts = λ leaf is. listed.drops.counts (Some leaf) (λ other same. ap listed.goes (sym (some_injective leaf other same)) ∙ leaf_stays leaf is);
   } where
     detached_by : (leaf : ℕ) → IsAmong old.slots.detached group leaf → WasDetached old.slots group leaf
     detached_by leaf a = record { gone = a.gone; among = a.among; kind_is = a.kind_is; number_is = a.number_is; upto = a.upto }

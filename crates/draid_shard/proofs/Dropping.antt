@@ -20,7 +20,7 @@ list_none rack slots group r = record {
   goes = λ leaf. false;
   only = λ leaf is. absurd_test false is refl;
   all = λ leaf among stays. absurd (let less = among.among.1 in omega (arith, less));
-  drops = record { bytes = refl; leaves = λ leaf. refl; told = left_same (λ leaf sector. false) (rack.told r) (rack.told r) refl };
+  drops = record { bytes = refl; leaves = λ leaf. refl; told = left_same (λ leaf sector. false) (rack.told r) (rack.told r) refl; counts = λ who stays. omega arith };
 }
 
 among_more : (list more : List Detached) (group leaf : ℕ) → IsAmong list group leaf → IsAmong (list ++ more) group leaf
@@ -40,6 +40,10 @@ twice rack a b old mid new x y = record {
   told = left_on (λ leaf sector. a leaf || b leaf) (rack.told old) (rack.told mid) (rack.told new)
       (left_more (λ leaf sector. a leaf) (λ leaf sector. a leaf || b leaf) (rack.told old) (rack.told mid) (λ leaf sector none. first (a leaf) (b leaf) none) x.told)
       (left_more (λ leaf sector. b leaf) (λ leaf sector. a leaf || b leaf) (rack.told mid) (rack.told new) (λ leaf sector none. second (a leaf) (b leaf) none) y.told);
+  counts = λ who stays.
+      (let before = x.counts who (λ leaf is. first (a leaf) (b leaf) (stays leaf is)) in
+      let after = y.counts who (λ leaf is. second (a leaf) (b leaf) (stays leaf is)) in
+      omega (arith, before, after));
 } where
   both : (p q : Bool) (o : Option ℕ) → (if q then None else (if p then None else o)) ≡ (if p || q then None else o)
   both true true o = refl

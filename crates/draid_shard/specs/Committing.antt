@@ -56,11 +56,12 @@ pub record IsAmong (detached : List Detached) (group leaf : ℕ) : Type 0 where
   pub number_is : gone.number ≡ leaf
   pub upto : gone.group ≤ group
 
--- some leaves went
+-- some leaves went, and no count falls but theirs
 pub record DropsJust {R : Type 0} (rack : Ghosts R) (goes : ℕ → Bool) (old new : R) : Type 0 where
   pub bytes : (rack.shape new).bytes ≡ (rack.shape old).bytes
   pub leaves : (leaf : ℕ) → (rack.shape new).leaves leaf ≡ (if goes leaf then None else (rack.shape old).leaves leaf)
   pub told : LeavesTold (λ leaf sector. goes leaf) (rack.told old) (rack.told new)
+  pub counts : (who : Option ℕ) → ((leaf : ℕ) → who ≡ Some leaf → goes leaf ≡ false) → rack.faults old who ≤ rack.faults new who
 
 -- of the leaves those went that a list has, but for those that stay
 pub record DropsListed {R : Type 0} (rack : Ghosts R) (slots : SlotTable) (group : ℕ) (detached : List Detached) (old new : R) : Type 0 where

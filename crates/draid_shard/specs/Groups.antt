@@ -119,12 +119,14 @@ pub record WasDetached (slots : SlotTable) (group leaf : ℕ) : Type 0 where
   pub number_is : gone.number ≡ leaf
   pub upto : gone.group ≤ group
 
--- Of the leaves just those went that were detached up to a group, but for one that is an arm again, or was detached again since.
+-- Of the leaves just those went that were detached up to a group, but for one that is an arm again, or was detached again since. No count falls but theirs.
 pub record DropsDetached {R A : Type 0} (rack : Ghosts R) (old new : Shard R A) (group : ℕ) : Type 0 where
   pub bytes : (rack.shape new.rack).bytes ≡ (rack.shape old.rack).bytes
   pub others : (leaf : ℕ) → (WasDetached old.slots group leaf → ⊥) → (rack.shape new.rack).leaves leaf ≡ (rack.shape old.rack).leaves leaf
   pub stay : (leaf : ℕ) → IsLeaf new.slots leaf → (rack.shape new.rack).leaves leaf ≡ (rack.shape old.rack).leaves leaf
   pub go : (leaf : ℕ) → WasDetached old.slots group leaf → (IsLeaf new.slots leaf → ⊥) → (rack.shape new.rack).leaves leaf ≡ None
+  pub rack_count : rack.faults old.rack None ≤ rack.faults new.rack None
+  pub counts : (leaf : ℕ) → IsLeaf new.slots leaf → rack.faults old.rack (Some leaf) ≤ rack.faults new.rack (Some leaf)
 
 -- ---- opening
 

@@ -40,7 +40,7 @@ returns g c =
     let new : Pool g.row.R.Denot g.row.A.Denot
     = record { geometry = old.geometry; shards = with_item old.shards k after; uber = old.uber; objects = old.objects; seq = old.seq; floor = old.floor; alloc = old.alloc } in
     let r : Replaces g.R.Rack g.A.Area k old new before after
-    = record { there = there; sets = refl; geometry = refl; uber = refl; valid = e.valid; part = e.part; groups = e.keeps.groups } in
+    = record { there = there; sets = refl; geometry = refl; uber = refl; valid = e.valid; part = e.part; committed = e.keeps.groups.committed } in
     let set : SetsShard g.R.Rack g.A.Area k old new before after = record { there = there; sets = refl; geometry = refl; objects = refl; seq = refl; floor = refl; uber = refl } in
     record {
       whole = whole_kept g.R.Rack g.A.Area k old new before after c.requires.whole r e.keeps refl refl (λ q. refl);

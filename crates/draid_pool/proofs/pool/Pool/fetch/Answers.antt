@@ -54,7 +54,7 @@ returns-in-Ok g c =
     let new : Pool g.row.R.Denot g.row.A.Denot
     = record { geometry = old.geometry; shards = with_item old.shards m after; uber = old.uber; objects = old.objects; seq = old.seq; floor = old.floor; alloc = old.alloc } in
     let r : Replaces g.R.Rack g.A.Area m old new before after
-    = record { there = at.0; sets = refl; geometry = refl; uber = refl; valid = e.valid; part = e.fetches.does.part; groups = e.fetches.keeps.groups } in
+    = record { there = at.0; sets = refl; geometry = refl; uber = refl; valid = e.valid; part = e.fetches.does.part; committed = e.fetches.keeps.groups.committed } in
     let set : SetsShard g.R.Rack g.A.Area m old new before after = record { there = at.0; sets = refl; geometry = refl; objects = refl; seq = refl; floor = refl; uber = refl } in
     record {
       whole = whole_kept g.R.Rack g.A.Area m old new before after w r e.fetches.keeps refl refl (λ q. refl);
@@ -77,7 +77,7 @@ returns-in-Err-Worn g c =
     let new : Pool g.row.R.Denot g.row.A.Denot
     = record { geometry = old.geometry; shards = with_item old.shards m after; uber = old.uber; objects = old.objects; seq = old.seq; floor = old.floor; alloc = old.alloc } in
     let r : Replaces g.R.Rack g.A.Area m old new before after
-    = record { there = at.0; sets = refl; geometry = refl; uber = refl; valid = e.valid; part = e.none.none.part; groups = e.none.keeps.groups } in
+    = record { there = at.0; sets = refl; geometry = refl; uber = refl; valid = e.valid; part = e.none.none.part; committed = e.none.keeps.groups.committed } in
     let set : SetsShard g.R.Rack g.A.Area m old new before after = record { there = at.0; sets = refl; geometry = refl; objects = refl; seq = refl; floor = refl; uber = refl } in
     record {
       whole = whole_kept g.R.Rack g.A.Area m old new before after w r e.none.keeps refl refl (λ q. refl);
@@ -99,7 +99,7 @@ returns-in-Err-NoMemory g c =
     let new : Pool g.row.R.Denot g.row.A.Denot
     = record { geometry = old.geometry; shards = with_item old.shards m after; uber = old.uber; objects = old.objects; seq = old.seq; floor = old.floor; alloc = old.alloc } in
     let r : Replaces g.R.Rack g.A.Area m old new before after
-    = record { there = at.0; sets = refl; geometry = refl; uber = refl; valid = e.valid; part = e.none.none.part; groups = e.none.keeps.groups } in
+    = record { there = at.0; sets = refl; geometry = refl; uber = refl; valid = e.valid; part = e.none.none.part; committed = e.none.keeps.groups.committed } in
     let set : SetsShard g.R.Rack g.A.Area m old new before after = record { there = at.0; sets = refl; geometry = refl; objects = refl; seq = refl; floor = refl; uber = refl } in
     record {
       whole = whole_kept g.R.Rack g.A.Area m old new before after w r e.none.keeps refl refl (λ q. refl);

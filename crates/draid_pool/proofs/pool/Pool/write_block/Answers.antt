@@ -81,7 +81,7 @@ replace-requires-clause-whole g c =
     let mid : Pool g.row.R.Denot g.row.A.Denot
     = record { geometry = old.geometry; shards = with_item old.shards c.args.metaslab c.store.new.shard; uber = old.uber; objects = c.reserve.new.self; seq = old.seq + 1; floor = c.in-Ok.pointer.birth; alloc = old.alloc } in
     let r : Replaces g.R.Rack g.A.Area c.args.metaslab old mid shard c.store.new.shard
-    = record { there = at.0; sets = refl; geometry = refl; uber = refl; valid = e.valid; part = e.part; groups = e.sets.sets.groups } in
+    = record { there = at.0; sets = refl; geometry = refl; uber = refl; valid = e.valid; part = e.part; committed = e.sets.sets.groups.committed } in
     (whole_stored g.R.Rack g.A.Area c.args.metaslab c.args.object old mid shard c.store.new.shard c.in-Ok.pointer w r e.sets refl refl (λ q. c.reserve.ensures.entries.2 q)).0
 
 pub replace-requires-clause-newer : goal.replace-requires-clause-newer
@@ -94,7 +94,7 @@ replace-requires-clause-newer g c =
     let mid : Pool g.row.R.Denot g.row.A.Denot
     = record { geometry = old.geometry; shards = with_item old.shards c.args.metaslab c.store.new.shard; uber = old.uber; objects = c.reserve.new.self; seq = old.seq + 1; floor = c.in-Ok.pointer.birth; alloc = old.alloc } in
     let r : Replaces g.R.Rack g.A.Area c.args.metaslab old mid shard c.store.new.shard
-    = record { there = at.0; sets = refl; geometry = refl; uber = refl; valid = e.valid; part = e.part; groups = e.sets.sets.groups } in
+    = record { there = at.0; sets = refl; geometry = refl; uber = refl; valid = e.valid; part = e.part; committed = e.sets.sets.groups.committed } in
     (whole_stored g.R.Rack g.A.Area c.args.metaslab c.args.object old mid shard c.store.new.shard c.in-Ok.pointer w r e.sets refl refl (λ q. c.reserve.ensures.entries.2 q)).1
 
 pub returns-in-Ok : goal.returns-in-Ok
@@ -127,7 +127,7 @@ returns-in-Err-Missed g c =
     let drops : DropsBlock shard c.store.new.shard old.floor c.in-Err-Missed.birth
     = subst (λ f. StoreSets shard c.store.new.shard c.args.object (old.seq + 1) old.floor (Err f)) c.in-Err-Missed.field-0-is e.sets in
     let r : Replaces g.R.Rack g.A.Area c.args.metaslab old new shard c.store.new.shard
-    = record { there = at.0; sets = refl; geometry = refl; uber = refl; valid = e.valid; part = e.part; groups = drops.sets.groups } in
+    = record { there = at.0; sets = refl; geometry = refl; uber = refl; valid = e.valid; part = e.part; committed = drops.sets.groups.committed } in
     record {
       whole = whole_dropped g.R.Rack g.A.Area c.args.metaslab c.in-Err-Missed.birth old new shard c.store.new.shard w r drops refl refl (λ q. c.reserve.ensures.entries.2 q);
       step = λ x is.
@@ -146,7 +146,7 @@ returns-in-Err-NoMemory g c =
     = record { geometry = old.geometry; shards = with_item old.shards c.args.metaslab c.store.new.shard; uber = old.uber; objects = c.reserve.new.self; seq = old.seq; floor = old.floor; alloc = old.alloc } in
     let keeps : KeepsBlocks shard c.store.new.shard = subst (λ f. StoreSets shard c.store.new.shard c.args.object (old.seq + 1) old.floor (Err f)) c.in-Err-NoMemory.field-0-is e.sets in
     let r : Replaces g.R.Rack g.A.Area c.args.metaslab old new shard c.store.new.shard
-    = record { there = at.0; sets = refl; geometry = refl; uber = refl; valid = e.valid; part = e.part; groups = keeps.groups } in
+    = record { there = at.0; sets = refl; geometry = refl; uber = refl; valid = e.valid; part = e.part; committed = keeps.groups.committed } in
     record {
       whole = whole_kept g.R.Rack g.A.Area c.args.metaslab old new shard c.store.new.shard w r keeps refl refl (λ q. c.reserve.ensures.entries.2 q);
       step = λ x is. record {

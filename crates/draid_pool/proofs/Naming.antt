@@ -1,0 +1,179 @@
+-- The uberblock of a pool names a group, or is refused it.
+use Rattle.std.proofs.Common.{◌≡◌, ◌==◌, ◌<◌, ◌≤◌, ◌+◌, ◌∙◌, [], ◌∷◌, inl, inr, ℕ, zero, suc, Bool, true, false, List, Option, Some, None, IsSome, arith, refl, sym, ap, subst, length, if◌then◌else◌}
+use Rattle.std.specs.Prelude.{is_some, slice_get}
+use Rattle.std.proofs.lemmas.Option.{slice_get_within}
+use Rattle.std.proofs.lemmas.List.Elements.{All-cons, All-nil, All-weaker}
+use Rattle.sha2.specs.Sha256.{sha256}
+use Rattle.draid_names.specs.declared.pointer.Pointer.{Pointer}
+use Rattle.draid_rack.specs.declared.Rack as racks
+use Rattle.draid_area.specs.declared.Area as areas
+use Rattle.draid_spec.specs.declared.layout.Geometry.{Geometry}
+use Rattle.draid_record.specs.declared.uber.UberBody.{UberBody}
+use Rattle.draid_machine.specs.State as machine
+use Rattle.draid_machine.proofs.Small.{absurd_test, some_injective}
+use Rattle.draid_objects.proofs.Keeping.{commit_kept}
+use Rattle.draid_shard.specs.Part.{Part, layout_in}
+use Rattle.draid_shard.specs.declared.shard.Shard.{Shard}
+use Rattle.draid_uber.specs.Slots.{StandsTold, group_of}
+use Rattle.draid_uber.specs.Uber as ubers
+use Rattle.draid_uber.specs.Uber.{Valid, area_of, kept_of, layout_of, next_leaf_of, next_of, version_of, with_version}
+use Rattle.draid_uber.specs.declared.uber.Uber.{Uber}
+use Rattle.draid_session.specs.State.{Metaslab, State}
+use Rattle.draid_pool.specs.Objects.{blocks_of}
+use Rattle.draid_pool.specs.Pools.{part_in}
+use Rattle.draid_pool.specs.Records.{HasImage, LeavesAreBelow}
+use Rattle.draid_pool.specs.Syncing.{AreSealed}
+use Rattle.draid_pool.specs.Ubers.{IsPending, IsUber, body_of, kept_in}
+use Rattle.draid_pool.proofs.Lists.{present}
+use Rattle.draid_pool.proofs.Stood.{HasCommitted, Stood}
+use Rattle.draid_pool.proofs.Turns.{state_sound}
+
+-- ---- the uberblock
+
+-- what a commit of a group did to it
+pub record Names {A : Type 0} (area : areas.Ghosts A) (old new : Uber A) (group : ℕ) : Type 0 where
+  pub valid : Valid area.size new
+  pub stands : (pending : List UberBody) → StandsTold (kept_of old) pending (area.told (area_of old)) → StandsTold (Some (next_of old group)) [] (area.told (area_of new))
+  pub kept : kept_of new ≡ Some (next_of old group)
+  pub layout : layout_of new ≡ ubers.layout_in (layout_of old) (version_of old)
+  pub version : version_of new ≡ version_of old
+  pub next_leaf : next_leaf_of new ≡ next_leaf_of old
+
+-- and one that was refused
+pub record Refuses {A : Type 0} (area : areas.Ghosts A) (old new : Uber A) (group : ℕ) : Type 0 where
+  pub valid : Valid area.size new
+  pub stands : (pending : List UberBody) → StandsTold (kept_of old) pending (area.told (area_of old)) → StandsTold (kept_of old) (next_of old group ∷ pending) (area.told (area_of new))
+  pub kept : kept_of new ≡ kept_of old
+  pub layout : layout_of new ≡ layout_of old
+  pub version : version_of new ≡ version_of old
+  pub next_leaf : next_leaf_of new ≡ next_leaf_of old
+
+-- a state behind them
+abbrev pub named_state : State → ℕ → ℕ → State
+named_state x group count = record x { committed = group; kept_leaf = x.next_leaf; pending = false; uber_count = count }
+
+abbrev pub refused_state : State → ℕ → State
+refused_state x count = record x { pending = true; uber_count = count }
+
+none_is : (group : ℕ) → 0 < group → (group == 0) ≡ false
+none_is zero some = absurd (omega (arith, some))
+none_is (suc n) some = refl
+
+module _ {A : Type 0} (area : areas.Ghosts A) (old new : Uber A) (group : ℕ) (x : State) (is : IsUber area old x) where
+  -- what the commit writes
+  next_is : next_of old group ≡ body_of x.geometry group x.next_leaf
+  next_is = λ i. record { group = group; spec = (is.layout i).spec; props = with_version (is.layout i).props (is.version i); next_leaf = is.next_leaf i }
+
+  pub uber_named : Names area old new group → 0 < group → IsUber area new (named_state x group (area.faults (area_of new)))
+  uber_named n some =
+      let own : Some (next_of old group) ≡ kept_in (named_state x group (area.faults (area_of new)))
+      = ap Some next_is ∙ sym (ap (λ b. if b then None else Some (body_of x.geometry group x.next_leaf)) (none_is group some)) in
+      record {
+        valid = n.valid;
+        layout = n.layout ∙ (λ i. ubers.layout_in (is.layout i) (is.version i));
+        version = n.version ∙ is.version;
+        kept = n.kept ∙ own;
+        next_leaf = n.next_leaf ∙ is.next_leaf;
+        count = refl;
+        stands = record {
+          pending = [];
+          are = All-nil (IsPending (named_state x group (area.faults (area_of new))));
+          stands = subst (λ kept. StandsTold kept [] (area.told (area_of new))) own
+              (n.stands is.stands.pending (subst (λ kept. StandsTold kept is.stands.pending (area.told (area_of old))) (sym is.kept) is.stands.stands));
+        };
+      }
+
+  pub uber_refused : Refuses area old new group → group ≡ x.committed + 1 → IsUber area new (refused_state x (area.faults (area_of new)))
+  uber_refused n behind =
+      let after = refused_state x (area.faults (area_of new)) in
+      record {
+        valid = n.valid;
+        layout = n.layout ∙ is.layout;
+        version = n.version ∙ is.version;
+        kept = n.kept ∙ is.kept;
+        next_leaf = n.next_leaf ∙ is.next_leaf;
+        count = refl;
+        stands = record {
+          pending = next_of old group ∷ is.stands.pending;
+          are = All-cons (IsPending after) (next_of old group) is.stands.pending (refl, next_is ∙ ap (λ g. body_of x.geometry g x.next_leaf) behind)
+              (All-weaker (IsPending x) (IsPending after) (λ body pending. (refl, pending.1)) is.stands.pending is.stands.are);
+          stands = subst (λ kept. StandsTold kept (next_of old group ∷ is.stands.pending) (area.told (area_of new))) is.kept
+              (n.stands is.stands.pending (subst (λ kept. StandsTold kept is.stands.pending (area.told (area_of old))) (sym is.kept) is.stands.stands));
+        };
+      }
+
+-- ---- the metaslabs
+
+some_is : (o : Option machine.Image) → is_some o ≡ true → (image : machine.Image) × (o ≡ Some image)
+some_is None some = absurd_test false some refl
+some_is (Some image) some = (image, refl)
+
+module _ {R A : Type 0} (rack : racks.Ghosts R) (area : areas.Ghosts A) (shards : List (Shard R A)) (table : ℕ → Option Pointer) (x : State) (groups : ℕ → Metaslab → Type 0)
+    (s : Stood rack area shards table x groups) (group : ℕ) (sealed : AreSealed shards group) where
+  -- each metaslab has an image of the sealed group
+  sealed_image : (m : ℕ) (y : Metaslab) → slice_get x.metaslabs m ≡ Some y → HasImage group y
+  sealed_image m y at =
+      let long = s.shards_are in
+      let inside = slice_get_within x.metaslabs m y at in
+      let z = present shards m (omega (arith, long, inside)) in
+      let is = s.each m z.0 y z.1 at in
+      let own = sealed m z.0 z.1 in
+      let image = some_is y.world.sealed (is.stands.is_in.sealed ∙ own.1) in
+      let sound = state_sound rack area (part_in x m) (s.pieces m) z.0 y is in
+      record {
+        image = image.0;
+        is = inr image.1;
+        of = some_injective image.0.group group (sym (sound.groups.sealed_is image.0 image.1) ∙ (is.stands.is_in.closing ∙ own.0));
+      }
+
+  -- as the uberblock was refused the group
+  pub stood_refused : (count : ℕ) → group ≡ x.committed + 1 → Stood rack area shards table (refused_state x count) groups
+  stood_refused count behind = record {
+    layout = s.layout;
+    many = s.many;
+    shards_are = s.shards_are;
+    pieces = s.pieces;
+    each = s.each;
+    holds = record { stores = s.holds.stores; floors = s.holds.floors; settled = s.holds.settled; numbered = s.holds.numbered; bytes = s.holds.bytes };
+    only = s.only;
+    objects = s.objects;
+    images = λ g m y may some at. elim may [
+      | inl is ↦ s.images g m y (inl is) some at
+      | inr is ↦ subst (λ k. HasImage k y) (behind ∙ sym is.1) (sealed_image m y at)
+    ];
+    leaves = record { order = s.leaves.order; each = s.leaves.each };
+    groups_are = s.groups_are;
+  }
+
+  -- as it names the group
+  pub stood_named : (count : ℕ) (after : ℕ → Metaslab → Type 0) → group ≡ x.committed + 1 → ((m : ℕ) (y : Metaslab) → slice_get x.metaslabs m ≡ Some y → after m y)
+      → Stood rack area shards table (named_state x group count) after
+  stood_named count after behind own = record {
+    layout = s.layout;
+    many = s.many;
+    shards_are = s.shards_are;
+    pieces = s.pieces;
+    each = s.each;
+    holds = record {
+      stores = commit_kept sha256 x.committed x.store.changes (blocks_of x.metaslabs) (blocks_of x.metaslabs) s.holds.stores group (omega (arith, behind)) (λ m k. inl refl);
+      floors = s.holds.floors;
+      settled = s.holds.settled;
+      numbered = s.holds.numbered;
+      bytes = s.holds.bytes;
+    };
+    only = s.only;
+    objects = s.objects;
+    images = λ g m y may some at. elim may [
+      | inl is ↦ subst (λ k. HasImage k y) (sym is) (sealed_image m y at)
+      | inr is ↦ absurd_test false is.0 refl
+    ];
+    leaves = record {
+      order = omega arith;
+      each = λ m y at. (let below = s.leaves.each m y at in record {
+        kept = λ leaf some. (let low = below.kept leaf some in let order = s.leaves.order in omega (arith, low, order));
+        sealed = below.sealed;
+        now = below.now;
+      });
+    };
+    groups_are = own;
+  }

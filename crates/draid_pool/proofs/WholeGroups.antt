@@ -1,0 +1,144 @@
+-- A whole pool stays whole as its uberblock names a group, or is refused it.
+use Rattle.std.proofs.Common.{◌≡◌, ◌<◌, ◌≤◌, ◌+◌, ◌∙◌, ℕ, zero, Bool, true, false, Option, Some, None, arith, refl, sym, ap, subst, length, if◌then◌else◌}
+use Rattle.std.specs.Prelude.{All, nat_eq, slice_get}
+use Rattle.std.specs.HashMap.{get}
+use Rattle.std.proofs.lemmas.Option.{slice_get_within}
+use Rattle.draid_names.specs.declared.numbers.TheConstants.{LAST_NUMBER}
+use Rattle.draid_names.specs.declared.pointer.Pointer.{Pointer}
+use Rattle.draid_rack.specs.declared.Rack as racks
+use Rattle.draid_area.specs.declared.Area as areas
+use Rattle.draid_spec.specs.declared.layout.Geometry.{Geometry}
+use Rattle.draid_perm.specs.declared.perms.Perms.{Perms}
+use Rattle.draid_map.specs.Place.{IsLayout}
+use Rattle.draid_machine.specs.declared.names.Held.{Held}
+use Rattle.draid_machine.specs.declared.names.Key.{Key}
+use Rattle.draid_machine.specs.declared.names.Stage.TheVariants.{Live}
+use Rattle.draid_machine.specs.After.{is_freed_block}
+use Rattle.draid_machine.proofs.Small.{kept_some}
+use Rattle.draid_entries.specs.Entries.{entry_at, held_in}
+use Rattle.draid_entries.specs.Maps.{staged}
+use Rattle.draid_shard.specs.Calls.{IsLive}
+use Rattle.draid_shard.specs.Committing.{DropsFreed, is_freed_entry}
+use Rattle.draid_shard.specs.Fits.{AreGroups}
+use Rattle.draid_shard.specs.declared.shard.Shard.{Shard}
+use Rattle.draid_uber.specs.Held.{IsNext}
+use Rattle.draid_uber.specs.Slots.{group_of}
+use Rattle.draid_uber.specs.Uber as ubers
+use Rattle.draid_uber.specs.Uber.{kept_of, layout_of, version_of}
+use Rattle.draid_pool.specs.Syncing.{AreSealed, Commits, CommitsBelow}
+use Rattle.draid_pool.specs.Whole.{IsPointer, IsShardOf, IsWhole}
+use Rattle.draid_pool.specs.declared.pool.Pool.{Pool}
+use Rattle.draid_pool.proofs.Lists.{present, some_of}
+use Rattle.draid_pool.proofs.Naming.{Names, Refuses}
+
+module _ {R A : Type 0} (rack : racks.Ghosts R) (area : areas.Ghosts A) where
+  -- a pool has a metaslab
+  pub first_shard : (pool : Pool R A) → IsWhole rack area pool → (shard : Shard R A) × (slice_get pool.shards.items 0 ≡ Some shard)
+  first_shard pool w = present pool.shards.items 0 (let many = w.many in let some = w.layout.geometry_is.props.some_metaslabs in omega (arith, many, some))
+
+  next_low : (open_group : ℕ) (closing : Option ℕ) (committed : ℕ) (sealed : Bool) → AreGroups open_group closing committed sealed → committed + 1 ≤ open_group
+  next_low open_group None committed sealed is = (let next = is.0 in omega (arith, next))
+  next_low open_group (Some t) committed sealed is = (let next = is.0 in let behind = is.1 in omega (arith, next, behind))
+
+  -- there is a number for the group behind the committed one
+  pub whole_next : (pool : Pool R A) → IsWhole rack area pool → group_of (kept_of pool.uber) + 1 ≤ LAST_NUMBER
+  whole_next pool w =
+      let z = first_shard pool w in
+      let is = w.shards 0 z.0 z.1 in
+      let next = next_low z.0.open_group z.0.closing z.0.committed z.0.sealed is.valid.groups in
+      let low = is.valid.low in
+      let committed = is.committed in
+      omega (arith, next, low, committed)
+
+  -- and one behind that where it is sealed
+  pub sealed_next : (pool : Pool R A) (group : ℕ) → IsWhole rack area pool → AreSealed pool.shards.items group → group ≡ group_of (kept_of pool.uber) + 1 → IsNext (kept_of pool.uber) group
+  sealed_next pool group w sealed next =
+      let z = first_shard pool w in
+      let is = w.shards 0 z.0 z.1 in
+      let groups : (z.0.open_group ≡ group + 1) × (group ≡ z.0.committed + 1) = subst (λ o. AreGroups z.0.open_group o z.0.committed z.0.sealed) (sealed 0 z.0 z.1).0 is.valid.groups in
+      let behind = groups.0 in
+      let low = is.valid.low in
+      record { behind = omega (arith, next); below = omega (arith, behind, low) }
+
+  -- a group that closes is the one behind the committed one
+  pub closing_next : (pool : Pool R A) (m group : ℕ) (shard : Shard R A) → IsWhole rack area pool → slice_get pool.shards.items m ≡ Some shard → shard.closing ≡ Some group
+      → group ≡ group_of (kept_of pool.uber) + 1
+  closing_next pool m group shard w there closing =
+      let is = w.shards m shard there in
+      let groups : (shard.open_group ≡ group + 1) × (group ≡ shard.committed + 1) = subst (λ o. AreGroups shard.open_group o shard.committed shard.sealed) closing is.valid.groups in
+      let behind = groups.1 in
+      let committed = is.committed in
+      omega (arith, behind, committed)
+
+  -- ---- the uberblock refuses
+
+  pub whole_refused : (pool new : Pool R A) (group : ℕ) → IsWhole rack area pool → Refuses area pool.uber new.uber group → new.shards.items ≡ pool.shards.items → new.geometry ≡ pool.geometry
+      → new.objects ≡ pool.objects → new.seq ≡ pool.seq → new.floor ≡ pool.floor → IsWhole rack area new
+  whole_refused pool new group w n shards geometry objects seq floor = record {
+    perms = w.perms;
+    layout = subst (λ g. IsLayout g w.perms) (sym geometry) w.layout;
+    many = ap (λ zs. length zs) shards ∙ (w.many ∙ ap (λ (g : Geometry). g.props.metaslabs) (sym geometry));
+    shards = λ k z there. (let is = w.shards k z (sym (ap (λ zs. slice_get zs k) shards) ∙ there) in record {
+      valid = is.valid;
+      part = is.part ∙ ap (λ (g : Geometry). record { geometry = g; perms = w.perms; number = k }) (sym geometry);
+      numbered = λ key h at. (let low = is.numbered key h at in omega (arith, low, seq));
+      settled = is.settled;
+      committed = is.committed ∙ ap group_of (sym n.kept);
+    });
+    uber = n.valid;
+    uber_layout = n.layout ∙ (w.uber_layout ∙ sym geometry);
+    uber_version = n.version ∙ (w.uber_version ∙ ap (λ (g : Geometry). g.props.version) (sym geometry));
+    objects = λ o q at. (let of = w.objects o q (sym (ap (λ os. get nat_eq os o) objects) ∙ at) in
+    record { object_is = of.object_is; shard = of.shard; there = ap (λ zs. slice_get zs q.metaslab) shards ∙ of.there; live = of.live });
+    floor = (let fits = w.floor in let same = ap group_of n.kept in omega (arith, fits, same, floor));
+    low = (let low = w.low in omega (arith, low, floor));
+  }
+
+  -- ---- it names the group, and each metaslab commits it
+
+  live_on : (group : ℕ) (old new : Shard R A) (q : Pointer) → DropsFreed group old.entries new.entries → IsLive old q → IsLive new q
+  live_on group old new q drops live = drops.at q.first ∙ (ap (λ o. if is_freed_entry group o then None else o) live)
+
+  held_on : (group : ℕ) (old new : Shard R A) (key : Key) (h : Held) → DropsFreed group old.entries new.entries → held_in new.entries key ≡ Some h → held_in old.entries key ≡ Some h
+  held_on group old new key h drops there = (kept_some (is_freed_block group (held_in old.entries key)) (held_in old.entries key) h (sym (drops.held key) ∙ there)).1
+
+  pub whole_committed : (pool new : Pool R A) (group : ℕ) → IsWhole rack area pool → Names area pool.uber new.uber group → CommitsBelow rack group (length pool.shards.items) pool.shards.items new.shards.items
+      → group ≡ group_of (kept_of pool.uber) + 1 → new.geometry ≡ pool.geometry → new.objects ≡ pool.objects → new.seq ≡ pool.seq → new.floor ≡ pool.floor → IsWhole rack area new
+  whole_committed pool new group w n commits next geometry objects seq floor = record {
+    perms = w.perms;
+    layout = subst (λ g. IsLayout g w.perms) (sym geometry) w.layout;
+    many = commits.many ∙ (w.many ∙ ap (λ (g : Geometry). g.props.metaslabs) (sym geometry));
+    shards = each;
+    uber = n.valid;
+    uber_layout = n.layout ∙ ((λ i. ubers.layout_in (w.uber_layout i) (w.uber_version i)) ∙ sym geometry);
+    uber_version = n.version ∙ (w.uber_version ∙ ap (λ (g : Geometry). g.props.version) (sym geometry));
+    objects = λ o q at. pointer o q (w.objects o q (sym (ap (λ os. get nat_eq os o) objects) ∙ at));
+    floor = (let fits = w.floor in omega (arith, fits, named, next, floor));
+    low = (let low = w.low in omega (arith, low, floor));
+  }
+    where
+      named : group_of (kept_of new.uber) ≡ group
+      named = ap group_of n.kept
+
+      commits_at : (k : ℕ) (shard : Shard R A) → slice_get pool.shards.items k ≡ Some shard → (after : Shard R A) × (slice_get new.shards.items k ≡ Some after) × Commits rack group shard after
+      commits_at k shard there = commits.below k shard (slice_get_within pool.shards.items k shard there) there
+
+      each : (k : ℕ) (z : Shard R A) → slice_get new.shards.items k ≡ Some z → IsShardOf rack w.perms new k z
+      each k z there =
+          let inside = slice_get_within new.shards.items k z there in
+          let many = commits.many in
+          let was = present pool.shards.items k (omega (arith, inside, many)) in
+          let after = commits_at k was.0 was.1 in
+          let own : Commits rack group was.0 z = subst (λ (q : Shard R A). Commits rack group was.0 q) (some_of (slice_get new.shards.items k) after.0 z after.1 there) after.2 in
+          let is = w.shards k was.0 was.1 in
+          record {
+            valid = own.valid;
+            part = own.does.part ∙ (is.part ∙ ap (λ (g : Geometry). record { geometry = g; perms = w.perms; number = k }) (sym geometry));
+            numbered = λ key h at. (let low = is.numbered key h (held_on group was.0 z key h own.commits.entries at) in omega (arith, low, seq));
+            settled = λ key h at. is.settled key h (held_on group was.0 z key h own.commits.entries at);
+            committed = own.commits.committed ∙ sym named;
+          }
+
+      pointer : (o : ℕ) (q : Pointer) → IsPointer pool o q → IsPointer new o q
+      pointer o q of = (let after = commits_at q.metaslab of.shard of.there in
+      record { object_is = of.object_is; shard = after.0; there = after.1; live = live_on group of.shard after.0 q (after.2).commits.entries of.live })

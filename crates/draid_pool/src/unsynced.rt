@@ -1,0 +1,55 @@
+ghost use Rattle.std.specs.Prelude.{◌≡◌};
+ghost use Rattle.draid_session.specs.Groups as groups;
+
+use draid_machine::Event;
+
+/// Whether some events of a metaslab have something that no sync has made safe, where this group is committed: behind
+/// the group's closing an event other than its sealing and its commit, or any event where there is no commit.
+pub(crate) fn is_unsynced(committed: u64, events: &[Event]) -> bool
+    ensures { result ≡ groups.is_unsynced committed events.now }
+{
+    let mut closed = false;
+    let mut others = false;
+    let mut commits = false;
+    for event in events {
+        let ends = ends_group(committed, event);
+        let closes = is_close_of(committed, event);
+        let commit = is_commit(event);
+        others = others || (closed && !ends);
+        closed = closed || closes;
+        commits = commits || commit;
+    }
+    if commits {
+        others
+    } else {
+        !events.is_empty()
+    }
+}
+
+/// Whether an event is the commit of a group.
+fn is_commit(event: &Event) -> bool
+    ensures { result ≡ groups.is_commit event.now }
+{
+    matches!(event, Event::Commit { .. })
+}
+
+/// Whether an event is the closing of this group.
+fn is_close_of(committed: u64, event: &Event) -> bool
+    ensures { result ≡ groups.is_close_of committed event.now }
+{
+    match event {
+        Event::Close { group } => *group == committed,
+        _ => false,
+    }
+}
+
+/// Whether an event is the sealing or the commit of this group.
+fn ends_group(committed: u64, event: &Event) -> bool
+    ensures { result ≡ groups.ends_group committed event.now }
+{
+    match event {
+        Event::Seal { group, .. } => *group == committed,
+        Event::Commit { group } => *group == committed,
+        _ => false,
+    }
+}
