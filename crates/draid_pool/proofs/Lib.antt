@@ -39,3 +39,4 @@ pub mod Commits
 pub mod WholeGroups
 pub mod Looking
 pub mod SyncCalls
+pub mod ImportUber
