@@ -238,7 +238,7 @@ module _ {R A : Type 0} (rack : racks.Ghosts R) (area : areas.Ghosts A) where
   backed x m pieces shard y kit is told =
       subst (λ (p : Part). Backed (layout_in p) pieces y.world kit.rack) is.part_is (on_some (rack.told shard.rack) kit.rack (Backed (layout_by shard) pieces y.world) told is.stands.segments)
 
-  rests_on : (x : State) (m : ℕ) (pieces : Pieces) (shard : Shard R A) (y : Metaslab) (kit : KitTold) → IsMetaslab rack area (part_in x m) pieces shard y → kit_in rack area shard ≡ Some kit
+  pub rests_on : (x : State) (m : ℕ) (pieces : Pieces) (shard : Shard R A) (y : Metaslab) (kit : KitTold) → IsMetaslab rack area (part_in x m) pieces shard y → kit_in rack area shard ≡ Some kit
       → RestsOn x m pieces y kit
   rests_on x m pieces shard y kit is told =
       let k = kit_is (rack.told shard.rack) (area.told shard.even) (area.told shard.odd) kit told in

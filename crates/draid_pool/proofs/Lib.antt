@@ -40,3 +40,4 @@ pub mod WholeGroups
 pub mod Looking
 pub mod SyncCalls
 pub mod ImportUber
+pub mod ImportMetaslab
