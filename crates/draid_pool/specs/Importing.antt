@@ -1,11 +1,11 @@
 -- What an import comes to, over a shelf on which the pool of a state rests.
-use Rattle.std.specs.Prelude.{◌≡◌, ◌⊎◌, ℕ, false, Option, Some, IsSomeAnd, Result, Ok, Err, slice_get}
+use Rattle.std.specs.Prelude.{◌≡◌, ℕ, Option, Some, IsSomeAnd, Result, Ok, Err, slice_get}
 use Rattle.draid_rack.specs.declared.Rack as racks
 use Rattle.draid_area.specs.declared.Area as areas
 use Rattle.draid_segments.specs.Segments.{Pieces}
 use Rattle.draid_shelf.specs.Kits.{Held, KitCounts}
-use Rattle.draid_session.specs.Follows.{Rests as Stays}
-use Rattle.draid_session.specs.Opening.{Finds, Imports}
+use Rattle.draid_session.specs.Opening.{Imports}
+use Rattle.draid_session.specs.Session.{FindsNoGroup, LeavesState}
 use Rattle.draid_session.specs.State.{Metaslab, State}
 use Rattle.draid_pool.specs.Closing.{Rests, SameCounts}
 use Rattle.draid_pool.specs.Pools.{Represents}
@@ -19,16 +19,11 @@ pub record RestsThere (x : State) (pieces : ℕ → Pieces) (told : Option Held)
   pub counted : (m : ℕ) (y : Metaslab) → slice_get x.metaslabs m ≡ Some y → SameCounts y.counts (counts m)
   pub uber : uber_count ≡ x.uber_count
 
--- the same pool, on whose uberblock's area more calls may have failed
-pub record IsStill (x y : State) : Type 0 where
-  pub later : x.uber_count ≤ y.uber_count
-  pub same : y ≡ record x { uber_count = y.uber_count }
-
 -- What a refused import leaves: the pool as it was, or as it is where its group was found.
 pub record LeavesPool (x : State) (pieces : ℕ → Pieces) (told : Option Held) (counts : ℕ → KitCounts) (uber_count : ℕ) : Type 0 where
   pub y : State
   pub rests : RestsThere y pieces told counts uber_count
-  pub is : IsStill x y ⊎ ((group : ℕ) × Finds x group y)
+  pub is : LeavesState x y
 
 -- a group that the uberblock may have was found, and the pool stands for the state that it gives
 pub record ImportsPool {R A : Type 0} (rack : racks.Ghosts R) (area : areas.Ghosts A) (x : State) (pool : Pool R A) : Type 0 where
@@ -39,9 +34,8 @@ pub record ImportsPool {R A : Type 0} (rack : racks.Ghosts R) (area : areas.Ghos
 
 -- the uberblock has no open gate, since no group was committed: nothing is left of a commit that was refused
 pub record FindsNone (x : State) (pieces : ℕ → Pieces) (told : Option Held) (counts : ℕ → KitCounts) (uber_count : ℕ) : Type 0 where
-  pub none : x.committed ≡ 0
   pub y : State
-  pub later : IsStill (record x { pending = false }) y
+  pub is : FindsNoGroup x y
   pub rests : RestsThere y pieces told counts uber_count
 
 -- The answer. No record of such a pool has a fault.
