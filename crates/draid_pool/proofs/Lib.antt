@@ -41,3 +41,4 @@ pub mod Looking
 pub mod SyncCalls
 pub mod ImportUber
 pub mod ImportMetaslab
+pub mod ImportFound
