@@ -42,3 +42,4 @@ pub mod SyncCalls
 pub mod ImportUber
 pub mod ImportMetaslab
 pub mod ImportFound
+pub mod ImportOlder
