@@ -43,3 +43,4 @@ pub mod ImportUber
 pub mod ImportMetaslab
 pub mod ImportFound
 pub mod ImportOlder
+pub mod ImportNewest
