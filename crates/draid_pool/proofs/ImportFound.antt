@@ -172,15 +172,25 @@ module _ (x mid : State) (group : ℕ) (pieces : ℕ → Pieces) (finds : Finds 
   pub found_live : (m : ℕ) (k : Key) (h : Block) → blocks_of mid.metaslabs m k ≡ Some h → h.stage ≡ stage.Live
   found_live m k h is = sealed_live group (blocks_of x.metaslabs m k) h (sym (found_blocks m k) ∙ is)
 
-  pub found_holds : IsLastSeq mid mid.store.seq → HoldsObjects mid.geometry mid.committed mid.store (blocks_of mid.metaslabs) pieces
-  found_holds seq = subst (λ (c : ℕ). HoldsObjects mid.geometry c mid.store (blocks_of mid.metaslabs) pieces) (sym finds.committed) (record {
+  -- no number is greater than the last that there is, or than the last one before
+  pub numbered_last : IsLastSeq mid mid.store.seq → (m : ℕ) (k : Key) (h : Block) → blocks_of mid.metaslabs m k ≡ Some h → k.seq ≤ mid.store.seq
+  numbered_last seq m k h is = (let z = held_there mid.metaslabs m k h is in seq.all m z.0 k h z.1 z.2)
+
+  pub numbered_before : mid.store.seq ≡ x.store.seq → (m : ℕ) (k : Key) (h : Block) → blocks_of mid.metaslabs m k ≡ Some h → k.seq ≤ mid.store.seq
+  numbered_before same m k h is =
+      let z = sealed_held group (blocks_of x.metaslabs m k) h (sym (found_blocks m k) ∙ is) in
+      let low = objects.numbered m k z.h z.found in
+      omega (arith, low, same)
+
+  pub found_holds : ((m : ℕ) (k : Key) (h : Block) → blocks_of mid.metaslabs m k ≡ Some h → k.seq ≤ mid.store.seq) → HoldsObjects mid.geometry mid.committed mid.store (blocks_of mid.metaslabs) pieces
+  found_holds numbered = subst (λ (c : ℕ). HoldsObjects mid.geometry c mid.store (blocks_of mid.metaslabs) pieces) (sym finds.committed) (record {
     stores = subst (λ (cs : List Change). Stores sha256 group cs (blocks_of mid.metaslabs)) changes_are
         (opening_kept sha256 x.committed x.store.changes (blocks_of x.metaslabs) (blocks_of mid.metaslabs) objects.stores group later found_blocks);
     floors = λ object. subst (λ (f : ℕ). IsFloor mid.store.changes (blocks_of mid.metaslabs) object f) (sym finds.floor)
         (subst (λ (cs : List Change). IsFloor cs (blocks_of mid.metaslabs) object (group + 1)) changes_are
         (opening_floor x.store.changes (blocks_of x.metaslabs) (blocks_of mid.metaslabs) group object (group + 1) found_blocks (omega arith)));
     settled = λ m k h is. live_block h.stage (found_live m k h is);
-    numbered = λ m k h is. (let z = held_there mid.metaslabs m k h is in seq.all m z.0 k h z.1 z.2);
+    numbered = numbered;
     bytes = λ m k h write is by. subst (λ g. HasPieces g write (pieces m)) (sym finds.layout.0)
         (found_pieces m k h write is (subst (λ (cs : List Change). write_by cs k ≡ Some write) finds.changes by));
   })

@@ -44,3 +44,4 @@ pub mod ImportMetaslab
 pub mod ImportFound
 pub mod ImportOlder
 pub mod ImportNewest
+pub mod ImportOpened

@@ -1,5 +1,5 @@
 -- What an import finds of a pool that rests on a shelf: the body of its uberblock, a group of each metaslab, and the newest block of each object.
-use Rattle.std.specs.Prelude.{◌≡◌, ◌+◌, ◌<◌, ◌≤◌, ◌⊎◌, ℕ, List, Option, Some, None, length, slice_get}
+use Rattle.std.specs.Prelude.{◌≡◌, ◌+◌, ◌<◌, ◌≤◌, ◌⊎◌, ℕ, false, true, List, Option, Some, None, length, slice_get}
 use Rattle.draid_rack.specs.declared.Rack as racks
 use Rattle.draid_area.specs.declared.Area as areas
 use Rattle.draid_map.specs.Place.{IsLayout}
@@ -10,9 +10,10 @@ use Rattle.draid_machine.specs.declared.names.Stage.TheVariants.{Live}
 use Rattle.draid_machine.specs.Images.{IsImage}
 use Rattle.draid_machine.specs.State as machine
 use Rattle.draid_objects.specs.Blocks.{Blocks, SaysOf}
-use Rattle.draid_objects.specs.Changes.{write_of}
+use Rattle.draid_objects.specs.Changes.{upto, write_of}
 use Rattle.draid_record.specs.declared.uber.UberBody.{UberBody}
 use Rattle.draid_segments.specs.Segments.{Pieces}
+use Rattle.draid_shelf.specs.Kits.{KitCounts, KitTold}
 use Rattle.draid_shelf.specs.declared.kit.Kit.{Kit}
 use Rattle.draid_entries.specs.declared.entry.Entry.{Entry}
 use Rattle.draid_entries.specs.Entries.{entry_at}
@@ -23,8 +24,9 @@ use Rattle.draid_shard.specs.declared.shard.Shard.{Shard}
 use Rattle.draid_uber.specs.declared.uber.Uber.{Uber}
 use Rattle.draid_session.specs.Follows.{Follows}
 use Rattle.draid_session.specs.Holds.{Hold}
-use Rattle.draid_session.specs.Opening.{Frees, FreesOlder, LeafIn, MayFind}
+use Rattle.draid_session.specs.Opening.{Frees, FreesOlder, LeafIn, MayFind, Reopens}
 use Rattle.draid_session.specs.State.{Metaslab, State}
+use Rattle.draid_pool.specs.Closing.{RestsOn, SameCounts}
 use Rattle.draid_pool.specs.Metaslabs.{IsMetaslab}
 use Rattle.draid_pool.specs.Objects.{HasGroups, HoldsObjects, blocks_of}
 use Rattle.draid_pool.specs.Pools.{part_in}
@@ -49,6 +51,36 @@ pub record CountsOn {R A : Type 0} (rack : racks.Ghosts R) (area : areas.Ghosts 
   pub leaf_counts : (leaf : ℕ) → IsLeaf shard.slots leaf → rack.faults kit.rack (Some leaf) ≤ rack.faults shard.rack (Some leaf)
   pub even : area.faults kit.even ≤ area.faults shard.even
   pub odd : area.faults kit.odd ≤ area.faults shard.odd
+
+-- ---- metaslabs
+
+-- a metaslab of a state was opened from its image of a group
+pub record OpensFound {R A : Type 0} (rack : racks.Ghosts R) (area : areas.Ghosts A) (x : State) (group m : ℕ) (pieces : Pieces) (y : Metaslab) (shard : Shard R A) : Type 0 where
+  pub z : Metaslab
+  pub reopens : Reopens x.geometry x.perms group m y z
+  pub is : IsMetaslab rack area (part_in x m) pieces shard z
+
+-- a metaslab of a state rests on a kit as its image of a group has it, and the kit has its counts
+pub record RestsFound (x : State) (group m : ℕ) (pieces : Pieces) (y : Metaslab) (kit : KitTold) (counts : KitCounts) : Type 0 where
+  pub z : Metaslab
+  pub reopens : Reopens x.geometry x.perms group m y z
+  pub rests : RestsOn x m pieces z kit
+  pub counted : SameCounts z.counts counts
+
+-- the state that a group and its number of the next leaf give, with these metaslabs
+abbrev pub found_state : State → (group next : ℕ) → List Metaslab → (seq uber_count : ℕ) → State
+found_state x group next metaslabs seq uber_count = record {
+  geometry = x.geometry;
+  perms = x.perms;
+  metaslabs = metaslabs;
+  store = record { changes = upto group x.store.changes; seq = seq; floor = group + 1 };
+  committed = group;
+  kept_leaf = next;
+  next_leaf = next;
+  uber_count = uber_count;
+  pending = false;
+  told = true;
+}
 
 -- ---- what is found
 
