@@ -159,6 +159,14 @@ kept_layout : (kept : Option UberBody) (body : UberBody) (geometry : Geometry) �
 kept_layout None body geometry is fits = absurd (cc)
 kept_layout (Some b) body geometry is fits = subst (λ (b : UberBody). (b.spec ≡ geometry.spec) × (b.props ≡ geometry.props)) (some_body b body is) fits
 
+-- what the state has there which is found with it
+pub found_kept : (x mid : State) (body : UberBody) → FindsBody x body → mid.geometry ≡ x.geometry → mid.committed ≡ body.group → mid.kept_leaf ≡ body.next_leaf → kept_in mid ≡ Some body
+found_kept x mid body finds geometry committed kept_leaf = by (mid.committed == 0) refl
+  where
+    by : (b : Bool) → (mid.committed == 0) ≡ b → (if b then None else Some (body_of mid.geometry mid.committed mid.kept_leaf)) ≡ Some body
+    by true zero = absurd (let some = finds.some in grind (arith, nat_tests, zero, some, committed))
+    by false some = ap (λ (b : UberBody). Some b) ((λ i. body_of (geometry i) (committed i) (kept_leaf i)) ∙ sym finds.is)
+
 module _ {A : Type 0} (area : areas.Ghosts A) (x mid : State) (uber : Uber A) (body : UberBody) (valid : Valid area.size uber) (kept : kept_of uber ≡ Some body) (finds : FindsBody x body)
     (whole : IsGeometry x.geometry) where
   pub found_layout : layout_of uber ≡ x.geometry
@@ -173,18 +181,8 @@ module _ {A : Type 0} (area : areas.Ghosts A) (x mid : State) (uber : Uber A) (b
     valid = valid;
     layout = found_layout ∙ sym geometry;
     version = version ∙ (ap (λ (b : UberBody). b.props.version) finds.is ∙ ap (λ (g : Geometry). g.props.version) (sym geometry));
-    kept = kept ∙ sym is_kept;
+    kept = kept ∙ sym (found_kept x mid body finds geometry committed kept_leaf);
     next_leaf = next ∙ sym next_leaf;
     count = count;
-    stands = record { pending = []; are = All-nil (IsPending mid); stands = subst (λ (k : Option UberBody). StandsTold k [] (area.told (area_of uber))) (kept ∙ sym is_kept) stands };
+    stands = record { pending = []; are = All-nil (IsPending mid); stands = subst (λ (k : Option UberBody). StandsTold k [] (area.told (area_of uber))) (kept ∙ sym (found_kept x mid body finds geometry committed kept_leaf)) stands };
   }
-    where
-      same : body_of mid.geometry mid.committed mid.kept_leaf ≡ body
-      same = (λ i. body_of (geometry i) (committed i) (kept_leaf i)) ∙ sym finds.is
-
-      is_kept : kept_in mid ≡ Some body
-      is_kept = by (mid.committed == 0) refl
-        where
-          by : (b : Bool) → (mid.committed == 0) ≡ b → (if b then None else Some (body_of mid.geometry mid.committed mid.kept_leaf)) ≡ Some body
-          by true zero = absurd (let some = finds.some in grind (arith, nat_tests, zero, some, committed))
-          by false some = ap (λ (b : UberBody). Some b) same

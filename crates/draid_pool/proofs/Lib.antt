@@ -45,3 +45,4 @@ pub mod ImportFound
 pub mod ImportOlder
 pub mod ImportNewest
 pub mod ImportOpened
+pub mod ImportRefused
