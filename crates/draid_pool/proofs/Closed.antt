@@ -198,7 +198,7 @@ some_and : {X : Type 0} (o : Option X) (x : X) (P : X → Type 0) → o ≡ Some
 some_and o x P is h = subst (λ z. IsSomeAnd z P) (sym is) h
 
 -- the area of a group, of two that tell
-area_told : (group : ℕ) (e o : Option Content) (kit : KitTold) (P : Content → Type 0) → e ≡ Some kit.even → o ≡ Some kit.odd → MatchOption (area_for group e o) ⊤ P
+pub area_told : (group : ℕ) (e o : Option Content) (kit : KitTold) (P : Content → Type 0) → e ≡ Some kit.even → o ≡ Some kit.odd → MatchOption (area_for group e o) ⊤ P
     → P (stable.area_of group kit.even kit.odd)
 area_told group e o kit P even odd h = by (group % 2 == 0) h
   where

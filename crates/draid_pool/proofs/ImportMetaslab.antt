@@ -55,7 +55,7 @@ use Rattle.draid_session.specs.Follows.{CountsRise, HarmBoth, StaysLeaf}
 use Rattle.draid_session.specs.Opening.{LeafIn, Reopens}
 use Rattle.draid_session.specs.State.{Counts, Metaslab, State, limit_of}
 use Rattle.draid_pool.specs.Closing.{RestsOn, SameCounts}
-use Rattle.draid_pool.specs.Imported.{CountsOn}
+use Rattle.draid_pool.specs.Imported.{CountsOn, ListsOnce}
 use Rattle.draid_pool.specs.Metaslabs.{IsMetaslab, counts_of, harm_of}
 use Rattle.draid_pool.specs.Pools.{part_in}
 use Rattle.draid_pool.specs.Records.{HasRecords, LeavesAreBelow, area_for}
@@ -86,14 +86,14 @@ chosen l w image group sound (inl own) is = inl (own, sym sound.groups.image_is 
 chosen l w image group sound (inr sealed) is = inr (sealed, sound.groups.sealed_is image sealed ∙ ap Some is)
 
 -- the version of a layout is its own
-own_version : (version : ℕ) (geometry : Geometry) → version ≡ geometry.props.version → at_version version geometry ≡ geometry
+pub own_version : (version : ℕ) (geometry : Geometry) → version ≡ geometry.props.version → at_version version geometry ≡ geometry
 own_version version geometry is = λ i. record geometry { props = record geometry.props { version = is i } }
 
 one_value : (a b : RecordTold) (r : Result RecordTold RecordFault) → r ≡ Ok a → r ≡ Ok b → a ≡ b
 one_value a b r x y = cc
 
 -- a record that stands is read
-read_there : (geometry : Geometry) (metaslab next : ℕ) (image : machine.Image) (x : Content) (has : HasRecord geometry metaslab image x) → LeavesBelow next image
+pub read_there : (geometry : Geometry) (metaslab next : ℕ) (image : machine.Image) (x : Content) (has : HasRecord geometry metaslab image x) → LeavesBelow next image
     → record_of (limits_of geometry metaslab image.group next) x.bytes ≡ Ok has.value
 read_there geometry metaslab next image x has below =
     let limits = limits_of geometry metaslab image.group next in
@@ -112,7 +112,7 @@ told_at true told e o even odd P is other holds = some_match (told e) even P is 
 told_at false told e o even odd P is other holds = some_match (told o) odd P other holds
 
 -- what is known of what it tells
-of_told : (b : Bool) {A : Type 0} (told : A → Option Content) (e o : A) (even odd : Content) (P : Content → Type 0) → told e ≡ Some even → told o ≡ Some odd
+pub of_told : (b : Bool) {A : Type 0} (told : A → Option Content) (e o : A) (even odd : Content) (P : Content → Type 0) → told e ≡ Some even → told o ≡ Some odd
     → content.OnTold (told (if b then e else o)) P → P (if b then even else odd)
 of_told true told e o even odd P is other holds = subst (λ t. content.OnTold t P) is holds
 of_told false told e o even odd P is other holds = subst (λ t. content.OnTold t P) other holds
@@ -269,6 +269,14 @@ module _ (x : State) (m : ℕ) (pieces : Pieces) (y : Metaslab) (kit : KitTold) 
       where
         P : Content → Type 0
         P = HasRecord (at_version f.image.version x.geometry) m f.image
+
+    -- its record lists each block once, where the one that was read does
+    pub opened_once : ListsOnce x.geometry m f.image (stable.area_of f.image.group kit.even kit.odd) → (image : machine.Image) → IsImage found_world image
+        → content.OnTold (area_for image.group (area.told shard.even) (area.told shard.odd)) (ListsOnce x.geometry m image)
+    opened_once once image is = subst (λ (i : machine.Image). content.OnTold (area_for i.group (area.told shard.even) (area.told shard.odd)) (ListsOnce x.geometry m i)) (found_image image is)
+        (subst (λ e. content.OnTold (area_for f.image.group e (area.told shard.odd)) (ListsOnce x.geometry m f.image)) (sym (opens.even ∙ k.even))
+        (subst (λ o. content.OnTold (area_for f.image.group (Some kit.even) o) (ListsOnce x.geometry m f.image)) (sym (opens.odd ∙ k.odd))
+        (on_told (f.image.group % 2 == 0) kit.even kit.odd (ListsOnce x.geometry m f.image) once)))
 
     pub opened_is : Valid rack shard → limit_in shard.history ≡ limit_of x.geometry → IsMetaslab rack area (part_in x m) pieces shard opened
     opened_is valid limit = record {

@@ -46,3 +46,4 @@ pub mod ImportOlder
 pub mod ImportNewest
 pub mod ImportOpened
 pub mod ImportRefused
+pub mod ImportRecords

@@ -1,25 +1,36 @@
 -- What an import finds of a pool that rests on a shelf: the body of its uberblock, a group of each metaslab, and the newest block of each object.
-use Rattle.std.specs.Prelude.{◌≡◌, ◌+◌, ◌<◌, ◌≤◌, ◌⊎◌, ℕ, false, true, List, Option, Some, None, length, slice_get}
+use Rattle.std.specs.Prelude.{◌≡◌, ◌+◌, ◌<◌, ◌≤◌, ◌⊎◌, ℕ, false, true, List, Option, Some, None, IsSome, IsSomeAnd, Ok, length, option_map, slice_get}
 use Rattle.draid_rack.specs.declared.Rack as racks
+use Rattle.draid_rack.specs.Rack.{Shape}
+use Rattle.draid_area.specs.Area.{Content}
+use Rattle.draid_area.specs.Area as content
 use Rattle.draid_area.specs.declared.Area as areas
+use Rattle.draid_spec.specs.Geometry.{metaslab_sectors}
+use Rattle.draid_spec.specs.declared.layout.Geometry.{Geometry}
 use Rattle.draid_map.specs.Place.{IsLayout}
 use Rattle.draid_names.specs.declared.pointer.Pointer.{Pointer}
-use Rattle.draid_machine.specs.declared.names.Held.{Held}
+use Rattle.draid_machine.specs.declared.names.ArmName.{ArmName}
+use Rattle.draid_machine.specs.declared.names.ArmName.TheVariants.{Leaf}
+use Rattle.draid_machine.specs.declared.names.Held.{Held as Block}
 use Rattle.draid_machine.specs.declared.names.Key.{Key}
 use Rattle.draid_machine.specs.declared.names.Stage.TheVariants.{Live}
 use Rattle.draid_machine.specs.Images.{IsImage}
 use Rattle.draid_machine.specs.State as machine
 use Rattle.draid_objects.specs.Blocks.{Blocks, SaysOf}
 use Rattle.draid_objects.specs.Changes.{upto, write_of}
+use Rattle.draid_record.specs.Record.{RecordTold, limits_of, record_of}
 use Rattle.draid_record.specs.declared.uber.UberBody.{UberBody}
 use Rattle.draid_segments.specs.Segments.{Pieces}
-use Rattle.draid_shelf.specs.Kits.{KitCounts, KitTold}
+use Rattle.draid_shelf.specs.Kits.{Held, KitCounts, KitTold}
 use Rattle.draid_shelf.specs.declared.kit.Kit.{Kit}
+use Rattle.draid_stable.specs.Stable as stable
+use Rattle.draid_entries.specs.Live.{first_twice}
 use Rattle.draid_entries.specs.declared.entry.Entry.{Entry}
 use Rattle.draid_entries.specs.Entries.{entry_at}
 use Rattle.draid_entries.specs.Maps.{held_at, key_of, staged}
 use Rattle.draid_shard.specs.Calls.{IsLive}
 use Rattle.draid_shard.specs.Fits.{IsLeaf}
+use Rattle.draid_shard.specs.Groups.{at_version}
 use Rattle.draid_shard.specs.declared.shard.Shard.{Shard}
 use Rattle.draid_uber.specs.declared.uber.Uber.{Uber}
 use Rattle.draid_session.specs.Follows.{Follows}
@@ -30,13 +41,39 @@ use Rattle.draid_pool.specs.Closing.{RestsOn, SameCounts}
 use Rattle.draid_pool.specs.Metaslabs.{IsMetaslab}
 use Rattle.draid_pool.specs.Objects.{HasGroups, HoldsObjects, blocks_of}
 use Rattle.draid_pool.specs.Pools.{part_in}
-use Rattle.draid_pool.specs.Records.{HasImages, HasLeafNumbers}
+use Rattle.draid_pool.specs.Records.{HasImages, HasLeafNumbers, area_for}
 use Rattle.draid_pool.specs.Ubers.{IsUber, body_of}
 
 -- Each metaslab has committed the pool's group, and its images have the version of the layout.
 pub record IsFindable (x : State) : Type 0 where
   pub committed : (m : ℕ) (y : Metaslab) → slice_get x.metaslabs m ≡ Some y → y.world.committed ≡ x.committed
   pub versions : (m : ℕ) (y : Metaslab) (image : machine.Image) → slice_get x.metaslabs m ≡ Some y → IsImage y.world image → image.version ≡ x.geometry.props.version
+
+-- bytes that are read as the record of an image list each block once
+abbrev pub ListsOnce : Geometry → ℕ → machine.Image → Content → Type 0
+ListsOnce geometry m image x = (next : ℕ) (value : RecordTold) → record_of (limits_of (at_version image.version geometry) m image.group next) x.bytes ≡ Ok value → first_twice value.blocks ≡ None
+
+-- the same arms stand in each slot, and the same of them are offline
+pub record SameArms (a b : machine.Core) : Type 0 where
+  pub order : (slot : ℕ) → a.order slot ≡ b.order slot
+  pub offline : (n : ArmName) → option_map (λ (arm : machine.Arm). arm.offline) (a.arm n) ≡ option_map (λ (arm : machine.Arm). arm.offline) (b.arm n)
+
+-- the images that all metaslabs have of a group have the same arms
+abbrev pub AreAlike : State → Type 0
+AreAlike x = (group m n : ℕ) (y z : Metaslab) (a b : machine.Image) → MayFind x group → slice_get x.metaslabs m ≡ Some y → slice_get x.metaslabs n ≡ Some z → IsImage y.world a → a.group ≡ group
+    → IsImage z.world b → b.group ≡ group → SameArms a.core b.core
+
+-- the leaves of an image are among those of a rack, with all sectors of a metaslab
+abbrev pub HasImageLeaves : Geometry → machine.Image → Shape → Type 0
+HasImageLeaves geometry image shape = (leaf : ℕ) → IsSome (image.core.arm (Leaf leaf)) → shape.leaves leaf ≡ Some (metaslab_sectors geometry)
+
+-- No record of a pool on a shelf has a fault to an import: the racks have the leaves of the images, and the records list each block once; all metaslabs have the same arms.
+pub record IsImportable (x : State) (held : Held) (leaves : ℕ → Option Shape) : Type 0 where
+  pub findable : IsFindable x
+  pub alike : AreAlike x
+  pub once : (m : ℕ) (y : Metaslab) (image : machine.Image) → slice_get x.metaslabs m ≡ Some y → IsImage y.world image
+      → IsSomeAnd (held.kits m) (λ kit. ListsOnce x.geometry m image (stable.area_of image.group kit.even kit.odd))
+  pub there : (m : ℕ) (y : Metaslab) (image : machine.Image) → slice_get x.metaslabs m ≡ Some y → IsImage y.world image → IsSomeAnd (leaves m) (HasImageLeaves x.geometry image)
 
 -- a body that was found is that of a group which the uberblock may have
 pub record FindsBody (x : State) (body : UberBody) : Type 0 where
@@ -59,6 +96,7 @@ pub record OpensFound {R A : Type 0} (rack : racks.Ghosts R) (area : areas.Ghost
   pub z : Metaslab
   pub reopens : Reopens x.geometry x.perms group m y z
   pub is : IsMetaslab rack area (part_in x m) pieces shard z
+  pub once : (image : machine.Image) → IsImage z.world image → content.OnTold (area_for image.group (area.told shard.even) (area.told shard.odd)) (ListsOnce x.geometry m image)
 
 -- a metaslab of a state rests on a kit as its image of a group has it, and the kit has its counts
 pub record RestsFound (x : State) (group m : ℕ) (pieces : Pieces) (y : Metaslab) (kit : KitTold) (counts : KitCounts) : Type 0 where
@@ -66,6 +104,7 @@ pub record RestsFound (x : State) (group m : ℕ) (pieces : Pieces) (y : Metasla
   pub reopens : Reopens x.geometry x.perms group m y z
   pub rests : RestsOn x m pieces z kit
   pub counted : SameCounts z.counts counts
+  pub once : (image : machine.Image) → IsImage z.world image → ListsOnce x.geometry m image (stable.area_of image.group kit.even kit.odd)
 
 -- the state that a group and its number of the next leaf give, with these metaslabs
 abbrev pub found_state : State → (group next : ℕ) → List Metaslab → (seq uber_count : ℕ) → State
@@ -111,8 +150,8 @@ pub record FreedOlder {R A : Type 0} (rack : racks.Ghosts R) (area : areas.Ghost
   pub stands : StandsFound rack area shards uber pieces reached
   pub same_store : reached.store ≡ mid.store
   pub same_group : reached.committed ≡ mid.committed
-  pub each : (m : ℕ) (key : Key) (h : Held) → blocks_of mid.metaslabs m key ≡ Some h → Frees m key holds ⊎ (blocks_of reached.metaslabs m key ≡ Some h)
-  pub kept : (m : ℕ) (key : Key) (h : Held) → blocks_of reached.metaslabs m key ≡ Some h → h.stage ≡ Live → blocks_of mid.metaslabs m key ≡ Some h
+  pub each : (m : ℕ) (key : Key) (h : Block) → blocks_of mid.metaslabs m key ≡ Some h → Frees m key holds ⊎ (blocks_of reached.metaslabs m key ≡ Some h)
+  pub kept : (m : ℕ) (key : Key) (h : Block) → blocks_of reached.metaslabs m key ≡ Some h → h.stage ≡ Live → blocks_of mid.metaslabs m key ≡ Some h
 
 -- ---- the newest blocks
 
@@ -127,7 +166,7 @@ pub record IsNewestIn {R A : Type 0} (shards : List (Shard R A)) (newest : ℕ �
 pub record IsNewestOf (blocks : Blocks) (newest : ℕ → Option Pointer) : Type 0 where
   pub own : (object : ℕ) (p : Pointer) → newest object ≡ Some p → p.object ≡ object
   pub there : (object : ℕ) (p : Pointer) → newest object ≡ Some p → blocks p.metaslab (key_of p) ≡ Some (held_at (staged Live p))
-  pub greatest : (m : ℕ) (k : Key) (h : Held) → blocks m k ≡ Some h → (p : Pointer) × (newest k.object ≡ Some p) × (k.seq ≤ p.seq)
+  pub greatest : (m : ℕ) (k : Key) (h : Block) → blocks m k ≡ Some h → (p : Pointer) × (newest k.object ≡ Some p) × (k.seq ≤ p.seq)
 
 -- no block is live but the newest of each object
 abbrev pub AreNewest : {R A : Type 0} → List (Shard R A) → (ℕ → Option Pointer) → Type 0
