@@ -55,7 +55,7 @@ use Rattle.draid_session.specs.Follows.{CountsRise, HarmBoth, StaysLeaf}
 use Rattle.draid_session.specs.Opening.{LeafIn, Reopens}
 use Rattle.draid_session.specs.State.{Counts, Metaslab, State, limit_of}
 use Rattle.draid_pool.specs.Closing.{RestsOn, SameCounts}
-use Rattle.draid_pool.specs.Imported.{CountsOn, ListsOnce}
+use Rattle.draid_pool.specs.Imported.{CountsOn, ListsOnce, OpensFound}
 use Rattle.draid_pool.specs.Metaslabs.{IsMetaslab, counts_of, harm_of}
 use Rattle.draid_pool.specs.Pools.{part_in}
 use Rattle.draid_pool.specs.Records.{HasRecords, LeavesAreBelow, area_for}
@@ -328,4 +328,14 @@ module _ (x : State) (m : ℕ) (pieces : Pieces) (y : Metaslab) (kit : KitTold) 
       counts = counts_rise y.world found_world y.counts (counts_of rack area shard)
           (let a = rack_is None in let b = on.rack_count in omega (arith, a, b)) (let b = on.even in omega (arith, even_is, b)) (let b = on.odd in omega (arith, odd_is, b))
           (λ leaf is. (let a = rack_is (Some leaf) in let b = on.leaf_counts leaf (leaf_in shard.slots found_world.core leaf stands.is_in.slots is) in omega (arith, a, b)));
+    }
+
+    pub opens_found : Valid rack shard → limit_in shard.history ≡ limit_of x.geometry → ListsOnce x.geometry m f.image (stable.area_of f.image.group kit.even kit.odd)
+        → ((who : Option ℕ) → rack.faults old.rack who ≡ y.counts.rack who) → area.faults old.even ≡ y.counts.even → area.faults old.odd ≡ y.counts.odd → CountsOn rack area old shard
+        → OpensFound rack area x group m pieces y shard
+    opens_found valid limit once rack_is even_is odd_is on = record {
+      z = opened;
+      reopens = opened_reopens rack_is even_is odd_is on;
+      is = opened_is valid limit;
+      once = opened_once once;
     }

@@ -47,3 +47,4 @@ pub mod ImportNewest
 pub mod ImportOpened
 pub mod ImportRefused
 pub mod ImportRecords
+pub mod ImportAlike
