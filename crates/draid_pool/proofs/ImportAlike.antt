@@ -25,17 +25,16 @@ use Rattle.draid_stable.specs.Slots.{HasSlots, name_of, named}
 use Rattle.draid_shard.proofs.Held.{key_leads}
 use Rattle.draid_session.specs.Opening.{MayFind, Reopens}
 use Rattle.draid_session.specs.State.{Metaslab, State}
-use Rattle.draid_pool.specs.Imported.{AreAlike, SameArms}
+use Rattle.draid_pool.specs.Imported.{AreAlike, SameArms, bare}
 use Rattle.draid_pool.specs.Objects.{HoldsObjects, blocks_of}
 use Rattle.draid_pool.proofs.Lists.{some_of}
 
 -- ---- arms
 
 -- an opening leaves the arms of an image but for their logs
-opened_offline : (f : machine.Arm → machine.Arm) (o : Option machine.Arm) → ((a : machine.Arm) → (f a).offline ≡ a.offline)
-    → option_map (λ (arm : machine.Arm). arm.offline) (map_arm f o) ≡ option_map (λ (arm : machine.Arm). arm.offline) o
-opened_offline f None same = refl
-opened_offline f (Some a) same = ap (λ (b : Bool). Some b) (same a)
+pub same_bare : (f : machine.Arm → machine.Arm) (o : Option machine.Arm) → ((a : machine.Arm) → bare (f a) ≡ bare a) → option_map bare (map_arm f o) ≡ option_map bare o
+same_bare f None same = refl
+same_bare f (Some a) same = ap (λ (b : machine.Arm). Some b) (same a)
 
 -- two metaslabs that were opened from images of a group have the same arms
 pub found_alike : (x : State) (group m n : ℕ) (y z v w : Metaslab) → AreAlike x → MayFind x group → slice_get x.metaslabs m ≡ Some y → slice_get x.metaslabs n ≡ Some z → Reopens x.geometry x.perms group m y v
@@ -43,7 +42,7 @@ pub found_alike : (x : State) (group m n : ℕ) (y z v w : Metaslab) → AreAlik
 found_alike x group m n y z v w alike may at there r s = subst (λ (q : machine.State). SameArms q.core w.world.core) (sym (r.world ∙ r.opened))
     (subst (λ (q : machine.State). SameArms (reopen_state (layout_of x.geometry x.perms m) y.world r.image []).core q.core) (sym (s.world ∙ s.opened)) (record {
       order = same.order;
-      offline = λ k. opened_offline _ (r.image.core.arm k) (λ a. refl) ∙ (same.offline k ∙ sym (opened_offline _ (s.image.core.arm k) (λ a. refl)));
+      arms = λ k. same_bare _ (r.image.core.arm k) (λ a. refl) ∙ (same.arms k ∙ sym (same_bare _ (s.image.core.arm k) (λ a. refl)));
     }))
   where
     same : SameArms r.image.core s.image.core
@@ -62,6 +61,9 @@ same_names kind.Leaf kind.Leaf m n is = (refl, cc)
 same_names kind.Leaf kind.Spare m n is = absurd (cc)
 same_names kind.Spare kind.Leaf m n is = absurd (cc)
 same_names kind.Spare kind.Spare m n is = (refl, cc)
+
+one_arm : (a b : machine.Arm) → Some a ≡ Some b → a ≡ b
+one_arm a b is = cc
 
 -- what an import compares of two arms
 pub record IsSameArm (p q : Arm) : Type 0 where
@@ -82,10 +84,10 @@ module _ (a b : SlotTable) (v w : machine.Core) (first : HasSlots a v) (second :
   same_arms slot k p q at there =
       let name = mapped_at name_of (arms_of a slot) (arms_of b slot) k p q (order slot) at there in
       let is = same_names p.kind q.kind p.number q.number name in
-      let one = ap (option_map (λ (arm : machine.Arm). arm.offline)) (first.arms (record { slot = slot; arm = k }) p at) in
-      let other = ap (option_map (λ (arm : machine.Arm). arm.offline)) (second.arms (record { slot = slot; arm = k }) q there) in
-      let offline = sym one ∙ (ap (λ n. option_map (λ (arm : machine.Arm). arm.offline) (v.arm n)) name ∙ (same.offline (name_of q) ∙ other)) in
-      record { kind_is = is.0; number_is = is.1; offline_is = some_of (Some q.offline) p.offline q.offline (sym offline) refl }
+      let one = ap (option_map bare) (first.arms (record { slot = slot; arm = k }) p at) in
+      let other = ap (option_map bare) (second.arms (record { slot = slot; arm = k }) q there) in
+      let offline = sym one ∙ (ap (λ n. option_map bare (v.arm n)) name ∙ (same.arms (name_of q) ∙ other)) in
+      record { kind_is = is.0; number_is = is.1; offline_is = ap (λ (a : machine.Arm). a.offline) (one_arm _ _ offline) }
 
 -- ---- keys
 

@@ -67,7 +67,7 @@ pub later_group : (x : State) (group : ℕ) → MayFind x group → x.committed 
 later_group x group (inl is) = omega (arith, is)
 later_group x group (inr is) = (let next = is.1 in omega (arith, next))
 
-pub leaves_below : (l : machine.Layout) (x : State) (w : machine.State) (image : machine.Image) (group next : ℕ) → machine.IsLayout l → IsReached l w → w.committed ≡ x.committed
+pub leaves_below : (l : machine.Layout) (x : State) (w : machine.State) (image : machine.Image) (group next : ℕ) → machine.IsLayout l → IsReached l w → x.committed ≤ w.committed
     → LeavesAreBelow x.kept_leaf x.next_leaf w → x.kept_leaf ≤ x.next_leaf → LeafIn x group next → IsImage w image → image.group ≡ group → LeavesBelow next image
 leaves_below l x w image group next lay reached committed below order leaf is of = by leaf is
   where
@@ -231,7 +231,7 @@ module _ (x mid : State) (group : ℕ) (pieces : ℕ → Pieces) (finds : Finds 
 
   pub found_findable : IsFindable mid
   found_findable = record {
-    committed = found_committed;
+    committed = λ m z at. (let is = found_committed m z at in omega (arith, is));
     versions = λ m z image at is.
         (let p = pair_at m z at in
         ap (λ (i : machine.Image). i.version) (sym (only_image m z p image is)) ∙ (findable.versions m p.y p.reopens.image p.at p.reopens.is ∙ ap (λ g. g.props.version) (sym finds.layout.0)));

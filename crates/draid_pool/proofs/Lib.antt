@@ -48,3 +48,4 @@ pub mod ImportOpened
 pub mod ImportRefused
 pub mod ImportRecords
 pub mod ImportAlike
+pub mod ImportKept

@@ -44,19 +44,28 @@ use Rattle.draid_pool.specs.Pools.{part_in}
 use Rattle.draid_pool.specs.Records.{HasImages, HasLeafNumbers, area_for}
 use Rattle.draid_pool.specs.Ubers.{IsUber, body_of}
 
--- Each metaslab has committed the pool's group, and its images have the version of the layout.
+-- Each metaslab has committed the group that the uberblock has, or a later one where the first commit was refused; its images have the version of the layout.
 pub record IsFindable (x : State) : Type 0 where
-  pub committed : (m : ℕ) (y : Metaslab) → slice_get x.metaslabs m ≡ Some y → y.world.committed ≡ x.committed
+  pub committed : (m : ℕ) (y : Metaslab) → slice_get x.metaslabs m ≡ Some y → x.committed ≤ y.world.committed
   pub versions : (m : ℕ) (y : Metaslab) (image : machine.Image) → slice_get x.metaslabs m ≡ Some y → IsImage y.world image → image.version ≡ x.geometry.props.version
 
 -- bytes that are read as the record of an image list each block once
 abbrev pub ListsOnce : Geometry → ℕ → machine.Image → Content → Type 0
 ListsOnce geometry m image x = (next : ℕ) (value : RecordTold) → record_of (limits_of (at_version image.version geometry) m image.group next) x.bytes ≡ Ok value → first_twice value.blocks ≡ None
 
--- the same arms stand in each slot, and the same of them are offline
+-- an arm without what passes make good
+abbrev pub bare : machine.Arm → machine.Arm
+bare arm = record { offline = arm.offline; fresh = false; log = λ group. false; gone = arm.gone }
+
+-- the same arms stand in each slot
 pub record SameArms (a b : machine.Core) : Type 0 where
   pub order : (slot : ℕ) → a.order slot ≡ b.order slot
-  pub offline : (n : ArmName) → option_map (λ (arm : machine.Arm). arm.offline) (a.arm n) ≡ option_map (λ (arm : machine.Arm). arm.offline) (b.arm n)
+  pub arms : (n : ArmName) → option_map bare (a.arm n) ≡ option_map bare (b.arm n)
+
+-- the images of a metaslab have a version, and so will the next one
+pub record HasVersion (version : ℕ) (w : machine.State) : Type 0 where
+  pub asked : w.asked ≡ version
+  pub images : (image : machine.Image) → IsImage w image → image.version ≡ version
 
 -- the images that all metaslabs have of a group have the same arms
 abbrev pub AreAlike : State → Type 0
