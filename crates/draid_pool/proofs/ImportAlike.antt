@@ -1,22 +1,20 @@
 -- What an import looks for in the metaslabs that it opens: they have the same arms, and no key twice.
-use Rattle.std.proofs.Common.{arith, ◌≡◌, ◌+◌, ◌∙◌, ℕ, zero, suc, Bool, List, [], ◌∷◌, Option, Some, None, length, map, refl, sym, ap, subst}
+use Rattle.std.proofs.Common.{◌≡◌, ◌∙◌, ℕ, zero, suc, List, [], ◌∷◌, Option, Some, None, length, map, refl, sym, ap, subst}
 use Rattle.std.specs.Prelude.{option_map, slice_get}
 use Rattle.std.proofs.lemmas.List.{length-map}
 use Rattle.draid_names.specs.declared.arm.Arm.{Arm}
-use Rattle.draid_names.specs.declared.arm.ArmAt.{ArmAt}
 use Rattle.draid_names.specs.declared.arm.ArmKind.{ArmKind}
 use Rattle.draid_names.specs.declared.arm.ArmKind.TheVariants as kind
-use Rattle.draid_machine.specs.declared.names.ArmName.{ArmName}
 use Rattle.draid_machine.specs.declared.names.Held.{Held as Block}
 use Rattle.draid_machine.specs.declared.names.Key.{Key}
-use Rattle.draid_machine.specs.After.{cut_above, map_arm, reopen_state}
+use Rattle.draid_machine.specs.After.{map_arm, reopen_state}
 use Rattle.draid_machine.specs.State as machine
 use Rattle.draid_machine.proofs.Seals.{sealed_held}
 use Rattle.draid_layouts.specs.Layout.{layout_of}
 use Rattle.draid_objects.specs.Blocks.{Blocks, sealed_at}
 use Rattle.draid_objects.specs.Changes.{Write, write_by}
 use Rattle.draid_segments.specs.Segments.{Pieces}
-use Rattle.draid_slots.specs.Table.{SlotTable, arm_at, arms_of}
+use Rattle.draid_slots.specs.Table.{SlotTable, arms_of}
 use Rattle.draid_entries.specs.declared.entry.Entry.{Entry}
 use Rattle.draid_entries.specs.declared.entries.Entries.{Entries}
 use Rattle.draid_entries.specs.Entries.{entry_at, held_in}

@@ -1,6 +1,6 @@
 -- The state that an import finds, of a pool that rests on a shelf.
-use Rattle.std.proofs.Common.{arith, ◌≡◌, ◌+◌, ◌<◌, ◌≤◌, ◌∙◌, ◌⊎◌, inl, inr, ℕ, zero, suc, true, false, List, [], ◌∷◌, Option, Some, None, length, refl, sym, ap, subst}
-use Rattle.std.specs.Prelude.{IsSome, IsSomeAnd, option_map, slice_get}
+use Rattle.std.proofs.Common.{arith, ◌≡◌, ◌+◌, ◌<◌, ◌≤◌, ◌∙◌, inl, inr, ℕ, zero, suc, List, [], ◌∷◌, Option, Some, None, length, refl, sym, ap, subst}
+use Rattle.std.specs.Prelude.{IsSome, option_map, slice_get}
 use Rattle.std.proofs.lemmas.Bool.{cases_lt}
 use Rattle.std.proofs.lemmas.Option.{slice_get_within}
 use Rattle.sha2.specs.Sha256.{sha256}
@@ -19,7 +19,7 @@ use Rattle.draid_machine.proofs.Rows.{reached_sound}
 use Rattle.draid_machine.proofs.Seals.{sealed_held}
 use Rattle.draid_machine.proofs.Standing.{every_image}
 use Rattle.draid_layouts.specs.Layout.{layout_of}
-use Rattle.draid_objects.specs.Blocks.{Blocks, SaysOf, sealed_at, table_of}
+use Rattle.draid_objects.specs.Blocks.{SaysOf, sealed_at, table_of}
 use Rattle.draid_objects.specs.Changes.{Change, Write, kept, upto, write_by, write_of}
 use Rattle.draid_objects.specs.Stores.{IsFloor, Stores}
 use Rattle.draid_objects.proofs.Finding.{by_upto}
@@ -31,7 +31,7 @@ use Rattle.draid_stable.specs.Images.{LeavesBelow}
 use Rattle.draid_shard.specs.Part.{IsPart}
 use Rattle.draid_shard.proofs.Standing.{has_layout}
 use Rattle.draid_session.specs.Opening.{Finds, IsLastSeq, LeafIn, MayFind, Reopens}
-use Rattle.draid_session.specs.State.{Metaslab, State, Store}
+use Rattle.draid_session.specs.State.{Metaslab, State}
 use Rattle.draid_pool.specs.Closing.{RestsOn}
 use Rattle.draid_pool.specs.Imported.{IsFindable}
 use Rattle.draid_pool.specs.Objects.{HasGroups, HasPieces, HoldsObjects, blocks_of}

@@ -5,8 +5,7 @@ use Rattle.draid_rack.specs.declared.Rack as racks
 use Rattle.draid_area.specs.declared.Area as areas
 use Rattle.draid_spec.specs.Geometry.{metaslab_sectors}
 use Rattle.draid_machine.specs.declared.event.Event.{Event}
-use Rattle.draid_machine.specs.declared.event.Event.TheVariants.{Begin, Put, Finish, Abort, Free, Fetch, Damage, Close, Seal, Commit}
-use Rattle.draid_machine.specs.declared.names.ArmName.{ArmName}
+use Rattle.draid_machine.specs.declared.event.Event.TheVariants.{Begin, Put, Finish, Abort, Free, Fetch, Damage, Close}
 use Rattle.draid_machine.specs.declared.names.ArmName.TheVariants.{Leaf}
 use Rattle.draid_machine.specs.declared.names.Held.{Held}
 use Rattle.draid_machine.specs.declared.names.Key.{Key}
@@ -17,7 +16,7 @@ use Rattle.draid_machine.specs.State as machine
 use Rattle.draid_machine.specs.Step.{CommitStep, SealStep, Step}
 use Rattle.draid_machine.proofs.Standing.{every_image}
 use Rattle.draid_segments.specs.Segments.{Pieces}
-use Rattle.draid_shard.specs.Part.{Part, layout_in}
+use Rattle.draid_shard.specs.Part.{Part}
 use Rattle.draid_shard.specs.States.{layout_by, part_of}
 use Rattle.draid_shard.specs.declared.shard.Shard.{Shard}
 use Rattle.draid_shard.proofs.Standing.{has_layout}

@@ -1,17 +1,15 @@
 -- A metaslab that rests on a shelf, as an import opens it.
-use Rattle.std.proofs.Common.{arith, ◌≡◌, ◌≢◌, ◌==◌, ◌%◌, ◌||◌, ◌&&◌, ◌+◌, ◌<◌, ◌≤◌, ◌++◌, ◌∙◌, inl, inr, ℕ, Bool, true, false, List, [], Option, Some, None, Result, Ok, Vec, Global, length, drop, refl, sym, ap, subst, if◌then◌else◌}
-use Rattle.std.specs.Prelude.{IsSome, IsSomeAnd, MatchOption, ⊤, min, option_map, slice_get, ◌^◌, ◌-◌, ◌⊎◌}
+use Rattle.std.proofs.Common.{arith, ◌≡◌, ◌≢◌, ◌==◌, ◌%◌, ◌||◌, ◌&&◌, ◌+◌, ◌≤◌, ◌++◌, ◌∙◌, inl, inr, ℕ, Bool, true, false, [], Option, Some, None, Result, Ok, Vec, Global, length, drop, refl, sym, ap, subst, if◌then◌else◌}
+use Rattle.std.specs.Prelude.{IsSome, IsSomeAnd, MatchOption, min, ◌^◌, ◌-◌, ◌⊎◌}
 use Rattle.std.proofs.lemmas.List.{take-append-drop}
 use Rattle.std.specs.List.{count_by}
 use denote.RawPtr.{null_ptr}
 use Rattle.draid_area.specs.Area.{Content}
 use Rattle.draid_area.specs.Area as content
 use Rattle.draid_area.specs.declared.Area as areas
-use Rattle.draid_rack.specs.Rack.{OnTold, Told}
+use Rattle.draid_rack.specs.Rack.{Told}
 use Rattle.draid_rack.specs.declared.Rack as racks
 use Rattle.draid_spec.specs.declared.layout.Geometry.{Geometry}
-use Rattle.draid_perm.specs.declared.perms.Perms.{Perms}
-use Rattle.draid_map.specs.Place.{IsLayout}
 use Rattle.draid_machine.specs.declared.event.Event.TheVariants as event
 use Rattle.draid_machine.specs.declared.names.ArmName.TheVariants.{Leaf}
 use Rattle.draid_machine.specs.declared.names.Held.{Held}
@@ -24,7 +22,6 @@ use Rattle.draid_machine.specs.Images.{IsImage}
 use Rattle.draid_machine.specs.Names.{has_segment}
 use Rattle.draid_machine.specs.Sound.{Sound}
 use Rattle.draid_machine.specs.State as machine
-use Rattle.draid_machine.specs.Step.{ReopenStep}
 use Rattle.draid_machine.proofs.Rows.{reached_sound}
 use Rattle.draid_machine.proofs.Standing.{every_image}
 use Rattle.draid_layouts.specs.Layout.{layout_of}
@@ -35,7 +32,7 @@ use Rattle.draid_record.proofs.Again.{record_again}
 use Rattle.draid_record.proofs.Ranged.{ranged_spelled}
 use Rattle.draid_segments.specs.Acts.{DropsBut, IsNamed}
 use Rattle.draid_segments.specs.Segments.{Firm, IsClaim, Pieces}
-use Rattle.draid_shelf.specs.Kits.{KitCounts, KitTold, kit_of}
+use Rattle.draid_shelf.specs.Kits.{KitTold, kit_of}
 use Rattle.draid_shelf.specs.declared.kit.Kit.{Kit}
 use Rattle.draid_stable.specs.Images.{LeavesBelow, image_by}
 use Rattle.draid_stable.specs.Kits.{IsStable}
@@ -43,25 +40,25 @@ use Rattle.draid_stable.specs.Stable as stable
 use Rattle.draid_stable.specs.Stable.{HasRecord}
 use Rattle.draid_entries.specs.History.{limit_in}
 use Rattle.draid_shard.specs.Calls.{OnBothTold}
-use Rattle.draid_shard.specs.Fits.{IsLeaf, Valid}
-use Rattle.draid_shard.specs.Groups.{Opens, area_of_kit, at_version}
+use Rattle.draid_shard.specs.Fits.{Valid}
+use Rattle.draid_shard.specs.Groups.{Opens, at_version}
 use Rattle.draid_shard.specs.Part.{IsPart, Part, layout_in}
 use Rattle.draid_shard.specs.Stands.{StandsFor}
-use Rattle.draid_shard.specs.States.{IsIn, layout_by, part_of}
+use Rattle.draid_shard.specs.States.{layout_by, part_of}
 use Rattle.draid_shard.specs.declared.shard.Shard.{Shard}
 use Rattle.draid_shard.proofs.Opened.{opened_stands}
 use Rattle.draid_shard.proofs.Standing.{has_layout, reached_more}
-use Rattle.draid_session.specs.Follows.{CountsRise, HarmBoth, StaysLeaf}
-use Rattle.draid_session.specs.Opening.{LeafIn, Reopens}
+use Rattle.draid_session.specs.Follows.{CountsRise, HarmBoth}
+use Rattle.draid_session.specs.Opening.{Reopens}
 use Rattle.draid_session.specs.State.{Counts, Metaslab, State, limit_of}
-use Rattle.draid_pool.specs.Closing.{RestsOn, SameCounts}
+use Rattle.draid_pool.specs.Closing.{RestsOn}
 use Rattle.draid_pool.specs.Imported.{CountsOn, ListsOnce, OpensFound}
 use Rattle.draid_pool.specs.Metaslabs.{IsMetaslab, counts_of, harm_of}
 use Rattle.draid_pool.specs.Pools.{part_in}
 use Rattle.draid_pool.specs.Records.{HasRecords, LeavesAreBelow, area_for}
 use Rattle.draid_pool.proofs.Closed.{KitIs, kit_is}
 use Rattle.draid_pool.proofs.Damages.{leaf_in}
-use Rattle.draid_pool.proofs.Lists.{ext, some_of}
+use Rattle.draid_pool.proofs.Lists.{ext}
 
 -- nothing is in doubt
 abbrev no_doubt : Global → Vec Segment Global

@@ -1,6 +1,6 @@
 -- A pool whose table has the newest block of each object that an import finds.
-use Rattle.std.proofs.Common.{arith, ◌≡◌, ◌+◌, ◌<◌, ◌≤◌, ◌∙◌, ◌⊎◌, inl, inr, ℕ, List, Option, Some, None, length, refl, sym, ap, subst}
-use Rattle.std.specs.Prelude.{IsSome, nat_eq, slice_get}
+use Rattle.std.proofs.Common.{arith, ◌≡◌, ◌≤◌, ◌∙◌, ◌⊎◌, inl, inr, ℕ, List, Option, Some, None, length, refl, sym, ap, subst}
+use Rattle.std.specs.Prelude.{nat_eq, slice_get}
 use Rattle.std.specs.HashMap.{get}
 use Rattle.std.proofs.lemmas.Bool.{cases_lt}
 use Rattle.std.proofs.lemmas.Option.{slice_get_within}
@@ -29,12 +29,12 @@ use Rattle.draid_shard.specs.declared.shard.Shard.{Shard}
 use Rattle.draid_shard.proofs.Held.{HasEntry, held_entry, key_leads}
 use Rattle.draid_uber.specs.Uber.{layout_of}
 use Rattle.draid_uber.specs.declared.uber.Uber.{Uber}
-use Rattle.draid_session.specs.Opening.{Finds, FreesOlder, Imports, IsLastSeq, IsOlder, Frees}
+use Rattle.draid_session.specs.Opening.{Finds, FreesOlder, Imports, IsLastSeq, IsOlder}
 use Rattle.draid_session.specs.State.{Metaslab, State, Store}
-use Rattle.draid_pool.specs.Imported.{AreNewest, FreedOlder, IsLastIn, IsNewestIn, IsNewestOf, SaysObjects, StandsFound}
+use Rattle.draid_pool.specs.Imported.{AreNewest, FreedOlder, IsLastIn, IsNewestIn, IsNewestOf, SaysObjects}
 use Rattle.draid_pool.specs.Importing.{ImportsPool}
 use Rattle.draid_pool.specs.Objects.{HoldsObjects, IsLastAt, IsPointerOf, PointsTo, blocks_of}
-use Rattle.draid_pool.specs.Pools.{Represents, Stands}
+use Rattle.draid_pool.specs.Pools.{Represents}
 use Rattle.draid_pool.specs.Ubers.{IsUber}
 use Rattle.draid_pool.specs.declared.pool.Pool.{Pool}
 use Rattle.draid_pool.proofs.ImportFound.{held_there}
@@ -150,7 +150,7 @@ module _ {R A : Type 0} (rack : racks.Ghosts R) (area : areas.Ghosts A) where
     not_older : (object : ℕ) (p : Pointer) → newest object ≡ Some p → IsOlder mid (key_of p) → ⊥
     not_older object p is older =
         let most = is_greatest (blocks_of mid.metaslabs) newest object p n is older.m older.later older.same
-            (is_some_of (blocks_of mid.metaslabs older.m older.later) older.held (blocks_at mid.metaslabs older.m older.y older.later older.there ∙ older.found)) in
+        (is_some_of (blocks_of mid.metaslabs older.m older.later) older.held (blocks_at mid.metaslabs older.m older.y older.later older.there ∙ older.found)) in
         let greater = older.greater in
         omega (arith, most, greater)
 

@@ -1,41 +1,32 @@
 -- Of the blocks that an import finds those that have later ones are freed.
-use Rattle.std.proofs.Common.{arith, ◌≡◌, ◌≢◌, ◌+◌, ◌<◌, ◌≤◌, ◌++◌, ◌∙◌, ◌⊎◌, inl, inr, ℕ, List, [], ◌∷◌, Option, Some, None, length, max, refl, sym, ap, subst, slice_set}
-use Rattle.std.specs.Prelude.{IsSome, slice_get, nat_eq}
-use Rattle.std.specs.HashMap.{get}
+use Rattle.std.proofs.Common.{arith, ◌≡◌, ◌≢◌, ◌+◌, ◌++◌, ◌∙◌, inl, inr, ℕ, List, [], ◌∷◌, Some, refl, sym, ap, subst, slice_set}
+use Rattle.std.specs.Prelude.{slice_get}
 use Rattle.std.proofs.lemmas.Bool.{cases_eq}
 use Rattle.std.proofs.lemmas.List.{length-set}
 use Rattle.std.proofs.lemmas.Option.{slice_get_within}
-use Rattle.sha2.specs.Sha256.{sha256}
 use Rattle.draid_names.specs.declared.pointer.Pointer.{Pointer}
 use Rattle.draid_rack.specs.declared.Rack as racks
 use Rattle.draid_area.specs.declared.Area as areas
 use Rattle.draid_machine.specs.declared.event.Event.TheVariants as event
-use Rattle.draid_machine.specs.declared.names.Held.{Held}
 use Rattle.draid_machine.specs.declared.names.Key.{Key}
 use Rattle.draid_machine.specs.declared.names.Stage.TheVariants as stage
 use Rattle.draid_machine.specs.State as machine
-use Rattle.draid_objects.specs.Blocks.{Blocks, IsGreatest, SaysOf, Sets}
+use Rattle.draid_objects.specs.Blocks.{SaysOf, Sets}
 use Rattle.draid_objects.specs.Changes as changes
 use Rattle.draid_objects.specs.Changes.{Change, Write, write_by, write_of}
-use Rattle.draid_objects.proofs.Finding.{write_object}
-use Rattle.draid_objects.proofs.Imaging.{greatest_none, greatest_some, last_live}
 use Rattle.draid_objects.proofs.One.{one_set}
 use Rattle.draid_objects.proofs.Sealing.{is_some_of, set_cases}
 use Rattle.draid_objects.proofs.Sealing as sealing
 use Rattle.draid_segments.specs.Segments.{Pieces}
-use Rattle.draid_entries.specs.declared.entry.Entry.{Entry}
-use Rattle.draid_entries.specs.Entries.{entry_at}
-use Rattle.draid_entries.specs.Maps.{held_at, key_of, staged}
-use Rattle.draid_shard.specs.Calls.{IsLive}
+use Rattle.draid_entries.specs.Maps.{key_of}
 use Rattle.draid_shard.specs.Part.{Part, layout_in}
 use Rattle.draid_shard.specs.declared.shard.Shard.{Shard}
-use Rattle.draid_shard.proofs.Held.{held_entry, key_leads}
 use Rattle.draid_uber.specs.declared.uber.Uber.{Uber}
 use Rattle.draid_session.specs.Follows as follows
 use Rattle.draid_session.specs.Holds.{Act, Did, Hold, Looked, On, OnUber, view_of}
-use Rattle.draid_session.specs.Opening.{Frees, FreesOlder, IsLastSeq, IsOlder}
+use Rattle.draid_session.specs.Opening.{Frees, FreesOlder, IsOlder}
 use Rattle.draid_session.specs.State.{Metaslab, State, Store}
-use Rattle.draid_pool.specs.Imported.{FreedOlder, IsLastIn, IsNewestIn, IsNewestOf, SaysObjects, StandsFound}
+use Rattle.draid_pool.specs.Imported.{FreedOlder, SaysObjects, StandsFound}
 use Rattle.draid_pool.specs.Metaslabs.{IsMetaslab}
 use Rattle.draid_pool.specs.Objects.{HoldsObjects, blocks_of, worlds_of}
 use Rattle.draid_pool.specs.Pools.{part_in}
@@ -44,9 +35,7 @@ use Rattle.draid_pool.specs.Shards.{FollowsIn, FreesIn, Goes}
 use Rattle.draid_pool.specs.Ubers.{IsUber}
 use Rattle.draid_pool.proofs.Entering.{older_holds, still}
 use Rattle.draid_pool.proofs.Imaged.{image_kept, leaves_kept}
-use Rattle.draid_pool.proofs.ImportFound.{held_there}
 use Rattle.draid_pool.proofs.Lists.{get_set_other, get_set_same, present, some_of}
-use Rattle.draid_pool.proofs.Lives.{held_by}
 use Rattle.draid_pool.proofs.Moved.{blocks_at, each_set, follows_one, moves_one, with_metaslab}
 use Rattle.draid_pool.proofs.WriteSteps.{follows_both}
 

@@ -1,17 +1,14 @@
 -- No record of a pool that rests on a shelf has a fault to an import.
-use Rattle.std.proofs.Common.{arith, ◌≡◌, ◌==◌, ◌%◌, ◌+◌, ◌<◌, ◌&&◌, ◌++◌, ◌∙◌, not, ℕ, Bool, true, false, List, [], ◌∷◌, Option, Some, None, Result, Ok, Err, length, refl, sym, ap, subst, if◌then◌else◌}
+use Rattle.std.proofs.Common.{◌≡◌, ◌==◌, ◌%◌, ◌+◌, ◌&&◌, ◌++◌, ◌∙◌, not, ℕ, Bool, true, false, List, [], ◌∷◌, Option, Some, None, Result, Ok, Err, refl, sym, ap, subst, if◌then◌else◌}
 use Rattle.std.specs.Prelude.{IsSome, find, option_map, unwrap_or}
 use Rattle.std.specs.Option.{option_or}
-use Rattle.draid_names.specs.declared.arm.Arm.{Arm}
 use Rattle.draid_names.specs.declared.arm.ArmKind.{ArmKind}
 use Rattle.draid_names.specs.declared.arm.ArmKind.TheVariants as kind
 use Rattle.draid_area.specs.Area.{Content}
 use Rattle.draid_area.specs.declared.Area as areas
-use Rattle.draid_rack.specs.Rack.{Shape}
 use Rattle.draid_rack.specs.declared.Rack as racks
 use Rattle.draid_spec.specs.Geometry.{metaslab_sectors}
 use Rattle.draid_spec.specs.declared.layout.Geometry.{Geometry}
-use Rattle.draid_machine.specs.declared.names.ArmName.{ArmName}
 use Rattle.draid_machine.specs.declared.names.ArmName.TheVariants.{Leaf}
 use Rattle.draid_machine.specs.Names.{name_eq}
 use Rattle.draid_machine.specs.State as machine
@@ -21,16 +18,15 @@ use Rattle.draid_record.specs.declared.fault.RecordFault.{RecordFault}
 use Rattle.draid_record.specs.declared.limits.Limits.{Limits}
 use Rattle.draid_slots.specs.Table.{is_leaf, is_leaf_kind}
 use Rattle.draid_entries.specs.Live.{first_twice}
-use Rattle.draid_stable.specs.Images.{all_arms, arm_by, arm_of, has_name, image_by, name_of}
+use Rattle.draid_stable.specs.Images.{all_arms, arm_of, has_name}
 use Rattle.draid_stable.specs.Opening.{arm_len, arms_len, fitting, has_leaf, is_lacking, lacking_from, lacking_in, once_in, opening_of, slots_at, there_in}
 use Rattle.draid_stable.specs.Slots.{named}
 use Rattle.draid_stable.specs.Stable as stable
 use Rattle.draid_stable.specs.Stable.{HasRecord}
-use Rattle.draid_stable.specs.Images.{LeavesBelow}
 use Rattle.draid_shelf.specs.Kits.{KitTold, kit_of}
 use Rattle.draid_shelf.specs.declared.kit.Kit.{Kit}
 use Rattle.draid_segments.specs.Segments.{Pieces}
-use Rattle.draid_shard.specs.Groups.{area_of_kit, at_version}
+use Rattle.draid_shard.specs.Groups.{at_version}
 use Rattle.draid_shard.specs.Reopening.{OpenIsRefused}
 use Rattle.draid_shard.specs.declared.fault.OpenFault.TheVariants as fault
 use Rattle.draid_session.specs.State.{Metaslab, State}

@@ -1,5 +1,5 @@
 -- What an import leaves that was refused.
-use Rattle.std.proofs.Common.{arith, ◌≡◌, ◌<◌, ◌≤◌, ◌∙◌, inl, inr, ℕ, Bool, true, false, List, [], Option, Some, None, length, refl, sym, ap, subst}
+use Rattle.std.proofs.Common.{arith, ◌≡◌, ◌≤◌, ◌∙◌, inl, inr, ℕ, Bool, false, List, [], Option, Some, None, length, refl, sym, ap, subst}
 use Rattle.std.specs.Prelude.{IsSomeAnd, slice_get}
 use Rattle.std.proofs.lemmas.List.Elements.{All-nil}
 use Rattle.std.proofs.lemmas.Option.{slice_get_within}
@@ -24,8 +24,7 @@ use Rattle.draid_session.specs.State.{Counts, Metaslab, State}
 use Rattle.draid_pool.specs.Closing.{Rests, RestsOn, SameCounts, kit_in}
 use Rattle.draid_pool.specs.Imported.{AreAlike, FindsBody, HasImageLeaves, IsFindable, IsImportable, ListsOnce, OpensFound, RestsFound, SameArms, found_state}
 use Rattle.draid_pool.specs.Importing.{FindsNone, LeavesPool, RestsThere}
-use Rattle.draid_pool.specs.Metaslabs.{counts_of}
-use Rattle.draid_pool.specs.Ubers.{IsPending, UberStands, kept_in}
+use Rattle.draid_pool.specs.Ubers.{IsPending, UberStands}
 use Rattle.draid_pool.proofs.Closed.{area_told, kit_is, rests_on}
 use Rattle.draid_pool.proofs.ImportFound.{found_findable, found_holds, found_images, found_leaves, numbered_before}
 use Rattle.draid_pool.proofs.ImportMetaslab.{FindsImage, counts_rise, found_image, unopened, unopened_reopens, unopened_rests}
@@ -40,18 +39,18 @@ pub given_found : {R A : Type 0} (rack : racks.Ghosts R) (area : areas.Ghosts A)
     → OpensFound rack area x group m pieces y shard → kit_in rack area shard ≡ Some kit → ((who : Option ℕ) → counts.rack who ≡ rack.faults shard.rack who) → counts.even ≡ area.faults shard.even
     → counts.odd ≡ area.faults shard.odd → RestsFound x group m pieces y kit counts
 given_found rack area x group m pieces y shard kit counts o told rack_is even_is odd_is =
-  let k = kit_is (rack.told shard.rack) (area.told shard.even) (area.told shard.odd) kit told in
-  record {
-  once = λ image is. area_told image.group (area.told shard.even) (area.told shard.odd) kit (ListsOnce x.geometry m image) k.even k.odd (o.once image is);
-  z = o.z;
-  reopens = o.reopens;
-  rests = rests_on rack area x m pieces shard o.z kit o.is told;
-  counted = record {
-    rack = λ who. rack_is who ∙ ap (λ (c : Counts). c.rack who) (sym o.is.counts);
-    even = even_is ∙ ap (λ (c : Counts). c.even) (sym o.is.counts);
-    odd = odd_is ∙ ap (λ (c : Counts). c.odd) (sym o.is.counts);
-  };
-}
+    let k = kit_is (rack.told shard.rack) (area.told shard.even) (area.told shard.odd) kit told in
+    record {
+      once = λ image is. area_told image.group (area.told shard.even) (area.told shard.odd) kit (ListsOnce x.geometry m image) k.even k.odd (o.once image is);
+      z = o.z;
+      reopens = o.reopens;
+      rests = rests_on rack area x m pieces shard o.z kit o.is told;
+      counted = record {
+        rack = λ who. rack_is who ∙ ap (λ (c : Counts). c.rack who) (sym o.is.counts);
+        even = even_is ∙ ap (λ (c : Counts). c.even) (sym o.is.counts);
+        odd = odd_is ∙ ap (λ (c : Counts). c.odd) (sym o.is.counts);
+      };
+    }
 
 -- it wasn't, and its devices tell what they did; more calls on them may have failed
 pub left_found : (x : State) (group next m : ℕ) (pieces : Pieces) (y : Metaslab) (kit : KitTold) (counts : KitCounts) (alloc : Global) (f : FindsImage x m pieces y kit group next)
@@ -147,12 +146,16 @@ module _ (x : State) (pieces : ℕ → Pieces) (held : Held) (rests : Rests x pi
       (leaves : (m : ℕ) (y : Metaslab) (image : machine.Image) → slice_get x.metaslabs m ≡ Some y → IsImage y.world image → image.group ≡ body.group → IsSomeAnd (now m) (HasImageLeaves x.geometry image)) where
     on_shelf : (m : ℕ) (y : Metaslab) → slice_get x.metaslabs m ≡ Some y → (z : Metaslab) × OnShelf m y z
     on_shelf m y at =
-        let k = each m y at in
-        (k.2.z, record { reopens = k.2.reopens; kit = subst (λ o. IsSomeAnd o (RestsOn x m (pieces m) k.2.z)) (sym k.1) k.2.rests;
-          same = k.2.counted;
-          once = λ image is. subst (λ o. IsSomeAnd o (λ kit. ListsOnce x.geometry m image (stable.area_of image.group kit.even kit.odd))) (sym k.1) (k.2.once image is);
-          leaves = λ image is. subst (λ (i : machine.Image). IsSomeAnd (now m) (HasImageLeaves x.geometry i)) (own_image x body.group m y k.2.z k.2.reopens image is) (leaves m y k.2.reopens.image at k.2.reopens.is k.2.reopens.of);
-        })
+        let k = each m y at in (
+          k.2.z,
+          record {
+            reopens = k.2.reopens;
+            kit = subst (λ o. IsSomeAnd o (RestsOn x m (pieces m) k.2.z)) (sym k.1) k.2.rests;
+            same = k.2.counted;
+            once = λ image is. subst (λ o. IsSomeAnd o (λ kit. ListsOnce x.geometry m image (stable.area_of image.group kit.even kit.odd))) (sym k.1) (k.2.once image is);
+            leaves = λ image is. subst (λ (i : machine.Image). IsSomeAnd (now m) (HasImageLeaves x.geometry i)) (own_image x body.group m y k.2.z k.2.reopens image is) (leaves m y k.2.reopens.image at k.2.reopens.is k.2.reopens.of);
+          },
+        )
 
     shelved : (zs : List Metaslab) × (length zs ≡ length x.metaslabs) × ((m : ℕ) (y z : Metaslab) → slice_get x.metaslabs m ≡ Some y → slice_get zs m ≡ Some z → OnShelf m y z)
     shelved = collect x.metaslabs OnShelf on_shelf

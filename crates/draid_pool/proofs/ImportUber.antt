@@ -1,19 +1,18 @@
 -- The uberblock of a pool that rests on a shelf, as an import finds it.
-use Rattle.std.proofs.Common.{arith, ◌≡◌, ◌==◌, ◌+◌, ◌≤◌, ◌<◌, ◌∙◌, inl, inr, ℕ, Bool, true, false, List, [], Option, Some, None, Result, Ok, Err, length, option_map, refl, sym, ap, subst, if◌then◌else◌}
-use Rattle.std.specs.Prelude.{IsSomeAnd, MatchOption, ⊤}
+use Rattle.std.proofs.Common.{arith, ◌≡◌, ◌==◌, ◌≤◌, ◌∙◌, inl, inr, Bool, true, false, [], Option, Some, None, Result, Ok, Err, length, option_map, refl, sym, ap, subst, if◌then◌else◌}
+use Rattle.std.specs.Prelude.{MatchOption, ⊤}
 use Rattle.std.proofs.lemmas.Bool.Decides.{nat_tests}
 use Rattle.std.proofs.lemmas.List.Elements.{All-contains, All-nil}
-use Rattle.draid_area.specs.Area.{Content, MayLeave, OnTold, flushes}
+use Rattle.draid_area.specs.Area.{Content, flushes}
 use Rattle.draid_area.specs.declared.Area as areas
 use Rattle.draid_area.proofs.Moments.{leaves_all}
 use Rattle.draid_record.specs.declared.fault.RecordFault.{RecordFault}
-use Rattle.draid_record.specs.declared.fault.RecordFault.TheVariants.{Bad}
 use Rattle.draid_record.specs.declared.uber.UberBody.{UberBody}
 use Rattle.draid_spec.specs.declared.layout.Geometry.{Geometry}
 use Rattle.draid_spec.specs.Geometry.{IsGeometry, geometry_of}
 use Rattle.draid_spec.specs.declared.spec.SpecFault.{SpecFault}
 use Rattle.draid_spec.proofs.Layouts.{given_layout}
-use Rattle.draid_uber.specs.Slots.{Chooses, IsLeft, Stands, StandsTold, chosen_of, read_body}
+use Rattle.draid_uber.specs.Slots.{Chooses, IsLeft, StandsTold, chosen_of, read_body}
 use Rattle.draid_uber.specs.Steps.{IsSameOrFlushed}
 use Rattle.draid_uber.specs.Uber.{Valid, area_of, kept_of, layout_of, next_leaf_of, version_of}
 use Rattle.draid_uber.specs.declared.uber.Uber.{Uber}
