@@ -49,3 +49,4 @@ pub mod ImportRefused
 pub mod ImportRecords
 pub mod ImportAlike
 pub mod ImportKept
+pub mod ImportEnd

@@ -35,7 +35,7 @@ use Rattle.draid_shard.specs.declared.shard.Shard.{Shard}
 use Rattle.draid_uber.specs.declared.uber.Uber.{Uber}
 use Rattle.draid_session.specs.Follows.{Follows}
 use Rattle.draid_session.specs.Holds.{Hold}
-use Rattle.draid_session.specs.Opening.{Frees, FreesOlder, LeafIn, MayFind, Reopens}
+use Rattle.draid_session.specs.Opening.{Finds, Frees, FreesOlder, IsLastSeq, LeafIn, MayFind, Reopens}
 use Rattle.draid_session.specs.State.{Metaslab, State}
 use Rattle.draid_pool.specs.Closing.{RestsOn, SameCounts}
 use Rattle.draid_pool.specs.Metaslabs.{IsMetaslab}
@@ -186,3 +186,22 @@ AreNewest {R} {A} shards newest = (m : ℕ) (shard : Shard R A) (first : ℕ) (e
 pub record IsLastIn {R A : Type 0} (shards : List (Shard R A)) (seq : ℕ) : Type 0 where
   pub one : (seq ≡ 0) ⊎ ((m : ℕ) × (shard : Shard R A) × (first : ℕ) × (e : Entry) × (slice_get shards m ≡ Some shard) × (entry_at shard.entries first ≡ Some e) × (seq ≡ e.pointer.seq))
   pub all : (m : ℕ) (shard : Shard R A) (first : ℕ) (e : Entry) → slice_get shards m ≡ Some shard → entry_at shard.entries first ≡ Some e → e.pointer.seq ≤ seq
+
+-- ---- the objects of what was found
+
+-- Of a found state: its blocks are live and store what befell the objects, which they say; and a table has the newest block of each object.
+pub record KnowsObjects (mid : State) (pieces : ℕ → Pieces) (newest : ℕ → Option Pointer) : Type 0 where
+  pub says : SaysObjects mid
+  pub holds : HoldsObjects mid.geometry mid.committed mid.store (blocks_of mid.metaslabs) pieces
+  pub live : (m : ℕ) (k : Key) (h : Block) → blocks_of mid.metaslabs m k ≡ Some h → h.stage ≡ Live
+  pub newest_is : IsNewestOf (blocks_of mid.metaslabs) newest
+
+-- A group of a state was found, with the objects of its metaslabs, and shards stand for what it gives, of which older blocks may be freed.
+pub record IsFoundOf {R A : Type 0} (rack : racks.Ghosts R) (area : areas.Ghosts A) (x : State) (uber : Uber A) (pieces : ℕ → Pieces) (newest : ℕ → Option Pointer) (seq : ℕ) (shards : List (Shard R A)) : Type 0 where
+  pub group : ℕ
+  pub mid : State
+  pub finds : Finds x group mid
+  pub last : IsLastSeq mid mid.store.seq
+  pub seq_is : mid.store.seq ≡ seq
+  pub knows : KnowsObjects mid pieces newest
+  pub freed : FreedOlder rack area mid shards uber pieces
