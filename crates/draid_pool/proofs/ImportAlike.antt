@@ -54,7 +54,8 @@ mapped_at f xs ys k p q same a b = some_of (slice_get (map f ys) k) (f p) (f q) 
     get_map f (x ∷ xs) zero p a = ap (λ (y : _). Some (f y)) (some_of (Some p) x p (sym a) refl)
     get_map f (x ∷ xs) (suc k) p a = get_map f xs k p a
 
-same_names : (a b : ArmKind) (m n : ℕ) → named a m ≡ named b n → (a ≡ b) × (m ≡ n)
+-- arms of one name are of one kind and number
+pub same_names : (a b : ArmKind) (m n : ℕ) → named a m ≡ named b n → (a ≡ b) × (m ≡ n)
 same_names kind.Leaf kind.Leaf m n is = (refl, cc)
 same_names kind.Leaf kind.Spare m n is = absurd (cc)
 same_names kind.Spare kind.Leaf m n is = absurd (cc)

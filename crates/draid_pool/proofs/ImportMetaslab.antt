@@ -11,6 +11,9 @@ use Rattle.draid_rack.specs.Rack.{Told}
 use Rattle.draid_rack.specs.declared.Rack as racks
 use Rattle.draid_spec.specs.declared.layout.Geometry.{Geometry}
 use Rattle.draid_machine.specs.declared.event.Event.TheVariants as event
+use Rattle.draid_names.specs.declared.arm.ArmKind.TheVariants as kind
+use Rattle.draid_slots.specs.Table.{SlotTable}
+use Rattle.draid_machine.specs.declared.names.ArmName.{ArmName}
 use Rattle.draid_machine.specs.declared.names.ArmName.TheVariants.{Leaf}
 use Rattle.draid_machine.specs.declared.names.Held.{Held}
 use Rattle.draid_machine.specs.declared.names.Key.{Key}
@@ -36,6 +39,9 @@ use Rattle.draid_shelf.specs.Kits.{KitTold, kit_of}
 use Rattle.draid_shelf.specs.declared.kit.Kit.{Kit}
 use Rattle.draid_stable.specs.Images.{LeavesBelow, image_by}
 use Rattle.draid_stable.specs.Kits.{IsStable}
+use Rattle.draid_stable.specs.Opening.{has_leaf_arm}
+use Rattle.draid_stable.specs.Slots.{HasSlots, named}
+use Rattle.draid_stable.proofs.There.{arm_named}
 use Rattle.draid_stable.specs.Stable as stable
 use Rattle.draid_stable.specs.Stable.{HasRecord}
 use Rattle.draid_entries.specs.History.{limit_in}
@@ -57,7 +63,7 @@ use Rattle.draid_pool.specs.Metaslabs.{IsMetaslab, counts_of, harm_of}
 use Rattle.draid_pool.specs.Pools.{part_in}
 use Rattle.draid_pool.specs.Records.{HasRecords, LeavesAreBelow, area_for}
 use Rattle.draid_pool.proofs.Closed.{KitIs, kit_is}
-use Rattle.draid_pool.proofs.Damages.{leaf_in}
+use Rattle.draid_pool.proofs.ImportAlike.{same_names}
 use Rattle.draid_pool.proofs.Lists.{ext}
 
 -- nothing is in doubt
@@ -158,6 +164,23 @@ harm_on None old new image has drops = absurd has
 harm_on (Some h) old None image has drops = absurd drops
 harm_on (Some h) old (Some y) image has drops = λ leaf sector named. drops.others.harm leaf sector (drops.kept leaf named) ∙ has leaf sector
 
+-- ---- leaves
+
+gone_none : (f : machine.Arm → machine.Arm) (o : Option machine.Arm) (a : machine.Arm) → ((b : machine.Arm) → (f b).gone ≡ b.gone) → ((b : machine.Arm) → o ≡ Some b → b.gone ≡ None) → map_arm f o ≡ Some a → a.gone ≡ None
+gone_none f None a same none is = absurd (cc)
+gone_none f (Some b) a same none is = (let it : f b ≡ a = cc in ap (λ (c : machine.Arm). c.gone) (sym it) ∙ (same b ∙ none b refl))
+
+-- where no arm is detached, a leaf of a state is an arm of a slot
+leaf_arm : (slots : SlotTable) (q : machine.Core) (leaf : ℕ) → HasSlots slots q → ((n : ArmName) (a : machine.Arm) → q.arm n ≡ Some a → a.gone ≡ None) → q.arm (Leaf leaf) ≢ None → has_leaf_arm slots leaf ≡ true
+leaf_arm slots q leaf has none there = elim (has.only (Leaf leaf) there) [
+  | inl z ↦ (let is = same_names z.arm.kind kind.Leaf z.arm.number leaf z.name_is in arm_named slots z.at z.arm leaf z.there is.0 is.1)
+  | inr z ↦
+      let gone = has.detached z.gone z.among in
+      let here = none (named z.gone.kind z.gone.number) gone.arm gone.there in
+      let both = sym here ∙ gone.by in
+      absurd (cc)
+]
+
 module _ (x : State) (m : ℕ) (pieces : Pieces) (y : Metaslab) (kit : KitTold) (group next : ℕ) (f : FindsImage x m pieces y kit group next) (alloc : Global) where
   abbrev l : machine.Layout
   l = layout_of x.geometry x.perms m
@@ -193,6 +216,10 @@ module _ (x : State) (m : ℕ) (pieces : Pieces) (y : Metaslab) (kit : KitTold) 
 
   firm : Firm l pieces f.image y.world.aside kit.rack
   firm = (f.rests.images f.image f.is).firm
+
+  -- none of its arms is detached
+  none_gone : (n : ArmName) (a : machine.Arm) → found_world.core.arm n ≡ Some a → a.gone ≡ None
+  none_gone n a is = gone_none _ (f.image.core.arm n) a (λ b. refl) (λ b there. ((every_image l y.world lay f.rests.reached).each f.image f.is).here n b there) is
 
   -- ---- on the shelf
 
@@ -324,7 +351,7 @@ module _ (x : State) (m : ℕ) (pieces : Pieces) (y : Metaslab) (kit : KitTold) 
       harm = harm_on y.harm kit.rack (rack.told shard.rack) f.image f.rests.harm drops;
       counts = counts_rise y.world found_world y.counts (counts_of rack area shard)
           (let a = rack_is None in let b = on.rack_count in omega (arith, a, b)) (let b = on.even in omega (arith, even_is, b)) (let b = on.odd in omega (arith, odd_is, b))
-          (λ leaf is. (let a = rack_is (Some leaf) in let b = on.leaf_counts leaf (leaf_in shard.slots found_world.core leaf stands.is_in.slots is) in omega (arith, a, b)));
+          (λ leaf is. (let a = rack_is (Some leaf) in let b = on.leaf_counts leaf (leaf_arm shard.slots found_world.core leaf stands.is_in.slots none_gone is) in omega (arith, a, b)));
     }
 
     pub opens_found : Valid rack shard → limit_in shard.history ≡ limit_of x.geometry → ListsOnce x.geometry m f.image (stable.area_of f.image.group kit.even kit.odd)

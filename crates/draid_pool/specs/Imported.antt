@@ -23,13 +23,13 @@ use Rattle.draid_record.specs.declared.uber.UberBody.{UberBody}
 use Rattle.draid_segments.specs.Segments.{Pieces}
 use Rattle.draid_shelf.specs.Kits.{Held, KitCounts, KitTold}
 use Rattle.draid_shelf.specs.declared.kit.Kit.{Kit}
+use Rattle.draid_stable.specs.Opening.{has_leaf_arm}
 use Rattle.draid_stable.specs.Stable as stable
 use Rattle.draid_entries.specs.Live.{first_twice}
 use Rattle.draid_entries.specs.declared.entry.Entry.{Entry}
 use Rattle.draid_entries.specs.Entries.{entry_at}
 use Rattle.draid_entries.specs.Maps.{held_at, key_of, staged}
 use Rattle.draid_shard.specs.Calls.{IsLive}
-use Rattle.draid_shard.specs.Fits.{IsLeaf}
 use Rattle.draid_shard.specs.Groups.{at_version}
 use Rattle.draid_shard.specs.declared.shard.Shard.{Shard}
 use Rattle.draid_uber.specs.declared.uber.Uber.{Uber}
@@ -94,7 +94,7 @@ pub record FindsBody (x : State) (body : UberBody) : Type 0 where
 -- as a metaslab is opened no count of calls on its devices falls, but for those of leaves that go
 pub record CountsOn {R A : Type 0} (rack : racks.Ghosts R) (area : areas.Ghosts A) (kit : Kit R A) (shard : Shard R A) : Type 0 where
   pub rack_count : rack.faults kit.rack None ≤ rack.faults shard.rack None
-  pub leaf_counts : (leaf : ℕ) → IsLeaf shard.slots leaf → rack.faults kit.rack (Some leaf) ≤ rack.faults shard.rack (Some leaf)
+  pub leaf_counts : (leaf : ℕ) → has_leaf_arm shard.slots leaf ≡ true → rack.faults kit.rack (Some leaf) ≤ rack.faults shard.rack (Some leaf)
   pub even : area.faults kit.even ≤ area.faults shard.even
   pub odd : area.faults kit.odd ≤ area.faults shard.odd
 
