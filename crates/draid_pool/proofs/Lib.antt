@@ -50,3 +50,4 @@ pub mod ImportRecords
 pub mod ImportAlike
 pub mod ImportKept
 pub mod ImportEnd
+pub mod ImportOnce
