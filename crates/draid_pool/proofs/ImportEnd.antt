@@ -18,7 +18,7 @@ use Rattle.draid_uber.specs.declared.uber.Uber.{Uber}
 use Rattle.draid_session.specs.Opening.{Finds, IsLastSeq}
 use Rattle.draid_session.specs.State.{Metaslab, State}
 use Rattle.draid_pool.specs.Closing.{Rests}
-use Rattle.draid_pool.specs.Imported.{AreNewest, FindsBody, FreedOlder, IsFindable, IsFoundOf, IsLastIn, IsNewestIn, KnowsObjects, OpensFound, StandsFound}
+use Rattle.draid_pool.specs.Imported.{AreNewest, FindsBody, IsFindable, IsFoundOf, IsLastIn, IsNewestIn, OpensFound, StandsFound}
 use Rattle.draid_pool.specs.Importing.{ImportsPool}
 use Rattle.draid_pool.specs.Metaslabs.{IsMetaslab}
 use Rattle.draid_pool.specs.Shards.{FreesIn, Goes}

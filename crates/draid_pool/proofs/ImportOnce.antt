@@ -6,7 +6,6 @@ use Rattle.std.proofs.lemmas.List.Elements.{All-head, All-tail}
 use Rattle.draid_names.specs.declared.pointer.Pointer.{Pointer}
 use Rattle.draid_machine.specs.declared.names.Held.{Held}
 use Rattle.draid_machine.specs.declared.names.Key.{Key}
-use Rattle.draid_machine.specs.Names.{key_eq}
 use Rattle.draid_machine.proofs.Small.{key_true}
 use Rattle.draid_entries.specs.Listed.{AscendFrom, has_key, held_of}
 use Rattle.draid_entries.specs.Live.{first_twice, twice_in}

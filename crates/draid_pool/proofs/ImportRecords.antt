@@ -105,8 +105,8 @@ whole limits there bytes value read lacks once = ap (fitting there bytes) read �
 module _ (x : State) (m : ℕ) (pieces : Pieces) (y : Metaslab) (kit : KitTold) (group next : ℕ) (f : FindsImage x m pieces y kit group next) (once : ListsOnce x.geometry m f.image (stable.area_of f.image.group kit.even kit.odd))
     {R A : Type 0} (rack : racks.Ghosts R) (area : areas.Ghosts A) (old : Kit R A) (told : kit_of (rack.told old.rack) (area.told old.even) (area.told old.odd) ≡ Some kit)
     (leaves : HasImageLeaves x.geometry f.image (rack.shape old.rack)) where
-  pub has : HasRecord (at_version f.image.version x.geometry) m f.image (stable.area_of f.image.group kit.even kit.odd)
-  has = (f.rests.images f.image f.is).recorded
+  abbrev pub has : HasRecord (at_version f.image.version x.geometry) m f.image (stable.area_of f.image.group kit.even kit.odd)
+  has = once.has
 
   -- the record is opened
   pub opens_whole : opening_of (limits_of x.geometry m group next) (has_leaf (rack.shape old.rack) (metaslab_sectors x.geometry)) (stable.area_of group kit.even kit.odd).bytes ≡ Ok has.value
@@ -115,7 +115,7 @@ module _ (x : State) (m : ℕ) (pieces : Pieces) (y : Metaslab) (kit : KitTold) 
       (subst (λ (g : Geometry). opening_of (limits_of g m f.image.group next) (has_leaf (rack.shape old.rack) (metaslab_sectors x.geometry)) (stable.area_of f.image.group kit.even kit.odd).bytes ≡ Ok has.value)
       (own_version f.image.version x.geometry f.version)
       (whole (limits_of (at_version f.image.version x.geometry) m f.image.group next) (has_leaf (rack.shape old.rack) (metaslab_sectors x.geometry)) (stable.area_of f.image.group kit.even kit.odd).bytes has.value read
-      (none_from (has_leaf (rack.shape old.rack) (metaslab_sectors x.geometry)) slots_at has.value.slots there) (once next has.value read)))
+      (none_from (has_leaf (rack.shape old.rack) (metaslab_sectors x.geometry)) slots_at has.value.slots there) once.once))
     where
       read : record_of (limits_of (at_version f.image.version x.geometry) m f.image.group next) (stable.area_of f.image.group kit.even kit.odd).bytes ≡ Ok has.value
       read = read_there (at_version f.image.version x.geometry) m next f.image (stable.area_of f.image.group kit.even kit.odd) has f.below

@@ -51,3 +51,4 @@ pub mod ImportAlike
 pub mod ImportKept
 pub mod ImportEnd
 pub mod ImportOnce
+pub mod ImportClosed

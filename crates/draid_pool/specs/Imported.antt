@@ -1,5 +1,5 @@
 -- What an import finds of a pool that rests on a shelf: the body of its uberblock, a group of each metaslab, and the newest block of each object.
-use Rattle.std.specs.Prelude.{◌≡◌, ◌+◌, ◌<◌, ◌≤◌, ◌⊎◌, ℕ, false, true, List, Option, Some, None, IsSome, IsSomeAnd, Ok, length, option_map, slice_get}
+use Rattle.std.specs.Prelude.{◌≡◌, ◌+◌, ◌<◌, ◌≤◌, ◌⊎◌, ℕ, false, true, List, Option, Some, None, IsSome, IsSomeAnd, length, option_map, slice_get}
 use Rattle.draid_rack.specs.declared.Rack as racks
 use Rattle.draid_rack.specs.Rack.{Shape}
 use Rattle.draid_area.specs.Area.{Content}
@@ -18,13 +18,13 @@ use Rattle.draid_machine.specs.Images.{IsImage}
 use Rattle.draid_machine.specs.State as machine
 use Rattle.draid_objects.specs.Blocks.{Blocks, SaysOf}
 use Rattle.draid_objects.specs.Changes.{upto, write_of}
-use Rattle.draid_record.specs.Record.{RecordTold, limits_of, record_of}
 use Rattle.draid_record.specs.declared.uber.UberBody.{UberBody}
 use Rattle.draid_segments.specs.Segments.{Pieces}
 use Rattle.draid_shelf.specs.Kits.{Held, KitCounts, KitTold}
 use Rattle.draid_shelf.specs.declared.kit.Kit.{Kit}
 use Rattle.draid_stable.specs.Opening.{has_leaf_arm}
 use Rattle.draid_stable.specs.Stable as stable
+use Rattle.draid_stable.specs.Stable.{HasRecord}
 use Rattle.draid_entries.specs.Live.{first_twice}
 use Rattle.draid_entries.specs.declared.entry.Entry.{Entry}
 use Rattle.draid_entries.specs.Entries.{entry_at}
@@ -49,9 +49,10 @@ pub record IsFindable (x : State) : Type 0 where
   pub committed : (m : ℕ) (y : Metaslab) → slice_get x.metaslabs m ≡ Some y → x.committed ≤ y.world.committed
   pub versions : (m : ℕ) (y : Metaslab) (image : machine.Image) → slice_get x.metaslabs m ≡ Some y → IsImage y.world image → image.version ≡ x.geometry.props.version
 
--- bytes that are read as the record of an image list each block once
-abbrev pub ListsOnce : Geometry → ℕ → machine.Image → Content → Type 0
-ListsOnce geometry m image x = (next : ℕ) (value : RecordTold) → record_of (limits_of (at_version image.version geometry) m image.group next) x.bytes ≡ Ok value → first_twice value.blocks ≡ None
+-- the record of an image stands there, and lists each block once
+pub record ListsOnce (geometry : Geometry) (m : ℕ) (image : machine.Image) (x : Content) : Type 0 where
+  pub has : HasRecord (at_version image.version geometry) m image x
+  pub once : first_twice has.value.blocks ≡ None
 
 -- an arm without what passes make good
 abbrev pub bare : machine.Arm → machine.Arm
