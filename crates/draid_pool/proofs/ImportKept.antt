@@ -41,7 +41,8 @@ leaves_there rack area part pieces shard y image is of leaf some = by (image.cor
     by None at none = absurd (cc)
     by (Some a) at here =
         let b = arms a at in
-        subst (λ (p : Part). (rack.shape shard.rack).leaves leaf ≡ Some (metaslab_sectors p.geometry)) is.part_is (is.valid.leaves.leaves leaf (leaf_in shard.slots y.world.core leaf is.stands.is_in.slots (λ none. (let both = sym none ∙ b.1 in absurd (cc)))))
+        subst (λ (p : Part). (rack.shape shard.rack).leaves leaf ≡ Some (metaslab_sectors p.geometry)) is.part_is
+        (is.valid.leaves.leaves leaf (leaf_in shard.slots y.world.core leaf is.stands.is_in.slots (λ none. (let both = sym none ∙ b.1 in absurd (cc)))))
 
 -- ---- arms and versions
 

@@ -166,7 +166,8 @@ harm_on (Some h) old (Some y) image has drops = λ leaf sector named. drops.othe
 
 -- ---- leaves
 
-gone_none : (f : machine.Arm → machine.Arm) (o : Option machine.Arm) (a : machine.Arm) → ((b : machine.Arm) → (f b).gone ≡ b.gone) → ((b : machine.Arm) → o ≡ Some b → b.gone ≡ None) → map_arm f o ≡ Some a → a.gone ≡ None
+gone_none : (f : machine.Arm → machine.Arm) (o : Option machine.Arm) (a : machine.Arm) → ((b : machine.Arm) → (f b).gone ≡ b.gone)
+    → ((b : machine.Arm) → o ≡ Some b → b.gone ≡ None) → map_arm f o ≡ Some a → a.gone ≡ None
 gone_none f None a same none is = absurd (cc)
 gone_none f (Some b) a same none is = (let it : f b ≡ a = cc in ap (λ (c : machine.Arm). c.gone) (sym it) ∙ (same b ∙ none b refl))
 

@@ -54,7 +54,8 @@ given_found rack area x group m pieces y shard kit counts o told rack_is even_is
 
 -- it wasn't, and its devices tell what they did; more calls on them may have failed
 pub left_found : (x : State) (group next m : ℕ) (pieces : Pieces) (y : Metaslab) (kit : KitTold) (counts : KitCounts) (alloc : Global) (f : FindsImage x m pieces y kit group next)
-    → ListsOnce x.geometry m f.image (stable.area_of f.image.group kit.even kit.odd) → ((who : Option ℕ) → y.counts.rack who ≤ counts.rack who) → y.counts.even ≤ counts.even → y.counts.odd ≤ counts.odd → RestsFound x group m pieces y kit counts
+    → ListsOnce x.geometry m f.image (stable.area_of f.image.group kit.even kit.odd) → ((who : Option ℕ) → y.counts.rack who ≤ counts.rack who) → y.counts.even ≤ counts.even
+    → y.counts.odd ≤ counts.odd → RestsFound x group m pieces y kit counts
 left_found x group next m pieces y kit counts alloc f once rack_later even_later odd_later =
     let now : Counts = record { rack = counts.rack; even = counts.even; odd = counts.odd } in
     record {
@@ -101,21 +102,33 @@ module _ (x : State) (pieces : ℕ → Pieces) (held : Held) (rests : Rests x pi
   }
 
 -- the uberblock wasn't found, or not taken
-pub still_leaves : (x : State) (pieces : ℕ → Pieces) (held : Held) (leaves now : ℕ → Option Shape) (counts : ℕ → KitCounts) (count n : ℕ) (u : Content) → RestsThere x pieces (Some held) leaves counts count → ((m : ℕ) → now m ≡ leaves m) → count ≤ n → UberStands x (Some u)
+pub still_leaves : (x : State) (pieces : ℕ → Pieces) (held : Held) (leaves now : ℕ → Option Shape) (counts : ℕ → KitCounts) (count n : ℕ) (u : Content)
+    → RestsThere x pieces (Some held) leaves counts count → ((m : ℕ) → now m ≡ leaves m) → count ≤ n → UberStands x (Some u)
     → LeavesPool x pieces (Some (puts_uber (Some u) held)) now counts n
 still_leaves x pieces held leaves now counts count n u rests same later stands = record {
   y = record x { uber_count = n };
-  rests = record { held = rests_again x pieces held rests.held x.pending n u (λ group found. found) stands; importable = importable_again x pieces held rests.held x.pending n u (λ group found. found) stands leaves now same rests.importable; counted = rests.counted; uber = refl };
+  rests = record {
+    held = rests_again x pieces held rests.held x.pending n u (λ group found. found) stands;
+    importable = importable_again x pieces held rests.held x.pending n u (λ group found. found) stands leaves now same rests.importable;
+    counted = rests.counted;
+    uber = refl;
+  };
   is = inl (record { later = (let is = rests.uber in omega (arith, is, later)); same = refl });
 }
 
 -- it has no open gate
-pub none_found : (x : State) (pieces : ℕ → Pieces) (held : Held) (leaves now : ℕ → Option Shape) (counts : ℕ → KitCounts) (count n : ℕ) (u : Content) → RestsThere x pieces (Some held) leaves counts count → ((m : ℕ) → now m ≡ leaves m) → count ≤ n → x.committed ≡ 0
+pub none_found : (x : State) (pieces : ℕ → Pieces) (held : Held) (leaves now : ℕ → Option Shape) (counts : ℕ → KitCounts) (count n : ℕ) (u : Content)
+    → RestsThere x pieces (Some held) leaves counts count → ((m : ℕ) → now m ≡ leaves m) → count ≤ n → x.committed ≡ 0
     → UberStands (record x { pending = false }) (Some u) → FindsNone x pieces (Some (puts_uber (Some u) held)) now counts n
 none_found x pieces held leaves now counts count n u rests same later none stands = record {
   y = record x { pending = false; uber_count = n };
   is = record { none = none; is = record { later = (let is = rests.uber in omega (arith, is, later)); same = refl } };
-  rests = record { held = rests_again x pieces held rests.held false n u may stands; importable = importable_again x pieces held rests.held false n u may stands leaves now same rests.importable; counted = rests.counted; uber = refl };
+  rests = record {
+    held = rests_again x pieces held rests.held false n u may stands;
+    importable = importable_again x pieces held rests.held false n u may stands leaves now same rests.importable;
+    counted = rests.counted;
+    uber = refl;
+  };
 }
   where
     may : (group : ℕ) → MayFind (record x { pending = false }) group → MayFind x group
@@ -132,7 +145,8 @@ own_image x group m y z r image is = by (subst (λ (w : machine.State). IsImage 
     by (inl own) = own
     by (inr sealed) = absurd (cc)
 
-module _ (x : State) (pieces : ℕ → Pieces) (held : Held) (rests : Rests x pieces held) (findable : IsFindable x) (body : UberBody) (body_is : FindsBody x body) (new : Held) (now : ℕ → Option Shape) (counts : ℕ → KitCounts) (n : ℕ)
+module _ (x : State) (pieces : ℕ → Pieces) (held : Held) (rests : Rests x pieces held) (findable : IsFindable x) (body : UberBody) (body_is : FindsBody x body)
+    (new : Held) (now : ℕ → Option Shape) (counts : ℕ → KitCounts) (n : ℕ)
     (alike : AreAlike x) (counted : x.uber_count ≤ n) where
   -- a metaslab on the shelf, as its image of the group has it
   pub record OnShelf (m : ℕ) (y z : Metaslab) : Type 0 where
