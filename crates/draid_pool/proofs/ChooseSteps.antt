@@ -1,5 +1,5 @@
 -- Every metaslab of a pool is looked at, and one is chosen.
-use Rattle.std.proofs.Common.{◌≡◌, ◌≤◌, ◌<◌, ◌+◌, ◌-◌, ◌/◌, ◌++◌, ◌∙◌, inl, inr, ℕ, zero, suc, List, [], ◌∷◌, Option, Some, None, Ok, Err, arith, refl, sym, ap, subst, length, length-append}
+use Rattle.std.proofs.Common.{◌≡◌, ◌≤◌, ◌<◌, ◌+◌, ◌-◌, ◌/◌, ◌++◌, ◌∙◌, inl, inr, ℕ, zero, suc, List, [], ◌∷◌, Option, Some, None, Ok, Err, arith, refl, sym, ap, subst, length}
 use Rattle.std.specs.Prelude.{slice_get, All, nat_eq, Result}
 use Rattle.std.specs.HashMap.{get}
 use Rattle.std.specs.List.{AllZip}
@@ -32,7 +32,7 @@ use Rattle.draid_shard.specs.declared.fault.Shut.TheVariants as shut
 use Rattle.draid_shard.specs.declared.shard.Shard.{Shard}
 use Rattle.draid_shard.proofs.OwedAll.{owed_is}
 use Rattle.draid_session.specs.Follows.{Follows}
-use Rattle.draid_session.specs.Holds.{Hold, Looked, On, View, view_of}
+use Rattle.draid_session.specs.Holds.{View, view_of}
 use Rattle.draid_session.specs.Looks.{CountIs, Looks, LooksFrom, OnlyLooks}
 use Rattle.draid_session.specs.Rooms as rooms_of
 use Rattle.draid_session.specs.Rooms.{IsDisabled, IsFull, IsRoomOf, IsShut, IsWornForBlock, LooksForRoom, longest, stripes_for}
@@ -46,50 +46,10 @@ use Rattle.draid_pool.specs.Pools.{Represents, Stands}
 use Rattle.draid_pool.specs.Shards.{AreShut, HasRoom, HasRoomAt, IsNoSpace, RoomIs, ShutIs}
 use Rattle.draid_pool.specs.Whole.{IsWhole}
 use Rattle.draid_pool.specs.declared.pool.Pool.{Pool}
-use Rattle.draid_pool.proofs.Lists.{set_back}
+use Rattle.draid_pool.proofs.Looking.{changes_none, looked, looks_at, seen_at}
 use Rattle.draid_pool.proofs.StoreSteps.{worn_for}
 use Rattle.draid_pool.proofs.Wholes.{whole_valid}
 use Rattle.draid_pool.proofs.WriteSteps.{follows_both}
-
--- ---- looks
-
--- a look at each metaslab from a number on, and what is seen
-pub looks_at : ℕ → List Metaslab → List Hold
-looks_at m [] = []
-looks_at m (y ∷ ys) = On (view_of m y) Looked ∷ looks_at (m + 1) ys
-
-pub seen_at : ℕ → List Metaslab → List View
-seen_at m [] = []
-seen_at m (y ∷ ys) = view_of m y ∷ seen_at (m + 1) ys
-
-looked : (m : ℕ) (ys : List Metaslab) → LooksFrom m (length ys) (looks_at m ys) (seen_at m ys)
-unfolding looks_at seen_at
-looked m [] = (refl, refl)
-looked m (y ∷ ys) = (On (view_of m y) Looked, looks_at (m + 1) ys, view_of m y, seen_at (m + 1) ys, refl, refl, record { looked = refl; there = refl }, looked (m + 1) ys)
-
-at_end : {A : Type 0} (xs : List A) (x : A) (ys : List A) → slice_get (xs ++ x ∷ ys) (length xs) ≡ Some x
-at_end [] x ys = refl
-at_end (z ∷ xs) x ys = at_end xs x ys
-
--- they change nothing
-changes_none : (x : State) (front ys : List Metaslab) (m : ℕ) → x.metaslabs ≡ front ++ ys → m ≡ length front → Follows (looks_at m ys) x x
-unfolding looks_at
-changes_none x front [] m all at = refl
-changes_none x front (y ∷ ys) m all at = (
-  x,
-  record {
-    before = y;
-    after = y;
-    there = there;
-    sees = refl;
-    acts = (record { opened = refl; events = refl; world = refl; harm = refl; counts = record { rack = omega arith; even = omega arith; odd = omega arith; leaves = λ leaf stays. omega arith } }, refl);
-    made = sym (ap (λ zs. record x { metaslabs = zs }) (set_back x.metaslabs m y there));
-  },
-  changes_none x (front ++ y ∷ []) ys (m + 1) (all ∙ sym (append_assoc front (y ∷ []) ys)) (let long = length-append front (y ∷ []) in omega (arith, at, long)),
-)
-  where
-    there : slice_get x.metaslabs m ≡ Some y
-    there = ap (λ zs. slice_get zs m) all ∙ (ap (slice_get (front ++ y ∷ ys)) at ∙ at_end front y ys)
 
 -- ---- rooms
 

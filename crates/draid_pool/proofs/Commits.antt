@@ -1,5 +1,5 @@
 -- A group that the uberblock names is committed in one metaslab of a pool after another.
-use Rattle.std.proofs.Common.{◌≡◌, ◌==◌, ◌<◌, ◌≤◌, ◌+◌, ◌++◌, ◌⊎◌, ◌∙◌, [], ◌∷◌, inl, inr, ℕ, zero, suc, Bool, true, false, List, Option, Some, None, arith, refl, sym, ap, subst, slice_set, length, if◌then◌else◌}
+use Rattle.std.proofs.Common.{◌≡◌, ◌<◌, ◌≤◌, ◌+◌, ◌++◌, ◌⊎◌, ◌∙◌, [], ◌∷◌, inl, inr, ℕ, zero, suc, Bool, true, false, List, Option, Some, None, arith, refl, sym, ap, subst, slice_set, length, if◌then◌else◌}
 use Rattle.std.specs.Prelude.{slice_get}
 use Rattle.std.proofs.lemmas.Bool.{cases_eq}
 use Rattle.std.proofs.lemmas.List.{length-set}
@@ -7,24 +7,20 @@ use Rattle.std.proofs.lemmas.Option.{slice_get_within}
 use Rattle.draid_names.specs.declared.pointer.Pointer.{Pointer}
 use Rattle.draid_rack.specs.declared.Rack as racks
 use Rattle.draid_area.specs.declared.Area as areas
-use Rattle.draid_machine.specs.declared.names.Held.{Held}
 use Rattle.draid_machine.specs.declared.names.Key.{Key}
 use Rattle.draid_machine.specs.After.{is_freed_block}
-use Rattle.draid_machine.specs.State as machine
 use Rattle.draid_machine.proofs.Small.{absurd_test, none_some}
-use Rattle.draid_shard.specs.Part.{Part}
 use Rattle.draid_shard.specs.declared.shard.Shard.{Shard}
 use Rattle.draid_session.specs.Follows.{Follows}
 use Rattle.draid_session.specs.Groups as groups
 use Rattle.draid_session.specs.Holds.{Hold, On, view_of}
 use Rattle.draid_session.specs.Phases.{Each}
 use Rattle.draid_session.specs.State.{Metaslab, State}
-use Rattle.draid_pool.specs.Metaslabs.{IsMetaslab}
 use Rattle.draid_pool.specs.Pools.{part_in}
-use Rattle.draid_pool.specs.Records.{HasImage, LeavesAreBelow}
+use Rattle.draid_pool.specs.Records.{LeavesAreBelow}
 use Rattle.draid_pool.specs.Syncing.{Commits, CommitsBelow, Turns}
 use Rattle.draid_pool.proofs.Lists.{get_set_other, get_set_same, present, some_of}
-use Rattle.draid_pool.proofs.Moved.{each_set, with_metaslab}
+use Rattle.draid_pool.proofs.Moved.{with_metaslab}
 use Rattle.draid_pool.proofs.Steps.{follows_on}
 use Rattle.draid_pool.proofs.Stood.{Moves, Stood, stood_moved}
 use Rattle.draid_pool.proofs.Turns.{CommitsState, commit_turns}
@@ -43,10 +39,7 @@ same_list (x ∷ xs) (y ∷ ys) same =
 -- ---- the shards
 
 module _ {R A : Type 0} (rack : racks.Ghosts R) where
-  -- none yet
-  pub below_none : (group : ℕ) (shards : List (Shard R A)) → CommitsBelow rack group 0 shards shards
-  below_none group shards = record { many = refl; below = λ k shard less. absurd (omega (arith, less)); others = λ k from. refl }
-
+  -- the next one commits
   pub below_more : (group m : ℕ) (old now : List (Shard R A)) (shard after : Shard R A) → CommitsBelow rack group m old now → slice_get now m ≡ Some shard → Commits rack group shard after
       → CommitsBelow rack group (m + 1) old (slice_set now m after)
   below_more group m old now shard after b there commits = record {
@@ -204,7 +197,7 @@ module _ {R A : Type 0} (rack : racks.Ghosts R) (area : areas.Ghosts A) (old new
     below_or : (k n : ℕ) → (k < n) ⊎ (n ≤ k)
     below_or k zero = inr (omega arith)
     below_or zero (suc n) = inl (omega arith)
-    below_or (suc k) (suc n) = elim (below_or k n) [ | inl less ↦ inl (omega (arith, less)) | inr from ↦ inr (omega (arith, from)) ]
+    below_or (suc k) (suc n) = elim (below_or k n) [ inl less ↦ inl (omega (arith, less)) | inr from ↦ inr (omega (arith, from)) ]
 
     c : CameTo (length old)
     c = came_to (length old) (omega arith) s
@@ -216,4 +209,4 @@ module _ {R A : Type 0} (rack : racks.Ghosts R) (area : areas.Ghosts A) (old new
     same = same_list c.now new by
       where
         by : (k : ℕ) → slice_get c.now k ≡ slice_get new k
-        by k = elim (below_or k (length old)) [ | inl less ↦ c.below k less | inr from ↦ c.others k from ∙ sym (commits.others k from) ]
+        by k = elim (below_or k (length old)) [ inl less ↦ c.below k less | inr from ↦ c.others k from ∙ sym (commits.others k from) ]

@@ -19,7 +19,7 @@ use Rattle.draid_shard.specs.declared.shard.Shard.{Shard}
 use Rattle.draid_shard.proofs.Standing.{event_stands, none_stands}
 use Rattle.draid_session.specs.Follows.{Acts, CountsRise, HarmBoth, HarmBy, failed_in, uses}
 use Rattle.draid_session.specs.Holds.{Did}
-use Rattle.draid_session.specs.State.{Counts, Metaslab}
+use Rattle.draid_session.specs.State.{Metaslab}
 use Rattle.draid_pool.specs.Metaslabs.{IsMetaslab, counts_of, harm_of}
 use Rattle.draid_pool.specs.Records.{HasRecords}
 use Rattle.draid_pool.proofs.Imaged.{LeavesImages, records_kept, step_keeps}

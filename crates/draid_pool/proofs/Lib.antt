@@ -5,6 +5,7 @@ pub mod DamageSteps
 pub mod Damages
 pub mod Dids
 pub mod Entering
+pub mod Failing
 pub mod Feeding
 pub mod FetchSteps
 pub mod Fetched
@@ -52,3 +53,4 @@ pub mod ImportKept
 pub mod ImportEnd
 pub mod ImportOnce
 pub mod ImportClosed
+pub mod Causes

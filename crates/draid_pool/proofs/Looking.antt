@@ -1,6 +1,7 @@
 -- Looks at all metaslabs of a pool, which leave them as they are.
-use Rattle.std.proofs.Common.{◌≡◌, ◌<◌, ◌+◌, ◌++◌, ◌∙◌, [], ◌∷◌, ℕ, zero, suc, List, Option, Some, Contains, arith, refl, sym, ap, subst, append_assoc, get_or, length, length-append}
+use Rattle.std.proofs.Common.{◌≡◌, ◌<◌, ◌+◌, ◌++◌, ◌∙◌, [], ◌∷◌, ℕ, zero, suc, List, Some, Contains, arith, refl, sym, ap, subst, get_or, length, length-append}
 use Rattle.std.specs.Prelude.{slice_get}
+use Rattle.std.proofs.lemmas.List.{append_assoc}
 use Rattle.draid_machine.proofs.Small.{none_some}
 use Rattle.draid_session.specs.Follows.{Follows}
 use Rattle.draid_session.specs.Holds.{Hold, Looked, On, View, view_of}
@@ -68,16 +69,17 @@ none_seen P m (y ∷ ys) none = (
 pub seen_there : (m k : ℕ) (ys : List Metaslab) (y : Metaslab) → slice_get ys k ≡ Some y → Contains (seen_at m ys) (view_of (m + k) y)
 unfolding seen_at
 seen_there m k [] y at = absurd (none_some (slice_get [] k) y refl at)
-seen_there m zero (z ∷ ys) y at = (let same : z ≡ y = cc in (0, (omega arith), ap (view_of m) same ∙ ap (λ k. view_of k y) (sym (none_before m))))
+seen_there m zero (z ∷ ys) y at =
+    (let same : z ≡ y = cc in subst (λ j. Contains (view_of m z ∷ seen_at (m + 1) ys) (view_of j y)) (sym (none_before m)) (0, (omega arith), ap (view_of m) same))
 seen_there m (suc k) (z ∷ ys) y at =
     let rest = seen_there (m + 1) k ys y at in
-    (suc rest.0, (let less = rest.1 in omega (arith, less)), rest.2 ∙ ap (λ j. view_of j y) (sym (one_later m k)))
+    subst (λ j. Contains (view_of m z ∷ seen_at (m + 1) ys) (view_of j y)) (sym (one_later m k)) (suc rest.0, (let less = rest.1 in omega (arith, less)), rest.2)
 
 -- one that is so
+not_none_at : (P : View → Type 0) (views : List View) (v : View) (k : ℕ) → k < length views → get_or views k v ≡ v → P v → NoneOf P views → ⊥
+not_none_at P [] v k less at is none = omega (arith, less)
+not_none_at P (z ∷ views) v zero less at is none = none.0 (subst P (sym at) is)
+not_none_at P (z ∷ views) v (suc k) less at is none = not_none_at P views v k (omega (arith, less)) at is none.1
+
 pub not_none : (P : View → Type 0) (views : List View) (v : View) → Contains views v → P v → NoneOf P views → ⊥
-not_none P [] v c is none = (let less = c.1 in omega (arith, less))
-not_none P (z ∷ views) v c is none = by c.0 c.1 c.2
-  where
-    by : (k : ℕ) → k < length (z ∷ views) → get_or (z ∷ views) k v ≡ v → ⊥
-    by zero less at = none.0 (subst P (sym at) is)
-    by (suc k) less at = not_none P views v (k, (omega (arith, less)), at) is none.1
+not_none P views v c is none = not_none_at P views v c.0 c.1 c.2 is none

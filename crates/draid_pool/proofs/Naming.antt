@@ -1,5 +1,5 @@
 -- The uberblock of a pool names a group, or is refused it.
-use Rattle.std.proofs.Common.{◌≡◌, ◌==◌, ◌<◌, ◌≤◌, ◌+◌, ◌∙◌, [], ◌∷◌, inl, inr, ℕ, zero, suc, Bool, true, false, List, Option, Some, None, IsSome, arith, refl, sym, ap, subst, length, if◌then◌else◌}
+use Rattle.std.proofs.Common.{◌≡◌, ◌==◌, ◌<◌, ◌+◌, ◌∙◌, [], ◌∷◌, inl, inr, ℕ, true, false, List, Option, Some, None, arith, refl, sym, ap, subst, if◌then◌else◌}
 use Rattle.std.specs.Prelude.{is_some, slice_get}
 use Rattle.std.proofs.lemmas.Option.{slice_get_within}
 use Rattle.std.proofs.lemmas.List.Elements.{All-cons, All-nil, All-weaker}
@@ -7,25 +7,23 @@ use Rattle.sha2.specs.Sha256.{sha256}
 use Rattle.draid_names.specs.declared.pointer.Pointer.{Pointer}
 use Rattle.draid_rack.specs.declared.Rack as racks
 use Rattle.draid_area.specs.declared.Area as areas
-use Rattle.draid_spec.specs.declared.layout.Geometry.{Geometry}
 use Rattle.draid_record.specs.declared.uber.UberBody.{UberBody}
 use Rattle.draid_machine.specs.State as machine
-use Rattle.draid_machine.proofs.Small.{absurd_test, some_injective}
+use Rattle.draid_machine.proofs.Small.{absurd_test, bool_cases, is_equal, some_injective}
 use Rattle.draid_objects.proofs.Keeping.{commit_kept}
-use Rattle.draid_shard.specs.Part.{Part, layout_in}
 use Rattle.draid_shard.specs.declared.shard.Shard.{Shard}
-use Rattle.draid_uber.specs.Slots.{StandsTold, group_of}
+use Rattle.draid_uber.specs.Slots.{StandsTold}
 use Rattle.draid_uber.specs.Uber as ubers
 use Rattle.draid_uber.specs.Uber.{Valid, area_of, kept_of, layout_of, next_leaf_of, next_of, version_of, with_version}
 use Rattle.draid_uber.specs.declared.uber.Uber.{Uber}
 use Rattle.draid_session.specs.State.{Metaslab, State}
 use Rattle.draid_pool.specs.Objects.{blocks_of}
 use Rattle.draid_pool.specs.Pools.{part_in}
-use Rattle.draid_pool.specs.Records.{HasImage, LeavesAreBelow}
+use Rattle.draid_pool.specs.Records.{HasImage}
 use Rattle.draid_pool.specs.Syncing.{AreSealed}
 use Rattle.draid_pool.specs.Ubers.{IsPending, IsUber, body_of, kept_in}
 use Rattle.draid_pool.proofs.Lists.{present}
-use Rattle.draid_pool.proofs.Stood.{HasCommitted, Stood}
+use Rattle.draid_pool.proofs.Stood.{Stood}
 use Rattle.draid_pool.proofs.Turns.{state_sound}
 
 -- ---- the uberblock
@@ -56,8 +54,7 @@ abbrev pub refused_state : State → ℕ → State
 refused_state x count = record x { pending = true; uber_count = count }
 
 none_is : (group : ℕ) → 0 < group → (group == 0) ≡ false
-none_is zero some = absurd (omega (arith, some))
-none_is (suc n) some = refl
+none_is group some = elim (bool_cases (group == 0)) [ inl none ↦ absurd (let same = is_equal group 0 none in omega (arith, same, some)) | inr other ↦ other ]
 
 module _ {A : Type 0} (area : areas.Ghosts A) (old new : Uber A) (group : ℕ) (x : State) (is : IsUber area old x) where
   -- what the commit writes

@@ -1,9 +1,8 @@
 -- What no sync has made safe, found in one pass over a metaslab's events.
-use Rattle.std.proofs.Common.{◌≡◌, ◌<◌, ◌≤◌, ◌+◌, ◌||◌, ◌&&◌, ◌∙◌, not, ℕ, suc, Bool, true, false, List, [], ◌∷◌, arith, refl, sym, ap, length, drop, slice_index_or, if◌then◌else◌}
+use Rattle.std.proofs.Common.{◌≡◌, ◌<◌, ◌+◌, ◌||◌, ◌&&◌, ◌∙◌, not, ℕ, suc, Bool, true, false, List, ◌∷◌, arith, refl, sym, ap, length, drop, slice_index_or, if◌then◌else◌}
 use Rattle.std.proofs.Math.Seq.{drop-cons}
-use Rattle.std.proofs.lemmas.List.{at_drop_all}
 use Rattle.draid_machine.specs.declared.event.Event.{Event}
-use Rattle.draid_session.specs.Groups.{behind_close, ends_group, has_commit, has_event, has_other, is_close_of, is_commit, is_unsynced}
+use Rattle.draid_session.specs.Groups.{behind_close, ends_group, has_commit, has_other, is_close_of, is_commit}
 
 -- what the events that are left say, before and behind the closing
 abbrev pub left_others : Bool → ℕ → List Event → Bool
@@ -41,24 +40,3 @@ found_more committed events k closed others commits ends closes commit e below h
     next =
         let step : suc k ≡ k + 1 = omega arith in
         drop-cons events k e below ∙ (ap (λ (x : Event). x ∷ drop (suc k) events) (sym here) ∙ ap (λ (n : ℕ). e ∷ drop n events) step)
-
-or_none : (a : Bool) → (a || false) ≡ a
-or_none true = refl
-or_none false = refl
-
-left_none : (closed : Bool) (committed : ℕ) → left_others closed committed [] ≡ false
-left_none true committed = refl
-left_none false committed = refl
-
-module _ (committed : ℕ) (events : List Event) (k : ℕ) (closed others commits : Bool) (end : length events ≤ k) (f : Found committed events k closed others commits) where
-  has_it : has_commit events ≡ commits
-  has_it = f.commits_is ∙ (ap (λ es. commits || has_commit es) (at_drop_all (λ (es : List Event). es) events k end) ∙ or_none commits)
-
-  pub found_others : commits ≡ true → others ≡ is_unsynced committed events
-  found_others some =
-      let all : has_other committed (behind_close committed events) ≡ others
-      = f.others_is ∙ (ap (λ es. others || left_others closed committed es) (at_drop_all (λ (es : List Event). es) events k end) ∙ (ap (λ b. others || b) (left_none closed committed) ∙ or_none others)) in
-      sym all ∙ sym (ap (λ b. if b then has_other committed (behind_close committed events) else has_event events) (has_it ∙ some))
-
-  pub found_events : commits ≡ false → has_event events ≡ is_unsynced committed events
-  found_events none = sym (ap (λ b. if b then has_other committed (behind_close committed events) else has_event events) (has_it ∙ none))

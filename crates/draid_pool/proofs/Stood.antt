@@ -1,5 +1,5 @@
 -- The shards of a pool stand for the metaslabs of a state, whatever is said of the metaslabs' groups; and so they do as one of them moves.
-use Rattle.std.proofs.Common.{◌≡◌, ◌==◌, ◌<◌, ◌≤◌, ◌+◌, ◌⊎◌, ◌∙◌, inl, inr, ℕ, Bool, true, false, List, Option, Some, None, arith, refl, sym, ap, subst, slice_set, length}
+use Rattle.std.proofs.Common.{◌≡◌, ◌<◌, ◌≤◌, ◌+◌, ◌⊎◌, ◌∙◌, inl, inr, ℕ, true, List, Option, Some, None, arith, refl, sym, ap, subst, slice_set, length}
 use Rattle.std.specs.Prelude.{nat_eq, option_map, slice_get}
 use Rattle.std.specs.HashMap.{get}
 use Rattle.std.proofs.lemmas.Bool.{cases_eq}
@@ -14,8 +14,7 @@ use Rattle.draid_machine.specs.declared.names.Held.{Held}
 use Rattle.draid_machine.specs.declared.names.Key.{Key}
 use Rattle.draid_machine.specs.declared.names.Stage.TheVariants.{Live}
 use Rattle.draid_machine.specs.After.{is_freed_block}
-use Rattle.draid_machine.specs.State as machine
-use Rattle.draid_machine.proofs.Small.{absurd_test, is_equal, none_some}
+use Rattle.draid_machine.proofs.Small.{absurd_test, none_some}
 use Rattle.draid_segments.specs.Segments.{Pieces}
 use Rattle.draid_objects.specs.Blocks.{Drops, table_of}
 use Rattle.draid_objects.specs.Changes.{Write, write_of}
@@ -27,8 +26,8 @@ use Rattle.draid_shard.specs.declared.shard.Shard.{Shard}
 use Rattle.draid_session.specs.Opening.{MayFind}
 use Rattle.draid_session.specs.State.{Metaslab, State}
 use Rattle.draid_pool.specs.Metaslabs.{IsMetaslab}
-use Rattle.draid_pool.specs.Objects.{HoldsObjects, IsLastAt, IsPointerOf, PointsTo, blocks_of, worlds_of}
-use Rattle.draid_pool.specs.Pools.{Represents, Stands, part_in}
+use Rattle.draid_pool.specs.Objects.{HoldsObjects, IsLastAt, IsPointerOf, PointsTo, blocks_of}
+use Rattle.draid_pool.specs.Pools.{Represents, part_in}
 use Rattle.draid_pool.specs.Records.{HasImage, HasImages, HasLeafNumbers, LeavesAreBelow}
 use Rattle.draid_pool.specs.Ubers.{IsUber}
 use Rattle.draid_pool.specs.declared.pool.Pool.{Pool}
@@ -66,7 +65,7 @@ module _ {R A : Type 0} (rack : racks.Ghosts R) (area : areas.Ghosts A) where
   abbrev pub HasCommitted : State → ℕ → Metaslab → Type 0
   HasCommitted x m y = y.world.committed ≡ x.committed
 
-  pub stood_of : (pool : Pool R A) (x : State) → Represents rack area pool x → Stood pool.shards.items (pointers_of pool) x (HasCommitted x)
+  unfoldable pub stood_of : (pool : Pool R A) (x : State) → Represents rack area pool x → Stood pool.shards.items (pointers_of pool) x (HasCommitted x)
   stood_of pool x r = (let s = r.stands in record {
     layout = s.layout;
     many = s.many;
@@ -80,9 +79,6 @@ module _ {R A : Type 0} (rack : racks.Ghosts R) (area : areas.Ghosts A) where
     leaves = s.leaves;
     groups_are = s.groups.committed;
   })
-
-  pub rest_of : (pool : Pool R A) (x : State) → Represents rack area pool x → Rest pool x
-  rest_of pool x r = (let s = r.stands in record { geometry = s.geometry; next = s.groups.next; last = s.groups.last; seq = s.seq; floor = s.floor; uber = s.uber })
 
   pub represents_of : (pool : Pool R A) (x : State) → Stood pool.shards.items (pointers_of pool) x (HasCommitted x) → Rest pool x → Represents rack area pool x
   represents_of pool x s rest = record {

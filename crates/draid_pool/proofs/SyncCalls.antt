@@ -1,6 +1,6 @@
 -- The calls of a sync: a group is committed, a closing one is finished, and all is made safe for an export.
-use Rattle.std.proofs.Common.{◌≡◌, ◌≢◌, ◌==◌, ◌<◌, ◌≤◌, ◌+◌, ◌++◌, ◌⊎◌, ◌∙◌, [], ◌∷◌, inl, inr, ℕ, zero, suc, Bool, true, false, List, Option, Some, None, Ok, Err, Contains, arith, refl, sym, ap, subst, length, if◌then◌else◌}
-use Rattle.std.specs.Prelude.{Result, nat_eq, slice_get}
+use Rattle.std.proofs.Common.{◌≡◌, ◌==◌, ◌≤◌, ◌+◌, ◌++◌, ◌∙◌, [], ◌∷◌, inl, inr, ℕ, true, false, List, Option, Some, None, Ok, Err, Contains, arith, refl, sym, ap, subst, length, if◌then◌else◌}
+use Rattle.std.specs.Prelude.{nat_eq, slice_get}
 use Rattle.std.specs.HashMap.{get}
 use Rattle.std.proofs.lemmas.List.{append-nil}
 use Rattle.std.proofs.lemmas.Option.{slice_get_within}
@@ -10,23 +10,21 @@ use Rattle.draid_rack.specs.declared.Rack as racks
 use Rattle.draid_area.specs.declared.Area as areas
 use Rattle.draid_spec.specs.declared.layout.Geometry.{Geometry}
 use Rattle.draid_perm.specs.declared.perms.Perms.{Perms}
-use Rattle.draid_machine.proofs.Small.{absurd_test, none_some}
+use Rattle.draid_machine.proofs.Small.{absurd_test, bool_cases, is_equal, none_some}
 use Rattle.draid_shard.specs.declared.shard.Shard.{Shard}
 use Rattle.draid_uber.specs.Slots.{group_of}
 use Rattle.draid_uber.specs.Uber.{area_of, kept_of}
-use Rattle.draid_session.specs.Follows as follows
-use Rattle.draid_session.specs.Follows.{Follows}
 use Rattle.draid_session.specs.Groups as groups
 use Rattle.draid_session.specs.Holds.{CommitFailed, CommitStarved, Committed, Hold, LookedUber, OnUber, UberView, view_of}
 use Rattle.draid_session.specs.Looks.{LooksFrom}
 use Rattle.draid_session.specs.Phases.{Broke, Chain, End, NoneOf, Starved, WasLast, WasWorn, Went}
-use Rattle.draid_session.specs.State.{Metaslab, State, Store}
+use Rattle.draid_session.specs.State.{State, Store}
 use Rattle.draid_shard.specs.States.{stored_in}
 use Rattle.draid_pool.specs.Answers.{ExportDoes, SyncDoes}
 use Rattle.draid_pool.specs.Carries.{CarriesOut}
 use Rattle.draid_pool.specs.Pools.{Represents}
 use Rattle.draid_pool.specs.Syncing.{AreSealed, CommitsBelow, FoundClosing, FoundUnsynced, GroupDoes, Phase, SealDoes, end_of}
-use Rattle.draid_pool.specs.Ubers.{body_of, kept_in}
+use Rattle.draid_pool.specs.Ubers.{body_of}
 use Rattle.draid_pool.specs.declared.fault.SyncFault.{SyncFault}
 use Rattle.draid_pool.specs.declared.fault.SyncFault.TheVariants as sync
 use Rattle.draid_pool.specs.declared.fault.Synced.{Synced}
@@ -37,8 +35,8 @@ use Rattle.draid_pool.proofs.Lists.{present}
 use Rattle.draid_pool.proofs.Looking.{changes_none, looked, looks_at, none_seen, not_none, seen_at, seen_there}
 use Rattle.draid_pool.proofs.Moved.{uber_stays}
 use Rattle.draid_pool.proofs.Naming.{Names, Refuses, named_state, refused_state, stood_named, stood_refused, uber_named, uber_refused}
-use Rattle.draid_pool.proofs.Steps.{SameLayout, carried, carries_so, follows_on, own_of, same_layout, settled}
-use Rattle.draid_pool.proofs.Stood.{Rest, Stood, represents_of, rest_of, stood_of}
+use Rattle.draid_pool.proofs.Steps.{carried, carries_so, follows_on, own_of, same_layout, settled}
+use Rattle.draid_pool.proofs.Stood.{Rest, Stood, represents_of, stood_of}
 use Rattle.draid_pool.proofs.SyncSteps.{not_went}
 
 -- ---- ends
@@ -51,8 +49,10 @@ end_same sync.NoMemory = refl
 
 -- the committed group of a state
 group_from : (n next_leaf : ℕ) (geometry : Geometry) → group_of (if n == 0 then None else Some (body_of geometry n next_leaf)) ≡ n
-group_from zero next_leaf geometry = refl
-group_from (suc n) next_leaf geometry = refl
+group_from n next_leaf geometry = elim (bool_cases (n == 0)) [
+  | inl none ↦ ap (λ b. group_of (if b then None else Some (body_of geometry n next_leaf))) none ∙ sym (is_equal n 0 none)
+  | inr other ↦ ap (λ b. group_of (if b then None else Some (body_of geometry n next_leaf))) other
+]
 
 -- what a phase says of the layout and its permutations
 abbrev Says : Type 1
@@ -93,12 +93,6 @@ module _ {R A : Type 0} (rack : racks.Ghosts R) (area : areas.Ghosts A) where
     stood : Stood rack area pool.shards.items pointers x (λ m y. y.world.committed ≡ x.committed)
     stood = stood_of rack area pool x r
 
-    named_all : Names area pool.uber new.uber group → CommitsBelow rack group (length pool.shards.items) pool.shards.items new.shards.items
-        → CommitsAll rack area pool.shards.items new.shards.items pointers (named_state x group count) group
-    named_all n commits =
-        commits_all rack area pool.shards.items new.shards.items pointers (named_state x group count) group commits refl refl refl
-        (stood_named rack area pool.shards.items pointers x (λ m y. y.world.committed ≡ x.committed) stood group sealed count (CommittedBelow group 0) behind (λ m y at less. absurd (omega (arith, less))))
-
     pub named_sealed : Names area pool.uber new.uber group → area.faults (area_of pool.uber) ≤ area.faults (area_of new.uber)
         → CommitsBelow rack group (length pool.shards.items) pool.shards.items new.shards.items
         → CarriesOut rack area new x (Phase x (Chain (groups.Names x.geometry x.perms group) (groups.CommitPhase x.geometry x.perms group)) Went)
@@ -109,18 +103,17 @@ module _ {R A : Type 0} (rack : racks.Ghosts R) (area : areas.Ghosts A) where
         (represents_of rack area new reached own rest)
         (refl, inl (OnUber view (Committed group) ∷ [], c.holds, refl, (refl, behind), (c.each, refl)))
       where
-        c : CommitsAll rack area pool.shards.items new.shards.items pointers (named_state x group count) group
-        c = named_all n commits
+        c : CommitsAll rack area pool.shards.items new.shards.items pointers (named_state x group count) group commits refl refl refl
+        c = commits_all rack area pool.shards.items new.shards.items pointers (named_state x group count) group commits refl refl refl
+            (stood_named rack area pool.shards.items pointers x (λ m y. y.world.committed ≡ x.committed) stood group sealed count (CommittedBelow group 0) behind (λ m y at less. absurd (omega (arith, less))))
 
         reached : State
         reached = record (named_state x group count) { metaslabs = c.metaslabs }
 
         own : Stood rack area new.shards.items (λ object. get nat_eq new.objects object) reached (λ m y. y.world.committed ≡ group)
-        unfolding reached
         own = subst (λ os. Stood rack area new.shards.items (λ object. get nat_eq os object) (record (named_state x group count) { metaslabs = c.metaslabs }) (λ m y. y.world.committed ≡ group)) (sym objects) c.stood
 
         rest : Rest rack area new reached
-        unfolding reached count
         rest = record {
           geometry = r.stands.geometry ∙ sym geometry;
           next = (let fits = r.stands.groups.next in omega (arith, fits, behind));
@@ -141,7 +134,6 @@ module _ {R A : Type 0} (rack : racks.Ghosts R) (area : areas.Ghosts A) where
             (stood_refused rack area pool.shards.items pointers x (λ m y. y.world.committed ≡ x.committed) stood group sealed count behind))
 
         rest : Rest rack area new (refused_state x count)
-        unfolding count
         rest = record {
           geometry = r.stands.geometry ∙ sym geometry;
           next = r.stands.groups.next;
@@ -198,10 +190,13 @@ module _ {R A : Type 0} (rack : racks.Ghosts R) (area : areas.Ghosts A) where
       let Q : Says = (λ (g : Geometry) (p : Perms) (holds : List Hold) (e : End). (thin : ℕ) × groups.SealPhase g p group thin holds e) in
       carries_so rack area new x (Phase x (Chain (groups.ClosePhase x.geometry x.perms group) (Q x.geometry x.perms)) end) (GroupDoes x group (Err why))
       (then_phase mid new x (λ g p. groups.ClosePhase g p group) Q end close seal)
-      (λ holds store done. (done.0, (elim done.1 [
-        | inl z ↦ (z.4.0, inl (z.0, z.1, z.2, z.3, inr (not_went ℕ why, z.4.1)))
-        | inr z ↦ (0, inr z)
-      ])))
+      (λ holds store done. (
+        done.0,
+        (elim done.1 [
+          | inl z ↦ (z.4.0, inl (z.0, z.1, z.2, z.3, inr (not_went ℕ why, z.4.1)))
+          | inr z ↦ (0, inr z)
+        ]),
+      ))
 
   pub group_unnamed : (mid late new : Pool R A) (x : State) (group thin : ℕ) (why : SyncFault) → CarriesOut rack area mid x (Phase x (groups.ClosePhase x.geometry x.perms group) Went)
       → ((y : State) → Represents rack area mid y → CarriesOut rack area late y (SealDoes y group (Ok thin)))
@@ -241,15 +236,17 @@ module _ {R A : Type 0} (rack : racks.Ghosts R) (area : areas.Ghosts A) where
       let z : HasMetaslab rack area pool x r.stands m shard = metaslab_of rack area pool x r.stands m shard there in
       carried rack area new x (looks_of x ++ d.holds) d.reached (Phase x (groups.Finishes x.geometry x.perms) end)
       (follows_on (looks_of x) d.holds x x d.reached (changes_none x [] x.metaslabs 0 refl refl) d.follows)
-      (settled rack area new x (Phase x (groups.Group x.geometry x.perms group thin) end) d d.done.0)
-      (refl, record {
-        looks = looks_of x;
-        rest = d.holds;
-        views = seen_at 0 x.metaslabs;
-        are = refl;
-        looked = looked_all pool x r;
-        does = inr (group, view_of (0 + m) z.y, thin, seen_of pool x m shard r there, z.is.stands.is_in.closing ∙ closing, d.done.1);
-      })
+      (settled rack area new x (Phase x (groups.Group x.geometry x.perms group thin) end) d d.done.0) (
+        refl,
+        record {
+          looks = looks_of x;
+          rest = d.holds;
+          views = seen_at 0 x.metaslabs;
+          are = refl;
+          looked = looked_all pool x r;
+          does = inr (group, view_of (0 + m) z.y, thin, seen_of pool x m shard r there, z.is.stands.is_in.closing ∙ closing, d.done.1);
+        },
+      )
 
   pub finishes_some : (pool new : Pool R A) (x : State) (group thin : ℕ) → Represents rack area pool x → FoundClosing pool.shards.items (Some group)
       → CarriesOut rack area new x (GroupDoes x group (Ok thin)) → CarriesOut rack area new x (Phase x (groups.Finishes x.geometry x.perms) Went)
@@ -316,32 +313,36 @@ module _ {R A : Type 0} (rack : racks.Ghosts R) (area : areas.Ghosts A) where
       let own : groups.IsUnsynced (view_of (0 + m) z.y) = ap (λ c. groups.is_unsynced c z.y.events) z.is.stands.is_in.committed ∙ (ap (groups.is_unsynced shard.committed) z.is.events ∙ unsynced) in
       carried rack area new x (looks_of x ++ OnUber u LookedUber ∷ d.holds) d.reached (Phase x (groups.Exports x.geometry x.perms group) end)
       (follows_on (looks_of x) (OnUber u LookedUber ∷ d.holds) x x d.reached (changes_none x [] x.metaslabs 0 refl refl) (x, record { sees = refl; acts = refl }, d.follows))
-      (settled rack area new x (Phase x (groups.Syncs x.geometry x.perms group thin) end) d d.done.0)
-      (refl, record {
-        looks = looks_of x;
-        rest = d.holds;
-        views = seen_at 0 x.metaslabs;
-        u = u;
-        are = refl;
-        looked = looked_all pool x r;
-        does = inr ((λ none. not_none groups.IsUnsynced (seen_at 0 x.metaslabs) (view_of (0 + m) z.y) (seen_of pool x m shard r there) own none), (thin, d.done.1));
-      })
+      (settled rack area new x (Phase x (groups.Syncs x.geometry x.perms group thin) end) d d.done.0) (
+        refl,
+        record {
+          looks = looks_of x;
+          rest = d.holds;
+          views = seen_at 0 x.metaslabs;
+          u = u;
+          are = refl;
+          looked = looked_all pool x r;
+          does = inr ((λ none. not_none groups.IsUnsynced (seen_at 0 x.metaslabs) (view_of (0 + m) z.y) (seen_of pool x m shard r there) own none), (thin, d.done.1));
+        },
+      )
 
   pub export_none : (pool : Pool R A) (x : State) (group : ℕ) → Represents rack area pool x → FoundUnsynced pool.shards.items false → group ≡ group_of (kept_of pool.uber)
       → CarriesOut rack area pool x (ExportDoes x (Ok group))
   export_none pool x group r none is =
       let u : UberView = record { committed = x.committed; next_leaf = x.next_leaf } in
       carried rack area pool x (looks_of x ++ OnUber u LookedUber ∷ []) x (ExportDoes x (Ok group))
-      (follows_on (looks_of x) (OnUber u LookedUber ∷ []) x x x (changes_none x [] x.metaslabs 0 refl refl) (x, record { sees = refl; acts = refl }, refl)) r
-      (refl, record {
-        looks = looks_of x;
-        rest = [];
-        views = seen_at 0 x.metaslabs;
-        u = u;
-        are = refl;
-        looked = looked_all pool x r;
-        does = inl (synced, refl, refl, is ∙ pool_group pool x r);
-      })
+      (follows_on (looks_of x) (OnUber u LookedUber ∷ []) x x x (changes_none x [] x.metaslabs 0 refl refl) (x, record { sees = refl; acts = refl }, refl)) r (
+        refl,
+        record {
+          looks = looks_of x;
+          rest = [];
+          views = seen_at 0 x.metaslabs;
+          u = u;
+          are = refl;
+          looked = looked_all pool x r;
+          does = inl (synced, refl, refl, is ∙ pool_group pool x r);
+        },
+      )
     where
       synced : NoneOf groups.IsUnsynced (seen_at 0 x.metaslabs)
       synced = none_seen groups.IsUnsynced 0 x.metaslabs (λ k y at is.

@@ -1,15 +1,14 @@
 -- The closing and the sealing of a group in all metaslabs of a pool, one after another.
-use Rattle.std.proofs.Common.{◌≡◌, ◌≢◌, ◌<◌, ◌≤◌, ◌+◌, ◌++◌, ◌∙◌, [], ◌∷◌, inl, inr, ℕ, zero, suc, true, false, List, Option, Some, None, Ok, Err, arith, refl, sym, ap, subst, slice_set, length}
-use Rattle.std.specs.Prelude.{Result, nat_eq, slice_get}
+use Rattle.std.proofs.Common.{◌≡◌, ◌≢◌, ◌<◌, ◌≤◌, ◌+◌, ◌++◌, ◌∙◌, [], ◌∷◌, inl, inr, ℕ, suc, true, false, List, Some, None, Ok, Err, arith, refl, sym, ap, subst, slice_index_or, slice_set, length}
+use Rattle.std.specs.Prelude.{nat_eq, slice_get}
 use Rattle.std.specs.HashMap.{get}
 use Rattle.std.proofs.lemmas.Bool.{cases_eq}
-use Rattle.std.proofs.lemmas.Option.{slice_get_within}
+use Rattle.std.proofs.lemmas.Option.{slice_get-get_or, slice_get_within}
 use Rattle.draid_rack.specs.declared.Rack as racks
 use Rattle.draid_area.specs.declared.Area as areas
 use Rattle.draid_spec.specs.declared.layout.Geometry.{Geometry}
-use Rattle.draid_perm.specs.declared.perms.Perms.{Perms}
 use Rattle.draid_segments.specs.Segments.{Pieces}
-use Rattle.draid_objects.specs.Changes.{write_of}
+use Rattle.draid_shard.specs.Fits.{Valid}
 use Rattle.draid_shard.specs.Part.{Part}
 use Rattle.draid_shard.specs.States.{stored_in}
 use Rattle.draid_shard.specs.declared.shard.Shard.{Shard}
@@ -18,20 +17,21 @@ use Rattle.draid_session.specs.Follows.{Follows}
 use Rattle.draid_session.specs.Groups as groups
 use Rattle.draid_session.specs.Holds.{Hold, On, view_of}
 use Rattle.draid_session.specs.Phases.{End, Walk, Went}
-use Rattle.draid_session.specs.State.{Metaslab, State, Store}
+use Rattle.draid_session.specs.State.{Metaslab, State}
 use Rattle.draid_pool.specs.Carries.{CarriesOut}
 use Rattle.draid_pool.specs.Metaslabs.{IsMetaslab}
 use Rattle.draid_pool.specs.Pools.{Represents, part_in}
-use Rattle.draid_pool.specs.Records.{HasImage}
-use Rattle.draid_pool.specs.Syncing.{CloseIs, KeepsCommitted, Phase, SealDoes, SealIs, Turns, end_of}
+use Rattle.draid_pool.specs.Syncing.{CloseIs, KeepsCommitted, KeepsTable, Phase, SealDoes, SealIs, Turns, end_of}
+use Rattle.draid_pool.specs.Whole.{IsWhole}
 use Rattle.draid_pool.specs.declared.fault.SyncFault.{SyncFault}
 use Rattle.draid_pool.specs.declared.fault.SyncFault.TheVariants as sync
 use Rattle.draid_pool.specs.declared.pool.Pool.{Pool}
 use Rattle.draid_pool.proofs.Lifted.{HasMetaslab, SetsShard, metaslab_of}
 use Rattle.draid_pool.proofs.Lists.{get_set_other, get_set_same, some_of}
 use Rattle.draid_pool.proofs.Moved.{each_set, uber_stays, with_metaslab}
-use Rattle.draid_pool.proofs.Steps.{SameLayout, carried, follows_on, own_of, same_layout}
-use Rattle.draid_pool.proofs.Stood.{HasCommitted, Moves, Rest, Stood, represents_of, rest_of, stood_moved, stood_of}
+use Rattle.draid_pool.proofs.Steps.{carried, follows_on, own_of, same_layout}
+use Rattle.draid_pool.proofs.Stood.{HasCommitted, Moves, Rest, Stood, represents_of, stood_moved, stood_of}
+use Rattle.draid_pool.proofs.Wholes.{whole_same}
 use Rattle.draid_pool.proofs.Walks.{Walked, walk_stops, walk_went, walked_more}
 
 -- ---- shards
@@ -51,6 +51,10 @@ IdleBelow {R} {A} shards m = Below (λ (shard : Shard R A). shard.closing ≡ No
 
 abbrev pub SyncedBelow : {R A : Type 0} → List (Shard R A) → ℕ → Type 0
 SyncedBelow {R} {A} shards m = Below (λ (shard : Shard R A). groups.is_unsynced shard.committed (stored_in shard) ≡ false) shards m
+
+-- what was borrowed stands there
+pub borrowed_at : {S : Type 0} (shards : List S) (m : ℕ) (shard : S) → m < length shards → shard ≡ slice_index_or shards m shard → slice_get shards m ≡ Some shard
+borrowed_at shards m shard below is = slice_get-get_or shards m shard below ∙ ap Some (sym is)
 
 -- another one comes to its place, and is so too
 pub below_set : {S : Type 0} (P : S → Type 0) (shards : List S) (m : ℕ) (shard shard' : S) → slice_get shards m ≡ Some shard → P shard' → Below P shards m → Below P (slice_set shards m shard') (m + 1)
@@ -79,7 +83,22 @@ not_went T sync.Last is = absurd (cc)
 not_went T sync.Shelf is = absurd (cc)
 not_went T sync.NoMemory is = absurd (cc)
 
+-- all are so, and another one too
+pub all_set : {S : Type 0} (P : S → Type 0) (shards : List S) (m : ℕ) (shard shard' : S) → slice_get shards m ≡ Some shard → P shard' → ((k : ℕ) (z : S) → slice_get shards k ≡ Some z → P z)
+    → (k : ℕ) (z : S) → slice_get (slice_set shards m shard') k ≡ Some z → P z
+all_set P shards m shard shard' there is all k z at = elim (cases_eq k m) [
+  | inl same ↦ subst P (some_of (slice_get (slice_set shards m shard') m) shard' z (get_set_same shards m shard shard' there) (subst (λ j. slice_get (slice_set shards m shard') j ≡ Some z) same at)) is
+  | inr other ↦ all k z (sym (get_set_other shards m k shard' (λ same. omega (arith, same, other))) ∙ at)
+]
+
 module _ {R A : Type 0} (rack : racks.Ghosts R) (area : areas.Ghosts A) where
+  -- one shard of a whole pool is another one that kept its blocks
+  pub whole_on : (m : ℕ) (pool new : Pool R A) (shard shard' : Shard R A) → IsWhole rack area pool → SetsShard rack area m pool new shard shard' → Valid rack shard' → KeepsTable shard shard' → IsWhole rack area new
+  whole_on m pool new shard shard' w set valid table =
+      whole_same rack area m pool new shard shard' w
+      (record { there = set.there; sets = set.sets; geometry = set.geometry; uber = set.uber; valid = valid; part = table.part; committed = table.committed }) table.entries set.seq set.floor
+      (λ q. ap (λ os. get nat_eq os q) set.objects)
+
   -- ---- one metaslab
 
   -- one hold more led to a state for which the pool stands
@@ -93,6 +112,7 @@ module _ {R A : Type 0} (rack : racks.Ghosts R) (area : areas.Ghosts A) where
   pub turned : (m : ℕ) (pool new : Pool R A) (shard shard' : Shard R A) (x : State) (does : Part → Hold → Type 0) → Represents rack area pool x → SetsShard rack area m pool new shard shard'
       → ((part : Part) (pieces : Pieces) (y : Metaslab) → IsMetaslab rack area part pieces shard y → Turns rack area part pieces y shard' (λ hold z. does part hold × KeepsCommitted y.world z.world))
       → OneMore new x (does (part_in x m))
+  unfolding stood_of
   turned m pool new shard shard' x does r set turns = record {
     hold = On (view_of m z.y) t.act;
     reached = after;
@@ -242,6 +262,14 @@ module _ {R A : Type 0} (rack : racks.Ghosts R) (area : areas.Ghosts A) where
       (turned m mid new shard shard' c.reached (λ part. SealIs part group (Err why)) c.represents set turns)
       (λ hold done. own_of x c.reached (λ g p store. groups.SealStops g p group m hold end) (same_layout c.holds x c.reached c.follows) done) in
       carried rack area new x (c.holds ++ o.hold ∷ []) o.reached (SealDoes x group (Err why))
-      (follows_on c.holds (o.hold ∷ []) x c.reached o.reached c.follows (o.reached, o.holds, refl)) o.represents
-      (refl, (0, (sum, walk_stops P S 0 m x.geometry.props.metaslabs c.holds sum o.hold end (few P m sum mid x c below) c.walked (not_went ℕ why) (subst (λ k. S k o.hold end) (none_before m) o.done),
-      λ went. absurd (not_went ℕ why went))))
+      (follows_on c.holds (o.hold ∷ []) x c.reached o.reached c.follows (o.reached, o.holds, refl)) o.represents (
+        refl,
+        (
+          0,
+          (
+            sum,
+            walk_stops P S 0 m x.geometry.props.metaslabs c.holds sum o.hold end (few P m sum mid x c below) c.walked (not_went ℕ why) (subst (λ k. S k o.hold end) (none_before m) o.done),
+            λ went. absurd (not_went ℕ why went),
+          ),
+        ),
+      )

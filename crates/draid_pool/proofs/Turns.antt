@@ -1,7 +1,6 @@
 -- One metaslab as a group is closed, sealed and committed there.
-use Rattle.std.proofs.Common.{◌≡◌, ◌≢◌, ◌==◌, ◌%◌, ◌<◌, ◌≤◌, ◌+◌, ◌∙◌, [], ◌∷◌, inl, inr, ℕ, zero, suc, Bool, true, false, List, Option, Some, None, Ok, Err, IsSome, Contains, Vec, Global, arith, refl, sym, ap, subst, length, if◌then◌else◌}
+use Rattle.std.proofs.Common.{◌≡◌, ◌==◌, ◌%◌, ◌<◌, ◌+◌, ◌∙◌, [], ◌∷◌, inl, inr, ℕ, suc, Bool, true, false, List, Option, Some, None, Ok, Err, IsSome, Contains, Vec, Global, arith, refl, sym, ap, subst, length, if◌then◌else◌}
 use Rattle.std.specs.Prelude.{is_some}
-use Rattle.std.proofs.lemmas.Bool.Decides.{nat_tests}
 use Rattle.draid_names.specs.Faults.{Rose}
 use Rattle.draid_rack.specs.Rack.{OnTold, Told}
 use Rattle.draid_rack.specs.Moments.{Leaves, LeavesTold}
@@ -13,7 +12,7 @@ use Rattle.draid_machine.specs.declared.event.Event.TheVariants as event
 use Rattle.draid_machine.specs.declared.names.ArmName.TheVariants.{Leaf}
 use Rattle.draid_machine.specs.declared.names.Held.{Held}
 use Rattle.draid_machine.specs.declared.names.Key.{Key}
-use Rattle.draid_machine.specs.After.{each_arm, image_of, map_arm, seal_arm, seal_state}
+use Rattle.draid_machine.specs.After.{image_of, map_arm, seal_arm, seal_state}
 use Rattle.draid_machine.specs.Created.{IsReached}
 use Rattle.draid_machine.specs.Images.{IsImage}
 use Rattle.draid_machine.specs.Names.{is_block}
@@ -23,7 +22,6 @@ use Rattle.draid_machine.specs.Step.{Step}
 use Rattle.draid_machine.proofs.Rows.{reached_sound}
 use Rattle.draid_machine.proofs.Small.{absurd_test, none_some, some_injective}
 use Rattle.draid_objects.specs.Blocks.{without_freed}
-use Rattle.draid_segments.specs.Acts as segments
 use Rattle.draid_segments.specs.Acts.{nowhere}
 use Rattle.draid_segments.specs.Segments.{Backed, Pieces}
 use Rattle.draid_segments.proofs.Beginning.{flushed_backed}
@@ -31,11 +29,10 @@ use Rattle.draid_entries.specs.Entries.{held_in}
 use Rattle.draid_entries.specs.History as history
 use Rattle.draid_entries.specs.History.{limit_in, reserved_of}
 use Rattle.draid_stable.specs.Stable.{HasRecord}
-use Rattle.draid_shard.specs.Calls.{SameAreas, SameKit, SameReserve}
-use Rattle.draid_shard.specs.Fits.{IsLeaf, Valid}
-use Rattle.draid_shard.specs.Groups.{AreasLater, CloseRefused, KeepsOtherArea, OpenUpto, SealIsRefused, Seals, Unsealed, area_in, at_version}
+use Rattle.draid_shard.specs.Calls.{SameKit, SameReserve}
+use Rattle.draid_shard.specs.Fits.{Valid}
+use Rattle.draid_shard.specs.Groups.{AreasLater, CloseRefused, KeepsOtherArea, OpenUpto, Seals, Unsealed, area_in, at_version}
 use Rattle.draid_shard.specs.Part.{Part, layout_in}
-use Rattle.draid_shard.specs.Stands.{StandsFor}
 use Rattle.draid_shard.specs.States.{Does, DoesNone, IsIn, layout_by, part_of}
 use Rattle.draid_shard.specs.declared.fault.CloseFault.{CloseFault}
 use Rattle.draid_shard.specs.declared.fault.CloseFault.TheVariants as close
@@ -43,13 +40,13 @@ use Rattle.draid_shard.specs.declared.fault.SealFault.{SealFault}
 use Rattle.draid_shard.specs.declared.fault.SealFault.TheVariants as seal
 use Rattle.draid_shard.specs.declared.shard.Shard.{Shard}
 use Rattle.draid_shard.proofs.Standing.{has_layout}
-use Rattle.draid_session.specs.Follows.{Acts, CountsRise, Rests, area_count}
+use Rattle.draid_session.specs.Follows.{CountsRise, Rests, area_count}
 use Rattle.draid_session.specs.Groups as groups
 use Rattle.draid_session.specs.Holds.{AreaFailed, Did, Hold, Looked, On, view_of}
-use Rattle.draid_session.specs.State.{Counts, Metaslab}
+use Rattle.draid_session.specs.State.{Metaslab}
 use Rattle.draid_pool.specs.Metaslabs.{IsMetaslab, counts_of, harm_of}
-use Rattle.draid_pool.specs.Records.{HasRecords, LeavesAreBelow, area_for}
-use Rattle.draid_pool.specs.Syncing.{CloseIs, Commits, KeepsCommitted, SealIs, Turns, end_of}
+use Rattle.draid_pool.specs.Records.{HasRecords, area_for}
+use Rattle.draid_pool.specs.Syncing.{CloseIs, Commits, KeepsCommitted, SealIs, Turns}
 use Rattle.draid_pool.specs.declared.fault.SyncFault.{SyncFault}
 use Rattle.draid_pool.specs.declared.fault.SyncFault.TheVariants as sync
 use Rattle.draid_pool.proofs.Damages.{leaf_in}
@@ -96,7 +93,7 @@ seal_keeps : (l : machine.Layout) (w v : machine.State) (group : ℕ) (failed : 
 seal_keeps l w v group failed step = subst (KeepsCommitted w) (sym step.made) (record {
   held = refl;
   committed = refl;
-  images = λ image is. elim is [ | inl here ↦ inl here | inr here ↦ absurd (none_some w.sealed image step.unsealed here) ];
+  images = λ image is. elim is [ inl here ↦ inl here | inr here ↦ absurd (none_some w.sealed image step.unsealed here) ];
   leaves = λ kept_leaf next_leaf below. record {
     kept = below.kept;
     sealed = λ image is leaf some.
@@ -104,6 +101,16 @@ seal_keeps l w v group failed step = subst (KeepsCommitted w) (sym step.made) (r
     now = λ leaf some. below.now leaf (from_mapped _ (w.core.arm (Leaf leaf)) some);
   };
 })
+
+-- what a commit does to a state
+pub record CommitsState (group : ℕ) (w v : machine.State) : Type 0 where
+  pub held : v.core.held ≡ without_freed group w.core.held
+  pub committed : v.committed ≡ group
+  pub sealed : w.sealed ≡ Some v.image
+  pub closing : w.closing ≡ Some group
+  pub of : v.image.group ≡ group
+  pub none : v.sealed ≡ None
+  pub leaves : (leaf : ℕ) → IsSome (v.core.arm (Leaf leaf)) → IsSome (w.core.arm (Leaf leaf))
 
 -- ---- areas
 
@@ -148,11 +155,6 @@ module _ {R A : Type 0} (rack : racks.Ghosts R) (area : areas.Ghosts A) where
   look part pieces new x does is done = record { act = Looked; reached = x; acts = (rests x x.reserved, refl); done = done; is = is }
 
   -- ---- closing
-
-  pub still_closing : (part : Part) (pieces : Pieces) (shard : Shard R A) (group : ℕ) (x : Metaslab) → IsMetaslab rack area part pieces shard x → shard.closing ≡ Some group
-      → Turns rack area part pieces x shard (λ hold y. CloseIs part group (Ok tt) hold × KeepsCommitted x.world y.world)
-  still_closing part pieces shard group x is closing =
-      look part pieces shard x (λ hold y. CloseIs part group (Ok tt) hold × KeepsCommitted x.world y.world) is ((refl, is.stands.is_in.closing ∙ closing, refl), kept_here x.world)
 
   pub closed : (part : Part) (pieces : Pieces) (old new : Shard R A) (group : ℕ) (x : Metaslab) → IsMetaslab rack area part pieces old x → Valid rack new → Does old new (event.Close group) → SameKit old new
       → SameReserve old new → (history.Passes old.history 3 0 → ⊥) → Turns rack area part pieces x new (λ hold y. CloseIs part group (Ok tt) hold × KeepsCommitted x.world y.world)
@@ -221,12 +223,6 @@ module _ {R A : Type 0} (rack : racks.Ghosts R) (area : areas.Ghosts A) where
   sealed part pieces old new group thin x is valid s other reserve later =
       subst (λ p. IsMetaslab rack area p pieces old x → Turns rack area p pieces x new (λ hold y. SealIs p group (Ok thin) hold × KeepsCommitted x.world y.world)) is.part_is
       (λ here. sealed_here pieces old new group thin x here valid s other reserve later) is
-
-  pub still_sealed : (part : Part) (pieces : Pieces) (shard : Shard R A) (group : ℕ) (x : Metaslab) → IsMetaslab rack area part pieces shard x → shard.closing ≡ Some group → shard.sealed ≡ true
-      → Turns rack area part pieces x shard (λ hold y. SealIs part group (Ok 0) hold × KeepsCommitted x.world y.world)
-  still_sealed part pieces shard group x is closing done =
-      look part pieces shard x (λ hold y. SealIs part group (Ok 0) hold × KeepsCommitted x.world y.world) is
-      ((refl, is.stands.is_in.closing ∙ closing, (λ none. absurd_test (is_some x.world.sealed) (is.stands.is_in.sealed ∙ done) (ap is_some none)), refl), kept_here x.world)
 
   -- ---- a seal that is refused
 
@@ -301,8 +297,12 @@ module _ {R A : Type 0} (rack : racks.Ghosts R) (area : areas.Ghosts A) where
     failed_area u = record {
       act = AreaFailed group;
       reached = reached;
-      acts = (rests_on seal.Area u, refl, subst (λ c. Rose (area_count group c) (area_count group (counts_of rack area new))) (sym is.counts)
-          (subst (λ n. Rose n (area_count group (counts_of rack area new))) (sym (area_counts group old)) (subst (λ n. Rose (area.faults (area_in old group)) n) (sym (area_counts group new)) u.why.1)));
+      acts = (
+        rests_on seal.Area u,
+        refl,
+        subst (λ c. Rose (area_count group c) (area_count group (counts_of rack area new))) (sym is.counts)
+            (subst (λ n. Rose n (area_count group (counts_of rack area new))) (sym (area_counts group old)) (subst (λ n. Rose (area.faults (area_in old group)) n) (sym (area_counts group new)) u.why.1)),
+      );
       done = ((refl, refl, is.stands.is_in.closing ∙ closing, unsealed), kept_here x.world);
       is = flushed seal.Area u;
     }
@@ -342,16 +342,6 @@ module _ {R A : Type 0} (rack : racks.Ghosts R) (area : areas.Ghosts A) where
           absurd_test (is_block z.0.stage) (settled key z.0 (sym (is_in.held key) ∙ z.1)) z.2
 
   -- ---- committing
-
-  -- what a commit does to a state
-  pub record CommitsState (group : ℕ) (w v : machine.State) : Type 0 where
-    pub held : v.core.held ≡ without_freed group w.core.held
-    pub committed : v.committed ≡ group
-    pub sealed : w.sealed ≡ Some v.image
-    pub closing : w.closing ≡ Some group
-    pub of : v.image.group ≡ group
-    pub none : v.sealed ≡ None
-    pub leaves : (leaf : ℕ) → IsSome (v.core.arm (Leaf leaf)) → IsSome (w.core.arm (Leaf leaf))
 
   from_kept : (b : Bool) (o : Option machine.Arm) → IsSome (if b then None else o) → IsSome o
   from_kept true o some = absurd_test false some refl

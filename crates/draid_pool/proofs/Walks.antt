@@ -1,7 +1,7 @@
 -- How the holds of a phase grow at their end, as a loop over the metaslabs makes them.
-use Rattle.std.proofs.Common.{◌≡◌, ◌≢◌, ◌<◌, ◌+◌, ◌++◌, ◌∙◌, [], ◌∷◌, inl, inr, ℕ, zero, suc, List, arith, refl, sym, ap, subst}
+use Rattle.std.proofs.Common.{◌≡◌, ◌≢◌, ◌<◌, ◌+◌, ◌++◌, [], ◌∷◌, inl, inr, ℕ, zero, suc, List, arith, refl, ap, subst}
 use Rattle.draid_session.specs.Holds.{Hold}
-use Rattle.draid_session.specs.Phases.{Each, End, Starved, Walk, Went}
+use Rattle.draid_session.specs.Phases.{Each, End, Walk, Went}
 
 -- one hold for each of so many metaslabs from one on, and the sum of the numbers that they give
 abbrev pub Walked : (ℕ → Hold → ℕ → Type 0) → ℕ → ℕ → List Hold → ℕ → Type 0

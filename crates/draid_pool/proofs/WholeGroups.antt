@@ -1,6 +1,6 @@
 -- A whole pool stays whole as its uberblock names a group, or is refused it.
-use Rattle.std.proofs.Common.{◌≡◌, ◌<◌, ◌≤◌, ◌+◌, ◌∙◌, ℕ, zero, Bool, true, false, Option, Some, None, arith, refl, sym, ap, subst, length, if◌then◌else◌}
-use Rattle.std.specs.Prelude.{All, nat_eq, slice_get}
+use Rattle.std.proofs.Common.{◌≡◌, ◌≤◌, ◌+◌, ◌∙◌, ℕ, Bool, Option, Some, None, arith, sym, ap, subst, length, if◌then◌else◌}
+use Rattle.std.specs.Prelude.{nat_eq, slice_get}
 use Rattle.std.specs.HashMap.{get}
 use Rattle.std.proofs.lemmas.Option.{slice_get_within}
 use Rattle.draid_names.specs.declared.numbers.TheConstants.{LAST_NUMBER}
@@ -8,15 +8,12 @@ use Rattle.draid_names.specs.declared.pointer.Pointer.{Pointer}
 use Rattle.draid_rack.specs.declared.Rack as racks
 use Rattle.draid_area.specs.declared.Area as areas
 use Rattle.draid_spec.specs.declared.layout.Geometry.{Geometry}
-use Rattle.draid_perm.specs.declared.perms.Perms.{Perms}
 use Rattle.draid_map.specs.Place.{IsLayout}
 use Rattle.draid_machine.specs.declared.names.Held.{Held}
 use Rattle.draid_machine.specs.declared.names.Key.{Key}
-use Rattle.draid_machine.specs.declared.names.Stage.TheVariants.{Live}
 use Rattle.draid_machine.specs.After.{is_freed_block}
 use Rattle.draid_machine.proofs.Small.{kept_some}
-use Rattle.draid_entries.specs.Entries.{entry_at, held_in}
-use Rattle.draid_entries.specs.Maps.{staged}
+use Rattle.draid_entries.specs.Entries.{held_in}
 use Rattle.draid_shard.specs.Calls.{IsLive}
 use Rattle.draid_shard.specs.Committing.{DropsFreed, is_freed_entry}
 use Rattle.draid_shard.specs.Fits.{AreGroups}
@@ -89,7 +86,7 @@ module _ {R A : Type 0} (rack : racks.Ghosts R) (area : areas.Ghosts A) where
     uber_layout = n.layout ∙ (w.uber_layout ∙ sym geometry);
     uber_version = n.version ∙ (w.uber_version ∙ ap (λ (g : Geometry). g.props.version) (sym geometry));
     objects = λ o q at. (let of = w.objects o q (sym (ap (λ os. get nat_eq os o) objects) ∙ at) in
-    record { object_is = of.object_is; shard = of.shard; there = ap (λ zs. slice_get zs q.metaslab) shards ∙ of.there; live = of.live });
+        record { object_is = of.object_is; shard = of.shard; there = ap (λ zs. slice_get zs q.metaslab) shards ∙ of.there; live = of.live });
     floor = (let fits = w.floor in let same = ap group_of n.kept in omega (arith, fits, same, floor));
     low = (let low = w.low in omega (arith, low, floor));
   }
@@ -140,5 +137,6 @@ module _ {R A : Type 0} (rack : racks.Ghosts R) (area : areas.Ghosts A) where
           }
 
       pointer : (o : ℕ) (q : Pointer) → IsPointer pool o q → IsPointer new o q
-      pointer o q of = (let after = commits_at q.metaslab of.shard of.there in
-      record { object_is = of.object_is; shard = after.0; there = after.1; live = live_on group of.shard after.0 q (after.2).commits.entries of.live })
+      pointer o q of =
+          let after = commits_at q.metaslab of.shard of.there in
+          record { object_is = of.object_is; shard = after.0; there = after.1; live = live_on group of.shard after.0 q (after.2).commits.entries of.live }

@@ -4,6 +4,7 @@ pub mod Carries
 pub mod Closing
 pub mod Imported
 pub mod Importing
+pub mod Failing
 pub mod Metaslabs
 pub mod Objects
 pub mod Opening

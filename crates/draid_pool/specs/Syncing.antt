@@ -1,5 +1,5 @@
 -- The parts of a sync.
-use Rattle.std.specs.Prelude.{◌≡◌, ◌+◌, ◌<◌, ◌≤◌, ℕ, Bool, List, true, false, Option, Some, None, Result, Ok, Err, length, slice_get}
+use Rattle.std.specs.Prelude.{◌≡◌, ◌<◌, ◌≤◌, ℕ, Bool, List, true, false, Option, Some, None, Result, Ok, Err, length, slice_get}
 use Rattle.draid_rack.specs.declared.Rack as racks
 use Rattle.draid_area.specs.declared.Area as areas
 use Rattle.draid_machine.specs.declared.event.Event.TheVariants as event

@@ -1,6 +1,6 @@
 //! Groups of a pool: one is closed in all metaslabs and sealed in all, then the uberblock names it, and then it is
 //! committed in all.
-ghost use Rattle.std.specs.Prelude.{◌≡◌, ◌≤◌, ◌+◌, ℕ, true, false, All, Ok, Err, Some, None, IfOk, IsTrue, OnOk, Vec, length};
+ghost use Rattle.std.specs.Prelude.{◌≡◌, ◌<◌, ◌≤◌, ◌+◌, true, All, Some, IfOk, IsErrOf, OnOk, length};
 ghost use Rattle.draid_names.specs.declared.numbers.TheConstants.{NUMBERS};
 ghost use Rattle.draid_machine.specs.Names.{is_block};
 ghost use Rattle.draid_machine.specs.declared.names.Held.{Held};
@@ -16,6 +16,7 @@ ghost use Rattle.draid_uber.specs.Slots.{group_of};
 ghost use Rattle.draid_uber.specs.Uber.{kept_of};
 ghost use Rattle.draid_pool.specs.Answers.{ExportDoes, SyncDoes};
 ghost use Rattle.draid_pool.specs.Carries.{CarriesOut};
+ghost use Rattle.draid_pool.specs.Failing.{AreaFails};
 ghost use Rattle.draid_pool.specs.Metaslabs.{IsMetaslab};
 ghost use Rattle.draid_pool.specs.Pools.{Represents};
 ghost use Rattle.draid_pool.specs.Whole.{IsWhole};
@@ -37,6 +38,7 @@ fn close_in<R: Rack, A: Area>(shard: &mut Shard<R, A>, group: u64) -> Result<(),
     ensures valid { Valid R.Rack shard.new }
     ensures table { KeepsTable shard.old shard.new }
     ensures closing { OnOk result (shard.new.closing ≡ Some group) }
+    ensures not_shelf { IsErrOf result SyncFault.Shelf → ⊥ }
     ensures closes { (part : Part) (pieces : Pieces) (x : Metaslab) → IsMetaslab R.Rack A.Area part pieces shard.old x
         → Turns R.Rack A.Area part pieces x shard.new (λ hold y. CloseIs part group result hold × KeepsCommitted x.world y.world) }
 {
@@ -60,6 +62,7 @@ fn seal_in<R: Rack, A: Area>(shard: &mut Shard<R, A>, group: u64) -> Result<u64,
     ensures table { KeepsTable shard.old shard.new }
     ensures sealed { OnOk result ((shard.new.closing ≡ Some group) × (shard.new.sealed ≡ true)) }
     ensures low { IfOk result (λ thin. thin ≤ NUMBERS) }
+    ensures cause { IsErrOf result SyncFault.Shelf → 0 < A.faults shard.new.even + A.faults shard.new.odd }
     ensures seals { (part : Part) (pieces : Pieces) (x : Metaslab) → IsMetaslab R.Rack A.Area part pieces shard.old x
         → Turns R.Rack A.Area part pieces x shard.new (λ hold y. SealIs part group result hold × KeepsCommitted x.world y.world) }
 {
@@ -90,13 +93,18 @@ impl<R: Rack, A: Area> Pool<R, A> {
     pub fn sync(&mut self) -> Result<Synced, SyncFault>
         requires whole { IsWhole R.Rack A.Area self.old }
         ensures whole { IsWhole R.Rack A.Area self.new }
+        ensures cause { IsErrOf result SyncFault.Shelf → AreaFails A.faults self.new }
         ensures carries { (x : State) → Represents R.Rack A.Area self.old x
             → CarriesOut R.Rack A.Area self.new x (SyncDoes x result) }
     {
-        self.finish()?;
+        if let Err(fault) = self.finish() {
+            return Err(fault);
+        }
         let group = self.uber.committed() + 1;
-        let thin = self.commit_group(group)?;
-        Ok(Synced { group, thin })
+        match self.commit_group(group) {
+            Ok(thin) => Ok(Synced { group, thin }),
+            Err(fault) => Err(fault),
+        }
     }
 
     /// Makes all that the pool holds safe, as an export wants it: a sync comes where a metaslab isn't synced. The answer
@@ -104,20 +112,24 @@ impl<R: Rack, A: Area> Pool<R, A> {
     pub fn sync_for_export(&mut self) -> Result<u64, SyncFault>
         requires whole { IsWhole R.Rack A.Area self.old }
         ensures whole { IsWhole R.Rack A.Area self.new }
+        ensures cause { IsErrOf result SyncFault.Shelf → AreaFails A.faults self.new }
         ensures carries { (x : State) → Represents R.Rack A.Area self.old x
             → CarriesOut R.Rack A.Area self.new x (ExportDoes x result) }
     {
         if !self.unsynced() {
             return Ok(self.uber.committed());
         }
-        let synced = self.sync()?;
-        Ok(synced.group)
+        match self.sync() {
+            Ok(synced) => Ok(synced.group),
+            Err(fault) => Err(fault),
+        }
     }
 
     /// Commits a group that is closing in a metaslab, if there is one.
     fn finish(&mut self) -> Result<(), SyncFault>
         requires whole { IsWhole R.Rack A.Area self.old }
         ensures whole { IsWhole R.Rack A.Area self.new }
+        ensures cause { IsErrOf result SyncFault.Shelf → AreaFails A.faults self.new }
         ensures carries { (x : State) → Represents R.Rack A.Area self.old x
             → CarriesOut R.Rack A.Area self.new x (Phase x (groups.Finishes x.geometry x.perms) (end_of result)) }
     {
@@ -147,13 +159,21 @@ impl<R: Rack, A: Area> Pool<R, A> {
         requires whole { IsWhole R.Rack A.Area self.old }
         requires next { group ≡ group_of (kept_of self.old.uber) + 1 }
         ensures whole { IsWhole R.Rack A.Area self.new }
+        ensures cause { IsErrOf result SyncFault.Shelf → AreaFails A.faults self.new }
         ensures carries { (x : State) → Represents R.Rack A.Area self.old x
             → CarriesOut R.Rack A.Area self.new x (GroupDoes x group result) }
     {
-        self.close_all(group)?;
-        let thin = self.seal_all(group)?;
-        self.commit_sealed(group)?;
-        Ok(thin)
+        if let Err(fault) = self.close_all(group) {
+            return Err(fault);
+        }
+        let thin = match self.seal_all(group) {
+            Ok(thin) => thin,
+            Err(fault) => return Err(fault),
+        };
+        match self.commit_sealed(group) {
+            Ok(()) => Ok(thin),
+            Err(fault) => Err(fault),
+        }
     }
 
     /// Closes a group in each metaslab where it isn't closing already.
@@ -161,13 +181,17 @@ impl<R: Rack, A: Area> Pool<R, A> {
         requires whole { IsWhole R.Rack A.Area self.old }
         requires next { group ≡ group_of (kept_of self.old.uber) + 1 }
         ensures whole { IsWhole R.Rack A.Area self.new }
+        ensures cause { IsErrOf result SyncFault.Shelf → AreaFails A.faults self.new }
         ensures carries { (x : State) → Represents R.Rack A.Area self.old x
             → CarriesOut R.Rack A.Area self.new x (Phase x (groups.ClosePhase x.geometry x.perms group) (end_of result)) }
         ensures closing { OnOk result (AreClosing self.new.shards.items group) }
         ensures uber { self.new.uber ≡ self.old.uber }
     {
         for metaslab in 0..self.shards.len() {
-            close_in(&mut self.shards[metaslab], group)?;
+            match close_in(&mut self.shards[metaslab], group) {
+                Ok(()) => {}
+                Err(fault) => return Err(fault),
+            }
         }
         Ok(())
     }
@@ -177,6 +201,7 @@ impl<R: Rack, A: Area> Pool<R, A> {
         requires whole { IsWhole R.Rack A.Area self.old }
         requires closing { AreClosing self.old.shards.items group }
         ensures whole { IsWhole R.Rack A.Area self.new }
+        ensures cause { IsErrOf result SyncFault.Shelf → AreaFails A.faults self.new }
         ensures carries { (x : State) → Represents R.Rack A.Area self.old x
             → CarriesOut R.Rack A.Area self.new x (SealDoes x group result) }
         ensures sealed { OnOk result (AreSealed self.new.shards.items group) }
@@ -184,7 +209,10 @@ impl<R: Rack, A: Area> Pool<R, A> {
     {
         let mut thin = 0;
         for metaslab in 0..self.shards.len() {
-            thin += seal_in(&mut self.shards[metaslab], group)?;
+            match seal_in(&mut self.shards[metaslab], group) {
+                Ok(sealed) => thin += sealed,
+                Err(fault) => return Err(fault),
+            }
         }
         Ok(thin)
     }
@@ -195,6 +223,7 @@ impl<R: Rack, A: Area> Pool<R, A> {
         requires next { group ≡ group_of (kept_of self.old.uber) + 1 }
         requires sealed { AreSealed self.old.shards.items group }
         ensures whole { IsWhole R.Rack A.Area self.new }
+        ensures cause { IsErrOf result SyncFault.Shelf → AreaFails A.faults self.new }
         ensures carries { (x : State) → Represents R.Rack A.Area self.old x
             → CarriesOut R.Rack A.Area self.new x (Phase x
             (Chain (groups.Names x.geometry x.perms group) (groups.CommitPhase x.geometry x.perms group)) (end_of result)) }

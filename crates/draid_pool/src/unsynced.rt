@@ -19,11 +19,7 @@ pub(crate) fn is_unsynced(committed: u64, events: &[Event]) -> bool
         closed = closed || closes;
         commits = commits || commit;
     }
-    if commits {
-        others
-    } else {
-        !events.is_empty()
-    }
+    if commits { others } else { !events.is_empty() }
 }
 
 /// Whether an event is the commit of a group.

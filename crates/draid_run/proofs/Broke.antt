@@ -1,17 +1,14 @@
 -- A sync or an export that a failing device ended: on an area of the pool a call has failed.
-use Rattle.std.proofs.Common.{◌≡◌, ◌≢◌, ◌∙◌, ◌==◌, ◌<◌, ◌≤◌, ◌+◌, ◌%◌, ◌⊎◌, inl, inr, arith, refl, sym, ap, subst, ℕ, zero, suc, Bool, true, false, List, [], ◌∷◌, ◌++◌, Option, Some, append_assoc, if◌then◌else◌}
+use Rattle.std.proofs.Common.{◌≡◌, ◌∙◌, ◌==◌, ◌<◌, ◌+◌, ◌%◌, inl, inr, arith, refl, sym, ap, subst, ℕ, zero, suc, Bool, true, false, List, [], ◌∷◌, ◌++◌, Some, append_assoc, if◌then◌else◌}
 use Rattle.std.specs.Prelude.{⊤, slice_get, slice_set}
-use Rattle.std.proofs.lemmas.Option.{slice_get_within}
 use Rattle.draid_names.specs.Faults.{Rose}
 use Rattle.draid_spec.specs.declared.layout.Geometry.{Geometry}
 use Rattle.draid_perm.specs.declared.perms.Perms.{Perms}
-use Rattle.draid_machine.specs.declared.event.Event.{Event}
-use Rattle.draid_machine.specs.declared.event.Event.TheVariants as event
 use Rattle.draid_session.specs.Follows.{Follows, Holds, area_count}
 use Rattle.draid_session.specs.Groups as groups
-use Rattle.draid_session.specs.Holds.{Act, Looked, Did, Reserved, MadeLeaf, AreaFailed, RackFailed, Hold, On, OnUber, UberAct, LookedUber, Committed, CommitFailed, CommitStarved, NextLeaf}
-use Rattle.draid_session.specs.Phases.{Broke, Chain, End, Walk, Went}
-use Rattle.draid_session.specs.State.{Counts, Metaslab, State}
+use Rattle.draid_session.specs.Holds.{Looked, Did, Reserved, MadeLeaf, AreaFailed, RackFailed, Hold, On, OnUber, LookedUber, Committed, CommitFailed, CommitStarved, NextLeaf}
+use Rattle.draid_session.specs.Phases.{Broke, Chain, End, Walk}
+use Rattle.draid_session.specs.State.{Counts, State}
 use Rattle.draid_run.specs.Shelves.{AreaHasFailed}
 
 -- an area failed in a hold

@@ -1,5 +1,5 @@
 -- A run that has ended: what was served, and then the last line.
-use Rattle.std.proofs.Common.{refl, sym, subst, ◌≡◌, ◌∙◌, ◌⊎◌, inl, inr, ℕ, List, [], ◌∷◌, Option, Some, None, MatchOption}
+use Rattle.std.proofs.Common.{refl, subst, ◌≡◌, ◌⊎◌, inl, inr, ℕ, List, [], ◌∷◌, Option, Some, None, MatchOption}
 use Rattle.std.specs.Prelude.{⊤}
 use Rattle.draid_names.specs.declared.room.Room.{Room}
 use Rattle.draid_rack.specs.declared.Rack as racks

@@ -1,17 +1,17 @@
 -- The pool that is open is given back to the shelf.
-use Rattle.std.proofs.Common.{◌≡◌, ◌∙◌, ◌<◌, ◌+◌, inl, inr, arith, refl, sym, ap, subst, ℕ, Bool, true, Option, Some, None, MatchOption}
-use Rattle.std.specs.Prelude.{IsSome, IsSomeAnd, IsTrue, is_some, slice_get}
+use Rattle.std.proofs.Common.{◌≡◌, ◌∙◌, inl, inr, arith, sym, subst, Bool, Option, Some, None, MatchOption}
+use Rattle.std.specs.Prelude.{IsSome, IsSomeAnd, IsTrue, is_some}
 use Rattle.draid_rack.specs.declared.Rack as racks
 use Rattle.draid_area.specs.declared.Area as areas
 use Rattle.draid_shelf.specs.Kits.{AreNewChecks, Held, OnHeld}
 use Rattle.draid_session.specs.Session.{Desk, Untouched, Made, Open, Shut}
-use Rattle.draid_session.specs.State.{Metaslab, State}
+use Rattle.draid_session.specs.State.{State}
 use Rattle.draid_pool.specs.Closing.{GivesBack, HoldsPool, SameCounts}
 use Rattle.draid_pool.specs.Opening.{AreaFailed}
 use Rattle.draid_pool.specs.Pools.{Represents}
 use Rattle.draid_pool.specs.declared.pool.Pool.{Pool}
 use Rattle.draid_run.specs.Desks.{IsDesk, LeavesDesk}
-use Rattle.draid_run.specs.Shelves.{AreaHasFailed, HasChecks, HasFailed, HasFault, HoldsAll, HoldsShut, IsOut, OnShelf}
+use Rattle.draid_run.specs.Shelves.{AreaHasFailed, HasChecks, HoldsAll, HoldsShut, IsOut, OnShelf}
 
 all_held : (x : State) (crash : Bool) (new old : Option Held) → OnHeld new (λ held. MatchOption old ⊥ (λ before. IsSomeAnd before.checks AreNewChecks → HoldsPool x crash held)) → OnHeld old HasChecks → OnHeld new (HoldsAll x)
 all_held x crash None old holds away = tt

@@ -26,7 +26,7 @@ use Rattle.draid_pool.specs.declared.fault.PoolFault.{PoolFault}
 use Rattle.draid_pool.specs.declared.fault.PoolFault.TheVariants as fault
 use Rattle.draid_pool.specs.declared.pool.Pool.{Pool}
 use Rattle.draid_run.specs.Desks.{Broken, IsDesk, IsPool, IsShelf}
-use Rattle.draid_run.specs.Making.{CreateDid, CreateTurns, MakeIs, OpensAs, PoolIs}
+use Rattle.draid_run.specs.Making.{CreateDid, CreateTurns, MakeIs, PoolIs}
 use Rattle.draid_run.specs.Shelves.{HasChecks, HasFailed, HasFault, HoldsAll, HoldsShut, IsSame, OnShelf}
 use Rattle.draid_run.specs.declared.answer.Made as answer
 

@@ -19,6 +19,8 @@ const CREATED: &str = "create draid1:2d:3c:0s-0 stripes=32\n";
 struct Failing {
     shelf: &'static [u64],
     rack: &'static [u64],
+    /// A call of an area.
+    area: Option<(Place, u64)>,
     source: &'static [u64],
     sink: &'static [u64],
 }
@@ -26,6 +28,7 @@ struct Failing {
 const NONE: Failing = Failing {
     shelf: &[],
     rack: &[],
+    area: None,
     source: &[],
     sink: &[],
 };
@@ -66,6 +69,9 @@ fn run_chosen<R: AllocGlobal + Threads + Sync, F: Fn(&[Room]) -> Option<u32>>(
     shelf.fail(Place::Own, Vec::from_slice(alloc, failing.shelf)?);
     for metaslab in 0..64 {
         shelf.fail(Place::Rack(metaslab), Vec::from_slice(alloc, failing.rack)?);
+    }
+    if let Some((place, call)) = failing.area {
+        shelf.fail(place, Vec::from_slice(alloc, &[call])?);
     }
     let mut source = MemorySource::new(script, Vec::from_slice(alloc, failing.source)?);
     let mut sink = MemorySink::new(alloc, Vec::from_slice(alloc, failing.sink)?);
@@ -165,11 +171,12 @@ fn comes_to<R: AllocGlobal + Threads + Sync>(
     Ok(ended == wanted.0 && printed.as_slice() == wanted.1.as_bytes())
 }
 
-// Devices are made, and then those of the one metaslab are taken.
+// Devices are made, and then the area of the uberblock and the devices of the one metaslab are taken.
 #[test]
 fn a_shelf_that_fails_ends_the_run(rt: HostRuntime) -> Result<(), Fail> {
-    let calls: [&'static [u64]; 3] = [&[0], &[1], &[2]];
+    let calls: [&'static [u64]; 4] = [&[0], &[1], &[2], &[3]];
     let wanted = [
+        (Status::ShelfFault, "shelf fault\n"),
         (Status::ShelfFault, "shelf fault\n"),
         (Status::ShelfFault, "shelf fault\n"),
         (Status::Done, CREATED),
@@ -178,6 +185,26 @@ fn a_shelf_that_fails_ends_the_run(rt: HostRuntime) -> Result<(), Fail> {
         let failing = Failing { shelf, ..NONE };
         let script = created(rt.alloc(), "")?;
         assert!(rt; comes_to(&rt, "session", script, &failing, wanted)?);
+    }
+    Ok(())
+}
+
+/// How often areas are called by a create and two syncs. A record is written and flushed. A commit of the uberblock flushes
+/// the area and reads the gate of its slot, then writes and flushes the body and the gate; before these it shuts the gate
+/// that stands open since the group before the last.
+const AREA_CALLS: [(Place, u64); 3] = [(Place::Odd(0), 4), (Place::Even(0), 2), (Place::Uber, 20)];
+
+#[test]
+fn areas_that_fail_end_the_run(rt: HostRuntime) -> Result<(), Fail> {
+    for (place, calls) in AREA_CALLS {
+        for call in 0..calls + 1 {
+            let area = Some((place, call));
+            let failing = Failing { area, ..NONE };
+            let script = created(rt.alloc(), "write 7 aa\nsync\nsync\n")?;
+            let (ended, printed) = run_words(&rt, "session", script, &failing)?;
+            assert_eq!(rt; ended == Status::ShelfFault, call < calls);
+            assert_eq!(rt; printed.ends_with(b"shelf fault\n"), call < calls);
+        }
     }
     Ok(())
 }

@@ -1,5 +1,7 @@
-ghost use Rattle.std.specs.Prelude.{IfOk};
-ghost use Rattle.draid_spec.specs.Geometry.{IsGeometry};
+ghost use Rattle.std.specs.Prelude.{◌≡◌, ◌≤◌, ◌+◌, IfOk};
+ghost use Rattle.draid_rack.specs.Memory.{shape_of_memory};
+ghost use Rattle.draid_rack.specs.Rack.{HasJust};
+ghost use Rattle.draid_spec.specs.Geometry.{IsGeometry, metaslab_sectors};
 
 use draid_area::MemoryArea;
 use draid_names::NoMemory;
@@ -23,6 +25,9 @@ const RECORD: [u8; 84] = [
 /// What is opened of a metaslab: which of four leaves stay, and how many stripes are free; or why it isn't.
 type Told = Result<([bool; 4], u64), OpenFault>;
 
+/// A metaslab in memory.
+type Metaslab = Shard<MemoryRack, MemoryArea>;
+
 /// The layout of that pool, of 64 stripes.
 fn layout() -> Result<Geometry, SpecFault>
     ensures { IfOk result IsGeometry }
@@ -38,36 +43,67 @@ fn layout() -> Result<Geometry, SpecFault>
     geometry(parse_spec(b"draid1:2d:3c", 3, 1)?, props)
 }
 
+/// An area of these bytes, whose calls with these numbers fail.
+fn area(alloc: Global, bytes: &[u8], failing: &[u64]) -> Result<MemoryArea, NoMemory> {
+    let bytes = Vec::from_slice(alloc, bytes)?;
+    let failing = Vec::from_slice(alloc, failing)?;
+    Ok(MemoryArea::new(alloc, bytes, failing)?)
+}
+
+/// So many leaves, each with so many sectors more than the metaslab's.
+fn leaves(alloc: Global, layout: &Geometry, leaves: u32, more: u64) -> Result<MemoryRack, NoMemory>
+    requires layout { IsGeometry layout.now }
+    requires more { more ≤ 1 }
+    ensures just { IfOk result (λ rack. HasJust (shape_of_memory rack) leaves (metaslab_sectors layout.now + more) layout.now.props.sector) }
+{
+    MemoryRack::new(
+        alloc,
+        leaves,
+        layout.metaslab_sectors() + more,
+        layout.props.sector,
+        Vec::new(alloc),
+    )
+}
+
+/// Opens a metaslab from the record of group 1.
+fn opened(
+    alloc: Global,
+    layout: Geometry,
+    kit: Kit<MemoryRack, MemoryArea>,
+) -> Result<Metaslab, OpenFault>
+    requires layout { IsGeometry layout }
+    requires bytes { (shape_of_memory kit.rack).bytes ≡ layout.props.sector }
+{
+    let perms = Perms::new(layout.spec.children, layout.props.seed);
+    let next_leaf = u64::from(layout.spec.children).max(4);
+    match Shard::reopen(alloc, 0, layout, perms, kit, 10_000, 1, next_leaf) {
+        Ok(shard) => Ok(shard),
+        Err(refused) => Err(refused.why),
+    }
+}
+
+/// What is told of a metaslab.
+fn told(opened: Result<Metaslab, OpenFault>) -> Told {
+    let shard = opened?;
+    Ok((leaves_of(&shard.rack), shard.space.free_stripes()))
+}
+
 /// Opens a metaslab from these bytes in the area of group 1, over so many leaves, each with so many sectors more than
 /// the metaslab's. Calls on the area with these numbers fail.
 fn reopened(
     alloc: Global,
     bytes: &[u8],
-    leaves: u32,
+    count: u32,
     more: u64,
     failing: &[u64],
 ) -> Result<Told, Fail> {
     let layout = layout()?;
-    let perms = Perms::new(layout.spec.children, layout.props.seed);
-    let rack = MemoryRack::new(
-        alloc,
-        leaves,
-        layout.metaslab_sectors() + more.min(1),
-        layout.props.sector,
-        Vec::new(alloc),
-    )?;
-    let even = MemoryArea::new(alloc, Vec::new(alloc), Vec::new(alloc))?;
-    let odd = MemoryArea::new(
-        alloc,
-        Vec::from_slice(alloc, bytes)?,
-        Vec::from_slice(alloc, failing)?,
-    )?;
-    let kit = Kit { rack, even, odd };
-    let next_leaf = u64::from(layout.spec.children).max(4);
-    match Shard::reopen(alloc, 0, layout, perms, kit, 10_000, 1, next_leaf) {
-        Ok(shard) => Ok(Ok((leaves_of(&shard.rack), shard.space.free_stripes()))),
-        Err(refused) => Ok(Err(refused.why)),
-    }
+    let kit = Kit {
+        rack: leaves(alloc, &layout, count, more.min(1))?,
+        even: area(alloc, &[], &[])?,
+        odd: area(alloc, bytes, failing)?,
+    };
+    Ok(told(opened(alloc, layout, kit)))
 }
 
 /// Which of four leaves are there.
@@ -199,5 +235,75 @@ fn blocks_that_stand_twice_are_told_last(rt: HostRuntime) -> Result<(), Fail> {
 fn an_area_that_fails_is_told(rt: HostRuntime) -> Result<(), Fail> {
     let told = reopened(rt.alloc(), &RECORD, 3, 0, &[0])?;
     assert_eq!(rt; told, Err(OpenFault::Area));
+    Ok(())
+}
+
+/// Makes a metaslab, and opens it again from the record of its group 1. Calls on the area of odd groups with these
+/// numbers fail.
+fn made(alloc: Global, failing: &[u64]) -> Result<Result<Told, OpenFault>, Fail> {
+    let layout = layout()?;
+    let perms = Perms::new(layout.spec.children, layout.props.seed);
+    let kit = Kit {
+        rack: leaves(alloc, &layout, layout.spec.children, 0)?,
+        even: area(alloc, &[], &[])?,
+        odd: area(alloc, &[], failing)?,
+    };
+    match Shard::create(alloc, 0, layout, perms, kit, 10_000) {
+        Ok(shard) => Ok(Ok(told(opened(alloc, layout, shard.into_kit())))),
+        Err(refused) => Ok(Err(refused.why)),
+    }
+}
+
+// The record of a new metaslab is written and flushed, and then it is read.
+#[test]
+fn a_new_metaslab_has_a_record(rt: HostRuntime) -> Result<(), Fail> {
+    let free = layout()?.metaslab_stripes();
+    let table: [(&[u64], Result<Told, OpenFault>); 4] = [
+        (&[], Ok(Ok(([true, true, true, false], free)))),
+        (&[0], Err(OpenFault::Area)),
+        (&[1], Err(OpenFault::Area)),
+        (&[2], Ok(Err(OpenFault::Area))),
+    ];
+    for (failing, wanted) in table {
+        assert_eq!(rt; made(rt.alloc(), failing)?, wanted);
+    }
+    Ok(())
+}
+
+/// Where the blocks of a record begin, and the first stripes of those from stripes 0, 1 and 2 on.
+fn blocks(alloc: Global, bytes: &[u8]) -> Result<Result<(u64, [Option<u64>; 3]), OpenFault>, Fail> {
+    let layout = layout()?;
+    let kit = Kit {
+        rack: leaves(alloc, &layout, 3, 0)?,
+        even: area(alloc, &[], &[])?,
+        odd: area(alloc, bytes, &[])?,
+    };
+    match opened(alloc, layout, kit) {
+        Ok(shard) => Ok(Ok((
+            shard.blocks_at(),
+            [
+                first_from(&shard, 0),
+                first_from(&shard, 1),
+                first_from(&shard, 2),
+            ],
+        ))),
+        Err(why) => Ok(Err(why)),
+    }
+}
+
+/// The first stripe of the first block from a stripe on.
+fn first_from(shard: &Metaslab, stripe: u64) -> Option<u64> {
+    let pointer = shard.next_held(stripe)?;
+    Some(pointer.first)
+}
+
+#[test]
+fn the_blocks_of_a_record_are_named(rt: HostRuntime) -> Result<(), Fail> {
+    let alloc = rt.alloc();
+    assert_eq!(rt; blocks(alloc, &RECORD)?, Ok((84, [None; 3])));
+    assert_eq!(rt;
+        blocks(alloc, &with_blocks(2))?,
+        Ok((100, [Some(0), Some(1), None]))
+    );
     Ok(())
 }

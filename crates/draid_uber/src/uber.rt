@@ -86,11 +86,14 @@ impl<A: Area> Uber<A> {
         ensures finds { OnTold (A.told area) (λ x. Finds result (chosen_of x.bytes)) }
         ensures some { IfOk result (λ uber. IsSomeAnd (kept_of uber) (λ body.
             (version_of uber ≡ body.props.version) × (next_leaf_of uber ≡ body.next_leaf))) }
+        ensures ranges { IfOk result (λ uber. IsSomeAnd (kept_of uber) IsUber) }
 
         // From then on a crash leaves it alone.
         ensures crash { IfOk result (λ uber. StandsTold (kept_of uber) [] (A.told (area_of uber))) }
         ensures flushed { IfOk result (λ uber. A.told (area_of uber) ≡ option_map flushes (A.told area)) }
         ensures err { IfErr result (λ refused. IsSameOrFlushed (A.told area) (A.told refused.area)) }
+        ensures later { IfOk result (λ uber. A.faults area ≤ A.faults (area_of uber)) }
+        ensures err_later { IfErr result (λ refused. A.faults area ≤ A.faults refused.area) }
         ensures cause { IfErr result (λ refused. refused.why ≡ UberFault.Area → Rose (A.faults area) (A.faults refused.area)) }
     {
         let mut area = area;

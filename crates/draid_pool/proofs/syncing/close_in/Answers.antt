@@ -1,6 +1,6 @@
 use Rattle.std.proofs.Common.{◌≡◌, None, ap, rules}
 use Rattle.draid_pool.specs.declared.fault.SyncFault.TheVariants as sync
-use Rattle.draid_pool.proofs.Turns.{close_fault, closed, not_closed, still_closing}
+use Rattle.draid_pool.proofs.Turns.{close_fault, closed, not_closed}
 use Rattle.draid_pool.proofs.syncing.close_in.Goals as goal
 
 pub returns-in-Ok-clause-closes : goal.returns-in-Ok-clause-closes

@@ -1,4 +1,3 @@
-use Rattle.draid_run.proofs.Grouping.{sync_open}
 use Rattle.draid_run.proofs.Steps.{is_whole}
 use Rattle.draid_run.proofs.groups.sync.Goals as goal
 

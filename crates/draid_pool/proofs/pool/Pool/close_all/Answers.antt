@@ -1,0 +1,131 @@
+use Rattle.std.proofs.Common.{◌≡◌, ◌∙◌, Some, arith, refl, ap}
+use Rattle.std.specs.Vec.{with_item}
+use Rattle.std.proofs.lemmas.List.{length-set}
+use Rattle.draid_session.specs.Groups as groups
+use Rattle.draid_shard.specs.declared.shard.Shard.{Shard}
+use Rattle.draid_uber.specs.Slots.{group_of}
+use Rattle.draid_uber.specs.Uber.{kept_of}
+use Rattle.draid_pool.specs.declared.pool.Pool.{Pool}
+use Rattle.draid_pool.proofs.Lifted.{SetsShard}
+use Rattle.draid_pool.proofs.SyncSteps.{below_all, below_set, borrowed_at, came_none, close_all_stops, close_all_went, close_more, whole_on}
+use Rattle.draid_pool.proofs.Wholes.{whole_valid}
+use Rattle.draid_pool.proofs.pool.Pool.close_all.Goals as goal
+
+pub loop-metaslab-init : goal.loop-metaslab-init
+loop-metaslab-init g c = record {
+  whole = c.requires.whole;
+  carries = λ x is. came_none g.R.Rack g.A.Area (groups.Closes x.geometry x.perms c.args.group) c.args.self.now x is;
+  closing = λ k shard less. absurd (omega (arith, less));
+  uber = refl;
+  many = refl;
+}
+
+pub close_in-requires-clause-valid : goal.close_in-requires-clause-valid
+close_in-requires-clause-valid g c =
+    let l = c.loop-metaslab in
+    let i = l.invariant in
+    let shard = c.index_mut.result.now in
+    let below = c.loop-metaslab-test.true in
+    let len = c.len-metaslab-end.ensures in
+    let vec = c.args.self.now.shards.ok.0 in
+    let many = i.many in
+    let there = borrowed_at l.self.shards.items l.metaslab shard (omega (arith, below, len, vec, many)) c.index_mut.ensures.value in
+    whole_valid g.R.Rack g.A.Area l.self l.metaslab shard i.whole there
+
+pub close_in-requires-clause-next : goal.close_in-requires-clause-next
+close_in-requires-clause-next g c =
+    let l = c.loop-metaslab in
+    let i = l.invariant in
+    let shard = c.index_mut.result.now in
+    let below = c.loop-metaslab-test.true in
+    let len = c.len-metaslab-end.ensures in
+    let vec = c.args.self.now.shards.ok.0 in
+    let many = i.many in
+    let there = borrowed_at l.self.shards.items l.metaslab shard (omega (arith, below, len, vec, many)) c.index_mut.ensures.value in
+    let committed = (i.whole.shards l.metaslab shard there).committed in
+    let next = c.requires.next in
+    let same = ap (λ u. group_of (kept_of u)) i.uber in
+    omega (arith, committed, next, same)
+
+pub returns-in-Err-clause-whole : goal.returns-in-Err-clause-whole
+returns-in-Err-clause-whole g c =
+    let l = c.loop-metaslab in
+    let i = l.invariant in
+    let shard = c.index_mut.result.now in
+    let below = c.loop-metaslab-test.true in
+    let len = c.len-metaslab-end.ensures in
+    let vec = c.args.self.now.shards.ok.0 in
+    let many = i.many in
+    let there = borrowed_at l.self.shards.items l.metaslab shard (omega (arith, below, len, vec, many)) c.index_mut.ensures.value in
+    let after = c.close_in.new.shard in
+    let new : Pool g.row.R.Denot g.row.A.Denot
+    = record { geometry = l.self.geometry; shards = with_item l.self.shards l.metaslab after; uber = l.self.uber; objects = l.self.objects; seq = l.self.seq; floor = l.self.floor; alloc = l.self.alloc } in
+    let set : SetsShard g.R.Rack g.A.Area l.metaslab l.self new shard after = record { there = there; sets = refl; geometry = refl; objects = refl; seq = refl; floor = refl; uber = refl } in
+    let e = c.close_in.ensures in
+    whole_on g.R.Rack g.A.Area l.metaslab l.self new shard after i.whole set e.valid e.table
+
+pub returns-in-Err-clause-carries : goal.returns-in-Err-clause-carries
+returns-in-Err-clause-carries g c = λ x is.
+    let l = c.loop-metaslab in
+    let i = l.invariant in
+    let shard = c.index_mut.result.now in
+    let below = c.loop-metaslab-test.true in
+    let len = c.len-metaslab-end.ensures in
+    let vec = c.args.self.now.shards.ok.0 in
+    let many = i.many in
+    let there = borrowed_at l.self.shards.items l.metaslab shard (omega (arith, below, len, vec, many)) c.index_mut.ensures.value in
+    let after = c.close_in.new.shard in
+    let new : Pool g.row.R.Denot g.row.A.Denot
+    = record { geometry = l.self.geometry; shards = with_item l.self.shards l.metaslab after; uber = l.self.uber; objects = l.self.objects; seq = l.self.seq; floor = l.self.floor; alloc = l.self.alloc } in
+    let set : SetsShard g.R.Rack g.A.Area l.metaslab l.self new shard after = record { there = there; sets = refl; geometry = refl; objects = refl; seq = refl; floor = refl; uber = refl } in
+    let e = c.in-Err.ensures in
+    let all = i.whole.many in
+    close_all_stops g.R.Rack g.A.Area c.args.group l.metaslab l.self new shard after x c.in-Err.fault (i.carries x is) set (omega (arith, below, len, vec, many, all)) e.closes
+
+pub returns-in-Err-clause-cause : goal.returns-in-Err-clause-cause
+returns-in-Err-clause-cause g c = λ is. absurd (c.in-Err.ensures.not_shelf is)
+
+pub loop-metaslab-preserved : goal.loop-metaslab-preserved
+loop-metaslab-preserved g c =
+    let l = c.loop-metaslab in
+    let i = l.invariant in
+    let shard = c.index_mut.result.now in
+    let below = c.loop-metaslab-test.true in
+    let len = c.len-metaslab-end.ensures in
+    let vec = c.args.self.now.shards.ok.0 in
+    let many = i.many in
+    let there = borrowed_at l.self.shards.items l.metaslab shard (omega (arith, below, len, vec, many)) c.index_mut.ensures.value in
+    let after = c.close_in.new.shard in
+    let new : Pool g.row.R.Denot g.row.A.Denot
+    = record { geometry = l.self.geometry; shards = with_item l.self.shards l.metaslab after; uber = l.self.uber; objects = l.self.objects; seq = l.self.seq; floor = l.self.floor; alloc = l.self.alloc } in
+    let set : SetsShard g.R.Rack g.A.Area l.metaslab l.self new shard after = record { there = there; sets = refl; geometry = refl; objects = refl; seq = refl; floor = refl; uber = refl } in
+    let e = c.in-Ok.ensures in
+    record {
+      whole = whole_on g.R.Rack g.A.Area l.metaslab l.self new shard after i.whole set e.valid e.table;
+      carries = λ x is. close_more g.R.Rack g.A.Area c.args.group l.metaslab l.self new shard after x (i.carries x is) set e.closes;
+      closing = below_set (λ (z : Shard g.row.R.Denot g.row.A.Denot). z.closing ≡ Some c.args.group) l.self.shards.items l.metaslab shard after there e.closing i.closing;
+      uber = i.uber;
+      many = length-set l.self.shards.items l.metaslab after ∙ i.many;
+    }
+
+pub returns-clause-carries : goal.returns-clause-carries
+returns-clause-carries g c = λ x is.
+    let l = c.loop-metaslab in
+    let i = l.invariant in
+    let end = c.loop-metaslab-test.false in
+    let len = c.len-metaslab-end.ensures in
+    let vec = c.args.self.now.shards.ok.0 in
+    let many = i.many in
+    let all = i.whole.many in
+    let upto = l.auto.metaslab-end in
+    close_all_went g.R.Rack g.A.Area c.args.group l.metaslab l.self x (i.carries x is) (omega (arith, end, len, vec, many, all, upto))
+
+pub returns-clause-closing : goal.returns-clause-closing
+returns-clause-closing g c =
+    let l = c.loop-metaslab in
+    let i = l.invariant in
+    let end = c.loop-metaslab-test.false in
+    let len = c.len-metaslab-end.ensures in
+    let vec = c.args.self.now.shards.ok.0 in
+    let many = i.many in
+    below_all (λ (z : Shard g.row.R.Denot g.row.A.Denot). z.closing ≡ Some c.args.group) l.self.shards.items l.metaslab (omega (arith, end, len, vec, many)) i.closing

@@ -1,0 +1,165 @@
+use Rattle.std.proofs.Common.{◌≡◌, ◌∙◌, Some, true, inr, arith, refl}
+use Rattle.std.specs.Vec.{with_item}
+use Rattle.std.proofs.lemmas.List.{length-set}
+use Rattle.draid_session.specs.Groups as groups
+use Rattle.draid_shard.specs.declared.shard.Shard.{Shard}
+use Rattle.draid_pool.specs.declared.pool.Pool.{Pool}
+use Rattle.draid_pool.proofs.Lists.{get_set_same}
+use Rattle.draid_pool.proofs.Lifted.{SetsShard}
+use Rattle.draid_pool.proofs.SyncSteps.{all_set, below_all, below_set, borrowed_at, came_none, seal_all_stops, seal_all_went, seal_more, whole_on}
+use Rattle.draid_pool.proofs.Wholes.{few_whole, whole_valid}
+use Rattle.draid_pool.proofs.pool.Pool.seal_all.Goals as goal
+
+pub loop-metaslab-init : goal.loop-metaslab-init
+loop-metaslab-init g c = record {
+  whole = c.requires.whole;
+  carries = λ x is. came_none g.R.Rack g.A.Area (groups.Seals x.geometry x.perms c.args.group) c.args.self.now x is;
+  closing = c.requires.closing;
+  sealed = λ k shard less. absurd (omega (arith, less));
+  low = omega arith;
+  uber = refl;
+  many = refl;
+}
+
+pub seal_in-requires-clause-valid : goal.seal_in-requires-clause-valid
+seal_in-requires-clause-valid g c =
+    let l = c.loop-metaslab in
+    let i = l.invariant in
+    let shard = c.index_mut.result.now in
+    let below = c.loop-metaslab-test.true in
+    let len = c.len-metaslab-end.ensures in
+    let vec = c.args.self.now.shards.ok.0 in
+    let many = i.many in
+    let there = borrowed_at l.self.shards.items l.metaslab shard (omega (arith, below, len, vec, many)) c.index_mut.ensures.value in
+    whole_valid g.R.Rack g.A.Area l.self l.metaslab shard i.whole there
+
+pub seal_in-requires-clause-closing : goal.seal_in-requires-clause-closing
+seal_in-requires-clause-closing g c =
+    let l = c.loop-metaslab in
+    let i = l.invariant in
+    let shard = c.index_mut.result.now in
+    let below = c.loop-metaslab-test.true in
+    let len = c.len-metaslab-end.ensures in
+    let vec = c.args.self.now.shards.ok.0 in
+    let many = i.many in
+    let there = borrowed_at l.self.shards.items l.metaslab shard (omega (arith, below, len, vec, many)) c.index_mut.ensures.value in
+    i.closing l.metaslab shard there
+
+pub seal_in-requires-clause-settled : goal.seal_in-requires-clause-settled
+seal_in-requires-clause-settled g c =
+    let l = c.loop-metaslab in
+    let i = l.invariant in
+    let shard = c.index_mut.result.now in
+    let below = c.loop-metaslab-test.true in
+    let len = c.len-metaslab-end.ensures in
+    let vec = c.args.self.now.shards.ok.0 in
+    let many = i.many in
+    let there = borrowed_at l.self.shards.items l.metaslab shard (omega (arith, below, len, vec, many)) c.index_mut.ensures.value in
+    (i.whole.shards l.metaslab shard there).settled
+
+pub returns-in-Err-clause-whole : goal.returns-in-Err-clause-whole
+returns-in-Err-clause-whole g c =
+    let l = c.loop-metaslab in
+    let i = l.invariant in
+    let shard = c.index_mut.result.now in
+    let below = c.loop-metaslab-test.true in
+    let len = c.len-metaslab-end.ensures in
+    let vec = c.args.self.now.shards.ok.0 in
+    let many = i.many in
+    let there = borrowed_at l.self.shards.items l.metaslab shard (omega (arith, below, len, vec, many)) c.index_mut.ensures.value in
+    let after = c.seal_in.new.shard in
+    let new : Pool g.row.R.Denot g.row.A.Denot
+    = record { geometry = l.self.geometry; shards = with_item l.self.shards l.metaslab after; uber = l.self.uber; objects = l.self.objects; seq = l.self.seq; floor = l.self.floor; alloc = l.self.alloc } in
+    let set : SetsShard g.R.Rack g.A.Area l.metaslab l.self new shard after = record { there = there; sets = refl; geometry = refl; objects = refl; seq = refl; floor = refl; uber = refl } in
+    let e = c.seal_in.ensures in
+    whole_on g.R.Rack g.A.Area l.metaslab l.self new shard after i.whole set e.valid e.table
+
+pub returns-in-Err-clause-carries : goal.returns-in-Err-clause-carries
+returns-in-Err-clause-carries g c = λ x is.
+    let l = c.loop-metaslab in
+    let i = l.invariant in
+    let shard = c.index_mut.result.now in
+    let below = c.loop-metaslab-test.true in
+    let len = c.len-metaslab-end.ensures in
+    let vec = c.args.self.now.shards.ok.0 in
+    let many = i.many in
+    let there = borrowed_at l.self.shards.items l.metaslab shard (omega (arith, below, len, vec, many)) c.index_mut.ensures.value in
+    let after = c.seal_in.new.shard in
+    let new : Pool g.row.R.Denot g.row.A.Denot
+    = record { geometry = l.self.geometry; shards = with_item l.self.shards l.metaslab after; uber = l.self.uber; objects = l.self.objects; seq = l.self.seq; floor = l.self.floor; alloc = l.self.alloc } in
+    let set : SetsShard g.R.Rack g.A.Area l.metaslab l.self new shard after = record { there = there; sets = refl; geometry = refl; objects = refl; seq = refl; floor = refl; uber = refl } in
+    let e = c.in-Err.ensures in
+    let all = i.whole.many in
+    seal_all_stops g.R.Rack g.A.Area c.args.group l.metaslab l.thin l.self new shard after x c.in-Err.fault (i.carries x is) set (omega (arith, below, len, vec, many, all)) e.seals
+
+pub returns-in-Err-clause-cause : goal.returns-in-Err-clause-cause
+returns-in-Err-clause-cause g c = λ is.
+    let l = c.loop-metaslab in
+    let i = l.invariant in
+    let shard = c.index_mut.result.now in
+    let below = c.loop-metaslab-test.true in
+    let len = c.len-metaslab-end.ensures in
+    let vec = c.args.self.now.shards.ok.0 in
+    let many = i.many in
+    let there = borrowed_at l.self.shards.items l.metaslab shard (omega (arith, below, len, vec, many)) c.index_mut.ensures.value in
+    inr (l.metaslab, c.seal_in.new.shard, get_set_same l.self.shards.items l.metaslab shard c.seal_in.new.shard there, c.in-Err.ensures.cause is)
+
+pub overflow_add-thin : goal.overflow_add-thin
+overflow_add-thin g c =
+    let l = c.loop-metaslab in
+    let low = l.invariant.low in
+    let own = c.in-Ok.ensures.low in
+    let below = c.loop-metaslab-test.true in
+    let len = c.len-metaslab-end.ensures in
+    let vec = c.args.self.now.shards.ok.0 in
+    let few = few_whole g.R.Rack g.A.Area c.args.self.now c.requires.whole in
+    omega (arith, low, own, below, len, vec, few)
+
+pub loop-metaslab-preserved : goal.loop-metaslab-preserved
+loop-metaslab-preserved g c =
+    let l = c.loop-metaslab in
+    let i = l.invariant in
+    let shard = c.index_mut.result.now in
+    let below = c.loop-metaslab-test.true in
+    let len = c.len-metaslab-end.ensures in
+    let vec = c.args.self.now.shards.ok.0 in
+    let many = i.many in
+    let there = borrowed_at l.self.shards.items l.metaslab shard (omega (arith, below, len, vec, many)) c.index_mut.ensures.value in
+    let after = c.seal_in.new.shard in
+    let new : Pool g.row.R.Denot g.row.A.Denot
+    = record { geometry = l.self.geometry; shards = with_item l.self.shards l.metaslab after; uber = l.self.uber; objects = l.self.objects; seq = l.self.seq; floor = l.self.floor; alloc = l.self.alloc } in
+    let set : SetsShard g.R.Rack g.A.Area l.metaslab l.self new shard after = record { there = there; sets = refl; geometry = refl; objects = refl; seq = refl; floor = refl; uber = refl } in
+    let e = c.in-Ok.ensures in
+    let low = i.low in
+    let own = e.low in
+    record {
+      whole = whole_on g.R.Rack g.A.Area l.metaslab l.self new shard after i.whole set e.valid e.table;
+      carries = λ x is. seal_more g.R.Rack g.A.Area c.args.group l.metaslab l.thin c.in-Ok.sealed l.self new shard after x (i.carries x is) set e.seals;
+      closing = all_set (λ (z : Shard g.row.R.Denot g.row.A.Denot). z.closing ≡ Some c.args.group) l.self.shards.items l.metaslab shard after there e.sealed.0 i.closing;
+      sealed = below_set (λ (z : Shard g.row.R.Denot g.row.A.Denot). (z.closing ≡ Some c.args.group) × (z.sealed ≡ true)) l.self.shards.items l.metaslab shard after there e.sealed i.sealed;
+      low = omega (arith, low, own);
+      uber = i.uber;
+      many = length-set l.self.shards.items l.metaslab after ∙ i.many;
+    }
+
+pub returns-clause-carries : goal.returns-clause-carries
+returns-clause-carries g c = λ x is.
+    let l = c.loop-metaslab in
+    let i = l.invariant in
+    let end = c.loop-metaslab-test.false in
+    let len = c.len-metaslab-end.ensures in
+    let vec = c.args.self.now.shards.ok.0 in
+    let many = i.many in
+    let all = i.whole.many in
+    let upto = l.auto.metaslab-end in
+    seal_all_went g.R.Rack g.A.Area c.args.group l.metaslab l.thin l.self x (i.carries x is) (omega (arith, end, len, vec, many, all, upto))
+
+pub returns-clause-sealed : goal.returns-clause-sealed
+returns-clause-sealed g c =
+    let l = c.loop-metaslab in
+    let i = l.invariant in
+    let end = c.loop-metaslab-test.false in
+    let len = c.len-metaslab-end.ensures in
+    let vec = c.args.self.now.shards.ok.0 in
+    let many = i.many in
+    below_all (λ (z : Shard g.row.R.Denot g.row.A.Denot). (z.closing ≡ Some c.args.group) × (z.sealed ≡ true)) l.self.shards.items l.metaslab (omega (arith, end, len, vec, many)) i.sealed

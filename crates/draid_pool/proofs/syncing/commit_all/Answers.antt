@@ -1,0 +1,17 @@
+use Rattle.std.proofs.Common.{arith}
+use Rattle.draid_pool.proofs.Commits.{below_more}
+use Rattle.draid_pool.proofs.SyncSteps.{borrowed_at}
+use Rattle.draid_pool.proofs.syncing.commit_all.Goals as goal
+
+pub loop-metaslab-preserved : goal.loop-metaslab-preserved
+loop-metaslab-preserved g c =
+    let l = c.loop-metaslab in
+    let b = l.invariant in
+    let e = c.commit.ensures in
+    let below = c.loop-metaslab-test.true in
+    let len = c.len-metaslab-end.ensures in
+    let vec = c.args.shards.now.ok.0 in
+    let many = b.many in
+    let there = borrowed_at l.shards.items l.metaslab c.index_mut.result.now (omega (arith, below, len, vec, many)) c.index_mut.ensures.value in
+    below_more g.R.Rack c.args.group l.metaslab c.args.shards.now.items l.shards.items c.index_mut.result.now c.commit.new.self b there
+    (record { valid = e.valid; areas = e.areas; does = e.event; commits = e.commits; acts = e.acts; leaves = e.leaves; reserve = e.reserve })
