@@ -1,5 +1,5 @@
 -- No name stands twice among the arms of a metaslab's slots and those whose detachment isn't committed.
-use Rattle.std.proofs.Common.{◌≡◌, ◌==◌, ◌<◌, ◌||◌, ◌&&◌, ◌∙◌, not, nat_lt, ℕ, zero, suc, Bool, true, false, List, [], ◌∷◌, ◌++◌, Some, None, length, map, arith, refl, sym, ap, subst, inl, inr, slice_get}
+use Rattle.std.proofs.Common.{◌≡◌, ◌==◌, ◌<◌, ◌||◌, ◌&&◌, ◌∙◌, not, nat_lt, ℕ, zero, suc, Bool, true, false, List, [], ◌∷◌, ◌++◌, Some, length, map, arith, refl, sym, ap, subst, inl, inr, slice_get}
 use Rattle.std.specs.Prelude.{Contains, slice_index_or}
 use Rattle.std.specs.List.{list_any}
 use Rattle.std.proofs.lemmas.Bool.{cases_lt, true≢false}
@@ -11,12 +11,12 @@ use Rattle.draid_names.specs.declared.arm.ArmKind.{ArmKind}
 use Rattle.draid_names.specs.declared.arm.ArmKind.TheVariants.{Leaf, Spare}
 use Rattle.draid_machine.proofs.Small.{both_true, not_true, some_injective, true_both, true_right}
 use Rattle.draid_record.specs.declared.limits.Limits.{Limits}
-use Rattle.draid_record.specs.Ranges.{AreArms, AreSlots, IsArm}
+use Rattle.draid_record.specs.Ranges.{AreArms, AreSlots}
 use Rattle.draid_record.specs.Record.{ArmTold, has_arm, is_kind, limit_of, stands}
 use Rattle.draid_slots.specs.declared.slot.Detached.{Detached}
 use Rattle.draid_slots.specs.Table.{SlotTable, arm_at, arms_of}
 use Rattle.draid_stable.specs.Opening.{arms_told}
-use Rattle.draid_stable.specs.Slots.{name_of, named}
+use Rattle.draid_stable.specs.Slots.{named}
 use Rattle.draid_stable.proofs.Named.{any_got, apart_slots}
 use Rattle.draid_stable.proofs.Opened.{from_map, index_map}
 use Rattle.draid_shard.specs.Fits.{NamesOnce}

@@ -9,6 +9,7 @@ use Rattle.std.proofs.lemmas.Grind.{div_ceil_times}
 use Rattle.draid_names.specs.declared.numbers.TheConstants.{LAST_NUMBER}
 use Rattle.draid_names.specs.declared.pointer.Pointer.{Pointer}
 use Rattle.draid_spec.specs.declared.layout.Geometry.{Geometry}
+use Rattle.draid_perm.specs.declared.perms.Perms.{Perms}
 use Rattle.draid_spec.specs.Geometry.{IsGeometry, metaslab_sectors, metaslab_stripes}
 use Rattle.draid_area.specs.Area.{Content, OnTold}
 use Rattle.draid_shelf.specs.declared.kit.Kit.{Kit}
@@ -31,14 +32,18 @@ use Rattle.draid_entries.specs.Live.{HasLive, begins_at}
 use Rattle.draid_entries.specs.Maps.{staged}
 use Rattle.draid_record.specs.declared.limits.Limits.{Limits}
 use Rattle.draid_record.specs.Ranges.{AreBlocks, IsBlock}
+use Rattle.draid_record.proofs.Digits.{IsBytes}
+use Rattle.draid_record.proofs.Spelled.{spelled_long}
+use Rattle.draid_record.proofs.Whole.{whole_found}
 use Rattle.draid_record.specs.Record as spec
 use Rattle.draid_record.specs.Record.{AreLimits, ArmTold, RecordTold, limits_of, record_of}
+use Rattle.draid_stable.specs.declared.opening.Tables as opening
 use Rattle.draid_stable.specs.Images.{image_by}
-use Rattle.draid_stable.specs.Opening.{arms_told, has_leaf, has_leaf_arm, lacking_from, run_of, slots_at}
+use Rattle.draid_stable.specs.Opening.{AreRead, arms_told, block_at, has_leaf, has_leaf_arm, lacking_from, run_of, slots_at}
 use Rattle.draid_stable.proofs.Opened.{found_at}
 use Rattle.draid_stable.proofs.Places.{each_block, inside, sound_limits}
 use Rattle.draid_stable.proofs.Settled.{get_is}
-use Rattle.draid_stable.proofs.There.{arm_named, has_sectors, leaf_there, named_leaf}
+use Rattle.draid_stable.proofs.There.{arm_named, has_sectors, leaf_there, named_leaf, whole_parts}
 use Rattle.draid_shard.specs.Calls.{OnBothTold}
 use Rattle.draid_shard.specs.Fits as fits
 use Rattle.draid_shard.specs.Fits.{AreHere, HasLeaves, HasStripe, IsLeaf, IsPlaced, LogsHaveRoom, Tables, TicketsAreNew, lacking}
@@ -325,6 +330,15 @@ pub told_read : (o : Option Content) (limits : Limits) (bytes : List ℕ) (value
     → OnTold o (λ x. record_of limits x.bytes ≡ Ok value)
 told_read None limits bytes value are found = tt
 told_read (Some x) limits bytes value are found = ap (record_of limits) are ∙ found
+
+-- what was read has a front
+pub read_long : (geometry : Geometry) (perms : Perms) (limits : Limits) (there : ℕ → Bool) (bytes : List ℕ) (t : opening.Tables) → AreRead geometry perms limits there bytes t → IsBytes bytes → 10 ≤ length bytes
+read_long geometry perms limits there bytes t r fits = spelled_long limits bytes r.value (whole_found limits bytes r.value fits (whole_parts limits there bytes r.value r.found).read)
+
+pub told_place : (o : Option Content) (bytes : List ℕ) (blocks : List Pointer) (place : ℕ) → OnTold o (λ x. x.bytes ≡ bytes) → place ≡ block_at bytes blocks 0
+    → OnTold o (λ x. place ≡ block_at x.bytes blocks 0)
+told_place None bytes blocks place are is = tt
+told_place (Some x) bytes blocks place are is = is ∙ ap (λ b. block_at b blocks 0) (sym are)
 
 pub both_same : {R A : Type 0} (told : A → Option Content) (old new : Kit R A) (group : ℕ) → GivesBack told old new group → (told new.even ≡ told old.even) × (told new.odd ≡ told old.odd)
 both_same {R} {A} told old new group back = by (group % 2 == 0) ((group + 1) % 2 == 0) refl refl back.area back.other

@@ -24,7 +24,7 @@ use Rattle.draid_machine.specs.Step.{Fits, HoldsFewer, IsEnabled, Step}
 use Rattle.draid_segments.specs.Acts.{Acts}
 use Rattle.draid_segments.specs.Reads.{IsAbsent}
 use Rattle.draid_segments.specs.Segments.{Pieces}
-use Rattle.draid_entries.specs.Entries.{begun, count_of, entry_at, held_in}
+use Rattle.draid_entries.specs.Entries.{IsEntered, begun, count_of, entry_at, held_in}
 use Rattle.draid_entries.specs.History.{Passes, left_for_groups, limit_in, owed_of, reserved_of, stored_of}
 use Rattle.draid_entries.specs.Maps.{key_of, staged}
 use Rattle.draid_shard.specs.Changes.{KeepsBlocks, SetsBlock}
@@ -174,6 +174,12 @@ pub record Puts {R A : Type 0} (rack : Ghosts R) (old new : Shard R A) (before n
   pub counts : CountsFailed failed (rack.faults old.rack) (rack.faults new.rack)
 
 -- ---- blocks
+
+-- a block or ticket begins at a stripe or behind it, and none between
+pub record IsNextHeld {R A : Type 0} (shard : Shard R A) (from : ℕ) (pointer : Pointer) : Type 0 where
+  pub entered : IsEntered shard.entries pointer
+  pub behind : from ≤ pointer.first
+  pub first : (x : ℕ) → from ≤ x → x < pointer.first → entry_at shard.entries x ≡ None
 
 -- the pointer is that of a live block here
 abbrev pub IsLive : {R A : Type 0} → Shard R A → Pointer → Type 0

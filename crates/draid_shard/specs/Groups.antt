@@ -31,6 +31,7 @@ use Rattle.draid_shelf.specs.declared.kit.Kit.{Kit}
 use Rattle.draid_slots.specs.Table.{SlotTable}
 use Rattle.draid_slots.specs.declared.slot.Detached.{Detached}
 use Rattle.draid_stable.specs.Images.{image_by}
+use Rattle.draid_stable.specs.Opening.{block_at}
 use Rattle.draid_shard.specs.Calls.{ActsOn, CountsFailed, OnBothTold}
 use Rattle.draid_shard.specs.Fits.{IsLeaf}
 use Rattle.draid_shard.specs.States.{Does, DoesNone, IsIn, layout_by, stored_in}
@@ -61,6 +62,11 @@ area_in shard group = if group % 2 == 0 then shard.even else shard.odd
 -- the area of the groups before a group and behind it is as it was
 abbrev pub KeepsOtherArea : {R A : Type 0} → ℕ → Shard R A → Shard R A → Type 0
 KeepsOtherArea group old new = area_in new (group + 1) ≡ area_in old (group + 1)
+
+-- no area's count of failed calls falls
+pub record AreasLater {R A : Type 0} (faults : A → ℕ) (old new : Shard R A) : Type 0 where
+  pub even : faults old.even ≤ faults new.even
+  pub odd : faults old.odd ≤ faults new.odd
 
 -- a layout in another version of the format
 abbrev pub at_version : ℕ → Geometry → Geometry
@@ -133,6 +139,8 @@ pub record Opens {R A : Type 0} (rack : Ghosts R) (told : A → Option content.C
   pub read : content.OnTold (told (area_of_kit kit group)) (λ x. record_of (limits_of shard.geometry shard.number group next) x.bytes ≡ Ok value)
   pub is_in : (w : machine.State) (doubtful : List Segment) → IsIn shard (reopen_state (layout_by shard) w (image_by value) doubtful)
   pub leaves : OnBothTold (rack.told kit.rack) (rack.told shard.rack) (DropsBut (IsNamed (image_by value)))
+  -- where the first block of the record stands, behind which the others follow
+  pub blocks : content.OnTold (told (area_of_kit kit group)) (λ x. shard.blocks_at ≡ block_at x.bytes value.blocks 0)
   pub none : (stored_in shard ≡ []) × (reserved_of shard.history ≡ 0)
   pub even : told shard.even ≡ told kit.even
   pub odd : told shard.odd ≡ told kit.odd

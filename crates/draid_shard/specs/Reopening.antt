@@ -1,5 +1,5 @@
 -- A metaslab is opened from the record of a group.
-use Rattle.std.specs.Prelude.{◌≡◌, ◌+◌, [], ⊤, ℕ, List, Option, Err}
+use Rattle.std.specs.Prelude.{◌≡◌, ◌+◌, [], ⊤, ℕ, Bool, List, Option, Err}
 use Rattle.draid_names.specs.Faults.{Rose}
 use Rattle.draid_spec.specs.declared.layout.Geometry.{Geometry}
 use Rattle.draid_spec.specs.Geometry.{metaslab_sectors}
@@ -10,14 +10,16 @@ use Rattle.draid_shelf.specs.declared.kit.Kit.{Kit}
 use Rattle.draid_entries.specs.Entries.{count_of}
 use Rattle.draid_entries.specs.History.{events_of, limit_in, owed_of, reserved_of}
 use Rattle.draid_entries.specs.declared.history.History.{History}
+use Rattle.draid_record.specs.declared.limits.Limits.{Limits}
 use Rattle.draid_record.specs.Record.{limits_of}
 use Rattle.draid_record.specs.declared.fault.RecordFault.TheVariants.{Bad}
-use Rattle.draid_stable.specs.Opening.{AreRead, has_leaf, opening_of}
+use Rattle.draid_stable.specs.Opening.{AreRead, block_at, has_leaf, opening_of}
 use Rattle.draid_stable.specs.declared.opening.Tables.{Tables}
 use Rattle.draid_shard.specs.Fits.{owed_for_pass}
 use Rattle.draid_shard.specs.Groups.{area_of_kit}
 use Rattle.draid_shard.specs.declared.fault.OpenFault.{OpenFault}
 use Rattle.draid_shard.specs.declared.fault.OpenFault.TheVariants as fault
+use Rattle.draid_shard.specs.declared.reopening.ReadTables.{ReadTables}
 
 -- these bytes are the area's, where it tells them
 abbrev pub AreBytes : Option content.Content → List ℕ → Type 0
@@ -37,11 +39,20 @@ CreateIsRefused before now fault.Area = Rose before now
 CreateIsRefused before now (fault.Record place kind) = ⊥
 CreateIsRefused before now fault.NoMemory = ⊤
 
--- the tables of the record that the area gave
-pub record ReadsTables {R A : Type 0} (rack : Ghosts R) (told : A → Option content.Content) (geometry : Geometry) (perms : Perms) (number : ℕ) (kit : Kit R A) (group next : ℕ) (t : Tables) : Type 0 where
+-- the tables are those of a record that was read from these bytes
+pub record AreReadFrom (bytes : List ℕ) (t : Tables) : Type 0 where
+  pub geometry : Geometry
+  pub perms : Perms
+  pub limits : Limits
+  pub there : ℕ → Bool
+  pub read : AreRead geometry perms limits there bytes t
+
+-- the tables of the record that the area gave, and the place of its first block
+pub record ReadsTables {R A : Type 0} (rack : Ghosts R) (told : A → Option content.Content) (geometry : Geometry) (perms : Perms) (number : ℕ) (kit : Kit R A) (group next : ℕ) (it : ReadTables) : Type 0 where
   pub bytes : List ℕ
   pub are : AreBytes (told (area_of_kit kit group)) bytes
-  pub read : AreRead geometry perms (limits_of geometry number group next) (has_leaf (rack.shape kit.rack) (metaslab_sectors geometry)) bytes t
+  pub read : AreRead geometry perms (limits_of geometry number group next) (has_leaf (rack.shape kit.rack) (metaslab_sectors geometry)) bytes it.tables
+  pub place : it.blocks_at ≡ block_at bytes read.value.blocks 0
 
 -- no event, with those owed that tables owe, and with this limit
 pub record BeginsWith (t : Tables) (limit : ℕ) (history : History) : Type 0 where

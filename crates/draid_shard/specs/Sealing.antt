@@ -1,5 +1,5 @@
 -- What the parts of a seal do.
-use Rattle.std.specs.Prelude.{◌≡◌, ◌==◌, ◌<◌, ◌≤◌, ◌^◌, ◌%◌, ◌||◌, ◌&&◌, not, ⊤, ℕ, Bool, true, false, nat_lt, List, [], Option, Some, None, All, IsSome, length, slice_index_or, vec_capacity, option_map, if◌then◌else◌}
+use Rattle.std.specs.Prelude.{◌≡◌, ◌==◌, ◌<◌, ◌≤◌, ◌^◌, ◌%◌, ◌||◌, ◌&&◌, not, ℕ, Bool, true, false, nat_lt, List, [], Option, Some, None, All, IsSome, length, slice_index_or, vec_capacity, option_map, if◌then◌else◌}
 use Rattle.draid_names.specs.declared.arm.Arm.{Arm}
 use Rattle.draid_names.specs.declared.arm.ArmAt.{ArmAt}
 use Rattle.draid_chain.specs.Chain.{stands_before}

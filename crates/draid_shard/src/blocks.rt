@@ -1,9 +1,10 @@
-ghost use Rattle.std.specs.Prelude.{◌≡◌, ◌≤◌, ◌+◌, ◌↔◌, IfOk, IsTrue, OnErr, Some, is_err, max};
+ghost use Rattle.std.specs.Prelude.{◌≡◌, ◌≤◌, ◌+◌, ◌↔◌, ℕ, IfNone, IfOk, IfSome, IsTrue, None, OnErr, Some, is_err, max};
 ghost use Rattle.draid_names.specs.declared.numbers.TheConstants.{LAST_NUMBER};
 ghost use Rattle.draid_machine.specs.declared.event.Event.TheVariants.{Free};
 ghost use Rattle.draid_machine.specs.declared.names.Stage.TheVariants.{Freed};
 ghost use Rattle.draid_entries.specs.Maps.{key_of, staged};
-ghost use Rattle.draid_shard.specs.Calls.{IsFloor, IsLive, SameKit, SameReserve};
+ghost use Rattle.draid_entries.specs.Entries.{entry_at};
+ghost use Rattle.draid_shard.specs.Calls.{IsFloor, IsLive, IsNextHeld, SameKit, SameReserve};
 ghost use Rattle.draid_shard.specs.Changes.{SetsBlock};
 ghost use Rattle.draid_shard.specs.Fits.{Valid};
 ghost use Rattle.draid_shard.specs.States.{Does};
@@ -26,6 +27,23 @@ impl<R: Rack, A: Area> Shard<R, A> {
             stage: Stage::Live,
         };
         self.entries.at(pointer.first) == Some(live)
+    }
+
+    /// The first block or open write that begins at a stripe or behind it.
+    pub fn next_held(&self, from: u64) -> Option<Pointer>
+        ensures some { IfSome result (IsNextHeld self.now from) }
+        ensures none { IfNone result ((first : ℕ) → from ≤ first → entry_at self.now.entries first ≡ None) }
+    {
+        let entry = self.entries.first_from(from)?;
+        Some(entry.pointer)
+    }
+
+    /// The byte of the first block in the record from which the metaslab was opened, behind which the others follow, each
+    /// of 72 bytes; 0 in a new one.
+    pub fn blocks_at(&self) -> u64
+        ensures { result ≡ self.now.blocks_at }
+    {
+        self.blocks_at
     }
 
     /// Frees a live block in a transaction group, which is the answer: the open one, or `floor` where that is the next

@@ -104,13 +104,3 @@ pub enum SealFault {
     Area,
     NoMemory,
 }
-
-impl From<NoMemory> for SealFault {
-    ghost use Rattle.draid_shard.specs.declared.fault.SealFault.TheVariants.{NoMemory};
-
-    ghost from_gives = { λ _ fault. fault ≡ NoMemory };
-
-    fn from(_error: NoMemory) -> SealFault {
-        SealFault::NoMemory
-    }
-}

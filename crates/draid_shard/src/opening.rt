@@ -68,6 +68,7 @@ impl<R: Rack, A: Area> Shard<R, A> {
             (HasRecord (at_version geometry.props.version geometry) number (created (layout_in (part_of shard)) geometry.props.version).image)) }
         ensures created { IfOk result (λ shard. IsIn shard (created (layout_in (part_of shard)) geometry.props.version)) }
         ensures none { IfOk result (λ shard. (stored_in shard ≡ []) × (reserved_of shard.history ≡ 0) × (limit_in shard.history ≡ events)) }
+        ensures blocks { IfOk result (λ shard. shard.blocks_at ≡ 0) }
         // The area of odd groups may have been written.
         ensures refused { IfErr result (λ refused. (refused.kit.rack ≡ kit.rack) × (refused.kit.even ≡ kit.even)) }
         ensures why { IfErr result (λ refused. CreateIsRefused (A.faults kit.odd) (A.faults refused.kit.odd) refused.why) }
@@ -105,6 +106,7 @@ impl<R: Rack, A: Area> Shard<R, A> {
         ensures part { IfOk result (λ shard. part_of shard ≡ record { geometry = geometry; perms = perms; number = number }) }
         ensures kit { IfOk result (λ shard. (shard.rack ≡ kit.rack) × (shard.even ≡ kit.even) × (shard.odd ≡ kit.odd)) }
         ensures version { IfOk result (λ shard. shard.asked ≡ geometry.props.version) }
+        ensures blocks { IfOk result (λ shard. shard.blocks_at ≡ 0) }
         ensures created { IfOk result (λ shard. IsIn shard (created (layout_in (part_of shard)) geometry.props.version)) }
         ensures none { IfOk result (λ shard. (stored_in shard ≡ []) × (reserved_of shard.history ≡ 0) × (limit_in shard.history ≡ events)) }
         ensures back { IfErr result (λ back. back ≡ kit) }
@@ -135,6 +137,7 @@ impl<R: Rack, A: Area> Shard<R, A> {
             committed: 1,
             version: geometry.props.version,
             asked: geometry.props.version,
+            blocks_at: 0,
             alloc,
         })
     }

@@ -56,6 +56,8 @@ pub(crate) fn write_to<A: Area>(
     requires { All (λ (b : Pointer). b.first + b.stripes ≤ 2 ^ 49) made.now.blocks.items }
     ensures stands { OnOk result (OnTold (A.told (area_by even.new odd.new group)) (Stands (told_record made.now))) }
     ensures other { area_by even.new odd.new (group + 1) ≡ area_by even.old odd.old (group + 1) }
+    ensures even_later { A.faults even.old ≤ A.faults even.new }
+    ensures odd_later { A.faults odd.old ≤ A.faults odd.new }
     ensures cause { IsErrOf result DeviceFault.Failed → Rose (A.faults (area_by even.old odd.old group)) (A.faults (area_by even.new odd.new group)) }
 {
     let bytes = write_record(alloc, made)?;
@@ -69,6 +71,7 @@ pub(crate) fn write_to<A: Area>(
 /// Puts bytes at the front of an area, and flushes it.
 fn put_record<A: Area>(area: &mut A, bytes: &[u8]) -> Result<(), DeviceFault>
     ensures told { OnOk result (A.told area.new ≡ option_map (λ x. flushes (writes 0 bytes.now x)) (A.told area.old)) }
+    ensures later { A.faults area.old ≤ A.faults area.new }
     ensures cause { IsErrOf result DeviceFault.Failed → Rose (A.faults area.old) (A.faults area.new) }
 {
     area.write(0, bytes)?;

@@ -1,14 +1,15 @@
-ghost use Rattle.std.specs.Prelude.{◌≡◌, ◌<◌, ◌≤◌, ◌||◌, ◌^◌, ℕ, None, IfErr, IfOk, IsErrOf, length};
+ghost use Rattle.std.specs.Prelude.{◌≡◌, ◌<◌, ◌≤◌, ◌-◌, ◌*◌, ◌||◌, ◌^◌, ℕ, None, IfErr, IfOk, IsErrOf, length};
 ghost use Rattle.draid_names.specs.Faults.{Rose};
 ghost use Rattle.draid_names.specs.declared.fault.DeviceFault.{DeviceFault};
 ghost use Rattle.draid_names.specs.declared.numbers.TheConstants.{LAST_NUMBER};
 ghost use Rattle.draid_metaslab.specs.Spaces.{Stripes};
 ghost use Rattle.draid_entries.specs.Entries.{count_of};
 ghost use Rattle.draid_entries.specs.History.{limit_in};
+ghost use Rattle.draid_stable.specs.Opening.{len_of};
 ghost use Rattle.draid_shard.specs.Fits.{IsLeaf, Valid, is_rebuild, owed_for_pass};
 ghost use Rattle.draid_shard.specs.Groups.{GivesBack, Opens, area_of_kit};
 ghost use Rattle.draid_shard.specs.Part.{IsPart};
-ghost use Rattle.draid_shard.specs.Reopening.{AreBytes, BeginsWith, OpenIsRefused, ReadsTables};
+ghost use Rattle.draid_shard.specs.Reopening.{AreBytes, AreReadFrom, BeginsWith, OpenIsRefused, ReadsTables};
 ghost use Rattle.draid_shard.specs.States.{part_of};
 
 use crate::fault::{OpenFault, OpenRefused};
@@ -20,11 +21,21 @@ use draid_names::{DeviceFault, NoMemory, PassKind};
 use draid_pass::Pass;
 use draid_perm::Perms;
 use draid_rack::Rack;
-use draid_record::RecordFault;
+use draid_record::{RecordFault, length_of};
 use draid_shelf::Kit;
 use draid_spec::Geometry;
 use draid_stable::{Tables, keep_arms, read_tables};
 use std::alloc::Global;
+
+/// How many bytes a block has in a record.
+const BLOCK_LEN: u64 = 72;
+
+/// The tables of a record, and the byte of its first block.
+#[derive(Drop)]
+struct ReadTables {
+    tables: Tables,
+    blocks_at: u64,
+}
 
 /// The bytes of an area.
 fn read_area<A: Area>(alloc: Global, area: &mut A) -> Result<Vec<u8>, DeviceFault>
@@ -64,6 +75,14 @@ fn read_group<R: Rack, A: Area>(
     }
 }
 
+/// The byte at which the first block of a record stands, of which these are the tables: the blocks are the last of it.
+fn first_block(bytes: &[u8], tables: &Tables) -> u64
+    requires { AreReadFrom bytes.now tables.now }
+    ensures { result ≡ len_of bytes.now - 72 * count_of tables.now.entries }
+{
+    length_of(bytes).saturating_sub(BLOCK_LEN * tables.entries.count() as u64)
+}
+
 /// The tables of the record of a group.
 fn read_kit<R: Rack, A: Area>(
     alloc: Global,
@@ -73,7 +92,7 @@ fn read_kit<R: Rack, A: Area>(
     perms: Perms,
     group: u64,
     next_leaf: u64,
-) -> Result<Tables, OpenFault>
+) -> Result<ReadTables, OpenFault>
     requires part { IsPart (record { geometry = geometry; perms = perms; number = number }) }
     requires group { group < LAST_NUMBER }
     ensures back { GivesBack A.told kit.old kit.new group }
@@ -88,7 +107,10 @@ fn read_kit<R: Rack, A: Area>(
     match read_tables(
         alloc, &bytes, &kit.rack, geometry, perms, number, group, next_leaf,
     ) {
-        Ok(tables) => Ok(tables),
+        Ok(tables) => {
+            let blocks_at = first_block(&bytes, &tables);
+            Ok(ReadTables { tables, blocks_at })
+        }
         Err(RecordFault::Bad { at, kind }) => Err(OpenFault::Record { at, kind }),
         Err(RecordFault::NoMemory) => Err(OpenFault::NoMemory),
     }
@@ -160,8 +182,10 @@ impl<R: Rack, A: Area> Shard<R, A> {
         ensures refused { IfErr result (λ refused. OpenIsRefused R.Rack A.faults A.told geometry number kit refused.kit group next_leaf refused.why) }
     {
         let mut kit = kit;
-        let tables = match read_kit(alloc, &mut kit, number, geometry, perms, group, next_leaf) {
-            Ok(tables) => tables,
+        let ReadTables { tables, blocks_at } = match read_kit(
+            alloc, &mut kit, number, geometry, perms, group, next_leaf,
+        ) {
+            Ok(it) => it,
             Err(why) => return Err(OpenRefused { kit, why }),
         };
         let Ok(history) = history_of(alloc, &tables, events) else {
@@ -193,6 +217,7 @@ impl<R: Rack, A: Area> Shard<R, A> {
             committed: group,
             version: geometry.props.version,
             asked: geometry.props.version,
+            blocks_at,
             alloc,
         })
     }

@@ -7,7 +7,7 @@ ghost use Rattle.draid_stable.specs.Slots.{HasSlots};
 ghost use Rattle.draid_shard.specs.Calls.{SameReserve};
 ghost use Rattle.draid_shard.specs.Changes.{KeepsBlocks, SealsGroup};
 ghost use Rattle.draid_shard.specs.Fits.{TicketsAreNew, Valid};
-ghost use Rattle.draid_shard.specs.Groups.{KeepsOtherArea, OpenUpto, Seals, Unsealed};
+ghost use Rattle.draid_shard.specs.Groups.{AreasLater, KeepsOtherArea, OpenUpto, Seals, Unsealed};
 ghost use Rattle.draid_shard.specs.Sealing.{AreFlushed, FlushedBelow, IsOnline, IsPlan};
 ghost use Rattle.draid_shard.specs.States.{IsIn};
 
@@ -47,6 +47,7 @@ impl<R: Rack, A: Area> Shard<R, A> {
         ensures seals { OnOk result (SealsGroup self.old self.new) }
         ensures refused { IfErr result (Unsealed R.Rack A.faults self.old self.new group) }
         ensures keeps { OnErr result (KeepsBlocks self.old self.new) }
+        ensures later { AreasLater A.faults self.old self.new }
         ensures reserve { SameReserve self.old self.new }
     {
         let tickets = self.tickets_upto(group);
@@ -72,6 +73,7 @@ impl<R: Rack, A: Area> Shard<R, A> {
         ensures seals { OnOk result (SealsGroup self.old self.new) }
         ensures refused { IfErr result (Unsealed R.Rack A.faults self.old self.new group) }
         ensures keeps { OnErr result (KeepsBlocks self.old self.new) }
+        ensures later { AreasLater A.faults self.old self.new }
         ensures reserve { SameReserve self.old self.new }
     {
         let Plan {

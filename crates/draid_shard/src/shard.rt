@@ -40,5 +40,7 @@ pub struct Shard<R: Rack, A: Area> {
     /// The version of the committed group, and the one that the next seal is to have.
     pub(crate) version: u32,
     pub(crate) asked: u32,
+    /// The byte of the first block in the record from which the metaslab was opened; 0 in a new one.
+    pub(crate) blocks_at: u64,
     pub(crate) alloc: Global,
 }

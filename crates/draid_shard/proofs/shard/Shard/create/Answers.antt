@@ -1,4 +1,4 @@
-use Rattle.std.proofs.Common.{◌≡◌, ◌∙◌, ap, subst, sym}
+use Rattle.std.proofs.Common.{◌∙◌, ap, subst, sym}
 use Rattle.draid_area.specs.Area.{OnTold}
 use Rattle.draid_machine.specs.Created.{created}
 use Rattle.draid_stable.specs.Stable.{HasRecord}
