@@ -33,7 +33,7 @@ use Rattle.draid_pool.proofs.Closed.{at_end, kit_is, put_here, put_there}
 use Rattle.draid_pool.proofs.Lists.{present, some_of}
 
 -- what is below a place of two lists, one after the other
-get_before : {A : Type 0} (xs ys : List A) (m : ℕ) → m < length xs → slice_get (xs ++ ys) m ≡ slice_get xs m
+pub get_before : {A : Type 0} (xs ys : List A) (m : ℕ) → m < length xs → slice_get (xs ++ ys) m ≡ slice_get xs m
 get_before [] ys m below = absurd (omega (arith, below))
 get_before (x ∷ xs) ys zero below = refl
 get_before (x ∷ xs) ys (suc m) below = get_before xs ys m (omega (arith, below))

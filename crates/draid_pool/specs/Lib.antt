@@ -2,6 +2,7 @@ pub mod Answers
 pub mod Batches
 pub mod Carries
 pub mod Closing
+pub mod Found
 pub mod Importing
 pub mod Metaslabs
 pub mod Objects

@@ -7,6 +7,7 @@ mod closing;
 mod damaging;
 mod fault;
 mod freeing;
+mod importing;
 mod opening;
 mod pool;
 mod reading;
@@ -18,6 +19,7 @@ mod writing;
 
 pub use closing::close;
 pub use draid_names::{ObjectFault, WriteFault};
+pub use importing::import;
 pub use fault::{DamageFault, FreeFault, PoolFault, SumFault, SyncFault, Synced};
 pub use opening::create;
 pub use pool::Pool;

@@ -175,6 +175,7 @@ impl<R: Rack, A: Area> Shard<R, A> {
         ensures valid { IfOk result (Valid R.Rack) }
         ensures part { IfOk result (λ shard. part_of shard ≡ record { geometry = geometry; perms = perms; number = number }) }
         ensures limit { IfOk result (λ shard. limit_in shard.history ≡ events) }
+        ensures committed { IfOk result (λ shard. shard.committed ≡ group) }
         ensures opened { IfOk result (Opens R.Rack A.told kit group next_leaf) }
         ensures gone { IfOk result (λ shard. (leaf : ℕ) → leaf < 2 ^ 64 → (IsLeaf shard.slots leaf → ⊥) → (R.shape shard.rack).leaves leaf ≡ None) }
         ensures back { IfErr result (λ refused. GivesBack A.told kit refused.kit group) }

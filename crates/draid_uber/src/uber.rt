@@ -86,6 +86,7 @@ impl<A: Area> Uber<A> {
         ensures finds { OnTold (A.told area) (λ x. Finds result (chosen_of x.bytes)) }
         ensures some { IfOk result (λ uber. IsSomeAnd (kept_of uber) (λ body.
             (version_of uber ≡ body.props.version) × (next_leaf_of uber ≡ body.next_leaf))) }
+        ensures ranges { IfOk result (λ uber. IsSomeAnd (kept_of uber) IsUber) }
 
         // From then on a crash leaves it alone.
         ensures crash { IfOk result (λ uber. StandsTold (kept_of uber) [] (A.told (area_of uber))) }

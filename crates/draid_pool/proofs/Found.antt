@@ -1,0 +1,323 @@
+-- The metaslabs that an import opens, and the blocks that it finds there.
+use Rattle.std.proofs.Common.{arith, ◌≡◌, ◌==◌, ◌+◌, ◌<◌, ◌≤◌, ◌++◌, ◌∙◌, ◌⊎◌, inl, inr, ℕ, Bool, true, false, cond, List, [], ◌∷◌, Option, Some, None, refl, sym, ap, subst, slice_set, length, length-append, if◌then◌else◌}
+use Rattle.std.specs.Prelude.{⊤, IsSomeAnd, MatchOption, find, nat_eq, option_map, slice_get}
+use Rattle.std.proofs.lemmas.Bool.{cases_eq, cases_lt}
+use Rattle.std.proofs.lemmas.Bool.Decides.{nat_tests}
+use Rattle.std.proofs.lemmas.List.{length-set}
+use Rattle.std.proofs.lemmas.Option.{slice_get_within}
+use Rattle.draid_names.specs.declared.numbers.TheConstants.{LAST_NUMBER}
+use Rattle.draid_names.specs.declared.pointer.Pointer.{Pointer}
+use Rattle.draid_rack.specs.declared.Rack as racks
+use Rattle.draid_area.specs.Area as content
+use Rattle.draid_area.specs.declared.Area as areas
+use Rattle.draid_record.specs.Uber.{IsUber}
+use Rattle.draid_record.specs.declared.uber.UberBody.{UberBody}
+use Rattle.draid_machine.specs.declared.names.Held.{Held}
+use Rattle.draid_machine.specs.declared.names.Stage.{Stage}
+use Rattle.draid_machine.specs.declared.names.Stage.TheVariants.{Freed, Live}
+use Rattle.draid_machine.specs.Created.{created}
+use Rattle.draid_machine.specs.Names.{is_block}
+use Rattle.draid_machine.proofs.Small.{is_equal, some_injective}
+use Rattle.draid_entries.specs.declared.entry.Entry.{Entry}
+use Rattle.draid_entries.specs.Entries.{IsEntered, entry_at}
+use Rattle.draid_entries.specs.Listed.{has_key, held_of}
+use Rattle.draid_entries.specs.Maps.{held_at, key_of, staged}
+use Rattle.draid_shelf.specs.declared.kit.Kit.{Kit}
+use Rattle.draid_spec.specs.declared.layout.Geometry.{Geometry}
+use Rattle.draid_shard.specs.Calls.{IsLive, IsNextHeld}
+use Rattle.draid_shard.specs.Changes.{SetsBlock}
+use Rattle.draid_shard.specs.Fits.{Valid}
+use Rattle.draid_shard.specs.Groups.{Opens}
+use Rattle.draid_shard.specs.Part.{Part}
+use Rattle.draid_shard.specs.States.{layout_by, part_of}
+use Rattle.draid_shard.specs.declared.shard.Shard.{Shard}
+use Rattle.draid_shard.proofs.Held.{held_entry, key_leads}
+use Rattle.draid_uber.specs.declared.uber.Uber.{Uber}
+use Rattle.draid_uber.specs.Slots.{group_of}
+use Rattle.draid_uber.specs.Uber as ubers
+use Rattle.draid_uber.specs.Uber.{kept_of, layout_of, next_leaf_of, version_of}
+use Rattle.draid_pool.specs.Found.{AllLive, AreFound, AreFreed, AreReady, AreReopened, FreesOlder, IsFoundUber, IsReady, IsReopened, LeadsTo, Notes, NotesOne}
+use Rattle.draid_pool.specs.Whole.{IsWhole}
+use Rattle.draid_pool.specs.declared.pool.Pool.{Pool}
+use Rattle.draid_pool.proofs.Closed.{at_end}
+use Rattle.draid_pool.proofs.FreeSteps.{open_high}
+use Rattle.draid_pool.proofs.Lists.{get_set_other, get_set_same, present, some_of}
+use Rattle.draid_pool.proofs.Opened.{get_before}
+use Rattle.draid_pool.proofs.Wholes.{live_beside, one_live}
+
+-- ---- the uberblock
+
+pub found_uber : {A : Type 0} (area : areas.Ghosts A) (uber : Uber A) → ubers.Valid area.size uber → IsSomeAnd (kept_of uber) (λ body. (version_of uber ≡ body.props.version) × (next_leaf_of uber ≡ body.next_leaf))
+    → IsSomeAnd (kept_of uber) IsUber → IsFoundUber area uber
+found_uber area uber valid same ranges = by (kept_of uber) refl same ranges valid.held.kept_is
+  where
+    by : (kept : Option UberBody) → kept_of uber ≡ kept → IsSomeAnd kept (λ body. (version_of uber ≡ body.props.version) × (next_leaf_of uber ≡ body.next_leaf)) → IsSomeAnd kept IsUber
+        → MatchOption kept ⊤ (λ body. (body.spec ≡ (layout_of uber).spec) × (body.props ≡ (layout_of uber).props)) → IsFoundUber area uber
+    by None is same ranges own = absurd same
+    by (Some body) is same ranges own =
+        let group : group_of (kept_of uber) ≡ body.group = ap (λ (kept : Option UberBody). group_of kept) is in
+        let above = ranges.group_above in
+        let below = ranges.group_below in
+        record { valid = valid; version = same.0 ∙ ap (λ p. p.version) own.1; some = omega (arith, group, above); low = omega (arith, group, below) }
+
+-- ---- metaslabs
+
+live_of : (o : Option Pointer) (h : Held) → option_map held_of o ≡ Some h → h.stage ≡ Live
+live_of None h is = absurd (cc)
+live_of (Some b) h is = ap (λ (i : Held). i.stage) (sym (some_injective (held_of b) h is))
+
+-- all blocks of a record are live
+pub reopened : {R A : Type 0} (rack : racks.Ghosts R) (told : A → Option content.Content) (kit : Kit R A) (group next : ℕ) (part : Part) (shard : Shard R A) → Valid rack shard → part_of shard ≡ part
+    → shard.committed ≡ group → Opens rack told kit group next shard → IsReopened rack part group shard
+reopened rack told kit group next part shard valid part_is committed o = record {
+  valid = valid;
+  part_is = part_is;
+  committed = committed;
+  live = λ first e there.
+      (let i = o.is_in (created (layout_by shard) 1) [] in
+      live_of (find (has_key (key_of e.pointer)) o.value.blocks) (held_at e) (i.held (key_of e.pointer) ∙ key_leads shard.entries first e there));
+}
+
+-- what holds of each place, and of one that is put behind them
+pub each_pushed : {X : Type 0} (P : ℕ → X → Type 0) (xs ys : List X) (x : X) (n : ℕ) → ys ≡ xs ++ x ∷ [] → length xs ≡ n → ((m : ℕ) (y : X) → slice_get xs m ≡ Some y → P m y) → P n x
+    → (m : ℕ) (y : X) → slice_get ys m ≡ Some y → P m y
+each_pushed P xs ys x n more many each own m y there = by (cases_lt m n)
+  where
+    «at» : slice_get (xs ++ x ∷ []) m ≡ Some y
+    «at» = ap (λ zs. slice_get zs m) (sym more) ∙ there
+
+    by : (m < n) ⊎ (n ≤ m) → P m y
+    by (inl below) = each m y (sym (get_before xs (x ∷ []) m (omega (arith, below, many))) ∙ «at»)
+    by (inr past) =
+        let within = slice_get_within (xs ++ x ∷ []) m y «at» in
+        let long = length-append xs (x ∷ []) in
+        let last : m ≡ n = omega (arith, within, long, many, past) in
+        let same : x ≡ y = some_of (slice_get (xs ++ x ∷ []) m) x y (at_end xs x [] m (omega (arith, last, many))) «at» in
+        subst (λ (k : ℕ). P k y) (sym last) (subst (P n) same own)
+
+pub all_ready : {R A : Type 0} (rack : racks.Ghosts R) (geometry : Geometry) (group : ℕ) (shards : List (Shard R A)) → AreReopened rack geometry group shards → AreReady rack shards
+all_ready rack geometry group shards are m shard there = (let is = are.each m shard there in record { valid = is.valid; number_is = ap (λ (p : Part). p.number) is.part_is; live = is.live })
+
+-- ---- blocks
+
+-- what a table has once a pointer is put there
+pub noted_one : (pointer : Pointer) (old new : ℕ → Option Pointer) (before after : ℕ) → before ≤ after → pointer.seq ≤ after
+    → ((q : ℕ) → new q ≡ cond (nat_eq pointer.object q) (Some pointer) (old q)) → NotesOne pointer old new before after
+noted_one pointer old new before after later numbered puts = record {
+  later = later;
+  numbered = numbered;
+  newest = λ object p there. elim (cases_eq pointer.object object) [
+    | inl same ↦
+        (let is : new object ≡ Some pointer = grind (arith, nat_tests, same, puts object) in
+        inr (same, some_of (new object) p pointer there is))
+    | inr other ↦ (let is : new object ≡ old object = grind (arith, nat_tests, other, puts object) in inl (sym is ∙ there))
+  ];
+}
+
+module _ {R A : Type 0} (rack : racks.Ghosts R) (shard : Shard R A) where
+  -- the next block is live, in the metaslab that it names
+  pub next_live : (from : ℕ) (p : Pointer) → ((first : ℕ) (e : Entry) → from ≤ first → entry_at shard.entries first ≡ Some e → e.stage ≡ Live) → IsNextHeld shard from p → IsLive shard p
+  next_live from p live next =
+      let is = live p.first (staged next.entered.stage p) next.behind next.entered.there in
+      subst (λ (s : Stage). entry_at shard.entries p.first ≡ Some (staged s p)) is next.entered.there
+
+  pub next_inside : (from : ℕ) (p : Pointer) → Valid rack shard → IsNextHeld shard from p → p.first < Rattle.draid_spec.specs.Geometry.metaslab_stripes shard.geometry
+  next_inside from p valid next =
+      let placed = valid.tables.placed p.first (staged next.entered.stage p) next.entered.there in
+      let inside = placed.run.inside in
+      let some = placed.run.some in
+      omega (arith, inside, some)
+
+  -- a block below the next place is one below the last, or the one that was found
+  pub below_next : (from first : ℕ) (e : Entry) (p : Pointer) → IsNextHeld shard from p → entry_at shard.entries first ≡ Some e → first < p.first + 1 → (first < from) ⊎ (e.pointer ≡ p)
+  below_next from first e p next there below = by (cases_lt first from) (cases_eq first p.first)
+    where
+      by : (first < from) ⊎ (from ≤ first) → (first ≡ p.first) ⊎ (first ≡ p.first → ⊥) → (first < from) ⊎ (e.pointer ≡ p)
+      by (inl low) own = inl low
+      by (inr past) (inl same) =
+          inr (ap (λ (x : Entry). x.pointer) (some_of (entry_at shard.entries first) e (staged next.entered.stage p) there (ap (entry_at shard.entries) same ∙ next.entered.there)))
+      by (inr past) (inr other) = (let none = next.first first past (omega (arith, below, other)) in absurd (cc))
+
+  -- those below a place were noted
+  pub record Noting (from : ℕ) (old new : ℕ → Option Pointer) (before after : ℕ) : Type 0 where
+    pub later : before ≤ after
+    pub numbered : (first : ℕ) (e : Entry) → entry_at shard.entries first ≡ Some e → first < from → e.pointer.seq ≤ after
+    pub newest : (object : ℕ) (p : Pointer) → new object ≡ Some p → (old object ≡ Some p) ⊎ ((p.object ≡ object) × (p.metaslab ≡ shard.number) × IsLive shard p)
+
+  pub noting_none : (table : ℕ → Option Pointer) (seq : ℕ) → Noting 0 table table seq seq
+  noting_none table seq = record { later = omega arith; numbered = λ first e there below. absurd (omega (arith, below)); newest = λ object p there. inl there }
+
+  pub noting_more : (from : ℕ) (p : Pointer) (old mid new : ℕ → Option Pointer) (before middle after : ℕ) → Valid rack shard → AllLive shard → IsNextHeld shard from p → Noting from old mid before middle
+      → NotesOne p mid new middle after → Noting (p.first + 1) old new before after
+  noting_more from p old mid new before middle after valid live next n one = record {
+    later = (let low = n.later in let more = one.later in omega (arith, low, more));
+    numbered = λ first e there below. elim (below_next from first e p next there below) [
+      | inl low ↦ (let own = n.numbered first e there low in let more = one.later in omega (arith, own, more))
+      | inr same ↦ (let own = one.numbered in let seq = ap (λ (x : Pointer). x.seq) same in omega (arith, own, seq))
+    ];
+    newest = λ object q there. elim (one.newest object q there) [
+      | inl was ↦ n.newest object q was
+      | inr is ↦
+          (let here = next_live from p (λ first e past. live first e) next in
+          inr (subst (λ (x : Pointer). (x.object ≡ object) × (x.metaslab ≡ shard.number) × IsLive shard x) (sym is.1)
+          (is.0, valid.here.each p.first (staged Live p) here, here)))
+    ];
+  }
+
+  pub noting_all : (from : ℕ) (old new : ℕ → Option Pointer) (before after : ℕ) → ((first : ℕ) → from ≤ first → entry_at shard.entries first ≡ None) → Noting from old new before after → Notes shard old new before after
+  noting_all from old new before after none n = record {
+    later = n.later;
+    numbered = λ first e there. elim (cases_lt first from) [
+      | inl below ↦ n.numbered first e there below
+      | inr past ↦ (let empty = none first past in absurd (cc))
+    ];
+    newest = n.newest;
+  }
+
+-- ---- all metaslabs
+
+module _ {R A : Type 0} (rack : racks.Ghosts R) (shards : List (Shard R A)) where
+  -- those below a number were looked through
+  pub record Finding (n : ℕ) (newest : ℕ → Option Pointer) (seq : ℕ) : Type 0 where
+    pub pointers : (object : ℕ) (pointer : Pointer) → newest object ≡ Some pointer → LeadsTo shards object pointer
+    pub numbered : (m : ℕ) (shard : Shard R A) (first : ℕ) (e : Entry) → m < n → slice_get shards m ≡ Some shard → entry_at shard.entries first ≡ Some e → e.pointer.seq ≤ seq
+
+  pub finding_none : (newest : ℕ → Option Pointer) (seq : ℕ) → ((object : ℕ) → newest object ≡ None) → Finding 0 newest seq
+  finding_none newest seq none = record {
+    pointers = λ object pointer there. (let empty = none object in absurd (cc));
+    numbered = λ m shard first e below there found. absurd (omega (arith, below));
+  }
+
+  pub finding_more : (n : ℕ) (shard : Shard R A) (old new : ℕ → Option Pointer) (before after : ℕ) → slice_get shards n ≡ Some shard → AreReady rack shards → Finding n old before → Notes shard old new before after
+      → Finding (n + 1) new after
+  finding_more n shard old new before after there ready f notes = record {
+    pointers = λ object p is. elim (notes.newest object p is) [
+      | inl was ↦ f.pointers object p was
+      | inr own ↦
+          (let number = (ready n shard there).number_is in
+          record { object_is = own.0; shard = shard; there = ap (slice_get shards) (own.1.0 ∙ number) ∙ there; live = own.1.1 })
+    ];
+    numbered = λ m s first e below at found. elim (cases_eq m n) [
+      | inl same ↦
+          (let is : s ≡ shard = some_of (slice_get shards n) s shard (subst (λ (k : ℕ). slice_get shards k ≡ Some s) same at) there in
+          notes.numbered first e (ap (λ (x : Shard R A). entry_at x.entries first) (sym is) ∙ found))
+      | inr other ↦ (let low = f.numbered m s first e (omega (arith, below, other)) at found in let more = notes.later in omega (arith, low, more))
+    ];
+  }
+
+  pub finding_all : (n : ℕ) (newest : ℕ → Option Pointer) (seq : ℕ) → length shards ≤ n → Finding n newest seq → AreFound shards newest seq
+  finding_all n newest seq all f = record {
+    pointers = f.pointers;
+    numbered = λ m shard first e there found. (let within = slice_get_within shards m shard there in f.numbered m shard first e (omega (arith, within, all)) there found);
+  }
+
+-- ---- older blocks
+
+module _ {R A : Type 0} (rack : racks.Ghosts R) (newest : ℕ → Option Pointer) where
+  pub frees_none : (shard : Shard R A) → Valid rack shard → AllLive shard → FreesOlder rack newest shard shard
+  frees_none shard valid live = record {
+    valid = valid;
+    part = refl;
+    committed = refl;
+    kept = λ object p is own here. here;
+    blocks = λ first e there. (ap (λ (s : Stage). is_block s) (live first e there), e, there, refl);
+  }
+
+  -- a block that isn't its object's newest is freed
+  pub frees_more : (old mid new : Shard R A) (p : Pointer) (group : ℕ) → FreesOlder rack newest old mid → IsLive mid p → (newest p.object ≡ Some p → ⊥) → Valid rack new → part_of new ≡ part_of mid
+      → SetsBlock mid new p (Some (staged (Freed group) p)) → FreesOlder rack newest old new
+  frees_more old mid new p group f live older valid part sets = record {
+    valid = valid;
+    part = part ∙ f.part;
+    committed = sets.groups.committed ∙ f.committed;
+    kept = λ object q is own here.
+        (let yet = f.kept object q is own here in
+        live_beside mid new p q (Some (staged (Freed group) p)) sets
+        (λ same. (let one : p ≡ q = one_live mid p q live yet same in older (subst (λ (x : Pointer). newest x.object ≡ Some x) (sym one) (ap newest own ∙ is)))) yet);
+    blocks = λ first e there. by first e (first == p.first) refl (sym (sets.entry.at first) ∙ there);
+  } where
+    by : (first : ℕ) (e : Entry) (b : Bool) → (first == p.first) ≡ b → (if first == p.first then Some (staged (Freed group) p) else entry_at mid.entries first) ≡ Some e
+        → (is_block e.stage ≡ true) × ((e' : Entry) × (entry_at old.entries first ≡ Some e') × (e'.pointer ≡ e.pointer))
+    by first e true same there =
+        let is : staged (Freed group) p ≡ e = some_injective (staged (Freed group) p) e (ap (λ b. if b then Some (staged (Freed group) p) else entry_at mid.entries first) (sym same) ∙ there) in
+        let at : entry_at mid.entries first ≡ Some (staged Live p) = ap (entry_at mid.entries) (is_equal first p.first same) ∙ live in
+        let was = (f.blocks first (staged Live p) at).1 in
+        (ap (λ (x : Entry). is_block x.stage) (sym is), was.0, was.1.0, was.1.1 ∙ ap (λ (x : Entry). x.pointer) is)
+    by first e false other there = f.blocks first e (ap (λ b. if b then Some (staged (Freed group) p) else entry_at mid.entries first) (sym other) ∙ there)
+
+  -- the blocks of metaslabs below a number
+  pub record Freeing (n : ℕ) (old new : List (Shard R A)) : Type 0 where
+    pub many : length new ≡ length old
+    pub done : (m : ℕ) (shard : Shard R A) → m < n → slice_get new m ≡ Some shard → (before : Shard R A) × (slice_get old m ≡ Some before) × FreesOlder rack newest before shard
+    pub left : (m : ℕ) → n ≤ m → slice_get new m ≡ slice_get old m
+
+  pub freeing_none : (shards : List (Shard R A)) → Freeing 0 shards shards
+  freeing_none shards = record { many = refl; done = λ m shard below there. absurd (omega (arith, below)); left = λ m past. refl }
+
+  pub freeing_more : (n : ℕ) (old mid : List (Shard R A)) (shard shard' : Shard R A) → slice_get mid n ≡ Some shard → Freeing n old mid → FreesOlder rack newest shard shard' → Freeing (n + 1) old (slice_set mid n shard')
+  freeing_more n old mid shard shard' there f frees = record {
+    many = length-set mid n shard' ∙ f.many;
+    done = λ m s below at. elim (cases_eq m n) [
+      | inl same ↦
+          (let here = get_set_same mid n shard shard' there in
+          let is : shard' ≡ s = some_of (slice_get (slice_set mid n shard') n) shard' s here (subst (λ (k : ℕ). slice_get (slice_set mid n shard') k ≡ Some s) same at) in
+          (shard, ap (slice_get old) same ∙ (sym (f.left n (omega arith)) ∙ there), subst (FreesOlder rack newest shard) is frees))
+      | inr other ↦ f.done m s (omega (arith, below, other)) (sym (get_set_other mid n m shard' other) ∙ at)
+    ];
+    left = λ m past. get_set_other mid n m shard' (λ same. omega (arith, same, past)) ∙ f.left m (omega (arith, past));
+  }
+
+  pub freeing_all : (n : ℕ) (old new : List (Shard R A)) → length old ≤ n → Freeing n old new → AreFreed rack newest old new
+  freeing_all n old new all f = record {
+    many = f.many;
+    each = λ m shard there. (let within = slice_get_within new m shard there in let many = f.many in f.done m shard (omega (arith, within, many, all)) there);
+  }
+
+-- ---- the pool
+
+module _ {R A : Type 0} (rack : racks.Ghosts R) (area : areas.Ghosts A) where
+  pub imported_whole : (pool : Pool R A) (geometry : Geometry) (old : List (Shard R A)) (newest : ℕ → Option Pointer) → IsFoundUber area pool.uber → layout_of pool.uber ≡ geometry → pool.geometry ≡ geometry
+      → AreReopened rack geometry (group_of (kept_of pool.uber)) old → AreFound old newest pool.seq → AreFreed rack newest old pool.shards.items
+      → ((object : ℕ) → Rattle.std.specs.HashMap.get nat_eq pool.objects object ≡ newest object) → pool.floor ≡ group_of (kept_of pool.uber) + 1 → IsWhole rack area pool
+  imported_whole pool geometry old newest found layout used are blocks freed table floor = record {
+    perms = are.perms;
+    layout = subst (λ (x : Geometry). Rattle.draid_map.specs.Place.IsLayout x are.perms) (sym used) are.layout;
+    many = freed.many ∙ (are.many ∙ ap (λ (x : Geometry). x.props.metaslabs) (sym used));
+    shards = λ m shard there.
+        (let f = freed.each m shard there in
+        let is = are.each m f.0 f.1.0 in
+        let frees = f.1.1 in
+        record {
+          valid = frees.valid;
+          part = frees.part ∙ (is.part_is ∙ ap (λ (x : Geometry). record { geometry = x; perms = are.perms; number = m }) (sym used));
+          numbered = λ key h held.
+              (let e = held_entry shard.entries key h held in
+              let was = (frees.blocks h.first e.e e.there).1 in
+              let low = blocks.numbered m f.0 h.first was.0 f.1.0 was.1.0 in
+              let same = ap (λ (p : Pointer). p.seq) was.1.1 in
+              let own = ap (λ k. k.seq) e.key_is in
+              omega (arith, low, same, own));
+          settled = λ key h held.
+              (let e = held_entry shard.entries key h held in
+              subst (λ (i : Held). is_block i.stage ≡ true) e.held_is (frees.blocks h.first e.e e.there).0);
+          committed = frees.committed ∙ is.committed;
+        });
+    uber = found.valid;
+    uber_layout = layout ∙ sym used;
+    uber_version = found.version ∙ ap (λ (x : Geometry). x.props.version) (layout ∙ sym used);
+    objects = λ object pointer there.
+        (let to = blocks.pointers object pointer (sym (table object) ∙ there) in
+        let within = slice_get_within old pointer.metaslab to.shard to.there in
+        let many = freed.many in
+        let s = present pool.shards.items pointer.metaslab (omega (arith, within, many)) in
+        let f = freed.each pointer.metaslab s.0 s.1 in
+        let same : to.shard ≡ f.0 = some_of (slice_get old pointer.metaslab) to.shard f.0 to.there f.1.0 in
+        record {
+          object_is = to.object_is;
+          shard = s.0;
+          there = s.1;
+          live = f.1.1.kept object pointer (sym (table object) ∙ there) to.object_is (subst (λ (x : Shard R A). IsLive x pointer) same to.live);
+        });
+    floor = omega (arith, floor);
+    low = (let low = found.low in omega (arith, floor, low));
+  }

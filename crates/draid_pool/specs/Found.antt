@@ -1,0 +1,105 @@
+-- The metaslabs that an import opens, and the blocks that it finds there.
+use Rattle.std.specs.Prelude.{◌≡◌, ◌<◌, ◌≤◌, ◌⊎◌, ℕ, true, List, Option, Some, length, slice_get}
+use Rattle.draid_rack.specs.declared.Rack as racks
+use Rattle.draid_area.specs.declared.Area as areas
+use Rattle.draid_spec.specs.declared.layout.Geometry.{Geometry}
+use Rattle.draid_perm.specs.declared.perms.Perms.{Perms}
+use Rattle.draid_map.specs.Place.{IsLayout}
+use Rattle.draid_names.specs.declared.numbers.TheConstants.{LAST_NUMBER}
+use Rattle.draid_names.specs.declared.pointer.Pointer.{Pointer}
+use Rattle.draid_machine.specs.declared.names.Held.{Held}
+use Rattle.draid_machine.specs.declared.names.Key.{Key}
+use Rattle.draid_machine.specs.declared.names.Stage.TheVariants.{Live}
+use Rattle.draid_machine.specs.Names.{is_block}
+use Rattle.draid_entries.specs.declared.entry.Entry.{Entry}
+use Rattle.draid_entries.specs.Entries.{entry_at, held_in}
+use Rattle.draid_shard.specs.Calls.{IsLive}
+use Rattle.draid_shard.specs.Fits.{Valid}
+use Rattle.draid_shard.specs.Part.{Part}
+use Rattle.draid_shard.specs.States.{part_of}
+use Rattle.draid_shard.specs.declared.shard.Shard.{Shard}
+use Rattle.draid_uber.specs.declared.uber.Uber.{Uber}
+use Rattle.draid_uber.specs.Slots.{group_of}
+use Rattle.draid_uber.specs.Uber.{kept_of, layout_of, version_of}
+use Rattle.draid_uber.specs.Uber as ubers
+
+-- ---- metaslabs
+
+-- all blocks of a shard are live
+abbrev pub AllLive : {R A : Type 0} → Shard R A → Type 0
+AllLive shard = (first : ℕ) (e : Entry) → entry_at shard.entries first ≡ Some e → e.stage ≡ Live
+
+-- a metaslab that was opened from the record of a group
+pub record IsReopened {R A : Type 0} (rack : racks.Ghosts R) (part : Part) (group : ℕ) (shard : Shard R A) : Type 0 where
+  pub valid : Valid rack shard
+  pub part_is : part_of shard ≡ part
+  pub committed : shard.committed ≡ group
+  pub live : AllLive shard
+
+-- all metaslabs of a layout
+pub record AreReopened {R A : Type 0} (rack : racks.Ghosts R) (geometry : Geometry) (group : ℕ) (shards : List (Shard R A)) : Type 0 where
+  pub perms : Perms
+  pub layout : IsLayout geometry perms
+  pub many : length shards ≡ geometry.props.metaslabs
+  pub each : (m : ℕ) (shard : Shard R A) → slice_get shards m ≡ Some shard → IsReopened rack (record { geometry = geometry; perms = perms; number = m }) group shard
+
+-- a metaslab of which the blocks may be noted or freed
+pub record IsReady {R A : Type 0} (rack : racks.Ghosts R) (m : ℕ) (shard : Shard R A) : Type 0 where
+  pub valid : Valid rack shard
+  pub number_is : shard.number ≡ m
+  pub live : AllLive shard
+
+-- each of some metaslabs is so
+abbrev pub AreReady : {R A : Type 0} → racks.Ghosts R → List (Shard R A) → Type 0
+AreReady {R} {A} rack shards = (m : ℕ) (shard : Shard R A) → slice_get shards m ≡ Some shard → IsReady rack m shard
+
+-- ---- the uberblock
+
+-- an uberblock that was found: its group is one that a metaslab may be opened from
+pub record IsFoundUber {A : Type 0} (area : areas.Ghosts A) (uber : Uber A) : Type 0 where
+  pub valid : ubers.Valid area.size uber
+  pub version : version_of uber ≡ (layout_of uber).props.version
+  pub some : 1 ≤ group_of (kept_of uber)
+  pub low : group_of (kept_of uber) < LAST_NUMBER
+
+-- ---- blocks
+
+-- a block was noted
+pub record NotesOne (pointer : Pointer) (old new : ℕ → Option Pointer) (before after : ℕ) : Type 0 where
+  pub later : before ≤ after
+  pub numbered : pointer.seq ≤ after
+  pub newest : (object : ℕ) (p : Pointer) → new object ≡ Some p → (old object ≡ Some p) ⊎ ((pointer.object ≡ object) × (p ≡ pointer))
+
+-- no block that was found has a greater number, and of each object one is kept in mind
+pub record Notes {R A : Type 0} (shard : Shard R A) (old new : ℕ → Option Pointer) (before after : ℕ) : Type 0 where
+  pub later : before ≤ after
+  pub numbered : (first : ℕ) (e : Entry) → entry_at shard.entries first ≡ Some e → e.pointer.seq ≤ after
+  pub newest : (object : ℕ) (p : Pointer) → new object ≡ Some p → (old object ≡ Some p) ⊎ ((p.object ≡ object) × (p.metaslab ≡ shard.number) × IsLive shard p)
+
+-- a pointer of an object is that of a live block of a metaslab
+pub record LeadsTo {R A : Type 0} (shards : List (Shard R A)) (object : ℕ) (pointer : Pointer) : Type 0 where
+  pub object_is : pointer.object ≡ object
+  pub shard : Shard R A
+  pub there : slice_get shards pointer.metaslab ≡ Some shard
+  pub live : IsLive shard pointer
+
+-- what was found in all metaslabs: for each object a live block of its own, and a number that no block passes
+pub record AreFound {R A : Type 0} (shards : List (Shard R A)) (newest : ℕ → Option Pointer) (seq : ℕ) : Type 0 where
+  pub pointers : (object : ℕ) (pointer : Pointer) → newest object ≡ Some pointer → LeadsTo shards object pointer
+  pub numbered : (m : ℕ) (shard : Shard R A) (first : ℕ) (e : Entry) → slice_get shards m ≡ Some shard → entry_at shard.entries first ≡ Some e → e.pointer.seq ≤ seq
+
+-- ---- older blocks
+
+-- Blocks of a metaslab were freed, but for those that are kept in mind.
+pub record FreesOlder {R A : Type 0} (rack : racks.Ghosts R) (newest : ℕ → Option Pointer) (old new : Shard R A) : Type 0 where
+  pub valid : Valid rack new
+  pub part : part_of new ≡ part_of old
+  pub committed : new.committed ≡ old.committed
+  pub kept : (object : ℕ) (p : Pointer) → newest object ≡ Some p → p.object ≡ object → IsLive old p → IsLive new p
+  pub blocks : (first : ℕ) (e : Entry) → entry_at new.entries first ≡ Some e
+      → (is_block e.stage ≡ true) × ((e' : Entry) × (entry_at old.entries first ≡ Some e') × (e'.pointer ≡ e.pointer))
+
+-- so in each of some metaslabs
+pub record AreFreed {R A : Type 0} (rack : racks.Ghosts R) (newest : ℕ → Option Pointer) (old new : List (Shard R A)) : Type 0 where
+  pub many : length new ≡ length old
+  pub each : (m : ℕ) (shard : Shard R A) → slice_get new m ≡ Some shard → (before : Shard R A) × (slice_get old m ≡ Some before) × FreesOlder rack newest before shard
