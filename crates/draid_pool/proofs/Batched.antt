@@ -10,7 +10,6 @@ use Rattle.draid_names.specs.declared.refusal.ObjectFault.TheVariants as object
 use Rattle.draid_rack.specs.declared.Rack as racks
 use Rattle.draid_area.specs.declared.Area as areas
 use Rattle.draid_spec.specs.declared.layout.Geometry.{Geometry}
-use Rattle.draid_spec.specs.Geometry.{IsGeometry}
 use Rattle.draid_block.specs.Columns.{Cut}
 use Rattle.draid_block.specs.Blocks.{cut_of}
 use Rattle.draid_block.specs.Many.{IsSolved}

@@ -1,10 +1,9 @@
 -- Every metaslab of a pool is looked at, and one is chosen.
-use Rattle.std.proofs.Common.{◌≡◌, ◌≤◌, ◌<◌, ◌+◌, ◌-◌, ◌/◌, ◌++◌, ◌∙◌, inl, inr, ℕ, zero, suc, List, [], ◌∷◌, Option, Some, None, Ok, Err, arith, refl, sym, ap, subst, slice_index_or, length, length-append}
+use Rattle.std.proofs.Common.{◌≡◌, ◌≤◌, ◌<◌, ◌+◌, ◌-◌, ◌/◌, ◌++◌, ◌∙◌, inl, inr, ℕ, zero, suc, List, [], ◌∷◌, Option, Some, None, Ok, Err, arith, refl, sym, ap, subst, length, length-append}
 use Rattle.std.specs.Prelude.{slice_get, All, nat_eq, Result}
 use Rattle.std.specs.HashMap.{get}
 use Rattle.std.specs.List.{AllZip}
 use Rattle.std.proofs.lemmas.List.{append_assoc}
-use Rattle.std.proofs.lemmas.Option.{slice_get-get_or}
 use Rattle.draid_names.specs.declared.numbers.TheConstants.{LAST_NUMBER}
 use Rattle.draid_names.specs.declared.refusal.WriteFault.{WriteFault}
 use Rattle.draid_names.specs.declared.refusal.WriteFault.TheVariants as fault
@@ -23,7 +22,7 @@ use Rattle.draid_entries.specs.History.{stored_of}
 use Rattle.draid_entries.specs.Owed.{IsOwed}
 use Rattle.draid_shard.specs.Calls as calls
 use Rattle.draid_shard.specs.Calls.{IsWornFor, TakesBlocks, block_events}
-use Rattle.draid_shard.specs.Fits.{Valid, owed_for_group, owed_for_pass}
+use Rattle.draid_shard.specs.Fits.{owed_for_group, owed_for_pass}
 use Rattle.draid_shard.specs.Part.{Part, layout_in}
 use Rattle.draid_shard.specs.States.{layout_by, part_of}
 use Rattle.draid_shard.proofs.Standing.{has_layout}
@@ -47,7 +46,6 @@ use Rattle.draid_pool.specs.Pools.{Represents, Stands}
 use Rattle.draid_pool.specs.Shards.{AreShut, HasRoom, HasRoomAt, IsNoSpace, RoomIs, ShutIs}
 use Rattle.draid_pool.specs.Whole.{IsWhole}
 use Rattle.draid_pool.specs.declared.pool.Pool.{Pool}
-use Rattle.draid_pool.proofs.FreeSteps.{metaslab_there}
 use Rattle.draid_pool.proofs.Lists.{set_back}
 use Rattle.draid_pool.proofs.StoreSteps.{worn_for}
 use Rattle.draid_pool.proofs.Wholes.{whole_valid}

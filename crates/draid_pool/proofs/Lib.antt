@@ -5,6 +5,7 @@ pub mod DamageSteps
 pub mod Damages
 pub mod Dids
 pub mod Entering
+pub mod Failing
 pub mod Feeding
 pub mod FetchSteps
 pub mod Fetched

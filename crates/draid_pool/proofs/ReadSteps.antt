@@ -1,16 +1,15 @@
 -- What was fetched of an object is solved.
-use Rattle.std.proofs.Common.{◌≡◌, [], ◌∷◌, ℕ, List, Some, Err, arith, refl, sym, ap, subst}
+use Rattle.std.proofs.Common.{◌≡◌, [], ◌∷◌, ℕ, List, Some, Err, arith, refl, ap, subst}
 use Rattle.std.specs.Prelude.{slice_get}
 use Rattle.draid_names.specs.declared.refusal.ObjectFault.{ObjectFault}
 use Rattle.draid_names.specs.declared.refusal.ObjectFault.TheVariants as object
 use Rattle.draid_rack.specs.declared.Rack as racks
 use Rattle.draid_area.specs.declared.Area as areas
 use Rattle.draid_spec.specs.declared.layout.Geometry.{Geometry}
-use Rattle.draid_spec.specs.Geometry.{IsGeometry}
 use Rattle.draid_block.specs.Blocks.{cut_of}
 use Rattle.draid_block.specs.Many.{IsSolved}
 use Rattle.draid_block.specs.Columns.{Cut}
-use Rattle.draid_block.specs.Solving.{AnswersDigest, IsAnswered, IsFetched, IsReadable, SolvesBlock}
+use Rattle.draid_block.specs.Solving.{AnswersDigest, IsAnswered, IsReadable, SolvesBlock}
 use Rattle.draid_block.specs.declared.many.Solve.TheVariants.{Unreadable}
 use Rattle.draid_block.specs.declared.solve.SolveFault.{SolveFault}
 use Rattle.draid_block.specs.declared.solve.SolveFault.TheVariants as solve

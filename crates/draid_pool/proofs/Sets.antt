@@ -2,14 +2,13 @@
 use Rattle.std.proofs.Common.{◌≡◌, ◌==◌, ◌+◌, ◌∙◌, ℕ, Bool, true, false, Option, Some, None, arith, refl, sym, ap, subst, max, if◌then◌else◌}
 use Rattle.std.specs.Prelude.{option_map}
 use Rattle.draid_names.specs.declared.pointer.Pointer.{Pointer}
-use Rattle.draid_machine.specs.declared.names.Held.{Held}
 use Rattle.draid_machine.specs.declared.names.Key.{Key}
 use Rattle.draid_machine.specs.declared.names.Stage.TheVariants.{Live}
 use Rattle.draid_machine.specs.Names.{key_eq}
 use Rattle.draid_machine.proofs.Small.{equal, is_equal, key_true}
 use Rattle.draid_entries.specs.declared.entries.Entries.{Entries}
 use Rattle.draid_entries.specs.declared.entry.Entry.{Entry}
-use Rattle.draid_entries.specs.Entries.{SameEntries, SetsEntry, begun, entry_at, held_in, owed_at, owed_by}
+use Rattle.draid_entries.specs.Entries.{SetsEntry, begun, entry_at, held_in, owed_at, owed_by}
 use Rattle.draid_entries.specs.Maps.{held_at, key_of, staged}
 use Rattle.draid_shard.specs.Calls.{IsTicketOf}
 use Rattle.draid_shard.specs.Changes.{KeepsBlocks, SameGroups, SetsBlock}
@@ -30,8 +29,6 @@ groups_then old mid new a b = record {
 }
 
 -- ---- nothing changes
-pub kept_none : {R A : Type 0} (shard : Shard R A) → KeepsBlocks shard shard
-kept_none shard = record { entries = record { at = λ first. refl; held = λ key. refl; count = refl; owed = λ columns. refl }; groups = same_groups shard }
 
 pub kept_then : {R A : Type 0} (old mid new : Shard R A) → KeepsBlocks old mid → KeepsBlocks mid new → KeepsBlocks old new
 kept_then old mid new a b = record {

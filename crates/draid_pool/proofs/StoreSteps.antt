@@ -15,7 +15,6 @@ use Rattle.draid_machine.specs.declared.names.Stage.{Stage}
 use Rattle.draid_machine.specs.declared.names.Stage.TheVariants as stage
 use Rattle.draid_machine.specs.Names.{key_eq}
 use Rattle.draid_machine.specs.After.{gone_state, live_state}
-use Rattle.draid_names.specs.declared.pass_kind.PassKind.TheVariants as pass
 use Rattle.std.proofs.lemmas.Bool.Decides.{nat_tests}
 use Rattle.std.specs.Prelude.{IsSome}
 use Rattle.draid_block.specs.Blocks.{AreColumns}
@@ -27,12 +26,11 @@ use Rattle.draid_segments.proofs.Beginning.{pieces_backed}
 use Rattle.draid_entries.specs.Entries.{held_in}
 use Rattle.draid_entries.specs.History.{stored_of}
 use Rattle.draid_entries.specs.Maps.{held_at, key_of, staged}
-use Rattle.draid_shard.specs.Calls.{BeginRefused, Carries, IsTicketOf, IsWornFor, SameKit, SameReserve, begins, block_events}
+use Rattle.draid_shard.specs.Calls.{Carries, IsTicketOf, IsWornFor, SameKit, SameReserve, begins, block_events}
 use Rattle.draid_shard.specs.Columns.{ArePieces, row_bytes}
 use Rattle.draid_shard.specs.Fits.{Valid}
 use Rattle.draid_shard.specs.Part.{Part, layout_in}
 use Rattle.draid_shard.specs.States.{Does, layout_by, part_of}
-use Rattle.draid_shard.specs.declared.fault.BeginFault.TheVariants as begin
 use Rattle.draid_shard.specs.declared.shard.Shard.{Shard}
 use Rattle.draid_shard.specs.declared.ticket.Ticket.{Ticket}
 use Rattle.draid_shard.proofs.Held.{key_leads}
@@ -44,7 +42,7 @@ use Rattle.draid_session.specs.State.{Metaslab}
 use Rattle.draid_session.specs.Worn.{IsWorn}
 use Rattle.draid_session.specs.Writes.{PutsColumns, WritesBlock}
 use Rattle.draid_pool.specs.Metaslabs.{IsMetaslab}
-use Rattle.draid_pool.specs.Shards.{FollowsIn, Goes, HasRoom, KeepsImages, NotStored, SameBut, SamePieces, Stored}
+use Rattle.draid_pool.specs.Shards.{FollowsIn, Goes, KeepsImages, NotStored, SameBut, SamePieces, Stored}
 use Rattle.draid_pool.proofs.Dids.{Done, did_quiet}
 use Rattle.draid_pool.proofs.Imaged.{keeps_then, step_keeps}
 use Rattle.draid_pool.proofs.Lists.{some_of}
@@ -112,20 +110,6 @@ worn_for rack area part pieces shard x m asked is worn =
     let stored : length x.events ≡ stored_of shard.history = ap (λ es. length es) is.events ∙ sym shard.history.events.ok.0 in
     let reserved = is.reserved in
     omega (arith, all, over, limit, stored, reserved)
-
--- ---- why no write is refused where there is room
-
-pub no_refusal : {R A : Type 0} (shard : Shard R A) (need : ℕ) (w : machine.State) → HasRoom need shard w → 0 < need → ((n : ℕ) → BeginRefused shard need w (begin.Disabled n) → ⊥)
-    × ((n : ℕ) → BeginRefused shard need w (begin.Entries n) → ⊥) × ((n : ℕ) → BeginRefused shard need w (begin.NoRoom n) → ⊥) × ((n : ℕ) → BeginRefused shard need w (begin.Worn n) → ⊥)
-no_refusal shard need w room some = (
-  λ n r. (let heal = room.takes.enabled r.0 r.1 in rebuild_heal (sym r.2 ∙ heal)),
-  λ n r. r.1 room.takes.fewer,
-  λ n r. (let least = r.2.longest room.first need some room.fits in let short = r.3 in omega (arith, least, short)),
-  λ n r. room.takes.events r.3,
-)
-  where
-    rebuild_heal : pass.Rebuild ≡ pass.Heal → ⊥
-    rebuild_heal is = cc
 
 -- ---- a write
 

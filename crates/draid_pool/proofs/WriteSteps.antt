@@ -1,5 +1,5 @@
 -- A block of an object is written to a metaslab of a pool.
-use Rattle.std.proofs.Common.{◌≡◌, ◌==◌, ◌≤◌, ◌<◌, ◌+◌, ◌++◌, ◌⊎◌, ◌∙◌, inl, inr, ℕ, Bool, true, false, List, [], ◌∷◌, Option, Some, None, Ok, Err, arith, refl, sym, ap, subst, slice_set, slice_index_or, if◌then◌else◌}
+use Rattle.std.proofs.Common.{◌≡◌, ◌==◌, ◌≤◌, ◌<◌, ◌+◌, ◌++◌, ◌⊎◌, ◌∙◌, inl, inr, ℕ, Bool, true, false, List, [], ◌∷◌, Option, Some, Ok, Err, arith, refl, sym, ap, subst, slice_set, slice_index_or, if◌then◌else◌}
 use Rattle.std.specs.Prelude.{slice_get, nat_eq}
 use Rattle.std.specs.HashMap.{get}
 use Rattle.std.proofs.lemmas.Option.{get_or_from_slice_get}
@@ -25,7 +25,6 @@ use Rattle.draid_objects.proofs.Finding.{by_other, by_own, changes_it, other_cha
 use Rattle.draid_objects.proofs.Keeping.{floor_up, written, written_floor}
 use Rattle.draid_objects.proofs.One.{one_set}
 use Rattle.draid_objects.proofs.Sealing.{set_cases}
-use Rattle.draid_entries.specs.Entries as entries
 use Rattle.draid_entries.specs.Maps.{held_at, key_of, staged}
 use Rattle.draid_shard.specs.Part.{Part}
 use Rattle.draid_shard.specs.declared.shard.Shard.{Shard}
@@ -39,13 +38,9 @@ use Rattle.draid_pool.specs.Carries.{CarriesOut}
 use Rattle.draid_pool.specs.Metaslabs.{IsMetaslab}
 use Rattle.draid_pool.specs.Objects.{HasPieces, HoldsObjects, IsLastAt, IsPointerOf, PointsTo, blocks_of, worlds_of}
 use Rattle.draid_pool.specs.Pools.{Awaits, Represents, Stands, part_in}
-use Rattle.draid_pool.specs.Shards.{HasRoom, IsStored, NotStored, SamePieces, StoreDoes, Stored}
+use Rattle.draid_pool.specs.Shards.{IsStored, NotStored, SamePieces, StoreDoes, Stored}
 use Rattle.draid_pool.specs.declared.store.StoreFault.{StoreFault}
 use Rattle.draid_pool.specs.declared.store.StoreFault.TheVariants as store_fault
-use Rattle.draid_machine.specs.State as machine
-use Rattle.draid_block.specs.Blocks.{cut_of}
-use Rattle.draid_block.specs.Columns.{stripes_of}
-use Rattle.draid_shard.specs.States.{IsIn}
 use Rattle.draid_pool.specs.declared.pool.Pool.{Pool}
 use Rattle.draid_pool.proofs.Entering.{OnlyLast}
 use Rattle.draid_pool.proofs.FreeSteps.{group_low, metaslab_there, points_on, points_same, same_key}

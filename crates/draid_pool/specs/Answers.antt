@@ -68,6 +68,14 @@ SyncDoes x (Err sync.Last) holds new = (new ≡ x.store) × groups.SyncStops x.g
 SyncDoes x (Err sync.Shelf) holds new = (new ≡ x.store) × groups.SyncStops x.geometry x.perms holds Broke
 SyncDoes x (Err sync.NoMemory) holds new = (new ≡ x.store) × groups.SyncStarves x.geometry x.perms holds
 
+-- what an export does before the pool is given back, and why it was stopped; the answer is the committed group
+abbrev pub ExportDoes : State → Result ℕ SyncFault → List Hold → Store → Type 0
+ExportDoes x (Ok group) holds new = (new ≡ x.store) × groups.Exports x.geometry x.perms group holds Went
+ExportDoes x (Err sync.Worn) holds new = (new ≡ x.store) × groups.ExportStops x.geometry x.perms holds WasWorn
+ExportDoes x (Err sync.Last) holds new = (new ≡ x.store) × groups.ExportStops x.geometry x.perms holds WasLast
+ExportDoes x (Err sync.Shelf) holds new = (new ≡ x.store) × groups.ExportStops x.geometry x.perms holds Broke
+ExportDoes x (Err sync.NoMemory) holds new = (new ≡ x.store) × groups.ExportStarves x.geometry x.perms holds
+
 -- ---- parts of calls
 
 -- a block of these bytes was written in metaslab m, and then the object's earlier one was freed

@@ -2,14 +2,4 @@ pub mod Answers
 pub mod Batches
 pub mod Carries
 pub mod Closing
-pub mod Found
-pub mod Importing
-pub mod Metaslabs
-pub mod Objects
-pub mod Opening
-pub mod Pools
-pub mod Records
-pub mod Shards
-pub mod Syncing
-pub mod Ubers
-pub mod Whole
+pub mod Failing

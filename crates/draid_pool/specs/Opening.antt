@@ -97,7 +97,7 @@ pub record IsRefused (geometry : Geometry) (new : Option Held) (after : ℕ → 
   pub told : IsSome new → IsTrue fresh.told
   pub held : OnHeld new (HoldsPool (uncommitted fresh) false)
   pub counts : (m : ℕ) (y : Metaslab) → slice_get fresh.metaslabs m ≡ Some y → SameCounts y.counts (after m)
-  pub uber : fresh.uber_count ≤ now.uber
+  pub uber : now.uber ≡ fresh.uber_count
   pub checks : NoChecks now
 
 -- what a shelf holds of a pool that was made, and of which nothing was committed

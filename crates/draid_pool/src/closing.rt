@@ -2,6 +2,8 @@ ghost use Rattle.std.specs.Prelude.{◌≡◌, ◌≤◌, length};
 ghost use Rattle.draid_session.specs.State.{State};
 ghost use Rattle.draid_shelf.specs.Shelf.{most_metaslabs};
 ghost use Rattle.draid_pool.specs.Closing.{GivesBack, Returns};
+ghost use Rattle.draid_pool.specs.Failing.{AreaFails};
+ghost use Rattle.draid_pool.specs.Opening.{AreaFailed};
 ghost use Rattle.draid_pool.specs.Pools.{Represents};
 ghost use Rattle.draid_pool.specs.Whole.{IsWhole};
 
@@ -29,6 +31,9 @@ pub fn close<H: Shelf>(pool: Pool<H::R, H::A>, shelf: &mut H, crash: bool)
     requires whole { IsWhole H.R.Rack H.A.Area pool }
     ensures back { (x : State) → Represents H.R.Rack H.A.Area pool x
         → GivesBack x crash (H.told shelf.old) (H.told shelf.new) (H.counts shelf.new) (H.uber_count shelf.new) }
+    // What has failed on an area of the pool shows on the shelf.
+    ensures failed { AreaFails H.A.faults pool → AreaFailed (H.counts shelf.new)
+        (record { uber = H.uber_count shelf.new; checks = H.check_counts shelf.new }) }
     ensures checks { H.check_counts shelf.new ≡ H.check_counts shelf.old }
     ensures faults { H.faults shelf.new ≡ H.faults shelf.old }
 {

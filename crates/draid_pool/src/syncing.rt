@@ -5,7 +5,7 @@ ghost use Rattle.draid_session.specs.Groups as groups;
 ghost use Rattle.draid_session.specs.State.{State};
 ghost use Rattle.draid_uber.specs.Slots.{group_of};
 ghost use Rattle.draid_uber.specs.Uber.{kept_of};
-ghost use Rattle.draid_pool.specs.Answers.{SyncDoes};
+ghost use Rattle.draid_pool.specs.Answers.{ExportDoes, SyncDoes};
 ghost use Rattle.draid_pool.specs.Carries.{CarriesOut};
 ghost use Rattle.draid_pool.specs.Pools.{Represents};
 ghost use Rattle.draid_pool.specs.Whole.{IsWhole};
@@ -32,6 +32,21 @@ impl<R: Rack, A: Area> Pool<R, A> {
         let group = self.uber.committed() + 1;
         let thin = self.commit_group(group)?;
         Ok(Synced { group, thin })
+    }
+
+    /// Makes all that the pool holds safe, as an export wants it: a sync comes where a metaslab isn't synced. The answer
+    /// is the committed group.
+    pub fn sync_for_export(&mut self) -> Result<u64, SyncFault>
+        requires whole { IsWhole R.Rack A.Area self.old }
+        ensures whole { IsWhole R.Rack A.Area self.new }
+        ensures carries { (x : State) → Represents R.Rack A.Area self.old x
+            → CarriesOut R.Rack A.Area self.new x (ExportDoes x result) }
+    {
+        if !self.unsynced() {
+            return Ok(self.committed());
+        }
+        let synced = self.sync()?;
+        Ok(synced.group)
     }
 
     /// The group that is closing in a metaslab.

@@ -1,66 +1,21 @@
 -- A run that has ended: what was served, and then the last line.
-use Rattle.std.proofs.Common.{refl, sym, subst, ◌≡◌, ◌∙◌, ◌⊎◌, inl, inr, ℕ, Bool, List, [], ◌∷◌, Option, Some, None, MatchOption}
-use Rattle.std.specs.Prelude.{⊤, IsSome, IsTrue, is_some}
+use Rattle.std.proofs.Common.{refl, sym, subst, ◌≡◌, ◌∙◌, ◌⊎◌, inl, inr, ℕ, List, [], ◌∷◌, Option, Some, None, MatchOption}
+use Rattle.std.specs.Prelude.{⊤}
 use Rattle.draid_names.specs.declared.room.Room.{Room}
 use Rattle.draid_rack.specs.declared.Rack as racks
 use Rattle.draid_area.specs.declared.Area as areas
-use Rattle.draid_shelf.specs.Kits.{Held, OnHeld}
 use Rattle.draid_lines.specs.Lines.{lines_of}
 use Rattle.draid_reply.specs.declared.reply.Reply.{Reply}
-use Rattle.draid_session.specs.Session.{Desk, Untouched, Made, Open, Shut}
-use Rattle.draid_session.specs.State.{State}
-use Rattle.draid_pool.specs.Closing.{GivesBack, HoldsPool}
-use Rattle.draid_pool.specs.Opening.{IsAway}
-use Rattle.draid_pool.specs.Pools.{Represents}
+use Rattle.draid_session.specs.Session.{Desk, Untouched, Made, Open, Shut, given_back}
 use Rattle.draid_pool.specs.declared.pool.Pool.{Pool}
 use Rattle.draid_run.specs.Desks.{IsDesk, LeavesDesk}
-use Rattle.draid_run.specs.Script.{BreaksOff, Ends, EndsWithLine, GetsReplies, IsSession, Prints, RunIs, Shows}
+use Rattle.draid_run.specs.Script.{BreaksOff, Ends, EndsWithLine, GetsReplies, IsSession, Prints, RunsFrom, Shows}
 use Rattle.draid_run.specs.Serve.{Served}
-use Rattle.draid_run.specs.Shelves.{HoldsAll, OnShelf}
+use Rattle.draid_run.specs.Shelves.{HoldsDesk, OnShelf}
 use Rattle.draid_run.specs.Status.{HasNumber, last_text}
 use Rattle.draid_run.specs.declared.status.Status.{Status}
 use Rattle.draid_run.specs.declared.status.Status.TheVariants.{Done, Usage, Line, SourceFault, SinkFault, NoMemory, TooLong, ShelfFault}
 use Rattle.draid_run.proofs.Known.{appends_none}
-
--- ---- the pool is given back
-
-gave_all : (x : State) (given old : Option Held) → OnHeld given (λ held. MatchOption old ⊥ (λ before. HoldsPool x before held)) → OnHeld old IsAway → OnHeld given (HoldsAll x)
-gave_all x None old holds away = tt
-gave_all x (Some held) None holds away = absurd holds
-gave_all x (Some held) (Some before) holds away = record { before = before; away = away; holds = holds }
-
-told_before : (x : State) (given old : Option Held) → OnHeld given (λ held. MatchOption old ⊥ (λ before. HoldsPool x before held)) → IsTrue (is_some given) → IsSome old
-told_before x None old holds is = absurd (cc)
-told_before x (Some held) None holds is = absurd holds
-told_before x (Some held) (Some before) holds is = refl
-
-module _ {R A : Type 0} (rack : racks.Ghosts R) (area : areas.Ghosts A) (entry before now : OnShelf) (desk : Option (Pool R A)) where
-  pub leaves_shut : desk ≡ None → now ≡ before → (x : Desk) → IsDesk rack area entry before desk x → LeavesDesk entry before now x
-  leaves_shut none same x = subst (λ d. IsDesk rack area entry before d x → LeavesDesk entry before now x) (sym none) (subst (λ n. IsDesk rack area entry before None x → LeavesDesk entry before n x) (sym same) (by x)) where
-    by : (x : Desk) → IsDesk rack area entry before None x → LeavesDesk entry before before x
-    by Untouched is = record { shelf = is.shelf; told = tt }
-    by (Made geometry) is = record { shelf = is.shelf; told = tt }
-    by (Shut y) is = record { shelf = is.shelf; told = tt }
-    by (Open y) is = absurd is.stands
-
-  pub leaves_open : (pool : Pool R A) → desk ≡ Some pool → ((x : State) → Represents rack area pool x → GivesBack x Bool.false before.held now.held now.counts) → now.own.uber ≡ before.own.uber → now.own.checks ≡ before.own.checks
-      → (x : Desk) → IsDesk rack area entry before desk x → LeavesDesk entry before now x
-  leaves_open pool some back uber checks x = subst (λ d. IsDesk rack area entry before d x → LeavesDesk entry before now x) (sym some) (by x) where
-    by : (x : Desk) → IsDesk rack area entry before (Some pool) x → LeavesDesk entry before now x
-    by Untouched is = absurd is.stands
-    by (Made geometry) is = absurd is.stands
-    by (Shut y) is = absurd is.stands
-    by (Open y) is =
-        let gave = back y is.stands in
-        record {
-          shelf = record {
-            held = subst (λ h. OnHeld h (HoldsAll y)) (sym gave.crashed) (gave_all y gave.given before.held gave.held is.shelf.held);
-            counts = gave.counted;
-            uber = uber ∙ is.shelf.own.uber ∙ sym is.stands.stands.uber.uber_count;
-            checks = checks ∙ is.shelf.own.checks;
-          };
-          told = λ t. told_before y gave.given before.held gave.held (subst (λ h. IsTrue (is_some h)) gave.crashed t);
-        }
 
 -- ---- the last line
 
@@ -114,10 +69,10 @@ gets_short ShelfFault shown old new number gets = absurd number
 not_usage : NoMemory ≡ Usage → ⊥
 not_usage e = cc e
 
-module _ {R A : Type 0} (rack : racks.Ghosts R) (area : areas.Ghosts A) (chosen : List Room → Option ℕ → Type 0) where
+module _ {R A : Type 0} (rack : racks.Ghosts R) (area : areas.Ghosts A) (chosen : List Room → Option ℕ → Type 0) (first : Desk) where
   -- want of memory for the last line is as good an end as that line
-  short_served : (ended : Status) (input start held : Option (List ℕ)) (entry now : OnShelf) (pool : Option (Pool R A)) → HasNumber ended → Served rack area chosen ended input start held entry now pool
-      → Served rack area chosen NoMemory input start held entry now pool
+  short_served : (ended : Status) (input start held : Option (List ℕ)) (entry now : OnShelf) (pool : Option (Pool R A)) → HasNumber ended → Served rack area chosen first ended input start held entry now pool
+      → Served rack area chosen first NoMemory input start held entry now pool
   short_served ended input start held entry now pool number is = record {
     lines = is.lines;
     replies = is.replies;
@@ -131,11 +86,12 @@ module _ {R A : Type 0} (rack : racks.Ghosts R) (area : areas.Ghosts A) (chosen 
     ends = ends_known ended is.broken is.lines input number is.ends;
     shows = shows_short ended is.replies is.shown number is.shows;
     prints = gets_short ended is.shown start held number is.prints;
+    failed = λ e. absurd (cc e);
   }
 
   -- what was served, as the run of these words
   run_of : (words : List (List ℕ)) (status ended : Status) (input start mid new : Option (List ℕ)) (entry before now : OnShelf) (pool : Option (Pool R A)) → (ended ≡ Usage → ⊥) → IsSession words
-      → (is : Served rack area chosen ended input start mid entry before pool) → LeavesDesk entry before now is.last → Prints status ended (last_text ended) mid new → RunIs chosen words status input start new entry now
+      → (is : Served rack area chosen first ended input start mid entry before pool) → LeavesDesk entry before now is.last → Prints status ended (last_text ended) mid new → RunsFrom chosen words status input start new entry now first
   run_of words status ended input start mid new entry before now pool other session is leaves line = record {
     last = is.last;
     session = record {
@@ -147,7 +103,7 @@ module _ {R A : Type 0} (rack : racks.Ghosts R) (area : areas.Ghosts A) (chosen 
       broken = is.broken;
       usage = λ e taken. other e;
       refused = λ wrong. absurd (wrong session);
-      runs = is.runs (is_some now.held) leaves.told;
+      runs = is.runs;
       breaks = is.breaks;
       ends = is.ends;
       shows = is.shows;
@@ -158,9 +114,9 @@ module _ {R A : Type 0} (rack : racks.Ghosts R) (area : areas.Ghosts A) (chosen 
 
   -- a run of a session: what was served, the last line, and the pool on the shelf
   pub run_served : (words : List (List ℕ)) (status ended : Status) (input start mid new : Option (List ℕ)) (entry before now : OnShelf) (pool : Option (Pool R A)) → IsSession words → (ended ≡ Usage → ⊥)
-      → Served rack area chosen ended input start mid entry before pool → EndsWithLine ended status mid new
+      → Served rack area chosen first ended input start mid entry before pool → EndsWithLine ended status mid new
       → ((x : Desk) → IsDesk rack area entry before pool x → LeavesDesk entry before now x)
-      → RunIs chosen words status input start new entry now
+      → RunsFrom chosen words status input start new entry now first
   run_served words status ended input start mid new entry before now pool session other is line leaves = elim line.is [
     | inl same ↦
         let prints = subst (λ m. Prints status m (last_text m) mid new) same line.prints in
@@ -171,19 +127,19 @@ module _ {R A : Type 0} (rack : racks.Ghosts R) (area : areas.Ghosts A) (chosen 
         run_of words status NoMemory input start mid new entry before now pool (λ e. absurd (not_usage e)) session short (leaves short.last short.desk) prints
   ]
 
-module _ (chosen : List Room → Option ℕ → Type 0) (words : List (List ℕ)) (status : Status) (input old new : Option (List ℕ)) (entry : OnShelf) where
+module _ (chosen : List Room → Option ℕ → Type 0) (words : List (List ℕ)) (status : Status) (input old new : Option (List ℕ)) (entry : OnShelf) (first : Desk) (at : HoldsDesk first entry entry) where
   -- a run that does nothing but print its last line
   run_of_none : (meant : Status) → (meant ≡ Usage → IsSession words → ⊥) → (meant ≡ Usage) ⊎ (meant ≡ NoMemory) → ((known : Option (List ℕ)) → MatchOption known ⊤ (Ends meant None [])) → Shows meant [] []
-      → BreaksOff meant None Untouched Untouched → GetsReplies meant [] old old → (HasNumber meant → ⊥) → EndsWithLine meant status old new → RunIs chosen words status input old new entry entry
+      → BreaksOff meant None first first → GetsReplies meant [] old old → (HasNumber meant → ⊥) → EndsWithLine meant status old new → RunsFrom chosen words status input old new entry entry first
   run_of_none meant wrong refused ends shows breaks gets plain line = elim line.is [
     | inl same ↦ record {
-      last = Untouched;
+      last = first;
       session = record {
         lines = [];
         replies = [];
         shown = [];
         ended = meant;
-        mid = Untouched;
+        mid = first;
         broken = None;
         usage = wrong;
         refused = λ _. record { nothing = refl; cause = refused };
@@ -193,20 +149,26 @@ module _ (chosen : List Room → Option ℕ → Type 0) (words : List (List ℕ)
         shows = shows;
         prints = record { between = old; replies = gets; last = subst (λ m. Prints status m (last_text m) old new) same line.prints };
       };
-      shelf = record { held = refl; counts = λ m. refl; uber = refl; checks = refl };
+      shelf = back first at;
     }
     | inr none ↦ absurd (plain none.1)
   ]
+    where
+      back : (x : Desk) → HoldsDesk x entry entry → HoldsDesk (given_back x) entry entry
+      back Untouched is = is
+      back (Made geometry) is = is
+      back (Shut x) is = is
+      back (Open x) is = absurd is
 
   -- a run whose words aren't those of a session
-  pub run_refused : (IsSession words → ⊥) → EndsWithLine Usage status old new → RunIs chosen words status input old new entry entry
+  pub run_refused : (IsSession words → ⊥) → EndsWithLine Usage status old new → RunsFrom chosen words status input old new entry entry first
   run_refused wrong = run_of_none Usage (λ e. wrong) (inl refl) ends_nothing refl refl (appends_none old) (λ number. number) where
     ends_nothing : (known : Option (List ℕ)) → MatchOption known ⊤ (Ends Usage None [])
     ends_nothing None = tt
     ends_nothing (Some bytes) = refl
 
   -- a run whose words can't be read for want of memory
-  pub run_unread : EndsWithLine NoMemory status old new → RunIs chosen words status input old new entry entry
+  pub run_unread : EndsWithLine NoMemory status old new → RunsFrom chosen words status input old new entry entry first
   run_unread = run_of_none NoMemory (λ e. absurd (not_usage e)) (inr refl) ends_nothing (inl refl) refl (appends_none old) (λ number. number) where
     ends_nothing : (known : Option (List ℕ)) → MatchOption known ⊤ (Ends NoMemory None [])
     ends_nothing None = tt

@@ -52,3 +52,35 @@ same_layout (h ∷ hs) a b f =
     let one = hold_layout h a f.0 f.1 in
     let more = same_layout hs f.0 b f.2 in
     (more.0 ∙ one.0, more.1 ∙ one.1)
+
+-- and whether the shelf told
+uber_told : (act : UberAct) (a b : State) → UberActs act a b → b.told ≡ a.told
+uber_told LookedUber a b u = ap (λ (y : State). y.told) u
+uber_told (Committed group) a b u = ap (λ (y : State). y.told) u.2
+uber_told (CommitFailed group) a b u = ap (λ (y : State). y.told) u.2
+uber_told (CommitStarved group) a b u = ap (λ (y : State). y.told) u.2
+uber_told (NextLeaf next) a b u = ap (λ (y : State). y.told) u
+
+hold_told : (hold : Hold) (a b : State) → Holds hold a b → b.told ≡ a.told
+hold_told (On v act) a b h = ap (λ (y : State). y.told) h.made
+hold_told (OnUber u act) a b h = uber_told act a b h.acts
+
+pub same_told : (holds : List Hold) (a b : State) → Follows holds a b → b.told ≡ a.told
+same_told [] a b f = ap (λ (y : State). y.told) f
+same_told (h ∷ hs) a b f = same_told hs f.0 b f.2 ∙ hold_told h a f.0 f.1
+
+-- and what the pool has of its own
+uber_store : (act : UberAct) (a b : State) → UberActs act a b → b.store ≡ a.store
+uber_store LookedUber a b u = ap (λ (y : State). y.store) u
+uber_store (Committed group) a b u = ap (λ (y : State). y.store) u.2
+uber_store (CommitFailed group) a b u = ap (λ (y : State). y.store) u.2
+uber_store (CommitStarved group) a b u = ap (λ (y : State). y.store) u.2
+uber_store (NextLeaf next) a b u = ap (λ (y : State). y.store) u
+
+hold_store : (hold : Hold) (a b : State) → Holds hold a b → b.store ≡ a.store
+hold_store (On v act) a b h = ap (λ (y : State). y.store) h.made
+hold_store (OnUber u act) a b h = uber_store act a b h.acts
+
+pub same_store : (holds : List Hold) (a b : State) → Follows holds a b → b.store ≡ a.store
+same_store [] a b f = ap (λ (y : State). y.store) f
+same_store (h ∷ hs) a b f = same_store hs f.0 b f.2 ∙ hold_store h a f.0 f.1

@@ -1,6 +1,9 @@
+pub mod Broke
 pub mod Ended
 pub mod Filled
 pub mod Following
+pub mod GivenBack
+pub mod Grouping
 pub mod Known
 pub mod Makings
 pub mod Runs

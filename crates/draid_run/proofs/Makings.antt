@@ -11,25 +11,23 @@ use Rattle.draid_spec.specs.declared.spec.SpecFault.{SpecFault}
 use Rattle.draid_spec.specs.Geometry.{checked_props, checked_version, geometry_of, layout_of, total_of}
 use Rattle.draid_spec.specs.Spec.{checked_width}
 use Rattle.draid_spec.specs.Text.{spec_by}
-use Rattle.draid_map.specs.Place.{IsLayout}
-use Rattle.draid_shelf.specs.Kits.{Held, IsNewPool, IsUncounted, KitCounts, OnHeld}
+use Rattle.draid_shelf.specs.Kits.{Held, KitCounts, OnHeld}
 use Rattle.draid_script.specs.Line.{CreatePool}
 use Rattle.draid_script.specs.declared.line.PoolKeys.{PoolKeys}
 use Rattle.draid_script.specs.declared.name.CommandName.TheVariants as name
 use Rattle.draid_reply.specs.declared.reply.Reply.TheVariants.{Created, CreateRefused, NoMemory}
-use Rattle.draid_session.specs.Making as making
 use Rattle.draid_session.specs.Making.{Makes, layout_by, layout_from, props_of, vdev_name_of}
-use Rattle.draid_session.specs.Session.{Desk, Untouched, Made, Open, Shut, Breaks, MakesNone, StaysShut}
+use Rattle.draid_session.specs.Session.{Desk, Untouched, Made, Open, Shut, Breaks, MakesNone, StaysShut, uncommitted}
 use Rattle.draid_session.specs.State.{State}
-use Rattle.draid_pool.specs.Closing.{SameCounts}
+use Rattle.draid_pool.specs.Closing.{HoldsPool, SameCounts}
 use Rattle.draid_pool.specs.Opening as opening
-use Rattle.draid_pool.specs.Opening.{IsAsBefore, ShelfIs}
+use Rattle.draid_pool.specs.Opening.{HoldsMade, HoldsUncommitted, IsAsBefore, IsAway, IsRefused, ShelfIs}
 use Rattle.draid_pool.specs.declared.fault.PoolFault.{PoolFault}
 use Rattle.draid_pool.specs.declared.fault.PoolFault.TheVariants as fault
 use Rattle.draid_pool.specs.declared.pool.Pool.{Pool}
-use Rattle.draid_run.specs.Desks.{Broken, IsDesk, IsPool, IsShelf, Tells}
+use Rattle.draid_run.specs.Desks.{Broken, IsDesk, IsPool, IsShelf}
 use Rattle.draid_run.specs.Making.{CreateDid, CreateTurns, MakeIs, OpensAs, PoolIs}
-use Rattle.draid_run.specs.Shelves.{HoldsAll, IsSame, OnShelf}
+use Rattle.draid_run.specs.Shelves.{HasChecks, HasFailed, HasFault, HoldsAll, HoldsShut, IsSame, OnShelf}
 use Rattle.draid_run.specs.declared.answer.Made as answer
 
 -- what stands behind all checks is what passed them
@@ -44,21 +42,22 @@ same_spec : (spec : Spec) (props : Props) (layout : Geometry) → geometry_of sp
 same_spec spec props layout is =
     sym (ap (λ (g : Geometry). g.spec) (by_checks (checked_version props.version) (checked_width spec) (checked_props props) (nat_lt 67108864 (total_of props (layout_of spec props).rows)) _ (layout_of spec props) layout is))
 
--- what is said of a shelf that tells, where it tells
-on_held : (P : Type 0) (held : Option Held) → OnHeld held (λ _. P) → IsSome held → P
-on_held P None said told = absurd (cc)
-on_held P (Some held) said told = said
+has_checks : (held : Option Held) → OnHeld held IsAway → OnHeld held HasChecks
+has_checks None away = tt
+has_checks (Some held) away = away.checks
 
 -- a desk without a pool stands as the shelf stays as it is
 pub same_shelf : (x : Desk) (entry before now : OnShelf) → ((y : State) → x ≡ Open y → ⊥) → IsSame before now → IsShelf x entry before → IsShelf x entry now
 same_shelf Untouched entry before now none s d = record { held = s.held ∙ d.held; counts = λ m. s.counts m ∙ d.counts m; uber = s.uber ∙ d.uber; checks = s.checks ∙ d.checks }
 same_shelf (Made geometry) entry before now none s d = record {
-  held = subst (λ h. OnHeld h (IsNewPool geometry)) (sym s.held) d.held;
-  counts = λ m less. subst (λ (k : KitCounts). IsUncounted k) (sym (s.counts m)) (d.counts m less);
-  own = record { uber = s.uber ∙ d.own.uber; checks = s.checks ∙ d.own.checks };
+  held = subst (λ h. OnHeld h (HoldsMade geometry)) (sym s.held) d.held;
+  counts = λ m who less. ap (λ (k : KitCounts). k.rack who) (s.counts m) ∙ d.counts m who less;
+  uber = s.uber ∙ d.uber;
+  checks = s.checks ∙ d.checks;
 }
 same_shelf (Shut y) entry before now none s d = record {
   held = subst (λ h. OnHeld h (HoldsAll y)) (sym s.held) d.held;
+  told = λ is. d.told (subst (λ h. IsSome h) s.held is);
   counts = λ m z there. subst (λ (k : KitCounts). SameCounts z.counts k) (sym (s.counts m)) (d.counts m z there);
   uber = s.uber ∙ d.uber;
   checks = s.checks ∙ d.checks;
@@ -77,12 +76,6 @@ module _ {R A : Type 0} (rack : racks.Ghosts R) (area : areas.Ghosts A) where
   not_open (Shut z) is y same = cc same
   not_open (Open z) is y same = is
 
-  tells_shut : (x : Desk) (now : OnShelf) (tells : Bool) → IsPool rack area None x → Tells x now tells
-  tells_shut Untouched now tells is = tt
-  tells_shut (Made geometry) now tells is = tt
-  tells_shut (Shut z) now tells is = tt
-  tells_shut (Open z) now tells is = absurd is
-
   stays_shut : (x : Desk) → IsPool rack area None x → StaysShut x x
   stays_shut Untouched is = refl
   stays_shut (Made geometry) is = refl
@@ -90,24 +83,24 @@ module _ {R A : Type 0} (rack : racks.Ghosts R) (area : areas.Ghosts A) where
   stays_shut (Open z) is = absurd is
 
   module _ (text : List ℕ) (children : ℕ) (keys : PoolKeys) (entry before now : OnShelf) (spec : Spec) (read : spec_by text children keys.version ≡ Ok spec) where
-    turns_made : (x : Desk) (tells : Bool) (m : answer.Made) (new : State) → IsPool rack area None x → Makes tells text children keys (string_bytes m.name) m.stripes new
-        → CreateTurns tells text children keys x (Created m.name m.stripes) (Open new)
-    turns_made Untouched tells m new is makes = makes
-    turns_made (Made geometry) tells m new is makes = makes
-    turns_made (Shut z) tells m new is makes = makes
-    turns_made (Open z) tells m new is makes = absurd is
+    turns_made : (x : Desk) (m : answer.Made) (new : State) → IsPool rack area None x → Makes text children keys (string_bytes m.name) m.stripes new
+        → CreateTurns text children keys x (Created m.name m.stripes) (Open new)
+    turns_made Untouched m new is makes = makes
+    turns_made (Made geometry) m new is makes = makes
+    turns_made (Shut z) m new is makes = makes
+    turns_made (Open z) m new is makes = absurd is
 
-    turns_refused : (x : Desk) (tells : Bool) (why : SpecFault) → IsPool rack area None x → layout_by text children keys ≡ Err why → CreateTurns tells text children keys x (CreateRefused why) x
-    turns_refused Untouched tells why is none = (none, refl)
-    turns_refused (Made geometry) tells why is none = (none, refl)
-    turns_refused (Shut z) tells why is none = (none, refl)
-    turns_refused (Open z) tells why is none = absurd is
+    turns_refused : (x : Desk) (why : SpecFault) → IsPool rack area None x → layout_by text children keys ≡ Err why → CreateTurns text children keys x (CreateRefused why) x
+    turns_refused Untouched why is none = (none, refl)
+    turns_refused (Made geometry) why is none = (none, refl)
+    turns_refused (Shut z) why is none = (none, refl)
+    turns_refused (Open z) why is none = absurd is
 
-    turns_none : (x : Desk) (tells : Bool) (new : Desk) → IsPool rack area None x → MakesNone text children keys x new → CreateTurns tells text children keys x (NoMemory name.Create) new
-    turns_none Untouched tells new is none = none
-    turns_none (Made geometry) tells new is none = none
-    turns_none (Shut z) tells new is none = none
-    turns_none (Open z) tells new is none = absurd is
+    turns_none : (x : Desk) (new : Desk) → IsPool rack area None x → MakesNone text children keys x new → CreateTurns text children keys x (NoMemory name.Create) new
+    turns_none Untouched new is none = none
+    turns_none (Made geometry) new is none = none
+    turns_none (Shut z) new is none = none
+    turns_none (Open z) new is none = absurd is
 
     breaks_none : (x : Desk) (new : Desk) → IsPool rack area None x → MakesNone text children keys x new → Breaks x (CreatePool text children keys) new
     breaks_none Untouched new is none = none
@@ -115,93 +108,103 @@ module _ {R A : Type 0} (rack : racks.Ghosts R) (area : areas.Ghosts A) where
     breaks_none (Shut z) new is none = none
     breaks_none (Open z) new is none = absurd is
 
-    -- a new pool is fresh
-    fresh_new : (tells : Bool) (pool : Pool R A) (m : answer.Made) (o : OpensAs rack area spec (props_of keys) now m pool) → Tells (Open o.opens.state) now tells → making.IsFresh tells o.geometry o.opens.state
-    fresh_new tells pool m o told =
-        let x : State = o.opens.state in
-        let fresh = o.opens.fresh in
-        let stands = o.opens.represents.stands in
-        record {
-          layout = fresh.geometry_is;
-          perms = subst (λ (g : Geometry). IsLayout g x.perms) fresh.geometry_is stands.layout;
-          many = stands.many ∙ ap (λ (g : Geometry). g.props.metaslabs) fresh.geometry_is;
-          each = λ k y there. (let new = fresh.each k y there in record {
-            opened = new.opened;
-            world = new.world;
-            events = new.events;
-            reserved = new.reserved;
-            counts = record { rack = new.no_rack; even = new.no_even; odd = new.no_odd };
-          });
-          calm = λ is. on_held _ now.held fresh.calm (told is);
-          store = fresh.store;
-          committed = stands.uber.committed;
-          leaves = (stands.uber.kept_leaf ∙ ap (λ (g : Geometry). g.spec.children) fresh.geometry_is, stands.uber.next_leaf ∙ ap (λ (g : Geometry). g.spec.children) fresh.geometry_is);
-          uber = (stands.uber.uber_count, stands.uber.pending);
-        }
-
     module _ (result : Result answer.Made PoolFault) (pool : Option (Pool R A)) (x : Desk) (shelf : IsShelf x entry before) (stands : IsPool rack area None x)
         (makes : MakeIs rack area spec (props_of keys) before now pool result) where
       layout_is : (r : Result Geometry SpecFault) → geometry_of spec (props_of keys) ≡ r → layout_by text children keys ≡ r
       layout_is r is = ap (layout_from keys) read ∙ is
 
-      pools : (r : Result answer.Made PoolFault) → result ≡ r → PoolIs rack area spec (props_of keys) now pool r
-      pools r is = subst (λ q. PoolIs rack area spec (props_of keys) now pool q) is makes.pool_is
+      pools : (r : Result answer.Made PoolFault) → result ≡ r → PoolIs rack area spec (props_of keys) before now pool r
+      pools r is = subst (λ q. PoolIs rack area spec (props_of keys) before now pool q) is makes.pool_is
 
       shelves : (r : Result answer.Made PoolFault) → result ≡ r → ShelfIs spec (props_of keys) before.held now.held before.counts now.counts before.own now.own r
       shelves r is = subst (λ q. ShelfIs spec (props_of keys) before.held now.held before.counts now.counts before.own now.own q) is makes.shelf
 
-      pub made : (m : answer.Made) → result ≡ Ok m → CreateDid rack area text children keys entry before x (Created m.name m.stripes) now pool
+      pub made : (m : answer.Made) → result ≡ Ok m → CreateDid rack area text children keys entry x (Created m.name m.stripes) now pool
       made m is = by pool (pools (Ok m) is) (shelves (Ok m) is) where
-        by : (p : Option (Pool R A)) → PoolIs rack area spec (props_of keys) now p (Ok m) → ShelfIs spec (props_of keys) before.held now.held before.counts now.counts before.own now.own (Ok m)
-            → CreateDid rack area text children keys entry before x (Created m.name m.stripes) now p
+        by : (p : Option (Pool R A)) → PoolIs rack area spec (props_of keys) before now p (Ok m) → ShelfIs spec (props_of keys) before.held now.held before.counts now.counts before.own now.own (Ok m)
+            → CreateDid rack area text children keys entry x (Created m.name m.stripes) now p
         by None o s = absurd o
         by (Some p) o s = record {
-          new = Open o.opens.state;
-          desk = record { stands = o.opens.represents; shelf = record { held = s.0; own = s.1 } };
-          told = λ tells t. tells_shut x before tells stands;
-          turns = λ tells t. turns_made x tells m o.opens.state stands (record {
-            geometry = o.geometry;
-            layout = layout_is (Ok o.geometry) o.layout;
-            name_is = o.name_is ∙ ap vdev_name_of (sym (same_spec spec (props_of keys) o.geometry o.layout));
-            stripes_are = o.stripes_are;
-            fresh = fresh_new tells p m o t;
+          new = Open o.1.opens.state;
+          desk = record { stands = (o.0, o.1.opens.represents); shelf = record { held = has_checks now.held s.0; checks = s.1; told = o.1.opens.told_is } };
+          turns = turns_made x m o.1.opens.state stands (record {
+            geometry = o.1.geometry;
+            layout = layout_is (Ok o.1.geometry) o.1.layout;
+            name_is = o.1.name_is ∙ ap vdev_name_of (sym (same_spec spec (props_of keys) o.1.geometry o.1.layout));
+            stripes_are = o.1.stripes_are;
+            fresh = o.1.opens.fresh;
           });
         }
 
-      pub refused : (why : SpecFault) → result ≡ Err (fault.Spec why) → CreateDid rack area text children keys entry before x (CreateRefused why) now pool
+      pub refused : (why : SpecFault) → result ≡ Err (fault.Spec why) → CreateDid rack area text children keys entry x (CreateRefused why) now pool
       refused why is =
           let o = pools (Err (fault.Spec why)) is in
           let s = shelves (Err (fault.Spec why)) is in
           record {
             new = x;
             desk = record { stands = subst (λ p. IsPool rack area p x) (sym o.1) stands; shelf = same_shelf x entry before now (not_open x stands) s shelf };
-            told = λ tells t. tells_shut x before tells stands;
-            turns = λ tells t. turns_refused x tells why stands (layout_is (Err why) o.0);
+            turns = turns_refused x why stands (layout_is (Err why) o.0);
           }
 
+      refused_shut : (geometry : Geometry) (r : IsRefused geometry now.held now.counts now.own) → HoldsShut (uncommitted r.fresh) now
+      refused_shut geometry r = record {
+        held = all now.held r.held;
+        told = r.told;
+        counts = r.counts;
+        uber = r.uber;
+        checks = r.checks;
+      } where
+        all : (held : Option Held) → OnHeld held (HoldsPool (uncommitted r.fresh) false) → OnHeld held (HoldsAll (uncommitted r.fresh))
+        all None h = tt
+        all (Some held) h = record { crash = false; holds = h }
+
       -- none was opened: where the desk is then, and why it may be
-      none_made : opening.HasLayout spec (props_of keys) × (pool ≡ None)
-          → IsAsBefore before.held now.held before.counts now.counts before.own now.own ⊎ ((geometry : Geometry) × (geometry_of spec (props_of keys) ≡ Ok geometry) × opening.IsMade geometry now.held now.counts now.own)
-          → (new : Desk) × IsDesk rack area entry now pool new × MakesNone text children keys x new
-      none_made o s = elim s [
+      none_made : opening.HasLayout spec (props_of keys) → pool ≡ None
+          → IsAsBefore before.held now.held before.counts now.counts before.own now.own
+          ⊎ ((geometry : Geometry) × (geometry_of spec (props_of keys) ≡ Ok geometry) × HoldsUncommitted geometry now.held now.counts now.own)
+          → (new : Desk) × IsDesk rack area entry now pool new × MakesNone text children keys x new × (HasFailed before now → HasFault before now new)
+      none_made has none s = elim s [
         | inl same ↦ (
           x,
-          record { stands = subst (λ p. IsPool rack area p x) (sym o.1) stands; shelf = same_shelf x entry before now (not_open x stands) same shelf },
-          (o.0.0, layout_is (Ok o.0.0) o.0.1, inl (stays_shut x stands)),
+          record { stands = subst (λ p. IsPool rack area p x) (sym none) stands; shelf = same_shelf x entry before now (not_open x stands) same shelf },
+          as_was x stands has,
+          fault_shut x stands,
         )
-        | inr all ↦ (
-          Made all.0,
-          record { stands = subst (λ p. IsPool rack area p (Made all.0)) (sym o.1) tt; shelf = all.2 },
-          (all.0, layout_is (Ok all.0) all.1, inr refl),
-        )
-      ]
+        | inr all ↦ elim all.2 [
+          | inl made ↦ (
+            Made all.0,
+            record { stands = subst (λ p. IsPool rack area p (Made all.0)) (sym none) tt; shelf = made },
+            (all.0, layout_is (Ok all.0) all.1, inr refl),
+            λ failed. failed,
+          )
+          | inr r ↦ (
+            Shut (uncommitted r.fresh),
+            record { stands = subst (λ p. IsPool rack area p (Shut (uncommitted r.fresh))) (sym none) tt; shelf = refused_shut all.0 r },
+            inr (all.0, layout_is (Ok all.0) all.1, (r.fresh, r.is_fresh, refl)),
+            λ failed. failed,
+          )
+        ]
+      ] where
+        as_was : (y : Desk) → IsPool rack area None y → opening.HasLayout spec (props_of keys) → MakesNone text children keys y y
+        as_was Untouched is h = (h.0, layout_is (Ok h.0) h.1, inl refl)
+        as_was (Made geometry) is h = (h.0, layout_is (Ok h.0) h.1, inl refl)
+        as_was (Shut z) is h = inl refl
+        as_was (Open z) is h = absurd is
 
-      pub no_memory : result ≡ Err fault.NoMemory → CreateDid rack area text children keys entry before x (NoMemory name.Create) now pool
+        fault_shut : (y : Desk) → IsPool rack area None y → HasFailed before now → HasFault before now y
+        fault_shut Untouched is failed = failed
+        fault_shut (Made geometry) is failed = failed
+        fault_shut (Shut z) is failed = failed
+        fault_shut (Open z) is failed = absurd is
+
+      pub no_memory : result ≡ Err fault.NoMemory → CreateDid rack area text children keys entry x (NoMemory name.Create) now pool
       no_memory is =
-          let n = none_made (pools (Err fault.NoMemory) is) (shelves (Err fault.NoMemory) is) in
-          record { new = n.0; desk = n.1; told = λ tells t. tells_shut x before tells stands; turns = λ tells t. turns_none x tells n.0 stands n.2 }
+          let o = pools (Err fault.NoMemory) is in
+          let n = none_made o.0 o.1 (shelves (Err fault.NoMemory) is) in
+          record { new = n.0; desk = n.1; turns = turns_none x n.0 stands n.2 }
 
-      pub shelf_failed : result ≡ Err fault.Shelf → Broken rack area (CreatePool text children keys) entry x now pool
+      pub shelf_failed : result ≡ Err fault.Shelf → Broken rack area (CreatePool text children keys) entry before x now pool
       shelf_failed is =
-          let n = none_made (pools (Err fault.Shelf) is) (shelves (Err fault.Shelf) is) in
-          record { new = n.0; desk = n.1; breaks = breaks_none x n.0 stands n.2 }
+          let o = pools (Err fault.Shelf) is in
+          let n = none_made o.0 o.1 (shelves (Err fault.Shelf) is) in
+          record { new = n.0; desk = n.1; breaks = breaks_none x n.0 stands n.2; cause = n.3 o.2 }

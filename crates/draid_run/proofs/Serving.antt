@@ -1,23 +1,23 @@
 -- What the loop over the lines keeps, and what its ends come to.
-use Rattle.std.proofs.Common.{arith, refl, sym, ap, ◌≡◌, ◌∙◌, ◌+◌, inl, inr, ℕ, Bool, List, [], ◌∷◌, ◌++◌, Option, Some, None, Result, Ok, Err, Vec, Global, subst, append_assoc, length-append}
+use Rattle.std.proofs.Common.{arith, refl, sym, ap, ◌≡◌, ◌∙◌, ◌+◌, ◌≤◌, inl, inr, ℕ, List, [], ◌∷◌, ◌++◌, Option, Some, None, Result, Ok, Err, Vec, Global, subst, append_assoc, length-append}
 use Rattle.std.specs.Prelude.{flat_map}
 use Rattle.std.specs.Io.KnownBytes.{prepend_known}
 use Rattle.std.proofs.lemmas.Grind.{flat_map-append}
 use Rattle.std.proofs.lemmas.List.{append-nil}
+use Rattle.draid_names.specs.Faults.{Rose}
 use Rattle.draid_names.specs.declared.room.Room.{Room}
 use Rattle.draid_rack.specs.declared.Rack as racks
 use Rattle.draid_area.specs.declared.Area as areas
 use Rattle.draid_lines.proofs.Ends.{lines_none}
 use Rattle.draid_lines.specs.Lines.{Rest, WhereKnown, lines_of}
 use Rattle.draid_script.specs.Grammar.{line_of}
-use Rattle.draid_script.specs.Line.{Command}
 use Rattle.draid_reply.specs.declared.reply.Reply.{Reply}
-use Rattle.draid_session.specs.Session.{Desk, Untouched, Made, Open, Shut, Breaks}
+use Rattle.draid_session.specs.Session.{Desk, Untouched, Made, Open, Shut}
 use Rattle.draid_pool.specs.declared.pool.Pool.{Pool}
-use Rattle.draid_run.specs.Desks.{Tells, Turned}
+use Rattle.draid_run.specs.Desks.{IsDesk, Turned}
 use Rattle.draid_run.specs.Script.{Ends, LineFaultIs, said_text, texts_of}
 use Rattle.draid_run.specs.Serve.{BrokenLine, Cut, LineIs, Printed, Served, Serving, TextIs}
-use Rattle.draid_run.specs.Shelves.{OnShelf}
+use Rattle.draid_run.specs.Shelves.{HasFailed, HasFault, HoldsDesk, OnShelf}
 use Rattle.draid_run.specs.declared.status.Status.{Status}
 use Rattle.draid_run.specs.declared.status.Status.TheVariants.{Done, Usage, Line, SourceFault, SinkFault, NoMemory, TooLong, ShelfFault}
 use Rattle.draid_run.proofs.Known.{appends_more, appends_none, known_input, known_on}
@@ -37,12 +37,25 @@ text_by lines lines' left left' next next' is text =
     let P : Option (Vec ℕ Global) → Type 0 = λ n. TextIs lines lines' left left' (Ok n) in
     subst P is text
 
--- a run breaks off only where no pool is open
-tells_broken : (x : Desk) (now : OnShelf) (tells : Bool) (command : Command) (new : Desk) → Breaks x command new → Tells x now tells
-tells_broken Untouched now tells command new breaks = tt
-tells_broken (Made geometry) now tells command new breaks = tt
-tells_broken (Shut y) now tells command new breaks = tt
-tells_broken (Open y) now tells command new breaks = absurd breaks
+-- the shelf as it is
+pub as_found : (entry : OnShelf) → HoldsDesk Untouched entry entry
+as_found entry = record { held = refl; counts = λ m. refl; uber = refl; checks = refl }
+
+-- what failed in a line failed since the entry
+rose_from : (entry before now : ℕ) → entry ≤ before → Rose before now → Rose entry now
+rose_from entry before now later rose = omega (arith, later, rose)
+
+failed_from : (entry before now : OnShelf) → entry.faults ≤ before.faults → HasFailed before now → HasFailed entry now
+failed_from entry before now later failed = elim failed [
+  | inl rose ↦ inl (rose_from entry.faults before.faults now.faults later rose)
+  | inr areas ↦ inr areas
+]
+
+fault_from : (entry before now : OnShelf) → entry.faults ≤ before.faults → (x : Desk) → HasFault before now x → HasFault entry now x
+fault_from entry before now later (Open x) fault = fault
+fault_from entry before now later Untouched fault = failed_from entry before now later fault
+fault_from entry before now later (Made geometry) fault = failed_from entry before now later fault
+fault_from entry before now later (Shut x) fault = failed_from entry before now later fault
 
 module _ {R A : Type 0} (rack : racks.Ghosts R) (area : areas.Ghosts A) (chosen : List Room → Option ℕ → Type 0) (entry : OnShelf) where
   -- the line under another name of its number and its text
@@ -53,14 +66,30 @@ module _ {R A : Type 0} (rack : racks.Ghosts R) (area : areas.Ghosts A) (chosen 
       let Q : List ℕ → Type 0 = λ t. LineIs rack area chosen number' t entry before pool x now pool' held held' result in
       subst Q texts (subst P numbers line)
 
-  pub serving_none : (input start : Option (List ℕ)) → Serving rack area chosen input (prepend_known [] input) start start entry entry None 0
-  serving_none input start = record {
+  -- a line that wasn't run has no fault of the source's, nor of the words
+  pub line_no_source : (number : ℕ) (text : List ℕ) (before : OnShelf) (pool : Option (Pool R A)) (x : Desk) (now : OnShelf) (pool' : Option (Pool R A)) (held held' : Option (List ℕ)) (status : Status)
+      → LineIs rack area chosen number text entry before pool x now pool' held held' (Err status) → status ≡ SourceFault → ⊥
+  line_no_source number text before pool x now pool' held held' status line is = subst (λ s. LineIs rack area chosen number text entry before pool x now pool' held held' (Err s)) is line
+
+  pub line_no_usage : (number : ℕ) (text : List ℕ) (before : OnShelf) (pool : Option (Pool R A)) (x : Desk) (now : OnShelf) (pool' : Option (Pool R A)) (held held' : Option (List ℕ)) (status : Status)
+      → LineIs rack area chosen number text entry before pool x now pool' held held' (Err status) → status ≡ Usage → ⊥
+  line_no_usage number text before pool x now pool' held held' status line is = subst (λ s. LineIs rack area chosen number text entry before pool x now pool' held held' (Err s)) is line
+
+  -- a desk without a pool
+  shut_desk : (first : Desk) → HoldsDesk first entry entry → IsDesk rack area entry entry None first
+  shut_desk Untouched is = record { stands = tt; shelf = is }
+  shut_desk (Made geometry) is = record { stands = tt; shelf = is }
+  shut_desk (Shut x) is = record { stands = tt; shelf = is }
+  shut_desk (Open x) is = absurd is
+
+  pub serving_none : (input start : Option (List ℕ)) (first : Desk) → HoldsDesk first entry entry → Serving rack area chosen first input (prepend_known [] input) start start entry entry None 0
+  serving_none input start first at = record {
     lines = [];
     replies = [];
-    reached = Untouched;
+    reached = first;
     count_is = refl;
-    desk = record { stands = tt; shelf = record { held = refl; counts = λ m. refl; uber = refl; checks = refl } };
-    runs = λ tells t. refl;
+    desk = shut_desk first at;
+    runs = refl;
     known = starts input;
     printed = appends_none start;
   } where
@@ -69,113 +98,88 @@ module _ {R A : Type 0} (rack : racks.Ghosts R) (area : areas.Ghosts A) (chosen 
     starts (Some x) = refl
 
   pub serving_start : (input start : Option (List ℕ)) (lines : Rest) (pool : Option (Pool R A)) → lines ≡ record { held = []; given = 0; fault = None } → pool ≡ None
-      → Serving rack area chosen input (prepend_known lines.held input) start start entry entry pool lines.given
-  serving_start input start lines pool is none = rw is (rw none (serving_none input start))
+      → (first : Desk) → HoldsDesk first entry entry → Serving rack area chosen first input (prepend_known lines.held input) start start entry entry pool lines.given
+  serving_start input start lines pool is none first at = rw is (rw none (serving_none input start first at))
 
-  pub serving_more : (input rest rest' start held held' : Option (List ℕ)) (before now : OnShelf) (pool pool' : Option (Pool R A)) (count : ℕ) (line : List ℕ)
-      → (is : Serving rack area chosen input rest start held entry before pool count)
-      → WhereKnown rest rest' (λ old new. lines_of old ≡ line ∷ lines_of new)
-      → Printed rack area chosen line entry before is.reached now pool' held held'
-      → Serving rack area chosen input rest' start held' entry now pool' (count + 1)
-  serving_more input rest rest' start held held' before now pool pool' count line is behind printed =
-      let counted = is.count_is in
-      let longer = length-append is.lines (line ∷ []) in
-      record {
-        lines = is.lines ++ line ∷ [];
-        replies = is.replies ++ printed.reply ∷ [];
-        reached = printed.turned.new;
-        count_is = omega (arith, counted, longer);
-        desk = printed.turned.desk;
-        runs = λ tells t. runs_more tells chosen Untouched is.lines is.replies is.reached line printed.reply printed.turned.new (is.runs tells (printed.turned.told tells t)) (printed.turned.turns tells t);
-        known = known_on input rest rest' _ _ _ (λ x y z a b. lines_more x y z is.lines line a b) is.known behind;
-        printed = rw (texts_more is.replies printed.reply) (appends_more start held held' _ _ is.printed printed.prints);
-      }
-
-  -- the input ended
-  pub served_done : (input rest rest' start held : Option (List ℕ)) (now : OnShelf) (pool : Option (Pool R A)) (count : ℕ)
-      → Serving rack area chosen input rest start held entry now pool count → WhereKnown rest rest' (λ old new. old ≡ [])
-      → Served rack area chosen Done input start held entry now pool
-  served_done input rest rest' start held now pool count is end = record {
-    lines = is.lines;
-    replies = is.replies;
-    shown = is.replies;
-    mid = is.reached;
-    last = is.reached;
-    broken = None;
-    desk = is.desk;
-    runs = is.runs;
-    breaks = refl;
-    ends = known_input input rest' _ _ (λ x z e. e)
-        (known_on input rest rest' _ _ (λ all behind. lines_of all ≡ is.lines)
-        (λ x y z a b. a ∙ ap (λ bytes. is.lines ++ lines_of bytes) b ∙ ap (λ xs. is.lines ++ xs) lines_none ∙ append-nil is.lines) is.known end);
-    shows = refl;
-    prints = is.printed;
-  }
-
-  -- the next line could not be read
-  pub served_unread : (input start held left left' : Option (List ℕ)) (now : OnShelf) (pool : Option (Pool R A)) (lines lines' : Rest) (status : Status)
-      → Serving rack area chosen input (prepend_known lines.held left) start held entry now pool lines.given → TextIs lines lines' left left' (Err status)
-      → Served rack area chosen status input start held entry now pool
-  served_unread input start held left left' now pool lines lines' SourceFault is text = record {
-    lines = is.lines;
-    replies = is.replies;
-    shown = is.replies;
-    mid = is.reached;
-    last = is.reached;
-    broken = None;
-    desk = is.desk;
-    runs = is.runs;
-    breaks = refl;
-    ends = known_input input _ _ _ (λ x y e. (lines_of y, e)) is.known;
-    shows = refl;
-    prints = is.printed;
-  }
-  served_unread input start held left left' now pool lines lines' NoMemory is text = record {
-    lines = is.lines;
-    replies = is.replies;
-    shown = is.replies;
-    mid = is.reached;
-    last = is.reached;
-    broken = None;
-    desk = is.desk;
-    runs = is.runs;
-    breaks = refl;
-    ends = known_input input _ _ _ (λ x y e. (lines_of y, e)) is.known;
-    shows = inl refl;
-    prints = is.printed;
-  }
-  served_unread input start held left left' now pool lines lines' (TooLong line) is text =
-      let counted = is.count_is in
-      let number = text.0 in
-      record {
-        lines = is.lines;
-        replies = is.replies;
-        shown = is.replies;
-        mid = is.reached;
-        last = is.reached;
-        broken = None;
-        desk = is.desk;
-        runs = is.runs;
-        breaks = refl;
-        ends = known_input input _ _ _ (λ x z e. e)
-            (known_on input (prepend_known lines.held left) (prepend_known lines'.held left') _ _ (λ all behind. Ends (TooLong line) None is.lines all)
-            (λ x y z a b. (y, a, rw counted b, omega (arith, counted, number))) is.known text.1);
-        shows = refl;
-        prints = is.printed;
-      }
-  served_unread input start held left left' now pool lines lines' Done is text = absurd text
-  served_unread input start held left left' now pool lines lines' Usage is text = absurd text
-  served_unread input start held left left' now pool lines lines' (Line line kind at) is text = absurd text
-  served_unread input start held left left' now pool lines lines' SinkFault is text = absurd text
-  served_unread input start held left left' now pool lines lines' ShelfFault is text = absurd text
-
-  -- a line was taken, and the run ended with it
-  module _ (input rest rest' start held : Option (List ℕ)) (before : OnShelf) (pool : Option (Pool R A)) (count : ℕ) (line : List ℕ) (behind : WhereKnown rest rest' (λ old new. lines_of old ≡ line ∷ lines_of new))
-      (is : Serving rack area chosen input rest start held entry before pool count) where
-    -- it can't be run
-    unrun : (number kind at : ℕ) → LineFaultIs (line_of line) kind at → number ≡ count + 1 → Served rack area chosen (Line number kind at) input start held entry before pool
-    unrun number kind at fault n =
+  module _ (first : Desk) where
+    pub serving_more : (input rest rest' start held held' : Option (List ℕ)) (before now : OnShelf) (pool pool' : Option (Pool R A)) (count : ℕ) (line : List ℕ)
+        → (is : Serving rack area chosen first input rest start held entry before pool count)
+        → WhereKnown rest rest' (λ old new. lines_of old ≡ line ∷ lines_of new)
+        → Printed rack area chosen line entry is.reached now pool' held held'
+        → Serving rack area chosen first input rest' start held' entry now pool' (count + 1)
+    serving_more input rest rest' start held held' before now pool pool' count line is behind printed =
         let counted = is.count_is in
+        let longer = length-append is.lines (line ∷ []) in
+        record {
+          lines = is.lines ++ line ∷ [];
+          replies = is.replies ++ printed.reply ∷ [];
+          reached = printed.turned.new;
+          count_is = omega (arith, counted, longer);
+          desk = printed.turned.desk;
+          runs = runs_more chosen first is.lines is.replies is.reached line printed.reply printed.turned.new is.runs printed.turned.turns;
+          known = known_on input rest rest' _ _ _ (λ x y z a b. lines_more x y z is.lines line a b) is.known behind;
+          printed = rw (texts_more is.replies printed.reply) (appends_more start held held' _ _ is.printed printed.prints);
+        }
+
+    -- the input ended
+    pub served_done : (input rest rest' start held : Option (List ℕ)) (now : OnShelf) (pool : Option (Pool R A)) (count : ℕ)
+        → Serving rack area chosen first input rest start held entry now pool count → WhereKnown rest rest' (λ old new. old ≡ [])
+        → Served rack area chosen first Done input start held entry now pool
+    served_done input rest rest' start held now pool count is end = record {
+      lines = is.lines;
+      replies = is.replies;
+      shown = is.replies;
+      mid = is.reached;
+      last = is.reached;
+      broken = None;
+      desk = is.desk;
+      runs = is.runs;
+      breaks = refl;
+      ends = known_input input rest' _ _ (λ x z e. e)
+          (known_on input rest rest' _ _ (λ all behind. lines_of all ≡ is.lines)
+          (λ x y z a b. a ∙ ap (λ bytes. is.lines ++ lines_of bytes) b ∙ ap (λ xs. is.lines ++ xs) lines_none ∙ append-nil is.lines) is.known end);
+      shows = refl;
+      prints = is.printed;
+      failed = λ e. absurd (cc e);
+    }
+
+    -- the next line could not be read
+    pub served_unread : (input start held left left' : Option (List ℕ)) (now : OnShelf) (pool : Option (Pool R A)) (lines lines' : Rest) (status : Status)
+        → Serving rack area chosen first input (prepend_known lines.held left) start held entry now pool lines.given → TextIs lines lines' left left' (Err status)
+        → Served rack area chosen first status input start held entry now pool
+    served_unread input start held left left' now pool lines lines' SourceFault is text = record {
+      lines = is.lines;
+      replies = is.replies;
+      shown = is.replies;
+      mid = is.reached;
+      last = is.reached;
+      broken = None;
+      desk = is.desk;
+      runs = is.runs;
+      breaks = refl;
+      ends = known_input input _ _ _ (λ x y e. (lines_of y, e)) is.known;
+      shows = refl;
+      prints = is.printed;
+      failed = λ e. absurd (cc e);
+    }
+    served_unread input start held left left' now pool lines lines' NoMemory is text = record {
+      lines = is.lines;
+      replies = is.replies;
+      shown = is.replies;
+      mid = is.reached;
+      last = is.reached;
+      broken = None;
+      desk = is.desk;
+      runs = is.runs;
+      breaks = refl;
+      ends = known_input input _ _ _ (λ x y e. (lines_of y, e)) is.known;
+      shows = inl refl;
+      prints = is.printed;
+      failed = λ e. absurd (cc e);
+    }
+    served_unread input start held left left' now pool lines lines' (TooLong line) is text =
+        let counted = is.count_is in
+        let number = text.0 in
         record {
           lines = is.lines;
           replies = is.replies;
@@ -186,97 +190,132 @@ module _ {R A : Type 0} (rack : racks.Ghosts R) (area : areas.Ghosts A) (chosen 
           desk = is.desk;
           runs = is.runs;
           breaks = refl;
-          ends = known_input input rest' _ _ (λ x z e. e)
-              (known_on input rest rest' _ _ (λ all _. Ends (Line number kind at) None is.lines all)
-              (λ x y z a b. (line, lines_of z, a ∙ ap (λ xs. is.lines ++ xs) b, fault, omega (arith, counted, n))) is.known behind);
+          ends = known_input input _ _ _ (λ x z e. e)
+              (known_on input (prepend_known lines.held left) (prepend_known lines'.held left') _ _ (λ all behind. Ends (TooLong line) None is.lines all)
+              (λ x y z a b. (y, a, rw counted b, omega (arith, counted, number))) is.known text.1);
           shows = refl;
           prints = is.printed;
+          failed = λ e. absurd (cc e);
         }
+    served_unread input start held left left' now pool lines lines' Done is text = absurd text
+    served_unread input start held left left' now pool lines lines' Usage is text = absurd text
+    served_unread input start held left left' now pool lines lines' (Line line kind at) is text = absurd text
+    served_unread input start held left left' now pool lines lines' SinkFault is text = absurd text
+    served_unread input start held left left' now pool lines lines' ShelfFault is text = absurd text
 
-    -- memory was wanting before it was done
-    undone : Served rack area chosen NoMemory input start held entry before pool
-    undone = record {
-      lines = is.lines;
-      replies = is.replies;
-      shown = is.replies;
-      mid = is.reached;
-      last = is.reached;
-      broken = None;
-      desk = is.desk;
-      runs = is.runs;
-      breaks = refl;
-      ends = known_input input rest' _ _ (λ x z e. (line ∷ lines_of z, e))
-          (known_on input rest rest' _ _ (λ all z. lines_of all ≡ is.lines ++ (line ∷ lines_of z)) (λ x y z a b. a ∙ ap (λ xs. is.lines ++ xs) b) is.known behind);
-      shows = inl refl;
-      prints = is.printed;
-    }
+    -- a line was taken, and the run ended with it
+    module _ (input rest rest' start held : Option (List ℕ)) (before : OnShelf) (pool : Option (Pool R A)) (count : ℕ) (line : List ℕ) (behind : WhereKnown rest rest' (λ old new. lines_of old ≡ line ∷ lines_of new))
+        (is : Serving rack area chosen first input rest start held entry before pool count) (later : entry.faults ≤ before.faults) where
+      -- it can't be run
+      unrun : (number kind at : ℕ) → LineFaultIs (line_of line) kind at → number ≡ count + 1 → Served rack area chosen first (Line number kind at) input start held entry before pool
+      unrun number kind at fault n =
+          let counted = is.count_is in
+          record {
+            lines = is.lines;
+            replies = is.replies;
+            shown = is.replies;
+            mid = is.reached;
+            last = is.reached;
+            broken = None;
+            desk = is.desk;
+            runs = is.runs;
+            breaks = refl;
+            ends = known_input input rest' _ _ (λ x z e. e)
+                (known_on input rest rest' _ _ (λ all _. Ends (Line number kind at) None is.lines all)
+                (λ x y z a b. (line, lines_of z, a ∙ ap (λ xs. is.lines ++ xs) b, fault, omega (arith, counted, n))) is.known behind);
+            shows = refl;
+            prints = is.printed;
+            failed = λ e. absurd (cc e);
+          }
 
-    module _ (now : OnShelf) (pool' : Option (Pool R A)) where
-      -- its reply could not be put
-      unput : (held' : Option (List ℕ)) → Cut rack area chosen line entry before is.reached now pool' held held' → Served rack area chosen SinkFault input start held' entry now pool'
-      unput held' cut = record {
-        lines = is.lines ++ line ∷ [];
-        replies = is.replies ++ Some cut.reply ∷ [];
-        shown = is.replies ++ Some cut.reply ∷ [];
-        mid = cut.turned.new;
-        last = cut.turned.new;
-        broken = None;
-        desk = cut.turned.desk;
-        runs = λ tells t. runs_more tells chosen Untouched is.lines is.replies is.reached line (Some cut.reply) cut.turned.new (is.runs tells (cut.turned.told tells t)) (cut.turned.turns tells t);
-        breaks = refl;
-        ends = known_input input rest' _ _ (λ x z e. (lines_of z, e))
-            (known_on input rest rest' _ _ _ (λ x y z a b. lines_more x y z is.lines line a b) is.known behind);
-        shows = refl;
-        prints = record { front = is.replies; reply = cut.reply; mid = held; shown_are = refl; whole = is.printed; part = cut.prints };
-      }
-
-      -- memory was wanting for the text of its reply
-      untold : (reply : Reply) → Turned rack area chosen (line_of line) entry before is.reached (Some reply) now pool' → Served rack area chosen NoMemory input start held entry now pool'
-      untold reply turned = record {
-        lines = is.lines ++ line ∷ [];
-        replies = is.replies ++ Some reply ∷ [];
-        shown = is.replies;
-        mid = turned.new;
-        last = turned.new;
-        broken = None;
-        desk = turned.desk;
-        runs = λ tells t. runs_more tells chosen Untouched is.lines is.replies is.reached line (Some reply) turned.new (is.runs tells (turned.told tells t)) (turned.turns tells t);
-        breaks = refl;
-        ends = known_input input rest' _ _ (λ x z e. (lines_of z, e))
-            (known_on input rest rest' _ _ _ (λ x y z a b. lines_more x y z is.lines line a b) is.known behind);
-        shows = inr (reply, refl);
-        prints = is.printed;
-      }
-
-      -- the shelf failed
-      failed : BrokenLine rack area line entry is.reached now pool' → Served rack area chosen ShelfFault input start held entry now pool'
-      failed at = record {
+      -- memory was wanting before it was done
+      undone : Served rack area chosen first NoMemory input start held entry before pool
+      undone = record {
         lines = is.lines;
         replies = is.replies;
         shown = is.replies;
         mid = is.reached;
-        last = at.broken.new;
-        broken = Some line;
-        desk = at.broken.desk;
-        runs = λ tells t. is.runs tells (tells_broken is.reached before tells at.command at.broken.new at.broken.breaks);
-        breaks = record { command = at.command; line = at.line; breaks = at.broken.breaks };
-        ends = known_input input rest' _ _ (λ x z e. (lines_of z, e))
+        last = is.reached;
+        broken = None;
+        desk = is.desk;
+        runs = is.runs;
+        breaks = refl;
+        ends = known_input input rest' _ _ (λ x z e. (line ∷ lines_of z, e))
             (known_on input rest rest' _ _ (λ all z. lines_of all ≡ is.lines ++ (line ∷ lines_of z)) (λ x y z a b. a ∙ ap (λ xs. is.lines ++ xs) b) is.known behind);
-        shows = refl;
+        shows = inl refl;
         prints = is.printed;
+        failed = λ e. absurd (cc e);
       }
 
-      pub served_line : (held' : Option (List ℕ)) (status : Status) → LineIs rack area chosen (count + 1) line entry before pool is.reached now pool' held held' (Err status)
-          → Served rack area chosen status input start held' entry now pool'
-      served_line held' SinkFault became = unput held' became
-      served_line held' (Line number kind at) became =
-          rw became.1 (rw became.2 (rw became.3 (unrun number kind at became.0 became.4)))
-      served_line held' NoMemory became = elim became.1 [
-        | inl same ↦ rw same.0 (rw same.1 (rw became.0 undone))
-        | inr made ↦ rw became.0 (untold made.0 made.1)
-      ]
-      served_line held' ShelfFault became = rw became.0 (failed became.1)
-      served_line held' Done became = absurd became
-      served_line held' Usage became = absurd became
-      served_line held' SourceFault became = absurd became
-      served_line held' (TooLong n) became = absurd became
+      module _ (now : OnShelf) (pool' : Option (Pool R A)) where
+        -- its reply could not be put
+        unput : (held' : Option (List ℕ)) → Cut rack area chosen line entry is.reached now pool' held held' → Served rack area chosen first SinkFault input start held' entry now pool'
+        unput held' cut = record {
+          lines = is.lines ++ line ∷ [];
+          replies = is.replies ++ Some cut.reply ∷ [];
+          shown = is.replies ++ Some cut.reply ∷ [];
+          mid = cut.turned.new;
+          last = cut.turned.new;
+          broken = None;
+          desk = cut.turned.desk;
+          runs = runs_more chosen first is.lines is.replies is.reached line (Some cut.reply) cut.turned.new is.runs cut.turned.turns;
+          breaks = refl;
+          ends = known_input input rest' _ _ (λ x z e. (lines_of z, e))
+              (known_on input rest rest' _ _ _ (λ x y z a b. lines_more x y z is.lines line a b) is.known behind);
+          shows = refl;
+          prints = record { front = is.replies; reply = cut.reply; mid = held; shown_are = refl; whole = is.printed; part = cut.prints };
+          failed = λ e. absurd (cc e);
+        }
+
+        -- memory was wanting for the text of its reply
+        untold : (reply : Reply) → Turned rack area chosen (line_of line) entry is.reached (Some reply) now pool' → Served rack area chosen first NoMemory input start held entry now pool'
+        untold reply turned = record {
+          lines = is.lines ++ line ∷ [];
+          replies = is.replies ++ Some reply ∷ [];
+          shown = is.replies;
+          mid = turned.new;
+          last = turned.new;
+          broken = None;
+          desk = turned.desk;
+          runs = runs_more chosen first is.lines is.replies is.reached line (Some reply) turned.new is.runs turned.turns;
+          breaks = refl;
+          ends = known_input input rest' _ _ (λ x z e. (lines_of z, e))
+              (known_on input rest rest' _ _ _ (λ x y z a b. lines_more x y z is.lines line a b) is.known behind);
+          shows = inr (reply, refl);
+          prints = is.printed;
+          failed = λ e. absurd (cc e);
+        }
+
+        -- the shelf failed
+        failed : BrokenLine rack area line entry before is.reached now pool' → Served rack area chosen first ShelfFault input start held entry now pool'
+        failed at = record {
+          lines = is.lines;
+          replies = is.replies;
+          shown = is.replies;
+          mid = is.reached;
+          last = at.broken.new;
+          broken = Some line;
+          desk = at.broken.desk;
+          runs = is.runs;
+          breaks = record { command = at.command; line = at.line; breaks = at.broken.breaks };
+          ends = known_input input rest' _ _ (λ x z e. (lines_of z, e))
+              (known_on input rest rest' _ _ (λ all z. lines_of all ≡ is.lines ++ (line ∷ lines_of z)) (λ x y z a b. a ∙ ap (λ xs. is.lines ++ xs) b) is.known behind);
+          shows = refl;
+          prints = is.printed;
+          failed = λ e. fault_from entry before now later at.broken.new at.broken.cause;
+        }
+
+        pub served_line : (held' : Option (List ℕ)) (status : Status) → LineIs rack area chosen (count + 1) line entry before pool is.reached now pool' held held' (Err status)
+            → Served rack area chosen first status input start held' entry now pool'
+        served_line held' SinkFault became = unput held' became
+        served_line held' (Line number kind at) became =
+            rw became.1 (rw became.2 (rw became.3 (unrun number kind at became.0 became.4)))
+        served_line held' NoMemory became = elim became.1 [
+          | inl same ↦ rw same.0 (rw same.1 (rw became.0 undone))
+          | inr made ↦ rw became.0 (untold made.0 made.1)
+        ]
+        served_line held' ShelfFault became = rw became.0 (failed became.1)
+        served_line held' Done became = absurd became
+        served_line held' Usage became = absurd became
+        served_line held' SourceFault became = absurd became
+        served_line held' (TooLong n) became = absurd became

@@ -1,5 +1,5 @@
 -- What the calls of a pool did, in the words of a session.
-use Rattle.std.proofs.Common.{◌≡◌, ℕ, Bool, List, Option, Some, None, Ok, refl, subst, sym}
+use Rattle.std.proofs.Common.{◌≡◌, ◌∙◌, ℕ, List, Option, Some, None, Ok, refl, subst, sym}
 use Rattle.draid_rack.specs.declared.Rack as racks
 use Rattle.draid_area.specs.declared.Area as areas
 use Rattle.draid_names.specs.declared.room.Room.{Room}
@@ -10,17 +10,20 @@ use Rattle.draid_script.specs.declared.name.CommandName.{CommandName}
 use Rattle.draid_script.specs.declared.name.CommandName.TheVariants as name
 use Rattle.draid_reply.specs.declared.reply.Reply.{Reply}
 use Rattle.draid_reply.specs.declared.reply.Reply.TheVariants.{NoPool}
+use Rattle.draid_session.specs.Follows.{Follows}
 use Rattle.draid_session.specs.Holds.{Hold}
 use Rattle.draid_session.specs.Session as session
 use Rattle.draid_session.specs.Session.{Desk, Untouched, Made, Open, Shut, TurnsBy}
 use Rattle.draid_session.specs.State.{State, Store}
 use Rattle.draid_pool.specs.Carries.{CarriesOut}
 use Rattle.draid_pool.specs.Pools.{Represents}
+use Rattle.draid_pool.specs.Whole.{IsWhole}
 use Rattle.draid_pool.specs.declared.pool.Pool.{Pool}
 use Rattle.draid_run.specs.Desks.{IsDesk, IsPool, PoolDid, ReplyDoes, Turned}
 use Rattle.draid_run.specs.Making.{CreateDid, CreateTurns}
 use Rattle.draid_run.specs.Says.{DamageSays, FreeSays, ReadSays, SumSays}
-use Rattle.draid_run.specs.Shelves.{OnShelf}
+use Rattle.draid_run.specs.Shelves.{IsOut, OnShelf}
+use Rattle.draid_run.proofs.Following.{same_told}
 use Rattle.draid_run.proofs.Said.{damage_does, free_does, read_does, sum_does}
 
 -- what an answer says, said otherwise
@@ -35,25 +38,29 @@ by_answer rack area P Q x pool result said is f c = record {
   represents = c.represents;
 }
 
--- the pool that is open stands for a state
-pub has_state : {R A : Type 0} (rack : racks.Ghosts R) (area : areas.Ghosts A) (desk : Option (Pool R A)) (pool : Pool R A) → desk ≡ Some pool → (x : Desk) × IsPool rack area desk x → (x : State) × Represents rack area pool x
-has_state rack area desk pool is stands = by stands.0 (subst (λ d. IsPool rack area d stands.0) is stands.1) where
-  by : (x : Desk) → IsPool rack area (Some pool) x → (x : State) × Represents rack area pool x
+-- the pool that is open is whole
+pub is_whole : {R A : Type 0} (rack : racks.Ghosts R) (area : areas.Ghosts A) (desk : Option (Pool R A)) (pool : Pool R A) → desk ≡ Some pool → (x : Desk) × IsPool rack area desk x → IsWhole rack area pool
+is_whole rack area desk pool is stands = by stands.0 (subst (λ d. IsPool rack area d stands.0) is stands.1) where
+  by : (x : Desk) → IsPool rack area (Some pool) x → IsWhole rack area pool
   by Untouched stands = absurd stands
   by (Made geometry) stands = absurd stands
   by (Shut y) stands = absurd stands
-  by (Open y) stands = (y, stands)
+  by (Open y) stands = stands.0
+
+-- the shelf is as it was while the pool's state moved on
+pub still_out : (x y : State) (now : OnShelf) (holds : List Hold) → Follows holds x y → IsOut x now → (store : Store) → IsOut (record y { store = store }) now
+still_out x y now holds follows out store = record { held = out.held; checks = out.checks; told = same_told holds x y follows ∙ out.told }
 
 module _ {R A : Type 0} (rack : racks.Ghosts R) (area : areas.Ghosts A) (called : CommandName) (says : State → List Hold → Store → Type 0) (reply : Reply) where
   -- a command was carried out on the pool that is open
-  pub did_open : (desk : Option (Pool R A)) (pool new : Pool R A) → desk ≡ Some pool → ((x : State) → Represents rack area pool x → CarriesOut rack area new x (says x))
+  pub did_open : (desk : Option (Pool R A)) (pool new : Pool R A) → desk ≡ Some pool → IsWhole rack area new → ((x : State) → Represents rack area pool x → CarriesOut rack area new x (says x))
       → (x : Desk) → IsPool rack area desk x → PoolDid rack area called says x reply (Some new)
-  did_open desk pool new is step x = subst (λ d. IsPool rack area d x → PoolDid rack area called says x reply (Some new)) (sym is) (by x) where
+  did_open desk pool new is whole step x = subst (λ d. IsPool rack area d x → PoolDid rack area called says x reply (Some new)) (sym is) (by x) where
     by : (x : Desk) → IsPool rack area (Some pool) x → PoolDid rack area called says x reply (Some new)
     by Untouched stands = absurd stands
     by (Made geometry) stands = absurd stands
     by (Shut y) stands = absurd stands
-    by (Open y) stands = step y stands
+    by (Open y) stands = (whole, step y stands.1)
 
   -- no pool is open, and the reply says so
   pub did_shut : (desk new : Option (Pool R A)) → desk ≡ None → new ≡ None → reply ≡ NoPool called → (x : Desk) → IsPool rack area desk x → PoolDid rack area called says x reply new
@@ -67,66 +74,65 @@ module _ {R A : Type 0} (rack : racks.Ghosts R) (area : areas.Ghosts A) (called 
 module _ {R A : Type 0} (rack : racks.Ghosts R) (area : areas.Ghosts A) (chosen : List Room → Option ℕ → Type 0) (entry now : OnShelf) (desk : Option (Pool R A)) (reply : Reply) where
   turned_by : (command : Command) (called : CommandName) (says : State → List Hold → Store → Type 0)
       → ((x : State) (holds : List Hold) (store : Store) → says x holds store → ReplyDoes x chosen command reply holds store)
-      → ((tells : Bool) (x y : State) → session.CarriesOut tells chosen command reply x y → TurnsBy tells chosen (Ok command) (Open x) (Some reply) (Open y))
-      → ((tells : Bool) → TurnsBy tells chosen (Ok command) Untouched (Some (NoPool called)) Untouched)
-      → ((tells : Bool) (geometry : Geometry) → TurnsBy tells chosen (Ok command) (Made geometry) (Some (NoPool called)) (Made geometry))
-      → ((tells : Bool) (y : State) → TurnsBy tells chosen (Ok command) (Shut y) (Some (NoPool called)) (Shut y))
-      → (x : Desk) (new : Option (Pool R A)) → IsDesk rack area entry now desk x → PoolDid rack area called says x reply new → Turned rack area chosen (Ok command) entry now x (Some reply) now new
+      → ((x y : State) → session.CarriesOut chosen command reply x y → TurnsBy chosen (Ok command) (Open x) (Some reply) (Open y))
+      → TurnsBy chosen (Ok command) Untouched (Some (NoPool called)) Untouched
+      → ((geometry : Geometry) → TurnsBy chosen (Ok command) (Made geometry) (Some (NoPool called)) (Made geometry))
+      → ((y : State) → TurnsBy chosen (Ok command) (Shut y) (Some (NoPool called)) (Shut y))
+      → (x : Desk) (new : Option (Pool R A)) → IsDesk rack area entry now desk x → PoolDid rack area called says x reply new → Turned rack area chosen (Ok command) entry x (Some reply) now new
   turned_by command called says does turns untouched made shut = by where
-    told : (x : Desk) (new : Option (Pool R A)) → (reply ≡ NoPool called) × (new ≡ None) → IsPool rack area None x → IsDesk rack area entry now desk x → ((tells : Bool) → TurnsBy tells chosen (Ok command) x (Some (NoPool called)) x)
-        → Turned rack area chosen (Ok command) entry now x (Some reply) now new
+    told : (x : Desk) (new : Option (Pool R A)) → (reply ≡ NoPool called) × (new ≡ None) → IsPool rack area None x → IsDesk rack area entry now desk x → TurnsBy chosen (Ok command) x (Some (NoPool called)) x
+        → Turned rack area chosen (Ok command) entry x (Some reply) now new
     told x new said stands is turns =
-        subst (λ r. Turned rack area chosen (Ok command) entry now x (Some r) now new) (sym said.0)
-        (subst (λ d. Turned rack area chosen (Ok command) entry now x (Some (NoPool called)) now d) (sym said.1)
-        (record { new = x; desk = record { stands = stands; shelf = is.shelf }; told = λ tells t. t; turns = λ tells t. turns tells }))
+        subst (λ r. Turned rack area chosen (Ok command) entry x (Some r) now new) (sym said.0)
+        (subst (λ d. Turned rack area chosen (Ok command) entry x (Some (NoPool called)) now d) (sym said.1)
+        (record { new = x; desk = record { stands = stands; shelf = is.shelf }; turns = turns }))
 
-    by : (x : Desk) (new : Option (Pool R A)) → IsDesk rack area entry now desk x → PoolDid rack area called says x reply new → Turned rack area chosen (Ok command) entry now x (Some reply) now new
+    by : (x : Desk) (new : Option (Pool R A)) → IsDesk rack area entry now desk x → PoolDid rack area called says x reply new → Turned rack area chosen (Ok command) entry x (Some reply) now new
     by Untouched new is did = told Untouched new did tt is untouched
-    by (Made geometry) new is did = told (Made geometry) new did tt is (λ tells. made tells geometry)
-    by (Shut y) new is did = told (Shut y) new did tt is (λ tells. shut tells y)
+    by (Made geometry) new is did = told (Made geometry) new did tt is (made geometry)
+    by (Shut y) new is did = told (Shut y) new did tt is (shut y)
     by (Open y) None is did = absurd did
     by (Open y) (Some new) is did = record {
-      new = Open (record did.reached { store = did.store });
-      desk = record { stands = did.represents; shelf = is.shelf };
-      told = λ tells t. t;
-      turns = λ tells t. turns tells y (record did.reached { store = did.store })
-          (record { holds = did.holds; mid = did.reached; store = did.store; follows = did.follows; does = does y did.holds did.store did.done; made = refl });
+      new = Open (record did.1.reached { store = did.1.store });
+      desk = record { stands = (did.0, did.1.represents); shelf = still_out y did.1.reached now did.1.holds did.1.follows is.shelf did.1.store };
+      turns = turns y (record did.1.reached { store = did.1.store })
+          (record { holds = did.1.holds; mid = did.1.reached; store = did.1.store; follows = did.1.follows; does = does y did.1.holds did.1.store did.1.done; made = refl });
     }
 
   pub by_write : (o : ℕ) (bytes : List ℕ) (x : Desk) (new : Option (Pool R A)) → IsDesk rack area entry now desk x → PoolDid rack area name.Write (λ y. ReplyDoes y chosen (WriteObject o bytes) reply) x reply new
-      → Turned rack area chosen (Ok (WriteObject o bytes)) entry now x (Some reply) now new
-  by_write o bytes = turned_by (WriteObject o bytes) name.Write (λ y. ReplyDoes y chosen (WriteObject o bytes) reply) (λ y holds store w. w) (λ tells y z c. c) (λ tells. (refl, refl)) (λ tells geometry. (refl, refl)) (λ tells y. (refl, refl))
+      → Turned rack area chosen (Ok (WriteObject o bytes)) entry x (Some reply) now new
+  by_write o bytes = turned_by (WriteObject o bytes) name.Write (λ y. ReplyDoes y chosen (WriteObject o bytes) reply) (λ y holds store w. w) (λ y z c. c) (refl, refl) (λ geometry. (refl, refl)) (λ y. (refl, refl))
 
   pub by_fill : (first count len seed : ℕ) (x : Desk) (new : Option (Pool R A)) → IsDesk rack area entry now desk x
       → PoolDid rack area name.Fill (λ y. ReplyDoes y chosen (FillObjects first count len seed) reply) x reply new
-      → Turned rack area chosen (Ok (FillObjects first count len seed)) entry now x (Some reply) now new
+      → Turned rack area chosen (Ok (FillObjects first count len seed)) entry x (Some reply) now new
   by_fill first count len seed =
-      turned_by (FillObjects first count len seed) name.Fill (λ y. ReplyDoes y chosen (FillObjects first count len seed) reply) (λ y holds store w. w) (λ tells y z c. c) (λ tells. (refl, refl)) (λ tells geometry. (refl, refl)) (λ tells y. (refl, refl))
+      turned_by (FillObjects first count len seed) name.Fill (λ y. ReplyDoes y chosen (FillObjects first count len seed) reply) (λ y holds store w. w) (λ y z c. c) (refl, refl) (λ geometry. (refl, refl)) (λ y. (refl, refl))
 
   pub by_read : (o : ℕ) (x : Desk) (new : Option (Pool R A)) → IsDesk rack area entry now desk x → PoolDid rack area name.Read (ReadSays o reply) x reply new
-      → Turned rack area chosen (Ok (ReadObject o)) entry now x (Some reply) now new
-  by_read o = turned_by (ReadObject o) name.Read (ReadSays o reply) (λ y holds store w. read_does y chosen reply holds store o w) (λ tells y z c. c) (λ tells. (refl, refl)) (λ tells geometry. (refl, refl)) (λ tells y. (refl, refl))
+      → Turned rack area chosen (Ok (ReadObject o)) entry x (Some reply) now new
+  by_read o = turned_by (ReadObject o) name.Read (ReadSays o reply) (λ y holds store w. read_does y chosen reply holds store o w) (λ y z c. c) (refl, refl) (λ geometry. (refl, refl)) (λ y. (refl, refl))
 
   pub by_free : (o : ℕ) (x : Desk) (new : Option (Pool R A)) → IsDesk rack area entry now desk x → PoolDid rack area name.Free (FreeSays o reply) x reply new
-      → Turned rack area chosen (Ok (FreeObject o)) entry now x (Some reply) now new
-  by_free o = turned_by (FreeObject o) name.Free (FreeSays o reply) (λ y holds store w. free_does y chosen reply holds store o w) (λ tells y z c. c) (λ tells. (refl, refl)) (λ tells geometry. (refl, refl)) (λ tells y. (refl, refl))
+      → Turned rack area chosen (Ok (FreeObject o)) entry x (Some reply) now new
+  by_free o = turned_by (FreeObject o) name.Free (FreeSays o reply) (λ y holds store w. free_does y chosen reply holds store o w) (λ y z c. c) (refl, refl) (λ geometry. (refl, refl)) (λ y. (refl, refl))
 
   pub by_sum : (first count : ℕ) (x : Desk) (new : Option (Pool R A)) → IsDesk rack area entry now desk x → PoolDid rack area name.Sum (SumSays first count reply) x reply new
-      → Turned rack area chosen (Ok (SumObjects first count)) entry now x (Some reply) now new
-  by_sum first count = turned_by (SumObjects first count) name.Sum (SumSays first count reply) (λ y holds store w. sum_does y chosen reply holds store first count w) (λ tells y z c. c) (λ tells. (refl, refl)) (λ tells geometry. (refl, refl)) (λ tells y. (refl, refl))
+      → Turned rack area chosen (Ok (SumObjects first count)) entry x (Some reply) now new
+  by_sum first count = turned_by (SumObjects first count) name.Sum (SumSays first count reply) (λ y holds store w. sum_does y chosen reply holds store first count w) (λ y z c. c) (refl, refl) (λ geometry. (refl, refl)) (λ y. (refl, refl))
 
   pub by_damage : (leaf sector : ℕ) (x : Desk) (new : Option (Pool R A)) → IsDesk rack area entry now desk x → PoolDid rack area name.Damage (DamageSays leaf sector reply) x reply new
-      → Turned rack area chosen (Ok (DamageSector leaf sector)) entry now x (Some reply) now new
-  by_damage leaf sector = turned_by (DamageSector leaf sector) name.Damage (DamageSays leaf sector reply) (λ y holds store w. damage_does y chosen reply holds store leaf sector w) (λ tells y z c. c) (λ tells. (refl, refl)) (λ tells geometry. (refl, refl)) (λ tells y. (refl, refl))
+      → Turned rack area chosen (Ok (DamageSector leaf sector)) entry x (Some reply) now new
+  by_damage leaf sector = turned_by (DamageSector leaf sector) name.Damage (DamageSays leaf sector reply) (λ y holds store w. damage_does y chosen reply holds store leaf sector w) (λ y z c. c) (refl, refl) (λ geometry. (refl, refl)) (λ y. (refl, refl))
 
 -- a pool was made or refused, in the words of all commands
-pub by_create : {R A : Type 0} (rack : racks.Ghosts R) (area : areas.Ghosts A) (chosen : List Room → Option ℕ → Type 0) (entry before now : OnShelf) (text : List ℕ) (children : ℕ) (keys : PoolKeys) (x : Desk) (reply : Reply)
-    (pool : Option (Pool R A)) → CreateDid rack area text children keys entry before x reply now pool → Turned rack area chosen (Ok (CreatePool text children keys)) entry before x (Some reply) now pool
-by_create rack area chosen entry before now text children keys x reply pool did =
-    record { new = did.new; desk = did.desk; told = did.told; turns = λ tells t. by x tells did.new (did.turns tells t) }
+pub by_create : {R A : Type 0} (rack : racks.Ghosts R) (area : areas.Ghosts A) (chosen : List Room → Option ℕ → Type 0) (entry now : OnShelf) (text : List ℕ) (children : ℕ) (keys : PoolKeys) (x : Desk) (reply : Reply)
+    (pool : Option (Pool R A)) → CreateDid rack area text children keys entry x reply now pool → Turned rack area chosen (Ok (CreatePool text children keys)) entry x (Some reply) now pool
+by_create rack area chosen entry now text children keys x reply pool did =
+    record { new = did.new; desk = did.desk; turns = by x did.new did.turns }
   where
-    by : (x : Desk) (tells : Bool) (new : Desk) → CreateTurns tells text children keys x reply new → TurnsBy tells chosen (Ok (CreatePool text children keys)) x (Some reply) new
-    by Untouched tells new turns = turns
-    by (Made geometry) tells new turns = turns
-    by (Shut y) tells new turns = turns
-    by (Open y) tells new turns = subst (λ r. TurnsBy tells chosen (Ok (CreatePool text children keys)) (Open y) (Some r) new) (sym turns.0) turns.1
+    by : (x : Desk) (new : Desk) → CreateTurns text children keys x reply new → TurnsBy chosen (Ok (CreatePool text children keys)) x (Some reply) new
+    by Untouched new turns = turns
+    by (Made geometry) new turns = turns
+    by (Shut y) new turns = turns
+    by (Open y) new turns = subst (λ r. TurnsBy chosen (Ok (CreatePool text children keys)) (Open y) (Some r) new) (sym turns.0) turns.1

@@ -1,5 +1,5 @@
 -- For which desk the pool and the shelf stand between lines, and what a command comes to.
-use Rattle.std.specs.Prelude.{◌≡◌, ⊤, ℕ, Bool, List, Option, Some, None, Result, IsSome, IsTrue, is_some}
+use Rattle.std.specs.Prelude.{◌≡◌, ⊤, ℕ, List, Option, Some, None, Result}
 use Rattle.draid_names.specs.declared.room.Room.{Room}
 use Rattle.draid_rack.specs.declared.Rack as racks
 use Rattle.draid_area.specs.declared.Area as areas
@@ -15,37 +15,28 @@ use Rattle.draid_session.specs.Session.{Desk, Open, Breaks, TurnsBy, given_back}
 use Rattle.draid_session.specs.State.{State, Store}
 use Rattle.draid_pool.specs.Carries.{CarriesOut}
 use Rattle.draid_pool.specs.Pools.{Represents}
+use Rattle.draid_pool.specs.Whole.{IsWhole}
 use Rattle.draid_pool.specs.declared.pool.Pool.{Pool}
-use Rattle.draid_run.specs.Shelves.{HoldsDesk, IsOut, OnShelf}
+use Rattle.draid_run.specs.Shelves.{HasFailed, HasFault, HoldsDesk, IsOut, OnShelf}
 
 -- ---- desks
 
--- the pool that is open, if one is, stands for the state of the desk
+-- the pool that is open, if one is, is whole and stands for the state of the desk
 abbrev pub IsPool : {R A : Type 0} → racks.Ghosts R → areas.Ghosts A → Option (Pool R A) → Desk → Type 0
 IsPool rack area None (Open x) = ⊥
 IsPool rack area None desk = ⊤
-IsPool rack area (Some pool) (Open x) = Represents rack area pool x
+IsPool rack area (Some pool) (Open x) = IsWhole rack area pool × Represents rack area pool x
 IsPool rack area (Some pool) desk = ⊥
 
 -- the shelf, where it held this at the entry
 abbrev pub IsShelf : Desk → OnShelf → OnShelf → Type 0
-IsShelf (Open x) entry now = IsOut now
+IsShelf (Open x) entry now = IsOut x now
 IsShelf desk entry now = HoldsDesk desk entry now
 
 -- both
 pub record IsDesk {R A : Type 0} (rack : racks.Ghosts R) (area : areas.Ghosts A) (entry now : OnShelf) (pool : Option (Pool R A)) (desk : Desk) : Type 0 where
   pub stands : IsPool rack area pool desk
   pub shelf : IsShelf desk entry now
-
--- where a pool is open, the shelf tells if `tells` says so
-abbrev pub Tells : Desk → OnShelf → Bool → Type 0
-Tells (Open x) now tells = IsTrue tells → IsSome now.held
-Tells desk now tells = ⊤
-
--- What is left of a desk as the pool is given back to the shelf.
-pub record LeavesDesk (entry before now : OnShelf) (desk : Desk) : Type 0 where
-  pub shelf : HoldsDesk (given_back desk) entry now
-  pub told : Tells desk before (is_some now.held)
 
 -- ---- commands
 
@@ -56,19 +47,24 @@ ReplyDoes x chosen command reply holds store = Does x.geometry x.perms chosen co
 -- What a command that leaves the shelf alone came to: it was carried out on the open pool, or its reply is that it wants one.
 abbrev pub PoolDid : {R A : Type 0} → racks.Ghosts R → areas.Ghosts A → CommandName → (State → List Hold → Store → Type 0) → Desk → Reply → Option (Pool R A) → Type 0
 PoolDid rack area called does (Open x) reply None = ⊥
-PoolDid rack area called does (Open x) reply (Some pool) = CarriesOut rack area pool x (does x)
+PoolDid rack area called does (Open x) reply (Some pool) = IsWhole rack area pool × CarriesOut rack area pool x (does x)
 PoolDid rack area called does desk reply pool = (reply ≡ NoPool called) × (pool ≡ None)
 
 -- A command was done, and this is its reply.
-pub record Turned {R A : Type 0} (rack : racks.Ghosts R) (area : areas.Ghosts A) (chosen : List Room → Option ℕ → Type 0) (command : Result Command LineFault) (entry before : OnShelf) (old : Desk)
+pub record Turned {R A : Type 0} (rack : racks.Ghosts R) (area : areas.Ghosts A) (chosen : List Room → Option ℕ → Type 0) (command : Result Command LineFault) (entry : OnShelf) (old : Desk)
     (reply : Option Reply) (now : OnShelf) (pool : Option (Pool R A)) : Type 0 where
   pub new : Desk
   pub desk : IsDesk rack area entry now pool new
-  pub told : (tells : Bool) → Tells new now tells → Tells old before tells
-  pub turns : (tells : Bool) → Tells new now tells → TurnsBy tells chosen command old reply new
+  pub turns : TurnsBy chosen command old reply new
 
--- A command broke off, since a call of the shelf failed.
-pub record Broken {R A : Type 0} (rack : racks.Ghosts R) (area : areas.Ghosts A) (command : Command) (entry : OnShelf) (old : Desk) (now : OnShelf) (pool : Option (Pool R A)) : Type 0 where
+-- What is left of a desk as the pool is given back to the shelf. What had failed shows there.
+pub record LeavesDesk (entry before now : OnShelf) (desk : Desk) : Type 0 where
+  pub shelf : HoldsDesk (given_back desk) entry now
+  pub failed : HasFault entry before desk → HasFailed entry now
+
+-- A command broke off, since a call of the shelf or on an area failed.
+pub record Broken {R A : Type 0} (rack : racks.Ghosts R) (area : areas.Ghosts A) (command : Command) (entry before : OnShelf) (old : Desk) (now : OnShelf) (pool : Option (Pool R A)) : Type 0 where
   pub new : Desk
   pub desk : IsDesk rack area entry now pool new
   pub breaks : Breaks old command new
+  pub cause : HasFault before now new

@@ -1,4 +1,5 @@
 pub mod Desks
+pub mod Groups
 pub mod Making
 pub mod Says
 pub mod Script

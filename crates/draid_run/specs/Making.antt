@@ -1,5 +1,5 @@
 -- What becomes of a pool that is to be made, and of the shelf.
-use Rattle.std.specs.Prelude.{◌≡◌, ℕ, Bool, List, Option, Some, None, Result, Ok, Err, string_bytes}
+use Rattle.std.specs.Prelude.{◌≡◌, ℕ, List, Option, Some, None, Result, Ok, Err, string_bytes}
 use Rattle.draid_rack.specs.declared.Rack as racks
 use Rattle.draid_area.specs.declared.Area as areas
 use Rattle.draid_spec.specs.declared.layout.Geometry.{Geometry}
@@ -14,11 +14,12 @@ use Rattle.draid_reply.specs.declared.reply.Reply.TheVariants.{PoolOpen}
 use Rattle.draid_session.specs.Making.{vdev_name_of}
 use Rattle.draid_session.specs.Session.{Desk, Open, Creates}
 use Rattle.draid_pool.specs.Opening.{HasLayout, Opens, ShelfIs}
+use Rattle.draid_pool.specs.Whole.{IsWhole}
 use Rattle.draid_pool.specs.declared.fault.PoolFault.{PoolFault}
 use Rattle.draid_pool.specs.declared.fault.PoolFault.TheVariants as fault
 use Rattle.draid_pool.specs.declared.pool.Pool.{Pool}
-use Rattle.draid_run.specs.Desks.{Broken, IsDesk, Tells}
-use Rattle.draid_run.specs.Shelves.{OnShelf}
+use Rattle.draid_run.specs.Desks.{Broken, IsDesk}
+use Rattle.draid_run.specs.Shelves.{HasFailed, OnShelf}
 use Rattle.draid_run.specs.declared.answer.Made.{Made}
 use Rattle.draid_run.specs.declared.answer.Stop.{Stop}
 use Rattle.draid_run.specs.declared.answer.Stop.TheVariants as stop
@@ -31,34 +32,36 @@ pub record OpensAs {R A : Type 0} (rack : racks.Ghosts R) (area : areas.Ghosts A
   pub name_is : string_bytes made.name ≡ vdev_name_of spec
   pub stripes_are : made.stripes ≡ pool_stripes geometry
 
--- the pool, by the answer
-abbrev pub PoolIs : {R A : Type 0} → racks.Ghosts R → areas.Ghosts A → Spec → Props → OnShelf → Option (Pool R A) → Result Made PoolFault → Type 0
-PoolIs rack area spec props now None (Ok made) = ⊥
-PoolIs rack area spec props now (Some pool) (Ok made) = OpensAs rack area spec props now made pool
-PoolIs rack area spec props now pool (Err (fault.Spec why)) = (geometry_of spec props ≡ Err why) × (pool ≡ None)
-PoolIs rack area spec props now pool (Err why) = HasLayout spec props × (pool ≡ None)
+-- the pool, by the answer; where it is that the shelf failed, the shelf did, or an area of the pool that was made
+abbrev pub PoolIs : {R A : Type 0} → racks.Ghosts R → areas.Ghosts A → Spec → Props → OnShelf → OnShelf → Option (Pool R A) → Result Made PoolFault → Type 0
+PoolIs rack area spec props before now None (Ok made) = ⊥
+PoolIs rack area spec props before now (Some pool) (Ok made) = IsWhole rack area pool × OpensAs rack area spec props now made pool
+PoolIs rack area spec props before now pool (Err (fault.Spec why)) = (geometry_of spec props ≡ Err why) × (pool ≡ None)
+PoolIs rack area spec props before now pool (Err fault.Shelf) = HasLayout spec props × (pool ≡ None) × HasFailed before now
+PoolIs rack area spec props before now pool (Err fault.NoPool) = ⊥
+PoolIs rack area spec props before now pool (Err (fault.Record metaslab place kind)) = ⊥
+PoolIs rack area spec props before now pool (Err fault.NoMemory) = HasLayout spec props × (pool ≡ None)
 
 pub record MakeIs {R A : Type 0} (rack : racks.Ghosts R) (area : areas.Ghosts A) (spec : Spec) (props : Props) (before now : OnShelf) (pool : Option (Pool R A)) (result : Result Made PoolFault) : Type 0 where
-  pub pool_is : PoolIs rack area spec props now pool result
+  pub pool_is : PoolIs rack area spec props before now pool result
   pub shelf : ShelfIs spec props before.held now.held before.counts now.counts before.own now.own result
 
 -- ---- the command
 
 -- what `create` does where a pool is open, or none is
-abbrev pub CreateTurns : Bool → List ℕ → ℕ → PoolKeys → Desk → Reply → Desk → Type 0
-CreateTurns tells text children keys (Open x) reply new = (reply ≡ PoolOpen name.Create) × (new ≡ Open x)
-CreateTurns tells text children keys old reply new = Creates tells text children keys old reply new
+abbrev pub CreateTurns : List ℕ → ℕ → PoolKeys → Desk → Reply → Desk → Type 0
+CreateTurns text children keys (Open x) reply new = (reply ≡ PoolOpen name.Create) × (new ≡ Open x)
+CreateTurns text children keys old reply new = Creates text children keys old reply new
 
 -- it was done, and this is its reply
-pub record CreateDid {R A : Type 0} (rack : racks.Ghosts R) (area : areas.Ghosts A) (text : List ℕ) (children : ℕ) (keys : PoolKeys) (entry before : OnShelf) (old : Desk) (reply : Reply) (now : OnShelf)
+pub record CreateDid {R A : Type 0} (rack : racks.Ghosts R) (area : areas.Ghosts A) (text : List ℕ) (children : ℕ) (keys : PoolKeys) (entry : OnShelf) (old : Desk) (reply : Reply) (now : OnShelf)
     (pool : Option (Pool R A)) : Type 0 where
   pub new : Desk
   pub desk : IsDesk rack area entry now pool new
-  pub told : (tells : Bool) → Tells new now tells → Tells old before tells
-  pub turns : (tells : Bool) → Tells new now tells → CreateTurns tells text children keys old reply new
+  pub turns : CreateTurns text children keys old reply new
 
 -- or the shelf failed
 abbrev pub CreateIs : {R A : Type 0} → racks.Ghosts R → areas.Ghosts A → List ℕ → ℕ → PoolKeys → OnShelf → OnShelf → Desk → OnShelf → Option (Pool R A) → Result Reply Stop → Type 0
-CreateIs rack area text children keys entry before old now pool (Ok reply) = CreateDid rack area text children keys entry before old reply now pool
+CreateIs rack area text children keys entry before old now pool (Ok reply) = CreateDid rack area text children keys entry old reply now pool
 CreateIs rack area text children keys entry before old now pool (Err stop.Unbuilt) = ⊥
-CreateIs rack area text children keys entry before old now pool (Err stop.Shelf) = Broken rack area (CreatePool text children keys) entry old now pool
+CreateIs rack area text children keys entry before old now pool (Err stop.Shelf) = Broken rack area (CreatePool text children keys) entry before old now pool

@@ -1,16 +1,16 @@
 -- What a run is: the lines that were answered, why it ended, what the sink got, and what the shelf holds then.
-use Rattle.std.specs.Prelude.{◌≡◌, ◌+◌, ◌⊎◌, ⊤, ℕ, Bool, List, [], ◌∷◌, ◌++◌, Option, Some, None, Result, Ok, Err, MatchOption, flat_map, is_some, length}
+use Rattle.std.specs.Prelude.{◌≡◌, ◌+◌, ◌⊎◌, ⊤, ℕ, List, [], ◌∷◌, ◌++◌, Option, Some, None, Result, Ok, Err, MatchOption, flat_map, length}
 use Rattle.std.specs.Io.KnownBytes.{Appends}
 use Rattle.draid_names.specs.declared.room.Room.{Room}
 use Rattle.draid_lines.specs.Lines.{IsTooLong, lines_of}
 use Rattle.draid_lines.specs.Sink.{AppendsFront}
 use Rattle.draid_script.specs.Grammar.{line_of}
-use Rattle.draid_script.specs.Line.{Command, Silent, CreatePool, WriteObject, ReadObject, FillObjects, FreeObject, SumObjects, DamageSector}
+use Rattle.draid_script.specs.Line.{Command, Silent, CreatePool, ExportPool, SyncPool, CrashPool, WriteObject, ReadObject, FillObjects, FreeObject, SumObjects, DamageSector}
 use Rattle.draid_script.specs.declared.fault.LineFault.{LineFault}
 use Rattle.draid_reply.specs.Reply.{text_of}
 use Rattle.draid_reply.specs.declared.reply.Reply.{Reply}
 use Rattle.draid_words.specs.Mode.{OfSession, asked}
-use Rattle.draid_session.specs.Session.{Desk, Untouched, Breaks, Runs, given_back}
+use Rattle.draid_session.specs.Session.{Desk, Breaks, Runs, given_back}
 use Rattle.draid_run.specs.Shelves.{HoldsDesk, OnShelf}
 use Rattle.draid_run.specs.Status.{HasNumber, last_text}
 use Rattle.draid_run.specs.declared.status.Status.{Status}
@@ -22,6 +22,9 @@ use Rattle.draid_run.specs.declared.status.Status.TheVariants.{Done, Usage, Line
 abbrev pub IsUnbuilt : Command → Type 0
 IsUnbuilt Silent = ⊥
 IsUnbuilt (CreatePool text children keys) = ⊥
+IsUnbuilt ExportPool = ⊥
+IsUnbuilt SyncPool = ⊥
+IsUnbuilt CrashPool = ⊥
 IsUnbuilt (WriteObject object bytes) = ⊥
 IsUnbuilt (ReadObject object) = ⊥
 IsUnbuilt (FillObjects first count len seed) = ⊥
@@ -123,8 +126,8 @@ pub record EndsWithLine (ended status : Status) (old new : Option (List ℕ)) : 
 -- ---- the run
 
 -- A run: some lines were answered by replies, one after another; it ended for a cause, by a line of its own where the shelf failed; and the sink got the replies'
--- texts and the last line. Blocks go to metaslabs that the chooser may name; `tells` is whether the shelf tells what it holds.
-pub record HasRun (tells : Bool) (chosen : List Room → Option ℕ → Type 0) (words : List (List ℕ)) (status : Status) (input old new : Option (List ℕ)) (last : Desk) : Type 0 where
+-- texts and the last line. Blocks go to metaslabs that the chooser may name.
+pub record HasRun (chosen : List Room → Option ℕ → Type 0) (words : List (List ℕ)) (status : Status) (input old new : Option (List ℕ)) (first last : Desk) : Type 0 where
   pub lines : List (List ℕ)
   pub replies : List (Option Reply)
   pub shown : List (Option Reply)
@@ -133,14 +136,19 @@ pub record HasRun (tells : Bool) (chosen : List Room → Option ℕ → Type 0) 
   pub broken : Option (List ℕ)
   pub usage : ended ≡ Usage → IsSession words → ⊥
   pub refused : (IsSession words → ⊥) → IsRefused ended lines
-  pub runs : Runs tells chosen Untouched lines replies mid
+  pub runs : Runs chosen first lines replies mid
   pub breaks : BreaksOff ended broken mid last
   pub ends : MatchOption input ⊤ (Ends ended broken lines)
   pub shows : Shows ended replies shown
   pub prints : PrintsAll status ended shown old new
 
--- What a run of the program is: a session from the shelf as it was found to a last desk, whose pool is given back; and the shelf holds that.
-pub record RunIs (chosen : List Room → Option ℕ → Type 0) (words : List (List ℕ)) (status : Status) (input old new : Option (List ℕ)) (entry now : OnShelf) : Type 0 where
+-- a session from one desk to a last one, whose pool is given back; and the shelf holds that
+pub record RunsFrom (chosen : List Room → Option ℕ → Type 0) (words : List (List ℕ)) (status : Status) (input old new : Option (List ℕ)) (entry now : OnShelf) (first : Desk) : Type 0 where
   pub last : Desk
-  pub session : HasRun (is_some now.held) chosen words status input old new last
+  pub session : HasRun chosen words status input old new first last
   pub shelf : HoldsDesk (given_back last) entry now
+
+-- What a run of the program is: such a session from each desk that the shelf holds at the entry. It may be as it was found, or hold the devices of a new pool, or
+-- a pool that was given back.
+abbrev pub RunIs : (List Room → Option ℕ → Type 0) → List (List ℕ) → Status → Option (List ℕ) → Option (List ℕ) → Option (List ℕ) → OnShelf → OnShelf → Type 0
+RunIs chosen words status input old new entry now = (first : Desk) → HoldsDesk first entry entry → RunsFrom chosen words status input old new entry now first

@@ -1,5 +1,5 @@
 -- What becomes of a line, and of all lines so far.
-use Rattle.std.specs.Prelude.{◌≡◌, ◌≤◌, ◌+◌, ◌⊎◌, ⊤, ℕ, Bool, List, [], ◌∷◌, ◌++◌, Option, Some, None, Result, Ok, Err, MatchOption, length}
+use Rattle.std.specs.Prelude.{◌≡◌, ◌≤◌, ◌+◌, ◌⊎◌, ⊤, ℕ, List, [], ◌∷◌, ◌++◌, Option, Some, None, Result, Ok, Err, MatchOption, length}
 use Rattle.std.specs.Io.KnownBytes.{Appends, prepend_known}
 use Rattle.std.specs.declared.vec.Vec.{Vec}
 use Rattle.std.specs.declared.alloc.Global.{Global}
@@ -12,11 +12,11 @@ use Rattle.draid_script.specs.Grammar.{line_of}
 use Rattle.draid_script.specs.Line.{Command}
 use Rattle.draid_reply.specs.Reply.{text_of}
 use Rattle.draid_reply.specs.declared.reply.Reply.{Reply}
-use Rattle.draid_session.specs.Session.{Desk, Untouched, Runs}
+use Rattle.draid_session.specs.Session.{Desk, Runs}
 use Rattle.draid_pool.specs.declared.pool.Pool.{Pool}
-use Rattle.draid_run.specs.Desks.{Broken, IsDesk, Tells, Turned}
+use Rattle.draid_run.specs.Desks.{Broken, IsDesk, Turned}
 use Rattle.draid_run.specs.Script.{BreaksOff, Ends, GetsReplies, IsUnbuilt, LineFaultIs, Shows, said_text, texts_of}
-use Rattle.draid_run.specs.Shelves.{OnShelf}
+use Rattle.draid_run.specs.Shelves.{HasFault, OnShelf}
 use Rattle.draid_run.specs.declared.answer.Stop.{Stop}
 use Rattle.draid_run.specs.declared.answer.Stop.TheVariants as stop
 use Rattle.draid_run.specs.declared.status.Status.{Status}
@@ -42,54 +42,59 @@ PrintIs text old new (Err NoMemory) = new ≡ old
 PrintIs text old new (Err status) = ⊥
 
 -- The shelf failed in a line.
-pub record BrokenLine {R A : Type 0} (rack : racks.Ghosts R) (area : areas.Ghosts A) (text : List ℕ) (entry : OnShelf) (old : Desk) (now : OnShelf) (pool : Option (Pool R A)) : Type 0 where
+pub record BrokenLine {R A : Type 0} (rack : racks.Ghosts R) (area : areas.Ghosts A) (text : List ℕ) (entry before : OnShelf) (old : Desk) (now : OnShelf) (pool : Option (Pool R A)) : Type 0 where
   pub command : Command
   pub line : line_of text ≡ Ok command
-  pub broken : Broken rack area command entry old now pool
+  pub broken : Broken rack area command entry before old now pool
+
+-- a command that has a reply was answered by it
+abbrev pub IsSaid : Result Reply Stop → Result (Option Reply) Stop → Type 0
+IsSaid (Ok reply) result = result ≡ Ok (Some reply)
+IsSaid (Err stop) result = result ≡ Err stop
 
 module _ {R A : Type 0} (rack : racks.Ghosts R) (area : areas.Ghosts A) (chosen : List Room → Option ℕ → Type 0) where
   -- the reply to a command, or why it has none
   abbrev pub AnswerIs : Command → OnShelf → OnShelf → Option (Pool R A) → Desk → OnShelf → Option (Pool R A) → Result (Option Reply) Stop → Type 0
-  AnswerIs command entry before pool old now pool' (Ok reply) = Turned rack area chosen (Ok command) entry before old reply now pool'
+  AnswerIs command entry before pool old now pool' (Ok reply) = Turned rack area chosen (Ok command) entry old reply now pool'
   AnswerIs command entry before pool old now pool' (Err stop.Unbuilt) = IsUnbuilt command × (now ≡ before) × (pool' ≡ pool)
-  AnswerIs command entry before pool old now pool' (Err stop.Shelf) = Broken rack area command entry old now pool'
+  AnswerIs command entry before pool old now pool' (Err stop.Shelf) = Broken rack area command entry before old now pool'
 
   -- A line was answered, and its reply printed.
-  pub record Printed (text : List ℕ) (entry before : OnShelf) (old : Desk) (now : OnShelf) (pool : Option (Pool R A)) (held held' : Option (List ℕ)) : Type 0 where
+  pub record Printed (text : List ℕ) (entry : OnShelf) (old : Desk) (now : OnShelf) (pool : Option (Pool R A)) (held held' : Option (List ℕ)) : Type 0 where
     pub reply : Option Reply
-    pub turned : Turned rack area chosen (line_of text) entry before old reply now pool
+    pub turned : Turned rack area chosen (line_of text) entry old reply now pool
     pub prints : Appends held held' (said_text reply)
 
   -- A line was answered, and the sink failed at its reply.
-  pub record Cut (text : List ℕ) (entry before : OnShelf) (old : Desk) (now : OnShelf) (pool : Option (Pool R A)) (held held' : Option (List ℕ)) : Type 0 where
+  pub record Cut (text : List ℕ) (entry : OnShelf) (old : Desk) (now : OnShelf) (pool : Option (Pool R A)) (held held' : Option (List ℕ)) : Type 0 where
     pub reply : Reply
-    pub turned : Turned rack area chosen (line_of text) entry before old (Some reply) now pool
+    pub turned : Turned rack area chosen (line_of text) entry old (Some reply) now pool
     pub prints : AppendsFront held held' (text_of reply)
 
   -- what became of a line
   abbrev pub LineIs : ℕ → List ℕ → OnShelf → OnShelf → Option (Pool R A) → Desk → OnShelf → Option (Pool R A) → Option (List ℕ) → Option (List ℕ) → Result Unit Status → Type 0
-  LineIs number text entry before pool old now pool' held held' (Ok done) = Printed text entry before old now pool' held held'
-  LineIs number text entry before pool old now pool' held held' (Err SinkFault) = Cut text entry before old now pool' held held'
-  LineIs number text entry before pool old now pool' held held' (Err ShelfFault) = (held' ≡ held) × BrokenLine rack area text entry old now pool'
+  LineIs number text entry before pool old now pool' held held' (Ok done) = Printed text entry old now pool' held held'
+  LineIs number text entry before pool old now pool' held held' (Err SinkFault) = Cut text entry old now pool' held held'
+  LineIs number text entry before pool old now pool' held held' (Err ShelfFault) = (held' ≡ held) × BrokenLine rack area text entry before old now pool'
   LineIs number text entry before pool old now pool' held held' (Err (Line line kind at)) =
       LineFaultIs (line_of text) kind at × (now ≡ before) × (pool' ≡ pool) × (held' ≡ held) × (line ≡ number)
   LineIs number text entry before pool old now pool' held held' (Err NoMemory) =
-      (held' ≡ held) × (((now ≡ before) × (pool' ≡ pool)) ⊎ ((reply : Reply) × Turned rack area chosen (line_of text) entry before old (Some reply) now pool'))
+      (held' ≡ held) × (((now ≡ before) × (pool' ≡ pool)) ⊎ ((reply : Reply) × Turned rack area chosen (line_of text) entry old (Some reply) now pool'))
   LineIs number text entry before pool old now pool' held held' (Err status) = ⊥
 
-  -- The lines so far were answered and their replies printed.
-  pub record Serving (input rest start held : Option (List ℕ)) (entry now : OnShelf) (pool : Option (Pool R A)) (count : ℕ) : Type 0 where
+  -- The lines so far were answered and their replies printed, from this desk on.
+  pub record Serving (first : Desk) (input rest start held : Option (List ℕ)) (entry now : OnShelf) (pool : Option (Pool R A)) (count : ℕ) : Type 0 where
     pub lines : List (List ℕ)
     pub replies : List (Option Reply)
     pub reached : Desk
     pub count_is : length lines ≡ count
     pub desk : IsDesk rack area entry now pool reached
-    pub runs : (tells : Bool) → Tells reached now tells → Runs tells chosen Untouched lines replies reached
+    pub runs : Runs chosen first lines replies reached
     pub known : WhereKnown input rest (λ all behind. lines_of all ≡ lines ++ lines_of behind)
     pub printed : Appends start held (texts_of replies)
 
   -- The lines were served until the run ended.
-  pub record Served (ended : Status) (input start held : Option (List ℕ)) (entry now : OnShelf) (pool : Option (Pool R A)) : Type 0 where
+  pub record Served (first : Desk) (ended : Status) (input start held : Option (List ℕ)) (entry now : OnShelf) (pool : Option (Pool R A)) : Type 0 where
     pub lines : List (List ℕ)
     pub replies : List (Option Reply)
     pub shown : List (Option Reply)
@@ -97,8 +102,9 @@ module _ {R A : Type 0} (rack : racks.Ghosts R) (area : areas.Ghosts A) (chosen 
     pub last : Desk
     pub broken : Option (List ℕ)
     pub desk : IsDesk rack area entry now pool last
-    pub runs : (tells : Bool) → Tells last now tells → Runs tells chosen Untouched lines replies mid
+    pub runs : Runs chosen first lines replies mid
     pub breaks : BreaksOff ended broken mid last
     pub ends : MatchOption input ⊤ (Ends ended broken lines)
     pub shows : Shows ended replies shown
     pub prints : GetsReplies ended shown start held
+    pub failed : ended ≡ ShelfFault → HasFault entry now last

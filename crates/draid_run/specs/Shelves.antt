@@ -1,46 +1,82 @@
 -- What a shelf holds between lines and as a run ends.
-use Rattle.std.specs.Prelude.{◌≡◌, ℕ, Option, Some, slice_get}
-use Rattle.draid_shelf.specs.Kits.{Held, KitCounts, OnHeld}
+use Rattle.std.specs.Prelude.{◌≡◌, ◌<◌, ◌+◌, ◌⊎◌, ⊤, ℕ, Bool, Option, Some, None, IsSomeAnd, is_some, slice_get}
+use Rattle.draid_names.specs.Faults.{Rose}
+use Rattle.draid_shelf.specs.Kits.{AreNewChecks, Held, KitCounts, OnHeld}
 use Rattle.draid_shelf.specs.declared.Shelf as shelves
-use Rattle.draid_session.specs.Session.{Desk, Untouched, Made, Open, Shut}
+use Rattle.draid_session.specs.Session.{Desk, Untouched, Bare, Made, Open, Shut, Foreign, Unknown}
 use Rattle.draid_session.specs.State.{Metaslab, State}
 use Rattle.draid_pool.specs.Closing.{HoldsPool, OwnCounts, SameCounts}
-use Rattle.draid_pool.specs.Opening.{IsAsBefore, IsAway, IsMade, NoOwn}
+use Rattle.draid_pool.specs.Opening.{AreaFailed, IsAsBefore, IsMade, NoChecks}
 
--- What a shelf tells that it holds, and how often calls have failed: on the devices of each metaslab, and on the areas that aren't of a metaslab.
+-- What a shelf tells that it holds, and how often calls have failed: on the devices of each metaslab, on the areas that aren't of a metaslab, and on itself.
 pub record OnShelf : Type 0 where
   pub held : Option Held
   pub counts : ℕ → KitCounts
   pub own : OwnCounts
+  pub faults : ℕ
 
 abbrev pub on_shelf : {H R A : Type 0} → shelves.Ghosts H R A → H → OnShelf
-on_shelf shelf x = record { held = shelf.told x; counts = shelf.counts x; own = record { uber = shelf.uber_count x; checks = shelf.check_counts x } }
+on_shelf shelf x = record {
+  held = shelf.told x;
+  counts = shelf.counts x;
+  own = record { uber = shelf.uber_count x; checks = shelf.check_counts x };
+  faults = shelf.faults x;
+}
 
 -- it holds just what it held
 abbrev pub IsSame : OnShelf → OnShelf → Type 0
 IsSame old new = IsAsBefore old.held new.held old.counts new.counts old.own new.own
 
--- The devices of an open pool are away; what isn't of a metaslab is that of a new pool, on which no call has failed.
-pub record IsOut (now : OnShelf) : Type 0 where
-  pub held : OnHeld now.held IsAway
-  pub own : NoOwn now.own
+-- the areas of the check records are held, as they were made
+abbrev pub HasChecks : Held → Type 0
+HasChecks held = IsSomeAnd held.checks AreNewChecks
 
--- The pool of a state is held. Its metaslabs' devices were away, and came back as the state has them.
+-- The devices of an open pool are away; the areas of the check records are as they were made, and no call has failed on them. Whether the shelf tells is as the
+-- pool was opened.
+pub record IsOut (x : State) (now : OnShelf) : Type 0 where
+  pub held : OnHeld now.held HasChecks
+  pub checks : NoChecks now.own
+  pub told : x.told ≡ is_some now.held
+
+-- the pool of a state is held, and it may be that a crash came
 pub record HoldsAll (x : State) (held : Held) : Type 0 where
-  pub before : Held
-  pub away : IsAway before
-  pub holds : HoldsPool x before held
+  pub crash : Bool
+  pub holds : HoldsPool x crash held
 
--- The pool of a state was given back: where the shelf tells, it holds the pool, and all counts are those of the state.
+-- The pool of a state was given back: where the shelf tells, it holds the pool. All counts are those of the state.
 pub record HoldsShut (x : State) (now : OnShelf) : Type 0 where
   pub held : OnHeld now.held (HoldsAll x)
+  pub told : x.told ≡ is_some now.held
   pub counts : (m : ℕ) (y : Metaslab) → slice_get x.metaslabs m ≡ Some y → SameCounts y.counts (now.counts m)
   pub uber : now.own.uber ≡ x.uber_count
-  pub checks : now.own.checks ≡ record { even = 0; odd = 0 }
+  pub checks : NoChecks now.own
 
--- What a shelf holds, where no pool is open: what it held at the entry, a new pool as it was made, or the pool that was given back.
+-- it tells that it has no pool
+abbrev pub HasNone : OnShelf → Type 0
+HasNone now = IsSomeAnd now.held (λ held. held.uber ≡ None)
+
+-- What a shelf holds, where no pool is open: what it held at the entry, no pool, a new pool as it was made, or the pool that was given back.
 abbrev pub HoldsDesk : Desk → OnShelf → OnShelf → Type 0
 HoldsDesk Untouched entry now = IsSame entry now
+HoldsDesk Bare entry now = HasNone now
 HoldsDesk (Made geometry) entry now = IsMade geometry now.held now.counts now.own
 HoldsDesk (Open state) entry now = ⊥
 HoldsDesk (Shut state) entry now = HoldsShut state now
+HoldsDesk Foreign entry now = ⊥
+HoldsDesk Unknown entry now = ⊤
+
+-- ---- failures
+
+-- a call of the shelf failed since, or one on an area that it holds has failed
+abbrev pub HasFailed : OnShelf → OnShelf → Type 0
+HasFailed entry now = Rose entry.faults now.faults ⊎ AreaFailed now.counts now.own
+
+-- a call on an area of an open pool has failed
+abbrev pub AreaHasFailed : State → Type 0
+AreaHasFailed x = ((m : ℕ) × (y : Metaslab) × (slice_get x.metaslabs m ≡ Some y) × (0 < y.counts.even + y.counts.odd)) ⊎ (0 < x.uber_count)
+
+-- the one or the other, by whether a pool is open
+abbrev pub HasFault : OnShelf → OnShelf → Desk → Type 0
+HasFault entry now (Open x) = AreaHasFailed x
+HasFault entry now Foreign = ⊤
+HasFault entry now desk = HasFailed entry now

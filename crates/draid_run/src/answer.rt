@@ -1,6 +1,5 @@
 //! What the commands of a script reply, whether a pool is open or not.
-ghost use Rattle.std.specs.Prelude.{◌≡◌, ◌≤◌, None, IfOk, IsErrOf, string_bytes};
-ghost use Rattle.draid_names.specs.Faults.{Rose};
+ghost use Rattle.std.specs.Prelude.{◌≡◌, ◌≤◌, None, IfOk, string_bytes};
 ghost use Rattle.draid_script.specs.Line.{FillObjects, IsInRange, SumObjects, WriteObject, command_in};
 ghost use Rattle.std.specs.Fn.{FnReturnsAt};
 ghost use Rattle.draid_choose.specs.Rooms.{IsChooser};
@@ -10,10 +9,10 @@ ghost use Rattle.draid_session.specs.Session.{Desk};
 ghost use Rattle.draid_run.specs.Desks.{IsDesk, IsPool, PoolDid, ReplyDoes};
 ghost use Rattle.draid_run.specs.Making.{CreateIs, MakeIs};
 ghost use Rattle.draid_run.specs.Says.{DamageSays, FreeSays, ReadSays, SumSays};
-ghost use Rattle.draid_run.specs.Serve.{AnswerIs};
+ghost use Rattle.draid_run.specs.Serve.{AnswerIs, IsSaid};
 ghost use Rattle.draid_run.specs.Shelves.{OnShelf, on_shelf};
 
-use crate::{fill, replies};
+use crate::{fill, groups, replies};
 use draid_area::Area;
 use draid_choose::Chooser;
 use draid_names::{NoMemory, Room};
@@ -31,7 +30,7 @@ use std::thread::Threads;
 pub(crate) enum Stop {
     /// The command is beyond what is built.
     Unbuilt,
-    /// The shelf failed.
+    /// A call of the shelf, or on an area of the pool, failed.
     Shelf,
 }
 
@@ -70,7 +69,6 @@ fn create<H: Shelf>(
     ensures answer { (entry : OnShelf) (x : Desk) → IsDesk H.R.Rack H.A.Area entry (on_shelf H.Shelf shelf.old) pool.old x
         → CreateIs H.R.Rack H.A.Area text.now children keys entry (on_shelf H.Shelf shelf.old) x (on_shelf H.Shelf shelf.new) pool.new result }
     ensures later { H.faults shelf.old ≤ H.faults shelf.new }
-    ensures cause { IsErrOf result Stop.Shelf → Rose (H.faults shelf.old) (H.faults shelf.new) }
 {
     if pool.is_some() {
         return Ok(Reply::PoolOpen {
@@ -88,6 +86,8 @@ fn create<H: Shelf>(
         Err(PoolFault::NoMemory) => Ok(Reply::NoMemory {
             command: CommandName::Create,
         }),
+        Err(PoolFault::NoPool) => unreachable!(),
+        Err(PoolFault::Record { .. }) => unreachable!(),
     }
 }
 
@@ -110,7 +110,6 @@ fn make<H: Shelf>(
     requires closed { pool.old ≡ None }
     ensures makes { MakeIs H.R.Rack H.A.Area spec props (on_shelf H.Shelf shelf.old) (on_shelf H.Shelf shelf.new) pool.new result }
     ensures later { H.faults shelf.old ≤ H.faults shelf.new }
-    ensures cause { IsErrOf result PoolFault.Shelf → Rose (H.faults shelf.old) (H.faults shelf.new) }
 {
     let layout = match geometry(spec, props) {
         Ok(layout) => layout,
@@ -127,7 +126,7 @@ fn make<H: Shelf>(
 }
 
 /// What a command replies that needs an open pool, where none is open.
-fn no_pool(command: CommandName) -> Reply
+pub(crate) fn no_pool(command: CommandName) -> Reply
     ensures { result ≡ Reply.NoPool command }
 {
     Reply::NoPool { command }
@@ -228,6 +227,16 @@ fn damage<R: Rack, A: Area>(pool: &mut Option<Pool<R, A>>, leaf: u64, sector: u6
     }
 }
 
+/// The answer to a command that has a reply, unless the run ends there.
+fn said(reply: Result<Reply, Stop>) -> Result<Option<Reply>, Stop>
+    ensures { IsSaid reply result }
+{
+    match reply {
+        Ok(reply) => Ok(Some(reply)),
+        Err(stop) => Err(stop),
+    }
+}
+
 /// Does what a line asks for. An empty line and a comment have no reply.
 pub(crate) fn answer<H: Shelf, F: Fn(&[Room]) -> Option<u32>>(
     rt: &(impl Threads + Sync),
@@ -243,7 +252,6 @@ pub(crate) fn answer<H: Shelf, F: Fn(&[Room]) -> Option<u32>>(
     ensures answer { (entry : OnShelf) (x : Desk) → IsDesk H.R.Rack H.A.Area entry (on_shelf H.Shelf shelf.old) pool.old x
         → AnswerIs H.R.Rack H.A.Area (FnReturnsAt F.Fn chooser.now) (command_in line) entry (on_shelf H.Shelf shelf.old) pool.old x (on_shelf H.Shelf shelf.new) pool.new result }
     ensures later { H.faults shelf.old ≤ H.faults shelf.new }
-    ensures cause { IsErrOf result Stop.Shelf → Rose (H.faults shelf.old) (H.faults shelf.new) }
 {
     match line {
         Line::Nothing => Ok(None),
@@ -252,6 +260,9 @@ pub(crate) fn answer<H: Shelf, F: Fn(&[Room]) -> Option<u32>>(
             children,
             keys,
         } => Ok(Some(create(alloc, shelf, pool, &spec, children, keys)?)),
+        Line::Sync => said(groups::sync(pool)),
+        Line::Export => said(groups::export(shelf, pool)),
+        Line::Crash => Ok(Some(groups::crash(shelf, pool))),
         Line::Write { object, bytes } => Ok(Some(write(pool, chooser, object, &bytes))),
         Line::Fill {
             first,

@@ -7,6 +7,7 @@ ghost use Rattle.draid_session.specs.Making.{content_of};
 ghost use Rattle.draid_session.specs.State.{State};
 ghost use Rattle.draid_pool.specs.Carries.{CarriesOut};
 ghost use Rattle.draid_pool.specs.Pools.{Represents};
+ghost use Rattle.draid_pool.specs.Whole.{IsWhole};
 ghost use Rattle.draid_run.specs.Desks.{ReplyDoes};
 
 use draid_area::Area;
@@ -41,7 +42,8 @@ pub(crate) fn fill<R: Rack, A: Area, F: Fn(&[Room]) -> Option<u32>>(
 ) -> Reply
     requires range { IsInRange (FillObjects first count len seed) }
     requires chooser { IsChooser F.Fn chooser.now }
-    requires represents { (x : State) × Represents R.Rack A.Area pool.old x }
+    requires whole { IsWhole R.Rack A.Area pool.old }
+    ensures whole { IsWhole R.Rack A.Area pool.new }
     ensures step { (x : State) → Represents R.Rack A.Area pool.old x
         → CarriesOut R.Rack A.Area pool.new x (ReplyDoes x (FnReturnsAt F.Fn chooser.now) (FillObjects first count len seed) result) }
 {

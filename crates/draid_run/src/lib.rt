@@ -4,6 +4,7 @@
 
 mod answer;
 mod fill;
+mod groups;
 mod replies;
 mod serve;
 mod status;

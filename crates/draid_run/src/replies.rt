@@ -6,6 +6,7 @@ ghost use Rattle.draid_script.specs.Line.{IsInRange, SumObjects, WriteObject};
 ghost use Rattle.draid_session.specs.State.{State};
 ghost use Rattle.draid_pool.specs.Carries.{CarriesOut};
 ghost use Rattle.draid_pool.specs.Pools.{Represents};
+ghost use Rattle.draid_pool.specs.Whole.{IsWhole};
 ghost use Rattle.draid_run.specs.Desks.{ReplyDoes};
 ghost use Rattle.draid_run.specs.Says.{DamageSays, FreeSays, ReadSays, SumSays};
 
@@ -27,7 +28,8 @@ pub(crate) fn write<R: Rack, A: Area, F: Fn(&[Room]) -> Option<u32>>(
 ) -> Reply
     requires range { IsInRange (WriteObject object bytes.now) }
     requires chooser { IsChooser F.Fn chooser.now }
-    requires represents { (x : State) × Represents R.Rack A.Area pool.old x }
+    requires whole { IsWhole R.Rack A.Area pool.old }
+    ensures whole { IsWhole R.Rack A.Area pool.new }
     ensures step { (x : State) → Represents R.Rack A.Area pool.old x
         → CarriesOut R.Rack A.Area pool.new x (ReplyDoes x (FnReturnsAt F.Fn chooser.now) (WriteObject object bytes.now) result) }
 {
@@ -57,7 +59,8 @@ pub(crate) fn write<R: Rack, A: Area, F: Fn(&[Room]) -> Option<u32>>(
 
 /// Reads an object.
 pub(crate) fn read<R: Rack, A: Area>(pool: &mut Pool<R, A>, object: u64) -> Reply
-    requires represents { (x : State) × Represents R.Rack A.Area pool.old x }
+    requires whole { IsWhole R.Rack A.Area pool.old }
+    ensures whole { IsWhole R.Rack A.Area pool.new }
     ensures step { (x : State) → Represents R.Rack A.Area pool.old x
         → CarriesOut R.Rack A.Area pool.new x (ReadSays object result x) }
 {
@@ -78,7 +81,8 @@ pub(crate) fn read<R: Rack, A: Area>(pool: &mut Pool<R, A>, object: u64) -> Repl
 
 /// Frees an object.
 pub(crate) fn free<R: Rack, A: Area>(pool: &mut Pool<R, A>, object: u64) -> Reply
-    requires represents { (x : State) × Represents R.Rack A.Area pool.old x }
+    requires whole { IsWhole R.Rack A.Area pool.old }
+    ensures whole { IsWhole R.Rack A.Area pool.new }
     ensures step { (x : State) → Represents R.Rack A.Area pool.old x
         → CarriesOut R.Rack A.Area pool.new x (FreeSays object result x) }
 {
@@ -96,7 +100,8 @@ pub(crate) fn sum<R: Rack, A: Area>(
     count: u64,
 ) -> Reply
     requires range { IsInRange (SumObjects first count) }
-    requires represents { (x : State) × Represents R.Rack A.Area pool.old x }
+    requires whole { IsWhole R.Rack A.Area pool.old }
+    ensures whole { IsWhole R.Rack A.Area pool.new }
     ensures step { (x : State) → Represents R.Rack A.Area pool.old x
         → CarriesOut R.Rack A.Area pool.new x (SumSays first count result x) }
 {
@@ -112,7 +117,8 @@ pub(crate) fn sum<R: Rack, A: Area>(
 
 /// Damages a sector of a leaf.
 pub(crate) fn damage<R: Rack, A: Area>(pool: &mut Pool<R, A>, leaf: u64, sector: u64) -> Reply
-    requires represents { (x : State) × Represents R.Rack A.Area pool.old x }
+    requires whole { IsWhole R.Rack A.Area pool.old }
+    ensures whole { IsWhole R.Rack A.Area pool.new }
     ensures step { (x : State) → Represents R.Rack A.Area pool.old x
         → CarriesOut R.Rack A.Area pool.new x (DamageSays leaf sector result x) }
 {

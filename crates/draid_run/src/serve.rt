@@ -7,7 +7,7 @@ ghost use Rattle.draid_reply.specs.Reply.{text_of};
 ghost use Rattle.draid_session.specs.Session.{Desk};
 ghost use Rattle.draid_run.specs.Desks.{IsDesk, IsPool};
 ghost use Rattle.draid_run.specs.Serve.{LineIs, PrintIs, Served, TextIs};
-ghost use Rattle.draid_run.specs.Shelves.{OnShelf, on_shelf};
+ghost use Rattle.draid_run.specs.Shelves.{HoldsDesk, OnShelf, on_shelf};
 
 use crate::answer::{Stop, answer};
 use crate::status::Status;
@@ -42,7 +42,6 @@ fn serve_line<H: Shelf, K: Sink, F: Fn(&[Room]) -> Option<u32>>(
     ensures later { K.faults sink.old ≤ K.faults sink.new }
     ensures cause { result ≡ Err Status.SinkFault → Rose (K.faults sink.old) (K.faults sink.new) }
     ensures shelf_later { H.faults shelf.old ≤ H.faults shelf.new }
-    ensures shelf_cause { result ≡ Err Status.ShelfFault → Rose (H.faults shelf.old) (H.faults shelf.new) }
 {
     let line = match parse_line(alloc, text) {
         Ok(line) => line,
@@ -116,13 +115,13 @@ pub(crate) fn serve<H: Shelf, S: Source, K: Sink, F: Fn(&[Room]) -> Option<u32>>
 ) -> Status
     requires chooser { IsChooser F.Fn chooser.now }
     requires closed { pool.old ≡ None }
-    ensures served { Served H.R.Rack H.A.Area (FnReturnsAt F.Fn chooser.now) result (S.left source.old) (K.held sink.old) (K.held sink.new) (on_shelf H.Shelf shelf.old) (on_shelf H.Shelf shelf.new) pool.new }
+    ensures served { (first : Desk) → HoldsDesk first (on_shelf H.Shelf shelf.old) (on_shelf H.Shelf shelf.old)
+        → Served H.R.Rack H.A.Area (FnReturnsAt F.Fn chooser.now) first result (S.left source.old) (K.held sink.old) (K.held sink.new) (on_shelf H.Shelf shelf.old) (on_shelf H.Shelf shelf.new) pool.new }
     ensures source_later { S.faults source.old ≤ S.faults source.new }
     ensures sink_later { K.faults sink.old ≤ K.faults sink.new }
     ensures shelf_later { H.faults shelf.old ≤ H.faults shelf.new }
     ensures source_cause { result ≡ Status.SourceFault → Rose (S.faults source.old) (S.faults source.new) }
     ensures sink_cause { result ≡ Status.SinkFault → Rose (K.faults sink.old) (K.faults sink.new) }
-    ensures shelf_cause { result ≡ Status.ShelfFault → Rose (H.faults shelf.old) (H.faults shelf.new) }
     ensures no_usage { result ≡ Status.Usage → ⊥ }
 {
     let mut lines = Lines::new(alloc);

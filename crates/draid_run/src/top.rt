@@ -5,7 +5,7 @@ ghost use Rattle.draid_names.specs.Faults.{Rose};
 ghost use Rattle.draid_session.specs.Session.{Desk};
 ghost use Rattle.draid_run.specs.Desks.{IsDesk, IsPool, LeavesDesk};
 ghost use Rattle.draid_run.specs.Script.{EndsWithLine, Prints, RunIs};
-ghost use Rattle.draid_run.specs.Shelves.{OnShelf, on_shelf};
+ghost use Rattle.draid_run.specs.Shelves.{HasFailed, OnShelf, on_shelf};
 
 use crate::serve::serve;
 use crate::status::{Status, fixed_line, numbered_line};
@@ -87,7 +87,7 @@ pub fn run<
     // The devices are to blame only where they failed in this run.
     ensures source_fault { result ≡ Status.SourceFault → Rose (S.faults source.old) (S.faults source.new) }
     ensures sink_fault { result ≡ Status.SinkFault → Rose (K.faults sink.old) (K.faults sink.new) }
-    ensures shelf_fault { result ≡ Status.ShelfFault → Rose (H.faults shelf.old) (H.faults shelf.new) }
+    ensures shelf_fault { result ≡ Status.ShelfFault → HasFailed (on_shelf H.Shelf shelf.old) (on_shelf H.Shelf shelf.new) }
 {
     let alloc = rt.alloc();
     match take_words(alloc, words) {

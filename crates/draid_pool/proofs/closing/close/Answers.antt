@@ -5,6 +5,7 @@ use Rattle.draid_names.specs.declared.pointer.Pointer.{Pointer}
 use Rattle.draid_shelf.specs.Kits.{gives_uber}
 use Rattle.draid_uber.specs.Uber.{area_of}
 use Rattle.draid_pool.proofs.Closed.{counted_as, holds_pool, pool_crashed, pool_uncrashed, stands_parts}
+use Rattle.draid_pool.proofs.Failing.{shows_there}
 use Rattle.draid_pool.proofs.closing.close.Goals as goal
 
 pub returns-then-crash-clause-back : goal.returns-then-crash-clause-back
@@ -36,3 +37,17 @@ returns-clause-back g c = λ x represents.
           c.give_back.ensures.returns (shelf.counts c.give_uber.new.self) (λ m. c.give_uber.ensures.counts m);
       uber = c.give_uber.ensures.count ∙ (ap g.H.A.Area.faults c.into_area.ensures ∙ sym represents.stands.uber.count);
     }
+
+pub returns-then-crash-clause-failed : goal.returns-then-crash-clause-failed
+returns-then-crash-clause-failed g c =
+    let shelf = g.H.Shelf in
+    shows_there g.H.R.Rack g.H.A.Area c.args.pool (shelf.told c.args.shelf.now) (shelf.told c.give_back.new.shelf) (shelf.counts c.args.shelf.now) (shelf.counts c.give_back.new.shelf) (shelf.counts c.crash.new.self)
+    (record { uber = shelf.uber_count c.crash.new.self; checks = shelf.check_counts c.crash.new.self }) c.give_back.ensures.returns
+    (λ m. c.crash.ensures.counts m ∙ c.give_uber.ensures.counts m) (c.crash.ensures.uber_count ∙ (c.give_uber.ensures.count ∙ ap g.H.A.Area.faults c.into_area.ensures))
+
+pub returns-clause-failed : goal.returns-clause-failed
+returns-clause-failed g c =
+    let shelf = g.H.Shelf in
+    shows_there g.H.R.Rack g.H.A.Area c.args.pool (shelf.told c.args.shelf.now) (shelf.told c.give_back.new.shelf) (shelf.counts c.args.shelf.now) (shelf.counts c.give_back.new.shelf) (shelf.counts c.give_uber.new.self)
+    (record { uber = shelf.uber_count c.give_uber.new.self; checks = shelf.check_counts c.give_uber.new.self }) c.give_back.ensures.returns
+    (λ m. c.give_uber.ensures.counts m) (c.give_uber.ensures.count ∙ ap g.H.A.Area.faults c.into_area.ensures)

@@ -1,7 +1,7 @@
 use Rattle.std.proofs.Common.{◌∙◌, Ok, Err, true, false, rules}
 use Rattle.draid_shard.proofs.Shown.{state_shown}
 use Rattle.draid_pool.proofs.Damages.{damages, damages_nowhere, damages_starved, damages_worn, leaf_stays, raises_damage}
-use Rattle.draid_pool.proofs.Sets.{kept_none, kept_then}
+use Rattle.draid_pool.proofs.Sets.{kept_then}
 use Rattle.draid_pool.proofs.damaging.damage_sector.Goals as goal
 
 pub returns-then-not-has_leaf-clause-damages : goal.returns-then-not-has_leaf-clause-damages

@@ -2,7 +2,7 @@ use Rattle.std.proofs.Common.{◌∙◌, Some, arith, sym, ap, subst}
 use Rattle.draid_machine.specs.declared.names.Stage.TheVariants.{Writing}
 use Rattle.draid_entries.specs.Maps.{staged}
 use Rattle.draid_shard.specs.Part.{Part}
-use Rattle.draid_pool.specs.Shards.{DropsBlock, NotStored, Stored}
+use Rattle.draid_pool.specs.Shards.{NotStored, Stored}
 use Rattle.draid_pool.proofs.Sets.{drops_block, stores_block}
 use Rattle.draid_pool.proofs.StoreSteps.{AllPut, Begun, Ended, not_stored, stored}
 use Rattle.draid_pool.proofs.store.store.Goals as goal

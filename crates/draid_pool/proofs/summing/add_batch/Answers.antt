@@ -39,7 +39,7 @@ feed-requires g c =
 pub returns-in_err-feed : goal.returns-in_err-feed
 returns-in_err-feed g c = record {
   whole = c.fetch_batch-batch.ensures.whole;
-  added = tt;
+  added = (let p = err_from_is_err_and c.from_residual.result c.from_residual.ensures.1 in rw p.1 tt);
   step = λ x is.
       (let new = c.fetch_batch-batch.new.pool in
       let solved = subst (λ (bs : List Fetched). AllZip (IsSolved (cut_of new.geometry)) bs c.in-Ok.solves.items) c.deref.ensures.value c.in-Ok.ensures.answers in

@@ -1,4 +1,4 @@
-use Rattle.std.proofs.Common.{◌≡◌, ◌≤◌, ◌+◌, ◌∙◌, All, List, Vec, Global, Some, None, arith, ap, length, refl, sym, subst}
+use Rattle.std.proofs.Common.{◌≤◌, ◌+◌, ◌∙◌, All, List, Vec, Global, Some, None, arith, ap, length, refl, sym, subst}
 use Rattle.std.proofs.ResultArms.{subst_both}
 use Rattle.draid_block.specs.Blocks.{cut_of}
 use Rattle.draid_block.specs.Solving.{IsFetched}

@@ -1,38 +1,55 @@
-use Rattle.std.proofs.Common.{Ok, Some, subst, sym}
+use Rattle.std.proofs.Common.{Ok, Some, refl, subst, sym}
 use Rattle.std.specs.Fn.{FnReturnsAt}
 use Rattle.draid_script.specs.Line.{WriteObject, command_in}
 use Rattle.draid_script.specs.declared.line.Line.{Line}
 use Rattle.draid_run.specs.Desks.{Turned}
 use Rattle.draid_run.specs.Shelves.{on_shelf}
+use Rattle.draid_run.specs.Serve.{AnswerIs}
+use Rattle.draid_run.proofs.Grouping.{answer_export, answer_sync, by_crash}
 use Rattle.draid_run.proofs.Steps.{by_damage, by_fill, by_free, by_read, by_sum, by_write}
 use Rattle.draid_run.proofs.answer.answer.Goals as goal
 
 pub returns-in-Write-clause-answer : goal.returns-in-Write-clause-answer
 returns-in-Write-clause-answer g c entry x desk =
-    subst (λ (l : Line). Turned g.H.R.Rack g.H.A.Area (FnReturnsAt g.F.Fn c.args.chooser.now) (Ok (command_in l)) entry (on_shelf g.H.Shelf c.args.shelf.now) x (Some c.write.result) (on_shelf g.H.Shelf c.args.shelf.now) c.write.new.pool) (sym c.in-Write.is)
-    (subst (λ bytes. Turned g.H.R.Rack g.H.A.Area (FnReturnsAt g.F.Fn c.args.chooser.now) (Ok (WriteObject c.in-Write.object bytes)) entry (on_shelf g.H.Shelf c.args.shelf.now) x (Some c.write.result) (on_shelf g.H.Shelf c.args.shelf.now) c.write.new.pool) c.deref-in-Write.ensures.value (by_write g.H.R.Rack g.H.A.Area (FnReturnsAt g.F.Fn c.args.chooser.now) entry (on_shelf g.H.Shelf c.args.shelf.now) c.args.pool.now c.write.result c.in-Write.object c.deref-in-Write.result.now x c.write.new.pool desk (c.write.ensures.did x desk.stands)))
+    subst (λ (l : Line). Turned g.H.R.Rack g.H.A.Area (FnReturnsAt g.F.Fn c.args.chooser.now) (Ok (command_in l)) entry x (Some c.write.result) (on_shelf g.H.Shelf c.args.shelf.now) c.write.new.pool) (sym c.in-Write.is)
+    (subst (λ bytes. Turned g.H.R.Rack g.H.A.Area (FnReturnsAt g.F.Fn c.args.chooser.now) (Ok (WriteObject c.in-Write.object bytes)) entry x (Some c.write.result) (on_shelf g.H.Shelf c.args.shelf.now) c.write.new.pool) c.deref-in-Write.ensures.value (by_write g.H.R.Rack g.H.A.Area (FnReturnsAt g.F.Fn c.args.chooser.now) entry (on_shelf g.H.Shelf c.args.shelf.now) c.args.pool.now c.write.result c.in-Write.object c.deref-in-Write.result.now x c.write.new.pool desk (c.write.ensures.did x desk.stands)))
 
 pub returns-in-Fill-clause-answer : goal.returns-in-Fill-clause-answer
 returns-in-Fill-clause-answer g c entry x desk =
-    subst (λ (l : Line). Turned g.H.R.Rack g.H.A.Area (FnReturnsAt g.F.Fn c.args.chooser.now) (Ok (command_in l)) entry (on_shelf g.H.Shelf c.args.shelf.now) x (Some c.fill.result) (on_shelf g.H.Shelf c.args.shelf.now) c.fill.new.pool) (sym c.in-Fill.is)
+    subst (λ (l : Line). Turned g.H.R.Rack g.H.A.Area (FnReturnsAt g.F.Fn c.args.chooser.now) (Ok (command_in l)) entry x (Some c.fill.result) (on_shelf g.H.Shelf c.args.shelf.now) c.fill.new.pool) (sym c.in-Fill.is)
     (by_fill g.H.R.Rack g.H.A.Area (FnReturnsAt g.F.Fn c.args.chooser.now) entry (on_shelf g.H.Shelf c.args.shelf.now) c.args.pool.now c.fill.result c.in-Fill.first c.in-Fill.count c.in-Fill.len c.in-Fill.seed x c.fill.new.pool desk (c.fill.ensures.did x desk.stands))
 
 pub returns-in-Free-clause-answer : goal.returns-in-Free-clause-answer
 returns-in-Free-clause-answer g c entry x desk =
-    subst (λ (l : Line). Turned g.H.R.Rack g.H.A.Area (FnReturnsAt g.F.Fn c.args.chooser.now) (Ok (command_in l)) entry (on_shelf g.H.Shelf c.args.shelf.now) x (Some c.free.result) (on_shelf g.H.Shelf c.args.shelf.now) c.free.new.pool) (sym c.in-Free.is)
+    subst (λ (l : Line). Turned g.H.R.Rack g.H.A.Area (FnReturnsAt g.F.Fn c.args.chooser.now) (Ok (command_in l)) entry x (Some c.free.result) (on_shelf g.H.Shelf c.args.shelf.now) c.free.new.pool) (sym c.in-Free.is)
     (by_free g.H.R.Rack g.H.A.Area (FnReturnsAt g.F.Fn c.args.chooser.now) entry (on_shelf g.H.Shelf c.args.shelf.now) c.args.pool.now c.free.result c.in-Free.object x c.free.new.pool desk (c.free.ensures.did x desk.stands))
 
 pub returns-in-Read-clause-answer : goal.returns-in-Read-clause-answer
 returns-in-Read-clause-answer g c entry x desk =
-    subst (λ (l : Line). Turned g.H.R.Rack g.H.A.Area (FnReturnsAt g.F.Fn c.args.chooser.now) (Ok (command_in l)) entry (on_shelf g.H.Shelf c.args.shelf.now) x (Some c.read.result) (on_shelf g.H.Shelf c.args.shelf.now) c.read.new.pool) (sym c.in-Read.is)
+    subst (λ (l : Line). Turned g.H.R.Rack g.H.A.Area (FnReturnsAt g.F.Fn c.args.chooser.now) (Ok (command_in l)) entry x (Some c.read.result) (on_shelf g.H.Shelf c.args.shelf.now) c.read.new.pool) (sym c.in-Read.is)
     (by_read g.H.R.Rack g.H.A.Area (FnReturnsAt g.F.Fn c.args.chooser.now) entry (on_shelf g.H.Shelf c.args.shelf.now) c.args.pool.now c.read.result c.in-Read.object x c.read.new.pool desk (c.read.ensures.did x desk.stands))
 
 pub returns-in-Sum-clause-answer : goal.returns-in-Sum-clause-answer
 returns-in-Sum-clause-answer g c entry x desk =
-    subst (λ (l : Line). Turned g.H.R.Rack g.H.A.Area (FnReturnsAt g.F.Fn c.args.chooser.now) (Ok (command_in l)) entry (on_shelf g.H.Shelf c.args.shelf.now) x (Some c.sum.result) (on_shelf g.H.Shelf c.args.shelf.now) c.sum.new.pool) (sym c.in-Sum.is)
+    subst (λ (l : Line). Turned g.H.R.Rack g.H.A.Area (FnReturnsAt g.F.Fn c.args.chooser.now) (Ok (command_in l)) entry x (Some c.sum.result) (on_shelf g.H.Shelf c.args.shelf.now) c.sum.new.pool) (sym c.in-Sum.is)
     (by_sum g.H.R.Rack g.H.A.Area (FnReturnsAt g.F.Fn c.args.chooser.now) entry (on_shelf g.H.Shelf c.args.shelf.now) c.args.pool.now c.sum.result c.in-Sum.first c.in-Sum.count x c.sum.new.pool desk (c.sum.ensures.did x desk.stands))
 
 pub returns-in-Damage-clause-answer : goal.returns-in-Damage-clause-answer
 returns-in-Damage-clause-answer g c entry x desk =
-    subst (λ (l : Line). Turned g.H.R.Rack g.H.A.Area (FnReturnsAt g.F.Fn c.args.chooser.now) (Ok (command_in l)) entry (on_shelf g.H.Shelf c.args.shelf.now) x (Some c.damage.result) (on_shelf g.H.Shelf c.args.shelf.now) c.damage.new.pool) (sym c.in-Damage.is)
+    subst (λ (l : Line). Turned g.H.R.Rack g.H.A.Area (FnReturnsAt g.F.Fn c.args.chooser.now) (Ok (command_in l)) entry x (Some c.damage.result) (on_shelf g.H.Shelf c.args.shelf.now) c.damage.new.pool) (sym c.in-Damage.is)
     (by_damage g.H.R.Rack g.H.A.Area (FnReturnsAt g.F.Fn c.args.chooser.now) entry (on_shelf g.H.Shelf c.args.shelf.now) c.args.pool.now c.damage.result c.in-Damage.leaf c.in-Damage.sector x c.damage.new.pool desk (c.damage.ensures.did x desk.stands))
+
+pub returns-in-Sync-clause-answer : goal.returns-in-Sync-clause-answer
+returns-in-Sync-clause-answer g c entry x desk =
+    subst (λ (l : Line). AnswerIs g.H.R.Rack g.H.A.Area (FnReturnsAt g.F.Fn c.args.chooser.now) (command_in l) entry (on_shelf g.H.Shelf c.args.shelf.now) c.args.pool.now x (on_shelf g.H.Shelf c.args.shelf.now) c.sync.new.pool c.said.result) (sym c.in-Sync.is)
+    (answer_sync g.H.R.Rack g.H.A.Area (FnReturnsAt g.F.Fn c.args.chooser.now) entry (on_shelf g.H.Shelf c.args.shelf.now) (on_shelf g.H.Shelf c.args.shelf.now) c.args.pool.now x c.sync.new.pool c.sync.result c.said.result c.said.ensures refl desk (c.sync.ensures.did x desk.stands))
+
+pub returns-in-Export-clause-answer : goal.returns-in-Export-clause-answer
+returns-in-Export-clause-answer g c entry x desk =
+    subst (λ (l : Line). AnswerIs g.H.R.Rack g.H.A.Area (FnReturnsAt g.F.Fn c.args.chooser.now) (command_in l) entry (on_shelf g.H.Shelf c.args.shelf.now) c.args.pool.now x (on_shelf g.H.Shelf c.export.new.shelf) c.export.new.pool c.said-in-Export.result) (sym c.in-Export.is)
+    (answer_export g.H.R.Rack g.H.A.Area (FnReturnsAt g.F.Fn c.args.chooser.now) entry (on_shelf g.H.Shelf c.args.shelf.now) (on_shelf g.H.Shelf c.export.new.shelf) c.args.pool.now x c.export.new.pool c.export.result c.said-in-Export.result c.said-in-Export.ensures (c.export.ensures.answer entry x desk))
+
+pub returns-in-Crash-clause-answer : goal.returns-in-Crash-clause-answer
+returns-in-Crash-clause-answer g c entry x desk =
+    subst (λ (l : Line). Turned g.H.R.Rack g.H.A.Area (FnReturnsAt g.F.Fn c.args.chooser.now) (Ok (command_in l)) entry x (Some c.crash.result) (on_shelf g.H.Shelf c.crash.new.shelf) c.crash.new.pool) (sym c.in-Crash.is)
+    (by_crash g.H.R.Rack g.H.A.Area (FnReturnsAt g.F.Fn c.args.chooser.now) entry (on_shelf g.H.Shelf c.args.shelf.now) (on_shelf g.H.Shelf c.crash.new.shelf) x c.crash.result c.crash.new.pool (c.crash.ensures.did entry x desk))

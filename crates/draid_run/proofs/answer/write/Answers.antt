@@ -1,5 +1,5 @@
-use Rattle.draid_run.proofs.Steps.{has_state}
+use Rattle.draid_run.proofs.Steps.{is_whole}
 use Rattle.draid_run.proofs.answer.write.Goals as goal
 
-pub write-requires-clause-represents : goal.write-requires-clause-represents
-write-requires-clause-represents g c = has_state g.R.Rack g.A.Area c.args.pool.now c.in-Some.pool c.in-Some.is c.requires.desk
+pub write-requires-clause-whole : goal.write-requires-clause-whole
+write-requires-clause-whole g c = is_whole g.R.Rack g.A.Area c.args.pool.now c.in-Some.pool c.in-Some.is c.requires.desk

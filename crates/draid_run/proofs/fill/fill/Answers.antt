@@ -6,6 +6,7 @@ use Rattle.draid_run.proofs.fill.fill.Goals as goal
 
 pub returns-in_default : goal.returns-in_default
 returns-in_default g c = record {
+  whole = c.requires.whole;
   step = λ x rep. fill_unbegun g.R.Rack g.A.Area (FnReturnsAt g.F.Fn c.args.chooser.now) c.args.first c.args.len c.args.seed x c.args.pool.now c.args.count
       (let some = c.requires.range.0.0 in omega (arith, some)) rep;
 }
@@ -13,7 +14,7 @@ returns-in_default g c = record {
 pub loop-written-init : goal.loop-written-init
 loop-written-init g c = record {
   long = (let long = c.in-Ok.ensures.len in let ok = c.in-Ok.bytes.ok in omega (arith, long, ok));
-  represents = c.requires.represents;
+  whole = c.requires.whole;
   filled = λ x rep. filled_none g.R.Rack g.A.Area (FnReturnsAt g.F.Fn c.args.chooser.now) c.args.first c.args.len c.args.seed x c.args.pool.now rep;
 }
 
@@ -26,6 +27,7 @@ returns-in-Err g c =
     let all = whole c.loop-written.bytes.len c.draw.new.into c.loop-written.bytes.items kept (omega (arith, ok)) in
     let is = c.deref.ensures.value ∙ all ∙ c.draw.ensures.bytes ∙ ap (λ n. content_of c.args.seed (c.args.first + c.loop-written.written) n) (old ∙ long) in
     record {
+      whole = c.write.ensures.whole;
       step = λ x rep. (let m = c.loop-written.invariant.filled x rep in
           fill_stopped g.R.Rack g.A.Area (FnReturnsAt g.F.Fn c.args.chooser.now) c.args.first c.args.len c.args.seed x c.loop-written.pool c.write.new.self
           c.loop-written.written c.deref.result.now c.write.result is m (c.write.ensures.step (record m.reached { store = m.store }) m.represents) c.args.count c.in-Err.why c.in-Err.is
@@ -40,10 +42,9 @@ loop-written-preserved g c =
     let long = c.loop-written.invariant.long in
     let all = whole c.loop-written.bytes.len c.draw.new.into c.loop-written.bytes.items kept (omega (arith, ok)) in
     let is = c.deref.ensures.value ∙ all ∙ c.draw.ensures.bytes ∙ ap (λ n. content_of c.args.seed (c.args.first + c.loop-written.written) n) (old ∙ long) in
-    let was = c.loop-written.invariant.represents in
     record {
       long = ap length all ∙ kept ∙ long;
-      represents = (let n = c.write.ensures.step was.0 was.1 in (record n.reached { store = n.store }, n.represents));
+      whole = c.write.ensures.whole;
       filled = λ x rep. (let m = c.loop-written.invariant.filled x rep in
           filled_more g.R.Rack g.A.Area (FnReturnsAt g.F.Fn c.args.chooser.now) c.args.first c.args.len c.args.seed x c.loop-written.pool c.write.new.self
           c.loop-written.written c.deref.result.now c.write.result is m (c.write.ensures.step (record m.reached { store = m.store }) m.represents) c.in_default-write.is);
@@ -54,6 +55,7 @@ returns g c =
     let ends = c.loop-written-test.false in
     let upto = c.loop-written.auto.written-end in
     record {
+      whole = c.loop-written.invariant.whole;
       step = λ x rep. filled_all g.R.Rack g.A.Area (FnReturnsAt g.F.Fn c.args.chooser.now) c.args.first c.args.len c.args.seed x c.loop-written.pool
           c.loop-written.written c.args.count (omega (arith, ends, upto)) (c.loop-written.invariant.filled x rep);
     }

@@ -1,4 +1,4 @@
-use Rattle.std.proofs.Common.{◌+◌, ◌-◌, arith}
+use Rattle.std.proofs.Common.{◌-◌, arith}
 use Rattle.std.proofs.lemmas.Result.{err_from_is_err_and}
 use Rattle.draid_pool.proofs.Sums.{sum_done, sum_stops, summing_more, summing_none}
 use Rattle.draid_pool.proofs.pool.Pool.sum.Goals as goal

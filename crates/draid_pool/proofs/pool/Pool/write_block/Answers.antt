@@ -1,4 +1,6 @@
-use Rattle.std.proofs.Common.{◌+◌, ◌∙◌, [], Err, arith, refl, sym, ap, length, subst}
+use Rattle.std.proofs.Common.{◌≡◌, ◌≤◌, ◌+◌, ◌∙◌, [], false, Ok, Err, arith, refl, sym, ap, length, subst}
+use Rattle.std.specs.Prelude.{OnOk, Result, is_err}
+use Rattle.std.specs.HashMap.{spare}
 use Rattle.std.specs.Vec.{with_item}
 use Rattle.std.proofs.lemmas.Option.{slice_get_within}
 use Rattle.draid_block.specs.Blocks.{cut_of}
@@ -6,11 +8,14 @@ use Rattle.draid_objects.specs.Changes.{write_of}
 use Rattle.draid_shard.specs.Changes.{KeepsBlocks}
 use Rattle.draid_pool.specs.Shards.{DropsBlock, StoreSets}
 use Rattle.draid_pool.specs.declared.pool.Pool.{Pool}
-use Rattle.draid_pool.specs.declared.store.StoreFault.TheVariants.{Missed, NoMemory}
 use Rattle.draid_pool.proofs.FreeSteps.{same_represents}
 use Rattle.draid_pool.proofs.Wholes.{Replaces, whole_dropped, whole_floor, whole_geometry, whole_kept, whole_room, whole_stored, whole_table, whole_unused, whole_valid}
 use Rattle.draid_pool.proofs.WriteSteps.{awaits, between, borrowed, missed, missed_here, stored_here, unwritten, unwritten_here, wrote}
 use Rattle.draid_pool.proofs.pool.Pool.write_block.Goals as goal
+
+on_ok : {T E : Type 0} (r : Result T E) (P : Type 0) → OnOk r P → is_err r ≡ false → P
+on_ok (Ok x) P ok none = ok
+on_ok (Err e) P ok none = absurd (cc)
 
 pub returns-then-is_err : goal.returns-then-is_err
 returns-then-is_err g c =
@@ -62,6 +67,9 @@ pub store-requires-clause-room : goal.store-requires-clause-room
 store-requires-clause-room g c =
     let at = borrowed g.R.Rack g.A.Area c.args.self.now.shards.items c.args.metaslab c.requires.room.shard c.index_mut-shard.result.now c.requires.room.there c.index_mut-shard.ensures.value in
     whole_room g.R.Rack g.A.Area c.args.self.now c.args.metaslab (length c.args.block.now.bytes) c.requires.room.shard c.index_mut-shard.result.now c.requires.whole at.0 at.1 c.requires.room.room
+
+pub replace-requires-clause-room : goal.replace-requires-clause-room
+replace-requires-clause-room g c = on_ok c.reserve.result (1 ≤ spare c.reserve.new.self) c.reserve.ensures.ok (sym c.is_err.ensures.value ∙ c.if-is_err.false)
 
 pub replace-requires-clause-whole : goal.replace-requires-clause-whole
 replace-requires-clause-whole g c =

@@ -1,0 +1,282 @@
+-- What a sync, an export and a crash did, in the words of a session.
+use Rattle.std.proofs.Common.{◌≡◌, ◌∙◌, refl, sym, ap, subst, ℕ, Bool, List, [], Option, Some, None, Result, Ok, Err}
+use Rattle.draid_names.specs.declared.room.Room.{Room}
+use Rattle.draid_rack.specs.declared.Rack as racks
+use Rattle.draid_area.specs.declared.Area as areas
+use Rattle.draid_script.specs.Line.{Command, CrashPool, ExportPool, SyncPool}
+use Rattle.draid_script.specs.declared.name.CommandName.{CommandName}
+use Rattle.draid_script.specs.declared.name.CommandName.TheVariants as name
+use Rattle.draid_reply.specs.declared.reply.Reply.{Reply}
+use Rattle.draid_reply.specs.declared.reply.Reply.TheVariants.{Crashed, Exported, Last, NoMemory, NoPool, Synced, Worn}
+use Rattle.draid_session.specs.Follows.{Follows}
+use Rattle.draid_session.specs.Groups as groups
+use Rattle.draid_session.specs.Holds.{Hold}
+use Rattle.draid_session.specs.Phases.{Broke}
+use Rattle.draid_session.specs.Session.{Desk, Untouched, Made, Open, Shut, TurnsBy}
+use Rattle.draid_session.specs.State.{State, Store}
+use Rattle.draid_pool.specs.Answers.{ExportDoes, SyncDoes}
+use Rattle.draid_pool.specs.Carries.{CarriesOut}
+use Rattle.draid_pool.specs.Closing.{GivesBack}
+use Rattle.draid_pool.specs.Pools.{Represents}
+use Rattle.draid_pool.specs.Whole.{IsWhole}
+use Rattle.draid_pool.specs.declared.fault.SyncFault.{SyncFault}
+use Rattle.draid_pool.specs.declared.fault.SyncFault.TheVariants as sync
+use Rattle.draid_pool.specs.declared.fault.Synced.{Synced as Group}
+use Rattle.draid_pool.specs.declared.pool.Pool.{Pool}
+use Rattle.draid_run.specs.Desks.{Broken, IsDesk, IsPool, IsShelf, ReplyDoes, Turned}
+use Rattle.draid_run.specs.Groups.{CrashDid, CrashTurns, ExportDid, ExportIs, ExportTurns, Leads, RefusalIs, SyncDid, SyncLeads, desk_behind, export_reply, refusal_of, sync_reply}
+use Rattle.draid_run.specs.Serve.{AnswerIs, IsSaid}
+use Rattle.draid_run.specs.Shelves.{IsOut, OnShelf}
+use Rattle.draid_run.specs.declared.answer.Stop.{Stop}
+use Rattle.draid_run.specs.declared.answer.Stop.TheVariants as stop
+use Rattle.draid_run.proofs.Broke.{broken_shows, export_broke, sync_broke}
+use Rattle.draid_run.proofs.Following.{same_store}
+use Rattle.draid_run.proofs.GivenBack.{shelf_has}
+use Rattle.draid_run.proofs.Steps.{by_answer, still_out}
+
+module _ {R A : Type 0} (rack : racks.Ghosts R) (area : areas.Ghosts A) where
+  -- ---- a sync
+
+  pub synced : (x : State) (pool : Pool R A) (result : Result Group SyncFault) (it : Group) → result ≡ Ok it → CarriesOut rack area pool x (SyncDoes x result) → SyncLeads rack area x (Ok (Synced it.group it.thin)) pool
+  synced x pool result it is c = by_answer rack area (SyncDoes x) _ x pool result result refl (λ holds store w. (result, ap sync_reply is, w)) c
+
+  pub sync_refused : (x : State) (pool : Pool R A) (result : Result Group SyncFault) (why : SyncFault) (said : Result Reply Stop) → result ≡ Err why → RefusalIs name.Sync why said
+      → CarriesOut rack area pool x (SyncDoes x result) → SyncLeads rack area x said pool
+  sync_refused x pool result why (Ok reply) is said c = by_answer rack area (SyncDoes x) _ x pool result result refl (λ holds store w. (result, ap sync_reply is ∙ said, w)) c
+  sync_refused x pool result why (Err stop.Shelf) is said c = by_answer rack area (SyncDoes x) _ x pool result result refl (λ holds store w. (result, ap sync_reply is ∙ said, w)) c
+  sync_refused x pool result why (Err stop.Unbuilt) is said c = absurd said
+
+  pub sync_open : (desk : Option (Pool R A)) (pool new : Pool R A) (result : Result Reply Stop) → desk ≡ Some pool → IsWhole rack area new → ((x : State) → Represents rack area pool x → SyncLeads rack area x result new)
+      → (x : Desk) → IsPool rack area desk x → SyncDid rack area x result (Some new)
+  sync_open desk pool new result is whole leads x = subst (λ d. IsPool rack area d x → SyncDid rack area x result (Some new)) (sym is) (by x) where
+    by : (x : Desk) → IsPool rack area (Some pool) x → SyncDid rack area x result (Some new)
+    by Untouched stands = absurd stands
+    by (Made geometry) stands = absurd stands
+    by (Shut y) stands = absurd stands
+    by (Open y) stands = (whole, leads y stands.1)
+
+  pub sync_shut : (desk new : Option (Pool R A)) (result : Result Reply Stop) → desk ≡ None → new ≡ None → result ≡ Ok (NoPool name.Sync) → (x : Desk) → IsPool rack area desk x → SyncDid rack area x result new
+  sync_shut desk new result none same said x = subst (λ d. IsPool rack area d x → SyncDid rack area x result new) (sym none) (by x) where
+    by : (x : Desk) → IsPool rack area None x → SyncDid rack area x result new
+    by Untouched stands = (said, same)
+    by (Made geometry) stands = (said, same)
+    by (Shut y) stands = (said, same)
+    by (Open y) stands = absurd stands
+
+-- ---- in the words of a session
+
+ok_same : (a b : Reply) (x y : Result Reply Stop) → x ≡ Ok a → y ≡ Ok b → x ≡ y → a ≡ b
+ok_same a b x y one other same = (let z = sym one ∙ same ∙ other in cc)
+
+some_same : {T : Type 0} (a b : T) → Some a ≡ Some b → a ≡ b
+some_same a b is = cc is
+
+module _ (chosen : List Room → Option ℕ → Type 0) (x : State) (holds : List Hold) (store : Store) where
+  sync_does : (answer : Result Group SyncFault) (reply : Reply) → sync_reply answer ≡ Some reply → SyncDoes x answer holds store → ReplyDoes x chosen SyncPool reply holds store
+  sync_does (Ok it) reply is does = subst (λ r. ReplyDoes x chosen SyncPool r holds store) (some_same (Synced it.group it.thin) reply is) does
+  sync_does (Err sync.Worn) reply is does = subst (λ r. ReplyDoes x chosen SyncPool r holds store) (some_same (Worn name.Sync) reply is) does
+  sync_does (Err sync.Last) reply is does = subst (λ r. ReplyDoes x chosen SyncPool r holds store) (some_same (Last name.Sync) reply is) does
+  sync_does (Err sync.NoMemory) reply is does = subst (λ r. ReplyDoes x chosen SyncPool r holds store) (some_same (NoMemory name.Sync) reply is) does
+  sync_does (Err sync.Shelf) reply is does = absurd (cc is)
+
+  sync_fails : (answer : Result Group SyncFault) → sync_reply answer ≡ None → SyncDoes x answer holds store → (store ≡ x.store) × groups.SyncStops x.geometry x.perms holds Broke
+  sync_fails (Ok it) is does = absurd (cc is)
+  sync_fails (Err sync.Worn) is does = absurd (cc is)
+  sync_fails (Err sync.Last) is does = absurd (cc is)
+  sync_fails (Err sync.NoMemory) is does = absurd (cc is)
+  sync_fails (Err sync.Shelf) is does = does
+
+  export_fails : (answer : Result ℕ SyncFault) → export_reply answer ≡ None → ExportDoes x answer holds store → (store ≡ x.store) × groups.ExportStops x.geometry x.perms holds Broke
+  export_fails (Ok group) is does = absurd (cc is)
+  export_fails (Err sync.Worn) is does = absurd (cc is)
+  export_fails (Err sync.Last) is does = absurd (cc is)
+  export_fails (Err sync.NoMemory) is does = absurd (cc is)
+  export_fails (Err sync.Shelf) is does = does
+
+-- the holds lead to the state with what the pool has of its own then, where that is as it was
+follows_to : (x mid : State) (holds : List Hold) (store : Store) → Follows holds x mid → store ≡ x.store → Follows holds x (record mid { store = store })
+follows_to x mid holds store follows same = subst (λ t. Follows holds x (record mid { store = t })) (same_store holds x mid follows ∙ sym same) follows
+
+module _ {R A : Type 0} (rack : racks.Ghosts R) (area : areas.Ghosts A) (chosen : List Room → Option ℕ → Type 0) (entry before now : OnShelf) where
+  -- without a pool
+  told : (x : Desk) (reply : Reply) (command : Command) (called : CommandName) (pool new : Option (Pool R A)) → reply ≡ NoPool called → new ≡ None → IsDesk rack area entry now None x → TurnsBy chosen (Ok command) x (Some (NoPool called)) x
+      → Turned rack area chosen (Ok command) entry x (Some reply) now new
+  told x reply command called pool new said none is turns =
+      subst (λ r. Turned rack area chosen (Ok command) entry x (Some r) now new) (sym said)
+      (subst (λ d. Turned rack area chosen (Ok command) entry x (Some (NoPool called)) now d) (sym none) (record { new = x; desk = is; turns = turns }))
+
+  -- ---- a sync leaves the shelf alone
+  pub by_sync : (x : Desk) (reply : Reply) (desk new : Option (Pool R A)) → IsDesk rack area entry now desk x → SyncDid rack area x (Ok reply) new → Turned rack area chosen (Ok SyncPool) entry x (Some reply) now new
+  by_sync Untouched reply desk new is did = told Untouched reply SyncPool name.Sync desk new (ok_same reply (NoPool name.Sync) (Ok reply) (Ok (NoPool name.Sync)) refl refl did.0) did.1 (record { stands = tt; shelf = is.shelf }) (refl, refl)
+  by_sync (Made geometry) reply desk new is did = told (Made geometry) reply SyncPool name.Sync desk new (ok_same reply (NoPool name.Sync) (Ok reply) (Ok (NoPool name.Sync)) refl refl did.0) did.1 (record { stands = tt; shelf = is.shelf }) (refl, refl)
+  by_sync (Shut y) reply desk new is did = told (Shut y) reply SyncPool name.Sync desk new (ok_same reply (NoPool name.Sync) (Ok reply) (Ok (NoPool name.Sync)) refl refl did.0) did.1 (record { stands = tt; shelf = is.shelf }) (refl, refl)
+  by_sync (Open y) reply desk None is did = absurd did
+  by_sync (Open y) reply desk (Some new) is did =
+      let c = did.1 in
+      record {
+        new = Open (record c.reached { store = c.store });
+        desk = record { stands = (did.0, c.represents); shelf = still_out y c.reached now c.holds c.follows is.shelf c.store };
+        turns = record { holds = c.holds; mid = c.reached; store = c.store; follows = c.follows; does = sync_does chosen y c.holds c.store c.done.0 reply c.done.1 c.done.2; made = refl };
+      }
+
+  pub sync_breaks : (x : Desk) (desk new : Option (Pool R A)) → IsDesk rack area entry now desk x → SyncDid rack area x (Err stop.Shelf) new → Broken rack area SyncPool entry before x now new
+  sync_breaks Untouched desk new is did = absurd (cc (did.0))
+  sync_breaks (Made geometry) desk new is did = absurd (cc (did.0))
+  sync_breaks (Shut y) desk new is did = absurd (cc (did.0))
+  sync_breaks (Open y) desk None is did = absurd did
+  sync_breaks (Open y) desk (Some new) is did =
+      let c = did.1 in
+      let f = sync_fails chosen y c.holds c.store c.done.0 c.done.1 c.done.2 in
+      let follows = follows_to y c.reached c.holds c.store c.follows f.0 in
+      record {
+        new = Open (record c.reached { store = c.store });
+        desk = record { stands = (did.0, c.represents); shelf = still_out y c.reached now c.holds c.follows is.shelf c.store };
+        breaks = record { holds = c.holds; follows = follows; broken = f.1 };
+        cause = broken_shows c.holds y (record c.reached { store = c.store }) (sync_broke y.geometry y.perms c.holds f.1) follows;
+      }
+
+  -- ---- an export
+  export_turns : (x y : State) (answer : Result ℕ SyncFault) (reply : Reply) → export_reply answer ≡ Some reply → Leads x y (ExportDoes x answer) → TurnsBy chosen (Ok ExportPool) (Open x) (Some reply) (desk_behind answer y)
+  export_turns x y (Ok group) reply is l =
+      subst (λ r. TurnsBy chosen (Ok ExportPool) (Open x) (Some r) (Shut y)) (some_same (Exported group) reply is)
+      (record { holds = l.holds; mid = l.mid; store = l.store; follows = l.follows; does = l.done; made = l.made })
+  export_turns x y (Err sync.Worn) reply is l =
+      subst (λ r. TurnsBy chosen (Ok ExportPool) (Open x) (Some r) (Open y)) (some_same (Worn name.Export) reply is)
+      (record { holds = l.holds; mid = l.mid; store = l.store; follows = l.follows; does = l.done; made = l.made })
+  export_turns x y (Err sync.Last) reply is l =
+      subst (λ r. TurnsBy chosen (Ok ExportPool) (Open x) (Some r) (Open y)) (some_same (Last name.Export) reply is)
+      (record { holds = l.holds; mid = l.mid; store = l.store; follows = l.follows; does = l.done; made = l.made })
+  export_turns x y (Err sync.NoMemory) reply is l =
+      subst (λ r. TurnsBy chosen (Ok ExportPool) (Open x) (Some r) (Open y)) (some_same (NoMemory name.Export) reply is)
+      (record { holds = l.holds; mid = l.mid; store = l.store; follows = l.follows; does = l.done; made = l.made })
+  export_turns x y (Err sync.Shelf) reply is l = absurd (cc is)
+
+  pub by_export : (x : Desk) (reply : Reply) (new : Option (Pool R A)) → ExportDid rack area entry x (Some reply) now new → Turned rack area chosen (Ok ExportPool) entry x (Some reply) now new
+  by_export x reply new did = record { new = did.new; desk = did.desk; turns = by x did.turns } where
+    by : (x : Desk) → ExportTurns x (Some reply) did.new → TurnsBy chosen (Ok ExportPool) x (Some reply) did.new
+    by Untouched turns = subst (λ r. TurnsBy chosen (Ok ExportPool) Untouched (Some r) did.new) (sym (some_same reply (NoPool name.Export) turns.0)) (refl, turns.1)
+    by (Made geometry) turns = subst (λ r. TurnsBy chosen (Ok ExportPool) (Made geometry) (Some r) did.new) (sym (some_same reply (NoPool name.Export) turns.0)) (refl, turns.1)
+    by (Shut y) turns = subst (λ r. TurnsBy chosen (Ok ExportPool) (Shut y) (Some r) did.new) (sym (some_same reply (NoPool name.Export) turns.0)) (refl, turns.1)
+    by (Open y) turns = subst (λ d. TurnsBy chosen (Ok ExportPool) (Open y) (Some reply) d) (sym turns.new_is) (export_turns y turns.y turns.answer reply turns.reply_is turns.leads)
+
+  pub export_breaks : (x : Desk) (new : Option (Pool R A)) → ExportDid rack area entry x None now new → Broken rack area ExportPool entry before x now new
+  export_breaks x new did = by x did.turns where
+    open_behind : (answer : Result ℕ SyncFault) (y : State) → export_reply answer ≡ None → desk_behind answer y ≡ Open y
+    open_behind (Ok group) y is = absurd (cc is)
+    open_behind (Err why) y is = refl
+
+    by : (x : Desk) → ExportTurns x None did.new → Broken rack area ExportPool entry before x now new
+    by Untouched turns = absurd (cc (turns.0))
+    by (Made geometry) turns = absurd (cc (turns.0))
+    by (Shut y) turns = absurd (cc (turns.0))
+    by (Open y) turns =
+        let l = turns.leads in
+        let f = export_fails chosen y l.holds l.store turns.answer turns.reply_is l.done in
+        let follows = subst (λ s. Follows l.holds y s) (sym l.made) (follows_to y l.mid l.holds l.store l.follows f.0) in
+        let same : did.new ≡ Open turns.y = turns.new_is ∙ open_behind turns.answer turns.y turns.reply_is in
+        record {
+          new = Open turns.y;
+          desk = subst (λ d. IsDesk rack area entry now new d) same did.desk;
+          breaks = record { holds = l.holds; follows = follows; broken = f.1 };
+          cause = broken_shows l.holds y turns.y (export_broke y.geometry y.perms l.holds f.1) follows;
+        }
+
+  -- ---- a crash
+  pub by_crash : (x : Desk) (reply : Reply) (new : Option (Pool R A)) → CrashDid rack area entry x reply now new → Turned rack area chosen (Ok CrashPool) entry x (Some reply) now new
+  by_crash x reply new did = record { new = did.new; desk = did.desk; turns = by x did.turns } where
+    by : (x : Desk) → CrashTurns x reply did.new → TurnsBy chosen (Ok CrashPool) x (Some reply) did.new
+    by Untouched turns = subst (λ r. TurnsBy chosen (Ok CrashPool) Untouched (Some r) did.new) (sym turns.0) (refl, turns.1)
+    by (Made geometry) turns = subst (λ r. TurnsBy chosen (Ok CrashPool) (Made geometry) (Some r) did.new) (sym turns.0) (refl, turns.1)
+    by (Shut y) turns = subst (λ r. TurnsBy chosen (Ok CrashPool) (Shut y) (Some r) did.new) (sym turns.0) (refl, turns.1)
+    by (Open y) turns =
+        subst (λ r. TurnsBy chosen (Ok CrashPool) (Open y) (Some r) did.new) (sym turns.0)
+        (subst (λ d. TurnsBy chosen (Ok CrashPool) (Open y) (Some Crashed) d) (sym turns.1)
+        (record { holds = []; mid = y; store = y.store; follows = refl; does = (refl, refl); made = refl }))
+
+  -- ---- the answers of the commands
+  module _ (pool : Option (Pool R A)) (x : Desk) (new : Option (Pool R A)) where
+    pub answer_sync : (given : Result Reply Stop) (result : Result (Option Reply) Stop) → IsSaid given result → before ≡ now → IsDesk rack area entry before pool x → SyncDid rack area x given new
+        → AnswerIs rack area chosen SyncPool entry before pool x now new result
+    answer_sync (Ok reply) result said same is did =
+        subst (AnswerIs rack area chosen SyncPool entry before pool x now new) (sym said) (by_sync x reply pool new (subst (λ b. IsDesk rack area entry b pool x) same is) did)
+    answer_sync (Err stop.Shelf) result said same is did =
+        subst (AnswerIs rack area chosen SyncPool entry before pool x now new) (sym said) (sync_breaks x pool new (subst (λ b. IsDesk rack area entry b pool x) same is) did)
+    answer_sync (Err stop.Unbuilt) result said same is did = absurd (not_unbuilt x new did)
+      where
+        not_unbuilt : (x : Desk) (new : Option (Pool R A)) → SyncDid rack area x (Err stop.Unbuilt) new → ⊥
+        not_unbuilt Untouched new did = cc (did.0)
+        not_unbuilt (Made geometry) new did = cc (did.0)
+        not_unbuilt (Shut y) new did = cc (did.0)
+        not_unbuilt (Open y) None did = did
+        not_unbuilt (Open y) (Some p) did = did.1
+
+    pub answer_export : (given : Result Reply Stop) (result : Result (Option Reply) Stop) → IsSaid given result → ExportIs rack area entry x now new given → AnswerIs rack area chosen ExportPool entry before pool x now new result
+    answer_export (Ok reply) result said did = subst (AnswerIs rack area chosen ExportPool entry before pool x now new) (sym said) (by_export x reply new did)
+    answer_export (Err stop.Shelf) result said did = subst (AnswerIs rack area chosen ExportPool entry before pool x now new) (sym said) (export_breaks x new did)
+    answer_export (Err stop.Unbuilt) result said did = absurd did
+
+-- ---- the pool is given back, or stays open
+
+module _ {R A : Type 0} (rack : racks.Ghosts R) (area : areas.Ghosts A) (entry before now : OnShelf) (desk : Option (Pool R A)) (was new : Pool R A) (some : desk ≡ Some was) where
+  on_open : (P : Desk → Type 0) → ((y : State) → Represents rack area was y → IsOut y before → P (Open y)) → (x : Desk) → IsDesk rack area entry before desk x → P x
+  on_open P f x is = by x (subst (λ d. IsPool rack area d x) some is.stands) is.shelf where
+    by : (x : Desk) → IsPool rack area (Some was) x → IsShelf x entry before → P x
+    by Untouched stands shelf = absurd stands
+    by (Made geometry) stands shelf = absurd stands
+    by (Shut y) stands shelf = absurd stands
+    by (Open y) stands shelf = f y stands.1 shelf
+
+  pub exported : (result : Result ℕ SyncFault) (group : ℕ) → result ≡ Ok group → ((y : State) → Represents rack area was y → CarriesOut rack area new y (ExportDoes y result))
+      → ((y : State) → Represents rack area new y → GivesBack y Bool.false before.held now.held now.counts now.own.uber) → now.own.checks ≡ before.own.checks → (left : Option (Pool R A)) → left ≡ None
+      → (x : Desk) → IsDesk rack area entry before desk x → ExportDid rack area entry x (Some (Exported group)) now left
+  exported result group is does back checks left none = on_open (λ x. ExportDid rack area entry x (Some (Exported group)) now left) by where
+    by : (y : State) → Represents rack area was y → IsOut y before → ExportDid rack area entry (Open y) (Some (Exported group)) now left
+    by y stands out =
+        let c = does y stands in
+        let z : State = record c.reached { store = c.store } in
+        record {
+          new = Shut z;
+          desk = record {
+            stands = subst (λ l. IsPool rack area l (Shut z)) (sym none) tt;
+            shelf = shelf_has z Bool.false before now (back z c.represents) checks (still_out y c.reached before c.holds c.follows out c.store);
+          };
+          turns = record {
+            answer = result;
+            reply_is = ap export_reply is;
+            y = z;
+            new_is = sym (ap (λ r. desk_behind r z) is);
+            leads = record { holds = c.holds; mid = c.reached; store = c.store; follows = c.follows; done = c.done; made = refl };
+          };
+        }
+
+  pub export_refused : (result : Result ℕ SyncFault) (why : SyncFault) (said : Result Reply Stop) → result ≡ Err why → RefusalIs name.Export why said → IsWhole rack area new
+      → ((y : State) → Represents rack area was y → CarriesOut rack area new y (ExportDoes y result)) → (x : Desk) → IsDesk rack area entry before desk x → ExportIs rack area entry x before (Some new) said
+  export_refused result why said is refused whole does = by said refused where
+    stays : (reply : Option Reply) → refusal_of name.Export why ≡ reply → (x : Desk) → IsDesk rack area entry before desk x → ExportDid rack area entry x reply before (Some new)
+    stays reply same = on_open (λ x. ExportDid rack area entry x reply before (Some new)) (λ y stands out.
+        (let c = does y stands in
+        let z : State = record c.reached { store = c.store } in
+        record {
+          new = Open z;
+          desk = record { stands = (whole, c.represents); shelf = still_out y c.reached before c.holds c.follows out c.store };
+          turns = record {
+            answer = result;
+            reply_is = ap export_reply is ∙ same;
+            y = z;
+            new_is = sym (ap (λ r. desk_behind r z) is);
+            leads = record { holds = c.holds; mid = c.reached; store = c.store; follows = c.follows; done = c.done; made = refl };
+          };
+        }))
+
+    by : (said : Result Reply Stop) → RefusalIs name.Export why said → (x : Desk) → IsDesk rack area entry before desk x → ExportIs rack area entry x before (Some new) said
+    by (Ok reply) refused = stays (Some reply) refused
+    by (Err stop.Shelf) refused = stays None refused
+    by (Err stop.Unbuilt) refused = absurd refused
+
+  pub crashed : ((y : State) → Represents rack area was y → GivesBack y Bool.true before.held now.held now.counts now.own.uber) → now.own.checks ≡ before.own.checks → (left : Option (Pool R A)) → left ≡ None
+      → (x : Desk) → IsDesk rack area entry before desk x → CrashDid rack area entry x Crashed now left
+  crashed back checks left none = on_open (λ x. CrashDid rack area entry x Crashed now left) (λ y stands out. record {
+    new = Shut y;
+    desk = record { stands = subst (λ l. IsPool rack area l (Shut y)) (sym none) tt; shelf = shelf_has y Bool.true before now (back y stands) checks out };
+    turns = (refl, refl);
+  })

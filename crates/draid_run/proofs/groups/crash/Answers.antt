@@ -1,0 +1,13 @@
+use Rattle.std.proofs.Common.{◌∙◌, sym}
+use Rattle.draid_run.specs.Shelves.{on_shelf}
+use Rattle.draid_run.proofs.Grouping.{crashed}
+use Rattle.draid_run.proofs.Steps.{is_whole}
+use Rattle.draid_run.proofs.groups.crash.Goals as goal
+
+pub close-requires-clause-whole : goal.close-requires-clause-whole
+close-requires-clause-whole g c κs within = is_whole g.H.R.Rack g.H.A.Area c.args.pool.now c.in-Some.open (sym c.take.ensures.value ∙ c.in-Some.is) c.requires.desk
+
+pub returns-in-Some-clause-did : goal.returns-in-Some-clause-did
+returns-in-Some-clause-did g c entry x desk =
+    crashed g.H.R.Rack g.H.A.Area entry (on_shelf g.H.Shelf c.args.shelf.now) (on_shelf g.H.Shelf c.close.new.shelf) c.args.pool.now c.in-Some.open c.in-Some.open (sym c.take.ensures.value ∙ c.in-Some.is)
+    c.close.ensures.back c.close.ensures.checks c.take.new.self c.take.ensures.after x desk

@@ -1,0 +1,8 @@
+use Rattle.draid_run.proofs.Grouping.{sync_refused, synced}
+use Rattle.draid_run.proofs.groups.sync_open.Goals as goal
+
+pub returns-in-Ok-clause-leads : goal.returns-in-Ok-clause-leads
+returns-in-Ok-clause-leads g c x is = synced g.R.Rack g.A.Area x c.sync.new.self c.sync.result c.in-Ok.field-0 c.in-Ok.is (c.sync.ensures.carries x is)
+
+pub returns-in-Err-clause-leads : goal.returns-in-Err-clause-leads
+returns-in-Err-clause-leads g c x is = sync_refused g.R.Rack g.A.Area x c.sync.new.self c.sync.result c.in-Err.fault c.refusal.result c.in-Err.is c.refusal.ensures (c.sync.ensures.carries x is)

@@ -1,0 +1,112 @@
+-- What a sync, an export and a crash come to.
+use Rattle.std.specs.Prelude.{◌≡◌, ℕ, List, Option, Some, None, Result, Ok, Err}
+use Rattle.draid_rack.specs.declared.Rack as racks
+use Rattle.draid_area.specs.declared.Area as areas
+use Rattle.draid_script.specs.declared.name.CommandName.{CommandName}
+use Rattle.draid_script.specs.declared.name.CommandName.TheVariants as name
+use Rattle.draid_reply.specs.declared.reply.Reply.{Reply}
+use Rattle.draid_reply.specs.declared.reply.Reply.TheVariants.{Crashed, Exported, Last, NoMemory, NoPool, Synced, Worn}
+use Rattle.draid_session.specs.Follows.{Follows}
+use Rattle.draid_session.specs.Holds.{Hold}
+use Rattle.draid_session.specs.Session.{Desk, Open, Shut}
+use Rattle.draid_session.specs.State.{State, Store}
+use Rattle.draid_pool.specs.Answers.{ExportDoes, SyncDoes}
+use Rattle.draid_pool.specs.Carries.{CarriesOut}
+use Rattle.draid_pool.specs.Whole.{IsWhole}
+use Rattle.draid_pool.specs.declared.fault.SyncFault.{SyncFault}
+use Rattle.draid_pool.specs.declared.fault.SyncFault.TheVariants as sync
+use Rattle.draid_pool.specs.declared.fault.Synced.{Synced as Group}
+use Rattle.draid_pool.specs.declared.pool.Pool.{Pool}
+use Rattle.draid_run.specs.Desks.{IsDesk}
+use Rattle.draid_run.specs.Shelves.{OnShelf}
+use Rattle.draid_run.specs.declared.answer.Stop.{Stop}
+use Rattle.draid_run.specs.declared.answer.Stop.TheVariants as stop
+
+-- ---- on the open pool
+
+-- the replies of a sync and of what an export does first; a failing device has none
+abbrev pub refusal_of : CommandName → SyncFault → Option Reply
+refusal_of called sync.Worn = Some (Worn called)
+refusal_of called sync.Last = Some (Last called)
+refusal_of called sync.NoMemory = Some (NoMemory called)
+refusal_of called sync.Shelf = None
+
+-- it is this
+abbrev pub RefusalIs : CommandName → SyncFault → Result Reply Stop → Type 0
+RefusalIs called why (Ok reply) = refusal_of called why ≡ Some reply
+RefusalIs called why (Err stop.Shelf) = refusal_of called why ≡ None
+RefusalIs called why (Err stop.Unbuilt) = ⊥
+
+abbrev pub sync_reply : Result Group SyncFault → Option Reply
+sync_reply (Ok it) = Some (Synced it.group it.thin)
+sync_reply (Err why) = refusal_of name.Sync why
+
+-- the call did what its answer says, which has this reply
+abbrev pub SyncSays : Option Reply → State → List Hold → Store → Type 0
+SyncSays reply x holds store = (answer : Result Group SyncFault) × (sync_reply answer ≡ reply) × SyncDoes x answer holds store
+
+-- what a sync came to on the open pool: a reply, or a device failed
+abbrev pub SyncLeads : {R A : Type 0} → racks.Ghosts R → areas.Ghosts A → State → Result Reply Stop → Pool R A → Type 0
+SyncLeads rack area x (Ok reply) pool = CarriesOut rack area pool x (SyncSays (Some reply) x)
+SyncLeads rack area x (Err stop.Shelf) pool = CarriesOut rack area pool x (SyncSays None x)
+SyncLeads rack area x (Err stop.Unbuilt) pool = ⊥
+
+-- by whether a pool is open
+abbrev pub SyncDid : {R A : Type 0} → racks.Ghosts R → areas.Ghosts A → Desk → Result Reply Stop → Option (Pool R A) → Type 0
+SyncDid rack area (Open x) result None = ⊥
+SyncDid rack area (Open x) result (Some pool) = IsWhole rack area pool × SyncLeads rack area x result pool
+SyncDid rack area desk result pool = (result ≡ Ok (NoPool name.Sync)) × (pool ≡ None)
+
+-- ---- an export, a crash
+
+-- the reply of an export: the group that was committed last, or why a sync was refused
+abbrev pub export_reply : Result ℕ SyncFault → Option Reply
+export_reply (Ok group) = Some (Exported group)
+export_reply (Err why) = refusal_of name.Export why
+
+-- it gives the pool back, unless its sync was refused
+abbrev pub desk_behind : Result ℕ SyncFault → State → Desk
+desk_behind (Ok group) y = Shut y
+desk_behind (Err why) y = Open y
+
+-- Holds led from one state to another, and are so.
+pub record Leads (x y : State) (does : List Hold → Store → Type 0) : Type 0 where
+  pub holds : List Hold
+  pub mid : State
+  pub store : Store
+  pub follows : Follows holds x mid
+  pub done : does holds store
+  pub made : y ≡ record mid { store = store }
+
+-- the pool did what the answer of its export says, which has this reply
+pub record Exports (x : State) (reply : Option Reply) (new : Desk) : Type 0 where
+  pub answer : Result ℕ SyncFault
+  pub reply_is : export_reply answer ≡ reply
+  pub y : State
+  pub new_is : new ≡ desk_behind answer y
+  pub leads : Leads x y (ExportDoes x answer)
+
+abbrev pub ExportTurns : Desk → Option Reply → Desk → Type 0
+ExportTurns (Open x) reply new = Exports x reply new
+ExportTurns desk reply new = (reply ≡ Some (NoPool name.Export)) × (new ≡ desk)
+
+-- so where it has a reply, and where a device failed
+pub record ExportDid {R A : Type 0} (rack : racks.Ghosts R) (area : areas.Ghosts A) (entry : OnShelf) (old : Desk) (reply : Option Reply) (now : OnShelf) (pool : Option (Pool R A)) : Type 0 where
+  pub new : Desk
+  pub desk : IsDesk rack area entry now pool new
+  pub turns : ExportTurns old reply new
+
+abbrev pub ExportIs : {R A : Type 0} → racks.Ghosts R → areas.Ghosts A → OnShelf → Desk → OnShelf → Option (Pool R A) → Result Reply Stop → Type 0
+ExportIs rack area entry old now pool (Ok reply) = ExportDid rack area entry old (Some reply) now pool
+ExportIs rack area entry old now pool (Err stop.Shelf) = ExportDid rack area entry old None now pool
+ExportIs rack area entry old now pool (Err stop.Unbuilt) = ⊥
+
+-- a crash gives the pool back as it is
+abbrev pub CrashTurns : Desk → Reply → Desk → Type 0
+CrashTurns (Open x) reply new = (reply ≡ Crashed) × (new ≡ Shut x)
+CrashTurns desk reply new = (reply ≡ NoPool name.Crash) × (new ≡ desk)
+
+pub record CrashDid {R A : Type 0} (rack : racks.Ghosts R) (area : areas.Ghosts A) (entry : OnShelf) (old : Desk) (reply : Reply) (now : OnShelf) (pool : Option (Pool R A)) : Type 0 where
+  pub new : Desk
+  pub desk : IsDesk rack area entry now pool new
+  pub turns : CrashTurns old reply new
