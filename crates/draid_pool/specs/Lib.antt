@@ -3,3 +3,14 @@ pub mod Batches
 pub mod Carries
 pub mod Closing
 pub mod Failing
+pub mod Found
+pub mod Importing
+pub mod Metaslabs
+pub mod Objects
+pub mod Opening
+pub mod Pools
+pub mod Records
+pub mod Shards
+pub mod Syncing
+pub mod Ubers
+pub mod Whole
