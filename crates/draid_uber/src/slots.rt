@@ -64,6 +64,7 @@ pub(crate) fn chosen<A: Area>(
     ensures flushed { OnOk result (A.told area.new ≡ option_map flushes (A.told area.old)) }
     ensures err { OnErr result (IsSameOrFlushed (A.told area.old) (A.told area.new)) }
     ensures size { A.size area.new ≡ A.size area.old }
+    ensures later { A.faults area.old ≤ A.faults area.new }
     ensures cause { IsErrOf result DeviceFault.Failed → Rose (A.faults area.old) (A.faults area.new) }
 {
     area.flush()?;
