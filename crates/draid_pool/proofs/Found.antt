@@ -1,11 +1,11 @@
 -- The metaslabs that an import opens, and the blocks that it finds there.
-use Rattle.std.proofs.Common.{arith, ◌≡◌, ◌==◌, ◌+◌, ◌<◌, ◌≤◌, ◌++◌, ◌∙◌, ◌⊎◌, inl, inr, ℕ, Bool, true, false, cond, List, [], ◌∷◌, Option, Some, None, refl, sym, ap, subst, slice_set, length, length-append, if◌then◌else◌}
+use Rattle.std.proofs.Common.{arith, ◌≡◌, ◌==◌, ◌+◌, ◌<◌, ◌≤◌, ◌++◌, ◌∙◌, ◌⊎◌, inl, inr, ℕ, Bool, true, false, cond, List, [], ◌∷◌, Option, Some, None, refl, sym, ap, subst, slice_index_or, slice_set, length, length-append, if◌then◌else◌}
 use Rattle.std.specs.Prelude.{⊤, IsSomeAnd, MatchOption, find, nat_eq, option_map, slice_get}
 use Rattle.std.proofs.lemmas.Bool.{cases_eq, cases_lt}
 use Rattle.std.proofs.lemmas.Bool.Decides.{nat_tests}
 use Rattle.std.proofs.lemmas.List.{length-set}
-use Rattle.std.proofs.lemmas.Option.{slice_get_within}
-use Rattle.draid_names.specs.declared.numbers.TheConstants.{LAST_NUMBER}
+use Rattle.std.proofs.lemmas.Option.{slice_get-get_or, slice_get_within}
+use Rattle.draid_names.specs.declared.numbers.TheConstants.{LAST_NUMBER, NUMBERS}
 use Rattle.draid_names.specs.declared.pointer.Pointer.{Pointer}
 use Rattle.draid_rack.specs.declared.Rack as racks
 use Rattle.draid_area.specs.Area as content
@@ -24,6 +24,9 @@ use Rattle.draid_entries.specs.Listed.{has_key, held_of}
 use Rattle.draid_entries.specs.Maps.{held_at, key_of, staged}
 use Rattle.draid_shelf.specs.declared.kit.Kit.{Kit}
 use Rattle.draid_spec.specs.declared.layout.Geometry.{Geometry}
+use Rattle.draid_spec.specs.Geometry.{metaslab_stripes}
+use Rattle.draid_map.specs.Place.{IsLayout}
+use Rattle.std.specs.HashMap.{get}
 use Rattle.draid_shard.specs.Calls.{IsLive, IsNextHeld}
 use Rattle.draid_shard.specs.Changes.{SetsBlock}
 use Rattle.draid_shard.specs.Fits.{Valid}
@@ -36,7 +39,7 @@ use Rattle.draid_uber.specs.declared.uber.Uber.{Uber}
 use Rattle.draid_uber.specs.Slots.{group_of}
 use Rattle.draid_uber.specs.Uber as ubers
 use Rattle.draid_uber.specs.Uber.{kept_of, layout_of, next_leaf_of, version_of}
-use Rattle.draid_pool.specs.Found.{AllLive, AreFound, AreFreed, AreReady, AreReopened, FreesOlder, IsFoundUber, IsReady, IsReopened, LeadsTo, Notes, NotesOne}
+use Rattle.draid_pool.specs.Found.{AllLive, AreFound, AreFreed, AreReady, AreReopened, FreesOlder, FreesIfOlder, IsFoundUber, IsReady, IsReopened, LeadsTo, Notes, NotesOne}
 use Rattle.draid_pool.specs.Whole.{IsWhole}
 use Rattle.draid_pool.specs.declared.pool.Pool.{Pool}
 use Rattle.draid_pool.proofs.Closed.{at_end}
@@ -67,9 +70,9 @@ live_of None h is = absurd (cc)
 live_of (Some b) h is = ap (λ (i : Held). i.stage) (sym (some_injective (held_of b) h is))
 
 -- all blocks of a record are live
-pub reopened : {R A : Type 0} (rack : racks.Ghosts R) (told : A → Option content.Content) (kit : Kit R A) (group next : ℕ) (part : Part) (shard : Shard R A) → Valid rack shard → part_of shard ≡ part
-    → shard.committed ≡ group → Opens rack told kit group next shard → IsReopened rack part group shard
-reopened rack told kit group next part shard valid part_is committed o = record {
+pub reopened : {R A : Type 0} (rack : racks.Ghosts R) (told : A → Option content.Content) (kit : Kit R A) (group own next : ℕ) (part : Part) (shard : Shard R A) → Valid rack shard → part_of shard ≡ part
+    → shard.committed ≡ group → Opens rack told kit own next shard → IsReopened rack part group shard
+reopened rack told kit group own next part shard valid part_is committed o = record {
   valid = valid;
   part_is = part_is;
   committed = committed;
@@ -94,6 +97,13 @@ each_pushed P xs ys x n more many each own m y there = by (cases_lt m n)
         let last : m ≡ n = omega (arith, within, long, many, past) in
         let same : x ≡ y = some_of (slice_get (xs ++ x ∷ []) m) x y (at_end xs x [] m (omega (arith, last, many))) «at» in
         subst (λ (k : ℕ). P k y) (sym last) (subst (P n) same own)
+
+pub each_none : {X : Type 0} (P : ℕ → X → Type 0) (xs : List X) → xs ≡ [] → (m : ℕ) (y : X) → slice_get xs m ≡ Some y → P m y
+each_none P xs none m y there = (let at : slice_get [] m ≡ Some y = subst (λ zs. slice_get zs m ≡ Some y) none there in absurd (cc))
+
+-- what a loop takes from a list is there
+pub at_item : {X : Type 0} (xs : List X) (i : ℕ) (x : X) → i < length xs → x ≡ slice_index_or xs i x → slice_get xs i ≡ Some x
+at_item xs i x below is = slice_get-get_or xs i x below ∙ ap (λ y. Some y) (sym is)
 
 pub all_ready : {R A : Type 0} (rack : racks.Ghosts R) (geometry : Geometry) (group : ℕ) (shards : List (Shard R A)) → AreReopened rack geometry group shards → AreReady rack shards
 all_ready rack geometry group shards are m shard there = (let is = are.each m shard there in record { valid = is.valid; number_is = ap (λ (p : Part). p.number) is.part_is; live = is.live })
@@ -121,7 +131,10 @@ module _ {R A : Type 0} (rack : racks.Ghosts R) (shard : Shard R A) where
       let is = live p.first (staged next.entered.stage p) next.behind next.entered.there in
       subst (λ (s : Stage). entry_at shard.entries p.first ≡ Some (staged s p)) is next.entered.there
 
-  pub next_inside : (from : ℕ) (p : Pointer) → Valid rack shard → IsNextHeld shard from p → p.first < Rattle.draid_spec.specs.Geometry.metaslab_stripes shard.geometry
+  pub next_low : (from : ℕ) (p : Pointer) → IsNextHeld shard from p → p.first < NUMBERS
+  next_low from p next = (shard.entries.agree.found p.first (staged next.entered.stage p) next.entered.there).low
+
+  pub next_inside : (from : ℕ) (p : Pointer) → Valid rack shard → IsNextHeld shard from p → p.first < metaslab_stripes shard.geometry
   next_inside from p valid next =
       let placed = valid.tables.placed p.first (staged next.entered.stage p) next.entered.there in
       let inside = placed.run.inside in
@@ -195,7 +208,7 @@ module _ {R A : Type 0} (rack : racks.Ghosts R) (shards : List (Shard R A)) wher
       | inl was ↦ f.pointers object p was
       | inr own ↦
           (let number = (ready n shard there).number_is in
-          record { object_is = own.0; shard = shard; there = ap (slice_get shards) (own.1.0 ∙ number) ∙ there; live = own.1.1 })
+          record { object_is = own.0; shard = shard; there = ap (slice_get shards) (own.1 ∙ number) ∙ there; live = own.2 })
     ];
     numbered = λ m s first e below at found. elim (cases_eq m n) [
       | inl same ↦
@@ -213,6 +226,9 @@ module _ {R A : Type 0} (rack : racks.Ghosts R) (shards : List (Shard R A)) wher
 
 -- ---- older blocks
 
+elsewhere : (new old x : Option Entry) (q n : ℕ) → new ≡ (if q == n then x else old) → (q ≡ n → ⊥) → new ≡ old
+elsewhere new old x q n is other = grind (arith, nat_tests, is, other)
+
 module _ {R A : Type 0} (rack : racks.Ghosts R) (newest : ℕ → Option Pointer) where
   pub frees_none : (shard : Shard R A) → Valid rack shard → AllLive shard → FreesOlder rack newest shard shard
   frees_none shard valid live = record {
@@ -220,7 +236,7 @@ module _ {R A : Type 0} (rack : racks.Ghosts R) (newest : ℕ → Option Pointer
     part = refl;
     committed = refl;
     kept = λ object p is own here. here;
-    blocks = λ first e there. (ap (λ (s : Stage). is_block s) (live first e there), e, there, refl);
+    blocks = λ first e there. (ap (λ (s : Stage). is_block s) (live first e there), (e, there, refl));
   }
 
   -- a block that isn't its object's newest is freed
@@ -242,8 +258,23 @@ module _ {R A : Type 0} (rack : racks.Ghosts R) (newest : ℕ → Option Pointer
         let is : staged (Freed group) p ≡ e = some_injective (staged (Freed group) p) e (ap (λ b. if b then Some (staged (Freed group) p) else entry_at mid.entries first) (sym same) ∙ there) in
         let at : entry_at mid.entries first ≡ Some (staged Live p) = ap (entry_at mid.entries) (is_equal first p.first same) ∙ live in
         let was = (f.blocks first (staged Live p) at).1 in
-        (ap (λ (x : Entry). is_block x.stage) (sym is), was.0, was.1.0, was.1.1 ∙ ap (λ (x : Entry). x.pointer) is)
+        (ap (λ (x : Entry). is_block x.stage) (sym is), (was.0, was.1, was.2 ∙ ap (λ (x : Entry). x.pointer) is))
     by first e false other there = f.blocks first e (ap (λ b. if b then Some (staged (Freed group) p) else entry_at mid.entries first) (sym other) ∙ there)
+
+  pub frees_step : (old mid new : Shard R A) (p : Pointer) → FreesOlder rack newest old mid → IsLive mid p → FreesIfOlder rack newest p mid new → FreesOlder rack newest old new
+  frees_step old mid new p f live one = elim one.done [
+    | inl same ↦ subst (FreesOlder rack newest old) (sym same) f
+    | inr freed ↦ frees_more old mid new p freed.1.0 f live freed.0 one.valid one.part freed.1.1
+  ]
+
+  -- the blocks behind it are as they were
+  pub left_behind : (mid new : Shard R A) (p : Pointer) (from : ℕ) → from ≤ p.first → FreesIfOlder rack newest p mid new → ((first : ℕ) (e : Entry) → from ≤ first → entry_at mid.entries first ≡ Some e → e.stage ≡ Live)
+      → (first : ℕ) (e : Entry) → p.first + 1 ≤ first → entry_at new.entries first ≡ Some e → e.stage ≡ Live
+  left_behind mid new p from low one live first e past there = live first e (omega (arith, low, past)) (by one.done)
+    where
+      by : (new ≡ mid) ⊎ ((newest p.object ≡ Some p → ⊥) × ((group : ℕ) × SetsBlock mid new p (Some (staged (Freed group) p)))) → entry_at mid.entries first ≡ Some e
+      by (inl same) = ap (λ (x : Shard R A). entry_at x.entries first) (sym same) ∙ there
+      by (inr freed) = sym (elsewhere (entry_at new.entries first) (entry_at mid.entries first) (Some (staged (Freed freed.1.0) p)) first p.first (freed.1.1.entry.at first) (λ same. omega (arith, same, past))) ∙ there
 
   -- the blocks of metaslabs below a number
   pub record Freeing (n : ℕ) (old new : List (Shard R A)) : Type 0 where
@@ -278,23 +309,23 @@ module _ {R A : Type 0} (rack : racks.Ghosts R) (newest : ℕ → Option Pointer
 module _ {R A : Type 0} (rack : racks.Ghosts R) (area : areas.Ghosts A) where
   pub imported_whole : (pool : Pool R A) (geometry : Geometry) (old : List (Shard R A)) (newest : ℕ → Option Pointer) → IsFoundUber area pool.uber → layout_of pool.uber ≡ geometry → pool.geometry ≡ geometry
       → AreReopened rack geometry (group_of (kept_of pool.uber)) old → AreFound old newest pool.seq → AreFreed rack newest old pool.shards.items
-      → ((object : ℕ) → Rattle.std.specs.HashMap.get nat_eq pool.objects object ≡ newest object) → pool.floor ≡ group_of (kept_of pool.uber) + 1 → IsWhole rack area pool
+      → ((object : ℕ) → get nat_eq pool.objects object ≡ newest object) → pool.floor ≡ group_of (kept_of pool.uber) + 1 → IsWhole rack area pool
   imported_whole pool geometry old newest found layout used are blocks freed table floor = record {
     perms = are.perms;
-    layout = subst (λ (x : Geometry). Rattle.draid_map.specs.Place.IsLayout x are.perms) (sym used) are.layout;
+    layout = subst (λ (x : Geometry). IsLayout x are.perms) (sym used) are.layout;
     many = freed.many ∙ (are.many ∙ ap (λ (x : Geometry). x.props.metaslabs) (sym used));
     shards = λ m shard there.
         (let f = freed.each m shard there in
-        let is = are.each m f.0 f.1.0 in
-        let frees = f.1.1 in
+        let is = are.each m f.0 f.1 in
+        let frees = f.2 in
         record {
           valid = frees.valid;
           part = frees.part ∙ (is.part_is ∙ ap (λ (x : Geometry). record { geometry = x; perms = are.perms; number = m }) (sym used));
           numbered = λ key h held.
               (let e = held_entry shard.entries key h held in
               let was = (frees.blocks h.first e.e e.there).1 in
-              let low = blocks.numbered m f.0 h.first was.0 f.1.0 was.1.0 in
-              let same = ap (λ (p : Pointer). p.seq) was.1.1 in
+              let low = blocks.numbered m f.0 h.first was.0 f.1 was.1 in
+              let same = ap (λ (p : Pointer). p.seq) was.2 in
               let own = ap (λ k. k.seq) e.key_is in
               omega (arith, low, same, own));
           settled = λ key h held.
@@ -311,12 +342,12 @@ module _ {R A : Type 0} (rack : racks.Ghosts R) (area : areas.Ghosts A) where
         let many = freed.many in
         let s = present pool.shards.items pointer.metaslab (omega (arith, within, many)) in
         let f = freed.each pointer.metaslab s.0 s.1 in
-        let same : to.shard ≡ f.0 = some_of (slice_get old pointer.metaslab) to.shard f.0 to.there f.1.0 in
+        let same : to.shard ≡ f.0 = some_of (slice_get old pointer.metaslab) to.shard f.0 to.there f.1 in
         record {
           object_is = to.object_is;
           shard = s.0;
           there = s.1;
-          live = f.1.1.kept object pointer (sym (table object) ∙ there) to.object_is (subst (λ (x : Shard R A). IsLive x pointer) same to.live);
+          live = f.2.kept object pointer (sym (table object) ∙ there) to.object_is (subst (λ (x : Shard R A). IsLive x pointer) same to.live);
         });
     floor = omega (arith, floor);
     low = (let low = found.low in omega (arith, floor, low));

@@ -9,11 +9,13 @@ use Rattle.draid_names.specs.declared.numbers.TheConstants.{LAST_NUMBER}
 use Rattle.draid_names.specs.declared.pointer.Pointer.{Pointer}
 use Rattle.draid_machine.specs.declared.names.Held.{Held}
 use Rattle.draid_machine.specs.declared.names.Key.{Key}
-use Rattle.draid_machine.specs.declared.names.Stage.TheVariants.{Live}
+use Rattle.draid_machine.specs.declared.names.Stage.TheVariants.{Freed, Live}
 use Rattle.draid_machine.specs.Names.{is_block}
 use Rattle.draid_entries.specs.declared.entry.Entry.{Entry}
-use Rattle.draid_entries.specs.Entries.{entry_at, held_in}
+use Rattle.draid_entries.specs.Entries.{entry_at}
+use Rattle.draid_entries.specs.Maps.{staged}
 use Rattle.draid_shard.specs.Calls.{IsLive}
+use Rattle.draid_shard.specs.Changes.{SetsBlock}
 use Rattle.draid_shard.specs.Fits.{Valid}
 use Rattle.draid_shard.specs.Part.{Part}
 use Rattle.draid_shard.specs.States.{part_of}
@@ -89,6 +91,13 @@ pub record AreFound {R A : Type 0} (shards : List (Shard R A)) (newest : ℕ →
   pub numbered : (m : ℕ) (shard : Shard R A) (first : ℕ) (e : Entry) → slice_get shards m ≡ Some shard → entry_at shard.entries first ≡ Some e → e.pointer.seq ≤ seq
 
 -- ---- older blocks
+
+-- a live block was freed, unless it is its object's newest
+pub record FreesIfOlder {R A : Type 0} (rack : racks.Ghosts R) (newest : ℕ → Option Pointer) (pointer : Pointer) (old new : Shard R A) : Type 0 where
+  pub valid : Valid rack new
+  pub part : part_of new ≡ part_of old
+  pub open_group_is : new.open_group ≡ old.open_group
+  pub done : (new ≡ old) ⊎ ((newest pointer.object ≡ Some pointer → ⊥) × ((group : ℕ) × SetsBlock old new pointer (Some (staged (Freed group) pointer))))
 
 -- Blocks of a metaslab were freed, but for those that are kept in mind.
 pub record FreesOlder {R A : Type 0} (rack : racks.Ghosts R) (newest : ℕ → Option Pointer) (old new : Shard R A) : Type 0 where

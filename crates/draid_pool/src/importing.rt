@@ -5,11 +5,12 @@ ghost use Rattle.std.specs.HashMap.{get};
 ghost use Rattle.draid_names.specs.declared.numbers.TheConstants.{LAST_NUMBER};
 ghost use Rattle.draid_names.specs.declared.pointer.Pointer.{Pointer};
 ghost use Rattle.draid_map.specs.Place.{IsLayout};
+ghost use Rattle.draid_shard.specs.Calls.{IsLive};
 ghost use Rattle.draid_shard.specs.Fits.{Valid};
 ghost use Rattle.draid_shard.specs.declared.shard.Shard.{Shard};
 ghost use Rattle.draid_uber.specs.Slots.{group_of};
 ghost use Rattle.draid_uber.specs.Uber.{kept_of, layout_of};
-ghost use Rattle.draid_pool.specs.Found.{AllLive, AreFound, AreFreed, AreReady, AreReopened, FreesOlder, IsFoundUber, IsReopened, Notes, NotesOne};
+ghost use Rattle.draid_pool.specs.Found.{AllLive, AreFound, AreFreed, AreReady, AreReopened, FreesIfOlder, FreesOlder, IsFoundUber, IsReopened, Notes, NotesOne};
 ghost use Rattle.draid_pool.specs.Whole.{IsWhole};
 ghost use Rattle.draid_pool.specs.declared.importing.Found.{Found};
 
@@ -240,10 +241,7 @@ fn are_alike<R: Rack, A: Area>(one: &Shard<R, A>, other: &Shard<R, A>) -> bool {
 }
 
 /// What the records of all metaslabs say of the objects.
-fn find_blocks<R: Rack, A: Area>(
-    alloc: Global,
-    shards: &[Shard<R, A>],
-) -> Result<Found, PoolFault>
+fn find_blocks<R: Rack, A: Area>(alloc: Global, shards: &[Shard<R, A>]) -> Result<Found, PoolFault>
     requires ready { AreReady R.Rack shards.now }
     ensures found { IfOk result (λ found. AreFound shards.now (get nat_eq found.newest) found.seq) }
 {
@@ -265,12 +263,34 @@ fn find_blocks<R: Rack, A: Area>(
     Ok(found)
 }
 
-/// Frees the blocks of a metaslab that aren't the newest of their objects.
-fn free_older<R: Rack, A: Area>(
+/// Whether this is the newest block of its object.
+fn is_newest(newest: &HashMap<u64, Pointer>, pointer: &Pointer) -> bool
+    ensures { IsTrue result ↔ (get nat_eq newest.now pointer.now.object ≡ Some pointer.now) }
+{
+    newest.get(&pointer.object) == Some(pointer)
+}
+
+/// Frees a live block that isn't the newest of its object.
+fn free_if_older<R: Rack, A: Area>(
     shard: &mut Shard<R, A>,
     newest: &HashMap<u64, Pointer>,
+    pointer: &Pointer,
     floor: u64,
 )
+    requires valid { Valid R.Rack shard.old }
+    requires live { IsLive shard.old pointer.now }
+    requires floor { floor ≤ shard.old.open_group + 1 }
+    requires last { floor ≤ LAST_NUMBER }
+    ensures frees { FreesIfOlder R.Rack (get nat_eq newest.now) pointer.now shard.old shard.new }
+{
+    if is_newest(newest, pointer) {
+        return;
+    }
+    free_block(shard, pointer, floor);
+}
+
+/// Frees the blocks of a metaslab that aren't the newest of their objects.
+fn free_older<R: Rack, A: Area>(shard: &mut Shard<R, A>, newest: &HashMap<u64, Pointer>, floor: u64)
     requires valid { Valid R.Rack shard.old }
     requires live { AllLive shard.old }
     requires floor { floor ≤ shard.old.open_group + 1 }
@@ -279,9 +299,7 @@ fn free_older<R: Rack, A: Area>(
 {
     let mut from = 0;
     while let Some(pointer) = shard.next_held(from) {
-        if newest.get(&pointer.object) != Some(&pointer) {
-            free_block(shard, &pointer, floor);
-        }
+        free_if_older(shard, newest, &pointer, floor);
         from = pointer.first + 1;
     }
 }

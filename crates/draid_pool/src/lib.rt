@@ -19,7 +19,7 @@ mod writing;
 
 pub use closing::close;
 pub use draid_names::{ObjectFault, WriteFault};
-pub use importing::import;
 pub use fault::{DamageFault, FreeFault, PoolFault, SumFault, SyncFault, Synced};
+pub use importing::import;
 pub use opening::create;
 pub use pool::Pool;

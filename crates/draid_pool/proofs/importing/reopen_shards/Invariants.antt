@@ -2,7 +2,7 @@ use Rattle.std.proofs.Common.{◌≡◌, ◌≤◌, ℕ, Some, length}
 use Rattle.std.specs.Prelude.{slice_get, vec_capacity}
 use Rattle.draid_shard.specs.declared.shard.Shard.{Shard}
 use Rattle.draid_uber.specs.Slots.{group_of}
-use Rattle.draid_uber.specs.Uber.{kept_of}
+use Rattle.draid_uber.specs.Uber.{kept_of, layout_of}
 use Rattle.draid_pool.specs.Found.{IsReopened}
 use Rattle.draid_pool.proofs.importing.reopen_shards.Given as goal
 
@@ -11,7 +11,7 @@ abbrev pub invariant-loop-number : goal.invariant-loop-number
 invariant-loop-number g l = record {
   many : length l.shards.items ≡ l.number;
   each : (m : ℕ) (shard : Shard g.row.H-R.Denot g.row.H-A.Denot) → slice_get l.shards.items m ≡ Some shard
-      → IsReopened g.H.R.Rack (record { geometry = l.layout; perms = l.perms; number = m }) (group_of (kept_of l.uber)) shard;
-  room : l.layout.props.metaslabs ≤ vec_capacity l.shards;
-  bound : l.number ≤ l.layout.props.metaslabs;
+      → IsReopened g.H.R.Rack (record { geometry = layout_of l.uber; perms = l.perms; number = m }) (group_of (kept_of l.uber)) shard;
+  room : (layout_of l.uber).props.metaslabs ≤ vec_capacity l.shards;
+  bound : l.number ≤ (layout_of l.uber).props.metaslabs;
 }

@@ -1,0 +1,13 @@
+use Rattle.std.proofs.Common.{List, subst, sym}
+use Rattle.draid_shard.specs.declared.shard.Shard.{Shard}
+use Rattle.draid_uber.specs.Slots.{group_of}
+use Rattle.draid_uber.specs.Uber.{kept_of, layout_of}
+use Rattle.draid_pool.specs.Found.{AreReady}
+use Rattle.draid_pool.proofs.Found.{all_ready}
+use Rattle.draid_pool.proofs.importing.import.Goals as goal
+
+pub find_blocks-requires : goal.find_blocks-requires
+find_blocks-requires g c = record {
+  ready = subst (λ (xs : List (Shard g.row.H-R.Denot g.row.H-A.Denot)). AreReady g.H.R.Rack xs) (sym c.deref.ensures.value)
+      (all_ready g.H.R.Rack (layout_of c.in_ok-uber.uber) (group_of (kept_of c.in_ok-uber.uber)) c.in-Ok.shards.items c.in-Ok.ensures.reopened);
+}
