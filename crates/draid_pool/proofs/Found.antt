@@ -1,11 +1,12 @@
 -- The metaslabs that an import opens, and the blocks that it finds there.
-use Rattle.std.proofs.Common.{arith, ◌≡◌, ◌==◌, ◌+◌, ◌<◌, ◌≤◌, ◌++◌, ◌∙◌, ◌⊎◌, inl, inr, ℕ, Bool, true, false, cond, List, [], ◌∷◌, Option, Some, None, refl, sym, ap, subst, slice_index_or, slice_set, length, length-append, if◌then◌else◌}
-use Rattle.std.specs.Prelude.{⊤, IsSomeAnd, MatchOption, find, nat_eq, option_map, slice_get}
+use Rattle.std.proofs.Common.{arith, ◌≡◌, ◌==◌, ◌%◌, ◌+◌, ◌<◌, ◌≤◌, ◌++◌, ◌∙◌, ◌⊎◌, inl, inr, ℕ, Bool, true, false, cond, List, [], ◌∷◌, Option, Some, None, Ok, Err, refl, sym, ap, subst, slice_index_or, slice_set, length, length-append, if◌then◌else◌}
+use Rattle.std.specs.Prelude.{⊤, IsErrOf, IsSomeAnd, MatchOption, find, nat_eq, option_map, slice_get}
 use Rattle.std.proofs.lemmas.Bool.{cases_eq, cases_lt}
 use Rattle.std.proofs.lemmas.Bool.Decides.{nat_tests}
 use Rattle.std.proofs.lemmas.List.{length-set}
 use Rattle.std.proofs.lemmas.Option.{slice_get-get_or, slice_get_within}
-use Rattle.draid_names.specs.declared.numbers.TheConstants.{LAST_NUMBER, NUMBERS}
+use Rattle.draid_names.specs.Faults.{Rose}
+use Rattle.draid_names.specs.declared.numbers.TheConstants.{NUMBERS}
 use Rattle.draid_names.specs.declared.pointer.Pointer.{Pointer}
 use Rattle.draid_rack.specs.declared.Rack as racks
 use Rattle.draid_area.specs.Area as content
@@ -19,9 +20,10 @@ use Rattle.draid_machine.specs.Created.{created}
 use Rattle.draid_machine.specs.Names.{is_block}
 use Rattle.draid_machine.proofs.Small.{is_equal, some_injective}
 use Rattle.draid_entries.specs.declared.entry.Entry.{Entry}
-use Rattle.draid_entries.specs.Entries.{IsEntered, entry_at}
+use Rattle.draid_entries.specs.Entries.{entry_at}
 use Rattle.draid_entries.specs.Listed.{has_key, held_of}
 use Rattle.draid_entries.specs.Maps.{held_at, key_of, staged}
+use Rattle.draid_shelf.specs.Kits as shelf
 use Rattle.draid_shelf.specs.declared.kit.Kit.{Kit}
 use Rattle.draid_spec.specs.declared.layout.Geometry.{Geometry}
 use Rattle.draid_spec.specs.Geometry.{metaslab_stripes}
@@ -30,8 +32,11 @@ use Rattle.std.specs.HashMap.{get}
 use Rattle.draid_shard.specs.Calls.{IsLive, IsNextHeld}
 use Rattle.draid_shard.specs.Changes.{SetsBlock}
 use Rattle.draid_shard.specs.Fits.{Valid}
-use Rattle.draid_shard.specs.Groups.{Opens}
+use Rattle.draid_shard.specs.Groups.{Opens, area_of_kit}
 use Rattle.draid_shard.specs.Part.{Part}
+use Rattle.draid_shard.specs.Reopening.{OpenIsRefused}
+use Rattle.draid_shard.specs.declared.fault.OpenFault.{OpenFault}
+use Rattle.draid_shard.specs.declared.fault.OpenFault.TheVariants as why_not
 use Rattle.draid_shard.specs.States.{layout_by, part_of}
 use Rattle.draid_shard.specs.declared.shard.Shard.{Shard}
 use Rattle.draid_shard.proofs.Held.{held_entry, key_leads}
@@ -39,13 +44,15 @@ use Rattle.draid_uber.specs.declared.uber.Uber.{Uber}
 use Rattle.draid_uber.specs.Slots.{group_of}
 use Rattle.draid_uber.specs.Uber as ubers
 use Rattle.draid_uber.specs.Uber.{kept_of, layout_of, next_leaf_of, version_of}
-use Rattle.draid_pool.specs.Found.{AllLive, AreFound, AreFreed, AreReady, AreReopened, FreesOlder, FreesIfOlder, IsFoundUber, IsReady, IsReopened, LeadsTo, Notes, NotesOne}
+use Rattle.draid_pool.specs.Found.{AllLive, AnyRecordsRose, AreFound, AreFreed, AreReady, AreReopened, FreesOlder, FreesIfOlder, IsFoundUber, IsReopened, LeadsTo, Notes, NotesOne, RecordsRose, SameChecks}
+use Rattle.draid_pool.specs.Closing.{Returns, TakesBack}
 use Rattle.draid_pool.specs.Whole.{IsWhole}
+use Rattle.draid_pool.specs.declared.fault.PoolFault.{PoolFault}
+use Rattle.draid_pool.specs.declared.fault.PoolFault.TheVariants as fault
 use Rattle.draid_pool.specs.declared.pool.Pool.{Pool}
 use Rattle.draid_pool.proofs.Closed.{at_end}
-use Rattle.draid_pool.proofs.FreeSteps.{open_high}
 use Rattle.draid_pool.proofs.Lists.{get_set_other, get_set_same, present, some_of}
-use Rattle.draid_pool.proofs.Opened.{get_before}
+use Rattle.draid_pool.proofs.Opened.{get_before, rose_since}
 use Rattle.draid_pool.proofs.Wholes.{live_beside, one_live}
 
 -- ---- the uberblock
@@ -62,6 +69,63 @@ found_uber area uber valid same ranges = by (kept_of uber) refl same ranges vali
         let above = ranges.group_above in
         let below = ranges.group_below in
         record { valid = valid; version = same.0 ∙ ap (λ p. p.version) own.1; some = omega (arith, group, above); low = omega (arith, group, below) }
+
+-- ---- the shelf
+
+pub checks_same : (o : Option shelf.Held) → SameChecks o o
+checks_same None = tt
+checks_same (Some x) = refl
+
+pub checks_more : (a b c : Option shelf.Held) → SameChecks a b → SameChecks b c → SameChecks a c
+checks_more a b None first more = tt
+checks_more a None (Some z) first more = absurd more
+checks_more None (Some y) (Some z) first more = absurd first
+checks_more (Some x) (Some y) (Some z) first more = more ∙ first
+
+pub checks_back : {R A : Type 0} (rack : racks.Ghosts R) (area : areas.Ghosts A) (shards : List (Shard R A)) (b c : Option shelf.Held) (before after : ℕ → shelf.KitCounts) → Returns rack area shards b c before after → SameChecks b c
+checks_back rack area shards b c before after r = by b c r.held
+  where
+    by : (o n : Option shelf.Held) → shelf.OnHeld n (λ y. MatchOption o ⊥ (λ x. TakesBack rack area shards x y)) → SameChecks o n
+    by o None held = tt
+    by None (Some y) held = absurd held
+    by (Some x) (Some y) held = held.checks
+
+-- the area of a group that failed is one of the metaslab's
+pub records_rose : {R A : Type 0} (faults : A → ℕ) (old new : Kit R A) (group : ℕ) (before after : shelf.KitCounts) → faults old.even ≡ before.even → faults old.odd ≡ before.odd → after.even ≡ faults new.even → after.odd ≡ faults new.odd
+    → Rose (faults (area_of_kit old group)) (faults (area_of_kit new group)) → RecordsRose before after
+records_rose {R} {A} faults old new group before after even odd even' odd' rose = by (group % 2 == 0) rose
+  where
+    by : (b : Bool) → Rose (faults (if b then old.even else old.odd)) (faults (if b then new.even else new.odd)) → RecordsRose before after
+    by true h = inl (subst (λ (n : ℕ). Rose n after.even) even (subst (λ (n : ℕ). Rose (faults old.even) n) (sym even') h))
+    by false h = inr (subst (λ (n : ℕ). Rose n after.odd) odd (subst (λ (n : ℕ). Rose (faults old.odd) n) (sym odd') h))
+
+-- so it is once those that were open are given back, and since the beginning
+pub records_rose_back : {R A : Type 0} (rack : racks.Ghosts R) (area : areas.Ghosts A) (shards : List (Shard R A)) (n : ℕ) (first since last last' : ℕ) (mid_told new_told : Option shelf.Held) (before middle late after : ℕ → shelf.KitCounts)
+    → length shards ≡ n → first ≤ since → last' ≡ last → ((m : ℕ) → n ≤ m → middle m ≡ before m) → Returns rack area shards mid_told new_told late after → Rose since last ⊎ RecordsRose (middle n) (late n)
+    → Rose first last' ⊎ AnyRecordsRose before after
+records_rose_back rack area shards n first since last last' mid_told new_told before middle late after many later same yet r (inl rose) =
+    inl (subst (λ (k : ℕ). Rose first k) (sym same) (rose_since first since last later rose))
+records_rose_back rack area shards n first since last last' mid_told new_told before middle late after many later same yet r (inr rose) =
+    inr (n, subst (λ (k : shelf.KitCounts). RecordsRose k (after n)) (yet n (omega arith)) (subst (λ (k : shelf.KitCounts). RecordsRose (middle n) k) (sym (r.others n (omega (arith, many)))) rose))
+
+-- why a metaslab wasn't opened
+pub refused_area : {R A : Type 0} (rack : racks.Ghosts R) (faults : A → ℕ) (told : A → Option content.Content) (geometry : Geometry) (number : ℕ) (old new : Kit R A) (group next : ℕ) (why : OpenFault)
+    → OpenIsRefused rack faults told geometry number old new group next why → why ≡ why_not.Area → Rose (faults (area_of_kit old group)) (faults (area_of_kit new group))
+refused_area rack faults told geometry number old new group next why_not.Area h is = h
+refused_area rack faults told geometry number old new group next (why_not.Record place kind) h is = absurd (cc)
+refused_area rack faults told geometry number old new group next why_not.NoMemory h is = absurd (cc)
+
+pub fault_is : {T : Type 0} (why : PoolFault) → IsErrOf {T = T} (Err why) fault.Shelf → why ≡ fault.Shelf
+fault_is why failed = cc
+
+-- where an uberblock was found its area was held
+pub absent_not : {T : Type 0} (uber : T) (o : Option shelf.Held) (P Q : Type 0) → shelf.OnHeld o (λ held. held.uber ≡ None → IsErrOf (Ok uber) fault.NoPool × P) → shelf.OnHeld o (λ held. held.uber ≡ None → Q)
+absent_not uber None P Q h = tt
+absent_not uber (Some x) P Q h = λ none. (let failed = (h none).0 in absurd (cc))
+
+-- a failure is one whatever the answer would have been
+pub refused_too : {T U : Type 0} (why : PoolFault) → IsErrOf {T = T} (Err why) fault.Shelf → IsErrOf {T = U} (Err why) fault.Shelf
+refused_too why failed = (let same : why ≡ fault.Shelf = cc in ap Err same)
 
 -- ---- metaslabs
 

@@ -1,14 +1,14 @@
 -- The metaslabs that an import opens, and the blocks that it finds there.
-use Rattle.std.specs.Prelude.{◌≡◌, ◌<◌, ◌≤◌, ◌⊎◌, ℕ, true, List, Option, Some, length, slice_get}
+use Rattle.std.specs.Prelude.{◌≡◌, ◌<◌, ◌≤◌, ◌⊎◌, ℕ, true, List, Option, Some, MatchOption, length, slice_get}
+use Rattle.draid_names.specs.Faults.{Rose}
 use Rattle.draid_rack.specs.declared.Rack as racks
 use Rattle.draid_area.specs.declared.Area as areas
+use Rattle.draid_shelf.specs.Kits as shelf
 use Rattle.draid_spec.specs.declared.layout.Geometry.{Geometry}
 use Rattle.draid_perm.specs.declared.perms.Perms.{Perms}
 use Rattle.draid_map.specs.Place.{IsLayout}
 use Rattle.draid_names.specs.declared.numbers.TheConstants.{LAST_NUMBER}
 use Rattle.draid_names.specs.declared.pointer.Pointer.{Pointer}
-use Rattle.draid_machine.specs.declared.names.Held.{Held}
-use Rattle.draid_machine.specs.declared.names.Key.{Key}
 use Rattle.draid_machine.specs.declared.names.Stage.TheVariants.{Freed, Live}
 use Rattle.draid_machine.specs.Names.{is_block}
 use Rattle.draid_entries.specs.declared.entry.Entry.{Entry}
@@ -24,6 +24,23 @@ use Rattle.draid_uber.specs.declared.uber.Uber.{Uber}
 use Rattle.draid_uber.specs.Slots.{group_of}
 use Rattle.draid_uber.specs.Uber.{kept_of, layout_of, version_of}
 use Rattle.draid_uber.specs.Uber as ubers
+
+-- ---- the shelf
+
+-- where it is told, the areas of the check records are held as before
+abbrev pub SameChecks : Option shelf.Held → Option shelf.Held → Type 0
+SameChecks old new = shelf.OnHeld new (λ y. MatchOption old ⊥ (λ x. y.checks ≡ x.checks))
+
+-- a call on an area of a metaslab's records has failed since
+abbrev pub RecordsRose : shelf.KitCounts → shelf.KitCounts → Type 0
+RecordsRose before after = Rose before.even after.even ⊎ Rose before.odd after.odd
+
+abbrev pub AnyRecordsRose : (ℕ → shelf.KitCounts) → (ℕ → shelf.KitCounts) → Type 0
+AnyRecordsRose before after = (m : ℕ) × RecordsRose (before m) (after m)
+
+-- the shelf's count rose, or that of the uberblock's area, or that of an area of a metaslab's records
+abbrev pub HasRisen : ℕ → ℕ → ℕ → ℕ → (ℕ → shelf.KitCounts) → (ℕ → shelf.KitCounts) → Type 0
+HasRisen faults faults' uber uber' counts counts' = (Rose faults faults' ⊎ Rose uber uber') ⊎ AnyRecordsRose counts counts'
 
 -- ---- metaslabs
 

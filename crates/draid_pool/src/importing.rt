@@ -1,16 +1,20 @@
 //! A pool is imported from what was given back to a shelf: its uberblock is found, each metaslab is opened from the
 //! record of the group that it names, and of each object the block with the greatest number counts.
-ghost use Rattle.std.specs.Prelude.{◌≡◌, ◌<◌, ◌≤◌, ◌+◌, ◌⊎◌, ◌↔◌, ℕ, Option, Some, IfOk, IsTrue, OnOk, nat_eq, slice_get};
+ghost use Rattle.std.specs.Prelude.{◌≡◌, ◌<◌, ◌≤◌, ◌+◌, ◌⊎◌, ◌↔◌, ℕ, None, Some, IfOk, IsErrOf, IsTrue, OnOk, nat_eq, slice_get};
 ghost use Rattle.std.specs.HashMap.{get};
+ghost use Rattle.draid_names.specs.Faults.{Rose};
 ghost use Rattle.draid_names.specs.declared.numbers.TheConstants.{LAST_NUMBER};
 ghost use Rattle.draid_names.specs.declared.pointer.Pointer.{Pointer};
 ghost use Rattle.draid_map.specs.Place.{IsLayout};
+ghost use Rattle.draid_shelf.specs.Kits.{OnHeld};
+ghost use Rattle.draid_shelf.specs.Shelf.{SameOthers};
 ghost use Rattle.draid_shard.specs.Calls.{IsLive};
 ghost use Rattle.draid_shard.specs.Fits.{Valid};
 ghost use Rattle.draid_shard.specs.declared.shard.Shard.{Shard};
 ghost use Rattle.draid_uber.specs.Slots.{group_of};
 ghost use Rattle.draid_uber.specs.Uber.{kept_of, layout_of};
-ghost use Rattle.draid_pool.specs.Found.{AllLive, AreFound, AreFreed, AreReady, AreReopened, FreesIfOlder, FreesOlder, IsFoundUber, IsReopened, Notes, NotesOne};
+ghost use Rattle.draid_pool.specs.Opening.{IsAsBefore};
+ghost use Rattle.draid_pool.specs.Found.{AllLive, AnyRecordsRose, AreFound, AreFreed, AreReady, AreReopened, FreesIfOlder, FreesOlder, HasRisen, IsFoundUber, IsReopened, Notes, NotesOne, RecordsRose, SameChecks};
 ghost use Rattle.draid_pool.specs.Whole.{IsWhole};
 ghost use Rattle.draid_pool.specs.declared.importing.Found.{Found};
 
@@ -36,7 +40,9 @@ const SLOTS_AT: u64 = 20;
 const BLOCK_BYTES: u64 = 72;
 
 /// Why an uberblock gave no pool.
-fn uber_fault(why: UberFault) -> PoolFault {
+fn uber_fault(why: UberFault) -> PoolFault
+    ensures { result ≡ PoolFault.Shelf → why ≡ UberFault.Area }
+{
     match why {
         UberFault::Area => PoolFault::Shelf,
         UberFault::NoMemory => PoolFault::NoMemory,
@@ -50,7 +56,9 @@ fn uber_fault(why: UberFault) -> PoolFault {
 }
 
 /// Why a metaslab wasn't opened.
-fn open_fault(number: u32, why: OpenFault) -> PoolFault {
+fn open_fault(number: u32, why: OpenFault) -> PoolFault
+    ensures { result ≡ PoolFault.Shelf → why ≡ OpenFault.Area }
+{
     match why {
         OpenFault::Area => PoolFault::Shelf,
         OpenFault::NoMemory => PoolFault::NoMemory,
@@ -63,7 +71,9 @@ fn open_fault(number: u32, why: OpenFault) -> PoolFault {
 }
 
 /// Why a call on the shelf gave nothing.
-fn shelf_fault(why: DeviceFault) -> PoolFault {
+fn shelf_fault(why: DeviceFault) -> PoolFault
+    ensures { result ≡ PoolFault.Shelf → why ≡ DeviceFault.Failed }
+{
     match why {
         DeviceFault::Failed => PoolFault::Shelf,
         DeviceFault::NoMemory => PoolFault::NoMemory,
@@ -73,6 +83,15 @@ fn shelf_fault(why: DeviceFault) -> PoolFault {
 /// Takes the area of the uberblock, and finds the uberblock there. After a refusal the area is on the shelf.
 fn find_uber<H: Shelf>(shelf: &mut H) -> Result<Uber<H::A>, PoolFault>
     ensures found { IfOk result (IsFoundUber H.A.Area) }
+    ensures none { OnHeld (H.told shelf.old) (λ held. held.uber ≡ None → IsErrOf result PoolFault.NoPool
+        × IsAsBefore (H.told shelf.old) (H.told shelf.new) (H.counts shelf.old) (H.counts shelf.new)
+        (record { uber = H.uber_count shelf.old; checks = H.check_counts shelf.old })
+        (record { uber = H.uber_count shelf.new; checks = H.check_counts shelf.new })) }
+    ensures held { SameChecks (H.told shelf.old) (H.told shelf.new) }
+    ensures checks { H.check_counts shelf.new ≡ H.check_counts shelf.old }
+    ensures counts { (m : ℕ) → H.counts shelf.new m ≡ H.counts shelf.old m }
+    ensures later { H.faults shelf.old ≤ H.faults shelf.new }
+    ensures cause { IsErrOf result PoolFault.Shelf → Rose (H.faults shelf.old) (H.faults shelf.new) ⊎ Rose (H.uber_count shelf.old) (H.uber_count shelf.new) }
 {
     if !shelf.has_pool() {
         return Err(PoolFault::NoPool);
@@ -103,6 +122,11 @@ fn reopen_shard<H: Shelf>(
     requires layout { IsLayout (layout_of uber.now) perms }
     requires number { number < (layout_of uber.now).props.metaslabs }
     ensures reopened { IfOk result (IsReopened H.R.Rack (record { geometry = layout_of uber.now; perms = perms; number = number }) (group_of (kept_of uber.now))) }
+    ensures held { SameChecks (H.told shelf.old) (H.told shelf.new) }
+    ensures checks { H.check_counts shelf.new ≡ H.check_counts shelf.old }
+    ensures counts { SameOthers number (H.counts shelf.old) (H.counts shelf.new) }
+    ensures later { H.faults shelf.old ≤ H.faults shelf.new }
+    ensures cause { IsErrOf result PoolFault.Shelf → Rose (H.faults shelf.old) (H.faults shelf.new) ⊎ RecordsRose (H.counts shelf.old number) (H.counts shelf.new number) }
 {
     let layout = *uber.geometry();
     let kit = match shelf.take(number, &layout) {
@@ -137,6 +161,10 @@ fn reopen_shards<H: Shelf>(
 ) -> Result<Vec<Shard<H::R, H::A>>, PoolFault>
     requires uber { IsFoundUber H.A.Area uber.now }
     ensures reopened { IfOk result (λ shards. AreReopened H.R.Rack (layout_of uber.now) (group_of (kept_of uber.now)) shards.items) }
+    ensures held { SameChecks (H.told shelf.old) (H.told shelf.new) }
+    ensures checks { H.check_counts shelf.new ≡ H.check_counts shelf.old }
+    ensures later { H.faults shelf.old ≤ H.faults shelf.new }
+    ensures cause { IsErrOf result PoolFault.Shelf → Rose (H.faults shelf.old) (H.faults shelf.new) ⊎ AnyRecordsRose (H.counts shelf.old) (H.counts shelf.new) }
 {
     let layout = *uber.geometry();
     let perms = Perms::new(layout.spec.children, layout.props.seed);
@@ -194,6 +222,7 @@ impl Found {
         requires valid { Valid R.Rack shard.now }
         requires live { AllLive shard.now }
         ensures noted { OnOk result (Notes shard.now (get nat_eq self.old.newest) (get nat_eq self.new.newest) self.old.seq self.new.seq) }
+        ensures no_device { IsErrOf result PoolFault.Shelf → ⊥ }
     {
         let mut from = 0;
         let mut at = shard.blocks_at();
@@ -244,6 +273,7 @@ fn are_alike<R: Rack, A: Area>(one: &Shard<R, A>, other: &Shard<R, A>) -> bool {
 fn find_blocks<R: Rack, A: Area>(alloc: Global, shards: &[Shard<R, A>]) -> Result<Found, PoolFault>
     requires ready { AreReady R.Rack shards.now }
     ensures found { IfOk result (λ found. AreFound shards.now (get nat_eq found.newest) found.seq) }
+    ensures no_device { IsErrOf result PoolFault.Shelf → ⊥ }
 {
     let mut found = Found {
         newest: HashMap::new(alloc),
@@ -349,6 +379,14 @@ fn pool_of<R: Rack, A: Area>(
 /// Imports the pool that was given back to the shelf. A refusal gives back all that was taken.
 pub fn import<H: Shelf>(alloc: Global, shelf: &mut H) -> Result<Pool<H::R, H::A>, PoolFault>
     ensures whole { IfOk result (IsWhole H.R.Rack H.A.Area) }
+    ensures none { OnHeld (H.told shelf.old) (λ held. held.uber ≡ None → IsErrOf result PoolFault.NoPool
+        × IsAsBefore (H.told shelf.old) (H.told shelf.new) (H.counts shelf.old) (H.counts shelf.new)
+        (record { uber = H.uber_count shelf.old; checks = H.check_counts shelf.old })
+        (record { uber = H.uber_count shelf.new; checks = H.check_counts shelf.new })) }
+    ensures held { SameChecks (H.told shelf.old) (H.told shelf.new) }
+    ensures checks { H.check_counts shelf.new ≡ H.check_counts shelf.old }
+    ensures later { H.faults shelf.old ≤ H.faults shelf.new }
+    ensures cause { IsErrOf result PoolFault.Shelf → HasRisen (H.faults shelf.old) (H.faults shelf.new) (H.uber_count shelf.old) (H.uber_count shelf.new) (H.counts shelf.old) (H.counts shelf.new) }
 {
     let uber = find_uber(shelf)?;
     let shards = match reopen_shards(alloc, shelf, &uber) {

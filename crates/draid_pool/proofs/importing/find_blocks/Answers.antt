@@ -25,7 +25,7 @@ loop-shard-preserved g c =
       bound = omega (arith, below);
     }
 
-pub returns : goal.returns
-returns g c =
+pub returns-clause-found : goal.returns-clause-found
+returns-clause-found g c =
     let end = c.loop-shard-test.false in
-    record { found = finding_all g.R.Rack c.args.shards.now c.loop-shard.shard-index (get nat_eq c.loop-shard.found.newest) c.loop-shard.found.seq (omega (arith, end)) c.loop-shard.invariant.finding }
+    finding_all g.R.Rack c.args.shards.now c.loop-shard.shard-index (get nat_eq c.loop-shard.found.newest) c.loop-shard.found.seq (omega (arith, end)) c.loop-shard.invariant.finding

@@ -1,5 +1,5 @@
-use Rattle.std.proofs.Common.{arith, ◌≡◌, ◌∙◌, Some, sym}
-use Rattle.std.specs.Prelude.{nat_eq, slice_get}
+use Rattle.std.proofs.Common.{arith, ◌∙◌, sym}
+use Rattle.std.specs.Prelude.{nat_eq}
 use Rattle.std.specs.HashMap.{get}
 use Rattle.draid_pool.proofs.Found.{at_item, freeing_all, freeing_more}
 use Rattle.draid_pool.proofs.importing.free_all.Goals as goal

@@ -1,4 +1,4 @@
-use Rattle.std.proofs.Common.{arith, ◌≡◌, ◌∷◌, ◌∙◌, ℕ, [], ap, length, length-append, subst, sym}
+use Rattle.std.proofs.Common.{arith, ◌∷◌, ◌∙◌, [], ap, length, length-append, refl, subst, sym}
 use Rattle.draid_spec.specs.Geometry.{IsGeometry}
 use Rattle.draid_spec.specs.declared.layout.Geometry.{Geometry}
 use Rattle.draid_map.specs.Place.{IsLayout}
@@ -6,7 +6,7 @@ use Rattle.draid_shard.specs.declared.shard.Shard.{Shard}
 use Rattle.draid_uber.specs.Slots.{group_of}
 use Rattle.draid_uber.specs.Uber.{kept_of, layout_of}
 use Rattle.draid_pool.specs.Found.{IsReopened}
-use Rattle.draid_pool.proofs.Found.{each_none, each_pushed}
+use Rattle.draid_pool.proofs.Found.{checks_back, checks_more, checks_same, each_none, each_pushed, records_rose_back, refused_too}
 use Rattle.draid_pool.proofs.importing.reopen_shards.Goals as goal
 
 pub loop-number-init : goal.loop-number-init
@@ -18,6 +18,10 @@ loop-number-init g c =
       each = each_none (λ m (s : Shard g.row.H-R.Denot g.row.H-A.Denot). IsReopened g.H.R.Rack (record { geometry = layout_of c.args.uber.now; perms = c.new-perms.result; number = m }) (group_of (kept_of c.args.uber.now)) s)
           c.in-Ok.shards.items c.in-Ok.ensures.items;
       room = omega (arith, same, room);
+      held = checks_same (g.H.Shelf.told c.args.shelf.now);
+      checks = refl;
+      counts = λ m past. refl;
+      later = omega arith;
       bound = omega arith;
     }
 
@@ -53,27 +57,47 @@ loop-number-preserved g c =
     let below = c.loop-number-test.true in
     let capacity = c.push_reserved.ensures.capacity in
     let more = c.push_reserved.ensures.items in
+    let later = i.later in
+    let again = c.reopen_shard.ensures.later in
+    let shelf = g.H.Shelf in
     record {
       many = (let long = length-append c.loop-number.shards.items (c.in-Ok-reopen_shard.shard ∷ []) in let all = ap (λ xs. length xs) more in omega (arith, all, long, many));
       each = each_pushed (λ m (s : Shard g.row.H-R.Denot g.row.H-A.Denot). IsReopened g.H.R.Rack (record { geometry = layout_of c.args.uber.now; perms = c.new-perms.result; number = m }) (group_of (kept_of c.args.uber.now)) s)
           c.loop-number.shards.items c.push_reserved.new.self.items c.in-Ok-reopen_shard.shard c.loop-number.number more i.many i.each c.in-Ok-reopen_shard.ensures.reopened;
       room = omega (arith, room, capacity);
+      held = checks_more (shelf.told c.args.shelf.now) (shelf.told c.loop-number.shelf) (shelf.told c.reopen_shard.new.shelf) i.held c.reopen_shard.ensures.held;
+      checks = c.reopen_shard.ensures.checks ∙ i.checks;
+      counts = λ m past. c.reopen_shard.ensures.counts m (λ at. omega (arith, at, past)) ∙ i.counts m (omega (arith, past));
+      later = omega (arith, later, again);
       bound = omega (arith, same, below);
     }
 
-pub returns : goal.returns
-returns g c =
+pub returns-clause-reopened : goal.returns-clause-reopened
+returns-clause-reopened g c =
     let same = ap (λ (x : Geometry). x.props.metaslabs) c.geometry-layout.ensures in
     let i = c.loop-number.invariant in
     let many = i.many in
     let bound = i.bound in
     let end = c.loop-number-test.false in
     record {
-      reopened = record {
-        perms = c.new-perms.result;
-        layout = subst (λ (x : Geometry). IsLayout x c.new-perms.result) c.geometry-layout.ensures
-            (record { geometry_is = subst IsGeometry (sym c.geometry-layout.ensures) c.requires.uber.valid.held.layout_is; perms_are = c.new-perms.ensures });
-        many = omega (arith, same, many, bound, end);
-        each = i.each;
-      };
+      perms = c.new-perms.result;
+      layout = subst (λ (x : Geometry). IsLayout x c.new-perms.result) c.geometry-layout.ensures
+          (record { geometry_is = subst IsGeometry (sym c.geometry-layout.ensures) c.requires.uber.valid.held.layout_is; perms_are = c.new-perms.ensures });
+      many = omega (arith, same, many, bound, end);
+      each = i.each;
     }
+
+pub returns-in-Err-clause-held : goal.returns-in-Err-clause-held
+returns-in-Err-clause-held g c =
+    let shelf = g.H.Shelf in
+    checks_more (shelf.told c.args.shelf.now) (shelf.told c.reopen_shard.new.shelf) (shelf.told c.give_back.new.shelf)
+    (checks_more (shelf.told c.args.shelf.now) (shelf.told c.loop-number.shelf) (shelf.told c.reopen_shard.new.shelf) c.loop-number.invariant.held c.reopen_shard.ensures.held)
+    (checks_back g.H.R.Rack g.H.A.Area c.loop-number.shards.items (shelf.told c.reopen_shard.new.shelf) (shelf.told c.give_back.new.shelf) (shelf.counts c.reopen_shard.new.shelf) (shelf.counts c.give_back.new.shelf) c.give_back.ensures.returns)
+
+pub returns-in-Err-clause-cause : goal.returns-in-Err-clause-cause
+returns-in-Err-clause-cause g c failed =
+    let shelf = g.H.Shelf in
+    let i = c.loop-number.invariant in
+    records_rose_back g.H.R.Rack g.H.A.Area c.loop-number.shards.items c.loop-number.number (shelf.faults c.args.shelf.now) (shelf.faults c.loop-number.shelf) (shelf.faults c.reopen_shard.new.shelf) (shelf.faults c.give_back.new.shelf)
+    (shelf.told c.reopen_shard.new.shelf) (shelf.told c.give_back.new.shelf) (shelf.counts c.args.shelf.now) (shelf.counts c.loop-number.shelf) (shelf.counts c.reopen_shard.new.shelf) (shelf.counts c.give_back.new.shelf)
+    i.many i.later c.give_back.ensures.faults i.counts c.give_back.ensures.returns (c.in-Err.ensures.cause (refused_too c.in-Err.fault failed))
