@@ -8,7 +8,7 @@ pub returns-in-Ok-reopen-clause-reopened : goal.returns-in-Ok-reopen-clause-reop
 returns-in-Ok-reopen-clause-reopened g c =
     let e = c.in-Ok-reopen.ensures in
     let part : Geometry → Part = λ geometry. record { geometry = geometry; perms = c.args.perms; number = c.args.number } in
-    reopened g.H.R.Rack g.H.A.Area.told c.in-Ok.kit _ _ _ _ c.in-Ok-reopen.shard e.valid (e.part ∙ ap part c.geometry.ensures) (e.committed ∙ c.committed-group.ensures) e.opened
+    reopened g.H.R.Rack g.H.A.Area.told c.in-Ok.kit _ _ _ _ c.in-Ok-reopen.shard e.valid (e.part ∙ ap part c.geometry.ensures) (e.begins.1 ∙ c.committed-group.ensures) e.opened
 
 pub returns-in-Err-reopen-clause-cause : goal.returns-in-Err-reopen-clause-cause
 returns-in-Err-reopen-clause-cause g c failed =
