@@ -6,6 +6,7 @@ use Rattle.std.proofs.lemmas.Bool.Decides.{nat_tests}
 use Rattle.std.proofs.lemmas.List.{length-set}
 use Rattle.std.proofs.lemmas.Option.{slice_get-get_or, slice_get_within}
 use Rattle.draid_names.specs.Faults.{Rose}
+use Rattle.draid_names.specs.declared.fault.DeviceFault.{DeviceFault}
 use Rattle.draid_names.specs.declared.numbers.TheConstants.{NUMBERS}
 use Rattle.draid_names.specs.declared.pointer.Pointer.{Pointer}
 use Rattle.draid_rack.specs.declared.Rack as racks
@@ -44,15 +45,16 @@ use Rattle.draid_uber.specs.declared.uber.Uber.{Uber}
 use Rattle.draid_uber.specs.Slots.{group_of}
 use Rattle.draid_uber.specs.Uber as ubers
 use Rattle.draid_uber.specs.Uber.{kept_of, layout_of, next_leaf_of, version_of}
-use Rattle.draid_pool.specs.Found.{AllLive, AnyRecordsRose, AreFound, AreFreed, AreReady, AreReopened, FreesOlder, FreesIfOlder, IsFoundUber, IsReopened, LeadsTo, Notes, NotesOne, RecordsRose, SameChecks}
+use Rattle.draid_pool.specs.Found.{AllLive, AnyRecordsRose, AreFound, AreFreed, AreReady, AreReopened, FreesOlder, FreesIfOlder, IsFoundUber, IsReopened, LeadsTo, Notes, NotesOne, OpensOver, RecordsRose, SameChecks}
 use Rattle.draid_pool.specs.Closing.{Returns, TakesBack}
+use Rattle.draid_pool.specs.Opening.{TakesFirst}
 use Rattle.draid_pool.specs.Whole.{IsWhole}
 use Rattle.draid_pool.specs.declared.fault.PoolFault.{PoolFault}
 use Rattle.draid_pool.specs.declared.fault.PoolFault.TheVariants as fault
 use Rattle.draid_pool.specs.declared.pool.Pool.{Pool}
 use Rattle.draid_pool.proofs.Closed.{at_end}
 use Rattle.draid_pool.proofs.Lists.{get_set_other, get_set_same, present, some_of}
-use Rattle.draid_pool.proofs.Opened.{get_before, rose_since}
+use Rattle.draid_pool.proofs.Opened.{from_first, get_before, rose_since}
 use Rattle.draid_pool.proofs.Wholes.{live_beside, one_live}
 
 -- ---- the uberblock
@@ -168,6 +170,25 @@ each_none P xs none m y there = (let at : slice_get [] m ≡ Some y = subst (λ 
 -- what a loop takes from a list is there
 pub at_item : {X : Type 0} (xs : List X) (i : ℕ) (x : X) → i < length xs → x ≡ slice_index_or xs i x → slice_get xs i ≡ Some x
 at_item xs i x below is = slice_get-get_or xs i x below ∙ ap (λ y. Some y) (sym is)
+
+-- what was held for it was so from the beginning
+pub over_first : {R A : Type 0} (rack : racks.Ghosts R) (area : areas.Ghosts A) (limit group next n : ℕ) (old mid : Option shelf.Held) (before middle : shelf.KitCounts) (shard : Shard R A) → TakesFirst n old mid → middle ≡ before
+    → OpensOver rack area limit group next n mid middle shard → OpensOver rack area limit group next n old before shard
+over_first rack area limit group next n old mid before middle shard takes same o =
+    let t = o.taken in
+    record {
+      kit = o.kit;
+      taken = record {
+        told = from_first rack area n old mid (λ k. shelf.kit_of (rack.told o.kit.rack) (area.told o.kit.even) (area.told o.kit.odd) ≡ k) takes t.told;
+        some = from_first rack area n old mid (λ k. k ≡ None → IsErrOf (Ok o.kit) DeviceFault.Failed) takes t.some;
+        rack_count = λ who. t.rack_count who ∙ ap (λ (c : shelf.KitCounts). c.rack who) same;
+        even_count = t.even_count ∙ ap (λ (c : shelf.KitCounts). c.even) same;
+        odd_count = t.odd_count ∙ ap (λ (c : shelf.KitCounts). c.odd) same;
+      };
+      opens = o.opens;
+      later = o.later;
+      limit_is = o.limit_is;
+    }
 
 pub all_ready : {R A : Type 0} (rack : racks.Ghosts R) (geometry : Geometry) (group : ℕ) (shards : List (Shard R A)) → AreReopened rack geometry group shards → AreReady rack shards
 all_ready rack geometry group shards are m shard there = (let is = are.each m shard there in record { valid = is.valid; number_is = ap (λ (p : Part). p.number) is.part_is; live = is.live })

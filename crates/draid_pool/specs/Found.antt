@@ -1,9 +1,10 @@
 -- The metaslabs that an import opens, and the blocks that it finds there.
-use Rattle.std.specs.Prelude.{◌≡◌, ◌<◌, ◌≤◌, ◌⊎◌, ℕ, true, List, Option, Some, MatchOption, length, slice_get}
+use Rattle.std.specs.Prelude.{◌≡◌, ◌<◌, ◌≤◌, ◌⊎◌, ℕ, true, List, Option, Some, Ok, MatchOption, length, slice_get}
 use Rattle.draid_names.specs.Faults.{Rose}
 use Rattle.draid_rack.specs.declared.Rack as racks
 use Rattle.draid_area.specs.declared.Area as areas
 use Rattle.draid_shelf.specs.Kits as shelf
+use Rattle.draid_shelf.specs.declared.kit.Kit.{Kit}
 use Rattle.draid_spec.specs.declared.layout.Geometry.{Geometry}
 use Rattle.draid_perm.specs.declared.perms.Perms.{Perms}
 use Rattle.draid_map.specs.Place.{IsLayout}
@@ -13,10 +14,12 @@ use Rattle.draid_machine.specs.declared.names.Stage.TheVariants.{Freed, Live}
 use Rattle.draid_machine.specs.Names.{is_block}
 use Rattle.draid_entries.specs.declared.entry.Entry.{Entry}
 use Rattle.draid_entries.specs.Entries.{entry_at}
+use Rattle.draid_entries.specs.History.{limit_in}
 use Rattle.draid_entries.specs.Maps.{staged}
 use Rattle.draid_shard.specs.Calls.{IsLive}
 use Rattle.draid_shard.specs.Changes.{SetsBlock}
 use Rattle.draid_shard.specs.Fits.{Valid}
+use Rattle.draid_shard.specs.Groups.{Opens, OpensCounts}
 use Rattle.draid_shard.specs.Part.{Part}
 use Rattle.draid_shard.specs.States.{part_of}
 use Rattle.draid_shard.specs.declared.shard.Shard.{Shard}
@@ -61,6 +64,27 @@ pub record AreReopened {R A : Type 0} (rack : racks.Ghosts R) (geometry : Geomet
   pub layout : IsLayout geometry perms
   pub many : length shards ≡ geometry.props.metaslabs
   pub each : (m : ℕ) (shard : Shard R A) → slice_get shards m ≡ Some shard → IsReopened rack (record { geometry = geometry; perms = perms; number = m }) group shard
+
+-- the devices that a shelf held for a metaslab, with their counts
+pub record IsKitOf {R A : Type 0} (rack : racks.Ghosts R) (area : areas.Ghosts A) (m : ℕ) (held : Option shelf.Held) (counts : shelf.KitCounts) (kit : Kit R A) : Type 0 where
+  pub told : shelf.OnHeld held (λ x. shelf.kit_of (rack.told kit.rack) (area.told kit.even) (area.told kit.odd) ≡ x.kits m)
+  pub some : shelf.NeedsKit m (Ok kit) held
+  pub rack_count : (who : Option ℕ) → rack.faults kit.rack who ≡ counts.rack who
+  pub even_count : area.faults kit.even ≡ counts.even
+  pub odd_count : area.faults kit.odd ≡ counts.odd
+
+-- A metaslab was opened from the record of a group, over the devices that the shelf held for it.
+pub record OpensOver {R A : Type 0} (rack : racks.Ghosts R) (area : areas.Ghosts A) (limit group next m : ℕ) (held : Option shelf.Held) (counts : shelf.KitCounts) (shard : Shard R A) : Type 0 where
+  pub kit : Kit R A
+  pub taken : IsKitOf rack area m held counts kit
+  pub opens : Opens rack area.told kit group next shard
+  pub later : OpensCounts rack area.faults kit shard
+  pub limit_is : limit_in shard.history ≡ limit
+
+-- so each of some metaslabs
+abbrev pub OpensAllOver : {R A : Type 0} → racks.Ghosts R → areas.Ghosts A → ℕ → ℕ → ℕ → Option shelf.Held → (ℕ → shelf.KitCounts) → List (Shard R A) → Type 0
+OpensAllOver {R} {A} rack area limit group next held counts shards =
+    (m : ℕ) (shard : Shard R A) → slice_get shards m ≡ Some shard → OpensOver rack area limit group next m held (counts m) shard
 
 -- a metaslab of which the blocks may be noted or freed
 pub record IsReady {R A : Type 0} (rack : racks.Ghosts R) (m : ℕ) (shard : Shard R A) : Type 0 where

@@ -6,15 +6,16 @@ ghost use Rattle.draid_names.specs.Faults.{Rose};
 ghost use Rattle.draid_names.specs.declared.numbers.TheConstants.{LAST_NUMBER};
 ghost use Rattle.draid_names.specs.declared.pointer.Pointer.{Pointer};
 ghost use Rattle.draid_map.specs.Place.{IsLayout};
-ghost use Rattle.draid_shelf.specs.Kits.{OnHeld};
+ghost use Rattle.draid_shelf.specs.Kits.{OnHeld, takes_kit};
 ghost use Rattle.draid_shelf.specs.Shelf.{SameOthers};
 ghost use Rattle.draid_shard.specs.Calls.{IsLive};
 ghost use Rattle.draid_shard.specs.Fits.{Valid};
 ghost use Rattle.draid_shard.specs.declared.shard.Shard.{Shard};
 ghost use Rattle.draid_uber.specs.Slots.{group_of};
-ghost use Rattle.draid_uber.specs.Uber.{kept_of, layout_of};
-ghost use Rattle.draid_pool.specs.Opening.{IsAsBefore};
-ghost use Rattle.draid_pool.specs.Found.{AllLive, AnyRecordsRose, AreFound, AreFreed, AreReady, AreReopened, FreesIfOlder, FreesOlder, HasRisen, IsFoundUber, IsReopened, Notes, NotesOne, RecordsRose, SameChecks};
+ghost use Rattle.draid_uber.specs.Uber.{kept_of, layout_of, next_leaf_of};
+ghost use Rattle.draid_session.specs.State.{limit_of};
+ghost use Rattle.draid_pool.specs.Opening.{IsAsBefore, TakesFirst};
+ghost use Rattle.draid_pool.specs.Found.{AllLive, AnyRecordsRose, AreFound, AreFreed, AreReady, AreReopened, FreesIfOlder, FreesOlder, HasRisen, IsFoundUber, IsReopened, Notes, NotesOne, OpensAllOver, OpensOver, RecordsRose, SameChecks};
 ghost use Rattle.draid_pool.specs.Whole.{IsWhole};
 ghost use Rattle.draid_pool.specs.declared.importing.Found.{Found};
 
@@ -122,6 +123,8 @@ fn reopen_shard<H: Shelf>(
     requires layout { IsLayout (layout_of uber.now) perms }
     requires number { number < (layout_of uber.now).props.metaslabs }
     ensures reopened { IfOk result (IsReopened H.R.Rack (record { geometry = layout_of uber.now; perms = perms; number = number }) (group_of (kept_of uber.now))) }
+    ensures over { IfOk result (OpensOver H.R.Rack H.A.Area (limit_of (layout_of uber.now)) (group_of (kept_of uber.now)) (next_leaf_of uber.now) number (H.told shelf.old) (H.counts shelf.old number)) }
+    ensures told { OnOk result (H.told shelf.new ≡ takes_kit number (H.told shelf.old)) }
     ensures held { SameChecks (H.told shelf.old) (H.told shelf.new) }
     ensures checks { H.check_counts shelf.new ≡ H.check_counts shelf.old }
     ensures counts { SameOthers number (H.counts shelf.old) (H.counts shelf.new) }
@@ -161,6 +164,8 @@ fn reopen_shards<H: Shelf>(
 ) -> Result<Vec<Shard<H::R, H::A>>, PoolFault>
     requires uber { IsFoundUber H.A.Area uber.now }
     ensures reopened { IfOk result (λ shards. AreReopened H.R.Rack (layout_of uber.now) (group_of (kept_of uber.now)) shards.items) }
+    ensures over { IfOk result (λ shards. OpensAllOver H.R.Rack H.A.Area (limit_of (layout_of uber.now)) (group_of (kept_of uber.now)) (next_leaf_of uber.now) (H.told shelf.old) (H.counts shelf.old) shards.items) }
+    ensures told { OnOk result (TakesFirst (layout_of uber.now).props.metaslabs (H.told shelf.old) (H.told shelf.new)) }
     ensures held { SameChecks (H.told shelf.old) (H.told shelf.new) }
     ensures checks { H.check_counts shelf.new ≡ H.check_counts shelf.old }
     ensures later { H.faults shelf.old ≤ H.faults shelf.new }

@@ -1,12 +1,15 @@
-use Rattle.std.proofs.Common.{arith, ◌∷◌, ◌∙◌, [], ap, length, length-append, refl, subst, sym}
+use Rattle.std.proofs.Common.{arith, ◌≡◌, ◌+◌, ℕ, ◌∷◌, ◌∙◌, [], ap, length, length-append, refl, subst, sym}
 use Rattle.draid_spec.specs.Geometry.{IsGeometry}
 use Rattle.draid_spec.specs.declared.layout.Geometry.{Geometry}
 use Rattle.draid_map.specs.Place.{IsLayout}
 use Rattle.draid_shard.specs.declared.shard.Shard.{Shard}
 use Rattle.draid_uber.specs.Slots.{group_of}
-use Rattle.draid_uber.specs.Uber.{kept_of, layout_of}
-use Rattle.draid_pool.specs.Found.{IsReopened}
-use Rattle.draid_pool.proofs.Found.{checks_back, checks_more, checks_same, each_none, each_pushed, records_rose_back, refused_too}
+use Rattle.draid_uber.specs.Uber.{kept_of, layout_of, next_leaf_of}
+use Rattle.draid_session.specs.State.{limit_of}
+use Rattle.draid_pool.specs.Found.{IsReopened, OpensOver}
+use Rattle.draid_pool.specs.Opening.{TakesFirst}
+use Rattle.draid_pool.proofs.Found.{checks_back, checks_more, checks_same, each_none, each_pushed, over_first, records_rose_back, refused_too}
+use Rattle.draid_pool.proofs.Opened.{none_taken, takes_more}
 use Rattle.draid_pool.proofs.importing.reopen_shards.Goals as goal
 
 pub loop-number-init : goal.loop-number-init
@@ -18,6 +21,9 @@ loop-number-init g c =
       each = each_none (λ m (s : Shard g.row.H-R.Denot g.row.H-A.Denot). IsReopened g.H.R.Rack (record { geometry = layout_of c.args.uber.now; perms = c.new-perms.result; number = m }) (group_of (kept_of c.args.uber.now)) s)
           c.in-Ok.shards.items c.in-Ok.ensures.items;
       room = omega (arith, same, room);
+      over = each_none (λ m (s : Shard g.row.H-R.Denot g.row.H-A.Denot). OpensOver g.H.R.Rack g.H.A.Area (limit_of (layout_of c.args.uber.now)) (group_of (kept_of c.args.uber.now)) (next_leaf_of c.args.uber.now) m (g.H.Shelf.told c.args.shelf.now) (g.H.Shelf.counts c.args.shelf.now m) s)
+          c.in-Ok.shards.items c.in-Ok.ensures.items;
+      told = none_taken g.H.R.Rack g.H.A.Area (g.H.Shelf.told c.args.shelf.now);
       held = checks_same (g.H.Shelf.told c.args.shelf.now);
       checks = refl;
       counts = λ m past. refl;
@@ -65,6 +71,12 @@ loop-number-preserved g c =
       each = each_pushed (λ m (s : Shard g.row.H-R.Denot g.row.H-A.Denot). IsReopened g.H.R.Rack (record { geometry = layout_of c.args.uber.now; perms = c.new-perms.result; number = m }) (group_of (kept_of c.args.uber.now)) s)
           c.loop-number.shards.items c.push_reserved.new.self.items c.in-Ok-reopen_shard.shard c.loop-number.number more i.many i.each c.in-Ok-reopen_shard.ensures.reopened;
       room = omega (arith, room, capacity);
+      over = each_pushed (λ m (s : Shard g.row.H-R.Denot g.row.H-A.Denot). OpensOver g.H.R.Rack g.H.A.Area (limit_of (layout_of c.args.uber.now)) (group_of (kept_of c.args.uber.now)) (next_leaf_of c.args.uber.now) m (g.H.Shelf.told c.args.shelf.now) (g.H.Shelf.counts c.args.shelf.now m) s)
+          c.loop-number.shards.items c.push_reserved.new.self.items c.in-Ok-reopen_shard.shard c.loop-number.number more i.many i.over
+          (over_first g.H.R.Rack g.H.A.Area (limit_of (layout_of c.args.uber.now)) (group_of (kept_of c.args.uber.now)) (next_leaf_of c.args.uber.now) c.loop-number.number (shelf.told c.args.shelf.now) (shelf.told c.loop-number.shelf)
+          (shelf.counts c.args.shelf.now c.loop-number.number) (shelf.counts c.loop-number.shelf c.loop-number.number) c.in-Ok-reopen_shard.shard i.told (i.counts c.loop-number.number (omega arith)) c.in-Ok-reopen_shard.ensures.over);
+      told = subst (TakesFirst (c.loop-number.number + 1) (shelf.told c.args.shelf.now)) (sym c.in-Ok-reopen_shard.ensures.told)
+          (takes_more g.H.R.Rack g.H.A.Area c.loop-number.number (shelf.told c.args.shelf.now) (shelf.told c.loop-number.shelf) i.told);
       held = checks_more (shelf.told c.args.shelf.now) (shelf.told c.loop-number.shelf) (shelf.told c.reopen_shard.new.shelf) i.held c.reopen_shard.ensures.held;
       checks = c.reopen_shard.ensures.checks ∙ i.checks;
       counts = λ m past. c.reopen_shard.ensures.counts m (λ at. omega (arith, at, past)) ∙ i.counts m (omega (arith, past));
@@ -101,3 +113,12 @@ returns-in-Err-clause-cause g c failed =
     records_rose_back g.H.R.Rack g.H.A.Area c.loop-number.shards.items c.loop-number.number (shelf.faults c.args.shelf.now) (shelf.faults c.loop-number.shelf) (shelf.faults c.reopen_shard.new.shelf) (shelf.faults c.give_back.new.shelf)
     (shelf.told c.reopen_shard.new.shelf) (shelf.told c.give_back.new.shelf) (shelf.counts c.args.shelf.now) (shelf.counts c.loop-number.shelf) (shelf.counts c.reopen_shard.new.shelf) (shelf.counts c.give_back.new.shelf)
     i.many i.later c.give_back.ensures.faults i.counts c.give_back.ensures.returns (c.in-Err.ensures.cause (refused_too c.in-Err.fault failed))
+
+pub returns-clause-told : goal.returns-clause-told
+returns-clause-told g c =
+    let shelf = g.H.Shelf in
+    let same = ap (λ (x : Geometry). x.props.metaslabs) c.geometry-layout.ensures in
+    let bound = c.loop-number.invariant.bound in
+    let end = c.loop-number-test.false in
+    let last : c.loop-number.number ≡ (layout_of c.args.uber.now).props.metaslabs = omega (arith, same, bound, end) in
+    subst (λ (n : ℕ). TakesFirst n (shelf.told c.args.shelf.now) (shelf.told c.loop-number.shelf)) last c.loop-number.invariant.told
