@@ -33,7 +33,7 @@ use Rattle.std.specs.HashMap.{get}
 use Rattle.draid_shard.specs.Calls.{IsLive, IsNextHeld}
 use Rattle.draid_shard.specs.Changes.{SetsBlock}
 use Rattle.draid_shard.specs.Fits.{Valid}
-use Rattle.draid_shard.specs.Groups.{Opens, area_of_kit}
+use Rattle.draid_shard.specs.Groups.{GivesBack, Opens, area_of_kit}
 use Rattle.draid_shard.specs.Part.{Part}
 use Rattle.draid_shard.specs.Reopening.{OpenIsRefused}
 use Rattle.draid_shard.specs.declared.fault.OpenFault.{OpenFault}
@@ -41,18 +41,19 @@ use Rattle.draid_shard.specs.declared.fault.OpenFault.TheVariants as why_not
 use Rattle.draid_shard.specs.States.{layout_by, part_of}
 use Rattle.draid_shard.specs.declared.shard.Shard.{Shard}
 use Rattle.draid_shard.proofs.Held.{held_entry, key_leads}
+use Rattle.draid_shard.proofs.Reopened.{both_same}
 use Rattle.draid_uber.specs.declared.uber.Uber.{Uber}
 use Rattle.draid_uber.specs.Slots.{group_of}
 use Rattle.draid_uber.specs.Uber as ubers
 use Rattle.draid_uber.specs.Uber.{kept_of, layout_of, next_leaf_of, version_of}
-use Rattle.draid_pool.specs.Found.{AllLive, AnyRecordsRose, AreFound, AreFreed, AreReady, AreReopened, FreesOlder, FreesIfOlder, IsFoundUber, IsReopened, LeadsTo, Notes, NotesOne, OpensOver, RecordsRose, SameChecks}
+use Rattle.draid_pool.specs.Found.{AllLive, AnyRecordsRose, AreFound, AreFreed, AreReady, AreReopened, CountsLater, FreesOlder, FreesIfOlder, IsFoundUber, IsReopened, LeadsTo, LeavesShards, Notes, NotesOne, OpensOver, RecordsRose, SameChecks, StaysHeld}
 use Rattle.draid_pool.specs.Closing.{Returns, TakesBack}
 use Rattle.draid_pool.specs.Opening.{TakesFirst}
 use Rattle.draid_pool.specs.Whole.{IsWhole}
 use Rattle.draid_pool.specs.declared.fault.PoolFault.{PoolFault}
 use Rattle.draid_pool.specs.declared.fault.PoolFault.TheVariants as fault
 use Rattle.draid_pool.specs.declared.pool.Pool.{Pool}
-use Rattle.draid_pool.proofs.Closed.{at_end}
+use Rattle.draid_pool.proofs.Closed.{at_end, put_here as placed_here, put_there as placed_there}
 use Rattle.draid_pool.proofs.Lists.{get_set_other, get_set_same, present, some_of}
 use Rattle.draid_pool.proofs.Opened.{from_first, get_before, rose_since}
 use Rattle.draid_pool.proofs.Wholes.{live_beside, one_live}
@@ -124,6 +125,66 @@ fault_is why failed = cc
 pub absent_not : {T : Type 0} (uber : T) (o : Option shelf.Held) (P Q : Type 0) → shelf.OnHeld o (λ held. held.uber ≡ None → IsErrOf (Ok uber) fault.NoPool × P) → shelf.OnHeld o (λ held. held.uber ≡ None → Q)
 absent_not uber None P Q h = tt
 absent_not uber (Some x) P Q h = λ none. (let failed = (h none).0 in absurd (cc))
+
+pub stays_same : (o n : Option shelf.Held) → n ≡ o → StaysHeld o n
+stays_same o n same = subst (λ (z : Option shelf.Held). StaysHeld o z) (sym same) (by o)
+  where
+    by : (p : Option shelf.Held) → StaysHeld p p
+    by None = tt
+    by (Some x) = record { uber = refl; checks = refl; kits = λ m. refl }
+
+-- a kit that tells what was held is put back
+pub stays_put : (n : ℕ) (old mid new : Option shelf.Held) (k : Option shelf.KitTold) → mid ≡ shelf.takes_kit n old → new ≡ shelf.gives_kit n k mid → shelf.OnHeld old (λ x. k ≡ x.kits n) → StaysHeld old new
+stays_put n old mid new k takes gives is = subst (λ (z : Option shelf.Held). StaysHeld old z) (sym (gives ∙ ap (shelf.gives_kit n k) takes)) (by k old is)
+  where
+    by : (j : Option shelf.KitTold) (p : Option shelf.Held) → shelf.OnHeld p (λ x. j ≡ x.kits n) → StaysHeld p (shelf.gives_kit n j (shelf.takes_kit n p))
+    by None p is = tt
+    by (Some j) None is = tt
+    by (Some j) (Some x) is = record {
+      uber = refl;
+      checks = refl;
+      kits = λ m. elim (cases_eq m n) [
+        | inl here ↦ placed_here n m (Some j) (if m == n then None else x.kits m) here ∙ (is ∙ ap (λ (q : ℕ). x.kits q) (sym here))
+        | inr other ↦
+            placed_there n m (Some j) (if m == n then None else x.kits m) (λ same. omega (arith, same, other)) ∙ placed_there n m None (x.kits m) (λ same. omega (arith, same, other))
+      ];
+    }
+
+-- the kit that a refusal gives back tells what the one that was taken told
+pub kit_back : {R A : Type 0} (rack : racks.Ghosts R) (told : A → Option content.Content) (old new : Kit R A) (group : ℕ) (o : Option shelf.Held) (n : ℕ) → GivesBack told old new group
+    → shelf.OnHeld o (λ x. shelf.kit_of (rack.told old.rack) (told old.even) (told old.odd) ≡ x.kits n) → shelf.OnHeld o (λ x. shelf.kit_of (rack.told new.rack) (told new.even) (told new.odd) ≡ x.kits n)
+kit_back rack told old new group o n back is =
+    let both = both_same told old new group back in
+    subst (λ (k : Option shelf.KitTold). shelf.OnHeld o (λ x. k ≡ x.kits n)) (sym (λ i. shelf.kit_of (rack.told (back.rack i)) (both.0 i) (both.1 i))) is
+
+pub leaves_shards : {R A : Type 0} (rack : racks.Ghosts R) (area : areas.Ghosts A) (limit group next n : ℕ) (shards : List (Shard R A)) (first mid last new : Option shelf.Held) (before middle late after : ℕ → shelf.KitCounts)
+    → length shards ≡ n → ((m : ℕ) (shard : Shard R A) → slice_get shards m ≡ Some shard → OpensOver rack area limit group next m first (before m) shard) → TakesFirst n first mid → StaysHeld mid last
+    → Returns rack area shards last new late after → ((m : ℕ) → n ≤ m → middle m ≡ before m) → CountsLater (middle n) (late n) → ((m : ℕ) → (m ≡ n → ⊥) → late m ≡ middle m)
+    → LeavesShards rack area limit group next first new before after
+leaves_shards rack area limit group next n shards first mid last new before middle late after many over takes stays r yet later others = record {
+  shards = shards;
+  over = over;
+  held = by first mid last new takes stays r.held;
+  rack_count = r.rack_count;
+  even_count = r.even_count;
+  odd_count = r.odd_count;
+  others = λ m past. subst (λ (k : shelf.KitCounts). CountsLater k (after m)) (yet m (omega (arith, past, many))) (subst (λ (k : shelf.KitCounts). CountsLater (middle m) k) (sym (r.others m past)) (at_last m (cases_eq m n)));
+} where
+  at_last : (m : ℕ) → (m ≡ n) ⊎ (m ≡ n → ⊥) → CountsLater (middle m) (late m)
+  at_last m (inl same) = subst (λ (k : ℕ). CountsLater (middle k) (late k)) (sym same) later
+  at_last m (inr other) = subst (λ (k : shelf.KitCounts). CountsLater (middle m) k) (sym (others m other)) (record { rack = λ who. refl; even = omega arith; odd = omega arith })
+
+  by : (a b c d : Option shelf.Held) → TakesFirst n a b → StaysHeld b c → shelf.OnHeld d (λ y. MatchOption c ⊥ (λ x. TakesBack rack area shards x y)) → shelf.OnHeld d (λ y. MatchOption a ⊥ (λ x. TakesBack rack area shards x y))
+  by a b c None t s h = tt
+  by a b None (Some w) t s h = absurd h
+  by a None (Some z) (Some w) t s h = absurd s
+  by None (Some y) (Some z) (Some w) t s h = absurd (cc)
+  by (Some x) (Some y) (Some z) (Some w) t s h = record {
+    uber = h.uber ∙ (s.uber ∙ t.uber);
+    checks = h.checks ∙ (s.checks ∙ t.checks);
+    kits = h.kits;
+    others = λ m past. h.others m past ∙ (s.kits m ∙ t.others m (omega (arith, past, many)));
+  }
 
 -- a failure is one whatever the answer would have been
 pub refused_too : {T U : Type 0} (why : PoolFault) → IsErrOf {T = T} (Err why) fault.Shelf → IsErrOf {T = U} (Err why) fault.Shelf

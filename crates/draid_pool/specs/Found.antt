@@ -16,6 +16,7 @@ use Rattle.draid_entries.specs.declared.entry.Entry.{Entry}
 use Rattle.draid_entries.specs.Entries.{entry_at}
 use Rattle.draid_entries.specs.History.{limit_in}
 use Rattle.draid_entries.specs.Maps.{staged}
+use Rattle.draid_pool.specs.Closing.{TakesBack}
 use Rattle.draid_shard.specs.Calls.{IsLive}
 use Rattle.draid_shard.specs.Changes.{SetsBlock}
 use Rattle.draid_shard.specs.Fits.{Valid}
@@ -44,6 +45,22 @@ AnyRecordsRose before after = (m : ℕ) × RecordsRose (before m) (after m)
 -- the shelf's count rose, or that of the uberblock's area, or that of an area of a metaslab's records
 abbrev pub HasRisen : ℕ → ℕ → ℕ → ℕ → (ℕ → shelf.KitCounts) → (ℕ → shelf.KitCounts) → Type 0
 HasRisen faults faults' uber uber' counts counts' = (Rose faults faults' ⊎ Rose uber uber') ⊎ AnyRecordsRose counts counts'
+
+-- the same is held
+pub record SameHeld (old new : shelf.Held) : Type 0 where
+  pub uber : new.uber ≡ old.uber
+  pub checks : new.checks ≡ old.checks
+  pub kits : (m : ℕ) → new.kits m ≡ old.kits m
+
+-- so where it is told
+abbrev pub StaysHeld : Option shelf.Held → Option shelf.Held → Type 0
+StaysHeld old new = shelf.OnHeld new (λ y. MatchOption old ⊥ (λ x. SameHeld x y))
+
+-- no count of a metaslab's areas fell, and those of its rack are the same
+pub record CountsLater (before after : shelf.KitCounts) : Type 0 where
+  pub rack : (who : Option ℕ) → after.rack who ≡ before.rack who
+  pub even : before.even ≤ after.even
+  pub odd : before.odd ≤ after.odd
 
 -- ---- metaslabs
 
@@ -85,6 +102,16 @@ pub record OpensOver {R A : Type 0} (rack : racks.Ghosts R) (area : areas.Ghosts
 abbrev pub OpensAllOver : {R A : Type 0} → racks.Ghosts R → areas.Ghosts A → ℕ → ℕ → ℕ → Option shelf.Held → (ℕ → shelf.KitCounts) → List (Shard R A) → Type 0
 OpensAllOver {R} {A} rack area limit group next held counts shards =
     (m : ℕ) (shard : Shard R A) → slice_get shards m ≡ Some shard → OpensOver rack area limit group next m held (counts m) shard
+
+-- Some metaslabs were opened and given back, and the devices of all others are as they were, but that no count of their areas fell.
+pub record LeavesShards {R A : Type 0} (rack : racks.Ghosts R) (area : areas.Ghosts A) (limit group next : ℕ) (old new : Option shelf.Held) (before after : ℕ → shelf.KitCounts) : Type 0 where
+  pub shards : List (Shard R A)
+  pub over : OpensAllOver rack area limit group next old before shards
+  pub held : shelf.OnHeld new (λ y. MatchOption old ⊥ (λ x. TakesBack rack area shards x y))
+  pub rack_count : (m : ℕ) (shard : Shard R A) (who : Option ℕ) → slice_get shards m ≡ Some shard → (after m).rack who ≡ rack.faults shard.rack who
+  pub even_count : (m : ℕ) (shard : Shard R A) → slice_get shards m ≡ Some shard → (after m).even ≡ area.faults shard.even
+  pub odd_count : (m : ℕ) (shard : Shard R A) → slice_get shards m ≡ Some shard → (after m).odd ≡ area.faults shard.odd
+  pub others : (m : ℕ) → length shards ≤ m → CountsLater (before m) (after m)
 
 -- a metaslab of which the blocks may be noted or freed
 pub record IsReady {R A : Type 0} (rack : racks.Ghosts R) (m : ℕ) (shard : Shard R A) : Type 0 where

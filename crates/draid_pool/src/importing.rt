@@ -1,6 +1,6 @@
 //! A pool is imported from what was given back to a shelf: its uberblock is found, each metaslab is opened from the
 //! record of the group that it names, and of each object the block with the greatest number counts.
-ghost use Rattle.std.specs.Prelude.{◌≡◌, ◌<◌, ◌≤◌, ◌+◌, ◌⊎◌, ◌↔◌, ℕ, None, Some, IfOk, IsErrOf, IsTrue, OnOk, nat_eq, slice_get};
+ghost use Rattle.std.specs.Prelude.{◌≡◌, ◌<◌, ◌≤◌, ◌+◌, ◌⊎◌, ◌↔◌, ℕ, None, Some, IfOk, IsErrOf, IsTrue, OnErr, OnOk, nat_eq, slice_get};
 ghost use Rattle.std.specs.HashMap.{get};
 ghost use Rattle.draid_names.specs.Faults.{Rose};
 ghost use Rattle.draid_names.specs.declared.numbers.TheConstants.{LAST_NUMBER};
@@ -15,7 +15,7 @@ ghost use Rattle.draid_uber.specs.Slots.{group_of};
 ghost use Rattle.draid_uber.specs.Uber.{kept_of, layout_of, next_leaf_of};
 ghost use Rattle.draid_session.specs.State.{limit_of};
 ghost use Rattle.draid_pool.specs.Opening.{IsAsBefore, TakesFirst};
-ghost use Rattle.draid_pool.specs.Found.{AllLive, AnyRecordsRose, AreFound, AreFreed, AreReady, AreReopened, FreesIfOlder, FreesOlder, HasRisen, IsFoundUber, IsReopened, Notes, NotesOne, OpensAllOver, OpensOver, RecordsRose, SameChecks};
+ghost use Rattle.draid_pool.specs.Found.{AllLive, AnyRecordsRose, AreFound, AreFreed, AreReady, AreReopened, CountsLater, FreesIfOlder, FreesOlder, HasRisen, IsFoundUber, IsReopened, LeavesShards, Notes, NotesOne, OpensAllOver, OpensOver, RecordsRose, SameChecks, StaysHeld};
 ghost use Rattle.draid_pool.specs.Whole.{IsWhole};
 ghost use Rattle.draid_pool.specs.declared.importing.Found.{Found};
 
@@ -125,6 +125,8 @@ fn reopen_shard<H: Shelf>(
     ensures reopened { IfOk result (IsReopened H.R.Rack (record { geometry = layout_of uber.now; perms = perms; number = number }) (group_of (kept_of uber.now))) }
     ensures over { IfOk result (OpensOver H.R.Rack H.A.Area (limit_of (layout_of uber.now)) (group_of (kept_of uber.now)) (next_leaf_of uber.now) number (H.told shelf.old) (H.counts shelf.old number)) }
     ensures told { OnOk result (H.told shelf.new ≡ takes_kit number (H.told shelf.old)) }
+    ensures back { OnErr result (StaysHeld (H.told shelf.old) (H.told shelf.new)) }
+    ensures back_counts { OnErr result (CountsLater (H.counts shelf.old number) (H.counts shelf.new number)) }
     ensures held { SameChecks (H.told shelf.old) (H.told shelf.new) }
     ensures checks { H.check_counts shelf.new ≡ H.check_counts shelf.old }
     ensures counts { SameOthers number (H.counts shelf.old) (H.counts shelf.new) }
@@ -166,6 +168,7 @@ fn reopen_shards<H: Shelf>(
     ensures reopened { IfOk result (λ shards. AreReopened H.R.Rack (layout_of uber.now) (group_of (kept_of uber.now)) shards.items) }
     ensures over { IfOk result (λ shards. OpensAllOver H.R.Rack H.A.Area (limit_of (layout_of uber.now)) (group_of (kept_of uber.now)) (next_leaf_of uber.now) (H.told shelf.old) (H.counts shelf.old) shards.items) }
     ensures told { OnOk result (TakesFirst (layout_of uber.now).props.metaslabs (H.told shelf.old) (H.told shelf.new)) }
+    ensures back { OnErr result (LeavesShards H.R.Rack H.A.Area (limit_of (layout_of uber.now)) (group_of (kept_of uber.now)) (next_leaf_of uber.now) (H.told shelf.old) (H.told shelf.new) (H.counts shelf.old) (H.counts shelf.new)) }
     ensures held { SameChecks (H.told shelf.old) (H.told shelf.new) }
     ensures checks { H.check_counts shelf.new ≡ H.check_counts shelf.old }
     ensures later { H.faults shelf.old ≤ H.faults shelf.new }

@@ -1,9 +1,9 @@
-use Rattle.std.proofs.Common.{◌/◌, ◌∙◌, ap, inr, subst}
+use Rattle.std.proofs.Common.{arith, ◌/◌, ◌∙◌, ap, inr, subst}
 use Rattle.draid_uber.specs.Uber.{next_leaf_of}
 use Rattle.draid_shard.specs.Groups.{Opens}
 use Rattle.draid_spec.specs.declared.layout.Geometry.{Geometry}
 use Rattle.draid_shard.specs.Part.{Part}
-use Rattle.draid_pool.proofs.Found.{fault_is, records_rose, refused_area, reopened}
+use Rattle.draid_pool.proofs.Found.{fault_is, kit_back, records_rose, refused_area, reopened, stays_put, stays_same}
 use Rattle.draid_pool.proofs.importing.reopen_shard.Goals as goal
 
 pub returns-in-Ok-reopen-clause-reopened : goal.returns-in-Ok-reopen-clause-reopened
@@ -33,4 +33,25 @@ returns-in-Ok-reopen-clause-over g c =
           (subst (λ n. Opens g.H.R.Rack g.H.A.Area.told c.in-Ok.kit c.committed-group.result n c.in-Ok-reopen.shard) c.next_leaf.ensures e.opened);
       later = e.counts;
       limit_is = e.begins.0 ∙ ap (λ n. 16_777_216 / n) (c.from-events.ensures ∙ ap (λ (x : Geometry). x.props.metaslabs) c.geometry.ensures);
+    }
+
+pub returns-in-Err-clause-back : goal.returns-in-Err-clause-back
+returns-in-Err-clause-back g c = stays_same (g.H.Shelf.told c.args.shelf.now) (g.H.Shelf.told c.take.new.self) c.in-Err.ensures.err
+
+pub returns-in-Err-reopen-clause-back : goal.returns-in-Err-reopen-clause-back
+returns-in-Err-reopen-clause-back g c =
+    let shelf = g.H.Shelf in
+    stays_put c.args.number (shelf.told c.args.shelf.now) (shelf.told c.take.new.self) (shelf.told c.give.new.self) _ c.in-Ok.ensures.told c.give.ensures.told
+    (kit_back g.H.R.Rack g.H.A.Area.told c.in-Ok.kit c.in-Err-reopen.field-0.kit c.committed-group.result (shelf.told c.args.shelf.now) c.args.number c.in-Err-reopen.ensures.back c.in-Ok.ensures.kit)
+
+pub returns-in-Err-reopen-clause-back_counts : goal.returns-in-Err-reopen-clause-back_counts
+returns-in-Err-reopen-clause-back_counts g c =
+    let t = c.in-Ok.ensures in
+    let r = c.in-Err-reopen in
+    let e = c.give.ensures in
+    let later = r.ensures.counts in
+    record {
+      rack = λ who. e.rack_count who ∙ (ap (λ x. g.H.R.Rack.faults x who) r.ensures.back.rack ∙ t.rack_count who);
+      even = (let now = e.even_count in let was = t.even_count in let up = later.even in omega (arith, now, was, up));
+      odd = (let now = e.odd_count in let was = t.odd_count in let up = later.odd in omega (arith, now, was, up));
     }

@@ -8,7 +8,7 @@ use Rattle.draid_uber.specs.Uber.{kept_of, layout_of, next_leaf_of}
 use Rattle.draid_session.specs.State.{limit_of}
 use Rattle.draid_pool.specs.Found.{IsReopened, OpensOver}
 use Rattle.draid_pool.specs.Opening.{TakesFirst}
-use Rattle.draid_pool.proofs.Found.{checks_back, checks_more, checks_same, each_none, each_pushed, over_first, records_rose_back, refused_too}
+use Rattle.draid_pool.proofs.Found.{checks_back, checks_more, checks_same, each_none, each_pushed, leaves_shards, over_first, records_rose_back, refused_too}
 use Rattle.draid_pool.proofs.Opened.{none_taken, takes_more}
 use Rattle.draid_pool.proofs.importing.reopen_shards.Goals as goal
 
@@ -122,3 +122,11 @@ returns-clause-told g c =
     let end = c.loop-number-test.false in
     let last : c.loop-number.number ≡ (layout_of c.args.uber.now).props.metaslabs = omega (arith, same, bound, end) in
     subst (λ (n : ℕ). TakesFirst n (shelf.told c.args.shelf.now) (shelf.told c.loop-number.shelf)) last c.loop-number.invariant.told
+
+pub returns-in-Err-clause-back : goal.returns-in-Err-clause-back
+returns-in-Err-clause-back g c =
+    let shelf = g.H.Shelf in
+    let i = c.loop-number.invariant in
+    leaves_shards g.H.R.Rack g.H.A.Area (limit_of (layout_of c.args.uber.now)) (group_of (kept_of c.args.uber.now)) (next_leaf_of c.args.uber.now) c.loop-number.number c.loop-number.shards.items
+    (shelf.told c.args.shelf.now) (shelf.told c.loop-number.shelf) (shelf.told c.reopen_shard.new.shelf) (shelf.told c.give_back.new.shelf) (shelf.counts c.args.shelf.now) (shelf.counts c.loop-number.shelf)
+    (shelf.counts c.reopen_shard.new.shelf) (shelf.counts c.give_back.new.shelf) i.many i.over i.told c.in-Err.ensures.back c.give_back.ensures.returns i.counts c.in-Err.ensures.back_counts c.in-Err.ensures.counts
