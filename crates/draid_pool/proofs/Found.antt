@@ -73,6 +73,13 @@ found_uber area uber valid same ranges = by (kept_of uber) refl same ranges vali
         let below = ranges.group_below in
         record { valid = valid; version = same.0 ∙ ap (λ p. p.version) own.1; some = omega (arith, group, above); low = omega (arith, group, below) }
 
+pub leaf_found : {A : Type 0} (uber : Uber A) → IsSomeAnd (kept_of uber) (λ body. (version_of uber ≡ body.props.version) × (next_leaf_of uber ≡ body.next_leaf)) → IsSomeAnd (kept_of uber) (λ body. next_leaf_of uber ≡ body.next_leaf)
+leaf_found uber both = by (kept_of uber) both
+  where
+    by : (kept : Option UberBody) → IsSomeAnd kept (λ body. (version_of uber ≡ body.props.version) × (next_leaf_of uber ≡ body.next_leaf)) → IsSomeAnd kept (λ body. next_leaf_of uber ≡ body.next_leaf)
+    by None same = absurd same
+    by (Some body) same = same.1
+
 -- ---- the shelf
 
 pub checks_same : (o : Option shelf.Held) → SameChecks o o

@@ -1,7 +1,8 @@
 -- The metaslabs that an import opens, and the blocks that it finds there.
-use Rattle.std.specs.Prelude.{◌≡◌, ◌<◌, ◌≤◌, ◌⊎◌, ℕ, true, List, Option, Some, Ok, MatchOption, length, slice_get}
+use Rattle.std.specs.Prelude.{◌≡◌, ◌<◌, ◌≤◌, ◌⊎◌, ℕ, true, List, Option, Some, Ok, IsSomeAnd, MatchOption, [], length, option_map, slice_get}
 use Rattle.draid_names.specs.Faults.{Rose}
 use Rattle.draid_rack.specs.declared.Rack as racks
+use Rattle.draid_area.specs.Area.{Content, OnTold, flushes}
 use Rattle.draid_area.specs.declared.Area as areas
 use Rattle.draid_shelf.specs.Kits as shelf
 use Rattle.draid_shelf.specs.declared.kit.Kit.{Kit}
@@ -25,8 +26,8 @@ use Rattle.draid_shard.specs.Part.{Part}
 use Rattle.draid_shard.specs.States.{part_of}
 use Rattle.draid_shard.specs.declared.shard.Shard.{Shard}
 use Rattle.draid_uber.specs.declared.uber.Uber.{Uber}
-use Rattle.draid_uber.specs.Slots.{group_of}
-use Rattle.draid_uber.specs.Uber.{kept_of, layout_of, version_of}
+use Rattle.draid_uber.specs.Slots.{StandsTold, chosen_of, group_of, read_body}
+use Rattle.draid_uber.specs.Uber.{area_of, kept_of, layout_of, next_leaf_of, version_of}
 use Rattle.draid_uber.specs.Uber as ubers
 
 -- ---- the shelf
@@ -131,6 +132,16 @@ pub record IsFoundUber {A : Type 0} (area : areas.Ghosts A) (uber : Uber A) : Ty
   pub version : version_of uber ≡ (layout_of uber).props.version
   pub some : 1 ≤ group_of (kept_of uber)
   pub low : group_of (kept_of uber) < LAST_NUMBER
+
+-- an uberblock was recovered from the area that the shelf held: it is what the bytes say, and a crash leaves it alone from then on
+pub record IsRecovered {A : Type 0} (area : areas.Ghosts A) (held : Option shelf.Held) (count : ℕ) (uber : Uber A) : Type 0 where
+  pub content : Option Content
+  pub own : shelf.OnHeld held (λ x. content ≡ x.uber)
+  pub finds : OnTold content (λ x. chosen_of x.bytes ≡ option_map read_body (kept_of uber))
+  pub flushed : area.told (area_of uber) ≡ option_map flushes content
+  pub stands : StandsTold (kept_of uber) [] (area.told (area_of uber))
+  pub leaf : IsSomeAnd (kept_of uber) (λ body. next_leaf_of uber ≡ body.next_leaf)
+  pub later : count ≤ area.faults (area_of uber)
 
 -- ---- blocks
 
