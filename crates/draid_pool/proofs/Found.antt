@@ -46,7 +46,7 @@ use Rattle.draid_uber.specs.declared.uber.Uber.{Uber}
 use Rattle.draid_uber.specs.Slots.{group_of}
 use Rattle.draid_uber.specs.Uber as ubers
 use Rattle.draid_uber.specs.Uber.{kept_of, layout_of, next_leaf_of, version_of}
-use Rattle.draid_pool.specs.Found.{AllLive, AnyRecordsRose, AreFound, AreFreed, AreReady, AreReopened, CountsLater, FreesOlder, FreesIfOlder, IsFoundUber, IsReopened, LeadsTo, LeavesShards, Notes, NotesOne, OpensOver, RecordsRose, SameChecks, StaysHeld}
+use Rattle.draid_pool.specs.Found.{AllLive, AnyRecordsRose, AreFound, AreFreed, AreReady, AreReopened, CountsLater, FreesOlder, FreesIfOlder, IsFoundUber, IsReopened, LeadsTo, LeavesShards, LeavesUber, Notes, NotesOne, OpensOver, RecordsRose, SameButFlushed, SameChecks, StaysHeld}
 use Rattle.draid_pool.specs.Closing.{Returns, TakesBack}
 use Rattle.draid_pool.specs.Opening.{TakesFirst}
 use Rattle.draid_pool.specs.Whole.{IsWhole}
@@ -81,6 +81,25 @@ leaf_found uber both = by (kept_of uber) both
     by (Some body) same = same.1
 
 -- ---- the shelf
+
+pub uber_left : (o n : Option shelf.Held) (count count' : ℕ) → n ≡ o → count' ≡ count → LeavesUber o n count count'
+uber_left o n count count' same counted = record { held = subst (λ (z : Option shelf.Held). shelf.OnHeld z (λ y. MatchOption o ⊥ (λ x. SameButFlushed x y))) (sym same) (by o); later = omega (arith, counted) }
+  where
+    by : (p : Option shelf.Held) → shelf.OnHeld p (λ y. MatchOption p ⊥ (λ x. SameButFlushed x y))
+    by None = tt
+    by (Some x) = record { uber = inl refl; checks = refl; kits = λ m. refl }
+
+pub uber_put : (o mid n : Option shelf.Held) (was now : Option content.Content) (count count' : ℕ) → mid ≡ shelf.takes_uber o → n ≡ shelf.gives_uber now mid → shelf.OnHeld o (λ x. was ≡ x.uber)
+    → (now ≡ was) ⊎ (now ≡ option_map content.flushes was) → count ≤ count' → LeavesUber o n count count'
+uber_put o mid n was now count count' takes gives is left later = record {
+  held = subst (λ (z : Option shelf.Held). shelf.OnHeld z (λ y. MatchOption o ⊥ (λ x. SameButFlushed x y))) (sym (gives ∙ ap (shelf.gives_uber now) takes)) (by now o left is);
+  later = later;
+} where
+  by : (c : Option content.Content) (p : Option shelf.Held) → (c ≡ was) ⊎ (c ≡ option_map content.flushes was) → shelf.OnHeld p (λ x. was ≡ x.uber) → shelf.OnHeld (shelf.gives_uber c (shelf.takes_uber p)) (λ y. MatchOption p ⊥ (λ x. SameButFlushed x y))
+  by None p left is = tt
+  by (Some c) None left is = tt
+  by (Some c) (Some x) (inl same) is = record { uber = inl (same ∙ is); checks = refl; kits = λ m. refl }
+  by (Some c) (Some x) (inr flushed) is = record { uber = inr (flushed ∙ ap (λ (z : Option content.Content). option_map content.flushes z) is); checks = refl; kits = λ m. refl }
 
 pub checks_same : (o : Option shelf.Held) → SameChecks o o
 checks_same None = tt

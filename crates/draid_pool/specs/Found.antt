@@ -133,6 +133,17 @@ pub record IsFoundUber {A : Type 0} (area : areas.Ghosts A) (uber : Uber A) : Ty
   pub some : 1 ≤ group_of (kept_of uber)
   pub low : group_of (kept_of uber) < LAST_NUMBER
 
+-- the same is held, and the area of the uberblock was left alone, or flushed
+pub record SameButFlushed (old new : shelf.Held) : Type 0 where
+  pub uber : (new.uber ≡ old.uber) ⊎ (new.uber ≡ option_map flushes old.uber)
+  pub checks : new.checks ≡ old.checks
+  pub kits : (m : ℕ) → new.kits m ≡ old.kits m
+
+-- what is left where no uberblock was found: so much where it is told, and no count of its area fell
+pub record LeavesUber (old new : Option shelf.Held) (count count' : ℕ) : Type 0 where
+  pub held : shelf.OnHeld new (λ y. MatchOption old ⊥ (λ x. SameButFlushed x y))
+  pub later : count ≤ count'
+
 -- an uberblock was recovered from the area that the shelf held: it is what the bytes say, and a crash leaves it alone from then on
 pub record IsRecovered {A : Type 0} (area : areas.Ghosts A) (held : Option shelf.Held) (count : ℕ) (uber : Uber A) : Type 0 where
   pub content : Option Content
