@@ -10,6 +10,7 @@ pub mod Feeding
 pub mod FetchSteps
 pub mod Fetched
 pub mod FreeSteps
+pub mod Found
 pub mod Freed
 pub mod Fresh
 pub mod Imaged

@@ -33,7 +33,7 @@ use Rattle.draid_pool.proofs.Closed.{at_end, kit_is, put_here, put_there}
 use Rattle.draid_pool.proofs.Lists.{present, some_of}
 
 -- what is below a place of two lists, one after the other
-get_before : {A : Type 0} (xs ys : List A) (m : ℕ) → m < length xs → slice_get (xs ++ ys) m ≡ slice_get xs m
+pub get_before : {A : Type 0} (xs ys : List A) (m : ℕ) → m < length xs → slice_get (xs ++ ys) m ≡ slice_get xs m
 get_before [] ys m below = absurd (omega (arith, below))
 get_before (x ∷ xs) ys zero below = refl
 get_before (x ∷ xs) ys (suc m) below = get_before xs ys m (omega (arith, below))
@@ -107,7 +107,7 @@ module _ {R A : Type 0} (rack : racks.Ghosts R) (area : areas.Ghosts A) where
     pub leaves_yet : (m : ℕ) → n ≤ m → leaves' m ≡ leaves m
     pub counts : (m : ℕ) → n ≤ m → after m ≡ before m
 
-  none_taken : (o : Option Held) → TakesFirst 0 o o
+  pub none_taken : (o : Option Held) → TakesFirst 0 o o
   none_taken None = refl
   none_taken (Some x) = record { uber = refl; checks = refl; taken = λ m below. absurd (omega (arith, below)); others = λ m past. refl }
 
@@ -122,7 +122,7 @@ module _ {R A : Type 0} (rack : racks.Ghosts R) (area : areas.Ghosts A) where
   })
 
   -- the devices of a further one are taken
-  takes_more : (n : ℕ) (old mid : Option Held) → TakesFirst n old mid → TakesFirst (n + 1) old (takes_kit n mid)
+  pub takes_more : (n : ℕ) (old mid : Option Held) → TakesFirst n old mid → TakesFirst (n + 1) old (takes_kit n mid)
   takes_more n None None t = refl
   takes_more n None (Some y) t = absurd (cc)
   takes_more n (Some x) None t = absurd t
@@ -137,7 +137,7 @@ module _ {R A : Type 0} (rack : racks.Ghosts R) (area : areas.Ghosts A) where
   }
 
   -- what was held for a metaslab that isn't open yet was so from the beginning
-  from_first : (n : ℕ) (old mid : Option Held) (P : Option KitTold → Type 0) → TakesFirst n old mid → OnHeld mid (λ y. P (y.kits n)) → OnHeld old (λ x. P (x.kits n))
+  pub from_first : (n : ℕ) (old mid : Option Held) (P : Option KitTold → Type 0) → TakesFirst n old mid → OnHeld mid (λ y. P (y.kits n)) → OnHeld old (λ x. P (x.kits n))
   from_first n None mid P t h = tt
   from_first n (Some x) None P t h = absurd t
   from_first n (Some x) (Some y) P t h = subst P (t.others n (omega arith)) h

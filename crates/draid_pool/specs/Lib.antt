@@ -3,6 +3,8 @@ pub mod Batches
 pub mod Carries
 pub mod Closing
 pub mod Imported
+pub mod Failing
+pub mod Found
 pub mod Importing
 pub mod Failing
 pub mod Metaslabs

@@ -31,6 +31,7 @@ use Rattle.draid_shelf.specs.declared.kit.Kit.{Kit}
 use Rattle.draid_slots.specs.Table.{SlotTable}
 use Rattle.draid_slots.specs.declared.slot.Detached.{Detached}
 use Rattle.draid_stable.specs.Images.{image_by}
+use Rattle.draid_stable.specs.Opening.{KeepsCounts}
 use Rattle.draid_stable.specs.Opening.{block_at}
 use Rattle.draid_shard.specs.Calls.{ActsOn, CountsFailed, OnBothTold}
 use Rattle.draid_shard.specs.Fits.{IsLeaf}
@@ -152,3 +153,14 @@ pub record GivesBack {R A : Type 0} (told : A → Option content.Content) (old n
   pub rack : new.rack ≡ old.rack
   pub other : area_of_kit new (group + 1) ≡ area_of_kit old (group + 1)
   pub area : told (area_of_kit new group) ≡ told (area_of_kit old group)
+
+-- no count of a kit's areas falls
+pub record KitAreasLater {R A : Type 0} (faults : A → ℕ) (old new : Kit R A) : Type 0 where
+  pub even : faults old.even ≤ faults new.even
+  pub odd : faults old.odd ≤ faults new.odd
+
+-- No count falls as a metaslab is opened over a kit, but those of leaves that went.
+pub record OpensCounts {R A : Type 0} (rack : Ghosts R) (faults : A → ℕ) (kit : Kit R A) (shard : Shard R A) : Type 0 where
+  pub on_rack : KeepsCounts shard.slots (rack.faults kit.rack) (rack.faults shard.rack)
+  pub even : faults kit.even ≤ faults shard.even
+  pub odd : faults kit.odd ≤ faults shard.odd
