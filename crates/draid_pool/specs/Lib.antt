@@ -6,7 +6,6 @@ pub mod Imported
 pub mod Failing
 pub mod Found
 pub mod Importing
-pub mod Failing
 pub mod Metaslabs
 pub mod Objects
 pub mod Opening
