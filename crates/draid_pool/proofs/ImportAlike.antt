@@ -7,9 +7,11 @@ use Rattle.draid_names.specs.declared.arm.ArmKind.{ArmKind}
 use Rattle.draid_names.specs.declared.arm.ArmKind.TheVariants as kind
 use Rattle.draid_machine.specs.declared.names.Held.{Held as Block}
 use Rattle.draid_machine.specs.declared.names.Key.{Key}
-use Rattle.draid_machine.specs.After.{map_arm, reopen_state}
+use Rattle.draid_machine.specs.After.{reopen_state}
 use Rattle.draid_machine.specs.State as machine
+use Rattle.draid_machine.specs.Created.{IsReached, created_core}
 use Rattle.draid_machine.proofs.Seals.{sealed_held}
+use Rattle.draid_machine.proofs.Standing.{every_image}
 use Rattle.draid_layouts.specs.Layout.{layout_of}
 use Rattle.draid_objects.specs.Blocks.{Blocks, sealed_at}
 use Rattle.draid_objects.specs.Changes.{Write, write_by}
@@ -23,16 +25,12 @@ use Rattle.draid_stable.specs.Slots.{HasSlots, name_of, named}
 use Rattle.draid_shard.proofs.Held.{key_leads}
 use Rattle.draid_session.specs.Opening.{MayFind, Reopens}
 use Rattle.draid_session.specs.State.{Metaslab, State}
-use Rattle.draid_pool.specs.Imported.{AreAlike, SameArms, bare}
+use Rattle.draid_pool.specs.Importable.{AreAlike, IsAlike, IsFindable, SameArms}
 use Rattle.draid_pool.specs.Objects.{HoldsObjects, blocks_of}
+use Rattle.draid_pool.proofs.Alike.{alike_opened, same_bare}
 use Rattle.draid_pool.proofs.Lists.{some_of}
 
 -- ---- arms
-
--- an opening leaves the arms of an image but for their logs
-pub same_bare : (f : machine.Arm → machine.Arm) (o : Option machine.Arm) → ((a : machine.Arm) → bare (f a) ≡ bare a) → option_map bare (map_arm f o) ≡ option_map bare o
-same_bare f None same = refl
-same_bare f (Some a) same = ap (λ (b : machine.Arm). Some b) (same a)
 
 -- two metaslabs that were opened from images of a group have the same arms
 pub found_alike : (x : State) (group m n : ℕ) (y z v w : Metaslab) → AreAlike x → MayFind x group → slice_get x.metaslabs m ≡ Some y → slice_get x.metaslabs n ≡ Some z → Reopens x.geometry x.perms group m y v
@@ -45,6 +43,23 @@ found_alike x group m n y z v w alike may at there r s = subst (λ (q : machine.
   where
     same : SameArms r.image.core s.image.core
     same = alike group m n y z r.image s.image may at there r.is r.of s.is s.of
+
+-- all that were opened from images of a group have the version, and the arms of one of them
+pub found_arms : (x : State) (group : ℕ) (zs : List Metaslab) → AreAlike x → MayFind x group → IsFindable x
+    → ((m : ℕ) (y : Metaslab) → slice_get x.metaslabs m ≡ Some y → machine.IsLayout (layout_of x.geometry x.perms m))
+    → ((m : ℕ) (y : Metaslab) → slice_get x.metaslabs m ≡ Some y → IsReached (layout_of x.geometry x.perms m) y.world)
+    → ((m : ℕ) (z : Metaslab) → slice_get zs m ≡ Some z → (y : Metaslab) × (slice_get x.metaslabs m ≡ Some y) × Reopens x.geometry x.perms group m y z)
+    → (arms : machine.Core) × ((m : ℕ) (z : Metaslab) → slice_get zs m ≡ Some z → IsAlike x.geometry.props.version arms z.world)
+found_arms x group [] alike may findable lay reached pair = (created_core (layout_of x.geometry x.perms 0), λ m z at. absurd (cc))
+found_arms x group (first ∷ zs) alike may findable lay reached pair =
+    let p = pair 0 first refl in
+    (p.2.image.core, λ m z at.
+    (let q = pair m z at in
+    let r = q.2 in
+    subst (IsAlike x.geometry.props.version p.2.image.core) (sym (r.world ∙ r.opened))
+    (alike_opened x.geometry.props.version p.2.image.core (layout_of x.geometry x.perms m) q.0.world r.image (findable.versions m q.0 r.image q.1 r.is)
+    (alike group m 0 q.0 p.0 r.image p.2.image may q.1 p.1 r.is r.of p.2.is p.2.of)
+    (λ n a there. ((every_image (layout_of x.geometry x.perms m) q.0.world (lay m q.0 q.1) (reached m q.0 q.1)).each r.image r.is).here n a there))))
 
 mapped_at : {A B : Type 0} (f : A → B) (xs ys : List A) (k : ℕ) (p q : A) → map f xs ≡ map f ys → slice_get xs k ≡ Some p → slice_get ys k ≡ Some q → f p ≡ f q
 mapped_at f xs ys k p q same a b = some_of (slice_get (map f ys) k) (f p) (f q) (ap (λ zs. slice_get zs k) (sym same) ∙ get_map f xs k p a) (get_map f ys k q b)

@@ -1,9 +1,8 @@
 -- A pool that is given back to a shelf is one of which no record has a fault to an import.
 use Rattle.std.proofs.Common.{arith, ◌≡◌, ◌==◌, ◌%◌, ◌<◌, ◌≤◌, ◌∙◌, ℕ, Bool, true, false, List, Option, Some, None, length, take, sym, subst, if◌then◌else◌}
 use Rattle.std.proofs.lemmas.List.{places, same_lists}
-use Rattle.std.specs.Prelude.{IsSomeAnd, slice_get}
+use Rattle.std.specs.Prelude.{IsSomeAnd, MatchOption, slice_get}
 use Rattle.std.proofs.lemmas.Option.{slice_get_within}
-use Rattle.draid_area.specs.Area as content
 use Rattle.draid_area.specs.Area.{Content, MayLeave}
 use Rattle.draid_area.specs.Moments.{IsCrashOutcome}
 use Rattle.draid_area.specs.declared.Area as areas
@@ -14,15 +13,16 @@ use Rattle.draid_machine.specs.State as machine
 use Rattle.draid_spec.specs.declared.layout.Geometry.{Geometry}
 use Rattle.draid_record.specs.Written.{record_bytes}
 use Rattle.draid_segments.specs.Segments.{Pieces}
-use Rattle.draid_shelf.specs.Kits.{Both, CrashedHeld, CrashedKit, Held, KitTold}
+use Rattle.draid_shelf.specs.Kits.{Both, CrashedHeld, CrashedKit, Held, KitCounts, KitTold, OnHeld, gives_uber, puts_uber}
 use Rattle.draid_stable.specs.Stable as stable
 use Rattle.draid_shard.specs.declared.shard.Shard.{Shard}
 use Rattle.draid_session.specs.State.{Metaslab, State}
-use Rattle.draid_pool.specs.Closing.{TakesBack}
-use Rattle.draid_pool.specs.Imported.{AreAlike, HasImageLeaves, HasVersion, IsImportable, ListsOnce}
+use Rattle.draid_pool.specs.Closing.{Returns, TakesBack}
+use Rattle.draid_shard.specs.Groups.{ListsOnce}
+use Rattle.draid_pool.specs.Importable.{AllAlike, HasImageLeaves, IsImportable}
 use Rattle.draid_pool.specs.Metaslabs.{IsMetaslab}
 use Rattle.draid_pool.specs.Pools.{part_in}
-use Rattle.draid_pool.specs.Records.{area_for}
+use Rattle.draid_pool.proofs.Alike.{alike_back, alike_then}
 use Rattle.draid_pool.proofs.Closed.{area_told, kit_is}
 use Rattle.draid_pool.proofs.ImportKept.{leaves_there}
 use Rattle.draid_pool.proofs.Lists.{present}
@@ -32,26 +32,37 @@ module _ {R A : Type 0} (rack : racks.Ghosts R) (area : areas.Ghosts A) (shards 
   shard_there : (m : ℕ) (y : Metaslab) → slice_get x.metaslabs m ≡ Some y → (shard : Shard R A) × (slice_get shards m ≡ Some shard)
   shard_there m y at = (let within = slice_get_within x.metaslabs m y at in present shards m (omega (arith, within, many)))
 
-  -- where its metaslabs have one version and the same arms, their records list each block once, and the shelf has the leaves of their racks
-  pub importable_given : (old new : Held) (leaves : ℕ → Option Shape) → TakesBack rack area shards old new → ((m : ℕ) (shard : Shard R A) → slice_get shards m ≡ Some shard → leaves m ≡ Some (rack.shape shard.rack))
-      → ((m : ℕ) (y : Metaslab) → slice_get x.metaslabs m ≡ Some y → x.committed ≤ y.world.committed) → ((m : ℕ) (y : Metaslab) → slice_get x.metaslabs m ≡ Some y → HasVersion x.geometry.props.version y.world)
-      → AreAlike x
-      → ((m : ℕ) (shard : Shard R A) (y : Metaslab) (image : machine.Image) → slice_get shards m ≡ Some shard → slice_get x.metaslabs m ≡ Some y → IsImage y.world image
-      → content.OnTold (area_for image.group (area.told shard.even) (area.told shard.odd)) (ListsOnce x.geometry m image))
-      → IsImportable x new leaves
-  importable_given old new leaves takes shapes committed versions alike once = record {
-    findable = record { committed = committed; versions = λ m y image at is. (versions m y at).images image is };
-    alike = alike;
-    once = λ m y image at is.
-        (let s = shard_there m y at in
-        let k = takes.kits m s.0 s.1 in
-        let told = kit_is (rack.told s.0.rack) (area.told s.0.even) (area.told s.0.odd) k.0 k.1 in
-        subst (λ o. IsSomeAnd o (λ (kit : KitTold). ListsOnce x.geometry m image (stable.area_of image.group kit.even kit.odd))) (sym k.2)
-        (area_told image.group (area.told s.0.even) (area.told s.0.odd) k.0 (ListsOnce x.geometry m image) told.even told.odd (once m s.0 y image s.1 at is)));
-    there = λ m y image at is.
-        (let s = shard_there m y at in
-        subst (λ o. IsSomeAnd o (HasImageLeaves x.geometry image)) (sym (shapes m s.0 s.1)) (leaves_there rack area (part_in x m) (pieces m) s.0 y image (each m s.0 y s.1 at) is));
-  }
+  module _ (leaves : ℕ → Option Shape) (arms : machine.Core) (alike : AllAlike arms x) (committed : (m : ℕ) (y : Metaslab) → slice_get x.metaslabs m ≡ Some y → y.world.committed ≡ x.committed)
+      (shapes : (m : ℕ) (shard : Shard R A) → slice_get shards m ≡ Some shard → leaves m ≡ Some (rack.shape shard.rack)) where
+    -- where the shelf has the leaves of its racks
+    importable_given : (old new : Held) → TakesBack rack area shards old new → IsImportable x new leaves
+    importable_given old new takes = record {
+      findable = record { committed = λ m y at. (let is = committed m y at in omega (arith, is)); versions = λ m y image at is. (alike m y at).versions.images image is };
+      alike = λ group m n y z a b may at here is of is' of'.
+          alike_then a.core arms b.core ((alike m y at).same.images a is) (alike_back b.core arms ((alike n z here).same.images b is'));
+      once = λ m y image at is.
+          (let s = shard_there m y at in
+          let k = takes.kits m s.0 s.1 in
+          let told = kit_is (rack.told s.0.rack) (area.told s.0.even) (area.told s.0.odd) k.0 k.1 in
+          subst (λ o. IsSomeAnd o (λ (kit : KitTold). ListsOnce x.geometry m image (stable.area_of image.group kit.even kit.odd))) (sym k.2)
+          (area_told image.group (area.told s.0.even) (area.told s.0.odd) k.0 (ListsOnce x.geometry m image) told.even told.odd ((each m s.0 y s.1 at).records image is)));
+      there = λ m y image at is.
+          (let s = shard_there m y at in
+          subst (λ o. IsSomeAnd o (HasImageLeaves x.geometry image)) (sym (shapes m s.0 s.1)) (leaves_there rack area (part_in x m) (pieces m) s.0 y image (each m s.0 y s.1 at) is));
+    }
+
+    with_uber : (u : Content) (held : Held) → IsImportable x held leaves → IsImportable x (puts_uber (Some u) held) leaves
+    with_uber u held i = record { findable = i.findable; alike = i.alike; once = i.once; there = i.there }
+
+    held_importable : (c : Option Content) (a b : Option Held) → OnHeld b (λ y. MatchOption a ⊥ (λ z. TakesBack rack area shards z y)) → OnHeld (gives_uber c b) (λ held. IsImportable x held leaves)
+    held_importable None a b h = tt
+    held_importable (Some u) a None h = tt
+    held_importable (Some u) None (Some b) h = absurd h
+    held_importable (Some u) (Some a) (Some b) h = with_uber u b (importable_given a b h)
+
+    pub importable_back : (content : Option Content) (old mid : Option Held) (before after : ℕ → KitCounts) → Returns rack area shards old mid before after → (new : Option Held) → new ≡ gives_uber content mid
+        → OnHeld new (λ held. IsImportable x held leaves)
+    importable_back content old mid before after r new gives = subst (λ o. OnHeld o (λ held. IsImportable x held leaves)) (sym gives) (held_importable content old mid r.held)
 
 -- ---- a crash
 
@@ -102,3 +113,9 @@ importable_crashed x held left leaves now crash same i = record {
   once = λ m y image at is. kits_left x.geometry m image (held.kits m) (left.kits m) (crash.kits m) (i.once m y image at is);
   there = λ m y image at is. subst (λ o. IsSomeAnd o (HasImageLeaves x.geometry image)) (sym (same m)) (i.there m y image at is);
 }
+
+pub importable_left : (x : State) (o n : Option Held) (leaves now : ℕ → Option Shape) → Both CrashedHeld o n → ((m : ℕ) → now m ≡ leaves m) → OnHeld o (λ held. IsImportable x held leaves)
+    → OnHeld n (λ held. IsImportable x held now)
+importable_left x o None leaves now both same h = tt
+importable_left x None (Some left) leaves now both same h = absurd both
+importable_left x (Some held) (Some left) leaves now both same h = importable_crashed x held left leaves now both same h

@@ -18,7 +18,8 @@ use Rattle.draid_uber.specs.declared.uber.Uber.{Uber}
 use Rattle.draid_session.specs.Opening.{Finds, IsLastSeq}
 use Rattle.draid_session.specs.State.{Metaslab, State}
 use Rattle.draid_pool.specs.Closing.{Rests}
-use Rattle.draid_pool.specs.Imported.{AreNewest, FindsBody, IsFindable, IsFoundOf, IsLastIn, IsNewestIn, OpensFound, StandsFound}
+use Rattle.draid_pool.specs.Importable.{AreAlike, IsFindable}
+use Rattle.draid_pool.specs.Imported.{AreNewest, FindsBody, IsFoundOf, IsLastIn, IsNewestIn, OpensFound, StandsFound}
 use Rattle.draid_pool.specs.Importing.{ImportsPool}
 use Rattle.draid_pool.specs.Metaslabs.{IsMetaslab}
 use Rattle.draid_pool.specs.Shards.{FreesIn, Goes}
@@ -30,11 +31,11 @@ use Rattle.draid_pool.proofs.ImportOpened.{all_opened, all_reached, finds_opened
 
 module _ {R A : Type 0} (rack : racks.Ghosts R) (area : areas.Ghosts A) (x : State) (pieces : ℕ → Pieces) (uber : Uber A) (newest : ℕ → Option Pointer) (seq : ℕ) where
   -- all metaslabs were opened, and their blocks noted
-  pub found_begins : (held : Held) (rests : Rests x pieces held) (findable : IsFindable x) (body : UberBody) (body_is : FindsBody x body) (shards : List (Shard R A)) (many : length shards ≡ length x.metaslabs)
+  pub found_begins : (held : Held) (rests : Rests x pieces held) (findable : IsFindable x) (alike : AreAlike x) (body : UberBody) (body_is : FindsBody x body) (shards : List (Shard R A)) (many : length shards ≡ length x.metaslabs)
       → ((m : ℕ) (shard : Shard R A) (y : Metaslab) → slice_get shards m ≡ Some shard → slice_get x.metaslabs m ≡ Some y → OpensFound rack area x body.group m (pieces m) y shard)
       → x.uber_count ≤ area.faults (area_of uber) → IsLastIn shards seq → IsNewestIn shards newest → body.group < LAST_NUMBER → Valid area.size uber → kept_of uber ≡ Some body
       → version_of uber ≡ body.props.version → next_leaf_of uber ≡ body.next_leaf → StandsTold (kept_of uber) [] (area.told (area_of uber)) → IsFoundOf rack area x uber pieces newest seq shards
-  found_begins held rests findable body body_is shards many each counted last newest_in low valid kept version next stands = record {
+  found_begins held rests findable alike body body_is shards many each counted last newest_in low valid kept version next stands = record {
     group = body.group;
     mid = mid;
     finds = finds;
@@ -60,7 +61,7 @@ module _ {R A : Type 0} (rack : racks.Ghosts R) (area : areas.Ghosts A) (x : Sta
           (λ m shard y at there. (opened_is_in rack area x pieces held rests findable uber body body_is shards many each seq counted m shard y at there).stands.is_in) seq last
 
       stood : StandsFound rack area shards uber pieces mid
-      stood = opened_stands rack area x pieces held rests findable uber body body_is shards many each seq counted last_is low valid kept version next stands
+      stood = opened_stands rack area x pieces held rests findable uber body body_is shards many each seq counted alike last_is low valid kept version next stands
 
   -- a live block was freed that isn't the newest of its object
   pub found_frees : (shards : List (Shard R A)) (f : IsFoundOf rack area x uber pieces newest seq shards) (m : ℕ) (shard shard' : Shard R A) (p : Pointer) (floor group : ℕ) → slice_get shards m ≡ Some shard

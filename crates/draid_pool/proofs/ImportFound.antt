@@ -33,7 +33,7 @@ use Rattle.draid_shard.proofs.Standing.{has_layout}
 use Rattle.draid_session.specs.Opening.{Finds, IsLastSeq, LeafIn, MayFind, Reopens}
 use Rattle.draid_session.specs.State.{Metaslab, State}
 use Rattle.draid_pool.specs.Closing.{RestsOn}
-use Rattle.draid_pool.specs.Imported.{IsFindable}
+use Rattle.draid_pool.specs.Importable.{IsFindable}
 use Rattle.draid_pool.specs.Objects.{HasGroups, HasPieces, HoldsObjects, blocks_of}
 use Rattle.draid_pool.specs.Pools.{part_in}
 use Rattle.draid_pool.specs.Records.{HasImage, HasImages, HasLeafNumbers, LeavesAreBelow}

@@ -47,7 +47,7 @@ use Rattle.draid_stable.specs.Stable.{HasRecord}
 use Rattle.draid_entries.specs.History.{limit_in}
 use Rattle.draid_shard.specs.Calls.{OnBothTold}
 use Rattle.draid_shard.specs.Fits.{Valid}
-use Rattle.draid_shard.specs.Groups.{Opens, at_version}
+use Rattle.draid_shard.specs.Groups.{ListsOnce, Opens, at_version}
 use Rattle.draid_shard.specs.Part.{IsPart, Part, layout_in}
 use Rattle.draid_shard.specs.Stands.{StandsFor}
 use Rattle.draid_shard.specs.States.{layout_by, part_of}
@@ -58,7 +58,7 @@ use Rattle.draid_session.specs.Follows.{CountsRise, HarmBoth}
 use Rattle.draid_session.specs.Opening.{Reopens}
 use Rattle.draid_session.specs.State.{Counts, Metaslab, State, limit_of}
 use Rattle.draid_pool.specs.Closing.{RestsOn}
-use Rattle.draid_pool.specs.Imported.{CountsOn, ListsOnce, OpensFound}
+use Rattle.draid_pool.specs.Imported.{CountsOn, OpensFound}
 use Rattle.draid_pool.specs.Metaslabs.{IsMetaslab, counts_of, harm_of}
 use Rattle.draid_pool.specs.Pools.{part_in}
 use Rattle.draid_pool.specs.Records.{HasRecords, LeavesAreBelow, area_for}
@@ -286,25 +286,15 @@ module _ (x : State) (m : ℕ) (pieces : Pieces) (y : Metaslab) (kit : KitTold) 
         (told_at (group % 2 == 0) area.told old.even old.odd kit.even kit.odd (HasRecord (at_version f.image.version shard.geometry) shard.number f.image) k.even k.odd here)
         (some_match (rack.told old.rack) kit.rack (Firm (layout_by shard) pieces f.image (λ s. y.world.aside s || has_segment [] s)) k.rack all_firm))
 
-    records : HasRecords (part_in x m) found_world (area.told shard.even) (area.told shard.odd)
-    records image is = subst (λ (i : machine.Image). content.OnTold (area_for i.group (area.told shard.even) (area.told shard.odd)) (HasRecord (at_version i.version x.geometry) m i)) (found_image image is)
-        (subst (λ e. content.OnTold (area_for f.image.group e (area.told shard.odd)) P) (sym (opens.even ∙ k.even))
-        (subst (λ o. content.OnTold (area_for f.image.group (Some kit.even) o) P) (sym (opens.odd ∙ k.odd))
-        (on_told (f.image.group % 2 == 0) kit.even kit.odd P (f.rests.images f.image f.is).recorded)))
-      where
-        P : Content → Type 0
-        P = HasRecord (at_version f.image.version x.geometry) m f.image
-
     -- its record lists each block once, where the one that was read does
-    pub opened_once : ListsOnce x.geometry m f.image (stable.area_of f.image.group kit.even kit.odd) → (image : machine.Image) → IsImage found_world image
-        → content.OnTold (area_for image.group (area.told shard.even) (area.told shard.odd)) (ListsOnce x.geometry m image)
+    pub opened_once : ListsOnce x.geometry m f.image (stable.area_of f.image.group kit.even kit.odd) → HasRecords (part_in x m) found_world (area.told shard.even) (area.told shard.odd)
     opened_once once image is = subst (λ (i : machine.Image). content.OnTold (area_for i.group (area.told shard.even) (area.told shard.odd)) (ListsOnce x.geometry m i)) (found_image image is)
         (subst (λ e. content.OnTold (area_for f.image.group e (area.told shard.odd)) (ListsOnce x.geometry m f.image)) (sym (opens.even ∙ k.even))
         (subst (λ o. content.OnTold (area_for f.image.group (Some kit.even) o) (ListsOnce x.geometry m f.image)) (sym (opens.odd ∙ k.odd))
         (on_told (f.image.group % 2 == 0) kit.even kit.odd (ListsOnce x.geometry m f.image) once)))
 
-    pub opened_is : Valid rack shard → limit_in shard.history ≡ limit_of x.geometry → IsMetaslab rack area (part_in x m) pieces shard opened
-    opened_is valid limit = record {
+    pub opened_is : Valid rack shard → limit_in shard.history ≡ limit_of x.geometry → ListsOnce x.geometry m f.image (stable.area_of f.image.group kit.even kit.odd) → IsMetaslab rack area (part_in x m) pieces shard opened
+    opened_is valid limit once = record {
       valid = valid;
       part_is = part_is;
       stands = stands;
@@ -314,7 +304,7 @@ module _ (x : State) (m : ℕ) (pieces : Pieces) (y : Metaslab) (kit : KitTold) 
       reserved = sym opens.none.1;
       counts = refl;
       harm = refl;
-      records = records;
+      records = opened_once once;
     }
 
     -- what was read is the image
@@ -361,6 +351,6 @@ module _ (x : State) (m : ℕ) (pieces : Pieces) (y : Metaslab) (kit : KitTold) 
     opens_found valid limit once rack_is even_is odd_is on = record {
       z = opened;
       reopens = opened_reopens rack_is even_is odd_is on;
-      is = opened_is valid limit;
+      is = opened_is valid limit once;
       once = opened_once once;
     }

@@ -30,11 +30,12 @@ use Rattle.draid_pool.specs.Imported.{FreedOlder, SaysObjects, StandsFound}
 use Rattle.draid_pool.specs.Metaslabs.{IsMetaslab}
 use Rattle.draid_pool.specs.Objects.{HoldsObjects, blocks_of, worlds_of}
 use Rattle.draid_pool.specs.Pools.{part_in}
+use Rattle.draid_pool.specs.Importable.{IsAlike}
 use Rattle.draid_pool.specs.Records.{HasImage, LeavesAreBelow}
 use Rattle.draid_pool.specs.Shards.{FollowsIn, FreesIn, Goes}
 use Rattle.draid_pool.specs.Ubers.{IsUber}
 use Rattle.draid_pool.proofs.Entering.{older_holds, still}
-use Rattle.draid_pool.proofs.Imaged.{image_kept, leaves_kept}
+use Rattle.draid_pool.proofs.Imaged.{alike_stays, image_kept, leaves_kept}
 use Rattle.draid_pool.proofs.Lists.{get_set_other, get_set_same, present, some_of}
 use Rattle.draid_pool.proofs.Moved.{blocks_at, each_set, follows_one, moves_one, with_metaslab}
 use Rattle.draid_pool.proofs.WriteSteps.{follows_both}
@@ -197,6 +198,8 @@ module _ {R A : Type 0} (rack : racks.Ghosts R) (area : areas.Ghosts A) (mid : S
         order = st.leaves.order;
         each = each_set x.metaslabs m y y' (λ z. LeavesAreBelow x.kept_leaf x.next_leaf z.world) at (leaves_kept x.kept_leaf x.next_leaf y.world y'.world g.images (st.leaves.each m y at)) st.leaves.each;
       };
+      arms = st.arms;
+      alike = each_set x.metaslabs m y y' (λ z. IsAlike x.geometry.props.version st.arms z.world) at (alike_stays x.geometry.props.version st.arms y.world y'.world g.images (st.alike m y at)) st.alike;
       open_groups = each_set x.metaslabs m y y' (λ z. z.world.open_group ≡ x.committed + 1) at
           (free_opens (layout_in (part_in x m)) m g.holds y y' k group g.done.are g.follows ∙ st.open_groups m y at) st.open_groups;
       floor = st.floor;

@@ -6,6 +6,8 @@ use Rattle.draid_names.specs.declared.numbers.TheConstants.{LAST_NUMBER}
 use Rattle.draid_rack.specs.declared.Rack as racks
 use Rattle.draid_area.specs.declared.Area as areas
 use Rattle.draid_machine.specs.Created.{IsReached}
+use Rattle.draid_machine.specs.State as machine
+use Rattle.draid_shard.proofs.Standing.{has_layout}
 use Rattle.draid_layouts.specs.Layout.{layout_of}
 use Rattle.draid_record.specs.declared.uber.UberBody.{UberBody}
 use Rattle.draid_segments.specs.Segments.{Pieces}
@@ -17,10 +19,12 @@ use Rattle.draid_uber.specs.declared.uber.Uber.{Uber}
 use Rattle.draid_session.specs.Opening.{Finds, IsLastSeq, LeafIn, MayFind, Reopens}
 use Rattle.draid_session.specs.State.{Metaslab, State}
 use Rattle.draid_pool.specs.Closing.{Rests, RestsOn}
-use Rattle.draid_pool.specs.Imported.{FindsBody, IsFindable, OpensFound, SaysObjects, StandsFound, found_state}
+use Rattle.draid_pool.specs.Importable.{AllAlike, AreAlike, IsFindable}
+use Rattle.draid_pool.specs.Imported.{FindsBody, OpensFound, SaysObjects, StandsFound, found_state}
 use Rattle.draid_pool.specs.Metaslabs.{IsMetaslab}
 use Rattle.draid_pool.specs.Pools.{part_in}
-use Rattle.draid_pool.proofs.ImportFound.{found_groups, found_holds, found_images, found_leaves, found_open, found_says, numbered_last}
+use Rattle.draid_pool.proofs.ImportAlike.{found_arms}
+use Rattle.draid_pool.proofs.ImportFound.{found_groups, found_holds, found_images, found_leaves, found_open, found_says, numbered_last, part_there}
 use Rattle.draid_pool.proofs.ImportUber.{found_uber}
 use Rattle.draid_pool.proofs.Lists.{present, some_of}
 
@@ -106,9 +110,17 @@ module _ {R A : Type 0} (rack : racks.Ghosts R) (area : areas.Ghosts A) (x : Sta
     pub opened_says : SaysObjects opened_state
     opened_says = found_says x opened_state body.group pieces finds_opened rests.layout rests.many reached rests.leaves findable rests.objects
 
-    pub opened_stands : IsLastSeq opened_state seq → body.group < LAST_NUMBER → Valid area.size uber → kept_of uber ≡ Some body → version_of uber ≡ body.props.version → next_leaf_of uber ≡ body.next_leaf
+    opened_arms : AreAlike x → (arms : machine.Core) × AllAlike arms opened_state
+    opened_arms alike = found_arms x body.group all_opened.0 alike body_is.may findable
+        (λ m y at. has_layout (part_in x m) (part_there x rests.layout rests.many rests.images rests.leaves findable m y at)) reached (λ m z at.
+        (let within = slice_get_within all_opened.0 m z at in
+        let same = all_opened.1 in
+        let y = present x.metaslabs m (omega (arith, within, same)) in
+        (y.0, y.1, (all_opened.2 m y.0 z y.1 at).reopens)))
+
+    pub opened_stands : AreAlike x → IsLastSeq opened_state seq → body.group < LAST_NUMBER → Valid area.size uber → kept_of uber ≡ Some body → version_of uber ≡ body.props.version → next_leaf_of uber ≡ body.next_leaf
         → StandsTold (kept_of uber) [] (area.told (area_of uber)) → StandsFound rack area shards uber pieces opened_state
-    opened_stands last low valid kept version next stands = record {
+    opened_stands alike last low valid kept version next stands = record {
       layout = rests.layout;
       many = all_opened.1 ∙ rests.many;
       shards_are = many ∙ sym all_opened.1;
@@ -119,6 +131,8 @@ module _ {R A : Type 0} (rack : racks.Ghosts R) (area : areas.Ghosts A) (x : Sta
       uber_is = found_uber area x opened_state uber body valid kept body_is rests.layout.geometry_is version next stands refl refl refl refl refl;
       images = found_images x opened_state body.group pieces finds_opened rests.layout rests.many reached rests.leaves findable rests.objects;
       leaves = found_leaves x opened_state body.group pieces finds_opened rests.layout rests.many reached rests.leaves findable rests.objects;
+      arms = (opened_arms alike).0;
+      alike = (opened_arms alike).1;
       open_groups = found_open x opened_state body.group pieces finds_opened rests.layout rests.many reached rests.leaves findable rests.objects;
       floor = refl;
     }

@@ -26,11 +26,11 @@ use Rattle.draid_stable.specs.Stable.{HasRecord}
 use Rattle.draid_shelf.specs.Kits.{KitTold, kit_of}
 use Rattle.draid_shelf.specs.declared.kit.Kit.{Kit}
 use Rattle.draid_segments.specs.Segments.{Pieces}
-use Rattle.draid_shard.specs.Groups.{at_version}
+use Rattle.draid_shard.specs.Groups.{ListsOnce, at_version}
 use Rattle.draid_shard.specs.Reopening.{OpenIsRefused}
 use Rattle.draid_shard.specs.declared.fault.OpenFault.TheVariants as fault
 use Rattle.draid_session.specs.State.{Metaslab, State}
-use Rattle.draid_pool.specs.Imported.{HasImageLeaves, ListsOnce}
+use Rattle.draid_pool.specs.Importable.{HasImageLeaves}
 use Rattle.draid_pool.proofs.Closed.{kit_is}
 use Rattle.draid_pool.proofs.ImportMetaslab.{FindsImage, of_told, own_version, read_there}
 

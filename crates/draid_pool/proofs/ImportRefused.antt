@@ -22,7 +22,9 @@ use Rattle.draid_uber.specs.Slots.{StandsTold}
 use Rattle.draid_session.specs.Opening.{Finds, MayFind, Reopens}
 use Rattle.draid_session.specs.State.{Counts, Metaslab, State}
 use Rattle.draid_pool.specs.Closing.{Rests, RestsOn, SameCounts, kit_in}
-use Rattle.draid_pool.specs.Imported.{AreAlike, FindsBody, HasImageLeaves, IsFindable, IsImportable, ListsOnce, OpensFound, RestsFound, SameArms, found_state}
+use Rattle.draid_shard.specs.Groups.{ListsOnce}
+use Rattle.draid_pool.specs.Importable.{AreAlike, HasImageLeaves, IsFindable, IsImportable, SameArms}
+use Rattle.draid_pool.specs.Imported.{FindsBody, OpensFound, RestsFound, found_state}
 use Rattle.draid_pool.specs.Importing.{FindsNone, LeavesPool, RestsThere}
 use Rattle.draid_pool.specs.Ubers.{IsPending, UberStands}
 use Rattle.draid_pool.proofs.Closed.{area_told, kit_is, rests_on}

@@ -1,4 +1,5 @@
 pub mod Absent
+pub mod Alike
 pub mod Batched
 pub mod Closed
 pub mod DamageSteps
@@ -52,6 +53,5 @@ pub mod ImportRecords
 pub mod ImportAlike
 pub mod ImportKept
 pub mod ImportEnd
-pub mod ImportOnce
 pub mod ImportClosed
 pub mod Causes

@@ -19,9 +19,8 @@ use Rattle.draid_shelf.specs.Kits.{Held, KitCounts, KitTold, NeedsKit, OnHeld, k
 use Rattle.draid_shelf.specs.Shelf.{SameOthers}
 use Rattle.draid_shelf.specs.declared.kit.Kit.{Kit}
 use Rattle.draid_entries.specs.History.{limit_in, reserved_of}
-use Rattle.draid_stable.specs.Stable.{HasRecord}
 use Rattle.draid_shard.specs.Fits.{Valid}
-use Rattle.draid_shard.specs.Groups.{at_version}
+use Rattle.draid_shard.specs.Groups.{ListsOnce}
 use Rattle.draid_shard.specs.Part.{Part, layout_in}
 use Rattle.draid_shard.specs.States.{IsIn, part_of, stored_in}
 use Rattle.draid_shard.specs.declared.shard.Shard.{Shard}
@@ -49,13 +48,13 @@ failed_too fault failed = (let same : fault ≡ DeviceFault.Failed = cc in ap Er
 -- ---- one metaslab
 
 -- the record that a new metaslab writes is that of its one image
-pub records_first : (part : Part) (even odd : Option Content) → OnTold odd (HasRecord (at_version part.geometry.props.version part.geometry) part.number (created (layout_in part) part.geometry.props.version).image)
+pub records_first : (part : Part) (even odd : Option Content) → OnTold odd (ListsOnce part.geometry part.number (created (layout_in part) part.geometry.props.version).image)
     → HasRecords part (created (layout_in part) part.geometry.props.version) even odd
 records_first part even odd h = λ image of. by image of
   where
     by : (image : Image) → IsImage (created (layout_in part) part.geometry.props.version) image
-        → OnTold (area_for image.group even odd) (HasRecord (at_version image.version part.geometry) part.number image)
-    by image (inl is) = subst (λ (i : Image). OnTold (area_for i.group even odd) (HasRecord (at_version i.version part.geometry) part.number i)) is h
+        → OnTold (area_for image.group even odd) (ListsOnce part.geometry part.number image)
+    by image (inl is) = subst (λ (i : Image). OnTold (area_for i.group even odd) (ListsOnce part.geometry part.number i)) is h
     by image (inr is) = absurd (cc)
 
 -- a kit that was taken was held, and its rack tells what was
@@ -77,7 +76,7 @@ module _ {R A : Type 0} (rack : racks.Ghosts R) (area : areas.Ghosts A) where
   pub opened : (part : Part) (held : Option Held) (counts : KitCounts) (kit : Kit R A) (shard : Shard R A) (events : ℕ) → Valid rack shard → part_of shard ≡ part
       → IsIn shard (created (layout_in (part_of shard)) part.geometry.props.version) → stored_in shard ≡ [] → reserved_of shard.history ≡ 0 → limit_in shard.history ≡ events → events ≡ limit_of part.geometry
       → shard.rack ≡ kit.rack
-      → OnTold (area.told shard.odd) (HasRecord (at_version part.geometry.props.version part.geometry) part.number (created (layout_in (part_of shard)) part.geometry.props.version).image)
+      → OnTold (area.told shard.odd) (ListsOnce part.geometry part.number (created (layout_in (part_of shard)) part.geometry.props.version).image)
       → OnHeld held (λ x. kit_of (rack.told kit.rack) (area.told kit.even) (area.told kit.odd) ≡ x.kits part.number) → NeedsKit part.number (Ok kit) held
       → ((who : Option ℕ) → rack.faults kit.rack who ≡ counts.rack who) → IsOpened rack area part held counts shard
   opened part held counts kit shard events valid part_is is_in stored reserved limit events_are r recorded told needs rack_count = record {
@@ -91,7 +90,7 @@ module _ {R A : Type 0} (rack : racks.Ghosts R) (area : areas.Ghosts A) where
         (rack_held kit held (rack.told kit.rack) (area.told kit.even) (area.told kit.odd) part.number told needs);
     rack_count = λ who. ap (λ (x : R). rack.faults x who) r ∙ rack_count who;
     records = records_first part (area.told shard.even) (area.told shard.odd)
-        (subst (λ (p : Part). OnTold (area.told shard.odd) (HasRecord (at_version part.geometry.props.version part.geometry) part.number (created (layout_in p) part.geometry.props.version).image)) part_is recorded);
+        (subst (λ (p : Part). OnTold (area.told shard.odd) (ListsOnce part.geometry part.number (created (layout_in p) part.geometry.props.version).image)) part_is recorded);
   }
 
   -- ---- all metaslabs

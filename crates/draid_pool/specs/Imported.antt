@@ -1,16 +1,10 @@
 -- What an import finds of a pool that rests on a shelf: the body of its uberblock, a group of each metaslab, and the newest block of each object.
-use Rattle.std.specs.Prelude.{◌≡◌, ◌+◌, ◌<◌, ◌≤◌, ◌⊎◌, ℕ, false, true, List, Option, Some, None, IsSome, IsSomeAnd, length, option_map, slice_get}
+use Rattle.std.specs.Prelude.{◌≡◌, ◌+◌, ◌<◌, ◌≤◌, ◌⊎◌, ℕ, false, true, List, Option, Some, None, length, slice_get}
 use Rattle.draid_rack.specs.declared.Rack as racks
-use Rattle.draid_rack.specs.Rack.{Shape}
-use Rattle.draid_area.specs.Area.{Content}
 use Rattle.draid_area.specs.Area as content
 use Rattle.draid_area.specs.declared.Area as areas
-use Rattle.draid_spec.specs.Geometry.{metaslab_sectors}
-use Rattle.draid_spec.specs.declared.layout.Geometry.{Geometry}
 use Rattle.draid_map.specs.Place.{IsLayout}
 use Rattle.draid_names.specs.declared.pointer.Pointer.{Pointer}
-use Rattle.draid_machine.specs.declared.names.ArmName.{ArmName}
-use Rattle.draid_machine.specs.declared.names.ArmName.TheVariants.{Leaf}
 use Rattle.draid_machine.specs.declared.names.Held.{Held as Block}
 use Rattle.draid_machine.specs.declared.names.Key.{Key}
 use Rattle.draid_machine.specs.declared.names.Stage.TheVariants.{Live}
@@ -20,17 +14,15 @@ use Rattle.draid_objects.specs.Blocks.{Blocks, SaysOf}
 use Rattle.draid_objects.specs.Changes.{upto, write_of}
 use Rattle.draid_record.specs.declared.uber.UberBody.{UberBody}
 use Rattle.draid_segments.specs.Segments.{Pieces}
-use Rattle.draid_shelf.specs.Kits.{Held, KitCounts, KitTold}
+use Rattle.draid_shelf.specs.Kits.{KitCounts, KitTold}
 use Rattle.draid_shelf.specs.declared.kit.Kit.{Kit}
 use Rattle.draid_stable.specs.Opening.{has_leaf_arm}
 use Rattle.draid_stable.specs.Stable as stable
-use Rattle.draid_stable.specs.Stable.{HasRecord}
-use Rattle.draid_entries.specs.Live.{first_twice}
 use Rattle.draid_entries.specs.declared.entry.Entry.{Entry}
 use Rattle.draid_entries.specs.Entries.{entry_at}
 use Rattle.draid_entries.specs.Maps.{held_at, key_of, staged}
 use Rattle.draid_shard.specs.Calls.{IsLive}
-use Rattle.draid_shard.specs.Groups.{at_version}
+use Rattle.draid_shard.specs.Groups.{ListsOnce}
 use Rattle.draid_shard.specs.declared.shard.Shard.{Shard}
 use Rattle.draid_uber.specs.declared.uber.Uber.{Uber}
 use Rattle.draid_session.specs.Follows.{Follows}
@@ -38,52 +30,12 @@ use Rattle.draid_session.specs.Holds.{Hold}
 use Rattle.draid_session.specs.Opening.{Finds, Frees, FreesOlder, IsLastSeq, LeafIn, MayFind, Reopens}
 use Rattle.draid_session.specs.State.{Metaslab, State}
 use Rattle.draid_pool.specs.Closing.{RestsOn, SameCounts}
+use Rattle.draid_pool.specs.Importable.{AllAlike}
 use Rattle.draid_pool.specs.Metaslabs.{IsMetaslab}
 use Rattle.draid_pool.specs.Objects.{HasGroups, HoldsObjects, blocks_of}
 use Rattle.draid_pool.specs.Pools.{part_in}
 use Rattle.draid_pool.specs.Records.{HasImages, HasLeafNumbers, area_for}
 use Rattle.draid_pool.specs.Ubers.{IsUber, body_of}
-
--- Each metaslab has committed the group that the uberblock has, or a later one where the first commit was refused; its images have the version of the layout.
-pub record IsFindable (x : State) : Type 0 where
-  pub committed : (m : ℕ) (y : Metaslab) → slice_get x.metaslabs m ≡ Some y → x.committed ≤ y.world.committed
-  pub versions : (m : ℕ) (y : Metaslab) (image : machine.Image) → slice_get x.metaslabs m ≡ Some y → IsImage y.world image → image.version ≡ x.geometry.props.version
-
--- the record of an image stands there, and lists each block once
-pub record ListsOnce (geometry : Geometry) (m : ℕ) (image : machine.Image) (x : Content) : Type 0 where
-  pub has : HasRecord (at_version image.version geometry) m image x
-  pub once : first_twice has.value.blocks ≡ None
-
--- an arm without what passes make good
-abbrev pub bare : machine.Arm → machine.Arm
-bare arm = record { offline = arm.offline; fresh = false; log = λ group. false; gone = arm.gone }
-
--- the same arms stand in each slot
-pub record SameArms (a b : machine.Core) : Type 0 where
-  pub order : (slot : ℕ) → a.order slot ≡ b.order slot
-  pub arms : (n : ArmName) → option_map bare (a.arm n) ≡ option_map bare (b.arm n)
-
--- the images of a metaslab have a version, and so will the next one
-pub record HasVersion (version : ℕ) (w : machine.State) : Type 0 where
-  pub asked : w.asked ≡ version
-  pub images : (image : machine.Image) → IsImage w image → image.version ≡ version
-
--- the images that all metaslabs have of a group have the same arms
-abbrev pub AreAlike : State → Type 0
-AreAlike x = (group m n : ℕ) (y z : Metaslab) (a b : machine.Image) → MayFind x group → slice_get x.metaslabs m ≡ Some y → slice_get x.metaslabs n ≡ Some z → IsImage y.world a → a.group ≡ group
-    → IsImage z.world b → b.group ≡ group → SameArms a.core b.core
-
--- the leaves of an image are among those of a rack, with all sectors of a metaslab
-abbrev pub HasImageLeaves : Geometry → machine.Image → Shape → Type 0
-HasImageLeaves geometry image shape = (leaf : ℕ) → IsSome (image.core.arm (Leaf leaf)) → shape.leaves leaf ≡ Some (metaslab_sectors geometry)
-
--- No record of a pool on a shelf has a fault to an import: the racks have the leaves of the images, and the records list each block once; all metaslabs have the same arms.
-pub record IsImportable (x : State) (held : Held) (leaves : ℕ → Option Shape) : Type 0 where
-  pub findable : IsFindable x
-  pub alike : AreAlike x
-  pub once : (m : ℕ) (y : Metaslab) (image : machine.Image) → slice_get x.metaslabs m ≡ Some y → IsImage y.world image
-      → IsSomeAnd (held.kits m) (λ kit. ListsOnce x.geometry m image (stable.area_of image.group kit.even kit.odd))
-  pub there : (m : ℕ) (y : Metaslab) (image : machine.Image) → slice_get x.metaslabs m ≡ Some y → IsImage y.world image → IsSomeAnd (leaves m) (HasImageLeaves x.geometry image)
 
 -- a body that was found is that of a group which the uberblock may have
 pub record FindsBody (x : State) (body : UberBody) : Type 0 where
@@ -144,6 +96,8 @@ pub record StandsFound {R A : Type 0} (rack : racks.Ghosts R) (area : areas.Ghos
   pub uber_is : IsUber area uber x
   pub images : HasImages x
   pub leaves : HasLeafNumbers x
+  pub arms : machine.Core
+  pub alike : AllAlike arms x
   pub open_groups : (m : ℕ) (y : Metaslab) → slice_get x.metaslabs m ≡ Some y → y.world.open_group ≡ x.committed + 1
   pub floor : x.store.floor ≡ x.committed + 1
 

@@ -9,7 +9,7 @@ use Rattle.draid_session.specs.Opening.{Imports}
 use Rattle.draid_session.specs.Session.{FindsNoGroup, LeavesState}
 use Rattle.draid_session.specs.State.{Metaslab, State}
 use Rattle.draid_pool.specs.Closing.{Rests, SameCounts}
-use Rattle.draid_pool.specs.Imported.{IsImportable}
+use Rattle.draid_pool.specs.Importable.{IsImportable}
 use Rattle.draid_pool.specs.Pools.{Represents}
 use Rattle.draid_pool.specs.declared.fault.PoolFault.{PoolFault}
 use Rattle.draid_pool.specs.declared.fault.PoolFault.TheVariants as fault

@@ -2,6 +2,7 @@ pub mod Answers
 pub mod Batches
 pub mod Carries
 pub mod Closing
+pub mod Importable
 pub mod Imported
 pub mod Failing
 pub mod Found

@@ -18,6 +18,7 @@ use Rattle.draid_machine.specs.Step.{Step}
 use Rattle.draid_segments.specs.Acts.{nowhere}
 use Rattle.draid_segments.specs.Segments.{Pieces}
 use Rattle.draid_entries.specs.History.{Passes, owed_of, stored_of}
+use Rattle.draid_entries.specs.Live.{first_twice}
 use Rattle.draid_entries.specs.Thin.{Distinct, ThinIs}
 use Rattle.draid_stable.specs.Stable.{HasRecord}
 use Rattle.draid_names.specs.declared.arm.ArmKind.TheVariants as kind
@@ -83,6 +84,11 @@ pub record OpenUpto (w : machine.State) (group tickets : ℕ) : Type 0 where
   pub all : (key : Key) (h : Held) → w.core.held key ≡ Some h → is_block h.stage ≡ false → h.birth ≤ group → Contains keys key
   pub many : tickets ≡ length keys
 
+-- the record of an image stands there, and lists each block once
+pub record ListsOnce (geometry : Geometry) (number : ℕ) (image : machine.Image) (x : content.Content) : Type 0 where
+  pub has : HasRecord (at_version image.version geometry) number image x
+  pub once : first_twice has.value.blocks ≡ None
+
 -- A group is sealed. The leaves that aren't offline were flushed, but for those on which that failed, and the record of the image that the seal makes stands in
 -- the group's area. So many of its blocks have a column whose arms don't answer or aren't clean.
 pub record Seals {R A : Type 0} (rack : Ghosts R) (told : A → Option content.Content) (old new : Shard R A) (group thin : ℕ) : Type 0 where
@@ -90,7 +96,7 @@ pub record Seals {R A : Type 0} (rack : Ghosts R) (told : A → Option content.C
   pub does : Does old new (event.Seal group failed)
   pub acts : (pieces : Pieces) → ActsOn rack old new (event.Seal group failed) pieces
   pub image : (w after : machine.State) (image : machine.Image) → Step (layout_by old) w (event.Seal group failed) after → IsReached (layout_by old) w → IsIn old w
-      → after.sealed ≡ Some image → content.OnTold (told (area_in new group)) (HasRecord (at_version image.version old.geometry) old.number image)
+      → after.sealed ≡ Some image → content.OnTold (told (area_in new group)) (ListsOnce old.geometry old.number image)
   pub thin_is : (w after : machine.State) → Step (layout_by old) w (event.Seal group failed) after → IsReached (layout_by old) w → IsIn old w
       → ThinIs (layout_by old) after.core group thin
   pub low : thin ≤ NUMBERS
