@@ -117,5 +117,5 @@ importable_crashed x held left leaves now crash same i = record {
 pub importable_left : (x : State) (o n : Option Held) (leaves now : ℕ → Option Shape) → Both CrashedHeld o n → ((m : ℕ) → now m ≡ leaves m) → OnHeld o (λ held. IsImportable x held leaves)
     → OnHeld n (λ held. IsImportable x held now)
 importable_left x o None leaves now both same h = tt
-importable_left x None (Some left) leaves now both same h = absurd both
+importable_left x None (Some left) leaves now both same h = absurd (cc)
 importable_left x (Some held) (Some left) leaves now both same h = importable_crashed x held left leaves now both same h
