@@ -52,14 +52,16 @@ pub found_arms : (x : State) (group : ℕ) (zs : List Metaslab) → AreAlike x �
     → (arms : machine.Core) × ((m : ℕ) (z : Metaslab) → slice_get zs m ≡ Some z → IsAlike x.geometry.props.version arms z.world)
 found_arms x group [] alike may findable lay reached pair = (created_core (layout_of x.geometry x.perms 0), λ m z at. absurd (cc))
 found_arms x group (first ∷ zs) alike may findable lay reached pair =
-    let p = pair 0 first refl in
-    (p.2.image.core, λ m z at.
-    (let q = pair m z at in
-    let r = q.2 in
-    subst (IsAlike x.geometry.props.version p.2.image.core) (sym (r.world ∙ r.opened))
-    (alike_opened x.geometry.props.version p.2.image.core (layout_of x.geometry x.perms m) q.0.world r.image (findable.versions m q.0 r.image q.1 r.is)
-    (alike group m 0 q.0 p.0 r.image p.2.image may q.1 p.1 r.is r.of p.2.is p.2.of)
-    (λ n a there. ((every_image (layout_of x.geometry x.perms m) q.0.world (lay m q.0 q.1) (reached m q.0 q.1)).each r.image r.is).here n a there))))
+    let p = pair 0 first refl in (
+      p.2.image.core,
+      λ m z at.
+          (let q = pair m z at in
+          let r = q.2 in
+          subst (IsAlike x.geometry.props.version p.2.image.core) (sym (r.world ∙ r.opened))
+          (alike_opened x.geometry.props.version p.2.image.core (layout_of x.geometry x.perms m) q.0.world r.image (findable.versions m q.0 r.image q.1 r.is)
+          (alike group m 0 q.0 p.0 r.image p.2.image may q.1 p.1 r.is r.of p.2.is p.2.of)
+          (λ n a there. ((every_image (layout_of x.geometry x.perms m) q.0.world (lay m q.0 q.1) (reached m q.0 q.1)).each r.image r.is).here n a there))),
+    )
 
 mapped_at : {A B : Type 0} (f : A → B) (xs ys : List A) (k : ℕ) (p q : A) → map f xs ≡ map f ys → slice_get xs k ≡ Some p → slice_get ys k ≡ Some q → f p ≡ f q
 mapped_at f xs ys k p q same a b = some_of (slice_get (map f ys) k) (f p) (f q) (ap (λ zs. slice_get zs k) (sym same) ∙ get_map f xs k p a) (get_map f ys k q b)

@@ -32,7 +32,7 @@ pub fn close<H: Shelf>(pool: Pool<H::R, H::A>, shelf: &mut H, crash: bool)
     requires whole { IsWhole H.R.Rack H.A.Area pool }
     ensures back { (x : State) → Represents H.R.Rack H.A.Area pool x
         → GivesBack x crash (H.told shelf.old) (H.told shelf.new) (H.leaves shelf.new) (H.counts shelf.new)
-            (H.uber_count shelf.new) }
+        (H.uber_count shelf.new) }
     // What has failed on an area of the pool shows on the shelf.
     ensures failed { AreaFails H.A.faults pool → AreaFailed (H.counts shelf.new)
         (record { uber = H.uber_count shelf.new; checks = H.check_counts shelf.new }) }
