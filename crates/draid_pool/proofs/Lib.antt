@@ -52,6 +52,7 @@ pub mod ImportRecords
 pub mod ImportAlike
 pub mod ImportKept
 pub mod ImportEnd
+pub mod ImportFreed
 pub mod ImportOnce
 pub mod ImportClosed
 pub mod Causes
