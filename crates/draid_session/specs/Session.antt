@@ -1,5 +1,5 @@
 -- The session: what its shelf holds between lines, and what each line does to that.
-use Rattle.std.specs.Prelude.{◌≡◌, ◌⊎◌, ℕ, true, List, [], ◌∷◌, Option, Some, None, Result, Ok, Err, string_bytes}
+use Rattle.std.specs.Prelude.{◌≡◌, ◌⊎◌, ℕ, Bool, true, false, List, [], ◌∷◌, Option, Some, None, Result, Ok, Err, string_bytes}
 use Rattle.draid_names.specs.declared.room.Room.{Room}
 use Rattle.draid_spec.specs.declared.layout.Geometry.{Geometry}
 use Rattle.draid_script.specs.Grammar.{line_of}
@@ -17,12 +17,12 @@ use Rattle.draid_session.specs.Does.{Broken, Does}
 use Rattle.draid_session.specs.Making.{IsFresh, Makes, content_of, layout_by, vdev_name_of}
 
 -- What a session has of its shelf: it is as it was found; the devices of a new pool were made and are on it, and no pool was opened; a pool is open, in this state;
--- or the pool that was open was given back.
+-- or the pool that was open was given back, with a crash or without one.
 pub data Desk : Type 0 where
   Untouched : Desk
   Made : Geometry → Desk
   Open : State → Desk
-  Shut : State → Desk
+  Shut : Bool → State → Desk
 
 -- no pool is open, and that stays so
 abbrev pub StaysShut : Desk → Desk → Type 0
@@ -55,9 +55,8 @@ uncommitted x = record x { committed = 0; pending = true }
 -- A pool was to be made, and none was opened: the shelf is as it was; or all that was made is on it, and its first commit wasn't called, or it was refused and may be
 -- on the disk.
 abbrev pub MakesNone : List ℕ → ℕ → PoolKeys → Desk → Desk → Type 0
-MakesNone text children keys old (Shut new) =
-    StaysShut old (Shut new) ⊎ ((geometry : Geometry) × HasLayout text children keys geometry × ((fresh : State) × IsFresh geometry fresh × (new ≡ uncommitted fresh)))
-MakesNone text children keys old new = (geometry : Geometry) × HasLayout text children keys geometry × (StaysShut old new ⊎ (new ≡ Made geometry))
+MakesNone text children keys old new = (geometry : Geometry) × HasLayout text children keys geometry
+    × (StaysShut old new ⊎ (new ≡ Made geometry) ⊎ ((fresh : State) × IsFresh geometry fresh × (new ≡ Shut false (uncommitted fresh))))
 
 -- A pool is made, over whatever the shelf held, or for want of memory none is opened.
 abbrev pub Creates : List ℕ → ℕ → PoolKeys → Desk → Reply → Desk → Type 0
@@ -91,9 +90,9 @@ module _ (chosen : List Room → Option ℕ → Type 0) where
   -- an export and a crash give the pool back, and every other command leaves it open
   abbrev pub OpenTurns : State → Command → Reply → Desk → Type 0
   OpenTurns old (CreatePool text children keys) (PoolOpen name.Create) new = StaysOpen old new
-  OpenTurns old ExportPool (Exported group) (Shut new) = CarriesOut ExportPool (Exported group) old new
+  OpenTurns old ExportPool (Exported group) (Shut false new) = CarriesOut ExportPool (Exported group) old new
   OpenTurns old ExportPool (Exported group) new = ⊥
-  OpenTurns old CrashPool Crashed (Shut new) = CarriesOut CrashPool Crashed old new
+  OpenTurns old CrashPool Crashed (Shut true new) = CarriesOut CrashPool Crashed old new
   OpenTurns old CrashPool Crashed new = ⊥
   OpenTurns old command reply (Open new) = CarriesOut command reply old new
   OpenTurns old command reply new = ⊥
@@ -139,5 +138,5 @@ Breaks old command new = ⊥
 
 -- the pool that is open as a run ends is given back, without a sync
 abbrev pub given_back : Desk → Desk
-given_back (Open state) = Shut state
+given_back (Open state) = Shut false state
 given_back desk = desk
