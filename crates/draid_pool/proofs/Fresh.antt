@@ -21,7 +21,7 @@ use Rattle.draid_map.specs.Place.{IsLayout}
 use Rattle.draid_machine.specs.declared.names.ArmName.TheVariants.{Leaf}
 use Rattle.draid_machine.specs.declared.names.Key.{Key}
 use Rattle.draid_machine.specs.declared.names.Held.{Held as Block}
-use Rattle.draid_machine.specs.Created.{created, new_arm}
+use Rattle.draid_machine.specs.Created.{created, created_core, new_arm}
 use Rattle.draid_machine.specs.State as machine
 use Rattle.draid_objects.specs.Blocks.{Blocks, none_held, table_of}
 use Rattle.draid_objects.specs.Stores.{IsFloor, Stores}
@@ -30,6 +30,7 @@ use Rattle.draid_record.specs.declared.uber.UberBody.{UberBody}
 use Rattle.draid_segments.specs.Segments.{Backed, Pieces}
 use Rattle.draid_segments.proofs.Beginning.{created_backed}
 use Rattle.draid_shelf.specs.Kits.{AreNewChecks, ChecksTold, Held, IsNewArea, IsNewKit, IsNewPool, IsNewRack, IsUncounted, KitCounts, KitTold, OnHeld, gives_uber, takes_uber, uber_bytes}
+use Rattle.draid_layouts.specs.Layout as layouts
 use Rattle.draid_shard.specs.Part.{Part, layout_in}
 use Rattle.draid_shard.specs.States.{IsIn, layout_by}
 use Rattle.draid_shard.specs.declared.shard.Shard.{Shard}
@@ -46,10 +47,12 @@ use Rattle.draid_pool.specs.Metaslabs.{IsMetaslab, counts_of, harm_of}
 use Rattle.draid_pool.specs.Objects.{HoldsObjects, PointsTo, blocks_of}
 use Rattle.draid_pool.specs.Opening.{AreOpened, HasNewKits, HoldsMade, IsAway, IsBackAgain, IsMade, IsOpened, IsRefused, NoChecks, Opens, SameButRecords, TakesFirst, rack_in}
 use Rattle.draid_pool.specs.Pools.{Represents}
+use Rattle.draid_pool.specs.Importable.{AllAlike, IsAlike}
 use Rattle.draid_pool.specs.Records.{HasImages, HasLeafNumbers, HasRecords, LeavesAreBelow}
 use Rattle.draid_pool.specs.Ubers.{IsPending, IsUber, body_of}
 use Rattle.draid_pool.specs.Whole.{IsWhole}
 use Rattle.draid_pool.specs.declared.pool.Pool.{Pool}
+use Rattle.draid_pool.proofs.Alike.{alike_created}
 use Rattle.draid_pool.proofs.Closed.{Parts, counted_as, holds_pool}
 use Rattle.draid_pool.proofs.Lists.{ext, some_of}
 
@@ -236,6 +239,15 @@ module _ {R A : Type 0} (rack : racks.Ghosts R) (area : areas.Ghosts A) where
           }));
     }
 
+    -- all have the version and the arms that new ones have
+    alike_first : (x : State) → x.geometry ≡ geometry → x.metaslabs ≡ map metaslab_of shards → AllAlike (created_core (layouts.layout_of geometry opened.perms 0)) x
+    alike_first x used are m y there =
+        let u = unmapped metaslab_of shards m y (ap (λ (ys : List Metaslab). slice_get ys m) (sym are) ∙ there) in
+        subst (λ (z : Metaslab). IsAlike x.geometry.props.version (created_core (layouts.layout_of geometry opened.perms 0)) z.world) u.2
+        (subst (λ (w : machine.State). IsAlike x.geometry.props.version (created_core (layouts.layout_of geometry opened.perms 0)) w) (sym (world_is m u.0 (opened.each m u.0 u.1)))
+        (subst (λ (g : Geometry). IsAlike g.props.version (created_core (layouts.layout_of geometry opened.perms 0)) (created (layout_in (record { geometry = geometry; perms = opened.perms; number = m })) geometry.props.version)) (sym used)
+        (alike_created (layouts.layout_of geometry opened.perms m) geometry.props.version)))
+
     -- ---- the pool
 
     module _ (count : ℕ) (told : Bool) where
@@ -261,6 +273,8 @@ module _ {R A : Type 0} (rack : racks.Ghosts R) (area : areas.Ghosts A) where
           uber = uber;
           images = images_first (state_of geometry opened.perms shards count told) refl (λ group found some. elim found [ inl is ↦ is | inr is ↦ absurd (let none = is.0 in cc) ]);
           leaves = leaves_first (state_of geometry opened.perms shards count told) refl refl refl;
+          arms = created_core (layouts.layout_of geometry opened.perms 0);
+          alike = alike_first (state_of geometry opened.perms shards count told) refl refl;
         };
         only = λ m k h is live. absurd (not_held m k h is);
       }
@@ -279,6 +293,8 @@ module _ {R A : Type 0} (rack : racks.Ghosts R) (area : areas.Ghosts A) where
         images = images_first x refl
             (λ group found some. elim found [ inl is ↦ absurd (omega (arith, is, some)) | inr is ↦ (let at = is.1 in omega (arith, at)) ]);
         leaves = leaves_first x refl refl refl;
+        arms = created_core (layouts.layout_of geometry opened.perms 0);
+        alike = alike_first x refl refl;
       }
 
       pub is_fresh : ((m : ℕ) → m < geometry.props.metaslabs → IsUncounted (counts m)) → OnHeld held (HasNewKits geometry) → (IsTrue told → IsTrue (is_some held))

@@ -1,4 +1,5 @@
 pub mod Absent
+pub mod Alike
 pub mod Batched
 pub mod Closed
 pub mod DamageSteps
@@ -10,6 +11,7 @@ pub mod Feeding
 pub mod FetchSteps
 pub mod Fetched
 pub mod FreeSteps
+pub mod Found
 pub mod Freed
 pub mod Fresh
 pub mod Imaged
@@ -40,4 +42,16 @@ pub mod Commits
 pub mod WholeGroups
 pub mod Looking
 pub mod SyncCalls
+pub mod ImportUber
+pub mod ImportMetaslab
+pub mod ImportFound
+pub mod ImportOlder
+pub mod ImportNewest
+pub mod ImportOpened
+pub mod ImportRefused
+pub mod ImportRecords
+pub mod ImportAlike
+pub mod ImportKept
+pub mod ImportEnd
+pub mod ImportClosed
 pub mod Causes

@@ -2,7 +2,11 @@ pub mod Answers
 pub mod Batches
 pub mod Carries
 pub mod Closing
+pub mod Importable
+pub mod Imported
 pub mod Failing
+pub mod Found
+pub mod Importing
 pub mod Metaslabs
 pub mod Objects
 pub mod Opening

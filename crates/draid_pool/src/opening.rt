@@ -22,7 +22,7 @@ use std::alloc::Global;
 use std::collections::HashMap;
 
 /// How many events all metaslabs of a pool may store, with those that are owed.
-const EVENTS: u64 = 1 << 24;
+pub(crate) const EVENTS: u64 = 1 << 24;
 
 /// Why a new metaslab wasn't made: its area failed, or there was no memory.
 fn device_fault(why: OpenFault) -> DeviceFault

@@ -1,6 +1,7 @@
 -- The pool that is open is given back to the shelf.
-use Rattle.std.proofs.Common.{◌≡◌, ◌∙◌, inl, inr, arith, sym, subst, Bool, Option, Some, None, MatchOption}
+use Rattle.std.proofs.Common.{◌≡◌, ◌∙◌, inl, inr, arith, sym, subst, ℕ, Bool, Option, Some, None, MatchOption}
 use Rattle.std.specs.Prelude.{IsSome, IsSomeAnd, IsTrue, is_some}
+use Rattle.draid_rack.specs.Rack.{Shape}
 use Rattle.draid_rack.specs.declared.Rack as racks
 use Rattle.draid_area.specs.declared.Area as areas
 use Rattle.draid_shelf.specs.Kits.{AreNewChecks, Held, OnHeld}
@@ -24,7 +25,7 @@ told_then x P (Some held) None holds told is = absurd holds
 told_then x P (Some held) (Some before) holds told is = told
 
 -- with its devices the shelf has the pool
-pub shelf_has : (x : State) (crash : Bool) (before now : OnShelf) → GivesBack x crash before.held now.held now.counts now.own.uber → now.own.checks ≡ before.own.checks → IsOut x before → HoldsShut x now
+pub shelf_has : {leaves : ℕ → Option Shape} (x : State) (crash : Bool) (before now : OnShelf) → GivesBack x crash before.held now.held leaves now.counts now.own.uber → now.own.checks ≡ before.own.checks → IsOut x before → HoldsShut x now
 shelf_has x crash before now gives checks out = record {
   held = all_held x crash now.held before.held gives.held out.held;
   told = told_then x (λ before held. IsSomeAnd before.checks AreNewChecks → HoldsPool x crash held) now.held before.held gives.held out.told;
@@ -54,7 +55,7 @@ module _ {R A : Type 0} (rack : racks.Ghosts R) (area : areas.Ghosts A) (entry b
     by (Shut y) is = record { shelf = is.shelf; failed = λ failed. failed }
     by (Open y) is = absurd is.stands
 
-  pub leaves_open : (pool : Pool R A) → desk ≡ Some pool → ((x : State) → Represents rack area pool x → GivesBack x Bool.false before.held now.held now.counts now.own.uber) → now.own.checks ≡ before.own.checks
+  pub leaves_open : {leaves : ℕ → Option Shape} (pool : Pool R A) → desk ≡ Some pool → ((x : State) → Represents rack area pool x → GivesBack x Bool.false before.held now.held leaves now.counts now.own.uber) → now.own.checks ≡ before.own.checks
       → (x : Desk) → IsDesk rack area entry before desk x → LeavesDesk entry before now x
   leaves_open pool some back checks x = subst (λ d. IsDesk rack area entry before d x → LeavesDesk entry before now x) (sym some) (by x) where
     by : (x : Desk) → IsDesk rack area entry before (Some pool) x → LeavesDesk entry before now x

@@ -1,6 +1,7 @@
 -- What a sync, an export and a crash did, in the words of a session.
 use Rattle.std.proofs.Common.{◌≡◌, ◌∙◌, refl, sym, ap, subst, ℕ, Bool, List, [], Option, Some, None, Result, Ok, Err}
 use Rattle.draid_names.specs.declared.room.Room.{Room}
+use Rattle.draid_rack.specs.Rack.{Shape}
 use Rattle.draid_rack.specs.declared.Rack as racks
 use Rattle.draid_area.specs.declared.Area as areas
 use Rattle.draid_script.specs.Line.{Command, CrashPool, ExportPool, SyncPool}
@@ -226,8 +227,8 @@ module _ {R A : Type 0} (rack : racks.Ghosts R) (area : areas.Ghosts A) (entry b
     by (Shut y) stands shelf = absurd stands
     by (Open y) stands shelf = f y stands.1 shelf
 
-  pub exported : (result : Result ℕ SyncFault) (group : ℕ) → result ≡ Ok group → ((y : State) → Represents rack area was y → CarriesOut rack area new y (ExportDoes y result))
-      → ((y : State) → Represents rack area new y → GivesBack y Bool.false before.held now.held now.counts now.own.uber) → now.own.checks ≡ before.own.checks → (left : Option (Pool R A)) → left ≡ None
+  pub exported : {leaves : ℕ → Option Shape} (result : Result ℕ SyncFault) (group : ℕ) → result ≡ Ok group → ((y : State) → Represents rack area was y → CarriesOut rack area new y (ExportDoes y result))
+      → ((y : State) → Represents rack area new y → GivesBack y Bool.false before.held now.held leaves now.counts now.own.uber) → now.own.checks ≡ before.own.checks → (left : Option (Pool R A)) → left ≡ None
       → (x : Desk) → IsDesk rack area entry before desk x → ExportDid rack area entry x (Some (Exported group)) now left
   exported result group is does back checks left none = on_open (λ x. ExportDid rack area entry x (Some (Exported group)) now left) by where
     by : (y : State) → Represents rack area was y → IsOut y before → ExportDid rack area entry (Open y) (Some (Exported group)) now left
@@ -273,7 +274,7 @@ module _ {R A : Type 0} (rack : racks.Ghosts R) (area : areas.Ghosts A) (entry b
     by (Err stop.Shelf) refused = stays None refused
     by (Err stop.Unbuilt) refused = absurd refused
 
-  pub crashed : ((y : State) → Represents rack area was y → GivesBack y Bool.true before.held now.held now.counts now.own.uber) → now.own.checks ≡ before.own.checks → (left : Option (Pool R A)) → left ≡ None
+  pub crashed : {leaves : ℕ → Option Shape} ((y : State) → Represents rack area was y → GivesBack y Bool.true before.held now.held leaves now.counts now.own.uber) → now.own.checks ≡ before.own.checks → (left : Option (Pool R A)) → left ≡ None
       → (x : Desk) → IsDesk rack area entry before desk x → CrashDid rack area entry x Crashed now left
   crashed back checks left none = on_open (λ x. CrashDid rack area entry x Crashed now left) (λ y stands out. record {
     new = Shut y;

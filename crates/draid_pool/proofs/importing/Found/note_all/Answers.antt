@@ -1,0 +1,25 @@
+use Rattle.std.proofs.Common.{arith}
+use Rattle.std.specs.Prelude.{nat_eq}
+use Rattle.std.specs.HashMap.{get}
+use Rattle.draid_pool.proofs.Found.{next_inside, next_low, noting_more}
+use Rattle.draid_pool.proofs.importing.Found.note_all.Goals as goal
+
+pub overflow_add-from : goal.overflow_add-from
+overflow_add-from g c = (let low = next_low g.R.Rack c.args.shard.now c.loop-pointer.from c.in-Some.pointer c.in-Some.ensures.some in omega (arith, low))
+
+pub loop-pointer-smaller : goal.loop-pointer-smaller
+loop-pointer-smaller g c =
+    let next = c.in-Some.ensures.some in
+    let inside = next_inside g.R.Rack c.args.shard.now c.loop-pointer.from c.in-Some.pointer c.requires.valid next in
+    let behind = next.behind in
+    omega (arith, inside, behind)
+
+pub loop-pointer-preserved : goal.loop-pointer-preserved
+loop-pointer-preserved g c =
+    let next = c.in-Some.ensures.some in
+    let inside = next_inside g.R.Rack c.args.shard.now c.loop-pointer.from c.in-Some.pointer c.requires.valid next in
+    record {
+      noting = noting_more g.R.Rack c.args.shard.now c.loop-pointer.from c.in-Some.pointer (get nat_eq c.args.self.now.newest) (get nat_eq c.loop-pointer.self.newest) (get nat_eq c.note.new.self.newest)
+          c.args.self.now.seq c.loop-pointer.self.seq c.note.new.self.seq c.requires.valid c.requires.live next c.loop-pointer.invariant.noting (c.in-Ok-true.ensures.noted c.in-Ok-true.field-0-test);
+      bound = omega (arith, inside);
+    }

@@ -1,0 +1,31 @@
+use Rattle.std.proofs.Common.{arith, rules}
+use Rattle.std.specs.Prelude.{nat_eq}
+use Rattle.std.specs.HashMap.{get}
+use Rattle.draid_pool.proofs.Found.{at_item, finding_all, finding_more, finding_none}
+use Rattle.draid_pool.proofs.importing.find_blocks.Goals as goal
+
+pub loop-shard-init : goal.loop-shard-init
+loop-shard-init g c = record { finding = finding_none g.R.Rack c.args.shards.now (get nat_eq c.new.result) 0 (λ object. search rules); bound = omega arith }
+
+pub note_all-requires-clause-valid : goal.note_all-requires-clause-valid
+note_all-requires-clause-valid g c =
+    (c.requires.ready c.loop-shard.shard-index c.shard-item.result (at_item c.args.shards.now c.loop-shard.shard-index c.shard-item.result c.loop-shard-test.true c.shard-item.is)).valid
+
+pub note_all-requires-clause-live : goal.note_all-requires-clause-live
+note_all-requires-clause-live g c =
+    (c.requires.ready c.loop-shard.shard-index c.shard-item.result (at_item c.args.shards.now c.loop-shard.shard-index c.shard-item.result c.loop-shard-test.true c.shard-item.is)).live
+
+pub loop-shard-preserved : goal.loop-shard-preserved
+loop-shard-preserved g c =
+    let there = at_item c.args.shards.now c.loop-shard.shard-index c.shard-item.result c.loop-shard-test.true c.shard-item.is in
+    let below = c.loop-shard-test.true in
+    record {
+      finding = finding_more g.R.Rack c.args.shards.now c.loop-shard.shard-index c.shard-item.result (get nat_eq c.loop-shard.found.newest) (get nat_eq c.note_all.new.self.newest)
+          c.loop-shard.found.seq c.note_all.new.self.seq there c.requires.ready c.loop-shard.invariant.finding c.in_ok-note_all.ensures.noted;
+      bound = omega (arith, below);
+    }
+
+pub returns-clause-found : goal.returns-clause-found
+returns-clause-found g c =
+    let end = c.loop-shard-test.false in
+    finding_all g.R.Rack c.args.shards.now c.loop-shard.shard-index (get nat_eq c.loop-shard.found.newest) c.loop-shard.found.seq (omega (arith, end)) c.loop-shard.invariant.finding

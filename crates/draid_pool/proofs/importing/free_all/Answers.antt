@@ -1,0 +1,55 @@
+use Rattle.std.proofs.Common.{arith, ◌∙◌, sym}
+use Rattle.std.specs.Prelude.{nat_eq}
+use Rattle.std.specs.HashMap.{get}
+use Rattle.draid_pool.proofs.Found.{at_item, freeing_all, freeing_more}
+use Rattle.draid_pool.proofs.importing.free_all.Goals as goal
+
+pub free_older-requires-clause-valid : goal.free_older-requires-clause-valid
+free_older-requires-clause-valid g c =
+    let f = c.loop-number.invariant.freeing in
+    let many = f.many in
+    let below = c.loop-number-test.true in
+    let end = c.len-number-end.ensures in
+    let len = c.args.shards.now.ok.0 in
+    let there = at_item c.loop-number.shards.items c.loop-number.number c.index_mut.result.now (omega (arith, many, below, end, len)) c.index_mut.ensures.value in
+    (c.requires.ready c.loop-number.number c.index_mut.result.now (sym (f.left c.loop-number.number (omega arith)) ∙ there)).valid
+
+pub free_older-requires-clause-live : goal.free_older-requires-clause-live
+free_older-requires-clause-live g c =
+    let f = c.loop-number.invariant.freeing in
+    let many = f.many in
+    let below = c.loop-number-test.true in
+    let end = c.len-number-end.ensures in
+    let len = c.args.shards.now.ok.0 in
+    let there = at_item c.loop-number.shards.items c.loop-number.number c.index_mut.result.now (omega (arith, many, below, end, len)) c.index_mut.ensures.value in
+    (c.requires.ready c.loop-number.number c.index_mut.result.now (sym (f.left c.loop-number.number (omega arith)) ∙ there)).live
+
+pub free_older-requires-clause-floor : goal.free_older-requires-clause-floor
+free_older-requires-clause-floor g c =
+    let f = c.loop-number.invariant.freeing in
+    let many = f.many in
+    let below = c.loop-number-test.true in
+    let end = c.len-number-end.ensures in
+    let len = c.args.shards.now.ok.0 in
+    let there = at_item c.loop-number.shards.items c.loop-number.number c.index_mut.result.now (omega (arith, many, below, end, len)) c.index_mut.ensures.value in
+    c.requires.floor c.loop-number.number c.index_mut.result.now (sym (f.left c.loop-number.number (omega arith)) ∙ there)
+
+pub loop-number-preserved : goal.loop-number-preserved
+loop-number-preserved g c =
+    let f = c.loop-number.invariant.freeing in
+    let many = f.many in
+    let below = c.loop-number-test.true in
+    let end = c.len-number-end.ensures in
+    let len = c.args.shards.now.ok.0 in
+    let there = at_item c.loop-number.shards.items c.loop-number.number c.index_mut.result.now (omega (arith, many, below, end, len)) c.index_mut.ensures.value in
+    record {
+      freeing = freeing_more g.R.Rack (get nat_eq c.args.newest.now) c.loop-number.number c.args.shards.now.items c.loop-number.shards.items c.index_mut.result.now c.free_older.new.shard there f c.free_older.ensures.frees;
+      bound = omega (arith, below, end, len);
+    }
+
+pub returns : goal.returns
+returns g c =
+    let past = c.loop-number-test.false in
+    let end = c.len-number-end.ensures in
+    let len = c.args.shards.now.ok.0 in
+    record { freed = freeing_all g.R.Rack (get nat_eq c.args.newest.now) c.loop-number.number c.args.shards.now.items c.loop-number.shards.items (omega (arith, past, end, len)) c.loop-number.invariant.freeing }

@@ -1,0 +1,418 @@
+//! A pool is imported from what was given back to a shelf: its uberblock is found, each metaslab is opened from the
+//! record of the group that it names, and of each object the block with the greatest number counts.
+ghost use Rattle.std.specs.Prelude.{◌≡◌, ◌<◌, ◌≤◌, ◌+◌, ◌⊎◌, ◌↔◌, ℕ, None, Some, IfOk, IsErrOf, IsTrue, OnErr, OnOk, nat_eq, slice_get};
+ghost use Rattle.std.specs.HashMap.{get};
+ghost use Rattle.draid_names.specs.Faults.{Rose};
+ghost use Rattle.draid_names.specs.declared.numbers.TheConstants.{LAST_NUMBER};
+ghost use Rattle.draid_names.specs.declared.pointer.Pointer.{Pointer};
+ghost use Rattle.draid_map.specs.Place.{IsLayout};
+ghost use Rattle.draid_shelf.specs.Kits.{OnHeld, takes_kit, takes_uber};
+ghost use Rattle.draid_shelf.specs.Shelf.{SameOthers};
+ghost use Rattle.draid_shard.specs.Calls.{IsLive};
+ghost use Rattle.draid_shard.specs.Fits.{Valid};
+ghost use Rattle.draid_shard.specs.declared.shard.Shard.{Shard};
+ghost use Rattle.draid_uber.specs.Slots.{group_of};
+ghost use Rattle.draid_uber.specs.Uber.{kept_of, layout_of, next_leaf_of};
+ghost use Rattle.draid_session.specs.State.{limit_of};
+ghost use Rattle.draid_pool.specs.Opening.{IsAsBefore, TakesFirst};
+ghost use Rattle.draid_pool.specs.Found.{AllLive, AnyRecordsRose, AreFound, AreFreed, AreReady, AreReopened, CountsLater, FreesIfOlder, FreesOlder, HasRisen, IsFoundUber, IsRecovered, IsReopened, LeavesShards, LeavesUber, Notes, NotesOne, OpensAllOver, OpensOver, RecordsRose, SameChecks, StaysHeld};
+ghost use Rattle.draid_pool.specs.Whole.{IsWhole};
+ghost use Rattle.draid_pool.specs.declared.importing.Found.{Found};
+
+use crate::closing::give_back;
+use crate::fault::PoolFault;
+use crate::freeing::free_block;
+use crate::opening::EVENTS;
+use crate::pool::Pool;
+use draid_area::Area;
+use draid_names::{Arm, DeviceFault, NoMemory, Pointer};
+use draid_perm::Perms;
+use draid_rack::Rack;
+use draid_shard::{OpenFault, OpenRefused, Shard};
+use draid_shelf::Shelf;
+use draid_uber::{Uber, UberFault, UberRefused};
+use std::alloc::Global;
+use std::collections::{HashMap, HashSet};
+
+/// Where the number of slots stands in a metaslab's record.
+const SLOTS_AT: u64 = 20;
+
+/// How many bytes of a record a block takes.
+const BLOCK_BYTES: u64 = 72;
+
+/// Why an uberblock gave no pool.
+fn uber_fault(why: UberFault) -> PoolFault
+    ensures { result ≡ PoolFault.Shelf → why ≡ UberFault.Area }
+{
+    match why {
+        UberFault::Area => PoolFault::Shelf,
+        UberFault::NoMemory => PoolFault::NoMemory,
+        UberFault::Empty => PoolFault::NoPool,
+        UberFault::Record { at, kind } => PoolFault::Record {
+            metaslab: None,
+            at,
+            kind,
+        },
+    }
+}
+
+/// Why a metaslab wasn't opened.
+fn open_fault(number: u32, why: OpenFault) -> PoolFault
+    ensures { result ≡ PoolFault.Shelf → why ≡ OpenFault.Area }
+{
+    match why {
+        OpenFault::Area => PoolFault::Shelf,
+        OpenFault::NoMemory => PoolFault::NoMemory,
+        OpenFault::Record { at, kind } => PoolFault::Record {
+            metaslab: Some(number),
+            at,
+            kind,
+        },
+    }
+}
+
+/// Why a call on the shelf gave nothing.
+fn shelf_fault(why: DeviceFault) -> PoolFault
+    ensures { result ≡ PoolFault.Shelf → why ≡ DeviceFault.Failed }
+{
+    match why {
+        DeviceFault::Failed => PoolFault::Shelf,
+        DeviceFault::NoMemory => PoolFault::NoMemory,
+    }
+}
+
+/// Takes the area of the uberblock, and finds the uberblock there. After a refusal the area is on the shelf.
+fn find_uber<H: Shelf>(shelf: &mut H) -> Result<Uber<H::A>, PoolFault>
+    ensures found { IfOk result (IsFoundUber H.A.Area) }
+    ensures recovered { IfOk result (IsRecovered H.A.Area (H.told shelf.old) (H.uber_count shelf.old)) }
+    ensures told { OnOk result (H.told shelf.new ≡ takes_uber (H.told shelf.old)) }
+    ensures back { OnErr result (LeavesUber (H.told shelf.old) (H.told shelf.new) (H.uber_count shelf.old) (H.uber_count shelf.new)) }
+    ensures none { OnHeld (H.told shelf.old) (λ held. held.uber ≡ None → IsErrOf result PoolFault.NoPool
+        × IsAsBefore (H.told shelf.old) (H.told shelf.new) (H.counts shelf.old) (H.counts shelf.new)
+        (record { uber = H.uber_count shelf.old; checks = H.check_counts shelf.old })
+        (record { uber = H.uber_count shelf.new; checks = H.check_counts shelf.new })) }
+    ensures held { SameChecks (H.told shelf.old) (H.told shelf.new) }
+    ensures checks { H.check_counts shelf.new ≡ H.check_counts shelf.old }
+    ensures counts { (m : ℕ) → H.counts shelf.new m ≡ H.counts shelf.old m }
+    ensures later { H.faults shelf.old ≤ H.faults shelf.new }
+    ensures cause { IsErrOf result PoolFault.Shelf → Rose (H.faults shelf.old) (H.faults shelf.new) ⊎ Rose (H.uber_count shelf.old) (H.uber_count shelf.new) }
+{
+    if !shelf.has_pool() {
+        return Err(PoolFault::NoPool);
+    }
+    let area = match shelf.take_uber() {
+        Ok(area) => area,
+        Err(why) => return Err(shelf_fault(why)),
+    };
+    match Uber::recover(area) {
+        Ok(uber) => Ok(uber),
+        Err(UberRefused { area, why }) => {
+            shelf.give_uber(area);
+            Err(uber_fault(why))
+        }
+    }
+}
+
+/// Takes the devices of a metaslab, and opens it from the record of the group that the uberblock names. After a refusal
+/// they are on the shelf.
+fn reopen_shard<H: Shelf>(
+    alloc: Global,
+    shelf: &mut H,
+    uber: &Uber<H::A>,
+    perms: Perms,
+    number: u32,
+) -> Result<Shard<H::R, H::A>, PoolFault>
+    requires uber { IsFoundUber H.A.Area uber.now }
+    requires layout { IsLayout (layout_of uber.now) perms }
+    requires number { number < (layout_of uber.now).props.metaslabs }
+    ensures reopened { IfOk result (IsReopened H.R.Rack (record { geometry = layout_of uber.now; perms = perms; number = number }) (group_of (kept_of uber.now))) }
+    ensures over { IfOk result (OpensOver H.R.Rack H.A.Area (limit_of (layout_of uber.now)) (group_of (kept_of uber.now)) (next_leaf_of uber.now) number (H.told shelf.old) (H.counts shelf.old number)) }
+    ensures told { OnOk result (H.told shelf.new ≡ takes_kit number (H.told shelf.old)) }
+    ensures back { OnErr result (StaysHeld (H.told shelf.old) (H.told shelf.new)) }
+    ensures back_counts { OnErr result (CountsLater (H.counts shelf.old number) (H.counts shelf.new number)) }
+    ensures held { SameChecks (H.told shelf.old) (H.told shelf.new) }
+    ensures checks { H.check_counts shelf.new ≡ H.check_counts shelf.old }
+    ensures counts { SameOthers number (H.counts shelf.old) (H.counts shelf.new) }
+    ensures later { H.faults shelf.old ≤ H.faults shelf.new }
+    ensures cause { IsErrOf result PoolFault.Shelf → Rose (H.faults shelf.old) (H.faults shelf.new) ⊎ RecordsRose (H.counts shelf.old number) (H.counts shelf.new number) }
+{
+    let layout = *uber.geometry();
+    let kit = match shelf.take(number, &layout) {
+        Ok(kit) => kit,
+        Err(why) => return Err(shelf_fault(why)),
+    };
+    let events = EVENTS / u64::from(layout.props.metaslabs);
+    let group = uber.committed();
+    match Shard::reopen(
+        alloc,
+        number,
+        layout,
+        perms,
+        kit,
+        events,
+        group,
+        uber.next_leaf(),
+    ) {
+        Ok(shard) => Ok(shard),
+        Err(OpenRefused { kit, why }) => {
+            shelf.give(number, kit);
+            Err(open_fault(number, why))
+        }
+    }
+}
+
+/// Opens all metaslabs. After a refusal all their devices are on the shelf.
+fn reopen_shards<H: Shelf>(
+    alloc: Global,
+    shelf: &mut H,
+    uber: &Uber<H::A>,
+) -> Result<Vec<Shard<H::R, H::A>>, PoolFault>
+    requires uber { IsFoundUber H.A.Area uber.now }
+    ensures reopened { IfOk result (λ shards. AreReopened H.R.Rack (layout_of uber.now) (group_of (kept_of uber.now)) shards.items) }
+    ensures over { IfOk result (λ shards. OpensAllOver H.R.Rack H.A.Area (limit_of (layout_of uber.now)) (group_of (kept_of uber.now)) (next_leaf_of uber.now) (H.told shelf.old) (H.counts shelf.old) shards.items) }
+    ensures told { OnOk result (TakesFirst (layout_of uber.now).props.metaslabs (H.told shelf.old) (H.told shelf.new)) }
+    ensures back { OnErr result (LeavesShards H.R.Rack H.A.Area (limit_of (layout_of uber.now)) (group_of (kept_of uber.now)) (next_leaf_of uber.now) (H.told shelf.old) (H.told shelf.new) (H.counts shelf.old) (H.counts shelf.new)) }
+    ensures held { SameChecks (H.told shelf.old) (H.told shelf.new) }
+    ensures checks { H.check_counts shelf.new ≡ H.check_counts shelf.old }
+    ensures later { H.faults shelf.old ≤ H.faults shelf.new }
+    ensures cause { IsErrOf result PoolFault.Shelf → Rose (H.faults shelf.old) (H.faults shelf.new) ⊎ AnyRecordsRose (H.counts shelf.old) (H.counts shelf.new) }
+{
+    let layout = *uber.geometry();
+    let perms = Perms::new(layout.spec.children, layout.props.seed);
+    let Ok(mut shards) = Vec::with_capacity(alloc, layout.props.metaslabs as usize) else {
+        return Err(PoolFault::NoMemory);
+    };
+    for number in 0..layout.props.metaslabs {
+        match reopen_shard(alloc, shelf, uber, perms, number) {
+            Ok(shard) => shards.push_reserved(shard),
+            Err(fault) => {
+                give_back(shelf, shards);
+                return Err(fault);
+            }
+        }
+    }
+    Ok(shards)
+}
+
+/// What the records of a pool's metaslabs say of its objects.
+#[derive(Drop)]
+pub(crate) struct Found {
+    /// The newest block of each object.
+    newest: HashMap<u64, Pointer>,
+    /// The object and the number of each block.
+    keys: HashSet<(u64, u64)>,
+    /// The greatest number of a write, 0 where there is no block.
+    seq: u64,
+}
+
+impl Found {
+    /// Notes a block. The answer is whether no other has its object and number.
+    fn note(&mut self, pointer: Pointer) -> Result<bool, NoMemory>
+        ensures noted { IfOk result (λ new. IsTrue new → NotesOne pointer (get nat_eq self.old.newest) (get nat_eq self.new.newest) self.old.seq self.new.seq) }
+    {
+        if !self.keys.insert((pointer.object, pointer.seq))? {
+            return Ok(false);
+        }
+        self.seq = self.seq.max(pointer.seq);
+        if self.is_newer(&pointer) {
+            self.newest.insert(pointer.object, pointer)?;
+        }
+        Ok(true)
+    }
+
+    /// Whether a block is newer than that of its object which was noted.
+    fn is_newer(&self, pointer: &Pointer) -> bool {
+        match self.newest.get(&pointer.object) {
+            Some(earlier) => earlier.seq < pointer.seq,
+            None => true,
+        }
+    }
+
+    /// Notes all blocks of a metaslab.
+    fn note_all<R: Rack, A: Area>(&mut self, shard: &Shard<R, A>) -> Result<(), PoolFault>
+        requires valid { Valid R.Rack shard.now }
+        requires live { AllLive shard.now }
+        ensures noted { OnOk result (Notes shard.now (get nat_eq self.old.newest) (get nat_eq self.new.newest) self.old.seq self.new.seq) }
+        ensures no_device { IsErrOf result PoolFault.Shelf → ⊥ }
+    {
+        let mut from = 0;
+        let mut at = shard.blocks_at();
+        while let Some(pointer) = shard.next_held(from) {
+            match self.note(pointer) {
+                Ok(true) => {}
+                Ok(false) => {
+                    return Err(PoolFault::Record {
+                        metaslab: Some(shard.number),
+                        at,
+                        kind: 5,
+                    });
+                }
+                Err(NoMemory) => return Err(PoolFault::NoMemory),
+            }
+            from = pointer.first + 1;
+            at = at.saturating_add(BLOCK_BYTES);
+        }
+        Ok(())
+    }
+}
+
+/// Whether two arms are one, but for whether a pass has made it good.
+fn is_same_arm(one: &Arm, other: &Arm) -> bool {
+    one.kind == other.kind && one.number == other.number && one.offline == other.offline
+}
+
+/// Whether two slots have the same arms.
+fn have_same_arms(one: &[Arm], other: &[Arm]) -> bool {
+    one.len() == other.len() && one.iter().zip(other).all(|(a, b)| is_same_arm(a, b))
+}
+
+/// Whether two metaslabs have the same arms in each slot.
+fn are_alike<R: Rack, A: Area>(one: &Shard<R, A>, other: &Shard<R, A>) -> bool {
+    let children = one.slots.children();
+    if other.slots.children() != children {
+        return false;
+    }
+    for slot in 0..children {
+        if !have_same_arms(one.slots.arms(slot), other.slots.arms(slot)) {
+            return false;
+        }
+    }
+    true
+}
+
+/// What the records of all metaslabs say of the objects.
+fn find_blocks<R: Rack, A: Area>(alloc: Global, shards: &[Shard<R, A>]) -> Result<Found, PoolFault>
+    requires ready { AreReady R.Rack shards.now }
+    ensures found { IfOk result (λ found. AreFound shards.now (get nat_eq found.newest) found.seq) }
+    ensures no_device { IsErrOf result PoolFault.Shelf → ⊥ }
+{
+    let mut found = Found {
+        newest: HashMap::new(alloc),
+        keys: HashSet::new(alloc),
+        seq: 0,
+    };
+    for shard in shards {
+        if !are_alike(&shards[0], shard) {
+            return Err(PoolFault::Record {
+                metaslab: Some(shard.number),
+                at: SLOTS_AT,
+                kind: 4,
+            });
+        }
+        found.note_all(shard)?;
+    }
+    Ok(found)
+}
+
+/// Whether this is the newest block of its object.
+fn is_newest(newest: &HashMap<u64, Pointer>, pointer: &Pointer) -> bool
+    ensures { IsTrue result ↔ (get nat_eq newest.now pointer.now.object ≡ Some pointer.now) }
+{
+    newest.get(&pointer.object) == Some(pointer)
+}
+
+/// Frees a live block that isn't the newest of its object.
+fn free_if_older<R: Rack, A: Area>(
+    shard: &mut Shard<R, A>,
+    newest: &HashMap<u64, Pointer>,
+    pointer: &Pointer,
+    floor: u64,
+)
+    requires valid { Valid R.Rack shard.old }
+    requires live { IsLive shard.old pointer.now }
+    requires floor { floor ≤ shard.old.open_group + 1 }
+    requires last { floor ≤ LAST_NUMBER }
+    ensures frees { FreesIfOlder R.Rack (get nat_eq newest.now) pointer.now shard.old shard.new }
+{
+    if is_newest(newest, pointer) {
+        return;
+    }
+    free_block(shard, pointer, floor);
+}
+
+/// Frees the blocks of a metaslab that aren't the newest of their objects.
+fn free_older<R: Rack, A: Area>(shard: &mut Shard<R, A>, newest: &HashMap<u64, Pointer>, floor: u64)
+    requires valid { Valid R.Rack shard.old }
+    requires live { AllLive shard.old }
+    requires floor { floor ≤ shard.old.open_group + 1 }
+    requires last { floor ≤ LAST_NUMBER }
+    ensures frees { FreesOlder R.Rack (get nat_eq newest.now) shard.old shard.new }
+{
+    let mut from = 0;
+    while let Some(pointer) = shard.next_held(from) {
+        free_if_older(shard, newest, &pointer, floor);
+        from = pointer.first + 1;
+    }
+}
+
+/// Frees the blocks of all metaslabs that aren't the newest of their objects.
+fn free_all<R: Rack, A: Area>(
+    shards: &mut Vec<Shard<R, A>>,
+    newest: &HashMap<u64, Pointer>,
+    floor: u64,
+)
+    requires ready { AreReady R.Rack shards.old.items }
+    requires floor { (m : ℕ) (shard : Shard R A) → slice_get shards.old.items m ≡ Some shard → floor ≤ shard.open_group + 1 }
+    requires last { floor ≤ LAST_NUMBER }
+    ensures freed { AreFreed R.Rack (get nat_eq newest.now) shards.old.items shards.new.items }
+{
+    for number in 0..shards.len() {
+        free_older(&mut shards[number], newest, floor);
+    }
+}
+
+/// The pool of these metaslabs, in which each object has its newest block.
+fn pool_of<R: Rack, A: Area>(
+    alloc: Global,
+    shards: Vec<Shard<R, A>>,
+    uber: Uber<A>,
+    found: Found,
+) -> Pool<R, A>
+    requires uber { IsFoundUber A.Area uber }
+    requires shards { AreReopened R.Rack (layout_of uber) (group_of (kept_of uber)) shards.items }
+    requires found { AreFound shards.items (get nat_eq found.newest) found.seq }
+    ensures whole { IsWhole R.Rack A.Area result }
+{
+    let floor = uber.committed() + 1;
+    let mut shards = shards;
+    free_all(&mut shards, &found.newest, floor);
+    Pool {
+        geometry: *uber.geometry(),
+        shards,
+        uber,
+        objects: found.newest,
+        seq: found.seq,
+        floor,
+        alloc,
+    }
+}
+
+/// Imports the pool that was given back to the shelf. A refusal gives back all that was taken.
+pub fn import<H: Shelf>(alloc: Global, shelf: &mut H) -> Result<Pool<H::R, H::A>, PoolFault>
+    ensures whole { IfOk result (IsWhole H.R.Rack H.A.Area) }
+    ensures none { OnHeld (H.told shelf.old) (λ held. held.uber ≡ None → IsErrOf result PoolFault.NoPool
+        × IsAsBefore (H.told shelf.old) (H.told shelf.new) (H.counts shelf.old) (H.counts shelf.new)
+        (record { uber = H.uber_count shelf.old; checks = H.check_counts shelf.old })
+        (record { uber = H.uber_count shelf.new; checks = H.check_counts shelf.new })) }
+    ensures held { SameChecks (H.told shelf.old) (H.told shelf.new) }
+    ensures checks { H.check_counts shelf.new ≡ H.check_counts shelf.old }
+    ensures later { H.faults shelf.old ≤ H.faults shelf.new }
+    ensures cause { IsErrOf result PoolFault.Shelf → HasRisen (H.faults shelf.old) (H.faults shelf.new) (H.uber_count shelf.old) (H.uber_count shelf.new) (H.counts shelf.old) (H.counts shelf.new) }
+{
+    let uber = find_uber(shelf)?;
+    let shards = match reopen_shards(alloc, shelf, &uber) {
+        Ok(shards) => shards,
+        Err(fault) => {
+            shelf.give_uber(uber.into_area());
+            return Err(fault);
+        }
+    };
+    match find_blocks(alloc, &shards) {
+        Ok(found) => Ok(pool_of(alloc, shards, uber, found)),
+        Err(fault) => {
+            give_back(shelf, shards);
+            shelf.give_uber(uber.into_area());
+            Err(fault)
+        }
+    }
+}
