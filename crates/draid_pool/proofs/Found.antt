@@ -46,7 +46,7 @@ use Rattle.draid_uber.specs.declared.uber.Uber.{Uber}
 use Rattle.draid_uber.specs.Slots.{group_of}
 use Rattle.draid_uber.specs.Uber as ubers
 use Rattle.draid_uber.specs.Uber.{kept_of, layout_of, next_leaf_of, version_of}
-use Rattle.draid_pool.specs.Found.{AllLive, AnyRecordsRose, AreFound, AreFreed, AreReady, AreReopened, CountsLater, FreesOlder, FreesIfOlder, IsFoundUber, IsReopened, LeadsTo, LeavesShards, LeavesUber, Notes, NotesOne, OpensOver, RecordsRose, SameButFlushed, SameChecks, StaysHeld}
+use Rattle.draid_pool.specs.Found.{AllLive, AnyRecordsRose, AreFound, AreFreed, AreReady, AreReopened, CountsLater, FreesAt, FreesOlder, FreesIfOlder, Grows, IsFoundUber, IsNumberIn, IsNumberOf, IsReopened, KeepsNewer, LeadsTo, LeavesShards, LeavesUber, Notes, NotesOne, OpensOver, Reaches, RecordsRose, SameButFlushed, SameChecks, StaysHeld}
 use Rattle.draid_pool.specs.Closing.{Returns, TakesBack}
 use Rattle.draid_pool.specs.Opening.{TakesFirst}
 use Rattle.draid_pool.specs.Whole.{IsWhole}
@@ -283,18 +283,35 @@ all_ready rack geometry group shards are m shard there = (let is = are.each m sh
 -- ---- blocks
 
 -- what a table has once a pointer is put there
-pub noted_one : (pointer : Pointer) (old new : ℕ → Option Pointer) (before after : ℕ) → before ≤ after → pointer.seq ≤ after
-    → ((q : ℕ) → new q ≡ cond (nat_eq pointer.object q) (Some pointer) (old q)) → NotesOne pointer old new before after
-noted_one pointer old new before after later numbered puts = record {
-  later = later;
-  numbered = numbered;
+pub keeps_put : (pointer : Pointer) (old new : ℕ → Option Pointer) → ((p : Pointer) → old pointer.object ≡ Some p → p.seq < pointer.seq)
+    → ((q : ℕ) → new q ≡ cond (nat_eq pointer.object q) (Some pointer) (old q)) → KeepsNewer pointer old new
+keeps_put pointer old new newer puts = record {
   newest = λ object p there. elim (cases_eq pointer.object object) [
     | inl same ↦
         (let is : new object ≡ Some pointer = grind (arith, nat_tests, same, puts object) in
         inr (same, some_of (new object) p pointer there is))
     | inr other ↦ (let is : new object ≡ old object = grind (arith, nat_tests, other, puts object) in inl (sym is ∙ there))
   ];
+  known = (pointer, own, omega arith);
+  grows = λ object p there. elim (cases_eq pointer.object object) [
+    | inl same ↦ (let less = newer p (ap old same ∙ there) in (pointer, ap new (sym same) ∙ own, omega (arith, less)))
+    | inr other ↦ (let is : new object ≡ old object = grind (arith, nat_tests, other, puts object) in (p, is ∙ there, omega arith))
+  ];
 }
+  where
+    own : new pointer.object ≡ Some pointer
+    own = grind (arith, nat_tests, puts pointer.object)
+
+-- what it has where it was left alone
+pub keeps_same : (pointer : Pointer) (table : ℕ → Option Pointer) → Reaches table pointer.object pointer.seq → KeepsNewer pointer table table
+keeps_same pointer table known = record {
+  newest = λ object p there. inl there;
+  known = known;
+  grows = λ object p there. (p, there, omega arith);
+}
+
+reaches_more : (old new : ℕ → Option Pointer) (object seq : ℕ) → Grows old new → Reaches old object seq → Reaches new object seq
+reaches_more old new object seq grows r = (let s = grows object r.0 r.1 in let low = r.2 in let more = s.2 in (s.0, s.1, omega (arith, low, more)))
 
 module _ {R A : Type 0} (rack : racks.Ghosts R) (shard : Shard R A) where
   -- the next block is live, in the metaslab that it names
@@ -328,9 +345,19 @@ module _ {R A : Type 0} (rack : racks.Ghosts R) (shard : Shard R A) where
     pub later : before ≤ after
     pub numbered : (first : ℕ) (e : Entry) → entry_at shard.entries first ≡ Some e → first < from → e.pointer.seq ≤ after
     pub newest : (object : ℕ) (p : Pointer) → new object ≡ Some p → (old object ≡ Some p) ⊎ ((p.object ≡ object) × (p.metaslab ≡ shard.number) × IsLive shard p)
+    pub one : (after ≡ before) ⊎ IsNumberOf shard after
+    pub known : (first : ℕ) (e : Entry) → entry_at shard.entries first ≡ Some e → first < from → Reaches new e.pointer.object e.pointer.seq
+    pub grows : Grows old new
 
   pub noting_none : (table : ℕ → Option Pointer) (seq : ℕ) → Noting 0 table table seq seq
-  noting_none table seq = record { later = omega arith; numbered = λ first e there below. absurd (omega (arith, below)); newest = λ object p there. inl there }
+  noting_none table seq = record {
+    later = omega arith;
+    numbered = λ first e there below. absurd (omega (arith, below));
+    newest = λ object p there. inl there;
+    one = inl refl;
+    known = λ first e there below. absurd (omega (arith, below));
+    grows = λ object p there. (p, there, omega arith);
+  }
 
   pub noting_more : (from : ℕ) (p : Pointer) (old mid new : ℕ → Option Pointer) (before middle after : ℕ) → Valid rack shard → AllLive shard → IsNextHeld shard from p → Noting from old mid before middle
       → NotesOne p mid new middle after → Noting (p.first + 1) old new before after
@@ -340,13 +367,22 @@ module _ {R A : Type 0} (rack : racks.Ghosts R) (shard : Shard R A) where
       | inl low ↦ (let own = n.numbered first e there low in let more = one.later in omega (arith, own, more))
       | inr same ↦ (let own = one.numbered in let seq = ap (λ (x : Pointer). x.seq) same in omega (arith, own, seq))
     ];
-    newest = λ object q there. elim (one.newest object q there) [
+    newest = λ object q there. elim (one.table.newest object q there) [
       | inl was ↦ n.newest object q was
       | inr is ↦
           (let here = next_live from p (λ first e past. live first e) next in
           inr (subst (λ (x : Pointer). (x.object ≡ object) × (x.metaslab ≡ shard.number) × IsLive shard x) (sym is.1)
           (is.0, valid.here.each p.first (staged Live p) here, here)))
     ];
+    one = elim one.one [
+      | inl same ↦ subst (λ (k : ℕ). (k ≡ before) ⊎ IsNumberOf shard k) (sym same) n.one
+      | inr own ↦ inr (p.first, staged Live p, next_live from p (λ first e past. live first e) next, own)
+    ];
+    known = λ first e there below. elim (below_next from first e p next there below) [
+      | inl low ↦ reaches_more mid new e.pointer.object e.pointer.seq one.table.grows (n.known first e there low)
+      | inr same ↦ subst (λ (q : Pointer). Reaches new q.object q.seq) (sym same) one.table.known
+    ];
+    grows = λ object q there. reaches_more mid new object q.seq one.table.grows (n.grows object q there);
   }
 
   pub noting_all : (from : ℕ) (old new : ℕ → Option Pointer) (before after : ℕ) → ((first : ℕ) → from ≤ first → entry_at shard.entries first ≡ None) → Noting from old new before after → Notes shard old new before after
@@ -357,6 +393,12 @@ module _ {R A : Type 0} (rack : racks.Ghosts R) (shard : Shard R A) where
       | inr past ↦ (let empty = none first past in absurd (cc))
     ];
     newest = n.newest;
+    one = n.one;
+    known = λ first e there. elim (cases_lt first from) [
+      | inl below ↦ n.known first e there below
+      | inr past ↦ (let empty = none first past in absurd (cc))
+    ];
+    grows = n.grows;
   }
 
 -- ---- all metaslabs
@@ -366,11 +408,15 @@ module _ {R A : Type 0} (rack : racks.Ghosts R) (shards : List (Shard R A)) wher
   pub record Finding (n : ℕ) (newest : ℕ → Option Pointer) (seq : ℕ) : Type 0 where
     pub pointers : (object : ℕ) (pointer : Pointer) → newest object ≡ Some pointer → LeadsTo shards object pointer
     pub numbered : (m : ℕ) (shard : Shard R A) (first : ℕ) (e : Entry) → m < n → slice_get shards m ≡ Some shard → entry_at shard.entries first ≡ Some e → e.pointer.seq ≤ seq
+    pub one : IsNumberIn shards seq
+    pub known : (m : ℕ) (shard : Shard R A) (first : ℕ) (e : Entry) → m < n → slice_get shards m ≡ Some shard → entry_at shard.entries first ≡ Some e → Reaches newest e.pointer.object e.pointer.seq
 
-  pub finding_none : (newest : ℕ → Option Pointer) (seq : ℕ) → ((object : ℕ) → newest object ≡ None) → Finding 0 newest seq
-  finding_none newest seq none = record {
+  pub finding_none : (newest : ℕ → Option Pointer) → ((object : ℕ) → newest object ≡ None) → Finding 0 newest 0
+  finding_none newest none = record {
     pointers = λ object pointer there. (let empty = none object in absurd (cc));
     numbered = λ m shard first e below there found. absurd (omega (arith, below));
+    one = inl refl;
+    known = λ m shard first e below there found. absurd (omega (arith, below));
   }
 
   pub finding_more : (n : ℕ) (shard : Shard R A) (old new : ℕ → Option Pointer) (before after : ℕ) → slice_get shards n ≡ Some shard → AreReady rack shards → Finding n old before → Notes shard old new before after
@@ -388,17 +434,29 @@ module _ {R A : Type 0} (rack : racks.Ghosts R) (shards : List (Shard R A)) wher
           notes.numbered first e (ap (λ (x : Shard R A). entry_at x.entries first) (sym is) ∙ found))
       | inr other ↦ (let low = f.numbered m s first e (omega (arith, below, other)) at found in let more = notes.later in omega (arith, low, more))
     ];
+    one = elim notes.one [
+      | inl same ↦ subst (IsNumberIn shards) (sym same) f.one
+      | inr z ↦ inr (n, shard, z.0, z.1, there, z.2, z.3)
+    ];
+    known = λ m s first e below at found. elim (cases_eq m n) [
+      | inl same ↦
+          (let is : s ≡ shard = some_of (slice_get shards n) s shard (subst (λ (k : ℕ). slice_get shards k ≡ Some s) same at) there in
+          notes.known first e (ap (λ (x : Shard R A). entry_at x.entries first) (sym is) ∙ found))
+      | inr other ↦ reaches_more old new e.pointer.object e.pointer.seq notes.grows (f.known m s first e (omega (arith, below, other)) at found)
+    ];
   }
 
   pub finding_all : (n : ℕ) (newest : ℕ → Option Pointer) (seq : ℕ) → length shards ≤ n → Finding n newest seq → AreFound shards newest seq
   finding_all n newest seq all f = record {
     pointers = f.pointers;
     numbered = λ m shard first e there found. (let within = slice_get_within shards m shard there in f.numbered m shard first e (omega (arith, within, all)) there found);
+    one = f.one;
+    known = λ m shard first e there found. (let within = slice_get_within shards m shard there in f.known m shard first e (omega (arith, within, all)) there found);
   }
 
 -- ---- older blocks
 
-elsewhere : (new old x : Option Entry) (q n : ℕ) → new ≡ (if q == n then x else old) → (q ≡ n → ⊥) → new ≡ old
+pub elsewhere : (new old x : Option Entry) (q n : ℕ) → new ≡ (if q == n then x else old) → (q ≡ n → ⊥) → new ≡ old
 elsewhere new old x q n is other = grind (arith, nat_tests, is, other)
 
 module _ {R A : Type 0} (rack : racks.Ghosts R) (newest : ℕ → Option Pointer) where
@@ -433,19 +491,21 @@ module _ {R A : Type 0} (rack : racks.Ghosts R) (newest : ℕ → Option Pointer
         (ap (λ (x : Entry). is_block x.stage) (sym is), (was.0, was.1, was.2 ∙ ap (λ (x : Entry). x.pointer) is))
     by first e false other there = f.blocks first e (ap (λ b. if b then Some (staged (Freed group) p) else entry_at mid.entries first) (sym other) ∙ there)
 
-  pub frees_step : (old mid new : Shard R A) (p : Pointer) → FreesOlder rack newest old mid → IsLive mid p → FreesIfOlder rack newest p mid new → FreesOlder rack newest old new
-  frees_step old mid new p f live one = elim one.done [
-    | inl same ↦ subst (FreesOlder rack newest old) (sym same) f
+  pub frees_step : (area : areas.Ghosts A) (old mid new : Shard R A) (p : Pointer) (floor : ℕ) → FreesOlder rack newest old mid → IsLive mid p → FreesIfOlder rack area newest p floor mid new
+      → FreesOlder rack newest old new
+  frees_step area old mid new p floor f live one = elim one.done [
+    | inl same ↦ subst (FreesOlder rack newest old) (sym same.1) f
     | inr freed ↦ frees_more old mid new p freed.1.0 f live freed.0 one.valid one.part freed.1.1
   ]
 
   -- the blocks behind it are as they were
-  pub left_behind : (mid new : Shard R A) (p : Pointer) (from : ℕ) → from ≤ p.first → FreesIfOlder rack newest p mid new → ((first : ℕ) (e : Entry) → from ≤ first → entry_at mid.entries first ≡ Some e → e.stage ≡ Live)
+  pub left_behind : (area : areas.Ghosts A) (mid new : Shard R A) (p : Pointer) (floor from : ℕ) → from ≤ p.first → FreesIfOlder rack area newest p floor mid new → ((first : ℕ) (e : Entry) → from ≤ first → entry_at mid.entries first ≡ Some e → e.stage ≡ Live)
       → (first : ℕ) (e : Entry) → p.first + 1 ≤ first → entry_at new.entries first ≡ Some e → e.stage ≡ Live
-  left_behind mid new p from low one live first e past there = live first e (omega (arith, low, past)) (by one.done)
+  left_behind area mid new p floor from low one live first e past there = live first e (omega (arith, low, past)) (by one.done)
     where
-      by : (new ≡ mid) ⊎ ((newest p.object ≡ Some p → ⊥) × ((group : ℕ) × SetsBlock mid new p (Some (staged (Freed group) p)))) → entry_at mid.entries first ≡ Some e
-      by (inl same) = ap (λ (x : Shard R A). entry_at x.entries first) (sym same) ∙ there
+      by : ((newest p.object ≡ Some p) × (new ≡ mid)) ⊎ ((newest p.object ≡ Some p → ⊥) × ((group : ℕ) × SetsBlock mid new p (Some (staged (Freed group) p)) × FreesAt rack area p floor group mid new))
+          → entry_at mid.entries first ≡ Some e
+      by (inl same) = ap (λ (x : Shard R A). entry_at x.entries first) (sym same.1) ∙ there
       by (inr freed) = sym (elsewhere (entry_at new.entries first) (entry_at mid.entries first) (Some (staged (Freed freed.1.0) p)) first p.first (freed.1.1.entry.at first) (λ same. omega (arith, same, past))) ∙ there
 
   -- the blocks of metaslabs below a number

@@ -53,5 +53,6 @@ pub mod ImportRecords
 pub mod ImportAlike
 pub mod ImportKept
 pub mod ImportEnd
+pub mod ImportFreed
 pub mod ImportClosed
 pub mod Causes

@@ -1,6 +1,8 @@
 -- The metaslabs that an import opens, and the blocks that it finds there.
-use Rattle.std.specs.Prelude.{◌≡◌, ◌<◌, ◌≤◌, ◌⊎◌, ℕ, true, List, Option, Some, Ok, IsSomeAnd, MatchOption, [], length, option_map, slice_get}
+use Rattle.std.specs.Prelude.{◌≡◌, ◌<◌, ◌≤◌, ◌+◌, ◌⊎◌, ℕ, true, List, Option, Some, None, Ok, IsSomeAnd, MatchOption, [], length, option_map, slice_get, slice_set}
 use Rattle.draid_names.specs.Faults.{Rose}
+use Rattle.draid_names.specs.declared.fault.DeviceFault.{DeviceFault}
+use Rattle.draid_names.specs.declared.fault.DeviceFault.TheVariants as device
 use Rattle.draid_rack.specs.declared.Rack as racks
 use Rattle.draid_area.specs.Area.{Content, OnTold, flushes}
 use Rattle.draid_area.specs.declared.Area as areas
@@ -17,7 +19,14 @@ use Rattle.draid_entries.specs.declared.entry.Entry.{Entry}
 use Rattle.draid_entries.specs.Entries.{entry_at}
 use Rattle.draid_entries.specs.History.{limit_in}
 use Rattle.draid_entries.specs.Maps.{staged}
+use Rattle.draid_segments.specs.Segments.{Pieces}
+use Rattle.draid_session.specs.State.{Metaslab, State}
+use Rattle.draid_pool.specs.declared.fault.PoolFault.{PoolFault}
+use Rattle.draid_pool.specs.declared.fault.PoolFault.TheVariants as fault
 use Rattle.draid_pool.specs.Closing.{TakesBack}
+use Rattle.draid_pool.specs.Imported.{IsFoundOf}
+use Rattle.draid_pool.specs.Metaslabs.{IsMetaslab}
+use Rattle.draid_pool.specs.Shards.{FreesIn, Goes}
 use Rattle.draid_shard.specs.Calls.{IsLive}
 use Rattle.draid_shard.specs.Changes.{SetsBlock}
 use Rattle.draid_shard.specs.Fits.{Valid}
@@ -26,6 +35,8 @@ use Rattle.draid_shard.specs.Part.{Part}
 use Rattle.draid_shard.specs.States.{part_of}
 use Rattle.draid_shard.specs.declared.shard.Shard.{Shard}
 use Rattle.draid_uber.specs.declared.uber.Uber.{Uber}
+use Rattle.draid_uber.specs.declared.uber.UberFault.{UberFault}
+use Rattle.draid_uber.specs.declared.uber.UberFault.TheVariants as uber_fault
 use Rattle.draid_uber.specs.Slots.{StandsTold, chosen_of, group_of, read_body}
 use Rattle.draid_uber.specs.Uber.{area_of, kept_of, layout_of, next_leaf_of, version_of}
 use Rattle.draid_uber.specs.Uber as ubers
@@ -124,6 +135,20 @@ pub record IsReady {R A : Type 0} (rack : racks.Ghosts R) (m : ℕ) (shard : Sha
 abbrev pub AreReady : {R A : Type 0} → racks.Ghosts R → List (Shard R A) → Type 0
 AreReady {R} {A} rack shards = (m : ℕ) (shard : Shard R A) → slice_get shards m ≡ Some shard → IsReady rack m shard
 
+-- ---- refusals
+
+-- why an import is refused where the uberblock wasn't recovered
+abbrev pub uber_fault_of : UberFault → PoolFault
+uber_fault_of uber_fault.Area = fault.Shelf
+uber_fault_of uber_fault.NoMemory = fault.NoMemory
+uber_fault_of uber_fault.Empty = fault.NoPool
+uber_fault_of (uber_fault.Record place kind) = fault.Record None place kind
+
+-- or a call on the shelf gave nothing
+abbrev pub shelf_fault_of : DeviceFault → PoolFault
+shelf_fault_of device.Failed = fault.Shelf
+shelf_fault_of device.NoMemory = fault.NoMemory
+
 -- ---- the uberblock
 
 -- an uberblock that was found: its group is one that a metaslab may be opened from
@@ -156,17 +181,39 @@ pub record IsRecovered {A : Type 0} (area : areas.Ghosts A) (held : Option shelf
 
 -- ---- blocks
 
+-- a table has a pointer of an object with at least this number
+abbrev pub Reaches : (ℕ → Option Pointer) → (object seq : ℕ) → Type 0
+Reaches table object seq = (p : Pointer) × (table object ≡ Some p) × (seq ≤ p.seq)
+
+-- the numbers of a table's pointers don't fall
+abbrev pub Grows : (ℕ → Option Pointer) → (ℕ → Option Pointer) → Type 0
+Grows old new = (object : ℕ) (p : Pointer) → old object ≡ Some p → Reaches new object p.seq
+
+-- a table has a block, or a newer one of its object
+pub record KeepsNewer (pointer : Pointer) (old new : ℕ → Option Pointer) : Type 0 where
+  pub newest : (object : ℕ) (p : Pointer) → new object ≡ Some p → (old object ≡ Some p) ⊎ ((pointer.object ≡ object) × (p ≡ pointer))
+  pub known : Reaches new pointer.object pointer.seq
+  pub grows : Grows old new
+
 -- a block was noted
 pub record NotesOne (pointer : Pointer) (old new : ℕ → Option Pointer) (before after : ℕ) : Type 0 where
   pub later : before ≤ after
   pub numbered : pointer.seq ≤ after
-  pub newest : (object : ℕ) (p : Pointer) → new object ≡ Some p → (old object ≡ Some p) ⊎ ((pointer.object ≡ object) × (p ≡ pointer))
+  pub one : (after ≡ before) ⊎ (after ≡ pointer.seq)
+  pub table : KeepsNewer pointer old new
+
+-- a number is that of a block of a shard
+abbrev pub IsNumberOf : {R A : Type 0} → Shard R A → ℕ → Type 0
+IsNumberOf shard seq = (first : ℕ) × (e : Entry) × (entry_at shard.entries first ≡ Some e) × (seq ≡ e.pointer.seq)
 
 -- no block that was found has a greater number, and of each object one is kept in mind
 pub record Notes {R A : Type 0} (shard : Shard R A) (old new : ℕ → Option Pointer) (before after : ℕ) : Type 0 where
   pub later : before ≤ after
   pub numbered : (first : ℕ) (e : Entry) → entry_at shard.entries first ≡ Some e → e.pointer.seq ≤ after
   pub newest : (object : ℕ) (p : Pointer) → new object ≡ Some p → (old object ≡ Some p) ⊎ ((p.object ≡ object) × (p.metaslab ≡ shard.number) × IsLive shard p)
+  pub one : (after ≡ before) ⊎ IsNumberOf shard after
+  pub known : (first : ℕ) (e : Entry) → entry_at shard.entries first ≡ Some e → Reaches new e.pointer.object e.pointer.seq
+  pub grows : Grows old new
 
 -- a pointer of an object is that of a live block of a metaslab
 pub record LeadsTo {R A : Type 0} (shards : List (Shard R A)) (object : ℕ) (pointer : Pointer) : Type 0 where
@@ -175,19 +222,32 @@ pub record LeadsTo {R A : Type 0} (shards : List (Shard R A)) (object : ℕ) (po
   pub there : slice_get shards pointer.metaslab ≡ Some shard
   pub live : IsLive shard pointer
 
--- what was found in all metaslabs: for each object a live block of its own, and a number that no block passes
+-- 0, or the number of a block of one of some shards
+abbrev pub IsNumberIn : {R A : Type 0} → List (Shard R A) → ℕ → Type 0
+IsNumberIn {R} {A} shards seq =
+    (seq ≡ 0) ⊎ ((m : ℕ) × (shard : Shard R A) × (first : ℕ) × (e : Entry) × (slice_get shards m ≡ Some shard) × (entry_at shard.entries first ≡ Some e) × (seq ≡ e.pointer.seq))
+
+-- what was found in all metaslabs: for each object its newest block, which is live, and the greatest number
 pub record AreFound {R A : Type 0} (shards : List (Shard R A)) (newest : ℕ → Option Pointer) (seq : ℕ) : Type 0 where
   pub pointers : (object : ℕ) (pointer : Pointer) → newest object ≡ Some pointer → LeadsTo shards object pointer
   pub numbered : (m : ℕ) (shard : Shard R A) (first : ℕ) (e : Entry) → slice_get shards m ≡ Some shard → entry_at shard.entries first ≡ Some e → e.pointer.seq ≤ seq
+  pub one : IsNumberIn shards seq
+  pub known : (m : ℕ) (shard : Shard R A) (first : ℕ) (e : Entry) → slice_get shards m ≡ Some shard → entry_at shard.entries first ≡ Some e → Reaches newest e.pointer.object e.pointer.seq
 
 -- ---- older blocks
 
+-- a live block was freed in a group, in each metaslab that the shard stands for
+abbrev pub FreesAt : {R A : Type 0} → racks.Ghosts R → areas.Ghosts A → Pointer → (floor group : ℕ) → Shard R A → Shard R A → Type 0
+FreesAt rack area pointer floor group old new = (part : Part) (pieces : Pieces) (x : Metaslab) → IsMetaslab rack area part pieces old x
+    → Goes rack area part pieces x new (FreesIn part.number pointer floor group x)
+
 -- a live block was freed, unless it is its object's newest
-pub record FreesIfOlder {R A : Type 0} (rack : racks.Ghosts R) (newest : ℕ → Option Pointer) (pointer : Pointer) (old new : Shard R A) : Type 0 where
+pub record FreesIfOlder {R A : Type 0} (rack : racks.Ghosts R) (area : areas.Ghosts A) (newest : ℕ → Option Pointer) (pointer : Pointer) (floor : ℕ) (old new : Shard R A) : Type 0 where
   pub valid : Valid rack new
   pub part : part_of new ≡ part_of old
   pub open_group_is : new.open_group ≡ old.open_group
-  pub done : (new ≡ old) ⊎ ((newest pointer.object ≡ Some pointer → ⊥) × ((group : ℕ) × SetsBlock old new pointer (Some (staged (Freed group) pointer))))
+  pub done : ((newest pointer.object ≡ Some pointer) × (new ≡ old))
+      ⊎ ((newest pointer.object ≡ Some pointer → ⊥) × ((group : ℕ) × SetsBlock old new pointer (Some (staged (Freed group) pointer)) × FreesAt rack area pointer floor group old new))
 
 -- Blocks of a metaslab were freed, but for those that are kept in mind.
 pub record FreesOlder {R A : Type 0} (rack : racks.Ghosts R) (newest : ℕ → Option Pointer) (old new : Shard R A) : Type 0 where
@@ -202,3 +262,16 @@ pub record FreesOlder {R A : Type 0} (rack : racks.Ghosts R) (newest : ℕ → O
 pub record AreFreed {R A : Type 0} (rack : racks.Ghosts R) (newest : ℕ → Option Pointer) (old new : List (Shard R A)) : Type 0 where
   pub many : length new ≡ length old
   pub each : (m : ℕ) (shard : Shard R A) → slice_get new m ≡ Some shard → (before : Shard R A) × (slice_get old m ≡ Some before) × FreesOlder rack newest before shard
+
+-- no block of a shard is live but the newest of its object
+abbrev pub HasOnly : {R A : Type 0} → (ℕ → Option Pointer) → Shard R A → Type 0
+HasOnly newest shard = (first : ℕ) (e : Entry) → entry_at shard.entries first ≡ Some e → e.stage ≡ Live → newest e.pointer.object ≡ Some e.pointer
+
+-- What was found in some shards is found in others, whose uberblock names the group before a floor.
+abbrev pub KeepsFound : {R A : Type 0} → racks.Ghosts R → areas.Ghosts A → (ℕ → Option Pointer) → (floor : ℕ) → List (Shard R A) → List (Shard R A) → Type 0
+KeepsFound {R} {A} rack area newest floor old new = (x : State) (uber : Uber A) (pieces : ℕ → Pieces) (seq : ℕ) → floor ≡ group_of (kept_of uber) + 1
+    → IsFoundOf rack area x uber pieces newest seq old → IsFoundOf rack area x uber pieces newest seq new
+
+-- so with another shard for one of them
+abbrev pub KeepsFoundAt : {R A : Type 0} → racks.Ghosts R → areas.Ghosts A → (ℕ → Option Pointer) → (floor : ℕ) → Shard R A → Shard R A → Type 0
+KeepsFoundAt {R} {A} rack area newest floor old new = (m : ℕ) (shards : List (Shard R A)) → slice_get shards m ≡ Some old → KeepsFound rack area newest floor shards (slice_set shards m new)

@@ -1,6 +1,6 @@
 //! A pool is imported from what was given back to a shelf: its uberblock is found, each metaslab is opened from the
 //! record of the group that it names, and of each object the block with the greatest number counts.
-ghost use Rattle.std.specs.Prelude.{◌≡◌, ◌<◌, ◌≤◌, ◌+◌, ◌⊎◌, ◌↔◌, ℕ, None, Some, IfOk, IsErrOf, IsTrue, OnErr, OnOk, nat_eq, slice_get};
+ghost use Rattle.std.specs.Prelude.{◌≡◌, ◌<◌, ◌≤◌, ◌+◌, ◌⊎◌, ◌↔◌, ℕ, None, Some, IfOk, IsErrOf, IsTrue, OnErr, OnOk, false, nat_eq, slice_get};
 ghost use Rattle.std.specs.HashMap.{get};
 ghost use Rattle.draid_names.specs.Faults.{Rose};
 ghost use Rattle.draid_names.specs.declared.numbers.TheConstants.{LAST_NUMBER};
@@ -13,9 +13,12 @@ ghost use Rattle.draid_shard.specs.Fits.{Valid};
 ghost use Rattle.draid_shard.specs.declared.shard.Shard.{Shard};
 ghost use Rattle.draid_uber.specs.Slots.{group_of};
 ghost use Rattle.draid_uber.specs.Uber.{kept_of, layout_of, next_leaf_of};
-ghost use Rattle.draid_session.specs.State.{limit_of};
+ghost use Rattle.draid_segments.specs.Segments.{Pieces};
+ghost use Rattle.draid_session.specs.State.{State, limit_of};
+ghost use Rattle.draid_pool.specs.Imported.{AreNewest, IsFoundOf};
+ghost use Rattle.draid_pool.specs.Importing.{ImportsPool};
 ghost use Rattle.draid_pool.specs.Opening.{IsAsBefore, TakesFirst};
-ghost use Rattle.draid_pool.specs.Found.{AllLive, AnyRecordsRose, AreFound, AreFreed, AreReady, AreReopened, CountsLater, FreesIfOlder, FreesOlder, HasRisen, IsFoundUber, IsRecovered, IsReopened, LeavesShards, LeavesUber, Notes, NotesOne, OpensAllOver, OpensOver, RecordsRose, SameChecks, StaysHeld};
+ghost use Rattle.draid_pool.specs.Found.{AllLive, AnyRecordsRose, AreFound, AreFreed, AreReady, AreReopened, CountsLater, FreesIfOlder, FreesOlder, HasOnly, HasRisen, IsFoundUber, IsRecovered, IsReopened, KeepsFound, KeepsFoundAt, KeepsNewer, LeavesShards, LeavesUber, Notes, NotesOne, OpensAllOver, OpensOver, Reaches, RecordsRose, SameChecks, StaysHeld, shelf_fault_of, uber_fault_of};
 ghost use Rattle.draid_pool.specs.Whole.{IsWhole};
 ghost use Rattle.draid_pool.specs.declared.importing.Found.{Found};
 
@@ -42,7 +45,8 @@ const BLOCK_BYTES: u64 = 72;
 
 /// Why an uberblock gave no pool.
 fn uber_fault(why: UberFault) -> PoolFault
-    ensures { result ≡ PoolFault.Shelf → why ≡ UberFault.Area }
+    ensures is { result ≡ uber_fault_of why }
+    ensures area { result ≡ PoolFault.Shelf → why ≡ UberFault.Area }
 {
     match why {
         UberFault::Area => PoolFault::Shelf,
@@ -73,7 +77,8 @@ fn open_fault(number: u32, why: OpenFault) -> PoolFault
 
 /// Why a call on the shelf gave nothing.
 fn shelf_fault(why: DeviceFault) -> PoolFault
-    ensures { result ≡ PoolFault.Shelf → why ≡ DeviceFault.Failed }
+    ensures is { result ≡ shelf_fault_of why }
+    ensures failed { result ≡ PoolFault.Shelf → why ≡ DeviceFault.Failed }
 {
     match why {
         DeviceFault::Failed => PoolFault::Shelf,
@@ -194,6 +199,27 @@ fn reopen_shards<H: Shelf>(
     Ok(shards)
 }
 
+/// Whether a block is newer than that of its object which was noted.
+fn is_newer(newest: &HashMap<u64, Pointer>, pointer: &Pointer) -> bool
+    ensures newer { IsTrue result → (p : Pointer) → get nat_eq newest.now pointer.now.object ≡ Some p → p.seq < pointer.now.seq }
+    ensures older { result ≡ false → Reaches (get nat_eq newest.now) pointer.now.object pointer.now.seq }
+{
+    match newest.get(&pointer.object) {
+        Some(earlier) => earlier.seq < pointer.seq,
+        None => true,
+    }
+}
+
+/// Keeps a block in mind, unless one of its object was noted that is as new.
+fn keep_newer(newest: &mut HashMap<u64, Pointer>, pointer: Pointer) -> Result<(), NoMemory>
+    ensures keeps { OnOk result (KeepsNewer pointer (get nat_eq newest.old) (get nat_eq newest.new)) }
+{
+    if is_newer(newest, &pointer) {
+        newest.insert(pointer.object, pointer)?;
+    }
+    Ok(())
+}
+
 /// What the records of a pool's metaslabs say of its objects.
 #[derive(Drop)]
 pub(crate) struct Found {
@@ -214,18 +240,8 @@ impl Found {
             return Ok(false);
         }
         self.seq = self.seq.max(pointer.seq);
-        if self.is_newer(&pointer) {
-            self.newest.insert(pointer.object, pointer)?;
-        }
+        keep_newer(&mut self.newest, pointer)?;
         Ok(true)
-    }
-
-    /// Whether a block is newer than that of its object which was noted.
-    fn is_newer(&self, pointer: &Pointer) -> bool {
-        match self.newest.get(&pointer.object) {
-            Some(earlier) => earlier.seq < pointer.seq,
-            None => true,
-        }
     }
 
     /// Notes all blocks of a metaslab.
@@ -322,7 +338,7 @@ fn free_if_older<R: Rack, A: Area>(
     requires live { IsLive shard.old pointer.now }
     requires floor { floor ≤ shard.old.open_group + 1 }
     requires last { floor ≤ LAST_NUMBER }
-    ensures frees { FreesIfOlder R.Rack (get nat_eq newest.now) pointer.now shard.old shard.new }
+    ensures frees { FreesIfOlder R.Rack A.Area (get nat_eq newest.now) pointer.now floor shard.old shard.new }
 {
     if is_newest(newest, pointer) {
         return;
@@ -337,6 +353,8 @@ fn free_older<R: Rack, A: Area>(shard: &mut Shard<R, A>, newest: &HashMap<u64, P
     requires floor { floor ≤ shard.old.open_group + 1 }
     requires last { floor ≤ LAST_NUMBER }
     ensures frees { FreesOlder R.Rack (get nat_eq newest.now) shard.old shard.new }
+    ensures only { HasOnly (get nat_eq newest.now) shard.new }
+    ensures keeps { KeepsFoundAt R.Rack A.Area (get nat_eq newest.now) floor shard.old shard.new }
 {
     let mut from = 0;
     while let Some(pointer) = shard.next_held(from) {
@@ -355,6 +373,8 @@ fn free_all<R: Rack, A: Area>(
     requires floor { (m : ℕ) (shard : Shard R A) → slice_get shards.old.items m ≡ Some shard → floor ≤ shard.open_group + 1 }
     requires last { floor ≤ LAST_NUMBER }
     ensures freed { AreFreed R.Rack (get nat_eq newest.now) shards.old.items shards.new.items }
+    ensures only { AreNewest shards.new.items (get nat_eq newest.now) }
+    ensures keeps { KeepsFound R.Rack A.Area (get nat_eq newest.now) floor shards.old.items shards.new.items }
 {
     for number in 0..shards.len() {
         free_older(&mut shards[number], newest, floor);
@@ -372,6 +392,7 @@ fn pool_of<R: Rack, A: Area>(
     requires shards { AreReopened R.Rack (layout_of uber) (group_of (kept_of uber)) shards.items }
     requires found { AreFound shards.items (get nat_eq found.newest) found.seq }
     ensures whole { IsWhole R.Rack A.Area result }
+    ensures imports { (x : State) (pieces : ℕ → Pieces) → IsFoundOf R.Rack A.Area x uber pieces (get nat_eq found.newest) found.seq shards.items → ImportsPool R.Rack A.Area x result }
 {
     let floor = uber.committed() + 1;
     let mut shards = shards;

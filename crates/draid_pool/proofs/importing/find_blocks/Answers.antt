@@ -5,7 +5,7 @@ use Rattle.draid_pool.proofs.Found.{at_item, finding_all, finding_more, finding_
 use Rattle.draid_pool.proofs.importing.find_blocks.Goals as goal
 
 pub loop-shard-init : goal.loop-shard-init
-loop-shard-init g c = record { finding = finding_none g.R.Rack c.args.shards.now (get nat_eq c.new.result) 0 (λ object. search rules); bound = omega arith }
+loop-shard-init g c = record { finding = finding_none g.R.Rack c.args.shards.now (get nat_eq c.new.result) (λ object. search rules); bound = omega arith }
 
 pub note_all-requires-clause-valid : goal.note_all-requires-clause-valid
 note_all-requires-clause-valid g c =

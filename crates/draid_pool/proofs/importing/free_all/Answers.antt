@@ -1,6 +1,7 @@
 use Rattle.std.proofs.Common.{arith, ◌∙◌, sym}
 use Rattle.std.specs.Prelude.{nat_eq}
 use Rattle.std.specs.HashMap.{get}
+use Rattle.draid_pool.proofs.ImportFreed.{are_newest, keeps_more, only_more}
 use Rattle.draid_pool.proofs.Found.{at_item, freeing_all, freeing_more}
 use Rattle.draid_pool.proofs.importing.free_all.Goals as goal
 
@@ -44,6 +45,10 @@ loop-number-preserved g c =
     let there = at_item c.loop-number.shards.items c.loop-number.number c.index_mut.result.now (omega (arith, many, below, end, len)) c.index_mut.ensures.value in
     record {
       freeing = freeing_more g.R.Rack (get nat_eq c.args.newest.now) c.loop-number.number c.args.shards.now.items c.loop-number.shards.items c.index_mut.result.now c.free_older.new.shard there f c.free_older.ensures.frees;
+      keeps = keeps_more g.R.Rack g.A.Area (get nat_eq c.args.newest.now) c.args.floor c.loop-number.number c.args.shards.now.items c.loop-number.shards.items c.index_mut.result.now c.free_older.new.shard there
+          c.loop-number.invariant.keeps c.free_older.ensures.keeps;
+      only = only_more g.R.Rack g.A.Area (get nat_eq c.args.newest.now) c.args.floor c.loop-number.number c.loop-number.shards.items c.index_mut.result.now c.free_older.new.shard there
+          c.loop-number.invariant.only c.free_older.ensures.only;
       bound = omega (arith, below, end, len);
     }
 
@@ -52,4 +57,10 @@ returns g c =
     let past = c.loop-number-test.false in
     let end = c.len-number-end.ensures in
     let len = c.args.shards.now.ok.0 in
-    record { freed = freeing_all g.R.Rack (get nat_eq c.args.newest.now) c.loop-number.number c.args.shards.now.items c.loop-number.shards.items (omega (arith, past, end, len)) c.loop-number.invariant.freeing }
+    let i = c.loop-number.invariant in
+    let many = i.freeing.many in
+    record {
+      freed = freeing_all g.R.Rack (get nat_eq c.args.newest.now) c.loop-number.number c.args.shards.now.items c.loop-number.shards.items (omega (arith, past, end, len)) i.freeing;
+      only = are_newest g.R.Rack g.A.Area (get nat_eq c.args.newest.now) c.args.floor c.loop-number.number c.loop-number.shards.items (omega (arith, past, end, len, many)) i.only;
+      keeps = i.keeps;
+    }
