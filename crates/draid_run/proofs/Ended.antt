@@ -157,7 +157,7 @@ module _ (chosen : List Room → Option ℕ → Type 0) (words : List (List ℕ)
       back : (x : Desk) → HoldsDesk x entry entry → HoldsDesk (given_back x) entry entry
       back Untouched is = is
       back (Made geometry) is = is
-      back (Shut x) is = is
+      back (Shut crash x) is = is
       back (Open x) is = absurd is
 
   -- a run whose words aren't those of a session

@@ -53,7 +53,7 @@ module _ {R A : Type 0} (rack : racks.Ghosts R) (area : areas.Ghosts A) where
     by : (x : Desk) → IsPool rack area (Some pool) x → SyncDid rack area x result (Some new)
     by Untouched stands = absurd stands
     by (Made geometry) stands = absurd stands
-    by (Shut y) stands = absurd stands
+    by (Shut crash y) stands = absurd stands
     by (Open y) stands = (whole, leads y stands.1)
 
   pub sync_shut : (desk new : Option (Pool R A)) (result : Result Reply Stop) → desk ≡ None → new ≡ None → result ≡ Ok (NoPool name.Sync) → (x : Desk) → IsPool rack area desk x → SyncDid rack area x result new
@@ -61,7 +61,7 @@ module _ {R A : Type 0} (rack : racks.Ghosts R) (area : areas.Ghosts A) where
     by : (x : Desk) → IsPool rack area None x → SyncDid rack area x result new
     by Untouched stands = (said, same)
     by (Made geometry) stands = (said, same)
-    by (Shut y) stands = (said, same)
+    by (Shut crash y) stands = (said, same)
     by (Open y) stands = absurd stands
 
 -- ---- in the words of a session
@@ -110,7 +110,7 @@ module _ {R A : Type 0} (rack : racks.Ghosts R) (area : areas.Ghosts A) (chosen 
   pub by_sync : (x : Desk) (reply : Reply) (desk new : Option (Pool R A)) → IsDesk rack area entry now desk x → SyncDid rack area x (Ok reply) new → Turned rack area chosen (Ok SyncPool) entry x (Some reply) now new
   by_sync Untouched reply desk new is did = told Untouched reply SyncPool name.Sync desk new (ok_same reply (NoPool name.Sync) (Ok reply) (Ok (NoPool name.Sync)) refl refl did.0) did.1 (record { stands = tt; shelf = is.shelf }) (refl, refl)
   by_sync (Made geometry) reply desk new is did = told (Made geometry) reply SyncPool name.Sync desk new (ok_same reply (NoPool name.Sync) (Ok reply) (Ok (NoPool name.Sync)) refl refl did.0) did.1 (record { stands = tt; shelf = is.shelf }) (refl, refl)
-  by_sync (Shut y) reply desk new is did = told (Shut y) reply SyncPool name.Sync desk new (ok_same reply (NoPool name.Sync) (Ok reply) (Ok (NoPool name.Sync)) refl refl did.0) did.1 (record { stands = tt; shelf = is.shelf }) (refl, refl)
+  by_sync (Shut crash y) reply desk new is did = told (Shut crash y) reply SyncPool name.Sync desk new (ok_same reply (NoPool name.Sync) (Ok reply) (Ok (NoPool name.Sync)) refl refl did.0) did.1 (record { stands = tt; shelf = is.shelf }) (refl, refl)
   by_sync (Open y) reply desk None is did = absurd did
   by_sync (Open y) reply desk (Some new) is did =
       let c = did.1 in
@@ -123,7 +123,7 @@ module _ {R A : Type 0} (rack : racks.Ghosts R) (area : areas.Ghosts A) (chosen 
   pub sync_breaks : (x : Desk) (desk new : Option (Pool R A)) → IsDesk rack area entry now desk x → SyncDid rack area x (Err stop.Shelf) new → Broken rack area SyncPool entry before x now new
   sync_breaks Untouched desk new is did = absurd (cc (did.0))
   sync_breaks (Made geometry) desk new is did = absurd (cc (did.0))
-  sync_breaks (Shut y) desk new is did = absurd (cc (did.0))
+  sync_breaks (Shut crash y) desk new is did = absurd (cc (did.0))
   sync_breaks (Open y) desk None is did = absurd did
   sync_breaks (Open y) desk (Some new) is did =
       let c = did.1 in
@@ -139,7 +139,7 @@ module _ {R A : Type 0} (rack : racks.Ghosts R) (area : areas.Ghosts A) (chosen 
   -- ---- an export
   export_turns : (x y : State) (answer : Result ℕ SyncFault) (reply : Reply) → export_reply answer ≡ Some reply → Leads x y (ExportDoes x answer) → TurnsBy chosen (Ok ExportPool) (Open x) (Some reply) (desk_behind answer y)
   export_turns x y (Ok group) reply is l =
-      subst (λ r. TurnsBy chosen (Ok ExportPool) (Open x) (Some r) (Shut y)) (some_same (Exported group) reply is)
+      subst (λ r. TurnsBy chosen (Ok ExportPool) (Open x) (Some r) (Shut Bool.false y)) (some_same (Exported group) reply is)
       (record { holds = l.holds; mid = l.mid; store = l.store; follows = l.follows; does = l.done; made = l.made })
   export_turns x y (Err sync.Worn) reply is l =
       subst (λ r. TurnsBy chosen (Ok ExportPool) (Open x) (Some r) (Open y)) (some_same (Worn name.Export) reply is)
@@ -157,7 +157,7 @@ module _ {R A : Type 0} (rack : racks.Ghosts R) (area : areas.Ghosts A) (chosen 
     by : (x : Desk) → ExportTurns x (Some reply) did.new → TurnsBy chosen (Ok ExportPool) x (Some reply) did.new
     by Untouched turns = subst (λ r. TurnsBy chosen (Ok ExportPool) Untouched (Some r) did.new) (sym (some_same reply (NoPool name.Export) turns.0)) (refl, turns.1)
     by (Made geometry) turns = subst (λ r. TurnsBy chosen (Ok ExportPool) (Made geometry) (Some r) did.new) (sym (some_same reply (NoPool name.Export) turns.0)) (refl, turns.1)
-    by (Shut y) turns = subst (λ r. TurnsBy chosen (Ok ExportPool) (Shut y) (Some r) did.new) (sym (some_same reply (NoPool name.Export) turns.0)) (refl, turns.1)
+    by (Shut crash y) turns = subst (λ r. TurnsBy chosen (Ok ExportPool) (Shut crash y) (Some r) did.new) (sym (some_same reply (NoPool name.Export) turns.0)) (refl, turns.1)
     by (Open y) turns = subst (λ d. TurnsBy chosen (Ok ExportPool) (Open y) (Some reply) d) (sym turns.new_is) (export_turns y turns.y turns.answer reply turns.reply_is turns.leads)
 
   pub export_breaks : (x : Desk) (new : Option (Pool R A)) → ExportDid rack area entry x None now new → Broken rack area ExportPool entry before x now new
@@ -169,7 +169,7 @@ module _ {R A : Type 0} (rack : racks.Ghosts R) (area : areas.Ghosts A) (chosen 
     by : (x : Desk) → ExportTurns x None did.new → Broken rack area ExportPool entry before x now new
     by Untouched turns = absurd (cc (turns.0))
     by (Made geometry) turns = absurd (cc (turns.0))
-    by (Shut y) turns = absurd (cc (turns.0))
+    by (Shut crash y) turns = absurd (cc (turns.0))
     by (Open y) turns =
         let l = turns.leads in
         let f = export_fails chosen y l.holds l.store turns.answer turns.reply_is l.done in
@@ -188,7 +188,7 @@ module _ {R A : Type 0} (rack : racks.Ghosts R) (area : areas.Ghosts A) (chosen 
     by : (x : Desk) → CrashTurns x reply did.new → TurnsBy chosen (Ok CrashPool) x (Some reply) did.new
     by Untouched turns = subst (λ r. TurnsBy chosen (Ok CrashPool) Untouched (Some r) did.new) (sym turns.0) (refl, turns.1)
     by (Made geometry) turns = subst (λ r. TurnsBy chosen (Ok CrashPool) (Made geometry) (Some r) did.new) (sym turns.0) (refl, turns.1)
-    by (Shut y) turns = subst (λ r. TurnsBy chosen (Ok CrashPool) (Shut y) (Some r) did.new) (sym turns.0) (refl, turns.1)
+    by (Shut crash y) turns = subst (λ r. TurnsBy chosen (Ok CrashPool) (Shut crash y) (Some r) did.new) (sym turns.0) (refl, turns.1)
     by (Open y) turns =
         subst (λ r. TurnsBy chosen (Ok CrashPool) (Open y) (Some r) did.new) (sym turns.0)
         (subst (λ d. TurnsBy chosen (Ok CrashPool) (Open y) (Some Crashed) d) (sym turns.1)
@@ -207,7 +207,7 @@ module _ {R A : Type 0} (rack : racks.Ghosts R) (area : areas.Ghosts A) (chosen 
         not_unbuilt : (x : Desk) (new : Option (Pool R A)) → SyncDid rack area x (Err stop.Unbuilt) new → ⊥
         not_unbuilt Untouched new did = cc (did.0)
         not_unbuilt (Made geometry) new did = cc (did.0)
-        not_unbuilt (Shut y) new did = cc (did.0)
+        not_unbuilt (Shut crash y) new did = cc (did.0)
         not_unbuilt (Open y) None did = did
         not_unbuilt (Open y) (Some p) did = did.1
 
@@ -224,7 +224,7 @@ module _ {R A : Type 0} (rack : racks.Ghosts R) (area : areas.Ghosts A) (entry b
     by : (x : Desk) → IsPool rack area (Some was) x → IsShelf x entry before → P x
     by Untouched stands shelf = absurd stands
     by (Made geometry) stands shelf = absurd stands
-    by (Shut y) stands shelf = absurd stands
+    by (Shut crash y) stands shelf = absurd stands
     by (Open y) stands shelf = f y stands.1 shelf
 
   pub exported : {leaves : ℕ → Option Shape} (result : Result ℕ SyncFault) (group : ℕ) → result ≡ Ok group → ((y : State) → Represents rack area was y → CarriesOut rack area new y (ExportDoes y result))
@@ -236,9 +236,9 @@ module _ {R A : Type 0} (rack : racks.Ghosts R) (area : areas.Ghosts A) (entry b
         let c = does y stands in
         let z : State = record c.reached { store = c.store } in
         record {
-          new = Shut z;
+          new = Shut Bool.false z;
           desk = record {
-            stands = subst (λ l. IsPool rack area l (Shut z)) (sym none) tt;
+            stands = subst (λ l. IsPool rack area l (Shut Bool.false z)) (sym none) tt;
             shelf = shelf_has z Bool.false before now (back z c.represents) checks (still_out y c.reached before c.holds c.follows out c.store);
           };
           turns = record {
@@ -277,7 +277,7 @@ module _ {R A : Type 0} (rack : racks.Ghosts R) (area : areas.Ghosts A) (entry b
   pub crashed : {leaves : ℕ → Option Shape} ((y : State) → Represents rack area was y → GivesBack y Bool.true before.held now.held leaves now.counts now.own.uber) → now.own.checks ≡ before.own.checks → (left : Option (Pool R A)) → left ≡ None
       → (x : Desk) → IsDesk rack area entry before desk x → CrashDid rack area entry x Crashed now left
   crashed back checks left none = on_open (λ x. CrashDid rack area entry x Crashed now left) (λ y stands out. record {
-    new = Shut y;
-    desk = record { stands = subst (λ l. IsPool rack area l (Shut y)) (sym none) tt; shelf = shelf_has y Bool.true before now (back y stands) checks out };
+    new = Shut Bool.true y;
+    desk = record { stands = subst (λ l. IsPool rack area l (Shut Bool.true y)) (sym none) tt; shelf = shelf_has y Bool.true before now (back y stands) checks out };
     turns = (refl, refl);
   })

@@ -27,7 +27,7 @@ use Rattle.draid_pool.specs.declared.fault.PoolFault.TheVariants as fault
 use Rattle.draid_pool.specs.declared.pool.Pool.{Pool}
 use Rattle.draid_run.specs.Desks.{Broken, IsDesk, IsPool, IsShelf}
 use Rattle.draid_run.specs.Making.{CreateDid, CreateTurns, MakeIs, PoolIs}
-use Rattle.draid_run.specs.Shelves.{HasChecks, HasFailed, HasFault, HoldsAll, HoldsShut, IsSame, OnShelf}
+use Rattle.draid_run.specs.Shelves.{HasChecks, HasFailed, HasFault, HoldsShut, IsSame, OnShelf}
 use Rattle.draid_run.specs.declared.answer.Made as answer
 
 -- what stands behind all checks is what passed them
@@ -55,8 +55,8 @@ same_shelf (Made geometry) entry before now none s d = record {
   uber = s.uber ∙ d.uber;
   checks = s.checks ∙ d.checks;
 }
-same_shelf (Shut y) entry before now none s d = record {
-  held = subst (λ h. OnHeld h (HoldsAll y)) (sym s.held) d.held;
+same_shelf (Shut crash y) entry before now none s d = record {
+  held = subst (λ h. OnHeld h (HoldsPool y crash)) (sym s.held) d.held;
   told = λ is. d.told (subst (λ h. IsSome h) s.held is);
   counts = λ m z there. subst (λ (k : KitCounts). SameCounts z.counts k) (sym (s.counts m)) (d.counts m z there);
   uber = s.uber ∙ d.uber;
@@ -73,13 +73,13 @@ module _ {R A : Type 0} (rack : racks.Ghosts R) (area : areas.Ghosts A) where
   not_open : (x : Desk) → IsPool rack area None x → (y : State) → x ≡ Open y → ⊥
   not_open Untouched is y same = cc same
   not_open (Made geometry) is y same = cc same
-  not_open (Shut z) is y same = cc same
+  not_open (Shut crash z) is y same = cc same
   not_open (Open z) is y same = is
 
   stays_shut : (x : Desk) → IsPool rack area None x → StaysShut x x
   stays_shut Untouched is = refl
   stays_shut (Made geometry) is = refl
-  stays_shut (Shut z) is = refl
+  stays_shut (Shut crash z) is = refl
   stays_shut (Open z) is = absurd is
 
   module _ (text : List ℕ) (children : ℕ) (keys : PoolKeys) (entry before now : OnShelf) (spec : Spec) (read : spec_by text children keys.version ≡ Ok spec) where
@@ -87,25 +87,25 @@ module _ {R A : Type 0} (rack : racks.Ghosts R) (area : areas.Ghosts A) where
         → CreateTurns text children keys x (Created m.name m.stripes) (Open new)
     turns_made Untouched m new is makes = makes
     turns_made (Made geometry) m new is makes = makes
-    turns_made (Shut z) m new is makes = makes
+    turns_made (Shut crash z) m new is makes = makes
     turns_made (Open z) m new is makes = absurd is
 
     turns_refused : (x : Desk) (why : SpecFault) → IsPool rack area None x → layout_by text children keys ≡ Err why → CreateTurns text children keys x (CreateRefused why) x
     turns_refused Untouched why is none = (none, refl)
     turns_refused (Made geometry) why is none = (none, refl)
-    turns_refused (Shut z) why is none = (none, refl)
+    turns_refused (Shut crash z) why is none = (none, refl)
     turns_refused (Open z) why is none = absurd is
 
     turns_none : (x : Desk) (new : Desk) → IsPool rack area None x → MakesNone text children keys x new → CreateTurns text children keys x (NoMemory name.Create) new
     turns_none Untouched new is none = none
     turns_none (Made geometry) new is none = none
-    turns_none (Shut z) new is none = none
+    turns_none (Shut crash z) new is none = none
     turns_none (Open z) new is none = absurd is
 
     breaks_none : (x : Desk) (new : Desk) → IsPool rack area None x → MakesNone text children keys x new → Breaks x (CreatePool text children keys) new
     breaks_none Untouched new is none = none
     breaks_none (Made geometry) new is none = none
-    breaks_none (Shut z) new is none = none
+    breaks_none (Shut crash z) new is none = none
     breaks_none (Open z) new is none = absurd is
 
     module _ (result : Result answer.Made PoolFault) (pool : Option (Pool R A)) (x : Desk) (shelf : IsShelf x entry before) (stands : IsPool rack area None x)
@@ -146,17 +146,14 @@ module _ {R A : Type 0} (rack : racks.Ghosts R) (area : areas.Ghosts A) where
             turns = turns_refused x why stands (layout_is (Err why) o.0);
           }
 
-      refused_shut : (geometry : Geometry) (r : IsRefused geometry now.held now.counts now.own) → HoldsShut (uncommitted r.fresh) now
+      refused_shut : (geometry : Geometry) (r : IsRefused geometry now.held now.counts now.own) → HoldsShut false (uncommitted r.fresh) now
       refused_shut geometry r = record {
-        held = all now.held r.held;
+        held = r.held;
         told = r.told;
         counts = r.counts;
         uber = r.uber;
         checks = r.checks;
-      } where
-        all : (held : Option Held) → OnHeld held (HoldsPool (uncommitted r.fresh) false) → OnHeld held (HoldsAll (uncommitted r.fresh))
-        all None h = tt
-        all (Some held) h = record { crash = false; holds = h }
+      }
 
       -- none was opened: where the desk is then, and why it may be
       none_made : opening.HasLayout spec (props_of keys) → pool ≡ None
@@ -167,34 +164,28 @@ module _ {R A : Type 0} (rack : racks.Ghosts R) (area : areas.Ghosts A) where
         | inl same ↦ (
           x,
           record { stands = subst (λ p. IsPool rack area p x) (sym none) stands; shelf = same_shelf x entry before now (not_open x stands) same shelf },
-          as_was x stands has,
+          (has.0, layout_is (Ok has.0) has.1, inl (stays_shut x stands)),
           fault_shut x stands,
         )
         | inr all ↦ elim all.2 [
           | inl made ↦ (
             Made all.0,
             record { stands = subst (λ p. IsPool rack area p (Made all.0)) (sym none) tt; shelf = made },
-            (all.0, layout_is (Ok all.0) all.1, inr refl),
+            (all.0, layout_is (Ok all.0) all.1, inr (inl refl)),
             λ failed. failed,
           )
           | inr r ↦ (
-            Shut (uncommitted r.fresh),
-            record { stands = subst (λ p. IsPool rack area p (Shut (uncommitted r.fresh))) (sym none) tt; shelf = refused_shut all.0 r },
-            inr (all.0, layout_is (Ok all.0) all.1, (r.fresh, r.is_fresh, refl)),
+            Shut false (uncommitted r.fresh),
+            record { stands = subst (λ p. IsPool rack area p (Shut false (uncommitted r.fresh))) (sym none) tt; shelf = refused_shut all.0 r },
+            (all.0, layout_is (Ok all.0) all.1, inr (inr (r.fresh, r.is_fresh, refl))),
             λ failed. failed,
           )
         ]
       ] where
-        as_was : (y : Desk) → IsPool rack area None y → opening.HasLayout spec (props_of keys) → MakesNone text children keys y y
-        as_was Untouched is h = (h.0, layout_is (Ok h.0) h.1, inl refl)
-        as_was (Made geometry) is h = (h.0, layout_is (Ok h.0) h.1, inl refl)
-        as_was (Shut z) is h = inl refl
-        as_was (Open z) is h = absurd is
-
         fault_shut : (y : Desk) → IsPool rack area None y → HasFailed before now → HasFault before now y
         fault_shut Untouched is failed = failed
         fault_shut (Made geometry) is failed = failed
-        fault_shut (Shut z) is failed = failed
+        fault_shut (Shut crash z) is failed = failed
         fault_shut (Open z) is failed = absurd is
 
       pub no_memory : result ≡ Err fault.NoMemory → CreateDid rack area text children keys entry x (NoMemory name.Create) now pool

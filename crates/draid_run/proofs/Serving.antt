@@ -55,7 +55,7 @@ fault_from : (entry before now : OnShelf) → entry.faults ≤ before.faults →
 fault_from entry before now later (Open x) fault = fault
 fault_from entry before now later Untouched fault = failed_from entry before now later fault
 fault_from entry before now later (Made geometry) fault = failed_from entry before now later fault
-fault_from entry before now later (Shut x) fault = failed_from entry before now later fault
+fault_from entry before now later (Shut crash x) fault = failed_from entry before now later fault
 
 module _ {R A : Type 0} (rack : racks.Ghosts R) (area : areas.Ghosts A) (chosen : List Room → Option ℕ → Type 0) (entry : OnShelf) where
   -- the line under another name of its number and its text
@@ -79,7 +79,7 @@ module _ {R A : Type 0} (rack : racks.Ghosts R) (area : areas.Ghosts A) (chosen 
   shut_desk : (first : Desk) → HoldsDesk first entry entry → IsDesk rack area entry entry None first
   shut_desk Untouched is = record { stands = tt; shelf = is }
   shut_desk (Made geometry) is = record { stands = tt; shelf = is }
-  shut_desk (Shut x) is = record { stands = tt; shelf = is }
+  shut_desk (Shut crash x) is = record { stands = tt; shelf = is }
   shut_desk (Open x) is = absurd is
 
   pub serving_none : (input start : Option (List ℕ)) (first : Desk) → HoldsDesk first entry entry → Serving rack area chosen first input (prepend_known [] input) start start entry entry None 0

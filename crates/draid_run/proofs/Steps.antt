@@ -1,5 +1,5 @@
 -- What the calls of a pool did, in the words of a session.
-use Rattle.std.proofs.Common.{◌≡◌, ◌∙◌, ℕ, List, Option, Some, None, Ok, refl, subst, sym}
+use Rattle.std.proofs.Common.{◌≡◌, ◌∙◌, ℕ, List, Bool, Option, Some, None, Ok, refl, subst, sym}
 use Rattle.draid_rack.specs.declared.Rack as racks
 use Rattle.draid_area.specs.declared.Area as areas
 use Rattle.draid_names.specs.declared.room.Room.{Room}
@@ -44,7 +44,7 @@ is_whole rack area desk pool is stands = by stands.0 (subst (λ d. IsPool rack a
   by : (x : Desk) → IsPool rack area (Some pool) x → IsWhole rack area pool
   by Untouched stands = absurd stands
   by (Made geometry) stands = absurd stands
-  by (Shut y) stands = absurd stands
+  by (Shut crash y) stands = absurd stands
   by (Open y) stands = stands.0
 
 -- the shelf is as it was while the pool's state moved on
@@ -59,7 +59,7 @@ module _ {R A : Type 0} (rack : racks.Ghosts R) (area : areas.Ghosts A) (called 
     by : (x : Desk) → IsPool rack area (Some pool) x → PoolDid rack area called says x reply (Some new)
     by Untouched stands = absurd stands
     by (Made geometry) stands = absurd stands
-    by (Shut y) stands = absurd stands
+    by (Shut crash y) stands = absurd stands
     by (Open y) stands = (whole, step y stands.1)
 
   -- no pool is open, and the reply says so
@@ -68,7 +68,7 @@ module _ {R A : Type 0} (rack : racks.Ghosts R) (area : areas.Ghosts A) (called 
     by : (x : Desk) → IsPool rack area None x → PoolDid rack area called says x reply new
     by Untouched stands = (said, same)
     by (Made geometry) stands = (said, same)
-    by (Shut y) stands = (said, same)
+    by (Shut crash y) stands = (said, same)
     by (Open y) stands = absurd stands
 
 module _ {R A : Type 0} (rack : racks.Ghosts R) (area : areas.Ghosts A) (chosen : List Room → Option ℕ → Type 0) (entry now : OnShelf) (desk : Option (Pool R A)) (reply : Reply) where
@@ -77,7 +77,7 @@ module _ {R A : Type 0} (rack : racks.Ghosts R) (area : areas.Ghosts A) (chosen 
       → ((x y : State) → session.CarriesOut chosen command reply x y → TurnsBy chosen (Ok command) (Open x) (Some reply) (Open y))
       → TurnsBy chosen (Ok command) Untouched (Some (NoPool called)) Untouched
       → ((geometry : Geometry) → TurnsBy chosen (Ok command) (Made geometry) (Some (NoPool called)) (Made geometry))
-      → ((y : State) → TurnsBy chosen (Ok command) (Shut y) (Some (NoPool called)) (Shut y))
+      → ((crash : Bool) (y : State) → TurnsBy chosen (Ok command) (Shut crash y) (Some (NoPool called)) (Shut crash y))
       → (x : Desk) (new : Option (Pool R A)) → IsDesk rack area entry now desk x → PoolDid rack area called says x reply new → Turned rack area chosen (Ok command) entry x (Some reply) now new
   turned_by command called says does turns untouched made shut = by where
     told : (x : Desk) (new : Option (Pool R A)) → (reply ≡ NoPool called) × (new ≡ None) → IsPool rack area None x → IsDesk rack area entry now desk x → TurnsBy chosen (Ok command) x (Some (NoPool called)) x
@@ -90,7 +90,7 @@ module _ {R A : Type 0} (rack : racks.Ghosts R) (area : areas.Ghosts A) (chosen 
     by : (x : Desk) (new : Option (Pool R A)) → IsDesk rack area entry now desk x → PoolDid rack area called says x reply new → Turned rack area chosen (Ok command) entry x (Some reply) now new
     by Untouched new is did = told Untouched new did tt is untouched
     by (Made geometry) new is did = told (Made geometry) new did tt is (made geometry)
-    by (Shut y) new is did = told (Shut y) new did tt is (shut y)
+    by (Shut crash y) new is did = told (Shut crash y) new did tt is (shut crash y)
     by (Open y) None is did = absurd did
     by (Open y) (Some new) is did = record {
       new = Open (record did.1.reached { store = did.1.store });
@@ -101,29 +101,29 @@ module _ {R A : Type 0} (rack : racks.Ghosts R) (area : areas.Ghosts A) (chosen 
 
   pub by_write : (o : ℕ) (bytes : List ℕ) (x : Desk) (new : Option (Pool R A)) → IsDesk rack area entry now desk x → PoolDid rack area name.Write (λ y. ReplyDoes y chosen (WriteObject o bytes) reply) x reply new
       → Turned rack area chosen (Ok (WriteObject o bytes)) entry x (Some reply) now new
-  by_write o bytes = turned_by (WriteObject o bytes) name.Write (λ y. ReplyDoes y chosen (WriteObject o bytes) reply) (λ y holds store w. w) (λ y z c. c) (refl, refl) (λ geometry. (refl, refl)) (λ y. (refl, refl))
+  by_write o bytes = turned_by (WriteObject o bytes) name.Write (λ y. ReplyDoes y chosen (WriteObject o bytes) reply) (λ y holds store w. w) (λ y z c. c) (refl, refl) (λ geometry. (refl, refl)) (λ crash y. (refl, refl))
 
   pub by_fill : (first count len seed : ℕ) (x : Desk) (new : Option (Pool R A)) → IsDesk rack area entry now desk x
       → PoolDid rack area name.Fill (λ y. ReplyDoes y chosen (FillObjects first count len seed) reply) x reply new
       → Turned rack area chosen (Ok (FillObjects first count len seed)) entry x (Some reply) now new
   by_fill first count len seed =
-      turned_by (FillObjects first count len seed) name.Fill (λ y. ReplyDoes y chosen (FillObjects first count len seed) reply) (λ y holds store w. w) (λ y z c. c) (refl, refl) (λ geometry. (refl, refl)) (λ y. (refl, refl))
+      turned_by (FillObjects first count len seed) name.Fill (λ y. ReplyDoes y chosen (FillObjects first count len seed) reply) (λ y holds store w. w) (λ y z c. c) (refl, refl) (λ geometry. (refl, refl)) (λ crash y. (refl, refl))
 
   pub by_read : (o : ℕ) (x : Desk) (new : Option (Pool R A)) → IsDesk rack area entry now desk x → PoolDid rack area name.Read (ReadSays o reply) x reply new
       → Turned rack area chosen (Ok (ReadObject o)) entry x (Some reply) now new
-  by_read o = turned_by (ReadObject o) name.Read (ReadSays o reply) (λ y holds store w. read_does y chosen reply holds store o w) (λ y z c. c) (refl, refl) (λ geometry. (refl, refl)) (λ y. (refl, refl))
+  by_read o = turned_by (ReadObject o) name.Read (ReadSays o reply) (λ y holds store w. read_does y chosen reply holds store o w) (λ y z c. c) (refl, refl) (λ geometry. (refl, refl)) (λ crash y. (refl, refl))
 
   pub by_free : (o : ℕ) (x : Desk) (new : Option (Pool R A)) → IsDesk rack area entry now desk x → PoolDid rack area name.Free (FreeSays o reply) x reply new
       → Turned rack area chosen (Ok (FreeObject o)) entry x (Some reply) now new
-  by_free o = turned_by (FreeObject o) name.Free (FreeSays o reply) (λ y holds store w. free_does y chosen reply holds store o w) (λ y z c. c) (refl, refl) (λ geometry. (refl, refl)) (λ y. (refl, refl))
+  by_free o = turned_by (FreeObject o) name.Free (FreeSays o reply) (λ y holds store w. free_does y chosen reply holds store o w) (λ y z c. c) (refl, refl) (λ geometry. (refl, refl)) (λ crash y. (refl, refl))
 
   pub by_sum : (first count : ℕ) (x : Desk) (new : Option (Pool R A)) → IsDesk rack area entry now desk x → PoolDid rack area name.Sum (SumSays first count reply) x reply new
       → Turned rack area chosen (Ok (SumObjects first count)) entry x (Some reply) now new
-  by_sum first count = turned_by (SumObjects first count) name.Sum (SumSays first count reply) (λ y holds store w. sum_does y chosen reply holds store first count w) (λ y z c. c) (refl, refl) (λ geometry. (refl, refl)) (λ y. (refl, refl))
+  by_sum first count = turned_by (SumObjects first count) name.Sum (SumSays first count reply) (λ y holds store w. sum_does y chosen reply holds store first count w) (λ y z c. c) (refl, refl) (λ geometry. (refl, refl)) (λ crash y. (refl, refl))
 
   pub by_damage : (leaf sector : ℕ) (x : Desk) (new : Option (Pool R A)) → IsDesk rack area entry now desk x → PoolDid rack area name.Damage (DamageSays leaf sector reply) x reply new
       → Turned rack area chosen (Ok (DamageSector leaf sector)) entry x (Some reply) now new
-  by_damage leaf sector = turned_by (DamageSector leaf sector) name.Damage (DamageSays leaf sector reply) (λ y holds store w. damage_does y chosen reply holds store leaf sector w) (λ y z c. c) (refl, refl) (λ geometry. (refl, refl)) (λ y. (refl, refl))
+  by_damage leaf sector = turned_by (DamageSector leaf sector) name.Damage (DamageSays leaf sector reply) (λ y holds store w. damage_does y chosen reply holds store leaf sector w) (λ y z c. c) (refl, refl) (λ geometry. (refl, refl)) (λ crash y. (refl, refl))
 
 -- a pool was made or refused, in the words of all commands
 pub by_create : {R A : Type 0} (rack : racks.Ghosts R) (area : areas.Ghosts A) (chosen : List Room → Option ℕ → Type 0) (entry now : OnShelf) (text : List ℕ) (children : ℕ) (keys : PoolKeys) (x : Desk) (reply : Reply)
@@ -134,5 +134,5 @@ by_create rack area chosen entry now text children keys x reply pool did =
     by : (x : Desk) (new : Desk) → CreateTurns text children keys x reply new → TurnsBy chosen (Ok (CreatePool text children keys)) x (Some reply) new
     by Untouched new turns = turns
     by (Made geometry) new turns = turns
-    by (Shut y) new turns = turns
+    by (Shut crash y) new turns = turns
     by (Open y) new turns = subst (λ r. TurnsBy chosen (Ok (CreatePool text children keys)) (Open y) (Some r) new) (sym turns.0) turns.1

@@ -1,5 +1,5 @@
 -- What a sync, an export and a crash come to.
-use Rattle.std.specs.Prelude.{◌≡◌, ℕ, List, Option, Some, None, Result, Ok, Err}
+use Rattle.std.specs.Prelude.{◌≡◌, ℕ, true, false, List, Option, Some, None, Result, Ok, Err}
 use Rattle.draid_rack.specs.declared.Rack as racks
 use Rattle.draid_area.specs.declared.Area as areas
 use Rattle.draid_script.specs.declared.name.CommandName.{CommandName}
@@ -66,7 +66,7 @@ export_reply (Err why) = refusal_of name.Export why
 
 -- it gives the pool back, unless its sync was refused
 abbrev pub desk_behind : Result ℕ SyncFault → State → Desk
-desk_behind (Ok group) y = Shut y
+desk_behind (Ok group) y = Shut false y
 desk_behind (Err why) y = Open y
 
 -- Holds led from one state to another, and are so.
@@ -103,7 +103,7 @@ ExportIs rack area entry old now pool (Err stop.Unbuilt) = ⊥
 
 -- a crash gives the pool back as it is
 abbrev pub CrashTurns : Desk → Reply → Desk → Type 0
-CrashTurns (Open x) reply new = (reply ≡ Crashed) × (new ≡ Shut x)
+CrashTurns (Open x) reply new = (reply ≡ Crashed) × (new ≡ Shut true x)
 CrashTurns desk reply new = (reply ≡ NoPool name.Crash) × (new ≡ desk)
 
 pub record CrashDid {R A : Type 0} (rack : racks.Ghosts R) (area : areas.Ghosts A) (entry : OnShelf) (old : Desk) (reply : Reply) (now : OnShelf) (pool : Option (Pool R A)) : Type 0 where

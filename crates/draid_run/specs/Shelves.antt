@@ -38,14 +38,10 @@ pub record IsOut (x : State) (now : OnShelf) : Type 0 where
   pub checks : NoChecks now.own
   pub told : x.told ≡ is_some now.held
 
--- the pool of a state is held, and it may be that a crash came
-pub record HoldsAll (x : State) (held : Held) : Type 0 where
-  pub crash : Bool
-  pub holds : HoldsPool x crash held
-
--- The pool of a state was given back: where the shelf tells, it holds the pool, and it told as the pool was opened. All counts are those of the state.
-pub record HoldsShut (x : State) (now : OnShelf) : Type 0 where
-  pub held : OnHeld now.held (HoldsAll x)
+-- The pool of a state was given back, with a crash or without one: where the shelf tells, it holds the pool, and it told as the pool was opened. All counts are those
+-- of the state.
+pub record HoldsShut (crash : Bool) (x : State) (now : OnShelf) : Type 0 where
+  pub held : OnHeld now.held (HoldsPool x crash)
   pub told : IsSome now.held → IsTrue x.told
   pub counts : (m : ℕ) (y : Metaslab) → slice_get x.metaslabs m ≡ Some y → SameCounts y.counts (now.counts m)
   pub uber : now.own.uber ≡ x.uber_count
@@ -56,7 +52,7 @@ abbrev pub HoldsDesk : Desk → OnShelf → OnShelf → Type 0
 HoldsDesk Untouched entry now = IsSame entry now
 HoldsDesk (Made geometry) entry now = IsMade geometry now.held now.counts now.own
 HoldsDesk (Open state) entry now = ⊥
-HoldsDesk (Shut state) entry now = HoldsShut state now
+HoldsDesk (Shut crash state) entry now = HoldsShut crash state now
 
 -- ---- failures
 

@@ -1,5 +1,5 @@
 -- The session: what its shelf holds between lines, and what each line does to that.
-use Rattle.std.specs.Prelude.{◌≡◌, ◌≤◌, ◌⊎◌, ℕ, true, false, IsTrue, List, [], ◌∷◌, Option, Some, None, Result, Ok, Err, string_bytes}
+use Rattle.std.specs.Prelude.{◌≡◌, ◌≤◌, ◌⊎◌, ℕ, Bool, true, false, IsTrue, List, [], ◌∷◌, Option, Some, None, Result, Ok, Err, string_bytes}
 use Rattle.draid_names.specs.declared.room.Room.{Room}
 use Rattle.draid_spec.specs.declared.layout.Geometry.{Geometry}
 use Rattle.draid_script.specs.Grammar.{line_of}
@@ -18,14 +18,14 @@ use Rattle.draid_session.specs.Opening.{Finds, HasObjects, Imports}
 use Rattle.draid_session.specs.Making.{IsFresh, Makes, content_of, layout_by, vdev_name_of}
 
 -- What a session has of its shelf: it is as it was found; it has no pool; the devices of a new pool were made and are on it, and no pool was opened; a pool is open, in
--- this state; or the pool that was open was given back. Of a pool that the session didn't make, and of which nothing is known else, nothing is said: it is open, or what
--- the shelf holds may be one.
+-- this state; or a pool was given back, as a crash may have left it or without one. Of a pool that the session didn't make, and of which nothing is known else, nothing
+-- is said: it is open, or what the shelf holds may be one.
 pub data Desk : Type 0 where
   Untouched : Desk
   Bare : Desk
   Made : Geometry → Desk
   Open : State → Desk
-  Shut : State → Desk
+  Shut : Bool → State → Desk
   Foreign : Desk
   Unknown : Desk
 
@@ -61,9 +61,8 @@ uncommitted x = record x { committed = 0; pending = true }
 -- A pool was to be made, and none was opened: the shelf is as it was; or all that was made is on it, and its first commit wasn't called, or it was refused and may be
 -- on the disk.
 abbrev pub MakesNone : List ℕ → ℕ → PoolKeys → Desk → Desk → Type 0
-MakesNone text children keys old (Shut new) =
-    StaysShut old (Shut new) ⊎ ((geometry : Geometry) × HasLayout text children keys geometry × ((fresh : State) × IsFresh geometry fresh × (new ≡ uncommitted fresh)))
-MakesNone text children keys old new = (geometry : Geometry) × HasLayout text children keys geometry × (StaysShut old new ⊎ (new ≡ Made geometry))
+MakesNone text children keys old new = (geometry : Geometry) × HasLayout text children keys geometry
+    × (StaysShut old new ⊎ (new ≡ Made geometry) ⊎ ((fresh : State) × IsFresh geometry fresh × (new ≡ Shut false (uncommitted fresh))))
 
 -- A pool is made, over whatever the shelf held, or for want of memory none is opened.
 abbrev pub Creates : List ℕ → ℕ → PoolKeys → Desk → Reply → Desk → Type 0
@@ -89,14 +88,14 @@ pub record FindsNoGroup (x y : State) : Type 0 where
 -- What is found: of what was given back, its pool; on a shelf without a pool, none. Where the shelf didn't tell what was given back, or nothing is known of it, nothing
 -- is said.
 abbrev pub ImportTurns : Desk → Reply → Desk → Type 0
-ImportTurns (Shut old) (Imported called group objects) (Open new) =
+ImportTurns (Shut crash old) (Imported called group objects) (Open new) =
     Imports old group new × (string_bytes called ≡ vdev_name_of old.geometry.spec) × HasObjects new.store.changes objects
-ImportTurns (Shut old) (NoPool name.Import) (Shut new) = FindsNoGroup old new
-ImportTurns (Shut old) (NoMemory name.Import) (Shut new) = LeavesState old new
-ImportTurns (Shut old) (Imported called group objects) Foreign = old.told ≡ false
-ImportTurns (Shut old) (NoPool name.Import) Unknown = old.told ≡ false
-ImportTurns (Shut old) (NoMemory name.Import) Unknown = old.told ≡ false
-ImportTurns (Shut old) reply new = ⊥
+ImportTurns (Shut crash old) (NoPool name.Import) (Shut true new) = FindsNoGroup old new
+ImportTurns (Shut crash old) (NoMemory name.Import) (Shut true new) = LeavesState old new
+ImportTurns (Shut crash old) (Imported called group objects) Foreign = old.told ≡ false
+ImportTurns (Shut crash old) (NoPool name.Import) Unknown = old.told ≡ false
+ImportTurns (Shut crash old) (NoMemory name.Import) Unknown = old.told ≡ false
+ImportTurns (Shut crash old) reply new = ⊥
 ImportTurns Bare (NoPool name.Import) new = new ≡ Bare
 ImportTurns Bare reply new = ⊥
 ImportTurns old (Imported called group objects) new = new ≡ Foreign
@@ -142,9 +141,9 @@ module _ (chosen : List Room → Option ℕ → Type 0) where
   abbrev pub OpenTurns : State → Command → Reply → Desk → Type 0
   OpenTurns old (CreatePool text children keys) (PoolOpen name.Create) new = StaysOpen old new
   OpenTurns old ImportPool (PoolOpen name.Import) new = StaysOpen old new
-  OpenTurns old ExportPool (Exported group) (Shut new) = CarriesBack ExportPool (Exported group) old new
+  OpenTurns old ExportPool (Exported group) (Shut false new) = CarriesBack ExportPool (Exported group) old new
   OpenTurns old ExportPool (Exported group) new = ⊥
-  OpenTurns old CrashPool Crashed (Shut new) = CarriesBack CrashPool Crashed old new
+  OpenTurns old CrashPool Crashed (Shut true new) = CarriesBack CrashPool Crashed old new
   OpenTurns old CrashPool Crashed new = ⊥
   OpenTurns old command reply (Open new) = CarriesOut command reply old new
   OpenTurns old command reply new = ⊥
@@ -195,15 +194,15 @@ pub data Cause : Type 0 where
   RecordFails : Cause
 
 -- What a run is where it breaks off in a command. A pool that is open stays so till the run ends; what was taken from the shelf is given back. No record of a pool
--- that was given back has a fault, where the shelf told it.
+-- that was given back has a fault, where the shelf told it. Of a pool that couldn't be imported no more is said than what a crash leaves.
 abbrev pub Breaks : Cause → Desk → Command → Desk → Type 0
 Breaks ShelfFails (Open old) command (Open new) = BreaksOpen command old new
 Breaks ShelfFails (Open old) command new = ⊥
 Breaks ShelfFails Foreign command new = new ≡ Foreign
 Breaks ShelfFails old (CreatePool text children keys) new = MakesNone text children keys old new
-Breaks ShelfFails (Shut old) ImportPool (Shut new) = LeavesState old new
-Breaks cause (Shut old) ImportPool Unknown = old.told ≡ false
-Breaks cause (Shut old) ImportPool new = ⊥
+Breaks ShelfFails (Shut crash old) ImportPool (Shut true new) = LeavesState old new
+Breaks cause (Shut crash old) ImportPool Unknown = old.told ≡ false
+Breaks cause (Shut crash old) ImportPool new = ⊥
 Breaks cause Bare ImportPool new = ⊥
 Breaks cause (Open old) ImportPool new = ⊥
 Breaks cause Foreign ImportPool new = ⊥
@@ -212,6 +211,6 @@ Breaks cause old command new = ⊥
 
 -- what is left of a desk as the run ends: a pool that is open is given back, without a sync
 abbrev pub IsLeft : Desk → Desk → Type 0
-IsLeft (Open x) new = (y : State) × (new ≡ Shut y) × IsGiven x y
+IsLeft (Open x) new = (y : State) × (new ≡ Shut false y) × IsGiven x y
 IsLeft Foreign new = new ≡ Unknown
 IsLeft desk new = new ≡ desk
