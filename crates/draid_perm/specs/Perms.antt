@@ -1,4 +1,5 @@
-use Rattle.std.specs.Prelude.{◌≡◌, ◌+◌, ◌*◌, ◌/◌, ◌%◌, ◌<◌, ℕ, [], take, slice_index, slice_index_or}
+use Rattle.std.specs.Prelude.{◌≡◌, ◌+◌, ◌-◌, ◌*◌, ◌/◌, ◌%◌, ◌<◌, ℕ, [], length, take, drop, slice_index, slice_index_or}
+use Rattle.std.specs.List.{range_with_len}
 use Rattle.draid_perm.specs.Rows.{base_row}
 use Rattle.draid_perm.specs.declared.perms.Perms.{Perms}
 
@@ -6,10 +7,13 @@ use Rattle.draid_perm.specs.declared.perms.Perms.{Perms}
 abbrev pub children_of : Perms → ℕ
 children_of perms = perms.n
 
--- the permutations of n children that a seed gives: 16 base rows
+-- the permutations of n children that a seed gives: 16 base rows, behind whose n items the numbers up to 64
+-- stand in order
 pub record AreSeeded (perms : Perms) (n seed : ℕ) : Type 0 where
   pub children : children_of perms ≡ n
   pub rows : (row : ℕ) → row < 16 → take n (slice_index_or perms.rows row []) ≡ base_row n seed row
+  pub rest : (row : ℕ) → row < 16 → drop n (slice_index_or perms.rows row []) ≡ range_with_len n (64 - n)
+  pub many : length perms.rows ≡ 16
 
 -- the child that stands at a position of a slice: that of a base row, turned on by one for each of n slices
 abbrev pub child_of : Perms → ℕ → ℕ → ℕ

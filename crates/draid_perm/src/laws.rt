@@ -20,6 +20,11 @@ pub fn children_are_seeded()
         → child_of perms slice position ≡ seeded_child n seed slice position }
 {}
 
+/// Law: the number of children and the seed fix the permutations.
+pub fn seeds_fix_permutations()
+    ensures { (a b : Perms) (n seed : ℕ) → AreSeeded a n seed → AreSeeded b n seed → a ≡ b }
+{}
+
 /// Law: each base row has the children in another order.
 #[tactic(auto, using(crate::proofs::RowOrders::row_order))]
 pub fn rows_are_orders()

@@ -7,5 +7,7 @@ mod perms;
 mod words;
 
 pub use exchange::shuffle;
-pub use laws::{children_are_seeded, positions_stand_apart, rows_are_orders};
+pub use laws::{
+    children_are_seeded, positions_stand_apart, rows_are_orders, seeds_fix_permutations,
+};
 pub use perms::Perms;

@@ -1,4 +1,4 @@
-ghost use Rattle.std.specs.Prelude.{◌≡◌, ◌+◌, ◌-◌, ◌<◌, ◌≤◌, ℕ, [], length, take, slice_index_or};
+ghost use Rattle.std.specs.Prelude.{◌≡◌, ◌+◌, ◌-◌, ◌<◌, ◌≤◌, ℕ, [], length, take, drop, slice_index_or};
 ghost use Rattle.std.specs.List.{range_with_len};
 ghost use Rattle.std.specs.List.Sorted.{IsPermutation};
 ghost use Rattle.rand_core.specs.Steps.{first_words};
@@ -12,11 +12,12 @@ use rand_core::SeedableRng;
 use rand_core::utils::NextWord;
 use rand_xoshiro::Xoroshiro128PlusPlus;
 
-/// The base rows of n children by a seed. What stands behind the first n items of a row has no meaning.
+/// The base rows of n children by a seed. Behind the first n items of a row the numbers stay in order.
 pub(crate) fn base_rows(n: usize, seed: u64) -> [[u8; 64]; 16]
     requires least { 2 ≤ n }
     requires most { n ≤ 64 }
     ensures rows { (row : ℕ) → row < 16 → take n (slice_index_or result row []) ≡ base_row n seed row }
+    ensures rest { (row : ℕ) → row < 16 → drop n (slice_index_or result row []) ≡ range_with_len n (64 - n) }
     ensures permuted { (row : ℕ) → row < 16 → IsPermuted n (slice_index_or result row []) }
 {
     let mut rng = Xoroshiro128PlusPlus::seed_from_u64(seed);
@@ -46,6 +47,7 @@ fn shuffle_front(row: &mut [u8; 64], n: usize, rng: &mut Xoroshiro128PlusPlus)
     requires most { n ≤ 64 }
     ensures front { take n row.new ≡ shuffled (first_words plus_plus (n - 1) rng.old) (take n row.old) }
     ensures permutation { IsPermutation (take n row.old) (take n row.new) }
+    ensures rest { drop n row.new ≡ drop n row.old }
     ensures state { rng.new ≡ after (n - 1) rng.old }
 {
     shuffle_next(&mut row[..n], rng);

@@ -8,4 +8,4 @@ loop-r-init c = none_so_far _ _ _ _ _ c.requires.most c.in_order-row.ensures c.s
 pub loop-r-preserved : goal.loop-r-preserved
 loop-r-preserved c =
     more_so_far _ _ _ _ _ _ _ _ c.loop-r-test.true c.requires.least c.requires.most
-    c.shuffle_front.ensures.front c.shuffle_front.ensures.permutation c.shuffle_front.ensures.state (search rules) c.loop-r.invariant
+    c.shuffle_front.ensures.front c.shuffle_front.ensures.permutation c.shuffle_front.ensures.rest c.shuffle_front.ensures.state (search rules) c.loop-r.invariant
