@@ -1,6 +1,6 @@
 //! A pool is imported from what was given back to a shelf: its uberblock is found, each metaslab is opened from the
 //! record of the group that it names, and of each object the block with the greatest number counts.
-ghost use Rattle.std.specs.Prelude.{◌≡◌, ◌<◌, ◌≤◌, ◌+◌, ◌⊎◌, ◌↔◌, ℕ, None, Some, IfOk, IsErrOf, IsTrue, OnErr, OnOk, false, nat_eq, slice_get};
+ghost use Rattle.std.specs.Prelude.{◌≡◌, ◌<◌, ◌≤◌, ◌+◌, ◌⊎◌, ◌↔◌, ℕ, None, Some, IfOk, IsErrOf, IsTrue, OnErr, OnOk, false, is_some, nat_eq, slice_get};
 ghost use Rattle.std.specs.HashMap.{get};
 ghost use Rattle.draid_names.specs.Faults.{Rose};
 ghost use Rattle.draid_names.specs.declared.numbers.TheConstants.{LAST_NUMBER};
@@ -16,7 +16,7 @@ ghost use Rattle.draid_uber.specs.Uber.{kept_of, layout_of, next_leaf_of};
 ghost use Rattle.draid_segments.specs.Segments.{Pieces};
 ghost use Rattle.draid_session.specs.State.{State, limit_of};
 ghost use Rattle.draid_pool.specs.Imported.{AreNewest, IsFoundOf};
-ghost use Rattle.draid_pool.specs.Importing.{ImportsPool};
+ghost use Rattle.draid_pool.specs.Importing.{ImportIs, ImportsPool, RestsThere};
 ghost use Rattle.draid_pool.specs.Opening.{IsAsBefore, TakesFirst};
 ghost use Rattle.draid_pool.specs.Found.{AllLive, AnyRecordsRose, AreFound, AreFreed, AreReady, AreReopened, CountsLater, FreesIfOlder, FreesOlder, HasOnly, HasRisen, IsFoundUber, IsRecovered, IsReopened, KeepsFound, KeepsFoundAt, KeepsNewer, LeavesShards, LeavesUber, Notes, NotesOne, OpensAllOver, OpensOver, Reaches, RecordsRose, SameChecks, StaysHeld, shelf_fault_of, uber_fault_of};
 ghost use Rattle.draid_pool.specs.Whole.{IsWhole};
@@ -415,6 +415,11 @@ pub fn import<H: Shelf>(alloc: Global, shelf: &mut H) -> Result<Pool<H::R, H::A>
         × IsAsBefore (H.told shelf.old) (H.told shelf.new) (H.counts shelf.old) (H.counts shelf.new)
         (record { uber = H.uber_count shelf.old; checks = H.check_counts shelf.old })
         (record { uber = H.uber_count shelf.new; checks = H.check_counts shelf.new })) }
+    // What is found of a pool that rests there is that pool, and a refusal leaves it there.
+    ensures import { (x : State) (pieces : ℕ → Pieces)
+        → RestsThere x pieces (H.told shelf.old) (H.leaves shelf.old) (H.counts shelf.old) (H.uber_count shelf.old)
+        → ImportIs H.R.Rack H.A.Area x pieces (H.told shelf.new) (H.leaves shelf.new) (H.counts shelf.new) (H.uber_count shelf.new) result }
+    ensures tells { OnOk result (is_some (H.told shelf.new) ≡ is_some (H.told shelf.old)) }
     ensures held { SameChecks (H.told shelf.old) (H.told shelf.new) }
     ensures checks { H.check_counts shelf.new ≡ H.check_counts shelf.old }
     ensures later { H.faults shelf.old ≤ H.faults shelf.new }
