@@ -85,13 +85,25 @@ pub record FindsNoGroup (x y : State) : Type 0 where
   pub none : x.committed ≡ 0
   pub is : IsStill (record x { pending = false }) y
 
+-- The pool is given back in this state. That its shelf told says then that it tells what was given back.
+pub record IsGiven (x y : State) : Type 0 where
+  pub same : y ≡ record x { told = y.told }
+  pub told : IsTrue y.told → IsTrue x.told
+
+-- an import of which the reply had no memory: the pool was open, and is given back
+pub record ImportsBack (x y : State) : Type 0 where
+  pub group : ℕ
+  pub mid : State
+  pub imports : Imports x group mid
+  pub given : IsGiven mid y
+
 -- What is found: of what was given back, its pool; on a shelf without a pool, none. Where the shelf didn't tell what was given back, or nothing is known of it, nothing
 -- is said.
 abbrev pub ImportTurns : Desk → Reply → Desk → Type 0
 ImportTurns (Shut crash old) (Imported called group objects) (Open new) =
     Imports old group new × (string_bytes called ≡ vdev_name_of old.geometry.spec) × HasObjects new.store.changes objects
 ImportTurns (Shut crash old) (NoPool name.Import) (Shut true new) = FindsNoGroup old new
-ImportTurns (Shut crash old) (NoMemory name.Import) (Shut true new) = LeavesState old new
+ImportTurns (Shut crash old) (NoMemory name.Import) (Shut true new) = LeavesState old new ⊎ ImportsBack old new
 ImportTurns (Shut crash old) (Imported called group objects) Foreign = old.told ≡ false
 ImportTurns (Shut crash old) (NoPool name.Import) Unknown = old.told ≡ false
 ImportTurns (Shut crash old) (NoMemory name.Import) Unknown = old.told ≡ false
@@ -110,11 +122,6 @@ ShutTurns old command (NoPool called) new = (name_of command ≡ Some called) ×
 ShutTurns old command reply new = ⊥
 
 -- ---- with a pool
-
--- The pool is given back in this state. That its shelf told says then that it tells what was given back.
-pub record IsGiven (x y : State) : Type 0 where
-  pub same : y ≡ record x { told = y.told }
-  pub told : IsTrue y.told → IsTrue x.told
 
 -- the pool stays open as it is
 abbrev pub StaysOpen : State → Desk → Type 0
