@@ -16,7 +16,7 @@ ghost use Rattle.draid_uber.specs.Uber.{kept_of, layout_of, next_leaf_of};
 ghost use Rattle.draid_segments.specs.Segments.{Pieces};
 ghost use Rattle.draid_session.specs.State.{State, limit_of};
 ghost use Rattle.draid_pool.specs.Imported.{AreNewest, IsFoundOf};
-ghost use Rattle.draid_pool.specs.Importing.{ImportIs, ImportsPool, RestsThere};
+ghost use Rattle.draid_pool.specs.Importing.{ImportIs, ImportsPool, NotOfSpec, RestsThere};
 ghost use Rattle.draid_pool.specs.Opening.{IsAsBefore, TakesFirst};
 ghost use Rattle.draid_pool.specs.Found.{AllLive, AnyRecordsRose, AreFound, AreFreed, AreReady, AreReopened, CountsLater, FreesIfOlder, FreesOlder, HasOnly, HasRisen, IsFoundUber, IsRecovered, IsReopened, KeepsFound, KeepsFoundAt, KeepsNewer, LeavesShards, LeavesUber, Notes, NotesOne, OpensAllOver, OpensOver, Reaches, RecordsRose, SameChecks, StaysHeld, shelf_fault_of, uber_fault_of};
 ghost use Rattle.draid_pool.specs.Whole.{IsWhole};
@@ -419,6 +419,7 @@ pub fn import<H: Shelf>(alloc: Global, shelf: &mut H) -> Result<Pool<H::R, H::A>
     ensures import { (x : State) (pieces : ℕ → Pieces)
         → RestsThere x pieces (H.told shelf.old) (H.leaves shelf.old) (H.counts shelf.old) (H.uber_count shelf.old)
         → ImportIs H.R.Rack H.A.Area x pieces (H.told shelf.new) (H.leaves shelf.new) (H.counts shelf.new) (H.uber_count shelf.new) result }
+    ensures not_spec { NotOfSpec result }
     ensures tells { OnOk result (is_some (H.told shelf.new) ≡ is_some (H.told shelf.old)) }
     ensures held { SameChecks (H.told shelf.old) (H.told shelf.new) }
     ensures checks { H.check_counts shelf.new ≡ H.check_counts shelf.old }
