@@ -56,3 +56,4 @@ pub mod ImportEnd
 pub mod ImportFreed
 pub mod ImportClosed
 pub mod Causes
+pub mod Counted

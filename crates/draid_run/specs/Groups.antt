@@ -103,10 +103,15 @@ pub record Exports (x : State) (reply : Option Reply) (new : Desk) : Type 0 wher
   pub new_is : IsBehind answer y new
   pub leads : Leads x y (ExportDoes x answer)
 
--- a pool of which nothing is said
-abbrev pub ForeignExports : Option Reply → Desk → Type 0
-ForeignExports (Some (Exported group)) new = new ≡ Unknown
-ForeignExports reply new = new ≡ Foreign
+-- so of a pool of which nothing is said
+abbrev pub foreign_behind : Result ℕ SyncFault → Desk
+foreign_behind (Ok group) = Unknown
+foreign_behind (Err why) = Foreign
+
+pub record ForeignExports (reply : Option Reply) (new : Desk) : Type 0 where
+  pub answer : Result ℕ SyncFault
+  pub reply_is : export_reply answer ≡ reply
+  pub new_is : new ≡ foreign_behind answer
 
 abbrev pub ExportTurns : Desk → Option Reply → Desk → Type 0
 ExportTurns (Open x) reply new = Exports x reply new
