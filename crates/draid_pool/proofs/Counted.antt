@@ -93,7 +93,7 @@ module _ (k : ℕ) where
     by : (c : Bool) → In q (if c then k ∷ x ∷ xs else x ∷ put k xs) → (k ≡ q) ⊎ In q (x ∷ xs)
     by true is = is
     by false (inl same) = inr (inl same)
-    by false (inr more) = elim in_put q xs more [ inl same ↦ inl same | inr there ↦ inr (inr there) ]
+    by false (inr more) = elim (in_put q xs more) [ inl same ↦ inl same | inr there ↦ inr (inr there) ]
 
   put_in : (q : ℕ) (xs : List ℕ) → (k ≡ q) ⊎ In q xs → In q (put k xs)
   put_in q [] is = is
@@ -114,7 +114,7 @@ length-sorted (k ∷ ks) = (let one = length-put k (sorted ks) in let more = len
 
 in_sorted : (q : ℕ) (ks : List ℕ) → In q (sorted ks) → In q ks
 in_sorted q [] is = is
-in_sorted q (k ∷ ks) is = elim in_put k q (sorted ks) is [ inl same ↦ inl same | inr more ↦ inr (in_sorted q ks more) ]
+in_sorted q (k ∷ ks) is = elim (in_put k q (sorted ks) is) [ inl same ↦ inl same | inr more ↦ inr (in_sorted q ks more) ]
 
 sorted_in : (q : ℕ) (ks : List ℕ) → In q ks → In q (sorted ks)
 sorted_in q [] is = is

@@ -63,6 +63,10 @@ module _ (x : State) (b : Bool) where
       let f : IsFindable x = i.findable in
       record { findable = record { committed = f.committed; versions = f.versions }; alike = i.alike; once = i.once; there = i.there }
 
+pub not_some : {T : Type 0} (o : Option T) → ((t : T) → o ≡ Some t → ⊥) → o ≡ None
+not_some None other = refl
+not_some (Some t) other = absurd (other t refl)
+
 -- ---- a pool that was given back
 
 all_held : (x : State) (crash : Bool) (new old : Option Held) → OnHeld new (λ held. MatchOption old ⊥ (λ before. IsSomeAnd before.checks AreNewChecks → HoldsPool x crash held)) → OnHeld old HasChecks → OnHeld new (HoldsPool x crash)
@@ -113,9 +117,9 @@ module _ {R A : Type 0} (rack : racks.Ghosts R) (area : areas.Ghosts A) (entry b
   pub leaves_shut : desk ≡ None → now ≡ before → (x : Desk) → IsDesk rack area entry before desk x → LeavesDesk area entry before now desk x
   leaves_shut none same x =
       subst (λ d. IsDesk rack area entry before d x → LeavesDesk area entry before now d x) (sym none)
-      (subst (λ n. IsDesk rack area entry before None x → LeavesDesk area entry before n None x) (sym same) (by x))
+      (subst (λ n. IsDesk rack area entry before None x → LeavesDesk {R = R} area entry before n None x) (sym same) (by x))
     where
-      by : (x : Desk) → IsDesk rack area entry before None x → LeavesDesk area entry before before None x
+      by : (x : Desk) → IsDesk rack area entry before None x → LeavesDesk {R = R} area entry before before None x
       by Untouched is = record { left = Untouched; is = refl; shelf = is.shelf; failed = λ failed. failed }
       by Bare is = record { left = Bare; is = refl; shelf = is.shelf; failed = λ failed. failed }
       by (Made geometry) is = record { left = Made geometry; is = refl; shelf = is.shelf; failed = λ failed. failed }

@@ -1,5 +1,5 @@
 -- An import, in the words of a session.
-use Rattle.std.proofs.Common.{◌≡◌, ◌∙◌, ◌⊎◌, ◌+◌, ◌≤◌, ◌<◌, inl, inr, arith, refl, sym, ap, subst, ℕ, List, Bool, true, false, [], ◌∷◌, Option, Some, None, Result, Ok, Err, String}
+use Rattle.std.proofs.Common.{◌≡◌, ◌∙◌, ◌⊎◌, ◌+◌, ◌≤◌, ◌<◌, inl, inr, arith, refl, sym, ap, subst, ℕ, List, Bool, true, false, [], ◌∷◌, Option, Some, None, Result, Ok, Err, String, Global}
 use Rattle.std.specs.Prelude.{IfOk, IsErrOf, IsSomeAnd, MatchOption, OnOk, is_some, string_bytes}
 use Rattle.draid_names.specs.Faults.{Rose}
 use Rattle.draid_names.specs.declared.room.Room.{Room}
@@ -176,6 +176,10 @@ risen before now rose = elim rose [
   ]))
 ]
 
+pub none_open : {T : Type 0} (o : Option T) → is_some o ≡ false → o ≡ None
+none_open None is = refl
+none_open (Some t) is = absurd (cc is)
+
 -- ---- the call
 
 -- what the pool's import came to
@@ -210,7 +214,7 @@ module _ {R A : Type 0} (rack : racks.Ghosts R) (area : areas.Ghosts A) (entry b
     no_pool is Bare stands shelf =
         let none = bare_none shelf in
         record { new = Bare; desk = record { stands = tt; shelf = subst (λ (h : Option Held). IsSomeAnd h (λ held. held.uber ≡ None)) (sym none.1.held) shelf }; turns = refl }
-    no_pool is (Shut crash y) stands shelf = elim true_or y.told [
+    no_pool is (Shut crash y) stands shelf = elim (true_or y.told) [
       | inl told ↦
           let found = was y (Err fault.NoPool) is (resting crash y before shelf told) in
           let z : State = found.y in
@@ -230,7 +234,7 @@ module _ {R A : Type 0} (rack : racks.Ghosts R) (area : areas.Ghosts A) (entry b
     no_memory is (Made geometry) stands shelf = record { new = Unknown; desk = record { stands = tt; shelf = tt }; turns = refl }
     no_memory is Unknown stands shelf = record { new = Unknown; desk = record { stands = tt; shelf = tt }; turns = refl }
     no_memory is Bare stands shelf = absurd (let z = sym is ∙ (bare_none shelf).0 in cc)
-    no_memory is (Shut crash y) stands shelf = elim true_or y.told [
+    no_memory is (Shut crash y) stands shelf = elim (true_or y.told) [
       | inl told ↦
           let left = was y (Err fault.NoMemory) is (resting crash y before shelf told) in
           let z : State = left.y in
@@ -249,7 +253,7 @@ module _ {R A : Type 0} (rack : racks.Ghosts R) (area : areas.Ghosts A) (entry b
     shelf_failed is (Made geometry) stands shelf = record { new = Unknown; desk = record { stands = tt; shelf = tt }; breaks = refl; cause = risen before now (called.cause is) }
     shelf_failed is Unknown stands shelf = record { new = Unknown; desk = record { stands = tt; shelf = tt }; breaks = refl; cause = risen before now (called.cause is) }
     shelf_failed is Bare stands shelf = absurd (let z = sym is ∙ (bare_none shelf).0 in cc)
-    shelf_failed is (Shut crash y) stands shelf = elim true_or y.told [
+    shelf_failed is (Shut crash y) stands shelf = elim (true_or y.told) [
       | inl told ↦
           let left = was y (Err fault.Shelf) is (resting crash y before shelf told) in
           let z : State = left.y in
@@ -270,7 +274,7 @@ module _ {R A : Type 0} (rack : racks.Ghosts R) (area : areas.Ghosts A) (entry b
     record_fails metaslab place kind is (Made geometry) stands shelf = record { new = Unknown; desk = record { stands = tt; shelf = tt }; breaks = refl; cause = tt }
     record_fails metaslab place kind is Unknown stands shelf = record { new = Unknown; desk = record { stands = tt; shelf = tt }; breaks = refl; cause = tt }
     record_fails metaslab place kind is Bare stands shelf = absurd (let z = sym is ∙ (bare_none shelf).0 in cc)
-    record_fails metaslab place kind is (Shut crash y) stands shelf = elim true_or y.told [
+    record_fails metaslab place kind is (Shut crash y) stands shelf = elim (true_or y.told) [
       | inl told ↦ absurd (was y (Err (fault.Record metaslab place kind)) is (resting crash y before shelf told))
       | inr untold ↦ record { new = Unknown; desk = record { stands = tt; shelf = tt }; breaks = untold; cause = tt }
     ]
@@ -297,7 +301,7 @@ module _ {R A : Type 0} (rack : racks.Ghosts R) (area : areas.Ghosts A) (entry b
         told = told ∙ (sym (some_is before.held (Rests y rest.pieces) rest.rests.held) ∙ sym tells);
       }
 
-      pub imported : (called_name : String) (geometry : Geometry) (group objects : ℕ) → string_bytes called_name ≡ vdev_name_of geometry.spec
+      pub imported : (called_name : String Global) (geometry : Geometry) (group objects : ℕ) → string_bytes called_name ≡ vdev_name_of geometry.spec
           → ((s : State) → Represents rack area pool s → geometry ≡ s.geometry)
           → ((s : State) → Represents rack area pool s → group ≡ s.committed)
           → ((s : State) → Represents rack area pool s → HasObjects s.store.changes objects)
@@ -311,7 +315,7 @@ module _ {R A : Type 0} (rack : racks.Ghosts R) (area : areas.Ghosts A) (entry b
         by (Made geo) stands shelf = foreign (Made geo) refl
         by Unknown stands shelf = foreign Unknown refl
         by Bare stands shelf = absurd (let z = sym is ∙ (bare_none shelf).0 in cc)
-        by (Shut crash y) stands shelf = elim true_or y.told [
+        by (Shut crash y) stands shelf = elim (true_or y.told) [
           | inl told ↦
               let rest = resting crash y before shelf told in
               let f = found y rest in
@@ -339,7 +343,7 @@ module _ {R A : Type 0} (rack : racks.Ghosts R) (area : areas.Ghosts A) (entry b
         by (Made geo) stands shelf = record { new = Unknown; desk = record { stands = tt; shelf = tt }; turns = refl }
         by Unknown stands shelf = record { new = Unknown; desk = record { stands = tt; shelf = tt }; turns = refl }
         by Bare stands shelf = absurd (let z = sym is ∙ (bare_none shelf).0 in cc)
-        by (Shut crash y) stands shelf = elim true_or y.told [
+        by (Shut crash y) stands shelf = elim (true_or y.told) [
           | inl told ↦
               let rest = resting crash y before shelf told in
               let f = found y rest in
@@ -361,7 +365,7 @@ module _ {R A : Type 0} (rack : racks.Ghosts R) (area : areas.Ghosts A) (entry b
 
   pub still_open : (pool : Option (Pool R A)) → is_some pool ≡ true → (x : Desk) → IsDesk rack area entry before pool x → ImportDid rack area entry x (PoolOpen name.Import) before pool
   still_open None some x is = absurd (cc some)
-  still_open (Some pool) some = by where
+  still_open (Some pool) some x is = by x is where
     by : (x : Desk) → IsDesk rack area entry before (Some pool) x → ImportDid rack area entry x (PoolOpen name.Import) before (Some pool)
     by Untouched is = absurd is.stands
     by Bare is = absurd is.stands

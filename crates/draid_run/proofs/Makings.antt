@@ -182,7 +182,7 @@ module _ {R A : Type 0} (rack : racks.Ghosts R) (area : areas.Ghosts A) where
           }
 
       -- the state of the new pool, told as the shelf tells now
-      fresh_left : (geometry : Geometry) (r : IsRefused geometry now.held now.leaves now.counts now.own) → State
+      abbrev fresh_left : (geometry : Geometry) (r : IsRefused geometry now.held now.leaves now.counts now.own) → State
       fresh_left geometry r = told_as r.fresh (is_some now.held)
 
       fresh_again : (geometry : Geometry) (r : IsRefused geometry now.held now.leaves now.counts now.own) → IsFresh geometry (fresh_left geometry r)
