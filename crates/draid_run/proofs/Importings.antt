@@ -1,6 +1,6 @@
 -- An import, in the words of a session.
-use Rattle.std.proofs.Common.{◌≡◌, ◌∙◌, ◌⊎◌, ◌+◌, ◌≤◌, ◌<◌, inl, inr, arith, refl, sym, ap, subst, ℕ, List, Bool, true, false, [], ◌∷◌, Option, Some, None, Result, Ok, Err, String, Global}
-use Rattle.std.specs.Prelude.{IfOk, IsErrOf, IsSomeAnd, MatchOption, OnOk, is_some, string_bytes}
+use Rattle.std.proofs.Common.{◌≡◌, ◌∙◌, ◌⊎◌, ◌<◌, inl, inr, arith, refl, sym, ap, subst, ℕ, List, Bool, true, false, [], ◌∷◌, Option, Some, None, Result, Ok, Err, String, Global}
+use Rattle.std.specs.Prelude.{IfOk, IsErrOf, IsSomeAnd, OnOk, is_some, string_bytes}
 use Rattle.draid_names.specs.Faults.{Rose}
 use Rattle.draid_names.specs.declared.room.Room.{Room}
 use Rattle.draid_rack.specs.declared.Rack as racks
@@ -8,7 +8,7 @@ use Rattle.draid_area.specs.declared.Area as areas
 use Rattle.draid_spec.specs.declared.layout.Geometry.{Geometry}
 use Rattle.draid_machine.specs.declared.event.Event.TheVariants as event
 use Rattle.draid_segments.specs.Segments.{Pieces}
-use Rattle.draid_shelf.specs.Kits.{AreNewChecks, Held, KitCounts, OnHeld}
+use Rattle.draid_shelf.specs.Kits.{AreNewChecks, Held, OnHeld}
 use Rattle.draid_script.specs.Line.{ImportPool}
 use Rattle.draid_script.specs.declared.name.CommandName.TheVariants as name
 use Rattle.draid_reply.specs.declared.reply.Reply.{Reply}
@@ -17,14 +17,13 @@ use Rattle.draid_session.specs.Follows.{Follows}
 use Rattle.draid_session.specs.Holds.{Act, AreaFailed, Did, Hold, Looked, MadeLeaf, On, OnUber, RackFailed, Reserved, View}
 use Rattle.draid_session.specs.Making.{vdev_name_of}
 use Rattle.draid_session.specs.Opening.{FreesOlder, HasObjects, Imports}
-use Rattle.draid_session.specs.Session.{Desk, Untouched, Bare, Made, Open, Shut, Foreign, Unknown, IsStill, LeavesState, RecordFails, ShelfFails, TurnsBy}
+use Rattle.draid_session.specs.Session.{Desk, Untouched, Bare, Made, Open, Shut, Foreign, Unknown, LeavesState, RecordFails, ShelfFails, TurnsBy}
 use Rattle.draid_session.specs.State.{State}
 use Rattle.draid_pool.specs.Closing.{GivesBack, HoldsPool, Rests}
 use Rattle.draid_pool.specs.Found.{HasRisen, SameChecks}
 use Rattle.draid_pool.specs.Importable.{IsImportable}
 use Rattle.draid_pool.specs.Importing as pools
 use Rattle.draid_pool.specs.Importing.{ImportsPool, LeavesPool, RestsThere}
-use Rattle.draid_pool.specs.Opening as opening
 use Rattle.draid_pool.specs.Opening.{IsAsBefore, NoChecks}
 use Rattle.draid_pool.specs.Pools.{Represents}
 use Rattle.draid_pool.specs.Whole.{IsWhole}
@@ -170,10 +169,13 @@ risen before now rose = elim rose [
     | inl shelf ↦ inl shelf
     | inr uber ↦ inr (inr (rose_some before.own.uber now.own.uber uber))
   ]
-  | inr records ↦ inr (inl (records.0, elim records.1 [
-    | inl even ↦ (let some = rose_some (before.counts records.0).even (now.counts records.0).even even in omega (arith, some))
-    | inr odd ↦ (let some = rose_some (before.counts records.0).odd (now.counts records.0).odd odd in omega (arith, some))
-  ]))
+  | inr records ↦ inr (inl (
+    records.0,
+    elim records.1 [
+      | inl even ↦ (let some = rose_some (before.counts records.0).even (now.counts records.0).even even in omega (arith, some))
+      | inr odd ↦ (let some = rose_some (before.counts records.0).odd (now.counts records.0).odd odd in omega (arith, some))
+    ],
+  ))
 ]
 
 pub none_open : {T : Type 0} (o : Option T) → is_some o ≡ false → o ≡ None

@@ -12,7 +12,7 @@ use Rattle.draid_lines.proofs.Ends.{lines_none}
 use Rattle.draid_lines.specs.Lines.{Rest, WhereKnown, lines_of}
 use Rattle.draid_script.specs.Grammar.{line_of}
 use Rattle.draid_reply.specs.declared.reply.Reply.{Reply}
-use Rattle.draid_session.specs.Session.{Cause, Desk, Untouched, Bare, Made, Open, Shut, Foreign, Unknown, RecordFails, ShelfFails}
+use Rattle.draid_session.specs.Session.{Desk, Untouched, Bare, Made, Open, Shut, Foreign, Unknown, RecordFails, ShelfFails}
 use Rattle.draid_pool.specs.declared.pool.Pool.{Pool}
 use Rattle.draid_run.specs.Desks.{IsDesk, Turned}
 use Rattle.draid_run.specs.Script.{Ends, LineFaultIs, said_text, texts_of}

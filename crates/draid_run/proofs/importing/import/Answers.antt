@@ -1,4 +1,4 @@
-use Rattle.std.proofs.Common.{◌∙◌, Err, None, ap, subst, sym}
+use Rattle.std.proofs.Common.{◌∙◌, Err, ap, subst, sym}
 use Rattle.draid_script.specs.declared.name.CommandName.TheVariants as name
 use Rattle.draid_reply.specs.declared.reply.Reply.TheVariants.{NoMemory, NoPool}
 use Rattle.draid_session.specs.Session.{RecordFails, ShelfFails}
@@ -6,7 +6,7 @@ use Rattle.draid_script.specs.Line.{ImportPool}
 use Rattle.draid_run.specs.Desks.{Broken}
 use Rattle.draid_run.specs.Importing.{ImportDid}
 use Rattle.draid_run.specs.Shelves.{on_shelf}
-use Rattle.draid_run.proofs.Importings.{imported, no_memory, no_pool, none_open, record_fails, shelf_failed, still_open, unnamed}
+use Rattle.draid_run.proofs.Importings.{imported, no_memory, no_pool, none_open, record_fails, shelf_failed, unnamed}
 use Rattle.draid_run.proofs.Makings.{shut}
 use Rattle.draid_run.proofs.importing.import.Goals as goal
 
