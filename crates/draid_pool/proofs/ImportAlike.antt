@@ -1,5 +1,5 @@
 -- What an import looks for in the metaslabs that it opens: they have the same arms, and no key twice.
-use Rattle.std.proofs.Common.{◌≡◌, ◌∙◌, ℕ, zero, suc, List, [], ◌∷◌, Option, Some, None, length, map, refl, sym, ap, subst}
+use Rattle.std.proofs.Common.{◌≡◌, ◌∙◌, ℕ, zero, suc, List, [], ◌∷◌, Some, length, map, refl, sym, ap, subst}
 use Rattle.std.specs.Prelude.{option_map, slice_get}
 use Rattle.std.proofs.lemmas.List.{length-map}
 use Rattle.draid_names.specs.declared.arm.Arm.{Arm}
@@ -25,7 +25,7 @@ use Rattle.draid_stable.specs.Slots.{HasSlots, name_of, named}
 use Rattle.draid_shard.proofs.Held.{key_leads}
 use Rattle.draid_session.specs.Opening.{MayFind, Reopens}
 use Rattle.draid_session.specs.State.{Metaslab, State}
-use Rattle.draid_pool.specs.Importable.{AreAlike, IsAlike, IsFindable, SameArms}
+use Rattle.draid_pool.specs.Importable.{AreAlike, IsAlike, IsFindable, SameArms, bare}
 use Rattle.draid_pool.specs.Objects.{HoldsObjects, blocks_of}
 use Rattle.draid_pool.proofs.Alike.{alike_opened, same_bare}
 use Rattle.draid_pool.proofs.Lists.{some_of}
