@@ -4,7 +4,7 @@ use Rattle.draid_names.specs.Faults.{Rose}
 use Rattle.draid_names.specs.declared.fault.DeviceFault.{DeviceFault}
 use Rattle.draid_names.specs.declared.fault.DeviceFault.TheVariants as device
 use Rattle.draid_rack.specs.declared.Rack as racks
-use Rattle.draid_area.specs.Area.{Content, OnTold, flushes}
+use Rattle.draid_area.specs.Area.{Content, IsOfSize, OnTold, flushes}
 use Rattle.draid_area.specs.declared.Area as areas
 use Rattle.draid_shelf.specs.Kits as shelf
 use Rattle.draid_shelf.specs.declared.kit.Kit.{Kit}
@@ -173,6 +173,8 @@ pub record LeavesUber (old new : Option shelf.Held) (count count' : ℕ) : Type 
 pub record IsRecovered {A : Type 0} (area : areas.Ghosts A) (held : Option shelf.Held) (count : ℕ) (uber : Uber A) : Type 0 where
   pub content : Option Content
   pub own : shelf.OnHeld held (λ x. content ≡ x.uber)
+  pub size : ℕ
+  pub counted : OnTold content (IsOfSize size)
   pub finds : OnTold content (λ x. chosen_of x.bytes ≡ option_map read_body (kept_of uber))
   pub flushed : area.told (area_of uber) ≡ option_map flushes content
   pub stands : StandsTold (kept_of uber) [] (area.told (area_of uber))
