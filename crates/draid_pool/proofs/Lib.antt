@@ -56,3 +56,5 @@ pub mod ImportEnd
 pub mod ImportFreed
 pub mod ImportClosed
 pub mod Causes
+pub mod ImportTaken
+pub mod ImportLeft

@@ -1,10 +1,11 @@
 //! A pool is imported from what was given back to a shelf: its uberblock is found, each metaslab is opened from the
 //! record of the group that it names, and of each object the block with the greatest number counts.
-ghost use Rattle.std.specs.Prelude.{◌≡◌, ◌<◌, ◌≤◌, ◌+◌, ◌⊎◌, ◌↔◌, ℕ, None, Some, IfOk, IsErrOf, IsTrue, OnErr, OnOk, false, is_some, nat_eq, slice_get};
+ghost use Rattle.std.specs.Prelude.{◌≡◌, ◌<◌, ◌≤◌, ◌+◌, ◌⊎◌, ◌↔◌, ℕ, None, Some, Err, IfErr, IfOk, IsErrOf, IsSome, IsTrue, OnErr, OnOk, false, is_some, nat_eq, slice_get};
 ghost use Rattle.std.specs.HashMap.{get};
 ghost use Rattle.draid_names.specs.Faults.{Rose};
 ghost use Rattle.draid_names.specs.declared.numbers.TheConstants.{LAST_NUMBER};
 ghost use Rattle.draid_names.specs.declared.pointer.Pointer.{Pointer};
+ghost use Rattle.draid_area.specs.Area.{IsOfSize, OnTold};
 ghost use Rattle.draid_map.specs.Place.{IsLayout};
 ghost use Rattle.draid_shelf.specs.Kits.{OnHeld, takes_kit, takes_uber};
 ghost use Rattle.draid_shelf.specs.Shelf.{SameOthers};
@@ -18,7 +19,7 @@ ghost use Rattle.draid_session.specs.State.{State, limit_of};
 ghost use Rattle.draid_pool.specs.Imported.{AreNewest, IsFoundOf};
 ghost use Rattle.draid_pool.specs.Importing.{ImportIs, ImportsPool, RestsThere};
 ghost use Rattle.draid_pool.specs.Opening.{IsAsBefore, TakesFirst};
-ghost use Rattle.draid_pool.specs.Found.{AllLive, AnyRecordsRose, AreFound, AreFreed, AreReady, AreReopened, CountsLater, FreesIfOlder, FreesOlder, HasOnly, HasRisen, IsFoundUber, IsRecovered, IsReopened, KeepsFound, KeepsFoundAt, KeepsNewer, LeavesShards, LeavesUber, Notes, NotesOne, OpensAllOver, OpensOver, Reaches, RecordsRose, SameChecks, StaysHeld, shelf_fault_of, uber_fault_of};
+ghost use Rattle.draid_pool.specs.Found.{AllLive, AnyRecordsRose, AreFound, AreFreed, AreReady, AreReopened, CountsLater, FreesIfOlder, FreesOlder, HasOnly, HasRisen, IsFoundUber, IsRecovered, IsReopened, IsShardFault, KeepsFound, KeepsFoundAt, KeepsKnown, KeepsNewer, LeavesShards, LeavesUber, Notes, NotesOne, OpensAllOver, OpensOver, Reaches, RecordsRose, SameChecks, StaysHeld, shelf_fault_of, uber_fault_of};
 ghost use Rattle.draid_pool.specs.Whole.{IsWhole};
 ghost use Rattle.draid_pool.specs.declared.importing.Found.{Found};
 
@@ -62,7 +63,8 @@ fn uber_fault(why: UberFault) -> PoolFault
 
 /// Why a metaslab wasn't opened.
 fn open_fault(number: u32, why: OpenFault) -> PoolFault
-    ensures { result ≡ PoolFault.Shelf → why ≡ OpenFault.Area }
+    ensures area { result ≡ PoolFault.Shelf → why ≡ OpenFault.Area }
+    ensures fault { IsShardFault result }
 {
     match why {
         OpenFault::Area => PoolFault::Shelf,
@@ -79,6 +81,7 @@ fn open_fault(number: u32, why: OpenFault) -> PoolFault
 fn shelf_fault(why: DeviceFault) -> PoolFault
     ensures is { result ≡ shelf_fault_of why }
     ensures failed { result ≡ PoolFault.Shelf → why ≡ DeviceFault.Failed }
+    ensures fault { IsShardFault result }
 {
     match why {
         DeviceFault::Failed => PoolFault::Shelf,
@@ -86,12 +89,21 @@ fn shelf_fault(why: DeviceFault) -> PoolFault
     }
 }
 
+/// Law: an area that tells has the length that it tells.
+fn has_length_told<A: Area>(area: &A)
+    ensures { OnTold (A.told area.now) (IsOfSize (A.size area.now)) }
+{}
+
 /// Takes the area of the uberblock, and finds the uberblock there. After a refusal the area is on the shelf.
 fn find_uber<H: Shelf>(shelf: &mut H) -> Result<Uber<H::A>, PoolFault>
     ensures found { IfOk result (IsFoundUber H.A.Area) }
     ensures recovered { IfOk result (IsRecovered H.A.Area (H.told shelf.old) (H.uber_count shelf.old)) }
     ensures told { OnOk result (H.told shelf.new ≡ takes_uber (H.told shelf.old)) }
     ensures back { OnErr result (LeavesUber (H.told shelf.old) (H.told shelf.new) (H.uber_count shelf.old) (H.uber_count shelf.new)) }
+    ensures import { (x : State) (pieces : ℕ → Pieces)
+        → RestsThere x pieces (H.told shelf.old) (H.leaves shelf.old) (H.counts shelf.old) (H.uber_count shelf.old)
+        → IfErr result (λ why. ImportIs H.R.Rack H.A.Area x pieces (H.told shelf.new) (H.leaves shelf.new) (H.counts shelf.new) (H.uber_count shelf.new) (Err why)) }
+    ensures leaves { (m : ℕ) → H.leaves shelf.new m ≡ H.leaves shelf.old m }
     ensures none { OnHeld (H.told shelf.old) (λ held. held.uber ≡ None → IsErrOf result PoolFault.NoPool
         × IsAsBefore (H.told shelf.old) (H.told shelf.new) (H.counts shelf.old) (H.counts shelf.new)
         (record { uber = H.uber_count shelf.old; checks = H.check_counts shelf.old })
@@ -109,6 +121,7 @@ fn find_uber<H: Shelf>(shelf: &mut H) -> Result<Uber<H::A>, PoolFault>
         Ok(area) => area,
         Err(why) => return Err(shelf_fault(why)),
     };
+    has_length_told(&area);
     match Uber::recover(area) {
         Ok(uber) => Ok(uber),
         Err(UberRefused { area, why }) => {
@@ -134,6 +147,10 @@ fn reopen_shard<H: Shelf>(
     ensures over { IfOk result (OpensOver H.R.Rack H.A.Area (limit_of (layout_of uber.now)) (group_of (kept_of uber.now)) (next_leaf_of uber.now) number (H.told shelf.old) (H.counts shelf.old number)) }
     ensures told { OnOk result (H.told shelf.new ≡ takes_kit number (H.told shelf.old)) }
     ensures back { OnErr result (StaysHeld (H.told shelf.old) (H.told shelf.new)) }
+    ensures tells { OnErr result (OnHeld (H.told shelf.old) (λ held. IsSome (held.kits number) → IsSome (H.told shelf.new))) }
+    ensures leaves { SameOthers number (H.leaves shelf.old) (H.leaves shelf.new) }
+    ensures known { OnErr result (KeepsKnown (H.leaves shelf.old number) (H.leaves shelf.new number)) }
+    ensures fault { IfErr result IsShardFault }
     ensures back_counts { OnErr result (CountsLater (H.counts shelf.old number) (H.counts shelf.new number)) }
     ensures held { SameChecks (H.told shelf.old) (H.told shelf.new) }
     ensures checks { H.check_counts shelf.new ≡ H.check_counts shelf.old }
@@ -176,7 +193,9 @@ fn reopen_shards<H: Shelf>(
     ensures reopened { IfOk result (λ shards. AreReopened H.R.Rack (layout_of uber.now) (group_of (kept_of uber.now)) shards.items) }
     ensures over { IfOk result (λ shards. OpensAllOver H.R.Rack H.A.Area (limit_of (layout_of uber.now)) (group_of (kept_of uber.now)) (next_leaf_of uber.now) (H.told shelf.old) (H.counts shelf.old) shards.items) }
     ensures told { OnOk result (TakesFirst (layout_of uber.now).props.metaslabs (H.told shelf.old) (H.told shelf.new)) }
-    ensures back { OnErr result (LeavesShards H.R.Rack H.A.Area (limit_of (layout_of uber.now)) (group_of (kept_of uber.now)) (next_leaf_of uber.now) (H.told shelf.old) (H.told shelf.new) (H.counts shelf.old) (H.counts shelf.new)) }
+    ensures back { OnErr result (LeavesShards H.R.Rack H.A.Area (layout_of uber.now) (group_of (kept_of uber.now)) (next_leaf_of uber.now) (H.told shelf.old) (H.told shelf.new) (H.counts shelf.old) (H.counts shelf.new)
+        (H.leaves shelf.old) (H.leaves shelf.new)) }
+    ensures fault { IfErr result IsShardFault }
     ensures held { SameChecks (H.told shelf.old) (H.told shelf.new) }
     ensures checks { H.check_counts shelf.new ≡ H.check_counts shelf.old }
     ensures later { H.faults shelf.old ≤ H.faults shelf.new }
@@ -250,6 +269,7 @@ impl Found {
         requires live { AllLive shard.now }
         ensures noted { OnOk result (Notes shard.now (get nat_eq self.old.newest) (get nat_eq self.new.newest) self.old.seq self.new.seq) }
         ensures no_device { IsErrOf result PoolFault.Shelf → ⊥ }
+        ensures fault { IfErr result IsShardFault }
     {
         let mut from = 0;
         let mut at = shard.blocks_at();
@@ -301,6 +321,7 @@ fn find_blocks<R: Rack, A: Area>(alloc: Global, shards: &[Shard<R, A>]) -> Resul
     requires ready { AreReady R.Rack shards.now }
     ensures found { IfOk result (λ found. AreFound shards.now (get nat_eq found.newest) found.seq) }
     ensures no_device { IsErrOf result PoolFault.Shelf → ⊥ }
+    ensures fault { IfErr result IsShardFault }
 {
     let mut found = Found {
         newest: HashMap::new(alloc),
