@@ -1,5 +1,8 @@
 use Rattle.std.proofs.Common.{arith, ◌/◌, ◌∙◌, ap, inr, subst}
-use Rattle.draid_uber.specs.Uber.{next_leaf_of}
+use Rattle.draid_uber.specs.Slots.{group_of}
+use Rattle.draid_uber.specs.Uber.{kept_of, next_leaf_of}
+use Rattle.draid_shard.specs.Reopening.{OpenIsRefused}
+use Rattle.draid_pool.proofs.ImportUnread.{no_open_record, no_shelf_record}
 use Rattle.draid_shard.specs.Groups.{Opens}
 use Rattle.draid_spec.specs.declared.layout.Geometry.{Geometry}
 use Rattle.draid_shard.specs.Part.{Part}
@@ -18,7 +21,7 @@ returns-in-Err-reopen-clause-cause g c failed =
     let area = g.H.A.Area in
     let t = c.in-Ok.ensures in
     let r = c.in-Err-reopen in
-    let rose = refused_area g.H.R.Rack area.faults area.told c.geometry.result.now c.args.number c.in-Ok.kit r.field-0.kit c.committed-group.result c.next_leaf.result r.field-0.why r.ensures.refused (c.open_fault.ensures (fault_is c.open_fault.result failed)) in
+    let rose = refused_area g.H.R.Rack area.faults area.told c.geometry.result.now c.args.number c.in-Ok.kit r.field-0.kit c.committed-group.result c.next_leaf.result r.field-0.why r.ensures.refused (c.open_fault.ensures.area (fault_is c.open_fault.result failed)) in
     inr (records_rose area.faults c.in-Ok.kit r.field-0.kit c.committed-group.result (shelf.counts c.args.shelf.now c.args.number) (shelf.counts c.give.new.self c.args.number) t.even_count t.odd_count
     c.give.ensures.even_count c.give.ensures.odd_count rose)
 
@@ -55,3 +58,18 @@ returns-in-Err-reopen-clause-back_counts g c =
       even = (let now = e.even_count in let was = t.even_count in let up = later.even in omega (arith, now, was, up));
       odd = (let now = e.odd_count in let was = t.odd_count in let up = later.odd in omega (arith, now, was, up));
     }
+
+pub returns-in-Err-clause-opens : goal.returns-in-Err-clause-opens
+returns-in-Err-clause-opens g c x pieces held leaves counts count there r takes same = no_shelf_record c.in-Err.why c.shelf_fault.result c.shelf_fault.ensures.is
+
+pub returns-in-Err-reopen-clause-opens : goal.returns-in-Err-reopen-clause-opens
+returns-in-Err-reopen-clause-opens g c x pieces held leaves counts count there r takes same =
+    let rack = g.H.R.Rack in
+    let area = g.H.A.Area in
+    let t = c.in-Ok.ensures in
+    let e = c.in-Err-reopen in
+    no_open_record rack area x pieces held (g.H.Shelf.told c.args.shelf.now) leaves counts count c.args.uber.now c.args.number c.in-Ok.kit e.field-0.kit (g.H.Shelf.leaves c.args.shelf.now c.args.number) e.field-0.why
+    c.open_fault.result c.open_fault.ensures.is there c.requires.uber r c.requires.number takes t.kit same t.leaves
+    (subst (λ (l : Geometry). OpenIsRefused rack area.faults area.told l c.args.number c.in-Ok.kit e.field-0.kit (group_of (kept_of c.args.uber.now)) (next_leaf_of c.args.uber.now) e.field-0.why) c.geometry.ensures
+    (subst (λ n. OpenIsRefused rack area.faults area.told c.geometry.result.now c.args.number c.in-Ok.kit e.field-0.kit n (next_leaf_of c.args.uber.now) e.field-0.why) c.committed-group.ensures
+    (subst (λ n. OpenIsRefused rack area.faults area.told c.geometry.result.now c.args.number c.in-Ok.kit e.field-0.kit c.committed-group.result n e.field-0.why) c.next_leaf.ensures e.ensures.refused)))

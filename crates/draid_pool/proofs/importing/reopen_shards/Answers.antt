@@ -1,4 +1,4 @@
-use Rattle.std.proofs.Common.{arith, ◌≡◌, ◌+◌, ℕ, ◌∷◌, ◌∙◌, [], ap, length, length-append, refl, subst, sym}
+use Rattle.std.proofs.Common.{arith, Option, ◌≡◌, ◌+◌, ℕ, ◌∷◌, ◌∙◌, [], ap, length, length-append, refl, subst, sym}
 use Rattle.draid_spec.specs.Geometry.{IsGeometry}
 use Rattle.draid_spec.specs.declared.layout.Geometry.{Geometry}
 use Rattle.draid_map.specs.Place.{IsLayout}
@@ -9,6 +9,8 @@ use Rattle.draid_session.specs.State.{limit_of}
 use Rattle.draid_pool.specs.Found.{IsReopened, OpensOver}
 use Rattle.draid_pool.specs.Opening.{TakesFirst}
 use Rattle.draid_pool.proofs.Found.{checks_back, checks_more, checks_same, each_none, each_pushed, leaves_shards, over_first, records_rose_back, refused_too}
+use Rattle.draid_shelf.specs.Kits.{Held}
+use Rattle.draid_pool.proofs.ImportUnread.{no_record_too}
 use Rattle.draid_pool.proofs.Opened.{none_taken, takes_more}
 use Rattle.draid_pool.proofs.importing.reopen_shards.Goals as goal
 
@@ -27,6 +29,7 @@ loop-number-init g c =
       held = checks_same (g.H.Shelf.told c.args.shelf.now);
       checks = refl;
       counts = λ m past. refl;
+      leaves = λ m past. refl;
       later = omega arith;
       bound = omega arith;
     }
@@ -80,6 +83,7 @@ loop-number-preserved g c =
       held = checks_more (shelf.told c.args.shelf.now) (shelf.told c.loop-number.shelf) (shelf.told c.reopen_shard.new.shelf) i.held c.reopen_shard.ensures.held;
       checks = c.reopen_shard.ensures.checks ∙ i.checks;
       counts = λ m past. c.reopen_shard.ensures.counts m (λ at. omega (arith, at, past)) ∙ i.counts m (omega (arith, past));
+      leaves = λ m past. c.reopen_shard.ensures.leaves m (λ at. omega (arith, at, past)) ∙ i.leaves m (omega (arith, past));
       later = omega (arith, later, again);
       bound = omega (arith, same, below);
     }
@@ -113,6 +117,13 @@ returns-in-Err-clause-cause g c failed =
     records_rose_back g.H.R.Rack g.H.A.Area c.loop-number.shards.items c.loop-number.number (shelf.faults c.args.shelf.now) (shelf.faults c.loop-number.shelf) (shelf.faults c.reopen_shard.new.shelf) (shelf.faults c.give_back.new.shelf)
     (shelf.told c.reopen_shard.new.shelf) (shelf.told c.give_back.new.shelf) (shelf.counts c.args.shelf.now) (shelf.counts c.loop-number.shelf) (shelf.counts c.reopen_shard.new.shelf) (shelf.counts c.give_back.new.shelf)
     i.many i.later c.give_back.ensures.faults i.counts c.give_back.ensures.returns (c.in-Err.ensures.cause (refused_too c.in-Err.fault failed))
+
+pub returns-in-Err-clause-opens : goal.returns-in-Err-clause-opens
+returns-in-Err-clause-opens g c x pieces held counts count there r taken =
+    let shelf = g.H.Shelf in
+    let i = c.loop-number.invariant in
+    no_record_too c.in-Err.fault (c.reopen_shard.ensures.opens x pieces held (shelf.leaves c.args.shelf.now) counts count there r
+    (subst (λ (t : Option Held). TakesFirst c.loop-number.number t (shelf.told c.loop-number.shelf)) taken i.told) (i.leaves c.loop-number.number (omega arith)))
 
 pub returns-clause-told : goal.returns-clause-told
 returns-clause-told g c =
