@@ -1,10 +1,10 @@
 -- What an import leaves that was refused behind the uberblock: the metaslabs that were opened are given back, and the others are as they were.
 use Rattle.std.proofs.Common.{arith, ◌≡◌, ◌<◌, ◌≤◌, ◌∙◌, ◌⊎◌, inl, inr, ℕ, List, [], Option, Some, None, Err, length, refl, sym, ap, subst}
 use Rattle.std.specs.declared.alloc.Global.{Global}
-use Rattle.std.specs.Prelude.{⊤, IsSome, IsSomeAnd, MatchOption, slice_get}
+use Rattle.std.specs.Prelude.{IsSome, IsSomeAnd, MatchOption, option_map, slice_get}
 use Rattle.std.proofs.lemmas.Bool.{cases_eq, cases_lt}
 use Rattle.std.proofs.lemmas.Option.{slice_get_within}
-use Rattle.draid_area.specs.Area.{Content}
+use Rattle.draid_area.specs.Area.{Content, flushes}
 use Rattle.draid_area.specs.declared.Area as areas
 use Rattle.draid_rack.specs.Rack.{Shape, Told}
 use Rattle.draid_rack.specs.declared.Rack as racks
@@ -13,21 +13,25 @@ use Rattle.draid_perm.specs.declared.perms.Perms.{Perms}
 use Rattle.draid_map.specs.Place.{IsLayout}
 use Rattle.draid_record.specs.declared.uber.UberBody.{UberBody}
 use Rattle.draid_segments.specs.Segments.{Pieces}
-use Rattle.draid_shelf.specs.Kits.{AreNewChecks, Held, KitCounts, KitTold, OnHeld, gives_kit, gives_uber, kit_of, puts_uber, takes_kit}
+use Rattle.draid_shelf.specs.Kits.{AreNewChecks, Held, KitCounts, KitTold, OnHeld, gives_kit, gives_uber, kit_of, puts_uber, takes_kit, takes_uber}
 use Rattle.draid_shelf.specs.Shelf.{IsKnown, SameOthers}
 use Rattle.draid_shelf.specs.declared.kit.Kit.{Kit}
 use Rattle.draid_stable.specs.Stable as stable
 use Rattle.draid_shard.specs.Calls.{OnBothTold}
 use Rattle.draid_shard.specs.Groups.{ListsOnce, Opens}
 use Rattle.draid_shard.specs.declared.shard.Shard.{Shard}
-use Rattle.draid_uber.specs.Slots.{StandsTold}
+use Rattle.draid_uber.specs.Slots.{StandsTold, group_of}
+use Rattle.draid_uber.specs.Uber.{area_of, kept_of, layout_of, next_leaf_of}
+use Rattle.draid_uber.specs.declared.uber.Uber.{Uber}
 use Rattle.draid_session.specs.State.{Metaslab, State, limit_of}
 use Rattle.draid_pool.specs.Closing.{AllTell, RestsOn, Returns, ReturnsLeaves, TakesBack, kit_in}
-use Rattle.draid_pool.specs.Found.{AreReopened, CountsLater, HoldsKits, IsReopened, IsShardFault, KeepsKnown, LeavesShards, OpensAllOver, StaysHeld}
+use Rattle.draid_pool.specs.Found.{AreReopened, CountsLater, HoldsKits, IsFoundUber, IsRecovered, IsReopened, IsShardFault, KeepsKnown, LeavesShards, OpensAllOver, StaysHeld}
 use Rattle.draid_pool.specs.Importable.{HasImageLeaves}
 use Rattle.draid_pool.specs.Imported.{FindsBody, OpensFound, RestsFound}
 use Rattle.draid_pool.specs.Importing.{ImportIs, LeavesPool, RestsThere}
 use Rattle.draid_pool.specs.Opening.{TakesFirst}
+use Rattle.draid_pool.specs.Together.{NoRecord}
+use Rattle.draid_pool.specs.Ubers.{UberStands}
 use Rattle.draid_pool.specs.declared.fault.PoolFault.{PoolFault}
 use Rattle.draid_pool.specs.declared.fault.PoolFault.TheVariants as fault
 use Rattle.draid_pool.proofs.Closed.{kit_is}
@@ -35,8 +39,9 @@ use Rattle.draid_pool.proofs.Found.{stays_same}
 use Rattle.draid_pool.proofs.ImportFound.{finds_image}
 use Rattle.draid_pool.proofs.ImportMetaslab.{FindsImage}
 use Rattle.draid_pool.proofs.ImportOpened.{rested}
+use Rattle.draid_pool.proofs.ImportPool.{FoundBody, body_found, one_table, shard_found, uber_content}
 use Rattle.draid_pool.proofs.ImportRefused.{found_leaves_pool, given_found, left_found}
-use Rattle.draid_pool.proofs.Lists.{present}
+use Rattle.draid_pool.proofs.Lists.{ext, present}
 
 -- ---- one metaslab
 
@@ -266,11 +271,47 @@ module _ {R A : Type 0} (rack : racks.Ghosts R) (area : areas.Ghosts A) (x : Sta
       (found_leaves_pool x pieces held there.held there.importable.findable body finds (puts_uber (Some u) given.0) now after n there.importable.alike counted each u refl stands
       (subst (λ o. IsSomeAnd o AreNewChecks) (sym takes.checks) there.held.checks))
 
+-- whatever the shelf tells
+pub refused_pool : {R A : Type 0} (alloc : Global) (rack : racks.Ghosts R) (area : areas.Ghosts A) (x : State) (pieces : ℕ → Pieces) (o mid back new : Option Held) (leaves yet_leaves late_leaves now : ℕ → Option Shape)
+    (counts yet late after : ℕ → KitCounts) (count n : ℕ) (uber : Uber A) → RestsThere x pieces o leaves counts count → IsFoundUber area uber → IsRecovered area o count uber → mid ≡ takes_uber o
+    → ((m : ℕ) → yet_leaves m ≡ leaves m) → ((m : ℕ) → yet m ≡ counts m)
+    → LeavesShards rack area (layout_of uber) (group_of (kept_of uber)) (next_leaf_of uber) mid back yet late yet_leaves late_leaves
+    → new ≡ gives_uber (area.told (area_of uber)) back → ((m : ℕ) → now m ≡ late_leaves m) → ((m : ℕ) → after m ≡ late m) → n ≡ area.faults (area_of uber) → LeavesPool x pieces new now after n
+refused_pool alloc rack area x pieces None mid back new leaves yet_leaves late_leaves now counts yet late after count n uber there found r taken same_leaves same_counts l gives now_is after_is n_is = absurd there.held
+refused_pool {R} {A} alloc rack area x pieces (Some held) mid back new leaves yet_leaves late_leaves now counts yet late after count n uber there found r taken same_leaves same_counts l gives now_is after_is n_is =
+    subst (λ (o : Option Held). LeavesPool x pieces o now after n) (sym (gives ∙ ap (λ t. gives_uber t back) told))
+    (subst (λ (s : ℕ → Option Shape). LeavesPool x pieces (gives_uber (Some (flushes c.0)) back) s after n) (sym (ext now late_leaves now_is))
+    (subst (λ (k : ℕ → KitCounts). LeavesPool x pieces (gives_uber (Some (flushes c.0)) back) late_leaves k n) (sym (ext after late after_is))
+    (refused_leaves rack area x pieces held leaves counts count there b.body b.finds alloc (layout_of uber) b.layout (group_of (kept_of uber)) (next_leaf_of uber) back late late_leaves left opened (flushes c.0) n stands
+    (let later = r.later in let own = there.uber in omega (arith, later, own, n_is)))))
+  where
+    b : FoundBody area x pieces held there.held uber count found r
+    b = body_found area x pieces held there.held uber count found r
+
+    c : (c : Content) × (held.uber ≡ Some c) × UberStands x (Some c)
+    c = uber_content x held.uber there.held.uber
+
+    told : area.told (area_of uber) ≡ Some (flushes c.0)
+    told = r.flushed ∙ ap (λ o. option_map flushes o) (r.own ∙ c.1)
+
+    stands : StandsTold (Some b.body) [] (Some (flushes c.0))
+    stands = subst (λ k. StandsTold k [] (Some (flushes c.0))) b.kept (subst (λ t. StandsTold (kept_of uber) [] t) told r.stands)
+
+    left : LeavesShards rack area (layout_of uber) (group_of (kept_of uber)) (next_leaf_of uber) (Some (puts_uber None held)) back counts late leaves late_leaves
+    left = subst (λ (o : Option Held). LeavesShards rack area (layout_of uber) (group_of (kept_of uber)) (next_leaf_of uber) o back counts late leaves late_leaves) taken
+        (subst (λ (s : ℕ → Option Shape). LeavesShards rack area (layout_of uber) (group_of (kept_of uber)) (next_leaf_of uber) mid back counts late s late_leaves) (ext yet_leaves leaves same_leaves)
+        (subst (λ (k : ℕ → KitCounts). LeavesShards rack area (layout_of uber) (group_of (kept_of uber)) (next_leaf_of uber) mid back k late yet_leaves late_leaves) (ext yet counts same_counts) l))
+
+    opened : (m : ℕ) (shard : Shard R A) (y : Metaslab) → slice_get left.shards m ≡ Some shard → slice_get x.metaslabs m ≡ Some y → OpensFound rack area x b.body.group m (pieces m) y shard
+    opened m shard y at here =
+        let perms = one_table x.geometry left.perms x.perms (subst (λ (g : Geometry). IsLayout g left.perms) b.layout left.layout) there.held.layout in
+        shard_found rack area x pieces held leaves counts count there uber found r alloc counts m shard y left.perms perms (λ k. refl) (left.each m shard at).valid (left.each m shard at).part_is (left.over m shard at) here
+
 -- ---- the answer
 
 -- a refusal that is neither a fault of what was asked for nor of a record
-pub refusal_is : {R A : Type 0} (rack : racks.Ghosts R) (area : areas.Ghosts A) (x : State) (pieces : ℕ → Pieces) (told : Option Held) (leaves : ℕ → Option Shape) (counts : ℕ → KitCounts) (n : ℕ) (why : PoolFault)
-    → IsShardFault why → ((metaslab : Option ℕ) (place kind : ℕ) → why ≡ fault.Record metaslab place kind → ⊥) → LeavesPool x pieces told leaves counts n → ImportIs rack area x pieces told leaves counts n (Err why)
+pub refusal_is : {T R A : Type 0} (rack : racks.Ghosts R) (area : areas.Ghosts A) (x : State) (pieces : ℕ → Pieces) (told : Option Held) (leaves : ℕ → Option Shape) (counts : ℕ → KitCounts) (n : ℕ) (why : PoolFault)
+    → IsShardFault why → NoRecord {T = T} (Err why) → LeavesPool x pieces told leaves counts n → ImportIs rack area x pieces told leaves counts n (Err why)
 refusal_is rack area x pieces told leaves counts n (fault.Spec why) may no_record left = absurd may
 refusal_is rack area x pieces told leaves counts n fault.NoPool may no_record left = absurd may
 refusal_is rack area x pieces told leaves counts n (fault.Record metaslab place kind) may no_record left = absurd (no_record metaslab place kind refl)

@@ -19,14 +19,10 @@ use Rattle.draid_session.specs.State.{State}
 use Rattle.draid_pool.specs.Found.{shelf_fault_of, uber_fault_of}
 use Rattle.draid_pool.specs.Importing.{FindsNone, ImportIs, LeavesPool, RestsThere}
 use Rattle.draid_pool.specs.Ubers.{UberStands}
+use Rattle.draid_pool.proofs.ImportPool.{uber_content}
 use Rattle.draid_pool.proofs.ImportRefused.{none_found, still_leaves}
 use Rattle.draid_pool.proofs.ImportUber.{flushed_none, flushed_stands, found_bad, found_none}
 use Rattle.draid_pool.proofs.Lists.{ext}
-
--- the area of the uberblock is held
-pub uber_told : (x : State) (o : Option Content) → IsSomeAnd o (λ c. UberStands x (Some c)) → (c : Content) × (o ≡ Some c) × UberStands x (Some c)
-uber_told x None h = absurd h
-uber_told x (Some c) h = (c, refl, h)
 
 both_ways : (b : Bool) → b ≡ true → b ≡ false → ⊥
 both_ways b on off = (let h : true ≡ false = sym on ∙ off in absurd (cc))
@@ -37,7 +33,7 @@ module _ {R A : Type 0} (rack : racks.Ghosts R) (area : areas.Ghosts A) (x : Sta
       → RestsThere x pieces o leaves counts count → FindsNone x pieces new now counts' n
   no_pool None new leaves now counts counts' count n has is off there = absurd there.held
   no_pool (Some held) new leaves now counts counts' count n has is off there =
-      let c = uber_told x held.uber there.held.uber in
+      let c = uber_content x held.uber there.held.uber in
       absurd (both_ways has (is.1 (subst IsSome (sym c.1) refl)) off)
 
   -- the pool as it was, with the area of its uberblock as it was or flushed
@@ -61,7 +57,7 @@ module _ {R A : Type 0} (rack : racks.Ghosts R) (area : areas.Ghosts A) (x : Sta
   not_taken (Some held) new leaves now counts counts' count n why told same counted later there = by why
     where
       c : (c : Content) × (held.uber ≡ Some c) × UberStands x (Some c)
-      c = uber_told x held.uber there.held.uber
+      c = uber_content x held.uber there.held.uber
 
       own : Some held ≡ Some (puts_uber (Some c.0) held)
       own = λ i. Some (record { uber = c.1 i; checks = held.checks; kits = held.kits })
@@ -82,7 +78,7 @@ module _ {R A : Type 0} (rack : racks.Ghosts R) (area : areas.Ghosts A) (x : Sta
   not_found (Some held) mid new leaves now counts counts' count n size was is why own counted finds flushed empty taken told same again later there = by why refl
     where
       c : (c : Content) × (held.uber ≡ Some c) × UberStands x (Some c)
-      c = uber_told x held.uber there.held.uber
+      c = uber_content x held.uber there.held.uber
 
       content : was ≡ Some c.0
       content = own ∙ c.1

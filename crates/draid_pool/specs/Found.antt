@@ -34,6 +34,8 @@ use Rattle.draid_shard.specs.Fits.{Valid}
 use Rattle.draid_shard.specs.Groups.{Opens, OpensCounts}
 use Rattle.draid_shard.specs.Part.{Part}
 use Rattle.draid_shard.specs.States.{part_of}
+use Rattle.draid_shard.specs.declared.fault.OpenFault.{OpenFault}
+use Rattle.draid_shard.specs.declared.fault.OpenFault.TheVariants as open_fault
 use Rattle.draid_shard.specs.declared.shard.Shard.{Shard}
 use Rattle.draid_uber.specs.declared.uber.Uber.{Uber}
 use Rattle.draid_uber.specs.declared.uber.UberFault.{UberFault}
@@ -166,6 +168,12 @@ uber_fault_of (uber_fault.Record place kind) = fault.Record None place kind
 abbrev pub shelf_fault_of : DeviceFault → PoolFault
 shelf_fault_of device.Failed = fault.Shelf
 shelf_fault_of device.NoMemory = fault.NoMemory
+
+-- or a metaslab wasn't opened
+abbrev pub open_fault_of : ℕ → OpenFault → PoolFault
+open_fault_of number open_fault.Area = fault.Shelf
+open_fault_of number open_fault.NoMemory = fault.NoMemory
+open_fault_of number (open_fault.Record place kind) = fault.Record (Some number) place kind
 
 -- why metaslabs are not opened, or their blocks not found: neither of the faults of what was asked for
 abbrev pub IsShardFault : PoolFault → Type 0

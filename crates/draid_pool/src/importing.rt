@@ -1,13 +1,15 @@
 //! A pool is imported from what was given back to a shelf: its uberblock is found, each metaslab is opened from the
 //! record of the group that it names, and of each object the block with the greatest number counts.
-ghost use Rattle.std.specs.Prelude.{◌≡◌, ◌<◌, ◌≤◌, ◌+◌, ◌⊎◌, ◌↔◌, ℕ, None, Some, Err, IfErr, IfOk, IsErrOf, IsSome, IsTrue, OnErr, OnOk, false, is_some, nat_eq, slice_get};
+ghost use Rattle.std.specs.Prelude.{◌≡◌, ◌<◌, ◌≤◌, ◌+◌, ◌⊎◌, ◌↔◌, ℕ, None, Some, Err, IfErr, IfOk, IsErrOf, IsSome, IsTrue, OnErr, OnOk, false, is_some, nat_eq, slice_get, Option, true};
 ghost use Rattle.std.specs.HashMap.{get};
 ghost use Rattle.draid_names.specs.Faults.{Rose};
 ghost use Rattle.draid_names.specs.declared.numbers.TheConstants.{LAST_NUMBER};
 ghost use Rattle.draid_names.specs.declared.pointer.Pointer.{Pointer};
 ghost use Rattle.draid_area.specs.Area.{IsOfSize, OnTold};
+ghost use Rattle.draid_rack.specs.Rack.{Shape};
 ghost use Rattle.draid_map.specs.Place.{IsLayout};
-ghost use Rattle.draid_shelf.specs.Kits.{OnHeld, takes_kit, takes_uber};
+ghost use Rattle.draid_entries.specs.Maps.{key_of};
+ghost use Rattle.draid_shelf.specs.Kits.{Held, KitCounts, OnHeld, takes_kit, takes_uber};
 ghost use Rattle.draid_shelf.specs.Shelf.{SameOthers};
 ghost use Rattle.draid_shard.specs.Calls.{IsLive};
 ghost use Rattle.draid_shard.specs.Fits.{Valid};
@@ -19,7 +21,8 @@ ghost use Rattle.draid_session.specs.State.{State, limit_of};
 ghost use Rattle.draid_pool.specs.Imported.{AreNewest, IsFoundOf};
 ghost use Rattle.draid_pool.specs.Importing.{ImportIs, ImportsPool, RestsThere};
 ghost use Rattle.draid_pool.specs.Opening.{IsAsBefore, TakesFirst};
-ghost use Rattle.draid_pool.specs.Found.{AllLive, AnyRecordsRose, AreFound, AreFreed, AreReady, AreReopened, CountsLater, FreesIfOlder, FreesOlder, HasOnly, HasRisen, IsFoundUber, IsRecovered, IsReopened, IsShardFault, KeepsFound, KeepsFoundAt, KeepsKnown, KeepsNewer, LeavesShards, LeavesUber, Notes, NotesOne, OpensAllOver, OpensOver, Reaches, RecordsRose, SameChecks, StaysHeld, shelf_fault_of, uber_fault_of};
+ghost use Rattle.draid_pool.specs.Found.{AllLive, AnyRecordsRose, AreFound, AreFreed, AreReady, AreReopened, CountsLater, FreesIfOlder, FreesOlder, HasOnly, HasRisen, IsFoundUber, IsRecovered, IsReopened, IsShardFault, KeepsFound, KeepsFoundAt, KeepsKnown, KeepsNewer, LeavesShards, LeavesUber, Notes, NotesOne, OpensAllOver, OpensOver, Reaches, RecordsRose, SameChecks, StaysHeld, shelf_fault_of, uber_fault_of, open_fault_of};
+ghost use Rattle.draid_pool.specs.Together.{AreApart, AreSameArms, HaveSameArms, IsNotedTwice, IsSameArm, NoRecord, NotesOnly, NotesOnlyOf, noted_in};
 ghost use Rattle.draid_pool.specs.Whole.{IsWhole};
 ghost use Rattle.draid_pool.specs.declared.importing.Found.{Found};
 
@@ -63,6 +66,7 @@ fn uber_fault(why: UberFault) -> PoolFault
 
 /// Why a metaslab wasn't opened.
 fn open_fault(number: u32, why: OpenFault) -> PoolFault
+    ensures is { result ≡ open_fault_of number why }
     ensures area { result ≡ PoolFault.Shelf → why ≡ OpenFault.Area }
     ensures fault { IsShardFault result }
 {
@@ -151,6 +155,10 @@ fn reopen_shard<H: Shelf>(
     ensures leaves { SameOthers number (H.leaves shelf.old) (H.leaves shelf.new) }
     ensures known { OnErr result (KeepsKnown (H.leaves shelf.old number) (H.leaves shelf.new number)) }
     ensures fault { IfErr result IsShardFault }
+    // No record of a pool that rests on a shelf has a fault.
+    ensures opens { (x : State) (pieces : ℕ → Pieces) (held : Option Held) (leaves : ℕ → Option Shape) (counts : ℕ → KitCounts) (count : ℕ)
+        → RestsThere x pieces held leaves counts count → IsRecovered H.A.Area held count uber.now → TakesFirst number (takes_uber held) (H.told shelf.old)
+        → H.leaves shelf.old number ≡ leaves number → NoRecord result }
     ensures back_counts { OnErr result (CountsLater (H.counts shelf.old number) (H.counts shelf.new number)) }
     ensures held { SameChecks (H.told shelf.old) (H.told shelf.new) }
     ensures checks { H.check_counts shelf.new ≡ H.check_counts shelf.old }
@@ -190,6 +198,8 @@ fn reopen_shards<H: Shelf>(
     uber: &Uber<H::A>,
 ) -> Result<Vec<Shard<H::R, H::A>>, PoolFault>
     requires uber { IsFoundUber H.A.Area uber.now }
+    ensures opens { (x : State) (pieces : ℕ → Pieces) (held : Option Held) (counts : ℕ → KitCounts) (count : ℕ)
+        → RestsThere x pieces held (H.leaves shelf.old) counts count → IsRecovered H.A.Area held count uber.now → H.told shelf.old ≡ takes_uber held → NoRecord result }
     ensures reopened { IfOk result (λ shards. AreReopened H.R.Rack (layout_of uber.now) (group_of (kept_of uber.now)) shards.items) }
     ensures over { IfOk result (λ shards. OpensAllOver H.R.Rack H.A.Area (limit_of (layout_of uber.now)) (group_of (kept_of uber.now)) (next_leaf_of uber.now) (H.told shelf.old) (H.counts shelf.old) shards.items) }
     ensures told { OnOk result (TakesFirst (layout_of uber.now).props.metaslabs (H.told shelf.old) (H.told shelf.new)) }
@@ -253,6 +263,8 @@ pub(crate) struct Found {
 impl Found {
     /// Notes a block. The answer is whether no other has its object and number.
     fn note(&mut self, pointer: Pointer) -> Result<bool, NoMemory>
+        ensures keys { OnOk result (NotesOnly pointer (noted_in self.old.keys) (noted_in self.new.keys)) }
+        ensures again { IfOk result (λ new. new ≡ false → noted_in self.old.keys (key_of pointer) ≡ true) }
         ensures noted { IfOk result (λ new. IsTrue new → NotesOne pointer (get nat_eq self.old.newest) (get nat_eq self.new.newest) self.old.seq self.new.seq) }
     {
         if !self.keys.insert((pointer.object, pointer.seq))? {
@@ -268,6 +280,8 @@ impl Found {
         requires valid { Valid R.Rack shard.now }
         requires live { AllLive shard.now }
         ensures noted { OnOk result (Notes shard.now (get nat_eq self.old.newest) (get nat_eq self.new.newest) self.old.seq self.new.seq) }
+        ensures keys { OnOk result (NotesOnlyOf shard.now (noted_in self.old.keys) (noted_in self.new.keys)) }
+        ensures again { (metaslab : Option ℕ) (place kind : ℕ) → IsErrOf result (PoolFault.Record metaslab place kind) → IsNotedTwice shard.now (noted_in self.old.keys) metaslab kind }
         ensures no_device { IsErrOf result PoolFault.Shelf → ⊥ }
         ensures fault { IfErr result IsShardFault }
     {
@@ -293,17 +307,31 @@ impl Found {
 }
 
 /// Whether two arms are one, but for whether a pass has made it good.
-fn is_same_arm(one: &Arm, other: &Arm) -> bool {
+fn is_same_arm(one: &Arm, other: &Arm) -> bool
+    ensures { IsTrue result ↔ IsSameArm one.now other.now }
+{
     one.kind == other.kind && one.number == other.number && one.offline == other.offline
 }
 
 /// Whether two slots have the same arms.
-fn have_same_arms(one: &[Arm], other: &[Arm]) -> bool {
-    one.len() == other.len() && one.iter().zip(other).all(|(a, b)| is_same_arm(a, b))
+fn have_same_arms(one: &[Arm], other: &[Arm]) -> bool
+    ensures { IsTrue result ↔ AreSameArms one.now other.now }
+{
+    if one.len() != other.len() {
+        return false;
+    }
+    for place in 0..one.len() {
+        if !is_same_arm(&one[place], &other[place]) {
+            return false;
+        }
+    }
+    true
 }
 
 /// Whether two metaslabs have the same arms in each slot.
-fn are_alike<R: Rack, A: Area>(one: &Shard<R, A>, other: &Shard<R, A>) -> bool {
+fn are_alike<R: Rack, A: Area>(one: &Shard<R, A>, other: &Shard<R, A>) -> bool
+    ensures { IsTrue result ↔ HaveSameArms one.now.slots other.now.slots }
+{
     let children = one.slots.children();
     if other.slots.children() != children {
         return false;
@@ -320,6 +348,7 @@ fn are_alike<R: Rack, A: Area>(one: &Shard<R, A>, other: &Shard<R, A>) -> bool {
 fn find_blocks<R: Rack, A: Area>(alloc: Global, shards: &[Shard<R, A>]) -> Result<Found, PoolFault>
     requires ready { AreReady R.Rack shards.now }
     ensures found { IfOk result (λ found. AreFound shards.now (get nat_eq found.newest) found.seq) }
+    ensures faulty { (metaslab : Option ℕ) (place kind : ℕ) → IsErrOf result (PoolFault.Record metaslab place kind) → AreApart shards.now metaslab place kind }
     ensures no_device { IsErrOf result PoolFault.Shelf → ⊥ }
     ensures fault { IfErr result IsShardFault }
 {

@@ -1,11 +1,13 @@
 use Rattle.std.proofs.Common.{arith, rules}
 use Rattle.std.specs.Prelude.{nat_eq}
 use Rattle.std.specs.HashMap.{get}
+use Rattle.draid_pool.specs.Together.{noted_in}
+use Rattle.draid_pool.proofs.ImportTogether.{block_twice, earlier_more, earlier_none, other_arms}
 use Rattle.draid_pool.proofs.Found.{at_item, finding_all, finding_more, finding_none}
 use Rattle.draid_pool.proofs.importing.find_blocks.Goals as goal
 
 pub loop-shard-init : goal.loop-shard-init
-loop-shard-init g c = record { finding = finding_none g.R.Rack c.args.shards.now (get nat_eq c.new.result) (λ object. search rules); bound = omega arith }
+loop-shard-init g c = record { finding = finding_none g.R.Rack c.args.shards.now (get nat_eq c.new.result) (λ object. search rules); keys = earlier_none c.args.shards.now c.new-2.result c.new-2.ensures.empty; bound = omega arith }
 
 pub note_all-requires-clause-valid : goal.note_all-requires-clause-valid
 note_all-requires-clause-valid g c =
@@ -22,6 +24,7 @@ loop-shard-preserved g c =
     record {
       finding = finding_more g.R.Rack c.args.shards.now c.loop-shard.shard-index c.shard-item.result (get nat_eq c.loop-shard.found.newest) (get nat_eq c.note_all.new.self.newest)
           c.loop-shard.found.seq c.note_all.new.self.seq there c.requires.ready c.loop-shard.invariant.finding c.in_ok-note_all.ensures.noted;
+      keys = earlier_more c.args.shards.now c.loop-shard.shard-index c.shard-item.result (noted_in c.loop-shard.found.keys) (noted_in c.note_all.new.self.keys) there c.loop-shard.invariant.keys c.in_ok-note_all.ensures.keys;
       bound = omega (arith, below);
     }
 
