@@ -309,6 +309,11 @@ refused_pool {R} {A} alloc rack area x pieces (Some held) mid back new leaves ye
 
 -- ---- the answer
 
+-- the shelf's leaves are as they were
+pub rests_known : (x : State) (pieces : ℕ → Pieces) (o : Option Held) (leaves now : ℕ → Option Shape) (counts : ℕ → KitCounts) (count : ℕ) → ((m : ℕ) → now m ≡ leaves m) → RestsThere x pieces o leaves counts count
+    → RestsThere x pieces o now counts count
+rests_known x pieces o leaves now counts count same there = subst (λ (s : ℕ → Option Shape). RestsThere x pieces o s counts count) (sym (ext now leaves same)) there
+
 -- a refusal that is neither a fault of what was asked for nor of a record
 pub refusal_is : {T R A : Type 0} (rack : racks.Ghosts R) (area : areas.Ghosts A) (x : State) (pieces : ℕ → Pieces) (told : Option Held) (leaves : ℕ → Option Shape) (counts : ℕ → KitCounts) (n : ℕ) (why : PoolFault)
     → IsShardFault why → NoRecord {T = T} (Err why) → LeavesPool x pieces told leaves counts n → ImportIs rack area x pieces told leaves counts n (Err why)

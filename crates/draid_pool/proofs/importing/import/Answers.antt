@@ -1,10 +1,14 @@
-use Rattle.std.proofs.Common.{List, subst, sym}
+use Rattle.std.proofs.Common.{◌∙◌, List, ap, subst, sym}
 use Rattle.std.specs.Prelude.{nat_eq}
 use Rattle.std.specs.HashMap.{get}
 use Rattle.draid_shard.specs.declared.shard.Shard.{Shard}
 use Rattle.draid_uber.specs.Slots.{group_of}
-use Rattle.draid_uber.specs.Uber.{kept_of, layout_of}
+use Rattle.draid_shelf.specs.Kits.{gives_uber}
+use Rattle.draid_uber.specs.Uber.{kept_of, layout_of, next_leaf_of}
+use Rattle.draid_pool.specs.Together.{AreApart}
 use Rattle.draid_pool.specs.Found.{AreFound, AreReady}
+use Rattle.draid_pool.proofs.ImportLeft.{leaves_all, refusal_is, refused_pool, rests_known}
+use Rattle.draid_pool.proofs.ImportOne.{no_fault_apart}
 use Rattle.draid_pool.proofs.ImportPool.{pool_found, tells_as_before}
 use Rattle.draid_pool.proofs.Found.{absent_not, all_ready, checks_more}
 use Rattle.draid_pool.proofs.importing.import.Goals as goal
@@ -37,3 +41,41 @@ pub returns-in-Ok-find_blocks-clause-tells : goal.returns-in-Ok-find_blocks-clau
 returns-in-Ok-find_blocks-clause-tells g c =
     let shelf = g.H.Shelf in
     tells_as_before (layout_of c.in_ok-uber.uber).props.metaslabs (shelf.told c.args.shelf.now) (shelf.told c.find_uber.new.shelf) (shelf.told c.reopen_shards.new.shelf) c.in_ok-uber.ensures.told c.in-Ok.ensures.told
+
+pub returns-in-Err-clause-import : goal.returns-in-Err-clause-import
+returns-in-Err-clause-import g c x pieces there =
+    let shelf = g.H.Shelf in
+    let u = c.in_ok-uber.ensures in
+    refusal_is g.H.R.Rack g.H.A.Area x pieces (shelf.told c.give_uber.new.self) (shelf.leaves c.give_uber.new.self) (shelf.counts c.give_uber.new.self) (shelf.uber_count c.give_uber.new.self) c.in-Err.fault c.in-Err.ensures.fault
+    (c.in-Err.ensures.opens x pieces (shelf.told c.args.shelf.now) (shelf.counts c.args.shelf.now) (shelf.uber_count c.args.shelf.now)
+    (rests_known x pieces (shelf.told c.args.shelf.now) (shelf.leaves c.args.shelf.now) (shelf.leaves c.find_uber.new.shelf) (shelf.counts c.args.shelf.now) (shelf.uber_count c.args.shelf.now) c.find_uber.ensures.leaves there) u.recovered u.told)
+    (refused_pool c.args.alloc g.H.R.Rack g.H.A.Area x pieces (shelf.told c.args.shelf.now) (shelf.told c.find_uber.new.shelf) (shelf.told c.reopen_shards.new.shelf) (shelf.told c.give_uber.new.self)
+    (shelf.leaves c.args.shelf.now) (shelf.leaves c.find_uber.new.shelf) (shelf.leaves c.reopen_shards.new.shelf) (shelf.leaves c.give_uber.new.self)
+    (shelf.counts c.args.shelf.now) (shelf.counts c.find_uber.new.shelf) (shelf.counts c.reopen_shards.new.shelf) (shelf.counts c.give_uber.new.self) (shelf.uber_count c.args.shelf.now) (shelf.uber_count c.give_uber.new.self)
+    c.in_ok-uber.uber there u.found u.recovered u.told c.find_uber.ensures.leaves c.find_uber.ensures.counts c.in-Err.ensures.back
+    (c.give_uber.ensures.told ∙ ap (λ a. gives_uber (g.H.A.Area.told a) (shelf.told c.reopen_shards.new.shelf)) c.into_area.ensures) c.give_uber.ensures.leaves c.give_uber.ensures.counts
+    (c.give_uber.ensures.count ∙ ap g.H.A.Area.faults c.into_area.ensures))
+
+pub returns-in-Err-find_blocks-clause-import : goal.returns-in-Err-find_blocks-clause-import
+returns-in-Err-find_blocks-clause-import g c x pieces there =
+    let shelf = g.H.Shelf in
+    let rack = g.H.R.Rack in
+    let area = g.H.A.Area in
+    let u = c.in_ok-uber.ensures in
+    let uber = c.in_ok-uber.uber in
+    let e = c.in-Ok.ensures in
+    let shards = c.in-Ok.shards.items in
+    let f = c.in-Err-find_blocks.ensures in
+    refusal_is rack area x pieces (shelf.told c.give_uber.new.self) (shelf.leaves c.give_uber.new.self) (shelf.counts c.give_uber.new.self) (shelf.uber_count c.give_uber.new.self) c.in-Err-find_blocks.fault f.fault
+    (no_fault_apart c.args.alloc rack area x pieces (shelf.told c.args.shelf.now) (shelf.told c.find_uber.new.shelf) (shelf.leaves c.args.shelf.now) (shelf.counts c.args.shelf.now) (shelf.counts c.find_uber.new.shelf)
+    (shelf.uber_count c.args.shelf.now) uber shards c.in-Err-find_blocks.fault there u.found u.recovered c.find_uber.ensures.counts u.told e.reopened e.over
+    (λ metaslab place kind err. subst (λ (xs : List (Shard g.row.H-R.Denot g.row.H-A.Denot)). AreApart xs metaslab place kind) c.deref.ensures.value (f.faulty metaslab place kind err)))
+    (refused_pool c.args.alloc rack area x pieces (shelf.told c.args.shelf.now) (shelf.told c.find_uber.new.shelf) (shelf.told c.give_back.new.shelf) (shelf.told c.give_uber.new.self)
+    (shelf.leaves c.args.shelf.now) (shelf.leaves c.find_uber.new.shelf) (shelf.leaves c.give_back.new.shelf) (shelf.leaves c.give_uber.new.self)
+    (shelf.counts c.args.shelf.now) (shelf.counts c.find_uber.new.shelf) (shelf.counts c.give_back.new.shelf) (shelf.counts c.give_uber.new.self) (shelf.uber_count c.args.shelf.now) (shelf.uber_count c.give_uber.new.self)
+    uber there u.found u.recovered u.told c.find_uber.ensures.leaves c.find_uber.ensures.counts
+    (leaves_all rack area (layout_of uber) (group_of (kept_of uber)) (next_leaf_of uber) shards (shelf.told c.find_uber.new.shelf) (shelf.told c.reopen_shards.new.shelf) (shelf.told c.give_back.new.shelf)
+    (shelf.counts c.find_uber.new.shelf) (shelf.counts c.reopen_shards.new.shelf) (shelf.counts c.give_back.new.shelf) (shelf.leaves c.find_uber.new.shelf) (shelf.leaves c.reopen_shards.new.shelf) (shelf.leaves c.give_back.new.shelf)
+    e.reopened e.over e.told c.give_back.ensures.returns c.give_back.ensures.leaves)
+    (c.give_uber.ensures.told ∙ ap (λ a. gives_uber (g.H.A.Area.told a) (shelf.told c.give_back.new.shelf)) c.into_area.ensures) c.give_uber.ensures.leaves c.give_uber.ensures.counts
+    (c.give_uber.ensures.count ∙ ap g.H.A.Area.faults c.into_area.ensures))
