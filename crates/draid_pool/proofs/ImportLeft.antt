@@ -12,10 +12,12 @@ use Rattle.draid_spec.specs.declared.layout.Geometry.{Geometry}
 use Rattle.draid_perm.specs.declared.perms.Perms.{Perms}
 use Rattle.draid_map.specs.Place.{IsLayout}
 use Rattle.draid_record.specs.declared.uber.UberBody.{UberBody}
+use Rattle.draid_segments.specs.Acts.{DropsBut, IsNamed}
 use Rattle.draid_segments.specs.Segments.{Pieces}
 use Rattle.draid_shelf.specs.Kits.{AreNewChecks, Held, KitCounts, KitTold, OnHeld, gives_kit, gives_uber, kit_of, puts_uber, takes_kit, takes_uber}
 use Rattle.draid_shelf.specs.Shelf.{IsKnown, SameOthers}
 use Rattle.draid_shelf.specs.declared.kit.Kit.{Kit}
+use Rattle.draid_stable.specs.Images.{image_by}
 use Rattle.draid_stable.specs.Stable as stable
 use Rattle.draid_shard.specs.Calls.{OnBothTold}
 use Rattle.draid_shard.specs.Groups.{ListsOnce, Opens}
@@ -203,7 +205,7 @@ tells_over : {R A : Type 0} (rack : racks.Ghosts R) (area : areas.Ghosts A) (old
     → kit_of (rack.told old.rack) (area.told old.even) (area.told old.odd) ≡ Some kit → Opens rack area.told old group next shard → IsSome (kit_in rack area shard)
 tells_over rack area old shard group next kit told opens =
     let k = kit_is (rack.told old.rack) (area.told old.even) (area.told old.odd) kit told in
-    let t = told_there (rack.told old.rack) (rack.told shard.rack) kit.rack _ k.rack opens.leaves in
+    let t = told_there (rack.told old.rack) (rack.told shard.rack) kit.rack (DropsBut (IsNamed (image_by opens.value))) k.rack opens.leaves in
     all_some (rack.told shard.rack) (area.told shard.even) (area.told shard.odd) t.0 kit.even kit.odd t.1 (opens.even ∙ k.even) (opens.odd ∙ k.odd)
 
 some_is : {X : Type 0} (o : Option X) → IsSome o → (x : X) × (o ≡ Some x)
