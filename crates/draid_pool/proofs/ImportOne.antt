@@ -112,13 +112,13 @@ module _ {R A : Type 0} (rack : racks.Ghosts R) (area : areas.Ghosts A) (x : Sta
       absurd (omega (arith, one, before))
 
 -- and no fault of them is an answer
-pub no_fault_apart : {R A T U : Type 0} (alloc : Global) (rack : racks.Ghosts R) (area : areas.Ghosts A) (x : State) (pieces : ℕ → Pieces) (o mid : Option Held) (leaves : ℕ → Option Shape) (counts now : ℕ → KitCounts) (count : ℕ) (uber : Uber A)
+pub no_fault_apart : {R A T : Type 0} (alloc : Global) (rack : racks.Ghosts R) (area : areas.Ghosts A) (x : State) (pieces : ℕ → Pieces) (o mid : Option Held) (leaves : ℕ → Option Shape) (counts now : ℕ → KitCounts) (count : ℕ) (uber : Uber A)
     (shards : List (Shard R A)) (f : PoolFault) → RestsThere x pieces o leaves counts count → IsFoundUber area uber → IsRecovered area o count uber
     → ((k : ℕ) → now k ≡ counts k) → mid ≡ takes_uber o → AreReopened rack (layout_of uber) (group_of (kept_of uber)) shards
     → OpensAllOver rack area (limit_of (layout_of uber)) (group_of (kept_of uber)) (next_leaf_of uber) mid now shards
-    → ((metaslab : Option ℕ) (place kind : ℕ) → IsErrOf {T = T} (Err f) (fault.Record metaslab place kind) → AreApart shards metaslab place kind) → NoRecord {T = U} (Err f)
+    → ((metaslab : Option ℕ) (place kind : ℕ) → IsErrOf {T = T} (Err f) (fault.Record metaslab place kind) → AreApart shards metaslab place kind) → NoRecord {T = T} (Err f)
 no_fault_apart alloc rack area x pieces None mid leaves counts now count uber shards f there found r counted taken re over faulty metaslab place kind err = absurd there.held
 no_fault_apart alloc rack area x pieces (Some held) mid leaves counts now count uber shards f there found r counted taken re over faulty metaslab place kind err =
     not_apart rack area x pieces held leaves counts count there uber found r alloc now shards counted re
     (subst (λ o. OpensAllOver rack area (limit_of (layout_of uber)) (group_of (kept_of uber)) (next_leaf_of uber) o now shards) taken over) metaslab place kind
-    (faulty metaslab place kind (let same : f ≡ fault.Record metaslab place kind = cc in ap Err same))
+    (faulty metaslab place kind err)

@@ -62,3 +62,4 @@ pub mod ImportTogether
 pub mod ImportOne
 pub mod ImportTaken
 pub mod ImportLeft
+pub mod ImportFaulty

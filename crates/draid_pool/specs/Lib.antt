@@ -5,6 +5,7 @@ pub mod Closing
 pub mod Importable
 pub mod Imported
 pub mod Failing
+pub mod Faulty
 pub mod Found
 pub mod Importing
 pub mod Metaslabs

@@ -18,6 +18,7 @@ ghost use Rattle.draid_uber.specs.Slots.{group_of};
 ghost use Rattle.draid_uber.specs.Uber.{kept_of, layout_of, next_leaf_of};
 ghost use Rattle.draid_segments.specs.Segments.{Pieces};
 ghost use Rattle.draid_session.specs.State.{State, limit_of};
+ghost use Rattle.draid_pool.specs.Faulty.{IsUnread, OneIsUnread, RecordIsBad, UberIsBad};
 ghost use Rattle.draid_pool.specs.Imported.{AreNewest, IsFoundOf};
 ghost use Rattle.draid_pool.specs.Importing.{ImportIs, ImportsPool, RestsThere};
 ghost use Rattle.draid_pool.specs.Opening.{IsAsBefore, TakesFirst};
@@ -108,6 +109,7 @@ fn find_uber<H: Shelf>(shelf: &mut H) -> Result<Uber<H::A>, PoolFault>
         → RestsThere x pieces (H.told shelf.old) (H.leaves shelf.old) (H.counts shelf.old) (H.uber_count shelf.old)
         → IfErr result (λ why. ImportIs H.R.Rack H.A.Area x pieces (H.told shelf.new) (H.leaves shelf.new) (H.counts shelf.new) (H.uber_count shelf.new) (Err why)) }
     ensures leaves { (m : ℕ) → H.leaves shelf.new m ≡ H.leaves shelf.old m }
+    ensures faulty { (metaslab : Option ℕ) (place kind : ℕ) → IsErrOf result (PoolFault.Record metaslab place kind) → UberIsBad (H.told shelf.old) metaslab place kind }
     ensures none { OnHeld (H.told shelf.old) (λ held. held.uber ≡ None → IsErrOf result PoolFault.NoPool
         × IsAsBefore (H.told shelf.old) (H.told shelf.new) (H.counts shelf.old) (H.counts shelf.new)
         (record { uber = H.uber_count shelf.old; checks = H.check_counts shelf.old })
@@ -155,6 +157,8 @@ fn reopen_shard<H: Shelf>(
     ensures leaves { SameOthers number (H.leaves shelf.old) (H.leaves shelf.new) }
     ensures known { OnErr result (KeepsKnown (H.leaves shelf.old number) (H.leaves shelf.new number)) }
     ensures fault { IfErr result IsShardFault }
+    ensures faulty { (metaslab : Option ℕ) (place kind : ℕ) → IsErrOf result (PoolFault.Record metaslab place kind)
+        → IsUnread H.R.Rack H.A.Area (layout_of uber.now) (group_of (kept_of uber.now)) (next_leaf_of uber.now) number (H.told shelf.old) (H.counts shelf.old number) metaslab place kind }
     // No record of a pool that rests on a shelf has a fault.
     ensures opens { (x : State) (pieces : ℕ → Pieces) (held : Option Held) (leaves : ℕ → Option Shape) (counts : ℕ → KitCounts) (count : ℕ)
         → RestsThere x pieces held leaves counts count → IsRecovered H.A.Area held count uber.now → TakesFirst number (takes_uber held) (H.told shelf.old)
@@ -205,6 +209,8 @@ fn reopen_shards<H: Shelf>(
     ensures told { OnOk result (TakesFirst (layout_of uber.now).props.metaslabs (H.told shelf.old) (H.told shelf.new)) }
     ensures back { OnErr result (LeavesShards H.R.Rack H.A.Area (layout_of uber.now) (group_of (kept_of uber.now)) (next_leaf_of uber.now) (H.told shelf.old) (H.told shelf.new) (H.counts shelf.old) (H.counts shelf.new)
         (H.leaves shelf.old) (H.leaves shelf.new)) }
+    ensures faulty { (metaslab : Option ℕ) (place kind : ℕ) → IsErrOf result (PoolFault.Record metaslab place kind)
+        → OneIsUnread H.R.Rack H.A.Area (layout_of uber.now) (group_of (kept_of uber.now)) (next_leaf_of uber.now) (H.told shelf.old) (H.counts shelf.old) metaslab place kind }
     ensures fault { IfErr result IsShardFault }
     ensures held { SameChecks (H.told shelf.old) (H.told shelf.new) }
     ensures checks { H.check_counts shelf.new ≡ H.check_counts shelf.old }
@@ -470,6 +476,9 @@ pub fn import<H: Shelf>(alloc: Global, shelf: &mut H) -> Result<Pool<H::R, H::A>
         → RestsThere x pieces (H.told shelf.old) (H.leaves shelf.old) (H.counts shelf.old) (H.uber_count shelf.old)
         → ImportIs H.R.Rack H.A.Area x pieces (H.told shelf.new) (H.leaves shelf.new) (H.counts shelf.new) (H.uber_count shelf.new) result }
     ensures tells { OnOk result (is_some (H.told shelf.new) ≡ is_some (H.told shelf.old)) }
+    // A record for which it is refused has the fault.
+    ensures faulty { (metaslab : Option ℕ) (place kind : ℕ) → IsErrOf result (PoolFault.Record metaslab place kind)
+        → RecordIsBad H.R.Rack H.A.Area (H.told shelf.old) (H.counts shelf.old) (H.uber_count shelf.old) metaslab place kind }
     ensures held { SameChecks (H.told shelf.old) (H.told shelf.new) }
     ensures checks { H.check_counts shelf.new ≡ H.check_counts shelf.old }
     ensures later { H.faults shelf.old ≤ H.faults shelf.new }

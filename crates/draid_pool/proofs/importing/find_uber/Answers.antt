@@ -2,6 +2,7 @@ use Rattle.std.proofs.Common.{arith, rules, tests, ◌∙◌, Err, subst, sym}
 use Rattle.draid_pool.specs.Importing.{ImportIs}
 use Rattle.draid_pool.specs.declared.fault.PoolFault.{PoolFault}
 use Rattle.draid_pool.proofs.Found.{leaf_found, uber_left, uber_put}
+use Rattle.draid_pool.proofs.ImportFaulty.{err_is, shelf_no_record, uber_bad}
 use Rattle.draid_pool.proofs.ImportTaken.{no_pool, not_found, not_taken}
 use Rattle.draid_pool.proofs.importing.find_uber.Goals as goal
 
@@ -65,3 +66,11 @@ returns-in-Err-recover-clause-back g c =
     let e = c.give_uber.ensures in
     uber_put (shelf.told c.args.shelf.now) (shelf.told c.take_uber.new.self) (shelf.told c.give_uber.new.self) (area.told c.in-Ok.area) (area.told r.field-0.area) (shelf.uber_count c.args.shelf.now) (shelf.uber_count c.give_uber.new.self)
     t.told e.told t.area r.ensures.err (let was = t.count in let up = r.ensures.err_later in let now = e.count in omega (arith, was, up, now))
+
+pub returns-in-Err-clause-faulty : goal.returns-in-Err-clause-faulty
+returns-in-Err-clause-faulty g c metaslab place kind err = absurd (shelf_no_record c.in-Err.why metaslab place kind (sym c.shelf_fault.ensures.is ∙ err_is c.shelf_fault.result _ err))
+
+pub returns-in-Err-recover-clause-faulty : goal.returns-in-Err-recover-clause-faulty
+returns-in-Err-recover-clause-faulty g c metaslab place kind err =
+    let r = c.in-Err-recover in
+    uber_bad (g.H.Shelf.told c.args.shelf.now) (g.H.A.Area.told c.in-Ok.area) r.field-0.why metaslab place kind c.in-Ok.ensures.area r.ensures.finds (sym c.uber_fault.ensures.is ∙ err_is c.uber_fault.result _ err)

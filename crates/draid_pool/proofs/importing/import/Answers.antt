@@ -1,12 +1,15 @@
-use Rattle.std.proofs.Common.{◌∙◌, List, ap, subst, sym}
+use Rattle.std.proofs.Common.{◌∙◌, inl, inr, List, Option, Err, ap, subst, sym}
 use Rattle.std.specs.Prelude.{nat_eq}
 use Rattle.std.specs.HashMap.{get}
 use Rattle.draid_shard.specs.declared.shard.Shard.{Shard}
 use Rattle.draid_uber.specs.Slots.{group_of}
-use Rattle.draid_shelf.specs.Kits.{gives_uber}
+use Rattle.draid_shelf.specs.Kits.{Held, KitCounts, gives_uber}
 use Rattle.draid_uber.specs.Uber.{kept_of, layout_of, next_leaf_of}
 use Rattle.draid_pool.specs.Together.{AreApart}
-use Rattle.draid_pool.specs.Found.{AreFound, AreReady}
+use Rattle.draid_session.specs.State.{limit_of}
+use Rattle.draid_pool.specs.Faulty.{IsUnread, OneIsUnread}
+use Rattle.draid_pool.specs.Found.{AreFound, AreReady, OpensAllOver, OpensOver}
+use Rattle.draid_pool.proofs.ImportFaulty.{err_is}
 use Rattle.draid_pool.proofs.ImportLeft.{leaves_all, refusal_is, refused_pool, rests_known}
 use Rattle.draid_pool.proofs.ImportOne.{no_fault_apart}
 use Rattle.draid_pool.proofs.ImportPool.{pool_found, tells_as_before}
@@ -79,3 +82,37 @@ returns-in-Err-find_blocks-clause-import g c x pieces there =
     e.reopened e.over e.told c.give_back.ensures.returns c.give_back.ensures.leaves)
     (c.give_uber.ensures.told ∙ ap (λ a. gives_uber (g.H.A.Area.told a) (shelf.told c.give_back.new.shelf)) c.into_area.ensures) c.give_uber.ensures.leaves c.give_uber.ensures.counts
     (c.give_uber.ensures.count ∙ ap g.H.A.Area.faults c.into_area.ensures))
+
+pub returns-in-Err-clause-faulty : goal.returns-in-Err-clause-faulty
+returns-in-Err-clause-faulty g c metaslab place kind err =
+    let shelf = g.H.Shelf in
+    let u = c.in_ok-uber.ensures in
+    let uber = c.in_ok-uber.uber in
+    let z = c.in-Err.ensures.faulty metaslab place kind (ap Err (err_is c.in-Err.fault _ err)) in
+    inr (record {
+      uber = uber;
+      found = u.found;
+      recovered = u.recovered;
+      bad = inl (subst (λ (o : Option Held). OneIsUnread g.H.R.Rack g.H.A.Area (layout_of uber) (group_of (kept_of uber)) (next_leaf_of uber) o (shelf.counts c.args.shelf.now) metaslab place kind) u.told
+          (z.0, subst (λ (k : KitCounts). IsUnread g.H.R.Rack g.H.A.Area (layout_of uber) (group_of (kept_of uber)) (next_leaf_of uber) z.0 (shelf.told c.find_uber.new.shelf) k metaslab place kind) (c.find_uber.ensures.counts z.0) z.1));
+    })
+
+pub returns-in-Err-find_blocks-clause-faulty : goal.returns-in-Err-find_blocks-clause-faulty
+returns-in-Err-find_blocks-clause-faulty g c metaslab place kind err =
+    let shelf = g.H.Shelf in
+    let u = c.in_ok-uber.ensures in
+    let uber = c.in_ok-uber.uber in
+    let e = c.in-Ok.ensures in
+    inr (record {
+      uber = uber;
+      found = u.found;
+      recovered = u.recovered;
+      bad = inr (record {
+        shards = c.in-Ok.shards.items;
+        reopened = e.reopened;
+        over = subst (λ (o : Option Held). OpensAllOver g.H.R.Rack g.H.A.Area (limit_of (layout_of uber)) (group_of (kept_of uber)) (next_leaf_of uber) o (shelf.counts c.args.shelf.now) c.in-Ok.shards.items) u.told
+            (λ m shard there. subst (λ (k : KitCounts). OpensOver g.H.R.Rack g.H.A.Area (limit_of (layout_of uber)) (group_of (kept_of uber)) (next_leaf_of uber) m (shelf.told c.find_uber.new.shelf) k shard) (c.find_uber.ensures.counts m) (e.over m shard there));
+        apart = subst (λ (xs : List (Shard g.row.H-R.Denot g.row.H-A.Denot)). AreApart xs metaslab place kind) c.deref.ensures.value
+            (c.in-Err-find_blocks.ensures.faulty metaslab place kind (ap Err (err_is c.in-Err-find_blocks.fault _ err)));
+      });
+    })

@@ -1,12 +1,13 @@
-use Rattle.std.proofs.Common.{arith, ◌/◌, ◌∙◌, ap, inr, subst}
+use Rattle.std.proofs.Common.{arith, ◌/◌, ◌∙◌, ap, inr, subst, sym}
 use Rattle.draid_uber.specs.Slots.{group_of}
-use Rattle.draid_uber.specs.Uber.{kept_of, next_leaf_of}
+use Rattle.draid_uber.specs.Uber.{kept_of, layout_of, next_leaf_of}
 use Rattle.draid_shard.specs.Reopening.{OpenIsRefused}
 use Rattle.draid_pool.proofs.ImportUnread.{no_open_record, no_shelf_record}
 use Rattle.draid_shard.specs.Groups.{Opens}
 use Rattle.draid_spec.specs.declared.layout.Geometry.{Geometry}
 use Rattle.draid_shard.specs.Part.{Part}
 use Rattle.draid_pool.proofs.Found.{fault_is, kit_back, records_rose, refused_area, reopened, stays_put, stays_same}
+use Rattle.draid_pool.proofs.ImportFaulty.{err_is, shelf_no_record, unread}
 use Rattle.draid_pool.proofs.ImportLeft.{keeps_equal, keeps_known, tells_put, tells_same}
 use Rattle.draid_pool.proofs.importing.reopen_shard.Goals as goal
 
@@ -93,3 +94,20 @@ returns-in-Err-reopen-clause-known g c =
     let rack = g.H.R.Rack in
     keeps_known (shelf.leaves c.args.shelf.now c.args.number) (shelf.leaves c.give.new.self c.args.number) (rack.shape c.in-Ok.kit.rack) (rack.shape c.in-Err-reopen.field-0.kit.rack) c.in-Ok.ensures.leaves
     (ap rack.shape c.in-Err-reopen.ensures.back.rack) c.give.ensures.leaves
+
+pub returns-in-Err-clause-faulty : goal.returns-in-Err-clause-faulty
+returns-in-Err-clause-faulty g c metaslab place kind err = absurd (shelf_no_record c.in-Err.why metaslab place kind (sym c.shelf_fault.ensures.is ∙ err_is c.shelf_fault.result _ err))
+
+pub returns-in-Err-reopen-clause-faulty : goal.returns-in-Err-reopen-clause-faulty
+returns-in-Err-reopen-clause-faulty g c metaslab place kind err =
+    let rack = g.H.R.Rack in
+    let area = g.H.A.Area in
+    let t = c.in-Ok.ensures in
+    let e = c.in-Err-reopen in
+    unread rack area (layout_of c.args.uber.now) (group_of (kept_of c.args.uber.now)) (next_leaf_of c.args.uber.now) c.args.number (g.H.Shelf.told c.args.shelf.now) (g.H.Shelf.counts c.args.shelf.now c.args.number)
+    c.in-Ok.kit e.field-0.kit e.field-0.why metaslab place kind
+    (record { told = t.kit; some = t.needs; rack_count = t.rack_count; even_count = t.even_count; odd_count = t.odd_count })
+    (subst (λ (l : Geometry). OpenIsRefused rack area.faults area.told l c.args.number c.in-Ok.kit e.field-0.kit (group_of (kept_of c.args.uber.now)) (next_leaf_of c.args.uber.now) e.field-0.why) c.geometry.ensures
+    (subst (λ n. OpenIsRefused rack area.faults area.told c.geometry.result.now c.args.number c.in-Ok.kit e.field-0.kit n (next_leaf_of c.args.uber.now) e.field-0.why) c.committed-group.ensures
+    (subst (λ n. OpenIsRefused rack area.faults area.told c.geometry.result.now c.args.number c.in-Ok.kit e.field-0.kit c.committed-group.result n e.field-0.why) c.next_leaf.ensures e.ensures.refused)))
+    (sym c.open_fault.ensures.is ∙ err_is c.open_fault.result _ err)

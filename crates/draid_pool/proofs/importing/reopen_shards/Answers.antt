@@ -1,4 +1,4 @@
-use Rattle.std.proofs.Common.{arith, Option, ◌≡◌, ◌+◌, ℕ, ◌∷◌, ◌∙◌, [], ap, length, length-append, refl, subst, sym}
+use Rattle.std.proofs.Common.{arith, Option, ◌≡◌, ◌+◌, ℕ, ◌∷◌, ◌∙◌, [], ap, length, length-append, refl, subst, sym, Err}
 use Rattle.draid_spec.specs.Geometry.{IsGeometry}
 use Rattle.draid_spec.specs.declared.layout.Geometry.{Geometry}
 use Rattle.draid_map.specs.Place.{IsLayout}
@@ -12,6 +12,7 @@ use Rattle.draid_pool.proofs.Found.{checks_back, checks_more, checks_same, each_
 use Rattle.draid_shelf.specs.Kits.{Held}
 use Rattle.draid_pool.proofs.ImportUnread.{no_record_too}
 use Rattle.draid_pool.proofs.Opened.{none_taken, takes_more}
+use Rattle.draid_pool.proofs.ImportFaulty.{err_is, unread_first}
 use Rattle.draid_pool.proofs.ImportLeft.{leaves_shards}
 use Rattle.draid_pool.proofs.importing.reopen_shards.Goals as goal
 
@@ -148,3 +149,11 @@ returns-in-Err-clause-back g c =
     (record { geometry_is = subst IsGeometry (sym c.geometry-layout.ensures) c.requires.uber.valid.held.layout_is; perms_are = c.new-perms.ensures }))
     i.many (omega (arith, same, test)) i.each i.over i.told c.in-Err.ensures.back c.in-Err.ensures.tells c.give_back.ensures.returns c.give_back.ensures.leaves i.counts c.in-Err.ensures.back_counts c.in-Err.ensures.counts
     i.leaves c.in-Err.ensures.known c.in-Err.ensures.leaves
+
+pub returns-in-Err-clause-faulty : goal.returns-in-Err-clause-faulty
+returns-in-Err-clause-faulty g c metaslab place kind err =
+    let shelf = g.H.Shelf in
+    let i = c.loop-number.invariant in
+    let n = c.loop-number.number in
+    (n, unread_first g.H.R.Rack g.H.A.Area (layout_of c.args.uber.now) (group_of (kept_of c.args.uber.now)) (next_leaf_of c.args.uber.now) n (shelf.told c.args.shelf.now) (shelf.told c.loop-number.shelf)
+    (shelf.counts c.args.shelf.now n) (shelf.counts c.loop-number.shelf n) metaslab place kind i.told (i.counts n (omega arith)) (c.reopen_shard.ensures.faulty metaslab place kind (ap Err (err_is c.in-Err.fault _ err))))
