@@ -279,7 +279,7 @@ pub refused_pool : {R A : Type 0} (alloc : Global) (rack : racks.Ghosts R) (area
     → ((m : ℕ) → yet_leaves m ≡ leaves m) → ((m : ℕ) → yet m ≡ counts m)
     → LeavesShards rack area (layout_of uber) (group_of (kept_of uber)) (next_leaf_of uber) mid back yet late yet_leaves late_leaves
     → new ≡ gives_uber (area.told (area_of uber)) back → ((m : ℕ) → now m ≡ late_leaves m) → ((m : ℕ) → after m ≡ late m) → n ≡ area.faults (area_of uber) → LeavesPool x pieces new now after n
-refused_pool alloc rack area x pieces None mid back new leaves yet_leaves late_leaves now counts yet late after count n uber there found r taken same_leaves same_counts l gives now_is after_is n_is = absurd there.held
+refused_pool {R} {A} alloc rack area x pieces None mid back new leaves yet_leaves late_leaves now counts yet late after count n uber there found r taken same_leaves same_counts l gives now_is after_is n_is = absurd there.held
 refused_pool {R} {A} alloc rack area x pieces (Some held) mid back new leaves yet_leaves late_leaves now counts yet late after count n uber there found r taken same_leaves same_counts l gives now_is after_is n_is =
     subst (λ (o : Option Held). LeavesPool x pieces o now after n) (sym (gives ∙ ap (λ t. gives_uber t back) told))
     (subst (λ (s : ℕ → Option Shape). LeavesPool x pieces (gives_uber (Some (flushes c.0)) back) s after n) (sym (ext now late_leaves now_is))
