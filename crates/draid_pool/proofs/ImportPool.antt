@@ -118,7 +118,7 @@ module _ {A : Type 0} (area : areas.Ghosts A) (x : State) (pieces : ℕ → Piec
 pub one_table : (geometry : Geometry) (a b : Perms) → IsLayout geometry a → IsLayout geometry b → a ≡ b
 one_table geometry a b first second = same_perms a b geometry.spec.children geometry.props.seed first.perms_are second.perms_are
 
-once_there : (o : Option KitTold) (kit : KitTold) (P : KitTold → Type 0) → o ≡ Some kit → IsSomeAnd o P → P kit
+pub once_there : (o : Option KitTold) (kit : KitTold) (P : KitTold → Type 0) → o ≡ Some kit → IsSomeAnd o P → P kit
 once_there o kit P is h = subst (λ q. IsSomeAnd q P) is h
 
 module _ {R A : Type 0} (rack : racks.Ghosts R) (area : areas.Ghosts A) (x : State) (pieces : ℕ → Pieces) (held : Held) (leaves : ℕ → Option Shape) (counts : ℕ → KitCounts) (count : ℕ)

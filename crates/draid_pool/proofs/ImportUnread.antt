@@ -45,7 +45,7 @@ no_shelf_record {T} why f is = subst (λ (g : PoolFault). NoRecord {T = T} (Err 
 
 -- one fault of two answers
 pub no_record_too : {T U : Type 0} (f : PoolFault) → NoRecord {T = T} (Err f) → NoRecord {T = U} (Err f)
-no_record_too f none metaslab place kind err = none metaslab place kind err
+no_record_too f none metaslab place kind err = none metaslab place kind (let same : f ≡ fault.Record metaslab place kind = cc in ap Err same)
 
 known_leaves : (o : Option Shape) (shape : Shape) (P : Shape → Type 0) → IsKnown o shape → IsSomeAnd o P → P shape
 known_leaves None shape P is h = absurd h
@@ -53,7 +53,7 @@ known_leaves (Some s) shape P is h = subst P (sym is) h
 
 module _ {R A : Type 0} (rack : racks.Ghosts R) (area : areas.Ghosts A) (x : State) (pieces : ℕ → Pieces) (held : Held) (leaves : ℕ → Option Shape) (counts : ℕ → KitCounts) (count : ℕ)
     (there : RestsThere x pieces (Some held) leaves counts count) (uber : Uber A) (found : IsFoundUber area uber) (r : IsRecovered area (Some held) count uber) where
-  abbrev b : FoundBody area x pieces there.held uber count found r
+  abbrev b : FoundBody area x pieces held there.held uber count found r
   b = body_found area x pieces held there.held uber count found r
 
   -- a metaslab's record is opened

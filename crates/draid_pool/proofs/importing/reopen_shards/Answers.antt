@@ -124,7 +124,7 @@ pub returns-in-Err-clause-opens : goal.returns-in-Err-clause-opens
 returns-in-Err-clause-opens g c x pieces held counts count there r taken =
     let shelf = g.H.Shelf in
     let i = c.loop-number.invariant in
-    no_record_too c.in-Err.fault (c.reopen_shard.ensures.opens x pieces held (shelf.leaves c.args.shelf.now) counts count there r
+    no_record_too c.in-Err.fault (c.in-Err.ensures.opens x pieces held (shelf.leaves c.args.shelf.now) counts count there r
     (subst (λ (t : Option Held). TakesFirst c.loop-number.number t (shelf.told c.loop-number.shelf)) taken i.told) (i.leaves c.loop-number.number (omega arith)))
 
 pub returns-clause-told : goal.returns-clause-told
@@ -156,4 +156,4 @@ returns-in-Err-clause-faulty g c metaslab place kind err =
     let i = c.loop-number.invariant in
     let n = c.loop-number.number in
     (n, unread_first g.H.R.Rack g.H.A.Area (layout_of c.args.uber.now) (group_of (kept_of c.args.uber.now)) (next_leaf_of c.args.uber.now) n (shelf.told c.args.shelf.now) (shelf.told c.loop-number.shelf)
-    (shelf.counts c.args.shelf.now n) (shelf.counts c.loop-number.shelf n) metaslab place kind i.told (i.counts n (omega arith)) (c.reopen_shard.ensures.faulty metaslab place kind (ap Err (err_is c.in-Err.fault _ err))))
+    (shelf.counts c.args.shelf.now n) (shelf.counts c.loop-number.shelf n) metaslab place kind i.told (i.counts n (omega arith)) (c.in-Err.ensures.faulty metaslab place kind (ap Err (err_is c.in-Err.fault _ err))))
