@@ -1,5 +1,5 @@
 -- All metaslabs have the layout's version and the same arms: what keeps it so.
-use Rattle.std.proofs.Common.{◌≡◌, ◌∙◌, inl, inr, ◌⊎◌, ℕ, Bool, true, false, List, [], Option, Some, None, refl, sym, ap, subst, if◌then◌else◌}
+use Rattle.std.proofs.Common.{◌≡◌, ◌∙◌, inl, inr, ◌⊎◌, ℕ, Bool, true, false, List, [], ◌∷◌, Option, Some, None, refl, sym, ap, subst, if◌then◌else◌}
 use Rattle.std.specs.Prelude.{nat_le, nat_lt, option_map}
 use Rattle.draid_machine.specs.declared.names.ArmName.{ArmName}
 use Rattle.draid_machine.specs.declared.names.ArmName.TheVariants.{Leaf, Spare}
@@ -148,3 +148,22 @@ alike_created l version = record {
     only : (image : machine.Image) → IsImage (created l version) image → (created l version).image ≡ image
     only image (inl own) = own
     only image (inr sealed) = absurd (cc)
+
+-- new ones have the same arms where their layouts have as many slots
+pub created_same : (l k : machine.Layout) → l.slots ≡ k.slots → SameArms (created_core l) (created_core k)
+created_same l k same = record { order = λ slot. ap (λ (n : ℕ). if nat_lt slot n then Leaf slot ∷ [] else []) same; arms = by }
+  where
+    by : (n : ArmName) → option_map bare (created_arm l n) ≡ option_map bare (created_arm k n)
+    by (Leaf m) = ap (λ (n : ℕ). option_map bare (if nat_lt m n then Some new_arm else None)) same
+    by (Spare t) = refl
+
+-- a metaslab that has these arms has the same ones
+pub alike_as : (version : ℕ) (arms other : machine.Core) (w : machine.State) → SameArms arms other → IsAlike version arms w → IsAlike version other w
+alike_as version arms other w same is = record {
+  versions = is.versions;
+  same = record {
+    order = λ slot. is.same.order slot ∙ same.order slot;
+    now = λ n. is.same.now n ∙ same.arms n;
+    images = λ image of. alike_then image.core arms other (is.same.images image of) same;
+  };
+}

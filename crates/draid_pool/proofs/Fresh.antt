@@ -52,7 +52,7 @@ use Rattle.draid_pool.specs.Records.{HasImages, HasLeafNumbers, HasRecords, Leav
 use Rattle.draid_pool.specs.Ubers.{IsPending, IsUber, body_of}
 use Rattle.draid_pool.specs.Whole.{IsWhole}
 use Rattle.draid_pool.specs.declared.pool.Pool.{Pool}
-use Rattle.draid_pool.proofs.Alike.{alike_created}
+use Rattle.draid_pool.proofs.Alike.{alike_as, alike_created, created_same}
 use Rattle.draid_pool.proofs.Closed.{Parts, counted_as, holds_pool}
 use Rattle.draid_pool.proofs.Lists.{ext, some_of}
 
@@ -246,7 +246,9 @@ module _ {R A : Type 0} (rack : racks.Ghosts R) (area : areas.Ghosts A) where
         subst (λ (z : Metaslab). IsAlike x.geometry.props.version (created_core (layouts.layout_of geometry opened.perms 0)) z.world) u.2
         (subst (λ (w : machine.State). IsAlike x.geometry.props.version (created_core (layouts.layout_of geometry opened.perms 0)) w) (sym (world_is m u.0 (opened.each m u.0 u.1)))
         (subst (λ (g : Geometry). IsAlike g.props.version (created_core (layouts.layout_of geometry opened.perms 0)) (created (layout_in (record { geometry = geometry; perms = opened.perms; number = m })) geometry.props.version)) (sym used)
-        (alike_created (layouts.layout_of geometry opened.perms m) geometry.props.version)))
+        (alike_as geometry.props.version (created_core (layouts.layout_of geometry opened.perms m)) (created_core (layouts.layout_of geometry opened.perms 0))
+        (created (layouts.layout_of geometry opened.perms m) geometry.props.version) (created_same (layouts.layout_of geometry opened.perms m) (layouts.layout_of geometry opened.perms 0) refl)
+        (alike_created (layouts.layout_of geometry opened.perms m) geometry.props.version))))
 
     -- ---- the pool
 

@@ -25,7 +25,7 @@ use Rattle.draid_stable.specs.Slots.{HasSlots, name_of, named}
 use Rattle.draid_shard.proofs.Held.{key_leads}
 use Rattle.draid_session.specs.Opening.{MayFind, Reopens}
 use Rattle.draid_session.specs.State.{Metaslab, State}
-use Rattle.draid_pool.specs.Importable.{AreAlike, IsAlike, IsFindable, SameArms}
+use Rattle.draid_pool.specs.Importable.{AreAlike, IsAlike, IsFindable, SameArms, bare}
 use Rattle.draid_pool.specs.Objects.{HoldsObjects, blocks_of}
 use Rattle.draid_pool.specs.Together.{IsSameArm}
 use Rattle.draid_pool.proofs.Alike.{alike_opened, same_bare}

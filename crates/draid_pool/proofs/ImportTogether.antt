@@ -3,6 +3,7 @@ use Rattle.std.proofs.Common.{arith, ◌≡◌, ◌+◌, ◌<◌, ◌≤◌, ◌
 use Rattle.std.specs.Prelude.{IsErrOf, slice_get}
 use Rattle.std.specs.HashSet.{HashSet, contains, keys}
 use Rattle.std.specs.List.{list_any}
+use Rattle.std.proofs.lemmas.Bool.{cases_eq}
 use Rattle.draid_names.specs.declared.pointer.Pointer.{Pointer}
 use Rattle.draid_machine.specs.declared.names.Key.{Key}
 use Rattle.draid_machine.proofs.Small.{absurd_test, key_true}
@@ -10,13 +11,24 @@ use Rattle.draid_rack.specs.declared.Rack as racks
 use Rattle.draid_entries.specs.declared.entry.Entry.{Entry}
 use Rattle.draid_entries.specs.Entries.{entry_at}
 use Rattle.draid_entries.specs.Maps.{key_of, staged}
+use Rattle.draid_slots.specs.Table.{SlotTable, arms_of}
 use Rattle.draid_shard.specs.Calls.{IsNextHeld}
 use Rattle.draid_shard.specs.declared.shard.Shard.{Shard}
 use Rattle.draid_pool.specs.Found.{AreReady}
-use Rattle.draid_pool.specs.Together.{AreApart, HasBlock, HasOtherArms, HaveSameArms, IsNotedTwice, NotesOnly, NotesOnlyOf, noted_in, pair_eq}
+use Rattle.draid_pool.specs.Together.{AreApart, AreSameArms, HasBlock, HasOtherArms, HaveSameArms, IsNotedTwice, NotesOnly, NotesOnlyOf, noted_in, pair_eq}
 use Rattle.draid_pool.specs.declared.fault.PoolFault.{PoolFault}
 use Rattle.draid_pool.specs.declared.fault.PoolFault.TheVariants as fault
 use Rattle.draid_pool.proofs.ImportAlike.{one_place}
+
+-- ---- arms
+
+-- the slots below a number, and the next one
+pub slots_more : (a b : SlotTable) (n : ℕ) → ((slot : ℕ) → slot < n → AreSameArms (arms_of a slot) (arms_of b slot)) → AreSameArms (arms_of a n) (arms_of b n)
+    → (slot : ℕ) → slot < n + 1 → AreSameArms (arms_of a slot) (arms_of b slot)
+slots_more a b n before same slot below = elim (cases_eq slot n) [
+  | inl here ↦ subst (λ s. AreSameArms (arms_of a s) (arms_of b s)) (sym here) same
+  | inr other ↦ before slot (omega (arith, below, other))
+]
 
 -- ---- one block
 

@@ -371,7 +371,10 @@ fn find_blocks<R: Rack, A: Area>(alloc: Global, shards: &[Shard<R, A>]) -> Resul
                 kind: 4,
             });
         }
-        found.note_all(shard)?;
+        match found.note_all(shard) {
+            Ok(()) => {}
+            Err(fault) => return Err(fault),
+        }
     }
     Ok(found)
 }

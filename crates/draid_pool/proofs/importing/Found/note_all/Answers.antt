@@ -26,3 +26,8 @@ loop-pointer-preserved g c =
       keys = notes_below c.args.shard.now c.loop-pointer.from c.in-Some.pointer (noted_in c.args.self.now.keys) (noted_in c.loop-pointer.self.keys) (noted_in c.note.new.self.keys) next c.loop-pointer.invariant.keys c.in-Ok-true.ensures.keys;
       bound = omega (arith, inside);
     }
+
+pub returns-in-Ok-false-clause-again : goal.returns-in-Ok-false-clause-again
+returns-in-Ok-false-clause-again g c =
+    noted_twice c.args.shard.now c.loop-pointer.from c.in-Some.pointer (noted_in c.args.self.now.keys) (noted_in c.loop-pointer.self.keys) c.loop-pointer.at c.in-Some.ensures.some c.loop-pointer.invariant.keys
+    (c.in-Ok-false.ensures.again c.in-Ok-false.field-0-test)
