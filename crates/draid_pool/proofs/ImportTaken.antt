@@ -1,5 +1,5 @@
 -- An import whose uberblock wasn't taken or found.
-use Rattle.std.proofs.Common.{arith, ◌≡◌, ◌≤◌, ◌∙◌, ◌↔◌, inl, inr, ℕ, Bool, true, false, Option, Some, None, Result, Err, refl, sym, ap, subst}
+use Rattle.std.proofs.Common.{arith, ◌≡◌, ◌≤◌, ◌∙◌, ◌↔◌, inl, inr, ℕ, Bool, true, false, Option, Some, None, Ok, Err, refl, sym, ap, subst}
 use Rattle.std.specs.Prelude.{IsSome, IsSomeAnd, IsTrue, option_map}
 use Rattle.draid_area.specs.Area.{Content, IsOfSize, OnTold, flushes}
 use Rattle.draid_area.specs.declared.Area as areas
@@ -9,7 +9,7 @@ use Rattle.draid_rack.specs.Rack.{Shape}
 use Rattle.draid_rack.specs.declared.Rack as racks
 use Rattle.draid_record.specs.declared.fault.RecordFault.TheVariants.{Bad}
 use Rattle.draid_segments.specs.Segments.{Pieces}
-use Rattle.draid_shelf.specs.Kits.{Held, KitCounts, OnHeld, gives_uber, puts_uber, takes_uber}
+use Rattle.draid_shelf.specs.Kits.{Held, KitCounts, NeedsUber, OnHeld, gives_uber, puts_uber, takes_uber}
 use Rattle.draid_uber.specs.Slots.{chosen_of}
 use Rattle.draid_uber.specs.Steps.{IsSameOrFlushed}
 use Rattle.draid_uber.specs.Uber.{FindsFault}
@@ -26,6 +26,11 @@ use Rattle.draid_pool.proofs.Lists.{ext}
 
 both_ways : (b : Bool) → b ≡ true → b ≡ false → ⊥
 both_ways b on off = (let h : true ≡ false = sym on ∙ off in absurd (cc))
+
+-- an area that was taken was held
+pub taken_not : {T : Type 0} (area : T) (o : Option Held) (Q : Type 0) → NeedsUber (Ok area) o → OnHeld o (λ held. held.uber ≡ None → Q)
+taken_not area None Q h = tt
+taken_not area (Some x) Q h = λ none. (let failed = h none in absurd (cc))
 
 module _ {R A : Type 0} (rack : racks.Ghosts R) (area : areas.Ghosts A) (x : State) (pieces : ℕ → Pieces) where
   -- no pool is held

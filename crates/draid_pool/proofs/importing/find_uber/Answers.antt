@@ -3,7 +3,7 @@ use Rattle.draid_pool.specs.Importing.{ImportIs}
 use Rattle.draid_pool.specs.declared.fault.PoolFault.{PoolFault}
 use Rattle.draid_pool.proofs.Found.{leaf_found, uber_left, uber_put}
 use Rattle.draid_pool.proofs.ImportFaulty.{err_is, shelf_no_record, uber_bad}
-use Rattle.draid_pool.proofs.ImportTaken.{no_pool, not_found, not_taken}
+use Rattle.draid_pool.proofs.ImportTaken.{no_pool, not_found, not_taken, taken_not}
 use Rattle.draid_pool.proofs.importing.find_uber.Goals as goal
 
 pub returns-in-Ok-recover-clause-recovered : goal.returns-in-Ok-recover-clause-recovered
@@ -23,8 +23,8 @@ returns-in-Ok-recover-clause-recovered g c =
       later = (let was = t.count in let up = e.later in omega (arith, was, up));
     }
 
-pub returns-clause-import : goal.returns-clause-import
-returns-clause-import g c x pieces there =
+pub returns-then-not-has_pool-clause-import : goal.returns-then-not-has_pool-clause-import
+returns-then-not-has_pool-clause-import g c x pieces there =
     let shelf = g.H.Shelf in
     no_pool g.H.R.Rack g.H.A.Area x pieces (shelf.told c.args.shelf.now) (shelf.told c.args.shelf.now) (shelf.leaves c.args.shelf.now) (shelf.leaves c.args.shelf.now) (shelf.counts c.args.shelf.now) (shelf.counts c.args.shelf.now)
     (shelf.uber_count c.args.shelf.now) (shelf.uber_count c.args.shelf.now) c.has_pool.result c.has_pool.ensures (search (rules, tests)) there
@@ -74,3 +74,6 @@ pub returns-in-Err-recover-clause-faulty : goal.returns-in-Err-recover-clause-fa
 returns-in-Err-recover-clause-faulty g c metaslab place kind err =
     let r = c.in-Err-recover in
     uber_bad (g.H.Shelf.told c.args.shelf.now) (g.H.A.Area.told c.in-Ok.area) r.field-0.why metaslab place kind c.in-Ok.ensures.area r.ensures.finds (sym c.uber_fault.ensures.is ∙ err_is c.uber_fault.result _ err)
+
+pub returns-in-Err-recover-clause-none : goal.returns-in-Err-recover-clause-none
+returns-in-Err-recover-clause-none g c = taken_not c.in-Ok.area (g.H.Shelf.told c.args.shelf.now) _ c.in-Ok.ensures.needs
