@@ -69,19 +69,19 @@ returns-in-Err-find_blocks-clause-import g c x pieces there =
     let e = c.in-Ok.ensures in
     let shards = c.in-Ok.shards.items in
     let f = c.in-Err-find_blocks.ensures in
-    refusal_is rack area x pieces (shelf.told c.give_uber.new.self) (shelf.leaves c.give_uber.new.self) (shelf.counts c.give_uber.new.self) (shelf.uber_count c.give_uber.new.self) c.in-Err-find_blocks.fault f.fault
+    refusal_is rack area x pieces (shelf.told c.give_uber-in-Err-find_blocks.new.self) (shelf.leaves c.give_uber-in-Err-find_blocks.new.self) (shelf.counts c.give_uber-in-Err-find_blocks.new.self) (shelf.uber_count c.give_uber-in-Err-find_blocks.new.self) c.in-Err-find_blocks.fault f.fault
     (no_fault_apart c.args.alloc rack area x pieces (shelf.told c.args.shelf.now) (shelf.told c.find_uber.new.shelf) (shelf.leaves c.args.shelf.now) (shelf.counts c.args.shelf.now) (shelf.counts c.find_uber.new.shelf)
     (shelf.uber_count c.args.shelf.now) uber shards c.in-Err-find_blocks.fault there u.found u.recovered c.find_uber.ensures.counts u.told e.reopened e.over
     (λ metaslab place kind err. subst (λ (xs : List (Shard g.row.H-R.Denot g.row.H-A.Denot)). AreApart xs metaslab place kind) c.deref.ensures.value (f.faulty metaslab place kind err)))
-    (refused_pool c.args.alloc rack area x pieces (shelf.told c.args.shelf.now) (shelf.told c.find_uber.new.shelf) (shelf.told c.give_back.new.shelf) (shelf.told c.give_uber.new.self)
-    (shelf.leaves c.args.shelf.now) (shelf.leaves c.find_uber.new.shelf) (shelf.leaves c.give_back.new.shelf) (shelf.leaves c.give_uber.new.self)
-    (shelf.counts c.args.shelf.now) (shelf.counts c.find_uber.new.shelf) (shelf.counts c.give_back.new.shelf) (shelf.counts c.give_uber.new.self) (shelf.uber_count c.args.shelf.now) (shelf.uber_count c.give_uber.new.self)
+    (refused_pool c.args.alloc rack area x pieces (shelf.told c.args.shelf.now) (shelf.told c.find_uber.new.shelf) (shelf.told c.give_back.new.shelf) (shelf.told c.give_uber-in-Err-find_blocks.new.self)
+    (shelf.leaves c.args.shelf.now) (shelf.leaves c.find_uber.new.shelf) (shelf.leaves c.give_back.new.shelf) (shelf.leaves c.give_uber-in-Err-find_blocks.new.self)
+    (shelf.counts c.args.shelf.now) (shelf.counts c.find_uber.new.shelf) (shelf.counts c.give_back.new.shelf) (shelf.counts c.give_uber-in-Err-find_blocks.new.self) (shelf.uber_count c.args.shelf.now) (shelf.uber_count c.give_uber-in-Err-find_blocks.new.self)
     uber there u.found u.recovered u.told c.find_uber.ensures.leaves c.find_uber.ensures.counts
     (leaves_all rack area (layout_of uber) (group_of (kept_of uber)) (next_leaf_of uber) shards (shelf.told c.find_uber.new.shelf) (shelf.told c.reopen_shards.new.shelf) (shelf.told c.give_back.new.shelf)
     (shelf.counts c.find_uber.new.shelf) (shelf.counts c.reopen_shards.new.shelf) (shelf.counts c.give_back.new.shelf) (shelf.leaves c.find_uber.new.shelf) (shelf.leaves c.reopen_shards.new.shelf) (shelf.leaves c.give_back.new.shelf)
     e.reopened e.over e.told c.give_back.ensures.returns c.give_back.ensures.leaves)
-    (c.give_uber.ensures.told ∙ ap (λ a. gives_uber (g.H.A.Area.told a) (shelf.told c.give_back.new.shelf)) c.into_area.ensures) c.give_uber.ensures.leaves c.give_uber.ensures.counts
-    (c.give_uber.ensures.count ∙ ap g.H.A.Area.faults c.into_area.ensures))
+    (c.give_uber-in-Err-find_blocks.ensures.told ∙ ap (λ a. gives_uber (g.H.A.Area.told a) (shelf.told c.give_back.new.shelf)) c.into_area-in-Err-find_blocks.ensures) c.give_uber-in-Err-find_blocks.ensures.leaves c.give_uber-in-Err-find_blocks.ensures.counts
+    (c.give_uber-in-Err-find_blocks.ensures.count ∙ ap g.H.A.Area.faults c.into_area-in-Err-find_blocks.ensures))
 
 pub returns-in-Err-clause-faulty : goal.returns-in-Err-clause-faulty
 returns-in-Err-clause-faulty g c metaslab place kind err =
