@@ -1,5 +1,6 @@
 use Rattle.std.proofs.Common.{◌∙◌, inl, inr, List, Option, Err, ap, subst, sym}
 use Rattle.std.specs.Prelude.{nat_eq}
+use Rattle.std.proofs.lemmas.Result.{err_from_is_err_and}
 use Rattle.std.specs.HashMap.{get}
 use Rattle.draid_shard.specs.declared.shard.Shard.{Shard}
 use Rattle.draid_uber.specs.Slots.{group_of}
@@ -9,11 +10,11 @@ use Rattle.draid_pool.specs.Together.{AreApart}
 use Rattle.draid_session.specs.State.{limit_of}
 use Rattle.draid_pool.specs.Faulty.{IsUnread, OneIsUnread}
 use Rattle.draid_pool.specs.Found.{AreFound, AreReady, OpensAllOver, OpensOver}
-use Rattle.draid_pool.proofs.ImportFaulty.{err_is}
+use Rattle.draid_pool.proofs.ImportFaulty.{err_is, passed_on, risen_since}
 use Rattle.draid_pool.proofs.ImportLeft.{leaves_all, refusal_is, refused_pool, rests_known}
 use Rattle.draid_pool.proofs.ImportOne.{no_fault_apart}
 use Rattle.draid_pool.proofs.ImportPool.{pool_found, tells_as_before}
-use Rattle.draid_pool.proofs.Found.{absent_not, all_ready, checks_more}
+use Rattle.draid_pool.proofs.Found.{absent_not, all_ready, checks_more, refused_too}
 use Rattle.draid_pool.proofs.importing.import.Goals as goal
 
 pub find_blocks-requires : goal.find_blocks-requires
@@ -116,3 +117,21 @@ returns-in-Err-find_blocks-clause-faulty g c metaslab place kind err =
             (c.in-Err-find_blocks.ensures.faulty metaslab place kind (ap Err (err_is c.in-Err-find_blocks.fault _ err)));
       });
     })
+
+pub returns-in_err-uber-clause-faulty : goal.returns-in_err-uber-clause-faulty
+returns-in_err-uber-clause-faulty g c metaslab place kind err =
+    let p = err_from_is_err_and c.from_residual.result c.from_residual.ensures.1 in
+    inl (c.in_err-uber.ensures.faulty metaslab place kind (passed_on c.from_residual.result p.0 c.in_err-uber.field-0.0 _ p.1 p.2 err))
+
+pub returns-in-Err-clause-none : goal.returns-in-Err-clause-none
+returns-in-Err-clause-none g c = absent_not c.in_ok-uber.uber (g.H.Shelf.told c.args.shelf.now) _ _ c.in_ok-uber.ensures.none
+
+pub returns-in-Err-find_blocks-clause-none : goal.returns-in-Err-find_blocks-clause-none
+returns-in-Err-find_blocks-clause-none g c = absent_not c.in_ok-uber.uber (g.H.Shelf.told c.args.shelf.now) _ _ c.in_ok-uber.ensures.none
+
+pub returns-in-Err-clause-cause : goal.returns-in-Err-clause-cause
+returns-in-Err-clause-cause g c failed =
+    let shelf = g.H.Shelf in
+    risen_since (shelf.faults c.args.shelf.now) (shelf.faults c.find_uber.new.shelf) (shelf.faults c.reopen_shards.new.shelf) (shelf.faults c.give_uber.new.self) (shelf.uber_count c.args.shelf.now) (shelf.uber_count c.give_uber.new.self)
+    (shelf.counts c.args.shelf.now) (shelf.counts c.find_uber.new.shelf) (shelf.counts c.reopen_shards.new.shelf) (shelf.counts c.give_uber.new.self) c.find_uber.ensures.later c.give_uber.ensures.faults
+    c.find_uber.ensures.counts c.give_uber.ensures.counts (c.in-Err.ensures.cause (refused_too c.in-Err.fault failed))
