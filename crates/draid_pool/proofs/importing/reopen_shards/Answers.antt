@@ -13,7 +13,7 @@ use Rattle.draid_shelf.specs.Kits.{Held}
 use Rattle.draid_pool.proofs.ImportUnread.{no_record_too}
 use Rattle.draid_pool.proofs.Opened.{none_taken, takes_more}
 use Rattle.draid_pool.proofs.ImportFaulty.{err_is, unread_first}
-use Rattle.draid_pool.proofs.ImportLeft.{leaves_shards}
+use Rattle.draid_pool.proofs.ImportLeft.{leaves_none, leaves_shards}
 use Rattle.draid_pool.proofs.importing.reopen_shards.Goals as goal
 
 pub loop-number-init : goal.loop-number-init
@@ -157,3 +157,9 @@ returns-in-Err-clause-faulty g c metaslab place kind err =
     let n = c.loop-number.number in
     (n, unread_first g.H.R.Rack g.H.A.Area (layout_of c.args.uber.now) (group_of (kept_of c.args.uber.now)) (next_leaf_of c.args.uber.now) n (shelf.told c.args.shelf.now) (shelf.told c.loop-number.shelf)
     (shelf.counts c.args.shelf.now n) (shelf.counts c.loop-number.shelf n) metaslab place kind i.told (i.counts n (omega arith)) (c.in-Err.ensures.faulty metaslab place kind (ap Err (err_is c.in-Err.fault _ err))))
+
+pub returns-in_default-clause-back : goal.returns-in_default-clause-back
+returns-in_default-clause-back g c =
+    leaves_none g.H.R.Rack g.H.A.Area (layout_of c.args.uber.now) (group_of (kept_of c.args.uber.now)) (next_leaf_of c.args.uber.now) c.new-perms.result (g.H.Shelf.told c.args.shelf.now) (g.H.Shelf.counts c.args.shelf.now)
+    (g.H.Shelf.leaves c.args.shelf.now) (subst (λ (x : Geometry). IsLayout x c.new-perms.result) c.geometry-layout.ensures
+    (record { geometry_is = subst IsGeometry (sym c.geometry-layout.ensures) c.requires.uber.valid.held.layout_is; perms_are = c.new-perms.ensures }))
