@@ -1,7 +1,6 @@
 -- The fault of a record for which an import is refused.
-use Rattle.std.proofs.Common.{◌≡◌, ◌≤◌, ◌∙◌, ◌⊎◌, inl, inr, ℕ, Option, Some, None, Result, Ok, Err, refl, sym, ap, subst}
+use Rattle.std.proofs.Common.{◌≡◌, ◌∙◌, ℕ, Option, Some, None, Result, Ok, Err, refl, sym, ap, subst}
 use Rattle.std.specs.Prelude.{IsErrOf, MatchOption, ⊤}
-use Rattle.draid_names.specs.Faults.{Rose}
 use Rattle.draid_names.specs.declared.fault.DeviceFault.{DeviceFault}
 use Rattle.draid_names.specs.declared.fault.DeviceFault.TheVariants as device
 use Rattle.draid_rack.specs.declared.Rack as racks
@@ -19,11 +18,11 @@ use Rattle.draid_uber.specs.Uber.{FindsFault}
 use Rattle.draid_uber.specs.declared.uber.UberFault.{UberFault}
 use Rattle.draid_uber.specs.declared.uber.UberFault.TheVariants as uber_why
 use Rattle.draid_pool.specs.Faulty.{IsUnread, UberIsBad}
-use Rattle.draid_pool.specs.Found.{AnyRecordsRose, HasRisen, IsKitOf, RecordsRose, open_fault_of, shelf_fault_of, uber_fault_of}
+use Rattle.draid_pool.specs.Found.{IsKitOf, open_fault_of, shelf_fault_of, uber_fault_of}
 use Rattle.draid_pool.specs.Opening.{TakesFirst}
 use Rattle.draid_pool.specs.declared.fault.PoolFault.{PoolFault}
 use Rattle.draid_pool.specs.declared.fault.PoolFault.TheVariants as fault
-use Rattle.draid_pool.proofs.Opened.{from_first, rose_since}
+use Rattle.draid_pool.proofs.Opened.{from_first}
 
 -- the fault of an answer
 pub err_is : {T : Type 0} (f g : PoolFault) → IsErrOf {T = T} (Err f) g → f ≡ g
@@ -101,12 +100,3 @@ module _ {R A : Type 0} (rack : racks.Ghosts R) (area : areas.Ghosts A) (geometr
         are = u.are;
         bad = u.bad;
       }
-
--- ---- counts
-
--- a count that rose as metaslabs were opened rose since the import began
-pub risen_since : (first since last end uber uber' : ℕ) (counts mid late after : ℕ → KitCounts) → first ≤ since → end ≡ last → ((m : ℕ) → mid m ≡ counts m) → ((m : ℕ) → after m ≡ late m)
-    → Rose since last ⊎ AnyRecordsRose mid late → HasRisen first end uber uber' counts after
-risen_since first since last end uber uber' counts mid late after later same from to (inl rose) = inl (inl (subst (λ (n : ℕ). Rose first n) (sym same) (rose_since first since last later rose)))
-risen_since first since last end uber uber' counts mid late after later same from to (inr r) =
-    inr (r.0, subst (λ (k : KitCounts). RecordsRose k (after r.0)) (from r.0) (subst (λ (k : KitCounts). RecordsRose (mid r.0) k) (sym (to r.0)) r.1))

@@ -4,6 +4,7 @@ use Rattle.std.specs.declared.alloc.Global.{Global}
 use Rattle.std.specs.Prelude.{IsSome, IsSomeAnd, MatchOption, option_map, slice_get}
 use Rattle.std.proofs.lemmas.Bool.{cases_eq, cases_lt}
 use Rattle.std.proofs.lemmas.Option.{slice_get_within}
+use Rattle.draid_names.specs.Faults.{Rose}
 use Rattle.draid_area.specs.Area.{Content, flushes}
 use Rattle.draid_area.specs.declared.Area as areas
 use Rattle.draid_rack.specs.Rack.{Shape, Told}
@@ -27,7 +28,7 @@ use Rattle.draid_uber.specs.Uber.{area_of, kept_of, layout_of, next_leaf_of}
 use Rattle.draid_uber.specs.declared.uber.Uber.{Uber}
 use Rattle.draid_session.specs.State.{Metaslab, State, limit_of}
 use Rattle.draid_pool.specs.Closing.{AllTell, RestsOn, Returns, ReturnsLeaves, TakesBack, kit_in}
-use Rattle.draid_pool.specs.Found.{AreReopened, CountsLater, HoldsKits, IsFoundUber, IsRecovered, IsReopened, IsShardFault, KeepsKnown, LeavesShards, OpensAllOver, StaysHeld}
+use Rattle.draid_pool.specs.Found.{AnyRecordsRose, AreReopened, CountsLater, HasRisen, HoldsKits, IsFoundUber, IsRecovered, IsReopened, IsShardFault, KeepsKnown, LeavesShards, OpensAllOver, RecordsRose, StaysHeld}
 use Rattle.draid_pool.specs.Importable.{HasImageLeaves}
 use Rattle.draid_pool.specs.Imported.{FindsBody, OpensFound, RestsFound}
 use Rattle.draid_pool.specs.Importing.{ImportIs, LeavesPool, RestsThere}
@@ -44,6 +45,7 @@ use Rattle.draid_pool.proofs.ImportOpened.{rested}
 use Rattle.draid_pool.proofs.ImportPool.{FoundBody, body_found, one_table, shard_found, uber_content}
 use Rattle.draid_pool.proofs.ImportRefused.{found_leaves_pool, given_found, left_found}
 use Rattle.draid_pool.proofs.Lists.{ext, present}
+use Rattle.draid_pool.proofs.Opened.{rose_since}
 
 -- ---- one metaslab
 
@@ -310,6 +312,13 @@ refused_pool {R} {A} alloc rack area x pieces (Some held) mid back new leaves ye
         shard_found rack area x pieces held leaves counts count there uber found r alloc counts m shard y left.perms perms (λ k. refl) (left.each m shard at).valid (left.each m shard at).part_is (left.over m shard at) here
 
 -- ---- the answer
+
+-- a call that failed as metaslabs were opened
+pub risen_behind : (first since last new uber uber' : ℕ) (counts yet late after : ℕ → KitCounts) → first ≤ since → new ≡ last → ((m : ℕ) → yet m ≡ counts m) → ((m : ℕ) → after m ≡ late m)
+    → Rose since last ⊎ AnyRecordsRose yet late → HasRisen first new uber uber' counts after
+risen_behind first since last new uber uber' counts yet late after later same yet_is after_is (inl rose) = inl (inl (subst (λ (n : ℕ). Rose first n) (sym same) (rose_since first since last later rose)))
+risen_behind first since last new uber uber' counts yet late after later same yet_is after_is (inr z) =
+    inr (z.0, subst (λ (k : KitCounts). RecordsRose k (after z.0)) (yet_is z.0) (subst (λ (k : KitCounts). RecordsRose (yet z.0) k) (sym (after_is z.0)) z.1))
 
 -- the shelf's leaves are as they were
 pub rests_known : (x : State) (pieces : ℕ → Pieces) (o : Option Held) (leaves now : ℕ → Option Shape) (counts : ℕ → KitCounts) (count : ℕ) → ((m : ℕ) → now m ≡ leaves m) → RestsThere x pieces o leaves counts count

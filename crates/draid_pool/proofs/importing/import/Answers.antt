@@ -10,8 +10,8 @@ use Rattle.draid_pool.specs.Together.{AreApart}
 use Rattle.draid_session.specs.State.{limit_of}
 use Rattle.draid_pool.specs.Faulty.{IsUnread, OneIsUnread}
 use Rattle.draid_pool.specs.Found.{AreFound, AreReady, OpensAllOver, OpensOver}
-use Rattle.draid_pool.proofs.ImportFaulty.{err_is, passed_on, risen_since}
-use Rattle.draid_pool.proofs.ImportLeft.{leaves_all, refusal_is, refused_pool, rests_known}
+use Rattle.draid_pool.proofs.ImportFaulty.{err_is, passed_on}
+use Rattle.draid_pool.proofs.ImportLeft.{leaves_all, refusal_is, refused_pool, rests_known, risen_behind}
 use Rattle.draid_pool.proofs.ImportOne.{no_fault_apart}
 use Rattle.draid_pool.proofs.ImportPool.{pool_found, tells_as_before}
 use Rattle.draid_pool.proofs.Found.{absent_not, all_ready, checks_more, refused_too}
@@ -132,6 +132,6 @@ returns-in-Err-find_blocks-clause-none g c = absent_not c.in_ok-uber.uber (g.H.S
 pub returns-in-Err-clause-cause : goal.returns-in-Err-clause-cause
 returns-in-Err-clause-cause g c failed =
     let shelf = g.H.Shelf in
-    risen_since (shelf.faults c.args.shelf.now) (shelf.faults c.find_uber.new.shelf) (shelf.faults c.reopen_shards.new.shelf) (shelf.faults c.give_uber.new.self) (shelf.uber_count c.args.shelf.now) (shelf.uber_count c.give_uber.new.self)
+    risen_behind (shelf.faults c.args.shelf.now) (shelf.faults c.find_uber.new.shelf) (shelf.faults c.reopen_shards.new.shelf) (shelf.faults c.give_uber.new.self) (shelf.uber_count c.args.shelf.now) (shelf.uber_count c.give_uber.new.self)
     (shelf.counts c.args.shelf.now) (shelf.counts c.find_uber.new.shelf) (shelf.counts c.reopen_shards.new.shelf) (shelf.counts c.give_uber.new.self) c.find_uber.ensures.later c.give_uber.ensures.faults
     c.find_uber.ensures.counts c.give_uber.ensures.counts (c.in-Err.ensures.cause (refused_too c.in-Err.fault failed))
