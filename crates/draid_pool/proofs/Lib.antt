@@ -56,3 +56,10 @@ pub mod ImportEnd
 pub mod ImportFreed
 pub mod ImportClosed
 pub mod Causes
+pub mod ImportPool
+pub mod ImportUnread
+pub mod ImportTogether
+pub mod ImportOne
+pub mod ImportTaken
+pub mod ImportLeft
+pub mod ImportFaulty
