@@ -1,6 +1,6 @@
 -- The devices of a pool's metaslabs are given back to a shelf.
 use Rattle.std.proofs.Common.{arith, ◌≡◌, ◌==◌, ◌%◌, ◌+◌, ◌≤◌, ◌++◌, ◌∙◌, inl, inr, ℕ, List, [], ◌∷◌, Option, Some, None, refl, sym, ap, subst, length, length-append, if◌then◌else◌}
-use Rattle.std.specs.Prelude.{⊤, Bool, true, false, IsSomeAnd, MatchOption, slice_get}
+use Rattle.std.specs.Prelude.{⊤, Bool, true, false, IsSome, IsSomeAnd, MatchOption, slice_get}
 use Rattle.std.proofs.lemmas.Bool.{cases_eq}
 use Rattle.std.proofs.lemmas.Bool.Decides.{nat_tests}
 use Rattle.std.proofs.lemmas.List.{append-nil, append_assoc}
@@ -28,7 +28,7 @@ use Rattle.draid_shard.specs.States.{layout_by}
 use Rattle.draid_uber.specs.Uber.{area_of}
 use Rattle.draid_uber.proofs.Imports.{crash_stands}
 use Rattle.draid_session.specs.State.{Metaslab, State}
-use Rattle.draid_pool.specs.Closing.{HoldsPool, Rests, RestsOn, Returns, ReturnsLeaves, SameCounts, TakesBack, kit_in}
+use Rattle.draid_pool.specs.Closing.{AllTell, HoldsPool, Rests, RestsOn, Returns, ReturnsLeaves, SameCounts, TakesBack, kit_in}
 use Rattle.draid_pool.specs.Metaslabs.{IsMetaslab, harm_of}
 use Rattle.draid_pool.specs.Objects.{HoldsObjects, blocks_of}
 use Rattle.draid_pool.specs.Pools.{Stands, part_in}
@@ -64,6 +64,7 @@ module _ {R A : Type 0} (rack : racks.Ghosts R) (area : areas.Ghosts A) where
     pub back : List (Shard R A)
     pub parts : left ++ back ≡ shards
     pub held : OnHeld new (λ y. MatchOption old ⊥ (λ x. GivenFrom (length left) shards x y))
+    pub tells : IsSome old → AllTell rack area shards → IsSome new
     pub rack_count : (m : ℕ) (shard : Shard R A) (who : Option ℕ) → length left ≤ m → slice_get shards m ≡ Some shard → (after m).rack who ≡ rack.faults shard.rack who
     pub even_count : (m : ℕ) (shard : Shard R A) → length left ≤ m → slice_get shards m ≡ Some shard → (after m).even ≡ area.faults shard.even
     pub odd_count : (m : ℕ) (shard : Shard R A) → length left ≤ m → slice_get shards m ≡ Some shard → (after m).odd ≡ area.faults shard.odd
@@ -83,11 +84,17 @@ module _ {R A : Type 0} (rack : racks.Ghosts R) (area : areas.Ghosts A) where
     back = [];
     parts = append-nil shards;
     held = none_given shards old;
+    tells = λ some all. some;
     rack_count = λ m shard who past there. (let below = slice_get_within shards m shard there in absurd (omega (arith, below, past)));
     even_count = λ m shard past there. (let below = slice_get_within shards m shard there in absurd (omega (arith, below, past)));
     odd_count = λ m shard past there. (let below = slice_get_within shards m shard there in absurd (omega (arith, below, past)));
     others = λ m past. refl;
   }
+
+  gives_some : (n : ℕ) (kit : Option KitTold) (mid : Option Held) → IsSome kit → IsSome mid → IsSome (gives_kit n kit mid)
+  gives_some n None mid k m = absurd (cc)
+  gives_some n (Some kit) None k m = absurd (cc)
+  gives_some n (Some kit) (Some x) k m = refl
 
   module _ (shards left fewer back : List (Shard R A)) (shard : Shard R A) (n : ℕ) (parts : left ++ back ≡ shards) (popped : left ≡ fewer ++ shard ∷ []) (at : n ≡ length fewer) where
     pub now : fewer ++ shard ∷ back ≡ shards
@@ -151,6 +158,7 @@ module _ {R A : Type 0} (rack : racks.Ghosts R) (area : areas.Ghosts A) where
     back = shard ∷ g.back;
     parts = now shards left fewer g.back shard n g.parts popped at;
     held = more_held shards left fewer g.back shard n g.parts popped at kit mid new old is gives g.held;
+    tells = λ some all. subst IsSome (sym gives) (gives_some n kit mid (subst IsSome (sym is) (all n shard (here shards left fewer g.back shard n g.parts popped at))) (g.tells some all));
     rack_count = λ m s who low there. counted shards left fewer g.back shard n g.parts popped at (λ (c : KitCounts). c.rack who) (λ (x : Shard R A). rack.faults x.rack who) middle after (λ m s low there. g.rack_count m s who low there) (rack_count who) others m s low there;
     even_count = counted shards left fewer g.back shard n g.parts popped at (λ (c : KitCounts). c.even) (λ (x : Shard R A). area.faults x.even) middle after g.even_count even_count others;
     odd_count = counted shards left fewer g.back shard n g.parts popped at (λ (c : KitCounts). c.odd) (λ (x : Shard R A). area.faults x.odd) middle after g.odd_count odd_count others;
@@ -196,6 +204,7 @@ module _ {R A : Type 0} (rack : racks.Ghosts R) (area : areas.Ghosts A) where
       let zero : length left ≡ 0 = ap (λ (xs : List (Shard R A)). length xs) none in
       record {
         held = all_held shards (length left) old new zero g.held;
+        tells = g.tells;
         rack_count = λ m shard who there. g.rack_count m shard who (omega (arith, zero)) there;
         even_count = λ m shard there. g.even_count m shard (omega (arith, zero)) there;
         odd_count = λ m shard there. g.odd_count m shard (omega (arith, zero)) there;

@@ -46,7 +46,7 @@ use Rattle.draid_uber.specs.declared.uber.Uber.{Uber}
 use Rattle.draid_uber.specs.Slots.{group_of}
 use Rattle.draid_uber.specs.Uber as ubers
 use Rattle.draid_uber.specs.Uber.{kept_of, layout_of, next_leaf_of, version_of}
-use Rattle.draid_pool.specs.Found.{AllLive, AnyRecordsRose, AreFound, AreFreed, AreReady, AreReopened, CountsLater, FreesAt, FreesOlder, FreesIfOlder, Grows, IsFoundUber, IsNumberIn, IsNumberOf, IsReopened, KeepsNewer, LeadsTo, LeavesShards, LeavesUber, Notes, NotesOne, OpensOver, Reaches, RecordsRose, SameButFlushed, SameChecks, StaysHeld}
+use Rattle.draid_pool.specs.Found.{AllLive, AnyRecordsRose, AreFound, AreFreed, AreReady, AreReopened, FreesAt, FreesOlder, FreesIfOlder, Grows, IsFoundUber, IsNumberIn, IsNumberOf, IsReopened, KeepsNewer, LeadsTo, LeavesUber, Notes, NotesOne, OpensOver, Reaches, RecordsRose, SameButFlushed, SameChecks, StaysHeld}
 use Rattle.draid_pool.specs.Closing.{Returns, TakesBack}
 use Rattle.draid_pool.specs.Opening.{TakesFirst}
 use Rattle.draid_pool.specs.Whole.{IsWhole}
@@ -182,35 +182,6 @@ pub kit_back : {R A : Type 0} (rack : racks.Ghosts R) (told : A → Option conte
 kit_back rack told old new group o n back is =
     let both = both_same told old new group back in
     subst (λ (k : Option shelf.KitTold). shelf.OnHeld o (λ x. k ≡ x.kits n)) (sym (λ i. shelf.kit_of (rack.told (back.rack i)) (both.0 i) (both.1 i))) is
-
-pub leaves_shards : {R A : Type 0} (rack : racks.Ghosts R) (area : areas.Ghosts A) (limit group next n : ℕ) (shards : List (Shard R A)) (first mid last new : Option shelf.Held) (before middle late after : ℕ → shelf.KitCounts)
-    → length shards ≡ n → ((m : ℕ) (shard : Shard R A) → slice_get shards m ≡ Some shard → OpensOver rack area limit group next m first (before m) shard) → TakesFirst n first mid → StaysHeld mid last
-    → Returns rack area shards last new late after → ((m : ℕ) → n ≤ m → middle m ≡ before m) → CountsLater (middle n) (late n) → ((m : ℕ) → (m ≡ n → ⊥) → late m ≡ middle m)
-    → LeavesShards rack area limit group next first new before after
-leaves_shards rack area limit group next n shards first mid last new before middle late after many over takes stays r yet later others = record {
-  shards = shards;
-  over = over;
-  held = by first mid last new takes stays r.held;
-  rack_count = r.rack_count;
-  even_count = r.even_count;
-  odd_count = r.odd_count;
-  others = λ m past. subst (λ (k : shelf.KitCounts). CountsLater k (after m)) (yet m (omega (arith, past, many))) (subst (λ (k : shelf.KitCounts). CountsLater (middle m) k) (sym (r.others m past)) (at_last m (cases_eq m n)));
-} where
-  at_last : (m : ℕ) → (m ≡ n) ⊎ (m ≡ n → ⊥) → CountsLater (middle m) (late m)
-  at_last m (inl same) = subst (λ (k : ℕ). CountsLater (middle k) (late k)) (sym same) later
-  at_last m (inr other) = subst (λ (k : shelf.KitCounts). CountsLater (middle m) k) (sym (others m other)) (record { rack = λ who. refl; even = omega arith; odd = omega arith })
-
-  by : (a b c d : Option shelf.Held) → TakesFirst n a b → StaysHeld b c → shelf.OnHeld d (λ y. MatchOption c ⊥ (λ x. TakesBack rack area shards x y)) → shelf.OnHeld d (λ y. MatchOption a ⊥ (λ x. TakesBack rack area shards x y))
-  by a b c None t s h = tt
-  by a b None (Some w) t s h = absurd h
-  by a None (Some z) (Some w) t s h = absurd s
-  by None (Some y) (Some z) (Some w) t s h = absurd (cc)
-  by (Some x) (Some y) (Some z) (Some w) t s h = record {
-    uber = h.uber ∙ (s.uber ∙ t.uber);
-    checks = h.checks ∙ (s.checks ∙ t.checks);
-    kits = h.kits;
-    others = λ m past. h.others m past ∙ (s.kits m ∙ t.others m (omega (arith, past, many)));
-  }
 
 -- a failure is one whatever the answer would have been
 pub refused_too : {T U : Type 0} (why : PoolFault) → IsErrOf {T = T} (Err why) fault.Shelf → IsErrOf {T = U} (Err why) fault.Shelf

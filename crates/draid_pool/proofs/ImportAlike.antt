@@ -27,6 +27,7 @@ use Rattle.draid_session.specs.Opening.{MayFind, Reopens}
 use Rattle.draid_session.specs.State.{Metaslab, State}
 use Rattle.draid_pool.specs.Importable.{AreAlike, IsAlike, IsFindable, SameArms, bare}
 use Rattle.draid_pool.specs.Objects.{HoldsObjects, blocks_of}
+use Rattle.draid_pool.specs.Together.{IsSameArm}
 use Rattle.draid_pool.proofs.Alike.{alike_opened, same_bare}
 use Rattle.draid_pool.proofs.Lists.{some_of}
 
@@ -80,12 +81,6 @@ same_names kind.Spare kind.Spare m n is = (refl, cc)
 
 one_arm : (a b : machine.Arm) → Some a ≡ Some b → a ≡ b
 one_arm a b is = cc
-
--- what an import compares of two arms
-pub record IsSameArm (p q : Arm) : Type 0 where
-  pub kind_is : p.kind ≡ q.kind
-  pub number_is : p.number ≡ q.number
-  pub offline_is : p.offline ≡ q.offline
 
 module _ (a b : SlotTable) (v w : machine.Core) (first : HasSlots a v) (second : HasSlots b w) (same : SameArms v w) where
   order : (slot : ℕ) → map name_of (arms_of a slot) ≡ map name_of (arms_of b slot)

@@ -25,6 +25,7 @@ use Rattle.draid_pool.specs.Closing.{Rests, RestsOn, SameCounts, kit_in}
 use Rattle.draid_shard.specs.Groups.{ListsOnce}
 use Rattle.draid_pool.specs.Importable.{AreAlike, HasImageLeaves, IsFindable, IsImportable, SameArms}
 use Rattle.draid_pool.specs.Imported.{FindsBody, OpensFound, RestsFound, found_state}
+use Rattle.draid_pool.specs.Pools.{part_in}
 use Rattle.draid_pool.specs.Importing.{FindsNone, LeavesPool, RestsThere}
 use Rattle.draid_pool.specs.Ubers.{IsPending, UberStands}
 use Rattle.draid_pool.proofs.Closed.{area_told, kit_is, rests_on}
@@ -32,18 +33,20 @@ use Rattle.draid_pool.proofs.ImportFound.{found_findable, found_holds, found_ima
 use Rattle.draid_pool.proofs.ImportMetaslab.{FindsImage, counts_rise, found_image, unopened, unopened_reopens, unopened_rests}
 use Rattle.draid_pool.proofs.ImportOpened.{all_reached, collect, finds_state}
 use Rattle.draid_pool.proofs.ImportUber.{found_kept}
+use Rattle.draid_pool.proofs.ImportKept.{leaves_there}
 use Rattle.draid_pool.proofs.Lists.{present}
 
 -- ---- one metaslab
 
 -- it was opened, and its devices were given back
-pub given_found : {R A : Type 0} (rack : racks.Ghosts R) (area : areas.Ghosts A) (x : State) (group m : ℕ) (pieces : Pieces) (y : Metaslab) (shard : Shard R A) (kit : KitTold) (counts : KitCounts)
-    → OpensFound rack area x group m pieces y shard → kit_in rack area shard ≡ Some kit → ((who : Option ℕ) → counts.rack who ≡ rack.faults shard.rack who) → counts.even ≡ area.faults shard.even
-    → counts.odd ≡ area.faults shard.odd → RestsFound x group m pieces y kit counts
-given_found rack area x group m pieces y shard kit counts o told rack_is even_is odd_is =
+pub given_found : {R A : Type 0} (rack : racks.Ghosts R) (area : areas.Ghosts A) (x : State) (group m : ℕ) (pieces : Pieces) (y : Metaslab) (shard : Shard R A) (kit : KitTold) (known : Option Shape) (counts : KitCounts)
+    → OpensFound rack area x group m pieces y shard → kit_in rack area shard ≡ Some kit → known ≡ Some (rack.shape shard.rack) → ((who : Option ℕ) → counts.rack who ≡ rack.faults shard.rack who) → counts.even ≡ area.faults shard.even
+    → counts.odd ≡ area.faults shard.odd → RestsFound x group m pieces y kit known counts
+given_found rack area x group m pieces y shard kit known counts o told shape_is rack_is even_is odd_is =
     let k = kit_is (rack.told shard.rack) (area.told shard.even) (area.told shard.odd) kit told in
     record {
       once = λ image is. area_told image.group (area.told shard.even) (area.told shard.odd) kit (ListsOnce x.geometry m image) k.even k.odd (o.once image is);
+      leaves = λ image is. subst (λ s. IsSomeAnd s (HasImageLeaves x.geometry image)) (sym shape_is) (leaves_there rack area (part_in x m) pieces shard o.z image o.is is);
       z = o.z;
       reopens = o.reopens;
       rests = rests_on rack area x m pieces shard o.z kit o.is told;
@@ -55,10 +58,10 @@ given_found rack area x group m pieces y shard kit counts o told rack_is even_is
     }
 
 -- it wasn't, and its devices tell what they did; more calls on them may have failed
-pub left_found : (x : State) (group next m : ℕ) (pieces : Pieces) (y : Metaslab) (kit : KitTold) (counts : KitCounts) (alloc : Global) (f : FindsImage x m pieces y kit group next)
-    → ListsOnce x.geometry m f.image (stable.area_of f.image.group kit.even kit.odd) → ((who : Option ℕ) → y.counts.rack who ≤ counts.rack who) → y.counts.even ≤ counts.even
-    → y.counts.odd ≤ counts.odd → RestsFound x group m pieces y kit counts
-left_found x group next m pieces y kit counts alloc f once rack_later even_later odd_later =
+pub left_found : (x : State) (group next m : ℕ) (pieces : Pieces) (y : Metaslab) (kit : KitTold) (known : Option Shape) (counts : KitCounts) (alloc : Global) (f : FindsImage x m pieces y kit group next)
+    → ListsOnce x.geometry m f.image (stable.area_of f.image.group kit.even kit.odd) → IsSomeAnd known (HasImageLeaves x.geometry f.image) → ((who : Option ℕ) → y.counts.rack who ≤ counts.rack who)
+    → y.counts.even ≤ counts.even → y.counts.odd ≤ counts.odd → RestsFound x group m pieces y kit known counts
+left_found x group next m pieces y kit known counts alloc f once leaves rack_later even_later odd_later =
     let now : Counts = record { rack = counts.rack; even = counts.even; odd = counts.odd } in
     record {
       z = unopened x m pieces y kit group next f alloc now;
@@ -67,13 +70,8 @@ left_found x group next m pieces y kit counts alloc f once rack_later even_later
       rests = unopened_rests x m pieces y kit group next f alloc now;
       counted = record { rack = λ who. refl; even = refl; odd = refl };
       once = λ image is. subst (λ (i : machine.Image). ListsOnce x.geometry m i (stable.area_of i.group kit.even kit.odd)) (found_image x m pieces y kit group next f alloc image is) once;
+      leaves = λ image is. subst (λ (i : machine.Image). IsSomeAnd known (HasImageLeaves x.geometry i)) (found_image x m pieces y kit group next f alloc image is) leaves;
     }
-
--- nothing was done to it
-pub same_found : (x : State) (group next m : ℕ) (pieces : Pieces) (y : Metaslab) (kit : KitTold) (counts : KitCounts) (alloc : Global) (f : FindsImage x m pieces y kit group next)
-    → ListsOnce x.geometry m f.image (stable.area_of f.image.group kit.even kit.odd) → SameCounts y.counts counts → RestsFound x group m pieces y kit counts
-same_found x group next m pieces y kit counts alloc f once same = left_found x group next m pieces y kit counts alloc f once
-    (λ who. (let is = same.rack who in omega (arith, is))) (let is = same.even in omega (arith, is)) (let is = same.odd in omega (arith, is))
 
 -- ---- the pool as it was
 
@@ -158,8 +156,7 @@ module _ (x : State) (pieces : ℕ → Pieces) (held : Held) (rests : Rests x pi
     pub once : (image : machine.Image) → IsImage z.world image → IsSomeAnd (new.kits m) (λ kit. ListsOnce x.geometry m image (stable.area_of image.group kit.even kit.odd))
     pub leaves : (image : machine.Image) → IsImage z.world image → IsSomeAnd (now m) (HasImageLeaves x.geometry image)
 
-  module _ (each : (m : ℕ) (y : Metaslab) → slice_get x.metaslabs m ≡ Some y → (kit : KitTold) × (new.kits m ≡ Some kit) × RestsFound x body.group m (pieces m) y kit (counts m))
-      (leaves : (m : ℕ) (y : Metaslab) (image : machine.Image) → slice_get x.metaslabs m ≡ Some y → IsImage y.world image → image.group ≡ body.group → IsSomeAnd (now m) (HasImageLeaves x.geometry image)) where
+  module _ (each : (m : ℕ) (y : Metaslab) → slice_get x.metaslabs m ≡ Some y → (kit : KitTold) × (new.kits m ≡ Some kit) × RestsFound x body.group m (pieces m) y kit (now m) (counts m)) where
     on_shelf : (m : ℕ) (y : Metaslab) → slice_get x.metaslabs m ≡ Some y → (z : Metaslab) × OnShelf m y z
     on_shelf m y at =
         let k = each m y at in (
@@ -169,7 +166,7 @@ module _ (x : State) (pieces : ℕ → Pieces) (held : Held) (rests : Rests x pi
             kit = subst (λ o. IsSomeAnd o (RestsOn x m (pieces m) k.2.z)) (sym k.1) k.2.rests;
             same = k.2.counted;
             once = λ image is. subst (λ o. IsSomeAnd o (λ kit. ListsOnce x.geometry m image (stable.area_of image.group kit.even kit.odd))) (sym k.1) (k.2.once image is);
-            leaves = λ image is. subst (λ (i : machine.Image). IsSomeAnd (now m) (HasImageLeaves x.geometry i)) (own_image x body.group m y k.2.z k.2.reopens image is) (leaves m y k.2.reopens.image at k.2.reopens.is k.2.reopens.of);
+            leaves = k.2.leaves;
           },
         )
 

@@ -57,3 +57,10 @@ pub mod ImportFreed
 pub mod ImportClosed
 pub mod Causes
 pub mod Counted
+pub mod ImportPool
+pub mod ImportUnread
+pub mod ImportTogether
+pub mod ImportOne
+pub mod ImportTaken
+pub mod ImportLeft
+pub mod ImportFaulty

@@ -1,5 +1,5 @@
 -- What a shelf holds of a pool that was given back to it.
-use Rattle.std.specs.Prelude.{◌≡◌, ◌≤◌, ℕ, Bool, false, List, Option, Some, MatchOption, IsSomeAnd, length, slice_get}
+use Rattle.std.specs.Prelude.{◌≡◌, ◌≤◌, ℕ, Bool, false, List, Option, Some, MatchOption, IsSome, IsSomeAnd, length, slice_get}
 use Rattle.draid_rack.specs.Rack.{Shape}
 use Rattle.draid_rack.specs.declared.Rack as racks
 use Rattle.draid_area.specs.declared.Area as areas
@@ -80,9 +80,14 @@ pub record TakesBack {R A : Type 0} (rack : racks.Ghosts R) (area : areas.Ghosts
   pub kits : (m : ℕ) (shard : Shard R A) → slice_get shards m ≡ Some shard → (kit : KitTold) × (kit_in rack area shard ≡ Some kit) × (new.kits m ≡ Some kit)
   pub others : (m : ℕ) → length shards ≤ m → new.kits m ≡ old.kits m
 
--- The kits of shards were given to a shelf, which has their counts.
+-- the devices of each of some shards tell
+abbrev pub AllTell : {R A : Type 0} → racks.Ghosts R → areas.Ghosts A → List (Shard R A) → Type 0
+AllTell {R} {A} rack area shards = (m : ℕ) (shard : Shard R A) → slice_get shards m ≡ Some shard → IsSome (kit_in rack area shard)
+
+-- The kits of shards were given to a shelf, which has their counts, and tells where it did and they do.
 pub record Returns {R A : Type 0} (rack : racks.Ghosts R) (area : areas.Ghosts A) (shards : List (Shard R A)) (old new : Option Held) (before after : ℕ → KitCounts) : Type 0 where
   pub held : OnHeld new (λ y. MatchOption old ⊥ (λ x. TakesBack rack area shards x y))
+  pub tells : IsSome old → AllTell rack area shards → IsSome new
   pub rack_count : (m : ℕ) (shard : Shard R A) (who : Option ℕ) → slice_get shards m ≡ Some shard → (after m).rack who ≡ rack.faults shard.rack who
   pub even_count : (m : ℕ) (shard : Shard R A) → slice_get shards m ≡ Some shard → (after m).even ≡ area.faults shard.even
   pub odd_count : (m : ℕ) (shard : Shard R A) → slice_get shards m ≡ Some shard → (after m).odd ≡ area.faults shard.odd

@@ -1,10 +1,11 @@
 -- The metaslabs that an import opens, and the blocks that it finds there.
-use Rattle.std.specs.Prelude.{◌≡◌, ◌<◌, ◌≤◌, ◌+◌, ◌⊎◌, ℕ, true, List, Option, Some, None, Ok, IsSomeAnd, MatchOption, [], length, option_map, slice_get, slice_set}
+use Rattle.std.specs.Prelude.{◌≡◌, ◌<◌, ◌≤◌, ◌+◌, ◌⊎◌, ⊤, ℕ, true, List, Option, Some, None, Ok, IsSome, IsSomeAnd, MatchOption, [], length, option_map, slice_get, slice_set}
 use Rattle.draid_names.specs.Faults.{Rose}
 use Rattle.draid_names.specs.declared.fault.DeviceFault.{DeviceFault}
 use Rattle.draid_names.specs.declared.fault.DeviceFault.TheVariants as device
+use Rattle.draid_rack.specs.Rack.{Shape}
 use Rattle.draid_rack.specs.declared.Rack as racks
-use Rattle.draid_area.specs.Area.{Content, OnTold, flushes}
+use Rattle.draid_area.specs.Area.{Content, IsOfSize, OnTold, flushes}
 use Rattle.draid_area.specs.declared.Area as areas
 use Rattle.draid_shelf.specs.Kits as shelf
 use Rattle.draid_shelf.specs.declared.kit.Kit.{Kit}
@@ -20,10 +21,10 @@ use Rattle.draid_entries.specs.Entries.{entry_at}
 use Rattle.draid_entries.specs.History.{limit_in}
 use Rattle.draid_entries.specs.Maps.{staged}
 use Rattle.draid_segments.specs.Segments.{Pieces}
-use Rattle.draid_session.specs.State.{Metaslab, State}
+use Rattle.draid_session.specs.State.{Metaslab, State, limit_of}
 use Rattle.draid_pool.specs.declared.fault.PoolFault.{PoolFault}
 use Rattle.draid_pool.specs.declared.fault.PoolFault.TheVariants as fault
-use Rattle.draid_pool.specs.Closing.{TakesBack}
+use Rattle.draid_pool.specs.Closing.{AllTell, TakesBack}
 use Rattle.draid_pool.specs.Imported.{IsFoundOf}
 use Rattle.draid_pool.specs.Metaslabs.{IsMetaslab}
 use Rattle.draid_pool.specs.Shards.{FreesIn, Goes}
@@ -33,6 +34,8 @@ use Rattle.draid_shard.specs.Fits.{Valid}
 use Rattle.draid_shard.specs.Groups.{Opens, OpensCounts}
 use Rattle.draid_shard.specs.Part.{Part}
 use Rattle.draid_shard.specs.States.{part_of}
+use Rattle.draid_shard.specs.declared.fault.OpenFault.{OpenFault}
+use Rattle.draid_shard.specs.declared.fault.OpenFault.TheVariants as open_fault
 use Rattle.draid_shard.specs.declared.shard.Shard.{Shard}
 use Rattle.draid_uber.specs.declared.uber.Uber.{Uber}
 use Rattle.draid_uber.specs.declared.uber.UberFault.{UberFault}
@@ -115,15 +118,32 @@ abbrev pub OpensAllOver : {R A : Type 0} → racks.Ghosts R → areas.Ghosts A �
 OpensAllOver {R} {A} rack area limit group next held counts shards =
     (m : ℕ) (shard : Shard R A) → slice_get shards m ≡ Some shard → OpensOver rack area limit group next m held (counts m) shard
 
--- Some metaslabs were opened and given back, and the devices of all others are as they were, but that no count of their areas fell.
-pub record LeavesShards {R A : Type 0} (rack : racks.Ghosts R) (area : areas.Ghosts A) (limit group next : ℕ) (old new : Option shelf.Held) (before after : ℕ → shelf.KitCounts) : Type 0 where
+-- where the leaves of a rack were known they are so still
+abbrev pub KeepsKnown : Option Shape → Option Shape → Type 0
+KeepsKnown old new = MatchOption old ⊤ (λ shape. new ≡ Some shape)
+
+-- the devices of all metaslabs of a layout are held
+abbrev pub HoldsKits : Geometry → shelf.Held → Type 0
+HoldsKits geometry x = (m : ℕ) → m < geometry.props.metaslabs → IsSome (x.kits m)
+
+-- Some metaslabs of a layout were opened and given back, and the devices of all others are as they were, but that no count of their areas fell. The shelf tells where it
+-- did, held all devices, and those that were opened tell.
+pub record LeavesShards {R A : Type 0} (rack : racks.Ghosts R) (area : areas.Ghosts A) (geometry : Geometry) (group next : ℕ) (old new : Option shelf.Held) (before after : ℕ → shelf.KitCounts)
+    (leaves now : ℕ → Option Shape) : Type 0 where
+  pub perms : Perms
+  pub layout : IsLayout geometry perms
   pub shards : List (Shard R A)
-  pub over : OpensAllOver rack area limit group next old before shards
+  pub few : length shards ≤ geometry.props.metaslabs
+  pub each : (m : ℕ) (shard : Shard R A) → slice_get shards m ≡ Some shard → IsReopened rack (record { geometry = geometry; perms = perms; number = m }) group shard
+  pub over : OpensAllOver rack area (limit_of geometry) group next old before shards
   pub held : shelf.OnHeld new (λ y. MatchOption old ⊥ (λ x. TakesBack rack area shards x y))
+  pub tells : shelf.OnHeld old (λ x. HoldsKits geometry x → AllTell rack area shards → IsSome new)
   pub rack_count : (m : ℕ) (shard : Shard R A) (who : Option ℕ) → slice_get shards m ≡ Some shard → (after m).rack who ≡ rack.faults shard.rack who
   pub even_count : (m : ℕ) (shard : Shard R A) → slice_get shards m ≡ Some shard → (after m).even ≡ area.faults shard.even
   pub odd_count : (m : ℕ) (shard : Shard R A) → slice_get shards m ≡ Some shard → (after m).odd ≡ area.faults shard.odd
-  pub others : (m : ℕ) → length shards ≤ m → CountsLater (before m) (after m)
+  pub others : (m : ℕ) → length shards ≤ m → m < geometry.props.metaslabs → CountsLater (before m) (after m)
+  pub leaves_own : (m : ℕ) (shard : Shard R A) → slice_get shards m ≡ Some shard → now m ≡ Some (rack.shape shard.rack)
+  pub leaves_left : (m : ℕ) → length shards ≤ m → m < geometry.props.metaslabs → KeepsKnown (leaves m) (now m)
 
 -- a metaslab of which the blocks may be noted or freed
 pub record IsReady {R A : Type 0} (rack : racks.Ghosts R) (m : ℕ) (shard : Shard R A) : Type 0 where
@@ -149,6 +169,20 @@ abbrev pub shelf_fault_of : DeviceFault → PoolFault
 shelf_fault_of device.Failed = fault.Shelf
 shelf_fault_of device.NoMemory = fault.NoMemory
 
+-- or a metaslab wasn't opened
+abbrev pub open_fault_of : ℕ → OpenFault → PoolFault
+open_fault_of number open_fault.Area = fault.Shelf
+open_fault_of number open_fault.NoMemory = fault.NoMemory
+open_fault_of number (open_fault.Record place kind) = fault.Record (Some number) place kind
+
+-- why metaslabs are not opened, or their blocks not found: neither of the faults of what was asked for
+abbrev pub IsShardFault : PoolFault → Type 0
+IsShardFault (fault.Spec why) = ⊥
+IsShardFault fault.NoPool = ⊥
+IsShardFault (fault.Record metaslab place kind) = ⊤
+IsShardFault fault.Shelf = ⊤
+IsShardFault fault.NoMemory = ⊤
+
 -- ---- the uberblock
 
 -- an uberblock that was found: its group is one that a metaslab may be opened from
@@ -173,6 +207,8 @@ pub record LeavesUber (old new : Option shelf.Held) (count count' : ℕ) : Type 
 pub record IsRecovered {A : Type 0} (area : areas.Ghosts A) (held : Option shelf.Held) (count : ℕ) (uber : Uber A) : Type 0 where
   pub content : Option Content
   pub own : shelf.OnHeld held (λ x. content ≡ x.uber)
+  pub size : ℕ
+  pub counted : OnTold content (IsOfSize size)
   pub finds : OnTold content (λ x. chosen_of x.bytes ≡ option_map read_body (kept_of uber))
   pub flushed : area.told (area_of uber) ≡ option_map flushes content
   pub stands : StandsTold (kept_of uber) [] (area.told (area_of uber))

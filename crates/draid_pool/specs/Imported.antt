@@ -1,5 +1,6 @@
 -- What an import finds of a pool that rests on a shelf: the body of its uberblock, a group of each metaslab, and the newest block of each object.
-use Rattle.std.specs.Prelude.{◌≡◌, ◌+◌, ◌<◌, ◌≤◌, ◌⊎◌, ℕ, false, true, List, Option, Some, None, length, slice_get}
+use Rattle.std.specs.Prelude.{◌≡◌, ◌+◌, ◌<◌, ◌≤◌, ◌⊎◌, ℕ, false, true, List, Option, Some, None, IsSomeAnd, length, slice_get}
+use Rattle.draid_rack.specs.Rack.{Shape}
 use Rattle.draid_rack.specs.declared.Rack as racks
 use Rattle.draid_area.specs.Area as content
 use Rattle.draid_area.specs.declared.Area as areas
@@ -30,7 +31,7 @@ use Rattle.draid_session.specs.Holds.{Hold}
 use Rattle.draid_session.specs.Opening.{Finds, Frees, FreesOlder, IsLastSeq, LeafIn, MayFind, Reopens}
 use Rattle.draid_session.specs.State.{Metaslab, State}
 use Rattle.draid_pool.specs.Closing.{RestsOn, SameCounts}
-use Rattle.draid_pool.specs.Importable.{AllAlike}
+use Rattle.draid_pool.specs.Importable.{AllAlike, HasImageLeaves}
 use Rattle.draid_pool.specs.Metaslabs.{IsMetaslab}
 use Rattle.draid_pool.specs.Objects.{HasGroups, HoldsObjects, blocks_of}
 use Rattle.draid_pool.specs.Pools.{part_in}
@@ -60,13 +61,14 @@ pub record OpensFound {R A : Type 0} (rack : racks.Ghosts R) (area : areas.Ghost
   pub is : IsMetaslab rack area (part_in x m) pieces shard z
   pub once : (image : machine.Image) → IsImage z.world image → content.OnTold (area_for image.group (area.told shard.even) (area.told shard.odd)) (ListsOnce x.geometry m image)
 
--- a metaslab of a state rests on a kit as its image of a group has it, and the kit has its counts
-pub record RestsFound (x : State) (group m : ℕ) (pieces : Pieces) (y : Metaslab) (kit : KitTold) (counts : KitCounts) : Type 0 where
+-- a metaslab of a state rests on a kit as its image of a group has it, and the kit has its counts, and the leaves that the image names
+pub record RestsFound (x : State) (group m : ℕ) (pieces : Pieces) (y : Metaslab) (kit : KitTold) (known : Option Shape) (counts : KitCounts) : Type 0 where
   pub z : Metaslab
   pub reopens : Reopens x.geometry x.perms group m y z
   pub rests : RestsOn x m pieces z kit
   pub counted : SameCounts z.counts counts
   pub once : (image : machine.Image) → IsImage z.world image → ListsOnce x.geometry m image (stable.area_of image.group kit.even kit.odd)
+  pub leaves : (image : machine.Image) → IsImage z.world image → IsSomeAnd known (HasImageLeaves x.geometry image)
 
 -- the state that a group and its number of the next leaf give, with these metaslabs
 abbrev pub found_state : State → (group next : ℕ) → List Metaslab → (seq uber_count : ℕ) → State

@@ -1,12 +1,15 @@
 //! A pool is imported from what was given back to a shelf: its uberblock is found, each metaslab is opened from the
 //! record of the group that it names, and of each object the block with the greatest number counts.
-ghost use Rattle.std.specs.Prelude.{◌≡◌, ◌<◌, ◌≤◌, ◌+◌, ◌⊎◌, ◌↔◌, ℕ, None, Some, IfOk, IsErrOf, IsTrue, OnErr, OnOk, false, is_some, nat_eq, slice_get};
+ghost use Rattle.std.specs.Prelude.{◌≡◌, ◌<◌, ◌≤◌, ◌+◌, ◌⊎◌, ◌↔◌, ℕ, None, Some, Err, IfErr, IfOk, IsErrOf, IsSome, IsTrue, OnErr, OnOk, false, is_some, nat_eq, slice_get, Option, true};
 ghost use Rattle.std.specs.HashMap.{get};
 ghost use Rattle.draid_names.specs.Faults.{Rose};
 ghost use Rattle.draid_names.specs.declared.numbers.TheConstants.{LAST_NUMBER};
 ghost use Rattle.draid_names.specs.declared.pointer.Pointer.{Pointer};
+ghost use Rattle.draid_area.specs.Area.{IsOfSize, OnTold};
+ghost use Rattle.draid_rack.specs.Rack.{Shape};
 ghost use Rattle.draid_map.specs.Place.{IsLayout};
-ghost use Rattle.draid_shelf.specs.Kits.{OnHeld, takes_kit, takes_uber};
+ghost use Rattle.draid_entries.specs.Maps.{key_of};
+ghost use Rattle.draid_shelf.specs.Kits.{Held, KitCounts, OnHeld, takes_kit, takes_uber};
 ghost use Rattle.draid_shelf.specs.Shelf.{SameOthers};
 ghost use Rattle.draid_shard.specs.Calls.{IsLive};
 ghost use Rattle.draid_shard.specs.Fits.{Valid};
@@ -15,10 +18,12 @@ ghost use Rattle.draid_uber.specs.Slots.{group_of};
 ghost use Rattle.draid_uber.specs.Uber.{kept_of, layout_of, next_leaf_of};
 ghost use Rattle.draid_segments.specs.Segments.{Pieces};
 ghost use Rattle.draid_session.specs.State.{State, limit_of};
+ghost use Rattle.draid_pool.specs.Faulty.{IsUnread, OneIsUnread, RecordIsBad, UberIsBad};
 ghost use Rattle.draid_pool.specs.Imported.{AreNewest, IsFoundOf};
 ghost use Rattle.draid_pool.specs.Importing.{ImportIs, ImportsPool, NotOfSpec, RestsThere};
 ghost use Rattle.draid_pool.specs.Opening.{IsAsBefore, TakesFirst};
-ghost use Rattle.draid_pool.specs.Found.{AllLive, AnyRecordsRose, AreFound, AreFreed, AreReady, AreReopened, CountsLater, FreesIfOlder, FreesOlder, HasOnly, HasRisen, IsFoundUber, IsRecovered, IsReopened, KeepsFound, KeepsFoundAt, KeepsNewer, LeavesShards, LeavesUber, Notes, NotesOne, OpensAllOver, OpensOver, Reaches, RecordsRose, SameChecks, StaysHeld, shelf_fault_of, uber_fault_of};
+ghost use Rattle.draid_pool.specs.Found.{AllLive, AnyRecordsRose, AreFound, AreFreed, AreReady, AreReopened, CountsLater, FreesIfOlder, FreesOlder, HasOnly, HasRisen, IsFoundUber, IsRecovered, IsReopened, IsShardFault, KeepsFound, KeepsFoundAt, KeepsKnown, KeepsNewer, LeavesShards, LeavesUber, Notes, NotesOne, OpensAllOver, OpensOver, Reaches, RecordsRose, SameChecks, StaysHeld, shelf_fault_of, uber_fault_of, open_fault_of};
+ghost use Rattle.draid_pool.specs.Together.{AreApart, AreSameArms, HaveSameArms, IsNotedTwice, IsSameArm, NoRecord, NotesOnly, NotesOnlyOf, noted_in};
 ghost use Rattle.draid_pool.specs.Whole.{IsWhole};
 ghost use Rattle.draid_pool.specs.declared.importing.Found.{Found};
 
@@ -62,7 +67,9 @@ fn uber_fault(why: UberFault) -> PoolFault
 
 /// Why a metaslab wasn't opened.
 fn open_fault(number: u32, why: OpenFault) -> PoolFault
-    ensures { result ≡ PoolFault.Shelf → why ≡ OpenFault.Area }
+    ensures is { result ≡ open_fault_of number why }
+    ensures area { result ≡ PoolFault.Shelf → why ≡ OpenFault.Area }
+    ensures fault { IsShardFault result }
 {
     match why {
         OpenFault::Area => PoolFault::Shelf,
@@ -79,6 +86,7 @@ fn open_fault(number: u32, why: OpenFault) -> PoolFault
 fn shelf_fault(why: DeviceFault) -> PoolFault
     ensures is { result ≡ shelf_fault_of why }
     ensures failed { result ≡ PoolFault.Shelf → why ≡ DeviceFault.Failed }
+    ensures fault { IsShardFault result }
 {
     match why {
         DeviceFault::Failed => PoolFault::Shelf,
@@ -86,12 +94,22 @@ fn shelf_fault(why: DeviceFault) -> PoolFault
     }
 }
 
+/// Law: an area that tells has the length that it tells.
+fn has_length_told<A: Area>(area: &A)
+    ensures { OnTold (A.told area.now) (IsOfSize (A.size area.now)) }
+{}
+
 /// Takes the area of the uberblock, and finds the uberblock there. After a refusal the area is on the shelf.
 fn find_uber<H: Shelf>(shelf: &mut H) -> Result<Uber<H::A>, PoolFault>
     ensures found { IfOk result (IsFoundUber H.A.Area) }
     ensures recovered { IfOk result (IsRecovered H.A.Area (H.told shelf.old) (H.uber_count shelf.old)) }
     ensures told { OnOk result (H.told shelf.new ≡ takes_uber (H.told shelf.old)) }
     ensures back { OnErr result (LeavesUber (H.told shelf.old) (H.told shelf.new) (H.uber_count shelf.old) (H.uber_count shelf.new)) }
+    ensures import { (x : State) (pieces : ℕ → Pieces)
+        → RestsThere x pieces (H.told shelf.old) (H.leaves shelf.old) (H.counts shelf.old) (H.uber_count shelf.old)
+        → IfErr result (λ why. ImportIs H.R.Rack H.A.Area x pieces (H.told shelf.new) (H.leaves shelf.new) (H.counts shelf.new) (H.uber_count shelf.new) (Err why)) }
+    ensures leaves { (m : ℕ) → H.leaves shelf.new m ≡ H.leaves shelf.old m }
+    ensures faulty { (metaslab : Option ℕ) (place kind : ℕ) → IsErrOf result (PoolFault.Record metaslab place kind) → UberIsBad (H.told shelf.old) metaslab place kind }
     ensures none { OnHeld (H.told shelf.old) (λ held. held.uber ≡ None → IsErrOf result PoolFault.NoPool
         × IsAsBefore (H.told shelf.old) (H.told shelf.new) (H.counts shelf.old) (H.counts shelf.new)
         (record { uber = H.uber_count shelf.old; checks = H.check_counts shelf.old })
@@ -109,6 +127,7 @@ fn find_uber<H: Shelf>(shelf: &mut H) -> Result<Uber<H::A>, PoolFault>
         Ok(area) => area,
         Err(why) => return Err(shelf_fault(why)),
     };
+    has_length_told(&area);
     match Uber::recover(area) {
         Ok(uber) => Ok(uber),
         Err(UberRefused { area, why }) => {
@@ -134,6 +153,16 @@ fn reopen_shard<H: Shelf>(
     ensures over { IfOk result (OpensOver H.R.Rack H.A.Area (limit_of (layout_of uber.now)) (group_of (kept_of uber.now)) (next_leaf_of uber.now) number (H.told shelf.old) (H.counts shelf.old number)) }
     ensures told { OnOk result (H.told shelf.new ≡ takes_kit number (H.told shelf.old)) }
     ensures back { OnErr result (StaysHeld (H.told shelf.old) (H.told shelf.new)) }
+    ensures tells { OnErr result (OnHeld (H.told shelf.old) (λ held. IsSome (held.kits number) → IsSome (H.told shelf.new))) }
+    ensures leaves { SameOthers number (H.leaves shelf.old) (H.leaves shelf.new) }
+    ensures known { OnErr result (KeepsKnown (H.leaves shelf.old number) (H.leaves shelf.new number)) }
+    ensures fault { IfErr result IsShardFault }
+    ensures faulty { (metaslab : Option ℕ) (place kind : ℕ) → IsErrOf result (PoolFault.Record metaslab place kind)
+        → IsUnread H.R.Rack H.A.Area (layout_of uber.now) (group_of (kept_of uber.now)) (next_leaf_of uber.now) number (H.told shelf.old) (H.counts shelf.old number) metaslab place kind }
+    // No record of a pool that rests on a shelf has a fault.
+    ensures opens { (x : State) (pieces : ℕ → Pieces) (held : Option Held) (leaves : ℕ → Option Shape) (counts : ℕ → KitCounts) (count : ℕ)
+        → RestsThere x pieces held leaves counts count → IsRecovered H.A.Area held count uber.now → TakesFirst number (takes_uber held) (H.told shelf.old)
+        → H.leaves shelf.old number ≡ leaves number → NoRecord result }
     ensures back_counts { OnErr result (CountsLater (H.counts shelf.old number) (H.counts shelf.new number)) }
     ensures held { SameChecks (H.told shelf.old) (H.told shelf.new) }
     ensures checks { H.check_counts shelf.new ≡ H.check_counts shelf.old }
@@ -173,10 +202,16 @@ fn reopen_shards<H: Shelf>(
     uber: &Uber<H::A>,
 ) -> Result<Vec<Shard<H::R, H::A>>, PoolFault>
     requires uber { IsFoundUber H.A.Area uber.now }
+    ensures opens { (x : State) (pieces : ℕ → Pieces) (held : Option Held) (counts : ℕ → KitCounts) (count : ℕ)
+        → RestsThere x pieces held (H.leaves shelf.old) counts count → IsRecovered H.A.Area held count uber.now → H.told shelf.old ≡ takes_uber held → NoRecord result }
     ensures reopened { IfOk result (λ shards. AreReopened H.R.Rack (layout_of uber.now) (group_of (kept_of uber.now)) shards.items) }
     ensures over { IfOk result (λ shards. OpensAllOver H.R.Rack H.A.Area (limit_of (layout_of uber.now)) (group_of (kept_of uber.now)) (next_leaf_of uber.now) (H.told shelf.old) (H.counts shelf.old) shards.items) }
     ensures told { OnOk result (TakesFirst (layout_of uber.now).props.metaslabs (H.told shelf.old) (H.told shelf.new)) }
-    ensures back { OnErr result (LeavesShards H.R.Rack H.A.Area (limit_of (layout_of uber.now)) (group_of (kept_of uber.now)) (next_leaf_of uber.now) (H.told shelf.old) (H.told shelf.new) (H.counts shelf.old) (H.counts shelf.new)) }
+    ensures back { OnErr result (LeavesShards H.R.Rack H.A.Area (layout_of uber.now) (group_of (kept_of uber.now)) (next_leaf_of uber.now) (H.told shelf.old) (H.told shelf.new) (H.counts shelf.old) (H.counts shelf.new)
+        (H.leaves shelf.old) (H.leaves shelf.new)) }
+    ensures faulty { (metaslab : Option ℕ) (place kind : ℕ) → IsErrOf result (PoolFault.Record metaslab place kind)
+        → OneIsUnread H.R.Rack H.A.Area (layout_of uber.now) (group_of (kept_of uber.now)) (next_leaf_of uber.now) (H.told shelf.old) (H.counts shelf.old) metaslab place kind }
+    ensures fault { IfErr result IsShardFault }
     ensures held { SameChecks (H.told shelf.old) (H.told shelf.new) }
     ensures checks { H.check_counts shelf.new ≡ H.check_counts shelf.old }
     ensures later { H.faults shelf.old ≤ H.faults shelf.new }
@@ -234,6 +269,8 @@ pub(crate) struct Found {
 impl Found {
     /// Notes a block. The answer is whether no other has its object and number.
     fn note(&mut self, pointer: Pointer) -> Result<bool, NoMemory>
+        ensures keys { OnOk result (NotesOnly pointer (noted_in self.old.keys) (noted_in self.new.keys)) }
+        ensures again { IfOk result (λ new. new ≡ false → noted_in self.old.keys (key_of pointer) ≡ true) }
         ensures noted { IfOk result (λ new. IsTrue new → NotesOne pointer (get nat_eq self.old.newest) (get nat_eq self.new.newest) self.old.seq self.new.seq) }
     {
         if !self.keys.insert((pointer.object, pointer.seq))? {
@@ -249,7 +286,10 @@ impl Found {
         requires valid { Valid R.Rack shard.now }
         requires live { AllLive shard.now }
         ensures noted { OnOk result (Notes shard.now (get nat_eq self.old.newest) (get nat_eq self.new.newest) self.old.seq self.new.seq) }
+        ensures keys { OnOk result (NotesOnlyOf shard.now (noted_in self.old.keys) (noted_in self.new.keys)) }
+        ensures again { (metaslab : Option ℕ) (place kind : ℕ) → IsErrOf result (PoolFault.Record metaslab place kind) → IsNotedTwice shard.now (noted_in self.old.keys) metaslab kind }
         ensures no_device { IsErrOf result PoolFault.Shelf → ⊥ }
+        ensures fault { IfErr result IsShardFault }
     {
         let mut from = 0;
         let mut at = shard.blocks_at();
@@ -273,17 +313,31 @@ impl Found {
 }
 
 /// Whether two arms are one, but for whether a pass has made it good.
-fn is_same_arm(one: &Arm, other: &Arm) -> bool {
+fn is_same_arm(one: &Arm, other: &Arm) -> bool
+    ensures { IsTrue result ↔ IsSameArm one.now other.now }
+{
     one.kind == other.kind && one.number == other.number && one.offline == other.offline
 }
 
 /// Whether two slots have the same arms.
-fn have_same_arms(one: &[Arm], other: &[Arm]) -> bool {
-    one.len() == other.len() && one.iter().zip(other).all(|(a, b)| is_same_arm(a, b))
+fn have_same_arms(one: &[Arm], other: &[Arm]) -> bool
+    ensures { IsTrue result ↔ AreSameArms one.now other.now }
+{
+    if one.len() != other.len() {
+        return false;
+    }
+    for place in 0..one.len() {
+        if !is_same_arm(&one[place], &other[place]) {
+            return false;
+        }
+    }
+    true
 }
 
 /// Whether two metaslabs have the same arms in each slot.
-fn are_alike<R: Rack, A: Area>(one: &Shard<R, A>, other: &Shard<R, A>) -> bool {
+fn are_alike<R: Rack, A: Area>(one: &Shard<R, A>, other: &Shard<R, A>) -> bool
+    ensures { IsTrue result ↔ HaveSameArms one.now.slots other.now.slots }
+{
     let children = one.slots.children();
     if other.slots.children() != children {
         return false;
@@ -300,7 +354,9 @@ fn are_alike<R: Rack, A: Area>(one: &Shard<R, A>, other: &Shard<R, A>) -> bool {
 fn find_blocks<R: Rack, A: Area>(alloc: Global, shards: &[Shard<R, A>]) -> Result<Found, PoolFault>
     requires ready { AreReady R.Rack shards.now }
     ensures found { IfOk result (λ found. AreFound shards.now (get nat_eq found.newest) found.seq) }
+    ensures faulty { (metaslab : Option ℕ) (place kind : ℕ) → IsErrOf result (PoolFault.Record metaslab place kind) → AreApart shards.now metaslab place kind }
     ensures no_device { IsErrOf result PoolFault.Shelf → ⊥ }
+    ensures fault { IfErr result IsShardFault }
 {
     let mut found = Found {
         newest: HashMap::new(alloc),
@@ -315,7 +371,10 @@ fn find_blocks<R: Rack, A: Area>(alloc: Global, shards: &[Shard<R, A>]) -> Resul
                 kind: 4,
             });
         }
-        found.note_all(shard)?;
+        match found.note_all(shard) {
+            Ok(()) => {}
+            Err(fault) => return Err(fault),
+        }
     }
     Ok(found)
 }
@@ -421,6 +480,9 @@ pub fn import<H: Shelf>(alloc: Global, shelf: &mut H) -> Result<Pool<H::R, H::A>
         → ImportIs H.R.Rack H.A.Area x pieces (H.told shelf.new) (H.leaves shelf.new) (H.counts shelf.new) (H.uber_count shelf.new) result }
     ensures not_spec { NotOfSpec result }
     ensures tells { OnOk result (is_some (H.told shelf.new) ≡ is_some (H.told shelf.old)) }
+    // A record for which it is refused has the fault.
+    ensures faulty { (metaslab : Option ℕ) (place kind : ℕ) → IsErrOf result (PoolFault.Record metaslab place kind)
+        → RecordIsBad H.R.Rack H.A.Area (H.told shelf.old) (H.counts shelf.old) (H.uber_count shelf.old) metaslab place kind }
     ensures held { SameChecks (H.told shelf.old) (H.told shelf.new) }
     ensures checks { H.check_counts shelf.new ≡ H.check_counts shelf.old }
     ensures later { H.faults shelf.old ≤ H.faults shelf.new }

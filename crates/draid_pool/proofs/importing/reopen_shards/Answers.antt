@@ -1,4 +1,4 @@
-use Rattle.std.proofs.Common.{arith, ◌≡◌, ◌+◌, ℕ, ◌∷◌, ◌∙◌, [], ap, length, length-append, refl, subst, sym}
+use Rattle.std.proofs.Common.{arith, Option, ◌≡◌, ◌+◌, ℕ, ◌∷◌, ◌∙◌, [], ap, length, length-append, refl, subst, sym, Err}
 use Rattle.draid_spec.specs.Geometry.{IsGeometry}
 use Rattle.draid_spec.specs.declared.layout.Geometry.{Geometry}
 use Rattle.draid_map.specs.Place.{IsLayout}
@@ -8,8 +8,12 @@ use Rattle.draid_uber.specs.Uber.{kept_of, layout_of, next_leaf_of}
 use Rattle.draid_session.specs.State.{limit_of}
 use Rattle.draid_pool.specs.Found.{IsReopened, OpensOver}
 use Rattle.draid_pool.specs.Opening.{TakesFirst}
-use Rattle.draid_pool.proofs.Found.{checks_back, checks_more, checks_same, each_none, each_pushed, leaves_shards, over_first, records_rose_back, refused_too}
+use Rattle.draid_pool.proofs.Found.{checks_back, checks_more, checks_same, each_none, each_pushed, over_first, records_rose_back, refused_too}
+use Rattle.draid_shelf.specs.Kits.{Held}
+use Rattle.draid_pool.proofs.ImportUnread.{no_record_too}
 use Rattle.draid_pool.proofs.Opened.{none_taken, takes_more}
+use Rattle.draid_pool.proofs.ImportFaulty.{err_is, unread_first}
+use Rattle.draid_pool.proofs.ImportLeft.{leaves_none, leaves_shards}
 use Rattle.draid_pool.proofs.importing.reopen_shards.Goals as goal
 
 pub loop-number-init : goal.loop-number-init
@@ -27,6 +31,7 @@ loop-number-init g c =
       held = checks_same (g.H.Shelf.told c.args.shelf.now);
       checks = refl;
       counts = λ m past. refl;
+      leaves = λ m past. refl;
       later = omega arith;
       bound = omega arith;
     }
@@ -80,6 +85,7 @@ loop-number-preserved g c =
       held = checks_more (shelf.told c.args.shelf.now) (shelf.told c.loop-number.shelf) (shelf.told c.reopen_shard.new.shelf) i.held c.reopen_shard.ensures.held;
       checks = c.reopen_shard.ensures.checks ∙ i.checks;
       counts = λ m past. c.reopen_shard.ensures.counts m (λ at. omega (arith, at, past)) ∙ i.counts m (omega (arith, past));
+      leaves = λ m past. c.reopen_shard.ensures.leaves m (λ at. omega (arith, at, past)) ∙ i.leaves m (omega (arith, past));
       later = omega (arith, later, again);
       bound = omega (arith, same, below);
     }
@@ -114,6 +120,13 @@ returns-in-Err-clause-cause g c failed =
     (shelf.told c.reopen_shard.new.shelf) (shelf.told c.give_back.new.shelf) (shelf.counts c.args.shelf.now) (shelf.counts c.loop-number.shelf) (shelf.counts c.reopen_shard.new.shelf) (shelf.counts c.give_back.new.shelf)
     i.many i.later c.give_back.ensures.faults i.counts c.give_back.ensures.returns (c.in-Err.ensures.cause (refused_too c.in-Err.fault failed))
 
+pub returns-in-Err-clause-opens : goal.returns-in-Err-clause-opens
+returns-in-Err-clause-opens g c x pieces held counts count there r taken =
+    let shelf = g.H.Shelf in
+    let i = c.loop-number.invariant in
+    no_record_too c.in-Err.fault (c.in-Err.ensures.opens x pieces held (shelf.leaves c.args.shelf.now) counts count there r
+    (subst (λ (t : Option Held). TakesFirst c.loop-number.number t (shelf.told c.loop-number.shelf)) taken i.told) (i.leaves c.loop-number.number (omega arith)))
+
 pub returns-clause-told : goal.returns-clause-told
 returns-clause-told g c =
     let shelf = g.H.Shelf in
@@ -127,6 +140,29 @@ pub returns-in-Err-clause-back : goal.returns-in-Err-clause-back
 returns-in-Err-clause-back g c =
     let shelf = g.H.Shelf in
     let i = c.loop-number.invariant in
-    leaves_shards g.H.R.Rack g.H.A.Area (limit_of (layout_of c.args.uber.now)) (group_of (kept_of c.args.uber.now)) (next_leaf_of c.args.uber.now) c.loop-number.number c.loop-number.shards.items
+    let same = ap (λ (x : Geometry). x.props.metaslabs) c.geometry-layout.ensures in
+    let test = c.loop-number-test.true in
+    leaves_shards g.H.R.Rack g.H.A.Area (layout_of c.args.uber.now) (group_of (kept_of c.args.uber.now)) (next_leaf_of c.args.uber.now) c.loop-number.number c.new-perms.result c.loop-number.shards.items
     (shelf.told c.args.shelf.now) (shelf.told c.loop-number.shelf) (shelf.told c.reopen_shard.new.shelf) (shelf.told c.give_back.new.shelf) (shelf.counts c.args.shelf.now) (shelf.counts c.loop-number.shelf)
-    (shelf.counts c.reopen_shard.new.shelf) (shelf.counts c.give_back.new.shelf) i.many i.over i.told c.in-Err.ensures.back c.give_back.ensures.returns i.counts c.in-Err.ensures.back_counts c.in-Err.ensures.counts
+    (shelf.counts c.reopen_shard.new.shelf) (shelf.counts c.give_back.new.shelf) (shelf.leaves c.args.shelf.now) (shelf.leaves c.loop-number.shelf) (shelf.leaves c.reopen_shard.new.shelf) (shelf.leaves c.give_back.new.shelf)
+    (subst (λ (x : Geometry). IsLayout x c.new-perms.result) c.geometry-layout.ensures
+    (record { geometry_is = subst IsGeometry (sym c.geometry-layout.ensures) c.requires.uber.valid.held.layout_is; perms_are = c.new-perms.ensures }))
+    i.many (omega (arith, same, test)) i.each i.over i.told c.in-Err.ensures.back c.in-Err.ensures.tells c.give_back.ensures.returns c.give_back.ensures.leaves i.counts c.in-Err.ensures.back_counts c.in-Err.ensures.counts
+    i.leaves c.in-Err.ensures.known c.in-Err.ensures.leaves
+
+pub returns-in-Err-clause-faulty : goal.returns-in-Err-clause-faulty
+returns-in-Err-clause-faulty g c metaslab place kind err =
+    let shelf = g.H.Shelf in
+    let i = c.loop-number.invariant in
+    let n = c.loop-number.number in (
+      n,
+      unread_first g.H.R.Rack g.H.A.Area (layout_of c.args.uber.now) (group_of (kept_of c.args.uber.now)) (next_leaf_of c.args.uber.now) n (shelf.told c.args.shelf.now) (shelf.told c.loop-number.shelf)
+          (shelf.counts c.args.shelf.now n) (shelf.counts c.loop-number.shelf n) metaslab place kind i.told (i.counts n (omega arith)) (c.in-Err.ensures.faulty metaslab place kind (ap Err (err_is c.in-Err.fault _ err))),
+    )
+
+pub returns-in_default-clause-back : goal.returns-in_default-clause-back
+returns-in_default-clause-back g c =
+    let shelf = g.H.Shelf in
+    leaves_none g.H.R.Rack g.H.A.Area (layout_of c.args.uber.now) (group_of (kept_of c.args.uber.now)) (next_leaf_of c.args.uber.now) c.new-perms.result (shelf.told c.args.shelf.now) (shelf.counts c.args.shelf.now)
+    (shelf.leaves c.args.shelf.now) (subst (λ (x : Geometry). IsLayout x c.new-perms.result) c.geometry-layout.ensures
+    (record { geometry_is = subst IsGeometry (sym c.geometry-layout.ensures) c.requires.uber.valid.held.layout_is; perms_are = c.new-perms.ensures }))

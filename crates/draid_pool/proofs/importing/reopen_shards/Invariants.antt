@@ -20,6 +20,7 @@ invariant-loop-number g l = let shelf = g.H.Shelf in record {
   held : SameChecks (shelf.told l.initial.shelf) (shelf.told l.shelf);
   checks : shelf.check_counts l.shelf ≡ shelf.check_counts l.initial.shelf;
   counts : (m : ℕ) → l.number ≤ m → shelf.counts l.shelf m ≡ shelf.counts l.initial.shelf m;
+  leaves : (m : ℕ) → l.number ≤ m → shelf.leaves l.shelf m ≡ shelf.leaves l.initial.shelf m;
   later : shelf.faults l.initial.shelf ≤ shelf.faults l.shelf;
   bound : l.number ≤ (layout_of l.uber).props.metaslabs;
 }

@@ -1,6 +1,8 @@
 use Rattle.std.proofs.Common.{arith}
 use Rattle.std.specs.Prelude.{nat_eq}
 use Rattle.std.specs.HashMap.{get}
+use Rattle.draid_pool.specs.Together.{noted_in}
+use Rattle.draid_pool.proofs.ImportTogether.{notes_below, noted_twice}
 use Rattle.draid_pool.proofs.Found.{next_inside, next_low, noting_more}
 use Rattle.draid_pool.proofs.importing.Found.note_all.Goals as goal
 
@@ -21,5 +23,11 @@ loop-pointer-preserved g c =
     record {
       noting = noting_more g.R.Rack c.args.shard.now c.loop-pointer.from c.in-Some.pointer (get nat_eq c.args.self.now.newest) (get nat_eq c.loop-pointer.self.newest) (get nat_eq c.note.new.self.newest)
           c.args.self.now.seq c.loop-pointer.self.seq c.note.new.self.seq c.requires.valid c.requires.live next c.loop-pointer.invariant.noting (c.in-Ok-true.ensures.noted c.in-Ok-true.field-0-test);
+      keys = notes_below c.args.shard.now c.loop-pointer.from c.in-Some.pointer (noted_in c.args.self.now.keys) (noted_in c.loop-pointer.self.keys) (noted_in c.note.new.self.keys) next c.loop-pointer.invariant.keys c.in-Ok-true.ensures.keys;
       bound = omega (arith, inside);
     }
+
+pub returns-in-Ok-false-clause-again : goal.returns-in-Ok-false-clause-again
+returns-in-Ok-false-clause-again g c =
+    noted_twice c.args.shard.now c.loop-pointer.from c.in-Some.pointer (noted_in c.args.self.now.keys) (noted_in c.loop-pointer.self.keys) c.loop-pointer.at c.in-Some.ensures.some c.loop-pointer.invariant.keys
+    (c.in-Ok-false.ensures.again c.in-Ok-false.field-0-test)
