@@ -107,7 +107,7 @@ module _ {R A : Type 0} (rack : racks.Ghosts R) (area : areas.Ghosts A) (x : Sta
   not_apart metaslab place kind (inl h) = h.differ (all_same 0 h.m h.first h.shard h.begins h.there)
   not_apart metaslab place kind (inr h) =
       let one = found_once x b.body.group pieces (sealed_at b.body.group (blocks_of x.metaslabs)) there.held.objects (λ m k. refl) h.m h.earlier h.key (held_at h.block.e) (held_at h.twice.e)
-          (was_there h.m h.shard h.key h.there h.block) (was_there h.earlier h.other h.key h.other_there h.twice) in
+      (was_there h.m h.shard h.key h.there h.block) (was_there h.earlier h.other h.key h.other_there h.twice) in
       let before = h.before in
       absurd (omega (arith, one, before))
 
