@@ -1,5 +1,5 @@
 -- The fault of a record for which an import is refused.
-use Rattle.std.proofs.Common.{◌≡◌, ◌≤◌, ◌∙◌, ℕ, Option, Some, None, Result, Ok, Err, refl, sym, ap, subst}
+use Rattle.std.proofs.Common.{◌≡◌, ◌∙◌, ℕ, Option, Some, None, Result, Ok, Err, refl, sym, ap, subst}
 use Rattle.std.specs.Prelude.{IsErrOf, MatchOption, ⊤}
 use Rattle.draid_names.specs.declared.fault.DeviceFault.{DeviceFault}
 use Rattle.draid_names.specs.declared.fault.DeviceFault.TheVariants as device
@@ -27,6 +27,10 @@ use Rattle.draid_pool.proofs.Opened.{from_first}
 -- the fault of an answer
 pub err_is : {T : Type 0} (f g : PoolFault) → IsErrOf {T = T} (Err f) g → f ≡ g
 err_is f g err = cc
+
+-- one that is passed on
+pub passed_on : {T U : Type 0} (r : Result T PoolFault) (y f w : PoolFault) → r ≡ Err y → y ≡ f → IsErrOf r w → IsErrOf {T = U} (Err f) w
+passed_on {T} r y f w is same err = (let it : f ≡ w = sym same ∙ err_is {T = T} y w (sym is ∙ err) in ap Err it)
 
 -- a call on the shelf that gave nothing isn't a record's fault
 pub shelf_no_record : (why : DeviceFault) (metaslab : Option ℕ) (place kind : ℕ) → shelf_fault_of why ≡ fault.Record metaslab place kind → ⊥

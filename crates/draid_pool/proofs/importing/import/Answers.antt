@@ -1,5 +1,6 @@
 use Rattle.std.proofs.Common.{◌∙◌, inl, inr, List, Option, Err, ap, subst, sym}
 use Rattle.std.specs.Prelude.{nat_eq}
+use Rattle.std.proofs.lemmas.Result.{err_from_is_err_and}
 use Rattle.std.specs.HashMap.{get}
 use Rattle.draid_shard.specs.declared.shard.Shard.{Shard}
 use Rattle.draid_uber.specs.Slots.{group_of}
@@ -9,7 +10,7 @@ use Rattle.draid_pool.specs.Together.{AreApart}
 use Rattle.draid_session.specs.State.{limit_of}
 use Rattle.draid_pool.specs.Faulty.{IsUnread, OneIsUnread}
 use Rattle.draid_pool.specs.Found.{AreFound, AreReady, OpensAllOver, OpensOver}
-use Rattle.draid_pool.proofs.ImportFaulty.{err_is}
+use Rattle.draid_pool.proofs.ImportFaulty.{err_is, passed_on}
 use Rattle.draid_pool.proofs.ImportLeft.{leaves_all, refusal_is, refused_pool, rests_known, risen_behind}
 use Rattle.draid_pool.proofs.ImportOne.{no_fault_apart}
 use Rattle.draid_pool.proofs.ImportPool.{pool_found, tells_as_before}
@@ -116,6 +117,11 @@ returns-in-Err-find_blocks-clause-faulty g c metaslab place kind err =
             (c.in-Err-find_blocks.ensures.faulty metaslab place kind (ap Err (err_is c.in-Err-find_blocks.fault _ err)));
       });
     })
+
+pub returns-in_err-uber-clause-faulty : goal.returns-in_err-uber-clause-faulty
+returns-in_err-uber-clause-faulty g c metaslab place kind err =
+    let p = err_from_is_err_and c.from_residual.result c.from_residual.ensures.1 in
+    inl (c.in_err-uber.ensures.faulty metaslab place kind (passed_on c.from_residual.result p.0 c.in_err-uber.field-0.0 _ p.1 p.2 err))
 
 pub returns-in-Err-clause-none : goal.returns-in-Err-clause-none
 returns-in-Err-clause-none g c = absent_not c.in_ok-uber.uber (g.H.Shelf.told c.args.shelf.now) _ _ c.in_ok-uber.ensures.none
