@@ -1,5 +1,5 @@
 -- The metaslabs of a pool that rests on a shelf have the same arms, and no block twice, as an import opens them.
-use Rattle.std.proofs.Common.{arith, ◌≡◌, ◌<◌, ◌∙◌, inl, inr, ℕ, List, Option, Some, None, Result, Err, length, refl, sym, ap, subst}
+use Rattle.std.proofs.Common.{arith, ◌≡◌, ◌∙◌, inl, inr, ℕ, List, Option, Some, None, Err, refl, sym, ap, subst}
 use Rattle.std.specs.declared.alloc.Global.{Global}
 use Rattle.std.specs.Prelude.{IsErrOf, slice_get}
 use Rattle.std.proofs.lemmas.Option.{slice_get_within}
@@ -7,7 +7,6 @@ use Rattle.draid_area.specs.declared.Area as areas
 use Rattle.draid_rack.specs.Rack.{Shape}
 use Rattle.draid_rack.specs.declared.Rack as racks
 use Rattle.draid_spec.specs.declared.layout.Geometry.{Geometry}
-use Rattle.draid_machine.specs.declared.names.Held.{Held as Block}
 use Rattle.draid_machine.specs.declared.names.Key.{Key}
 use Rattle.draid_machine.specs.After.{seal_held}
 use Rattle.draid_machine.specs.Created.{IsReached}
@@ -34,7 +33,7 @@ use Rattle.draid_pool.specs.Imported.{OpensFound}
 use Rattle.draid_pool.specs.Importing.{RestsThere}
 use Rattle.draid_pool.specs.Objects.{blocks_of}
 use Rattle.draid_pool.specs.Pools.{part_in}
-use Rattle.draid_pool.specs.Together.{AreApart, HasBlock, HasBlockTwice, HasOtherArms, HaveSameArms, NoRecord}
+use Rattle.draid_pool.specs.Together.{AreApart, HasBlock, HaveSameArms, NoRecord}
 use Rattle.draid_pool.specs.declared.fault.PoolFault.{PoolFault}
 use Rattle.draid_pool.specs.declared.fault.PoolFault.TheVariants as fault
 use Rattle.draid_pool.proofs.ImportAlike.{as_many, found_alike, found_once, same_arms}
