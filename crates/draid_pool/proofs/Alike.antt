@@ -3,7 +3,7 @@ use Rattle.std.proofs.Common.{◌≡◌, ◌∙◌, inl, inr, ◌⊎◌, ℕ, Bo
 use Rattle.std.specs.Prelude.{nat_le, nat_lt, option_map}
 use Rattle.draid_machine.specs.declared.names.ArmName.{ArmName}
 use Rattle.draid_machine.specs.declared.names.ArmName.TheVariants.{Leaf, Spare}
-use Rattle.draid_machine.specs.After.{commit_state, image_of, is_gone_arm, keep_if, map_arm, reopen_state, seal_arm, sealed_core}
+use Rattle.draid_machine.specs.After.{image_of, is_gone_arm, keep_if, map_arm, reopen_state, seal_arm, sealed_core}
 use Rattle.draid_machine.specs.Arms.{is_here}
 use Rattle.draid_machine.specs.Created.{created, created_arm, created_core, new_arm}
 use Rattle.draid_machine.specs.Images.{IsImage}

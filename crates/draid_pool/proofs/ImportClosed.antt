@@ -8,7 +8,6 @@ use Rattle.draid_area.specs.Moments.{IsCrashOutcome}
 use Rattle.draid_area.specs.declared.Area as areas
 use Rattle.draid_rack.specs.Rack.{Shape}
 use Rattle.draid_rack.specs.declared.Rack as racks
-use Rattle.draid_machine.specs.Images.{IsImage}
 use Rattle.draid_machine.specs.State as machine
 use Rattle.draid_spec.specs.declared.layout.Geometry.{Geometry}
 use Rattle.draid_record.specs.Written.{record_bytes}

@@ -7,7 +7,6 @@ use Rattle.std.proofs.lemmas.Option.{slice_get_within}
 use Rattle.draid_names.specs.declared.pointer.Pointer.{Pointer}
 use Rattle.draid_rack.specs.declared.Rack as racks
 use Rattle.draid_area.specs.declared.Area as areas
-use Rattle.draid_machine.specs.declared.names.Stage.{Stage}
 use Rattle.draid_machine.specs.declared.names.Stage.TheVariants.{Freed, Live}
 use Rattle.draid_machine.proofs.Small.{some_injective}
 use Rattle.draid_record.specs.declared.uber.UberBody.{UberBody}
@@ -24,7 +23,7 @@ use Rattle.draid_uber.specs.Uber.{kept_of}
 use Rattle.draid_uber.specs.declared.uber.Uber.{Uber}
 use Rattle.draid_session.specs.State.{State}
 use Rattle.draid_pool.specs.Found.{FreesAt, FreesIfOlder, HasOnly, KeepsFound, KeepsFoundAt}
-use Rattle.draid_pool.specs.Imported.{AreNewest, IsFoundOf, StandsFound}
+use Rattle.draid_pool.specs.Imported.{AreNewest, IsFoundOf}
 use Rattle.draid_pool.specs.Ubers.{body_of}
 use Rattle.draid_pool.proofs.Found.{elsewhere}
 use Rattle.draid_pool.proofs.ImportEnd.{found_frees}
