@@ -10,7 +10,7 @@ use Rattle.std.proofs.lemmas.Option.{slice_get_within}
 use Rattle.sha2.specs.Sha256.{sha256}
 use Rattle.draid_names.specs.declared.pointer.Pointer.{Pointer}
 use Rattle.draid_rack.specs.Rack as racks_told
-use Rattle.draid_rack.specs.Rack.{Told}
+use Rattle.draid_rack.specs.Rack.{Shape, Told}
 use Rattle.draid_rack.specs.declared.Rack as racks
 use Rattle.draid_area.specs.Area.{Content, OnTold}
 use Rattle.draid_area.specs.declared.Area as areas
@@ -54,6 +54,7 @@ use Rattle.draid_pool.specs.Whole.{IsWhole}
 use Rattle.draid_pool.specs.declared.pool.Pool.{Pool}
 use Rattle.draid_pool.proofs.Alike.{alike_as, alike_created, created_same}
 use Rattle.draid_pool.proofs.Closed.{Parts, counted_as, holds_pool}
+use Rattle.draid_pool.proofs.ImportClosed.{importable_back}
 use Rattle.draid_pool.proofs.Lists.{ext, some_of}
 
 -- what an image at a place is of
@@ -378,8 +379,9 @@ module _ {R A : Type 0} (rack : racks.Ghosts R) (area : areas.Ghosts A) where
       checks_then P (Some w) (Some y) (Some x) kits t held = held (subst (λ (o : Option ChecksTold). IsSomeAnd o AreNewChecks) (sym t.checks) kits.checks)
 
       pub refused : (body : UberBody) (now : OwnCounts) → body ≡ body_of geometry 1 geometry.spec.children → StandsTold None (body ∷ []) content → ((m : ℕ) → m < geometry.props.metaslabs → IsUncounted (counts m))
-          → ((m : ℕ) → after m ≡ late m) → NoChecks now → IsRefused geometry new after now
-      refused body now is stands uncounted kept checks =
+          → ((m : ℕ) → after m ≡ late m) → NoChecks now → (leaves : ℕ → Option Shape) → ((m : ℕ) (shard : Shard R A) → slice_get shards m ≡ Some shard → leaves m ≡ Some (rack.shape shard.rack))
+          → IsRefused geometry new leaves after now
+      refused body now is stands uncounted kept checks leaves shapes =
           let state = state_of geometry opened.perms shards now.uber (is_some held) in
           let parts = refused_parts now.uber (is_some held) content body is stands in
           record {
@@ -387,6 +389,7 @@ module _ {R A : Type 0} (rack : racks.Ghosts R) (area : areas.Ghosts A) where
             is_fresh = is_fresh now.uber (is_some held) uncounted fresh_kits (λ tells. tells);
             told = λ some. told_then content held mid last r.held taken (subst (λ (o : Option Held). IsSome o) gives some);
             held = checks_then (HoldsPool (uncommitted state) false) held mid new fresh_kits taken (holds_pool rack area shards content (uncommitted state) parts mid last middle late r new gives);
+            importable = importable_back rack area shards (uncommitted state) parts.pieces parts.shards_are parts.each leaves parts.arms parts.alike (λ m y at. omega arith) shapes content mid last middle late r new gives;
             counts = counted_as rack area shards content (uncommitted state) parts mid last middle late r after kept;
             uber = omega arith;
             checks = checks;

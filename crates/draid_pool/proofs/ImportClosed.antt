@@ -31,12 +31,12 @@ module _ {R A : Type 0} (rack : racks.Ghosts R) (area : areas.Ghosts A) (shards 
   shard_there : (m : ℕ) (y : Metaslab) → slice_get x.metaslabs m ≡ Some y → (shard : Shard R A) × (slice_get shards m ≡ Some shard)
   shard_there m y at = (let within = slice_get_within x.metaslabs m y at in present shards m (omega (arith, within, many)))
 
-  module _ (leaves : ℕ → Option Shape) (arms : machine.Core) (alike : AllAlike arms x) (committed : (m : ℕ) (y : Metaslab) → slice_get x.metaslabs m ≡ Some y → y.world.committed ≡ x.committed)
+  module _ (leaves : ℕ → Option Shape) (arms : machine.Core) (alike : AllAlike arms x) (committed : (m : ℕ) (y : Metaslab) → slice_get x.metaslabs m ≡ Some y → x.committed ≤ y.world.committed)
       (shapes : (m : ℕ) (shard : Shard R A) → slice_get shards m ≡ Some shard → leaves m ≡ Some (rack.shape shard.rack)) where
     -- where the shelf has the leaves of its racks
     importable_given : (old new : Held) → TakesBack rack area shards old new → IsImportable x new leaves
     importable_given old new takes = record {
-      findable = record { committed = λ m y at. (let is = committed m y at in omega (arith, is)); versions = λ m y image at is. (alike m y at).versions.images image is };
+      findable = record { committed = committed; versions = λ m y image at is. (alike m y at).versions.images image is };
       alike = λ group m n y z a b may at here is of is' of'.
           alike_then a.core arms b.core ((alike m y at).same.images a is) (alike_back b.core arms ((alike n z here).same.images b is'));
       once = λ m y image at is.

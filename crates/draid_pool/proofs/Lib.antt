@@ -63,3 +63,4 @@ pub mod ImportOne
 pub mod ImportTaken
 pub mod ImportLeft
 pub mod ImportFaulty
+pub mod Counted

@@ -1,5 +1,5 @@
 -- What an import comes to, over a shelf on which the pool of a state rests.
-use Rattle.std.specs.Prelude.{◌≡◌, ℕ, Option, Some, IsSomeAnd, Result, Ok, Err, slice_get}
+use Rattle.std.specs.Prelude.{◌≡◌, ⊤, ℕ, Option, Some, IsSomeAnd, Result, Ok, Err, slice_get}
 use Rattle.draid_rack.specs.Rack.{Shape}
 use Rattle.draid_rack.specs.declared.Rack as racks
 use Rattle.draid_area.specs.declared.Area as areas
@@ -40,6 +40,11 @@ pub record FindsNone (x : State) (pieces : ℕ → Pieces) (told : Option Held) 
   pub y : State
   pub is : FindsNoGroup x y
   pub rests : RestsThere y pieces told leaves counts uber_count
+
+-- no fault is that of a spec, since none is read
+abbrev pub NotOfSpec : {T : Type 0} → Result T PoolFault → Type 0
+NotOfSpec (Err (fault.Spec why)) = ⊥
+NotOfSpec result = ⊤
 
 -- The answer. No record of such a pool has a fault.
 abbrev pub ImportIs : {R A : Type 0} → racks.Ghosts R → areas.Ghosts A → State → (ℕ → Pieces) → Option Held → (ℕ → Option Shape) → (ℕ → KitCounts) → ℕ → Result (Pool R A) PoolFault → Type 0
