@@ -1,6 +1,6 @@
 -- The fault of a record for which an import is refused.
-use Rattle.std.proofs.Common.{◌≡◌, ◌∙◌, ℕ, Option, Some, None, Result, Ok, Err, refl, sym, ap, subst}
-use Rattle.std.specs.Prelude.{IsErrOf, MatchOption, ⊤}
+use Rattle.std.proofs.Common.{◌≡◌, ◌∙◌, ℕ, Option, Some, None, Result, Ok, Err, sym, ap, subst}
+use Rattle.std.specs.Prelude.{IsErrOf}
 use Rattle.draid_names.specs.declared.fault.DeviceFault.{DeviceFault}
 use Rattle.draid_names.specs.declared.fault.DeviceFault.TheVariants as device
 use Rattle.draid_rack.specs.declared.Rack as racks

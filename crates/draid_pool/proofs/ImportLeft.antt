@@ -260,14 +260,16 @@ module _ {R A : Type 0} (rack : racks.Ghosts R) (area : areas.Ghosts A) (x : Sta
           let f : FindsImage x m (pieces m) y kit.0 body.group body.next_leaf
           = finds_image x there.held.layout there.held.many there.held.images there.held.leaves there.importable.findable m (pieces m) y kit.0 body.group body.next_leaf at kit.2 finds.may finds.some finds.leaf in
           let later = l.others m past below in
-          let had = there.counted m y at in
-          (kit.0, takes.others m past ∙ kit.1,
-          left_found x body.group body.next_leaf m (pieces m) y kit.0 (now m) (after m) alloc f
-          (subst (λ q. IsSomeAnd q (λ k. ListsOnce x.geometry m f.image (stable.area_of f.image.group k.even k.odd))) kit.1 (there.importable.once m y f.image at f.is))
-          (on_known (leaves m) (now m) (HasImageLeaves x.geometry f.image) (l.leaves_left m past below) (there.importable.there m y f.image at f.is))
-          (λ who. (let a = had.rack who in let b = later.rack who in omega (arith, a, b)))
-          (let a = had.even in let b = later.even in omega (arith, a, b))
-          (let a = had.odd in let b = later.odd in omega (arith, a, b)))
+          let had = there.counted m y at in (
+            kit.0,
+            takes.others m past ∙ kit.1,
+            left_found x body.group body.next_leaf m (pieces m) y kit.0 (now m) (after m) alloc f
+                (subst (λ q. IsSomeAnd q (λ k. ListsOnce x.geometry m f.image (stable.area_of f.image.group k.even k.odd))) kit.1 (there.importable.once m y f.image at f.is))
+                (on_known (leaves m) (now m) (HasImageLeaves x.geometry f.image) (l.leaves_left m past below) (there.importable.there m y f.image at f.is))
+                (λ who. (let a = had.rack who in let b = later.rack who in omega (arith, a, b)))
+                (let a = had.even in let b = later.even in omega (arith, a, b))
+                (let a = had.odd in let b = later.odd in omega (arith, a, b)),
+          )
 
   -- the pool as the group has it whose uberblock was found
   pub refused_leaves : (u : Content) (n : ℕ) → StandsTold (Some body) [] (Some u) → x.uber_count ≤ n → LeavesPool x pieces (gives_uber (Some u) back) now after n

@@ -1,5 +1,5 @@
 -- The metaslabs of a pool that rests on a shelf have the same arms, and no block twice, as an import opens them.
-use Rattle.std.proofs.Common.{arith, ◌≡◌, ◌<◌, ◌∙◌, inl, inr, ℕ, List, Option, Some, None, Result, Err, length, refl, sym, ap, subst}
+use Rattle.std.proofs.Common.{arith, ◌≡◌, ◌∙◌, inl, inr, ℕ, List, Option, Some, None, Err, refl, sym, ap, subst}
 use Rattle.std.specs.declared.alloc.Global.{Global}
 use Rattle.std.specs.Prelude.{IsErrOf, slice_get}
 use Rattle.std.proofs.lemmas.Option.{slice_get_within}
@@ -7,7 +7,6 @@ use Rattle.draid_area.specs.declared.Area as areas
 use Rattle.draid_rack.specs.Rack.{Shape}
 use Rattle.draid_rack.specs.declared.Rack as racks
 use Rattle.draid_spec.specs.declared.layout.Geometry.{Geometry}
-use Rattle.draid_machine.specs.declared.names.Held.{Held as Block}
 use Rattle.draid_machine.specs.declared.names.Key.{Key}
 use Rattle.draid_machine.specs.After.{seal_held}
 use Rattle.draid_machine.specs.Created.{IsReached}
@@ -34,7 +33,7 @@ use Rattle.draid_pool.specs.Imported.{OpensFound}
 use Rattle.draid_pool.specs.Importing.{RestsThere}
 use Rattle.draid_pool.specs.Objects.{blocks_of}
 use Rattle.draid_pool.specs.Pools.{part_in}
-use Rattle.draid_pool.specs.Together.{AreApart, HasBlock, HasBlockTwice, HasOtherArms, HaveSameArms, NoRecord}
+use Rattle.draid_pool.specs.Together.{AreApart, HasBlock, HaveSameArms, NoRecord}
 use Rattle.draid_pool.specs.declared.fault.PoolFault.{PoolFault}
 use Rattle.draid_pool.specs.declared.fault.PoolFault.TheVariants as fault
 use Rattle.draid_pool.proofs.ImportAlike.{as_many, found_alike, found_once, same_arms}
@@ -107,7 +106,7 @@ module _ {R A : Type 0} (rack : racks.Ghosts R) (area : areas.Ghosts A) (x : Sta
   not_apart metaslab place kind (inl h) = h.differ (all_same 0 h.m h.first h.shard h.begins h.there)
   not_apart metaslab place kind (inr h) =
       let one = found_once x b.body.group pieces (sealed_at b.body.group (blocks_of x.metaslabs)) there.held.objects (λ m k. refl) h.m h.earlier h.key (held_at h.block.e) (held_at h.twice.e)
-          (was_there h.m h.shard h.key h.there h.block) (was_there h.earlier h.other h.key h.other_there h.twice) in
+      (was_there h.m h.shard h.key h.there h.block) (was_there h.earlier h.other h.key h.other_there h.twice) in
       let before = h.before in
       absurd (omega (arith, one, before))
 

@@ -6,8 +6,6 @@ use Rattle.draid_area.specs.Area.{Content, IsOfSize, OnTold}
 use Rattle.draid_area.specs.declared.Area as areas
 use Rattle.draid_rack.specs.Rack.{Shape}
 use Rattle.draid_rack.specs.declared.Rack as racks
-use Rattle.draid_machine.specs.Images.{IsImage}
-use Rattle.draid_machine.specs.State as machine
 use Rattle.draid_map.specs.Place.{IsLayout}
 use Rattle.draid_names.specs.declared.pointer.Pointer.{Pointer}
 use Rattle.draid_perm.specs.declared.perms.Perms.{Perms}
@@ -17,17 +15,15 @@ use Rattle.draid_spec.specs.declared.layout.Geometry.{Geometry}
 use Rattle.draid_segments.specs.Segments.{Pieces}
 use Rattle.draid_shelf.specs.Kits.{Held, KitCounts, KitTold, takes_uber}
 use Rattle.draid_stable.specs.Stable as stable
-use Rattle.draid_entries.specs.History.{limit_in}
 use Rattle.draid_shard.specs.Fits.{Valid}
 use Rattle.draid_shard.specs.Groups.{ListsOnce, Opens}
-use Rattle.draid_shard.specs.Part.{Part}
 use Rattle.draid_shard.specs.States.{part_of}
 use Rattle.draid_shard.specs.declared.shard.Shard.{Shard}
 use Rattle.draid_uber.specs.Slots.{chosen_of, group_of, read_body}
-use Rattle.draid_uber.specs.Uber.{area_of, kept_of, layout_of, next_leaf_of, version_of}
+use Rattle.draid_uber.specs.Uber.{kept_of, layout_of, next_leaf_of, version_of}
 use Rattle.draid_uber.specs.declared.uber.Uber.{Uber}
 use Rattle.draid_session.specs.State.{Metaslab, State, limit_of}
-use Rattle.draid_pool.specs.Closing.{Rests, RestsOn}
+use Rattle.draid_pool.specs.Closing.{Rests}
 use Rattle.draid_pool.specs.Found.{AreFound, AreReopened, IsFoundUber, IsRecovered, OpensAllOver, OpensOver}
 use Rattle.draid_pool.specs.Importable.{IsImportable}
 use Rattle.draid_pool.specs.Imported.{FindsBody, IsFoundOf, IsLastIn, IsNewestIn, OpensFound}
@@ -40,7 +36,6 @@ use Rattle.draid_pool.proofs.ImportFound.{finds_image}
 use Rattle.draid_pool.proofs.ImportMetaslab.{FindsImage, opens_found}
 use Rattle.draid_pool.proofs.ImportOpened.{rested}
 use Rattle.draid_pool.proofs.ImportUber.{found_body, found_layout}
-use Rattle.draid_pool.proofs.Lists.{some_of}
 
 -- ---- the blocks
 

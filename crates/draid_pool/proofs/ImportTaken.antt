@@ -1,6 +1,6 @@
 -- An import whose uberblock wasn't taken or found.
 use Rattle.std.proofs.Common.{arith, ◌≡◌, ◌≤◌, ◌∙◌, ◌↔◌, inl, inr, ℕ, Bool, true, false, Option, Some, None, Ok, Err, refl, sym, ap, subst}
-use Rattle.std.specs.Prelude.{IsSome, IsSomeAnd, IsTrue, option_map}
+use Rattle.std.specs.Prelude.{IsSome, IsTrue, option_map}
 use Rattle.draid_area.specs.Area.{Content, IsOfSize, OnTold, flushes}
 use Rattle.draid_area.specs.declared.Area as areas
 use Rattle.draid_names.specs.declared.fault.DeviceFault.{DeviceFault}

@@ -1,5 +1,5 @@
 -- What an import compares of the metaslabs that it opens, and what it notes of their blocks.
-use Rattle.std.proofs.Common.{arith, ◌≡◌, ◌+◌, ◌<◌, ◌≤◌, ◌∙◌, ◌⊎◌, inl, inr, not, ℕ, Bool, true, false, cond, List, [], Option, Some, Result, Err, length, refl, sym, ap, subst}
+use Rattle.std.proofs.Common.{arith, ◌≡◌, ◌+◌, ◌<◌, ◌∙◌, ◌⊎◌, inl, inr, not, ℕ, Bool, true, false, cond, List, [], Option, Some, Err, refl, sym, ap, subst}
 use Rattle.std.specs.Prelude.{IsErrOf, slice_get}
 use Rattle.std.specs.HashSet.{HashSet, contains, keys}
 use Rattle.std.specs.List.{list_any}
@@ -15,8 +15,7 @@ use Rattle.draid_slots.specs.Table.{SlotTable, arms_of}
 use Rattle.draid_shard.specs.Calls.{IsNextHeld}
 use Rattle.draid_shard.specs.declared.shard.Shard.{Shard}
 use Rattle.draid_pool.specs.Found.{AreReady}
-use Rattle.draid_pool.specs.Together.{AreApart, AreSameArms, HasBlock, HasOtherArms, HaveSameArms, IsNotedTwice, NotesOnly, NotesOnlyOf, noted_in, pair_eq}
-use Rattle.draid_pool.specs.declared.fault.PoolFault.{PoolFault}
+use Rattle.draid_pool.specs.Together.{AreApart, AreSameArms, HasBlock, HaveSameArms, IsNotedTwice, NotesOnly, NotesOnlyOf, noted_in, pair_eq}
 use Rattle.draid_pool.specs.declared.fault.PoolFault.TheVariants as fault
 use Rattle.draid_pool.proofs.ImportAlike.{one_place}
 

@@ -1,6 +1,6 @@
 -- No record of a metaslab has a fault to an import of a pool that rests on a shelf.
-use Rattle.std.proofs.Common.{arith, ◌≡◌, ◌<◌, ◌≤◌, ◌∙◌, ℕ, Option, Some, None, Result, Err, refl, sym, ap, subst}
-use Rattle.std.specs.Prelude.{IsErrOf, IsSomeAnd, slice_get}
+use Rattle.std.proofs.Common.{arith, ◌≡◌, ◌<◌, ◌∙◌, ℕ, Option, Some, None, Err, sym, ap, subst}
+use Rattle.std.specs.Prelude.{IsSomeAnd}
 use Rattle.draid_area.specs.declared.Area as areas
 use Rattle.draid_names.specs.declared.fault.DeviceFault.{DeviceFault}
 use Rattle.draid_names.specs.declared.fault.DeviceFault.TheVariants as device
@@ -8,7 +8,7 @@ use Rattle.draid_rack.specs.Rack.{Shape}
 use Rattle.draid_rack.specs.declared.Rack as racks
 use Rattle.draid_spec.specs.declared.layout.Geometry.{Geometry}
 use Rattle.draid_segments.specs.Segments.{Pieces}
-use Rattle.draid_shelf.specs.Kits.{Held, KitCounts, KitTold, OnHeld, kit_of, takes_uber}
+use Rattle.draid_shelf.specs.Kits.{Held, KitCounts, OnHeld, kit_of, takes_uber}
 use Rattle.draid_shelf.specs.Shelf.{IsKnown}
 use Rattle.draid_shelf.specs.declared.kit.Kit.{Kit}
 use Rattle.draid_stable.specs.Stable as stable
@@ -19,7 +19,7 @@ use Rattle.draid_shard.specs.declared.fault.OpenFault.TheVariants as open_why
 use Rattle.draid_uber.specs.Slots.{group_of}
 use Rattle.draid_uber.specs.Uber.{kept_of, layout_of, next_leaf_of}
 use Rattle.draid_uber.specs.declared.uber.Uber.{Uber}
-use Rattle.draid_session.specs.State.{Metaslab, State}
+use Rattle.draid_session.specs.State.{State}
 use Rattle.draid_pool.specs.Found.{IsFoundUber, IsRecovered, open_fault_of, shelf_fault_of}
 use Rattle.draid_pool.specs.Importable.{HasImageLeaves}
 use Rattle.draid_pool.specs.Importing.{RestsThere}

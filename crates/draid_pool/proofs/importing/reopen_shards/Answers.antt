@@ -154,9 +154,11 @@ pub returns-in-Err-clause-faulty : goal.returns-in-Err-clause-faulty
 returns-in-Err-clause-faulty g c metaslab place kind err =
     let shelf = g.H.Shelf in
     let i = c.loop-number.invariant in
-    let n = c.loop-number.number in
-    (n, unread_first g.H.R.Rack g.H.A.Area (layout_of c.args.uber.now) (group_of (kept_of c.args.uber.now)) (next_leaf_of c.args.uber.now) n (shelf.told c.args.shelf.now) (shelf.told c.loop-number.shelf)
-    (shelf.counts c.args.shelf.now n) (shelf.counts c.loop-number.shelf n) metaslab place kind i.told (i.counts n (omega arith)) (c.in-Err.ensures.faulty metaslab place kind (ap Err (err_is c.in-Err.fault _ err))))
+    let n = c.loop-number.number in (
+      n,
+      unread_first g.H.R.Rack g.H.A.Area (layout_of c.args.uber.now) (group_of (kept_of c.args.uber.now)) (next_leaf_of c.args.uber.now) n (shelf.told c.args.shelf.now) (shelf.told c.loop-number.shelf)
+          (shelf.counts c.args.shelf.now n) (shelf.counts c.loop-number.shelf n) metaslab place kind i.told (i.counts n (omega arith)) (c.in-Err.ensures.faulty metaslab place kind (ap Err (err_is c.in-Err.fault _ err))),
+    )
 
 pub returns-in_default-clause-back : goal.returns-in_default-clause-back
 returns-in_default-clause-back g c =

@@ -2,7 +2,7 @@ use Rattle.std.proofs.Common.{arith}
 use Rattle.std.specs.Prelude.{nat_eq}
 use Rattle.std.specs.HashMap.{get}
 use Rattle.draid_pool.specs.Together.{noted_in}
-use Rattle.draid_pool.proofs.ImportTogether.{notes_all, notes_below, noted_twice}
+use Rattle.draid_pool.proofs.ImportTogether.{notes_below, noted_twice}
 use Rattle.draid_pool.proofs.Found.{next_inside, next_low, noting_more}
 use Rattle.draid_pool.proofs.importing.Found.note_all.Goals as goal
 
