@@ -1,6 +1,6 @@
 -- What an import compares of the metaslabs that it opens, and what it notes of their blocks.
-use Rattle.std.proofs.Common.{arith, ◌≡◌, ◌+◌, ◌<◌, ◌∙◌, ◌⊎◌, inl, inr, not, ℕ, Bool, true, false, cond, List, [], Option, Some, Err, refl, sym, ap, subst}
-use Rattle.std.specs.Prelude.{IsErrOf, slice_get}
+use Rattle.std.proofs.Common.{arith, ◌≡◌, ◌+◌, ◌<◌, ◌≤◌, ◌∙◌, ◌⊎◌, inl, inr, not, ℕ, zero, suc, Bool, true, false, cond, List, [], Option, Some, None, Err, refl, sym, ap, subst, if◌then◌else◌}
+use Rattle.std.specs.Prelude.{◌-◌, IsErrOf, is_some, slice_get}
 use Rattle.std.specs.HashSet.{HashSet, contains, keys}
 use Rattle.std.specs.List.{list_any}
 use Rattle.std.proofs.lemmas.Bool.{cases_eq}
@@ -9,13 +9,14 @@ use Rattle.draid_machine.specs.declared.names.Key.{Key}
 use Rattle.draid_machine.proofs.Small.{absurd_test, key_true}
 use Rattle.draid_rack.specs.declared.Rack as racks
 use Rattle.draid_entries.specs.declared.entry.Entry.{Entry}
+use Rattle.draid_entries.specs.declared.entries.Entries.{Entries}
 use Rattle.draid_entries.specs.Entries.{entry_at}
 use Rattle.draid_entries.specs.Maps.{key_of, staged}
 use Rattle.draid_slots.specs.Table.{SlotTable, arms_of}
 use Rattle.draid_shard.specs.Calls.{IsNextHeld}
 use Rattle.draid_shard.specs.declared.shard.Shard.{Shard}
 use Rattle.draid_pool.specs.Found.{AreReady}
-use Rattle.draid_pool.specs.Together.{AreApart, AreSameArms, HasBlock, HaveSameArms, IsNotedTwice, NotesOnly, NotesOnlyOf, noted_in, pair_eq}
+use Rattle.draid_pool.specs.Together.{AreApart, AreSameArms, HasBlock, HaveSameArms, IsNotedTwice, NotesOnly, NotesOnlyOf, blocks_below, noted_in, pair_eq, place_in}
 use Rattle.draid_pool.specs.declared.fault.PoolFault.TheVariants as fault
 use Rattle.draid_pool.proofs.ImportAlike.{one_place}
 
@@ -50,6 +51,37 @@ was_noted false a is old = absurd (cc)
 
 -- ---- the blocks of a metaslab
 
+-- one, where one begins
+abbrev one_at : Option Entry → ℕ
+one_at o = if is_some o then 1 else 0
+
+-- none begins at a stripe
+count_none : (t : Entries) (n : ℕ) → entry_at t n ≡ None → blocks_below t (suc n) ≡ blocks_below t n
+unfolding blocks_below
+count_none t n none =
+    let more : blocks_below t (suc n) ≡ blocks_below t n + one_at (entry_at t n) = refl in
+    let nothing : one_at (entry_at t n) ≡ 0 = ap one_at none in
+    omega (arith, more, nothing)
+
+-- or one does
+count_one : (t : Entries) (n : ℕ) (e : Entry) → entry_at t n ≡ Some e → blocks_below t (suc n) ≡ blocks_below t n + 1
+unfolding blocks_below
+count_one t n e there =
+    let more : blocks_below t (suc n) ≡ blocks_below t n + one_at (entry_at t n) = refl in
+    let one : one_at (entry_at t n) ≡ 1 = ap one_at there in
+    omega (arith, more, one)
+
+pub count_first : (t : Entries) → blocks_below t 0 ≡ 0
+unfolding blocks_below
+count_first t = refl
+
+-- or none at many
+count_gap : (t : Entries) (from d : ℕ) → ((x : ℕ) → from ≤ x → x < from + d → entry_at t x ≡ None) → blocks_below t (from + d) ≡ blocks_below t from
+count_gap t from zero none = (let same : from + zero ≡ from = omega arith in ap (blocks_below t) same)
+count_gap t from (suc d) none =
+    let last : from + suc d ≡ suc (from + d) = omega arith in
+    ap (blocks_below t) last ∙ (count_none t (from + d) (none (from + d) (omega arith) (omega arith)) ∙ count_gap t from d (λ x low below. none x low (omega (arith, below))))
+
 -- one that begins below a stripe
 pub record HasBelow {R A : Type 0} (shard : Shard R A) (from : ℕ) (key : Key) : Type 0 where
   pub first : ℕ
@@ -63,8 +95,24 @@ abbrev pub NotesBelow : {R A : Type 0} → Shard R A → ℕ → (Key → Bool) 
 NotesBelow shard from old new = (key : Key) → new key ≡ true → (old key ≡ true) ⊎ HasBelow shard from key
 
 module _ {R A : Type 0} (shard : Shard R A) where
+  -- as many begin below the next block, and it is one more
+  pub count_next : (from : ℕ) (p : Pointer) → IsNextHeld shard from p → (blocks_below shard.entries p.first ≡ blocks_below shard.entries from) × (blocks_below shard.entries (p.first + 1) ≡ blocks_below shard.entries from + 1)
+  count_next from p next = (same, more)
+    where
+      way : from + (p.first - from) ≡ p.first
+      way = (let behind = next.behind in omega (arith, behind))
+
+      same : blocks_below shard.entries p.first ≡ blocks_below shard.entries from
+      same = ap (blocks_below shard.entries) (sym way) ∙ count_gap shard.entries from (p.first - from) (λ x low below. next.first x low (omega (arith, below, way)))
+
+      more : blocks_below shard.entries (p.first + 1) ≡ blocks_below shard.entries from + 1
+      more =
+          let last : p.first + 1 ≡ suc p.first = omega arith in
+          let one = count_one shard.entries p.first (staged next.entered.stage p) next.entered.there in
+          ap (blocks_below shard.entries) last ∙ (one ∙ ap (λ n. n + 1) same)
+
   -- the block of a pointer that is held
-  block_at : (from : ℕ) (p : Pointer) → IsNextHeld shard from p → HasBlock shard (key_of p)
+  abbrev block_at : (from : ℕ) (p : Pointer) → IsNextHeld shard from p → HasBlock shard (key_of p)
   block_at from p next = record { first = p.first; e = staged next.entered.stage p; there = next.entered.there; key_is = refl }
 
   pub notes_below : (from : ℕ) (p : Pointer) (old mid new : Key → Bool) → IsNextHeld shard from p → NotesBelow shard from old mid → NotesOnly p mid new → NotesBelow shard (p.first + 1) old new
@@ -89,12 +137,18 @@ module _ {R A : Type 0} (shard : Shard R A) where
       by (inr h) = inr (record { first = h.first; e = h.e; there = h.there; key_is = h.key_is })
 
   -- no block below it has the object and number of a block: another metaslab's has
-  pub noted_twice : {T : Type 0} (from : ℕ) (p : Pointer) (old mid : Key → Bool) (place : ℕ) → IsNextHeld shard from p → NotesBelow shard from old mid → mid (key_of p) ≡ true
-      → (metaslab : Option ℕ) (at kind : ℕ) → IsErrOf {T = T} (Err (fault.Record (Some shard.number) place 5)) (fault.Record metaslab at kind) → IsNotedTwice shard old metaslab kind
-  noted_twice {T} from p old mid place next n there metaslab «at» kind err = by (n (key_of p) there)
+  pub noted_twice : {T : Type 0} (from : ℕ) (p : Pointer) (old mid : Key → Bool) (place : ℕ) → IsNextHeld shard from p → place ≡ place_in shard from → NotesBelow shard from old mid → mid (key_of p) ≡ true
+      → (metaslab : Option ℕ) (at kind : ℕ) → IsErrOf {T = T} (Err (fault.Record (Some shard.number) place 5)) (fault.Record metaslab at kind) → IsNotedTwice shard old metaslab at kind
+  noted_twice {T} from p old mid place next place_is n there metaslab «at» kind err = by (n (key_of p) there)
     where
-      by : (old (key_of p) ≡ true) ⊎ HasBelow shard from (key_of p) → IsNotedTwice shard old metaslab kind
-      by (inl was) = record { metaslab_is = cc; kind_is = cc; key = key_of p; block = block_at from p next; twice = was }
+      here : «at» ≡ place_in shard p.first
+      here =
+          let same : place ≡ «at» = cc in
+          let count = (count_next from p next).0 in
+          omega (arith, same, count, place_is)
+
+      by : (old (key_of p) ≡ true) ⊎ HasBelow shard from (key_of p) → IsNotedTwice shard old metaslab «at» kind
+      by (inl was) = record { metaslab_is = cc; kind_is = cc; key = key_of p; block = block_at from p next; place_is = here; twice = was }
       by (inr h) =
           let same = one_place shard.entries h.first p.first h.e (staged next.entered.stage p) h.there next.entered.there h.key_is in
           let low = h.below in
@@ -129,7 +183,7 @@ module _ {R A : Type 0} (shards : List (Shard R A)) where
 
   -- a metaslab's block is noted already
   pub block_twice : (rack : racks.Ghosts R) (n : ℕ) (shard : Shard R A) (noted : Key → Bool) (metaslab : Option ℕ) (place kind : ℕ) → slice_get shards n ≡ Some shard → AreReady rack shards
-      → NotesEarlier shards n noted → IsNotedTwice shard noted metaslab kind → AreApart shards metaslab place kind
+      → NotesEarlier shards n noted → IsNotedTwice shard noted metaslab place kind → AreApart shards metaslab place kind
   block_twice rack n shard noted metaslab place kind at ready before t =
       let h = before t.key t.twice in
       inr (record {
@@ -144,6 +198,7 @@ module _ {R A : Type 0} (shards : List (Shard R A)) where
         other_there = h.there;
         key = t.key;
         block = t.block;
+        place_is = t.place_is;
         twice = h.block;
       })
 

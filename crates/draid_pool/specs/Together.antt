@@ -1,10 +1,11 @@
 -- What the records of all metaslabs of one pool have in common, and which fault it is where they haven't.
-use Rattle.std.specs.Prelude.{◌≡◌, ◌<◌, ◌&&◌, ◌⊎◌, ℕ, Bool, true, List, Option, Some, Result, IsErrOf, length, nat_eq, slice_get}
+use Rattle.std.specs.Prelude.{◌≡◌, ◌<◌, ◌+◌, ◌-◌, ◌*◌, ◌^◌, ◌&&◌, ◌⊎◌, ℕ, zero, suc, Bool, true, List, Option, Some, Result, IsErrOf, if◌then◌else◌, is_some, length, min, nat_eq, slice_get}
 use Rattle.std.specs.HashSet.{HashSet, contains}
 use Rattle.draid_names.specs.declared.arm.Arm.{Arm}
 use Rattle.draid_names.specs.declared.pointer.Pointer.{Pointer}
 use Rattle.draid_machine.specs.declared.names.Key.{Key}
 use Rattle.draid_entries.specs.declared.entry.Entry.{Entry}
+use Rattle.draid_entries.specs.declared.entries.Entries.{Entries}
 use Rattle.draid_entries.specs.Entries.{entry_at}
 use Rattle.draid_entries.specs.Maps.{key_of}
 use Rattle.draid_slots.specs.Table.{SlotTable, arms_of}
@@ -46,6 +47,15 @@ pub record HasBlock {R A : Type 0} (shard : Shard R A) (key : Key) : Type 0 wher
   pub there : entry_at shard.entries first ≡ Some e
   pub key_is : key_of e.pointer ≡ key
 
+-- how many blocks begin below a stripe
+unfoldable pub blocks_below : Entries → ℕ → ℕ
+blocks_below t zero = 0
+blocks_below t (suc n) = blocks_below t n + (if is_some (entry_at t n) then 1 else 0)
+
+-- where a block stands in the record from which its metaslab was opened: it takes 72 bytes, behind those of lower stripes. A number of 64 bits doesn't go on.
+abbrev pub place_in : {R A : Type 0} → Shard R A → ℕ → ℕ
+place_in shard first = min (shard.blocks_at + 72 * blocks_below shard.entries first) (2 ^ 64 - 1)
+
 -- nothing but a block was noted
 abbrev pub NotesOnly : Pointer → (Key → Bool) → (Key → Bool) → Type 0
 NotesOnly pointer old new = (key : Key) → new key ≡ true → (old key ≡ true) ⊎ (key_of pointer ≡ key)
@@ -57,11 +67,12 @@ NotesOnlyOf shard old new = (key : Key) → new key ≡ true → (old key ≡ tr
 -- ---- faults
 
 -- a block of this metaslab has the object and the number of one that was noted
-pub record IsNotedTwice {R A : Type 0} (shard : Shard R A) (noted : Key → Bool) (metaslab : Option ℕ) (kind : ℕ) : Type 0 where
+pub record IsNotedTwice {R A : Type 0} (shard : Shard R A) (noted : Key → Bool) (metaslab : Option ℕ) (place kind : ℕ) : Type 0 where
   pub metaslab_is : metaslab ≡ Some shard.number
   pub kind_is : kind ≡ 5
   pub key : Key
   pub block : HasBlock shard key
+  pub place_is : place ≡ place_in shard block.first
   pub twice : noted key ≡ true
 
 -- a metaslab has other arms than the first one
@@ -77,7 +88,7 @@ pub record HasOtherArms {R A : Type 0} (shards : List (Shard R A)) (metaslab : O
   pub differ : HaveSameArms first.slots shard.slots → ⊥
 
 -- a metaslab has a block of the object and the number that a block of an earlier one has
-pub record HasBlockTwice {R A : Type 0} (shards : List (Shard R A)) (metaslab : Option ℕ) (kind : ℕ) : Type 0 where
+pub record HasBlockTwice {R A : Type 0} (shards : List (Shard R A)) (metaslab : Option ℕ) (place kind : ℕ) : Type 0 where
   pub m : ℕ
   pub metaslab_is : metaslab ≡ Some m
   pub kind_is : kind ≡ 5
@@ -89,11 +100,12 @@ pub record HasBlockTwice {R A : Type 0} (shards : List (Shard R A)) (metaslab : 
   pub other_there : slice_get shards earlier ≡ Some other
   pub key : Key
   pub block : HasBlock shard key
+  pub place_is : place ≡ place_in shard block.first
   pub twice : HasBlock other key
 
 -- which fault the record of a metaslab has that was read whole, among those of the others
 abbrev pub AreApart : {R A : Type 0} → List (Shard R A) → Option ℕ → (place kind : ℕ) → Type 0
-AreApart shards metaslab place kind = HasOtherArms shards metaslab place kind ⊎ HasBlockTwice shards metaslab kind
+AreApart shards metaslab place kind = HasOtherArms shards metaslab place kind ⊎ HasBlockTwice shards metaslab place kind
 
 -- the answer isn't that a record has a fault
 abbrev pub NoRecord : {T : Type 0} → Result T PoolFault → Type 0
