@@ -1,54 +1,43 @@
--- How many objects of a pool have bytes, and which group it has committed.
-use Rattle.std.proofs.Common.{arith, ◌≡◌, ◌≢◌, ◌∙◌, ◌⊎◌, ◌<◌, ◌+◌, inl, inr, refl, sym, ap, subst, ℕ, zero, suc, Bool, true, false, List, [], ◌∷◌, Option, Some, None, length, if◌then◌else◌, ◌==◌}
+-- How many objects of a pool have bytes.
+use Rattle.std.proofs.Common.{arith, ◌≡◌, ◌≢◌, ◌∙◌, ◌⊎◌, ◌<◌, ◌+◌, inl, inr, refl, sym, ap, subst, ℕ, zero, suc, Bool, true, false, List, [], ◌∷◌, Option, Some, None, length, if◌then◌else◌}
 use Rattle.std.proofs.lemmas.Map.Entries.{length-keys_of}
 use Rattle.std.proofs.lemmas.Map.Views.{hash_map_contains_key_iff}
-use Rattle.std.proofs.lemmas.Nat.{nat_tests}
-use Rattle.std.specs.Prelude.{◌↔◌, ⊤, AllByRecursion, Contains, IsDistinct, IsSome, nat_eq, nat_lt, slice_index_or}
+use Rattle.std.proofs.lemmas.Bool.Decides.{nat_tests}
+use Rattle.std.specs.Prelude.{◌↔◌, ⊤, Contains, IsSome, nat_eq, nat_lt, slice_index, slice_index_or}
+use Rattle.std.specs.List.{AllByRecursion, IsDistinct}
 use Rattle.std.specs.List.Sorted.{IsStrictlyIncreasing}
 use Rattle.std.specs.Cmp.{nat_eq_equiv}
 use Rattle.std.specs.HashMap.{HashMap, IsUnique, get, hash_map_len, keys}
 use Rattle.draid_names.specs.declared.pointer.Pointer.{Pointer}
-use Rattle.draid_spec.specs.declared.layout.Geometry.{Geometry}
 use Rattle.draid_objects.specs.Changes.{Change, Write, write_of}
-use Rattle.draid_uber.specs.Slots.{group_of}
 use Rattle.draid_shard.specs.declared.shard.Shard.{Shard}
 use Rattle.draid_session.specs.Opening.{HasObjects}
-use Rattle.draid_session.specs.State.{State}
 use Rattle.draid_pool.specs.Objects.{PointsTo}
-use Rattle.draid_pool.specs.Ubers.{body_of, kept_in}
-
--- ---- the committed group
-
-kept_at : (geometry : Geometry) (n next : ℕ) → group_of (if n == 0 then None else Some (body_of geometry n next)) ≡ n
-kept_at geometry zero next = refl
-kept_at geometry (suc n) next = refl
-
-pub kept_group : (x : State) → group_of (kept_in x) ≡ x.committed
-kept_group x = kept_at x.geometry x.committed x.kept_leaf
 
 -- ---- numbers in ascending order
 
 -- all are above a number, and ascend
-Above : ℕ → List ℕ → Type 0
+abbrev Above : ℕ → List ℕ → Type 0
 Above b [] = ⊤
 Above b (x ∷ xs) = (b < x) × Above x xs
 
-IsAscending : List ℕ → Type 0
+abbrev IsAscending : List ℕ → Type 0
 IsAscending [] = ⊤
 IsAscending (x ∷ xs) = Above x xs
 
 -- a number is among some
-In : ℕ → List ℕ → Type 0
+abbrev In : ℕ → List ℕ → Type 0
 In q [] = ⊥
 In q (x ∷ xs) = (x ≡ q) ⊎ In q xs
 
 ascends : (x : ℕ) (xs : List ℕ) → Above x xs → IsStrictlyIncreasing (x ∷ xs)
 ascends x [] a k less = absurd (omega (arith, less))
-ascends x (y ∷ ys) a zero less = a.0
-ascends x (y ∷ ys) a (suc k) less = ascends y ys a.1 k (omega (arith, less))
+ascends x (y ∷ ys) a zero less = (let one : zero + 1 ≡ suc zero = omega arith in subst (λ j. x < slice_index (x ∷ y ∷ ys) j) (sym one) a.0)
+ascends x (y ∷ ys) a (suc k) less =
+    (let more = ascends y ys a.1 k (omega (arith, less)) in let one : suc k + 1 ≡ suc (k + 1) = omega arith in subst (λ j. slice_index (y ∷ ys) k < slice_index (x ∷ y ∷ ys) j) (sym one) more)
 
 increasing : (xs : List ℕ) → IsAscending xs → IsStrictlyIncreasing xs
-increasing [] a k less = absurd (omega (arith, less))
+increasing [] a = λ k less. absurd (omega (arith, less))
 increasing (x ∷ xs) a = ascends x xs a
 
 contains_in : (xs : List ℕ) (q : ℕ) (k : ℕ) → k < length xs → slice_index_or xs k q ≡ q → In q xs
@@ -61,24 +50,24 @@ in_contains [] q is = absurd is
 in_contains (x ∷ xs) q (inl same) = (0, omega arith, same)
 in_contains (x ∷ xs) q (inr more) = (let c = in_contains xs q more in let less = c.1 in (suc c.0, omega (arith, less), c.2))
 
-put : ℕ → List ℕ → List ℕ
+abbrev put : ℕ → List ℕ → List ℕ
 put k [] = k ∷ []
 put k (x ∷ xs) = if nat_lt k x then k ∷ x ∷ xs else x ∷ put k xs
 
 module _ (k : ℕ) where
   length-put : (xs : List ℕ) → length (put k xs) ≡ length xs + 1
   length-put [] = refl
-  length-put (x ∷ xs) = by (nat_lt k x) where
-    by : (b : Bool) → length (if b then k ∷ x ∷ xs else x ∷ put k xs) ≡ length (x ∷ xs) + 1
-    by true = omega arith
-    by false = (let more = length-put xs in omega (arith, more))
+  length-put (x ∷ xs) = by (nat_lt k x) (length-put xs) where
+    by : (b : Bool) → length (put k xs) ≡ length xs + 1 → length (if b then k ∷ x ∷ xs else x ∷ put k xs) ≡ length (x ∷ xs) + 1
+    by true more = omega arith
+    by false more = omega (arith, more)
 
   above_put : (b : ℕ) (xs : List ℕ) → b < k → Above b xs → (In k xs → ⊥) → Above b (put k xs)
   above_put b [] less a other = (less, tt)
-  above_put b (x ∷ xs) less a other = by (nat_lt k x) refl where
-    by : (c : Bool) → nat_lt k x ≡ c → Above b (if c then k ∷ x ∷ xs else x ∷ put k xs)
-    by true is = (less, grind (arith, nat_tests), a.1)
-    by false is = (let differs : x ≢ k = λ same. other (inl same) in let below : x < k = grind (arith, nat_tests) in (a.0, above_put x xs below a.1 (λ more. other (inr more))))
+  above_put b (x ∷ xs) less a other = by (nat_lt k x) refl (λ below. above_put x xs below a.1 (λ more. other (inr more))) where
+    by : (c : Bool) → nat_lt k x ≡ c → (x < k → Above x (put k xs)) → Above b (if c then k ∷ x ∷ xs else x ∷ put k xs)
+    by true is more = (less, (grind (arith, nat_tests), a.1))
+    by false is more = (let differs : x ≢ k = λ same. other (inl same) in let below : x < k = grind (arith, nat_tests) in (a.0, more below))
 
   ascends_put : (xs : List ℕ) → IsAscending xs → (In k xs → ⊥) → IsAscending (put k xs)
   ascends_put [] a other = tt
@@ -89,22 +78,22 @@ module _ (k : ℕ) where
 
   in_put : (q : ℕ) (xs : List ℕ) → In q (put k xs) → (k ≡ q) ⊎ In q xs
   in_put q [] is = is
-  in_put q (x ∷ xs) is = by (nat_lt k x) is where
-    by : (c : Bool) → In q (if c then k ∷ x ∷ xs else x ∷ put k xs) → (k ≡ q) ⊎ In q (x ∷ xs)
-    by true is = is
-    by false (inl same) = inr (inl same)
-    by false (inr more) = elim (in_put q xs more) [ inl same ↦ inl same | inr there ↦ inr (inr there) ]
+  in_put q (x ∷ xs) is = by (nat_lt k x) (in_put q xs) is where
+    by : (c : Bool) → (In q (put k xs) → (k ≡ q) ⊎ In q xs) → In q (if c then k ∷ x ∷ xs else x ∷ put k xs) → (k ≡ q) ⊎ In q (x ∷ xs)
+    by true rest is = is
+    by false rest (inl same) = inr (inl same)
+    by false rest (inr more) = elim (rest more) [ inl same ↦ inl same | inr there ↦ inr (inr there) ]
 
   put_in : (q : ℕ) (xs : List ℕ) → (k ≡ q) ⊎ In q xs → In q (put k xs)
   put_in q [] is = is
-  put_in q (x ∷ xs) is = by (nat_lt k x) is where
-    by : (c : Bool) → (k ≡ q) ⊎ In q (x ∷ xs) → In q (if c then k ∷ x ∷ xs else x ∷ put k xs)
-    by true is = is
-    by false (inl same) = inr (put_in q xs (inl same))
-    by false (inr (inl same)) = inl same
-    by false (inr (inr more)) = inr (put_in q xs (inr more))
+  put_in q (x ∷ xs) is = by (nat_lt k x) (put_in q xs) is where
+    by : (c : Bool) → ((k ≡ q) ⊎ In q xs → In q (put k xs)) → (k ≡ q) ⊎ In q (x ∷ xs) → In q (if c then k ∷ x ∷ xs else x ∷ put k xs)
+    by true rest is = is
+    by false rest (inl same) = inr (rest (inl same))
+    by false rest (inr (inl same)) = inl same
+    by false rest (inr (inr more)) = inr (rest (inr more))
 
-sorted : List ℕ → List ℕ
+abbrev sorted : List ℕ → List ℕ
 sorted [] = []
 sorted (k ∷ ks) = put k (sorted ks)
 

@@ -56,6 +56,7 @@ pub mod ImportEnd
 pub mod ImportFreed
 pub mod ImportClosed
 pub mod Causes
+pub mod Counted
 pub mod ImportPool
 pub mod ImportUnread
 pub mod ImportTogether
@@ -63,4 +64,3 @@ pub mod ImportOne
 pub mod ImportTaken
 pub mod ImportLeft
 pub mod ImportFaulty
-pub mod Counted
