@@ -20,7 +20,7 @@ ghost use Rattle.draid_segments.specs.Segments.{Pieces};
 ghost use Rattle.draid_session.specs.State.{State, limit_of};
 ghost use Rattle.draid_pool.specs.Faulty.{IsUnread, OneIsUnread, RecordIsBad, UberIsBad};
 ghost use Rattle.draid_pool.specs.Imported.{AreNewest, IsFoundOf};
-ghost use Rattle.draid_pool.specs.Importing.{ImportIs, ImportsPool, NotOfSpec, RestsThere};
+ghost use Rattle.draid_pool.specs.Importing.{ImportIs, ImportsPool, IsNoSpecFault, NotOfSpec, RestsThere};
 ghost use Rattle.draid_pool.specs.Opening.{IsAsBefore, TakesFirst};
 ghost use Rattle.draid_pool.specs.Found.{AllLive, AnyRecordsRose, AreFound, AreFreed, AreReady, AreReopened, CountsLater, FreesIfOlder, FreesOlder, HasOnly, HasRisen, IsFoundUber, IsRecovered, IsReopened, IsShardFault, KeepsFound, KeepsFoundAt, KeepsKnown, KeepsNewer, LeavesShards, LeavesUber, Notes, NotesOne, OpensAllOver, OpensOver, Reaches, RecordsRose, SameChecks, StaysHeld, shelf_fault_of, uber_fault_of, open_fault_of};
 ghost use Rattle.draid_pool.specs.Together.{AreApart, AreSameArms, HaveSameArms, IsNotedTwice, IsSameArm, NoRecord, NotesOnly, NotesOnlyOf, noted_in};
@@ -51,6 +51,7 @@ const BLOCK_BYTES: u64 = 72;
 /// Why an uberblock gave no pool.
 fn uber_fault(why: UberFault) -> PoolFault
     ensures is { result ≡ uber_fault_of why }
+    ensures no_spec { IsNoSpecFault result }
     ensures area { result ≡ PoolFault.Shelf → why ≡ UberFault.Area }
 {
     match why {
@@ -85,6 +86,7 @@ fn open_fault(number: u32, why: OpenFault) -> PoolFault
 /// Why a call on the shelf gave nothing.
 fn shelf_fault(why: DeviceFault) -> PoolFault
     ensures is { result ≡ shelf_fault_of why }
+    ensures no_spec { IsNoSpecFault result }
     ensures failed { result ≡ PoolFault.Shelf → why ≡ DeviceFault.Failed }
     ensures fault { IsShardFault result }
 {
@@ -101,6 +103,7 @@ fn has_length_told<A: Area>(area: &A)
 
 /// Takes the area of the uberblock, and finds the uberblock there. After a refusal the area is on the shelf.
 fn find_uber<H: Shelf>(shelf: &mut H) -> Result<Uber<H::A>, PoolFault>
+    ensures not_spec { NotOfSpec result }
     ensures found { IfOk result (IsFoundUber H.A.Area) }
     ensures recovered { IfOk result (IsRecovered H.A.Area (H.told shelf.old) (H.uber_count shelf.old)) }
     ensures told { OnOk result (H.told shelf.new ≡ takes_uber (H.told shelf.old)) }
