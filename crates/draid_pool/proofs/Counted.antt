@@ -1,5 +1,5 @@
 -- How many objects of a pool have bytes.
-use Rattle.std.proofs.Common.{arith, ◌≡◌, ◌≢◌, ◌∙◌, ◌⊎◌, ◌<◌, ◌+◌, inl, inr, refl, sym, ap, subst, ℕ, zero, suc, Bool, true, false, List, [], ◌∷◌, Option, Some, None, length, if◌then◌else◌}
+use Rattle.std.proofs.Common.{arith, ◌≡◌, ◌≢◌, ◌∙◌, ◌⊎◌, ◌<◌, ◌+◌, inl, inr, refl, sym, subst, ℕ, zero, suc, Bool, true, false, List, [], ◌∷◌, Option, Some, None, length, if◌then◌else◌}
 use Rattle.std.proofs.lemmas.Map.Entries.{length-keys_of}
 use Rattle.std.proofs.lemmas.Map.Views.{hash_map_contains_key_iff}
 use Rattle.std.proofs.lemmas.Bool.Decides.{nat_tests}
@@ -142,8 +142,7 @@ has_objects shards objects changes result unique counted points = record {
   each : (object : ℕ) → Contains (sorted (keys objects)) object ↔ (write_of changes object ≢ None)
   each object =
       let has = hash_map_contains_key_iff nat_eq_equiv exact objects object in
-      let written = some_written shards (get nat_eq objects object) (write_of changes object) (points object) in
-      (
+      let written = some_written shards (get nat_eq objects object) (write_of changes object) (points object) in (
         λ c. written.0 (has.1 (in_contains (keys objects) object (in_sorted object (keys objects) (contains_in (sorted (keys objects)) object c.0 c.1 c.2)))),
         λ w. (let c = has.0 (written.1 w) in in_contains (sorted (keys objects)) object (sorted_in object (keys objects) (contains_in (keys objects) object c.0 c.1 c.2))),
       )

@@ -41,14 +41,10 @@ pub record FindsNone (x : State) (pieces : ℕ → Pieces) (told : Option Held) 
   pub is : FindsNoGroup x y
   pub rests : RestsThere y pieces told leaves counts uber_count
 
--- no fault is that of a spec, since none is read
-abbrev pub IsNoSpecFault : PoolFault → Type 0
-IsNoSpecFault (fault.Spec why) = ⊥
-IsNoSpecFault why = ⊤
-
-abbrev pub NotOfSpec : {T : Type 0} → Result T PoolFault → Type 0
-NotOfSpec (Ok it) = ⊤
-NotOfSpec (Err why) = IsNoSpecFault why
+-- a fault isn't that of a spec
+abbrev pub IsNotSpec : PoolFault → Type 0
+IsNotSpec (fault.Spec why) = ⊥
+IsNotSpec why = ⊤
 
 -- The answer. No record of such a pool has a fault.
 abbrev pub ImportIs : {R A : Type 0} → racks.Ghosts R → areas.Ghosts A → State → (ℕ → Pieces) → Option Held → (ℕ → Option Shape) → (ℕ → KitCounts) → ℕ → Result (Pool R A) PoolFault → Type 0

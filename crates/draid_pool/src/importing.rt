@@ -20,7 +20,7 @@ ghost use Rattle.draid_segments.specs.Segments.{Pieces};
 ghost use Rattle.draid_session.specs.State.{State, limit_of};
 ghost use Rattle.draid_pool.specs.Faulty.{IsUnread, OneIsUnread, RecordIsBad, UberIsBad};
 ghost use Rattle.draid_pool.specs.Imported.{AreNewest, IsFoundOf};
-ghost use Rattle.draid_pool.specs.Importing.{ImportIs, ImportsPool, IsNoSpecFault, NotOfSpec, RestsThere};
+ghost use Rattle.draid_pool.specs.Importing.{ImportIs, ImportsPool, IsNotSpec, RestsThere};
 ghost use Rattle.draid_pool.specs.Opening.{IsAsBefore, TakesFirst};
 ghost use Rattle.draid_pool.specs.Found.{AllLive, AnyRecordsRose, AreFound, AreFreed, AreReady, AreReopened, CountsLater, FreesIfOlder, FreesOlder, HasOnly, HasRisen, IsFoundUber, IsRecovered, IsReopened, IsShardFault, KeepsFound, KeepsFoundAt, KeepsKnown, KeepsNewer, LeavesShards, LeavesUber, Notes, NotesOne, OpensAllOver, OpensOver, Reaches, RecordsRose, SameChecks, StaysHeld, shelf_fault_of, uber_fault_of, open_fault_of};
 ghost use Rattle.draid_pool.specs.Together.{AreApart, AreSameArms, HaveSameArms, IsNotedTwice, IsSameArm, NoRecord, NotesOnly, NotesOnlyOf, noted_in};
@@ -51,8 +51,8 @@ const BLOCK_BYTES: u64 = 72;
 /// Why an uberblock gave no pool.
 fn uber_fault(why: UberFault) -> PoolFault
     ensures is { result ≡ uber_fault_of why }
-    ensures no_spec { IsNoSpecFault result }
     ensures area { result ≡ PoolFault.Shelf → why ≡ UberFault.Area }
+    ensures not_spec { IsNotSpec result }
 {
     match why {
         UberFault::Area => PoolFault::Shelf,
@@ -86,8 +86,8 @@ fn open_fault(number: u32, why: OpenFault) -> PoolFault
 /// Why a call on the shelf gave nothing.
 fn shelf_fault(why: DeviceFault) -> PoolFault
     ensures is { result ≡ shelf_fault_of why }
-    ensures no_spec { IsNoSpecFault result }
     ensures failed { result ≡ PoolFault.Shelf → why ≡ DeviceFault.Failed }
+    ensures not_spec { IsNotSpec result }
     ensures fault { IsShardFault result }
 {
     match why {
@@ -103,8 +103,8 @@ fn has_length_told<A: Area>(area: &A)
 
 /// Takes the area of the uberblock, and finds the uberblock there. After a refusal the area is on the shelf.
 fn find_uber<H: Shelf>(shelf: &mut H) -> Result<Uber<H::A>, PoolFault>
-    ensures not_spec { NotOfSpec result }
     ensures found { IfOk result (IsFoundUber H.A.Area) }
+    ensures not_spec { IfErr result IsNotSpec }
     ensures recovered { IfOk result (IsRecovered H.A.Area (H.told shelf.old) (H.uber_count shelf.old)) }
     ensures told { OnOk result (H.told shelf.new ≡ takes_uber (H.told shelf.old)) }
     ensures back { OnErr result (LeavesUber (H.told shelf.old) (H.told shelf.new) (H.uber_count shelf.old) (H.uber_count shelf.new)) }
@@ -290,7 +290,7 @@ impl Found {
         requires live { AllLive shard.now }
         ensures noted { OnOk result (Notes shard.now (get nat_eq self.old.newest) (get nat_eq self.new.newest) self.old.seq self.new.seq) }
         ensures keys { OnOk result (NotesOnlyOf shard.now (noted_in self.old.keys) (noted_in self.new.keys)) }
-        ensures again { (metaslab : Option ℕ) (place kind : ℕ) → IsErrOf result (PoolFault.Record metaslab place kind) → IsNotedTwice shard.now (noted_in self.old.keys) metaslab place kind }
+        ensures again { (metaslab : Option ℕ) (place kind : ℕ) → IsErrOf result (PoolFault.Record metaslab place kind) → IsNotedTwice shard.now (noted_in self.old.keys) metaslab kind }
         ensures no_device { IsErrOf result PoolFault.Shelf → ⊥ }
         ensures fault { IfErr result IsShardFault }
     {
@@ -481,7 +481,7 @@ pub fn import<H: Shelf>(alloc: Global, shelf: &mut H) -> Result<Pool<H::R, H::A>
     ensures import { (x : State) (pieces : ℕ → Pieces)
         → RestsThere x pieces (H.told shelf.old) (H.leaves shelf.old) (H.counts shelf.old) (H.uber_count shelf.old)
         → ImportIs H.R.Rack H.A.Area x pieces (H.told shelf.new) (H.leaves shelf.new) (H.counts shelf.new) (H.uber_count shelf.new) result }
-    ensures not_spec { NotOfSpec result }
+    ensures not_spec { IfErr result IsNotSpec }
     ensures tells { OnOk result (is_some (H.told shelf.new) ≡ is_some (H.told shelf.old)) }
     // A record for which it is refused has the fault.
     ensures faulty { (metaslab : Option ℕ) (place kind : ℕ) → IsErrOf result (PoolFault.Record metaslab place kind)
