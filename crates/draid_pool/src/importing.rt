@@ -290,7 +290,7 @@ impl Found {
         requires live { AllLive shard.now }
         ensures noted { OnOk result (Notes shard.now (get nat_eq self.old.newest) (get nat_eq self.new.newest) self.old.seq self.new.seq) }
         ensures keys { OnOk result (NotesOnlyOf shard.now (noted_in self.old.keys) (noted_in self.new.keys)) }
-        ensures again { (metaslab : Option ℕ) (place kind : ℕ) → IsErrOf result (PoolFault.Record metaslab place kind) → IsNotedTwice shard.now (noted_in self.old.keys) metaslab kind }
+        ensures again { (metaslab : Option ℕ) (place kind : ℕ) → IsErrOf result (PoolFault.Record metaslab place kind) → IsNotedTwice shard.now (noted_in self.old.keys) metaslab place kind }
         ensures no_device { IsErrOf result PoolFault.Shelf → ⊥ }
         ensures fault { IfErr result IsShardFault }
     {
