@@ -1,3 +1,6 @@
+ghost use Rattle.std.specs.Prelude.{◌≤◌, length};
+ghost use Rattle.draid_choose.specs.Rooms.{Picks, most_rooms};
+
 use draid_area::{Area, MemoryArea};
 use draid_choose::{Chooser, first_fit};
 use draid_lines::{MemorySink, MemorySource};
@@ -8,9 +11,6 @@ use draid_spec::{Geometry, Props, SpecFault, geometry, parse_spec};
 use std::alloc::{AllocError, Global};
 use std::test::Fail;
 use std::thread::Threads;
-
-ghost use Rattle.std.specs.Prelude.{◌≤◌, length};
-ghost use Rattle.draid_choose.specs.Rooms.{Picks, most_rooms};
 
 /// Runs a script on a shelf, and gives the status and what was printed.
 fn run_on<R: AllocGlobal + Threads + Sync>(
@@ -26,17 +26,15 @@ fn run_on<R: AllocGlobal + Threads + Sync>(
         { first_fit(rooms) },
     );
     let words = [String::from_str(alloc, "session")?];
-    let mut source = MemorySource::new(
-        Vec::from_slice(alloc, script.as_bytes())?,
-        Vec::new(alloc),
-    );
+    let mut source = MemorySource::new(Vec::from_slice(alloc, script.as_bytes())?, Vec::new(alloc));
     let mut sink = MemorySink::new(alloc, Vec::new(alloc));
     let status = run(rt, &words, shelf, &mut source, &mut sink, &chooser);
     Ok((status, Vec::from_slice(alloc, sink.held())?))
 }
 
 /// The groups of a session, and what an import then finds once so many were acknowledged.
-const SESSION: &str = "create draid1:2d:3c:0s 3 sector=512 height=8 metaslabs=1 slices=4\nwrite 7 aa\nsync\nwrite 7 bb\nsync\n";
+const SESSION: &str =
+    "create draid1:2d:3c:0s 3 sector=512 height=8 metaslabs=1 slices=4\nwrite 7 aa\nsync\nwrite 7 bb\nsync\n";
 
 const FOUND: [&str; 4] = [
     "import no pool\nread no pool\n",
@@ -150,7 +148,8 @@ fn change(shelf: &mut MemoryShelf, area: Changed, at: u64, bytes: &[u8]) -> bool
 }
 
 /// A pool of two blocks, which lie in the record of the even group 2 behind 100 bytes, each in 72 of its own.
-const BLOCKS: &str = "create draid1:2d:3c:0s 3 sector=512 height=8 metaslabs=1 slices=4\nwrite 7 aa\nwrite 8 bb\nsync\n";
+const BLOCKS: &str =
+    "create draid1:2d:3c:0s 3 sector=512 height=8 metaslabs=1 slices=4\nwrite 7 aa\nwrite 8 bb\nsync\n";
 
 /// Which bytes are changed, the status of an import then, and what it prints.
 const CHANGES: [(Changed, u64, &[u8], u8, &str); 10] = [
@@ -161,27 +160,9 @@ const CHANGES: [(Changed, u64, &[u8], u8, &str); 10] = [
         0,
         "import draid1:2d:3c:0s-0 group=1 objects=0\n",
     ),
-    (
-        Changed::Uber,
-        1,
-        b"DZUX",
-        8,
-        "record uber at=1 kind=2\n",
-    ),
-    (
-        Changed::Uber,
-        14,
-        &[3],
-        8,
-        "record uber at=7 kind=2\n",
-    ),
-    (
-        Changed::Uber,
-        17,
-        &[33],
-        8,
-        "record uber at=17 kind=2\n",
-    ),
+    (Changed::Uber, 1, b"DZUX", 8, "record uber at=1 kind=2\n"),
+    (Changed::Uber, 14, &[3], 8, "record uber at=7 kind=2\n"),
+    (Changed::Uber, 17, &[33], 8, "record uber at=17 kind=2\n"),
     (
         Changed::Even,
         0,
@@ -189,13 +170,7 @@ const CHANGES: [(Changed, u64, &[u8], u8, &str); 10] = [
         8,
         "record metaslab=0 at=0 kind=2\n",
     ),
-    (
-        Changed::Even,
-        9,
-        &[9],
-        8,
-        "record metaslab=0 at=6 kind=2\n",
-    ),
+    (Changed::Even, 9, &[9], 8, "record metaslab=0 at=6 kind=2\n"),
     (
         Changed::Even,
         9,
@@ -254,7 +229,10 @@ fn a_short_record_ends_the_run(rt: HostRuntime) -> Result<(), Fail> {
     shelf.give(0, kit);
     let (ended, printed) = run_on(&rt, &mut shelf, "import\n")?;
     assert_eq!(rt; ended.code(), 8);
-    assert_eq!(rt; printed.as_slice(), b"record metaslab=0 at=0 kind=1\n".as_slice());
+    assert_eq!(rt;
+        printed.as_slice(),
+        b"record metaslab=0 at=0 kind=1\n".as_slice()
+    );
     Ok(())
 }
 
