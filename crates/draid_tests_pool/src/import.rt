@@ -248,3 +248,21 @@ fn shut_gates_are_no_pool(rt: HostRuntime) -> Result<(), Fail> {
     assert_eq!(rt; printed.as_slice(), b"import no pool\n".as_slice());
     Ok(())
 }
+
+/// The greatest group that an uberblock may name.
+const LAST: [u8; 8] = [0, 0, 255, 255, 255, 255, 255, 254];
+
+// No group is committed behind it.
+#[test]
+fn the_last_number_is_of_no_group(rt: HostRuntime) -> Result<(), Fail> {
+    let mut shelf = MemoryShelf::new(rt.alloc(), CrashRule::New);
+    run_on(&rt, &mut shelf, BLOCKS)?;
+    assert!(rt; change(&mut shelf, Changed::Uber, 7, &LAST));
+    assert!(rt; change(&mut shelf, Changed::Even, 12, &LAST));
+    let (ended, printed) = run_on(&rt, &mut shelf, "import\nsync\nread 7\nexport\n")?;
+    assert_eq!(rt; ended, Status::Done);
+    let wanted =
+        "import draid1:2d:3c:0s-0 group=281474976710654 objects=2\nsync last\nread 7 1 aa\nexport last\n";
+    assert_eq!(rt; printed.as_slice(), wanted.as_bytes());
+    Ok(())
+}
