@@ -206,7 +206,8 @@ fn a_shelf_that_fails_ends_the_run(rt: HostRuntime) -> Result<(), Fail> {
 #[test]
 fn a_shelf_that_fails_at_an_import_ends_the_run(rt: HostRuntime) -> Result<(), Fail> {
     const FAILED: &str = "create draid1:2d:3c:0s-0 stripes=32\nexport group=1\nshelf fault\n";
-    const FOUND: &str = "create draid1:2d:3c:0s-0 stripes=32\nexport group=1\nimport draid1:2d:3c:0s-0 group=1 objects=0\n";
+    const FOUND: &str =
+        "create draid1:2d:3c:0s-0 stripes=32\nexport group=1\nimport draid1:2d:3c:0s-0 group=1 objects=0\n";
     let calls: [&'static [u64]; 3] = [&[3], &[4], &[5]];
     let wanted = [
         (Status::ShelfFault, FAILED),
