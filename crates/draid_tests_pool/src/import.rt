@@ -45,7 +45,7 @@ const FOUND: [&str; 4] = [
 
 /// How many groups replies acknowledge: that of the new pool, and those of the syncs.
 fn acknowledged(printed: &[u8]) -> usize {
-    let mut groups = 0;
+    let mut groups = 0usize;
     for line in printed.split(|byte: &u8| *byte == b'\n') {
         if line.starts_with(b"create ") || line.starts_with(b"sync ") {
             groups = groups.saturating_add(1);
