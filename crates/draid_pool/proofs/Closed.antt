@@ -1,11 +1,12 @@
 -- The devices of a pool's metaslabs are given back to a shelf.
 use Rattle.std.proofs.Common.{arith, ◌≡◌, ◌==◌, ◌%◌, ◌+◌, ◌≤◌, ◌++◌, ◌∙◌, inl, inr, ℕ, List, [], ◌∷◌, Option, Some, None, refl, sym, ap, subst, length, length-append, if◌then◌else◌}
-use Rattle.std.specs.Prelude.{⊤, Bool, true, false, IsSomeAnd, MatchOption, slice_get}
+use Rattle.std.specs.Prelude.{⊤, Bool, true, false, IsSome, IsSomeAnd, MatchOption, slice_get}
 use Rattle.std.proofs.lemmas.Bool.{cases_eq}
 use Rattle.std.proofs.lemmas.Bool.Decides.{nat_tests}
 use Rattle.std.proofs.lemmas.List.{append-nil, append_assoc}
 use Rattle.std.proofs.lemmas.Option.{slice_get_within}
 use Rattle.draid_rack.specs.Rack.{Told}
+use Rattle.draid_rack.specs.Rack.{Shape}
 use Rattle.draid_rack.specs.declared.Rack as racks
 use Rattle.draid_area.specs.Area.{Content}
 use Rattle.draid_area.specs.Moments as area_moments
@@ -13,24 +14,25 @@ use Rattle.draid_area.specs.declared.Area as areas
 use Rattle.draid_names.specs.declared.pointer.Pointer.{Pointer}
 use Rattle.draid_map.specs.Place.{IsLayout}
 use Rattle.draid_machine.specs.Created.{IsReached}
+use Rattle.draid_machine.specs.State as machine
 use Rattle.draid_layouts.specs.Layout.{layout_of}
 use Rattle.draid_segments.specs.Segments.{Backed, Pieces}
 use Rattle.draid_shelf.specs.Kits.{AreNewChecks, Both, CrashedChecks, CrashedHeld, CrashedKit, Held, IsNewArea, KitCounts, KitTold, OnHeld, gives_kit, gives_uber, kit_of, puts_uber}
 use Rattle.draid_shelf.specs.Shelf.{SameOthers}
 use Rattle.draid_stable.specs.Stable as stable
-use Rattle.draid_stable.specs.Stable.{HasRecord}
 use Rattle.draid_stable.proofs.Lasting.{stable_left}
 use Rattle.draid_shard.specs.declared.shard.Shard.{Shard}
-use Rattle.draid_shard.specs.Groups.{at_version}
+use Rattle.draid_shard.specs.Groups.{ListsOnce, at_version}
 use Rattle.draid_shard.specs.Part.{Part, layout_in}
 use Rattle.draid_shard.specs.States.{layout_by}
 use Rattle.draid_uber.specs.Uber.{area_of}
 use Rattle.draid_uber.proofs.Imports.{crash_stands}
 use Rattle.draid_session.specs.State.{Metaslab, State}
-use Rattle.draid_pool.specs.Closing.{HoldsPool, Rests, RestsOn, Returns, SameCounts, TakesBack, kit_in}
+use Rattle.draid_pool.specs.Closing.{AllTell, HoldsPool, Rests, RestsOn, Returns, ReturnsLeaves, SameCounts, TakesBack, kit_in}
 use Rattle.draid_pool.specs.Metaslabs.{IsMetaslab, harm_of}
 use Rattle.draid_pool.specs.Objects.{HoldsObjects, blocks_of}
 use Rattle.draid_pool.specs.Pools.{Stands, part_in}
+use Rattle.draid_pool.specs.Importable.{AllAlike}
 use Rattle.draid_pool.specs.Records.{HasImages, HasLeafNumbers, area_for}
 use Rattle.draid_pool.specs.Ubers.{UberStands, kept_in}
 use Rattle.draid_pool.specs.declared.pool.Pool.{Pool}
@@ -62,6 +64,7 @@ module _ {R A : Type 0} (rack : racks.Ghosts R) (area : areas.Ghosts A) where
     pub back : List (Shard R A)
     pub parts : left ++ back ≡ shards
     pub held : OnHeld new (λ y. MatchOption old ⊥ (λ x. GivenFrom (length left) shards x y))
+    pub tells : IsSome old → AllTell rack area shards → IsSome new
     pub rack_count : (m : ℕ) (shard : Shard R A) (who : Option ℕ) → length left ≤ m → slice_get shards m ≡ Some shard → (after m).rack who ≡ rack.faults shard.rack who
     pub even_count : (m : ℕ) (shard : Shard R A) → length left ≤ m → slice_get shards m ≡ Some shard → (after m).even ≡ area.faults shard.even
     pub odd_count : (m : ℕ) (shard : Shard R A) → length left ≤ m → slice_get shards m ≡ Some shard → (after m).odd ≡ area.faults shard.odd
@@ -81,11 +84,17 @@ module _ {R A : Type 0} (rack : racks.Ghosts R) (area : areas.Ghosts A) where
     back = [];
     parts = append-nil shards;
     held = none_given shards old;
+    tells = λ some all. some;
     rack_count = λ m shard who past there. (let below = slice_get_within shards m shard there in absurd (omega (arith, below, past)));
     even_count = λ m shard past there. (let below = slice_get_within shards m shard there in absurd (omega (arith, below, past)));
     odd_count = λ m shard past there. (let below = slice_get_within shards m shard there in absurd (omega (arith, below, past)));
     others = λ m past. refl;
   }
+
+  gives_some : (n : ℕ) (kit : Option KitTold) (mid : Option Held) → IsSome kit → IsSome mid → IsSome (gives_kit n kit mid)
+  gives_some n None mid k m = absurd (cc)
+  gives_some n (Some kit) None k m = absurd (cc)
+  gives_some n (Some kit) (Some x) k m = refl
 
   module _ (shards left fewer back : List (Shard R A)) (shard : Shard R A) (n : ℕ) (parts : left ++ back ≡ shards) (popped : left ≡ fewer ++ shard ∷ []) (at : n ≡ length fewer) where
     pub now : fewer ++ shard ∷ back ≡ shards
@@ -131,14 +140,14 @@ module _ {R A : Type 0} (rack : racks.Ghosts R) (area : areas.Ghosts A) where
     more_held kit mid new old is gives h = subst (λ o. OnHeld o (λ y. MatchOption old ⊥ (λ x. GivenFrom (length fewer) shards x y))) (sym gives) (held_more kit mid old is h)
 
     -- the same of a count
-    pub counted : {B : Type 0} (count : KitCounts → B) (of : Shard R A → B) (mid after : ℕ → KitCounts) → ((m : ℕ) (s : Shard R A) → length left ≤ m → slice_get shards m ≡ Some s → count (mid m) ≡ of s)
+    pub counted : {B C : Type 0} (count : C → B) (of : Shard R A → B) (mid after : ℕ → C) → ((m : ℕ) (s : Shard R A) → length left ≤ m → slice_get shards m ≡ Some s → count (mid m) ≡ of s)
         → count (after n) ≡ of shard → SameOthers n mid after → (m : ℕ) (s : Shard R A) → length fewer ≤ m → slice_get shards m ≡ Some s → count (after m) ≡ of s
     counted count of mid after before is others m s low there = elim (cases_eq m n) [
       | inl same ↦ ap (λ (k : ℕ). count (after k)) same ∙ (is ∙ ap of (own m s same there))
       | inr other ↦ ap count (others m (λ same. omega (arith, same, other))) ∙ before m s (behind m low (λ same. omega (arith, same, other))) there
     ]
 
-    pub spared : (before mid after : ℕ → KitCounts) → ((m : ℕ) → length shards ≤ m → mid m ≡ before m) → SameOthers n mid after → (m : ℕ) → length shards ≤ m → after m ≡ before m
+    pub spared : {C : Type 0} (before mid after : ℕ → C) → ((m : ℕ) → length shards ≤ m → mid m ≡ before m) → SameOthers n mid after → (m : ℕ) → length shards ≤ m → after m ≡ before m
     spared before mid after same others m past = others m (apart m past) ∙ same m past
 
   pub giving_more : (shards left fewer : List (Shard R A)) (shard : Shard R A) (n : ℕ) (kit : Option KitTold) (old mid new : Option Held) (before middle after : ℕ → KitCounts)
@@ -149,11 +158,36 @@ module _ {R A : Type 0} (rack : racks.Ghosts R) (area : areas.Ghosts A) where
     back = shard ∷ g.back;
     parts = now shards left fewer g.back shard n g.parts popped at;
     held = more_held shards left fewer g.back shard n g.parts popped at kit mid new old is gives g.held;
-    rack_count = λ m s who low there. counted shards left fewer g.back shard n g.parts popped at (λ c. c.rack who) (λ (x : Shard R A). rack.faults x.rack who) middle after (λ m s low there. g.rack_count m s who low there) (rack_count who) others m s low there;
-    even_count = counted shards left fewer g.back shard n g.parts popped at (λ c. c.even) (λ (x : Shard R A). area.faults x.even) middle after g.even_count even_count others;
-    odd_count = counted shards left fewer g.back shard n g.parts popped at (λ c. c.odd) (λ (x : Shard R A). area.faults x.odd) middle after g.odd_count odd_count others;
+    tells = λ some all. subst IsSome (sym gives) (gives_some n kit mid (subst IsSome (sym is) (all n shard (here shards left fewer g.back shard n g.parts popped at))) (g.tells some all));
+    rack_count = λ m s who low there. counted shards left fewer g.back shard n g.parts popped at (λ (c : KitCounts). c.rack who) (λ (x : Shard R A). rack.faults x.rack who) middle after (λ m s low there. g.rack_count m s who low there) (rack_count who) others m s low there;
+    even_count = counted shards left fewer g.back shard n g.parts popped at (λ (c : KitCounts). c.even) (λ (x : Shard R A). area.faults x.even) middle after g.even_count even_count others;
+    odd_count = counted shards left fewer g.back shard n g.parts popped at (λ (c : KitCounts). c.odd) (λ (x : Shard R A). area.faults x.odd) middle after g.odd_count odd_count others;
     others = spared shards left fewer g.back shard n g.parts popped at before middle after g.others others;
   }
+
+  -- the shelf has the leaves of the racks behind those that are left
+  pub record GivingLeaves (shards left : List (Shard R A)) (before after : ℕ → Option Shape) : Type 0 where
+    pub own : (m : ℕ) (shard : Shard R A) → length left ≤ m → slice_get shards m ≡ Some shard → after m ≡ Some (rack.shape shard.rack)
+    pub others : (m : ℕ) → length shards ≤ m → after m ≡ before m
+
+  pub leaves_none : (shards : List (Shard R A)) (before : ℕ → Option Shape) → GivingLeaves shards shards before before
+  leaves_none shards before = record {
+    own = λ m shard past there. (let below = slice_get_within shards m shard there in absurd (omega (arith, below, past)));
+    others = λ m past. refl;
+  }
+
+  pub leaves_more : (shards left fewer : List (Shard R A)) (shard : Shard R A) (n : ℕ) (old mid : Option Held) (counts counts' : ℕ → KitCounts) (before middle after : ℕ → Option Shape)
+      → Giving shards left old mid counts counts' → GivingLeaves shards left before middle → left ≡ fewer ++ shard ∷ [] → n ≡ length fewer → after n ≡ Some (rack.shape shard.rack) → SameOthers n middle after
+      → GivingLeaves shards fewer before after
+  leaves_more shards left fewer shard n old mid counts counts' before middle after g l popped at is others = record {
+    own = counted shards left fewer g.back shard n g.parts popped at (λ (o : Option Shape). o) (λ (x : Shard R A). Some (rack.shape x.rack)) middle after l.own is others;
+    others = spared shards left fewer g.back shard n g.parts popped at before middle after l.others others;
+  }
+
+  pub leaves_all : (shards left : List (Shard R A)) (before after : ℕ → Option Shape) → GivingLeaves shards left before after → left ≡ [] → ReturnsLeaves rack shards before after
+  leaves_all shards left before after g none =
+      let zero : length left ≡ 0 = ap (λ (xs : List (Shard R A)). length xs) none in
+      record { own = λ m shard there. g.own m shard (omega (arith, zero)) there; others = g.others }
 
   all_held : (shards : List (Shard R A)) (n : ℕ) (old new : Option Held) → n ≡ 0 → OnHeld new (λ y. MatchOption old ⊥ (λ x. GivenFrom n shards x y)) → OnHeld new (λ y. MatchOption old ⊥ (λ x. TakesBack rack area shards x y))
   all_held shards n old None zero h = tt
@@ -170,6 +204,7 @@ module _ {R A : Type 0} (rack : racks.Ghosts R) (area : areas.Ghosts A) where
       let zero : length left ≡ 0 = ap (λ (xs : List (Shard R A)). length xs) none in
       record {
         held = all_held shards (length left) old new zero g.held;
+        tells = g.tells;
         rack_count = λ m shard who there. g.rack_count m shard who (omega (arith, zero)) there;
         even_count = λ m shard there. g.even_count m shard (omega (arith, zero)) there;
         odd_count = λ m shard there. g.odd_count m shard (omega (arith, zero)) there;
@@ -198,7 +233,7 @@ some_and : {X : Type 0} (o : Option X) (x : X) (P : X → Type 0) → o ≡ Some
 some_and o x P is h = subst (λ z. IsSomeAnd z P) (sym is) h
 
 -- the area of a group, of two that tell
-area_told : (group : ℕ) (e o : Option Content) (kit : KitTold) (P : Content → Type 0) → e ≡ Some kit.even → o ≡ Some kit.odd → MatchOption (area_for group e o) ⊤ P
+pub area_told : (group : ℕ) (e o : Option Content) (kit : KitTold) (P : Content → Type 0) → e ≡ Some kit.even → o ≡ Some kit.odd → MatchOption (area_for group e o) ⊤ P
     → P (stable.area_of group kit.even kit.odd)
 area_told group e o kit P even odd h = by (group % 2 == 0) h
   where
@@ -219,6 +254,8 @@ module _ {R A : Type 0} (rack : racks.Ghosts R) (area : areas.Ghosts A) where
     pub uber : UberStands x content
     pub images : HasImages x
     pub leaves : HasLeafNumbers x
+    pub arms : machine.Core
+    pub alike : AllAlike arms x
 
   pub stands_parts : (pool : Pool R A) (table : ℕ → Option Pointer) (x : State) → Stands rack area pool table x → Parts pool.shards.items (area.told (area_of pool.uber)) x
   stands_parts pool table x s = record {
@@ -231,6 +268,8 @@ module _ {R A : Type 0} (rack : racks.Ghosts R) (area : areas.Ghosts A) where
     uber = s.uber.stands;
     images = s.images;
     leaves = s.leaves;
+    arms = s.arms;
+    alike = s.alike;
   }
 
   backed : (x : State) (m : ℕ) (pieces : Pieces) (shard : Shard R A) (y : Metaslab) (kit : KitTold) → IsMetaslab rack area (part_in x m) pieces shard y → rack.told shard.rack ≡ Some kit.rack
@@ -238,14 +277,14 @@ module _ {R A : Type 0} (rack : racks.Ghosts R) (area : areas.Ghosts A) where
   backed x m pieces shard y kit is told =
       subst (λ (p : Part). Backed (layout_in p) pieces y.world kit.rack) is.part_is (on_some (rack.told shard.rack) kit.rack (Backed (layout_by shard) pieces y.world) told is.stands.segments)
 
-  rests_on : (x : State) (m : ℕ) (pieces : Pieces) (shard : Shard R A) (y : Metaslab) (kit : KitTold) → IsMetaslab rack area (part_in x m) pieces shard y → kit_in rack area shard ≡ Some kit
+  pub rests_on : (x : State) (m : ℕ) (pieces : Pieces) (shard : Shard R A) (y : Metaslab) (kit : KitTold) → IsMetaslab rack area (part_in x m) pieces shard y → kit_in rack area shard ≡ Some kit
       → RestsOn x m pieces y kit
   rests_on x m pieces shard y kit is told =
       let k = kit_is (rack.told shard.rack) (area.told shard.even) (area.told shard.odd) kit told in
       record {
         reached = subst (λ (p : Part). IsReached (layout_in p) y.world) is.part_is is.stands.reached;
         images = λ image of. record {
-          recorded = area_told image.group (area.told shard.even) (area.told shard.odd) kit (HasRecord (at_version image.version x.geometry) m image) k.even k.odd (is.records image of);
+          recorded = (area_told image.group (area.told shard.even) (area.told shard.odd) kit (ListsOnce x.geometry m image) k.even k.odd (is.records image of)).has;
           firm = (backed x m pieces shard y kit is k.rack).images image of;
         };
         harm = some_and y.harm kit.rack.harmed (λ harm. (leaf sector : ℕ) → kit.rack.harmed leaf sector ≡ harm leaf sector) (is.harm ∙ ap harm_of k.rack) (λ leaf sector. refl);

@@ -130,6 +130,7 @@ module _ {R A : Type 0} (rack : racks.Ghosts R) (area : areas.Ghosts A) (old new
         | inr is ↦ absurd_test x.pending is.0 idle
       ];
       leaves = leaves;
+      alike = λ version arms. turns.done.1.alike version arms;
     }
 
     pub came_on : CameTo (m + 1)
@@ -191,6 +192,8 @@ module _ {R A : Type 0} (rack : racks.Ghosts R) (area : areas.Ghosts A) (old new
       objects = c.stood.objects;
       images = c.stood.images;
       leaves = c.stood.leaves;
+      arms = c.stood.arms;
+      alike = c.stood.alike;
       groups_are = λ k y at. c.stood.groups_are k y at (let inside = slice_get_within c.metaslabs k y at in omega (arith, inside, long));
     });
   } where

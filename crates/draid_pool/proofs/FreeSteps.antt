@@ -249,6 +249,8 @@ module _ {R A : Type 0} (rack : racks.Ghosts R) (area : areas.Ghosts A) where
     uber = subst (λ u. IsUber area u x) (sym uber) s.uber;
     images = s.images;
     leaves = s.leaves;
+    arms = s.arms;
+    alike = s.alike;
   }
 
   pub same_represents : (pool new : Pool R A) (x : State) → new.shards.items ≡ pool.shards.items → new.geometry ≡ pool.geometry → new.uber ≡ pool.uber → new.seq ≡ pool.seq → new.floor ≡ pool.floor

@@ -10,7 +10,7 @@ use Rattle.std.proofs.lemmas.Option.{slice_get_within}
 use Rattle.sha2.specs.Sha256.{sha256}
 use Rattle.draid_names.specs.declared.pointer.Pointer.{Pointer}
 use Rattle.draid_rack.specs.Rack as racks_told
-use Rattle.draid_rack.specs.Rack.{Told}
+use Rattle.draid_rack.specs.Rack.{Shape, Told}
 use Rattle.draid_rack.specs.declared.Rack as racks
 use Rattle.draid_area.specs.Area.{Content, OnTold}
 use Rattle.draid_area.specs.declared.Area as areas
@@ -21,7 +21,7 @@ use Rattle.draid_map.specs.Place.{IsLayout}
 use Rattle.draid_machine.specs.declared.names.ArmName.TheVariants.{Leaf}
 use Rattle.draid_machine.specs.declared.names.Key.{Key}
 use Rattle.draid_machine.specs.declared.names.Held.{Held as Block}
-use Rattle.draid_machine.specs.Created.{created, new_arm}
+use Rattle.draid_machine.specs.Created.{created, created_core, new_arm}
 use Rattle.draid_machine.specs.State as machine
 use Rattle.draid_objects.specs.Blocks.{Blocks, none_held, table_of}
 use Rattle.draid_objects.specs.Stores.{IsFloor, Stores}
@@ -30,6 +30,7 @@ use Rattle.draid_record.specs.declared.uber.UberBody.{UberBody}
 use Rattle.draid_segments.specs.Segments.{Backed, Pieces}
 use Rattle.draid_segments.proofs.Beginning.{created_backed}
 use Rattle.draid_shelf.specs.Kits.{AreNewChecks, ChecksTold, Held, IsNewArea, IsNewKit, IsNewPool, IsNewRack, IsUncounted, KitCounts, KitTold, OnHeld, gives_uber, takes_uber, uber_bytes}
+use Rattle.draid_layouts.specs.Layout as layouts
 use Rattle.draid_shard.specs.Part.{Part, layout_in}
 use Rattle.draid_shard.specs.States.{IsIn, layout_by}
 use Rattle.draid_shard.specs.declared.shard.Shard.{Shard}
@@ -46,11 +47,14 @@ use Rattle.draid_pool.specs.Metaslabs.{IsMetaslab, counts_of, harm_of}
 use Rattle.draid_pool.specs.Objects.{HoldsObjects, PointsTo, blocks_of}
 use Rattle.draid_pool.specs.Opening.{AreOpened, HasNewKits, HoldsMade, IsAway, IsBackAgain, IsMade, IsOpened, IsRefused, NoChecks, Opens, SameButRecords, TakesFirst, rack_in}
 use Rattle.draid_pool.specs.Pools.{Represents}
+use Rattle.draid_pool.specs.Importable.{AllAlike, IsAlike}
 use Rattle.draid_pool.specs.Records.{HasImages, HasLeafNumbers, HasRecords, LeavesAreBelow}
 use Rattle.draid_pool.specs.Ubers.{IsPending, IsUber, body_of}
 use Rattle.draid_pool.specs.Whole.{IsWhole}
 use Rattle.draid_pool.specs.declared.pool.Pool.{Pool}
+use Rattle.draid_pool.proofs.Alike.{alike_as, alike_created, created_same}
 use Rattle.draid_pool.proofs.Closed.{Parts, counted_as, holds_pool}
+use Rattle.draid_pool.proofs.ImportClosed.{importable_back}
 use Rattle.draid_pool.proofs.Lists.{ext, some_of}
 
 -- what an image at a place is of
@@ -236,6 +240,17 @@ module _ {R A : Type 0} (rack : racks.Ghosts R) (area : areas.Ghosts A) where
           }));
     }
 
+    -- all have the version and the arms that new ones have
+    alike_first : (x : State) → x.geometry ≡ geometry → x.metaslabs ≡ map metaslab_of shards → AllAlike (created_core (layouts.layout_of geometry opened.perms 0)) x
+    alike_first x used are m y there =
+        let u = unmapped metaslab_of shards m y (ap (λ (ys : List Metaslab). slice_get ys m) (sym are) ∙ there) in
+        subst (λ (z : Metaslab). IsAlike x.geometry.props.version (created_core (layouts.layout_of geometry opened.perms 0)) z.world) u.2
+        (subst (λ (w : machine.State). IsAlike x.geometry.props.version (created_core (layouts.layout_of geometry opened.perms 0)) w) (sym (world_is m u.0 (opened.each m u.0 u.1)))
+        (subst (λ (g : Geometry). IsAlike g.props.version (created_core (layouts.layout_of geometry opened.perms 0)) (created (layout_in (record { geometry = geometry; perms = opened.perms; number = m })) geometry.props.version)) (sym used)
+        (alike_as geometry.props.version (created_core (layouts.layout_of geometry opened.perms m)) (created_core (layouts.layout_of geometry opened.perms 0))
+        (created (layouts.layout_of geometry opened.perms m) geometry.props.version) (created_same (layouts.layout_of geometry opened.perms m) (layouts.layout_of geometry opened.perms 0) refl)
+        (alike_created (layouts.layout_of geometry opened.perms m) geometry.props.version))))
+
     -- ---- the pool
 
     module _ (count : ℕ) (told : Bool) where
@@ -261,6 +276,8 @@ module _ {R A : Type 0} (rack : racks.Ghosts R) (area : areas.Ghosts A) where
           uber = uber;
           images = images_first (state_of geometry opened.perms shards count told) refl (λ group found some. elim found [ inl is ↦ is | inr is ↦ absurd (let none = is.0 in cc) ]);
           leaves = leaves_first (state_of geometry opened.perms shards count told) refl refl refl;
+          arms = created_core (layouts.layout_of geometry opened.perms 0);
+          alike = alike_first (state_of geometry opened.perms shards count told) refl refl;
         };
         only = λ m k h is live. absurd (not_held m k h is);
       }
@@ -279,6 +296,8 @@ module _ {R A : Type 0} (rack : racks.Ghosts R) (area : areas.Ghosts A) where
         images = images_first x refl
             (λ group found some. elim found [ inl is ↦ absurd (omega (arith, is, some)) | inr is ↦ (let at = is.1 in omega (arith, at)) ]);
         leaves = leaves_first x refl refl refl;
+        arms = created_core (layouts.layout_of geometry opened.perms 0);
+        alike = alike_first x refl refl;
       }
 
       pub is_fresh : ((m : ℕ) → m < geometry.props.metaslabs → IsUncounted (counts m)) → OnHeld held (HasNewKits geometry) → (IsTrue told → IsTrue (is_some held))
@@ -360,8 +379,9 @@ module _ {R A : Type 0} (rack : racks.Ghosts R) (area : areas.Ghosts A) where
       checks_then P (Some w) (Some y) (Some x) kits t held = held (subst (λ (o : Option ChecksTold). IsSomeAnd o AreNewChecks) (sym t.checks) kits.checks)
 
       pub refused : (body : UberBody) (now : OwnCounts) → body ≡ body_of geometry 1 geometry.spec.children → StandsTold None (body ∷ []) content → ((m : ℕ) → m < geometry.props.metaslabs → IsUncounted (counts m))
-          → ((m : ℕ) → after m ≡ late m) → NoChecks now → IsRefused geometry new after now
-      refused body now is stands uncounted kept checks =
+          → ((m : ℕ) → after m ≡ late m) → NoChecks now → (leaves : ℕ → Option Shape) → ((m : ℕ) (shard : Shard R A) → slice_get shards m ≡ Some shard → leaves m ≡ Some (rack.shape shard.rack))
+          → IsRefused geometry new leaves after now
+      refused body now is stands uncounted kept checks leaves shapes =
           let state = state_of geometry opened.perms shards now.uber (is_some held) in
           let parts = refused_parts now.uber (is_some held) content body is stands in
           record {
@@ -369,6 +389,7 @@ module _ {R A : Type 0} (rack : racks.Ghosts R) (area : areas.Ghosts A) where
             is_fresh = is_fresh now.uber (is_some held) uncounted fresh_kits (λ tells. tells);
             told = λ some. told_then content held mid last r.held taken (subst (λ (o : Option Held). IsSome o) gives some);
             held = checks_then (HoldsPool (uncommitted state) false) held mid new fresh_kits taken (holds_pool rack area shards content (uncommitted state) parts mid last middle late r new gives);
+            importable = importable_back rack area shards (uncommitted state) parts.pieces parts.shards_are parts.each leaves parts.arms parts.alike (λ m y at. omega arith) shapes content mid last middle late r new gives;
             counts = counted_as rack area shards content (uncommitted state) parts mid last middle late r after kept;
             uber = omega arith;
             checks = checks;

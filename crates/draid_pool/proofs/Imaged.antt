@@ -13,14 +13,16 @@ use Rattle.draid_machine.specs.State as machine
 use Rattle.draid_machine.specs.Step.{Step}
 use Rattle.draid_shard.specs.Part.{Part}
 use Rattle.draid_session.specs.State.{Metaslab}
+use Rattle.draid_pool.specs.Importable.{IsAlike}
 use Rattle.draid_pool.specs.Records.{HasImage, HasRecords, LeavesAreBelow}
 use Rattle.draid_pool.specs.Shards.{KeepsImages}
+use Rattle.draid_pool.proofs.Alike.{alike_kept, alike_then, same_bare}
 
 pub keeps_same : (w : machine.State) → KeepsImages w w
-keeps_same w = record { image = refl; sealed = refl; leaves = λ leaf some. some }
+keeps_same w = record { image = refl; sealed = refl; leaves = λ leaf some. some; asked = refl; arms = record { order = λ slot. refl; arms = λ n. refl } }
 
 pub keeps_then : (w mid v : machine.State) → KeepsImages w mid → KeepsImages mid v → KeepsImages w v
-keeps_then w mid v a b = record { image = b.image ∙ a.image; sealed = b.sealed ∙ a.sealed; leaves = λ leaf some. a.leaves leaf (b.leaves leaf some) }
+keeps_then w mid v a b = record { image = b.image ∙ a.image; sealed = b.sealed ∙ a.sealed; leaves = λ leaf some. a.leaves leaf (b.leaves leaf some); asked = b.asked ∙ a.asked; arms = alike_then v.core mid.core w.core b.arms a.arms }
 
 -- ---- events
 
@@ -45,19 +47,19 @@ from_mapped f (Some a) some = refl
 
 finish_keeps : (w : machine.State) (key : Key) (h : Held) (b : Bool)
     → KeepsImages w (if b then gone_state w key else live_state w key h)
-finish_keeps w key h true = record { image = refl; sealed = refl; leaves = λ leaf some. some }
-finish_keeps w key h false = record { image = refl; sealed = refl; leaves = λ leaf some. some }
+finish_keeps w key h true = record { image = refl; sealed = refl; leaves = λ leaf some. some; asked = refl; arms = record { order = λ slot. refl; arms = λ n. refl } }
+finish_keeps w key h false = record { image = refl; sealed = refl; leaves = λ leaf some. some; asked = refl; arms = record { order = λ slot. refl; arms = λ n. refl } }
 
 pub step_keeps : (l : machine.Layout) (w v : machine.State) (e : Event) → Step l w e v → LeavesImages e → KeepsImages w v
-step_keeps l w v (Begin key first stripes len birth digest) step leaves = made_keeps w v _ step.made (record { image = refl; sealed = refl; leaves = λ leaf some. some })
+step_keeps l w v (Begin key first stripes len birth digest) step leaves = made_keeps w v _ step.made (record { image = refl; sealed = refl; leaves = λ leaf some. some; asked = refl; arms = record { order = λ slot. refl; arms = λ n. refl } })
 step_keeps l w v (Put key landed failed) step leaves =
-    made_keeps w v _ step.made (record { image = refl; sealed = refl; leaves = λ leaf some. from_mapped _ (w.core.arm (Leaf leaf)) some })
+    made_keeps w v _ step.made (record { image = refl; sealed = refl; leaves = λ leaf some. from_mapped _ (w.core.arm (Leaf leaf)) some; asked = refl; arms = record { order = λ slot. refl; arms = λ n. same_bare _ (w.core.arm n) (λ a. refl) } })
 step_keeps l w v (Finish key) step leaves = made_keeps w v _ step.made (finish_keeps w key step.h (nat_lt l.parity step.m))
-step_keeps l w v (Abort key) step leaves = made_keeps w v _ step.made (record { image = refl; sealed = refl; leaves = λ leaf some. some })
-step_keeps l w v (Free key group) step leaves = made_keeps w v _ step.made (record { image = refl; sealed = refl; leaves = λ leaf some. some })
+step_keeps l w v (Abort key) step leaves = made_keeps w v _ step.made (record { image = refl; sealed = refl; leaves = λ leaf some. some; asked = refl; arms = record { order = λ slot. refl; arms = λ n. refl } })
+step_keeps l w v (Free key group) step leaves = made_keeps w v _ step.made (record { image = refl; sealed = refl; leaves = λ leaf some. some; asked = refl; arms = record { order = λ slot. refl; arms = λ n. refl } })
 step_keeps l w v (Fetch key failed) step leaves = made_keeps w v w step.made (keeps_same w)
 step_keeps l w v (Damage leaf sector failed) step leaves = made_keeps w v w step.made (keeps_same w)
-step_keeps l w v (Close group) step leaves = made_keeps w v _ step.made (record { image = refl; sealed = refl; leaves = λ leaf some. some })
+step_keeps l w v (Close group) step leaves = made_keeps w v _ step.made (record { image = refl; sealed = refl; leaves = λ leaf some. some; asked = refl; arms = record { order = λ slot. refl; arms = λ n. refl } })
 step_keeps l w v e step leaves = absurd leaves
 
 -- ---- what an import may take
@@ -82,3 +84,6 @@ leaves_kept kept_leaf next_leaf w v keeps below = record {
   sealed = λ image is. below.sealed image (sym keeps.sealed ∙ is);
   now = λ leaf some. below.now leaf (keeps.leaves leaf some);
 }
+
+pub alike_stays : (version : ℕ) (arms : machine.Core) (w v : machine.State) → KeepsImages w v → IsAlike version arms w → IsAlike version arms v
+alike_stays version arms w v keeps is = alike_kept version arms w v keeps.asked keeps.arms (λ image of. image_before w v image keeps of) is

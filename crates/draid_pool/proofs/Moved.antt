@@ -24,10 +24,11 @@ use Rattle.draid_pool.specs.Metaslabs.{IsMetaslab}
 use Rattle.draid_pool.specs.Objects.{HoldsObjects, IsPointerOf, PointsTo, blocks_of, worlds_of}
 use Rattle.draid_pool.specs.Pools.{Stands, part_in}
 use Rattle.draid_pool.specs.Records.{HasImage, LeavesAreBelow}
+use Rattle.draid_pool.specs.Importable.{IsAlike}
 use Rattle.draid_pool.specs.Shards.{FollowsIn, KeepsImages}
 use Rattle.draid_pool.specs.Ubers.{IsUber}
 use Rattle.draid_pool.specs.declared.pool.Pool.{Pool}
-use Rattle.draid_pool.proofs.Imaged.{image_kept, leaves_kept}
+use Rattle.draid_pool.proofs.Imaged.{alike_stays, image_kept, leaves_kept}
 use Rattle.draid_pool.proofs.Lists.{ext, get_set_other, get_set_same, set_back, set_twice, some_of}
 use Rattle.draid_pool.proofs.Lives.{held_by, live_by}
 
@@ -189,6 +190,8 @@ module _ {R A : Type 0} (rack : racks.Ghosts R) (area : areas.Ghosts A) where
       order = s.leaves.order;
       each = each_set x.metaslabs m y y' (λ z. LeavesAreBelow x.kept_leaf x.next_leaf z.world) t.at (leaves_kept x.kept_leaf x.next_leaf y.world y'.world t.images (s.leaves.each m y t.at)) s.leaves.each;
     };
+    arms = s.arms;
+    alike = each_set x.metaslabs m y y' (λ z. IsAlike x.geometry.props.version s.arms z.world) t.at (alike_stays x.geometry.props.version s.arms y.world y'.world t.images (s.alike m y t.at)) s.alike;
   }
     where
       each : (k : ℕ) (z : Shard R A) (v : Metaslab) → slice_get new.shards.items k ≡ Some z → slice_get (slice_set x.metaslabs m y') k ≡ Some v

@@ -139,6 +139,8 @@ module _ {R A : Type 0} (rack : racks.Ghosts R) (area : areas.Ghosts A) (shards 
       | inr is ↦ subst (λ k. HasImage k y) (behind ∙ sym is.1) (sealed_image m y at)
     ];
     leaves = record { order = s.leaves.order; each = s.leaves.each };
+    arms = s.arms;
+    alike = s.alike;
     groups_are = s.groups_are;
   }
 
@@ -172,5 +174,7 @@ module _ {R A : Type 0} (rack : racks.Ghosts R) (area : areas.Ghosts A) (shards 
         now = below.now;
       });
     };
+    arms = s.arms;
+    alike = s.alike;
     groups_are = own;
   }

@@ -19,9 +19,8 @@ use Rattle.draid_shelf.specs.Kits.{Held, KitCounts, KitTold, NeedsKit, OnHeld, k
 use Rattle.draid_shelf.specs.Shelf.{SameOthers}
 use Rattle.draid_shelf.specs.declared.kit.Kit.{Kit}
 use Rattle.draid_entries.specs.History.{limit_in, reserved_of}
-use Rattle.draid_stable.specs.Stable.{HasRecord}
 use Rattle.draid_shard.specs.Fits.{Valid}
-use Rattle.draid_shard.specs.Groups.{at_version}
+use Rattle.draid_shard.specs.Groups.{ListsOnce}
 use Rattle.draid_shard.specs.Part.{Part, layout_in}
 use Rattle.draid_shard.specs.States.{IsIn, part_of, stored_in}
 use Rattle.draid_shard.specs.declared.shard.Shard.{Shard}
@@ -33,7 +32,7 @@ use Rattle.draid_pool.proofs.Closed.{at_end, kit_is, put_here, put_there}
 use Rattle.draid_pool.proofs.Lists.{present, some_of}
 
 -- what is below a place of two lists, one after the other
-get_before : {A : Type 0} (xs ys : List A) (m : ℕ) → m < length xs → slice_get (xs ++ ys) m ≡ slice_get xs m
+pub get_before : {A : Type 0} (xs ys : List A) (m : ℕ) → m < length xs → slice_get (xs ++ ys) m ≡ slice_get xs m
 get_before [] ys m below = absurd (omega (arith, below))
 get_before (x ∷ xs) ys zero below = refl
 get_before (x ∷ xs) ys (suc m) below = get_before xs ys m (omega (arith, below))
@@ -49,13 +48,13 @@ failed_too fault failed = (let same : fault ≡ DeviceFault.Failed = cc in ap Er
 -- ---- one metaslab
 
 -- the record that a new metaslab writes is that of its one image
-pub records_first : (part : Part) (even odd : Option Content) → OnTold odd (HasRecord (at_version part.geometry.props.version part.geometry) part.number (created (layout_in part) part.geometry.props.version).image)
+pub records_first : (part : Part) (even odd : Option Content) → OnTold odd (ListsOnce part.geometry part.number (created (layout_in part) part.geometry.props.version).image)
     → HasRecords part (created (layout_in part) part.geometry.props.version) even odd
 records_first part even odd h = λ image of. by image of
   where
     by : (image : Image) → IsImage (created (layout_in part) part.geometry.props.version) image
-        → OnTold (area_for image.group even odd) (HasRecord (at_version image.version part.geometry) part.number image)
-    by image (inl is) = subst (λ (i : Image). OnTold (area_for i.group even odd) (HasRecord (at_version i.version part.geometry) part.number i)) is h
+        → OnTold (area_for image.group even odd) (ListsOnce part.geometry part.number image)
+    by image (inl is) = subst (λ (i : Image). OnTold (area_for i.group even odd) (ListsOnce part.geometry part.number i)) is h
     by image (inr is) = absurd (cc)
 
 -- a kit that was taken was held, and its rack tells what was
@@ -77,7 +76,7 @@ module _ {R A : Type 0} (rack : racks.Ghosts R) (area : areas.Ghosts A) where
   pub opened : (part : Part) (held : Option Held) (counts : KitCounts) (kit : Kit R A) (shard : Shard R A) (events : ℕ) → Valid rack shard → part_of shard ≡ part
       → IsIn shard (created (layout_in (part_of shard)) part.geometry.props.version) → stored_in shard ≡ [] → reserved_of shard.history ≡ 0 → limit_in shard.history ≡ events → events ≡ limit_of part.geometry
       → shard.rack ≡ kit.rack
-      → OnTold (area.told shard.odd) (HasRecord (at_version part.geometry.props.version part.geometry) part.number (created (layout_in (part_of shard)) part.geometry.props.version).image)
+      → OnTold (area.told shard.odd) (ListsOnce part.geometry part.number (created (layout_in (part_of shard)) part.geometry.props.version).image)
       → OnHeld held (λ x. kit_of (rack.told kit.rack) (area.told kit.even) (area.told kit.odd) ≡ x.kits part.number) → NeedsKit part.number (Ok kit) held
       → ((who : Option ℕ) → rack.faults kit.rack who ≡ counts.rack who) → IsOpened rack area part held counts shard
   opened part held counts kit shard events valid part_is is_in stored reserved limit events_are r recorded told needs rack_count = record {
@@ -91,7 +90,7 @@ module _ {R A : Type 0} (rack : racks.Ghosts R) (area : areas.Ghosts A) where
         (rack_held kit held (rack.told kit.rack) (area.told kit.even) (area.told kit.odd) part.number told needs);
     rack_count = λ who. ap (λ (x : R). rack.faults x who) r ∙ rack_count who;
     records = records_first part (area.told shard.even) (area.told shard.odd)
-        (subst (λ (p : Part). OnTold (area.told shard.odd) (HasRecord (at_version part.geometry.props.version part.geometry) part.number (created (layout_in p) part.geometry.props.version).image)) part_is recorded);
+        (subst (λ (p : Part). OnTold (area.told shard.odd) (ListsOnce part.geometry part.number (created (layout_in p) part.geometry.props.version).image)) part_is recorded);
   }
 
   -- ---- all metaslabs
@@ -107,7 +106,7 @@ module _ {R A : Type 0} (rack : racks.Ghosts R) (area : areas.Ghosts A) where
     pub leaves_yet : (m : ℕ) → n ≤ m → leaves' m ≡ leaves m
     pub counts : (m : ℕ) → n ≤ m → after m ≡ before m
 
-  none_taken : (o : Option Held) → TakesFirst 0 o o
+  pub none_taken : (o : Option Held) → TakesFirst 0 o o
   none_taken None = refl
   none_taken (Some x) = record { uber = refl; checks = refl; taken = λ m below. absurd (omega (arith, below)); others = λ m past. refl }
 
@@ -122,7 +121,7 @@ module _ {R A : Type 0} (rack : racks.Ghosts R) (area : areas.Ghosts A) where
   })
 
   -- the devices of a further one are taken
-  takes_more : (n : ℕ) (old mid : Option Held) → TakesFirst n old mid → TakesFirst (n + 1) old (takes_kit n mid)
+  pub takes_more : (n : ℕ) (old mid : Option Held) → TakesFirst n old mid → TakesFirst (n + 1) old (takes_kit n mid)
   takes_more n None None t = refl
   takes_more n None (Some y) t = absurd (cc)
   takes_more n (Some x) None t = absurd t
@@ -137,7 +136,7 @@ module _ {R A : Type 0} (rack : racks.Ghosts R) (area : areas.Ghosts A) where
   }
 
   -- what was held for a metaslab that isn't open yet was so from the beginning
-  from_first : (n : ℕ) (old mid : Option Held) (P : Option KitTold → Type 0) → TakesFirst n old mid → OnHeld mid (λ y. P (y.kits n)) → OnHeld old (λ x. P (x.kits n))
+  pub from_first : (n : ℕ) (old mid : Option Held) (P : Option KitTold → Type 0) → TakesFirst n old mid → OnHeld mid (λ y. P (y.kits n)) → OnHeld old (λ x. P (x.kits n))
   from_first n None mid P t h = tt
   from_first n (Some x) None P t h = absurd t
   from_first n (Some x) (Some y) P t h = subst P (t.others n (omega arith)) h

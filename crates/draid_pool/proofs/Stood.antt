@@ -14,6 +14,7 @@ use Rattle.draid_machine.specs.declared.names.Held.{Held}
 use Rattle.draid_machine.specs.declared.names.Key.{Key}
 use Rattle.draid_machine.specs.declared.names.Stage.TheVariants.{Live}
 use Rattle.draid_machine.specs.After.{is_freed_block}
+use Rattle.draid_machine.specs.State as machine
 use Rattle.draid_machine.proofs.Small.{absurd_test, none_some}
 use Rattle.draid_segments.specs.Segments.{Pieces}
 use Rattle.draid_objects.specs.Blocks.{Drops, table_of}
@@ -25,6 +26,7 @@ use Rattle.draid_shard.specs.Part.{Part}
 use Rattle.draid_shard.specs.declared.shard.Shard.{Shard}
 use Rattle.draid_session.specs.Opening.{MayFind}
 use Rattle.draid_session.specs.State.{Metaslab, State}
+use Rattle.draid_pool.specs.Importable.{AllAlike, IsAlike}
 use Rattle.draid_pool.specs.Metaslabs.{IsMetaslab}
 use Rattle.draid_pool.specs.Objects.{HoldsObjects, IsLastAt, IsPointerOf, PointsTo, blocks_of}
 use Rattle.draid_pool.specs.Pools.{Represents, part_in}
@@ -48,6 +50,8 @@ module _ {R A : Type 0} (rack : racks.Ghosts R) (area : areas.Ghosts A) where
     pub objects : (object : ℕ) → PointsTo shards (table object) (write_of x.store.changes object)
     pub images : HasImages x
     pub leaves : HasLeafNumbers x
+    pub arms : machine.Core
+    pub alike : AllAlike arms x
     pub groups_are : (m : ℕ) (y : Metaslab) → slice_get x.metaslabs m ≡ Some y → groups m y
 
   -- what a pool has besides
@@ -77,6 +81,8 @@ module _ {R A : Type 0} (rack : racks.Ghosts R) (area : areas.Ghosts A) where
     objects = s.objects;
     images = s.images;
     leaves = s.leaves;
+    arms = s.arms;
+    alike = s.alike;
     groups_are = s.groups.committed;
   })
 
@@ -97,6 +103,8 @@ module _ {R A : Type 0} (rack : racks.Ghosts R) (area : areas.Ghosts A) where
       uber = rest.uber;
       images = s.images;
       leaves = s.leaves;
+      arms = s.arms;
+      alike = s.alike;
     };
     only = s.only;
   }
@@ -111,6 +119,7 @@ module _ {R A : Type 0} (rack : racks.Ghosts R) (area : areas.Ghosts A) where
     pub held : (key : Key) → (y'.world.core.held key ≡ y.world.core.held key) ⊎ ((is_freed_block x.committed (y.world.core.held key) ≡ true) × (y'.world.core.held key ≡ None))
     pub images : (group : ℕ) → MayFind x group → 0 < group → HasImage group y → HasImage group y'
     pub leaves : LeavesAreBelow x.kept_leaf x.next_leaf y.world → LeavesAreBelow x.kept_leaf x.next_leaf y'.world
+    pub alike : (version : ℕ) (arms : machine.Core) → IsAlike version arms y.world → IsAlike version arms y'.world
 
   live_stays : (group : ℕ) (h : Held) (o n : Option Held) → o ≡ Some h → h.stage ≡ Live → (n ≡ o) ⊎ ((is_freed_block group o ≡ true) × (n ≡ None)) → n ≡ Some h
   live_stays group h o n there live (inl same) = same ∙ there
@@ -213,5 +222,7 @@ module _ {R A : Type 0} (rack : racks.Ghosts R) (area : areas.Ghosts A) where
         order = s.leaves.order;
         each = each_set x.metaslabs m y y' (λ z. LeavesAreBelow x.kept_leaf x.next_leaf z.world) v.at (v.leaves (s.leaves.each m y v.at)) s.leaves.each;
       };
+      arms = s.arms;
+      alike = each_set x.metaslabs m y y' (λ z. IsAlike x.geometry.props.version s.arms z.world) v.at (v.alike x.geometry.props.version s.arms (s.alike m y v.at)) s.alike;
       groups_are = own;
     }

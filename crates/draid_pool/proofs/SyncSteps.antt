@@ -138,6 +138,7 @@ module _ {R A : Type 0} (rack : racks.Ghosts R) (area : areas.Ghosts A) where
         held = λ key. inl (ap (λ held. held key) t.done.1.held);
         images = λ group may some has. record { image = has.image; is = t.done.1.images has.image has.is; of = has.of };
         leaves = t.done.1.leaves x.kept_leaf x.next_leaf;
+        alike = t.done.1.alike;
       }
 
       stood : Stood rack area new.shards.items (λ object. get nat_eq new.objects object) after (HasCommitted rack area after)

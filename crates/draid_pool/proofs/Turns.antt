@@ -28,10 +28,9 @@ use Rattle.draid_segments.proofs.Beginning.{flushed_backed}
 use Rattle.draid_entries.specs.Entries.{held_in}
 use Rattle.draid_entries.specs.History as history
 use Rattle.draid_entries.specs.History.{limit_in, reserved_of}
-use Rattle.draid_stable.specs.Stable.{HasRecord}
 use Rattle.draid_shard.specs.Calls.{SameKit, SameReserve}
 use Rattle.draid_shard.specs.Fits.{Valid}
-use Rattle.draid_shard.specs.Groups.{AreasLater, CloseRefused, KeepsOtherArea, OpenUpto, Seals, Unsealed, area_in, at_version}
+use Rattle.draid_shard.specs.Groups.{AreasLater, CloseRefused, KeepsOtherArea, ListsOnce, OpenUpto, Seals, Unsealed, area_in}
 use Rattle.draid_shard.specs.Part.{Part, layout_in}
 use Rattle.draid_shard.specs.States.{Does, DoesNone, IsIn, layout_by, part_of}
 use Rattle.draid_shard.specs.declared.fault.CloseFault.{CloseFault}
@@ -44,11 +43,13 @@ use Rattle.draid_session.specs.Follows.{CountsRise, Rests, area_count}
 use Rattle.draid_session.specs.Groups as groups
 use Rattle.draid_session.specs.Holds.{AreaFailed, Did, Hold, Looked, On, view_of}
 use Rattle.draid_session.specs.State.{Metaslab}
+use Rattle.draid_pool.specs.Importable.{IsAlike}
 use Rattle.draid_pool.specs.Metaslabs.{IsMetaslab, counts_of, harm_of}
 use Rattle.draid_pool.specs.Records.{HasRecords, area_for}
 use Rattle.draid_pool.specs.Syncing.{CloseIs, Commits, KeepsCommitted, SealIs, Turns}
 use Rattle.draid_pool.specs.declared.fault.SyncFault.{SyncFault}
 use Rattle.draid_pool.specs.declared.fault.SyncFault.TheVariants as sync
+use Rattle.draid_pool.proofs.Alike.{alike_committed, alike_kept, alike_sealed, own_arms}
 use Rattle.draid_pool.proofs.Damages.{leaf_in}
 use Rattle.draid_pool.proofs.Dids.{Done, did_quiet, did_with, none_here, records_same}
 use Rattle.draid_pool.proofs.Lists.{ext}
@@ -71,7 +72,7 @@ seal_fault seal.NoMemory = sync.NoMemory
 -- ---- states
 
 kept_here : (w : machine.State) → KeepsCommitted w w
-kept_here w = record { held = refl; committed = refl; images = λ image is. is; leaves = λ kept_leaf next_leaf below. below }
+kept_here w = record { held = refl; committed = refl; images = λ image is. is; leaves = λ kept_leaf next_leaf below. below; alike = λ version arms is. is }
 
 close_keeps : (l : machine.Layout) (w v : machine.State) (group : ℕ) → Step l w (event.Close group) v → KeepsCommitted w v
 close_keeps l w v group step = subst (KeepsCommitted w) (sym step.made) (record {
@@ -79,6 +80,7 @@ close_keeps l w v group step = subst (KeepsCommitted w) (sym step.made) (record 
   committed = refl;
   images = λ image is. is;
   leaves = λ kept_leaf next_leaf below. record { kept = below.kept; sealed = below.sealed; now = below.now };
+  alike = λ version arms is. alike_kept version arms w _ refl (own_arms w.core) (λ image of. of) is;
 })
 
 from_mapped : (f : machine.Arm → machine.Arm) (o : Option machine.Arm) → IsSome (map_arm f o) → IsSome o
@@ -91,6 +93,7 @@ from_sealed (Some a) some = refl
 
 seal_keeps : (l : machine.Layout) (w v : machine.State) (group : ℕ) (failed : Vec ℕ Global) → Step l w (event.Seal group failed) v → KeepsCommitted w v
 seal_keeps l w v group failed step = subst (KeepsCommitted w) (sym step.made) (record {
+  alike = λ version arms is. subst (IsAlike version arms) step.made (alike_sealed version arms l w v group failed.items step is);
   held = refl;
   committed = refl;
   images = λ image is. elim is [ inl here ↦ inl here | inr here ↦ absurd (none_some w.sealed image step.unsealed here) ];
@@ -111,6 +114,7 @@ pub record CommitsState (group : ℕ) (w v : machine.State) : Type 0 where
   pub of : v.image.group ≡ group
   pub none : v.sealed ≡ None
   pub leaves : (leaf : ℕ) → IsSome (v.core.arm (Leaf leaf)) → IsSome (w.core.arm (Leaf leaf))
+  pub alike : (version : ℕ) (arms : machine.Core) → IsAlike version arms w → IsAlike version arms v
 
 -- ---- areas
 
@@ -140,12 +144,12 @@ module _ {R A : Type 0} (rack : racks.Ghosts R) (area : areas.Ghosts A) where
   -- the record of the committed image stands where the next group's area alone may have changed
   committed_record : (part : Part) (pieces : Pieces) (old new : Shard R A) (group : ℕ) (x : Metaslab) (image : machine.Image) → IsMetaslab rack area part pieces old x → KeepsOtherArea group old new
       → image.group + 1 ≡ group → x.world.image ≡ image
-      → content.OnTold (area_for image.group (area.told new.even) (area.told new.odd)) (HasRecord (at_version image.version part.geometry) part.number image)
+      → content.OnTold (area_for image.group (area.told new.even) (area.told new.odd)) (ListsOnce part.geometry part.number image)
   committed_record part pieces old new group x image is other behind own =
       let parity : (image.group % 2 == 0) ≡ ((group + 1) % 2 == 0) = same_parity image.group (group + 1) (omega (arith, behind)) in
       let same : (s : Shard R A) → area_for image.group (area.told s.even) (area.told s.odd) ≡ area.told (area_in s (group + 1))
       = (λ (s : Shard R A). ap (λ b. if b then area.told s.even else area.told s.odd) parity ∙ area_told (group + 1) s) in
-      subst (λ told. content.OnTold told (HasRecord (at_version image.version part.geometry) part.number image))
+      subst (λ told. content.OnTold told (ListsOnce part.geometry part.number image))
       (same old ∙ ap area.told (sym other) ∙ sym (same new)) (is.records image (inl own))
 
   -- ---- looks
@@ -198,7 +202,7 @@ module _ {R A : Type 0} (rack : racks.Ghosts R) (area : areas.Ghosts A) where
       let made : image_of group x.world.asked (seal_state (layout_by old) x.world group s.failed.items step.wrote).core ≡ image
       = some_injective _ image (sym (ap (λ (w : machine.State). w.sealed) step.made) ∙ here) in
       let of : group ≡ image.group = ap (λ (i : machine.Image). i.group) made in
-      subst (λ told. content.OnTold told (HasRecord (at_version image.version old.geometry) old.number image))
+      subst (λ told. content.OnTold told (ListsOnce old.geometry old.number image))
       (sym (area_told group new) ∙ ap (λ g. area_for g (area.told new.even) (area.told new.odd)) of) (s.image x.world v image step is.stands.reached is.stands.is_in here)
 
   sealed_here : (pieces : Pieces) (old new : Shard R A) (group thin : ℕ) (x : Metaslab) → IsMetaslab rack area (part_of old) pieces old x → Valid rack new → Seals rack area.told old new group thin
@@ -356,6 +360,7 @@ module _ {R A : Type 0} (rack : racks.Ghosts R) (area : areas.Ghosts A) where
     of = some_injective step.image.group group (sym (sound.groups.sealed_is step.image step.sealed) ∙ step.closing);
     none = refl;
     leaves = λ leaf some. from_kept _ (w.core.arm (Leaf leaf)) some;
+    alike = λ version arms is. subst (IsAlike version arms) step.made (alike_committed version arms l w v group step is);
   })
 
   commit_here : (pieces : Pieces) (old new : Shard R A) (group : ℕ) (x : Metaslab) → IsMetaslab rack area (part_of old) pieces old x → Commits rack group old new

@@ -87,7 +87,7 @@ numbered_kept shard shard' seq same n = record {
 }
 
 -- a live block beside the place that changed is live yet
-live_beside : {R A : Type 0} (shard shard' : Shard R A) (p q : Pointer) (entry : Option Entry) → SetsBlock shard shard' p entry → (q.first ≡ p.first → ⊥) → IsLive shard q → IsLive shard' q
+pub live_beside : {R A : Type 0} (shard shard' : Shard R A) (p q : Pointer) (entry : Option Entry) → SetsBlock shard shard' p entry → (q.first ≡ p.first → ⊥) → IsLive shard q → IsLive shard' q
 live_beside shard shard' p q entry sets other live = sets.entry.at q.first ∙ by (q.first == p.first) refl
   where
     by : (b : Bool) → (q.first == p.first) ≡ b → (if b then entry else entry_at shard.entries q.first) ≡ Some (staged Live q)
@@ -95,7 +95,7 @@ live_beside shard shard' p q entry sets other live = sets.entry.at q.first ∙ b
     by false differs = live
 
 -- one place has one live block
-one_live : {R A : Type 0} (shard : Shard R A) (p q : Pointer) → IsLive shard p → IsLive shard q → q.first ≡ p.first → p ≡ q
+pub one_live : {R A : Type 0} (shard : Shard R A) (p q : Pointer) → IsLive shard p → IsLive shard q → q.first ≡ p.first → p ≡ q
 one_live shard p q live also same =
     ap (λ (e : Entry). e.pointer) (some_injective (staged Live p) (staged Live q) (sym live ∙ (ap (entry_at shard.entries) (sym same) ∙ also)))
 

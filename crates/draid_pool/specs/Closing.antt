@@ -1,5 +1,6 @@
 -- What a shelf holds of a pool that was given back to it.
-use Rattle.std.specs.Prelude.{◌≡◌, ◌≤◌, ℕ, Bool, false, List, Option, Some, MatchOption, IsSomeAnd, length, slice_get}
+use Rattle.std.specs.Prelude.{◌≡◌, ◌≤◌, ℕ, Bool, false, List, Option, Some, MatchOption, IsSome, IsSomeAnd, length, slice_get}
+use Rattle.draid_rack.specs.Rack.{Shape}
 use Rattle.draid_rack.specs.declared.Rack as racks
 use Rattle.draid_area.specs.declared.Area as areas
 use Rattle.draid_map.specs.Place.{IsLayout}
@@ -13,6 +14,7 @@ use Rattle.draid_stable.specs.Kits.{IsStable}
 use Rattle.draid_shard.specs.Groups.{at_version}
 use Rattle.draid_shard.specs.declared.shard.Shard.{Shard}
 use Rattle.draid_session.specs.State.{Counts, Metaslab, State}
+use Rattle.draid_pool.specs.Importable.{IsImportable}
 use Rattle.draid_pool.specs.Objects.{HoldsObjects, blocks_of}
 use Rattle.draid_pool.specs.Records.{HasImages, HasLeafNumbers}
 use Rattle.draid_pool.specs.Ubers.{UberStands}
@@ -62,9 +64,10 @@ pub record HoldsPool (x : State) (crash : Bool) (held : Held) : Type 0 where
   pub backed : crash ≡ false → IsBacked x pieces held
 
 -- The pool of a state was given back to a shelf, with a crash or without one. Where that tells, and had the areas of the check records, it holds the pool; and it has
--- the pool's counts.
-pub record GivesBack (x : State) (crash : Bool) (old new : Option Held) (counts : ℕ → KitCounts) (uber_count : ℕ) : Type 0 where
+-- the pool's counts. No record has a fault to an import, where the shelf has these leaves.
+pub record GivesBack (x : State) (crash : Bool) (old new : Option Held) (leaves : ℕ → Option Shape) (counts : ℕ → KitCounts) (uber_count : ℕ) : Type 0 where
   pub held : OnHeld new (λ held. MatchOption old ⊥ (λ before. IsSomeAnd before.checks AreNewChecks → HoldsPool x crash held))
+  pub importable : OnHeld new (λ held. IsImportable x held leaves)
   pub counted : (m : ℕ) (y : Metaslab) → slice_get x.metaslabs m ≡ Some y → SameCounts y.counts (counts m)
   pub uber : uber_count ≡ x.uber_count
 
@@ -77,12 +80,22 @@ pub record TakesBack {R A : Type 0} (rack : racks.Ghosts R) (area : areas.Ghosts
   pub kits : (m : ℕ) (shard : Shard R A) → slice_get shards m ≡ Some shard → (kit : KitTold) × (kit_in rack area shard ≡ Some kit) × (new.kits m ≡ Some kit)
   pub others : (m : ℕ) → length shards ≤ m → new.kits m ≡ old.kits m
 
--- The kits of shards were given to a shelf, which has their counts.
+-- the devices of each of some shards tell
+abbrev pub AllTell : {R A : Type 0} → racks.Ghosts R → areas.Ghosts A → List (Shard R A) → Type 0
+AllTell {R} {A} rack area shards = (m : ℕ) (shard : Shard R A) → slice_get shards m ≡ Some shard → IsSome (kit_in rack area shard)
+
+-- The kits of shards were given to a shelf, which has their counts, and tells where it did and they do.
 pub record Returns {R A : Type 0} (rack : racks.Ghosts R) (area : areas.Ghosts A) (shards : List (Shard R A)) (old new : Option Held) (before after : ℕ → KitCounts) : Type 0 where
   pub held : OnHeld new (λ y. MatchOption old ⊥ (λ x. TakesBack rack area shards x y))
+  pub tells : IsSome old → AllTell rack area shards → IsSome new
   pub rack_count : (m : ℕ) (shard : Shard R A) (who : Option ℕ) → slice_get shards m ≡ Some shard → (after m).rack who ≡ rack.faults shard.rack who
   pub even_count : (m : ℕ) (shard : Shard R A) → slice_get shards m ≡ Some shard → (after m).even ≡ area.faults shard.even
   pub odd_count : (m : ℕ) (shard : Shard R A) → slice_get shards m ≡ Some shard → (after m).odd ≡ area.faults shard.odd
+  pub others : (m : ℕ) → length shards ≤ m → after m ≡ before m
+
+-- A shelf to which the kits of shards were given has the leaves of their racks, and those of other places are as before.
+pub record ReturnsLeaves {R A : Type 0} (rack : racks.Ghosts R) (shards : List (Shard R A)) (before after : ℕ → Option Shape) : Type 0 where
+  pub own : (m : ℕ) (shard : Shard R A) → slice_get shards m ≡ Some shard → after m ≡ Some (rack.shape shard.rack)
   pub others : (m : ℕ) → length shards ≤ m → after m ≡ before m
 
 -- how often calls on the areas have failed that aren't of a metaslab

@@ -2,7 +2,12 @@ pub mod Answers
 pub mod Batches
 pub mod Carries
 pub mod Closing
+pub mod Importable
+pub mod Imported
 pub mod Failing
+pub mod Faulty
+pub mod Found
+pub mod Importing
 pub mod Metaslabs
 pub mod Objects
 pub mod Opening
@@ -10,5 +15,6 @@ pub mod Pools
 pub mod Records
 pub mod Shards
 pub mod Syncing
+pub mod Together
 pub mod Ubers
 pub mod Whole

@@ -1,7 +1,7 @@
 -- What becomes of a shelf on which a pool is created, and of the pool.
 use Rattle.std.specs.Prelude.{◌≡◌, ◌<◌, ◌≤◌, ◌+◌, ◌⊎◌, ℕ, false, List, [], Option, Some, None, MatchOption, IsSome, IsSomeAnd, IsTrue, is_some, option_map, Result, Ok, Err, length, replicate, slice_get}
 use Rattle.draid_names.specs.Faults.{Rose}
-use Rattle.draid_rack.specs.Rack.{Told}
+use Rattle.draid_rack.specs.Rack.{Shape, Told}
 use Rattle.draid_rack.specs.declared.Rack as racks
 use Rattle.draid_area.specs.Area.{OnTold}
 use Rattle.draid_area.specs.declared.Area as areas
@@ -26,6 +26,7 @@ use Rattle.draid_session.specs.Making.{IsFresh}
 use Rattle.draid_session.specs.Session.{uncommitted}
 use Rattle.draid_session.specs.State.{Metaslab, State, limit_of}
 use Rattle.draid_pool.specs.Closing.{HoldsPool, OwnCounts, SameCounts}
+use Rattle.draid_pool.specs.Importable.{IsImportable}
 use Rattle.draid_pool.specs.Records.{HasRecords}
 use Rattle.draid_pool.specs.Pools.{Represents}
 use Rattle.draid_pool.specs.declared.fault.PoolFault.{PoolFault}
@@ -77,6 +78,10 @@ pub record IsAsBefore (old new : Option Held) (before after : ℕ → KitCounts)
   pub uber : now.uber ≡ own.uber
   pub checks : now.checks ≡ own.checks
 
+-- and so are the leaves of each metaslab's rack
+abbrev pub SameLeaves : (ℕ → Option Shape) → (ℕ → Option Shape) → Type 0
+SameLeaves before after = (m : ℕ) → after m ≡ before m
+
 -- All devices of a new pool are held: an uberblock to which nothing was written, racks as they were made, and areas of records, to which something may have been.
 pub record HoldsMade (geometry : Geometry) (x : Held) : Type 0 where
   pub uber : IsSomeAnd x.uber (IsNewArea (replicate uber_bytes 0))
@@ -90,27 +95,30 @@ pub record IsMade (geometry : Geometry) (new : Option Held) (after : ℕ → Kit
   pub uber : now.uber ≡ 0
   pub checks : NoChecks now
 
--- the first commit of a new pool was refused, and the pool was given back
-pub record IsRefused (geometry : Geometry) (new : Option Held) (after : ℕ → KitCounts) (now : OwnCounts) : Type 0 where
+-- The first commit of a new pool was refused, and the pool was given back. No record of it has a fault to an import, where the shelf has these leaves.
+pub record IsRefused (geometry : Geometry) (new : Option Held) (leaves : ℕ → Option Shape) (after : ℕ → KitCounts) (now : OwnCounts) : Type 0 where
   pub fresh : State
   pub is_fresh : IsFresh geometry fresh
   pub told : IsSome new → IsTrue fresh.told
   pub held : OnHeld new (HoldsPool (uncommitted fresh) false)
+  pub importable : OnHeld new (λ held. IsImportable (uncommitted fresh) held leaves)
   pub counts : (m : ℕ) (y : Metaslab) → slice_get fresh.metaslabs m ≡ Some y → SameCounts y.counts (after m)
   pub uber : now.uber ≡ fresh.uber_count
   pub checks : NoChecks now
 
 -- what a shelf holds of a pool that was made, and of which nothing was committed
-abbrev pub HoldsUncommitted : Geometry → Option Held → (ℕ → KitCounts) → OwnCounts → Type 0
-HoldsUncommitted geometry new after now = IsMade geometry new after now ⊎ IsRefused geometry new after now
+abbrev pub HoldsUncommitted : Geometry → Option Held → (ℕ → Option Shape) → (ℕ → KitCounts) → OwnCounts → Type 0
+HoldsUncommitted geometry new leaves after now = IsMade geometry new after now ⊎ IsRefused geometry new leaves after now
 
 -- What the shelf holds then: with the pool, the areas of the check records; for a layout that isn't there what it held; and after another refusal that too, or all
 -- devices of the new pool.
-abbrev pub ShelfIs : {P : Type 0} → Spec → Props → Option Held → Option Held → (ℕ → KitCounts) → (ℕ → KitCounts) → OwnCounts → OwnCounts → Result P PoolFault → Type 0
-ShelfIs spec props old new before after own now (Ok pool) = OnHeld new IsAway × NoChecks now
-ShelfIs spec props old new before after own now (Err (fault.Spec why)) = IsAsBefore old new before after own now
-ShelfIs spec props old new before after own now (Err why) =
-    IsAsBefore old new before after own now ⊎ ((geometry : Geometry) × (geometry_of spec props ≡ Ok geometry) × HoldsUncommitted geometry new after now)
+abbrev pub ShelfIs : {P : Type 0} → Spec → Props → Option Held → Option Held → (ℕ → Option Shape) → (ℕ → Option Shape) → (ℕ → KitCounts) → (ℕ → KitCounts) → OwnCounts → OwnCounts
+    → Result P PoolFault → Type 0
+ShelfIs spec props old new leaves leaves' before after own now (Ok pool) = OnHeld new IsAway × NoChecks now
+ShelfIs spec props old new leaves leaves' before after own now (Err (fault.Spec why)) = IsAsBefore old new before after own now × SameLeaves leaves leaves'
+ShelfIs spec props old new leaves leaves' before after own now (Err why) =
+    (IsAsBefore old new before after own now × SameLeaves leaves leaves')
+    ⊎ ((geometry : Geometry) × (geometry_of spec props ≡ Ok geometry) × HoldsUncommitted geometry new leaves' after now)
 
 -- ---- the metaslabs
 

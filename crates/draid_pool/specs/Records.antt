@@ -4,21 +4,20 @@ use Rattle.draid_area.specs.Area.{Content, OnTold}
 use Rattle.draid_machine.specs.declared.names.ArmName.TheVariants.{Leaf}
 use Rattle.draid_machine.specs.Images.{IsImage}
 use Rattle.draid_machine.specs.State as machine
-use Rattle.draid_shard.specs.Groups.{at_version}
+use Rattle.draid_shard.specs.Groups.{ListsOnce}
 use Rattle.draid_shard.specs.Part.{Part}
 use Rattle.draid_session.specs.Opening.{MayFind}
 use Rattle.draid_session.specs.State.{Metaslab, State}
 use Rattle.draid_stable.specs.Images.{LeavesBelow}
-use Rattle.draid_stable.specs.Stable.{HasRecord}
 
 -- what the area of a group tells, of the two that a metaslab has
 abbrev pub area_for : ℕ → Option Content → Option Content → Option Content
 area_for group even odd = if group % 2 == 0 then even else odd
 
--- the record of each image that an import may take stands in the area of its group
+-- the record of each image that an import may take stands in the area of its group, and lists each block once
 abbrev pub HasRecords : Part → machine.State → Option Content → Option Content → Type 0
 HasRecords part w even odd =
-    (image : machine.Image) → IsImage w image → OnTold (area_for image.group even odd) (HasRecord (at_version image.version part.geometry) part.number image)
+    (image : machine.Image) → IsImage w image → OnTold (area_for image.group even odd) (ListsOnce part.geometry part.number image)
 
 -- a metaslab has an image of a group
 pub record HasImage (group : ℕ) (y : Metaslab) : Type 0 where

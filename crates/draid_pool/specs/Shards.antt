@@ -36,6 +36,7 @@ use Rattle.draid_session.specs.Rooms.{longest}
 use Rattle.draid_session.specs.State.{Metaslab}
 use Rattle.draid_session.specs.Worn.{ReservesWorn}
 use Rattle.draid_session.specs.Writes.{WritesBlock}
+use Rattle.draid_pool.specs.Importable.{SameArms}
 use Rattle.draid_pool.specs.Metaslabs.{IsMetaslab}
 use Rattle.draid_pool.specs.Objects.{HasPieces}
 use Rattle.draid_pool.specs.declared.fault.DamageFault.{DamageFault}
@@ -49,11 +50,13 @@ FollowsIn l m [] x y = y ≡ x
 FollowsIn l m (hold ∷ holds) x y =
     (act : Act) × (mid : Metaslab) × (hold ≡ On (view_of m x) act) × Acts l act x mid × FollowsIn l m holds mid y
 
--- the images are as they were, and no leaf is an arm that wasn't one
+-- the images are as they were, and so are the arms and the version of the next image; no leaf is an arm that wasn't one
 pub record KeepsImages (old new : machine.State) : Type 0 where
   pub image : new.image ≡ old.image
   pub sealed : new.sealed ≡ old.sealed
   pub leaves : (leaf : ℕ) → IsSome (new.core.arm (Leaf leaf)) → IsSome (old.core.arm (Leaf leaf))
+  pub asked : new.asked ≡ old.asked
+  pub arms : SameArms new.core old.core
 
 -- Holds of a metaslab led to one for which the shard stands, with these pieces.
 pub record Goes {R A : Type 0} (rack : racks.Ghosts R) (area : areas.Ghosts A) (part : Part) (pieces : Pieces) (x : Metaslab) (new : Shard R A) (does : List Hold → Metaslab → Type 0) : Type 0 where

@@ -19,6 +19,7 @@ use Rattle.draid_shard.specs.Groups.{DropsDetached}
 use Rattle.draid_shard.specs.Part.{Part, layout_in}
 use Rattle.draid_shard.specs.States.{Does, part_of, stored_in}
 use Rattle.draid_shard.specs.declared.shard.Shard.{Shard}
+use Rattle.draid_pool.specs.Importable.{IsAlike}
 use Rattle.draid_pool.specs.Metaslabs.{IsMetaslab}
 use Rattle.draid_pool.specs.Records.{LeavesAreBelow}
 use Rattle.draid_pool.specs.declared.fault.SyncFault.{SyncFault}
@@ -64,12 +65,14 @@ pub record Turns {R A : Type 0} (rack : racks.Ghosts R) (area : areas.Ghosts A) 
   pub done : does (On (view_of part.number x) act) reached
   pub is : IsMetaslab rack area part pieces new reached
 
--- What the closing and the sealing of a group leave: what is held, the committed group, the images that were there, and that leaves have low numbers.
+-- What the closing and the sealing of a group leave: what is held, the committed group, the images that were there, that leaves have low numbers,
+-- and the version and the arms.
 pub record KeepsCommitted (old new : machine.State) : Type 0 where
   pub held : new.core.held ≡ old.core.held
   pub committed : new.committed ≡ old.committed
   pub images : (image : machine.Image) → IsImage old image → IsImage new image
   pub leaves : (kept_leaf next_leaf : ℕ) → LeavesAreBelow kept_leaf next_leaf old → LeavesAreBelow kept_leaf next_leaf new
+  pub alike : (version : ℕ) (arms : machine.Core) → IsAlike version arms old → IsAlike version arms new
 
 -- all blocks, tickets and the committed group are as they were, whatever the state
 pub record KeepsTable {R A : Type 0} (old new : Shard R A) : Type 0 where

@@ -1,7 +1,7 @@
 ghost use Rattle.std.specs.Prelude.{◌≡◌, ◌≤◌, length};
 ghost use Rattle.draid_session.specs.State.{State};
 ghost use Rattle.draid_shelf.specs.Shelf.{most_metaslabs};
-ghost use Rattle.draid_pool.specs.Closing.{GivesBack, Returns};
+ghost use Rattle.draid_pool.specs.Closing.{GivesBack, Returns, ReturnsLeaves};
 ghost use Rattle.draid_pool.specs.Failing.{AreaFails};
 ghost use Rattle.draid_pool.specs.Opening.{AreaFailed};
 ghost use Rattle.draid_pool.specs.Pools.{Represents};
@@ -15,6 +15,7 @@ use draid_shelf::Shelf;
 pub(crate) fn give_back<H: Shelf>(shelf: &mut H, shards: Vec<Shard<H::R, H::A>>)
     requires few { length shards.items ≤ most_metaslabs }
     ensures returns { Returns H.R.Rack H.A.Area shards.items (H.told shelf.old) (H.told shelf.new) (H.counts shelf.old) (H.counts shelf.new) }
+    ensures leaves { ReturnsLeaves H.R.Rack shards.items (H.leaves shelf.old) (H.leaves shelf.new) }
     ensures uber { H.uber_count shelf.new ≡ H.uber_count shelf.old }
     ensures checks { H.check_counts shelf.new ≡ H.check_counts shelf.old }
     ensures faults { H.faults shelf.new ≡ H.faults shelf.old }
@@ -30,7 +31,8 @@ pub(crate) fn give_back<H: Shelf>(shelf: &mut H, shards: Vec<Shard<H::R, H::A>>)
 pub fn close<H: Shelf>(pool: Pool<H::R, H::A>, shelf: &mut H, crash: bool)
     requires whole { IsWhole H.R.Rack H.A.Area pool }
     ensures back { (x : State) → Represents H.R.Rack H.A.Area pool x
-        → GivesBack x crash (H.told shelf.old) (H.told shelf.new) (H.counts shelf.new) (H.uber_count shelf.new) }
+        → GivesBack x crash (H.told shelf.old) (H.told shelf.new) (H.leaves shelf.new) (H.counts shelf.new)
+        (H.uber_count shelf.new) }
     // What has failed on an area of the pool shows on the shelf.
     ensures failed { AreaFails H.A.faults pool → AreaFailed (H.counts shelf.new)
         (record { uber = H.uber_count shelf.new; checks = H.check_counts shelf.new }) }

@@ -4,9 +4,11 @@
 #![tactic(auto)]
 
 mod closing;
+mod counting;
 mod damaging;
 mod fault;
 mod freeing;
+mod importing;
 mod opening;
 mod pool;
 mod reading;
@@ -20,5 +22,6 @@ mod writing;
 pub use closing::close;
 pub use draid_names::{ObjectFault, WriteFault};
 pub use fault::{DamageFault, FreeFault, PoolFault, SumFault, SyncFault, Synced};
+pub use importing::import;
 pub use opening::create;
 pub use pool::Pool;

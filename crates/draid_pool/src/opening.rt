@@ -6,7 +6,7 @@ ghost use Rattle.draid_map.specs.Place.{IsLayout};
 ghost use Rattle.draid_shelf.specs.Shelf.{HasLeavesOf, SameOthers};
 ghost use Rattle.draid_shelf.specs.Kits.{IsUncounted, OnHeld, takes_kit};
 ghost use Rattle.draid_pool.specs.Whole.{IsWhole};
-ghost use Rattle.draid_pool.specs.Opening.{AreOpened, AreaFailed, CreateIs, HasNewKits, HoldsUncommitted, IsAsBefore, IsAway, IsBackAgain, IsNewUber, IsOpened, Opens, RecordsFailed, ShelfIs, TakesFirst};
+ghost use Rattle.draid_pool.specs.Opening.{AreOpened, AreaFailed, CreateIs, HasNewKits, HoldsUncommitted, IsAsBefore, IsAway, IsBackAgain, IsNewUber, IsOpened, Opens, RecordsFailed, SameLeaves, ShelfIs, TakesFirst};
 
 use crate::closing::give_back;
 use crate::fault::PoolFault;
@@ -22,7 +22,7 @@ use std::alloc::Global;
 use std::collections::HashMap;
 
 /// How many events all metaslabs of a pool may store, with those that are owed.
-const EVENTS: u64 = 1 << 24;
+pub(crate) const EVENTS: u64 = 1 << 24;
 
 /// Why a new metaslab wasn't made: its area failed, or there was no memory.
 fn device_fault(why: OpenFault) -> DeviceFault
@@ -115,7 +115,7 @@ fn open_pool<H: Shelf>(
     ensures whole { IfOk result (IsWhole H.R.Rack H.A.Area) }
     ensures opens { IfOk result (Opens H.R.Rack H.A.Area layout (H.told shelf.new)) }
     ensures away { OnOk result (OnHeld (H.told shelf.new) IsAway) }
-    ensures back { OnErr result (HoldsUncommitted layout (H.told shelf.new) (H.counts shelf.new) (record { uber = H.uber_count shelf.new; checks = H.check_counts shelf.new })) }
+    ensures back { OnErr result (HoldsUncommitted layout (H.told shelf.new) (H.leaves shelf.new) (H.counts shelf.new) (record { uber = H.uber_count shelf.new; checks = H.check_counts shelf.new })) }
     ensures checks { H.check_counts shelf.new ≡ H.check_counts shelf.old }
     ensures later { H.faults shelf.old ≤ H.faults shelf.new }
     ensures cause { IsErrOf result DeviceFault.Failed → Rose (H.faults shelf.old) (H.faults shelf.new)
@@ -158,10 +158,11 @@ fn make_pool<H: Shelf>(
     ensures opens { IfOk result (Opens H.R.Rack H.A.Area layout (H.told shelf.new)) }
     ensures away { OnOk result (OnHeld (H.told shelf.new) IsAway) }
     ensures checks { OnOk result (H.check_counts shelf.new ≡ record { even = 0; odd = 0 }) }
-    ensures back { OnErr result (IsAsBefore (H.told shelf.old) (H.told shelf.new) (H.counts shelf.old) (H.counts shelf.new)
+    ensures back { OnErr result ((IsAsBefore (H.told shelf.old) (H.told shelf.new) (H.counts shelf.old) (H.counts shelf.new)
         (record { uber = H.uber_count shelf.old; checks = H.check_counts shelf.old })
         (record { uber = H.uber_count shelf.new; checks = H.check_counts shelf.new })
-        ⊎ HoldsUncommitted layout (H.told shelf.new) (H.counts shelf.new) (record { uber = H.uber_count shelf.new; checks = H.check_counts shelf.new })) }
+        × SameLeaves (H.leaves shelf.old) (H.leaves shelf.new))
+        ⊎ HoldsUncommitted layout (H.told shelf.new) (H.leaves shelf.new) (H.counts shelf.new) (record { uber = H.uber_count shelf.new; checks = H.check_counts shelf.new })) }
     ensures later { H.faults shelf.old ≤ H.faults shelf.new }
     ensures cause { IsErrOf result DeviceFault.Failed → Rose (H.faults shelf.old) (H.faults shelf.new)
         ⊎ AreaFailed (H.counts shelf.new) (record { uber = H.uber_count shelf.new; checks = H.check_counts shelf.new }) }
@@ -186,7 +187,7 @@ pub fn create<H: Shelf>(
     ensures whole { IfOk result (IsWhole H.R.Rack H.A.Area) }
     ensures answer { CreateIs H.R.Rack H.A.Area spec props (H.told shelf.new) (H.faults shelf.old) (H.faults shelf.new) (H.counts shelf.new)
         (record { uber = H.uber_count shelf.new; checks = H.check_counts shelf.new }) result }
-    ensures shelf { ShelfIs spec props (H.told shelf.old) (H.told shelf.new) (H.counts shelf.old) (H.counts shelf.new)
+    ensures shelf { ShelfIs spec props (H.told shelf.old) (H.told shelf.new) (H.leaves shelf.old) (H.leaves shelf.new) (H.counts shelf.old) (H.counts shelf.new)
         (record { uber = H.uber_count shelf.old; checks = H.check_counts shelf.old })
         (record { uber = H.uber_count shelf.new; checks = H.check_counts shelf.new }) result }
     ensures later { H.faults shelf.old ≤ H.faults shelf.new }

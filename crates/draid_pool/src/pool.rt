@@ -27,9 +27,13 @@ pub struct Pool<R: Rack, A: Area> {
 }
 
 impl<R: Rack, A: Area> Pool<R, A> {
+    ghost use Rattle.draid_session.specs.State.{State};
+    ghost use Rattle.draid_pool.specs.Pools.{Represents};
+
     /// The layout of the pool.
     pub fn geometry(&self) -> &Geometry
-        ensures { result.now ≡ self.now.geometry }
+        ensures value { result.now ≡ self.now.geometry }
+        ensures state { (x : State) → Represents R.Rack A.Area self.now x → result.now ≡ x.geometry }
     {
         &self.geometry
     }

@@ -6,7 +6,7 @@ use Rattle.draid_rack.specs.declared.Rack as racks
 use Rattle.draid_area.specs.declared.Area as areas
 use Rattle.draid_lines.specs.Lines.{lines_of}
 use Rattle.draid_reply.specs.declared.reply.Reply.{Reply}
-use Rattle.draid_session.specs.Session.{Desk, Untouched, Made, Open, Shut, given_back}
+use Rattle.draid_session.specs.Session.{Desk, Untouched, Bare, Made, Open, Shut, Foreign, Unknown, IsLeft}
 use Rattle.draid_pool.specs.declared.pool.Pool.{Pool}
 use Rattle.draid_run.specs.Desks.{IsDesk, LeavesDesk}
 use Rattle.draid_run.specs.Script.{BreaksOff, Ends, EndsWithLine, GetsReplies, IsSession, Prints, RunsFrom, Shows}
@@ -14,31 +14,39 @@ use Rattle.draid_run.specs.Serve.{Served}
 use Rattle.draid_run.specs.Shelves.{HoldsDesk, OnShelf}
 use Rattle.draid_run.specs.Status.{HasNumber, last_text}
 use Rattle.draid_run.specs.declared.status.Status.{Status}
-use Rattle.draid_run.specs.declared.status.Status.TheVariants.{Done, Usage, Line, SourceFault, SinkFault, NoMemory, TooLong, ShelfFault}
+use Rattle.draid_run.specs.declared.status.Status.TheVariants.{Done, Usage, Line, SourceFault, SinkFault, NoMemory, TooLong, ShelfFault, Record}
 use Rattle.draid_run.proofs.Known.{appends_none}
 
 -- ---- the last line
 
 -- a run that ended at a number may as well have ended for want of memory
-ends_short : (ended : Status) (broken : Option (List ℕ)) (lines : List (List ℕ)) (input : List ℕ) → HasNumber ended → Ends ended broken lines input → Ends NoMemory broken lines input
-ends_short (Line line kind at) broken lines input number ends = (ends.0 ∷ ends.1, ends.2)
-ends_short (TooLong line) broken lines input number ends = (lines_of ends.0, ends.1)
-ends_short Done broken lines input number ends = absurd number
-ends_short Usage broken lines input number ends = absurd number
-ends_short SourceFault broken lines input number ends = absurd number
-ends_short SinkFault broken lines input number ends = absurd number
-ends_short NoMemory broken lines input number ends = absurd number
-ends_short ShelfFault broken lines input number ends = absurd number
+ends_short : (ended : Status) (broken : Option (List ℕ)) (mid last : Desk) (lines : List (List ℕ)) (input : List ℕ) → HasNumber ended → BreaksOff ended broken mid last → Ends ended broken lines input
+    → Ends NoMemory broken lines input
+ends_short (Line line kind at) None mid last lines input number breaks ends = (ends.0 ∷ ends.1, ends.2)
+ends_short (Line line kind at) (Some text) mid last lines input number breaks ends = absurd breaks
+ends_short (TooLong line) None mid last lines input number breaks ends = (lines_of ends.0, ends.1)
+ends_short (TooLong line) (Some text) mid last lines input number breaks ends = absurd breaks
+ends_short (Record metaslab place kind) None mid last lines input number breaks ends = absurd breaks
+ends_short (Record metaslab place kind) (Some text) mid last lines input number breaks ends = ends
+ends_short Done broken mid last lines input number breaks ends = absurd number
+ends_short Usage broken mid last lines input number breaks ends = absurd number
+ends_short SourceFault broken mid last lines input number breaks ends = absurd number
+ends_short SinkFault broken mid last lines input number breaks ends = absurd number
+ends_short NoMemory broken mid last lines input number breaks ends = absurd number
+ends_short ShelfFault broken mid last lines input number breaks ends = absurd number
 
-ends_known : (ended : Status) (broken : Option (List ℕ)) (lines : List (List ℕ)) (input : Option (List ℕ)) → HasNumber ended → MatchOption input ⊤ (Ends ended broken lines) → MatchOption input ⊤ (Ends NoMemory broken lines)
-ends_known ended broken lines None number ends = tt
-ends_known ended broken lines (Some bytes) number ends = ends_short ended broken lines bytes number ends
+ends_known : (ended : Status) (broken : Option (List ℕ)) (mid last : Desk) (lines : List (List ℕ)) (input : Option (List ℕ)) → HasNumber ended → BreaksOff ended broken mid last
+    → MatchOption input ⊤ (Ends ended broken lines) → MatchOption input ⊤ (Ends NoMemory broken lines)
+ends_known ended broken mid last lines None number breaks ends = tt
+ends_known ended broken mid last lines (Some bytes) number breaks ends = ends_short ended broken mid last lines bytes number breaks ends
 
 breaks_short : (ended : Status) (broken : Option (List ℕ)) (mid last : Desk) → HasNumber ended → BreaksOff ended broken mid last → BreaksOff NoMemory broken mid last
 breaks_short (Line line kind at) None mid last number breaks = breaks
-breaks_short (Line line kind at) (Some text) mid last number breaks = breaks
+breaks_short (Line line kind at) (Some text) mid last number breaks = absurd breaks
 breaks_short (TooLong line) None mid last number breaks = breaks
-breaks_short (TooLong line) (Some text) mid last number breaks = breaks
+breaks_short (TooLong line) (Some text) mid last number breaks = absurd breaks
+breaks_short (Record metaslab place kind) None mid last number breaks = absurd breaks
+breaks_short (Record metaslab place kind) (Some text) mid last number breaks = breaks
 breaks_short Done broken mid last number breaks = absurd number
 breaks_short Usage broken mid last number breaks = absurd number
 breaks_short SourceFault broken mid last number breaks = absurd number
@@ -49,6 +57,7 @@ breaks_short ShelfFault broken mid last number breaks = absurd number
 shows_short : (ended : Status) (replies shown : List (Option Reply)) → HasNumber ended → Shows ended replies shown → Shows NoMemory replies shown
 shows_short (Line line kind at) replies shown number shows = inl shows
 shows_short (TooLong line) replies shown number shows = inl shows
+shows_short (Record metaslab place kind) replies shown number shows = inl shows
 shows_short Done replies shown number shows = absurd number
 shows_short Usage replies shown number shows = absurd number
 shows_short SourceFault replies shown number shows = absurd number
@@ -59,6 +68,7 @@ shows_short ShelfFault replies shown number shows = absurd number
 gets_short : (ended : Status) (shown : List (Option Reply)) (old new : Option (List ℕ)) → HasNumber ended → GetsReplies ended shown old new → GetsReplies NoMemory shown old new
 gets_short (Line line kind at) shown old new number gets = gets
 gets_short (TooLong line) shown old new number gets = gets
+gets_short (Record metaslab place kind) shown old new number gets = gets
 gets_short Done shown old new number gets = absurd number
 gets_short Usage shown old new number gets = absurd number
 gets_short SourceFault shown old new number gets = absurd number
@@ -83,7 +93,7 @@ module _ {R A : Type 0} (rack : racks.Ghosts R) (area : areas.Ghosts A) (chosen 
     desk = is.desk;
     runs = is.runs;
     breaks = breaks_short ended is.broken is.mid is.last number is.breaks;
-    ends = ends_known ended is.broken is.lines input number is.ends;
+    ends = ends_known ended is.broken is.mid is.last is.lines input number is.breaks is.ends;
     shows = shows_short ended is.replies is.shown number is.shows;
     prints = gets_short ended is.shown start held number is.prints;
     failed = λ e. absurd (cc e);
@@ -91,7 +101,7 @@ module _ {R A : Type 0} (rack : racks.Ghosts R) (area : areas.Ghosts A) (chosen 
 
   -- what was served, as the run of these words
   run_of : (words : List (List ℕ)) (status ended : Status) (input start mid new : Option (List ℕ)) (entry before now : OnShelf) (pool : Option (Pool R A)) → (ended ≡ Usage → ⊥) → IsSession words
-      → (is : Served rack area chosen first ended input start mid entry before pool) → LeavesDesk entry before now is.last → Prints status ended (last_text ended) mid new → RunsFrom chosen words status input start new entry now first
+      → (is : Served rack area chosen first ended input start mid entry before pool) → LeavesDesk area entry before now pool is.last → Prints status ended (last_text ended) mid new → RunsFrom chosen words status input start new entry now first
   run_of words status ended input start mid new entry before now pool other session is leaves line = record {
     last = is.last;
     session = record {
@@ -109,13 +119,15 @@ module _ {R A : Type 0} (rack : racks.Ghosts R) (area : areas.Ghosts A) (chosen 
       shows = is.shows;
       prints = record { between = mid; replies = is.prints; last = line };
     };
+    left = leaves.left;
+    is_left = leaves.is;
     shelf = leaves.shelf;
   }
 
   -- a run of a session: what was served, the last line, and the pool on the shelf
   pub run_served : (words : List (List ℕ)) (status ended : Status) (input start mid new : Option (List ℕ)) (entry before now : OnShelf) (pool : Option (Pool R A)) → IsSession words → (ended ≡ Usage → ⊥)
       → Served rack area chosen first ended input start mid entry before pool → EndsWithLine ended status mid new
-      → ((x : Desk) → IsDesk rack area entry before pool x → LeavesDesk entry before now x)
+      → ((x : Desk) → IsDesk rack area entry before pool x → LeavesDesk area entry before now pool x)
       → RunsFrom chosen words status input start new entry now first
   run_served words status ended input start mid new entry before now pool session other is line leaves = elim line.is [
     | inl same ↦
@@ -149,16 +161,21 @@ module _ (chosen : List Room → Option ℕ → Type 0) (words : List (List ℕ)
         shows = shows;
         prints = record { between = old; replies = gets; last = subst (λ m. Prints status m (last_text m) old new) same line.prints };
       };
-      shelf = back first at;
+      left = first;
+      is_left = back first at;
+      shelf = at;
     }
     | inr none ↦ absurd (plain none.1)
   ]
     where
-      back : (x : Desk) → HoldsDesk x entry entry → HoldsDesk (given_back x) entry entry
-      back Untouched is = is
-      back (Made geometry) is = is
-      back (Shut crash x) is = is
+      back : (x : Desk) → HoldsDesk x entry entry → IsLeft x x
+      back Untouched is = refl
+      back Bare is = refl
+      back (Made geometry) is = refl
+      back (Shut crash x) is = refl
+      back Unknown is = refl
       back (Open x) is = absurd is
+      back Foreign is = absurd is
 
   -- a run whose words aren't those of a session
   pub run_refused : (IsSession words → ⊥) → EndsWithLine Usage status old new → RunsFrom chosen words status input old new entry entry first

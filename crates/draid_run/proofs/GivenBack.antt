@@ -1,37 +1,105 @@
 -- The pool that is open is given back to the shelf.
-use Rattle.std.proofs.Common.{◌≡◌, ◌∙◌, inl, inr, arith, sym, subst, Bool, Option, Some, None, MatchOption}
-use Rattle.std.specs.Prelude.{IsSome, IsSomeAnd, IsTrue, is_some}
+use Rattle.std.proofs.Common.{◌≡◌, ◌∙◌, inl, inr, arith, refl, sym, subst, ℕ, Bool, true, false, Option, Some, None, MatchOption}
+use Rattle.std.specs.Prelude.{IsSomeAnd, is_some}
 use Rattle.draid_rack.specs.declared.Rack as racks
+use Rattle.draid_area.specs.Area.{Content}
 use Rattle.draid_area.specs.declared.Area as areas
-use Rattle.draid_shelf.specs.Kits.{AreNewChecks, Held, OnHeld}
-use Rattle.draid_session.specs.Session.{Desk, Untouched, Made, Open, Shut}
-use Rattle.draid_session.specs.State.{State}
-use Rattle.draid_pool.specs.Closing.{GivesBack, HoldsPool, SameCounts}
+use Rattle.draid_segments.specs.Segments.{Pieces}
+use Rattle.draid_shelf.specs.Kits.{AreNewChecks, Held, KitTold, OnHeld}
+use Rattle.draid_session.specs.Session.{Desk, Untouched, Bare, Made, Open, Shut, Foreign, Unknown, IsGiven}
+use Rattle.draid_session.specs.State.{Metaslab, State}
+use Rattle.draid_pool.specs.Closing.{GivesBack, HoldsPool, Rests, RestsOn, SameCounts}
+use Rattle.draid_pool.specs.Failing.{AreaFails}
+use Rattle.draid_pool.specs.Importable.{IsFindable, IsImportable}
 use Rattle.draid_pool.specs.Opening.{AreaFailed}
 use Rattle.draid_pool.specs.Pools.{Represents}
+use Rattle.draid_pool.specs.Records.{HasLeafNumbers}
+use Rattle.draid_pool.specs.Ubers.{UberStands}
 use Rattle.draid_pool.specs.declared.pool.Pool.{Pool}
 use Rattle.draid_run.specs.Desks.{IsDesk, LeavesDesk}
 use Rattle.draid_run.specs.Shelves.{AreaHasFailed, HasChecks, HoldsShut, IsOut, OnShelf}
+
+-- ---- whether the shelf tells makes no other difference to what it holds
+
+pub some_and : {T : Type 0} (o : Option T) (P Q : T → Type 0) → ((t : T) → P t → Q t) → IsSomeAnd o P → IsSomeAnd o Q
+some_and None P Q f p = absurd p
+some_and (Some t) P Q f p = f t p
+
+pub on_held : (held : Option Held) (P Q : Held → Type 0) → ((h : Held) → P h → Q h) → OnHeld held P → OnHeld held Q
+on_held None P Q f p = tt
+on_held (Some h) P Q f p = f h p
+
+module _ (x : State) (b : Bool) where
+  -- the state, told so
+  abbrev pub told_as : State
+  told_as = record x { told = b }
+
+  uber_as : (content : Content) → UberStands x (Some content) → UberStands told_as (Some content)
+  uber_as content u = record { pending = u.pending; are = u.are; stands = u.stands }
+
+  rests_on : (m : ℕ) (pieces : Pieces) (y : Metaslab) (kit : KitTold) → RestsOn x m pieces y kit → RestsOn told_as m pieces y kit
+  rests_on m pieces y kit r = record { reached = r.reached; images = r.images; harm = r.harm }
+
+  leaves_as : HasLeafNumbers x → HasLeafNumbers told_as
+  leaves_as l = record { order = l.order; each = l.each }
+
+  pub rests_as : (pieces : ℕ → Pieces) (held : Held) → Rests x pieces held → Rests told_as pieces held
+  rests_as pieces held r = record {
+    layout = r.layout;
+    uber = some_and held.uber (λ content. UberStands x (Some content)) (λ content. UberStands told_as (Some content)) uber_as r.uber;
+    checks = r.checks;
+    many = r.many;
+    kits = λ m y there. some_and (held.kits m) (RestsOn x m (pieces m) y) (RestsOn told_as m (pieces m) y) (rests_on m (pieces m) y) (r.kits m y there);
+    images = r.images;
+    leaves = leaves_as r.leaves;
+    objects = r.objects;
+  }
+
+  pub holds_as : (crash : Bool) (held : Held) → HoldsPool x crash held → HoldsPool told_as crash held
+  holds_as crash held h = record { pieces = h.pieces; rests = rests_as h.pieces held h.rests; backed = h.backed }
+
+  pub importable_as : (now : OnShelf) (held : Held) → IsImportable x held now.leaves → IsImportable told_as held now.leaves
+  importable_as now held i =
+      let f : IsFindable x = i.findable in
+      record { findable = record { committed = f.committed; versions = f.versions }; alike = i.alike; once = i.once; there = i.there }
+
+pub not_some : {T : Type 0} (o : Option T) → ((t : T) → o ≡ Some t → ⊥) → o ≡ None
+not_some None other = refl
+not_some (Some t) other = absurd (other t refl)
+
+-- ---- a pool that was given back
 
 all_held : (x : State) (crash : Bool) (new old : Option Held) → OnHeld new (λ held. MatchOption old ⊥ (λ before. IsSomeAnd before.checks AreNewChecks → HoldsPool x crash held)) → OnHeld old HasChecks → OnHeld new (HoldsPool x crash)
 all_held x crash None old holds away = tt
 all_held x crash (Some held) None holds away = absurd holds
 all_held x crash (Some held) (Some before) holds away = holds away
 
-told_then : (x : State) (P : Held → Held → Type 0) (new old : Option Held) → OnHeld new (λ held. MatchOption old ⊥ (λ before. P before held)) → x.told ≡ is_some old → IsSome new → IsTrue x.told
-told_then x P None old holds told is = absurd (cc)
+told_then : (x : State) (P : Held → Held → Type 0) (new old : Option Held) → OnHeld new (λ held. MatchOption old ⊥ (λ before. P before held)) → x.told ≡ is_some old → is_some new ≡ true → x.told ≡ true
+told_then x P None old holds told is = absurd (cc is)
 told_then x P (Some held) None holds told is = absurd holds
 told_then x P (Some held) (Some before) holds told is = told
 
--- with its devices the shelf has the pool
-pub shelf_has : (x : State) (crash : Bool) (before now : OnShelf) → GivesBack x crash before.held now.held now.counts now.own.uber → now.own.checks ≡ before.own.checks → IsOut x before → HoldsShut crash x now
-shelf_has x crash before now gives checks out = record {
-  held = all_held x crash now.held before.held gives.held out.held;
-  told = told_then x (λ before held. IsSomeAnd before.checks AreNewChecks → HoldsPool x crash held) now.held before.held gives.held out.told;
-  counts = gives.counted;
-  uber = gives.uber;
-  checks = checks ∙ out.checks;
-}
+module _ (x : State) (crash : Bool) (before now : OnShelf) (gives : GivesBack x crash before.held now.held now.leaves now.counts now.own.uber) where
+  -- the state of the pool that was given back: whether it tells is whether the shelf does
+  abbrev pub left_as : State
+  left_as = told_as x (is_some now.held)
+
+  -- with its devices the shelf has the pool
+  pub shelf_has : now.own.checks ≡ before.own.checks → IsOut x before → HoldsShut crash left_as now
+  shelf_has checks out = record {
+    held = on_held now.held (HoldsPool x crash) (HoldsPool left_as crash) (holds_as x (is_some now.held) crash) (all_held x crash now.held before.held gives.held out.held);
+    importable = on_held now.held (λ held. IsImportable x held now.leaves) (λ held. IsImportable left_as held now.leaves) (importable_as x (is_some now.held) now) gives.importable;
+    told = refl;
+    counts = gives.counted;
+    uber = gives.uber;
+    checks = checks ∙ out.checks;
+  }
+
+  pub is_given : IsOut x before → IsGiven x left_as
+  is_given out = record {
+    same = refl;
+    told = told_then x (λ before held. IsSomeAnd before.checks AreNewChecks → HoldsPool x crash held) now.held before.held gives.held out.told;
+  }
 
 -- what has failed on an area of the pool shows there
 area_shows : (crash : Bool) (x : State) (now : OnShelf) → HoldsShut crash x now → AreaHasFailed x → AreaFailed now.counts now.own
@@ -46,21 +114,37 @@ area_shows crash x now holds failed = elim failed [
 ]
 
 module _ {R A : Type 0} (rack : racks.Ghosts R) (area : areas.Ghosts A) (entry before now : OnShelf) (desk : Option (Pool R A)) where
-  pub leaves_shut : desk ≡ None → now ≡ before → (x : Desk) → IsDesk rack area entry before desk x → LeavesDesk entry before now x
-  leaves_shut none same x = subst (λ d. IsDesk rack area entry before d x → LeavesDesk entry before now x) (sym none) (subst (λ n. IsDesk rack area entry before None x → LeavesDesk entry before n x) (sym same) (by x)) where
-    by : (x : Desk) → IsDesk rack area entry before None x → LeavesDesk entry before before x
-    by Untouched is = record { shelf = is.shelf; failed = λ failed. failed }
-    by (Made geometry) is = record { shelf = is.shelf; failed = λ failed. failed }
-    by (Shut crash y) is = record { shelf = is.shelf; failed = λ failed. failed }
-    by (Open y) is = absurd is.stands
+  pub leaves_shut : desk ≡ None → now ≡ before → (x : Desk) → IsDesk rack area entry before desk x → LeavesDesk area entry before now desk x
+  leaves_shut none same x =
+      subst (λ d. IsDesk rack area entry before d x → LeavesDesk area entry before now d x) (sym none)
+      (subst (λ n. IsDesk rack area entry before None x → LeavesDesk {R = R} area entry before n None x) (sym same) (by x))
+    where
+      by : (x : Desk) → IsDesk rack area entry before None x → LeavesDesk {R = R} area entry before before None x
+      by Untouched is = record { left = Untouched; is = refl; shelf = is.shelf; failed = λ failed. failed }
+      by Bare is = record { left = Bare; is = refl; shelf = is.shelf; failed = λ failed. failed }
+      by (Made geometry) is = record { left = Made geometry; is = refl; shelf = is.shelf; failed = λ failed. failed }
+      by (Shut crash y) is = record { left = Shut crash y; is = refl; shelf = is.shelf; failed = λ failed. failed }
+      by Unknown is = record { left = Unknown; is = refl; shelf = is.shelf; failed = λ failed. failed }
+      by (Open y) is = absurd is.stands
+      by Foreign is = absurd is.stands
 
-  pub leaves_open : (pool : Pool R A) → desk ≡ Some pool → ((x : State) → Represents rack area pool x → GivesBack x Bool.false before.held now.held now.counts now.own.uber) → now.own.checks ≡ before.own.checks
-      → (x : Desk) → IsDesk rack area entry before desk x → LeavesDesk entry before now x
-  leaves_open pool some back checks x = subst (λ d. IsDesk rack area entry before d x → LeavesDesk entry before now x) (sym some) (by x) where
-    by : (x : Desk) → IsDesk rack area entry before (Some pool) x → LeavesDesk entry before now x
+  pub leaves_open : (pool : Pool R A) → desk ≡ Some pool → ((x : State) → Represents rack area pool x → GivesBack x false before.held now.held now.leaves now.counts now.own.uber) → now.own.checks ≡ before.own.checks
+      → (AreaFails area.faults pool → AreaFailed now.counts now.own) → (x : Desk) → IsDesk rack area entry before desk x → LeavesDesk area entry before now desk x
+  leaves_open pool some back checks shows x = subst (λ d. IsDesk rack area entry before d x → LeavesDesk area entry before now d x) (sym some) (by x) where
+    by : (x : Desk) → IsDesk rack area entry before (Some pool) x → LeavesDesk area entry before now (Some pool) x
     by Untouched is = absurd is.stands
+    by Bare is = absurd is.stands
     by (Made geometry) is = absurd is.stands
     by (Shut crash y) is = absurd is.stands
+    by Unknown is = absurd is.stands
+    by Foreign is = record { left = Unknown; is = refl; shelf = tt; failed = λ failed. inr (shows failed) }
     by (Open y) is =
-        let holds = shelf_has y Bool.false before now (back y is.stands.1) checks is.shelf in
-        record { shelf = holds; failed = λ failed. inr (area_shows Bool.false y now holds failed) }
+        let gives = back y is.stands.1 in
+        let holds = shelf_has y false before now gives checks is.shelf in
+        let left : State = left_as y false before now gives in
+        record {
+          left = Shut false left;
+          is = (left, refl, is_given y false before now gives is.shelf);
+          shelf = holds;
+          failed = λ failed. inr (area_shows false left now holds failed);
+        }

@@ -1,5 +1,5 @@
 -- What a sync, an export and a crash did, in the words of a session.
-use Rattle.std.proofs.Common.{◌≡◌, ◌∙◌, refl, sym, ap, subst, ℕ, Bool, List, [], Option, Some, None, Result, Ok, Err}
+use Rattle.std.proofs.Common.{◌≡◌, ◌∙◌, refl, sym, ap, subst, ℕ, true, false, List, [], Option, Some, None, Result, Ok, Err}
 use Rattle.draid_names.specs.declared.room.Room.{Room}
 use Rattle.draid_rack.specs.declared.Rack as racks
 use Rattle.draid_area.specs.declared.Area as areas
@@ -12,11 +12,12 @@ use Rattle.draid_session.specs.Follows.{Follows}
 use Rattle.draid_session.specs.Groups as groups
 use Rattle.draid_session.specs.Holds.{Hold}
 use Rattle.draid_session.specs.Phases.{Broke}
-use Rattle.draid_session.specs.Session.{Desk, Untouched, Made, Open, Shut, TurnsBy}
+use Rattle.draid_session.specs.Session.{Desk, Untouched, Bare, Made, Open, Shut, Foreign, Unknown, ShelfFails, TurnsBy}
 use Rattle.draid_session.specs.State.{State, Store}
 use Rattle.draid_pool.specs.Answers.{ExportDoes, SyncDoes}
 use Rattle.draid_pool.specs.Carries.{CarriesOut}
 use Rattle.draid_pool.specs.Closing.{GivesBack}
+use Rattle.draid_pool.specs.Failing.{AreaFails}
 use Rattle.draid_pool.specs.Pools.{Represents}
 use Rattle.draid_pool.specs.Whole.{IsWhole}
 use Rattle.draid_pool.specs.declared.fault.SyncFault.{SyncFault}
@@ -24,14 +25,14 @@ use Rattle.draid_pool.specs.declared.fault.SyncFault.TheVariants as sync
 use Rattle.draid_pool.specs.declared.fault.Synced.{Synced as Group}
 use Rattle.draid_pool.specs.declared.pool.Pool.{Pool}
 use Rattle.draid_run.specs.Desks.{Broken, IsDesk, IsPool, IsShelf, ReplyDoes, Turned}
-use Rattle.draid_run.specs.Groups.{CrashDid, CrashTurns, ExportDid, ExportIs, ExportTurns, Leads, RefusalIs, SyncDid, SyncLeads, desk_behind, export_reply, refusal_of, sync_reply}
+use Rattle.draid_run.specs.Groups.{CrashDid, CrashTurns, ExportDid, ExportIs, ExportTurns, IsBehind, Leads, RefusalIs, StopShows, SyncDid, SyncLeads, export_reply, foreign_behind, refusal_of, sync_reply}
 use Rattle.draid_run.specs.Serve.{AnswerIs, IsSaid}
-use Rattle.draid_run.specs.Shelves.{IsOut, OnShelf}
+use Rattle.draid_run.specs.Shelves.{IsOut, OnShelf, PoolFails}
 use Rattle.draid_run.specs.declared.answer.Stop.{Stop}
 use Rattle.draid_run.specs.declared.answer.Stop.TheVariants as stop
 use Rattle.draid_run.proofs.Broke.{broken_shows, export_broke, sync_broke}
 use Rattle.draid_run.proofs.Following.{same_store}
-use Rattle.draid_run.proofs.GivenBack.{shelf_has}
+use Rattle.draid_run.proofs.GivenBack.{is_given, left_as, shelf_has}
 use Rattle.draid_run.proofs.Steps.{by_answer, still_out}
 
 module _ {R A : Type 0} (rack : racks.Ghosts R) (area : areas.Ghosts A) where
@@ -45,23 +46,44 @@ module _ {R A : Type 0} (rack : racks.Ghosts R) (area : areas.Ghosts A) where
   sync_refused x pool result why (Ok reply) is said c = by_answer rack area (SyncDoes x) _ x pool result result refl (λ holds store w. (result, ap sync_reply is ∙ said, w)) c
   sync_refused x pool result why (Err stop.Shelf) is said c = by_answer rack area (SyncDoes x) _ x pool result result refl (λ holds store w. (result, ap sync_reply is ∙ said, w)) c
   sync_refused x pool result why (Err stop.Unbuilt) is said c = absurd said
+  sync_refused x pool result why (Err (stop.Record metaslab place kind)) is said c = absurd said
+
+  -- what a refusal shows that has no reply
+  shows_why : (called : CommandName) (pool : Option (Pool R A)) (why : SyncFault) (said : Result Reply Stop) → RefusalIs called why said → (why ≡ sync.Shelf → PoolFails area pool) → StopShows area said pool
+  shows_why called pool why (Ok reply) refused fails = tt
+  shows_why called pool sync.Shelf (Err stop.Shelf) refused fails = fails refl
+  shows_why called pool sync.Worn (Err stop.Shelf) refused fails = absurd (cc refused)
+  shows_why called pool sync.Last (Err stop.Shelf) refused fails = absurd (cc refused)
+  shows_why called pool sync.NoMemory (Err stop.Shelf) refused fails = absurd (cc refused)
+  shows_why called pool why (Err stop.Unbuilt) refused fails = absurd refused
+  shows_why called pool why (Err (stop.Record metaslab place kind)) refused fails = absurd refused
+
+  pub refusal_shows : {T : Type 0} (called : CommandName) (pool : Pool R A) (result : Result T SyncFault) (why : SyncFault) (said : Result Reply Stop) → result ≡ Err why → RefusalIs called why said
+      → (result ≡ Err sync.Shelf → AreaFails area.faults pool) → StopShows area said (Some pool)
+  refusal_shows called pool result why said is refused fails = shows_why called (Some pool) why said refused (λ same. fails (is ∙ ap Err same))
 
   pub sync_open : (desk : Option (Pool R A)) (pool new : Pool R A) (result : Result Reply Stop) → desk ≡ Some pool → IsWhole rack area new → ((x : State) → Represents rack area pool x → SyncLeads rack area x result new)
-      → (x : Desk) → IsPool rack area desk x → SyncDid rack area x result (Some new)
-  sync_open desk pool new result is whole leads x = subst (λ d. IsPool rack area d x → SyncDid rack area x result (Some new)) (sym is) (by x) where
+      → StopShows area result (Some new) → (x : Desk) → IsPool rack area desk x → SyncDid rack area x result (Some new)
+  sync_open desk pool new result is whole leads shows x = subst (λ d. IsPool rack area d x → SyncDid rack area x result (Some new)) (sym is) (by x) where
     by : (x : Desk) → IsPool rack area (Some pool) x → SyncDid rack area x result (Some new)
     by Untouched stands = absurd stands
+    by Bare stands = absurd stands
     by (Made geometry) stands = absurd stands
     by (Shut crash y) stands = absurd stands
+    by Unknown stands = absurd stands
     by (Open y) stands = (whole, leads y stands.1)
+    by Foreign stands = (whole, shows)
 
   pub sync_shut : (desk new : Option (Pool R A)) (result : Result Reply Stop) → desk ≡ None → new ≡ None → result ≡ Ok (NoPool name.Sync) → (x : Desk) → IsPool rack area desk x → SyncDid rack area x result new
   sync_shut desk new result none same said x = subst (λ d. IsPool rack area d x → SyncDid rack area x result new) (sym none) (by x) where
     by : (x : Desk) → IsPool rack area None x → SyncDid rack area x result new
     by Untouched stands = (said, same)
+    by Bare stands = (said, same)
     by (Made geometry) stands = (said, same)
     by (Shut crash y) stands = (said, same)
+    by Unknown stands = (said, same)
     by (Open y) stands = absurd stands
+    by Foreign stands = absurd stands
 
 -- ---- in the words of a session
 
@@ -110,6 +132,10 @@ module _ {R A : Type 0} (rack : racks.Ghosts R) (area : areas.Ghosts A) (chosen 
   by_sync Untouched reply desk new is did = told Untouched reply SyncPool name.Sync desk new (ok_same reply (NoPool name.Sync) (Ok reply) (Ok (NoPool name.Sync)) refl refl did.0) did.1 (record { stands = tt; shelf = is.shelf }) (refl, refl)
   by_sync (Made geometry) reply desk new is did = told (Made geometry) reply SyncPool name.Sync desk new (ok_same reply (NoPool name.Sync) (Ok reply) (Ok (NoPool name.Sync)) refl refl did.0) did.1 (record { stands = tt; shelf = is.shelf }) (refl, refl)
   by_sync (Shut crash y) reply desk new is did = told (Shut crash y) reply SyncPool name.Sync desk new (ok_same reply (NoPool name.Sync) (Ok reply) (Ok (NoPool name.Sync)) refl refl did.0) did.1 (record { stands = tt; shelf = is.shelf }) (refl, refl)
+  by_sync Bare reply desk new is did = told Bare reply SyncPool name.Sync desk new (ok_same reply (NoPool name.Sync) (Ok reply) (Ok (NoPool name.Sync)) refl refl did.0) did.1 (record { stands = tt; shelf = is.shelf }) (refl, refl)
+  by_sync Unknown reply desk new is did = told Unknown reply SyncPool name.Sync desk new (ok_same reply (NoPool name.Sync) (Ok reply) (Ok (NoPool name.Sync)) refl refl did.0) did.1 (record { stands = tt; shelf = is.shelf }) (refl, refl)
+  by_sync Foreign reply desk None is did = absurd did
+  by_sync Foreign reply desk (Some new) is did = record { new = Foreign; desk = record { stands = did.0; shelf = tt }; turns = refl }
   by_sync (Open y) reply desk None is did = absurd did
   by_sync (Open y) reply desk (Some new) is did =
       let c = did.1 in
@@ -119,10 +145,14 @@ module _ {R A : Type 0} (rack : racks.Ghosts R) (area : areas.Ghosts A) (chosen 
         turns = record { holds = c.holds; mid = c.reached; store = c.store; follows = c.follows; does = sync_does chosen y c.holds c.store c.done.0 reply c.done.1 c.done.2; made = refl };
       }
 
-  pub sync_breaks : (x : Desk) (desk new : Option (Pool R A)) → IsDesk rack area entry now desk x → SyncDid rack area x (Err stop.Shelf) new → Broken rack area SyncPool entry before x now new
+  pub sync_breaks : (x : Desk) (desk new : Option (Pool R A)) → IsDesk rack area entry now desk x → SyncDid rack area x (Err stop.Shelf) new → Broken rack area ShelfFails SyncPool entry before x now new
   sync_breaks Untouched desk new is did = absurd (cc (did.0))
   sync_breaks (Made geometry) desk new is did = absurd (cc (did.0))
   sync_breaks (Shut crash y) desk new is did = absurd (cc (did.0))
+  sync_breaks Bare desk new is did = absurd (cc (did.0))
+  sync_breaks Unknown desk new is did = absurd (cc (did.0))
+  sync_breaks Foreign desk None is did = absurd did
+  sync_breaks Foreign desk (Some new) is did = record { new = Foreign; desk = record { stands = did.0; shelf = tt }; breaks = refl; cause = did.1 }
   sync_breaks (Open y) desk None is did = absurd did
   sync_breaks (Open y) desk (Some new) is did =
       let c = did.1 in
@@ -136,20 +166,32 @@ module _ {R A : Type 0} (rack : racks.Ghosts R) (area : areas.Ghosts A) (chosen 
       }
 
   -- ---- an export
-  export_turns : (x y : State) (answer : Result ℕ SyncFault) (reply : Reply) → export_reply answer ≡ Some reply → Leads x y (ExportDoes x answer) → TurnsBy chosen (Ok ExportPool) (Open x) (Some reply) (desk_behind answer y)
-  export_turns x y (Ok group) reply is l =
-      subst (λ r. TurnsBy chosen (Ok ExportPool) (Open x) (Some r) (Shut Bool.false y)) (some_same (Exported group) reply is)
-      (record { holds = l.holds; mid = l.mid; store = l.store; follows = l.follows; does = l.done; made = l.made })
-  export_turns x y (Err sync.Worn) reply is l =
-      subst (λ r. TurnsBy chosen (Ok ExportPool) (Open x) (Some r) (Open y)) (some_same (Worn name.Export) reply is)
-      (record { holds = l.holds; mid = l.mid; store = l.store; follows = l.follows; does = l.done; made = l.made })
-  export_turns x y (Err sync.Last) reply is l =
-      subst (λ r. TurnsBy chosen (Ok ExportPool) (Open x) (Some r) (Open y)) (some_same (Last name.Export) reply is)
-      (record { holds = l.holds; mid = l.mid; store = l.store; follows = l.follows; does = l.done; made = l.made })
-  export_turns x y (Err sync.NoMemory) reply is l =
-      subst (λ r. TurnsBy chosen (Ok ExportPool) (Open x) (Some r) (Open y)) (some_same (NoMemory name.Export) reply is)
-      (record { holds = l.holds; mid = l.mid; store = l.store; follows = l.follows; does = l.done; made = l.made })
-  export_turns x y (Err sync.Shelf) reply is l = absurd (cc is)
+  export_turns : (x y : State) (answer : Result ℕ SyncFault) (reply : Reply) (new : Desk) → export_reply answer ≡ Some reply → IsBehind answer y new → Leads x y (ExportDoes x answer)
+      → TurnsBy chosen (Ok ExportPool) (Open x) (Some reply) new
+  export_turns x y (Ok group) reply new is b l =
+      subst (λ r. TurnsBy chosen (Ok ExportPool) (Open x) (Some r) new) (some_same (Exported group) reply is)
+      (subst (λ d. TurnsBy chosen (Ok ExportPool) (Open x) (Some (Exported group)) d) (sym b.is)
+      (record { y = y; carries = record { holds = l.holds; mid = l.mid; store = l.store; follows = l.follows; does = l.done; made = l.made }; given = b.given }))
+  export_turns x y (Err sync.Worn) reply new is b l =
+      subst (λ r. TurnsBy chosen (Ok ExportPool) (Open x) (Some r) new) (some_same (Worn name.Export) reply is)
+      (subst (λ d. TurnsBy chosen (Ok ExportPool) (Open x) (Some (Worn name.Export)) d) (sym b)
+      (record { holds = l.holds; mid = l.mid; store = l.store; follows = l.follows; does = l.done; made = l.made }))
+  export_turns x y (Err sync.Last) reply new is b l =
+      subst (λ r. TurnsBy chosen (Ok ExportPool) (Open x) (Some r) new) (some_same (Last name.Export) reply is)
+      (subst (λ d. TurnsBy chosen (Ok ExportPool) (Open x) (Some (Last name.Export)) d) (sym b)
+      (record { holds = l.holds; mid = l.mid; store = l.store; follows = l.follows; does = l.done; made = l.made }))
+  export_turns x y (Err sync.NoMemory) reply new is b l =
+      subst (λ r. TurnsBy chosen (Ok ExportPool) (Open x) (Some r) new) (some_same (NoMemory name.Export) reply is)
+      (subst (λ d. TurnsBy chosen (Ok ExportPool) (Open x) (Some (NoMemory name.Export)) d) (sym b)
+      (record { holds = l.holds; mid = l.mid; store = l.store; follows = l.follows; does = l.done; made = l.made }))
+  export_turns x y (Err sync.Shelf) reply new is b l = absurd (cc is)
+
+  foreign_turns : (answer : Result ℕ SyncFault) (reply : Reply) (new : Desk) → export_reply answer ≡ Some reply → new ≡ foreign_behind answer → TurnsBy chosen (Ok ExportPool) Foreign (Some reply) new
+  foreign_turns (Ok group) reply new is b = subst (λ r. TurnsBy chosen (Ok ExportPool) Foreign (Some r) new) (some_same (Exported group) reply is) b
+  foreign_turns (Err sync.Worn) reply new is b = subst (λ r. TurnsBy chosen (Ok ExportPool) Foreign (Some r) new) (some_same (Worn name.Export) reply is) b
+  foreign_turns (Err sync.Last) reply new is b = subst (λ r. TurnsBy chosen (Ok ExportPool) Foreign (Some r) new) (some_same (Last name.Export) reply is) b
+  foreign_turns (Err sync.NoMemory) reply new is b = subst (λ r. TurnsBy chosen (Ok ExportPool) Foreign (Some r) new) (some_same (NoMemory name.Export) reply is) b
+  foreign_turns (Err sync.Shelf) reply new is b = absurd (cc is)
 
   pub by_export : (x : Desk) (reply : Reply) (new : Option (Pool R A)) → ExportDid rack area entry x (Some reply) now new → Turned rack area chosen (Ok ExportPool) entry x (Some reply) now new
   by_export x reply new did = record { new = did.new; desk = did.desk; turns = by x did.turns } where
@@ -157,23 +199,35 @@ module _ {R A : Type 0} (rack : racks.Ghosts R) (area : areas.Ghosts A) (chosen 
     by Untouched turns = subst (λ r. TurnsBy chosen (Ok ExportPool) Untouched (Some r) did.new) (sym (some_same reply (NoPool name.Export) turns.0)) (refl, turns.1)
     by (Made geometry) turns = subst (λ r. TurnsBy chosen (Ok ExportPool) (Made geometry) (Some r) did.new) (sym (some_same reply (NoPool name.Export) turns.0)) (refl, turns.1)
     by (Shut crash y) turns = subst (λ r. TurnsBy chosen (Ok ExportPool) (Shut crash y) (Some r) did.new) (sym (some_same reply (NoPool name.Export) turns.0)) (refl, turns.1)
-    by (Open y) turns = subst (λ d. TurnsBy chosen (Ok ExportPool) (Open y) (Some reply) d) (sym turns.new_is) (export_turns y turns.y turns.answer reply turns.reply_is turns.leads)
+    by Bare turns = subst (λ r. TurnsBy chosen (Ok ExportPool) Bare (Some r) did.new) (sym (some_same reply (NoPool name.Export) turns.0)) (refl, turns.1)
+    by Unknown turns = subst (λ r. TurnsBy chosen (Ok ExportPool) Unknown (Some r) did.new) (sym (some_same reply (NoPool name.Export) turns.0)) (refl, turns.1)
+    by Foreign turns = foreign_turns turns.answer reply did.new turns.reply_is turns.new_is
+    by (Open y) turns = export_turns y turns.y turns.answer reply did.new turns.reply_is turns.new_is turns.leads
 
-  pub export_breaks : (x : Desk) (new : Option (Pool R A)) → ExportDid rack area entry x None now new → Broken rack area ExportPool entry before x now new
+  pub export_breaks : (x : Desk) (new : Option (Pool R A)) → ExportDid rack area entry x None now new → Broken rack area ShelfFails ExportPool entry before x now new
   export_breaks x new did = by x did.turns where
-    open_behind : (answer : Result ℕ SyncFault) (y : State) → export_reply answer ≡ None → desk_behind answer y ≡ Open y
-    open_behind (Ok group) y is = absurd (cc is)
-    open_behind (Err why) y is = refl
+    open_behind : (answer : Result ℕ SyncFault) (y : State) (d : Desk) → export_reply answer ≡ None → IsBehind answer y d → d ≡ Open y
+    open_behind (Ok group) y d is b = absurd (cc is)
+    open_behind (Err why) y d is b = b
 
-    by : (x : Desk) → ExportTurns x None did.new → Broken rack area ExportPool entry before x now new
+    still_foreign : (answer : Result ℕ SyncFault) (d : Desk) → export_reply answer ≡ None → d ≡ foreign_behind answer → d ≡ Foreign
+    still_foreign (Ok group) d is b = absurd (cc is)
+    still_foreign (Err why) d is b = b
+
+    by : (x : Desk) → ExportTurns x None did.new → Broken rack area ShelfFails ExportPool entry before x now new
     by Untouched turns = absurd (cc (turns.0))
+    by Bare turns = absurd (cc (turns.0))
     by (Made geometry) turns = absurd (cc (turns.0))
     by (Shut crash y) turns = absurd (cc (turns.0))
+    by Unknown turns = absurd (cc (turns.0))
+    by Foreign turns =
+        let same : did.new ≡ Foreign = still_foreign turns.answer did.new turns.reply_is turns.new_is in
+        record { new = Foreign; desk = subst (λ d. IsDesk rack area entry now new d) same did.desk; breaks = refl; cause = did.failed refl same }
     by (Open y) turns =
         let l = turns.leads in
         let f = export_fails chosen y l.holds l.store turns.answer turns.reply_is l.done in
         let follows = subst (λ s. Follows l.holds y s) (sym l.made) (follows_to y l.mid l.holds l.store l.follows f.0) in
-        let same : did.new ≡ Open turns.y = turns.new_is ∙ open_behind turns.answer turns.y turns.reply_is in
+        let same : did.new ≡ Open turns.y = open_behind turns.answer turns.y did.new turns.reply_is turns.new_is in
         record {
           new = Open turns.y;
           desk = subst (λ d. IsDesk rack area entry now new d) same did.desk;
@@ -188,10 +242,13 @@ module _ {R A : Type 0} (rack : racks.Ghosts R) (area : areas.Ghosts A) (chosen 
     by Untouched turns = subst (λ r. TurnsBy chosen (Ok CrashPool) Untouched (Some r) did.new) (sym turns.0) (refl, turns.1)
     by (Made geometry) turns = subst (λ r. TurnsBy chosen (Ok CrashPool) (Made geometry) (Some r) did.new) (sym turns.0) (refl, turns.1)
     by (Shut crash y) turns = subst (λ r. TurnsBy chosen (Ok CrashPool) (Shut crash y) (Some r) did.new) (sym turns.0) (refl, turns.1)
+    by Bare turns = subst (λ r. TurnsBy chosen (Ok CrashPool) Bare (Some r) did.new) (sym turns.0) (refl, turns.1)
+    by Unknown turns = subst (λ r. TurnsBy chosen (Ok CrashPool) Unknown (Some r) did.new) (sym turns.0) (refl, turns.1)
+    by Foreign turns = turns
     by (Open y) turns =
         subst (λ r. TurnsBy chosen (Ok CrashPool) (Open y) (Some r) did.new) (sym turns.0)
-        (subst (λ d. TurnsBy chosen (Ok CrashPool) (Open y) (Some Crashed) d) (sym turns.1)
-        (record { holds = []; mid = y; store = y.store; follows = refl; does = (refl, refl); made = refl }))
+        (subst (λ d. TurnsBy chosen (Ok CrashPool) (Open y) (Some Crashed) d) (sym turns.1.is)
+        (record { y = y; carries = record { holds = []; mid = y; store = y.store; follows = refl; does = (refl, refl); made = refl }; given = turns.1.given }))
 
   -- ---- the answers of the commands
   module _ (pool : Option (Pool R A)) (x : Desk) (new : Option (Pool R A)) where
@@ -201,59 +258,92 @@ module _ {R A : Type 0} (rack : racks.Ghosts R) (area : areas.Ghosts A) (chosen 
         subst (AnswerIs rack area chosen SyncPool entry before pool x now new) (sym said) (by_sync x reply pool new (subst (λ b. IsDesk rack area entry b pool x) same is) did)
     answer_sync (Err stop.Shelf) result said same is did =
         subst (AnswerIs rack area chosen SyncPool entry before pool x now new) (sym said) (sync_breaks x pool new (subst (λ b. IsDesk rack area entry b pool x) same is) did)
+    answer_sync (Err (stop.Record metaslab place kind)) result said same is did = absurd (no_record x new did)
+      where
+        no_record : (x : Desk) (new : Option (Pool R A)) → SyncDid rack area x (Err (stop.Record metaslab place kind)) new → ⊥
+        no_record Untouched new did = cc (did.0)
+        no_record Bare new did = cc (did.0)
+        no_record (Made geometry) new did = cc (did.0)
+        no_record (Shut crash y) new did = cc (did.0)
+        no_record Unknown new did = cc (did.0)
+        no_record (Open y) None did = did
+        no_record (Open y) (Some p) did = did.1
+        no_record Foreign None did = did
+        no_record Foreign (Some p) did = did.1
     answer_sync (Err stop.Unbuilt) result said same is did = absurd (not_unbuilt x new did)
       where
         not_unbuilt : (x : Desk) (new : Option (Pool R A)) → SyncDid rack area x (Err stop.Unbuilt) new → ⊥
         not_unbuilt Untouched new did = cc (did.0)
         not_unbuilt (Made geometry) new did = cc (did.0)
         not_unbuilt (Shut crash y) new did = cc (did.0)
+        not_unbuilt Bare new did = cc (did.0)
+        not_unbuilt Unknown new did = cc (did.0)
         not_unbuilt (Open y) None did = did
         not_unbuilt (Open y) (Some p) did = did.1
+        not_unbuilt Foreign None did = did
+        not_unbuilt Foreign (Some p) did = did.1
 
     pub answer_export : (given : Result Reply Stop) (result : Result (Option Reply) Stop) → IsSaid given result → ExportIs rack area entry x now new given → AnswerIs rack area chosen ExportPool entry before pool x now new result
     answer_export (Ok reply) result said did = subst (AnswerIs rack area chosen ExportPool entry before pool x now new) (sym said) (by_export x reply new did)
     answer_export (Err stop.Shelf) result said did = subst (AnswerIs rack area chosen ExportPool entry before pool x now new) (sym said) (export_breaks x new did)
     answer_export (Err stop.Unbuilt) result said did = absurd did
+    answer_export (Err (stop.Record metaslab place kind)) result said did = absurd did
 
 -- ---- the pool is given back, or stays open
 
 module _ {R A : Type 0} (rack : racks.Ghosts R) (area : areas.Ghosts A) (entry before now : OnShelf) (desk : Option (Pool R A)) (was new : Pool R A) (some : desk ≡ Some was) where
-  on_open : (P : Desk → Type 0) → ((y : State) → Represents rack area was y → IsOut y before → P (Open y)) → (x : Desk) → IsDesk rack area entry before desk x → P x
-  on_open P f x is = by x (subst (λ d. IsPool rack area d x) some is.stands) is.shelf where
+  on_open : (P : Desk → Type 0) → ((y : State) → Represents rack area was y → IsOut y before → P (Open y)) → P Foreign → (x : Desk) → IsDesk rack area entry before desk x → P x
+  on_open P f foreign x is = by x (subst (λ d. IsPool rack area d x) some is.stands) is.shelf where
     by : (x : Desk) → IsPool rack area (Some was) x → IsShelf x entry before → P x
     by Untouched stands shelf = absurd stands
+    by Bare stands shelf = absurd stands
     by (Made geometry) stands shelf = absurd stands
     by (Shut crash y) stands shelf = absurd stands
+    by Unknown stands shelf = absurd stands
     by (Open y) stands shelf = f y stands.1 shelf
+    by Foreign stands shelf = foreign
 
   pub exported : (result : Result ℕ SyncFault) (group : ℕ) → result ≡ Ok group → ((y : State) → Represents rack area was y → CarriesOut rack area new y (ExportDoes y result))
-      → ((y : State) → Represents rack area new y → GivesBack y Bool.false before.held now.held now.counts now.own.uber) → now.own.checks ≡ before.own.checks → (left : Option (Pool R A)) → left ≡ None
+      → ((y : State) → Represents rack area new y → GivesBack y false before.held now.held now.leaves now.counts now.own.uber) → now.own.checks ≡ before.own.checks → (left : Option (Pool R A)) → left ≡ None
       → (x : Desk) → IsDesk rack area entry before desk x → ExportDid rack area entry x (Some (Exported group)) now left
-  exported result group is does back checks left none = on_open (λ x. ExportDid rack area entry x (Some (Exported group)) now left) by where
+  exported result group is does back checks left none = on_open (λ x. ExportDid rack area entry x (Some (Exported group)) now left) by foreign where
     by : (y : State) → Represents rack area was y → IsOut y before → ExportDid rack area entry (Open y) (Some (Exported group)) now left
     by y stands out =
         let c = does y stands in
         let z : State = record c.reached { store = c.store } in
+        let gives = back z c.represents in
+        let still = still_out y c.reached before c.holds c.follows out c.store in
+        let u : State = left_as z false before now gives in
         record {
-          new = Shut Bool.false z;
+          new = Shut false u;
           desk = record {
-            stands = subst (λ l. IsPool rack area l (Shut Bool.false z)) (sym none) tt;
-            shelf = shelf_has z Bool.false before now (back z c.represents) checks (still_out y c.reached before c.holds c.follows out c.store);
+            stands = subst (λ l. IsPool rack area l (Shut false u)) (sym none) tt;
+            shelf = shelf_has z false before now gives checks still;
           };
           turns = record {
             answer = result;
             reply_is = ap export_reply is;
             y = z;
-            new_is = sym (ap (λ r. desk_behind r z) is);
+            new_is = subst (λ r. IsBehind r z (Shut false u)) (sym is) (record { z = u; is = refl; given = is_given z false before now gives still });
             leads = record { holds = c.holds; mid = c.reached; store = c.store; follows = c.follows; done = c.done; made = refl };
           };
+          failed = λ e. absurd (cc e);
         }
 
+    foreign : ExportDid rack area entry Foreign (Some (Exported group)) now left
+    foreign = record {
+      new = Unknown;
+      desk = record { stands = subst (λ l. IsPool rack area l Unknown) (sym none) tt; shelf = tt };
+      turns = record { answer = result; reply_is = ap export_reply is; new_is = sym (ap foreign_behind is) };
+      failed = λ e. absurd (cc e);
+    }
+
   pub export_refused : (result : Result ℕ SyncFault) (why : SyncFault) (said : Result Reply Stop) → result ≡ Err why → RefusalIs name.Export why said → IsWhole rack area new
+      → (result ≡ Err sync.Shelf → AreaFails area.faults new)
       → ((y : State) → Represents rack area was y → CarriesOut rack area new y (ExportDoes y result)) → (x : Desk) → IsDesk rack area entry before desk x → ExportIs rack area entry x before (Some new) said
-  export_refused result why said is refused whole does = by said refused where
-    stays : (reply : Option Reply) → refusal_of name.Export why ≡ reply → (x : Desk) → IsDesk rack area entry before desk x → ExportDid rack area entry x reply before (Some new)
-    stays reply same = on_open (λ x. ExportDid rack area entry x reply before (Some new)) (λ y stands out.
+  export_refused result why said is refused whole fails does = by said refused where
+    stays : (reply : Option Reply) → refusal_of name.Export why ≡ reply → (reply ≡ None → PoolFails area (Some new)) → (x : Desk) → IsDesk rack area entry before desk x → ExportDid rack area entry x reply before (Some new)
+    stays reply same shows = on_open (λ x. ExportDid rack area entry x reply before (Some new)) (λ y stands out.
         (let c = does y stands in
         let z : State = record c.reached { store = c.store } in
         record {
@@ -263,20 +353,42 @@ module _ {R A : Type 0} (rack : racks.Ghosts R) (area : areas.Ghosts A) (entry b
             answer = result;
             reply_is = ap export_reply is ∙ same;
             y = z;
-            new_is = sym (ap (λ r. desk_behind r z) is);
+            new_is = subst (λ r. IsBehind r z (Open z)) (sym is) refl;
             leads = record { holds = c.holds; mid = c.reached; store = c.store; follows = c.follows; done = c.done; made = refl };
           };
+          failed = λ e at. absurd (cc at);
         }))
+        (record {
+          new = Foreign;
+          desk = record { stands = whole; shelf = tt };
+          turns = record { answer = result; reply_is = ap export_reply is ∙ same; new_is = sym (ap foreign_behind is) };
+          failed = λ e at. shows e;
+        })
+
+    by_shelf : (why : SyncFault) → refusal_of name.Export why ≡ None → why ≡ sync.Shelf
+    by_shelf sync.Shelf e = refl
+    by_shelf sync.Worn e = absurd (cc e)
+    by_shelf sync.Last e = absurd (cc e)
+    by_shelf sync.NoMemory e = absurd (cc e)
 
     by : (said : Result Reply Stop) → RefusalIs name.Export why said → (x : Desk) → IsDesk rack area entry before desk x → ExportIs rack area entry x before (Some new) said
-    by (Ok reply) refused = stays (Some reply) refused
-    by (Err stop.Shelf) refused = stays None refused
+    by (Ok reply) refused = stays (Some reply) refused (λ e. absurd (cc e))
+    by (Err stop.Shelf) refused = stays None refused (λ e. fails (is ∙ ap Err (by_shelf why refused)))
     by (Err stop.Unbuilt) refused = absurd refused
+    by (Err (stop.Record metaslab place kind)) refused = absurd refused
 
-  pub crashed : ((y : State) → Represents rack area was y → GivesBack y Bool.true before.held now.held now.counts now.own.uber) → now.own.checks ≡ before.own.checks → (left : Option (Pool R A)) → left ≡ None
+  pub crashed : ((y : State) → Represents rack area was y → GivesBack y true before.held now.held now.leaves now.counts now.own.uber) → now.own.checks ≡ before.own.checks → (left : Option (Pool R A)) → left ≡ None
       → (x : Desk) → IsDesk rack area entry before desk x → CrashDid rack area entry x Crashed now left
-  crashed back checks left none = on_open (λ x. CrashDid rack area entry x Crashed now left) (λ y stands out. record {
-    new = Shut Bool.true y;
-    desk = record { stands = subst (λ l. IsPool rack area l (Shut Bool.true y)) (sym none) tt; shelf = shelf_has y Bool.true before now (back y stands) checks out };
-    turns = (refl, refl);
-  })
+  crashed back checks left none = on_open (λ x. CrashDid rack area entry x Crashed now left) (λ y stands out.
+      (let gives = back y stands in
+      let u : State = left_as y true before now gives in
+      record {
+        new = Shut true u;
+        desk = record { stands = subst (λ l. IsPool rack area l (Shut true u)) (sym none) tt; shelf = shelf_has y true before now gives checks out };
+        turns = (refl, record { z = u; is = refl; given = is_given y true before now gives out });
+      }))
+      (record {
+        new = Unknown;
+        desk = record { stands = subst (λ l. IsPool rack area l Unknown) (sym none) tt; shelf = tt };
+        turns = (refl, refl);
+      })

@@ -4,6 +4,7 @@ pub mod Filled
 pub mod Following
 pub mod GivenBack
 pub mod Grouping
+pub mod Importings
 pub mod Known
 pub mod Makings
 pub mod Runs

@@ -1,7 +1,8 @@
 -- A pool was made, or not, in the words of a session.
 use Rattle.std.proofs.Common.{◌≡◌, ◌∙◌, ◌⊎◌, inl, inr, ℕ, List, Bool, true, false, Option, Some, None, Result, Ok, Err, if◌then◌else◌, refl, sym, ap, subst}
-use Rattle.std.specs.Prelude.{IsSome, is_some, nat_lt, string_bytes}
+use Rattle.std.specs.Prelude.{IsSomeAnd, is_some, nat_lt, string_bytes}
 use Rattle.std.specs.Result.{result_and}
+use Rattle.draid_rack.specs.Rack.{Shape}
 use Rattle.draid_rack.specs.declared.Rack as racks
 use Rattle.draid_area.specs.declared.Area as areas
 use Rattle.draid_spec.specs.declared.layout.Geometry.{Geometry}
@@ -16,12 +17,13 @@ use Rattle.draid_script.specs.Line.{CreatePool}
 use Rattle.draid_script.specs.declared.line.PoolKeys.{PoolKeys}
 use Rattle.draid_script.specs.declared.name.CommandName.TheVariants as name
 use Rattle.draid_reply.specs.declared.reply.Reply.TheVariants.{Created, CreateRefused, NoMemory}
-use Rattle.draid_session.specs.Making.{Makes, layout_by, layout_from, props_of, vdev_name_of}
-use Rattle.draid_session.specs.Session.{Desk, Untouched, Made, Open, Shut, Breaks, MakesNone, StaysShut, uncommitted}
+use Rattle.draid_session.specs.Making.{IsFresh, Makes, layout_by, layout_from, props_of, vdev_name_of}
+use Rattle.draid_session.specs.Session.{Desk, Untouched, Bare, Made, Open, Shut, Foreign, Unknown, Breaks, MakesNone, ShelfFails, StaysShut, uncommitted}
 use Rattle.draid_session.specs.State.{State}
 use Rattle.draid_pool.specs.Closing.{HoldsPool, SameCounts}
+use Rattle.draid_pool.specs.Importable.{HasImageLeaves, IsImportable}
 use Rattle.draid_pool.specs.Opening as opening
-use Rattle.draid_pool.specs.Opening.{HoldsMade, HoldsUncommitted, IsAsBefore, IsAway, IsRefused, ShelfIs}
+use Rattle.draid_pool.specs.Opening.{HoldsMade, HoldsUncommitted, IsAway, IsRefused, ShelfIs}
 use Rattle.draid_pool.specs.declared.fault.PoolFault.{PoolFault}
 use Rattle.draid_pool.specs.declared.fault.PoolFault.TheVariants as fault
 use Rattle.draid_pool.specs.declared.pool.Pool.{Pool}
@@ -29,6 +31,7 @@ use Rattle.draid_run.specs.Desks.{Broken, IsDesk, IsPool, IsShelf}
 use Rattle.draid_run.specs.Making.{CreateDid, CreateTurns, MakeIs, PoolIs}
 use Rattle.draid_run.specs.Shelves.{HasChecks, HasFailed, HasFault, HoldsShut, IsSame, OnShelf}
 use Rattle.draid_run.specs.declared.answer.Made as answer
+use Rattle.draid_run.proofs.GivenBack.{holds_as, importable_as, on_held, told_as}
 
 -- what stands behind all checks is what passed them
 by_checks : (a b c : Result Unit SpecFault) (big : Bool) (f : SpecFault) (l layout : Geometry) → result_and a (result_and b (result_and c (if big then Err f else Ok l))) ≡ Ok layout → l ≡ layout
@@ -48,20 +51,34 @@ has_checks (Some held) away = away.checks
 
 -- a desk without a pool stands as the shelf stays as it is
 pub same_shelf : (x : Desk) (entry before now : OnShelf) → ((y : State) → x ≡ Open y → ⊥) → IsSame before now → IsShelf x entry before → IsShelf x entry now
-same_shelf Untouched entry before now none s d = record { held = s.held ∙ d.held; counts = λ m. s.counts m ∙ d.counts m; uber = s.uber ∙ d.uber; checks = s.checks ∙ d.checks }
+same_shelf Untouched entry before now none s d = (
+  record { held = s.0.held ∙ d.0.held; counts = λ m. s.0.counts m ∙ d.0.counts m; uber = s.0.uber ∙ d.0.uber; checks = s.0.checks ∙ d.0.checks },
+  λ m. s.1 m ∙ d.1 m,
+)
+same_shelf Bare entry before now none s d = subst (λ (h : Option Held). IsSomeAnd h (λ held. held.uber ≡ None)) (sym s.0.held) d
 same_shelf (Made geometry) entry before now none s d = record {
-  held = subst (λ h. OnHeld h (HoldsMade geometry)) (sym s.held) d.held;
-  counts = λ m who less. ap (λ (k : KitCounts). k.rack who) (s.counts m) ∙ d.counts m who less;
-  uber = s.uber ∙ d.uber;
-  checks = s.checks ∙ d.checks;
+  held = subst (λ h. OnHeld h (HoldsMade geometry)) (sym s.0.held) d.held;
+  counts = λ m who less. ap (λ (k : KitCounts). k.rack who) (s.0.counts m) ∙ d.counts m who less;
+  uber = s.0.uber ∙ d.uber;
+  checks = s.0.checks ∙ d.checks;
 }
 same_shelf (Shut crash y) entry before now none s d = record {
-  held = subst (λ h. OnHeld h (HoldsPool y crash)) (sym s.held) d.held;
-  told = λ is. d.told (subst (λ h. IsSome h) s.held is);
-  counts = λ m z there. subst (λ (k : KitCounts). SameCounts z.counts k) (sym (s.counts m)) (d.counts m z there);
-  uber = s.uber ∙ d.uber;
-  checks = s.checks ∙ d.checks;
-}
+  held = subst (λ h. OnHeld h (HoldsPool y crash)) (sym s.0.held) d.held;
+  importable = on_held now.held (λ h. IsImportable y h before.leaves) (λ h. IsImportable y h now.leaves) again (subst (λ h. OnHeld h (λ held. IsImportable y held before.leaves)) (sym s.0.held) d.importable);
+  told = d.told ∙ ap is_some (sym s.0.held);
+  counts = λ m z there. subst (λ (k : KitCounts). SameCounts z.counts k) (sym (s.0.counts m)) (d.counts m z there);
+  uber = s.0.uber ∙ d.uber;
+  checks = s.0.checks ∙ d.checks;
+} where
+  again : (h : Held) → IsImportable y h before.leaves → IsImportable y h now.leaves
+  again h i = record {
+    findable = i.findable;
+    alike = i.alike;
+    once = i.once;
+    there = λ m z image at is. subst (λ (o : Option Shape). IsSomeAnd o (HasImageLeaves y.geometry image)) (sym (s.1 m)) (i.there m z image at is);
+  }
+same_shelf Unknown entry before now none s d = tt
+same_shelf Foreign entry before now none s d = tt
 same_shelf (Open y) entry before now none s d = absurd (none y refl)
 
 module _ {R A : Type 0} (rack : racks.Ghosts R) (area : areas.Ghosts A) where
@@ -74,12 +91,18 @@ module _ {R A : Type 0} (rack : racks.Ghosts R) (area : areas.Ghosts A) where
   not_open Untouched is y same = cc same
   not_open (Made geometry) is y same = cc same
   not_open (Shut crash z) is y same = cc same
+  not_open Bare is y same = cc same
+  not_open Unknown is y same = cc same
+  not_open Foreign is y same = cc same
   not_open (Open z) is y same = is
 
   stays_shut : (x : Desk) → IsPool rack area None x → StaysShut x x
   stays_shut Untouched is = refl
   stays_shut (Made geometry) is = refl
   stays_shut (Shut crash z) is = refl
+  stays_shut Bare is = refl
+  stays_shut Unknown is = refl
+  stays_shut Foreign is = absurd is
   stays_shut (Open z) is = absurd is
 
   module _ (text : List ℕ) (children : ℕ) (keys : PoolKeys) (entry before now : OnShelf) (spec : Spec) (read : spec_by text children keys.version ≡ Ok spec) where
@@ -88,24 +111,36 @@ module _ {R A : Type 0} (rack : racks.Ghosts R) (area : areas.Ghosts A) where
     turns_made Untouched m new is makes = makes
     turns_made (Made geometry) m new is makes = makes
     turns_made (Shut crash z) m new is makes = makes
+    turns_made Bare m new is makes = makes
+    turns_made Unknown m new is makes = makes
+    turns_made Foreign m new is makes = absurd is
     turns_made (Open z) m new is makes = absurd is
 
     turns_refused : (x : Desk) (why : SpecFault) → IsPool rack area None x → layout_by text children keys ≡ Err why → CreateTurns text children keys x (CreateRefused why) x
     turns_refused Untouched why is none = (none, refl)
     turns_refused (Made geometry) why is none = (none, refl)
     turns_refused (Shut crash z) why is none = (none, refl)
+    turns_refused Bare why is none = (none, refl)
+    turns_refused Unknown why is none = (none, refl)
+    turns_refused Foreign why is none = absurd is
     turns_refused (Open z) why is none = absurd is
 
     turns_none : (x : Desk) (new : Desk) → IsPool rack area None x → MakesNone text children keys x new → CreateTurns text children keys x (NoMemory name.Create) new
     turns_none Untouched new is none = none
     turns_none (Made geometry) new is none = none
     turns_none (Shut crash z) new is none = none
+    turns_none Bare new is none = none
+    turns_none Unknown new is none = none
+    turns_none Foreign new is none = absurd is
     turns_none (Open z) new is none = absurd is
 
-    breaks_none : (x : Desk) (new : Desk) → IsPool rack area None x → MakesNone text children keys x new → Breaks x (CreatePool text children keys) new
+    breaks_none : (x : Desk) (new : Desk) → IsPool rack area None x → MakesNone text children keys x new → Breaks ShelfFails x (CreatePool text children keys) new
     breaks_none Untouched new is none = none
     breaks_none (Made geometry) new is none = none
     breaks_none (Shut crash z) new is none = none
+    breaks_none Bare new is none = none
+    breaks_none Unknown new is none = none
+    breaks_none Foreign new is none = absurd is
     breaks_none (Open z) new is none = absurd is
 
     module _ (result : Result answer.Made PoolFault) (pool : Option (Pool R A)) (x : Desk) (shelf : IsShelf x entry before) (stands : IsPool rack area None x)
@@ -116,12 +151,12 @@ module _ {R A : Type 0} (rack : racks.Ghosts R) (area : areas.Ghosts A) where
       pools : (r : Result answer.Made PoolFault) → result ≡ r → PoolIs rack area spec (props_of keys) before now pool r
       pools r is = subst (λ q. PoolIs rack area spec (props_of keys) before now pool q) is makes.pool_is
 
-      shelves : (r : Result answer.Made PoolFault) → result ≡ r → ShelfIs spec (props_of keys) before.held now.held before.counts now.counts before.own now.own r
-      shelves r is = subst (λ q. ShelfIs spec (props_of keys) before.held now.held before.counts now.counts before.own now.own q) is makes.shelf
+      shelves : (r : Result answer.Made PoolFault) → result ≡ r → ShelfIs spec (props_of keys) before.held now.held before.leaves now.leaves before.counts now.counts before.own now.own r
+      shelves r is = subst (λ q. ShelfIs spec (props_of keys) before.held now.held before.leaves now.leaves before.counts now.counts before.own now.own q) is makes.shelf
 
       pub made : (m : answer.Made) → result ≡ Ok m → CreateDid rack area text children keys entry x (Created m.name m.stripes) now pool
       made m is = by pool (pools (Ok m) is) (shelves (Ok m) is) where
-        by : (p : Option (Pool R A)) → PoolIs rack area spec (props_of keys) before now p (Ok m) → ShelfIs spec (props_of keys) before.held now.held before.counts now.counts before.own now.own (Ok m)
+        by : (p : Option (Pool R A)) → PoolIs rack area spec (props_of keys) before now p (Ok m) → ShelfIs spec (props_of keys) before.held now.held before.leaves now.leaves before.counts now.counts before.own now.own (Ok m)
             → CreateDid rack area text children keys entry x (Created m.name m.stripes) now p
         by None o s = absurd o
         by (Some p) o s = record {
@@ -146,20 +181,42 @@ module _ {R A : Type 0} (rack : racks.Ghosts R) (area : areas.Ghosts A) where
             turns = turns_refused x why stands (layout_is (Err why) o.0);
           }
 
-      refused_shut : (geometry : Geometry) (r : IsRefused geometry now.held now.counts now.own) → HoldsShut false (uncommitted r.fresh) now
-      refused_shut geometry r = record {
-        held = r.held;
-        told = r.told;
-        counts = r.counts;
-        uber = r.uber;
-        checks = r.checks;
-      }
+      -- the state of the new pool, told as the shelf tells now
+      abbrev fresh_left : (geometry : Geometry) (r : IsRefused geometry now.held now.leaves now.counts now.own) → State
+      fresh_left geometry r = told_as r.fresh (is_some now.held)
+
+      fresh_again : (geometry : Geometry) (r : IsRefused geometry now.held now.leaves now.counts now.own) → IsFresh geometry (fresh_left geometry r)
+      fresh_again geometry r =
+          let f = r.is_fresh in
+          record {
+            layout = f.layout;
+            perms = f.perms;
+            many = f.many;
+            each = f.each;
+            calm = λ is. f.calm (r.told is);
+            store = f.store;
+            committed = f.committed;
+            leaves = f.leaves;
+            pending = f.pending;
+          }
+
+      refused_shut : (geometry : Geometry) (r : IsRefused geometry now.held now.leaves now.counts now.own) → HoldsShut false (uncommitted (fresh_left geometry r)) now
+      refused_shut geometry r =
+          let x : State = uncommitted r.fresh in
+          let b = is_some now.held in
+          record {
+            held = on_held now.held (HoldsPool x false) (HoldsPool (told_as x b) false) (holds_as x b false) r.held;
+            importable = on_held now.held (λ h. IsImportable x h now.leaves) (λ h. IsImportable (told_as x b) h now.leaves) (importable_as x b now) r.importable;
+            told = refl;
+            counts = r.counts;
+            uber = r.uber;
+            checks = r.checks;
+          }
 
       -- none was opened: where the desk is then, and why it may be
       none_made : opening.HasLayout spec (props_of keys) → pool ≡ None
-          → IsAsBefore before.held now.held before.counts now.counts before.own now.own
-          ⊎ ((geometry : Geometry) × (geometry_of spec (props_of keys) ≡ Ok geometry) × HoldsUncommitted geometry now.held now.counts now.own)
-          → (new : Desk) × IsDesk rack area entry now pool new × MakesNone text children keys x new × (HasFailed before now → HasFault before now new)
+          → IsSame before now ⊎ ((geometry : Geometry) × (geometry_of spec (props_of keys) ≡ Ok geometry) × HoldsUncommitted geometry now.held now.leaves now.counts now.own)
+          → (new : Desk) × IsDesk rack area entry now pool new × MakesNone text children keys x new × (HasFailed before now → HasFault area before now pool new)
       none_made has none s = elim s [
         | inl same ↦ (
           x,
@@ -175,17 +232,20 @@ module _ {R A : Type 0} (rack : racks.Ghosts R) (area : areas.Ghosts A) where
             λ failed. failed,
           )
           | inr r ↦ (
-            Shut false (uncommitted r.fresh),
-            record { stands = subst (λ p. IsPool rack area p (Shut false (uncommitted r.fresh))) (sym none) tt; shelf = refused_shut all.0 r },
-            (all.0, layout_is (Ok all.0) all.1, inr (inr (r.fresh, r.is_fresh, refl))),
+            Shut false (uncommitted (fresh_left all.0 r)),
+            record { stands = subst (λ p. IsPool rack area p (Shut false (uncommitted (fresh_left all.0 r)))) (sym none) tt; shelf = refused_shut all.0 r },
+            (all.0, layout_is (Ok all.0) all.1, inr (inr (fresh_left all.0 r, fresh_again all.0 r, refl))),
             λ failed. failed,
           )
         ]
       ] where
-        fault_shut : (y : Desk) → IsPool rack area None y → HasFailed before now → HasFault before now y
+        fault_shut : (y : Desk) → IsPool rack area None y → HasFailed before now → HasFault area before now pool y
         fault_shut Untouched is failed = failed
         fault_shut (Made geometry) is failed = failed
         fault_shut (Shut crash z) is failed = failed
+        fault_shut Bare is failed = failed
+        fault_shut Unknown is failed = failed
+        fault_shut Foreign is failed = absurd is
         fault_shut (Open z) is failed = absurd is
 
       pub no_memory : result ≡ Err fault.NoMemory → CreateDid rack area text children keys entry x (NoMemory name.Create) now pool
@@ -194,7 +254,7 @@ module _ {R A : Type 0} (rack : racks.Ghosts R) (area : areas.Ghosts A) where
           let n = none_made o.0 o.1 (shelves (Err fault.NoMemory) is) in
           record { new = n.0; desk = n.1; turns = turns_none x n.0 stands n.2 }
 
-      pub shelf_failed : result ≡ Err fault.Shelf → Broken rack area (CreatePool text children keys) entry before x now pool
+      pub shelf_failed : result ≡ Err fault.Shelf → Broken rack area ShelfFails (CreatePool text children keys) entry before x now pool
       shelf_failed is =
           let o = pools (Err fault.Shelf) is in
           let n = none_made o.0 o.1 (shelves (Err fault.Shelf) is) in

@@ -12,14 +12,14 @@ use Rattle.draid_lines.proofs.Ends.{lines_none}
 use Rattle.draid_lines.specs.Lines.{Rest, WhereKnown, lines_of}
 use Rattle.draid_script.specs.Grammar.{line_of}
 use Rattle.draid_reply.specs.declared.reply.Reply.{Reply}
-use Rattle.draid_session.specs.Session.{Desk, Untouched, Made, Open, Shut}
+use Rattle.draid_session.specs.Session.{Desk, Untouched, Bare, Made, Open, Shut, Foreign, Unknown, RecordFails, ShelfFails}
 use Rattle.draid_pool.specs.declared.pool.Pool.{Pool}
 use Rattle.draid_run.specs.Desks.{IsDesk, Turned}
 use Rattle.draid_run.specs.Script.{Ends, LineFaultIs, said_text, texts_of}
 use Rattle.draid_run.specs.Serve.{BrokenLine, Cut, LineIs, Printed, Served, Serving, TextIs}
 use Rattle.draid_run.specs.Shelves.{HasFailed, HasFault, HoldsDesk, OnShelf}
 use Rattle.draid_run.specs.declared.status.Status.{Status}
-use Rattle.draid_run.specs.declared.status.Status.TheVariants.{Done, Usage, Line, SourceFault, SinkFault, NoMemory, TooLong, ShelfFault}
+use Rattle.draid_run.specs.declared.status.Status.TheVariants.{Done, Usage, Line, SourceFault, SinkFault, NoMemory, TooLong, ShelfFault, Record}
 use Rattle.draid_run.proofs.Known.{appends_more, appends_none, known_input, known_on}
 use Rattle.draid_run.proofs.Runs.{runs_more}
 
@@ -39,7 +39,7 @@ text_by lines lines' left left' next next' is text =
 
 -- the shelf as it is
 pub as_found : (entry : OnShelf) → HoldsDesk Untouched entry entry
-as_found entry = record { held = refl; counts = λ m. refl; uber = refl; checks = refl }
+as_found entry = (record { held = refl; counts = λ m. refl; uber = refl; checks = refl }, λ m. refl)
 
 -- what failed in a line failed since the entry
 rose_from : (entry before now : ℕ) → entry ≤ before → Rose before now → Rose entry now
@@ -51,11 +51,14 @@ failed_from entry before now later failed = elim failed [
   | inr areas ↦ inr areas
 ]
 
-fault_from : (entry before now : OnShelf) → entry.faults ≤ before.faults → (x : Desk) → HasFault before now x → HasFault entry now x
-fault_from entry before now later (Open x) fault = fault
-fault_from entry before now later Untouched fault = failed_from entry before now later fault
-fault_from entry before now later (Made geometry) fault = failed_from entry before now later fault
-fault_from entry before now later (Shut crash x) fault = failed_from entry before now later fault
+fault_from : {R A : Type 0} (area : areas.Ghosts A) (entry before now : OnShelf) (pool : Option (Pool R A)) → entry.faults ≤ before.faults → (x : Desk) → HasFault area before now pool x → HasFault area entry now pool x
+fault_from area entry before now pool later (Open x) fault = fault
+fault_from area entry before now pool later Foreign fault = fault
+fault_from area entry before now pool later Untouched fault = failed_from entry before now later fault
+fault_from area entry before now pool later Bare fault = failed_from entry before now later fault
+fault_from area entry before now pool later (Made geometry) fault = failed_from entry before now later fault
+fault_from area entry before now pool later (Shut crash x) fault = failed_from entry before now later fault
+fault_from area entry before now pool later Unknown fault = failed_from entry before now later fault
 
 module _ {R A : Type 0} (rack : racks.Ghosts R) (area : areas.Ghosts A) (chosen : List Room → Option ℕ → Type 0) (entry : OnShelf) where
   -- the line under another name of its number and its text
@@ -80,6 +83,9 @@ module _ {R A : Type 0} (rack : racks.Ghosts R) (area : areas.Ghosts A) (chosen 
   shut_desk Untouched is = record { stands = tt; shelf = is }
   shut_desk (Made geometry) is = record { stands = tt; shelf = is }
   shut_desk (Shut crash x) is = record { stands = tt; shelf = is }
+  shut_desk Bare is = record { stands = tt; shelf = is }
+  shut_desk Unknown is = record { stands = tt; shelf = is }
+  shut_desk Foreign is = absurd is
   shut_desk (Open x) is = absurd is
 
   pub serving_none : (input start : Option (List ℕ)) (first : Desk) → HoldsDesk first entry entry → Serving rack area chosen first input (prepend_known [] input) start start entry entry None 0
@@ -202,6 +208,7 @@ module _ {R A : Type 0} (rack : racks.Ghosts R) (area : areas.Ghosts A) (chosen 
     served_unread input start held left left' now pool lines lines' (Line line kind at) is text = absurd text
     served_unread input start held left left' now pool lines lines' SinkFault is text = absurd text
     served_unread input start held left left' now pool lines lines' ShelfFault is text = absurd text
+    served_unread input start held left left' now pool lines lines' (Record metaslab place kind) is text = absurd text
 
     -- a line was taken, and the run ended with it
     module _ (input rest rest' start held : Option (List ℕ)) (before : OnShelf) (pool : Option (Pool R A)) (count : ℕ) (line : List ℕ) (behind : WhereKnown rest rest' (λ old new. lines_of old ≡ line ∷ lines_of new))
@@ -287,7 +294,7 @@ module _ {R A : Type 0} (rack : racks.Ghosts R) (area : areas.Ghosts A) (chosen 
         }
 
         -- the shelf failed
-        failed : BrokenLine rack area line entry before is.reached now pool' → Served rack area chosen first ShelfFault input start held entry now pool'
+        failed : BrokenLine rack area ShelfFails line entry before is.reached now pool' → Served rack area chosen first ShelfFault input start held entry now pool'
         failed at = record {
           lines = is.lines;
           replies = is.replies;
@@ -302,7 +309,27 @@ module _ {R A : Type 0} (rack : racks.Ghosts R) (area : areas.Ghosts A) (chosen 
               (known_on input rest rest' _ _ (λ all z. lines_of all ≡ is.lines ++ (line ∷ lines_of z)) (λ x y z a b. a ∙ ap (λ xs. is.lines ++ xs) b) is.known behind);
           shows = refl;
           prints = is.printed;
-          failed = λ e. fault_from entry before now later at.broken.new at.broken.cause;
+          failed = λ e. fault_from area entry before now pool' later at.broken.new at.broken.cause;
+        }
+
+        -- a record has a fault
+        faulty : (metaslab : Option ℕ) (place kind : ℕ) → BrokenLine rack area RecordFails line entry before is.reached now pool'
+            → Served rack area chosen first (Record metaslab place kind) input start held entry now pool'
+        faulty metaslab place kind at = record {
+          lines = is.lines;
+          replies = is.replies;
+          shown = is.replies;
+          mid = is.reached;
+          last = at.broken.new;
+          broken = Some line;
+          desk = at.broken.desk;
+          runs = is.runs;
+          breaks = record { command = at.command; line = at.line; breaks = at.broken.breaks };
+          ends = known_input input rest' _ _ (λ x z e. (lines_of z, e))
+              (known_on input rest rest' _ _ (λ all z. lines_of all ≡ is.lines ++ (line ∷ lines_of z)) (λ x y z a b. a ∙ ap (λ xs. is.lines ++ xs) b) is.known behind);
+          shows = refl;
+          prints = is.printed;
+          failed = λ e. absurd (cc e);
         }
 
         pub served_line : (held' : Option (List ℕ)) (status : Status) → LineIs rack area chosen (count + 1) line entry before pool is.reached now pool' held held' (Err status)
@@ -315,6 +342,7 @@ module _ {R A : Type 0} (rack : racks.Ghosts R) (area : areas.Ghosts A) (chosen 
           | inr made ↦ rw became.0 (untold made.0 made.1)
         ]
         served_line held' ShelfFault became = rw became.0 (failed became.1)
+        served_line held' (Record metaslab place kind) became = rw became.0 (faulty metaslab place kind became.1)
         served_line held' Done became = absurd became
         served_line held' Usage became = absurd became
         served_line held' SourceFault became = absurd became

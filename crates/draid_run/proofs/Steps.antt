@@ -13,7 +13,7 @@ use Rattle.draid_reply.specs.declared.reply.Reply.TheVariants.{NoPool}
 use Rattle.draid_session.specs.Follows.{Follows}
 use Rattle.draid_session.specs.Holds.{Hold}
 use Rattle.draid_session.specs.Session as session
-use Rattle.draid_session.specs.Session.{Desk, Untouched, Made, Open, Shut, TurnsBy}
+use Rattle.draid_session.specs.Session.{Desk, Untouched, Bare, Made, Open, Shut, Foreign, Unknown, TurnsBy}
 use Rattle.draid_session.specs.State.{State, Store}
 use Rattle.draid_pool.specs.Carries.{CarriesOut}
 use Rattle.draid_pool.specs.Pools.{Represents}
@@ -43,9 +43,12 @@ pub is_whole : {R A : Type 0} (rack : racks.Ghosts R) (area : areas.Ghosts A) (d
 is_whole rack area desk pool is stands = by stands.0 (subst (λ d. IsPool rack area d stands.0) is stands.1) where
   by : (x : Desk) → IsPool rack area (Some pool) x → IsWhole rack area pool
   by Untouched stands = absurd stands
+  by Bare stands = absurd stands
   by (Made geometry) stands = absurd stands
   by (Shut crash y) stands = absurd stands
+  by Unknown stands = absurd stands
   by (Open y) stands = stands.0
+  by Foreign stands = stands
 
 -- the shelf is as it was while the pool's state moved on
 pub still_out : (x y : State) (now : OnShelf) (holds : List Hold) → Follows holds x y → IsOut x now → (store : Store) → IsOut (record y { store = store }) now
@@ -58,18 +61,24 @@ module _ {R A : Type 0} (rack : racks.Ghosts R) (area : areas.Ghosts A) (called 
   did_open desk pool new is whole step x = subst (λ d. IsPool rack area d x → PoolDid rack area called says x reply (Some new)) (sym is) (by x) where
     by : (x : Desk) → IsPool rack area (Some pool) x → PoolDid rack area called says x reply (Some new)
     by Untouched stands = absurd stands
+    by Bare stands = absurd stands
     by (Made geometry) stands = absurd stands
     by (Shut crash y) stands = absurd stands
+    by Unknown stands = absurd stands
     by (Open y) stands = (whole, step y stands.1)
+    by Foreign stands = whole
 
   -- no pool is open, and the reply says so
   pub did_shut : (desk new : Option (Pool R A)) → desk ≡ None → new ≡ None → reply ≡ NoPool called → (x : Desk) → IsPool rack area desk x → PoolDid rack area called says x reply new
   did_shut desk new none same said x = subst (λ d. IsPool rack area d x → PoolDid rack area called says x reply new) (sym none) (by x) where
     by : (x : Desk) → IsPool rack area None x → PoolDid rack area called says x reply new
     by Untouched stands = (said, same)
+    by Bare stands = (said, same)
     by (Made geometry) stands = (said, same)
     by (Shut crash y) stands = (said, same)
+    by Unknown stands = (said, same)
     by (Open y) stands = absurd stands
+    by Foreign stands = absurd stands
 
 module _ {R A : Type 0} (rack : racks.Ghosts R) (area : areas.Ghosts A) (chosen : List Room → Option ℕ → Type 0) (entry now : OnShelf) (desk : Option (Pool R A)) (reply : Reply) where
   turned_by : (command : Command) (called : CommandName) (says : State → List Hold → Store → Type 0)
@@ -78,8 +87,9 @@ module _ {R A : Type 0} (rack : racks.Ghosts R) (area : areas.Ghosts A) (chosen 
       → TurnsBy chosen (Ok command) Untouched (Some (NoPool called)) Untouched
       → ((geometry : Geometry) → TurnsBy chosen (Ok command) (Made geometry) (Some (NoPool called)) (Made geometry))
       → ((crash : Bool) (y : State) → TurnsBy chosen (Ok command) (Shut crash y) (Some (NoPool called)) (Shut crash y))
+      → TurnsBy chosen (Ok command) Bare (Some (NoPool called)) Bare → TurnsBy chosen (Ok command) Unknown (Some (NoPool called)) Unknown → TurnsBy chosen (Ok command) Foreign (Some reply) Foreign
       → (x : Desk) (new : Option (Pool R A)) → IsDesk rack area entry now desk x → PoolDid rack area called says x reply new → Turned rack area chosen (Ok command) entry x (Some reply) now new
-  turned_by command called says does turns untouched made shut = by where
+  turned_by command called says does turns untouched made shut bare unknown foreign = by where
     told : (x : Desk) (new : Option (Pool R A)) → (reply ≡ NoPool called) × (new ≡ None) → IsPool rack area None x → IsDesk rack area entry now desk x → TurnsBy chosen (Ok command) x (Some (NoPool called)) x
         → Turned rack area chosen (Ok command) entry x (Some reply) now new
     told x new said stands is turns =
@@ -91,6 +101,10 @@ module _ {R A : Type 0} (rack : racks.Ghosts R) (area : areas.Ghosts A) (chosen 
     by Untouched new is did = told Untouched new did tt is untouched
     by (Made geometry) new is did = told (Made geometry) new did tt is (made geometry)
     by (Shut crash y) new is did = told (Shut crash y) new did tt is (shut crash y)
+    by Bare new is did = told Bare new did tt is bare
+    by Unknown new is did = told Unknown new did tt is unknown
+    by Foreign None is did = absurd did
+    by Foreign (Some new) is did = record { new = Foreign; desk = record { stands = did; shelf = tt }; turns = foreign }
     by (Open y) None is did = absurd did
     by (Open y) (Some new) is did = record {
       new = Open (record did.1.reached { store = did.1.store });
@@ -101,29 +115,29 @@ module _ {R A : Type 0} (rack : racks.Ghosts R) (area : areas.Ghosts A) (chosen 
 
   pub by_write : (o : ℕ) (bytes : List ℕ) (x : Desk) (new : Option (Pool R A)) → IsDesk rack area entry now desk x → PoolDid rack area name.Write (λ y. ReplyDoes y chosen (WriteObject o bytes) reply) x reply new
       → Turned rack area chosen (Ok (WriteObject o bytes)) entry x (Some reply) now new
-  by_write o bytes = turned_by (WriteObject o bytes) name.Write (λ y. ReplyDoes y chosen (WriteObject o bytes) reply) (λ y holds store w. w) (λ y z c. c) (refl, refl) (λ geometry. (refl, refl)) (λ crash y. (refl, refl))
+  by_write o bytes = turned_by (WriteObject o bytes) name.Write (λ y. ReplyDoes y chosen (WriteObject o bytes) reply) (λ y holds store w. w) (λ y z c. c) (refl, refl) (λ geometry. (refl, refl)) (λ crash y. (refl, refl)) (refl, refl) (refl, refl) refl
 
   pub by_fill : (first count len seed : ℕ) (x : Desk) (new : Option (Pool R A)) → IsDesk rack area entry now desk x
       → PoolDid rack area name.Fill (λ y. ReplyDoes y chosen (FillObjects first count len seed) reply) x reply new
       → Turned rack area chosen (Ok (FillObjects first count len seed)) entry x (Some reply) now new
   by_fill first count len seed =
-      turned_by (FillObjects first count len seed) name.Fill (λ y. ReplyDoes y chosen (FillObjects first count len seed) reply) (λ y holds store w. w) (λ y z c. c) (refl, refl) (λ geometry. (refl, refl)) (λ crash y. (refl, refl))
+      turned_by (FillObjects first count len seed) name.Fill (λ y. ReplyDoes y chosen (FillObjects first count len seed) reply) (λ y holds store w. w) (λ y z c. c) (refl, refl) (λ geometry. (refl, refl)) (λ crash y. (refl, refl)) (refl, refl) (refl, refl) refl
 
   pub by_read : (o : ℕ) (x : Desk) (new : Option (Pool R A)) → IsDesk rack area entry now desk x → PoolDid rack area name.Read (ReadSays o reply) x reply new
       → Turned rack area chosen (Ok (ReadObject o)) entry x (Some reply) now new
-  by_read o = turned_by (ReadObject o) name.Read (ReadSays o reply) (λ y holds store w. read_does y chosen reply holds store o w) (λ y z c. c) (refl, refl) (λ geometry. (refl, refl)) (λ crash y. (refl, refl))
+  by_read o = turned_by (ReadObject o) name.Read (ReadSays o reply) (λ y holds store w. read_does y chosen reply holds store o w) (λ y z c. c) (refl, refl) (λ geometry. (refl, refl)) (λ crash y. (refl, refl)) (refl, refl) (refl, refl) refl
 
   pub by_free : (o : ℕ) (x : Desk) (new : Option (Pool R A)) → IsDesk rack area entry now desk x → PoolDid rack area name.Free (FreeSays o reply) x reply new
       → Turned rack area chosen (Ok (FreeObject o)) entry x (Some reply) now new
-  by_free o = turned_by (FreeObject o) name.Free (FreeSays o reply) (λ y holds store w. free_does y chosen reply holds store o w) (λ y z c. c) (refl, refl) (λ geometry. (refl, refl)) (λ crash y. (refl, refl))
+  by_free o = turned_by (FreeObject o) name.Free (FreeSays o reply) (λ y holds store w. free_does y chosen reply holds store o w) (λ y z c. c) (refl, refl) (λ geometry. (refl, refl)) (λ crash y. (refl, refl)) (refl, refl) (refl, refl) refl
 
   pub by_sum : (first count : ℕ) (x : Desk) (new : Option (Pool R A)) → IsDesk rack area entry now desk x → PoolDid rack area name.Sum (SumSays first count reply) x reply new
       → Turned rack area chosen (Ok (SumObjects first count)) entry x (Some reply) now new
-  by_sum first count = turned_by (SumObjects first count) name.Sum (SumSays first count reply) (λ y holds store w. sum_does y chosen reply holds store first count w) (λ y z c. c) (refl, refl) (λ geometry. (refl, refl)) (λ crash y. (refl, refl))
+  by_sum first count = turned_by (SumObjects first count) name.Sum (SumSays first count reply) (λ y holds store w. sum_does y chosen reply holds store first count w) (λ y z c. c) (refl, refl) (λ geometry. (refl, refl)) (λ crash y. (refl, refl)) (refl, refl) (refl, refl) refl
 
   pub by_damage : (leaf sector : ℕ) (x : Desk) (new : Option (Pool R A)) → IsDesk rack area entry now desk x → PoolDid rack area name.Damage (DamageSays leaf sector reply) x reply new
       → Turned rack area chosen (Ok (DamageSector leaf sector)) entry x (Some reply) now new
-  by_damage leaf sector = turned_by (DamageSector leaf sector) name.Damage (DamageSays leaf sector reply) (λ y holds store w. damage_does y chosen reply holds store leaf sector w) (λ y z c. c) (refl, refl) (λ geometry. (refl, refl)) (λ crash y. (refl, refl))
+  by_damage leaf sector = turned_by (DamageSector leaf sector) name.Damage (DamageSays leaf sector reply) (λ y holds store w. damage_does y chosen reply holds store leaf sector w) (λ y z c. c) (refl, refl) (λ geometry. (refl, refl)) (λ crash y. (refl, refl)) (refl, refl) (refl, refl) refl
 
 -- a pool was made or refused, in the words of all commands
 pub by_create : {R A : Type 0} (rack : racks.Ghosts R) (area : areas.Ghosts A) (chosen : List Room → Option ℕ → Type 0) (entry now : OnShelf) (text : List ℕ) (children : ℕ) (keys : PoolKeys) (x : Desk) (reply : Reply)
@@ -133,6 +147,9 @@ by_create rack area chosen entry now text children keys x reply pool did =
   where
     by : (x : Desk) (new : Desk) → CreateTurns text children keys x reply new → TurnsBy chosen (Ok (CreatePool text children keys)) x (Some reply) new
     by Untouched new turns = turns
+    by Bare new turns = turns
     by (Made geometry) new turns = turns
     by (Shut crash y) new turns = turns
+    by Unknown new turns = turns
+    by Foreign new turns = turns
     by (Open y) new turns = subst (λ r. TurnsBy chosen (Ok (CreatePool text children keys)) (Open y) (Some r) new) (sym turns.0) turns.1

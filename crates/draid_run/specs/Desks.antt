@@ -11,7 +11,7 @@ use Rattle.draid_reply.specs.declared.reply.Reply.TheVariants.{NoPool}
 use Rattle.draid_session.specs.Does.{Does}
 use Rattle.draid_session.specs.Holds.{Hold}
 use Rattle.draid_session.specs.Making.{content_of}
-use Rattle.draid_session.specs.Session.{Desk, Open, Breaks, TurnsBy, given_back}
+use Rattle.draid_session.specs.Session.{Desk, Open, Foreign, Breaks, Cause, IsLeft, RecordFails, ShelfFails, TurnsBy}
 use Rattle.draid_session.specs.State.{State, Store}
 use Rattle.draid_pool.specs.Carries.{CarriesOut}
 use Rattle.draid_pool.specs.Pools.{Represents}
@@ -21,16 +21,19 @@ use Rattle.draid_run.specs.Shelves.{HasFailed, HasFault, HoldsDesk, IsOut, OnShe
 
 -- ---- desks
 
--- the pool that is open, if one is, is whole and stands for the state of the desk
+-- the pool that is open, if one is, is whole and stands for the state of the desk, if that says one
 abbrev pub IsPool : {R A : Type 0} → racks.Ghosts R → areas.Ghosts A → Option (Pool R A) → Desk → Type 0
 IsPool rack area None (Open x) = ⊥
+IsPool rack area None Foreign = ⊥
 IsPool rack area None desk = ⊤
 IsPool rack area (Some pool) (Open x) = IsWhole rack area pool × Represents rack area pool x
+IsPool rack area (Some pool) Foreign = IsWhole rack area pool
 IsPool rack area (Some pool) desk = ⊥
 
 -- the shelf, where it held this at the entry
 abbrev pub IsShelf : Desk → OnShelf → OnShelf → Type 0
 IsShelf (Open x) entry now = IsOut x now
+IsShelf Foreign entry now = ⊤
 IsShelf desk entry now = HoldsDesk desk entry now
 
 -- both
@@ -44,10 +47,12 @@ pub record IsDesk {R A : Type 0} (rack : racks.Ghosts R) (area : areas.Ghosts A)
 abbrev pub ReplyDoes : State → (List Room → Option ℕ → Type 0) → Command → Reply → List Hold → Store → Type 0
 ReplyDoes x chosen command reply holds store = Does x.geometry x.perms chosen content_of command x.store holds reply store
 
--- What a command that leaves the shelf alone came to: it was carried out on the open pool, or its reply is that it wants one.
+-- What a command that leaves the shelf alone came to: it was carried out on the open pool, which may be one of which nothing is said, or its reply is that it wants one.
 abbrev pub PoolDid : {R A : Type 0} → racks.Ghosts R → areas.Ghosts A → CommandName → (State → List Hold → Store → Type 0) → Desk → Reply → Option (Pool R A) → Type 0
 PoolDid rack area called does (Open x) reply None = ⊥
+PoolDid rack area called does Foreign reply None = ⊥
 PoolDid rack area called does (Open x) reply (Some pool) = IsWhole rack area pool × CarriesOut rack area pool x (does x)
+PoolDid rack area called does Foreign reply (Some pool) = IsWhole rack area pool
 PoolDid rack area called does desk reply pool = (reply ≡ NoPool called) × (pool ≡ None)
 
 -- A command was done, and this is its reply.
@@ -58,13 +63,20 @@ pub record Turned {R A : Type 0} (rack : racks.Ghosts R) (area : areas.Ghosts A)
   pub turns : TurnsBy chosen command old reply new
 
 -- What is left of a desk as the pool is given back to the shelf. What had failed shows there.
-pub record LeavesDesk (entry before now : OnShelf) (desk : Desk) : Type 0 where
-  pub shelf : HoldsDesk (given_back desk) entry now
-  pub failed : HasFault entry before desk → HasFailed entry now
+pub record LeavesDesk {R A : Type 0} (area : areas.Ghosts A) (entry before now : OnShelf) (pool : Option (Pool R A)) (desk : Desk) : Type 0 where
+  pub left : Desk
+  pub is : IsLeft desk left
+  pub shelf : HoldsDesk left entry now
+  pub failed : HasFault area entry before pool desk → HasFailed entry now
 
--- A command broke off, since a call of the shelf or on an area failed.
-pub record Broken {R A : Type 0} (rack : racks.Ghosts R) (area : areas.Ghosts A) (command : Command) (entry before : OnShelf) (old : Desk) (now : OnShelf) (pool : Option (Pool R A)) : Type 0 where
+-- what shows why a command broke off: what failed, or no more than what the record's fault is
+abbrev pub CauseShows : {R A : Type 0} → areas.Ghosts A → Cause → OnShelf → OnShelf → Option (Pool R A) → Desk → Type 0
+CauseShows area ShelfFails before now pool new = HasFault area before now pool new
+CauseShows area RecordFails before now pool new = ⊤
+
+-- A command broke off, since a call of the shelf or on an area failed, or since a record has a fault.
+pub record Broken {R A : Type 0} (rack : racks.Ghosts R) (area : areas.Ghosts A) (why : Cause) (command : Command) (entry before : OnShelf) (old : Desk) (now : OnShelf) (pool : Option (Pool R A)) : Type 0 where
   pub new : Desk
   pub desk : IsDesk rack area entry now pool new
-  pub breaks : Breaks old command new
-  pub cause : HasFault before now new
+  pub breaks : Breaks why old command new
+  pub cause : CauseShows area why before now pool new

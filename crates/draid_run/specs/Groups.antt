@@ -1,5 +1,5 @@
 -- What a sync, an export and a crash come to.
-use Rattle.std.specs.Prelude.{◌≡◌, ℕ, true, false, List, Option, Some, None, Result, Ok, Err}
+use Rattle.std.specs.Prelude.{◌≡◌, ⊤, ℕ, Bool, true, false, List, Option, Some, None, Result, Ok, Err}
 use Rattle.draid_rack.specs.declared.Rack as racks
 use Rattle.draid_area.specs.declared.Area as areas
 use Rattle.draid_script.specs.declared.name.CommandName.{CommandName}
@@ -8,7 +8,7 @@ use Rattle.draid_reply.specs.declared.reply.Reply.{Reply}
 use Rattle.draid_reply.specs.declared.reply.Reply.TheVariants.{Crashed, Exported, Last, NoMemory, NoPool, Synced, Worn}
 use Rattle.draid_session.specs.Follows.{Follows}
 use Rattle.draid_session.specs.Holds.{Hold}
-use Rattle.draid_session.specs.Session.{Desk, Open, Shut}
+use Rattle.draid_session.specs.Session.{Desk, Open, Shut, Foreign, Unknown, IsGiven}
 use Rattle.draid_session.specs.State.{State, Store}
 use Rattle.draid_pool.specs.Answers.{ExportDoes, SyncDoes}
 use Rattle.draid_pool.specs.Carries.{CarriesOut}
@@ -18,7 +18,7 @@ use Rattle.draid_pool.specs.declared.fault.SyncFault.TheVariants as sync
 use Rattle.draid_pool.specs.declared.fault.Synced.{Synced as Group}
 use Rattle.draid_pool.specs.declared.pool.Pool.{Pool}
 use Rattle.draid_run.specs.Desks.{IsDesk}
-use Rattle.draid_run.specs.Shelves.{OnShelf}
+use Rattle.draid_run.specs.Shelves.{OnShelf, PoolFails}
 use Rattle.draid_run.specs.declared.answer.Stop.{Stop}
 use Rattle.draid_run.specs.declared.answer.Stop.TheVariants as stop
 
@@ -36,6 +36,7 @@ abbrev pub RefusalIs : CommandName → SyncFault → Result Reply Stop → Type 
 RefusalIs called why (Ok reply) = refusal_of called why ≡ Some reply
 RefusalIs called why (Err stop.Shelf) = refusal_of called why ≡ None
 RefusalIs called why (Err stop.Unbuilt) = ⊥
+RefusalIs called why (Err (stop.Record metaslab place kind)) = ⊥
 
 abbrev pub sync_reply : Result Group SyncFault → Option Reply
 sync_reply (Ok it) = Some (Synced it.group it.thin)
@@ -50,11 +51,21 @@ abbrev pub SyncLeads : {R A : Type 0} → racks.Ghosts R → areas.Ghosts A → 
 SyncLeads rack area x (Ok reply) pool = CarriesOut rack area pool x (SyncSays (Some reply) x)
 SyncLeads rack area x (Err stop.Shelf) pool = CarriesOut rack area pool x (SyncSays None x)
 SyncLeads rack area x (Err stop.Unbuilt) pool = ⊥
+SyncLeads rack area x (Err (stop.Record metaslab place kind)) pool = ⊥
+
+-- what ended a sync or an export of a pool of which nothing is said: an area failed
+abbrev pub StopShows : {R A : Type 0} → areas.Ghosts A → Result Reply Stop → Option (Pool R A) → Type 0
+StopShows area (Ok reply) pool = ⊤
+StopShows area (Err stop.Shelf) pool = PoolFails area pool
+StopShows area (Err stop.Unbuilt) pool = ⊥
+StopShows area (Err (stop.Record metaslab place kind)) pool = ⊥
 
 -- by whether a pool is open
 abbrev pub SyncDid : {R A : Type 0} → racks.Ghosts R → areas.Ghosts A → Desk → Result Reply Stop → Option (Pool R A) → Type 0
 SyncDid rack area (Open x) result None = ⊥
+SyncDid rack area Foreign result None = ⊥
 SyncDid rack area (Open x) result (Some pool) = IsWhole rack area pool × SyncLeads rack area x result pool
+SyncDid rack area Foreign result (Some pool) = IsWhole rack area pool × StopShows area result (Some pool)
 SyncDid rack area desk result pool = (result ≡ Ok (NoPool name.Sync)) × (pool ≡ None)
 
 -- ---- an export, a crash
@@ -64,10 +75,16 @@ abbrev pub export_reply : Result ℕ SyncFault → Option Reply
 export_reply (Ok group) = Some (Exported group)
 export_reply (Err why) = refusal_of name.Export why
 
+-- the pool of a state was given back, with a crash or without one
+pub record IsShut (crash : Bool) (y : State) (new : Desk) : Type 0 where
+  pub z : State
+  pub is : new ≡ Shut crash z
+  pub given : IsGiven y z
+
 -- it gives the pool back, unless its sync was refused
-abbrev pub desk_behind : Result ℕ SyncFault → State → Desk
-desk_behind (Ok group) y = Shut false y
-desk_behind (Err why) y = Open y
+abbrev pub IsBehind : Result ℕ SyncFault → State → Desk → Type 0
+IsBehind (Ok group) y new = IsShut false y new
+IsBehind (Err why) y new = new ≡ Open y
 
 -- Holds led from one state to another, and are so.
 pub record Leads (x y : State) (does : List Hold → Store → Type 0) : Type 0 where
@@ -83,11 +100,22 @@ pub record Exports (x : State) (reply : Option Reply) (new : Desk) : Type 0 wher
   pub answer : Result ℕ SyncFault
   pub reply_is : export_reply answer ≡ reply
   pub y : State
-  pub new_is : new ≡ desk_behind answer y
+  pub new_is : IsBehind answer y new
   pub leads : Leads x y (ExportDoes x answer)
+
+-- so of a pool of which nothing is said
+abbrev pub foreign_behind : Result ℕ SyncFault → Desk
+foreign_behind (Ok group) = Unknown
+foreign_behind (Err why) = Foreign
+
+pub record ForeignExports (reply : Option Reply) (new : Desk) : Type 0 where
+  pub answer : Result ℕ SyncFault
+  pub reply_is : export_reply answer ≡ reply
+  pub new_is : new ≡ foreign_behind answer
 
 abbrev pub ExportTurns : Desk → Option Reply → Desk → Type 0
 ExportTurns (Open x) reply new = Exports x reply new
+ExportTurns Foreign reply new = ForeignExports reply new
 ExportTurns desk reply new = (reply ≡ Some (NoPool name.Export)) × (new ≡ desk)
 
 -- so where it has a reply, and where a device failed
@@ -95,15 +123,18 @@ pub record ExportDid {R A : Type 0} (rack : racks.Ghosts R) (area : areas.Ghosts
   pub new : Desk
   pub desk : IsDesk rack area entry now pool new
   pub turns : ExportTurns old reply new
+  pub failed : reply ≡ None → new ≡ Foreign → PoolFails area pool
 
 abbrev pub ExportIs : {R A : Type 0} → racks.Ghosts R → areas.Ghosts A → OnShelf → Desk → OnShelf → Option (Pool R A) → Result Reply Stop → Type 0
 ExportIs rack area entry old now pool (Ok reply) = ExportDid rack area entry old (Some reply) now pool
 ExportIs rack area entry old now pool (Err stop.Shelf) = ExportDid rack area entry old None now pool
 ExportIs rack area entry old now pool (Err stop.Unbuilt) = ⊥
+ExportIs rack area entry old now pool (Err (stop.Record metaslab place kind)) = ⊥
 
 -- a crash gives the pool back as it is
 abbrev pub CrashTurns : Desk → Reply → Desk → Type 0
-CrashTurns (Open x) reply new = (reply ≡ Crashed) × (new ≡ Shut true x)
+CrashTurns (Open x) reply new = (reply ≡ Crashed) × IsShut true x new
+CrashTurns Foreign reply new = (reply ≡ Crashed) × (new ≡ Unknown)
 CrashTurns desk reply new = (reply ≡ NoPool name.Crash) × (new ≡ desk)
 
 pub record CrashDid {R A : Type 0} (rack : racks.Ghosts R) (area : areas.Ghosts A) (entry : OnShelf) (old : Desk) (reply : Reply) (now : OnShelf) (pool : Option (Pool R A)) : Type 0 where

@@ -1,5 +1,6 @@
 pub mod Desks
 pub mod Groups
+pub mod Importing
 pub mod Making
 pub mod Says
 pub mod Script

@@ -12,7 +12,7 @@ use Rattle.draid_script.specs.declared.name.CommandName.TheVariants as name
 use Rattle.draid_reply.specs.declared.reply.Reply.{Reply}
 use Rattle.draid_reply.specs.declared.reply.Reply.TheVariants.{PoolOpen}
 use Rattle.draid_session.specs.Making.{vdev_name_of}
-use Rattle.draid_session.specs.Session.{Desk, Open, Creates}
+use Rattle.draid_session.specs.Session.{Desk, Open, Foreign, Creates, ShelfFails}
 use Rattle.draid_pool.specs.Opening.{HasLayout, Opens, ShelfIs}
 use Rattle.draid_pool.specs.Whole.{IsWhole}
 use Rattle.draid_pool.specs.declared.fault.PoolFault.{PoolFault}
@@ -44,13 +44,14 @@ PoolIs rack area spec props before now pool (Err fault.NoMemory) = HasLayout spe
 
 pub record MakeIs {R A : Type 0} (rack : racks.Ghosts R) (area : areas.Ghosts A) (spec : Spec) (props : Props) (before now : OnShelf) (pool : Option (Pool R A)) (result : Result Made PoolFault) : Type 0 where
   pub pool_is : PoolIs rack area spec props before now pool result
-  pub shelf : ShelfIs spec props before.held now.held before.counts now.counts before.own now.own result
+  pub shelf : ShelfIs spec props before.held now.held before.leaves now.leaves before.counts now.counts before.own now.own result
 
 -- ---- the command
 
 -- what `create` does where a pool is open, or none is
 abbrev pub CreateTurns : List ℕ → ℕ → PoolKeys → Desk → Reply → Desk → Type 0
 CreateTurns text children keys (Open x) reply new = (reply ≡ PoolOpen name.Create) × (new ≡ Open x)
+CreateTurns text children keys Foreign reply new = (reply ≡ PoolOpen name.Create) × (new ≡ Foreign)
 CreateTurns text children keys old reply new = Creates text children keys old reply new
 
 -- it was done, and this is its reply
@@ -64,4 +65,5 @@ pub record CreateDid {R A : Type 0} (rack : racks.Ghosts R) (area : areas.Ghosts
 abbrev pub CreateIs : {R A : Type 0} → racks.Ghosts R → areas.Ghosts A → List ℕ → ℕ → PoolKeys → OnShelf → OnShelf → Desk → OnShelf → Option (Pool R A) → Result Reply Stop → Type 0
 CreateIs rack area text children keys entry before old now pool (Ok reply) = CreateDid rack area text children keys entry old reply now pool
 CreateIs rack area text children keys entry before old now pool (Err stop.Unbuilt) = ⊥
-CreateIs rack area text children keys entry before old now pool (Err stop.Shelf) = Broken rack area (CreatePool text children keys) entry before old now pool
+CreateIs rack area text children keys entry before old now pool (Err (stop.Record metaslab place kind)) = ⊥
+CreateIs rack area text children keys entry before old now pool (Err stop.Shelf) = Broken rack area ShelfFails (CreatePool text children keys) entry before old now pool

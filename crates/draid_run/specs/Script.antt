@@ -5,16 +5,16 @@ use Rattle.draid_names.specs.declared.room.Room.{Room}
 use Rattle.draid_lines.specs.Lines.{IsTooLong, lines_of}
 use Rattle.draid_lines.specs.Sink.{AppendsFront}
 use Rattle.draid_script.specs.Grammar.{line_of}
-use Rattle.draid_script.specs.Line.{Command, Silent, CreatePool, ExportPool, SyncPool, CrashPool, WriteObject, ReadObject, FillObjects, FreeObject, SumObjects, DamageSector}
+use Rattle.draid_script.specs.Line.{Command, Silent, CreatePool, ImportPool, ExportPool, SyncPool, CrashPool, WriteObject, ReadObject, FillObjects, FreeObject, SumObjects, DamageSector}
 use Rattle.draid_script.specs.declared.fault.LineFault.{LineFault}
 use Rattle.draid_reply.specs.Reply.{text_of}
 use Rattle.draid_reply.specs.declared.reply.Reply.{Reply}
 use Rattle.draid_words.specs.Mode.{OfSession, asked}
-use Rattle.draid_session.specs.Session.{Desk, Breaks, Runs, given_back}
+use Rattle.draid_session.specs.Session.{Desk, Breaks, Cause, IsLeft, RecordFails, Runs, ShelfFails}
 use Rattle.draid_run.specs.Shelves.{HoldsDesk, OnShelf}
 use Rattle.draid_run.specs.Status.{HasNumber, last_text}
 use Rattle.draid_run.specs.declared.status.Status.{Status}
-use Rattle.draid_run.specs.declared.status.Status.TheVariants.{Done, Usage, Line, SourceFault, SinkFault, NoMemory, TooLong, ShelfFault}
+use Rattle.draid_run.specs.declared.status.Status.TheVariants.{Done, Usage, Line, SourceFault, SinkFault, NoMemory, TooLong, ShelfFault, Record}
 
 -- ---- lines that aren't answered
 
@@ -22,6 +22,7 @@ use Rattle.draid_run.specs.declared.status.Status.TheVariants.{Done, Usage, Line
 abbrev pub IsUnbuilt : Command → Type 0
 IsUnbuilt Silent = ⊥
 IsUnbuilt (CreatePool text children keys) = ⊥
+IsUnbuilt ImportPool = ⊥
 IsUnbuilt ExportPool = ⊥
 IsUnbuilt SyncPool = ⊥
 IsUnbuilt CrashPool = ⊥
@@ -38,16 +39,19 @@ abbrev pub LineFaultIs : Result Command LineFault → ℕ → ℕ → Type 0
 LineFaultIs (Err fault) kind at = (kind ≡ fault.kind) × (at ≡ fault.at)
 LineFaultIs (Ok command) kind at = IsUnbuilt command × (kind ≡ 7) × (at ≡ 0)
 
--- At this line the run broke off, since a call of the shelf failed.
-pub record BreaksAt (text : List ℕ) (old new : Desk) : Type 0 where
+-- At this line the run broke off, for this cause.
+pub record BreaksAt (why : Cause) (text : List ℕ) (old new : Desk) : Type 0 where
   pub command : Command
   pub line : line_of text ≡ Ok command
-  pub breaks : Breaks old command new
+  pub breaks : Breaks why old command new
 
--- A run broke off at a line of its own just where it ended by a fault of the shelf.
+-- A run broke off at a line of its own just where it ended by a fault of the shelf or of a record; the line that names the record's fault may have wanted memory.
 abbrev pub BreaksOff : Status → Option (List ℕ) → Desk → Desk → Type 0
 BreaksOff ShelfFault None mid last = ⊥
-BreaksOff ShelfFault (Some text) mid last = BreaksAt text mid last
+BreaksOff ShelfFault (Some text) mid last = BreaksAt ShelfFails text mid last
+BreaksOff (Record metaslab at kind) None mid last = ⊥
+BreaksOff (Record metaslab at kind) (Some text) mid last = BreaksAt RecordFails text mid last
+BreaksOff NoMemory (Some text) mid last = BreaksAt RecordFails text mid last
 BreaksOff ended None mid last = last ≡ mid
 BreaksOff ended (Some text) mid last = ⊥
 
@@ -64,9 +68,12 @@ Ends (TooLong line) broken lines input =
     (rest : List ℕ) × (lines_of input ≡ lines ++ lines_of rest) × IsTooLong (length lines) rest × (line ≡ length lines + 1)
 Ends ShelfFault None lines input = ⊥
 Ends ShelfFault (Some text) lines input = (rest : List (List ℕ)) × (lines_of input ≡ lines ++ (text ∷ rest))
+Ends (Record metaslab at kind) None lines input = ⊥
+Ends (Record metaslab at kind) (Some text) lines input = (rest : List (List ℕ)) × (lines_of input ≡ lines ++ (text ∷ rest))
 Ends SourceFault broken lines input = (rest : List (List ℕ)) × (lines_of input ≡ lines ++ rest)
 Ends SinkFault broken lines input = (rest : List (List ℕ)) × (lines_of input ≡ lines ++ rest)
-Ends NoMemory broken lines input = (rest : List (List ℕ)) × (lines_of input ≡ lines ++ rest)
+Ends NoMemory None lines input = (rest : List (List ℕ)) × (lines_of input ≡ lines ++ rest)
+Ends NoMemory (Some text) lines input = (rest : List (List ℕ)) × (lines_of input ≡ lines ++ (text ∷ rest))
 
 -- the words that the program takes: those that ask for a session in memory
 abbrev pub IsSession : List (List ℕ) → Type 0
@@ -125,7 +132,7 @@ pub record EndsWithLine (ended status : Status) (old new : Option (List ℕ)) : 
 
 -- ---- the run
 
--- A run: some lines were answered by replies, one after another; it ended for a cause, by a line of its own where the shelf failed; and the sink got the replies'
+-- A run: some lines were answered by replies, one after another; it ended for a cause, by a line of its own where the shelf failed or a record has a fault; and the sink got the replies'
 -- texts and the last line. Blocks go to metaslabs that the chooser may name.
 pub record HasRun (chosen : List Room → Option ℕ → Type 0) (words : List (List ℕ)) (status : Status) (input old new : Option (List ℕ)) (first last : Desk) : Type 0 where
   pub lines : List (List ℕ)
@@ -142,13 +149,15 @@ pub record HasRun (chosen : List Room → Option ℕ → Type 0) (words : List (
   pub shows : Shows ended replies shown
   pub prints : PrintsAll status ended shown old new
 
--- a session from one desk to a last one, whose pool is given back; and the shelf holds that
+-- a session from one desk to a last one, whose pool is given back; and the shelf holds what is left
 pub record RunsFrom (chosen : List Room → Option ℕ → Type 0) (words : List (List ℕ)) (status : Status) (input old new : Option (List ℕ)) (entry now : OnShelf) (first : Desk) : Type 0 where
   pub last : Desk
   pub session : HasRun chosen words status input old new first last
-  pub shelf : HoldsDesk (given_back last) entry now
+  pub left : Desk
+  pub is_left : IsLeft last left
+  pub shelf : HoldsDesk left entry now
 
--- What a run of the program is: such a session from each desk that the shelf holds at the entry. It may be as it was found, or hold the devices of a new pool, or
--- a pool that was given back.
+-- What a run of the program is: such a session from each desk that the shelf holds at the entry. It may be as it was found, or tell that it has no pool, or hold the
+-- devices of a new pool, or a pool that was given back; and nothing may be known of it.
 abbrev pub RunIs : (List Room → Option ℕ → Type 0) → List (List ℕ) → Status → Option (List ℕ) → Option (List ℕ) → Option (List ℕ) → OnShelf → OnShelf → Type 0
 RunIs chosen words status input old new entry now = (first : Desk) → HoldsDesk first entry entry → RunsFrom chosen words status input old new entry now first

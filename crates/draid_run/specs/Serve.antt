@@ -12,7 +12,7 @@ use Rattle.draid_script.specs.Grammar.{line_of}
 use Rattle.draid_script.specs.Line.{Command}
 use Rattle.draid_reply.specs.Reply.{text_of}
 use Rattle.draid_reply.specs.declared.reply.Reply.{Reply}
-use Rattle.draid_session.specs.Session.{Desk, Runs}
+use Rattle.draid_session.specs.Session.{Cause, Desk, RecordFails, Runs, ShelfFails}
 use Rattle.draid_pool.specs.declared.pool.Pool.{Pool}
 use Rattle.draid_run.specs.Desks.{Broken, IsDesk, Turned}
 use Rattle.draid_run.specs.Script.{BreaksOff, Ends, GetsReplies, IsUnbuilt, LineFaultIs, Shows, said_text, texts_of}
@@ -20,7 +20,7 @@ use Rattle.draid_run.specs.Shelves.{HasFault, OnShelf}
 use Rattle.draid_run.specs.declared.answer.Stop.{Stop}
 use Rattle.draid_run.specs.declared.answer.Stop.TheVariants as stop
 use Rattle.draid_run.specs.declared.status.Status.{Status}
-use Rattle.draid_run.specs.declared.status.Status.TheVariants.{Line, SourceFault, SinkFault, NoMemory, TooLong, ShelfFault}
+use Rattle.draid_run.specs.declared.status.Status.TheVariants.{Line, SourceFault, SinkFault, NoMemory, TooLong, ShelfFault, Record}
 
 -- What became of the next line, where the bytes to come before and after the call are known.
 abbrev pub TextIs : Rest → Rest → Option (List ℕ) → Option (List ℕ) → Result (Option (Vec ℕ Global)) Status → Type 0
@@ -41,11 +41,11 @@ PrintIs text old new (Err SinkFault) = AppendsFront old new text
 PrintIs text old new (Err NoMemory) = new ≡ old
 PrintIs text old new (Err status) = ⊥
 
--- The shelf failed in a line.
-pub record BrokenLine {R A : Type 0} (rack : racks.Ghosts R) (area : areas.Ghosts A) (text : List ℕ) (entry before : OnShelf) (old : Desk) (now : OnShelf) (pool : Option (Pool R A)) : Type 0 where
+-- The shelf failed in a line, or a record had a fault.
+pub record BrokenLine {R A : Type 0} (rack : racks.Ghosts R) (area : areas.Ghosts A) (why : Cause) (text : List ℕ) (entry before : OnShelf) (old : Desk) (now : OnShelf) (pool : Option (Pool R A)) : Type 0 where
   pub command : Command
   pub line : line_of text ≡ Ok command
-  pub broken : Broken rack area command entry before old now pool
+  pub broken : Broken rack area why command entry before old now pool
 
 -- a command that has a reply was answered by it
 abbrev pub IsSaid : Result Reply Stop → Result (Option Reply) Stop → Type 0
@@ -57,7 +57,8 @@ module _ {R A : Type 0} (rack : racks.Ghosts R) (area : areas.Ghosts A) (chosen 
   abbrev pub AnswerIs : Command → OnShelf → OnShelf → Option (Pool R A) → Desk → OnShelf → Option (Pool R A) → Result (Option Reply) Stop → Type 0
   AnswerIs command entry before pool old now pool' (Ok reply) = Turned rack area chosen (Ok command) entry old reply now pool'
   AnswerIs command entry before pool old now pool' (Err stop.Unbuilt) = IsUnbuilt command × (now ≡ before) × (pool' ≡ pool)
-  AnswerIs command entry before pool old now pool' (Err stop.Shelf) = Broken rack area command entry before old now pool'
+  AnswerIs command entry before pool old now pool' (Err stop.Shelf) = Broken rack area ShelfFails command entry before old now pool'
+  AnswerIs command entry before pool old now pool' (Err (stop.Record metaslab place kind)) = Broken rack area RecordFails command entry before old now pool'
 
   -- A line was answered, and its reply printed.
   pub record Printed (text : List ℕ) (entry : OnShelf) (old : Desk) (now : OnShelf) (pool : Option (Pool R A)) (held held' : Option (List ℕ)) : Type 0 where
@@ -75,7 +76,8 @@ module _ {R A : Type 0} (rack : racks.Ghosts R) (area : areas.Ghosts A) (chosen 
   abbrev pub LineIs : ℕ → List ℕ → OnShelf → OnShelf → Option (Pool R A) → Desk → OnShelf → Option (Pool R A) → Option (List ℕ) → Option (List ℕ) → Result Unit Status → Type 0
   LineIs number text entry before pool old now pool' held held' (Ok done) = Printed text entry old now pool' held held'
   LineIs number text entry before pool old now pool' held held' (Err SinkFault) = Cut text entry old now pool' held held'
-  LineIs number text entry before pool old now pool' held held' (Err ShelfFault) = (held' ≡ held) × BrokenLine rack area text entry before old now pool'
+  LineIs number text entry before pool old now pool' held held' (Err ShelfFault) = (held' ≡ held) × BrokenLine rack area ShelfFails text entry before old now pool'
+  LineIs number text entry before pool old now pool' held held' (Err (Record metaslab place kind)) = (held' ≡ held) × BrokenLine rack area RecordFails text entry before old now pool'
   LineIs number text entry before pool old now pool' held held' (Err (Line line kind at)) =
       LineFaultIs (line_of text) kind at × (now ≡ before) × (pool' ≡ pool) × (held' ≡ held) × (line ≡ number)
   LineIs number text entry before pool old now pool' held held' (Err NoMemory) =
@@ -107,4 +109,4 @@ module _ {R A : Type 0} (rack : racks.Ghosts R) (area : areas.Ghosts A) (chosen 
     pub ends : MatchOption input ⊤ (Ends ended broken lines)
     pub shows : Shows ended replies shown
     pub prints : GetsReplies ended shown start held
-    pub failed : ended ≡ ShelfFault → HasFault entry now last
+    pub failed : ended ≡ ShelfFault → HasFault area entry now pool last

@@ -1,16 +1,23 @@
 -- What a shelf holds between lines and as a run ends.
-use Rattle.std.specs.Prelude.{◌≡◌, ◌<◌, ◌+◌, ◌⊎◌, ℕ, Bool, Option, Some, IsSome, IsSomeAnd, IsTrue, is_some, slice_get}
+use Rattle.std.specs.Prelude.{◌≡◌, ◌<◌, ◌+◌, ◌⊎◌, ⊤, ℕ, Bool, Option, Some, None, IsSomeAnd, is_some, slice_get}
 use Rattle.draid_names.specs.Faults.{Rose}
+use Rattle.draid_rack.specs.Rack.{Shape}
+use Rattle.draid_area.specs.declared.Area as areas
 use Rattle.draid_shelf.specs.Kits.{AreNewChecks, Held, KitCounts, OnHeld}
 use Rattle.draid_shelf.specs.declared.Shelf as shelves
-use Rattle.draid_session.specs.Session.{Desk, Untouched, Made, Open, Shut}
+use Rattle.draid_session.specs.Session.{Desk, Untouched, Bare, Made, Open, Shut, Foreign, Unknown}
 use Rattle.draid_session.specs.State.{Metaslab, State}
 use Rattle.draid_pool.specs.Closing.{HoldsPool, OwnCounts, SameCounts}
-use Rattle.draid_pool.specs.Opening.{AreaFailed, IsAsBefore, IsMade, NoChecks}
+use Rattle.draid_pool.specs.Failing.{AreaFails}
+use Rattle.draid_pool.specs.Importable.{IsImportable}
+use Rattle.draid_pool.specs.Opening.{AreaFailed, IsAsBefore, IsMade, NoChecks, SameLeaves}
+use Rattle.draid_pool.specs.declared.pool.Pool.{Pool}
 
--- What a shelf tells that it holds, and how often calls have failed: on the devices of each metaslab, on the areas that aren't of a metaslab, and on itself.
+-- What a shelf tells that it holds, the leaves of each metaslab's rack where they are known, and how often calls have failed: on the devices of each metaslab, on the
+-- areas that aren't of a metaslab, and on itself.
 pub record OnShelf : Type 0 where
   pub held : Option Held
+  pub leaves : ℕ → Option Shape
   pub counts : ℕ → KitCounts
   pub own : OwnCounts
   pub faults : ℕ
@@ -18,6 +25,7 @@ pub record OnShelf : Type 0 where
 abbrev pub on_shelf : {H R A : Type 0} → shelves.Ghosts H R A → H → OnShelf
 on_shelf shelf x = record {
   held = shelf.told x;
+  leaves = shelf.leaves x;
   counts = shelf.counts x;
   own = record { uber = shelf.uber_count x; checks = shelf.check_counts x };
   faults = shelf.faults x;
@@ -25,7 +33,7 @@ on_shelf shelf x = record {
 
 -- it holds just what it held
 abbrev pub IsSame : OnShelf → OnShelf → Type 0
-IsSame old new = IsAsBefore old.held new.held old.counts new.counts old.own new.own
+IsSame old new = IsAsBefore old.held new.held old.counts new.counts old.own new.own × SameLeaves old.leaves new.leaves
 
 -- the areas of the check records are held, as they were made
 abbrev pub HasChecks : Held → Type 0
@@ -38,21 +46,29 @@ pub record IsOut (x : State) (now : OnShelf) : Type 0 where
   pub checks : NoChecks now.own
   pub told : x.told ≡ is_some now.held
 
--- The pool of a state was given back, with a crash or without one: where the shelf tells, it holds the pool, and it told as the pool was opened. All counts are those
--- of the state.
+-- The pool of a state was given back, with a crash or without one: where the shelf tells, which the state says, it holds the pool, and no record of it has a fault to
+-- an import. All counts are those of the state.
 pub record HoldsShut (crash : Bool) (x : State) (now : OnShelf) : Type 0 where
   pub held : OnHeld now.held (HoldsPool x crash)
-  pub told : IsSome now.held → IsTrue x.told
+  pub importable : OnHeld now.held (λ held. IsImportable x held now.leaves)
+  pub told : x.told ≡ is_some now.held
   pub counts : (m : ℕ) (y : Metaslab) → slice_get x.metaslabs m ≡ Some y → SameCounts y.counts (now.counts m)
   pub uber : now.own.uber ≡ x.uber_count
   pub checks : NoChecks now.own
 
--- What a shelf holds, where no pool is open: what it held at the entry, a new pool as it was made, or the pool that was given back.
+-- it tells that it has no pool
+abbrev pub HoldsBare : OnShelf → Type 0
+HoldsBare now = IsSomeAnd now.held (λ held. held.uber ≡ None)
+
+-- What a shelf holds, where no pool is open: what it held at the entry, no pool, a new pool as it was made, the pool that was given back, or whatever it may be.
 abbrev pub HoldsDesk : Desk → OnShelf → OnShelf → Type 0
 HoldsDesk Untouched entry now = IsSame entry now
+HoldsDesk Bare entry now = HoldsBare now
 HoldsDesk (Made geometry) entry now = IsMade geometry now.held now.counts now.own
 HoldsDesk (Open state) entry now = ⊥
 HoldsDesk (Shut crash state) entry now = HoldsShut crash state now
+HoldsDesk Foreign entry now = ⊥
+HoldsDesk Unknown entry now = ⊤
 
 -- ---- failures
 
@@ -64,7 +80,13 @@ HasFailed entry now = Rose entry.faults now.faults ⊎ AreaFailed now.counts now
 abbrev pub AreaHasFailed : State → Type 0
 AreaHasFailed x = ((m : ℕ) × (y : Metaslab) × (slice_get x.metaslabs m ≡ Some y) × (0 < y.counts.even + y.counts.odd)) ⊎ (0 < x.uber_count)
 
+-- so of a pool of which nothing else is said
+abbrev pub PoolFails : {R A : Type 0} → areas.Ghosts A → Option (Pool R A) → Type 0
+PoolFails area None = ⊥
+PoolFails area (Some pool) = AreaFails area.faults pool
+
 -- the one or the other, by whether a pool is open
-abbrev pub HasFault : OnShelf → OnShelf → Desk → Type 0
-HasFault entry now (Open x) = AreaHasFailed x
-HasFault entry now desk = HasFailed entry now
+abbrev pub HasFault : {R A : Type 0} → areas.Ghosts A → OnShelf → OnShelf → Option (Pool R A) → Desk → Type 0
+HasFault area entry now pool (Open x) = AreaHasFailed x
+HasFault area entry now pool Foreign = PoolFails area pool
+HasFault area entry now pool desk = HasFailed entry now

@@ -1,7 +1,7 @@
-use Rattle.std.specs.Prelude.{ℕ, ⊤, List, [], ◌++◌, codes}
+use Rattle.std.specs.Prelude.{ℕ, ⊤, List, [], ◌++◌, Option, Some, None, codes}
 use Rattle.std.specs.Fmt.{decimal}
 use Rattle.draid_run.specs.declared.status.Status.{Status}
-use Rattle.draid_run.specs.declared.status.Status.TheVariants.{Done, Usage, Line, SourceFault, SinkFault, NoMemory, TooLong, ShelfFault}
+use Rattle.draid_run.specs.declared.status.Status.TheVariants.{Done, Usage, Line, SourceFault, SinkFault, NoMemory, TooLong, ShelfFault, Record}
 
 -- the program's exit status
 abbrev pub code_of : Status → ℕ
@@ -13,11 +13,13 @@ code_of SinkFault = 4
 code_of NoMemory = 5
 code_of (TooLong line) = 6
 code_of ShelfFault = 7
+code_of (Record metaslab at kind) = 8
 
 -- the status's line names a number
 abbrev pub HasNumber : Status → Type 0
 HasNumber (Line line kind at) = ⊤
 HasNumber (TooLong line) = ⊤
+HasNumber (Record metaslab at kind) = ⊤
 HasNumber status = ⊥
 
 -- the line that is printed last where it names no number, its end included
@@ -28,8 +30,14 @@ fixed_text NoMemory = codes "no memory\n"
 fixed_text ShelfFault = codes "shelf fault\n"
 fixed_text status = []
 
+-- which record it is, a metaslab's or that of the uberblock
+abbrev pub record_name : Option ℕ → List ℕ
+record_name None = codes "uber"
+record_name (Some metaslab) = codes "metaslab=" ++ decimal metaslab
+
 -- the line that is printed last, its end included
 abbrev pub last_text : Status → List ℕ
 last_text (Line line kind at) = codes "line " ++ (decimal line ++ (codes " fault=" ++ (decimal kind ++ (codes " at=" ++ (decimal at ++ codes "\n")))))
 last_text (TooLong line) = codes "line " ++ (decimal line ++ codes " too long\n")
+last_text (Record metaslab at kind) = codes "record " ++ (record_name metaslab ++ (codes " at=" ++ (decimal at ++ (codes " kind=" ++ (decimal kind ++ codes "\n")))))
 last_text status = fixed_text status

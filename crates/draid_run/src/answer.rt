@@ -12,7 +12,7 @@ ghost use Rattle.draid_run.specs.Says.{DamageSays, FreeSays, ReadSays, SumSays};
 ghost use Rattle.draid_run.specs.Serve.{AnswerIs, IsSaid};
 ghost use Rattle.draid_run.specs.Shelves.{OnShelf, on_shelf};
 
-use crate::{fill, groups, replies};
+use crate::{fill, groups, importing, replies};
 use draid_area::Area;
 use draid_choose::Chooser;
 use draid_names::{NoMemory, Room};
@@ -32,6 +32,13 @@ pub(crate) enum Stop {
     Unbuilt,
     /// A call of the shelf, or on an area of the pool, failed.
     Shelf,
+    /// The first field of a record that is out of its range begins at byte `at`: of a metaslab's record, or of the
+    /// uberblock's slot.
+    Record {
+        metaslab: Option<u32>,
+        at: u64,
+        kind: u8,
+    },
 }
 
 /// The properties that the keys of `create` name.
@@ -49,7 +56,7 @@ fn props(keys: PoolKeys) -> Props
 }
 
 /// The name of a pool's vdev: its spec in full, and the number of the vdev, which is the only one.
-fn vdev_name(alloc: Global, spec: Spec) -> Result<String, NoMemory>
+pub(crate) fn vdev_name(alloc: Global, spec: Spec) -> Result<String, NoMemory>
     ensures { IfOk result (λ name. string_bytes name ≡ vdev_name_of spec) }
 {
     let mut name = spec_name(alloc, spec)?;
@@ -260,6 +267,7 @@ pub(crate) fn answer<H: Shelf, F: Fn(&[Room]) -> Option<u32>>(
             children,
             keys,
         } => Ok(Some(create(alloc, shelf, pool, &spec, children, keys)?)),
+        Line::Import => said(importing::import(alloc, shelf, pool)),
         Line::Sync => said(groups::sync(pool)),
         Line::Export => said(groups::export(shelf, pool)),
         Line::Crash => Ok(Some(groups::crash(shelf, pool))),

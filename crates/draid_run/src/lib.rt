@@ -5,6 +5,7 @@
 mod answer;
 mod fill;
 mod groups;
+mod importing;
 mod replies;
 mod serve;
 mod status;

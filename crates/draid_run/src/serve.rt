@@ -58,6 +58,9 @@ fn serve_line<H: Shelf, K: Sink, F: Fn(&[Room]) -> Option<u32>>(
         Ok(Some(reply)) => reply,
         Ok(None) => return Ok(()),
         Err(Stop::Shelf) => return Err(Status::ShelfFault),
+        Err(Stop::Record { metaslab, at, kind }) => {
+            return Err(Status::Record { metaslab, at, kind });
+        }
         Err(Stop::Unbuilt) => {
             return Err(Status::Line {
                 line: number,

@@ -12,7 +12,11 @@ pub enum Status {
     /// The words don't ask for a session in memory (1).
     Usage,
     /// This line, counted from 1, is refused by a fault of this kind at this place (2).
-    Line { line: u64, kind: u8, at: u64 },
+    Line {
+        line: u64,
+        kind: u8,
+        at: u64,
+    },
     /// The source failed (3).
     SourceFault,
     /// The sink failed (4).
@@ -20,9 +24,18 @@ pub enum Status {
     /// The words, a line or the text of a reply could not be held for want of memory (5).
     NoMemory,
     /// This line has more than 300,000 bytes, or is more than the 1,048,576 lines of a script (6).
-    TooLong { line: u64 },
-    /// The shelf failed as a pool was to be made (7).
+    TooLong {
+        line: u64,
+    },
+    /// A call of the shelf, or on an area of a pool, failed (7).
     ShelfFault,
+    /// The first field of a record that is out of its range begins at byte `at`: of a metaslab's record, or of the
+    /// uberblock's slot (8).
+    Record {
+        metaslab: Option<u32>,
+        at: u64,
+        kind: u8,
+    },
 }
 
 impl Status {
@@ -41,6 +54,7 @@ impl Status {
             Status::NoMemory => 5,
             Status::TooLong { .. } => 6,
             Status::ShelfFault => 7,
+            Status::Record { .. } => 8,
         }
     }
 }
@@ -56,6 +70,16 @@ pub(crate) fn numbered_line(alloc: Global, status: Status) -> Result<Option<Stri
             "line {line} fault={kind} at={at}\n"
         )?)),
         Status::TooLong { line } => Ok(Some(format!(in alloc; "line {line} too long\n")?)),
+        Status::Record {
+            metaslab: None,
+            at,
+            kind,
+        } => Ok(Some(format!(in alloc; "record uber at={at} kind={kind}\n")?)),
+        Status::Record {
+            metaslab: Some(metaslab),
+            at,
+            kind,
+        } => Ok(Some(format!(in alloc; "record metaslab={metaslab} at={at} kind={kind}\n")?)),
         _ => Ok(None),
     }
 }

@@ -57,7 +57,7 @@ fn end_run<K: Sink>(alloc: Global, sink: &mut K, ended: Status) -> Status
 fn give_back<H: Shelf>(shelf: &mut H, pool: Option<Pool<H::R, H::A>>)
     requires desk { (x : Desk) × IsPool H.R.Rack H.A.Area pool x }
     ensures leaves { (entry : OnShelf) (x : Desk) → IsDesk H.R.Rack H.A.Area entry (on_shelf H.Shelf shelf.old) pool x
-        → LeavesDesk entry (on_shelf H.Shelf shelf.old) (on_shelf H.Shelf shelf.new) x }
+        → LeavesDesk H.A.Area entry (on_shelf H.Shelf shelf.old) (on_shelf H.Shelf shelf.new) pool x }
     ensures faults { H.faults shelf.new ≡ H.faults shelf.old }
 {
     if let Some(pool) = pool {

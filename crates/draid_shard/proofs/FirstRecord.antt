@@ -18,10 +18,10 @@ use Rattle.draid_slots.specs.Table.{arm_at}
 use Rattle.draid_stable.specs.Images.{image_by}
 use Rattle.draid_stable.specs.Sealing.{AreTables, IsMade, IsSettled, lose_marked}
 use Rattle.draid_stable.specs.Slots.{arm_in, named, pass_in}
-use Rattle.draid_stable.specs.Stable.{HasRecord, Stands}
+use Rattle.draid_stable.specs.Stable.{Stands}
 use Rattle.draid_shard.specs.declared.shard.Shard.{Shard}
 use Rattle.draid_shard.specs.Fits.{Valid}
-use Rattle.draid_shard.specs.Groups.{at_version}
+use Rattle.draid_shard.specs.Groups.{ListsOnce}
 use Rattle.draid_shard.specs.Sealing.{head_of}
 use Rattle.draid_shard.specs.States.{IsIn, layout_by}
 use Rattle.draid_shard.proofs.SealRecords.{record_stands}
@@ -72,7 +72,7 @@ module _ {R A : Type 0} (rack : Ghosts R) (old : Shard R A) (v : Valid rack old)
   arms : (place : ArmAt) (a : Arm) → arm_at old.slots place ≡ Some a → a.kind ≡ kind.Leaf → IsSome (new_state.core.arm (Leaf a.number))
   arms place a there leaf = subst IsSome (sym (subst (λ k. new_state.core.arm (named k a.number) ≡ Some (arm_in old.slots place a)) leaf (is_in.slots.arms place a there))) refl
 
-  pub first_record : (x : content.Content) → Stands (told_record made) x → HasRecord (at_version old.asked old.geometry) old.number new_state.image x
+  pub first_record : (x : content.Content) → Stands (told_record made) x → ListsOnce old.geometry old.number new_state.image x
   first_record x stands =
       record_stands rack old v 1 (omega arith) (omega arith) new_state reached is_in made made is_made [] false settled new_state.core says arms x stands
 

@@ -18,6 +18,7 @@ pub mod Held
 pub mod Holders
 pub mod Homes
 pub mod Landings
+pub mod ListedOnce
 pub mod LeavesFlushed
 pub mod Missing
 pub mod Opened

@@ -1,14 +1,17 @@
 -- The record of a sealed group.
-use Rattle.std.proofs.Common.{◌≡◌, ◌<◌, ◌+◌, ◌^◌, ◌∙◌, ◌&&◌, ℕ, Bool, true, false, List, Some, IsSome, arith, refl, sym, subst, length}
+use Rattle.std.proofs.Common.{◌≡◌, ◌<◌, ◌+◌, ◌^◌, ◌∙◌, ◌&&◌, ℕ, Bool, true, false, List, None, Some, IsSome, Vec, Global, arith, ap, refl, sym, subst, length}
 use Rattle.std.specs.List.{list_any}
 use Rattle.draid_names.specs.declared.arm.Arm.{Arm}
 use Rattle.draid_names.specs.declared.arm.ArmAt.{ArmAt}
 use Rattle.draid_names.specs.declared.arm.ArmKind.TheVariants as kind
 use Rattle.draid_names.specs.declared.numbers.TheConstants.{NUMBERS}
+use Rattle.draid_names.specs.declared.pointer.Pointer.{Pointer}
 use Rattle.draid_rack.specs.declared.Rack.{Ghosts}
 use Rattle.draid_area.specs.Area as content
 use Rattle.draid_machine.specs.declared.names.ArmName.TheVariants.{Leaf}
-use Rattle.draid_machine.specs.After.{image_of, log_if, map_arm, seal_arm, sealed_core}
+use Rattle.draid_entries.specs.Entries.{held_in}
+use Rattle.draid_entries.specs.Live.{first_twice}
+use Rattle.draid_machine.specs.After.{image_of, log_if, map_arm, seal_arm, seal_held, sealed_core}
 use Rattle.draid_machine.specs.Arms.{is_silent, lies_on}
 use Rattle.draid_machine.specs.Created.{IsReached}
 use Rattle.draid_machine.specs.Sound.{Sound}
@@ -18,19 +21,21 @@ use Rattle.draid_machine.proofs.Bounds.{every_log}
 use Rattle.draid_machine.proofs.Rows.{reached_sound}
 use Rattle.draid_record.specs.declared.record.Record.{Record}
 use Rattle.draid_record.specs.Record.{limits_of, told_record, told_slots}
+use Rattle.draid_record.specs.Ranges.{IsRanged}
 use Rattle.draid_record.specs.Written.{body_bytes}
 use Rattle.draid_slots.specs.Table.{arm_at, is_logged}
 use Rattle.draid_stable.specs.Images.{LeavesBelow, image_by}
 use Rattle.draid_stable.specs.Sealing.{AreMarked, AreTables, IsMade, IsSettled, was_born}
 use Rattle.draid_stable.specs.Slots.{arm_in, name_of, named}
-use Rattle.draid_stable.specs.Stable.{HasRecord, Stands}
+use Rattle.draid_stable.specs.Stable.{Stands}
 use Rattle.draid_stable.specs.Within.{LogsFit}
 use Rattle.draid_stable.proofs.Born.{born_written, none_written}
 use Rattle.draid_stable.proofs.Logs.{copied_small, settled_fits}
 use Rattle.draid_stable.proofs.Made.{marked_told}
 use Rattle.draid_stable.proofs.Ranged.{settled_ranged}
 use Rattle.draid_shard.specs.Fits.{Valid}
-use Rattle.draid_shard.specs.Groups.{at_version}
+use Rattle.draid_shard.specs.Groups.{ListsOnce, at_version}
+use Rattle.draid_shard.proofs.ListedOnce.{lists_once}
 use Rattle.draid_shard.specs.Sealing.{AreSilent, IsPlan, head_of}
 use Rattle.draid_shard.specs.States.{IsIn, layout_by, part_of}
 use Rattle.draid_shard.specs.declared.seal.Plan.{Plan}
@@ -70,16 +75,21 @@ module _ {R A : Type 0} (rack : Ghosts R) (old : Shard R A) (v : Valid rack old)
   logs_fit : length (body_bytes (told_record new)) + 10 < 2 ^ 32 → LogsFit (told_slots new.slots.items)
   logs_fit short = settled_fits (head_of old group) old.entries old.slots old.pass old.last_pass made new marks wrote is_made settled some_group clean (omega (arith, short))
 
-  pub record_stands : (x : content.Content) → Stands (told_record new) x → HasRecord (at_version old.asked old.geometry) old.number image x
+  pub record_stands : (x : content.Content) → Stands (told_record new) x → ListsOnce old.geometry old.number image x
   record_stands x stands = record {
-    value = told_record new;
-    says = says;
-    stands = stands;
-    ranged = λ next below.
+    has = record {
+      value = told_record new;
+      says = says;
+      stands = stands;
+      ranged = λ next below. ranged next below stands.short;
+    };
+    once = ap (λ (bs : Vec Pointer Global). first_twice bs.items) settled.blocks_are ∙ lists_once (λ key. seal_held group (held_in old.entries key)) made.blocks.items is_made.blocks_are.ascending is_made.blocks_are.says.each;
+  } where
+    ranged : (next : ℕ) → LeavesBelow next image → length (body_bytes (told_record new)) + 10 < 2 ^ 32 → IsRanged (limits_of (at_version old.asked old.geometry) old.number group next) (told_record new)
+    ranged next below short =
         settled_ranged (limits_of (at_version old.asked old.geometry) old.number group next) (head_of old group) old.entries old.slots old.pass old.last_pass made is_made
         (record { version_is = refl; metaslab_is = refl; group_is = refl })
-        (tables_fit rack old v group next low w reached at (reached_sound (layout_by old) (lays (part_of old) v.part) w reached) (numbers next below)) new marks wrote settled (logs_fit stands.short);
-  }
+        (tables_fit rack old v group next low w reached at (reached_sound (layout_by old) (lays (part_of old) v.part) w reached) (numbers next below)) new marks wrote settled (logs_fit short)
 
 -- ---- that of a group that is sealed
 
@@ -124,6 +134,6 @@ module _ {R A : Type 0} (rack : Ghosts R) (old : Shard R A) (v : Valid rack old)
         subst (λ o. IsSome (seal_arm (map_arm (log_if (wrote && lies_on (layout_by old) w.core (is_silent w.core failed) (Leaf a.number)) group) o)))
         (sym (subst (λ k. w.core.arm (named k a.number) ≡ Some (arm_in old.slots place a)) leaf (at.slots.arms place a there))) refl
 
-    pub has_record : (x : content.Content) → Stands (told_record new) x → HasRecord (at_version old.asked old.geometry) old.number sealed_image x
+    pub has_record : (x : content.Content) → Stands (told_record new) x → ListsOnce old.geometry old.number sealed_image x
     has_record x stands =
         record_stands rack old v group (closing_low rack old v group closing) some_group w reached at plan.made new is_plan.made marks wrote settled sealed_image.core says named_here x stands

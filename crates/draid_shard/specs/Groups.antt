@@ -18,6 +18,7 @@ use Rattle.draid_machine.specs.Step.{Step}
 use Rattle.draid_segments.specs.Acts.{nowhere}
 use Rattle.draid_segments.specs.Segments.{Pieces}
 use Rattle.draid_entries.specs.History.{Passes, owed_of, stored_of}
+use Rattle.draid_entries.specs.Live.{first_twice}
 use Rattle.draid_entries.specs.Thin.{Distinct, ThinIs}
 use Rattle.draid_stable.specs.Stable.{HasRecord}
 use Rattle.draid_names.specs.declared.arm.ArmKind.TheVariants as kind
@@ -31,6 +32,7 @@ use Rattle.draid_shelf.specs.declared.kit.Kit.{Kit}
 use Rattle.draid_slots.specs.Table.{SlotTable}
 use Rattle.draid_slots.specs.declared.slot.Detached.{Detached}
 use Rattle.draid_stable.specs.Images.{image_by}
+use Rattle.draid_stable.specs.Opening.{KeepsCounts}
 use Rattle.draid_stable.specs.Opening.{block_at}
 use Rattle.draid_shard.specs.Calls.{ActsOn, CountsFailed, OnBothTold}
 use Rattle.draid_shard.specs.Fits.{IsLeaf}
@@ -82,6 +84,11 @@ pub record OpenUpto (w : machine.State) (group tickets : ℕ) : Type 0 where
   pub all : (key : Key) (h : Held) → w.core.held key ≡ Some h → is_block h.stage ≡ false → h.birth ≤ group → Contains keys key
   pub many : tickets ≡ length keys
 
+-- the record of an image stands there, and lists each block once
+pub record ListsOnce (geometry : Geometry) (number : ℕ) (image : machine.Image) (x : content.Content) : Type 0 where
+  pub has : HasRecord (at_version image.version geometry) number image x
+  pub once : first_twice has.value.blocks ≡ None
+
 -- A group is sealed. The leaves that aren't offline were flushed, but for those on which that failed, and the record of the image that the seal makes stands in
 -- the group's area. So many of its blocks have a column whose arms don't answer or aren't clean.
 pub record Seals {R A : Type 0} (rack : Ghosts R) (told : A → Option content.Content) (old new : Shard R A) (group thin : ℕ) : Type 0 where
@@ -89,7 +96,7 @@ pub record Seals {R A : Type 0} (rack : Ghosts R) (told : A → Option content.C
   pub does : Does old new (event.Seal group failed)
   pub acts : (pieces : Pieces) → ActsOn rack old new (event.Seal group failed) pieces
   pub image : (w after : machine.State) (image : machine.Image) → Step (layout_by old) w (event.Seal group failed) after → IsReached (layout_by old) w → IsIn old w
-      → after.sealed ≡ Some image → content.OnTold (told (area_in new group)) (HasRecord (at_version image.version old.geometry) old.number image)
+      → after.sealed ≡ Some image → content.OnTold (told (area_in new group)) (ListsOnce old.geometry old.number image)
   pub thin_is : (w after : machine.State) → Step (layout_by old) w (event.Seal group failed) after → IsReached (layout_by old) w → IsIn old w
       → ThinIs (layout_by old) after.core group thin
   pub low : thin ≤ NUMBERS
@@ -152,3 +159,14 @@ pub record GivesBack {R A : Type 0} (told : A → Option content.Content) (old n
   pub rack : new.rack ≡ old.rack
   pub other : area_of_kit new (group + 1) ≡ area_of_kit old (group + 1)
   pub area : told (area_of_kit new group) ≡ told (area_of_kit old group)
+
+-- no count of a kit's areas falls
+pub record KitAreasLater {R A : Type 0} (faults : A → ℕ) (old new : Kit R A) : Type 0 where
+  pub even : faults old.even ≤ faults new.even
+  pub odd : faults old.odd ≤ faults new.odd
+
+-- No count falls as a metaslab is opened over a kit, but those of leaves that went.
+pub record OpensCounts {R A : Type 0} (rack : Ghosts R) (faults : A → ℕ) (kit : Kit R A) (shard : Shard R A) : Type 0 where
+  pub on_rack : KeepsCounts shard.slots (rack.faults kit.rack) (rack.faults shard.rack)
+  pub even : faults kit.even ≤ faults shard.even
+  pub odd : faults kit.odd ≤ faults shard.odd

@@ -5,9 +5,8 @@ ghost use Rattle.draid_spec.specs.Geometry.{metaslab_sectors};
 ghost use Rattle.draid_machine.specs.Created.{created};
 ghost use Rattle.draid_entries.specs.History.{limit_in, reserved_of};
 ghost use Rattle.draid_slots.specs.Changes.{HasRoom, IsNew, IsOf};
-ghost use Rattle.draid_stable.specs.Stable.{HasRecord};
 ghost use Rattle.draid_shard.specs.Fits.{Valid};
-ghost use Rattle.draid_shard.specs.Groups.{at_version};
+ghost use Rattle.draid_shard.specs.Groups.{ListsOnce};
 ghost use Rattle.draid_shard.specs.Part.{IsPart, Part, layout_in};
 ghost use Rattle.draid_shard.specs.Reopening.{CreateIsRefused};
 ghost use Rattle.draid_shard.specs.States.{IsIn, layout_by, part_of, stored_in};
@@ -65,7 +64,7 @@ impl<R: Rack, A: Area> Shard<R, A> {
         ensures part { IfOk result (λ shard. part_of shard ≡ record { geometry = geometry; perms = perms; number = number }) }
         ensures kit { IfOk result (λ shard. (shard.rack ≡ kit.rack) × (shard.even ≡ kit.even)) }
         ensures record { IfOk result (λ shard. OnTold (A.told shard.odd)
-            (HasRecord (at_version geometry.props.version geometry) number (created (layout_in (part_of shard)) geometry.props.version).image)) }
+            (ListsOnce geometry number (created (layout_in (part_of shard)) geometry.props.version).image)) }
         ensures created { IfOk result (λ shard. IsIn shard (created (layout_in (part_of shard)) geometry.props.version)) }
         ensures none { IfOk result (λ shard. (stored_in shard ≡ []) × (reserved_of shard.history ≡ 0) × (limit_in shard.history ≡ events)) }
         ensures blocks { IfOk result (λ shard. shard.blocks_at ≡ 0) }
@@ -148,7 +147,7 @@ impl<R: Rack, A: Area> Shard<R, A> {
         requires created { IsIn self.old (created (layout_by self.old) self.old.asked) }
         ensures same { self.new ≡ record self.old { odd = self.new.odd } }
         ensures record { OnOk result (OnTold (A.told self.new.odd)
-            (HasRecord (at_version self.old.asked self.old.geometry) self.old.number (created (layout_by self.old) self.old.asked).image)) }
+            (ListsOnce self.old.geometry self.old.number (created (layout_by self.old) self.old.asked).image)) }
         ensures refused { IfErr result (CreateIsRefused (A.faults self.old.odd) (A.faults self.new.odd)) }
     {
         let Ok(made) = self.record_of(1) else {

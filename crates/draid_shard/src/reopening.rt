@@ -1,4 +1,4 @@
-ghost use Rattle.std.specs.Prelude.{◌≡◌, ◌<◌, ◌≤◌, ◌-◌, ◌*◌, ◌||◌, ◌^◌, ℕ, None, IfErr, IfOk, IsErrOf, length};
+ghost use Rattle.std.specs.Prelude.{◌≡◌, ◌<◌, ◌≤◌, ◌-◌, ◌*◌, ◌||◌, ◌^◌, ℕ, None, IfErr, IfOk, IsErrOf, length, MatchResult};
 ghost use Rattle.draid_names.specs.Faults.{Rose};
 ghost use Rattle.draid_names.specs.declared.fault.DeviceFault.{DeviceFault};
 ghost use Rattle.draid_names.specs.declared.numbers.TheConstants.{LAST_NUMBER};
@@ -7,7 +7,7 @@ ghost use Rattle.draid_entries.specs.Entries.{count_of};
 ghost use Rattle.draid_entries.specs.History.{limit_in};
 ghost use Rattle.draid_stable.specs.Opening.{len_of};
 ghost use Rattle.draid_shard.specs.Fits.{IsLeaf, Valid, is_rebuild, owed_for_pass};
-ghost use Rattle.draid_shard.specs.Groups.{GivesBack, Opens, area_of_kit};
+ghost use Rattle.draid_shard.specs.Groups.{GivesBack, KitAreasLater, Opens, OpensCounts, area_of_kit};
 ghost use Rattle.draid_shard.specs.Part.{IsPart};
 ghost use Rattle.draid_shard.specs.Reopening.{AreBytes, AreReadFrom, BeginsWith, OpenIsRefused, ReadsTables};
 ghost use Rattle.draid_shard.specs.States.{part_of};
@@ -41,6 +41,7 @@ struct ReadTables {
 fn read_area<A: Area>(alloc: Global, area: &mut A) -> Result<Vec<u8>, DeviceFault>
     ensures told { A.told area.new ≡ A.told area.old }
     ensures bytes { IfOk result (λ bytes. AreBytes (A.told area.old) bytes.items) }
+    ensures later { A.faults area.old ≤ A.faults area.new }
     ensures cause { IsErrOf result DeviceFault.Failed → Rose (A.faults area.old) (A.faults area.new) }
 {
     let Ok(mut bytes) = zeros(alloc, area.length() as usize) else {
@@ -65,6 +66,7 @@ fn read_group<R: Rack, A: Area>(
 ) -> Result<Vec<u8>, DeviceFault>
     ensures back { GivesBack A.told kit.old kit.new group }
     ensures bytes { IfOk result (λ bytes. AreBytes (A.told (area_of_kit kit.old group)) bytes.items) }
+    ensures later { KitAreasLater A.faults kit.old kit.new }
     ensures cause { IsErrOf result DeviceFault.Failed
         → Rose (A.faults (area_of_kit kit.old group)) (A.faults (area_of_kit kit.new group)) }
 {
@@ -96,6 +98,7 @@ fn read_kit<R: Rack, A: Area>(
     requires part { IsPart (record { geometry = geometry; perms = perms; number = number }) }
     requires group { group < LAST_NUMBER }
     ensures back { GivesBack A.told kit.old kit.new group }
+    ensures later { KitAreasLater A.faults kit.old kit.new }
     ensures read { IfOk result (ReadsTables R.Rack A.told geometry perms number kit.old group next_leaf) }
     ensures refused { IfErr result (OpenIsRefused R.Rack A.faults A.told geometry number kit.old kit.new group next_leaf) }
 {
@@ -174,10 +177,10 @@ impl<R: Rack, A: Area> Shard<R, A> {
         requires next { (geometry.spec.children ≤ next_leaf) × (next_leaf ≤ LAST_NUMBER) }
         ensures valid { IfOk result (Valid R.Rack) }
         ensures part { IfOk result (λ shard. part_of shard ≡ record { geometry = geometry; perms = perms; number = number }) }
-        ensures limit { IfOk result (λ shard. limit_in shard.history ≡ events) }
-        ensures committed { IfOk result (λ shard. shard.committed ≡ group) }
+        ensures begins { IfOk result (λ shard. (limit_in shard.history ≡ events) × (shard.committed ≡ group)) }
         ensures opened { IfOk result (Opens R.Rack A.told kit group next_leaf) }
         ensures gone { IfOk result (λ shard. (leaf : ℕ) → leaf < 2 ^ 64 → (IsLeaf shard.slots leaf → ⊥) → (R.shape shard.rack).leaves leaf ≡ None) }
+        ensures counts { MatchResult result (OpensCounts R.Rack A.faults kit) (λ refused. KitAreasLater A.faults kit refused.kit) }
         ensures back { IfErr result (λ refused. GivesBack A.told kit refused.kit group) }
         // why: the area's failure; the first fault of the record by its place, or one behind it; want of memory
         ensures refused { IfErr result (λ refused. OpenIsRefused R.Rack A.faults A.told geometry number kit refused.kit group next_leaf refused.why) }

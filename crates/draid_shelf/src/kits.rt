@@ -230,6 +230,7 @@ impl Shelf for MemoryShelf {
             → (kit_counts self.new.devices metaslab).rack who ≡ faults_of_memory kit.rack who }
         ensures even_count { (kit_counts self.new.devices metaslab).even ≡ device.faults_of_memory kit.even }
         ensures odd_count { (kit_counts self.new.devices metaslab).odd ≡ device.faults_of_memory kit.odd }
+        ensures leaves { shape_at self.new.devices.racks metaslab ≡ Some (shape_of_memory kit.rack) }
         ensures others { SameOthers metaslab (shape_at self.old.devices.racks)
             (shape_at self.new.devices.racks) }
         ensures counts { SameOthers metaslab (kit_counts self.old.devices) (kit_counts self.new.devices) }

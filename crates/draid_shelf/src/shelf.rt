@@ -140,6 +140,7 @@ pub trait Shelf {
             ≡ Self.R.faults kit.rack who }
         ensures even_count { (counts self.new metaslab).even ≡ Self.A.faults kit.even }
         ensures odd_count { (counts self.new metaslab).odd ≡ Self.A.faults kit.odd }
+        ensures leaves { leaves self.new metaslab ≡ Some (Self.R.shape kit.rack) }
         ensures others { SameOthers metaslab (leaves self.old) (leaves self.new) }
         ensures counts { SameOthers metaslab (counts self.old) (counts self.new) }
         ensures uber { uber_size self.new ≡ uber_size self.old }

@@ -8,9 +8,10 @@ use Rattle.draid_names.specs.declared.arm.ArmAt.{ArmAt}
 use Rattle.draid_names.specs.declared.arm.ArmKind.{ArmKind}
 use Rattle.draid_names.specs.declared.arm.ArmKind.TheVariants.{Leaf, Spare}
 use Rattle.draid_machine.proofs.Small.{both_true}
+use Rattle.draid_rack.specs.Rack.{CountsOthers}
 use Rattle.draid_slots.specs.Table.{IsArmOf, SlotTable, arm_at, is_leaf_kind, is_leaf_of}
 use Rattle.draid_stable.specs.Images.{none_told}
-use Rattle.draid_stable.specs.Opening.{has_leaf_arm}
+use Rattle.draid_stable.specs.Opening.{KeepsCounts, has_leaf_arm}
 use Rattle.draid_stable.proofs.Armed.{any_where}
 use Rattle.draid_stable.proofs.Settled.{get_is}
 
@@ -55,3 +56,10 @@ kept_leaf arm leaves leaf other gone is = by (other == leaf) refl
     by : (b : Bool) → (other == leaf) ≡ b → (if b then None else leaves other) ≡ leaves other
     by true same = absurd (true≢false (sym is ∙ ap arm (same_number other leaf same) ∙ gone))
     by false same = refl
+
+-- where the leaf that went is no arm
+pub counts_kept : (table : SlotTable) (leaf : ℕ) (old new : Option ℕ → ℕ) → has_leaf_arm table leaf ≡ false → CountsOthers leaf old new → KeepsCounts table old new
+counts_kept table leaf old new gone later = record {
+  own = later None (λ same. absurd (cc));
+  leaves = λ other named. later (Some other) (λ same. (let is : other ≡ leaf = cc in absurd (true≢false (sym named ∙ (ap (has_leaf_arm table) is ∙ gone)))));
+}

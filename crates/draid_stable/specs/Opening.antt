@@ -1,5 +1,5 @@
 -- A metaslab is opened from the bytes of a record: which faults refuse that, and its tables.
-use Rattle.std.specs.Prelude.{◌≡◌, ◌==◌, ◌+◌, ◌-◌, ◌*◌, ◌<◌, ◌&&◌, not, ⊤, ℕ, Bool, false, nat_le, nat_lt, List, [], ◌∷◌, Option, Some, None, IfSome, Result, Ok, Err, drop, length, map, option_map, slice_index_or, unwrap_or, if◌then◌else◌}
+use Rattle.std.specs.Prelude.{◌≡◌, ◌==◌, ◌+◌, ◌-◌, ◌*◌, ◌<◌, ◌≤◌, ◌&&◌, not, ⊤, ℕ, Bool, true, false, nat_le, nat_lt, List, [], ◌∷◌, Option, Some, None, IfSome, Result, Ok, Err, drop, length, map, option_map, slice_index_or, unwrap_or, if◌then◌else◌}
 use Rattle.std.specs.List.{list_any}
 use Rattle.std.specs.Option.{option_or}
 use Rattle.std.specs.declared.alloc.Global.{Global}
@@ -157,3 +157,8 @@ pub record AreRead (geometry : Geometry) (perms : Perms) (limits : Limits) (ther
 -- a leaf is an arm of some slot
 abbrev pub has_leaf_arm : SlotTable → ℕ → Bool
 has_leaf_arm table leaf = list_any (λ (arms : List Arm). list_any (is_leaf_of leaf) arms) table.arms
+
+-- the rack's own count doesn't fall, nor that of a leaf that is an arm of some slot
+pub record KeepsCounts (table : SlotTable) (old new : Option ℕ → ℕ) : Type 0 where
+  pub own : old None ≤ new None
+  pub leaves : (leaf : ℕ) → has_leaf_arm table leaf ≡ true → old (Some leaf) ≤ new (Some leaf)

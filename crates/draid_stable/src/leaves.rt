@@ -2,6 +2,7 @@ ghost use Rattle.std.specs.Prelude.{◌≡◌, ◌+◌, ◌<◌, ◌≤◌, ◌*
 ghost use Rattle.draid_rack.specs.Moments.{LeavesTold};
 ghost use Rattle.draid_record.specs.Record.{told_slot, told_slots};
 ghost use Rattle.draid_stable.specs.Opening as spec;
+ghost use Rattle.draid_stable.specs.Opening.{KeepsCounts};
 
 use draid_dtl::Log;
 use draid_names::{Arm, ArmKind};
@@ -93,6 +94,7 @@ pub fn keep_arms<R: Rack>(rack: &mut R, slots: &Slots)
         → (R.shape rack.new).leaves leaf ≡ (R.shape rack.old).leaves leaf }
     ensures gone { (leaf : ℕ) → leaf < 2 ^ 64 → spec.has_leaf_arm slots.now leaf ≡ false
         → (R.shape rack.new).leaves leaf ≡ None }
+    ensures later { KeepsCounts slots.now (R.faults rack.old) (R.faults rack.new) }
 {
     let mut from = 0;
     while let Some(leaf) = rack.leaf_from(from) {
@@ -112,6 +114,7 @@ fn drop_other<R: Rack>(rack: &mut R, slots: &Slots, leaf: u64)
         → (R.shape rack.new).leaves other ≡ (R.shape rack.old).leaves other }
     ensures none { (other : ℕ) → (R.shape rack.old).leaves other ≡ None → (R.shape rack.new).leaves other ≡ None }
     ensures gone { spec.has_leaf_arm slots.now leaf ≡ false → (R.shape rack.new).leaves leaf ≡ None }
+    ensures later { KeepsCounts slots.now (R.faults rack.old) (R.faults rack.new) }
 {
     if slots.find(ArmKind::Leaf, leaf).is_none() {
         rack.drop_leaf(leaf);

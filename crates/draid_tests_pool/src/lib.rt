@@ -4,4 +4,6 @@
 #![tactic(auto)]
 
 #[cfg(test)]
+mod import;
+#[cfg(test)]
 mod run;

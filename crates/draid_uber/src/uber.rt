@@ -92,6 +92,7 @@ impl<A: Area> Uber<A> {
         ensures crash { IfOk result (λ uber. StandsTold (kept_of uber) [] (A.told (area_of uber))) }
         ensures flushed { IfOk result (λ uber. A.told (area_of uber) ≡ option_map flushes (A.told area)) }
         ensures err { IfErr result (λ refused. IsSameOrFlushed (A.told area) (A.told refused.area)) }
+        ensures empty { IfErr result (λ refused. refused.why ≡ UberFault.Empty → A.told refused.area ≡ option_map flushes (A.told area)) }
         ensures later { IfOk result (λ uber. A.faults area ≤ A.faults (area_of uber)) }
         ensures err_later { IfErr result (λ refused. A.faults area ≤ A.faults refused.area) }
         ensures cause { IfErr result (λ refused. refused.why ≡ UberFault.Area → Rose (A.faults area) (A.faults refused.area)) }

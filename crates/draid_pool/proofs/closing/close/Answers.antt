@@ -1,4 +1,4 @@
-use Rattle.std.proofs.Common.{◌∙◌, ℕ, Option, ap, sym}
+use Rattle.std.proofs.Common.{arith, ◌∙◌, ℕ, Option, ap, sym}
 use Rattle.std.specs.Prelude.{nat_eq}
 use Rattle.std.specs.HashMap.{get}
 use Rattle.draid_names.specs.declared.pointer.Pointer.{Pointer}
@@ -6,6 +6,7 @@ use Rattle.draid_shelf.specs.Kits.{gives_uber}
 use Rattle.draid_uber.specs.Uber.{area_of}
 use Rattle.draid_pool.proofs.Closed.{counted_as, holds_pool, pool_crashed, pool_uncrashed, stands_parts}
 use Rattle.draid_pool.proofs.Failing.{shows_there}
+use Rattle.draid_pool.proofs.ImportClosed.{importable_back, importable_left}
 use Rattle.draid_pool.proofs.closing.close.Goals as goal
 
 pub returns-then-crash-clause-back : goal.returns-then-crash-clause-back
@@ -16,7 +17,11 @@ returns-then-crash-clause-back g c = λ x represents.
     let parts = stands_parts g.H.R.Rack g.H.A.Area c.args.pool table x represents.stands in
     let held = holds_pool g.H.R.Rack g.H.A.Area c.args.pool.shards.items content x parts (shelf.told c.args.shelf.now) (shelf.told c.give_back.new.shelf) (shelf.counts c.args.shelf.now) (shelf.counts c.give_back.new.shelf)
     c.give_back.ensures.returns (shelf.told c.give_uber.new.self) (c.give_uber.ensures.told ∙ ap (λ a. gives_uber (g.H.A.Area.told a) (shelf.told c.give_back.new.shelf)) c.into_area.ensures) in
+    let given = importable_back g.H.R.Rack g.H.A.Area c.args.pool.shards.items x represents.stands.pieces represents.stands.shards represents.stands.each (shelf.leaves c.give_uber.new.self) represents.stands.arms represents.stands.alike
+    (λ m y at. (let is = represents.stands.groups.committed m y at in omega (arith, is))) (λ m shard there. c.give_uber.ensures.leaves m ∙ c.give_back.ensures.leaves.own m shard there) content (shelf.told c.args.shelf.now) (shelf.told c.give_back.new.shelf) (shelf.counts c.args.shelf.now)
+    (shelf.counts c.give_back.new.shelf) c.give_back.ensures.returns (shelf.told c.give_uber.new.self) (c.give_uber.ensures.told ∙ ap (λ a. gives_uber (g.H.A.Area.told a) (shelf.told c.give_back.new.shelf)) c.into_area.ensures) in
     record {
+      importable = importable_left x (shelf.told c.give_uber.new.self) (shelf.told c.crash.new.self) (shelf.leaves c.give_uber.new.self) (shelf.leaves c.crash.new.self) c.crash.ensures.told c.crash.ensures.leaves given;
       held = pool_crashed x c.args.crash (shelf.told c.args.shelf.now) (shelf.told c.give_uber.new.self) (shelf.told c.crash.new.self) c.if-crash.true c.crash.ensures.told held;
       counted = counted_as g.H.R.Rack g.H.A.Area c.args.pool.shards.items content x parts (shelf.told c.args.shelf.now) (shelf.told c.give_back.new.shelf) (shelf.counts c.args.shelf.now) (shelf.counts c.give_back.new.shelf)
           c.give_back.ensures.returns (shelf.counts c.crash.new.self) (λ m. c.crash.ensures.counts m ∙ c.give_uber.ensures.counts m);
@@ -32,6 +37,10 @@ returns-clause-back g c = λ x represents.
     let held = holds_pool g.H.R.Rack g.H.A.Area c.args.pool.shards.items content x parts (shelf.told c.args.shelf.now) (shelf.told c.give_back.new.shelf) (shelf.counts c.args.shelf.now) (shelf.counts c.give_back.new.shelf)
     c.give_back.ensures.returns (shelf.told c.give_uber.new.self) (c.give_uber.ensures.told ∙ ap (λ a. gives_uber (g.H.A.Area.told a) (shelf.told c.give_back.new.shelf)) c.into_area.ensures) in
     record {
+      importable = importable_back g.H.R.Rack g.H.A.Area c.args.pool.shards.items x represents.stands.pieces represents.stands.shards represents.stands.each (shelf.leaves c.give_uber.new.self) represents.stands.arms
+          represents.stands.alike (λ m y at. (let is = represents.stands.groups.committed m y at in omega (arith, is))) (λ m shard there. c.give_uber.ensures.leaves m ∙ c.give_back.ensures.leaves.own m shard there) content (shelf.told c.args.shelf.now)
+          (shelf.told c.give_back.new.shelf) (shelf.counts c.args.shelf.now) (shelf.counts c.give_back.new.shelf) c.give_back.ensures.returns (shelf.told c.give_uber.new.self)
+          (c.give_uber.ensures.told ∙ ap (λ a. gives_uber (g.H.A.Area.told a) (shelf.told c.give_back.new.shelf)) c.into_area.ensures);
       held = pool_uncrashed x c.args.crash (shelf.told c.args.shelf.now) (shelf.told c.give_uber.new.self) c.if-crash.false held;
       counted = counted_as g.H.R.Rack g.H.A.Area c.args.pool.shards.items content x parts (shelf.told c.args.shelf.now) (shelf.told c.give_back.new.shelf) (shelf.counts c.args.shelf.now) (shelf.counts c.give_back.new.shelf)
           c.give_back.ensures.returns (shelf.counts c.give_uber.new.self) (λ m. c.give_uber.ensures.counts m);

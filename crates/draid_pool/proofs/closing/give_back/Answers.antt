@@ -1,14 +1,15 @@
-use Rattle.std.proofs.Common.{arith, rules, ◌≡◌, ◌+◌, ◌∙◌, ◌++◌, List, [], ◌∷◌, ap, refl, length, length-append}
+use Rattle.std.proofs.Common.{arith, rules, ◌≡◌, ◌+◌, ◌∙◌, ◌++◌, List, [], ◌∷◌, Some, ap, refl, length, length-append}
 use Rattle.draid_shelf.specs.Kits.{kit_of}
 use Rattle.draid_shelf.specs.declared.kit.Kit.{Kit}
 use Rattle.draid_shard.specs.declared.shard.Shard.{Shard}
 use Rattle.draid_pool.specs.Closing.{kit_in}
-use Rattle.draid_pool.proofs.Closed.{giving_all, giving_more, giving_none}
+use Rattle.draid_pool.proofs.Closed.{giving_all, giving_more, giving_none, leaves_all, leaves_more, leaves_none}
 use Rattle.draid_pool.proofs.closing.give_back.Goals as goal
 
 pub loop-shard-init : goal.loop-shard-init
 loop-shard-init g c = record {
   giving = giving_none g.H.R.Rack g.H.A.Area c.args.shards.items (g.H.Shelf.told c.args.shelf.now) (g.H.Shelf.counts c.args.shelf.now);
+  leaves = leaves_none g.H.R.Rack g.H.A.Area c.args.shards.items (g.H.Shelf.leaves c.args.shelf.now);
   few = c.requires.few;
   uber = refl;
   checks = refl;
@@ -34,6 +35,9 @@ loop-shard-preserved g c =
       giving = giving_more g.H.R.Rack g.H.A.Area c.args.shards.items c.loop-shard.left.items c.pop.new.self.items shard c.len.result (kit_of (g.H.R.Rack.told kit.rack) (g.H.A.Area.told kit.even) (g.H.A.Area.told kit.odd))
           (shelf.told c.args.shelf.now) (shelf.told c.loop-shard.shelf) (shelf.told c.give.new.self) (shelf.counts c.args.shelf.now) (shelf.counts c.loop-shard.shelf) (shelf.counts c.give.new.self)
           i.giving popped at own e.told (λ who. e.rack_count who ∙ ap (λ r. g.H.R.Rack.faults r who) rack) (e.even_count ∙ ap g.H.A.Area.faults even) (e.odd_count ∙ ap g.H.A.Area.faults odd) e.counts;
+      leaves = leaves_more g.H.R.Rack g.H.A.Area c.args.shards.items c.loop-shard.left.items c.pop.new.self.items shard c.len.result (shelf.told c.args.shelf.now) (shelf.told c.loop-shard.shelf)
+          (shelf.counts c.args.shelf.now) (shelf.counts c.loop-shard.shelf) (shelf.leaves c.args.shelf.now) (shelf.leaves c.loop-shard.shelf) (shelf.leaves c.give.new.self)
+          i.giving i.leaves popped at (e.leaves ∙ ap (λ r. Some (g.H.R.Rack.shape r)) rack) e.others;
       few = (let long : length c.loop-shard.left.items ≡ length c.pop.new.self.items + 1 = ap (λ (xs : List (Shard g.row.H-R.Denot g.row.H-A.Denot)). length xs) popped ∙ length-append c.pop.new.self.items (shard ∷ []) in omega (arith, few, long));
       uber = e.uber_count ∙ i.uber;
       checks = e.check_counts ∙ i.checks;
@@ -45,3 +49,8 @@ returns-clause-returns g c =
     let none : c.loop-shard.left.items ≡ [] = search rules in
     giving_all g.H.R.Rack g.H.A.Area c.args.shards.items c.loop-shard.left.items (g.H.Shelf.told c.args.shelf.now) (g.H.Shelf.told c.loop-shard.shelf) (g.H.Shelf.counts c.args.shelf.now)
     (g.H.Shelf.counts c.loop-shard.shelf) c.loop-shard.invariant.giving none
+
+pub returns-clause-leaves : goal.returns-clause-leaves
+returns-clause-leaves g c =
+    let none : c.loop-shard.left.items ≡ [] = search rules in
+    leaves_all g.H.R.Rack g.H.A.Area c.args.shards.items c.loop-shard.left.items (g.H.Shelf.leaves c.args.shelf.now) (g.H.Shelf.leaves c.loop-shard.shelf) c.loop-shard.invariant.leaves none

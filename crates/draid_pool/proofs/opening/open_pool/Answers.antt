@@ -53,4 +53,5 @@ returns-in-Err-commit-clause-back g c =
     c.give_back.ensures.returns (g.H.A.Area.told (area_of c.commit.new.self)) (again.told ∙ ap (λ a. gives_uber (g.H.A.Area.told a) (shelf.told c.give_back.new.shelf)) c.into_area-in-Err-commit.ensures)
     c.in-Ok.ensures.told c.requires.held (next_of c.args.uber 1) _ (first_body g.H.R.Rack g.H.A.Area c.args.layout c.args.uber c.commit.new.self u.layout u.version u.next_leaf)
     (subst (λ kept. StandsTold kept (next_of c.args.uber 1 ∷ []) (g.H.A.Area.told (area_of c.commit.new.self))) u.kept (e.refused [] before)) c.requires.counts again.counts
-    (again.check_counts ∙ (c.give_back.ensures.checks ∙ (c.open_shards.ensures.checks ∙ c.requires.checks))))
+    (again.check_counts ∙ (c.give_back.ensures.checks ∙ (c.open_shards.ensures.checks ∙ c.requires.checks))) (shelf.leaves c.give_uber-in-Err-commit.new.self)
+    (λ m shard there. again.leaves m ∙ c.give_back.ensures.leaves.own m shard there))

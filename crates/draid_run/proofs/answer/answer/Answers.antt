@@ -6,6 +6,7 @@ use Rattle.draid_run.specs.Desks.{Turned}
 use Rattle.draid_run.specs.Shelves.{on_shelf}
 use Rattle.draid_run.specs.Serve.{AnswerIs}
 use Rattle.draid_run.proofs.Grouping.{answer_export, answer_sync, by_crash}
+use Rattle.draid_run.proofs.Importings.{answer_import}
 use Rattle.draid_run.proofs.Steps.{by_damage, by_fill, by_free, by_read, by_sum, by_write}
 use Rattle.draid_run.proofs.answer.answer.Goals as goal
 
@@ -41,8 +42,8 @@ returns-in-Damage-clause-answer g c entry x desk =
 
 pub returns-in-Sync-clause-answer : goal.returns-in-Sync-clause-answer
 returns-in-Sync-clause-answer g c entry x desk =
-    subst (λ (l : Line). AnswerIs g.H.R.Rack g.H.A.Area (FnReturnsAt g.F.Fn c.args.chooser.now) (command_in l) entry (on_shelf g.H.Shelf c.args.shelf.now) c.args.pool.now x (on_shelf g.H.Shelf c.args.shelf.now) c.sync.new.pool c.said.result) (sym c.in-Sync.is)
-    (answer_sync g.H.R.Rack g.H.A.Area (FnReturnsAt g.F.Fn c.args.chooser.now) entry (on_shelf g.H.Shelf c.args.shelf.now) (on_shelf g.H.Shelf c.args.shelf.now) c.args.pool.now x c.sync.new.pool c.sync.result c.said.result c.said.ensures refl desk (c.sync.ensures.did x desk.stands))
+    subst (λ (l : Line). AnswerIs g.H.R.Rack g.H.A.Area (FnReturnsAt g.F.Fn c.args.chooser.now) (command_in l) entry (on_shelf g.H.Shelf c.args.shelf.now) c.args.pool.now x (on_shelf g.H.Shelf c.args.shelf.now) c.sync.new.pool c.said-in-Sync.result) (sym c.in-Sync.is)
+    (answer_sync g.H.R.Rack g.H.A.Area (FnReturnsAt g.F.Fn c.args.chooser.now) entry (on_shelf g.H.Shelf c.args.shelf.now) (on_shelf g.H.Shelf c.args.shelf.now) c.args.pool.now x c.sync.new.pool c.sync.result c.said-in-Sync.result c.said-in-Sync.ensures refl desk (c.sync.ensures.did x desk.stands))
 
 pub returns-in-Export-clause-answer : goal.returns-in-Export-clause-answer
 returns-in-Export-clause-answer g c entry x desk =
@@ -53,3 +54,8 @@ pub returns-in-Crash-clause-answer : goal.returns-in-Crash-clause-answer
 returns-in-Crash-clause-answer g c entry x desk =
     subst (λ (l : Line). Turned g.H.R.Rack g.H.A.Area (FnReturnsAt g.F.Fn c.args.chooser.now) (Ok (command_in l)) entry x (Some c.crash.result) (on_shelf g.H.Shelf c.crash.new.shelf) c.crash.new.pool) (sym c.in-Crash.is)
     (by_crash g.H.R.Rack g.H.A.Area (FnReturnsAt g.F.Fn c.args.chooser.now) entry (on_shelf g.H.Shelf c.args.shelf.now) (on_shelf g.H.Shelf c.crash.new.shelf) x c.crash.result c.crash.new.pool (c.crash.ensures.did entry x desk))
+
+pub returns-in-Import-clause-answer : goal.returns-in-Import-clause-answer
+returns-in-Import-clause-answer g c entry x desk =
+    subst (λ (l : Line). AnswerIs g.H.R.Rack g.H.A.Area (FnReturnsAt g.F.Fn c.args.chooser.now) (command_in l) entry (on_shelf g.H.Shelf c.args.shelf.now) c.args.pool.now x (on_shelf g.H.Shelf c.import.new.shelf) c.import.new.pool c.said.result) (sym c.in-Import.is)
+    (answer_import g.H.R.Rack g.H.A.Area (FnReturnsAt g.F.Fn c.args.chooser.now) entry (on_shelf g.H.Shelf c.args.shelf.now) (on_shelf g.H.Shelf c.import.new.shelf) c.args.pool.now x c.import.new.pool c.import.result c.said.result c.said.ensures (c.import.ensures.answer entry x desk))

@@ -1,4 +1,5 @@
-use Rattle.draid_run.proofs.Grouping.{sync_refused, synced}
+use Rattle.draid_script.specs.declared.name.CommandName.TheVariants as name
+use Rattle.draid_run.proofs.Grouping.{refusal_shows, sync_refused, synced}
 use Rattle.draid_run.proofs.groups.sync_open.Goals as goal
 
 pub returns-in-Ok-clause-leads : goal.returns-in-Ok-clause-leads
@@ -6,3 +7,6 @@ returns-in-Ok-clause-leads g c x is = synced g.R.Rack g.A.Area x c.sync.new.self
 
 pub returns-in-Err-clause-leads : goal.returns-in-Err-clause-leads
 returns-in-Err-clause-leads g c x is = sync_refused g.R.Rack g.A.Area x c.sync.new.self c.sync.result c.in-Err.fault c.refusal.result c.in-Err.is c.refusal.ensures (c.sync.ensures.carries x is)
+
+pub returns-in-Err-clause-shows : goal.returns-in-Err-clause-shows
+returns-in-Err-clause-shows g c = refusal_shows g.R.Rack g.A.Area name.Sync c.sync.new.self c.sync.result c.in-Err.fault c.refusal.result c.in-Err.is c.refusal.ensures c.sync.ensures.cause

@@ -10,11 +10,11 @@ use Rattle.draid_machine.specs.Step.{SealStep}
 use Rattle.draid_machine.specs.State as machine
 use Rattle.draid_machine.proofs.Small.{some_injective}
 use Rattle.draid_stable.specs.Sealing.{IsSettled, LosesTargets}
-use Rattle.draid_stable.specs.Stable.{HasRecord, Stands}
+use Rattle.draid_stable.specs.Stable.{Stands}
 use Rattle.draid_stable.proofs.Logs.{copied_small}
 use Rattle.draid_record.specs.Record.{told_record}
 use Rattle.draid_shard.specs.Fits.{Valid, birth_groups, oldest_open}
-use Rattle.draid_shard.specs.Groups.{at_version}
+use Rattle.draid_shard.specs.Groups.{ListsOnce}
 use Rattle.draid_shard.specs.Sealing.{AreSilent, MarksTable, area_by}
 use Rattle.draid_shard.specs.States.{Does, IsIn, layout_by}
 use Rattle.draid_shard.proofs.Ranging.{blocks_low}
@@ -125,12 +125,12 @@ image_is g c w after image reached at step is =
 
 stands : (g : given.Over) (c : After-add g) (w : machine.State) (reached : IsReached (layout_by c.args.self.now) w) (at : IsIn c.args.self.now w)
     → content.OnTold (g.A.Area.told (area_by c.write_to.new.even c.write_to.new.odd c.args.group))
-    (HasRecord (at_version c.args.self.now.asked c.args.self.now.geometry) c.args.self.now.number
+    (ListsOnce c.args.self.now.geometry c.args.self.now.number
     (image_of c.args.group c.args.self.now.asked (sealed_core (layout_by c.args.self.now) w.core c.args.group c.flush_leaves.new.failed.items c.has_written-wrote.result)))
 stands g c w reached at =
     let old = c.args.self.now in
     on_told (g.A.Area.told (area_by c.write_to.new.even c.write_to.new.odd c.args.group)) (Stands (told_record c.settle.new.it))
-    (HasRecord (at_version old.asked old.geometry) old.number (image_of c.args.group old.asked (sealed_core (layout_by old) w.core c.args.group c.flush_leaves.new.failed.items c.has_written-wrote.result)))
+    (ListsOnce old.geometry old.number (image_of c.args.group old.asked (sealed_core (layout_by old) w.core c.args.group c.flush_leaves.new.failed.items c.has_written-wrote.result)))
     (has_record g.R.Rack old c.requires.valid c.args.group c.requires.closing.0 c.args.plan c.requires.plan w reached at c.settle.new.it c.mark_silent.new.marks.items c.flush_leaves.new.failed.items
     c.has_written-wrote.result (settled g c) (settles g c) (silent g c)) c.in-Ok.ensures.stands
 
@@ -148,7 +148,7 @@ returns-clause-sealed g c =
           flushes_acts (g.R.Rack.shape old.rack) old.slots c.args.plan.leaves.items c.flush_leaves.new.failed.items w.core (g.R.Rack.told old.rack) (g.R.Rack.told c.flush_leaves.new.rack) at.slots
           (λ leaf is. subst IsSome (sym (v.leaves.leaves leaf is)) refl) (copied_small old.slots c.args.plan.made.slots.items c.requires.plan.made.slots_are) c.requires.plan.leaves_are (told g at_add);
       image = λ w after image step reached at is.
-          subst (λ (i : machine.Image). content.OnTold (g.A.Area.told (area_by c.write_to.new.even c.write_to.new.odd c.args.group)) (HasRecord (at_version i.version old.geometry) old.number i))
+          subst (λ (i : machine.Image). content.OnTold (g.A.Area.told (area_by c.write_to.new.even c.write_to.new.odd c.args.group)) (ListsOnce old.geometry old.number i))
           (image_is g at_add w after image reached at step is) (stands g at_add w reached at);
       thin_is = λ w after step reached at.
           c.thin.ensures.is after (reached_more (layout_by old) w after (Seal c.args.group c.flush_leaves.new.failed) reached step)

@@ -1,4 +1,6 @@
 use Rattle.std.proofs.Common.{Some, ap, refl}
+use Rattle.std.specs.Prelude.{option_map}
+use Rattle.draid_rack.specs.Memory.{shape_of_memory}
 use Rattle.draid_shelf.specs.Memory.{area_count, counts_by}
 use Rattle.draid_shelf.proofs.Holdings.{held_set, set_here}
 use Rattle.draid_shelf.proofs.kits.MemoryShelfShelf.give.Goals as goal
@@ -14,3 +16,6 @@ returns-clause-even_count c = ap (λ x. area_count x) (set_here _ _ (Some c.args
 
 pub returns-clause-odd_count : goal.returns-clause-odd_count
 returns-clause-odd_count c = ap (λ x. area_count x) (set_here _ _ (Some c.args.kit.odd) c.args.metaslab (c.put_on-3.ensures c.args.metaslab))
+
+pub returns-clause-leaves : goal.returns-clause-leaves
+returns-clause-leaves c = ap (option_map shape_of_memory) (set_here _ _ (Some c.args.kit.rack) c.args.metaslab (c.put_on.ensures c.args.metaslab))

@@ -1,0 +1,118 @@
+-- What an import looks for in the metaslabs that it opens: they have the same arms, and no key twice.
+use Rattle.std.proofs.Common.{◌≡◌, ◌∙◌, ℕ, zero, suc, List, [], ◌∷◌, Some, length, map, refl, sym, ap, subst}
+use Rattle.std.specs.Prelude.{option_map, slice_get}
+use Rattle.std.proofs.lemmas.List.{length-map}
+use Rattle.draid_names.specs.declared.arm.Arm.{Arm}
+use Rattle.draid_names.specs.declared.arm.ArmKind.{ArmKind}
+use Rattle.draid_names.specs.declared.arm.ArmKind.TheVariants as kind
+use Rattle.draid_machine.specs.declared.names.Held.{Held as Block}
+use Rattle.draid_machine.specs.declared.names.Key.{Key}
+use Rattle.draid_machine.specs.After.{reopen_state}
+use Rattle.draid_machine.specs.State as machine
+use Rattle.draid_machine.specs.Created.{IsReached, created_core}
+use Rattle.draid_machine.proofs.Seals.{sealed_held}
+use Rattle.draid_machine.proofs.Standing.{every_image}
+use Rattle.draid_layouts.specs.Layout.{layout_of}
+use Rattle.draid_objects.specs.Blocks.{Blocks, sealed_at}
+use Rattle.draid_objects.specs.Changes.{Write, write_by}
+use Rattle.draid_segments.specs.Segments.{Pieces}
+use Rattle.draid_slots.specs.Table.{SlotTable, arms_of}
+use Rattle.draid_entries.specs.declared.entry.Entry.{Entry}
+use Rattle.draid_entries.specs.declared.entries.Entries.{Entries}
+use Rattle.draid_entries.specs.Entries.{entry_at, held_in}
+use Rattle.draid_entries.specs.Maps.{held_at, key_of}
+use Rattle.draid_stable.specs.Slots.{HasSlots, name_of, named}
+use Rattle.draid_shard.proofs.Held.{key_leads}
+use Rattle.draid_session.specs.Opening.{MayFind, Reopens}
+use Rattle.draid_session.specs.State.{Metaslab, State}
+use Rattle.draid_pool.specs.Importable.{AreAlike, IsAlike, IsFindable, SameArms, bare}
+use Rattle.draid_pool.specs.Objects.{HoldsObjects, blocks_of}
+use Rattle.draid_pool.specs.Together.{IsSameArm}
+use Rattle.draid_pool.proofs.Alike.{alike_opened, same_bare}
+use Rattle.draid_pool.proofs.Lists.{some_of}
+
+-- ---- arms
+
+-- two metaslabs that were opened from images of a group have the same arms
+pub found_alike : (x : State) (group m n : ℕ) (y z v w : Metaslab) → AreAlike x → MayFind x group → slice_get x.metaslabs m ≡ Some y → slice_get x.metaslabs n ≡ Some z → Reopens x.geometry x.perms group m y v
+    → Reopens x.geometry x.perms group n z w → SameArms v.world.core w.world.core
+found_alike x group m n y z v w alike may at there r s = subst (λ (q : machine.State). SameArms q.core w.world.core) (sym (r.world ∙ r.opened))
+    (subst (λ (q : machine.State). SameArms (reopen_state (layout_of x.geometry x.perms m) y.world r.image []).core q.core) (sym (s.world ∙ s.opened)) (record {
+      order = same.order;
+      arms = λ k. same_bare _ (r.image.core.arm k) (λ a. refl) ∙ (same.arms k ∙ sym (same_bare _ (s.image.core.arm k) (λ a. refl)));
+    }))
+  where
+    same : SameArms r.image.core s.image.core
+    same = alike group m n y z r.image s.image may at there r.is r.of s.is s.of
+
+-- all that were opened from images of a group have the version, and the arms of one of them
+pub found_arms : (x : State) (group : ℕ) (zs : List Metaslab) → AreAlike x → MayFind x group → IsFindable x
+    → ((m : ℕ) (y : Metaslab) → slice_get x.metaslabs m ≡ Some y → machine.IsLayout (layout_of x.geometry x.perms m))
+    → ((m : ℕ) (y : Metaslab) → slice_get x.metaslabs m ≡ Some y → IsReached (layout_of x.geometry x.perms m) y.world)
+    → ((m : ℕ) (z : Metaslab) → slice_get zs m ≡ Some z → (y : Metaslab) × (slice_get x.metaslabs m ≡ Some y) × Reopens x.geometry x.perms group m y z)
+    → (arms : machine.Core) × ((m : ℕ) (z : Metaslab) → slice_get zs m ≡ Some z → IsAlike x.geometry.props.version arms z.world)
+found_arms x group [] alike may findable lay reached pair = (created_core (layout_of x.geometry x.perms 0), λ m z at. absurd (cc))
+found_arms x group (first ∷ zs) alike may findable lay reached pair =
+    let p = pair 0 first refl in (
+      p.2.image.core,
+      λ m z at.
+          (let q = pair m z at in
+          let r = q.2 in
+          subst (IsAlike x.geometry.props.version p.2.image.core) (sym (r.world ∙ r.opened))
+          (alike_opened x.geometry.props.version p.2.image.core (layout_of x.geometry x.perms m) q.0.world r.image (findable.versions m q.0 r.image q.1 r.is)
+          (alike group m 0 q.0 p.0 r.image p.2.image may q.1 p.1 r.is r.of p.2.is p.2.of)
+          (λ n a there. ((every_image (layout_of x.geometry x.perms m) q.0.world (lay m q.0 q.1) (reached m q.0 q.1)).each r.image r.is).here n a there))),
+    )
+
+mapped_at : {A B : Type 0} (f : A → B) (xs ys : List A) (k : ℕ) (p q : A) → map f xs ≡ map f ys → slice_get xs k ≡ Some p → slice_get ys k ≡ Some q → f p ≡ f q
+mapped_at f xs ys k p q same a b = some_of (slice_get (map f ys) k) (f p) (f q) (ap (λ zs. slice_get zs k) (sym same) ∙ get_map f xs k p a) (get_map f ys k q b)
+  where
+    get_map : {A B : Type 0} (f : A → B) (xs : List A) (k : ℕ) (p : A) → slice_get xs k ≡ Some p → slice_get (map f xs) k ≡ Some (f p)
+    get_map f [] k p a = absurd (cc)
+    get_map f (x ∷ xs) zero p a = ap (λ (y : _). Some (f y)) (some_of (Some p) x p (sym a) refl)
+    get_map f (x ∷ xs) (suc k) p a = get_map f xs k p a
+
+-- arms of one name are of one kind and number
+pub same_names : (a b : ArmKind) (m n : ℕ) → named a m ≡ named b n → (a ≡ b) × (m ≡ n)
+same_names kind.Leaf kind.Leaf m n is = (refl, cc)
+same_names kind.Leaf kind.Spare m n is = absurd (cc)
+same_names kind.Spare kind.Leaf m n is = absurd (cc)
+same_names kind.Spare kind.Spare m n is = (refl, cc)
+
+one_arm : (a b : machine.Arm) → Some a ≡ Some b → a ≡ b
+one_arm a b is = cc
+
+module _ (a b : SlotTable) (v w : machine.Core) (first : HasSlots a v) (second : HasSlots b w) (same : SameArms v w) where
+  order : (slot : ℕ) → map name_of (arms_of a slot) ≡ map name_of (arms_of b slot)
+  order slot = sym (first.order slot) ∙ (same.order slot ∙ second.order slot)
+
+  -- the slots of their shards have as many arms
+  pub as_many : (slot : ℕ) → length (arms_of a slot) ≡ length (arms_of b slot)
+  as_many slot = sym (length-map (arms_of a slot) name_of) ∙ (ap length (order slot) ∙ length-map (arms_of b slot) name_of)
+
+  -- and one after another the same
+  pub same_arms : (slot k : ℕ) (p q : Arm) → slice_get (arms_of a slot) k ≡ Some p → slice_get (arms_of b slot) k ≡ Some q → IsSameArm p q
+  same_arms slot k p q at there =
+      let name = mapped_at name_of (arms_of a slot) (arms_of b slot) k p q (order slot) at there in
+      let is = same_names p.kind q.kind p.number q.number name in
+      let one = ap (option_map bare) (first.arms (record { slot = slot; arm = k }) p at) in
+      let other = ap (option_map bare) (second.arms (record { slot = slot; arm = k }) q there) in
+      let offline = sym one ∙ (ap (λ n. option_map bare (v.arm n)) name ∙ (same.arms (name_of q) ∙ other)) in
+      record { kind_is = is.0; number_is = is.1; offline_is = ap (λ (a : machine.Arm). a.offline) (one_arm _ _ offline) }
+
+-- ---- keys
+
+-- no block is in two metaslabs of those that are found
+pub found_once : (x : State) (group : ℕ) (pieces : ℕ → Pieces) (blocks : Blocks) → HoldsObjects x.geometry x.committed x.store (blocks_of x.metaslabs) pieces
+    → ((m : ℕ) (k : Key) → blocks m k ≡ sealed_at group (blocks_of x.metaslabs) m k) → (m n : ℕ) (k : Key) (g h : Block) → blocks m k ≡ Some g → blocks n k ≡ Some h → m ≡ n
+found_once x group pieces blocks objects are m n k g h at there =
+    let a = sealed_held group (blocks_of x.metaslabs m k) g (sym (are m k) ∙ at) in
+    let b = sealed_held group (blocks_of x.metaslabs n k) h (sym (are n k) ∙ there) in
+    let v = objects.stores.only m k a.h a.found a.block in
+    let w = objects.stores.only n k b.h b.found b.block in
+    sym v.2 ∙ (ap (λ (z : Write). z.metaslab) (some_of (write_by x.store.changes k) v.0 w.0 v.1 w.1) ∙ w.2)
+
+-- nor at two places of one
+pub one_place : (t : Entries) (j k : ℕ) (d e : Entry) → entry_at t j ≡ Some d → entry_at t k ≡ Some e → key_of d.pointer ≡ key_of e.pointer → d.pointer.first ≡ e.pointer.first
+one_place t j k d e at there same =
+    ap (λ (h : Block). h.first) (some_of (held_in t (key_of e.pointer)) (held_at d) (held_at e) (ap (held_in t) (sym same) ∙ key_leads t j d at) (key_leads t k e there))

@@ -1,0 +1,137 @@
+use Rattle.std.proofs.Common.{◌∙◌, inl, inr, List, Option, Err, ap, subst, sym}
+use Rattle.std.specs.Prelude.{nat_eq}
+use Rattle.std.proofs.lemmas.Result.{err_from_is_err_and}
+use Rattle.std.specs.HashMap.{get}
+use Rattle.draid_shard.specs.declared.shard.Shard.{Shard}
+use Rattle.draid_uber.specs.Slots.{group_of}
+use Rattle.draid_shelf.specs.Kits.{Held, KitCounts, gives_uber}
+use Rattle.draid_uber.specs.Uber.{kept_of, layout_of, next_leaf_of}
+use Rattle.draid_pool.specs.Together.{AreApart}
+use Rattle.draid_session.specs.State.{limit_of}
+use Rattle.draid_pool.specs.Faulty.{IsUnread, OneIsUnread}
+use Rattle.draid_pool.specs.Found.{AreFound, AreReady, OpensAllOver, OpensOver}
+use Rattle.draid_pool.proofs.ImportFaulty.{err_is, passed_on}
+use Rattle.draid_pool.proofs.ImportLeft.{leaves_all, refusal_is, refused_pool, rests_known, risen_behind}
+use Rattle.draid_pool.proofs.ImportOne.{no_fault_apart}
+use Rattle.draid_pool.proofs.ImportPool.{pool_found, tells_as_before}
+use Rattle.draid_pool.proofs.Found.{absent_not, all_ready, checks_more, refused_too}
+use Rattle.draid_pool.proofs.importing.import.Goals as goal
+
+pub find_blocks-requires : goal.find_blocks-requires
+find_blocks-requires g c = record {
+  ready = subst (λ (xs : List (Shard g.row.H-R.Denot g.row.H-A.Denot)). AreReady g.H.R.Rack xs) (sym c.deref.ensures.value)
+      (all_ready g.H.R.Rack (layout_of c.in_ok-uber.uber) (group_of (kept_of c.in_ok-uber.uber)) c.in-Ok.shards.items c.in-Ok.ensures.reopened);
+}
+
+pub returns-in-Ok-find_blocks-clause-none : goal.returns-in-Ok-find_blocks-clause-none
+returns-in-Ok-find_blocks-clause-none g c = absent_not c.in_ok-uber.uber (g.H.Shelf.told c.args.shelf.now) _ _ c.in_ok-uber.ensures.none
+
+pub returns-in-Ok-find_blocks-clause-held : goal.returns-in-Ok-find_blocks-clause-held
+returns-in-Ok-find_blocks-clause-held g c =
+    let shelf = g.H.Shelf in
+    checks_more (shelf.told c.args.shelf.now) (shelf.told c.find_uber.new.shelf) (shelf.told c.reopen_shards.new.shelf) c.in_ok-uber.ensures.held c.reopen_shards.ensures.held
+
+pub returns-in-Ok-find_blocks-clause-import : goal.returns-in-Ok-find_blocks-clause-import
+returns-in-Ok-find_blocks-clause-import g c x pieces there =
+    let shelf = g.H.Shelf in
+    let u = c.in_ok-uber.ensures in
+    let newest = get nat_eq c.in-Ok-find_blocks.found.newest in
+    c.pool_of.ensures.imports x pieces
+    (pool_found c.args.alloc g.H.R.Rack g.H.A.Area x pieces (shelf.told c.args.shelf.now) (shelf.told c.find_uber.new.shelf) (shelf.leaves c.args.shelf.now) (shelf.counts c.args.shelf.now) (shelf.counts c.find_uber.new.shelf)
+    (shelf.uber_count c.args.shelf.now) c.in_ok-uber.uber c.in-Ok.shards.items newest c.in-Ok-find_blocks.found.seq there u.found u.recovered c.find_uber.ensures.counts u.told c.in-Ok.ensures.reopened c.in-Ok.ensures.over
+    (subst (λ (xs : List (Shard g.row.H-R.Denot g.row.H-A.Denot)). AreFound xs newest c.in-Ok-find_blocks.found.seq) c.deref.ensures.value c.in-Ok-find_blocks.ensures.found))
+
+pub returns-in-Ok-find_blocks-clause-tells : goal.returns-in-Ok-find_blocks-clause-tells
+returns-in-Ok-find_blocks-clause-tells g c =
+    let shelf = g.H.Shelf in
+    tells_as_before (layout_of c.in_ok-uber.uber).props.metaslabs (shelf.told c.args.shelf.now) (shelf.told c.find_uber.new.shelf) (shelf.told c.reopen_shards.new.shelf) c.in_ok-uber.ensures.told c.in-Ok.ensures.told
+
+pub returns-in-Err-clause-import : goal.returns-in-Err-clause-import
+returns-in-Err-clause-import g c x pieces there =
+    let shelf = g.H.Shelf in
+    let u = c.in_ok-uber.ensures in
+    refusal_is g.H.R.Rack g.H.A.Area x pieces (shelf.told c.give_uber.new.self) (shelf.leaves c.give_uber.new.self) (shelf.counts c.give_uber.new.self) (shelf.uber_count c.give_uber.new.self) c.in-Err.fault c.in-Err.ensures.fault
+    (c.in-Err.ensures.opens x pieces (shelf.told c.args.shelf.now) (shelf.counts c.args.shelf.now) (shelf.uber_count c.args.shelf.now)
+    (rests_known x pieces (shelf.told c.args.shelf.now) (shelf.leaves c.args.shelf.now) (shelf.leaves c.find_uber.new.shelf) (shelf.counts c.args.shelf.now) (shelf.uber_count c.args.shelf.now) c.find_uber.ensures.leaves there) u.recovered u.told)
+    (refused_pool c.args.alloc g.H.R.Rack g.H.A.Area x pieces (shelf.told c.args.shelf.now) (shelf.told c.find_uber.new.shelf) (shelf.told c.reopen_shards.new.shelf) (shelf.told c.give_uber.new.self)
+    (shelf.leaves c.args.shelf.now) (shelf.leaves c.find_uber.new.shelf) (shelf.leaves c.reopen_shards.new.shelf) (shelf.leaves c.give_uber.new.self)
+    (shelf.counts c.args.shelf.now) (shelf.counts c.find_uber.new.shelf) (shelf.counts c.reopen_shards.new.shelf) (shelf.counts c.give_uber.new.self) (shelf.uber_count c.args.shelf.now) (shelf.uber_count c.give_uber.new.self)
+    c.in_ok-uber.uber there u.found u.recovered u.told c.find_uber.ensures.leaves c.find_uber.ensures.counts c.in-Err.ensures.back
+    (c.give_uber.ensures.told ∙ ap (λ a. gives_uber (g.H.A.Area.told a) (shelf.told c.reopen_shards.new.shelf)) c.into_area.ensures) c.give_uber.ensures.leaves c.give_uber.ensures.counts
+    (c.give_uber.ensures.count ∙ ap g.H.A.Area.faults c.into_area.ensures))
+
+pub returns-in-Err-find_blocks-clause-import : goal.returns-in-Err-find_blocks-clause-import
+returns-in-Err-find_blocks-clause-import g c x pieces there =
+    let shelf = g.H.Shelf in
+    let rack = g.H.R.Rack in
+    let area = g.H.A.Area in
+    let u = c.in_ok-uber.ensures in
+    let uber = c.in_ok-uber.uber in
+    let e = c.in-Ok.ensures in
+    let shards = c.in-Ok.shards.items in
+    let f = c.in-Err-find_blocks.ensures in
+    refusal_is rack area x pieces (shelf.told c.give_uber-in-Err-find_blocks.new.self) (shelf.leaves c.give_uber-in-Err-find_blocks.new.self) (shelf.counts c.give_uber-in-Err-find_blocks.new.self) (shelf.uber_count c.give_uber-in-Err-find_blocks.new.self) c.in-Err-find_blocks.fault f.fault
+    (no_fault_apart c.args.alloc rack area x pieces (shelf.told c.args.shelf.now) (shelf.told c.find_uber.new.shelf) (shelf.leaves c.args.shelf.now) (shelf.counts c.args.shelf.now) (shelf.counts c.find_uber.new.shelf)
+    (shelf.uber_count c.args.shelf.now) uber shards c.in-Err-find_blocks.fault there u.found u.recovered c.find_uber.ensures.counts u.told e.reopened e.over
+    (λ metaslab place kind err. subst (λ (xs : List (Shard g.row.H-R.Denot g.row.H-A.Denot)). AreApart xs metaslab place kind) c.deref.ensures.value (f.faulty metaslab place kind err)))
+    (refused_pool c.args.alloc rack area x pieces (shelf.told c.args.shelf.now) (shelf.told c.find_uber.new.shelf) (shelf.told c.give_back.new.shelf) (shelf.told c.give_uber-in-Err-find_blocks.new.self)
+    (shelf.leaves c.args.shelf.now) (shelf.leaves c.find_uber.new.shelf) (shelf.leaves c.give_back.new.shelf) (shelf.leaves c.give_uber-in-Err-find_blocks.new.self)
+    (shelf.counts c.args.shelf.now) (shelf.counts c.find_uber.new.shelf) (shelf.counts c.give_back.new.shelf) (shelf.counts c.give_uber-in-Err-find_blocks.new.self) (shelf.uber_count c.args.shelf.now) (shelf.uber_count c.give_uber-in-Err-find_blocks.new.self)
+    uber there u.found u.recovered u.told c.find_uber.ensures.leaves c.find_uber.ensures.counts
+    (leaves_all rack area (layout_of uber) (group_of (kept_of uber)) (next_leaf_of uber) shards (shelf.told c.find_uber.new.shelf) (shelf.told c.reopen_shards.new.shelf) (shelf.told c.give_back.new.shelf)
+    (shelf.counts c.find_uber.new.shelf) (shelf.counts c.reopen_shards.new.shelf) (shelf.counts c.give_back.new.shelf) (shelf.leaves c.find_uber.new.shelf) (shelf.leaves c.reopen_shards.new.shelf) (shelf.leaves c.give_back.new.shelf)
+    e.reopened e.over e.told c.give_back.ensures.returns c.give_back.ensures.leaves)
+    (c.give_uber-in-Err-find_blocks.ensures.told ∙ ap (λ a. gives_uber (g.H.A.Area.told a) (shelf.told c.give_back.new.shelf)) c.into_area-in-Err-find_blocks.ensures) c.give_uber-in-Err-find_blocks.ensures.leaves c.give_uber-in-Err-find_blocks.ensures.counts
+    (c.give_uber-in-Err-find_blocks.ensures.count ∙ ap g.H.A.Area.faults c.into_area-in-Err-find_blocks.ensures))
+
+pub returns-in-Err-clause-faulty : goal.returns-in-Err-clause-faulty
+returns-in-Err-clause-faulty g c metaslab place kind err =
+    let shelf = g.H.Shelf in
+    let u = c.in_ok-uber.ensures in
+    let uber = c.in_ok-uber.uber in
+    let z = c.in-Err.ensures.faulty metaslab place kind (ap Err (err_is c.in-Err.fault _ err)) in
+    inr (record {
+      uber = uber;
+      found = u.found;
+      recovered = u.recovered;
+      bad = inl (subst (λ (o : Option Held). OneIsUnread g.H.R.Rack g.H.A.Area (layout_of uber) (group_of (kept_of uber)) (next_leaf_of uber) o (shelf.counts c.args.shelf.now) metaslab place kind) u.told
+          (z.0, subst (λ (k : KitCounts). IsUnread g.H.R.Rack g.H.A.Area (layout_of uber) (group_of (kept_of uber)) (next_leaf_of uber) z.0 (shelf.told c.find_uber.new.shelf) k metaslab place kind) (c.find_uber.ensures.counts z.0) z.1));
+    })
+
+pub returns-in-Err-find_blocks-clause-faulty : goal.returns-in-Err-find_blocks-clause-faulty
+returns-in-Err-find_blocks-clause-faulty g c metaslab place kind err =
+    let shelf = g.H.Shelf in
+    let u = c.in_ok-uber.ensures in
+    let uber = c.in_ok-uber.uber in
+    let e = c.in-Ok.ensures in
+    inr (record {
+      uber = uber;
+      found = u.found;
+      recovered = u.recovered;
+      bad = inr (record {
+        shards = c.in-Ok.shards.items;
+        reopened = e.reopened;
+        over = subst (λ (o : Option Held). OpensAllOver g.H.R.Rack g.H.A.Area (limit_of (layout_of uber)) (group_of (kept_of uber)) (next_leaf_of uber) o (shelf.counts c.args.shelf.now) c.in-Ok.shards.items) u.told
+            (λ m shard there. subst (λ (k : KitCounts). OpensOver g.H.R.Rack g.H.A.Area (limit_of (layout_of uber)) (group_of (kept_of uber)) (next_leaf_of uber) m (shelf.told c.find_uber.new.shelf) k shard) (c.find_uber.ensures.counts m) (e.over m shard there));
+        apart = subst (λ (xs : List (Shard g.row.H-R.Denot g.row.H-A.Denot)). AreApart xs metaslab place kind) c.deref.ensures.value
+            (c.in-Err-find_blocks.ensures.faulty metaslab place kind (ap Err (err_is c.in-Err-find_blocks.fault _ err)));
+      });
+    })
+
+pub returns-in_err-uber-clause-faulty : goal.returns-in_err-uber-clause-faulty
+returns-in_err-uber-clause-faulty g c metaslab place kind err =
+    let p = err_from_is_err_and c.from_residual.result c.from_residual.ensures.1 in
+    inl (c.in_err-uber.ensures.faulty metaslab place kind (passed_on c.from_residual.result p.0 c.in_err-uber.field-0.0 _ p.1 p.2 err))
+
+pub returns-in-Err-clause-none : goal.returns-in-Err-clause-none
+returns-in-Err-clause-none g c = absent_not c.in_ok-uber.uber (g.H.Shelf.told c.args.shelf.now) _ _ c.in_ok-uber.ensures.none
+
+pub returns-in-Err-find_blocks-clause-none : goal.returns-in-Err-find_blocks-clause-none
+returns-in-Err-find_blocks-clause-none g c = absent_not c.in_ok-uber.uber (g.H.Shelf.told c.args.shelf.now) _ _ c.in_ok-uber.ensures.none
+
+pub returns-in-Err-clause-cause : goal.returns-in-Err-clause-cause
+returns-in-Err-clause-cause g c failed =
+    let shelf = g.H.Shelf in
+    risen_behind (shelf.faults c.args.shelf.now) (shelf.faults c.find_uber.new.shelf) (shelf.faults c.reopen_shards.new.shelf) (shelf.faults c.give_uber.new.self) (shelf.uber_count c.args.shelf.now) (shelf.uber_count c.give_uber.new.self)
+    (shelf.counts c.args.shelf.now) (shelf.counts c.find_uber.new.shelf) (shelf.counts c.reopen_shards.new.shelf) (shelf.counts c.give_uber.new.self) c.find_uber.ensures.later c.give_uber.ensures.faults
+    c.find_uber.ensures.counts c.give_uber.ensures.counts (c.in-Err.ensures.cause (refused_too c.in-Err.fault failed))

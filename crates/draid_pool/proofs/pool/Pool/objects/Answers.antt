@@ -1,0 +1,5 @@
+use Rattle.draid_pool.proofs.Counted.{has_objects}
+use Rattle.draid_pool.proofs.pool.Pool.objects.Goals as goal
+
+pub returns : goal.returns
+returns g c x represents = has_objects c.args.self.now.shards.items c.args.self.now.objects x.store.changes c.len.result c.len.ensures.unique c.len.ensures.len represents.stands.objects

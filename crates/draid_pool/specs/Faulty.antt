@@ -1,0 +1,58 @@
+-- Which record of what a shelf holds has a fault, where an import is refused for one.
+use Rattle.std.specs.Prelude.{◌≡◌, ◌⊎◌, ℕ, List, Option, Some, None, Err}
+use Rattle.draid_rack.specs.declared.Rack as racks
+use Rattle.draid_area.specs.Area.{OnTold}
+use Rattle.draid_area.specs.declared.Area as areas
+use Rattle.draid_spec.specs.Geometry.{metaslab_sectors}
+use Rattle.draid_spec.specs.declared.layout.Geometry.{Geometry}
+use Rattle.draid_record.specs.Record.{limits_of}
+use Rattle.draid_record.specs.declared.fault.RecordFault.TheVariants.{Bad}
+use Rattle.draid_stable.specs.Opening.{has_leaf, opening_of}
+use Rattle.draid_shelf.specs.Kits.{Held, KitCounts, OnHeld, takes_uber}
+use Rattle.draid_shelf.specs.declared.kit.Kit.{Kit}
+use Rattle.draid_shard.specs.Groups.{area_of_kit}
+use Rattle.draid_shard.specs.Reopening.{AreBytes}
+use Rattle.draid_shard.specs.declared.shard.Shard.{Shard}
+use Rattle.draid_uber.specs.Slots.{chosen_of, group_of}
+use Rattle.draid_uber.specs.Uber.{kept_of, layout_of, next_leaf_of}
+use Rattle.draid_uber.specs.declared.uber.Uber.{Uber}
+use Rattle.draid_session.specs.State.{limit_of}
+use Rattle.draid_pool.specs.Found.{AreReopened, IsFoundUber, IsKitOf, IsRecovered, OpensAllOver}
+use Rattle.draid_pool.specs.Together.{AreApart}
+
+-- the uberblock that the shelf holds has this fault
+pub record UberIsBad (held : Option Held) (metaslab : Option ℕ) (place kind : ℕ) : Type 0 where
+  pub metaslab_is : metaslab ≡ None
+  pub bad : OnHeld held (λ x. OnTold x.uber (λ c. chosen_of c.bytes ≡ Some (Err (Bad place kind))))
+
+-- a metaslab's record of a group has it, on the devices that the shelf held for the metaslab
+pub record IsUnread {R A : Type 0} (rack : racks.Ghosts R) (area : areas.Ghosts A) (geometry : Geometry) (group next m : ℕ) (held : Option Held) (counts : KitCounts) (metaslab : Option ℕ) (place kind : ℕ) : Type 0 where
+  pub metaslab_is : metaslab ≡ Some m
+  pub kit : Kit R A
+  pub taken : IsKitOf rack area m held counts kit
+  pub bytes : List ℕ
+  pub are : AreBytes (area.told (area_of_kit kit group)) bytes
+  pub bad : opening_of (limits_of geometry m group next) (has_leaf (rack.shape kit.rack) (metaslab_sectors geometry)) bytes ≡ Err (Bad place kind)
+
+-- so that of one of the metaslabs
+abbrev pub OneIsUnread : {R A : Type 0} → racks.Ghosts R → areas.Ghosts A → Geometry → (group next : ℕ) → Option Held → (ℕ → KitCounts) → Option ℕ → (place kind : ℕ) → Type 0
+OneIsUnread rack area geometry group next held counts metaslab place kind = (m : ℕ) × IsUnread rack area geometry group next m held (counts m) metaslab place kind
+
+-- all records were read, and aren't those of one pool
+pub record AreReadApart {R A : Type 0} (rack : racks.Ghosts R) (area : areas.Ghosts A) (geometry : Geometry) (group next : ℕ) (held : Option Held) (counts : ℕ → KitCounts) (metaslab : Option ℕ) (place kind : ℕ) : Type 0 where
+  pub shards : List (Shard R A)
+  pub reopened : AreReopened rack geometry group shards
+  pub over : OpensAllOver rack area (limit_of geometry) group next held counts shards
+  pub apart : AreApart shards metaslab place kind
+
+-- an uberblock was found, and a record of the group that it names has the fault
+pub record ShardIsBad {R A : Type 0} (rack : racks.Ghosts R) (area : areas.Ghosts A) (held : Option Held) (counts : ℕ → KitCounts) (uber_count : ℕ) (metaslab : Option ℕ) (place kind : ℕ) : Type 0 where
+  pub uber : Uber A
+  pub found : IsFoundUber area uber
+  pub recovered : IsRecovered area held uber_count uber
+  pub bad : OneIsUnread rack area (layout_of uber) (group_of (kept_of uber)) (next_leaf_of uber) (takes_uber held) counts metaslab place kind
+      ⊎ AreReadApart rack area (layout_of uber) (group_of (kept_of uber)) (next_leaf_of uber) (takes_uber held) counts metaslab place kind
+
+-- which record has it
+abbrev pub RecordIsBad : {R A : Type 0} → racks.Ghosts R → areas.Ghosts A → Option Held → (ℕ → KitCounts) → ℕ → Option ℕ → (place kind : ℕ) → Type 0
+RecordIsBad rack area held counts uber_count metaslab place kind = UberIsBad held metaslab place kind ⊎ ShardIsBad rack area held counts uber_count metaslab place kind

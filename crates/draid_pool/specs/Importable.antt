@@ -1,0 +1,66 @@
+-- What an import needs of a pool that is given back.
+use Rattle.std.specs.Prelude.{◌≡◌, ◌≤◌, ℕ, false, Option, Some, IsSome, IsSomeAnd, option_map, slice_get}
+use Rattle.draid_rack.specs.Rack.{Shape}
+use Rattle.draid_spec.specs.Geometry.{metaslab_sectors}
+use Rattle.draid_spec.specs.declared.layout.Geometry.{Geometry}
+use Rattle.draid_machine.specs.declared.names.ArmName.{ArmName}
+use Rattle.draid_machine.specs.declared.names.ArmName.TheVariants.{Leaf}
+use Rattle.draid_machine.specs.After.{seal_arm}
+use Rattle.draid_machine.specs.Images.{IsImage}
+use Rattle.draid_machine.specs.State as machine
+use Rattle.draid_shelf.specs.Kits.{Held}
+use Rattle.draid_stable.specs.Stable as stable
+use Rattle.draid_shard.specs.Groups.{ListsOnce}
+use Rattle.draid_session.specs.Opening.{MayFind}
+use Rattle.draid_session.specs.State.{Metaslab, State}
+
+-- Each metaslab has committed the group that the uberblock has, or a later one where the first commit was refused; its images have the version of the layout.
+pub record IsFindable (x : State) : Type 0 where
+  pub committed : (m : ℕ) (y : Metaslab) → slice_get x.metaslabs m ≡ Some y → x.committed ≤ y.world.committed
+  pub versions : (m : ℕ) (y : Metaslab) (image : machine.Image) → slice_get x.metaslabs m ≡ Some y → IsImage y.world image → image.version ≡ x.geometry.props.version
+
+-- an arm without what passes make good
+abbrev pub bare : machine.Arm → machine.Arm
+bare arm = record { offline = arm.offline; fresh = false; log = λ group. false; gone = arm.gone }
+
+-- the same arms stand in each slot
+pub record SameArms (a b : machine.Core) : Type 0 where
+  pub order : (slot : ℕ) → a.order slot ≡ b.order slot
+  pub arms : (n : ArmName) → option_map bare (a.arm n) ≡ option_map bare (b.arm n)
+
+-- the images of a metaslab have a version, and so will the next one
+pub record HasVersion (version : ℕ) (w : machine.State) : Type 0 where
+  pub asked : w.asked ≡ version
+  pub images : (image : machine.Image) → IsImage w image → image.version ≡ version
+
+-- A metaslab has just these arms where it stands, but for detached ones, and so have its images.
+pub record HasArms (arms : machine.Core) (w : machine.State) : Type 0 where
+  pub order : (slot : ℕ) → w.core.order slot ≡ arms.order slot
+  pub now : (n : ArmName) → option_map bare (seal_arm (w.core.arm n)) ≡ option_map bare (arms.arm n)
+  pub images : (image : machine.Image) → IsImage w image → SameArms image.core arms
+
+-- a metaslab has a version and arms
+pub record IsAlike (version : ℕ) (arms : machine.Core) (w : machine.State) : Type 0 where
+  pub versions : HasVersion version w
+  pub same : HasArms arms w
+
+-- so have all metaslabs of a state
+abbrev pub AllAlike : machine.Core → State → Type 0
+AllAlike arms x = (m : ℕ) (y : Metaslab) → slice_get x.metaslabs m ≡ Some y → IsAlike x.geometry.props.version arms y.world
+
+-- the images that all metaslabs have of a group have the same arms
+abbrev pub AreAlike : State → Type 0
+AreAlike x = (group m n : ℕ) (y z : Metaslab) (a b : machine.Image) → MayFind x group → slice_get x.metaslabs m ≡ Some y → slice_get x.metaslabs n ≡ Some z → IsImage y.world a → a.group ≡ group
+    → IsImage z.world b → b.group ≡ group → SameArms a.core b.core
+
+-- the leaves of an image are among those of a rack, with all sectors of a metaslab
+abbrev pub HasImageLeaves : Geometry → machine.Image → Shape → Type 0
+HasImageLeaves geometry image shape = (leaf : ℕ) → IsSome (image.core.arm (Leaf leaf)) → shape.leaves leaf ≡ Some (metaslab_sectors geometry)
+
+-- No record of a pool on a shelf has a fault to an import: the racks have the leaves of the images, and the records list each block once; all metaslabs have the same arms.
+pub record IsImportable (x : State) (held : Held) (leaves : ℕ → Option Shape) : Type 0 where
+  pub findable : IsFindable x
+  pub alike : AreAlike x
+  pub once : (m : ℕ) (y : Metaslab) (image : machine.Image) → slice_get x.metaslabs m ≡ Some y → IsImage y.world image
+      → IsSomeAnd (held.kits m) (λ kit. ListsOnce x.geometry m image (stable.area_of image.group kit.even kit.odd))
+  pub there : (m : ℕ) (y : Metaslab) (image : machine.Image) → slice_get x.metaslabs m ≡ Some y → IsImage y.world image → IsSomeAnd (leaves m) (HasImageLeaves x.geometry image)

@@ -1,0 +1,510 @@
+//! A pool is imported from what was given back to a shelf: its uberblock is found, each metaslab is opened from the
+//! record of the group that it names, and of each object the block with the greatest number counts.
+ghost use Rattle.std.specs.Prelude.{◌≡◌, ◌<◌, ◌≤◌, ◌+◌, ◌⊎◌, ◌↔◌, ℕ, None, Some, Err, IfErr, IfOk, IsErrOf, IsSome, IsTrue, OnErr, OnOk, false, is_some, nat_eq, slice_get, Option, true};
+ghost use Rattle.std.specs.HashMap.{get};
+ghost use Rattle.draid_names.specs.Faults.{Rose};
+ghost use Rattle.draid_names.specs.declared.numbers.TheConstants.{LAST_NUMBER};
+ghost use Rattle.draid_names.specs.declared.pointer.Pointer.{Pointer};
+ghost use Rattle.draid_area.specs.Area.{IsOfSize, OnTold};
+ghost use Rattle.draid_rack.specs.Rack.{Shape};
+ghost use Rattle.draid_map.specs.Place.{IsLayout};
+ghost use Rattle.draid_entries.specs.Maps.{key_of};
+ghost use Rattle.draid_shelf.specs.Kits.{Held, KitCounts, OnHeld, takes_kit, takes_uber};
+ghost use Rattle.draid_shelf.specs.Shelf.{SameOthers};
+ghost use Rattle.draid_shard.specs.Calls.{IsLive};
+ghost use Rattle.draid_shard.specs.Fits.{Valid};
+ghost use Rattle.draid_shard.specs.declared.shard.Shard.{Shard};
+ghost use Rattle.draid_uber.specs.Slots.{group_of};
+ghost use Rattle.draid_uber.specs.Uber.{kept_of, layout_of, next_leaf_of};
+ghost use Rattle.draid_segments.specs.Segments.{Pieces};
+ghost use Rattle.draid_session.specs.State.{State, limit_of};
+ghost use Rattle.draid_pool.specs.Faulty.{IsUnread, OneIsUnread, RecordIsBad, UberIsBad};
+ghost use Rattle.draid_pool.specs.Imported.{AreNewest, IsFoundOf};
+ghost use Rattle.draid_pool.specs.Importing.{ImportIs, ImportsPool, IsNotSpec, RestsThere};
+ghost use Rattle.draid_pool.specs.Opening.{IsAsBefore, TakesFirst};
+ghost use Rattle.draid_pool.specs.Found.{AllLive, AnyRecordsRose, AreFound, AreFreed, AreReady, AreReopened, CountsLater, FreesIfOlder, FreesOlder, HasOnly, HasRisen, IsFoundUber, IsRecovered, IsReopened, IsShardFault, KeepsFound, KeepsFoundAt, KeepsKnown, KeepsNewer, LeavesShards, LeavesUber, Notes, NotesOne, OpensAllOver, OpensOver, Reaches, RecordsRose, SameChecks, StaysHeld, shelf_fault_of, uber_fault_of, open_fault_of};
+ghost use Rattle.draid_pool.specs.Together.{AreApart, AreSameArms, HaveSameArms, IsNotedTwice, IsSameArm, NoRecord, NotesOnly, NotesOnlyOf, noted_in};
+ghost use Rattle.draid_pool.specs.Whole.{IsWhole};
+ghost use Rattle.draid_pool.specs.declared.importing.Found.{Found};
+
+use crate::closing::give_back;
+use crate::fault::PoolFault;
+use crate::freeing::free_block;
+use crate::opening::EVENTS;
+use crate::pool::Pool;
+use draid_area::Area;
+use draid_names::{Arm, DeviceFault, NoMemory, Pointer};
+use draid_perm::Perms;
+use draid_rack::Rack;
+use draid_shard::{OpenFault, OpenRefused, Shard};
+use draid_shelf::Shelf;
+use draid_uber::{Uber, UberFault, UberRefused};
+use std::alloc::Global;
+use std::collections::{HashMap, HashSet};
+
+/// Where the number of slots stands in a metaslab's record.
+const SLOTS_AT: u64 = 20;
+
+/// How many bytes of a record a block takes.
+const BLOCK_BYTES: u64 = 72;
+
+/// Why an uberblock gave no pool.
+fn uber_fault(why: UberFault) -> PoolFault
+    ensures is { result ≡ uber_fault_of why }
+    ensures area { result ≡ PoolFault.Shelf → why ≡ UberFault.Area }
+    ensures not_spec { IsNotSpec result }
+{
+    match why {
+        UberFault::Area => PoolFault::Shelf,
+        UberFault::NoMemory => PoolFault::NoMemory,
+        UberFault::Empty => PoolFault::NoPool,
+        UberFault::Record { at, kind } => PoolFault::Record {
+            metaslab: None,
+            at,
+            kind,
+        },
+    }
+}
+
+/// Why a metaslab wasn't opened.
+fn open_fault(number: u32, why: OpenFault) -> PoolFault
+    ensures is { result ≡ open_fault_of number why }
+    ensures area { result ≡ PoolFault.Shelf → why ≡ OpenFault.Area }
+    ensures fault { IsShardFault result }
+{
+    match why {
+        OpenFault::Area => PoolFault::Shelf,
+        OpenFault::NoMemory => PoolFault::NoMemory,
+        OpenFault::Record { at, kind } => PoolFault::Record {
+            metaslab: Some(number),
+            at,
+            kind,
+        },
+    }
+}
+
+/// Why a call on the shelf gave nothing.
+fn shelf_fault(why: DeviceFault) -> PoolFault
+    ensures is { result ≡ shelf_fault_of why }
+    ensures failed { result ≡ PoolFault.Shelf → why ≡ DeviceFault.Failed }
+    ensures not_spec { IsNotSpec result }
+    ensures fault { IsShardFault result }
+{
+    match why {
+        DeviceFault::Failed => PoolFault::Shelf,
+        DeviceFault::NoMemory => PoolFault::NoMemory,
+    }
+}
+
+/// Law: an area that tells has the length that it tells.
+fn has_length_told<A: Area>(area: &A)
+    ensures { OnTold (A.told area.now) (IsOfSize (A.size area.now)) }
+{}
+
+/// Takes the area of the uberblock, and finds the uberblock there. After a refusal the area is on the shelf.
+fn find_uber<H: Shelf>(shelf: &mut H) -> Result<Uber<H::A>, PoolFault>
+    ensures found { IfOk result (IsFoundUber H.A.Area) }
+    ensures not_spec { IfErr result IsNotSpec }
+    ensures recovered { IfOk result (IsRecovered H.A.Area (H.told shelf.old) (H.uber_count shelf.old)) }
+    ensures told { OnOk result (H.told shelf.new ≡ takes_uber (H.told shelf.old)) }
+    ensures back { OnErr result (LeavesUber (H.told shelf.old) (H.told shelf.new) (H.uber_count shelf.old) (H.uber_count shelf.new)) }
+    ensures import { (x : State) (pieces : ℕ → Pieces)
+        → RestsThere x pieces (H.told shelf.old) (H.leaves shelf.old) (H.counts shelf.old) (H.uber_count shelf.old)
+        → IfErr result (λ why. ImportIs H.R.Rack H.A.Area x pieces (H.told shelf.new) (H.leaves shelf.new) (H.counts shelf.new) (H.uber_count shelf.new) (Err why)) }
+    ensures leaves { (m : ℕ) → H.leaves shelf.new m ≡ H.leaves shelf.old m }
+    ensures faulty { (metaslab : Option ℕ) (place kind : ℕ) → IsErrOf result (PoolFault.Record metaslab place kind) → UberIsBad (H.told shelf.old) metaslab place kind }
+    ensures none { OnHeld (H.told shelf.old) (λ held. held.uber ≡ None → IsErrOf result PoolFault.NoPool
+        × IsAsBefore (H.told shelf.old) (H.told shelf.new) (H.counts shelf.old) (H.counts shelf.new)
+        (record { uber = H.uber_count shelf.old; checks = H.check_counts shelf.old })
+        (record { uber = H.uber_count shelf.new; checks = H.check_counts shelf.new })) }
+    ensures held { SameChecks (H.told shelf.old) (H.told shelf.new) }
+    ensures checks { H.check_counts shelf.new ≡ H.check_counts shelf.old }
+    ensures counts { (m : ℕ) → H.counts shelf.new m ≡ H.counts shelf.old m }
+    ensures later { H.faults shelf.old ≤ H.faults shelf.new }
+    ensures cause { IsErrOf result PoolFault.Shelf → Rose (H.faults shelf.old) (H.faults shelf.new) ⊎ Rose (H.uber_count shelf.old) (H.uber_count shelf.new) }
+{
+    if !shelf.has_pool() {
+        return Err(PoolFault::NoPool);
+    }
+    let area = match shelf.take_uber() {
+        Ok(area) => area,
+        Err(why) => return Err(shelf_fault(why)),
+    };
+    has_length_told(&area);
+    match Uber::recover(area) {
+        Ok(uber) => Ok(uber),
+        Err(UberRefused { area, why }) => {
+            shelf.give_uber(area);
+            Err(uber_fault(why))
+        }
+    }
+}
+
+/// Takes the devices of a metaslab, and opens it from the record of the group that the uberblock names. After a refusal
+/// they are on the shelf.
+fn reopen_shard<H: Shelf>(
+    alloc: Global,
+    shelf: &mut H,
+    uber: &Uber<H::A>,
+    perms: Perms,
+    number: u32,
+) -> Result<Shard<H::R, H::A>, PoolFault>
+    requires uber { IsFoundUber H.A.Area uber.now }
+    requires layout { IsLayout (layout_of uber.now) perms }
+    requires number { number < (layout_of uber.now).props.metaslabs }
+    ensures reopened { IfOk result (IsReopened H.R.Rack (record { geometry = layout_of uber.now; perms = perms; number = number }) (group_of (kept_of uber.now))) }
+    ensures over { IfOk result (OpensOver H.R.Rack H.A.Area (limit_of (layout_of uber.now)) (group_of (kept_of uber.now)) (next_leaf_of uber.now) number (H.told shelf.old) (H.counts shelf.old number)) }
+    ensures told { OnOk result (H.told shelf.new ≡ takes_kit number (H.told shelf.old)) }
+    ensures back { OnErr result (StaysHeld (H.told shelf.old) (H.told shelf.new)) }
+    ensures tells { OnErr result (OnHeld (H.told shelf.old) (λ held. IsSome (held.kits number) → IsSome (H.told shelf.new))) }
+    ensures leaves { SameOthers number (H.leaves shelf.old) (H.leaves shelf.new) }
+    ensures known { OnErr result (KeepsKnown (H.leaves shelf.old number) (H.leaves shelf.new number)) }
+    ensures fault { IfErr result IsShardFault }
+    ensures faulty { (metaslab : Option ℕ) (place kind : ℕ) → IsErrOf result (PoolFault.Record metaslab place kind)
+        → IsUnread H.R.Rack H.A.Area (layout_of uber.now) (group_of (kept_of uber.now)) (next_leaf_of uber.now) number (H.told shelf.old) (H.counts shelf.old number) metaslab place kind }
+    // No record of a pool that rests on a shelf has a fault.
+    ensures opens { (x : State) (pieces : ℕ → Pieces) (held : Option Held) (leaves : ℕ → Option Shape) (counts : ℕ → KitCounts) (count : ℕ)
+        → RestsThere x pieces held leaves counts count → IsRecovered H.A.Area held count uber.now → TakesFirst number (takes_uber held) (H.told shelf.old)
+        → H.leaves shelf.old number ≡ leaves number → NoRecord result }
+    ensures back_counts { OnErr result (CountsLater (H.counts shelf.old number) (H.counts shelf.new number)) }
+    ensures held { SameChecks (H.told shelf.old) (H.told shelf.new) }
+    ensures checks { H.check_counts shelf.new ≡ H.check_counts shelf.old }
+    ensures counts { SameOthers number (H.counts shelf.old) (H.counts shelf.new) }
+    ensures later { H.faults shelf.old ≤ H.faults shelf.new }
+    ensures cause { IsErrOf result PoolFault.Shelf → Rose (H.faults shelf.old) (H.faults shelf.new) ⊎ RecordsRose (H.counts shelf.old number) (H.counts shelf.new number) }
+{
+    let layout = *uber.geometry();
+    let kit = match shelf.take(number, &layout) {
+        Ok(kit) => kit,
+        Err(why) => return Err(shelf_fault(why)),
+    };
+    let events = EVENTS / u64::from(layout.props.metaslabs);
+    let group = uber.committed();
+    match Shard::reopen(
+        alloc,
+        number,
+        layout,
+        perms,
+        kit,
+        events,
+        group,
+        uber.next_leaf(),
+    ) {
+        Ok(shard) => Ok(shard),
+        Err(OpenRefused { kit, why }) => {
+            shelf.give(number, kit);
+            Err(open_fault(number, why))
+        }
+    }
+}
+
+/// Opens all metaslabs. After a refusal all their devices are on the shelf.
+fn reopen_shards<H: Shelf>(
+    alloc: Global,
+    shelf: &mut H,
+    uber: &Uber<H::A>,
+) -> Result<Vec<Shard<H::R, H::A>>, PoolFault>
+    requires uber { IsFoundUber H.A.Area uber.now }
+    ensures opens { (x : State) (pieces : ℕ → Pieces) (held : Option Held) (counts : ℕ → KitCounts) (count : ℕ)
+        → RestsThere x pieces held (H.leaves shelf.old) counts count → IsRecovered H.A.Area held count uber.now → H.told shelf.old ≡ takes_uber held → NoRecord result }
+    ensures reopened { IfOk result (λ shards. AreReopened H.R.Rack (layout_of uber.now) (group_of (kept_of uber.now)) shards.items) }
+    ensures over { IfOk result (λ shards. OpensAllOver H.R.Rack H.A.Area (limit_of (layout_of uber.now)) (group_of (kept_of uber.now)) (next_leaf_of uber.now) (H.told shelf.old) (H.counts shelf.old) shards.items) }
+    ensures told { OnOk result (TakesFirst (layout_of uber.now).props.metaslabs (H.told shelf.old) (H.told shelf.new)) }
+    ensures back { OnErr result (LeavesShards H.R.Rack H.A.Area (layout_of uber.now) (group_of (kept_of uber.now)) (next_leaf_of uber.now) (H.told shelf.old) (H.told shelf.new) (H.counts shelf.old) (H.counts shelf.new)
+        (H.leaves shelf.old) (H.leaves shelf.new)) }
+    ensures faulty { (metaslab : Option ℕ) (place kind : ℕ) → IsErrOf result (PoolFault.Record metaslab place kind)
+        → OneIsUnread H.R.Rack H.A.Area (layout_of uber.now) (group_of (kept_of uber.now)) (next_leaf_of uber.now) (H.told shelf.old) (H.counts shelf.old) metaslab place kind }
+    ensures fault { IfErr result IsShardFault }
+    ensures held { SameChecks (H.told shelf.old) (H.told shelf.new) }
+    ensures checks { H.check_counts shelf.new ≡ H.check_counts shelf.old }
+    ensures later { H.faults shelf.old ≤ H.faults shelf.new }
+    ensures cause { IsErrOf result PoolFault.Shelf → Rose (H.faults shelf.old) (H.faults shelf.new) ⊎ AnyRecordsRose (H.counts shelf.old) (H.counts shelf.new) }
+{
+    let layout = *uber.geometry();
+    let perms = Perms::new(layout.spec.children, layout.props.seed);
+    let Ok(mut shards) = Vec::with_capacity(alloc, layout.props.metaslabs as usize) else {
+        return Err(PoolFault::NoMemory);
+    };
+    for number in 0..layout.props.metaslabs {
+        match reopen_shard(alloc, shelf, uber, perms, number) {
+            Ok(shard) => shards.push_reserved(shard),
+            Err(fault) => {
+                give_back(shelf, shards);
+                return Err(fault);
+            }
+        }
+    }
+    Ok(shards)
+}
+
+/// Whether a block is newer than that of its object which was noted.
+fn is_newer(newest: &HashMap<u64, Pointer>, pointer: &Pointer) -> bool
+    ensures newer { IsTrue result → (p : Pointer) → get nat_eq newest.now pointer.now.object ≡ Some p → p.seq < pointer.now.seq }
+    ensures older { result ≡ false → Reaches (get nat_eq newest.now) pointer.now.object pointer.now.seq }
+{
+    match newest.get(&pointer.object) {
+        Some(earlier) => earlier.seq < pointer.seq,
+        None => true,
+    }
+}
+
+/// Keeps a block in mind, unless one of its object was noted that is as new.
+fn keep_newer(newest: &mut HashMap<u64, Pointer>, pointer: Pointer) -> Result<(), NoMemory>
+    ensures keeps { OnOk result (KeepsNewer pointer (get nat_eq newest.old) (get nat_eq newest.new)) }
+{
+    if is_newer(newest, &pointer) {
+        newest.insert(pointer.object, pointer)?;
+    }
+    Ok(())
+}
+
+/// What the records of a pool's metaslabs say of its objects.
+#[derive(Drop)]
+pub(crate) struct Found {
+    /// The newest block of each object.
+    newest: HashMap<u64, Pointer>,
+    /// The object and the number of each block.
+    keys: HashSet<(u64, u64)>,
+    /// The greatest number of a write, 0 where there is no block.
+    seq: u64,
+}
+
+impl Found {
+    /// Notes a block. The answer is whether no other has its object and number.
+    fn note(&mut self, pointer: Pointer) -> Result<bool, NoMemory>
+        ensures keys { OnOk result (NotesOnly pointer (noted_in self.old.keys) (noted_in self.new.keys)) }
+        ensures again { IfOk result (λ new. new ≡ false → noted_in self.old.keys (key_of pointer) ≡ true) }
+        ensures noted { IfOk result (λ new. IsTrue new → NotesOne pointer (get nat_eq self.old.newest) (get nat_eq self.new.newest) self.old.seq self.new.seq) }
+    {
+        if !self.keys.insert((pointer.object, pointer.seq))? {
+            return Ok(false);
+        }
+        self.seq = self.seq.max(pointer.seq);
+        keep_newer(&mut self.newest, pointer)?;
+        Ok(true)
+    }
+
+    /// Notes all blocks of a metaslab.
+    fn note_all<R: Rack, A: Area>(&mut self, shard: &Shard<R, A>) -> Result<(), PoolFault>
+        requires valid { Valid R.Rack shard.now }
+        requires live { AllLive shard.now }
+        ensures noted { OnOk result (Notes shard.now (get nat_eq self.old.newest) (get nat_eq self.new.newest) self.old.seq self.new.seq) }
+        ensures keys { OnOk result (NotesOnlyOf shard.now (noted_in self.old.keys) (noted_in self.new.keys)) }
+        ensures again { (metaslab : Option ℕ) (place kind : ℕ) → IsErrOf result (PoolFault.Record metaslab place kind) → IsNotedTwice shard.now (noted_in self.old.keys) metaslab place kind }
+        ensures no_device { IsErrOf result PoolFault.Shelf → ⊥ }
+        ensures fault { IfErr result IsShardFault }
+    {
+        let mut from = 0;
+        let mut at = shard.blocks_at();
+        while let Some(pointer) = shard.next_held(from) {
+            match self.note(pointer) {
+                Ok(true) => {}
+                Ok(false) => {
+                    return Err(PoolFault::Record {
+                        metaslab: Some(shard.number),
+                        at,
+                        kind: 5,
+                    });
+                }
+                Err(NoMemory) => return Err(PoolFault::NoMemory),
+            }
+            from = pointer.first + 1;
+            at = at.saturating_add(BLOCK_BYTES);
+        }
+        Ok(())
+    }
+}
+
+/// Whether two arms are one, but for whether a pass has made it good.
+fn is_same_arm(one: &Arm, other: &Arm) -> bool
+    ensures { IsTrue result ↔ IsSameArm one.now other.now }
+{
+    one.kind == other.kind && one.number == other.number && one.offline == other.offline
+}
+
+/// Whether two slots have the same arms.
+fn have_same_arms(one: &[Arm], other: &[Arm]) -> bool
+    ensures { IsTrue result ↔ AreSameArms one.now other.now }
+{
+    if one.len() != other.len() {
+        return false;
+    }
+    for place in 0..one.len() {
+        if !is_same_arm(&one[place], &other[place]) {
+            return false;
+        }
+    }
+    true
+}
+
+/// Whether two metaslabs have the same arms in each slot.
+fn are_alike<R: Rack, A: Area>(one: &Shard<R, A>, other: &Shard<R, A>) -> bool
+    ensures { IsTrue result ↔ HaveSameArms one.now.slots other.now.slots }
+{
+    let children = one.slots.children();
+    if other.slots.children() != children {
+        return false;
+    }
+    for slot in 0..children {
+        if !have_same_arms(one.slots.arms(slot), other.slots.arms(slot)) {
+            return false;
+        }
+    }
+    true
+}
+
+/// What the records of all metaslabs say of the objects.
+fn find_blocks<R: Rack, A: Area>(alloc: Global, shards: &[Shard<R, A>]) -> Result<Found, PoolFault>
+    requires ready { AreReady R.Rack shards.now }
+    ensures found { IfOk result (λ found. AreFound shards.now (get nat_eq found.newest) found.seq) }
+    ensures faulty { (metaslab : Option ℕ) (place kind : ℕ) → IsErrOf result (PoolFault.Record metaslab place kind) → AreApart shards.now metaslab place kind }
+    ensures no_device { IsErrOf result PoolFault.Shelf → ⊥ }
+    ensures fault { IfErr result IsShardFault }
+{
+    let mut found = Found {
+        newest: HashMap::new(alloc),
+        keys: HashSet::new(alloc),
+        seq: 0,
+    };
+    for shard in shards {
+        if !are_alike(&shards[0], shard) {
+            return Err(PoolFault::Record {
+                metaslab: Some(shard.number),
+                at: SLOTS_AT,
+                kind: 4,
+            });
+        }
+        match found.note_all(shard) {
+            Ok(()) => {}
+            Err(fault) => return Err(fault),
+        }
+    }
+    Ok(found)
+}
+
+/// Whether this is the newest block of its object.
+fn is_newest(newest: &HashMap<u64, Pointer>, pointer: &Pointer) -> bool
+    ensures { IsTrue result ↔ (get nat_eq newest.now pointer.now.object ≡ Some pointer.now) }
+{
+    newest.get(&pointer.object) == Some(pointer)
+}
+
+/// Frees a live block that isn't the newest of its object.
+fn free_if_older<R: Rack, A: Area>(
+    shard: &mut Shard<R, A>,
+    newest: &HashMap<u64, Pointer>,
+    pointer: &Pointer,
+    floor: u64,
+)
+    requires valid { Valid R.Rack shard.old }
+    requires live { IsLive shard.old pointer.now }
+    requires floor { floor ≤ shard.old.open_group + 1 }
+    requires last { floor ≤ LAST_NUMBER }
+    ensures frees { FreesIfOlder R.Rack A.Area (get nat_eq newest.now) pointer.now floor shard.old shard.new }
+{
+    if is_newest(newest, pointer) {
+        return;
+    }
+    free_block(shard, pointer, floor);
+}
+
+/// Frees the blocks of a metaslab that aren't the newest of their objects.
+fn free_older<R: Rack, A: Area>(shard: &mut Shard<R, A>, newest: &HashMap<u64, Pointer>, floor: u64)
+    requires valid { Valid R.Rack shard.old }
+    requires live { AllLive shard.old }
+    requires floor { floor ≤ shard.old.open_group + 1 }
+    requires last { floor ≤ LAST_NUMBER }
+    ensures frees { FreesOlder R.Rack (get nat_eq newest.now) shard.old shard.new }
+    ensures only { HasOnly (get nat_eq newest.now) shard.new }
+    ensures keeps { KeepsFoundAt R.Rack A.Area (get nat_eq newest.now) floor shard.old shard.new }
+{
+    let mut from = 0;
+    while let Some(pointer) = shard.next_held(from) {
+        free_if_older(shard, newest, &pointer, floor);
+        from = pointer.first + 1;
+    }
+}
+
+/// Frees the blocks of all metaslabs that aren't the newest of their objects.
+fn free_all<R: Rack, A: Area>(
+    shards: &mut Vec<Shard<R, A>>,
+    newest: &HashMap<u64, Pointer>,
+    floor: u64,
+)
+    requires ready { AreReady R.Rack shards.old.items }
+    requires floor { (m : ℕ) (shard : Shard R A) → slice_get shards.old.items m ≡ Some shard → floor ≤ shard.open_group + 1 }
+    requires last { floor ≤ LAST_NUMBER }
+    ensures freed { AreFreed R.Rack (get nat_eq newest.now) shards.old.items shards.new.items }
+    ensures only { AreNewest shards.new.items (get nat_eq newest.now) }
+    ensures keeps { KeepsFound R.Rack A.Area (get nat_eq newest.now) floor shards.old.items shards.new.items }
+{
+    for number in 0..shards.len() {
+        free_older(&mut shards[number], newest, floor);
+    }
+}
+
+/// The pool of these metaslabs, in which each object has its newest block.
+fn pool_of<R: Rack, A: Area>(
+    alloc: Global,
+    shards: Vec<Shard<R, A>>,
+    uber: Uber<A>,
+    found: Found,
+) -> Pool<R, A>
+    requires uber { IsFoundUber A.Area uber }
+    requires shards { AreReopened R.Rack (layout_of uber) (group_of (kept_of uber)) shards.items }
+    requires found { AreFound shards.items (get nat_eq found.newest) found.seq }
+    ensures whole { IsWhole R.Rack A.Area result }
+    ensures imports { (x : State) (pieces : ℕ → Pieces) → IsFoundOf R.Rack A.Area x uber pieces (get nat_eq found.newest) found.seq shards.items → ImportsPool R.Rack A.Area x result }
+{
+    let floor = uber.committed() + 1;
+    let mut shards = shards;
+    free_all(&mut shards, &found.newest, floor);
+    Pool {
+        geometry: *uber.geometry(),
+        shards,
+        uber,
+        objects: found.newest,
+        seq: found.seq,
+        floor,
+        alloc,
+    }
+}
+
+/// Imports the pool that was given back to the shelf. A refusal gives back all that was taken.
+pub fn import<H: Shelf>(alloc: Global, shelf: &mut H) -> Result<Pool<H::R, H::A>, PoolFault>
+    ensures whole { IfOk result (IsWhole H.R.Rack H.A.Area) }
+    ensures none { OnHeld (H.told shelf.old) (λ held. held.uber ≡ None → IsErrOf result PoolFault.NoPool
+        × IsAsBefore (H.told shelf.old) (H.told shelf.new) (H.counts shelf.old) (H.counts shelf.new)
+        (record { uber = H.uber_count shelf.old; checks = H.check_counts shelf.old })
+        (record { uber = H.uber_count shelf.new; checks = H.check_counts shelf.new })) }
+    // What is found of a pool that rests there is that pool, and a refusal leaves it there.
+    ensures import { (x : State) (pieces : ℕ → Pieces)
+        → RestsThere x pieces (H.told shelf.old) (H.leaves shelf.old) (H.counts shelf.old) (H.uber_count shelf.old)
+        → ImportIs H.R.Rack H.A.Area x pieces (H.told shelf.new) (H.leaves shelf.new) (H.counts shelf.new) (H.uber_count shelf.new) result }
+    ensures not_spec { IfErr result IsNotSpec }
+    ensures tells { OnOk result (is_some (H.told shelf.new) ≡ is_some (H.told shelf.old)) }
+    // A record for which it is refused has the fault.
+    ensures faulty { (metaslab : Option ℕ) (place kind : ℕ) → IsErrOf result (PoolFault.Record metaslab place kind)
+        → RecordIsBad H.R.Rack H.A.Area (H.told shelf.old) (H.counts shelf.old) (H.uber_count shelf.old) metaslab place kind }
+    ensures held { SameChecks (H.told shelf.old) (H.told shelf.new) }
+    ensures checks { H.check_counts shelf.new ≡ H.check_counts shelf.old }
+    ensures later { H.faults shelf.old ≤ H.faults shelf.new }
+    ensures cause { IsErrOf result PoolFault.Shelf → HasRisen (H.faults shelf.old) (H.faults shelf.new) (H.uber_count shelf.old) (H.uber_count shelf.new) (H.counts shelf.old) (H.counts shelf.new) }
+{
+    let uber = find_uber(shelf)?;
+    let shards = match reopen_shards(alloc, shelf, &uber) {
+        Ok(shards) => shards,
+        Err(fault) => {
+            shelf.give_uber(uber.into_area());
+            return Err(fault);
+        }
+    };
+    match find_blocks(alloc, &shards) {
+        Ok(found) => Ok(pool_of(alloc, shards, uber, found)),
+        Err(fault) => {
+            give_back(shelf, shards);
+            shelf.give_uber(uber.into_area());
+            Err(fault)
+        }
+    }
+}

@@ -1,0 +1,399 @@
+-- An import, in the words of a session.
+use Rattle.std.proofs.Common.{◌≡◌, ◌∙◌, ◌⊎◌, ◌<◌, inl, inr, arith, refl, sym, ap, subst, ℕ, List, Bool, true, false, [], ◌∷◌, Option, Some, None, Result, Ok, Err, String, Global}
+use Rattle.std.specs.Prelude.{IfOk, IsErrOf, IsSomeAnd, OnOk, is_some, string_bytes}
+use Rattle.draid_names.specs.Faults.{Rose}
+use Rattle.draid_names.specs.declared.room.Room.{Room}
+use Rattle.draid_rack.specs.declared.Rack as racks
+use Rattle.draid_area.specs.declared.Area as areas
+use Rattle.draid_spec.specs.declared.layout.Geometry.{Geometry}
+use Rattle.draid_machine.specs.declared.event.Event.TheVariants as event
+use Rattle.draid_segments.specs.Segments.{Pieces}
+use Rattle.draid_shelf.specs.Kits.{AreNewChecks, Held, OnHeld}
+use Rattle.draid_script.specs.Line.{ImportPool}
+use Rattle.draid_script.specs.declared.name.CommandName.TheVariants as name
+use Rattle.draid_reply.specs.declared.reply.Reply.{Reply}
+use Rattle.draid_reply.specs.declared.reply.Reply.TheVariants.{Imported, NoMemory, NoPool, PoolOpen}
+use Rattle.draid_session.specs.Follows.{Follows}
+use Rattle.draid_session.specs.Holds.{Act, AreaFailed, Did, Hold, Looked, MadeLeaf, On, OnUber, RackFailed, Reserved, View}
+use Rattle.draid_session.specs.Making.{vdev_name_of}
+use Rattle.draid_session.specs.Opening.{FreesOlder, HasObjects, Imports}
+use Rattle.draid_session.specs.Session.{Desk, Untouched, Bare, Made, Open, Shut, Foreign, Unknown, LeavesState, RecordFails, ShelfFails, TurnsBy}
+use Rattle.draid_session.specs.State.{State}
+use Rattle.draid_pool.specs.Closing.{GivesBack, HoldsPool, Rests}
+use Rattle.draid_pool.specs.Found.{HasRisen, SameChecks}
+use Rattle.draid_pool.specs.Importable.{IsImportable}
+use Rattle.draid_pool.specs.Importing as pools
+use Rattle.draid_pool.specs.Importing.{ImportsPool, LeavesPool, RestsThere}
+use Rattle.draid_pool.specs.Opening.{IsAsBefore, NoChecks}
+use Rattle.draid_pool.specs.Pools.{Represents}
+use Rattle.draid_pool.specs.Whole.{IsWhole}
+use Rattle.draid_pool.specs.declared.fault.PoolFault.{PoolFault}
+use Rattle.draid_pool.specs.declared.fault.PoolFault.TheVariants as fault
+use Rattle.draid_pool.specs.declared.pool.Pool.{Pool}
+use Rattle.draid_run.specs.Desks.{Broken, IsDesk, IsPool, IsShelf, Turned}
+use Rattle.draid_run.specs.Importing.{ImportDid, ImportDoes, ImportIs}
+use Rattle.draid_run.specs.Serve.{AnswerIs, IsSaid}
+use Rattle.draid_run.specs.Shelves.{HasChecks, HasFailed, HoldsShut, IsOut, OnShelf}
+use Rattle.draid_run.specs.declared.answer.Stop.{Stop}
+use Rattle.draid_run.specs.declared.answer.Stop.TheVariants as stop
+use Rattle.draid_run.proofs.Following.{same_layout, same_told}
+use Rattle.draid_run.proofs.GivenBack.{is_given, left_as, on_held, shelf_has}
+
+-- ---- what was found
+
+module _ (x : State) (group : ℕ) where
+  frees_rest : (v : View) (act : Act) (hs : List Hold) → FreesOlder x group (On v act ∷ hs) → FreesOlder x group hs
+  frees_rest v (Did (event.Begin k1 k2 k3 k4 k5 k6) w) hs o = absurd o
+  frees_rest v (Did (event.Put k1 k2 k3) w) hs o = absurd o
+  frees_rest v (Did (event.Finish k1) w) hs o = absurd o
+  frees_rest v (Did (event.Abort k1) w) hs o = absurd o
+  frees_rest v (Did (event.Free k1 k2) w) hs o = o.2
+  frees_rest v (Did (event.Fetch k1 k2) w) hs o = absurd o
+  frees_rest v (Did (event.Damage k1 k2 k3) w) hs o = absurd o
+  frees_rest v (Did (event.Offline k1) w) hs o = absurd o
+  frees_rest v (Did (event.Online k1) w) hs o = absurd o
+  frees_rest v (Did (event.Attach k1 k2) w) hs o = absurd o
+  frees_rest v (Did (event.Detach k1 k2) w) hs o = absurd o
+  frees_rest v (Did event.Upgrade w) hs o = absurd o
+  frees_rest v (Did (event.Close k1) w) hs o = absurd o
+  frees_rest v (Did (event.Seal k1 k2) w) hs o = absurd o
+  frees_rest v (Did (event.Commit k1) w) hs o = absurd o
+  frees_rest v (Did (event.Plan k1) w) hs o = absurd o
+  frees_rest v (Did event.Ready w) hs o = absurd o
+  frees_rest v (Did (event.Lend k1) w) hs o = absurd o
+  frees_rest v (Did (event.LandStripe k1 k2 k3) w) hs o = absurd o
+  frees_rest v (Did (event.LandBlock k1 k2 k3 k4 k5) w) hs o = absurd o
+  frees_rest v (Did (event.Done k1) w) hs o = absurd o
+  frees_rest v (Did event.Cancel w) hs o = absurd o
+  frees_rest v (Did (event.Reopen k1 k2) w) hs o = absurd o
+  frees_rest v Looked hs o = absurd o
+  frees_rest v (Reserved n) hs o = absurd o
+  frees_rest v (MadeLeaf leaf) hs o = absurd o
+  frees_rest v (AreaFailed t) hs o = absurd o
+  frees_rest v RackFailed hs o = absurd o
+
+  -- the committed group stays as older blocks are freed
+  frees_committed : (holds : List Hold) (a b : State) → FreesOlder x group holds → Follows holds a b → b.committed ≡ a.committed
+  frees_committed [] a b o f = ap (λ (s : State). s.committed) f
+  frees_committed (On v act ∷ hs) a b o f = frees_committed hs f.0 b (frees_rest v act hs o) f.2 ∙ ap (λ (s : State). s.committed) f.1.made
+  frees_committed (OnUber u act ∷ hs) a b o f = absurd o
+
+module _ (x : State) (group : ℕ) (new : State) (is : Imports x group new) where
+  found_committed : new.committed ≡ group
+  found_committed = frees_committed is.mid group is.holds is.mid new is.older is.follows ∙ is.finds.committed
+
+  found_geometry : new.geometry ≡ x.geometry
+  found_geometry = (same_layout is.holds is.mid new is.follows).0 ∙ is.finds.layout.0
+
+  found_told : new.told ≡ true
+  found_told = same_told is.holds is.mid new is.follows ∙ is.finds.told
+
+-- what a refused import leaves tells, where what was given back did
+left_told : (x y : State) → x.told ≡ true → LeavesState x y → y.told ≡ true
+left_told x y told leaves = elim leaves [
+  | inl still ↦ ap (λ (s : State). s.told) still.same ∙ told
+  | inr found ↦ found.1.told
+]
+
+-- ---- the shelf
+
+some_is : {T : Type 0} (o : Option T) (P : T → Type 0) → IsSomeAnd o P → is_some o ≡ true
+some_is None P p = absurd p
+some_is (Some t) P p = refl
+
+on_some : (o : Option Held) (P : Held → Type 0) → IsSomeAnd o P → OnHeld o P
+on_some None P p = absurd p
+on_some (Some h) P p = p
+
+-- what was given back rests there, where the shelf tells it
+pub record Resting (x : State) (before : OnShelf) : Type 0 where
+  pub pieces : ℕ → Pieces
+  pub rests : RestsThere x pieces before.held before.leaves before.counts before.own.uber
+
+resting : (crash : Bool) (x : State) (before : OnShelf) → HoldsShut crash x before → x.told ≡ true → Resting x before
+resting crash x before h told = by before.held refl h.held h.importable (sym h.told ∙ told) where
+  by : (held : Option Held) → before.held ≡ held → OnHeld before.held (HoldsPool x crash) → OnHeld before.held (λ i. IsImportable x i before.leaves) → is_some before.held ≡ true → Resting x before
+  by None same pool importable is = absurd (let z = sym is ∙ ap is_some same in cc)
+  by (Some held) same pool importable is =
+      let p : HoldsPool x crash held = subst (λ o. OnHeld o (HoldsPool x crash)) same pool in
+      let i : IsImportable x held before.leaves = subst (λ o. OnHeld o (λ i. IsImportable x i before.leaves)) same importable in
+      record {
+        pieces = p.pieces;
+        rests = record {
+          held = subst (λ o. IsSomeAnd o (Rests x p.pieces)) (sym same) p.rests;
+          importable = subst (λ o. IsSomeAnd o (λ i. IsImportable x i before.leaves)) (sym same) i;
+          counted = h.counts;
+          uber = h.uber;
+        };
+      }
+
+-- and the other way round
+shut_there : (x : State) (pieces : ℕ → Pieces) (now : OnShelf) → RestsThere x pieces now.held now.leaves now.counts now.own.uber → x.told ≡ true → NoChecks now.own → HoldsShut true x now
+shut_there x pieces now r told checks = record {
+  held = on_held now.held (Rests x pieces) (HoldsPool x true) (λ h rests. record { pieces = pieces; rests = rests; backed = λ e. absurd (cc e) }) (on_some now.held (Rests x pieces) r.held);
+  importable = on_some now.held (λ h. IsImportable x h now.leaves) r.importable;
+  told = told ∙ sym (some_is now.held (Rests x pieces) r.held);
+  counts = r.counted;
+  uber = r.uber;
+  checks = checks;
+}
+
+-- with a crash less is held than without one
+shut_crashed : (x : State) (now : OnShelf) → HoldsShut false x now → HoldsShut true x now
+shut_crashed x now h = record {
+  held = on_held now.held (HoldsPool x false) (HoldsPool x true) (λ held p. record { pieces = p.pieces; rests = p.rests; backed = λ e. absurd (cc e) }) h.held;
+  importable = h.importable;
+  told = h.told;
+  counts = h.counts;
+  uber = h.uber;
+  checks = h.checks;
+}
+
+-- the areas of the check records stay as they were made
+checks_there : (x : State) (pieces : ℕ → Pieces) (old new : Option Held) → SameChecks old new → IsSomeAnd old (Rests x pieces) → OnHeld new HasChecks
+checks_there x pieces old None same rests = tt
+checks_there x pieces None (Some held) same rests = absurd same
+checks_there x pieces (Some before) (Some held) same rests = subst (λ c. IsSomeAnd c AreNewChecks) (sym same) rests.checks
+
+true_or : (b : Bool) → (b ≡ true) ⊎ (b ≡ false)
+true_or true = inl refl
+true_or false = inr refl
+
+rose_some : (before now : ℕ) → Rose before now → 0 < now
+rose_some before now rose = omega (arith, rose)
+
+-- what has risen shows there
+risen : (before now : OnShelf) → HasRisen before.faults now.faults before.own.uber now.own.uber before.counts now.counts → HasFailed before now
+risen before now rose = elim rose [
+  | inl here ↦ elim here [
+    | inl shelf ↦ inl shelf
+    | inr uber ↦ inr (inr (rose_some before.own.uber now.own.uber uber))
+  ]
+  | inr records ↦ inr (inl (
+    records.0,
+    elim records.1 [
+      | inl even ↦ (let some = rose_some (before.counts records.0).even (now.counts records.0).even even in omega (arith, some))
+      | inr odd ↦ (let some = rose_some (before.counts records.0).odd (now.counts records.0).odd odd in omega (arith, some))
+    ],
+  ))
+]
+
+pub none_open : {T : Type 0} (o : Option T) → is_some o ≡ false → o ≡ None
+none_open None is = refl
+none_open (Some t) is = absurd (cc is)
+
+-- ---- the call
+
+-- what the pool's import came to
+pub record Called {R A : Type 0} (rack : racks.Ghosts R) (area : areas.Ghosts A) (before now : OnShelf) (result : Result (Pool R A) PoolFault) : Type 0 where
+  pub whole : IfOk result (IsWhole rack area)
+  pub none : OnHeld before.held (λ held. held.uber ≡ None → IsErrOf result fault.NoPool × IsAsBefore before.held now.held before.counts now.counts before.own now.own)
+  pub imports : (x : State) (pieces : ℕ → Pieces) → RestsThere x pieces before.held before.leaves before.counts before.own.uber → pools.ImportIs rack area x pieces now.held now.leaves now.counts now.own.uber result
+  pub tells : OnOk result (is_some now.held ≡ is_some before.held)
+  pub checks_held : SameChecks before.held now.held
+  pub checks : now.own.checks ≡ before.own.checks
+  pub cause : IsErrOf result fault.Shelf → HasRisen before.faults now.faults before.own.uber now.own.uber before.counts now.counts
+
+module _ {R A : Type 0} (rack : racks.Ghosts R) (area : areas.Ghosts A) (entry before now : OnShelf) where
+  module _ (result : Result (Pool R A) PoolFault) (called : Called rack area before now result) where
+    -- a shelf that has no pool gives none
+    bare_none : IsSomeAnd before.held (λ held. held.uber ≡ None) → (result ≡ Err fault.NoPool) × IsAsBefore before.held now.held before.counts now.counts before.own now.own
+    bare_none = by before.held called.none where
+      by : (held : Option Held) → OnHeld held (λ h. h.uber ≡ None → IsErrOf result fault.NoPool × IsAsBefore before.held now.held before.counts now.counts before.own now.own)
+          → IsSomeAnd held (λ h. h.uber ≡ None) → (result ≡ Err fault.NoPool) × IsAsBefore before.held now.held before.counts now.counts before.own now.own
+      by None none is = absurd is
+      by (Some held) none is = none is
+
+    was : (y : State) (r : Result (Pool R A) PoolFault) → result ≡ r → (rest : Resting y before) → pools.ImportIs rack area y rest.pieces now.held now.leaves now.counts now.own.uber r
+    was y r is rest = subst (pools.ImportIs rack area y rest.pieces now.held now.leaves now.counts now.own.uber) is (called.imports y rest.pieces rest.rests)
+
+    -- ---- refusals
+
+    pub no_pool : result ≡ Err fault.NoPool → (x : Desk) → IsPool rack area None x → IsShelf x entry before → ImportDid rack area entry x (NoPool name.Import) now None
+    no_pool is Untouched stands shelf = record { new = Unknown; desk = record { stands = tt; shelf = tt }; turns = refl }
+    no_pool is (Made geometry) stands shelf = record { new = Unknown; desk = record { stands = tt; shelf = tt }; turns = refl }
+    no_pool is Unknown stands shelf = record { new = Unknown; desk = record { stands = tt; shelf = tt }; turns = refl }
+    no_pool is Bare stands shelf =
+        let none = bare_none shelf in
+        record { new = Bare; desk = record { stands = tt; shelf = subst (λ (h : Option Held). IsSomeAnd h (λ held. held.uber ≡ None)) (sym none.1.held) shelf }; turns = refl }
+    no_pool is (Shut crash y) stands shelf = elim (true_or y.told) [
+      | inl told ↦
+          let found = was y (Err fault.NoPool) is (resting crash y before shelf told) in
+          let z : State = found.y in
+          let again : z.told ≡ true = ap (λ (s : State). s.told) found.is.is.same ∙ told in
+          record {
+            new = Shut true z;
+            desk = record { stands = tt; shelf = shut_there z (resting crash y before shelf told).pieces now found.rests again (called.checks ∙ shelf.checks) };
+            turns = found.is;
+          }
+      | inr untold ↦ record { new = Unknown; desk = record { stands = tt; shelf = tt }; turns = untold }
+    ]
+    no_pool is (Open y) stands shelf = absurd stands
+    no_pool is Foreign stands shelf = absurd stands
+
+    pub no_memory : result ≡ Err fault.NoMemory → (x : Desk) → IsPool rack area None x → IsShelf x entry before → ImportDid rack area entry x (NoMemory name.Import) now None
+    no_memory is Untouched stands shelf = record { new = Unknown; desk = record { stands = tt; shelf = tt }; turns = refl }
+    no_memory is (Made geometry) stands shelf = record { new = Unknown; desk = record { stands = tt; shelf = tt }; turns = refl }
+    no_memory is Unknown stands shelf = record { new = Unknown; desk = record { stands = tt; shelf = tt }; turns = refl }
+    no_memory is Bare stands shelf = absurd (let z = sym is ∙ (bare_none shelf).0 in cc)
+    no_memory is (Shut crash y) stands shelf = elim (true_or y.told) [
+      | inl told ↦
+          let left = was y (Err fault.NoMemory) is (resting crash y before shelf told) in
+          let z : State = left.y in
+          record {
+            new = Shut true z;
+            desk = record { stands = tt; shelf = shut_there z (resting crash y before shelf told).pieces now left.rests (left_told y z told left.is) (called.checks ∙ shelf.checks) };
+            turns = inl left.is;
+          }
+      | inr untold ↦ record { new = Unknown; desk = record { stands = tt; shelf = tt }; turns = untold }
+    ]
+    no_memory is (Open y) stands shelf = absurd stands
+    no_memory is Foreign stands shelf = absurd stands
+
+    pub shelf_failed : result ≡ Err fault.Shelf → (x : Desk) → IsPool rack area None x → IsShelf x entry before → Broken rack area ShelfFails ImportPool entry before x now None
+    shelf_failed is Untouched stands shelf = record { new = Unknown; desk = record { stands = tt; shelf = tt }; breaks = refl; cause = risen before now (called.cause is) }
+    shelf_failed is (Made geometry) stands shelf = record { new = Unknown; desk = record { stands = tt; shelf = tt }; breaks = refl; cause = risen before now (called.cause is) }
+    shelf_failed is Unknown stands shelf = record { new = Unknown; desk = record { stands = tt; shelf = tt }; breaks = refl; cause = risen before now (called.cause is) }
+    shelf_failed is Bare stands shelf = absurd (let z = sym is ∙ (bare_none shelf).0 in cc)
+    shelf_failed is (Shut crash y) stands shelf = elim (true_or y.told) [
+      | inl told ↦
+          let left = was y (Err fault.Shelf) is (resting crash y before shelf told) in
+          let z : State = left.y in
+          record {
+            new = Shut true z;
+            desk = record { stands = tt; shelf = shut_there z (resting crash y before shelf told).pieces now left.rests (left_told y z told left.is) (called.checks ∙ shelf.checks) };
+            breaks = left.is;
+            cause = risen before now (called.cause is);
+          }
+      | inr untold ↦ record { new = Unknown; desk = record { stands = tt; shelf = tt }; breaks = untold; cause = risen before now (called.cause is) }
+    ]
+    shelf_failed is (Open y) stands shelf = absurd stands
+    shelf_failed is Foreign stands shelf = absurd stands
+
+    pub record_fails : (metaslab : Option ℕ) (place kind : ℕ) → result ≡ Err (fault.Record metaslab place kind) → (x : Desk) → IsPool rack area None x → IsShelf x entry before
+        → Broken rack area RecordFails ImportPool entry before x now None
+    record_fails metaslab place kind is Untouched stands shelf = record { new = Unknown; desk = record { stands = tt; shelf = tt }; breaks = refl; cause = tt }
+    record_fails metaslab place kind is (Made geometry) stands shelf = record { new = Unknown; desk = record { stands = tt; shelf = tt }; breaks = refl; cause = tt }
+    record_fails metaslab place kind is Unknown stands shelf = record { new = Unknown; desk = record { stands = tt; shelf = tt }; breaks = refl; cause = tt }
+    record_fails metaslab place kind is Bare stands shelf = absurd (let z = sym is ∙ (bare_none shelf).0 in cc)
+    record_fails metaslab place kind is (Shut crash y) stands shelf = elim (true_or y.told) [
+      | inl told ↦ absurd (was y (Err (fault.Record metaslab place kind)) is (resting crash y before shelf told))
+      | inr untold ↦ record { new = Unknown; desk = record { stands = tt; shelf = tt }; breaks = untold; cause = tt }
+    ]
+    record_fails metaslab place kind is (Open y) stands shelf = absurd stands
+    record_fails metaslab place kind is Foreign stands shelf = absurd stands
+
+    -- ---- the pool
+
+    module _ (pool : Pool R A) (is : result ≡ Ok pool) where
+      whole : IsWhole rack area pool
+      whole = subst (λ r. IfOk r (IsWhole rack area)) is called.whole
+
+      tells : is_some now.held ≡ is_some before.held
+      tells = subst (λ r. OnOk r (is_some now.held ≡ is_some before.held)) is called.tells
+
+      found : (y : State) → Resting y before → ImportsPool rack area y pool
+      found y rest = was y (Ok pool) is rest
+
+      -- it is open, and its devices are away
+      out : (crash : Bool) (y new : State) → HoldsShut crash y before → (rest : Resting y before) → new.told ≡ true → IsOut new now
+      out crash y new shelf rest told = record {
+        held = checks_there y rest.pieces before.held now.held called.checks_held rest.rests.held;
+        checks = called.checks ∙ shelf.checks;
+        told = told ∙ (sym (some_is before.held (Rests y rest.pieces) rest.rests.held) ∙ sym tells);
+      }
+
+      pub imported : (called_name : String Global) (geometry : Geometry) (group objects : ℕ) → string_bytes called_name ≡ vdev_name_of geometry.spec
+          → ((s : State) → Represents rack area pool s → geometry ≡ s.geometry)
+          → ((s : State) → Represents rack area pool s → group ≡ s.committed)
+          → ((s : State) → Represents rack area pool s → HasObjects s.store.changes objects)
+          → (x : Desk) → IsPool rack area None x → IsShelf x entry before → ImportDid rack area entry x (Imported called_name group objects) now (Some pool)
+      imported called_name geometry group objects named layout committed counted = by where
+        foreign : (x : Desk) → ImportDoes x (Imported called_name group objects) Foreign → ImportDid rack area entry x (Imported called_name group objects) now (Some pool)
+        foreign x turns = record { new = Foreign; desk = record { stands = whole; shelf = tt }; turns = turns }
+
+        by : (x : Desk) → IsPool rack area None x → IsShelf x entry before → ImportDid rack area entry x (Imported called_name group objects) now (Some pool)
+        by Untouched stands shelf = foreign Untouched refl
+        by (Made geo) stands shelf = foreign (Made geo) refl
+        by Unknown stands shelf = foreign Unknown refl
+        by Bare stands shelf = absurd (let z = sym is ∙ (bare_none shelf).0 in cc)
+        by (Shut crash y) stands shelf = elim (true_or y.told) [
+          | inl told ↦
+              let rest = resting crash y before shelf told in
+              let f = found y rest in
+              let new : State = f.new in
+              record {
+                new = Open new;
+                desk = record { stands = (whole, f.represents); shelf = out crash y new shelf rest (found_told y f.group new f.imports) };
+                turns = (
+                  subst (λ t. Imports y t new) (sym (committed new f.represents ∙ found_committed y f.group new f.imports)) f.imports,
+                  named ∙ ap (λ (l : Geometry). vdev_name_of l.spec) (layout new f.represents ∙ found_geometry y f.group new f.imports),
+                  counted new f.represents,
+                );
+              }
+          | inr untold ↦ foreign (Shut crash y) untold
+        ]
+        by (Open y) stands shelf = absurd stands
+        by Foreign stands shelf = absurd stands
+
+      -- there was no memory for its name, and it is given back
+      pub unnamed : (late : OnShelf) → ((s : State) → Represents rack area pool s → GivesBack s false now.held late.held late.leaves late.counts late.own.uber) → late.own.checks ≡ now.own.checks
+          → (x : Desk) → IsPool rack area None x → IsShelf x entry before → ImportDid rack area entry x (NoMemory name.Import) late None
+      unnamed late back checks = by where
+        by : (x : Desk) → IsPool rack area None x → IsShelf x entry before → ImportDid rack area entry x (NoMemory name.Import) late None
+        by Untouched stands shelf = record { new = Unknown; desk = record { stands = tt; shelf = tt }; turns = refl }
+        by (Made geo) stands shelf = record { new = Unknown; desk = record { stands = tt; shelf = tt }; turns = refl }
+        by Unknown stands shelf = record { new = Unknown; desk = record { stands = tt; shelf = tt }; turns = refl }
+        by Bare stands shelf = absurd (let z = sym is ∙ (bare_none shelf).0 in cc)
+        by (Shut crash y) stands shelf = elim (true_or y.told) [
+          | inl told ↦
+              let rest = resting crash y before shelf told in
+              let f = found y rest in
+              let new : State = f.new in
+              let away = out crash y new shelf rest (found_told y f.group new f.imports) in
+              let gives = back new f.represents in
+              let u : State = left_as new false now late gives in
+              record {
+                new = Shut true u;
+                desk = record { stands = tt; shelf = shut_crashed u late (shelf_has new false now late gives checks away) };
+                turns = inr (record { group = f.group; mid = new; imports = f.imports; given = is_given new false now late gives away });
+              }
+          | inr untold ↦ record { new = Unknown; desk = record { stands = tt; shelf = tt }; turns = untold }
+        ]
+        by (Open y) stands shelf = absurd stands
+        by Foreign stands shelf = absurd stands
+
+  -- ---- a pool is open
+
+  pub still_open : (pool : Option (Pool R A)) → is_some pool ≡ true → (x : Desk) → IsDesk rack area entry before pool x → ImportDid rack area entry x (PoolOpen name.Import) before pool
+  still_open None some x is = absurd (cc some)
+  still_open (Some pool) some x is = by x is where
+    by : (x : Desk) → IsDesk rack area entry before (Some pool) x → ImportDid rack area entry x (PoolOpen name.Import) before (Some pool)
+    by Untouched is = absurd is.stands
+    by Bare is = absurd is.stands
+    by (Made geometry) is = absurd is.stands
+    by (Shut crash y) is = absurd is.stands
+    by Unknown is = absurd is.stands
+    by (Open y) is = record { new = Open y; desk = is; turns = (refl, refl) }
+    by Foreign is = record { new = Foreign; desk = is; turns = (refl, refl) }
+
+-- ---- in the words of all commands
+
+module _ {R A : Type 0} (rack : racks.Ghosts R) (area : areas.Ghosts A) (chosen : List Room → Option ℕ → Type 0) (entry before now : OnShelf) where
+  by_import : (x : Desk) (reply : Reply) (pool : Option (Pool R A)) → ImportDid rack area entry x reply now pool → Turned rack area chosen (Ok ImportPool) entry x (Some reply) now pool
+  by_import x reply pool did = record { new = did.new; desk = did.desk; turns = by x did.new did.turns } where
+    by : (x : Desk) (new : Desk) → ImportDoes x reply new → TurnsBy chosen (Ok ImportPool) x (Some reply) new
+    by Untouched new turns = turns
+    by Bare new turns = turns
+    by (Made geometry) new turns = turns
+    by (Shut crash y) new turns = turns
+    by Unknown new turns = turns
+    by Foreign new turns = turns
+    by (Open y) new turns = subst (λ r. TurnsBy chosen (Ok ImportPool) (Open y) (Some r) new) (sym turns.0) turns.1
+
+  pub answer_import : (pool : Option (Pool R A)) (x : Desk) (new : Option (Pool R A)) (given : Result Reply Stop) (result : Result (Option Reply) Stop) → IsSaid given result
+      → ImportIs rack area entry before x now new given → AnswerIs rack area chosen ImportPool entry before pool x now new result
+  answer_import pool x new (Ok reply) result said did = subst (AnswerIs rack area chosen ImportPool entry before pool x now new) (sym said) (by_import x reply new did)
+  answer_import pool x new (Err stop.Shelf) result said did = subst (AnswerIs rack area chosen ImportPool entry before pool x now new) (sym said) did
+  answer_import pool x new (Err (stop.Record metaslab place kind)) result said did = subst (AnswerIs rack area chosen ImportPool entry before pool x now new) (sym said) did
+  answer_import pool x new (Err stop.Unbuilt) result said did = absurd did

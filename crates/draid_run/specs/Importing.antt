@@ -1,0 +1,33 @@
+-- What an import comes to.
+use Rattle.std.specs.Prelude.{◌≡◌, Option, Result, Ok, Err}
+use Rattle.draid_rack.specs.declared.Rack as racks
+use Rattle.draid_area.specs.declared.Area as areas
+use Rattle.draid_script.specs.Line.{ImportPool}
+use Rattle.draid_script.specs.declared.name.CommandName.TheVariants as name
+use Rattle.draid_reply.specs.declared.reply.Reply.{Reply}
+use Rattle.draid_reply.specs.declared.reply.Reply.TheVariants.{PoolOpen}
+use Rattle.draid_session.specs.Session.{Desk, Open, Foreign, ImportTurns, RecordFails, ShelfFails}
+use Rattle.draid_pool.specs.declared.pool.Pool.{Pool}
+use Rattle.draid_run.specs.Desks.{Broken, IsDesk}
+use Rattle.draid_run.specs.Shelves.{OnShelf}
+use Rattle.draid_run.specs.declared.answer.Stop.{Stop}
+use Rattle.draid_run.specs.declared.answer.Stop.TheVariants as stop
+
+-- what `import` does where a pool is open, or none is
+abbrev pub ImportDoes : Desk → Reply → Desk → Type 0
+ImportDoes (Open x) reply new = (reply ≡ PoolOpen name.Import) × (new ≡ Open x)
+ImportDoes Foreign reply new = (reply ≡ PoolOpen name.Import) × (new ≡ Foreign)
+ImportDoes old reply new = ImportTurns old reply new
+
+-- it was done, and this is its reply
+pub record ImportDid {R A : Type 0} (rack : racks.Ghosts R) (area : areas.Ghosts A) (entry : OnShelf) (old : Desk) (reply : Reply) (now : OnShelf) (pool : Option (Pool R A)) : Type 0 where
+  pub new : Desk
+  pub desk : IsDesk rack area entry now pool new
+  pub turns : ImportDoes old reply new
+
+-- or the shelf failed, or a record has a fault
+abbrev pub ImportIs : {R A : Type 0} → racks.Ghosts R → areas.Ghosts A → OnShelf → OnShelf → Desk → OnShelf → Option (Pool R A) → Result Reply Stop → Type 0
+ImportIs rack area entry before old now pool (Ok reply) = ImportDid rack area entry old reply now pool
+ImportIs rack area entry before old now pool (Err stop.Unbuilt) = ⊥
+ImportIs rack area entry before old now pool (Err stop.Shelf) = Broken rack area ShelfFails ImportPool entry before old now pool
+ImportIs rack area entry before old now pool (Err (stop.Record metaslab place kind)) = Broken rack area RecordFails ImportPool entry before old now pool
