@@ -11,5 +11,6 @@ pub mod Reads
 pub mod Rooms
 pub mod Session
 pub mod State
+pub mod Status
 pub mod Worn
 pub mod Writes

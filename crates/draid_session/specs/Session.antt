@@ -3,7 +3,7 @@ use Rattle.std.specs.Prelude.{◌≡◌, ◌≤◌, ◌⊎◌, ℕ, Bool, true, 
 use Rattle.draid_names.specs.declared.room.Room.{Room}
 use Rattle.draid_spec.specs.declared.layout.Geometry.{Geometry}
 use Rattle.draid_script.specs.Grammar.{line_of}
-use Rattle.draid_script.specs.Line.{Command, Silent, CreatePool, ImportPool, ExportPool, SyncPool, CrashPool, WriteObject, FillObjects, ReadObject, FreeObject, SumObjects, DamageSector}
+use Rattle.draid_script.specs.Line.{Command, Silent, CreatePool, ImportPool, ExportPool, SyncPool, CrashPool, WriteObject, FillObjects, ReadObject, FreeObject, SumObjects, DamageSector, ShowStatus}
 use Rattle.draid_script.specs.declared.fault.LineFault.{LineFault}
 use Rattle.draid_script.specs.declared.line.PoolKeys.{PoolKeys}
 use Rattle.draid_script.specs.declared.name.CommandName.{CommandName}
@@ -48,6 +48,7 @@ name_of (ReadObject object) = Some name.Read
 name_of (FreeObject object) = Some name.Free
 name_of (SumObjects first count) = Some name.Sum
 name_of (DamageSector leaf sector) = Some name.Damage
+name_of (ShowStatus form) = Some name.Status
 name_of command = None
 
 -- the keys ask for a layout that there is
