@@ -17,6 +17,7 @@ mod store;
 mod summing;
 mod syncing;
 mod unsynced;
+mod viewing;
 mod writing;
 
 pub use closing::close;
