@@ -10,4 +10,5 @@ pub mod Makings
 pub mod Runs
 pub mod Said
 pub mod Serving
+pub mod Shown
 pub mod Steps

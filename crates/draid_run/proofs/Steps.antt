@@ -4,8 +4,9 @@ use Rattle.draid_rack.specs.declared.Rack as racks
 use Rattle.draid_area.specs.declared.Area as areas
 use Rattle.draid_names.specs.declared.room.Room.{Room}
 use Rattle.draid_spec.specs.declared.layout.Geometry.{Geometry}
-use Rattle.draid_script.specs.Line.{Command, CreatePool, DamageSector, FillObjects, FreeObject, ReadObject, SumObjects, WriteObject}
+use Rattle.draid_script.specs.Line.{Command, CreatePool, DamageSector, FillObjects, FreeObject, ReadObject, ShowStatus, SumObjects, WriteObject}
 use Rattle.draid_script.specs.declared.line.PoolKeys.{PoolKeys}
+use Rattle.draid_script.specs.declared.line.StatusFormat.{StatusFormat}
 use Rattle.draid_script.specs.declared.name.CommandName.{CommandName}
 use Rattle.draid_script.specs.declared.name.CommandName.TheVariants as name
 use Rattle.draid_reply.specs.declared.reply.Reply.{Reply}
@@ -21,10 +22,10 @@ use Rattle.draid_pool.specs.Whole.{IsWhole}
 use Rattle.draid_pool.specs.declared.pool.Pool.{Pool}
 use Rattle.draid_run.specs.Desks.{IsDesk, IsPool, PoolDid, ReplyDoes, Turned}
 use Rattle.draid_run.specs.Making.{CreateDid, CreateTurns}
-use Rattle.draid_run.specs.Says.{DamageSays, FreeSays, ReadSays, SumSays}
+use Rattle.draid_run.specs.Says.{DamageSays, FreeSays, ReadSays, StatusSays, SumSays}
 use Rattle.draid_run.specs.Shelves.{IsOut, OnShelf}
 use Rattle.draid_run.proofs.Following.{same_told}
-use Rattle.draid_run.proofs.Said.{damage_does, free_does, read_does, sum_does}
+use Rattle.draid_run.proofs.Said.{damage_does, free_does, read_does, status_does, sum_does}
 
 -- what an answer says, said otherwise
 pub by_answer : {R A T : Type 0} (rack : racks.Ghosts R) (area : areas.Ghosts A) (P : T → List Hold → Store → Type 0) (Q : List Hold → Store → Type 0) (x : State) (pool : Pool R A) (result said : T)
@@ -67,6 +68,11 @@ module _ {R A : Type 0} (rack : racks.Ghosts R) (area : areas.Ghosts A) (called 
     by Unknown stands = absurd stands
     by (Open y) stands = (whole, step y stands.1)
     by Foreign stands = whole
+
+  -- and left the pool as it is
+  pub did_look : (desk : Option (Pool R A)) (pool : Pool R A) → desk ≡ Some pool → IsWhole rack area pool → ((x : State) → Represents rack area pool x → CarriesOut rack area pool x (says x))
+      → (x : Desk) → IsPool rack area desk x → PoolDid rack area called says x reply desk
+  did_look desk pool is whole step x stands = subst (λ d. PoolDid rack area called says x reply d) (sym is) (did_open desk pool pool is whole step x stands)
 
   -- no pool is open, and the reply says so
   pub did_shut : (desk new : Option (Pool R A)) → desk ≡ None → new ≡ None → reply ≡ NoPool called → (x : Desk) → IsPool rack area desk x → PoolDid rack area called says x reply new
@@ -138,6 +144,10 @@ module _ {R A : Type 0} (rack : racks.Ghosts R) (area : areas.Ghosts A) (chosen 
   pub by_damage : (leaf sector : ℕ) (x : Desk) (new : Option (Pool R A)) → IsDesk rack area entry now desk x → PoolDid rack area name.Damage (DamageSays leaf sector reply) x reply new
       → Turned rack area chosen (Ok (DamageSector leaf sector)) entry x (Some reply) now new
   by_damage leaf sector = turned_by (DamageSector leaf sector) name.Damage (DamageSays leaf sector reply) (λ y holds store w. damage_does y chosen reply holds store leaf sector w) (λ y z c. c) (refl, refl) (λ geometry. (refl, refl)) (λ crash y. (refl, refl)) (refl, refl) (refl, refl) refl
+
+  pub by_status : (form : StatusFormat) (x : Desk) (new : Option (Pool R A)) → IsDesk rack area entry now desk x → PoolDid rack area name.Status (StatusSays form reply) x reply new
+      → Turned rack area chosen (Ok (ShowStatus form)) entry x (Some reply) now new
+  by_status form = turned_by (ShowStatus form) name.Status (StatusSays form reply) (λ y holds store w. status_does y chosen reply holds store form w) (λ y z c. c) (refl, refl) (λ geometry. (refl, refl)) (λ crash y. (refl, refl)) (refl, refl) (refl, refl) refl
 
 -- a pool was made or refused, in the words of all commands
 pub by_create : {R A : Type 0} (rack : racks.Ghosts R) (area : areas.Ghosts A) (chosen : List Room → Option ℕ → Type 0) (entry now : OnShelf) (text : List ℕ) (children : ℕ) (keys : PoolKeys) (x : Desk) (reply : Reply)

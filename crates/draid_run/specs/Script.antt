@@ -5,7 +5,7 @@ use Rattle.draid_names.specs.declared.room.Room.{Room}
 use Rattle.draid_lines.specs.Lines.{IsTooLong, lines_of}
 use Rattle.draid_lines.specs.Sink.{AppendsFront}
 use Rattle.draid_script.specs.Grammar.{line_of}
-use Rattle.draid_script.specs.Line.{Command, Silent, CreatePool, ImportPool, ExportPool, SyncPool, CrashPool, WriteObject, ReadObject, FillObjects, FreeObject, SumObjects, DamageSector}
+use Rattle.draid_script.specs.Line.{Command, Silent, CreatePool, ImportPool, ExportPool, SyncPool, CrashPool, WriteObject, ReadObject, FillObjects, FreeObject, SumObjects, DamageSector, ShowStatus}
 use Rattle.draid_script.specs.declared.fault.LineFault.{LineFault}
 use Rattle.draid_reply.specs.Reply.{text_of}
 use Rattle.draid_reply.specs.declared.reply.Reply.{Reply}
@@ -32,6 +32,7 @@ IsUnbuilt (FillObjects first count len seed) = ⊥
 IsUnbuilt (FreeObject object) = ⊥
 IsUnbuilt (SumObjects first count) = ⊥
 IsUnbuilt (DamageSector leaf sector) = ⊥
+IsUnbuilt (ShowStatus format) = ⊥
 IsUnbuilt command = ⊤
 
 -- Why a line can't be run: its first fault by the grammar, or 7 at 0 where its command is beyond what is built.

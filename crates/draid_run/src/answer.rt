@@ -8,7 +8,7 @@ ghost use Rattle.draid_session.specs.Making.{props_of, vdev_name_of};
 ghost use Rattle.draid_session.specs.Session.{Desk};
 ghost use Rattle.draid_run.specs.Desks.{IsDesk, IsPool, PoolDid, ReplyDoes};
 ghost use Rattle.draid_run.specs.Making.{CreateIs, MakeIs};
-ghost use Rattle.draid_run.specs.Says.{DamageSays, FreeSays, ReadSays, SumSays};
+ghost use Rattle.draid_run.specs.Says.{DamageSays, FreeSays, ReadSays, StatusSays, SumSays};
 ghost use Rattle.draid_run.specs.Serve.{AnswerIs, IsSaid};
 ghost use Rattle.draid_run.specs.Shelves.{OnShelf, on_shelf};
 
@@ -19,7 +19,7 @@ use draid_names::{NoMemory, Room};
 use draid_pool::{Pool, PoolFault};
 use draid_rack::Rack;
 use draid_reply::Reply;
-use draid_script::{CommandName, Line, PoolKeys};
+use draid_script::{CommandName, Line, PoolKeys, StatusFormat};
 use draid_shelf::Shelf;
 use draid_spec::{Props, Spec, geometry, parse_spec, spec_name};
 use std::alloc::Global;
@@ -234,6 +234,22 @@ fn damage<R: Rack, A: Area>(pool: &mut Option<Pool<R, A>>, leaf: u64, sector: u6
     }
 }
 
+/// Tells what the open pool is, if one is.
+fn status<R: Rack, A: Area>(
+    alloc: Global,
+    pool: &Option<Pool<R, A>>,
+    format: StatusFormat,
+) -> Reply
+    requires desk { (x : Desk) × IsPool R.Rack A.Area pool.now x }
+    ensures did { (x : Desk) → IsPool R.Rack A.Area pool.now x
+        → PoolDid R.Rack A.Area CommandName.Status (StatusSays format result) x result pool.now }
+{
+    match pool {
+        Some(pool) => replies::status(alloc, pool, format),
+        None => no_pool(CommandName::Status),
+    }
+}
+
 /// The answer to a command that has a reply, unless the run ends there.
 fn said(reply: Result<Reply, Stop>) -> Result<Option<Reply>, Stop>
     ensures { IsSaid reply result }
@@ -282,6 +298,7 @@ pub(crate) fn answer<H: Shelf, F: Fn(&[Room]) -> Option<u32>>(
         Line::Read { object } => Ok(Some(read(pool, object))),
         Line::Sum { first, count } => Ok(Some(sum(rt, pool, first, count))),
         Line::Damage { leaf, sector } => Ok(Some(damage(pool, leaf, sector))),
+        Line::Status { format } => Ok(Some(status(alloc, pool, format))),
         _ => Err(Stop::Unbuilt),
     }
 }

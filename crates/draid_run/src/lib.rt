@@ -8,6 +8,7 @@ mod groups;
 mod importing;
 mod replies;
 mod serve;
+mod showing;
 mod status;
 mod top;
 mod words;

@@ -1,0 +1,57 @@
+-- What a status shows is told in looks at all metaslabs, and then one at the uberblock.
+use Rattle.std.proofs.Common.{◌≡◌, ◌+◌, ◌++◌, [], ◌∷◌, ℕ, List, Result, Ok, Err, refl, ap, subst, length}
+use Rattle.std.specs.Prelude.{IfOk}
+use Rattle.std.specs.declared.vec.Vec.{Vec}
+use Rattle.std.specs.declared.alloc.Global.{Global}
+use Rattle.draid_names.specs.declared.fault.NoMemory.{NoMemory as Starved}
+use Rattle.draid_rack.specs.declared.Rack as racks
+use Rattle.draid_area.specs.declared.Area as areas
+use Rattle.draid_script.specs.declared.line.StatusFormat.{StatusFormat}
+use Rattle.draid_session.specs.Holds.{Hold, LookedUber, OnUber, view_of}
+use Rattle.draid_session.specs.Looks.{LooksFrom}
+use Rattle.draid_session.specs.State.{Metaslab, State}
+use Rattle.draid_pool.specs.Carries.{CarriesOut}
+use Rattle.draid_pool.specs.Pools.{Represents}
+use Rattle.draid_pool.specs.Viewing.{uber_view, views_from, views_of}
+use Rattle.draid_pool.specs.declared.pool.Pool.{Pool}
+use Rattle.draid_pool.proofs.Looking.{changes_none, looked, looks_at, seen_at}
+use Rattle.draid_pool.proofs.Steps.{carried, follows_on}
+use Rattle.draid_run.specs.Says.{Shows, StatusDoes}
+
+seen_all : (m : ℕ) (ys : List Metaslab) → seen_at m ys ≡ views_from m ys
+unfolding seen_at
+seen_all m [] = refl
+seen_all m (y ∷ ys) = ap (λ vs. view_of m y ∷ vs) (seen_all (m + 1) ys)
+
+module _ {R A : Type 0} (rack : racks.Ghosts R) (area : areas.Ghosts A) (pool : Pool R A) (x : State) (stands : Represents rack area pool x) where
+  abbrev looks : List Hold
+  looks = looks_at 0 x.metaslabs
+
+  looked_all : LooksFrom 0 x.geometry.props.metaslabs looks (views_of x)
+  looked_all = subst (λ n. LooksFrom 0 n looks (views_of x)) stands.stands.many (subst (LooksFrom 0 (length x.metaslabs) looks) (seen_all 0 x.metaslabs) (looked 0 x.metaslabs))
+
+  -- a text that shows the state
+  pub text_told : (form : StatusFormat) (text : Vec ℕ Global) → Shows x form text.items → CarriesOut rack area pool x (StatusDoes x form (Ok text))
+  text_told form text shows =
+      carried rack area pool x (looks ++ OnUber (uber_view x) LookedUber ∷ []) x (StatusDoes x form (Ok text))
+      (follows_on looks (OnUber (uber_view x) LookedUber ∷ []) x x x (changes_none x [] x.metaslabs 0 refl refl) (x, record { sees = refl; acts = refl }, refl)) stands (
+        refl,
+        record {
+          views = views_of x;
+          u = uber_view x;
+          view = shows.view;
+          looks = looks;
+          each = looked_all;
+          holds_are = refl;
+          is = shows.is;
+          text_is = shows.text_is;
+        },
+      )
+
+  -- none, for want of memory
+  pub none_told : (form : StatusFormat) (starved : Starved) → CarriesOut rack area pool x (StatusDoes x form (Err starved))
+  none_told form starved = carried rack area pool x [] x (StatusDoes x form (Err starved)) refl stands (refl, refl)
+
+  pub status_told : (form : StatusFormat) (result : Result (Vec ℕ Global) Starved) → IfOk result (λ text. Shows x form text.items) → CarriesOut rack area pool x (StatusDoes x form result)
+  status_told form (Ok text) shows = text_told form text shows
+  status_told form (Err starved) shows = none_told form starved
