@@ -1,5 +1,5 @@
 -- What a status shows is told in looks at all metaslabs, and then one at the uberblock.
-use Rattle.std.proofs.Common.{◌≡◌, ◌+◌, ◌++◌, [], ◌∷◌, ℕ, List, Result, Ok, Err, refl, ap, subst, length}
+use Rattle.std.proofs.Common.{◌≡◌, ◌+◌, ◌++◌, [], ◌∷◌, ℕ, List, Result, Ok, Err, refl, ap, sym, subst, length, ◌∙◌}
 use Rattle.std.specs.Prelude.{IfOk}
 use Rattle.std.specs.declared.vec.Vec.{Vec}
 use Rattle.std.specs.declared.alloc.Global.{Global}
@@ -10,6 +10,8 @@ use Rattle.draid_script.specs.declared.line.StatusFormat.{StatusFormat}
 use Rattle.draid_session.specs.Holds.{Hold, LookedUber, OnUber, view_of}
 use Rattle.draid_session.specs.Looks.{LooksFrom}
 use Rattle.draid_session.specs.State.{Metaslab, State}
+use Rattle.draid_session.specs.Status.{IsPoolView, text_by}
+use Rattle.draid_report.specs.declared.view.View.{View as PoolView}
 use Rattle.draid_pool.specs.Carries.{CarriesOut}
 use Rattle.draid_pool.specs.Pools.{Represents}
 use Rattle.draid_pool.specs.Viewing.{uber_view, views_from, views_of}
@@ -22,6 +24,17 @@ seen_all : (m : ℕ) (ys : List Metaslab) → seen_at m ys ≡ views_from m ys
 unfolding seen_at
 seen_all m [] = refl
 seen_all m (y ∷ ys) = ap (λ vs. view_of m y ∷ vs) (seen_all (m + 1) ys)
+
+-- the text of a view, by the format that was asked for
+pub text_shows : (x : State) (form said : StatusFormat) → form ≡ said → (got : Result PoolView Starved) (view : PoolView) → got ≡ Ok view
+    → IfOk got (IsPoolView x.geometry x.perms x.store (uber_view x) (views_of x)) → (result : Result (Vec ℕ Global) Starved) → IfOk result (λ text. text.items ≡ text_by said view)
+    → IfOk result (λ text. Shows x form text.items)
+text_shows x form said is got view at shown (Err starved) texts = tt
+text_shows x form said is got view at shown (Ok text) texts = record {
+  view = view;
+  is = subst (λ (r : Result PoolView Starved). IfOk r (IsPoolView x.geometry x.perms x.store (uber_view x) (views_of x))) at shown;
+  text_is = texts ∙ ap (λ f. text_by f view) (sym is);
+}
 
 module _ {R A : Type 0} (rack : racks.Ghosts R) (area : areas.Ghosts A) (pool : Pool R A) (x : State) (stands : Represents rack area pool x) where
   abbrev looks : List Hold
