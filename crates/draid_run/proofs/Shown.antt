@@ -27,13 +27,13 @@ seen_all m (y ∷ ys) = ap (λ vs. view_of m y ∷ vs) (seen_all (m + 1) ys)
 
 -- the text of a view, by the format that was asked for
 pub text_shows : (x : State) (form said : StatusFormat) → form ≡ said → (got : Result PoolView Starved) (view : PoolView) → got ≡ Ok view
-    → IfOk got (IsPoolView x.geometry x.perms x.store (uber_view x) (views_of x)) → (result : Result (Vec ℕ Global) Starved) → IfOk result (λ text. text.items ≡ text_by said view)
+    → IfOk got (IsPoolView x.geometry x.perms x.store (uber_view x) (views_of x)) → (result : Result (Vec ℕ Global) Starved) → IfOk result (λ text. text.items ≡ text_by x.geometry x.perms said view)
     → IfOk result (λ text. Shows x form text.items)
 text_shows x form said is got view at shown (Err starved) texts = tt
 text_shows x form said is got view at shown (Ok text) texts = record {
   view = view;
   is = subst (λ (r : Result PoolView Starved). IfOk r (IsPoolView x.geometry x.perms x.store (uber_view x) (views_of x))) at shown;
-  text_is = texts ∙ ap (λ f. text_by f view) (sym is);
+  text_is = texts ∙ ap (λ f. text_by x.geometry x.perms f view) (sym is);
 }
 
 module _ {R A : Type 0} (rack : racks.Ghosts R) (area : areas.Ghosts A) (pool : Pool R A) (x : State) (stands : Represents rack area pool x) where

@@ -52,7 +52,7 @@ status_reply (Err starved) = NoMemory name.Status
 pub record Shows (x : State) (form : StatusFormat) (text : List ℕ) : Type 0 where
   pub view : PoolView
   pub is : IsPoolView x.geometry x.perms x.store (uber_view x) (views_of x) view
-  pub text_is : text ≡ text_by form view
+  pub text_is : text ≡ text_by x.geometry x.perms form view
 
 -- its holds are looks, if it gets a text
 abbrev pub StatusDoes : State → StatusFormat → Result (Vec ℕ Global) Starved → List Hold → Store → Type 0
