@@ -17,4 +17,5 @@ pub mod Shards
 pub mod Syncing
 pub mod Together
 pub mod Ubers
+pub mod Views
 pub mod Whole

@@ -29,12 +29,16 @@ count_past f m (suc n) low none = elim (cases_lt n m) [
       omega (arith, rest, more)
 ]
 
+count_up : (f : ℕ → Bool) (n m : ℕ) → m ≡ suc n → count_below f m ≡ count_below f n + (if f n then 1 else 0)
+unfolding count_below
+count_up f n m is = ap (count_below f) is
+
 count_one : (f : ℕ → Bool) (n : ℕ) → count_below f (n + 1) ≡ count_below f n + (if f n then 1 else 0)
-count_one f n = up (n + 1) (omega arith)
-  where
-    up : (m : ℕ) → m ≡ suc n → count_below f m ≡ count_below f n + (if f n then 1 else 0)
-    unfolding count_below
-    up m is = ap (count_below f) is
+count_one f n = count_up f n (n + 1) (omega arith)
+
+count_zero : (f : ℕ → Bool) → 0 ≡ count_below f 0
+unfolding count_below
+count_zero f = refl
 
 one_at_most : (b : Bool) → (if b then 1 else 0) ≤ 1
 one_at_most true = omega arith
@@ -62,12 +66,8 @@ module _ (P : ℕ → Type 0) where
   counts_none = record {
     test = λ k. false;
     is = λ k. (λ same. absurd (true≢false (sym same)), λ both. absurd (let low = both.0 in omega (arith, low)));
-    count_is = nothing;
+    count_is = count_zero (λ k. false);
   }
-    where
-      nothing : 0 ≡ count_below (λ (k : ℕ). false) 0
-      unfolding count_below
-      nothing = refl
 
   module _ (bound count : ℕ) (was : CountsBelow bound count) where
     past : (x : ℕ) → bound ≤ x → was.test x ≡ false

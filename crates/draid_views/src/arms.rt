@@ -4,9 +4,7 @@ ghost use Rattle.draid_names.specs.declared.numbers.TheConstants.{NUMBERS};
 ghost use Rattle.draid_perm.specs.declared.perms.Perms.{Perms};
 ghost use Rattle.draid_slots.specs.Table.{IsTable, arms_of};
 ghost use Rattle.draid_shard.specs.Fits.{Valid};
-
-ghost use Rattle.draid_session.specs.Status.{spare_name_in};
-ghost use Rattle.draid_stable.specs.Slots.{named};
+ghost use Rattle.draid_session.specs.Status.{named, spare_name_in};
 ghost use Rattle.draid_views.specs.Views.{AreArmsTold, AreSlotViews, IsArmTold, IsLogCount, LogsAre};
 
 use draid_area::Area;
@@ -53,7 +51,8 @@ fn arm_views<R: Rack, A: Area>(
     ensures { IfOk result (λ views. AreArmsTold geometry shards.now (arms_of slots.now slot) views.items) }
 {
     let mut views = Vec::new(alloc);
-    for arm in slots.arms(slot) {
+    let arms = slots.arms(slot);
+    for arm in arms {
         views.push(arm_view(alloc, shards, geometry, *arm)?)?;
     }
     Ok(views)
