@@ -1,10 +1,11 @@
 -- What is told of the shards of a pool is told of the metaslabs of each state that it represents.
 use Rattle.std.proofs.Common.{◌≡◌, ◌+◌, ◌<◌, ◌≤◌, ◌↔◌, ◌∙◌, ℕ, zero, suc, List, [], ◌∷◌, Option, Some, None, Contains, arith, refl, sym, ap, ap₂, subst, length, option_map}
-use Rattle.std.specs.Prelude.{All, nat_eq, slice_get, slice_index_or}
+use Rattle.std.specs.Prelude.{All, nat_eq, slice_get, slice_index_or, string_bytes}
 use Rattle.std.specs.List.{AllZip}
 use Rattle.std.specs.HashMap.{get}
 use Rattle.std.proofs.lemmas.Option.{slice_get-get_or}
 use Rattle.draid_names.specs.declared.pointer.Pointer.{Pointer}
+use Rattle.draid_spec.specs.declared.layout.Geometry.{Geometry}
 use Rattle.draid_rack.specs.declared.Rack as racks
 use Rattle.draid_area.specs.declared.Area as areas
 use Rattle.draid_machine.specs.declared.names.ArmName.{ArmName}
@@ -24,16 +25,19 @@ use Rattle.draid_shard.specs.declared.shard.Shard.{Shard}
 use Rattle.draid_shard.proofs.Held.{key_leads}
 use Rattle.draid_shard.proofs.Tables.{first_is}
 use Rattle.draid_report.specs.declared.view.MetaslabView.{MetaslabView}
+use Rattle.draid_report.specs.declared.view.View.{View as PoolView}
 use Rattle.draid_session.specs.Holds.{View, view_of}
+use Rattle.draid_session.specs.Making.{vdev_name_of}
+use Rattle.draid_session.specs.Opening.{HasObjects}
 use Rattle.draid_session.specs.State.{Metaslab, State}
-use Rattle.draid_session.specs.Status.{BeginsBlock, HasCount, IsFreeStripe, IsMetaslabView}
-use Rattle.draid_views.specs.Views.{AreShown, IsPointedAt, IsShown, IsToldOf, ShowSameArms}
+use Rattle.draid_session.specs.Status.{BeginsBlock, HasCount, IsFreeStripe, IsGreatestOpen, IsMetaslabView, IsPoolView, IsSlotView}
+use Rattle.draid_views.specs.Views.{AreShown, AreSlotViews, IsPointedAt, IsShown, IsToldOf, ShowSameArms}
 use Rattle.draid_views.proofs.Zips.{found_at, zip_long, zip_right}
 use Rattle.draid_pool.specs.Importable.{HasArms, bare}
 use Rattle.draid_pool.specs.Metaslabs.{IsMetaslab}
 use Rattle.draid_pool.specs.Objects.{IsLastAt, IsPointerOf, PointsTo}
 use Rattle.draid_pool.specs.Pools.{Represents, part_in}
-use Rattle.draid_pool.specs.Views.{seen_at, views_of}
+use Rattle.draid_pool.specs.Views.{seen_at, uber_view, views_of}
 use Rattle.draid_pool.specs.Whole.{IsWhole}
 use Rattle.draid_pool.specs.declared.pool.Pool.{Pool}
 use Rattle.draid_pool.proofs.Moved.{blocks_at}
@@ -184,6 +188,30 @@ module _ {R A : Type 0} (rack : racks.Ghosts R) (area : areas.Ghosts A) (pool : 
 
   pub many_told : (views : List MetaslabView) → AllZip (IsToldOf pool.objects) pool.shards.items views → length views ≡ length (views_of x)
   many_told views told = zip_long (IsToldOf pool.objects) pool.shards.items views told ∙ sym (zip_long IsShown pool.shards.items (views_of x) pool_shown)
+
+  -- what is told of a pool, by what is told of its shards
+  pub pool_told : (shards : List (Shard R A)) → shards ≡ pool.shards.items → (view : PoolView) → string_bytes view.name ≡ vdev_name_of pool.geometry.spec → view.group ≡ x.committed
+      → ((views : List View) → AreShown shards views → IsGreatestOpen views view.open_group) → HasObjects x.store.changes view.objects → length view.slots.items ≡ pool.geometry.spec.children
+      → AreSlotViews pool.geometry shards view.slots.items → AllZip (IsToldOf pool.objects) shards view.metaslabs.items → IsPoolView x.geometry x.perms x.store (uber_view x) (views_of x) view
+  pool_told shards same view name group last objects many slots told = record {
+    name = name ∙ ap (λ (g : Geometry). vdev_name_of g.spec) laid;
+    group = group;
+    last_group = last (views_of x) shown;
+    objects = objects;
+    many_slots = many ∙ ap (λ (g : Geometry). g.spec.children) laid;
+    slots = λ slot arms at. subst (λ (g : Geometry). IsSlotView g x.perms (views_of x) slot arms.items) laid (slots x.perms (views_of x) shown same_arms slot arms at);
+    many = many_told view.metaslabs.items here;
+    metaslabs = λ m v it at there. metaslabs_told view.metaslabs.items here m v it at there;
+  }
+    where
+      laid : pool.geometry ≡ x.geometry
+      laid = sym is.stands.geometry
+
+      shown : AreShown shards (views_of x)
+      shown = subst (λ (xs : List (Shard R A)). AreShown xs (views_of x)) (sym same) pool_shown
+
+      here : AllZip (IsToldOf pool.objects) pool.shards.items view.metaslabs.items
+      here = subst (λ (xs : List (Shard R A)). AllZip (IsToldOf pool.objects) xs view.metaslabs.items) same told
 
 -- each shard has the pool's layout
 pub all_laid : {R A : Type 0} (rack : racks.Ghosts R) (area : areas.Ghosts A) (pool : Pool R A) → IsWhole rack area pool → All (λ (shard : Shard R A). shard.geometry ≡ pool.geometry) pool.shards.items

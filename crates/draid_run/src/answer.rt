@@ -1,10 +1,10 @@
 //! What the commands of a script reply, whether a pool is open or not.
-ghost use Rattle.std.specs.Prelude.{◌≡◌, ◌≤◌, None, IfOk, string_bytes};
+ghost use Rattle.std.specs.Prelude.{◌≡◌, ◌≤◌, None};
 ghost use Rattle.draid_script.specs.Line.{FillObjects, IsInRange, SumObjects, WriteObject, command_in};
 ghost use Rattle.std.specs.Fn.{FnReturnsAt};
 ghost use Rattle.draid_choose.specs.Rooms.{IsChooser};
 ghost use Rattle.draid_spec.specs.Spec.{IsSpec};
-ghost use Rattle.draid_session.specs.Making.{props_of, vdev_name_of};
+ghost use Rattle.draid_session.specs.Making.{props_of};
 ghost use Rattle.draid_session.specs.Session.{Desk};
 ghost use Rattle.draid_run.specs.Desks.{IsDesk, IsPool, PoolDid, ReplyDoes};
 ghost use Rattle.draid_run.specs.Making.{CreateIs, MakeIs};
@@ -15,7 +15,7 @@ ghost use Rattle.draid_run.specs.Shelves.{OnShelf, on_shelf};
 use crate::{fill, groups, importing, replies};
 use draid_area::Area;
 use draid_choose::Chooser;
-use draid_names::{NoMemory, Room};
+use draid_names::Room;
 use draid_pool::{Pool, PoolFault, vdev_name};
 use draid_rack::Rack;
 use draid_reply::Reply;

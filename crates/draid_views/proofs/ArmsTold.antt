@@ -1,6 +1,6 @@
 -- What shards have of arms is what states have for which they stand.
-use Rattle.std.proofs.Common.{◌≡◌, ◌≢◌, ◌⊎◌, ◌+◌, ◌*◌, ◌<◌, ◌≤◌, ◌++◌, ◌∙◌, ℕ, zero, suc, List, [], ◌∷◌, Option, Some, None, Contains, arith, refl, sym, ap, ap₂, subst, inl, inr, get_or, length, length-append, map, take, sum_by, option_map}
-use Rattle.std.specs.Prelude.{IsSomeAnd, slice_get}
+use Rattle.std.proofs.Common.{◌≡◌, ◌+◌, ◌*◌, ◌^◌, ◌<◌, ◌≤◌, ◌++◌, ◌∙◌, ℕ, zero, suc, true, List, [], ◌∷◌, Option, Some, None, Contains, arith, refl, sym, ap, ap₂, subst, inl, inr, get_or, length, length-append, map, take, sum_by, option_map}
+use Rattle.std.specs.Prelude.{All, IsSomeAnd, slice_get, slice_index_or}
 use Rattle.std.proofs.lemmas.Bool.{cases_lt}
 use Rattle.std.specs.declared.alloc.Global.{Global}
 use Rattle.std.specs.declared.vec.Vec.{Vec}
@@ -8,7 +8,7 @@ use Rattle.std.proofs.Math.Seq.{take-suc}
 use Rattle.std.proofs.lemmas.List.{map-append, take_all}
 use Rattle.std.proofs.lemmas.List.Elements.{All-push}
 use Rattle.std.proofs.lemmas.List.Sums.{sum_by_more}
-use Rattle.std.proofs.lemmas.Option.{get_or_from_slice_get, slice_get-map, slice_get_within}
+use Rattle.std.proofs.lemmas.Option.{get_or_from_slice_get, slice_get-get_or, slice_get-map, slice_get_within}
 use Rattle.draid_names.specs.declared.arm.Arm.{Arm}
 use Rattle.draid_names.specs.declared.arm.ArmAt.{ArmAt}
 use Rattle.draid_names.specs.declared.arm.ArmKind.{ArmKind}
@@ -20,7 +20,7 @@ use Rattle.draid_machine.specs.declared.names.ArmName.{ArmName}
 use Rattle.draid_machine.specs.declared.names.ArmName.TheVariants.{Leaf, Spare}
 use Rattle.draid_machine.specs.State as machine
 use Rattle.draid_machine.proofs.Small.{none_some, some_injective, some_same}
-use Rattle.draid_slots.specs.Table.{IsArmOf, SlotTable, arm_at, arms_of, count_at, log_at}
+use Rattle.draid_slots.specs.Table.{IsTable, SlotTable, arms_of, is_spare_kind}
 use Rattle.draid_stable.specs.Slots as slots_of
 use Rattle.draid_stable.specs.Slots.{HasArm, HasSlots, WasArm, arm_in}
 use Rattle.draid_shard.specs.States.{IsIn}
@@ -134,9 +134,23 @@ arms_more geometry shards arms k views arm view below here is told was = record 
     step : (n : ℕ) → n ≡ suc k → take n arms ≡ take k arms ++ get_or arms k arm ∷ []
     step n same = ap (λ (j : ℕ). take j arms) same ∙ take-suc arms k arm below
 
-pub arms_all : {R A : Type 0} (geometry : Geometry) (shards : List (Shard R A)) (arms : List Arm) (k : ℕ) (views : List ArmView) → length arms ≤ k → AreArmsTold geometry shards (take k arms) views
-    → AreArmsTold geometry shards arms views
-arms_all geometry shards arms k views end was = record { arms_are = was.arms_are ∙ take_all k arms end; each = was.each }
+-- the arm at a place, whatever is there else
+pub arms_more_at : {R A : Type 0} (geometry : Geometry) (shards : List (Shard R A)) (arms : List Arm) (k : ℕ) (views : List ArmView) (other : Arm) (view : ArmView) → k < length arms
+    → view.arm ≡ get_or arms k other → IsArmTold geometry shards view → AreArmsTold geometry shards (take k arms) views → AreArmsTold geometry shards (take (k + 1) arms) (views ++ view ∷ [])
+arms_more_at geometry shards arms k views other view below is told was =
+    let arm = get_or arms k other in
+    arms_more geometry shards arms k views arm view below (sym (get_or_from_slice_get arms k arm arm (slice_get-get_or arms k other below))) is told was
+
+-- a spare that the pool has has a small number
+pub pooled_small : (table : SlotTable) → IsTable table → (slot : ℕ) → slot < table.geometry.spec.children → (arms : List Arm) → arms ≡ arms_of table slot → (k : ℕ) (other : Arm) → k < length arms
+    → (slice_index_or arms k other).kind ≡ kind.Spare → (slice_index_or arms k other).number < 2 ^ 32
+pooled_small table sound slot low arms same k other below spare =
+    let children = sound.slots.children in
+    let here = sound.slots.each slot [] (omega (arith, low, children)) in
+    let pooled = subst (λ (xs : List Arm). All (λ (arm : Arm). is_spare_kind arm.kind ≡ true → arm.number < table.geometry.spec.spares) xs) (sym same) here.pooled in
+    let less = pooled k other below (ap is_spare_kind spare) in
+    let few = sound.layout.geometry_is.spec.most_spares in
+    omega (arith, less, few)
 
 -- ---- all slots
 

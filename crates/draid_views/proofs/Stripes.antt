@@ -3,6 +3,8 @@ use Rattle.std.proofs.Common.{◌≡◌, ◌+◌, ◌<◌, ◌≤◌, ◌↔◌,
 use Rattle.std.specs.Prelude.{slice_get, nat_eq}
 use Rattle.std.specs.HashMap.{HashMap, get}
 use Rattle.std.proofs.lemmas.Bool.{true≢false, cases_eq, cases_lt}
+use Rattle.std.specs.Ordering.{nat_cmp, ord_max}
+use Rattle.std.proofs.lemmas.Bool.Decides.{nat_tests}
 use Rattle.std.proofs.lemmas.Option.{slice_get_within}
 use Rattle.draid_names.specs.declared.numbers.TheConstants.{NUMBERS}
 use Rattle.draid_names.specs.declared.pointer.Pointer.{Pointer}
@@ -103,6 +105,9 @@ pub pass_is : {R A : Type 0} (shard : Shard R A) (v : View) (view : Option PassV
 pass_is shard v view at told = subst (λ (o : Option machine.Pass). PassIs o view) (sym at.pass) (pass_by shard.slots shard.pass view told)
 
 -- ---- open groups
+
+pub max_is : (a b : ℕ) → ord_max nat_cmp a b ≡ max a b
+max_is a b = grind (arith, nat_tests)
 
 -- the greatest group that is open in the shards so far
 pub record GreatestUpto {R A : Type 0} (shards : List (Shard R A)) (k group : ℕ) : Type 0 where

@@ -1,4 +1,4 @@
-use Rattle.std.proofs.Common.{◌+◌, List, arith, subst, sym, take}
+use Rattle.std.proofs.Common.{rules, ◌+◌, List, arith, subst, sym, take}
 use Rattle.std.specs.List.{AllZip}
 use Rattle.draid_report.specs.declared.view.MetaslabView.{MetaslabView}
 use Rattle.draid_shard.specs.Fits.{Valid}

@@ -1,0 +1,16 @@
+use Rattle.std.proofs.Common.{◌≡◌, ◌<◌, ◌≤◌, List, length, subst, sym}
+use Rattle.std.specs.Prelude.{All}
+use Rattle.draid_shard.specs.Fits.{Valid}
+use Rattle.draid_shard.specs.declared.shard.Shard.{Shard}
+use Rattle.draid_pool.proofs.Viewed.{all_laid, pool_told, some_shards}
+use Rattle.draid_pool.proofs.Wholes.{all_whole, few_whole}
+use Rattle.draid_pool.proofs.pool.Pool.view.Goals as goal
+
+pub slot_views-requires : goal.slot_views-requires
+slot_views-requires g c = record {
+  some = subst (λ (xs : List (Shard g.row.R.Denot g.row.A.Denot)). 0 < length xs) (sym c.as_slice.ensures.value) (some_shards g.R.Rack g.A.Area c.args.self.now c.requires.whole);
+  few = subst (λ (xs : List (Shard g.row.R.Denot g.row.A.Denot)). length xs ≤ 64) (sym c.as_slice.ensures.value) (few_whole g.R.Rack g.A.Area c.args.self.now c.requires.whole);
+  valid = subst (λ (xs : List (Shard g.row.R.Denot g.row.A.Denot)). All (Valid g.R.Rack) xs) (sym c.as_slice.ensures.value) (all_whole g.R.Rack g.A.Area c.args.self.now c.requires.whole);
+  layout = subst (λ (xs : List (Shard g.row.R.Denot g.row.A.Denot)). All (λ (shard : Shard g.row.R.Denot g.row.A.Denot). shard.geometry ≡ c.args.self.now.geometry) xs) (sym c.as_slice.ensures.value)
+      (all_laid g.R.Rack g.A.Area c.args.self.now c.requires.whole);
+}
