@@ -1,5 +1,5 @@
 -- What is told of the shards of a pool is told of the metaslabs of each state that it represents.
-use Rattle.std.proofs.Common.{◌≡◌, ◌+◌, ◌<◌, ◌≤◌, ◌↔◌, ◌∙◌, ℕ, zero, suc, List, [], ◌∷◌, Option, Some, None, Contains, arith, refl, sym, ap, ap₂, subst, length, option_map}
+use Rattle.std.proofs.Common.{◌≡◌, ◌+◌, ◌<◌, ◌≤◌, ◌↔◌, ◌∙◌, ℕ, zero, suc, Bool, true, false, List, [], ◌∷◌, Option, Some, None, Contains, arith, refl, sym, ap, ap₂, subst, length, option_map}
 use Rattle.std.specs.Prelude.{All, nat_eq, slice_get, slice_index_or, string_bytes}
 use Rattle.std.specs.List.{AllZip}
 use Rattle.std.specs.HashMap.{get}
