@@ -29,13 +29,13 @@ returns g c = record {
   view = λ x represents.
       pool_told g.R.Rack g.A.Area c.args.self.now x represents c.as_slice-shards.result.now c.as_slice-shards.ensures.value
       (record {
-        name = c.in_ok-name.field-0;
-        group = c.committed-group.result;
-        open_group = c.last_open_group-open_group.result;
-        objects = c.objects-objects.result;
-        slots = c.in_ok-slots.field-0;
-        metaslabs = c.in_ok-metaslabs.field-0;
+        name = c.in_ok-name.name;
+        group = c.committed.result;
+        open_group = c.last_open_group.result;
+        objects = c.objects.result;
+        slots = c.in_ok-slots.slots;
+        metaslabs = c.in_ok-metaslabs.metaslabs;
       })
-      c.in_ok-name.ensures (c.committed-group.ensures x represents) c.last_open_group-open_group.ensures (c.objects-objects.ensures x represents) c.in_ok-slots.ensures.many c.in_ok-slots.ensures.slots
+      c.in_ok-name.ensures (c.committed.ensures x represents) c.last_open_group.ensures (c.objects.ensures x represents) c.in_ok-slots.ensures.many c.in_ok-slots.ensures.slots
       c.in_ok-metaslabs.ensures;
 }
