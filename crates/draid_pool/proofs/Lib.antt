@@ -34,6 +34,7 @@ pub mod Listing
 pub mod ChooseSteps
 pub mod Walks
 pub mod Turns
+pub mod Viewed
 pub mod Stood
 pub mod SyncSteps
 pub mod Naming

@@ -17,5 +17,5 @@ pub mod Shards
 pub mod Syncing
 pub mod Together
 pub mod Ubers
-pub mod Viewing
+pub mod Views
 pub mod Whole

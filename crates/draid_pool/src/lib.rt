@@ -26,3 +26,4 @@ pub use fault::{DamageFault, FreeFault, PoolFault, SumFault, SyncFault, Synced};
 pub use importing::import;
 pub use opening::create;
 pub use pool::Pool;
+pub use viewing::vdev_name;

@@ -1,5 +1,5 @@
 -- What a status shows is told in looks at all metaslabs, and then one at the uberblock.
-use Rattle.std.proofs.Common.{◌≡◌, ◌+◌, ◌++◌, [], ◌∷◌, ℕ, List, Result, Ok, Err, refl, ap, sym, subst, length, ◌∙◌}
+use Rattle.std.proofs.Common.{◌≡◌, ◌∙◌, ◌++◌, [], ◌∷◌, ℕ, List, Result, Ok, Err, refl, ap, sym, subst}
 use Rattle.std.specs.Prelude.{IfOk}
 use Rattle.std.specs.declared.vec.Vec.{Vec}
 use Rattle.std.specs.declared.alloc.Global.{Global}
@@ -7,23 +7,18 @@ use Rattle.draid_names.specs.declared.fault.NoMemory.{NoMemory as Starved}
 use Rattle.draid_rack.specs.declared.Rack as racks
 use Rattle.draid_area.specs.declared.Area as areas
 use Rattle.draid_script.specs.declared.line.StatusFormat.{StatusFormat}
-use Rattle.draid_session.specs.Holds.{Hold, LookedUber, OnUber, view_of}
+use Rattle.draid_session.specs.Holds.{Hold, LookedUber, OnUber}
 use Rattle.draid_session.specs.Looks.{LooksFrom}
-use Rattle.draid_session.specs.State.{Metaslab, State}
+use Rattle.draid_session.specs.State.{State}
 use Rattle.draid_session.specs.Status.{IsPoolView, text_by}
 use Rattle.draid_report.specs.declared.view.View.{View as PoolView}
 use Rattle.draid_pool.specs.Carries.{CarriesOut}
 use Rattle.draid_pool.specs.Pools.{Represents}
-use Rattle.draid_pool.specs.Viewing.{uber_view, views_from, views_of}
+use Rattle.draid_pool.specs.Views.{uber_view, views_of}
 use Rattle.draid_pool.specs.declared.pool.Pool.{Pool}
-use Rattle.draid_pool.proofs.Looking.{changes_none, looked, looks_at, seen_at}
+use Rattle.draid_pool.proofs.Looking.{changes_none, looked, looks_at}
 use Rattle.draid_pool.proofs.Steps.{carried, follows_on}
 use Rattle.draid_run.specs.Says.{Shows, StatusDoes}
-
-seen_all : (m : ℕ) (ys : List Metaslab) → seen_at m ys ≡ views_from m ys
-unfolding seen_at
-seen_all m [] = refl
-seen_all m (y ∷ ys) = ap (λ vs. view_of m y ∷ vs) (seen_all (m + 1) ys)
 
 -- the text of a view, by the format that was asked for
 pub text_shows : (x : State) (form said : StatusFormat) → form ≡ said → (got : Result PoolView Starved) (view : PoolView) → got ≡ Ok view
@@ -41,7 +36,7 @@ module _ {R A : Type 0} (rack : racks.Ghosts R) (area : areas.Ghosts A) (pool : 
   looks = looks_at 0 x.metaslabs
 
   looked_all : LooksFrom 0 x.geometry.props.metaslabs looks (views_of x)
-  looked_all = subst (λ n. LooksFrom 0 n looks (views_of x)) stands.stands.many (subst (LooksFrom 0 (length x.metaslabs) looks) (seen_all 0 x.metaslabs) (looked 0 x.metaslabs))
+  looked_all = subst (λ n. LooksFrom 0 n looks (views_of x)) stands.stands.many (looked 0 x.metaslabs)
 
   -- a text that shows the state
   pub text_told : (form : StatusFormat) (text : Vec ℕ Global) → Shows x form text.items → CarriesOut rack area pool x (StatusDoes x form (Ok text))

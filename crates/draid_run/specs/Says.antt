@@ -17,7 +17,7 @@ use Rattle.draid_pool.specs.declared.fault.DamageFault.{DamageFault}
 use Rattle.draid_pool.specs.declared.fault.DamageFault.TheVariants as damaged
 use Rattle.draid_pool.specs.declared.fault.FreeFault.{FreeFault}
 use Rattle.draid_pool.specs.declared.fault.SumFault.{SumFault}
-use Rattle.draid_pool.specs.Viewing.{uber_view, views_of}
+use Rattle.draid_pool.specs.Views.{uber_view, views_of}
 use Rattle.draid_report.specs.declared.view.View.{View as PoolView}
 
 abbrev pub read_reply : ℕ → Result (Vec ℕ Global) ObjectFault → Reply

@@ -1,10 +1,10 @@
 //! What the commands of a script reply, whether a pool is open or not.
-ghost use Rattle.std.specs.Prelude.{◌≡◌, ◌≤◌, None, IfOk, string_bytes};
+ghost use Rattle.std.specs.Prelude.{◌≡◌, ◌≤◌, None};
 ghost use Rattle.draid_script.specs.Line.{FillObjects, IsInRange, SumObjects, WriteObject, command_in};
 ghost use Rattle.std.specs.Fn.{FnReturnsAt};
 ghost use Rattle.draid_choose.specs.Rooms.{IsChooser};
 ghost use Rattle.draid_spec.specs.Spec.{IsSpec};
-ghost use Rattle.draid_session.specs.Making.{props_of, vdev_name_of};
+ghost use Rattle.draid_session.specs.Making.{props_of};
 ghost use Rattle.draid_session.specs.Session.{Desk};
 ghost use Rattle.draid_run.specs.Desks.{IsDesk, IsPool, PoolDid, ReplyDoes};
 ghost use Rattle.draid_run.specs.Making.{CreateIs, MakeIs};
@@ -15,13 +15,13 @@ ghost use Rattle.draid_run.specs.Shelves.{OnShelf, on_shelf};
 use crate::{fill, groups, importing, replies};
 use draid_area::Area;
 use draid_choose::Chooser;
-use draid_names::{NoMemory, Room};
-use draid_pool::{Pool, PoolFault};
+use draid_names::Room;
+use draid_pool::{Pool, PoolFault, vdev_name};
 use draid_rack::Rack;
 use draid_reply::Reply;
 use draid_script::{CommandName, Line, PoolKeys, StatusFormat};
 use draid_shelf::Shelf;
-use draid_spec::{Props, Spec, geometry, parse_spec, spec_name};
+use draid_spec::{Props, Spec, geometry, parse_spec};
 use std::alloc::Global;
 use std::thread::Threads;
 
@@ -53,15 +53,6 @@ fn props(keys: PoolKeys) -> Props
         seed: keys.seed,
         version: keys.version,
     }
-}
-
-/// The name of a pool's vdev: its spec in full, and the number of the vdev, which is the only one.
-pub(crate) fn vdev_name(alloc: Global, spec: Spec) -> Result<String, NoMemory>
-    ensures { IfOk result (λ name. string_bytes name ≡ vdev_name_of spec) }
-{
-    let mut name = spec_name(alloc, spec)?;
-    name.push_str("-0")?;
-    Ok(name)
 }
 
 /// Opens a new pool, where none is open.
