@@ -18,12 +18,12 @@ use Rattle.draid_pool.specs.Views.{uber_view, views_of}
 use Rattle.draid_pool.specs.declared.pool.Pool.{Pool}
 use Rattle.draid_pool.proofs.Looking.{changes_none, looked, looks_at}
 use Rattle.draid_pool.proofs.Steps.{carried, follows_on}
-use Rattle.draid_run.specs.Says.{Shows, StatusDoes}
+use Rattle.draid_run.specs.Says.{ShowsPool, StatusDoes}
 
 -- the text of a view, by the format that was asked for
 pub text_shows : (x : State) (form said : StatusFormat) → form ≡ said → (got : Result PoolView Starved) (view : PoolView) → got ≡ Ok view
     → IfOk got (IsPoolView x.geometry x.perms x.store (uber_view x) (views_of x)) → (result : Result (Vec ℕ Global) Starved) → IfOk result (λ text. text.items ≡ text_by x.geometry x.perms said view)
-    → IfOk result (λ text. Shows x form text.items)
+    → IfOk result (λ text. ShowsPool x form text.items)
 text_shows x form said is got view at shown (Err starved) texts = tt
 text_shows x form said is got view at shown (Ok text) texts = record {
   view = view;
@@ -39,7 +39,7 @@ module _ {R A : Type 0} (rack : racks.Ghosts R) (area : areas.Ghosts A) (pool : 
   looked_all = subst (λ n. LooksFrom 0 n looks (views_of x)) stands.stands.many (looked 0 x.metaslabs)
 
   -- a text that shows the state
-  pub text_told : (form : StatusFormat) (text : Vec ℕ Global) → Shows x form text.items → CarriesOut rack area pool x (StatusDoes x form (Ok text))
+  pub text_told : (form : StatusFormat) (text : Vec ℕ Global) → ShowsPool x form text.items → CarriesOut rack area pool x (StatusDoes x form (Ok text))
   text_told form text shows =
       carried rack area pool x (looks ++ OnUber (uber_view x) LookedUber ∷ []) x (StatusDoes x form (Ok text))
       (follows_on looks (OnUber (uber_view x) LookedUber ∷ []) x x x (changes_none x [] x.metaslabs 0 refl refl) (x, record { sees = refl; acts = refl }, refl)) stands (
@@ -60,6 +60,6 @@ module _ {R A : Type 0} (rack : racks.Ghosts R) (area : areas.Ghosts A) (pool : 
   pub none_told : (form : StatusFormat) (starved : Starved) → CarriesOut rack area pool x (StatusDoes x form (Err starved))
   none_told form starved = carried rack area pool x [] x (StatusDoes x form (Err starved)) refl stands (refl, refl)
 
-  pub status_told : (form : StatusFormat) (result : Result (Vec ℕ Global) Starved) → IfOk result (λ text. Shows x form text.items) → CarriesOut rack area pool x (StatusDoes x form result)
+  pub status_told : (form : StatusFormat) (result : Result (Vec ℕ Global) Starved) → IfOk result (λ text. ShowsPool x form text.items) → CarriesOut rack area pool x (StatusDoes x form result)
   status_told form (Ok text) shows = text_told form text shows
   status_told form (Err starved) shows = none_told form starved

@@ -49,7 +49,7 @@ status_reply (Err starved) = NoMemory name.Status
 -- ---- a status
 
 -- this text shows what a pool is that stands for the state
-pub record Shows (x : State) (form : StatusFormat) (text : List ℕ) : Type 0 where
+pub record ShowsPool (x : State) (form : StatusFormat) (text : List ℕ) : Type 0 where
   pub view : PoolView
   pub is : IsPoolView x.geometry x.perms x.store (uber_view x) (views_of x) view
   pub text_is : text ≡ text_by x.geometry x.perms form view

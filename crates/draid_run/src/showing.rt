@@ -3,7 +3,7 @@ ghost use Rattle.std.specs.Prelude.{IfOk};
 ghost use Rattle.draid_session.specs.State.{State};
 ghost use Rattle.draid_pool.specs.Pools.{Represents};
 ghost use Rattle.draid_pool.specs.Whole.{IsWhole};
-ghost use Rattle.draid_run.specs.Says.{Shows};
+ghost use Rattle.draid_run.specs.Says.{ShowsPool};
 
 use draid_area::Area;
 use draid_names::NoMemory;
@@ -20,7 +20,7 @@ pub(crate) fn status_bytes<R: Rack, A: Area>(
     format: StatusFormat,
 ) -> Result<Vec<u8>, NoMemory>
     requires whole { IsWhole R.Rack A.Area pool.now }
-    ensures shows { (x : State) → Represents R.Rack A.Area pool.now x → IfOk result (λ text. Shows x format text.items) }
+    ensures shows { (x : State) → Represents R.Rack A.Area pool.now x → IfOk result (λ text. ShowsPool x format text.items) }
 {
     let view = match pool.view() {
         Ok(view) => view,
