@@ -226,11 +226,7 @@ fn damage<R: Rack, A: Area>(pool: &mut Option<Pool<R, A>>, leaf: u64, sector: u6
 }
 
 /// Tells what the open pool is, if one is.
-fn status<R: Rack, A: Area>(
-    alloc: Global,
-    pool: &Option<Pool<R, A>>,
-    format: StatusFormat,
-) -> Reply
+fn status<R: Rack, A: Area>(alloc: Global, pool: &Option<Pool<R, A>>, format: StatusFormat) -> Reply
     requires desk { (x : Desk) × IsPool R.Rack A.Area pool.now x }
     ensures did { (x : Desk) → IsPool R.Rack A.Area pool.now x
         → PoolDid R.Rack A.Area CommandName.Status (StatusSays format result) x result pool.now }
