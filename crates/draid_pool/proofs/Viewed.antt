@@ -1,5 +1,5 @@
 -- What is told of the shards of a pool is told of the metaslabs of each state that it represents.
-use Rattle.std.proofs.Common.{◌≡◌, ◌+◌, ◌<◌, ◌≤◌, ◌↔◌, ◌∙◌, ℕ, zero, suc, Bool, true, false, List, [], ◌∷◌, Option, Some, None, Contains, arith, refl, sym, ap, ap₂, subst, length, option_map}
+use Rattle.std.proofs.Common.{◌≡◌, ◌+◌, ◌<◌, ◌∙◌, ℕ, zero, suc, Bool, true, false, List, [], ◌∷◌, Option, Some, None, Contains, arith, refl, sym, ap, ap₂, subst, length, option_map}
 use Rattle.std.specs.Prelude.{All, nat_eq, slice_get, slice_index_or, string_bytes}
 use Rattle.std.specs.List.{AllZip}
 use Rattle.std.specs.HashMap.{get}
@@ -20,7 +20,6 @@ use Rattle.draid_entries.specs.declared.entry.Entry.{Entry}
 use Rattle.draid_entries.specs.Entries.{entry_at}
 use Rattle.draid_entries.specs.Maps.{held_at, key_of, staged}
 use Rattle.draid_shard.specs.Part.{Part}
-use Rattle.draid_shard.specs.States.{part_of}
 use Rattle.draid_shard.specs.declared.shard.Shard.{Shard}
 use Rattle.draid_shard.proofs.Held.{key_leads}
 use Rattle.draid_shard.proofs.Tables.{first_is}

@@ -14,7 +14,6 @@ use Rattle.draid_names.specs.declared.arm.ArmAt.{ArmAt}
 use Rattle.draid_names.specs.declared.arm.ArmKind.{ArmKind}
 use Rattle.draid_names.specs.declared.arm.ArmKind.TheVariants as kind
 use Rattle.draid_names.specs.declared.numbers.TheConstants.{NUMBERS}
-use Rattle.draid_perm.specs.declared.perms.Perms.{Perms}
 use Rattle.draid_spec.specs.declared.layout.Geometry.{Geometry}
 use Rattle.draid_machine.specs.declared.names.ArmName.{ArmName}
 use Rattle.draid_machine.specs.declared.names.ArmName.TheVariants.{Leaf, Spare}
@@ -27,8 +26,8 @@ use Rattle.draid_shard.specs.States.{IsIn}
 use Rattle.draid_shard.specs.declared.shard.Shard.{Shard}
 use Rattle.draid_report.specs.declared.view.ArmView.{ArmView}
 use Rattle.draid_session.specs.Holds.{View}
-use Rattle.draid_session.specs.Status.{IsArmView, IsSlotView, groups_of, logged_in, name_of, named, spare_name_in}
-use Rattle.draid_views.specs.Views.{AreArmsTold, AreShown, AreSlotViews, AreSlotsTold, IsArmTold, IsLogCount, IsShown, LogsAre, ShowSameArms, StandsIn}
+use Rattle.draid_session.specs.Status.{IsArmView, groups_of, logged_in, name_of, named}
+use Rattle.draid_views.specs.Views.{AreArmsTold, AreShown, AreSlotViews, AreSlotsTold, IsArmTold, IsLogCount, IsShown, LogsAre, StandsIn}
 use Rattle.draid_views.proofs.Zips.{contains_at, found_at, zip_left, zip_long, zip_right}
 
 -- ---- names
@@ -253,7 +252,7 @@ module _ {R A : Type 0} (geometry : Geometry) (shards : List (Shard R A)) (shard
           first_has : seen.0.world.core.arm (name_of view) ≡ Some (arm_in shard.slots place view.arm)
           first_has =
               let arm_there : slice_get (arms_of shard.slots slot) k ≡ Some view.arm =
-                  ap (λ (xs : List Arm). slice_get xs k) (sym here.arms_are) ∙ slice_get-map (λ (v : ArmView). v.arm) arms.items k ∙ ap (option_map (λ (v : ArmView). v.arm)) there in
+              ap (λ (xs : List Arm). slice_get xs k) (sym here.arms_are) ∙ slice_get-map (λ (v : ArmView). v.arm) arms.items k ∙ ap (option_map (λ (v : ArmView). v.arm)) there in
               ap seen.0.world.core.arm (sym (names_same view.arm.kind view.arm.number)) ∙ seen.2.slots.arms place view.arm arm_there
 
           offline : (v : View) → Contains views v → IsSomeAnd (v.world.core.arm (name_of view)) (λ arm. arm.offline ≡ view.arm.offline)

@@ -1,5 +1,5 @@
 -- What a shard has of stripes, blocks, its pass and its groups is what states have for which it stands.
-use Rattle.std.proofs.Common.{◌≡◌, ◌+◌, ◌<◌, ◌≤◌, ◌↔◌, ◌∙◌, ℕ, zero, suc, Bool, true, false, List, Option, Some, None, if◌then◌else◌, arith, refl, sym, ap, subst, inl, inr, length, max, option_map}
+use Rattle.std.proofs.Common.{◌≡◌, ◌+◌, ◌<◌, ◌≤◌, ◌↔◌, ◌∙◌, ℕ, Bool, true, false, List, Option, Some, None, if◌then◌else◌, arith, refl, sym, ap, subst, inl, inr, length, max, option_map}
 use Rattle.std.specs.Prelude.{slice_get, nat_eq}
 use Rattle.std.specs.HashMap.{HashMap, get}
 use Rattle.std.proofs.lemmas.Bool.{true≢false, cases_eq, cases_lt}
@@ -23,7 +23,6 @@ use Rattle.draid_entries.specs.Entries.{IsEntered, entry_at}
 use Rattle.draid_entries.specs.Maps.{held_at, key_of, staged}
 use Rattle.draid_shard.specs.Calls.{IsNextHeld}
 use Rattle.draid_shard.specs.Fits.{Valid}
-use Rattle.draid_shard.specs.States.{IsIn}
 use Rattle.draid_shard.specs.declared.shard.Shard.{Shard}
 use Rattle.draid_shard.proofs.Held.{held_entry, key_leads}
 use Rattle.draid_shard.proofs.Tables.{first_is}

@@ -1,4 +1,4 @@
-ghost use Rattle.std.specs.Prelude.{◌≡◌, ◌<◌, ◌≤◌, ◌^◌, ◌*◌, All, IfOk, length, string_bytes};
+ghost use Rattle.std.specs.Prelude.{◌≡◌, ◌<◌, ◌≤◌, ◌^◌, All, IfOk, length, string_bytes};
 ghost use Rattle.draid_names.specs.declared.arm.ArmKind.TheVariants.{Spare};
 ghost use Rattle.draid_names.specs.declared.numbers.TheConstants.{NUMBERS};
 ghost use Rattle.draid_perm.specs.declared.perms.Perms.{Perms};

@@ -47,10 +47,7 @@ fn metaslab_view<R: Rack, A: Area>(
 }
 
 /// How many blocks the table of objects points to.
-fn pointed_blocks<R: Rack, A: Area>(
-    shard: &Shard<R, A>,
-    objects: &HashMap<u64, Pointer>,
-) -> u64
+fn pointed_blocks<R: Rack, A: Area>(shard: &Shard<R, A>, objects: &HashMap<u64, Pointer>) -> u64
     ensures { HasCount (IsPointedAt objects.now shard.now) result }
 {
     let mut blocks = 0;

@@ -17,4 +17,4 @@ pub loop-arm-preserved : goal.loop-arm-preserved
 loop-arm-preserved g c =
     subst (λ (views : List ArmView). AreArmsTold c.args.geometry c.args.shards.now (take (c.loop-arm.arm-index + 1) c.arms-arms.result.now) views) (sym c.in_ok-push.ensures.items)
     (arms_more_at c.args.geometry c.args.shards.now c.arms-arms.result.now c.loop-arm.arm-index c.loop-arm.views.items (record { kind = kind.Leaf; number = 0; offline = false; fresh = false }) c.in_ok-arm_view.field-0
-        c.loop-arm-test.true c.in_ok-arm_view.ensures.arm c.in_ok-arm_view.ensures.told c.loop-arm.invariant)
+    c.loop-arm-test.true c.in_ok-arm_view.ensures.arm c.in_ok-arm_view.ensures.told c.loop-arm.invariant)

@@ -1,9 +1,7 @@
-use Rattle.std.proofs.Common.{◌≡◌, ◌+◌, arith, refl, subst, sym, length}
+use Rattle.std.proofs.Common.{arith, refl, length}
 use Rattle.std.proofs.lemmas.Option.{slice_get_read}
 use Rattle.draid_session.specs.Status.{named}
-use Rattle.draid_slots.specs.Table.{SlotTable}
-use Rattle.draid_views.specs.Views.{IsLogCount}
-use Rattle.draid_views.proofs.ArmsTold.{SumsUpto, sums_all, sums_more, sums_none}
+use Rattle.draid_views.proofs.ArmsTold.{sums_all, sums_more, sums_none}
 use Rattle.draid_views.proofs.arms.logged_groups.Goals as goal
 
 pub loop-shard-init : goal.loop-shard-init

@@ -1,4 +1,4 @@
-use Rattle.std.proofs.Common.{◌≡◌, ◌+◌, ◌∙◌, Bool, arith, subst, sym, ap, if◌then◌else◌}
+use Rattle.std.proofs.Common.{◌≡◌, ◌+◌, ◌∙◌, Bool, arith, subst, sym, if◌then◌else◌}
 use Rattle.draid_views.specs.Views.{IsPointedAt}
 use Rattle.draid_views.proofs.Counts.{CountsBelow, counts_few, counts_none}
 use Rattle.draid_views.proofs.Stripes.{pointed_all, pointed_next, pointer_low}
