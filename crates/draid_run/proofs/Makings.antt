@@ -259,10 +259,10 @@ module _ {R A : Type 0} (rack : racks.Ghosts R) (area : areas.Ghosts A) where
       pub shelf_failed : result ≡ Err fault.Shelf → Broken rack area ShelfFails (CreatePool text children keys) entry before x now pool
       shelf_failed is =
           let o = pools (Err fault.Shelf) is in
-          let n = none_made (o.0, o.1) o.2 (shelves (Err fault.Shelf) is) in
+          let n = none_made (o.1, o.2) o.0 (shelves (Err fault.Shelf) is) in
           record {
             new = n.0;
             desk = n.1;
             breaks = breaks_none x n.0 stands n.2;
-            cause = cause_closed area (CreatePool text children keys) before now pool x n.0 (is_closed x stands) n.3 (o.0, layout_is (Ok o.0) o.1, o.3);
+            cause = cause_closed area (CreatePool text children keys) before now pool x n.0 (is_closed x stands) n.3 (o.1, layout_is (Ok o.1) o.2, o.3);
           }

@@ -124,8 +124,7 @@ closed_shelf Unknown entry before closed shelf = shelf
 pub fails_shut : {R A : Type 0} (area : areas.Ghosts A) (text : List ℕ) (lines : List (List ℕ)) (command : Command) (old new : Desk) (entry before now : OnShelf) (pool : Option (Pool R A)) → line_of text ≡ Ok command → IsShelf old entry before
     → entry.faults ≤ before.faults → (lines ≡ [] → before ≡ entry) → CauseShows area ShelfFails command before old now pool new → IsClosed old → IsClosed new × FailsShut (Some text) lines old entry now
 fails_shut area text lines command old new entry before now pool line shelf later first cause closed =
-    let shown = closed_cause area command before now pool old new closed cause in
-    (
+    let shown = closed_cause area command before now pool old new closed cause in (
       shown.0,
       record {
         text = text;

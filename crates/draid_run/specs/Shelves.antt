@@ -1,5 +1,5 @@
 -- What a shelf holds between lines and as a run ends.
-use Rattle.std.specs.Prelude.{◌≡◌, ◌<◌, ◌+◌, ◌⊎◌, ⊤, ℕ, Bool, List, Option, Some, None, IsSomeAnd, is_some, slice_get}
+use Rattle.std.specs.Prelude.{◌≡◌, ◌<◌, ◌+◌, ◌⊎◌, ⊤, ℕ, Bool, Option, Some, None, IsSomeAnd, is_some, slice_get}
 use Rattle.draid_names.specs.Faults.{Rose}
 use Rattle.draid_rack.specs.Rack.{Shape}
 use Rattle.draid_area.specs.declared.Area as areas
