@@ -219,13 +219,13 @@ module _ {R A : Type 0} (rack : racks.Ghosts R) (area : areas.Ghosts A) where
 
   -- a failure of the areas of the one that was refused is counted still
   pub refused_counted : (geometry : Geometry) (perms : Perms) (n : ℕ) (leaves mid_leaves : ℕ → Option Shape) (old mid last new : Option Held) (before middle late after : ℕ → KitCounts) (shards : List (Shard R A)) (first since last_count : ℕ)
-      → Opening geometry perms n leaves mid_leaves old mid before middle shards → Returns rack area shards last new late after → first ≤ since → Rose since last_count ⊎ (0 < (late n).odd)
-      → Rose first last_count ⊎ RecordsFailed after
-  refused_counted geometry perms n leaves mid_leaves old mid last new before middle late after shards first since last_count o r later (inl rose) = inl (rose_since first since last_count later rose)
-  refused_counted geometry perms n leaves mid_leaves old mid last new before middle late after shards first since last_count o r later (inr some) =
+      → Opening geometry perms n leaves mid_leaves old mid before middle shards → Returns rack area shards last new late after → first ≤ since → n < geometry.props.metaslabs → Rose since last_count ⊎ (0 < (late n).odd)
+      → Rose first last_count ⊎ RecordsFailed geometry after
+  refused_counted geometry perms n leaves mid_leaves old mid last new before middle late after shards first since last_count o r later below (inl rose) = inl (rose_since first since last_count later rose)
+  refused_counted geometry perms n leaves mid_leaves old mid last new before middle late after shards first since last_count o r later below (inr some) =
       let many = o.many in
       let kept : (after n).odd ≡ (late n).odd = ap (λ (c : KitCounts). c.odd) (r.others n (omega (arith, many))) in
-      inr (n, omega (arith, kept, some))
+      inr (n, below, omega (arith, kept, some))
 
   pub opening_all : (geometry : Geometry) (perms : Perms) (n : ℕ) (leaves leaves' : ℕ → Option Shape) (old new : Option Held) (before after : ℕ → KitCounts) (shards : List (Shard R A))
       → Opening geometry perms n leaves leaves' old new before after shards → IsLayout geometry perms → n ≡ geometry.props.metaslabs → AreOpened rack area geometry old before shards

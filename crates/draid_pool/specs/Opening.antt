@@ -46,18 +46,9 @@ pub record Opens {R A : Type 0} (rack : racks.Ghosts R) (area : areas.Ghosts A) 
 abbrev pub HasLayout : Spec → Props → Type 0
 HasLayout spec props = (geometry : Geometry) × (geometry_of spec props ≡ Ok geometry)
 
--- a call on an area of a pool that was just made has failed, on which none had
+-- a call on the uberblock's area, or on an area of a metaslab's records, has failed
 abbrev pub AreaFailed : (ℕ → KitCounts) → OwnCounts → Type 0
 AreaFailed kits own = ((m : ℕ) × (0 < (kits m).even + (kits m).odd)) ⊎ (0 < own.uber)
-
--- The answer. Where the shelf failed its count rose, or that of an area of the pool that was made.
-abbrev pub CreateIs : {R A : Type 0} → racks.Ghosts R → areas.Ghosts A → Spec → Props → Option Held → ℕ → ℕ → (ℕ → KitCounts) → OwnCounts → Result (Pool R A) PoolFault → Type 0
-CreateIs rack area spec props told before after kits own (Ok pool) = (geometry : Geometry) × (geometry_of spec props ≡ Ok geometry) × Opens rack area geometry told pool
-CreateIs rack area spec props told before after kits own (Err (fault.Spec why)) = geometry_of spec props ≡ Err why
-CreateIs rack area spec props told before after kits own (Err fault.NoPool) = ⊥
-CreateIs rack area spec props told before after kits own (Err (fault.Record metaslab place kind)) = ⊥
-CreateIs rack area spec props told before after kits own (Err fault.Shelf) = HasLayout spec props × (Rose before after ⊎ AreaFailed kits own)
-CreateIs rack area spec props told before after kits own (Err fault.NoMemory) = HasLayout spec props
 
 -- ---- the shelf
 
@@ -120,6 +111,31 @@ ShelfIs spec props old new leaves leaves' before after own now (Err why) =
     (IsAsBefore old new before after own now × SameLeaves leaves leaves')
     ⊎ ((geometry : Geometry) × (geometry_of spec props ≡ Ok geometry) × HoldsUncommitted geometry new leaves' after now)
 
+-- ---- the answer
+
+-- a call on an area of the records of a metaslab of this layout has failed
+abbrev pub RecordsFailed : Geometry → (ℕ → KitCounts) → Type 0
+RecordsFailed geometry kits = (m : ℕ) × (m < geometry.props.metaslabs) × (0 < (kits m).even + (kits m).odd)
+
+-- so, or one on the uberblock's area
+abbrev pub HasBadArea : Geometry → (ℕ → KitCounts) → OwnCounts → Type 0
+HasBadArea geometry kits own = RecordsFailed geometry kits ⊎ (0 < own.uber)
+
+-- A new pool of this layout wasn't opened: the shelf holds all its devices, and a call on an area of it has failed. The counts of a new pool's areas begin at 0.
+pub record NewPoolFailed (geometry : Geometry) (told : Option Held) (leaves : ℕ → Option Shape) (kits : ℕ → KitCounts) (own : OwnCounts) : Type 0 where
+  pub held : HoldsUncommitted geometry told leaves kits own
+  pub failed : HasBadArea geometry kits own
+
+-- The answer. It is that the shelf failed only where its count rose in the call, or a new pool failed.
+abbrev pub CreateIs : {R A : Type 0} → racks.Ghosts R → areas.Ghosts A → Spec → Props → Option Held → (ℕ → Option Shape) → ℕ → ℕ → (ℕ → KitCounts) → OwnCounts → Result (Pool R A) PoolFault → Type 0
+CreateIs rack area spec props told leaves before after kits own (Ok pool) = (geometry : Geometry) × (geometry_of spec props ≡ Ok geometry) × Opens rack area geometry told pool
+CreateIs rack area spec props told leaves before after kits own (Err (fault.Spec why)) = geometry_of spec props ≡ Err why
+CreateIs rack area spec props told leaves before after kits own (Err fault.NoPool) = ⊥
+CreateIs rack area spec props told leaves before after kits own (Err (fault.Record metaslab place kind)) = ⊥
+CreateIs rack area spec props told leaves before after kits own (Err fault.Shelf) =
+    (geometry : Geometry) × (geometry_of spec props ≡ Ok geometry) × (Rose before after ⊎ NewPoolFailed geometry told leaves kits own)
+CreateIs rack area spec props told leaves before after kits own (Err fault.NoMemory) = HasLayout spec props
+
 -- ---- the metaslabs
 
 -- A new metaslab over the devices that the shelf held for it.
@@ -167,10 +183,6 @@ pub record SameButRecords (old new : Held) : Type 0 where
 pub record IsBackAgain (old new : Option Held) (before after : ℕ → KitCounts) : Type 0 where
   pub held : OnHeld new (λ y. MatchOption old ⊥ (λ x. SameButRecords x y))
   pub counts : (m : ℕ) (who : Option ℕ) → (after m).rack who ≡ (before m).rack who
-
--- a call on the areas of a metaslab's records has failed
-abbrev pub RecordsFailed : (ℕ → KitCounts) → Type 0
-RecordsFailed kits = (m : ℕ) × (0 < (kits m).even + (kits m).odd)
 
 -- ---- the uberblock
 

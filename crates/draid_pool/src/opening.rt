@@ -6,7 +6,7 @@ ghost use Rattle.draid_map.specs.Place.{IsLayout};
 ghost use Rattle.draid_shelf.specs.Shelf.{HasLeavesOf, SameOthers};
 ghost use Rattle.draid_shelf.specs.Kits.{IsUncounted, OnHeld, takes_kit};
 ghost use Rattle.draid_pool.specs.Whole.{IsWhole};
-ghost use Rattle.draid_pool.specs.Opening.{AreOpened, AreaFailed, CreateIs, HasNewKits, HoldsUncommitted, IsAsBefore, IsAway, IsBackAgain, IsNewUber, IsOpened, Opens, RecordsFailed, SameLeaves, ShelfIs, TakesFirst};
+ghost use Rattle.draid_pool.specs.Opening.{AreOpened, CreateIs, HasBadArea, HasNewKits, HoldsUncommitted, IsAsBefore, IsAway, IsBackAgain, IsNewUber, IsOpened, NewPoolFailed, Opens, RecordsFailed, SameLeaves, ShelfIs, TakesFirst};
 
 use crate::closing::give_back;
 use crate::fault::PoolFault;
@@ -80,7 +80,7 @@ fn open_shards<H: Shelf>(
     ensures uber { H.uber_count shelf.new ≡ H.uber_count shelf.old }
     ensures checks { H.check_counts shelf.new ≡ H.check_counts shelf.old }
     ensures later { H.faults shelf.old ≤ H.faults shelf.new }
-    ensures cause { IsErrOf result DeviceFault.Failed → Rose (H.faults shelf.old) (H.faults shelf.new) ⊎ RecordsFailed (H.counts shelf.new) }
+    ensures cause { IsErrOf result DeviceFault.Failed → Rose (H.faults shelf.old) (H.faults shelf.new) ⊎ RecordsFailed layout (H.counts shelf.new) }
 {
     let perms = Perms::new(layout.spec.children, layout.props.seed);
     let Ok(mut shards) = Vec::with_capacity(alloc, layout.props.metaslabs as usize) else {
@@ -119,7 +119,7 @@ fn open_pool<H: Shelf>(
     ensures checks { H.check_counts shelf.new ≡ H.check_counts shelf.old }
     ensures later { H.faults shelf.old ≤ H.faults shelf.new }
     ensures cause { IsErrOf result DeviceFault.Failed → Rose (H.faults shelf.old) (H.faults shelf.new)
-        ⊎ AreaFailed (H.counts shelf.new) (record { uber = H.uber_count shelf.new; checks = H.check_counts shelf.new }) }
+        ⊎ HasBadArea layout (H.counts shelf.new) (record { uber = H.uber_count shelf.new; checks = H.check_counts shelf.new }) }
 {
     let mut uber = uber;
     let shards = match open_shards(alloc, shelf, layout) {
@@ -165,7 +165,7 @@ fn make_pool<H: Shelf>(
         ⊎ HoldsUncommitted layout (H.told shelf.new) (H.leaves shelf.new) (H.counts shelf.new) (record { uber = H.uber_count shelf.new; checks = H.check_counts shelf.new })) }
     ensures later { H.faults shelf.old ≤ H.faults shelf.new }
     ensures cause { IsErrOf result DeviceFault.Failed → Rose (H.faults shelf.old) (H.faults shelf.new)
-        ⊎ AreaFailed (H.counts shelf.new) (record { uber = H.uber_count shelf.new; checks = H.check_counts shelf.new }) }
+        ⊎ NewPoolFailed layout (H.told shelf.new) (H.leaves shelf.new) (H.counts shelf.new) (record { uber = H.uber_count shelf.new; checks = H.check_counts shelf.new }) }
 {
     shelf.make(alloc, &layout)?;
     let area = shelf.take_uber()?;
@@ -185,7 +185,7 @@ pub fn create<H: Shelf>(
 ) -> Result<Pool<H::R, H::A>, PoolFault>
     requires spec { IsSpec props.version spec }
     ensures whole { IfOk result (IsWhole H.R.Rack H.A.Area) }
-    ensures answer { CreateIs H.R.Rack H.A.Area spec props (H.told shelf.new) (H.faults shelf.old) (H.faults shelf.new) (H.counts shelf.new)
+    ensures answer { CreateIs H.R.Rack H.A.Area spec props (H.told shelf.new) (H.leaves shelf.new) (H.faults shelf.old) (H.faults shelf.new) (H.counts shelf.new)
         (record { uber = H.uber_count shelf.new; checks = H.check_counts shelf.new }) result }
     ensures shelf { ShelfIs spec props (H.told shelf.old) (H.told shelf.new) (H.leaves shelf.old) (H.leaves shelf.new) (H.counts shelf.old) (H.counts shelf.new)
         (record { uber = H.uber_count shelf.old; checks = H.check_counts shelf.old })

@@ -1,5 +1,5 @@
 -- A run that has ended: what was served, and then the last line.
-use Rattle.std.proofs.Common.{refl, subst, ◌≡◌, ◌⊎◌, inl, inr, ℕ, List, [], ◌∷◌, Option, Some, None, MatchOption}
+use Rattle.std.proofs.Common.{refl, sym, subst, ◌≡◌, ◌∙◌, ◌⊎◌, inl, inr, ℕ, List, [], ◌∷◌, Option, Some, None, MatchOption}
 use Rattle.std.specs.Prelude.{⊤}
 use Rattle.draid_names.specs.declared.room.Room.{Room}
 use Rattle.draid_rack.specs.declared.Rack as racks
@@ -9,7 +9,7 @@ use Rattle.draid_reply.specs.declared.reply.Reply.{Reply}
 use Rattle.draid_session.specs.Session.{Desk, Untouched, Bare, Made, Open, Shut, Foreign, Unknown, IsLeft}
 use Rattle.draid_pool.specs.declared.pool.Pool.{Pool}
 use Rattle.draid_run.specs.Desks.{IsDesk, LeavesDesk}
-use Rattle.draid_run.specs.Script.{BreaksOff, Ends, EndsWithLine, GetsReplies, IsSession, Prints, RunsFrom, Shows}
+use Rattle.draid_run.specs.Script.{BreaksOff, Ends, EndsWithLine, FailsShut, GetsReplies, IsSession, Prints, RunsFrom, Shows}
 use Rattle.draid_run.specs.Serve.{Served}
 use Rattle.draid_run.specs.Shelves.{HoldsDesk, OnShelf}
 use Rattle.draid_run.specs.Status.{HasNumber, last_text}
@@ -79,6 +79,10 @@ gets_short ShelfFault shown old new number gets = absurd number
 not_usage : NoMemory ≡ Usage → ⊥
 not_usage e = cc e
 
+not_fault : (meant : Status) → (meant ≡ Usage) ⊎ (meant ≡ NoMemory) → meant ≡ ShelfFault → ⊥
+not_fault meant (inl usage) is = (let e = sym usage ∙ is in cc e)
+not_fault meant (inr none) is = (let e = sym none ∙ is in cc e)
+
 module _ {R A : Type 0} (rack : racks.Ghosts R) (area : areas.Ghosts A) (chosen : List Room → Option ℕ → Type 0) (first : Desk) where
   -- want of memory for the last line is as good an end as that line
   short_served : (ended : Status) (input start held : Option (List ℕ)) (entry now : OnShelf) (pool : Option (Pool R A)) → HasNumber ended → Served rack area chosen first ended input start held entry now pool
@@ -97,6 +101,7 @@ module _ {R A : Type 0} (rack : racks.Ghosts R) (area : areas.Ghosts A) (chosen 
     shows = shows_short ended is.replies is.shown number is.shows;
     prints = gets_short ended is.shown start held number is.prints;
     failed = λ e. absurd (cc e);
+    since = λ e. absurd (cc e);
   }
 
   -- what was served, as the run of these words
@@ -122,6 +127,7 @@ module _ {R A : Type 0} (rack : racks.Ghosts R) (area : areas.Ghosts A) (chosen 
     left = leaves.left;
     is_left = leaves.is;
     shelf = leaves.shelf;
+    failed = λ e closed. (let since = is.since e closed in subst (FailsShut is.broken is.lines is.mid entry) (sym (leaves.same since.0)) since.1);
   }
 
   -- a run of a session: what was served, the last line, and the pool on the shelf
@@ -164,6 +170,7 @@ module _ (chosen : List Room → Option ℕ → Type 0) (words : List (List ℕ)
       left = first;
       is_left = back first at;
       shelf = at;
+      failed = λ e. absurd (not_fault meant refused e);
     }
     | inr none ↦ absurd (plain none.1)
   ]

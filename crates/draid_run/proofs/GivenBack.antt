@@ -120,11 +120,11 @@ module _ {R A : Type 0} (rack : racks.Ghosts R) (area : areas.Ghosts A) (entry b
       (subst (λ n. IsDesk rack area entry before None x → LeavesDesk {R = R} area entry before n None x) (sym same) (by x))
     where
       by : (x : Desk) → IsDesk rack area entry before None x → LeavesDesk {R = R} area entry before before None x
-      by Untouched is = record { left = Untouched; is = refl; shelf = is.shelf; failed = λ failed. failed }
-      by Bare is = record { left = Bare; is = refl; shelf = is.shelf; failed = λ failed. failed }
-      by (Made geometry) is = record { left = Made geometry; is = refl; shelf = is.shelf; failed = λ failed. failed }
-      by (Shut crash y) is = record { left = Shut crash y; is = refl; shelf = is.shelf; failed = λ failed. failed }
-      by Unknown is = record { left = Unknown; is = refl; shelf = is.shelf; failed = λ failed. failed }
+      by Untouched is = record { left = Untouched; is = refl; shelf = is.shelf; failed = λ failed. failed; same = λ closed. refl }
+      by Bare is = record { left = Bare; is = refl; shelf = is.shelf; failed = λ failed. failed; same = λ closed. refl }
+      by (Made geometry) is = record { left = Made geometry; is = refl; shelf = is.shelf; failed = λ failed. failed; same = λ closed. refl }
+      by (Shut crash y) is = record { left = Shut crash y; is = refl; shelf = is.shelf; failed = λ failed. failed; same = λ closed. refl }
+      by Unknown is = record { left = Unknown; is = refl; shelf = is.shelf; failed = λ failed. failed; same = λ closed. refl }
       by (Open y) is = absurd is.stands
       by Foreign is = absurd is.stands
 
@@ -137,7 +137,7 @@ module _ {R A : Type 0} (rack : racks.Ghosts R) (area : areas.Ghosts A) (entry b
     by (Made geometry) is = absurd is.stands
     by (Shut crash y) is = absurd is.stands
     by Unknown is = absurd is.stands
-    by Foreign is = record { left = Unknown; is = refl; shelf = tt; failed = λ failed. inr (shows failed) }
+    by Foreign is = record { left = Unknown; is = refl; shelf = tt; failed = λ failed. inr (shows failed); same = λ closed. absurd closed }
     by (Open y) is =
         let gives = back y is.stands.1 in
         let holds = shelf_has y false before now gives checks is.shelf in
@@ -147,4 +147,5 @@ module _ {R A : Type 0} (rack : racks.Ghosts R) (area : areas.Ghosts A) (entry b
           is = (left, refl, is_given y false before now gives is.shelf);
           shelf = holds;
           failed = λ failed. inr (area_shows false left now holds failed);
+          same = λ closed. absurd closed;
         }

@@ -1,7 +1,6 @@
 -- An import, in the words of a session.
-use Rattle.std.proofs.Common.{◌≡◌, ◌∙◌, ◌⊎◌, ◌<◌, inl, inr, arith, refl, sym, ap, subst, ℕ, List, Bool, true, false, [], ◌∷◌, Option, Some, None, Result, Ok, Err, String, Global}
+use Rattle.std.proofs.Common.{◌≡◌, ◌∙◌, ◌⊎◌, inl, inr, refl, sym, ap, subst, ℕ, List, Bool, true, false, [], ◌∷◌, Option, Some, None, Result, Ok, Err, String, Global}
 use Rattle.std.specs.Prelude.{IfOk, IsErrOf, IsSomeAnd, OnOk, is_some, string_bytes}
-use Rattle.draid_names.specs.Faults.{Rose}
 use Rattle.draid_names.specs.declared.room.Room.{Room}
 use Rattle.draid_rack.specs.declared.Rack as racks
 use Rattle.draid_area.specs.declared.Area as areas
@@ -33,7 +32,7 @@ use Rattle.draid_pool.specs.declared.pool.Pool.{Pool}
 use Rattle.draid_run.specs.Desks.{Broken, IsDesk, IsPool, IsShelf, Turned}
 use Rattle.draid_run.specs.Importing.{ImportDid, ImportDoes, ImportIs}
 use Rattle.draid_run.specs.Serve.{AnswerIs, IsSaid}
-use Rattle.draid_run.specs.Shelves.{HasChecks, HasFailed, HoldsShut, IsOut, OnShelf}
+use Rattle.draid_run.specs.Shelves.{HasChecks, HoldsShut, IsOut, OnShelf}
 use Rattle.draid_run.specs.declared.answer.Stop.{Stop}
 use Rattle.draid_run.specs.declared.answer.Stop.TheVariants as stop
 use Rattle.draid_run.proofs.Following.{same_layout, same_told}
@@ -159,25 +158,6 @@ true_or : (b : Bool) → (b ≡ true) ⊎ (b ≡ false)
 true_or true = inl refl
 true_or false = inr refl
 
-rose_some : (before now : ℕ) → Rose before now → 0 < now
-rose_some before now rose = omega (arith, rose)
-
--- what has risen shows there
-risen : (before now : OnShelf) → HasRisen before.faults now.faults before.own.uber now.own.uber before.counts now.counts → HasFailed before now
-risen before now rose = elim rose [
-  | inl here ↦ elim here [
-    | inl shelf ↦ inl shelf
-    | inr uber ↦ inr (inr (rose_some before.own.uber now.own.uber uber))
-  ]
-  | inr records ↦ inr (inl (
-    records.0,
-    elim records.1 [
-      | inl even ↦ (let some = rose_some (before.counts records.0).even (now.counts records.0).even even in omega (arith, some))
-      | inr odd ↦ (let some = rose_some (before.counts records.0).odd (now.counts records.0).odd odd in omega (arith, some))
-    ],
-  ))
-]
-
 pub none_open : {T : Type 0} (o : Option T) → is_some o ≡ false → o ≡ None
 none_open None is = refl
 none_open (Some t) is = absurd (cc is)
@@ -251,9 +231,9 @@ module _ {R A : Type 0} (rack : racks.Ghosts R) (area : areas.Ghosts A) (entry b
     no_memory is Foreign stands shelf = absurd stands
 
     pub shelf_failed : result ≡ Err fault.Shelf → (x : Desk) → IsPool rack area None x → IsShelf x entry before → Broken rack area ShelfFails ImportPool entry before x now None
-    shelf_failed is Untouched stands shelf = record { new = Unknown; desk = record { stands = tt; shelf = tt }; breaks = refl; cause = risen before now (called.cause is) }
-    shelf_failed is (Made geometry) stands shelf = record { new = Unknown; desk = record { stands = tt; shelf = tt }; breaks = refl; cause = risen before now (called.cause is) }
-    shelf_failed is Unknown stands shelf = record { new = Unknown; desk = record { stands = tt; shelf = tt }; breaks = refl; cause = risen before now (called.cause is) }
+    shelf_failed is Untouched stands shelf = record { new = Unknown; desk = record { stands = tt; shelf = tt }; breaks = refl; cause = (tt, called.cause is) }
+    shelf_failed is (Made geometry) stands shelf = record { new = Unknown; desk = record { stands = tt; shelf = tt }; breaks = refl; cause = (tt, called.cause is) }
+    shelf_failed is Unknown stands shelf = record { new = Unknown; desk = record { stands = tt; shelf = tt }; breaks = refl; cause = (tt, called.cause is) }
     shelf_failed is Bare stands shelf = absurd (let z = sym is ∙ (bare_none shelf).0 in cc)
     shelf_failed is (Shut crash y) stands shelf = elim (true_or y.told) [
       | inl told ↦
@@ -263,9 +243,9 @@ module _ {R A : Type 0} (rack : racks.Ghosts R) (area : areas.Ghosts A) (entry b
             new = Shut true z;
             desk = record { stands = tt; shelf = shut_there z (resting crash y before shelf told).pieces now left.rests (left_told y z told left.is) (called.checks ∙ shelf.checks) };
             breaks = left.is;
-            cause = risen before now (called.cause is);
+            cause = (tt, called.cause is);
           }
-      | inr untold ↦ record { new = Unknown; desk = record { stands = tt; shelf = tt }; breaks = untold; cause = risen before now (called.cause is) }
+      | inr untold ↦ record { new = Unknown; desk = record { stands = tt; shelf = tt }; breaks = untold; cause = (tt, called.cause is) }
     ]
     shelf_failed is (Open y) stands shelf = absurd stands
     shelf_failed is Foreign stands shelf = absurd stands

@@ -7,6 +7,7 @@ pub mod Grouping
 pub mod Importings
 pub mod Known
 pub mod Makings
+pub mod Risen
 pub mod Runs
 pub mod Said
 pub mod Serving

@@ -29,9 +29,10 @@ use Rattle.draid_pool.specs.declared.fault.PoolFault.TheVariants as fault
 use Rattle.draid_pool.specs.declared.pool.Pool.{Pool}
 use Rattle.draid_run.specs.Desks.{Broken, IsDesk, IsPool, IsShelf}
 use Rattle.draid_run.specs.Making.{CreateDid, CreateTurns, MakeIs, PoolIs}
-use Rattle.draid_run.specs.Shelves.{HasChecks, HasFailed, HasFault, HoldsShut, IsSame, OnShelf}
+use Rattle.draid_run.specs.Shelves.{HasChecks, HoldsShut, IsClosed, IsSame, OnShelf}
 use Rattle.draid_run.specs.declared.answer.Made as answer
 use Rattle.draid_run.proofs.GivenBack.{holds_as, importable_as, on_held, told_as}
+use Rattle.draid_run.proofs.Risen.{cause_closed}
 
 -- what stands behind all checks is what passed them
 by_checks : (a b c : Result Unit SpecFault) (big : Bool) (f : SpecFault) (l layout : Geometry) → result_and a (result_and b (result_and c (if big then Err f else Ok l))) ≡ Ok layout → l ≡ layout
@@ -95,6 +96,15 @@ module _ {R A : Type 0} (rack : racks.Ghosts R) (area : areas.Ghosts A) where
   not_open Unknown is y same = cc same
   not_open Foreign is y same = cc same
   not_open (Open z) is y same = is
+
+  is_closed : (x : Desk) → IsPool rack area None x → IsClosed x
+  is_closed Untouched is = tt
+  is_closed (Made geometry) is = tt
+  is_closed (Shut crash z) is = tt
+  is_closed Bare is = tt
+  is_closed Unknown is = tt
+  is_closed Foreign is = absurd is
+  is_closed (Open z) is = absurd is
 
   stays_shut : (x : Desk) → IsPool rack area None x → StaysShut x x
   stays_shut Untouched is = refl
@@ -213,40 +223,32 @@ module _ {R A : Type 0} (rack : racks.Ghosts R) (area : areas.Ghosts A) where
             checks = r.checks;
           }
 
-      -- none was opened: where the desk is then, and why it may be
+      -- none was opened: where the desk is then
       none_made : opening.HasLayout spec (props_of keys) → pool ≡ None
           → IsSame before now ⊎ ((geometry : Geometry) × (geometry_of spec (props_of keys) ≡ Ok geometry) × HoldsUncommitted geometry now.held now.leaves now.counts now.own)
-          → (new : Desk) × IsDesk rack area entry now pool new × MakesNone text children keys x new × (HasFailed before now → HasFault area before now pool new)
+          → (new : Desk) × IsDesk rack area entry now pool new × MakesNone text children keys x new × IsClosed new
       none_made has none s = elim s [
         | inl same ↦ (
           x,
           record { stands = subst (λ p. IsPool rack area p x) (sym none) stands; shelf = same_shelf x entry before now (not_open x stands) same shelf },
           (has.0, layout_is (Ok has.0) has.1, inl (stays_shut x stands)),
-          fault_shut x stands,
+          is_closed x stands,
         )
         | inr all ↦ elim all.2 [
           | inl made ↦ (
             Made all.0,
             record { stands = subst (λ p. IsPool rack area p (Made all.0)) (sym none) tt; shelf = made },
             (all.0, layout_is (Ok all.0) all.1, inr (inl refl)),
-            λ failed. failed,
+            tt,
           )
           | inr r ↦ (
             Shut false (uncommitted (fresh_left all.0 r)),
             record { stands = subst (λ p. IsPool rack area p (Shut false (uncommitted (fresh_left all.0 r)))) (sym none) tt; shelf = refused_shut all.0 r },
             (all.0, layout_is (Ok all.0) all.1, inr (inr (fresh_left all.0 r, fresh_again all.0 r, refl))),
-            λ failed. failed,
+            tt,
           )
         ]
-      ] where
-        fault_shut : (y : Desk) → IsPool rack area None y → HasFailed before now → HasFault area before now pool y
-        fault_shut Untouched is failed = failed
-        fault_shut (Made geometry) is failed = failed
-        fault_shut (Shut crash z) is failed = failed
-        fault_shut Bare is failed = failed
-        fault_shut Unknown is failed = failed
-        fault_shut Foreign is failed = absurd is
-        fault_shut (Open z) is failed = absurd is
+      ]
 
       pub no_memory : result ≡ Err fault.NoMemory → CreateDid rack area text children keys entry x (NoMemory name.Create) now pool
       no_memory is =
@@ -257,5 +259,10 @@ module _ {R A : Type 0} (rack : racks.Ghosts R) (area : areas.Ghosts A) where
       pub shelf_failed : result ≡ Err fault.Shelf → Broken rack area ShelfFails (CreatePool text children keys) entry before x now pool
       shelf_failed is =
           let o = pools (Err fault.Shelf) is in
-          let n = none_made o.0 o.1 (shelves (Err fault.Shelf) is) in
-          record { new = n.0; desk = n.1; breaks = breaks_none x n.0 stands n.2; cause = n.3 o.2 }
+          let n = none_made (o.1, o.2) o.0 (shelves (Err fault.Shelf) is) in
+          record {
+            new = n.0;
+            desk = n.1;
+            breaks = breaks_none x n.0 stands n.2;
+            cause = cause_closed area (CreatePool text children keys) before now pool x n.0 (is_closed x stands) n.3 (o.1, layout_is (Ok o.1) o.2, o.3);
+          }

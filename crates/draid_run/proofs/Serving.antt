@@ -21,6 +21,7 @@ use Rattle.draid_run.specs.Shelves.{HasFailed, HasFault, HoldsDesk, OnShelf}
 use Rattle.draid_run.specs.declared.status.Status.{Status}
 use Rattle.draid_run.specs.declared.status.Status.TheVariants.{Done, Usage, Line, SourceFault, SinkFault, NoMemory, TooLong, ShelfFault, Record}
 use Rattle.draid_run.proofs.Known.{appends_more, appends_none, known_input, known_on}
+use Rattle.draid_run.proofs.Risen.{cause_fault, fails_shut}
 use Rattle.draid_run.proofs.Runs.{runs_more}
 
 -- the texts of one more reply
@@ -31,6 +32,10 @@ texts_more replies reply = flat_map-append said_text replies (reply ∷ []) ∙ 
 lines_more : (all behind rest : List ℕ) (lines : List (List ℕ)) (line : List ℕ) → lines_of all ≡ lines ++ lines_of behind → lines_of behind ≡ line ∷ lines_of rest
     → lines_of all ≡ (lines ++ line ∷ []) ++ lines_of rest
 lines_more all behind rest lines line a b = a ∙ ap (λ xs. lines ++ xs) b ∙ sym (append_assoc lines (line ∷ []) (lines_of rest))
+
+not_none : (lines : List (List ℕ)) (line : List ℕ) → lines ++ line ∷ [] ≡ [] → ⊥
+not_none [] line is = cc is
+not_none (x ∷ lines) line is = cc is
 
 pub text_by : (lines lines' : Rest) (left left' : Option (List ℕ)) (next next' : Option (Vec ℕ Global)) → next ≡ next' → TextIs lines lines' left left' (Ok next) → TextIs lines lines' left left' (Ok next')
 text_by lines lines' left left' next next' is text =
@@ -98,6 +103,7 @@ module _ {R A : Type 0} (rack : racks.Ghosts R) (area : areas.Ghosts A) (chosen 
     runs = refl;
     known = starts input;
     printed = appends_none start;
+    unanswered = λ none. refl;
   } where
     starts : (a : Option (List ℕ)) → WhereKnown a (prepend_known [] a) (λ all behind. lines_of all ≡ [] ++ lines_of behind)
     starts None = tt
@@ -125,6 +131,7 @@ module _ {R A : Type 0} (rack : racks.Ghosts R) (area : areas.Ghosts A) (chosen 
           runs = runs_more chosen first is.lines is.replies is.reached line printed.reply printed.turned.new is.runs printed.turned.turns;
           known = known_on input rest rest' _ _ _ (λ x y z a b. lines_more x y z is.lines line a b) is.known behind;
           printed = rw (texts_more is.replies printed.reply) (appends_more start held held' _ _ is.printed printed.prints);
+          unanswered = λ none. absurd (not_none is.lines line none);
         }
 
     -- the input ended
@@ -147,6 +154,7 @@ module _ {R A : Type 0} (rack : racks.Ghosts R) (area : areas.Ghosts A) (chosen 
       shows = refl;
       prints = is.printed;
       failed = λ e. absurd (cc e);
+      since = λ e. absurd (cc e);
     }
 
     -- the next line could not be read
@@ -167,6 +175,7 @@ module _ {R A : Type 0} (rack : racks.Ghosts R) (area : areas.Ghosts A) (chosen 
       shows = refl;
       prints = is.printed;
       failed = λ e. absurd (cc e);
+      since = λ e. absurd (cc e);
     }
     served_unread input start held left left' now pool lines lines' NoMemory is text = record {
       lines = is.lines;
@@ -182,6 +191,7 @@ module _ {R A : Type 0} (rack : racks.Ghosts R) (area : areas.Ghosts A) (chosen 
       shows = inl refl;
       prints = is.printed;
       failed = λ e. absurd (cc e);
+      since = λ e. absurd (cc e);
     }
     served_unread input start held left left' now pool lines lines' (TooLong line) is text =
         let counted = is.count_is in
@@ -202,6 +212,7 @@ module _ {R A : Type 0} (rack : racks.Ghosts R) (area : areas.Ghosts A) (chosen 
           shows = refl;
           prints = is.printed;
           failed = λ e. absurd (cc e);
+          since = λ e. absurd (cc e);
         }
     served_unread input start held left left' now pool lines lines' Done is text = absurd text
     served_unread input start held left left' now pool lines lines' Usage is text = absurd text
@@ -233,6 +244,7 @@ module _ {R A : Type 0} (rack : racks.Ghosts R) (area : areas.Ghosts A) (chosen 
             shows = refl;
             prints = is.printed;
             failed = λ e. absurd (cc e);
+            since = λ e. absurd (cc e);
           }
 
       -- memory was wanting before it was done
@@ -252,6 +264,7 @@ module _ {R A : Type 0} (rack : racks.Ghosts R) (area : areas.Ghosts A) (chosen 
         shows = inl refl;
         prints = is.printed;
         failed = λ e. absurd (cc e);
+        since = λ e. absurd (cc e);
       }
 
       module _ (now : OnShelf) (pool' : Option (Pool R A)) where
@@ -272,6 +285,7 @@ module _ {R A : Type 0} (rack : racks.Ghosts R) (area : areas.Ghosts A) (chosen 
           shows = refl;
           prints = record { front = is.replies; reply = cut.reply; mid = held; shown_are = refl; whole = is.printed; part = cut.prints };
           failed = λ e. absurd (cc e);
+          since = λ e. absurd (cc e);
         }
 
         -- memory was wanting for the text of its reply
@@ -291,6 +305,7 @@ module _ {R A : Type 0} (rack : racks.Ghosts R) (area : areas.Ghosts A) (chosen 
           shows = inr (reply, refl);
           prints = is.printed;
           failed = λ e. absurd (cc e);
+          since = λ e. absurd (cc e);
         }
 
         -- the shelf failed
@@ -309,7 +324,8 @@ module _ {R A : Type 0} (rack : racks.Ghosts R) (area : areas.Ghosts A) (chosen 
               (known_on input rest rest' _ _ (λ all z. lines_of all ≡ is.lines ++ (line ∷ lines_of z)) (λ x y z a b. a ∙ ap (λ xs. is.lines ++ xs) b) is.known behind);
           shows = refl;
           prints = is.printed;
-          failed = λ e. fault_from area entry before now pool' later at.broken.new at.broken.cause;
+          failed = λ e. fault_from area entry before now pool' later at.broken.new (cause_fault area at.command before now pool' is.reached at.broken.new at.broken.cause);
+          since = λ e. fails_shut area line is.lines at.command is.reached at.broken.new entry before now pool' at.line is.desk.shelf later is.unanswered at.broken.cause;
         }
 
         -- a record has a fault
@@ -330,6 +346,7 @@ module _ {R A : Type 0} (rack : racks.Ghosts R) (area : areas.Ghosts A) (chosen 
           shows = refl;
           prints = is.printed;
           failed = λ e. absurd (cc e);
+          since = λ e. absurd (cc e);
         }
 
         pub served_line : (held' : Option (List ℕ)) (status : Status) → LineIs rack area chosen (count + 1) line entry before pool is.reached now pool' held held' (Err status)

@@ -17,7 +17,7 @@ use Rattle.draid_pool.specs.Carries.{CarriesOut}
 use Rattle.draid_pool.specs.Pools.{Represents}
 use Rattle.draid_pool.specs.Whole.{IsWhole}
 use Rattle.draid_pool.specs.declared.pool.Pool.{Pool}
-use Rattle.draid_run.specs.Shelves.{HasFailed, HasFault, HoldsDesk, IsOut, OnShelf}
+use Rattle.draid_run.specs.Shelves.{FailsIn, HasFailed, HasFault, HoldsDesk, IsClosed, IsOut, OnShelf}
 
 -- ---- desks
 
@@ -62,21 +62,24 @@ pub record Turned {R A : Type 0} (rack : racks.Ghosts R) (area : areas.Ghosts A)
   pub desk : IsDesk rack area entry now pool new
   pub turns : TurnsBy chosen command old reply new
 
--- What is left of a desk as the pool is given back to the shelf. What had failed shows there.
+-- What is left of a desk as the pool is given back to the shelf. What had failed shows there; where none is open the shelf is as it was.
 pub record LeavesDesk {R A : Type 0} (area : areas.Ghosts A) (entry before now : OnShelf) (pool : Option (Pool R A)) (desk : Desk) : Type 0 where
   pub left : Desk
   pub is : IsLeft desk left
   pub shelf : HoldsDesk left entry now
   pub failed : HasFault area entry before pool desk → HasFailed entry now
+  pub same : IsClosed desk → now ≡ before
 
--- what shows why a command broke off: what failed, or no more than what the record's fault is
-abbrev pub CauseShows : {R A : Type 0} → areas.Ghosts A → Cause → OnShelf → OnShelf → Option (Pool R A) → Desk → Type 0
-CauseShows area ShelfFails before now pool new = HasFault area before now pool new
-CauseShows area RecordFails before now pool new = ⊤
+-- What shows why a command broke off: what failed, by whether it found a pool open, which stays open then; or no more than what the record's fault is.
+abbrev pub CauseShows : {R A : Type 0} → areas.Ghosts A → Cause → Command → OnShelf → Desk → OnShelf → Option (Pool R A) → Desk → Type 0
+CauseShows area RecordFails command before old now pool new = ⊤
+CauseShows area ShelfFails command before (Open x) now pool new = HasFault area before now pool new
+CauseShows area ShelfFails command before Foreign now pool new = HasFault area before now pool new
+CauseShows area ShelfFails command before old now pool new = IsClosed new × FailsIn command before now
 
 -- A command broke off, since a call of the shelf or on an area failed, or since a record has a fault.
 pub record Broken {R A : Type 0} (rack : racks.Ghosts R) (area : areas.Ghosts A) (why : Cause) (command : Command) (entry before : OnShelf) (old : Desk) (now : OnShelf) (pool : Option (Pool R A)) : Type 0 where
   pub new : Desk
   pub desk : IsDesk rack area entry now pool new
   pub breaks : Breaks why old command new
-  pub cause : CauseShows area why before now pool new
+  pub cause : CauseShows area why command before old now pool new

@@ -19,7 +19,7 @@ use Rattle.draid_pool.specs.declared.fault.PoolFault.{PoolFault}
 use Rattle.draid_pool.specs.declared.fault.PoolFault.TheVariants as fault
 use Rattle.draid_pool.specs.declared.pool.Pool.{Pool}
 use Rattle.draid_run.specs.Desks.{Broken, IsDesk}
-use Rattle.draid_run.specs.Shelves.{HasFailed, OnShelf}
+use Rattle.draid_run.specs.Shelves.{MakingFailed, OnShelf}
 use Rattle.draid_run.specs.declared.answer.Made.{Made}
 use Rattle.draid_run.specs.declared.answer.Stop.{Stop}
 use Rattle.draid_run.specs.declared.answer.Stop.TheVariants as stop
@@ -37,7 +37,7 @@ abbrev pub PoolIs : {R A : Type 0} → racks.Ghosts R → areas.Ghosts A → Spe
 PoolIs rack area spec props before now None (Ok made) = ⊥
 PoolIs rack area spec props before now (Some pool) (Ok made) = IsWhole rack area pool × OpensAs rack area spec props now made pool
 PoolIs rack area spec props before now pool (Err (fault.Spec why)) = (geometry_of spec props ≡ Err why) × (pool ≡ None)
-PoolIs rack area spec props before now pool (Err fault.Shelf) = HasLayout spec props × (pool ≡ None) × HasFailed before now
+PoolIs rack area spec props before now pool (Err fault.Shelf) = (pool ≡ None) × (geometry : Geometry) × (geometry_of spec props ≡ Ok geometry) × MakingFailed geometry before now
 PoolIs rack area spec props before now pool (Err fault.NoPool) = ⊥
 PoolIs rack area spec props before now pool (Err (fault.Record metaslab place kind)) = ⊥
 PoolIs rack area spec props before now pool (Err fault.NoMemory) = HasLayout spec props × (pool ≡ None)

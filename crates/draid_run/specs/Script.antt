@@ -1,5 +1,5 @@
 -- What a run is: the lines that were answered, why it ended, what the sink got, and what the shelf holds then.
-use Rattle.std.specs.Prelude.{◌≡◌, ◌+◌, ◌⊎◌, ⊤, ℕ, List, [], ◌∷◌, ◌++◌, Option, Some, None, Result, Ok, Err, MatchOption, flat_map, length}
+use Rattle.std.specs.Prelude.{◌≡◌, ◌≤◌, ◌+◌, ◌⊎◌, ⊤, ℕ, List, [], ◌∷◌, ◌++◌, Option, Some, None, Result, Ok, Err, MatchOption, flat_map, length}
 use Rattle.std.specs.Io.KnownBytes.{Appends}
 use Rattle.draid_names.specs.declared.room.Room.{Room}
 use Rattle.draid_lines.specs.Lines.{IsTooLong, lines_of}
@@ -11,7 +11,7 @@ use Rattle.draid_reply.specs.Reply.{text_of}
 use Rattle.draid_reply.specs.declared.reply.Reply.{Reply}
 use Rattle.draid_words.specs.Mode.{OfSession, asked}
 use Rattle.draid_session.specs.Session.{Desk, Breaks, Cause, IsLeft, RecordFails, Runs, ShelfFails}
-use Rattle.draid_run.specs.Shelves.{HoldsDesk, OnShelf}
+use Rattle.draid_run.specs.Shelves.{FailsIn, HoldsDesk, IsClosed, OnShelf}
 use Rattle.draid_run.specs.Status.{HasNumber, last_text}
 use Rattle.draid_run.specs.declared.status.Status.{Status}
 use Rattle.draid_run.specs.declared.status.Status.TheVariants.{Done, Usage, Line, SourceFault, SinkFault, NoMemory, TooLong, ShelfFault, Record}
@@ -150,6 +150,18 @@ pub record HasRun (chosen : List Room → Option ℕ → Type 0) (words : List (
   pub shows : Shows ended replies shown
   pub prints : PrintsAll status ended shown old new
 
+-- At its line a run broke off in a command that found no pool open. The shelf held this desk as the command came, and was as at the entry where no line was answered before; since then it failed.
+pub record FailsShut (broken : Option (List ℕ)) (lines : List (List ℕ)) (mid : Desk) (entry now : OnShelf) : Type 0 where
+  pub text : List ℕ
+  pub is : broken ≡ Some text
+  pub command : Command
+  pub line : line_of text ≡ Ok command
+  pub before : OnShelf
+  pub held : HoldsDesk mid entry before
+  pub later : entry.faults ≤ before.faults
+  pub first : lines ≡ [] → before ≡ entry
+  pub failed : FailsIn command before now
+
 -- a session from one desk to a last one, whose pool is given back; and the shelf holds what is left
 pub record RunsFrom (chosen : List Room → Option ℕ → Type 0) (words : List (List ℕ)) (status : Status) (input old new : Option (List ℕ)) (entry now : OnShelf) (first : Desk) : Type 0 where
   pub last : Desk
@@ -157,6 +169,7 @@ pub record RunsFrom (chosen : List Room → Option ℕ → Type 0) (words : List
   pub left : Desk
   pub is_left : IsLeft last left
   pub shelf : HoldsDesk left entry now
+  pub failed : session.ended ≡ ShelfFault → IsClosed session.mid → FailsShut session.broken session.lines session.mid entry now
 
 -- What a run of the program is: such a session from each desk that the shelf holds at the entry. It may be as it was found, or tell that it has no pool, or hold the
 -- devices of a new pool, or a pool that was given back; and nothing may be known of it.

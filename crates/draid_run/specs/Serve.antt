@@ -15,8 +15,8 @@ use Rattle.draid_reply.specs.declared.reply.Reply.{Reply}
 use Rattle.draid_session.specs.Session.{Cause, Desk, RecordFails, Runs, ShelfFails}
 use Rattle.draid_pool.specs.declared.pool.Pool.{Pool}
 use Rattle.draid_run.specs.Desks.{Broken, IsDesk, Turned}
-use Rattle.draid_run.specs.Script.{BreaksOff, Ends, GetsReplies, IsUnbuilt, LineFaultIs, Shows, said_text, texts_of}
-use Rattle.draid_run.specs.Shelves.{HasFault, OnShelf}
+use Rattle.draid_run.specs.Script.{BreaksOff, Ends, FailsShut, GetsReplies, IsUnbuilt, LineFaultIs, Shows, said_text, texts_of}
+use Rattle.draid_run.specs.Shelves.{HasFault, IsClosed, OnShelf}
 use Rattle.draid_run.specs.declared.answer.Stop.{Stop}
 use Rattle.draid_run.specs.declared.answer.Stop.TheVariants as stop
 use Rattle.draid_run.specs.declared.status.Status.{Status}
@@ -94,6 +94,7 @@ module _ {R A : Type 0} (rack : racks.Ghosts R) (area : areas.Ghosts A) (chosen 
     pub runs : Runs chosen first lines replies reached
     pub known : WhereKnown input rest (λ all behind. lines_of all ≡ lines ++ lines_of behind)
     pub printed : Appends start held (texts_of replies)
+    pub unanswered : lines ≡ [] → now ≡ entry
 
   -- The lines were served until the run ended.
   pub record Served (first : Desk) (ended : Status) (input start held : Option (List ℕ)) (entry now : OnShelf) (pool : Option (Pool R A)) : Type 0 where
@@ -110,3 +111,4 @@ module _ {R A : Type 0} (rack : racks.Ghosts R) (area : areas.Ghosts A) (chosen 
     pub shows : Shows ended replies shown
     pub prints : GetsReplies ended shown start held
     pub failed : ended ≡ ShelfFault → HasFault area entry now pool last
+    pub since : ended ≡ ShelfFault → IsClosed mid → IsClosed last × FailsShut broken lines mid entry now

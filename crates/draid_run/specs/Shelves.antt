@@ -3,14 +3,17 @@ use Rattle.std.specs.Prelude.{◌≡◌, ◌<◌, ◌+◌, ◌⊎◌, ⊤, ℕ, 
 use Rattle.draid_names.specs.Faults.{Rose}
 use Rattle.draid_rack.specs.Rack.{Shape}
 use Rattle.draid_area.specs.declared.Area as areas
+use Rattle.draid_spec.specs.declared.layout.Geometry.{Geometry}
+use Rattle.draid_script.specs.Line.{Command, CreatePool, ImportPool}
 use Rattle.draid_shelf.specs.Kits.{AreNewChecks, Held, KitCounts, OnHeld}
 use Rattle.draid_shelf.specs.declared.Shelf as shelves
-use Rattle.draid_session.specs.Session.{Desk, Untouched, Bare, Made, Open, Shut, Foreign, Unknown}
+use Rattle.draid_session.specs.Session.{Desk, Untouched, Bare, Made, Open, Shut, Foreign, Unknown, HasLayout}
 use Rattle.draid_session.specs.State.{Metaslab, State}
 use Rattle.draid_pool.specs.Closing.{HoldsPool, OwnCounts, SameCounts}
 use Rattle.draid_pool.specs.Failing.{AreaFails}
+use Rattle.draid_pool.specs.Found.{HasRisen}
 use Rattle.draid_pool.specs.Importable.{IsImportable}
-use Rattle.draid_pool.specs.Opening.{AreaFailed, IsAsBefore, IsMade, NoChecks, SameLeaves}
+use Rattle.draid_pool.specs.Opening.{AreaFailed, IsAsBefore, IsMade, NewPoolFailed, NoChecks, SameLeaves}
 use Rattle.draid_pool.specs.declared.pool.Pool.{Pool}
 
 -- What a shelf tells that it holds, the leaves of each metaslab's rack where they are known, and how often calls have failed: on the devices of each metaslab, on the
@@ -60,6 +63,12 @@ pub record HoldsShut (crash : Bool) (x : State) (now : OnShelf) : Type 0 where
 abbrev pub HoldsBare : OnShelf → Type 0
 HoldsBare now = IsSomeAnd now.held (λ held. held.uber ≡ None)
 
+-- no pool is open
+abbrev pub IsClosed : Desk → Type 0
+IsClosed (Open state) = ⊥
+IsClosed Foreign = ⊥
+IsClosed desk = ⊤
+
 -- What a shelf holds, where no pool is open: what it held at the entry, no pool, a new pool as it was made, the pool that was given back, or whatever it may be.
 abbrev pub HoldsDesk : Desk → OnShelf → OnShelf → Type 0
 HoldsDesk Untouched entry now = IsSame entry now
@@ -90,3 +99,13 @@ abbrev pub HasFault : {R A : Type 0} → areas.Ghosts A → OnShelf → OnShelf 
 HasFault area entry now pool (Open x) = AreaHasFailed x
 HasFault area entry now pool Foreign = PoolFails area pool
 HasFault area entry now pool desk = HasFailed entry now
+
+-- A pool of this layout was to be made, and the shelf failed: its count rose, or it holds the new pool's devices, on an area of which a call has failed.
+abbrev pub MakingFailed : Geometry → OnShelf → OnShelf → Type 0
+MakingFailed geometry before now = Rose before.faults now.faults ⊎ NewPoolFailed geometry now.held now.leaves now.counts now.own
+
+-- What has failed in a command that found no pool open. In an import the shelf's count rose, or that of the uberblock's area, or that of an area of a metaslab's records.
+abbrev pub FailsIn : Command → OnShelf → OnShelf → Type 0
+FailsIn (CreatePool text children keys) before now = (geometry : Geometry) × HasLayout text children keys geometry × MakingFailed geometry before now
+FailsIn ImportPool before now = HasRisen before.faults now.faults before.own.uber now.own.uber before.counts now.counts
+FailsIn command before now = ⊥

@@ -1,8 +1,9 @@
-use Rattle.std.proofs.Common.{◌∙◌, Option, ap, subst, sym}
+use Rattle.std.proofs.Common.{arith, ◌∙◌, Option, ap, subst, sym}
 use Rattle.std.specs.Prelude.{replicate}
 use Rattle.draid_area.specs.Area.{OnTold}
 use Rattle.draid_shelf.specs.Kits.{Held, IsNewArea, OnHeld, uber_bytes}
 use Rattle.draid_pool.specs.Opening.{HasNewKits}
+use Rattle.draid_pool.proofs.Causes.{new_failed}
 use Rattle.draid_pool.proofs.Fresh.{uber_new, uber_taken, uber_zeros}
 use Rattle.draid_pool.proofs.opening.make_pool.Goals as goal
 
@@ -31,3 +32,11 @@ open_pool-requires-clause-uber g c κs within =
 pub open_pool-requires-clause-held : goal.open_pool-requires-clause-held
 open_pool-requires-clause-held g c κs within =
     subst (λ (o : Option Held). OnHeld o (HasNewKits c.args.layout)) (sym c.in_ok-area.ensures.told) (uber_taken c.args.layout (g.H.Shelf.told c.make.new.self) c.in_ok-make.ensures.told)
+
+pub returns-clause-cause : goal.returns-clause-cause
+returns-clause-cause g c =
+    let shelf = g.H.Shelf in
+    let made = c.make.ensures.cause.later in
+    let taken = c.take_uber.ensures.cause.later in
+    let e = c.open_pool.ensures in
+    new_failed c.args.layout _ _ _ _ (shelf.faults c.args.shelf.now) (shelf.faults c.take_uber.new.self) (shelf.faults c.open_pool.new.shelf) c.open_pool.result (omega (arith, made, taken)) e.back e.cause

@@ -36,7 +36,7 @@ returns-in-Err-clause-cause g c failed =
     let shelf = g.H.Shelf in
     refused_counted g.H.R.Rack g.H.A.Area c.args.layout c.new-perms.result c.loop-number.number (shelf.leaves c.args.shelf.now) (shelf.leaves c.loop-number.shelf) (shelf.told c.args.shelf.now) (shelf.told c.loop-number.shelf)
     (shelf.told c.open_shard.new.shelf) (shelf.told c.give_back.new.shelf) (shelf.counts c.args.shelf.now) (shelf.counts c.loop-number.shelf) (shelf.counts c.open_shard.new.shelf) (shelf.counts c.give_back.new.shelf)
-    c.loop-number.shards.items (shelf.faults c.args.shelf.now) (shelf.faults c.loop-number.shelf) (shelf.faults c.give_back.new.shelf) c.loop-number.invariant.opening c.give_back.ensures.returns c.loop-number.invariant.later
+    c.loop-number.shards.items (shelf.faults c.args.shelf.now) (shelf.faults c.loop-number.shelf) (shelf.faults c.give_back.new.shelf) c.loop-number.invariant.opening c.give_back.ensures.returns c.loop-number.invariant.later c.loop-number-test.true
     (subst (λ (n : ℕ). Rose (shelf.faults c.loop-number.shelf) n ⊎ (0 < (shelf.counts c.open_shard.new.shelf c.loop-number.number).odd)) (sym c.give_back.ensures.faults) (c.in-Err.ensures.cause (failed_too c.in-Err.fault failed)))
 
 pub loop-number-preserved : goal.loop-number-preserved
