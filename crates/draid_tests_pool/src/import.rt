@@ -45,10 +45,10 @@ const FOUND: [&str; 4] = [
 
 /// How many groups replies acknowledge: that of the new pool, and those of the syncs.
 fn acknowledged(printed: &[u8]) -> usize {
-    let mut groups = 0;
+    let mut groups = 0usize;
     for line in printed.split(|byte: &u8| *byte == b'\n') {
         if line.starts_with(b"create ") || line.starts_with(b"sync ") {
-            groups += 1;
+            groups = groups.saturating_add(1);
         }
     }
     groups
@@ -215,18 +215,21 @@ fn records_that_are_at_fault_end_the_run(rt: HostRuntime) -> Result<(), Fail> {
     Ok(())
 }
 
-// The area of the record is cut to 3 bytes.
+/// Puts an area of these bytes in place of that of the record of group 2.
+fn cut(alloc: Global, shelf: &mut MemoryShelf, bytes: &[u8]) -> Result<bool, Fail> {
+    let Ok(mut kit) = shelf.take(0, &layout()?) else {
+        return Ok(false);
+    };
+    kit.even = MemoryArea::new(alloc, Vec::from_slice(alloc, bytes)?, Vec::new(alloc))?;
+    shelf.give(0, kit);
+    Ok(true)
+}
+
 #[test]
 fn a_short_record_ends_the_run(rt: HostRuntime) -> Result<(), Fail> {
-    let alloc = rt.alloc();
-    let mut shelf = MemoryShelf::new(alloc, CrashRule::New);
+    let mut shelf = MemoryShelf::new(rt.alloc(), CrashRule::New);
     run_on(&rt, &mut shelf, BLOCKS)?;
-    let layout = layout()?;
-    let Ok(mut kit) = shelf.take(0, &layout) else {
-        unreachable!();
-    };
-    kit.even = MemoryArea::new(alloc, Vec::from_slice(alloc, b"DZR")?, Vec::new(alloc))?;
-    shelf.give(0, kit);
+    assert!(rt; cut(rt.alloc(), &mut shelf, b"DZR")?);
     let (ended, printed) = run_on(&rt, &mut shelf, "import\n")?;
     assert_eq!(rt; ended.code(), 8);
     assert_eq!(rt;

@@ -202,6 +202,26 @@ fn a_shelf_that_fails_ends_the_run(rt: HostRuntime) -> Result<(), Fail> {
     Ok(())
 }
 
+// Behind these an import takes the area of the uberblock and the devices of the metaslab.
+#[test]
+fn a_shelf_that_fails_at_an_import_ends_the_run(rt: HostRuntime) -> Result<(), Fail> {
+    const FAILED: &str = "create draid1:2d:3c:0s-0 stripes=32\nexport group=1\nshelf fault\n";
+    const FOUND: &str =
+        "create draid1:2d:3c:0s-0 stripes=32\nexport group=1\nimport draid1:2d:3c:0s-0 group=1 objects=0\n";
+    let calls: [&'static [u64]; 3] = [&[3], &[4], &[5]];
+    let wanted = [
+        (Status::ShelfFault, FAILED),
+        (Status::ShelfFault, FAILED),
+        (Status::Done, FOUND),
+    ];
+    for (shelf, wanted) in calls.into_iter().zip(wanted) {
+        let failing = Failing { shelf, ..NONE };
+        let script = created(rt.alloc(), "export\nimport\n")?;
+        assert!(rt; comes_to(&rt, "session", script, &failing, wanted)?);
+    }
+    Ok(())
+}
+
 /// How often areas are called by a create and two syncs. A record is written and flushed. A commit of the uberblock flushes
 /// the area and reads the gate of its slot, then writes and flushes the body and the gate; before these it shuts the gate
 /// that stands open since the group before the last.

@@ -378,27 +378,6 @@ fn refusals_say_why(rt: HostRuntime) -> Result<(), Fail> {
     Ok(())
 }
 
-/// How many events a metaslab stores whose limit is this, as a block isn't fetched for its wear, and how many it says.
-fn stored_as_worn(alloc: Global, limit: u64) -> Result<Option<(usize, u64)>, Fail> {
-    let mut shard = metaslab(alloc, first_layout()?, &[], limit)?;
-    let Ok(pointer) = write(alloc, &mut shard, b"hello")? else {
-        return Ok(None);
-    };
-    for _fetched in 0..limit {
-        if let Err(FetchFault::Worn { events }) = shard.fetch(&pointer) {
-            return Ok(Some((shard.events().len(), events)));
-        }
-    }
-    Ok(None)
-}
-
-// The freeing of the block is owed besides, and 3,072 events are left for what a group needs.
-#[test]
-fn a_metaslab_is_worn_by_its_events(rt: HostRuntime) -> Result<(), Fail> {
-    assert_eq!(rt; stored_as_worn(rt.alloc(), 20_000)?, Some((16_927, 16_928)));
-    Ok(())
-}
-
 /// What is told of the groups of a metaslab: the open one, the closing one and whether it is sealed, and the last that
 /// was committed.
 type Groups = (u64, Option<u64>, bool, u64);
