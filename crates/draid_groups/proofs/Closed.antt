@@ -18,8 +18,8 @@ use Rattle.draid_slots.specs.Table.{SlotTable, arm_at}
 use Rattle.draid_shard.specs.Fits.{AreGroups, HasLeaves, Tables, TicketsAreNew, Valid, birth_groups, oldest_open, owed_for_group}
 use Rattle.draid_shard.specs.States.{IsIn, Leads, layout_by}
 use Rattle.draid_shard.specs.declared.shard.Shard.{Shard}
-use Rattle.draid_stable.specs.Slots.{HasArm, HasSlots, WasArm, arm_in, name_of}
-use Rattle.draid_shard.proofs.Creation.{rooms_enough, still_of}
+use Rattle.draid_slots.specs.States.{HasArm, HasSlots, WasArm, arm_in, name_of}
+use Rattle.draid_groups.proofs.Creation.{rooms_enough, still_of}
 use Rattle.draid_shard.proofs.Once.{once_kept}
 use Rattle.draid_shard.proofs.PutKept.{pass_held}
 use Rattle.draid_shard.proofs.Putting.{pass_same}

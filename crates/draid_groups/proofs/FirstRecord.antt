@@ -17,14 +17,14 @@ use Rattle.draid_record.specs.Record.{told_pass, told_record}
 use Rattle.draid_slots.specs.Table.{arm_at}
 use Rattle.draid_stable.specs.Images.{image_by}
 use Rattle.draid_stable.specs.Sealing.{AreTables, IsMade, IsSettled, lose_marked}
-use Rattle.draid_stable.specs.Slots.{arm_in, named, pass_in}
+use Rattle.draid_slots.specs.States.{arm_in, named, pass_in}
 use Rattle.draid_stable.specs.Stable.{Stands}
 use Rattle.draid_shard.specs.declared.shard.Shard.{Shard}
 use Rattle.draid_shard.specs.Fits.{Valid}
-use Rattle.draid_shard.specs.Groups.{ListsOnce}
-use Rattle.draid_shard.specs.Sealing.{head_of}
+use Rattle.draid_groups.specs.Groups.{ListsOnce}
+use Rattle.draid_groups.specs.Sealing.{head_of}
 use Rattle.draid_shard.specs.States.{IsIn, layout_by}
-use Rattle.draid_shard.proofs.SealRecords.{record_stands}
+use Rattle.draid_groups.proofs.SealRecords.{record_stands}
 
 -- what a seal keeps of a new metaslab's arms is all of them
 seal_created : (l : machine.Layout) (n : ArmName) → seal_arm (created_arm l n) ≡ created_arm l n

@@ -16,25 +16,11 @@ use Rattle.draid_record.specs.Record.{ArmTold, has_arm, is_kind, limit_of, stand
 use Rattle.draid_slots.specs.declared.slot.Detached.{Detached}
 use Rattle.draid_slots.specs.Table.{SlotTable, arm_at, arms_of}
 use Rattle.draid_stable.specs.Opening.{arms_told}
-use Rattle.draid_stable.specs.Slots.{named}
+use Rattle.draid_slots.specs.States.{named}
 use Rattle.draid_stable.proofs.Named.{any_got, apart_slots}
 use Rattle.draid_stable.proofs.Opened.{from_map, index_map}
 use Rattle.draid_shard.specs.Fits.{NamesOnce}
 use Rattle.draid_shard.proofs.Among.{has_nothing}
-
--- ---- where arms stay, and no more are detached
-
-pub once_fewer : (old new : SlotTable) → new.arms ≡ old.arms → ((gone : Detached) → Contains new.detached gone → Contains old.detached gone) → NamesOnce old → NamesOnce new
-once_fewer old new same fewer once = record {
-  arms = λ at other a b there also name. once.arms at other a b (was at a there) (was other b also) name;
-  detached = λ gone other among also name. once.detached gone other (fewer gone among) (fewer other also) name;
-  apart = λ at a gone there among name. once.apart at a gone (was at a there) (fewer gone among) name;
-} where
-  was : (at : ArmAt) (a : Arm) → arm_at new at ≡ Some a → arm_at old at ≡ Some a
-  was at a there = ap (λ arms. slice_get (slice_index_or arms at.slot []) at.arm) (sym same) ∙ there
-
-pub once_kept : (old new : SlotTable) → new.arms ≡ old.arms → new.detached ≡ old.detached → NamesOnce old → NamesOnce new
-once_kept old new same detached once = once_fewer old new same (λ gone among. subst (λ (list : List Detached). Contains list gone) detached among) once
 
 -- ---- the arms of a record in its ranges
 

@@ -28,7 +28,7 @@ use Rattle.draid_stable.specs.Images.{LeavesBelow, image_by}
 use Rattle.draid_stable.specs.Stable.{HasRecord}
 use Rattle.draid_shard.specs.declared.shard.Shard.{Shard}
 use Rattle.draid_shard.specs.Calls.{OnBothTold}
-use Rattle.draid_shard.specs.Groups.{Opens, area_of_kit, at_version}
+use Rattle.draid_groups.specs.Groups.{Opens, area_of_kit, at_version}
 use Rattle.draid_shard.specs.Part.{IsPart}
 use Rattle.draid_shard.specs.Stands.{StandsFor}
 use Rattle.draid_shard.specs.States.{IsIn, layout_by, part_of}

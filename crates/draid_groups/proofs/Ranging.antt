@@ -38,12 +38,11 @@ use Rattle.draid_record.specs.Ranges.{least_running}
 use Rattle.draid_record.specs.Record.{limits_of, stripes_of, told_pass}
 use Rattle.draid_record.specs.Written.{bit}
 use Rattle.draid_slots.specs.Table.{SlotTable, arm_at, arms_of}
-use Rattle.draid_stable.specs.Slots.{arm_in, name_of, named, pass_in}
+use Rattle.draid_slots.specs.States.{HoldsPass, arm_in, name_of, named, pass_in}
 use Rattle.draid_stable.specs.Within.{ArmsFit, EntriesFit, IsPlaced, LimitsFit, PassFits, TablesFit}
-use Rattle.draid_stable.specs.Sealing.{HoldsPass}
 use Rattle.draid_shard.specs.Fits.{Valid}
 use Rattle.draid_shard.specs.Fits as fits
-use Rattle.draid_shard.specs.Groups.{at_version}
+use Rattle.draid_groups.specs.Groups.{at_version}
 use Rattle.draid_shard.specs.States.{IsIn, layout_by, part_of}
 use Rattle.draid_shard.specs.declared.shard.Shard.{Shard}
 use Rattle.draid_shard.proofs.Answering.{name_listed, once_apart}

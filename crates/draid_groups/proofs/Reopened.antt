@@ -47,7 +47,7 @@ use Rattle.draid_stable.proofs.There.{arm_named, has_sectors, leaf_there, named_
 use Rattle.draid_shard.specs.Calls.{OnBothTold}
 use Rattle.draid_shard.specs.Fits as fits
 use Rattle.draid_shard.specs.Fits.{AreHere, HasLeaves, HasStripe, IsLeaf, IsPlaced, LogsHaveRoom, Tables, TicketsAreNew, lacking}
-use Rattle.draid_shard.specs.Groups.{GivesBack}
+use Rattle.draid_groups.specs.Groups.{GivesBack}
 use Rattle.draid_shard.specs.Part.{IsRun}
 
 -- ---- stripes of a block

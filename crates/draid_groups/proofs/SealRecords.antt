@@ -26,7 +26,7 @@ use Rattle.draid_record.specs.Written.{body_bytes}
 use Rattle.draid_slots.specs.Table.{arm_at, is_logged}
 use Rattle.draid_stable.specs.Images.{LeavesBelow, image_by}
 use Rattle.draid_stable.specs.Sealing.{AreMarked, AreTables, IsMade, IsSettled, was_born}
-use Rattle.draid_stable.specs.Slots.{arm_in, name_of, named}
+use Rattle.draid_slots.specs.States.{arm_in, name_of, named}
 use Rattle.draid_stable.specs.Stable.{Stands}
 use Rattle.draid_stable.specs.Within.{LogsFit}
 use Rattle.draid_stable.proofs.Born.{born_written, none_written}
@@ -34,15 +34,15 @@ use Rattle.draid_stable.proofs.Logs.{copied_small, settled_fits}
 use Rattle.draid_stable.proofs.Made.{marked_told}
 use Rattle.draid_stable.proofs.Ranged.{settled_ranged}
 use Rattle.draid_shard.specs.Fits.{Valid}
-use Rattle.draid_shard.specs.Groups.{ListsOnce, at_version}
-use Rattle.draid_shard.proofs.ListedOnce.{lists_once}
-use Rattle.draid_shard.specs.Sealing.{AreSilent, IsPlan, head_of}
+use Rattle.draid_groups.specs.Groups.{ListsOnce, at_version}
+use Rattle.draid_groups.proofs.ListedOnce.{lists_once}
+use Rattle.draid_groups.specs.Sealing.{AreSilent, IsPlan, head_of}
 use Rattle.draid_shard.specs.States.{IsIn, layout_by, part_of}
-use Rattle.draid_shard.specs.declared.seal.Plan.{Plan}
+use Rattle.draid_groups.specs.declared.sealing.Plan.{Plan}
 use Rattle.draid_shard.specs.declared.shard.Shard.{Shard}
 use Rattle.draid_shard.proofs.Homes.{lays}
-use Rattle.draid_shard.proofs.Ranging.{NumbersFit, closing_low, tables_fit}
-use Rattle.draid_shard.proofs.SealSteps.{marked_here}
+use Rattle.draid_groups.proofs.Ranging.{NumbersFit, closing_low, tables_fit}
+use Rattle.draid_groups.proofs.SealSteps.{marked_here}
 
 -- what settling makes of the image that a record says
 abbrev pub Settles : Record → Record → List (List Bool) → Bool → Type 0

@@ -32,10 +32,10 @@ use Rattle.draid_machine.proofs.Small.{absurd_test, any_at, both_true, either_tr
 use Rattle.draid_slots.specs.Changes.{IsOf}
 use Rattle.draid_slots.specs.Reading.{answers, first_leaf, holder, holder_of, is_online, pool_slice, slice_of, spare_slot}
 use Rattle.draid_slots.specs.Table.{SlotTable, arm_at, arms_of, is_leaf_kind}
-use Rattle.draid_stable.specs.Slots.{HasSlots, arm_in, name_of, named}
+use Rattle.draid_slots.specs.States.{HasSlots, arm_in, name_of, named}
 use Rattle.draid_shard.specs.Part.{IsPart, IsRun, Part, layout_in}
 use Rattle.draid_shard.specs.Rows.{IsRowsOf, answers_on, arm_no, leaf_on}
-use Rattle.draid_shard.specs.Sealing.{has_column_in, is_silent_in, lies_silent}
+use Rattle.draid_groups.specs.Sealing.{has_column_in, is_silent_in, lies_silent}
 use Rattle.draid_shard.specs.declared.places.ColumnRows.{ColumnRows}
 use Rattle.draid_shard.proofs.Answering.{answers_is, leaf_at_is, name_listed}
 use Rattle.draid_shard.proofs.Homes as homes

@@ -15,9 +15,9 @@ use Rattle.draid_machine.specs.Created.{IsReached}
 use Rattle.draid_machine.specs.Names.{is_block}
 use Rattle.draid_machine.specs.State as machine
 use Rattle.draid_machine.specs.Step.{Step}
-use Rattle.draid_segments.specs.Acts.{nowhere}
+use Rattle.draid_segments.specs.Acts.{DropsBut, IsNamed, nowhere}
 use Rattle.draid_segments.specs.Segments.{Pieces}
-use Rattle.draid_entries.specs.History.{Passes, owed_of, stored_of}
+use Rattle.draid_entries.specs.History.{Passes, owed_of, reserved_of, stored_of}
 use Rattle.draid_entries.specs.Live.{first_twice}
 use Rattle.draid_entries.specs.Thin.{Distinct, ThinIs}
 use Rattle.draid_stable.specs.Stable.{HasRecord}
@@ -26,21 +26,18 @@ use Rattle.draid_machine.specs.declared.names.Segment.{Segment}
 use Rattle.draid_machine.specs.After.{reopen_state}
 use Rattle.draid_record.specs.Record.{RecordTold, limits_of, record_of}
 use Rattle.draid_record.specs.Written.{IsRecord}
-use Rattle.draid_segments.specs.Acts.{DropsBut, IsNamed}
-use Rattle.draid_entries.specs.History.{reserved_of}
 use Rattle.draid_shelf.specs.declared.kit.Kit.{Kit}
 use Rattle.draid_slots.specs.Table.{SlotTable}
 use Rattle.draid_slots.specs.declared.slot.Detached.{Detached}
 use Rattle.draid_stable.specs.Images.{image_by}
-use Rattle.draid_stable.specs.Opening.{KeepsCounts}
-use Rattle.draid_stable.specs.Opening.{block_at}
+use Rattle.draid_stable.specs.Opening.{KeepsCounts, block_at}
 use Rattle.draid_shard.specs.Calls.{ActsOn, CountsFailed, OnBothTold}
 use Rattle.draid_shard.specs.Fits.{IsLeaf}
 use Rattle.draid_shard.specs.States.{Does, DoesNone, IsIn, layout_by, stored_in}
-use Rattle.draid_shard.specs.declared.fault.CloseFault.{CloseFault}
-use Rattle.draid_shard.specs.declared.fault.CloseFault.TheVariants as close
-use Rattle.draid_shard.specs.declared.fault.SealFault.{SealFault}
-use Rattle.draid_shard.specs.declared.fault.SealFault.TheVariants as seal
+use Rattle.draid_groups.specs.declared.fault.CloseFault.{CloseFault}
+use Rattle.draid_groups.specs.declared.fault.CloseFault.TheVariants as close
+use Rattle.draid_groups.specs.declared.fault.SealFault.{SealFault}
+use Rattle.draid_groups.specs.declared.fault.SealFault.TheVariants as seal
 use Rattle.draid_shard.specs.declared.shard.Shard.{Shard}
 
 -- ---- closing

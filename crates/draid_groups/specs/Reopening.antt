@@ -16,10 +16,10 @@ use Rattle.draid_record.specs.declared.fault.RecordFault.TheVariants.{Bad}
 use Rattle.draid_stable.specs.Opening.{AreRead, block_at, has_leaf, opening_of}
 use Rattle.draid_stable.specs.declared.opening.Tables.{Tables}
 use Rattle.draid_shard.specs.Fits.{owed_for_pass}
-use Rattle.draid_shard.specs.Groups.{area_of_kit}
-use Rattle.draid_shard.specs.declared.fault.OpenFault.{OpenFault}
-use Rattle.draid_shard.specs.declared.fault.OpenFault.TheVariants as fault
-use Rattle.draid_shard.specs.declared.reopening.ReadTables.{ReadTables}
+use Rattle.draid_groups.specs.Groups.{area_of_kit}
+use Rattle.draid_groups.specs.declared.fault.OpenFault.{OpenFault}
+use Rattle.draid_groups.specs.declared.fault.OpenFault.TheVariants as fault
+use Rattle.draid_groups.specs.declared.reopening.ReadTables.{ReadTables}
 
 -- these bytes are the area's, where it tells them
 abbrev pub AreBytes : Option content.Content → List ℕ → Type 0

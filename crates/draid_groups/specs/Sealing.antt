@@ -14,11 +14,11 @@ use Rattle.draid_slots.specs.Reading.{answers, holder, pool_slice}
 use Rattle.draid_slots.specs.Table.{SlotTable, IsThere, arm_at, is_leaf, is_logged}
 use Rattle.draid_stable.specs.Images.{image_by}
 use Rattle.draid_stable.specs.Sealing.{AreTables, IsMade, IsReady, is_marked}
-use Rattle.draid_stable.specs.Slots.{HasSlots}
+use Rattle.draid_slots.specs.States.{HasSlots}
 use Rattle.draid_stable.specs.declared.sealing.Head.{Head}
 use Rattle.draid_machine.specs.After.{image_of}
 use Rattle.draid_shard.specs.Rows.{LogsBirth}
-use Rattle.draid_shard.specs.declared.seal.Plan.{Plan}
+use Rattle.draid_groups.specs.declared.sealing.Plan.{Plan}
 use Rattle.draid_shard.specs.declared.shard.Shard.{Shard}
 
 -- ---- silent leaves

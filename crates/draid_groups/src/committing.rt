@@ -6,48 +6,45 @@ ghost use Rattle.draid_segments.specs.Segments.{Pieces};
 ghost use Rattle.draid_spec.specs.declared.layout.Geometry.{Geometry};
 ghost use Rattle.draid_entries.specs.Entries.{entry_at};
 ghost use Rattle.draid_shard.specs.Calls.{ActsOn, SameAreas, SameReserve};
-ghost use Rattle.draid_shard.specs.Changes.{CommitsGroup};
-ghost use Rattle.draid_shard.specs.Committing.{DropsFreed, DropsListed, DropsOne, DropsSome, StaysLeaf, is_freed_entry, later_than};
+ghost use Rattle.draid_groups.specs.Changes.{CommitsGroup};
+ghost use Rattle.draid_groups.specs.Committing.{DropsFreed, DropsListed, DropsOne, DropsSome, StaysLeaf, is_freed_entry, later_than};
 ghost use Rattle.draid_slots.specs.declared.slot.Detached.{Detached};
 ghost use Rattle.draid_slots.specs.Table.{is_leaf_kind};
 ghost use Rattle.draid_shard.specs.Fits.{Tables, Valid};
-ghost use Rattle.draid_shard.specs.Groups.{DropsDetached};
+ghost use Rattle.draid_groups.specs.Groups.{DropsDetached};
 ghost use Rattle.draid_shard.specs.Holding.{AreFitting};
 ghost use Rattle.draid_shard.specs.States.{Does};
 
-use crate::shard::Shard;
-use crate::tickets::release;
 use draid_area::Area;
 use draid_entries::{Entries, Entry};
 use draid_machine::{Event, Stage};
 use draid_metaslab::Space;
 use draid_names::ArmKind;
 use draid_rack::Rack;
+use draid_shard::{Shard, release};
 use draid_slots::{Detached, Slots};
 
-impl<R: Rack, A: Area> Shard<R, A> {
-    /// Commits the sealed group: what was freed and detached up to it goes, and its stripes are free.
-    pub fn commit(&mut self, group: u64)
-        requires valid { Valid R.Rack self.old }
-        requires sealed { (self.old.closing ≡ Some group) × (self.old.sealed ≡ true) }
-        ensures valid { Valid R.Rack self.new }
-        ensures areas { SameAreas self.old self.new }
-        ensures event { Does self.old self.new (Commit group) }
-        ensures commits { CommitsGroup self.old self.new group }
-        ensures acts { (pieces : Pieces) → ActsOn R.Rack self.old self.new (Commit group) pieces }
-        // Of the leaves those alone go that were detached up to the group and are no arms.
-        ensures leaves { DropsDetached R.Rack self.old self.new group }
-        ensures reserve { SameReserve self.old self.new }
-    {
-        release_freed(&mut self.space, &mut self.entries, group);
-        drop_detached(&mut self.rack, &self.slots, group);
-        self.slots.commit(group);
-        self.committed = group;
-        self.closing = None;
-        self.sealed = false;
-        self.version = self.asked;
-        self.history.add(Event::Commit { group }, 1);
-    }
+/// Commits the sealed group: what was freed and detached up to it goes, and its stripes are free.
+pub fn commit<R: Rack, A: Area>(shard: &mut Shard<R, A>, group: u64)
+    requires valid { Valid R.Rack shard.old }
+    requires sealed { (shard.old.closing ≡ Some group) × (shard.old.sealed ≡ true) }
+    ensures valid { Valid R.Rack shard.new }
+    ensures areas { SameAreas shard.old shard.new }
+    ensures event { Does shard.old shard.new (Commit group) }
+    ensures commits { CommitsGroup shard.old shard.new group }
+    ensures acts { (pieces : Pieces) → ActsOn R.Rack shard.old shard.new (Commit group) pieces }
+    // Of the leaves those alone go that were detached up to the group and are no arms.
+    ensures leaves { DropsDetached R.Rack shard.old shard.new group }
+    ensures reserve { SameReserve shard.old shard.new }
+{
+    release_freed(&mut shard.space, &mut shard.entries, group);
+    drop_detached(&mut shard.rack, &shard.slots, group);
+    shard.slots.commit(group);
+    shard.committed = group;
+    shard.closing = None;
+    shard.sealed = false;
+    shard.version = shard.asked;
+    shard.history.add(Event::Commit { group }, 1);
 }
 
 /// Gives back the stripes of all that was freed up to a group.

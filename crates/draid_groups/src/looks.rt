@@ -5,91 +5,89 @@ ghost use Rattle.draid_machine.specs.Created.{IsReached};
 ghost use Rattle.draid_machine.specs.State as machine;
 ghost use Rattle.draid_entries.specs.Entries.{entry_at};
 ghost use Rattle.draid_entries.specs.Thin.{ThinIs};
-ghost use Rattle.draid_shard.specs.Counting.{IsBornIn, IsOpenUpto, IsThinIn, LacksClean, NoneClean};
+ghost use Rattle.draid_groups.specs.Counting.{IsBornIn, IsOpenUpto, IsThinIn, LacksClean, NoneClean};
 ghost use Rattle.draid_shard.specs.Fits.{TicketsAreNew, Valid};
-ghost use Rattle.draid_shard.specs.Groups.{OpenUpto};
+ghost use Rattle.draid_groups.specs.Groups.{OpenUpto};
 ghost use Rattle.draid_shard.specs.Part.{IsRun};
 ghost use Rattle.draid_shard.specs.States.{IsIn, layout_by, part_of};
 
-use crate::shard::Shard;
 use draid_area::Area;
 use draid_entries::Entry;
 use draid_machine::Stage;
 use draid_names::Pointer;
 use draid_rack::Rack;
+use draid_shard::Shard;
 
-impl<R: Rack, A: Area> Shard<R, A> {
-    /// How many open writes were begun up to a group.
-    pub(crate) fn tickets_upto(&self, group: u64) -> u32
-        requires valid { Valid R.Rack self.now }
-        ensures tickets { (w : machine.State) → IsIn self.now w → OpenUpto w group result }
-        ensures none { result ≡ 0 → TicketsAreNew self.now.entries (group + 1) }
-    {
-        let mut tickets = 0;
-        let mut stripe = 0;
-        while let Some(entry) = self.entries.first_from(stripe) {
-            if is_open_upto(&entry, group) {
-                tickets += 1;
-            }
-            stripe = entry.pointer.first + 1;
+/// How many open writes were begun up to a group.
+pub(crate) fn tickets_upto<R: Rack, A: Area>(shard: &Shard<R, A>, group: u64) -> u32
+    requires valid { Valid R.Rack shard.now }
+    ensures tickets { (w : machine.State) → IsIn shard.now w → OpenUpto w group result }
+    ensures none { result ≡ 0 → TicketsAreNew shard.now.entries (group + 1) }
+{
+    let mut tickets = 0;
+    let mut stripe = 0;
+    while let Some(entry) = shard.entries.first_from(stripe) {
+        if is_open_upto(&entry, group) {
+            tickets += 1;
         }
-        tickets
+        stripe = entry.pointer.first + 1;
     }
+    tickets
+}
 
-    /// How many blocks that were born in a group, and aren't freed up to it, have a column of which no arm that answers
-    /// is clean.
-    pub(crate) fn thin(&self, group: u64) -> u64
-        requires valid { Valid R.Rack self.now }
-        ensures low { result ≤ NUMBERS }
-        ensures is { (w : machine.State) → IsReached (layout_by self.now) w → IsIn self.now w
-            → ThinIs (layout_by self.now) w.core group result }
-    {
-        let mut thin = 0;
-        let mut stripe = 0;
-        while let Some(entry) = self.entries.first_from(stripe) {
-            if self.is_thin(&entry, group) {
-                thin += 1;
-            }
-            stripe = entry.pointer.first + 1;
+/// How many blocks that were born in a group, and aren't freed up to it, have a column of which no arm that answers
+/// is clean.
+pub(crate) fn thin<R: Rack, A: Area>(shard: &Shard<R, A>, group: u64) -> u64
+    requires valid { Valid R.Rack shard.now }
+    ensures low { result ≤ NUMBERS }
+    ensures is { (w : machine.State) → IsReached (layout_by shard.now) w → IsIn shard.now w
+        → ThinIs (layout_by shard.now) w.core group result }
+{
+    let mut thin = 0;
+    let mut stripe = 0;
+    while let Some(entry) = shard.entries.first_from(stripe) {
+        if is_thin(shard, &entry, group) {
+            thin += 1;
         }
-        thin
+        stripe = entry.pointer.first + 1;
     }
+    thin
+}
 
-    /// Whether an entry is such a block.
-    fn is_thin(&self, entry: &Entry, group: u64) -> bool
-        requires valid { Valid R.Rack self.now }
-        requires there { entry_at self.now.entries entry.now.pointer.first ≡ Some entry.now }
-        ensures { IsTrue result ↔ IsThinIn (part_of self.now) self.now.slots group entry.now }
-    {
-        is_born_in(entry, group) && self.lacks_clean(&entry.pointer)
-    }
+/// Whether an entry is such a block.
+fn is_thin<R: Rack, A: Area>(shard: &Shard<R, A>, entry: &Entry, group: u64) -> bool
+    requires valid { Valid R.Rack shard.now }
+    requires there { entry_at shard.now.entries entry.now.pointer.first ≡ Some entry.now }
+    ensures { IsTrue result ↔ IsThinIn (part_of shard.now) shard.now.slots group entry.now }
+{
+    is_born_in(entry, group) && lacks_clean(shard, &entry.pointer)
+}
 
-    /// Whether a column of a block has no arm that answers and is clean.
-    fn lacks_clean(&self, pointer: &Pointer) -> bool
-        requires valid { Valid R.Rack self.now }
-        requires run { IsRun self.now.geometry pointer.now.first pointer.now.stripes }
-        ensures { IsTrue result ↔ LacksClean (part_of self.now) self.now.slots pointer.now self.now.geometry.g }
-    {
-        for column in 0..self.geometry.g {
-            if self.has_no_clean(pointer, column) {
-                return true;
-            }
+/// Whether a column of a block has no arm that answers and is clean.
+fn lacks_clean<R: Rack, A: Area>(shard: &Shard<R, A>, pointer: &Pointer) -> bool
+    requires valid { Valid R.Rack shard.now }
+    requires run { IsRun shard.now.geometry pointer.now.first pointer.now.stripes }
+    ensures { IsTrue result ↔ LacksClean (part_of shard.now) shard.now.slots pointer.now shard.now.geometry.g }
+{
+    for column in 0..shard.geometry.g {
+        if has_no_clean(shard, pointer, column) {
+            return true;
         }
-        false
     }
+    false
+}
 
-    /// Whether this column has none.
-    fn has_no_clean(&self, pointer: &Pointer, column: u32) -> bool
-        requires valid { Valid R.Rack self.now }
-        requires run { IsRun self.now.geometry pointer.now.first pointer.now.stripes }
-        requires column { column < self.now.geometry.g }
-        ensures { IsTrue result ↔ NoneClean (part_of self.now) self.now.slots pointer.now column }
-    {
-        let rows = self.rows_of(pointer, column);
-        match self.slots.reading_arm(rows.slot, rows.slice, rows.birth) {
-            Some(read) => !read.clean,
-            None => true,
-        }
+/// Whether this column has none.
+fn has_no_clean<R: Rack, A: Area>(shard: &Shard<R, A>, pointer: &Pointer, column: u32) -> bool
+    requires valid { Valid R.Rack shard.now }
+    requires run { IsRun shard.now.geometry pointer.now.first pointer.now.stripes }
+    requires column { column < shard.now.geometry.g }
+    ensures { IsTrue result ↔ NoneClean (part_of shard.now) shard.now.slots pointer.now column }
+{
+    let rows = shard.rows_of(pointer, column);
+    match shard.slots.reading_arm(rows.slot, rows.slice, rows.birth) {
+        Some(read) => !read.clean,
+        None => true,
     }
 }
 

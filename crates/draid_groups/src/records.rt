@@ -10,39 +10,37 @@ ghost use Rattle.draid_stable.specs.Images.{image_by};
 ghost use Rattle.draid_stable.specs.Sealing.{AreTables, IsMade, IsReady};
 ghost use Rattle.draid_stable.specs.Stable.{Stands};
 ghost use Rattle.draid_shard.specs.Fits.{Valid};
-ghost use Rattle.draid_shard.specs.Sealing.{area_by, head_of};
+ghost use Rattle.draid_groups.specs.Sealing.{area_by, head_of};
 
-use crate::shard::Shard;
 use draid_area::{Area, DeviceFault};
 use draid_names::NoMemory;
 use draid_rack::Rack;
 use draid_record::{Record, write_record};
+use draid_shard::Shard;
 use draid_stable::{Head, record_of_tables};
 use std::alloc::Global;
 
-impl<R: Rack, A: Area> Shard<R, A> {
-    /// The record of a group, of the blocks, arms and pass as they are now.
-    pub(crate) fn record_of(&self, group: u64) -> Result<Record, NoMemory>
-        requires valid { Valid R.Rack self.now }
-        ensures image { IfOk result (λ made. (q : machine.Core) → AreTables self.now.entries self.now.slots self.now.pass self.now.last_pass q
-            → image_by (told_record made) ≡ image_of group self.now.asked q) }
-        ensures ready { IfOk result IsReady }
-        ensures made { IfOk result (IsMade (head_of self.now group) self.now.entries self.now.slots self.now.pass self.now.last_pass) }
-    {
-        let head = Head {
-            version: self.asked,
-            metaslab: self.number,
-            group,
-        };
-        record_of_tables(
-            self.alloc,
-            head,
-            &self.entries,
-            &self.slots,
-            &self.pass,
-            self.last_pass,
-        )
-    }
+/// The record of a group, of the blocks, arms and pass as they are now.
+pub(crate) fn record_of<R: Rack, A: Area>(shard: &Shard<R, A>, group: u64) -> Result<Record, NoMemory>
+    requires valid { Valid R.Rack shard.now }
+    ensures image { IfOk result (λ made. (q : machine.Core) → AreTables shard.now.entries shard.now.slots shard.now.pass shard.now.last_pass q
+        → image_by (told_record made) ≡ image_of group shard.now.asked q) }
+    ensures ready { IfOk result IsReady }
+    ensures made { IfOk result (IsMade (head_of shard.now group) shard.now.entries shard.now.slots shard.now.pass shard.now.last_pass) }
+{
+    let head = Head {
+        version: shard.asked,
+        metaslab: shard.number,
+        group,
+    };
+    record_of_tables(
+        shard.alloc,
+        head,
+        &shard.entries,
+        &shard.slots,
+        &shard.pass,
+        shard.last_pass,
+    )
 }
 
 /// Writes the record of a group to its area, of the two, and flushes that.

@@ -7,13 +7,12 @@ ghost use Rattle.draid_entries.specs.Entries.{count_of};
 ghost use Rattle.draid_entries.specs.History.{limit_in};
 ghost use Rattle.draid_stable.specs.Opening.{len_of};
 ghost use Rattle.draid_shard.specs.Fits.{IsLeaf, Valid, is_rebuild, owed_for_pass};
-ghost use Rattle.draid_shard.specs.Groups.{GivesBack, KitAreasLater, Opens, OpensCounts, area_of_kit};
+ghost use Rattle.draid_groups.specs.Groups.{GivesBack, KitAreasLater, Opens, OpensCounts, area_of_kit};
 ghost use Rattle.draid_shard.specs.Part.{IsPart};
-ghost use Rattle.draid_shard.specs.Reopening.{AreBytes, AreReadFrom, BeginsWith, OpenIsRefused, ReadsTables};
+ghost use Rattle.draid_groups.specs.Reopening.{AreBytes, AreReadFrom, BeginsWith, OpenIsRefused, ReadsTables};
 ghost use Rattle.draid_shard.specs.States.{part_of};
 
 use crate::fault::{OpenFault, OpenRefused};
-use crate::shard::Shard;
 use draid_area::Area;
 use draid_entries::History;
 use draid_metaslab::Space;
@@ -22,6 +21,7 @@ use draid_pass::Pass;
 use draid_perm::Perms;
 use draid_rack::Rack;
 use draid_record::{RecordFault, length_of};
+use draid_shard::Shard;
 use draid_shelf::Kit;
 use draid_spec::Geometry;
 use draid_stable::{Tables, keep_arms, read_tables};
@@ -158,71 +158,69 @@ fn shut_for(space: &mut Space, pass: &Option<Pass>)
     }
 }
 
-impl<R: Rack, A: Area> Shard<R, A> {
-    /// Opens a metaslab from the record of a committed group. Leaves have numbers below `next_leaf`; those that the
-    /// record doesn't name are given up. So many events may be stored and owed, besides what the record owes.
-    pub fn reopen(
-        alloc: Global,
-        number: u32,
-        geometry: Geometry,
-        perms: Perms,
-        kit: Kit<R, A>,
-        events: u64,
-        group: u64,
-        next_leaf: u64,
-    ) -> Result<Shard<R, A>, OpenRefused<R, A>>
-        requires part { IsPart (record { geometry = geometry; perms = perms; number = number }) }
-        requires bytes { (R.shape kit.rack).bytes ≡ geometry.props.sector }
-        requires group { (1 ≤ group) × (group < LAST_NUMBER) }
-        requires next { (geometry.spec.children ≤ next_leaf) × (next_leaf ≤ LAST_NUMBER) }
-        ensures valid { IfOk result (Valid R.Rack) }
-        ensures part { IfOk result (λ shard. part_of shard ≡ record { geometry = geometry; perms = perms; number = number }) }
-        ensures begins { IfOk result (λ shard. (limit_in shard.history ≡ events) × (shard.committed ≡ group)) }
-        ensures opened { IfOk result (Opens R.Rack A.told kit group next_leaf) }
-        ensures gone { IfOk result (λ shard. (leaf : ℕ) → leaf < 2 ^ 64 → (IsLeaf shard.slots leaf → ⊥) → (R.shape shard.rack).leaves leaf ≡ None) }
-        ensures counts { MatchResult result (OpensCounts R.Rack A.faults kit) (λ refused. KitAreasLater A.faults kit refused.kit) }
-        ensures back { IfErr result (λ refused. GivesBack A.told kit refused.kit group) }
-        // why: the area's failure; the first fault of the record by its place, or one behind it; want of memory
-        ensures refused { IfErr result (λ refused. OpenIsRefused R.Rack A.faults A.told geometry number kit refused.kit group next_leaf refused.why) }
-    {
-        let mut kit = kit;
-        let ReadTables { tables, blocks_at } = match read_kit(
-            alloc, &mut kit, number, geometry, perms, group, next_leaf,
-        ) {
-            Ok(it) => it,
-            Err(why) => return Err(OpenRefused { kit, why }),
-        };
-        let Ok(history) = history_of(alloc, &tables, events) else {
-            return Err(OpenRefused {
-                kit,
-                why: OpenFault::NoMemory,
-            });
-        };
-        keep_arms(&mut kit.rack, &tables.slots);
-        let mut space = tables.space;
-        shut_for(&mut space, &tables.pass);
-        Ok(Shard {
-            number,
-            geometry,
-            perms,
-            rack: kit.rack,
-            slots: tables.slots,
-            space,
-            pass: tables.pass,
-            last_pass: tables.last_pass,
-            serial: 0,
-            history,
-            entries: tables.entries,
-            even: kit.even,
-            odd: kit.odd,
-            open_group: group + 1,
-            closing: None,
-            sealed: false,
-            committed: group,
-            version: geometry.props.version,
-            asked: geometry.props.version,
-            blocks_at,
-            alloc,
-        })
-    }
+/// Opens a metaslab from the record of a committed group. Leaves have numbers below `next_leaf`; those that the
+/// record doesn't name are given up. So many events may be stored and owed, besides what the record owes.
+pub fn reopen<R: Rack, A: Area>(
+    alloc: Global,
+    number: u32,
+    geometry: Geometry,
+    perms: Perms,
+    kit: Kit<R, A>,
+    events: u64,
+    group: u64,
+    next_leaf: u64,
+) -> Result<Shard<R, A>, OpenRefused<R, A>>
+    requires part { IsPart (record { geometry = geometry; perms = perms; number = number }) }
+    requires bytes { (R.shape kit.rack).bytes ≡ geometry.props.sector }
+    requires group { (1 ≤ group) × (group < LAST_NUMBER) }
+    requires next { (geometry.spec.children ≤ next_leaf) × (next_leaf ≤ LAST_NUMBER) }
+    ensures valid { IfOk result (Valid R.Rack) }
+    ensures part { IfOk result (λ shard. part_of shard ≡ record { geometry = geometry; perms = perms; number = number }) }
+    ensures begins { IfOk result (λ shard. (limit_in shard.history ≡ events) × (shard.committed ≡ group)) }
+    ensures opened { IfOk result (Opens R.Rack A.told kit group next_leaf) }
+    ensures gone { IfOk result (λ shard. (leaf : ℕ) → leaf < 2 ^ 64 → (IsLeaf shard.slots leaf → ⊥) → (R.shape shard.rack).leaves leaf ≡ None) }
+    ensures counts { MatchResult result (OpensCounts R.Rack A.faults kit) (λ refused. KitAreasLater A.faults kit refused.kit) }
+    ensures back { IfErr result (λ refused. GivesBack A.told kit refused.kit group) }
+    // why: the area's failure; the first fault of the record by its place, or one behind it; want of memory
+    ensures refused { IfErr result (λ refused. OpenIsRefused R.Rack A.faults A.told geometry number kit refused.kit group next_leaf refused.why) }
+{
+    let mut kit = kit;
+    let ReadTables { tables, blocks_at } = match read_kit(
+        alloc, &mut kit, number, geometry, perms, group, next_leaf,
+    ) {
+        Ok(it) => it,
+        Err(why) => return Err(OpenRefused { kit, why }),
+    };
+    let Ok(history) = history_of(alloc, &tables, events) else {
+        return Err(OpenRefused {
+            kit,
+            why: OpenFault::NoMemory,
+        });
+    };
+    keep_arms(&mut kit.rack, &tables.slots);
+    let mut space = tables.space;
+    shut_for(&mut space, &tables.pass);
+    Ok(Shard {
+        number,
+        geometry,
+        perms,
+        rack: kit.rack,
+        slots: tables.slots,
+        space,
+        pass: tables.pass,
+        last_pass: tables.last_pass,
+        serial: 0,
+        history,
+        entries: tables.entries,
+        even: kit.even,
+        odd: kit.odd,
+        open_group: group + 1,
+        closing: None,
+        sealed: false,
+        committed: group,
+        version: geometry.props.version,
+        asked: geometry.props.version,
+        blocks_at,
+        alloc,
+    })
 }

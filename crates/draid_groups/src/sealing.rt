@@ -3,24 +3,26 @@ ghost use Rattle.draid_machine.specs.Arms.{leaf_answers};
 ghost use Rattle.draid_machine.specs.State as machine;
 ghost use Rattle.draid_rack.specs.Rack.{Shape};
 ghost use Rattle.draid_slots.specs.Table.{IsTable};
-ghost use Rattle.draid_stable.specs.Slots.{HasSlots};
+ghost use Rattle.draid_slots.specs.States.{HasSlots};
 ghost use Rattle.draid_shard.specs.Calls.{SameReserve};
-ghost use Rattle.draid_shard.specs.Changes.{KeepsBlocks, SealsGroup};
+ghost use Rattle.draid_shard.specs.Changes.{KeepsBlocks};
+ghost use Rattle.draid_groups.specs.Changes.{SealsGroup};
 ghost use Rattle.draid_shard.specs.Fits.{TicketsAreNew, Valid};
-ghost use Rattle.draid_shard.specs.Groups.{AreasLater, KeepsOtherArea, OpenUpto, Seals, Unsealed};
-ghost use Rattle.draid_shard.specs.Sealing.{AreFlushed, FlushedBelow, IsOnline, IsPlan};
+ghost use Rattle.draid_groups.specs.Groups.{AreasLater, KeepsOtherArea, OpenUpto, Seals, Unsealed};
+ghost use Rattle.draid_groups.specs.Sealing.{AreFlushed, FlushedBelow, IsOnline, IsPlan};
 ghost use Rattle.draid_shard.specs.States.{IsIn};
 
 use crate::fault::{SealFault, Sealed};
-use crate::marks::miss_marked;
-use crate::records::write_to;
-use crate::shard::Shard;
+use crate::looks::{thin, tickets_upto};
+use crate::marks::{mark_silent, miss_marked};
+use crate::records::{record_of, write_to};
 use draid_area::{Area, DeviceFault};
 use draid_columns::flush_leaves;
 use draid_machine::Event;
 use draid_names::{ArmKind, NoMemory};
 use draid_rack::Rack;
 use draid_record::Record;
+use draid_shard::Shard;
 use draid_slots::Slots;
 use draid_stable::{Marks, has_written, lose_targets, settle};
 use std::alloc::Global;
@@ -35,87 +37,85 @@ struct Plan {
     marks: Vec<Marks>,
 }
 
-impl<R: Rack, A: Area> Shard<R, A> {
-    /// Seals the closing group: flushes the leaves that aren't offline, those of detachments that aren't committed too,
-    /// and writes the record of the group to its area. A refused seal may be made again.
-    pub fn seal(&mut self, group: u64) -> Result<Sealed, SealFault>
-        requires valid { Valid R.Rack self.old }
-        requires closing { (self.old.closing ≡ Some group) × (self.old.sealed ≡ false) }
-        ensures valid { Valid R.Rack self.new }
-        ensures other { KeepsOtherArea group self.old self.new }
-        ensures sealed { IfOk result (λ it. Seals R.Rack A.told self.old self.new group it.thin) }
-        ensures seals { OnOk result (SealsGroup self.old self.new) }
-        ensures refused { IfErr result (Unsealed R.Rack A.faults self.old self.new group) }
-        ensures keeps { OnErr result (KeepsBlocks self.old self.new) }
-        ensures later { AreasLater A.faults self.old self.new }
-        ensures reserve { SameReserve self.old self.new }
-    {
-        let tickets = self.tickets_upto(group);
-        if tickets > 0 {
-            return Err(SealFault::NotYet { tickets });
-        }
-        match self.plan_seal(group) {
-            Ok(plan) => self.seal_by(group, plan),
-            Err(_) => Err(SealFault::NoMemory),
-        }
+/// Seals the closing group: flushes the leaves that aren't offline, those of detachments that aren't committed too,
+/// and writes the record of the group to its area. A refused seal may be made again.
+pub fn seal<R: Rack, A: Area>(shard: &mut Shard<R, A>, group: u64) -> Result<Sealed, SealFault>
+    requires valid { Valid R.Rack shard.old }
+    requires closing { (shard.old.closing ≡ Some group) × (shard.old.sealed ≡ false) }
+    ensures valid { Valid R.Rack shard.new }
+    ensures other { KeepsOtherArea group shard.old shard.new }
+    ensures sealed { IfOk result (λ it. Seals R.Rack A.told shard.old shard.new group it.thin) }
+    ensures seals { OnOk result (SealsGroup shard.old shard.new) }
+    ensures refused { IfErr result (Unsealed R.Rack A.faults shard.old shard.new group) }
+    ensures keeps { OnErr result (KeepsBlocks shard.old shard.new) }
+    ensures later { AreasLater A.faults shard.old shard.new }
+    ensures reserve { SameReserve shard.old shard.new }
+{
+    let tickets = tickets_upto(shard, group);
+    if tickets > 0 {
+        return Err(SealFault::NotYet { tickets });
     }
+    match plan_seal(shard, group) {
+        Ok(plan) => seal_by(shard, group, plan),
+        Err(_) => Err(SealFault::NoMemory),
+    }
+}
 
-    /// Seals the group by a plan, where no open write was begun up to it.
-    fn seal_by(&mut self, group: u64, plan: Plan) -> Result<Sealed, SealFault>
-        requires valid { Valid R.Rack self.old }
-        requires closing { (self.old.closing ≡ Some group) × (self.old.sealed ≡ false) }
-        requires settled { (w : machine.State) → IsIn self.old w → OpenUpto w group 0 }
-        requires tickets { TicketsAreNew self.old.entries (group + 1) }
-        requires plan { IsPlan (R.shape self.old.rack) self.old group plan }
-        ensures valid { Valid R.Rack self.new }
-        ensures other { KeepsOtherArea group self.old self.new }
-        ensures sealed { IfOk result (λ it. Seals R.Rack A.told self.old self.new group it.thin) }
-        ensures seals { OnOk result (SealsGroup self.old self.new) }
-        ensures refused { IfErr result (Unsealed R.Rack A.faults self.old self.new group) }
-        ensures keeps { OnErr result (KeepsBlocks self.old self.new) }
-        ensures later { AreasLater A.faults self.old self.new }
-        ensures reserve { SameReserve self.old self.new }
-    {
-        let Plan {
-            mut made,
-            leaves,
-            mut failed,
-            mut marks,
-        } = plan;
-        flush_leaves(&mut self.rack, &leaves, &mut failed);
-        self.mark_silent(&mut marks, &failed);
-        let wrote = has_written(&made);
-        settle(&mut made, &marks, wrote);
-        match write_to(self.alloc, &mut self.even, &mut self.odd, group, &made) {
-            Ok(()) => {}
-            Err(DeviceFault::Failed) => return Err(SealFault::Area),
-            Err(DeviceFault::NoMemory) => return Err(SealFault::NoMemory),
-        }
-        miss_marked(&mut self.slots, &marks, wrote, group);
-        lose_targets(&mut self.pass, &marks);
-        self.sealed = true;
-        self.history.add(Event::Seal { group, failed }, 1);
-        Ok(Sealed {
-            thin: self.thin(group),
-        })
+/// Seals the group by a plan, where no open write was begun up to it.
+fn seal_by<R: Rack, A: Area>(shard: &mut Shard<R, A>, group: u64, plan: Plan) -> Result<Sealed, SealFault>
+    requires valid { Valid R.Rack shard.old }
+    requires closing { (shard.old.closing ≡ Some group) × (shard.old.sealed ≡ false) }
+    requires settled { (w : machine.State) → IsIn shard.old w → OpenUpto w group 0 }
+    requires tickets { TicketsAreNew shard.old.entries (group + 1) }
+    requires plan { IsPlan (R.shape shard.old.rack) shard.old group plan }
+    ensures valid { Valid R.Rack shard.new }
+    ensures other { KeepsOtherArea group shard.old shard.new }
+    ensures sealed { IfOk result (λ it. Seals R.Rack A.told shard.old shard.new group it.thin) }
+    ensures seals { OnOk result (SealsGroup shard.old shard.new) }
+    ensures refused { IfErr result (Unsealed R.Rack A.faults shard.old shard.new group) }
+    ensures keeps { OnErr result (KeepsBlocks shard.old shard.new) }
+    ensures later { AreasLater A.faults shard.old shard.new }
+    ensures reserve { SameReserve shard.old shard.new }
+{
+    let Plan {
+        mut made,
+        leaves,
+        mut failed,
+        mut marks,
+    } = plan;
+    flush_leaves(&mut shard.rack, &leaves, &mut failed);
+    mark_silent(shard, &mut marks, &failed);
+    let wrote = has_written(&made);
+    settle(&mut made, &marks, wrote);
+    match write_to(shard.alloc, &mut shard.even, &mut shard.odd, group, &made) {
+        Ok(()) => {}
+        Err(DeviceFault::Failed) => return Err(SealFault::Area),
+        Err(DeviceFault::NoMemory) => return Err(SealFault::NoMemory),
     }
+    miss_marked(&mut shard.slots, &marks, wrote, group);
+    lose_targets(&mut shard.pass, &marks);
+    shard.sealed = true;
+    shard.history.add(Event::Seal { group, failed }, 1);
+    Ok(Sealed {
+        thin: thin(shard, group),
+    })
+}
 
-    /// Takes the memory for the seal of a group.
-    fn plan_seal(&self, group: u64) -> Result<Plan, NoMemory>
-        requires valid { Valid R.Rack self.now }
-        ensures { IfOk result (IsPlan (R.shape self.now.rack) self.now group) }
-    {
-        let made = self.record_of(group)?;
-        let marks = no_marks(self.alloc, self.slots.children())?;
-        let leaves = leaves_to_flush(self.alloc, &self.rack, &self.slots)?;
-        let failed = Vec::with_capacity(self.alloc, leaves.len())?;
-        Ok(Plan {
-            made,
-            leaves,
-            failed,
-            marks,
-        })
-    }
+/// Takes the memory for the seal of a group.
+fn plan_seal<R: Rack, A: Area>(shard: &Shard<R, A>, group: u64) -> Result<Plan, NoMemory>
+    requires valid { Valid R.Rack shard.now }
+    ensures { IfOk result (IsPlan (R.shape shard.now.rack) shard.now group) }
+{
+    let made = record_of(shard, group)?;
+    let marks = no_marks(shard.alloc, shard.slots.children())?;
+    let leaves = leaves_to_flush(shard.alloc, &shard.rack, &shard.slots)?;
+    let failed = Vec::with_capacity(shard.alloc, leaves.len())?;
+    Ok(Plan {
+        made,
+        leaves,
+        failed,
+        marks,
+    })
 }
 
 /// No mark for so many slots.

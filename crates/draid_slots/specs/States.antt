@@ -1,5 +1,5 @@
 -- The arms of the slots and the pass, as a state of the metaslab has them.
-use Rattle.std.specs.Prelude.{◌≡◌, ◌≢◌, ◌⊎◌, ℕ, List, [], ◌∷◌, Option, Some, None, Contains, map}
+use Rattle.std.specs.Prelude.{◌≡◌, ◌==◌, ◌≢◌, ◌<◌, ◌≤◌, ◌+◌, ◌⊎◌, ⊤, ℕ, List, [], ◌∷◌, Option, Some, None, All, Contains, length, map, if◌then◌else◌}
 use Rattle.draid_names.specs.declared.arm.Arm.{Arm}
 use Rattle.draid_names.specs.declared.arm.ArmAt.{ArmAt}
 use Rattle.draid_names.specs.declared.arm.ArmKind.{ArmKind}
@@ -67,3 +67,28 @@ pass_in slots p = record {
   errors = p.errors;
   running = p.running;
 }
+
+-- where the slot and the arm of a target begin behind the one before
+abbrev pub least_slot : Option ArmAt → ℕ
+least_slot None = 0
+least_slot (Some before) = before.slot
+
+abbrev pub least_arm : Option ArmAt → ℕ → ℕ
+least_arm None slot = 0
+least_arm (Some before) slot = if slot == before.slot then before.arm + 1 else 0
+
+-- places that ascend by slot and arm, behind one before
+abbrev pub AscendBehind : Option ArmAt → List ArmAt → Type 0
+AscendBehind before [] = ⊤
+AscendBehind before (t ∷ rest) = (least_slot before ≤ t.slot) × (least_arm before t.slot ≤ t.arm) × AscendBehind (Some t) rest
+
+-- the pass has the last number, and its targets are arms of the slots
+pub record IsCurrent (slots : SlotTable) (last : ℕ) (pass : Pass) : Type 0 where
+  pub number : pass.number ≡ last
+  pub targets : All (λ (place : ArmAt). place.arm < length (arms_of slots place.slot)) pass.targets.items
+
+-- The pass has the last number, and makes good some group. Its targets are arms of the slots, ascending.
+pub record HoldsPass (slots : SlotTable) (last : ℕ) (pass : Pass) : Type 0 where
+  pub current : IsCurrent slots last pass
+  pub ascending : AscendBehind None pass.targets.items
+  pub some_max : 1 ≤ pass.max

@@ -1,9 +1,9 @@
 use Rattle.std.proofs.Common.{List, subst, sym, take}
 use Rattle.std.proofs.lemmas.List.{take_more}
 use Rattle.draid_slots.specs.declared.slot.Detached.{Detached}
-use Rattle.draid_shard.specs.Committing.{DropsListed}
-use Rattle.draid_shard.proofs.Dropping.{list_more, list_none}
-use Rattle.draid_shard.proofs.commit.drop_detached.Goals as goal
+use Rattle.draid_groups.specs.Committing.{DropsListed}
+use Rattle.draid_groups.proofs.Dropping.{list_more, list_none}
+use Rattle.draid_groups.proofs.committing.drop_detached.Goals as goal
 
 pub loop-gone-init : goal.loop-gone-init
 loop-gone-init g c = record { drops = list_none g.R.Rack c.args.slots.now c.args.group c.args.rack.now }

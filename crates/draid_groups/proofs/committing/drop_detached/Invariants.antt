@@ -1,6 +1,6 @@
 use Rattle.std.proofs.Common.{take}
-use Rattle.draid_shard.specs.Committing.{DropsListed}
-use Rattle.draid_shard.proofs.commit.drop_detached.Given as goal
+use Rattle.draid_groups.specs.Committing.{DropsListed}
+use Rattle.draid_groups.proofs.committing.drop_detached.Given as goal
 
 abbrev pub invariant-loop-gone : goal.invariant-loop-gone
 invariant-loop-gone g l = record {

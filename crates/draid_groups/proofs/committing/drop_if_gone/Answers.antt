@@ -2,7 +2,7 @@ use Rattle.std.proofs.Common.{◌≡◌, ◌==◌, true, rules, refl, ap}
 use Rattle.draid_rack.proofs.Moments.{left_drops}
 use Rattle.draid_rack.specs.Rack.{Shape}
 use Rattle.draid_machine.proofs.Small.{absurd_test, equal}
-use Rattle.draid_shard.proofs.commit.drop_if_gone.Goals as goal
+use Rattle.draid_groups.proofs.committing.drop_if_gone.Goals as goal
 
 pub returns-then-not-stays : goal.returns-then-not-stays
 returns-then-not-stays g c =

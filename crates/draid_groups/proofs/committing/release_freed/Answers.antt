@@ -1,6 +1,6 @@
 use Rattle.std.proofs.Common.{◌∙◌, arith}
-use Rattle.draid_shard.proofs.Releasing.{more_goes, none_below, still_fitting}
-use Rattle.draid_shard.proofs.commit.release_freed.Goals as goal
+use Rattle.draid_groups.proofs.Releasing.{more_goes, none_below, still_fitting}
+use Rattle.draid_groups.proofs.committing.release_freed.Goals as goal
 
 pub loop-entry-preserved : goal.loop-entry-preserved
 loop-entry-preserved c =

@@ -1,5 +1,5 @@
-use Rattle.draid_shard.proofs.Opened.{opened_stands}
-use Rattle.draid_shard.proofs.laws.opened_shards_stand.Goals as goal
+use Rattle.draid_groups.proofs.Opened.{opened_stands}
+use Rattle.draid_groups.proofs.laws.opened_shards_stand.Goals as goal
 
 pub returns : goal.returns
 returns g c kit shard group next w image doubtful pieces opens part reached is own version below has firm =

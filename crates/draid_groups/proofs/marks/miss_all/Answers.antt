@@ -1,7 +1,7 @@
 use Rattle.std.proofs.Common.{◌≡◌, arith, subst}
-use Rattle.draid_shard.specs.Sealing.{MarksBelow}
-use Rattle.draid_shard.proofs.Missing.{table_all}
-use Rattle.draid_shard.proofs.marks.miss_all.Goals as goal
+use Rattle.draid_groups.specs.Sealing.{MarksBelow}
+use Rattle.draid_groups.proofs.Missing.{table_all}
+use Rattle.draid_groups.proofs.marks.miss_all.Goals as goal
 
 pub returns : goal.returns
 returns c =

@@ -1,5 +1,5 @@
-use Rattle.draid_shard.proofs.Missing.{arms_none, room_stays}
-use Rattle.draid_shard.proofs.marks.miss_in_slot.Goals as goal
+use Rattle.draid_groups.proofs.Missing.{arms_none, room_stays}
+use Rattle.draid_groups.proofs.marks.miss_in_slot.Goals as goal
 
 pub loop-arm-init : goal.loop-arm-init
 loop-arm-init c = arms_none c.args.slots.now c.args.marks.now c.args.slot c.args.group

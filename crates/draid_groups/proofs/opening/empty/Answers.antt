@@ -1,7 +1,7 @@
 use Rattle.std.proofs.Common.{arith, refl, sym}
 use Rattle.draid_layouts.specs.Layout.{layout_of}
-use Rattle.draid_shard.proofs.Creation.{created_slots, empty_tables, has_leaves, no_tickets, none_here, once_new, owes_none, own_version, rooms_enough}
-use Rattle.draid_shard.proofs.shard.Shard.empty.Goals as goal
+use Rattle.draid_groups.proofs.Creation.{created_slots, empty_tables, has_leaves, no_tickets, none_here, once_new, owes_none, own_version, rooms_enough}
+use Rattle.draid_groups.proofs.opening.empty.Goals as goal
 
 pub returns-clause-valid : goal.returns-clause-valid
 returns-clause-valid g c = record {

@@ -1,5 +1,5 @@
-use Rattle.draid_shard.proofs.Creation.{still_new, still_of}
-use Rattle.draid_shard.proofs.opening.new_slots.Goals as goal
+use Rattle.draid_groups.proofs.Creation.{still_new, still_of}
+use Rattle.draid_groups.proofs.opening.new_slots.Goals as goal
 
 pub returns-clause-of : goal.returns-clause-of
 returns-clause-of c =

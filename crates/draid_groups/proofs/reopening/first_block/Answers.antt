@@ -1,6 +1,6 @@
 use Rattle.std.proofs.Common.{arith}
-use Rattle.draid_shard.proofs.Reopened.{read_long}
-use Rattle.draid_shard.proofs.reopening.first_block.Goals as goal
+use Rattle.draid_groups.proofs.Reopened.{read_long}
+use Rattle.draid_groups.proofs.reopening.first_block.Goals as goal
 
 pub length_of-requires : goal.length_of-requires
 length_of-requires c =

@@ -3,8 +3,8 @@ use Rattle.draid_spec.specs.Geometry.{metaslab_sectors}
 use Rattle.draid_entries.specs.Entries.{count_of}
 use Rattle.draid_record.specs.Record.{limits_of}
 use Rattle.draid_stable.specs.Opening.{AreRead, has_leaf, len_of}
-use Rattle.draid_shard.specs.Reopening.{AreReadFrom}
-use Rattle.draid_shard.proofs.reopening.read_kit.Goals as goal
+use Rattle.draid_groups.specs.Reopening.{AreReadFrom}
+use Rattle.draid_groups.proofs.reopening.read_kit.Goals as goal
 
 pub first_block-blocks_at-requires : goal.first_block-blocks_at-requires
 first_block-blocks_at-requires g c =

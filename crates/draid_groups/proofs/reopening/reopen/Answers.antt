@@ -8,11 +8,11 @@ use Rattle.draid_stable.specs.Opening.{has_leaf, has_leaf_arm}
 use Rattle.draid_stable.proofs.Gone.{no_arm}
 use Rattle.draid_stable.proofs.There.{whole_parts}
 use Rattle.draid_shard.specs.Fits.{is_rebuild}
-use Rattle.draid_shard.specs.Groups.{area_of_kit}
-use Rattle.draid_shard.proofs.Creation.{own_version}
-use Rattle.draid_shard.proofs.Once.{told_once}
-use Rattle.draid_shard.proofs.Reopened.{are_here, both_same, drops_but, enough_room, leaves_there, no_writes, tables_fit, told_place, told_read}
-use Rattle.draid_shard.proofs.shard.Shard.reopen.Goals as goal
+use Rattle.draid_groups.specs.Groups.{area_of_kit}
+use Rattle.draid_groups.proofs.Creation.{own_version}
+use Rattle.draid_groups.proofs.Once.{told_once}
+use Rattle.draid_groups.proofs.Reopened.{are_here, both_same, drops_but, enough_room, leaves_there, no_writes, tables_fit, told_place, told_read}
+use Rattle.draid_groups.proofs.reopening.reopen.Goals as goal
 
 pub returns-clause-valid : goal.returns-clause-valid
 returns-clause-valid g c =

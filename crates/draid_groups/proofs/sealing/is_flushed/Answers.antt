@@ -1,6 +1,6 @@
 use Rattle.std.proofs.Common.{◌<◌, ◌∙◌, length, sym, subst}
-use Rattle.draid_shard.proofs.LeavesFlushed.{found_online, found_slot, found_there, leaving_is_online, none_answers}
-use Rattle.draid_shard.proofs.seal.is_flushed.Goals as goal
+use Rattle.draid_groups.proofs.LeavesFlushed.{found_online, found_slot, found_there, leaving_is_online, none_answers}
+use Rattle.draid_groups.proofs.sealing.is_flushed.Goals as goal
 
 pub arms-requires : goal.arms-requires
 arms-requires c = found_slot c.args.slots.now c.args.leaf c.in-Some.at c.requires c.in-Some.ensures.found

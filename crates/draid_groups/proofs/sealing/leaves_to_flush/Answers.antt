@@ -1,9 +1,9 @@
 use Rattle.std.proofs.Common.{◌+◌, ℕ, arith, subst, sym}
-use Rattle.draid_shard.specs.Sealing.{FlushedBelow}
-use Rattle.draid_shard.proofs.LeavesFlushed.{flushed_all, flushed_on}
-use Rattle.draid_shard.proofs.seal.leaves_to_flush.Given as given
-use Rattle.draid_shard.proofs.seal.leaves_to_flush.Goals as goal
-use Rattle.draid_shard.proofs.seal.leaves_to_flush.Goals.{In_ok-add_flushed}
+use Rattle.draid_groups.specs.Sealing.{FlushedBelow}
+use Rattle.draid_groups.proofs.LeavesFlushed.{flushed_all, flushed_on}
+use Rattle.draid_groups.proofs.sealing.leaves_to_flush.Given as given
+use Rattle.draid_groups.proofs.sealing.leaves_to_flush.Goals as goal
+use Rattle.draid_groups.proofs.sealing.leaves_to_flush.Goals.{In_ok-add_flushed}
 
 -- the leaf that was found is looked at too
 one_more : (g : given.Over) (c : In_ok-add_flushed g) → FlushedBelow (g.R.Rack.shape c.args.rack.now) c.args.slots.now c.add_flushed.new.leaves.items (c.in-Some.leaf + 1)
