@@ -15,15 +15,15 @@ use Rattle.draid_entries.specs.History.{KeepsOwed, owed_of, reserved_of}
 use Rattle.draid_slots.specs.declared.slot.Detached.{Detached}
 use Rattle.draid_slots.specs.Changes.{HasRoom, IsRoomier, Keeps}
 use Rattle.draid_slots.specs.Table.{SlotTable, arm_at}
+use Rattle.draid_slots.specs.States.{HasArm, HasSlots, WasArm, arm_in, name_of}
 use Rattle.draid_shard.specs.Fits.{AreGroups, HasLeaves, Tables, TicketsAreNew, Valid, birth_groups, oldest_open, owed_for_group}
 use Rattle.draid_shard.specs.States.{IsIn, Leads, layout_by}
 use Rattle.draid_shard.specs.declared.shard.Shard.{Shard}
-use Rattle.draid_slots.specs.States.{HasArm, HasSlots, WasArm, arm_in, name_of}
-use Rattle.draid_groups.proofs.Creation.{rooms_enough, still_of}
 use Rattle.draid_shard.proofs.Once.{once_kept}
 use Rattle.draid_shard.proofs.PutKept.{pass_held}
 use Rattle.draid_shard.proofs.Putting.{pass_same}
 use Rattle.draid_shard.proofs.Staging.{leaf_was, logs_kept}
+use Rattle.draid_groups.proofs.Creation.{rooms_enough, still_of}
 
 -- ---- slots in which room was made
 module _ (old new : SlotTable) (q : machine.Core) (kept : Keeps old new) (has : HasSlots old q) where

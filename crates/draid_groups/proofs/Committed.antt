@@ -30,20 +30,20 @@ use Rattle.draid_entries.specs.History.{owed_of, reserved_of}
 use Rattle.draid_slots.specs.declared.slot.Detached.{Detached}
 use Rattle.draid_slots.specs.Changes.{Commits}
 use Rattle.draid_slots.specs.Table.{SlotTable, arm_at, is_leaf_kind, is_logged, room_at}
+use Rattle.draid_slots.specs.States.{HasArm, HasSlots, IsGone, WasArm, arm_in, name_of, named}
 use Rattle.draid_shard.specs.Calls.{ActsOn, OnBothTold}
-use Rattle.draid_groups.specs.Committing.{DropsFreed, DropsListed, IsAmong, StaysLeaf, is_freed_entry, later_than}
 use Rattle.draid_shard.specs.Fits.{AreGroups, HasLeaves, IsLeaf, LogsHaveRoom, Tables, Valid, birth_groups, oldest_open, owed_for_group}
-use Rattle.draid_groups.specs.Groups.{DropsDetached, WasDetached}
 use Rattle.draid_shard.specs.States.{IsIn, Leads, layout_by, part_of}
 use Rattle.draid_shard.specs.declared.shard.Shard.{Shard}
-use Rattle.draid_slots.specs.States.{HasArm, HasSlots, IsGone, WasArm, arm_in, name_of, named}
 use Rattle.draid_shard.proofs.Among.{any_among, any_kept, kept_among, was_among}
-use Rattle.draid_groups.proofs.Dropping.{leaf_by, stays_by}
 use Rattle.draid_shard.proofs.Homes.{lays}
 use Rattle.draid_shard.proofs.Once.{once_fewer}
 use Rattle.draid_shard.proofs.PutKept.{pass_held}
 use Rattle.draid_shard.proofs.Putting.{pass_same}
 use Rattle.draid_shard.proofs.Staging.{logs_kept, logs_later}
+use Rattle.draid_groups.specs.Committing.{DropsFreed, DropsListed, IsAmong, StaysLeaf, is_freed_entry, later_than}
+use Rattle.draid_groups.specs.Groups.{DropsDetached, WasDetached}
+use Rattle.draid_groups.proofs.Dropping.{leaf_by, stays_by}
 
 -- ---- the slots of a state after it
 module _ (old new : SlotTable) (w : machine.State) (group : ℕ) (commits : Commits old new group) (has : HasSlots old w.core) where

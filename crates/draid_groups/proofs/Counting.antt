@@ -14,14 +14,14 @@ use Rattle.draid_entries.specs.Maps.{first_in, held_at, key_of}
 use Rattle.draid_entries.specs.Thin.{IsThin, IsUncertain, ThinIs}
 use Rattle.draid_machine.specs.Created.{IsReached}
 use Rattle.draid_rack.specs.declared.Rack.{Ghosts}
-use Rattle.draid_groups.specs.Counting.{CountsBelow, IsCounted, IsOpenUpto, IsThinIn}
 use Rattle.draid_shard.specs.Fits.{TicketsAreNew, Valid}
-use Rattle.draid_groups.specs.Groups.{OpenUpto}
 use Rattle.draid_shard.specs.States.{IsIn, layout_by, part_of}
 use Rattle.draid_shard.specs.declared.shard.Shard.{Shard}
 use Rattle.draid_shard.proofs.Among.{has_behind, has_cases, has_first, has_nothing}
 use Rattle.draid_shard.proofs.Held.{HasEntry, held_entry, key_leads}
 use Rattle.draid_shard.proofs.Tables.{first_is}
+use Rattle.draid_groups.specs.Counting.{CountsBelow, IsCounted, IsOpenUpto, IsThinIn}
+use Rattle.draid_groups.specs.Groups.{OpenUpto}
 use Rattle.draid_groups.proofs.Thinning.{none_by, uncertain_by}
 
 module _ (t : Entries) (test : Entry → Type 0) where

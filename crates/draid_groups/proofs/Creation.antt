@@ -23,8 +23,8 @@ use Rattle.draid_entries.specs.declared.entries.Entries.{Entries}
 use Rattle.draid_entries.specs.Entries.{count_of, entry_at, owed_at, owed_by}
 use Rattle.draid_entries.proofs.Sums.{sum_none}
 use Rattle.draid_names.specs.declared.numbers.TheConstants.{NUMBERS}
-use Rattle.draid_shard.specs.Fits.{AreHere, HasLeaves, IsLeaf, LogsHaveRoom, NamesOnce, Tables, TicketsAreNew, lacking}
 use Rattle.draid_slots.specs.States.{HasArm, HasSlots, WasArm, arm_in, name_of}
+use Rattle.draid_shard.specs.Fits.{AreHere, HasLeaves, IsLeaf, LogsHaveRoom, NamesOnce, Tables, TicketsAreNew, lacking}
 
 -- ---- slots
 

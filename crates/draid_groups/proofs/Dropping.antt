@@ -9,9 +9,9 @@ use Rattle.draid_machine.proofs.Small.{absurd_test, either_true, equal, is_equal
 use Rattle.draid_slots.specs.declared.slot.Detached.{Detached}
 use Rattle.draid_slots.specs.Changes.{Commits}
 use Rattle.draid_slots.specs.Table.{SlotTable}
-use Rattle.draid_groups.specs.Committing.{DropsJust, DropsListed, DropsOne, IsAmong, StaysLeaf, later_than}
 use Rattle.draid_shard.specs.Fits.{IsLeaf}
 use Rattle.draid_shard.proofs.Staging.{leaf_was}
+use Rattle.draid_groups.specs.Committing.{DropsJust, DropsListed, DropsOne, IsAmong, StaysLeaf, later_than}
 
 -- ---- one after another
 

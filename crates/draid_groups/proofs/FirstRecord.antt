@@ -21,9 +21,9 @@ use Rattle.draid_slots.specs.States.{arm_in, named, pass_in}
 use Rattle.draid_stable.specs.Stable.{Stands}
 use Rattle.draid_shard.specs.declared.shard.Shard.{Shard}
 use Rattle.draid_shard.specs.Fits.{Valid}
+use Rattle.draid_shard.specs.States.{IsIn, layout_by}
 use Rattle.draid_groups.specs.Groups.{ListsOnce}
 use Rattle.draid_groups.specs.Sealing.{head_of}
-use Rattle.draid_shard.specs.States.{IsIn, layout_by}
 use Rattle.draid_groups.proofs.SealRecords.{record_stands}
 
 -- what a seal keeps of a new metaslab's arms is all of them

@@ -28,11 +28,11 @@ use Rattle.draid_stable.specs.Images.{LeavesBelow, image_by}
 use Rattle.draid_stable.specs.Stable.{HasRecord}
 use Rattle.draid_shard.specs.declared.shard.Shard.{Shard}
 use Rattle.draid_shard.specs.Calls.{OnBothTold}
-use Rattle.draid_groups.specs.Groups.{Opens, area_of_kit, at_version}
 use Rattle.draid_shard.specs.Part.{IsPart}
 use Rattle.draid_shard.specs.Stands.{StandsFor}
 use Rattle.draid_shard.specs.States.{IsIn, layout_by, part_of}
 use Rattle.draid_shard.proofs.Standing.{has_layout, reached_more}
+use Rattle.draid_groups.specs.Groups.{Opens, area_of_kit, at_version}
 
 -- a record that stands is read, with the bytes behind it
 read_now : (geometry : Geometry) (metaslab next : ℕ) (image : machine.Image) (x : content.Content) (has : HasRecord geometry metaslab image x) → LeavesBelow next image

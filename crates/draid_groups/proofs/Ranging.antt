@@ -42,13 +42,13 @@ use Rattle.draid_slots.specs.States.{HoldsPass, arm_in, name_of, named, pass_in}
 use Rattle.draid_stable.specs.Within.{ArmsFit, EntriesFit, IsPlaced, LimitsFit, PassFits, TablesFit}
 use Rattle.draid_shard.specs.Fits.{Valid}
 use Rattle.draid_shard.specs.Fits as fits
-use Rattle.draid_groups.specs.Groups.{at_version}
 use Rattle.draid_shard.specs.States.{IsIn, layout_by, part_of}
 use Rattle.draid_shard.specs.declared.shard.Shard.{Shard}
 use Rattle.draid_shard.proofs.Answering.{name_listed, once_apart}
 use Rattle.draid_shard.proofs.Begins.{few_stripes}
 use Rattle.draid_shard.proofs.Held.{key_leads}
 use Rattle.draid_shard.proofs.Homes.{lays}
+use Rattle.draid_groups.specs.Groups.{at_version}
 
 small_version : (n : ℕ) → fitting.IsVersion n → n < 2 ^ 16
 small_version n (inl one) = omega (arith, one)

@@ -47,8 +47,8 @@ use Rattle.draid_stable.proofs.There.{arm_named, has_sectors, leaf_there, named_
 use Rattle.draid_shard.specs.Calls.{OnBothTold}
 use Rattle.draid_shard.specs.Fits as fits
 use Rattle.draid_shard.specs.Fits.{AreHere, HasLeaves, HasStripe, IsLeaf, IsPlaced, LogsHaveRoom, Tables, TicketsAreNew, lacking}
-use Rattle.draid_groups.specs.Groups.{GivesBack}
 use Rattle.draid_shard.specs.Part.{IsRun}
+use Rattle.draid_groups.specs.Groups.{GivesBack}
 
 -- ---- stripes of a block
 

@@ -34,13 +34,13 @@ use Rattle.draid_stable.proofs.Logs.{copied_small, settled_fits}
 use Rattle.draid_stable.proofs.Made.{marked_told}
 use Rattle.draid_stable.proofs.Ranged.{settled_ranged}
 use Rattle.draid_shard.specs.Fits.{Valid}
-use Rattle.draid_groups.specs.Groups.{ListsOnce, at_version}
-use Rattle.draid_groups.proofs.ListedOnce.{lists_once}
-use Rattle.draid_groups.specs.Sealing.{AreSilent, IsPlan, head_of}
 use Rattle.draid_shard.specs.States.{IsIn, layout_by, part_of}
-use Rattle.draid_groups.specs.declared.sealing.Plan.{Plan}
 use Rattle.draid_shard.specs.declared.shard.Shard.{Shard}
 use Rattle.draid_shard.proofs.Homes.{lays}
+use Rattle.draid_groups.specs.Groups.{ListsOnce, at_version}
+use Rattle.draid_groups.specs.Sealing.{AreSilent, IsPlan, head_of}
+use Rattle.draid_groups.specs.declared.sealing.Plan.{Plan}
+use Rattle.draid_groups.proofs.ListedOnce.{lists_once}
 use Rattle.draid_groups.proofs.Ranging.{NumbersFit, closing_low, tables_fit}
 use Rattle.draid_groups.proofs.SealSteps.{marked_here}
 

@@ -37,16 +37,16 @@ use Rattle.draid_stable.specs.Sealing.{LosesTargets, by_kind, is_lost, is_marked
 use Rattle.draid_stable.proofs.Targets.{kept_ascend}
 use Rattle.draid_shard.specs.Calls.{OnBothTold}
 use Rattle.draid_shard.specs.Fits.{AreGroups, IsLeaf, TicketsAreNew, Valid, birth_groups, is_rebuild, oldest_open, owed_for_group, owed_for_pass}
-use Rattle.draid_groups.specs.Groups.{OpenUpto}
 use Rattle.draid_shard.specs.Part.{IsPart, Part, layout_in}
-use Rattle.draid_groups.specs.Sealing.{AreFlushed, AreSilent, IsOnline, MarksTable, lies_silent}
 use Rattle.draid_shard.specs.States.{IsIn, layout_by, part_of}
 use Rattle.draid_shard.specs.declared.shard.Shard.{Shard}
-use Rattle.draid_groups.proofs.LeavesFlushed.{answers_leaf}
 use Rattle.draid_shard.proofs.Once.{once_kept}
 use Rattle.draid_shard.proofs.Putting.{pass_same}
-use Rattle.draid_groups.proofs.Silent.{same_number, silent_is}
 use Rattle.draid_shard.proofs.Staging.{leaves_left, logs_left, same_of}
+use Rattle.draid_groups.specs.Groups.{OpenUpto}
+use Rattle.draid_groups.specs.Sealing.{AreFlushed, AreSilent, IsOnline, MarksTable, lies_silent}
+use Rattle.draid_groups.proofs.LeavesFlushed.{answers_leaf}
+use Rattle.draid_groups.proofs.Silent.{same_number, silent_is}
 
 -- ---- a pass loses its marked targets
 

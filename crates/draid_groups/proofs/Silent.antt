@@ -35,11 +35,11 @@ use Rattle.draid_slots.specs.Table.{SlotTable, arm_at, arms_of, is_leaf_kind}
 use Rattle.draid_slots.specs.States.{HasSlots, arm_in, name_of, named}
 use Rattle.draid_shard.specs.Part.{IsPart, IsRun, Part, layout_in}
 use Rattle.draid_shard.specs.Rows.{IsRowsOf, answers_on, arm_no, leaf_on}
-use Rattle.draid_groups.specs.Sealing.{has_column_in, is_silent_in, lies_silent}
 use Rattle.draid_shard.specs.declared.places.ColumnRows.{ColumnRows}
 use Rattle.draid_shard.proofs.Answering.{answers_is, leaf_at_is, name_listed}
 use Rattle.draid_shard.proofs.Homes as homes
 use Rattle.draid_shard.proofs.Homes.{lays, slice_below, slice_follows}
+use Rattle.draid_groups.specs.Sealing.{has_column_in, is_silent_in, lies_silent}
 
 -- ---- tests
 pub found_below : (n : ℕ) (p : ℕ → Bool) → any_below n p ≡ true → (x : ℕ) × (x < n) × (p x ≡ true)

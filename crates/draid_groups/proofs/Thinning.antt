@@ -16,13 +16,13 @@ use Rattle.draid_slots.specs.Changes.{IsOf}
 use Rattle.draid_slots.specs.declared.slot.ReadArm.{ReadArm}
 use Rattle.draid_slots.specs.Reading.{IsNone, IsRead, answers_in, is_clean_in, slice_of}
 use Rattle.draid_slots.specs.Table.{SlotTable, arms_of, is_logged}
-use Rattle.draid_groups.specs.Counting.{LacksClean, NoneClean}
+use Rattle.draid_slots.specs.States.{HasSlots, name_of}
 use Rattle.draid_shard.specs.Part.{IsPart, IsRun, Part, layout_in}
 use Rattle.draid_shard.specs.Rows.{IsRowsOf, arm_no}
 use Rattle.draid_shard.specs.declared.places.ColumnRows.{ColumnRows}
-use Rattle.draid_slots.specs.States.{HasSlots, name_of}
 use Rattle.draid_shard.proofs.Answering.{listed, listed_arm, named_arm}
 use Rattle.draid_shard.proofs.Finding.{clean}
+use Rattle.draid_groups.specs.Counting.{LacksClean, NoneClean}
 
 -- where the first holds, the second doesn't
 second : (a b : Bool) → (a && b) ≡ false → a ≡ true → b ≡ false

@@ -34,11 +34,11 @@ use Rattle.draid_stable.specs.Opening.{KeepsCounts, block_at}
 use Rattle.draid_shard.specs.Calls.{ActsOn, CountsFailed, OnBothTold}
 use Rattle.draid_shard.specs.Fits.{IsLeaf}
 use Rattle.draid_shard.specs.States.{Does, DoesNone, IsIn, layout_by, stored_in}
+use Rattle.draid_shard.specs.declared.shard.Shard.{Shard}
 use Rattle.draid_groups.specs.declared.fault.CloseFault.{CloseFault}
 use Rattle.draid_groups.specs.declared.fault.CloseFault.TheVariants as close
 use Rattle.draid_groups.specs.declared.fault.SealFault.{SealFault}
 use Rattle.draid_groups.specs.declared.fault.SealFault.TheVariants as seal
-use Rattle.draid_shard.specs.declared.shard.Shard.{Shard}
 
 -- ---- closing
 

@@ -18,8 +18,8 @@ use Rattle.draid_slots.specs.States.{HasSlots}
 use Rattle.draid_stable.specs.declared.sealing.Head.{Head}
 use Rattle.draid_machine.specs.After.{image_of}
 use Rattle.draid_shard.specs.Rows.{LogsBirth}
-use Rattle.draid_groups.specs.declared.sealing.Plan.{Plan}
 use Rattle.draid_shard.specs.declared.shard.Shard.{Shard}
+use Rattle.draid_groups.specs.declared.sealing.Plan.{Plan}
 
 -- ---- silent leaves
 

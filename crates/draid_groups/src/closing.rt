@@ -3,11 +3,11 @@ ghost use Rattle.draid_names.specs.declared.numbers.TheConstants.{LAST_NUMBER};
 ghost use Rattle.draid_machine.specs.declared.event.Event.TheVariants.{Close};
 ghost use Rattle.draid_entries.specs.History.{Passes};
 ghost use Rattle.draid_shard.specs.Calls.{SameKit, SameReserve};
-ghost use Rattle.draid_groups.specs.Changes.{ClosesGroup};
 ghost use Rattle.draid_shard.specs.Changes.{DoesNothing};
 ghost use Rattle.draid_shard.specs.Fits.{Valid};
-ghost use Rattle.draid_groups.specs.Groups.{CloseRefused, group_events};
 ghost use Rattle.draid_shard.specs.States.{Does};
+ghost use Rattle.draid_groups.specs.Changes.{ClosesGroup};
+ghost use Rattle.draid_groups.specs.Groups.{CloseRefused, group_events};
 
 use crate::fault::CloseFault;
 use crate::opening::BIRTH_GROUPS;
@@ -48,6 +48,8 @@ pub fn close_group<R: Rack, A: Area>(shard: &mut Shard<R, A>, group: u64) -> Res
     };
     shard.closing = Some(group);
     shard.open_group = group + 1;
-    shard.history.add_asked(Event::Close { group }, GROUP_EVENTS);
+    shard
+        .history
+        .add_asked(Event::Close { group }, GROUP_EVENTS);
     Ok(())
 }

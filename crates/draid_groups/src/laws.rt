@@ -10,11 +10,11 @@ ghost use Rattle.draid_segments.specs.Segments.{Firm, Pieces};
 ghost use Rattle.draid_shelf.specs.declared.kit.Kit.{Kit};
 ghost use Rattle.draid_stable.specs.Images.{LeavesBelow};
 ghost use Rattle.draid_stable.specs.Stable.{HasRecord};
-ghost use Rattle.draid_groups.specs.Groups.{Opens, area_of_kit, at_version};
 ghost use Rattle.draid_shard.specs.Part.{IsPart};
 ghost use Rattle.draid_shard.specs.Stands.{StandsFor};
 ghost use Rattle.draid_shard.specs.States.{layout_by, part_of};
 ghost use Rattle.draid_shard.specs.declared.shard.Shard.{Shard};
+ghost use Rattle.draid_groups.specs.Groups.{Opens, area_of_kit, at_version};
 
 use draid_area::Area;
 use draid_rack::Rack;

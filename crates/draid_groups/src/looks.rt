@@ -5,11 +5,11 @@ ghost use Rattle.draid_machine.specs.Created.{IsReached};
 ghost use Rattle.draid_machine.specs.State as machine;
 ghost use Rattle.draid_entries.specs.Entries.{entry_at};
 ghost use Rattle.draid_entries.specs.Thin.{ThinIs};
-ghost use Rattle.draid_groups.specs.Counting.{IsBornIn, IsOpenUpto, IsThinIn, LacksClean, NoneClean};
 ghost use Rattle.draid_shard.specs.Fits.{TicketsAreNew, Valid};
-ghost use Rattle.draid_groups.specs.Groups.{OpenUpto};
 ghost use Rattle.draid_shard.specs.Part.{IsRun};
 ghost use Rattle.draid_shard.specs.States.{IsIn, layout_by, part_of};
+ghost use Rattle.draid_groups.specs.Counting.{IsBornIn, IsOpenUpto, IsThinIn, LacksClean, NoneClean};
+ghost use Rattle.draid_groups.specs.Groups.{OpenUpto};
 
 use draid_area::Area;
 use draid_entries::Entry;

@@ -15,7 +15,11 @@ use draid_slots::Slots;
 use draid_stable::Marks;
 
 /// Marks the arms that lie on a leaf that is offline or on which a flush failed.
-pub(crate) fn mark_silent<R: Rack, A: Area>(shard: &Shard<R, A>, marks: &mut Vec<Marks>, failed: &[u64])
+pub(crate) fn mark_silent<R: Rack, A: Area>(
+    shard: &Shard<R, A>,
+    marks: &mut Vec<Marks>,
+    failed: &[u64],
+)
     requires valid { Valid R.Rack shard.now }
     requires count { length marks.old.items ≡ shard.now.geometry.spec.children }
     ensures count { length marks.new.items ≡ shard.now.geometry.spec.children }

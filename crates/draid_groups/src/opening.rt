@@ -6,16 +6,15 @@ ghost use Rattle.draid_machine.specs.Created.{created};
 ghost use Rattle.draid_entries.specs.History.{limit_in, reserved_of};
 ghost use Rattle.draid_slots.specs.Changes.{HasRoom, IsNew, IsOf};
 ghost use Rattle.draid_shard.specs.Fits.{Valid};
-ghost use Rattle.draid_groups.specs.Groups.{ListsOnce};
 ghost use Rattle.draid_shard.specs.Part.{IsPart, Part, layout_in};
-ghost use Rattle.draid_groups.specs.Reopening.{CreateIsRefused};
 ghost use Rattle.draid_shard.specs.States.{IsIn, layout_by, part_of, stored_in};
+ghost use Rattle.draid_groups.specs.Groups.{ListsOnce};
+ghost use Rattle.draid_groups.specs.Reopening.{CreateIsRefused};
 
 use crate::fault::{OpenFault, OpenRefused};
 use crate::records::{record_of, write_to};
 use draid_area::{Area, DeviceFault};
 use draid_entries::{Entries, History};
-use draid_machine::Event;
 use draid_metaslab::Space;
 use draid_names::NoMemory;
 use draid_perm::Perms;

@@ -21,7 +21,10 @@ use draid_stable::{Head, record_of_tables};
 use std::alloc::Global;
 
 /// The record of a group, of the blocks, arms and pass as they are now.
-pub(crate) fn record_of<R: Rack, A: Area>(shard: &Shard<R, A>, group: u64) -> Result<Record, NoMemory>
+pub(crate) fn record_of<R: Rack, A: Area>(
+    shard: &Shard<R, A>,
+    group: u64,
+) -> Result<Record, NoMemory>
     requires valid { Valid R.Rack shard.now }
     ensures image { IfOk result (λ made. (q : machine.Core) → AreTables shard.now.entries shard.now.slots shard.now.pass shard.now.last_pass q
         → image_by (told_record made) ≡ image_of group shard.now.asked q) }

@@ -7,10 +7,10 @@ ghost use Rattle.draid_entries.specs.Entries.{count_of};
 ghost use Rattle.draid_entries.specs.History.{limit_in};
 ghost use Rattle.draid_stable.specs.Opening.{len_of};
 ghost use Rattle.draid_shard.specs.Fits.{IsLeaf, Valid, is_rebuild, owed_for_pass};
-ghost use Rattle.draid_groups.specs.Groups.{GivesBack, KitAreasLater, Opens, OpensCounts, area_of_kit};
 ghost use Rattle.draid_shard.specs.Part.{IsPart};
-ghost use Rattle.draid_groups.specs.Reopening.{AreBytes, AreReadFrom, BeginsWith, OpenIsRefused, ReadsTables};
 ghost use Rattle.draid_shard.specs.States.{part_of};
+ghost use Rattle.draid_groups.specs.Groups.{GivesBack, KitAreasLater, Opens, OpensCounts, area_of_kit};
+ghost use Rattle.draid_groups.specs.Reopening.{AreBytes, AreReadFrom, BeginsWith, OpenIsRefused, ReadsTables};
 
 use crate::fault::{OpenFault, OpenRefused};
 use draid_area::Area;

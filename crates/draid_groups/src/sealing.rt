@@ -6,11 +6,11 @@ ghost use Rattle.draid_slots.specs.Table.{IsTable};
 ghost use Rattle.draid_slots.specs.States.{HasSlots};
 ghost use Rattle.draid_shard.specs.Calls.{SameReserve};
 ghost use Rattle.draid_shard.specs.Changes.{KeepsBlocks};
-ghost use Rattle.draid_groups.specs.Changes.{SealsGroup};
 ghost use Rattle.draid_shard.specs.Fits.{TicketsAreNew, Valid};
+ghost use Rattle.draid_shard.specs.States.{IsIn};
+ghost use Rattle.draid_groups.specs.Changes.{SealsGroup};
 ghost use Rattle.draid_groups.specs.Groups.{AreasLater, KeepsOtherArea, OpenUpto, Seals, Unsealed};
 ghost use Rattle.draid_groups.specs.Sealing.{AreFlushed, FlushedBelow, IsOnline, IsPlan};
-ghost use Rattle.draid_shard.specs.States.{IsIn};
 
 use crate::fault::{SealFault, Sealed};
 use crate::looks::{thin, tickets_upto};
@@ -62,7 +62,11 @@ pub fn seal<R: Rack, A: Area>(shard: &mut Shard<R, A>, group: u64) -> Result<Sea
 }
 
 /// Seals the group by a plan, where no open write was begun up to it.
-fn seal_by<R: Rack, A: Area>(shard: &mut Shard<R, A>, group: u64, plan: Plan) -> Result<Sealed, SealFault>
+fn seal_by<R: Rack, A: Area>(
+    shard: &mut Shard<R, A>,
+    group: u64,
+    plan: Plan,
+) -> Result<Sealed, SealFault>
     requires valid { Valid R.Rack shard.old }
     requires closing { (shard.old.closing ≡ Some group) × (shard.old.sealed ≡ false) }
     requires settled { (w : machine.State) → IsIn shard.old w → OpenUpto w group 0 }

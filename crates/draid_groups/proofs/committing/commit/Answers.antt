@@ -1,6 +1,6 @@
 use Rattle.std.proofs.Common.{refl}
-use Rattle.draid_groups.proofs.Committed.{commit_acts, commit_drops, commit_leads, commit_valid}
 use Rattle.draid_shard.proofs.Turns.{fitting}
+use Rattle.draid_groups.proofs.Committed.{commit_acts, commit_drops, commit_leads, commit_valid}
 use Rattle.draid_groups.proofs.committing.commit.Goals as goal
 
 pub release_freed-requires : goal.release_freed-requires

@@ -1,7 +1,7 @@
 use Rattle.std.proofs.Common.{◌≡◌, ◌∙◌, arith, subst, sym}
 use Rattle.std.proofs.lemmas.Bool.{true≢false}
-use Rattle.draid_groups.specs.Counting.{LacksClean}
 use Rattle.draid_shard.specs.States.{part_of}
+use Rattle.draid_groups.specs.Counting.{LacksClean}
 use Rattle.draid_groups.proofs.Thinning.{lacks_more}
 use Rattle.draid_groups.proofs.looks.lacks_clean.Goals as goal
 

@@ -1,5 +1,5 @@
-use Rattle.draid_groups.specs.Counting.{LacksClean}
 use Rattle.draid_shard.specs.States.{part_of}
+use Rattle.draid_groups.specs.Counting.{LacksClean}
 use Rattle.draid_groups.proofs.looks.lacks_clean.Given as goal
 
 abbrev pub invariant-loop-column : goal.invariant-loop-column

@@ -1,8 +1,8 @@
 use Rattle.std.proofs.Common.{◌≤◌, ◌-◌}
 use Rattle.draid_names.specs.declared.numbers.TheConstants.{NUMBERS}
 use Rattle.draid_spec.specs.Geometry.{metaslab_stripes}
-use Rattle.draid_groups.specs.Counting.{CountsBelow, IsThinIn}
 use Rattle.draid_shard.specs.States.{part_of}
+use Rattle.draid_groups.specs.Counting.{CountsBelow, IsThinIn}
 use Rattle.draid_groups.proofs.looks.thin.Given as goal
 
 abbrev pub decreases-loop-entry : goal.decreases-loop-entry

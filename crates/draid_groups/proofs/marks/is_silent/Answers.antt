@@ -1,7 +1,7 @@
 use Rattle.std.proofs.Common.{◌||◌, ◌∙◌, not, ap, sym}
 use Rattle.draid_columns.specs.Flushes.{has_leaf}
-use Rattle.draid_groups.proofs.Silent.{silent_by, slice_front}
 use Rattle.draid_shard.specs.States.{part_of}
+use Rattle.draid_groups.proofs.Silent.{silent_by, slice_front}
 use Rattle.draid_groups.proofs.marks.is_silent.Goals as goal
 
 pub returns-then-not-answers : goal.returns-then-not-answers

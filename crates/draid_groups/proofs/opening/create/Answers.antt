@@ -2,9 +2,9 @@ use Rattle.std.proofs.Common.{◌∙◌, ap, subst, sym}
 use Rattle.draid_area.specs.Area.{OnTold}
 use Rattle.draid_machine.specs.Created.{created}
 use Rattle.draid_shard.specs.Fits.{Valid}
-use Rattle.draid_groups.specs.Groups.{ListsOnce}
 use Rattle.draid_shard.specs.Part.{Part, layout_in}
 use Rattle.draid_shard.specs.States.{IsIn, part_of}
+use Rattle.draid_groups.specs.Groups.{ListsOnce}
 use Rattle.draid_groups.proofs.FirstRecord.{odd_in, odd_valid}
 use Rattle.draid_groups.proofs.opening.create.Goals as goal
 

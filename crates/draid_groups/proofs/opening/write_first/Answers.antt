@@ -1,8 +1,8 @@
 use Rattle.draid_machine.specs.Created.{created}
 use Rattle.draid_record.specs.Record.{told_record}
 use Rattle.draid_stable.specs.Stable.{Stands}
-use Rattle.draid_groups.specs.Groups.{ListsOnce}
 use Rattle.draid_shard.specs.States.{layout_by}
+use Rattle.draid_groups.specs.Groups.{ListsOnce}
 use Rattle.draid_groups.proofs.FirstRecord.{first_record}
 use Rattle.draid_groups.proofs.SealSteps.{on_told}
 use Rattle.draid_groups.proofs.opening.write_first.Goals as goal

@@ -14,14 +14,14 @@ use Rattle.draid_stable.specs.Stable.{Stands}
 use Rattle.draid_stable.proofs.Logs.{copied_small}
 use Rattle.draid_record.specs.Record.{told_record}
 use Rattle.draid_shard.specs.Fits.{Valid, birth_groups, oldest_open}
+use Rattle.draid_shard.specs.States.{Does, IsIn, layout_by}
+use Rattle.draid_shard.proofs.Staging.{room_for}
+use Rattle.draid_shard.proofs.Standing.{reached_more}
 use Rattle.draid_groups.specs.Groups.{ListsOnce}
 use Rattle.draid_groups.specs.Sealing.{AreSilent, MarksTable, area_by}
-use Rattle.draid_shard.specs.States.{Does, IsIn, layout_by}
 use Rattle.draid_groups.proofs.Ranging.{blocks_low}
 use Rattle.draid_groups.proofs.SealRecords.{Settles, has_record, no_writes, writes}
 use Rattle.draid_groups.proofs.SealSteps.{birth_high, birth_low, flushes_acts, on_told, one_after, seal_step, sealed_in, sealed_valid}
-use Rattle.draid_shard.proofs.Staging.{room_for}
-use Rattle.draid_shard.proofs.Standing.{reached_more}
 use Rattle.draid_groups.proofs.sealing.seal_by.Given as given
 use Rattle.draid_groups.proofs.sealing.seal_by.Goals as goal
 use Rattle.draid_groups.proofs.sealing.seal_by.Goals.{After-add}
