@@ -6,7 +6,7 @@ ghost use Rattle.draid_machine.specs.Created.{created};
 ghost use Rattle.draid_entries.specs.History.{limit_in, reserved_of};
 ghost use Rattle.draid_slots.specs.Changes.{HasRoom, IsNew, IsOf};
 ghost use Rattle.draid_shard.specs.Fits.{Valid};
-ghost use Rattle.draid_shard.specs.Part.{IsPart, Part, layout_in};
+ghost use Rattle.draid_shard.specs.Part.{IsPart, layout_in};
 ghost use Rattle.draid_shard.specs.States.{IsIn, layout_by, part_of, stored_in};
 ghost use Rattle.draid_groups.specs.Groups.{ListsOnce};
 ghost use Rattle.draid_groups.specs.Reopening.{CreateIsRefused};

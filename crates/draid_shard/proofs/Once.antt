@@ -1,5 +1,5 @@
 -- No name stands twice among the arms of a metaslab's slots and those whose detachment isn't committed.
-use Rattle.std.proofs.Common.{◌≡◌, ◌∙◌, List, Some, sym, ap, subst, slice_get}
+use Rattle.std.proofs.Common.{◌≡◌, ◌∙◌, List, [], Some, sym, ap, subst, slice_get}
 use Rattle.std.specs.Prelude.{Contains, slice_index_or}
 use Rattle.draid_names.specs.declared.arm.Arm.{Arm}
 use Rattle.draid_names.specs.declared.arm.ArmAt.{ArmAt}

@@ -6,7 +6,6 @@ ghost use Rattle.draid_names.specs.declared.pointer.Pointer.{Pointer};
 ghost use Rattle.draid_rack.specs.Rack.{OnTold};
 ghost use Rattle.draid_machine.specs.declared.event.Event.{Event};
 ghost use Rattle.draid_machine.specs.declared.names.Held.{Held};
-ghost use Rattle.draid_machine.specs.Created.{IsReached};
 ghost use Rattle.draid_machine.specs.State as machine;
 ghost use Rattle.draid_machine.specs.Step.{Step};
 ghost use Rattle.draid_entries.specs.History.{owed_of, reserved_of};

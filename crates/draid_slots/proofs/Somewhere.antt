@@ -1,5 +1,5 @@
 -- An element that passes a test stands at some place.
-use Rattle.std.proofs.Common.{◌≡◌, ◌<◌, ◌||◌, zero, suc, ℕ, Bool, true, false, List, [], ◌∷◌, arith, refl, sym, length}
+use Rattle.std.proofs.Common.{◌≡◌, ◌<◌, ◌||◌, suc, ℕ, Bool, true, false, List, [], ◌∷◌, arith, refl, sym, length}
 use Rattle.std.specs.Prelude.{slice_index_or}
 use Rattle.std.specs.List.{list_any}
 use Rattle.std.proofs.lemmas.Bool.{true≢false}

@@ -1,5 +1,5 @@
 -- The record of a group, made from the tables of a metaslab before its devices are flushed, and settled afterwards.
-use Rattle.std.specs.Prelude.{◌≡◌, ◌==◌, ◌+◌, ◌<◌, ◌≤◌, ◌^◌, ◌||◌, ◌&&◌, not, ℕ, Bool, true, false, List, [], Option, None, Some, All, IfSome, count_by, filter, length, slice_get, slice_index_or, option_map}
+use Rattle.std.specs.Prelude.{◌≡◌, ◌==◌, ◌+◌, ◌<◌, ◌^◌, ◌||◌, ◌&&◌, not, ℕ, Bool, true, false, List, [], Option, Some, All, IfSome, count_by, filter, length, slice_get, slice_index_or, option_map}
 use Rattle.std.specs.declared.alloc.Global.{Global}
 use Rattle.std.specs.declared.vec.Vec.{Vec}
 use Rattle.draid_names.specs.declared.arm.Arm.{Arm}

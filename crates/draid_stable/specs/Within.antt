@@ -1,5 +1,5 @@
 -- What holds of the tables of a metaslab, so that the record of a group is in the ranges of a record.
-use Rattle.std.specs.Prelude.{◌≡◌, ◌<◌, ◌≤◌, ◌+◌, ◌%◌, ◌^◌, ⊤, ℕ, false, List, [], ◌∷◌, Option, None, Some, All, IfSome, length, map, option_map, slice_index_or}
+use Rattle.std.specs.Prelude.{◌≡◌, ◌<◌, ◌≤◌, ◌+◌, ◌%◌, ◌^◌, ℕ, false, List, [], Option, None, Some, All, IfSome, length, map, option_map, slice_index_or}
 use Rattle.draid_names.specs.Numbers.{most_held}
 use Rattle.draid_names.specs.declared.numbers.TheConstants.{LONGEST_BLOCK, NUMBERS, OBJECTS}
 use Rattle.draid_names.specs.declared.arm.Arm.{Arm}
