@@ -36,7 +36,7 @@ use Rattle.draid_record.proofs.Digits.{IsBytes}
 use Rattle.draid_record.proofs.Spelled.{spelled_long}
 use Rattle.draid_record.proofs.Whole.{whole_found}
 use Rattle.draid_record.specs.Record as spec
-use Rattle.draid_record.specs.Record.{AreLimits, ArmTold, RecordTold, limits_of, record_of}
+use Rattle.draid_record.specs.Record.{ArmTold, RecordTold, limits_of, record_of}
 use Rattle.draid_stable.specs.declared.opening.Tables as opening
 use Rattle.draid_stable.specs.Images.{image_by}
 use Rattle.draid_stable.specs.Opening.{AreRead, arms_told, block_at, has_leaf, has_leaf_arm, lacking_from, run_of, slots_at}

@@ -1,5 +1,5 @@
 -- The record of a sealed group.
-use Rattle.std.proofs.Common.{◌≡◌, ◌<◌, ◌+◌, ◌^◌, ◌∙◌, ◌&&◌, ℕ, Bool, true, false, List, None, Some, IsSome, Vec, Global, arith, ap, refl, sym, subst, length}
+use Rattle.std.proofs.Common.{◌≡◌, ◌<◌, ◌+◌, ◌^◌, ◌∙◌, ◌&&◌, ℕ, Bool, true, false, List, Some, IsSome, Vec, Global, arith, ap, refl, sym, subst, length}
 use Rattle.std.specs.List.{list_any}
 use Rattle.draid_names.specs.declared.arm.Arm.{Arm}
 use Rattle.draid_names.specs.declared.arm.ArmAt.{ArmAt}

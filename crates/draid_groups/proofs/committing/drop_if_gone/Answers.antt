@@ -1,4 +1,4 @@
-use Rattle.std.proofs.Common.{◌≡◌, ◌==◌, true, rules, refl, ap}
+use Rattle.std.proofs.Common.{◌==◌, true, rules, refl, ap}
 use Rattle.draid_rack.proofs.Moments.{left_drops}
 use Rattle.draid_rack.specs.Rack.{Shape}
 use Rattle.draid_machine.proofs.Small.{absurd_test, equal}
