@@ -4,10 +4,11 @@ ghost use Rattle.draid_rack.specs.Rack.{HasJust};
 ghost use Rattle.draid_spec.specs.Geometry.{IsGeometry, metaslab_sectors};
 
 use draid_area::MemoryArea;
+use draid_groups::{OpenFault, create, into_kit, reopen};
 use draid_names::NoMemory;
 use draid_perm::Perms;
 use draid_rack::{MemoryRack, Rack};
-use draid_shard::{OpenFault, Shard};
+use draid_shard::Shard;
 use draid_shelf::Kit;
 use draid_spec::{Geometry, Props, SpecFault, geometry, parse_spec};
 use std::alloc::Global;
@@ -76,7 +77,7 @@ fn opened(
 {
     let perms = Perms::new(layout.spec.children, layout.props.seed);
     let next_leaf = u64::from(layout.spec.children).max(4);
-    match Shard::reopen(alloc, 0, layout, perms, kit, 10_000, 1, next_leaf) {
+    match reopen(alloc, 0, layout, perms, kit, 10_000, 1, next_leaf) {
         Ok(shard) => Ok(shard),
         Err(refused) => Err(refused.why),
     }
@@ -248,8 +249,8 @@ fn made(alloc: Global, failing: &[u64]) -> Result<Result<Told, OpenFault>, Fail>
         even: area(alloc, &[], &[])?,
         odd: area(alloc, &[], failing)?,
     };
-    match Shard::create(alloc, 0, layout, perms, kit, 10_000) {
-        Ok(shard) => Ok(Ok(told(opened(alloc, layout, shard.into_kit())))),
+    match create(alloc, 0, layout, perms, kit, 10_000) {
+        Ok(shard) => Ok(Ok(told(opened(alloc, layout, into_kit(shard))))),
         Err(refused) => Ok(Err(refused.why)),
     }
 }

@@ -9,12 +9,11 @@ ghost use Rattle.draid_shard.specs.Fits.{Valid};
 use draid_area::{Area, MemoryArea};
 use draid_block::{Encoded, solve_block};
 use draid_entries::ReserveFault;
+use draid_groups::{CloseFault, SealFault, Sealed, close_group, create, into_kit};
 use draid_names::{ArmAt, Failed, NoMemory, Pointer};
 use draid_perm::Perms;
 use draid_rack::{MemoryRack, Rack};
-use draid_shard::{
-    BeginFault, CloseFault, FetchFault, Missed, NotLive, SealFault, Sealed, Shard, Shut, Ticket,
-};
+use draid_shard::{BeginFault, FetchFault, Missed, NotLive, Shard, Shut, Ticket};
 use draid_shelf::Kit;
 use draid_spec::{Geometry, Props, SpecFault, geometry, parse_spec};
 use std::alloc::{AllocError, Global};
@@ -86,7 +85,7 @@ fn metaslab_over(
         even: area(alloc, even)?,
         odd: area(alloc, &[])?,
     };
-    match Shard::create(alloc, 0, layout, perms, kit, events) {
+    match create(alloc, 0, layout, perms, kit, events) {
         Ok(shard) => Ok(shard),
         Err(_) => Err(NoMemory),
     }
@@ -321,7 +320,7 @@ fn damaged(
         damage(&mut shard, 3, 0)?,
     ];
     let told = read(alloc, &mut shard, &pointer)?;
-    Ok((answers, told, shard.into_kit().rack.sectors(2)))
+    Ok((answers, told, into_kit(shard).rack.sectors(2)))
 }
 
 #[test]
@@ -394,7 +393,7 @@ fn groups<R: Rack, A: Area>(shard: &Shard<R, A>) -> Groups {
 /// What the closing of the first group answers in a metaslab of so many events, and what is told of its groups then.
 fn closed(alloc: Global, events: u64) -> Result<(Result<(), CloseFault>, Groups), Fail> {
     let mut shard = metaslab(alloc, first_layout()?, &[], events)?;
-    let answer = shard.close_group(2);
+    let answer = close_group(&mut shard, 2);
     Ok((answer, groups(&shard)))
 }
 
@@ -416,7 +415,7 @@ fn close<R: Rack, A: Area>(shard: &mut Shard<R, A>) -> Option<Result<(), CloseFa
         return None;
     }
     let group = shard.open_group();
-    Some(shard.close_group(group))
+    Some(close_group(shard, group))
 }
 
 /// Seals the closing group, if it isn't sealed.
@@ -428,7 +427,7 @@ fn seal<R: Rack, A: Area>(shard: &mut Shard<R, A>) -> Option<Result<Sealed, Seal
     if shard.sealed() {
         return None;
     }
-    Some(shard.seal(group))
+    Some(draid_groups::seal(shard, group))
 }
 
 /// What sealing a group with one block answers, twice; which leaves have the group in their logs then, whether the group
@@ -495,7 +494,7 @@ fn commit<R: Rack, A: Area>(shard: &mut Shard<R, A>)
 {
     if let Some(group) = shard.closing() {
         if shard.sealed() {
-            shard.commit(group);
+            draid_groups::commit(shard, group);
         }
     }
 }

@@ -20,8 +20,8 @@ use Rattle.draid_machine.specs.declared.names.ArmName.TheVariants.{Leaf, Spare}
 use Rattle.draid_machine.specs.State as machine
 use Rattle.draid_machine.proofs.Small.{none_some, some_injective, some_same}
 use Rattle.draid_slots.specs.Table.{IsTable, SlotTable, arms_of, is_spare_kind}
-use Rattle.draid_stable.specs.Slots as slots_of
-use Rattle.draid_stable.specs.Slots.{HasArm, HasSlots, WasArm, arm_in}
+use Rattle.draid_slots.specs.States as slots_of
+use Rattle.draid_slots.specs.States.{HasArm, HasSlots, WasArm, arm_in}
 use Rattle.draid_shard.specs.States.{IsIn}
 use Rattle.draid_shard.specs.declared.shard.Shard.{Shard}
 use Rattle.draid_report.specs.declared.view.ArmView.{ArmView}

@@ -17,7 +17,7 @@ use Rattle.draid_machine.specs.State as machine
 use Rattle.draid_machine.proofs.Small.{none_some, some_injective, some_same}
 use Rattle.draid_pass.specs.declared.pass.Pass.{Pass}
 use Rattle.draid_slots.specs.Table.{SlotTable}
-use Rattle.draid_stable.specs.Slots.{pass_in}
+use Rattle.draid_slots.specs.States.{pass_in}
 use Rattle.draid_entries.specs.declared.entry.Entry.{Entry}
 use Rattle.draid_entries.specs.Entries.{IsEntered, entry_at}
 use Rattle.draid_entries.specs.Maps.{held_at, key_of, staged}
