@@ -28,12 +28,11 @@ use Rattle.draid_uber.specs.Uber.{area_of, kept_of, layout_of, next_leaf_of}
 use Rattle.draid_uber.specs.declared.uber.Uber.{Uber}
 use Rattle.draid_session.specs.State.{Metaslab, State, limit_of}
 use Rattle.draid_pool.specs.Closing.{AllTell, RestsOn, Returns, ReturnsLeaves, TakesBack, kit_in}
-use Rattle.draid_pool.specs.Found.{AnyRecordsRose, AreReopened, CountsLater, HasRisen, HoldsKits, IsFoundUber, IsRecovered, IsReopened, IsShardFault, KeepsKnown, LeavesShards, OpensAllOver, RecordsRose, StaysHeld}
+use Rattle.draid_pool.specs.Found.{AnyRecordsRose, AreReopened, CountsLater, HasRisen, HoldsKits, IsFoundUber, IsRecovered, IsReopened, IsShardFault, KeepsKnown, LeavesShards, NoRecord, OpensAllOver, RecordsRose, StaysHeld}
 use Rattle.draid_pool.specs.Importable.{HasImageLeaves}
 use Rattle.draid_pool.specs.Imported.{FindsBody, OpensFound, RestsFound}
 use Rattle.draid_pool.specs.Importing.{ImportIs, LeavesPool, RestsThere}
 use Rattle.draid_pool.specs.Opening.{TakesFirst}
-use Rattle.draid_pool.specs.Together.{NoRecord}
 use Rattle.draid_pool.specs.Ubers.{UberStands}
 use Rattle.draid_pool.specs.declared.fault.PoolFault.{PoolFault}
 use Rattle.draid_pool.specs.declared.fault.PoolFault.TheVariants as fault

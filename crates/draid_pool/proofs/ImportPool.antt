@@ -24,7 +24,8 @@ use Rattle.draid_uber.specs.Uber.{kept_of, layout_of, next_leaf_of, version_of}
 use Rattle.draid_uber.specs.declared.uber.Uber.{Uber}
 use Rattle.draid_session.specs.State.{Metaslab, State, limit_of}
 use Rattle.draid_pool.specs.Closing.{Rests}
-use Rattle.draid_pool.specs.Found.{AreFound, AreReopened, IsFoundUber, IsRecovered, OpensAllOver, OpensOver}
+use Rattle.draid_found.specs.Found.{AreFound}
+use Rattle.draid_pool.specs.Found.{AreReopened, IsFoundUber, IsRecovered, OpensAllOver, OpensOver}
 use Rattle.draid_pool.specs.Importable.{IsImportable}
 use Rattle.draid_pool.specs.Imported.{FindsBody, IsFoundOf, IsLastIn, IsNewestIn, OpensFound}
 use Rattle.draid_pool.specs.Importing.{RestsThere}

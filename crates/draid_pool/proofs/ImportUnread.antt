@@ -20,11 +20,10 @@ use Rattle.draid_uber.specs.Slots.{group_of}
 use Rattle.draid_uber.specs.Uber.{kept_of, layout_of, next_leaf_of}
 use Rattle.draid_uber.specs.declared.uber.Uber.{Uber}
 use Rattle.draid_session.specs.State.{State}
-use Rattle.draid_pool.specs.Found.{IsFoundUber, IsRecovered, open_fault_of, shelf_fault_of}
+use Rattle.draid_pool.specs.Found.{IsFoundUber, IsRecovered, NoRecord, open_fault_of, shelf_fault_of}
 use Rattle.draid_pool.specs.Importable.{HasImageLeaves}
 use Rattle.draid_pool.specs.Importing.{RestsThere}
 use Rattle.draid_pool.specs.Opening.{TakesFirst}
-use Rattle.draid_pool.specs.Together.{NoRecord}
 use Rattle.draid_pool.specs.declared.fault.PoolFault.{PoolFault}
 use Rattle.draid_pool.specs.declared.fault.PoolFault.TheVariants as fault
 use Rattle.draid_pool.proofs.ImportFound.{finds_image}

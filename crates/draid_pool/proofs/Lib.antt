@@ -60,7 +60,6 @@ pub mod Causes
 pub mod Counted
 pub mod ImportPool
 pub mod ImportUnread
-pub mod ImportTogether
 pub mod ImportOne
 pub mod ImportTaken
 pub mod ImportLeft

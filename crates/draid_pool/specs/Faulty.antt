@@ -18,7 +18,7 @@ use Rattle.draid_uber.specs.Uber.{kept_of, layout_of, next_leaf_of}
 use Rattle.draid_uber.specs.declared.uber.Uber.{Uber}
 use Rattle.draid_session.specs.State.{limit_of}
 use Rattle.draid_pool.specs.Found.{AreReopened, IsFoundUber, IsKitOf, IsRecovered, OpensAllOver}
-use Rattle.draid_pool.specs.Together.{AreApart}
+use Rattle.draid_found.specs.Together.{AreApart}
 
 -- the uberblock that the shelf holds has this fault
 pub record UberIsBad (held : Option Held) (metaslab : Option ℕ) (place kind : ℕ) : Type 0 where

@@ -4,7 +4,8 @@ use Rattle.std.specs.HashMap.{get}
 use Rattle.draid_spec.specs.Geometry.{metaslab_stripes}
 use Rattle.draid_shard.specs.Part.{Part}
 use Rattle.draid_pool.proofs.ImportFreed.{keeps_none, keeps_step, only_step}
-use Rattle.draid_pool.proofs.Found.{frees_none, frees_step, left_behind, next_inside, next_live, next_low}
+use Rattle.draid_found.proofs.Noted.{next_inside, next_live, next_low}
+use Rattle.draid_pool.proofs.Found.{frees_none, frees_step, left_behind}
 use Rattle.draid_pool.proofs.importing.free_older.Goals as goal
 
 pub loop-pointer-init : goal.loop-pointer-init

@@ -6,10 +6,11 @@ use Rattle.draid_shard.specs.declared.shard.Shard.{Shard}
 use Rattle.draid_uber.specs.Slots.{group_of}
 use Rattle.draid_shelf.specs.Kits.{Held, KitCounts, gives_uber}
 use Rattle.draid_uber.specs.Uber.{kept_of, layout_of, next_leaf_of}
-use Rattle.draid_pool.specs.Together.{AreApart}
+use Rattle.draid_found.specs.Together.{AreApart}
 use Rattle.draid_session.specs.State.{limit_of}
 use Rattle.draid_pool.specs.Faulty.{IsUnread, OneIsUnread}
-use Rattle.draid_pool.specs.Found.{AreFound, AreReady, OpensAllOver, OpensOver}
+use Rattle.draid_found.specs.Found.{AreFound, AreReady}
+use Rattle.draid_pool.specs.Found.{OpensAllOver, OpensOver}
 use Rattle.draid_pool.proofs.ImportFaulty.{err_is, passed_on}
 use Rattle.draid_pool.proofs.ImportLeft.{leaves_all, refusal_is, refused_pool, rests_known, risen_behind}
 use Rattle.draid_pool.proofs.ImportOne.{no_fault_apart}

@@ -1,7 +1,7 @@
 use Rattle.std.proofs.Common.{◌<◌, ◌≤◌, ℕ}
 use Rattle.draid_slots.specs.Table.{arms_of}
-use Rattle.draid_pool.specs.Together.{AreSameArms}
-use Rattle.draid_pool.proofs.importing.are_alike.Given as goal
+use Rattle.draid_found.specs.Together.{AreSameArms}
+use Rattle.draid_found.proofs.alike.are_alike.Given as goal
 
 -- the slots so far have the same arms
 abbrev pub invariant-loop-slot : goal.invariant-loop-slot

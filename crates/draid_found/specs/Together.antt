@@ -1,5 +1,5 @@
 -- What the records of all metaslabs of one pool have in common, and which fault it is where they haven't.
-use Rattle.std.specs.Prelude.{◌≡◌, ◌<◌, ◌+◌, ◌-◌, ◌*◌, ◌^◌, ◌&&◌, ◌⊎◌, ℕ, zero, suc, Bool, true, List, Option, Some, Result, IsErrOf, if◌then◌else◌, is_some, length, min, nat_eq, slice_get}
+use Rattle.std.specs.Prelude.{◌≡◌, ◌<◌, ◌+◌, ◌-◌, ◌*◌, ◌^◌, ◌&&◌, ◌⊎◌, ℕ, zero, suc, Bool, true, List, Option, Some, if◌then◌else◌, is_some, length, min, nat_eq, slice_get}
 use Rattle.std.specs.HashSet.{HashSet, contains}
 use Rattle.draid_names.specs.declared.arm.Arm.{Arm}
 use Rattle.draid_names.specs.declared.pointer.Pointer.{Pointer}
@@ -10,8 +10,6 @@ use Rattle.draid_entries.specs.Entries.{entry_at}
 use Rattle.draid_entries.specs.Maps.{key_of}
 use Rattle.draid_slots.specs.Table.{SlotTable, arms_of}
 use Rattle.draid_shard.specs.declared.shard.Shard.{Shard}
-use Rattle.draid_pool.specs.declared.fault.PoolFault.{PoolFault}
-use Rattle.draid_pool.specs.declared.fault.PoolFault.TheVariants as fault
 
 -- ---- arms
 
@@ -106,7 +104,3 @@ pub record HasBlockTwice {R A : Type 0} (shards : List (Shard R A)) (metaslab : 
 -- which fault the record of a metaslab has that was read whole, among those of the others
 abbrev pub AreApart : {R A : Type 0} → List (Shard R A) → Option ℕ → (place kind : ℕ) → Type 0
 AreApart shards metaslab place kind = HasOtherArms shards metaslab place kind ⊎ HasBlockTwice shards metaslab place kind
-
--- the answer isn't that a record has a fault
-abbrev pub NoRecord : {T : Type 0} → Result T PoolFault → Type 0
-NoRecord result = (metaslab : Option ℕ) (place kind : ℕ) → IsErrOf result (fault.Record metaslab place kind) → ⊥

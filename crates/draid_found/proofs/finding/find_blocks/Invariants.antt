@@ -1,10 +1,10 @@
 use Rattle.std.proofs.Common.{◌≤◌, length}
 use Rattle.std.specs.Prelude.{nat_eq}
 use Rattle.std.specs.HashMap.{get}
-use Rattle.draid_pool.specs.Together.{noted_in}
-use Rattle.draid_pool.proofs.Found.{Finding}
-use Rattle.draid_pool.proofs.ImportTogether.{NotesEarlier}
-use Rattle.draid_pool.proofs.importing.find_blocks.Given as goal
+use Rattle.draid_found.specs.Together.{noted_in}
+use Rattle.draid_found.proofs.Noted.{Finding}
+use Rattle.draid_found.proofs.Together.{NotesEarlier}
+use Rattle.draid_found.proofs.finding.find_blocks.Given as goal
 
 -- the metaslabs so far were looked through
 abbrev pub invariant-loop-shard : goal.invariant-loop-shard

@@ -2,10 +2,10 @@ use Rattle.std.proofs.Common.{◌≡◌, ◌≤◌, ◌-◌}
 use Rattle.std.specs.Prelude.{nat_eq}
 use Rattle.std.specs.HashMap.{get}
 use Rattle.draid_spec.specs.Geometry.{metaslab_stripes}
-use Rattle.draid_pool.specs.Together.{noted_in, place_in}
-use Rattle.draid_pool.proofs.Found.{Noting}
-use Rattle.draid_pool.proofs.ImportTogether.{NotesBelow}
-use Rattle.draid_pool.proofs.importing.Found.note_all.Given as goal
+use Rattle.draid_found.specs.Together.{noted_in, place_in}
+use Rattle.draid_found.proofs.Noted.{Noting}
+use Rattle.draid_found.proofs.Together.{NotesBelow}
+use Rattle.draid_found.proofs.finding.Found.note_all.Given as goal
 
 -- the blocks below a stripe were noted
 abbrev pub invariant-loop-pointer : goal.invariant-loop-pointer

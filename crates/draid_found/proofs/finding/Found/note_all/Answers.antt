@@ -1,10 +1,10 @@
 use Rattle.std.proofs.Common.{arith, inl}
 use Rattle.std.specs.Prelude.{nat_eq}
 use Rattle.std.specs.HashMap.{get}
-use Rattle.draid_pool.specs.Together.{noted_in}
-use Rattle.draid_pool.proofs.ImportTogether.{count_first, count_next, notes_below, noted_twice}
-use Rattle.draid_pool.proofs.Found.{next_inside, next_low, noting_more, noting_none}
-use Rattle.draid_pool.proofs.importing.Found.note_all.Goals as goal
+use Rattle.draid_found.specs.Together.{noted_in}
+use Rattle.draid_found.proofs.Together.{count_first, count_next, notes_below, noted_twice}
+use Rattle.draid_found.proofs.Noted.{next_inside, next_low, noting_more, noting_none}
+use Rattle.draid_found.proofs.finding.Found.note_all.Goals as goal
 
 pub overflow_add-from : goal.overflow_add-from
 overflow_add-from g c = (let low = next_low g.R.Rack c.args.shard.now c.loop-pointer.from c.in-Some.pointer c.in-Some.ensures.some in omega (arith, low))

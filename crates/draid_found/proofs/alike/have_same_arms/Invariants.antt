@@ -1,8 +1,8 @@
 use Rattle.std.proofs.Common.{◌≡◌, ◌<◌, ◌≤◌, ℕ, Some, length}
 use Rattle.std.specs.Prelude.{slice_get}
 use Rattle.draid_names.specs.declared.arm.Arm.{Arm}
-use Rattle.draid_pool.specs.Together.{IsSameArm}
-use Rattle.draid_pool.proofs.importing.have_same_arms.Given as goal
+use Rattle.draid_found.specs.Together.{IsSameArm}
+use Rattle.draid_found.proofs.alike.have_same_arms.Given as goal
 
 -- the arms so far are the same
 abbrev pub invariant-loop-place : goal.invariant-loop-place

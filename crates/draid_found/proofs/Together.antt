@@ -5,20 +5,22 @@ use Rattle.std.specs.HashSet.{HashSet, contains, keys}
 use Rattle.std.specs.List.{list_any}
 use Rattle.std.proofs.lemmas.Bool.{cases_eq}
 use Rattle.draid_names.specs.declared.pointer.Pointer.{Pointer}
+use Rattle.draid_machine.specs.declared.names.Held.{Held as Block}
 use Rattle.draid_machine.specs.declared.names.Key.{Key}
-use Rattle.draid_machine.proofs.Small.{absurd_test, key_true}
+use Rattle.draid_machine.proofs.Small.{absurd_test, key_true, some_injective}
 use Rattle.draid_rack.specs.declared.Rack as racks
 use Rattle.draid_entries.specs.declared.entry.Entry.{Entry}
 use Rattle.draid_entries.specs.declared.entries.Entries.{Entries}
-use Rattle.draid_entries.specs.Entries.{entry_at}
-use Rattle.draid_entries.specs.Maps.{key_of, staged}
+use Rattle.draid_entries.specs.Entries.{entry_at, held_in}
+use Rattle.draid_entries.specs.Maps.{held_at, key_of, staged}
 use Rattle.draid_slots.specs.Table.{SlotTable, arms_of}
 use Rattle.draid_shard.specs.Calls.{IsNextHeld}
+use Rattle.draid_shard.proofs.Held.{key_leads}
 use Rattle.draid_shard.specs.declared.shard.Shard.{Shard}
-use Rattle.draid_pool.specs.Found.{AreReady}
-use Rattle.draid_pool.specs.Together.{AreApart, AreSameArms, HasBlock, HaveSameArms, IsNotedTwice, NotesOnly, NotesOnlyOf, blocks_below, noted_in, pair_eq, place_in}
-use Rattle.draid_pool.specs.declared.fault.PoolFault.TheVariants as fault
-use Rattle.draid_pool.proofs.ImportAlike.{one_place}
+use Rattle.draid_found.specs.Found.{AreReady}
+use Rattle.draid_found.specs.Together.{AreApart, AreSameArms, HasBlock, HaveSameArms, IsNotedTwice, NotesOnly, NotesOnlyOf, blocks_below, noted_in, pair_eq, place_in}
+use Rattle.draid_found.specs.declared.fault.FoundFault.{FoundFault}
+use Rattle.draid_found.specs.declared.fault.FoundFault.TheVariants as fault
 
 -- ---- arms
 
@@ -50,6 +52,11 @@ was_noted true a is old = refl
 was_noted false a is old = absurd (cc)
 
 -- ---- the blocks of a metaslab
+
+-- no two blocks of a metaslab have one key
+one_place : (t : Entries) (j k : ℕ) (d e : Entry) → entry_at t j ≡ Some d → entry_at t k ≡ Some e → key_of d.pointer ≡ key_of e.pointer → d.pointer.first ≡ e.pointer.first
+one_place t j k d e at there same =
+    ap (λ (h : Block). h.first) (some_injective (held_at d) (held_at e) (sym (ap (held_in t) (sym same) ∙ key_leads t j d at) ∙ key_leads t k e there))
 
 -- one, where one begins
 abbrev one_at : Option Entry → ℕ
@@ -138,17 +145,20 @@ module _ {R A : Type 0} (shard : Shard R A) where
 
   -- no block below it has the object and number of a block: another metaslab's has
   pub noted_twice : {T : Type 0} (from : ℕ) (p : Pointer) (old mid : Key → Bool) (place : ℕ) → IsNextHeld shard from p → place ≡ place_in shard from → NotesBelow shard from old mid → mid (key_of p) ≡ true
-      → (metaslab : Option ℕ) (at kind : ℕ) → IsErrOf {T = T} (Err (fault.Record (Some shard.number) place 5)) (fault.Record metaslab at kind) → IsNotedTwice shard old metaslab at kind
+      → (metaslab at kind : ℕ) → IsErrOf {T = T} (Err (fault.Record shard.number place 5)) (fault.Record metaslab at kind) → IsNotedTwice shard old (Some metaslab) at kind
   noted_twice {T} from p old mid place next place_is n there metaslab «at» kind err = by (n (key_of p) there)
     where
+      own : Some metaslab ≡ Some shard.number
+      own = (let same : shard.number ≡ metaslab = cc in ap Some (sym same))
+
       here : «at» ≡ place_in shard p.first
       here =
           let same : place ≡ «at» = cc in
           let count = (count_next from p next).0 in
           omega (arith, same, count, place_is)
 
-      by : (old (key_of p) ≡ true) ⊎ HasBelow shard from (key_of p) → IsNotedTwice shard old metaslab «at» kind
-      by (inl was) = record { metaslab_is = cc; kind_is = cc; key = key_of p; block = block_at from p next; place_is = here; twice = was }
+      by : (old (key_of p) ≡ true) ⊎ HasBelow shard from (key_of p) → IsNotedTwice shard old (Some metaslab) «at» kind
+      by (inl was) = record { metaslab_is = own; kind_is = cc; key = key_of p; block = block_at from p next; place_is = here; twice = was }
       by (inr h) =
           let same = one_place shard.entries h.first p.first h.e (staged next.entered.stage p) h.there next.entered.there h.key_is in
           let low = h.below in
@@ -157,6 +167,10 @@ module _ {R A : Type 0} (shard : Shard R A) where
           absurd (omega (arith, same, low, behind, own))
 
 -- ---- all metaslabs
+
+-- a fault is one whatever the answer would have been
+pub passed : {T U : Type 0} (why fault : FoundFault) → IsErrOf {T = T} (Err why) fault → IsErrOf {T = U} (Err why) fault
+passed why fault err = (let same : why ≡ fault = cc in ap Err same)
 
 -- a metaslab below a number has a block of this object and number
 pub record HasEarlier {R A : Type 0} (shards : List (Shard R A)) (n : ℕ) (key : Key) : Type 0 where
@@ -204,11 +218,11 @@ module _ {R A : Type 0} (shards : List (Shard R A)) where
 
   -- or it has other arms than the first one
   pub other_arms : {T : Type 0} (rack : racks.Ghosts R) (n : ℕ) (first shard : Shard R A) → slice_get shards 0 ≡ Some first → slice_get shards n ≡ Some shard → AreReady rack shards
-      → (HaveSameArms first.slots shard.slots → ⊥) → (metaslab : Option ℕ) (place kind : ℕ) → IsErrOf {T = T} (Err (fault.Record (Some shard.number) 20 4)) (fault.Record metaslab place kind)
-      → AreApart shards metaslab place kind
+      → (HaveSameArms first.slots shard.slots → ⊥) → (metaslab place kind : ℕ) → IsErrOf {T = T} (Err (fault.Record shard.number 20 4)) (fault.Record metaslab place kind)
+      → AreApart shards (Some metaslab) place kind
   other_arms {T} rack n first shard begins at ready differ metaslab place kind err = inl (record {
     m = n;
-    metaslab_is = own ∙ ap Some (ready n shard at).number_is;
+    metaslab_is = ap Some (own ∙ (ready n shard at).number_is);
     place_is = cc;
     kind_is = cc;
     first = first;
@@ -218,5 +232,5 @@ module _ {R A : Type 0} (shards : List (Shard R A)) where
     differ = differ;
   })
     where
-      own : metaslab ≡ Some shard.number
+      own : metaslab ≡ shard.number
       own = cc
