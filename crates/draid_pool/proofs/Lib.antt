@@ -63,5 +63,6 @@ pub mod ImportUnread
 pub mod ImportTogether
 pub mod ImportOne
 pub mod ImportTaken
+pub mod ImportMade
 pub mod ImportLeft
 pub mod ImportFaulty
