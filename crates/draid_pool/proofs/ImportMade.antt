@@ -1,10 +1,9 @@
 -- An import over the devices of a new pool, whose uberblock's area is zeros.
-use Rattle.std.proofs.Common.{arith, ◌≡◌, ◌≤◌, ◌∙◌, inl, inr, ℕ, Option, Some, None, Result, Ok, Err, option_map, refl, sym, ap, subst, length, replicate}
+use Rattle.std.proofs.Common.{arith, ◌≡◌, ◌≤◌, ◌∙◌, inl, inr, ℕ, Option, Some, None, Result, Err, option_map, refl, sym, ap, subst, length, replicate}
 use Rattle.std.specs.Prelude.{IsSomeAnd}
 use Rattle.draid_area.specs.Area.{Content, OnTold, flushes}
 use Rattle.draid_names.specs.declared.fault.DeviceFault.{DeviceFault}
 use Rattle.draid_names.specs.declared.fault.DeviceFault.TheVariants as device
-use Rattle.draid_record.specs.declared.fault.RecordFault.TheVariants.{Bad}
 use Rattle.draid_record.specs.declared.uber.UberBody.{UberBody}
 use Rattle.draid_shelf.specs.Kits.{Held, IsNewArea, KitCounts, OnHeld, gives_uber, puts_uber, takes_uber, uber_bytes}
 use Rattle.draid_spec.specs.declared.layout.Geometry.{Geometry}

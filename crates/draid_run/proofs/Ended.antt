@@ -9,12 +9,13 @@ use Rattle.draid_reply.specs.declared.reply.Reply.{Reply}
 use Rattle.draid_session.specs.Session.{Desk, Untouched, Bare, Made, Open, Shut, Foreign, Unknown, IsLeft}
 use Rattle.draid_pool.specs.declared.pool.Pool.{Pool}
 use Rattle.draid_run.specs.Desks.{IsDesk, LeavesDesk}
-use Rattle.draid_run.specs.Script.{BreaksOff, Ends, EndsWithLine, FailsShut, GetsReplies, IsSession, Prints, RunsFrom, Shows}
+use Rattle.draid_run.specs.Script.{BreaksOff, Ends, EndsWithLine, Fails, FailsShut, GetsReplies, IsSession, Prints, RunsFrom, Shows}
 use Rattle.draid_run.specs.Serve.{Served}
-use Rattle.draid_run.specs.Shelves.{HoldsDesk, OnShelf}
+use Rattle.draid_run.specs.Shelves.{HasFailed, HoldsDesk, IsClosed, OnShelf}
 use Rattle.draid_run.specs.Status.{HasNumber, last_text}
 use Rattle.draid_run.specs.declared.status.Status.{Status}
 use Rattle.draid_run.specs.declared.status.Status.TheVariants.{Done, Usage, Line, SourceFault, SinkFault, NoMemory, TooLong, ShelfFault, Record}
+use Rattle.draid_run.proofs.Broke.{broken_rose}
 use Rattle.draid_run.proofs.Known.{appends_none}
 
 -- ---- the last line
@@ -76,6 +77,20 @@ gets_short SinkFault shown old new number gets = absurd number
 gets_short NoMemory shown old new number gets = absurd number
 gets_short ShelfFault shown old new number gets = absurd number
 
+-- what failed, by what was open
+shelf_fails : {A : Type 0} (area : areas.Ghosts A) (broken : Option (List ℕ)) (lines : List (List ℕ)) (mid last : Desk) (entry now : OnShelf) → BreaksOff ShelfFault broken mid last
+    → (IsClosed mid → FailsShut area broken lines mid entry now) → HasFailed entry now → Fails area broken lines mid last entry now
+shelf_fails area None lines mid last entry now breaks shut failed = absurd breaks
+shelf_fails area (Some text) lines Untouched last entry now breaks shut failed = shut tt
+shelf_fails area (Some text) lines Bare last entry now breaks shut failed = shut tt
+shelf_fails area (Some text) lines (Made told n geometry) last entry now breaks shut failed = shut tt
+shelf_fails area (Some text) lines (Shut crash x) last entry now breaks shut failed = shut tt
+shelf_fails area (Some text) lines Unknown last entry now breaks shut failed = shut tt
+shelf_fails area (Some text) lines Foreign last entry now breaks shut failed = failed
+shelf_fails area (Some text) lines (Open x) (Open y) entry now breaks shut failed =
+    broken_rose x.geometry x.perms breaks.command breaks.breaks.holds x y breaks.breaks.broken breaks.breaks.follows
+shelf_fails area (Some text) lines (Open x) last entry now breaks shut failed = absurd breaks.breaks
+
 not_usage : NoMemory ≡ Usage → ⊥
 not_usage e = cc e
 
@@ -132,7 +147,8 @@ module _ {R A : Type 0} (rack : racks.Ghosts R) (area : areas.Ghosts A) (chosen 
     left = leaves.left;
     is_left = leaves.is;
     shelf = leaves.shelf;
-    failed = λ e closed. (let since = is.since e closed in subst (FailsShut area is.broken is.lines is.mid entry) (sym (leaves.same since.0)) since.1);
+    failed = λ e. shelf_fails area is.broken is.lines is.mid is.last entry now (subst (λ s. BreaksOff s is.broken is.mid is.last) e is.breaks)
+        (λ closed. (let since = is.since e closed in subst (FailsShut area is.broken is.lines is.mid entry) (sym (leaves.same since.0)) since.1)) (leaves.failed (is.failed e));
     bad = is.bad;
   }
 

@@ -30,7 +30,7 @@ use Rattle.draid_run.specs.Serve.{AnswerIs, IsSaid}
 use Rattle.draid_run.specs.Shelves.{IsOut, OnShelf, PoolFails}
 use Rattle.draid_run.specs.declared.answer.Stop.{Stop}
 use Rattle.draid_run.specs.declared.answer.Stop.TheVariants as stop
-use Rattle.draid_run.proofs.Broke.{broken_shows, export_broke, sync_broke}
+use Rattle.draid_run.proofs.Broke.{broken_shows}
 use Rattle.draid_run.proofs.Following.{same_store}
 use Rattle.draid_run.proofs.GivenBack.{is_given, left_as, shelf_has}
 use Rattle.draid_run.proofs.Steps.{by_answer, still_out}
@@ -162,7 +162,7 @@ module _ {R A : Type 0} (rack : racks.Ghosts R) (area : areas.Ghosts A) (chosen 
         new = Open (record c.reached { store = c.store });
         desk = record { stands = (did.0, c.represents); shelf = still_out y c.reached now c.holds c.follows is.shelf c.store };
         breaks = record { holds = c.holds; follows = follows; broken = f.1 };
-        cause = broken_shows c.holds y (record c.reached { store = c.store }) (sync_broke y.geometry y.perms c.holds f.1) follows;
+        cause = broken_shows y.geometry y.perms SyncPool c.holds y (record c.reached { store = c.store }) f.1 follows;
       }
 
   -- ---- an export
@@ -232,7 +232,7 @@ module _ {R A : Type 0} (rack : racks.Ghosts R) (area : areas.Ghosts A) (chosen 
           new = Open turns.y;
           desk = subst (λ d. IsDesk rack area entry now new d) same did.desk;
           breaks = record { holds = l.holds; follows = follows; broken = f.1 };
-          cause = broken_shows l.holds y turns.y (export_broke y.geometry y.perms l.holds f.1) follows;
+          cause = broken_shows y.geometry y.perms ExportPool l.holds y turns.y f.1 follows;
         }
 
   -- ---- a crash

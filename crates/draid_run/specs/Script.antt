@@ -12,8 +12,8 @@ use Rattle.draid_script.specs.declared.fault.LineFault.{LineFault}
 use Rattle.draid_reply.specs.Reply.{text_of}
 use Rattle.draid_reply.specs.declared.reply.Reply.{Reply}
 use Rattle.draid_words.specs.Mode.{OfSession, asked}
-use Rattle.draid_session.specs.Session.{Desk, Breaks, Cause, IsLeft, RecordFails, Runs, ShelfFails}
-use Rattle.draid_run.specs.Shelves.{FailsIn, HoldsDesk, HoldsFault, OnShelf, IsClosed}
+use Rattle.draid_session.specs.Session.{Desk, Open, Foreign, Breaks, Cause, IsLeft, RecordFails, Runs, ShelfFails}
+use Rattle.draid_run.specs.Shelves.{AreaRose, FailsIn, HasFailed, HoldsDesk, HoldsFault, OnShelf}
 use Rattle.draid_run.specs.Status.{HasNumber, last_text}
 use Rattle.draid_run.specs.declared.status.Status.{Status}
 use Rattle.draid_run.specs.declared.status.Status.TheVariants.{Done, Usage, Line, SourceFault, SinkFault, NoMemory, TooLong, ShelfFault, Record}
@@ -173,6 +173,13 @@ pub record FaultyShut {R A : Type 0} (rack : racks.Ghosts R) (area : areas.Ghost
   pub came : CameShut broken lines mid entry
   pub bad : HoldsFault rack area came.before metaslab place kind
 
+-- What failed where a run broke off at a failing device. Where a pool was open the count of an area of it rose in that command; of one of which nothing is said it isn't 0.
+abbrev pub Fails : {A : Type 0} → areas.Ghosts A → Option (List ℕ) → List (List ℕ) → Desk → Desk → OnShelf → OnShelf → Type 0
+Fails area broken lines (Open x) (Open y) entry now = AreaRose x y
+Fails area broken lines (Open x) last entry now = ⊥
+Fails area broken lines Foreign last entry now = HasFailed entry now
+Fails area broken lines mid last entry now = FailsShut area broken lines mid entry now
+
 -- a session from one desk to a last one, whose pool is given back; and the shelf holds what is left
 pub record RunsFrom {R A : Type 0} (rack : racks.Ghosts R) (area : areas.Ghosts A) (chosen : List Room → Option ℕ → Type 0) (words : List (List ℕ)) (status : Status) (input old new : Option (List ℕ)) (entry now : OnShelf) (first : Desk) : Type 0 where
   pub last : Desk
@@ -180,7 +187,7 @@ pub record RunsFrom {R A : Type 0} (rack : racks.Ghosts R) (area : areas.Ghosts 
   pub left : Desk
   pub is_left : IsLeft last left
   pub shelf : HoldsDesk left entry now
-  pub failed : session.ended ≡ ShelfFault → IsClosed session.mid → FailsShut area session.broken session.lines session.mid entry now
+  pub failed : session.ended ≡ ShelfFault → Fails area session.broken session.lines session.mid last entry now
   pub bad : (metaslab : Option ℕ) (place kind : ℕ) → session.ended ≡ Record metaslab place kind → FaultyShut rack area session.broken session.lines session.mid entry metaslab place kind
 
 -- What a run of the program is: such a session from each desk that the shelf holds at the entry. It may be as it was found, or tell that it has no pool, or hold the

@@ -96,6 +96,12 @@ HasFailed entry now = Rose entry.faults now.faults ⊎ AreaFailed now.counts now
 abbrev pub AreaHasFailed : State → Type 0
 AreaHasFailed x = ((m : ℕ) × (y : Metaslab) × (slice_get x.metaslabs m ≡ Some y) × (0 < y.counts.even + y.counts.odd)) ⊎ (0 < x.uber_count)
 
+-- the count of one rose between two states of the pool
+abbrev pub AreaRose : State → State → Type 0
+AreaRose x y =
+    ((m : ℕ) × (a : Metaslab) × (b : Metaslab) × (slice_get x.metaslabs m ≡ Some a) × (slice_get y.metaslabs m ≡ Some b)
+    × (Rose a.counts.even b.counts.even ⊎ Rose a.counts.odd b.counts.odd)) ⊎ Rose x.uber_count y.uber_count
+
 -- so of a pool of which nothing else is said
 abbrev pub PoolFails : {R A : Type 0} → areas.Ghosts A → Option (Pool R A) → Type 0
 PoolFails area None = ⊥
