@@ -130,13 +130,13 @@ records_rose {R} {A} faults old new group before after even odd even' odd' rose 
     by false h = inr (subst (λ (n : ℕ). Rose n after.odd) odd (subst (λ (n : ℕ). Rose (faults old.odd) n) (sym odd') h))
 
 -- so it is once those that were open are given back, and since the beginning
-pub records_rose_back : {R A : Type 0} (rack : racks.Ghosts R) (area : areas.Ghosts A) (shards : List (Shard R A)) (n : ℕ) (first since last last' : ℕ) (mid_told new_told : Option shelf.Held) (before middle late after : ℕ → shelf.KitCounts)
-    → length shards ≡ n → first ≤ since → last' ≡ last → ((m : ℕ) → n ≤ m → middle m ≡ before m) → Returns rack area shards mid_told new_told late after → Rose since last ⊎ RecordsRose (middle n) (late n)
-    → Rose first last' ⊎ AnyRecordsRose before after
-records_rose_back rack area shards n first since last last' mid_told new_told before middle late after many later same yet r (inl rose) =
+pub records_rose_back : {R A : Type 0} (rack : racks.Ghosts R) (area : areas.Ghosts A) (shards : List (Shard R A)) (n metaslabs : ℕ) (first since last last' : ℕ) (mid_told new_told : Option shelf.Held) (before middle late after : ℕ → shelf.KitCounts)
+    → length shards ≡ n → n < metaslabs → first ≤ since → last' ≡ last → ((m : ℕ) → n ≤ m → middle m ≡ before m) → Returns rack area shards mid_told new_told late after → Rose since last ⊎ RecordsRose (middle n) (late n)
+    → Rose first last' ⊎ AnyRecordsRose metaslabs before after
+records_rose_back rack area shards n metaslabs first since last last' mid_told new_told before middle late after many below later same yet r (inl rose) =
     inl (subst (λ (k : ℕ). Rose first k) (sym same) (rose_since first since last later rose))
-records_rose_back rack area shards n first since last last' mid_told new_told before middle late after many later same yet r (inr rose) =
-    inr (n, subst (λ (k : shelf.KitCounts). RecordsRose k (after n)) (yet n (omega arith)) (subst (λ (k : shelf.KitCounts). RecordsRose (middle n) k) (sym (r.others n (omega (arith, many)))) rose))
+records_rose_back rack area shards n metaslabs first since last last' mid_told new_told before middle late after many below later same yet r (inr rose) =
+    inr (n, below, subst (λ (k : shelf.KitCounts). RecordsRose k (after n)) (yet n (omega arith)) (subst (λ (k : shelf.KitCounts). RecordsRose (middle n) k) (sym (r.others n (omega (arith, many)))) rose))
 
 -- why a metaslab wasn't opened
 pub refused_area : {R A : Type 0} (rack : racks.Ghosts R) (faults : A → ℕ) (told : A → Option content.Content) (geometry : Geometry) (number : ℕ) (old new : Kit R A) (group next : ℕ) (why : OpenFault)

@@ -62,5 +62,6 @@ pub mod ImportPool
 pub mod ImportUnread
 pub mod ImportOne
 pub mod ImportTaken
+pub mod ImportMade
 pub mod ImportLeft
 pub mod ImportFaulty

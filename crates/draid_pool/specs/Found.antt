@@ -55,12 +55,9 @@ SameChecks old new = shelf.OnHeld new (λ y. MatchOption old ⊥ (λ x. y.checks
 abbrev pub RecordsRose : shelf.KitCounts → shelf.KitCounts → Type 0
 RecordsRose before after = Rose before.even after.even ⊎ Rose before.odd after.odd
 
-abbrev pub AnyRecordsRose : (ℕ → shelf.KitCounts) → (ℕ → shelf.KitCounts) → Type 0
-AnyRecordsRose before after = (m : ℕ) × RecordsRose (before m) (after m)
-
--- the shelf's count rose, or that of the uberblock's area, or that of an area of a metaslab's records
-abbrev pub HasRisen : ℕ → ℕ → ℕ → ℕ → (ℕ → shelf.KitCounts) → (ℕ → shelf.KitCounts) → Type 0
-HasRisen faults faults' uber uber' counts counts' = (Rose faults faults' ⊎ Rose uber uber') ⊎ AnyRecordsRose counts counts'
+-- so of one of so many metaslabs
+abbrev pub AnyRecordsRose : ℕ → (ℕ → shelf.KitCounts) → (ℕ → shelf.KitCounts) → Type 0
+AnyRecordsRose metaslabs before after = (m : ℕ) × (m < metaslabs) × RecordsRose (before m) (after m)
 
 -- the same is held
 pub record SameHeld (old new : shelf.Held) : Type 0 where
@@ -205,6 +202,17 @@ pub record IsRecovered {A : Type 0} (area : areas.Ghosts A) (held : Option shelf
   pub stands : StandsTold (kept_of uber) [] (area.told (area_of uber))
   pub leaf : IsSomeAnd (kept_of uber) (λ body. next_leaf_of uber ≡ body.next_leaf)
   pub later : count ≤ area.faults (area_of uber)
+
+-- an uberblock was found there, and the count of an area of records rose, of one of the metaslabs that it names
+pub record FoundRecordsRose {A : Type 0} (area : areas.Ghosts A) (held : Option shelf.Held) (count : ℕ) (before after : ℕ → shelf.KitCounts) : Type 0 where
+  pub uber : Uber A
+  pub found : IsFoundUber area uber
+  pub recovered : IsRecovered area held count uber
+  pub rose : AnyRecordsRose (layout_of uber).props.metaslabs before after
+
+-- the shelf's count rose, or that of the uberblock's area, or that of an area of such a metaslab's records
+abbrev pub HasRisen : {A : Type 0} → areas.Ghosts A → Option shelf.Held → ℕ → ℕ → ℕ → ℕ → (ℕ → shelf.KitCounts) → (ℕ → shelf.KitCounts) → Type 0
+HasRisen area held faults faults' uber uber' counts counts' = (Rose faults faults' ⊎ Rose uber uber') ⊎ FoundRecordsRose area held uber counts counts'
 
 -- ---- older blocks
 

@@ -7,6 +7,7 @@ ghost use Rattle.draid_names.specs.declared.numbers.TheConstants.{LAST_NUMBER};
 ghost use Rattle.draid_area.specs.Area.{IsOfSize, OnTold};
 ghost use Rattle.draid_rack.specs.Rack.{Shape};
 ghost use Rattle.draid_map.specs.Place.{IsLayout};
+ghost use Rattle.draid_spec.specs.declared.layout.Geometry.{Geometry};
 ghost use Rattle.draid_shelf.specs.Kits.{Held, KitCounts, OnHeld, takes_kit, takes_uber};
 ghost use Rattle.draid_shelf.specs.Shelf.{SameOthers};
 ghost use Rattle.draid_shard.specs.Calls.{IsLive};
@@ -18,8 +19,8 @@ ghost use Rattle.draid_segments.specs.Segments.{Pieces};
 ghost use Rattle.draid_session.specs.State.{State, limit_of};
 ghost use Rattle.draid_pool.specs.Faulty.{IsUnread, OneIsUnread, RecordIsBad, UberIsBad};
 ghost use Rattle.draid_pool.specs.Imported.{AreNewest, IsFoundOf};
-ghost use Rattle.draid_pool.specs.Importing.{ImportIs, ImportsPool, IsNotSpec, RestsThere};
-ghost use Rattle.draid_pool.specs.Opening.{IsAsBefore, TakesFirst};
+ghost use Rattle.draid_pool.specs.Importing.{ImportIs, ImportsPool, IsNotSpec, LeavesMade, RestsThere};
+ghost use Rattle.draid_pool.specs.Opening.{HoldsMade, IsAsBefore, TakesFirst};
 ghost use Rattle.draid_pool.specs.Found.{AnyRecordsRose, AreFreed, AreReopened, CountsLater, FreesIfOlder, FreesOlder, HasOnly, HasRisen, IsFoundUber, IsRecovered, IsReopened, IsShardFault, KeepsFound, KeepsFoundAt, KeepsKnown, LeavesShards, LeavesUber, NoRecord, OpensAllOver, OpensOver, RecordsRose, SameChecks, StaysHeld, shelf_fault_of, uber_fault_of, open_fault_of};
 ghost use Rattle.draid_found.specs.Found.{AllLive, AreFound, AreReady};
 ghost use Rattle.draid_found.specs.Together.{AreApart};
@@ -111,6 +112,10 @@ fn find_uber<H: Shelf>(shelf: &mut H) -> Result<Uber<H::A>, PoolFault>
         × IsAsBefore (H.told shelf.old) (H.told shelf.new) (H.counts shelf.old) (H.counts shelf.new)
         (record { uber = H.uber_count shelf.old; checks = H.check_counts shelf.old })
         (record { uber = H.uber_count shelf.new; checks = H.check_counts shelf.new })) }
+    ensures made { (geometry : Geometry) → IsSomeAnd (H.told shelf.old) (HoldsMade geometry)
+        → LeavesMade geometry result (H.told shelf.new) (H.counts shelf.old) (H.counts shelf.new)
+        (record { uber = H.uber_count shelf.old; checks = H.check_counts shelf.old })
+        (record { uber = H.uber_count shelf.new; checks = H.check_counts shelf.new }) }
     ensures held { SameChecks (H.told shelf.old) (H.told shelf.new) }
     ensures checks { H.check_counts shelf.new ≡ H.check_counts shelf.old }
     ensures counts { (m : ℕ) → H.counts shelf.new m ≡ H.counts shelf.old m }
@@ -212,7 +217,7 @@ fn reopen_shards<H: Shelf>(
     ensures held { SameChecks (H.told shelf.old) (H.told shelf.new) }
     ensures checks { H.check_counts shelf.new ≡ H.check_counts shelf.old }
     ensures later { H.faults shelf.old ≤ H.faults shelf.new }
-    ensures cause { IsErrOf result PoolFault.Shelf → Rose (H.faults shelf.old) (H.faults shelf.new) ⊎ AnyRecordsRose (H.counts shelf.old) (H.counts shelf.new) }
+    ensures cause { IsErrOf result PoolFault.Shelf → Rose (H.faults shelf.old) (H.faults shelf.new) ⊎ AnyRecordsRose (layout_of uber.now).props.metaslabs (H.counts shelf.old) (H.counts shelf.new) }
 {
     let layout = *uber.geometry();
     let perms = Perms::new(layout.spec.children, layout.props.seed);
@@ -345,6 +350,10 @@ pub fn import<H: Shelf>(alloc: Global, shelf: &mut H) -> Result<Pool<H::R, H::A>
         × IsAsBefore (H.told shelf.old) (H.told shelf.new) (H.counts shelf.old) (H.counts shelf.new)
         (record { uber = H.uber_count shelf.old; checks = H.check_counts shelf.old })
         (record { uber = H.uber_count shelf.new; checks = H.check_counts shelf.new })) }
+    ensures made { (geometry : Geometry) → IsSomeAnd (H.told shelf.old) (HoldsMade geometry)
+        → LeavesMade geometry result (H.told shelf.new) (H.counts shelf.old) (H.counts shelf.new)
+        (record { uber = H.uber_count shelf.old; checks = H.check_counts shelf.old })
+        (record { uber = H.uber_count shelf.new; checks = H.check_counts shelf.new }) }
     // What is found of a pool that rests there is that pool, and a refusal leaves it there.
     ensures import { (x : State) (pieces : ℕ → Pieces)
         → RestsThere x pieces (H.told shelf.old) (H.leaves shelf.old) (H.counts shelf.old) (H.uber_count shelf.old)
@@ -357,7 +366,7 @@ pub fn import<H: Shelf>(alloc: Global, shelf: &mut H) -> Result<Pool<H::R, H::A>
     ensures held { SameChecks (H.told shelf.old) (H.told shelf.new) }
     ensures checks { H.check_counts shelf.new ≡ H.check_counts shelf.old }
     ensures later { H.faults shelf.old ≤ H.faults shelf.new }
-    ensures cause { IsErrOf result PoolFault.Shelf → HasRisen (H.faults shelf.old) (H.faults shelf.new) (H.uber_count shelf.old) (H.uber_count shelf.new) (H.counts shelf.old) (H.counts shelf.new) }
+    ensures cause { IsErrOf result PoolFault.Shelf → HasRisen H.A.Area (H.told shelf.old) (H.faults shelf.old) (H.faults shelf.new) (H.uber_count shelf.old) (H.uber_count shelf.new) (H.counts shelf.old) (H.counts shelf.new) }
 {
     let uber = find_uber(shelf)?;
     let shards = match reopen_shards(alloc, shelf, &uber) {

@@ -1,5 +1,6 @@
 pub mod Broke
 pub mod Ended
+pub mod Ending
 pub mod Filled
 pub mod Following
 pub mod GivenBack

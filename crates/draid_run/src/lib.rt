@@ -6,6 +6,7 @@ mod answer;
 mod fill;
 mod groups;
 mod importing;
+mod laws;
 mod replies;
 mod serve;
 mod showing;
@@ -13,5 +14,6 @@ mod status;
 mod top;
 mod words;
 
+pub use laws::undisturbed_runs_are_done;
 pub use status::Status;
 pub use top::run;

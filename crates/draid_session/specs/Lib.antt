@@ -1,3 +1,4 @@
+pub mod Certain
 pub mod Damage
 pub mod Does
 pub mod Follows

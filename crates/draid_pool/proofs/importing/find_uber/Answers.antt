@@ -1,8 +1,10 @@
-use Rattle.std.proofs.Common.{arith, rules, tests, ◌∙◌, Err, subst, sym}
+use Rattle.std.proofs.Common.{arith, rules, tests, ◌∙◌, Err, ap, refl, subst, sym}
+use Rattle.draid_uber.specs.Uber.{kept_of}
 use Rattle.draid_pool.specs.Importing.{ImportIs}
 use Rattle.draid_pool.specs.declared.fault.PoolFault.{PoolFault}
 use Rattle.draid_pool.proofs.Found.{leaf_found, uber_left, uber_put}
 use Rattle.draid_pool.proofs.ImportFaulty.{err_is, shelf_no_record, uber_bad}
+use Rattle.draid_pool.proofs.ImportMade.{made_left, made_not, made_same, made_untaken}
 use Rattle.draid_pool.proofs.ImportTaken.{no_pool, not_found, not_taken, taken_not}
 use Rattle.draid_pool.proofs.importing.find_uber.Goals as goal
 
@@ -77,3 +79,32 @@ returns-in-Err-recover-clause-faulty g c metaslab place kind err =
 
 pub returns-in-Err-recover-clause-none : goal.returns-in-Err-recover-clause-none
 returns-in-Err-recover-clause-none g c = taken_not c.in-Ok.area (g.H.Shelf.told c.args.shelf.now) _ c.in-Ok.ensures.needs
+
+pub returns-then-not-has_pool-clause-made : goal.returns-then-not-has_pool-clause-made
+returns-then-not-has_pool-clause-made g c geometry made =
+    let shelf = g.H.Shelf in
+    made_same geometry (shelf.told c.args.shelf.now) _ (shelf.counts c.args.shelf.now) _ _ _ _ tt refl (λ m. refl) refl refl made
+
+pub returns-in-Err-clause-made : goal.returns-in-Err-clause-made
+returns-in-Err-clause-made g c geometry made =
+    let shelf = g.H.Shelf in
+    let e = c.in-Err.ensures in
+    made_untaken geometry (shelf.told c.args.shelf.now) (shelf.told c.take_uber.new.self) (shelf.counts c.args.shelf.now) (shelf.counts c.take_uber.new.self) _ _ c.in-Err.why
+    (Err c.shelf_fault.result) (ap Err c.shelf_fault.ensures.is) e.err e.counts e.err_count e.check_counts made
+
+pub returns-in-Ok-recover-clause-made : goal.returns-in-Ok-recover-clause-made
+returns-in-Ok-recover-clause-made g c geometry made =
+    let t = c.in-Ok.ensures in
+    let e = c.in-Ok-recover.ensures in
+    absurd (made_not geometry (g.H.Shelf.told c.args.shelf.now) (g.H.A.Area.told c.in-Ok.area) (kept_of c.in-Ok-recover.uber) _ t.area e.finds e.some made)
+
+pub returns-in-Err-recover-clause-made : goal.returns-in-Err-recover-clause-made
+returns-in-Err-recover-clause-made g c geometry made =
+    let shelf = g.H.Shelf in
+    let area = g.H.A.Area in
+    let t = c.in-Ok.ensures in
+    let r = c.in-Err-recover in
+    let e = c.give_uber.ensures in
+    made_left geometry (shelf.told c.args.shelf.now) (shelf.told c.take_uber.new.self) (shelf.told c.give_uber.new.self) (shelf.counts c.args.shelf.now) (shelf.counts c.give_uber.new.self) _ _
+    (area.told c.in-Ok.area) (area.told r.field-0.area) r.field-0.why (Err c.uber_fault.result) (ap Err c.uber_fault.ensures.is) t.area r.ensures.finds r.ensures.err t.told e.told (λ m. e.counts m ∙ t.counts m)
+    (let was = t.count in let up = r.ensures.err_later in let now = e.count in omega (arith, was, up, now)) (e.check_counts ∙ t.check_counts) made

@@ -133,6 +133,16 @@ returns-in-Err-find_blocks-clause-none g c = absent_not c.in_ok-uber.uber (g.H.S
 pub returns-in-Err-clause-cause : goal.returns-in-Err-clause-cause
 returns-in-Err-clause-cause g c failed =
     let shelf = g.H.Shelf in
-    risen_behind (shelf.faults c.args.shelf.now) (shelf.faults c.find_uber.new.shelf) (shelf.faults c.reopen_shards.new.shelf) (shelf.faults c.give_uber.new.self) (shelf.uber_count c.args.shelf.now) (shelf.uber_count c.give_uber.new.self)
-    (shelf.counts c.args.shelf.now) (shelf.counts c.find_uber.new.shelf) (shelf.counts c.reopen_shards.new.shelf) (shelf.counts c.give_uber.new.self) c.find_uber.ensures.later c.give_uber.ensures.faults
+    risen_behind g.H.A.Area (shelf.told c.args.shelf.now) (shelf.faults c.args.shelf.now) (shelf.faults c.find_uber.new.shelf) (shelf.faults c.reopen_shards.new.shelf) (shelf.faults c.give_uber.new.self) (shelf.uber_count c.args.shelf.now) (shelf.uber_count c.give_uber.new.self)
+    (shelf.counts c.args.shelf.now) (shelf.counts c.find_uber.new.shelf) (shelf.counts c.reopen_shards.new.shelf) (shelf.counts c.give_uber.new.self)
+    c.in_ok-uber.uber c.in_ok-uber.ensures.found c.in_ok-uber.ensures.recovered c.find_uber.ensures.later c.give_uber.ensures.faults
     c.find_uber.ensures.counts c.give_uber.ensures.counts (c.in-Err.ensures.cause (refused_too c.in-Err.fault failed))
+
+pub returns-in-Ok-find_blocks-clause-made : goal.returns-in-Ok-find_blocks-clause-made
+returns-in-Ok-find_blocks-clause-made g c geometry made = absurd (c.in_ok-uber.ensures.made geometry made).none
+
+pub returns-in-Err-clause-made : goal.returns-in-Err-clause-made
+returns-in-Err-clause-made g c geometry made = absurd (c.in_ok-uber.ensures.made geometry made).none
+
+pub returns-in-Err-find_blocks-clause-made : goal.returns-in-Err-find_blocks-clause-made
+returns-in-Err-find_blocks-clause-made g c geometry made = absurd (c.in_ok-uber.ensures.made geometry made).none

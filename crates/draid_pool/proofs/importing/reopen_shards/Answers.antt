@@ -116,9 +116,11 @@ pub returns-in-Err-clause-cause : goal.returns-in-Err-clause-cause
 returns-in-Err-clause-cause g c failed =
     let shelf = g.H.Shelf in
     let i = c.loop-number.invariant in
-    records_rose_back g.H.R.Rack g.H.A.Area c.loop-number.shards.items c.loop-number.number (shelf.faults c.args.shelf.now) (shelf.faults c.loop-number.shelf) (shelf.faults c.reopen_shard.new.shelf) (shelf.faults c.give_back.new.shelf)
+    let same = ap (λ (x : Geometry). x.props.metaslabs) c.geometry-layout.ensures in
+    let test = c.loop-number-test.true in
+    records_rose_back g.H.R.Rack g.H.A.Area c.loop-number.shards.items c.loop-number.number (layout_of c.args.uber.now).props.metaslabs (shelf.faults c.args.shelf.now) (shelf.faults c.loop-number.shelf) (shelf.faults c.reopen_shard.new.shelf) (shelf.faults c.give_back.new.shelf)
     (shelf.told c.reopen_shard.new.shelf) (shelf.told c.give_back.new.shelf) (shelf.counts c.args.shelf.now) (shelf.counts c.loop-number.shelf) (shelf.counts c.reopen_shard.new.shelf) (shelf.counts c.give_back.new.shelf)
-    i.many i.later c.give_back.ensures.faults i.counts c.give_back.ensures.returns (c.in-Err.ensures.cause (refused_too c.in-Err.fault failed))
+    i.many (omega (arith, same, test)) i.later c.give_back.ensures.faults i.counts c.give_back.ensures.returns (c.in-Err.ensures.cause (refused_too c.in-Err.fault failed))
 
 pub returns-in-Err-clause-opens : goal.returns-in-Err-clause-opens
 returns-in-Err-clause-opens g c x pieces held counts count there r taken =
