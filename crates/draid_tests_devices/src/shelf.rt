@@ -60,8 +60,9 @@ fn read<R: Rack>(rack: &mut R, sector: u64) -> Result<u8, Failed>
 fn shelf_failing(alloc: Global, place: Place, calls: &[u64]) -> Result<MemoryShelf, Fail>
     requires { IsPlace place }
 {
+    let calls = Vec::from_slice(alloc, calls)?;
     let mut shelf = MemoryShelf::new(alloc, CrashRule::New);
-    shelf.fail(place, Vec::from_slice(alloc, calls)?);
+    shelf.fail(place, calls);
     Ok(shelf)
 }
 
@@ -98,7 +99,26 @@ fn found<H: Shelf>(shelf: &mut H, geometry: &Geometry) -> Option<(u8, u8, u64)>
     Some((flushed, soft, kit.odd.length()))
 }
 
-/// Whether a pool is there before it is made, and behind it; and what a crash by this rule leaves, looked at twice.
+/// Whether a pool is there before it is made, and behind it. It is used then, and crashes by this rule.
+fn make_and_crash(
+    shelf: &mut MemoryShelf,
+    alloc: Global,
+    geometry: &Geometry,
+    rule: CrashRule,
+) -> Result<[bool; 2], Fail>
+    requires geometry { IsGeometry geometry.now }
+    requires sector { geometry.now.props.sector ≡ 512 }
+{
+    let before = shelf.has_pool();
+    shelf.crash_by(rule);
+    Shelf::make(shelf, alloc, geometry)?;
+    let made = shelf.has_pool();
+    use_devices(shelf, geometry)?;
+    shelf.crash();
+    Ok([before, made])
+}
+
+/// The same, and what the crash leaves, looked at twice.
 fn left_by(
     alloc: Global,
     geometry: &Geometry,
@@ -108,14 +128,9 @@ fn left_by(
     requires sector { geometry.now.props.sector ≡ 512 }
 {
     let mut shelf = MemoryShelf::new(alloc, CrashRule::Torn);
-    let before = shelf.has_pool();
-    shelf.crash_by(rule);
-    Shelf::make(&mut shelf, alloc, geometry)?;
-    let made = shelf.has_pool();
-    use_devices(&mut shelf, geometry)?;
-    shelf.crash();
+    let there = make_and_crash(&mut shelf, alloc, geometry, rule)?;
     let left = [found(&mut shelf, geometry), found(&mut shelf, geometry)];
-    Ok(([before, made], left))
+    Ok((there, left))
 }
 
 #[test]
