@@ -582,3 +582,29 @@ fn freed_stripes_come_back_at_the_commit(rt: HostRuntime) -> Result<(), Fail> {
     assert_eq!(rt; found, ([7, 7, 8], (3, None, false, 2)));
     Ok(())
 }
+
+/// Why a block isn't fetched once more, and why the metaslab takes no block then; nothing where so many fetches are done.
+fn worn_out<R: Rack, A: Area>(
+    shard: &mut Shard<R, A>,
+    pointer: &Pointer,
+    most: u32,
+) -> Option<(FetchFault, Option<Shut>)>
+    requires valid { Valid R.Rack shard.old }
+{
+    for _ in 0..most {
+        if let Err(fault) = shard.fetch(pointer) {
+            return Some((fault, shard.shut()));
+        }
+    }
+    None
+}
+
+// Each fetch is an event. Of 20,000 the last 3,072 are left for the closing of groups.
+#[test]
+fn a_metaslab_wears_out(rt: HostRuntime) -> Result<(), Fail> {
+    let mut shard = metaslab(rt.alloc(), &[], 20_000)?;
+    let pointer = write(rt.alloc(), &mut shard, b"hello")??;
+    let fault = FetchFault::Worn { events: 16_928 };
+    assert_eq!(rt; worn_out(&mut shard, &pointer, 20_000), Some((fault, Some(Shut::Worn))));
+    Ok(())
+}
