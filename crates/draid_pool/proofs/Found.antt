@@ -33,15 +33,15 @@ use Rattle.std.specs.HashMap.{get}
 use Rattle.draid_shard.specs.Calls.{IsLive, IsNextHeld}
 use Rattle.draid_shard.specs.Changes.{SetsBlock}
 use Rattle.draid_shard.specs.Fits.{Valid}
-use Rattle.draid_shard.specs.Groups.{GivesBack, Opens, area_of_kit}
+use Rattle.draid_groups.specs.Groups.{GivesBack, Opens, area_of_kit}
 use Rattle.draid_shard.specs.Part.{Part}
-use Rattle.draid_shard.specs.Reopening.{OpenIsRefused}
-use Rattle.draid_shard.specs.declared.fault.OpenFault.{OpenFault}
-use Rattle.draid_shard.specs.declared.fault.OpenFault.TheVariants as why_not
+use Rattle.draid_groups.specs.Reopening.{OpenIsRefused}
+use Rattle.draid_groups.specs.declared.fault.OpenFault.{OpenFault}
+use Rattle.draid_groups.specs.declared.fault.OpenFault.TheVariants as why_not
 use Rattle.draid_shard.specs.States.{layout_by, part_of}
 use Rattle.draid_shard.specs.declared.shard.Shard.{Shard}
 use Rattle.draid_shard.proofs.Held.{held_entry, key_leads}
-use Rattle.draid_shard.proofs.Reopened.{both_same}
+use Rattle.draid_groups.proofs.Reopened.{both_same}
 use Rattle.draid_uber.specs.declared.uber.Uber.{Uber}
 use Rattle.draid_uber.specs.Slots.{group_of}
 use Rattle.draid_uber.specs.Uber as ubers

@@ -10,9 +10,9 @@ use Rattle.draid_record.specs.declared.fault.RecordFault.TheVariants.{Bad}
 use Rattle.draid_shelf.specs.Kits.{Held, KitCounts, OnHeld, kit_of}
 use Rattle.draid_shelf.specs.declared.kit.Kit.{Kit}
 use Rattle.draid_spec.specs.declared.layout.Geometry.{Geometry}
-use Rattle.draid_shard.specs.Reopening.{OpenIsRefused}
-use Rattle.draid_shard.specs.declared.fault.OpenFault.{OpenFault}
-use Rattle.draid_shard.specs.declared.fault.OpenFault.TheVariants as open_why
+use Rattle.draid_groups.specs.Reopening.{OpenIsRefused}
+use Rattle.draid_groups.specs.declared.fault.OpenFault.{OpenFault}
+use Rattle.draid_groups.specs.declared.fault.OpenFault.TheVariants as open_why
 use Rattle.draid_shard.specs.declared.shard.Shard.{Shard}
 use Rattle.draid_found.specs.Together.{AreApart}
 use Rattle.draid_uber.specs.Slots.{chosen_of}

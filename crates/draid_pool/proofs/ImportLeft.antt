@@ -21,7 +21,7 @@ use Rattle.draid_shelf.specs.declared.kit.Kit.{Kit}
 use Rattle.draid_stable.specs.Images.{image_by}
 use Rattle.draid_stable.specs.Stable as stable
 use Rattle.draid_shard.specs.Calls.{OnBothTold}
-use Rattle.draid_shard.specs.Groups.{ListsOnce, Opens}
+use Rattle.draid_groups.specs.Groups.{ListsOnce, Opens}
 use Rattle.draid_shard.specs.declared.shard.Shard.{Shard}
 use Rattle.draid_uber.specs.Slots.{StandsTold, group_of}
 use Rattle.draid_uber.specs.Uber.{area_of, kept_of, layout_of, next_leaf_of}

@@ -16,7 +16,7 @@ use Rattle.draid_segments.specs.Segments.{Pieces}
 use Rattle.draid_shelf.specs.Kits.{Held, KitCounts, KitTold, takes_uber}
 use Rattle.draid_stable.specs.Stable as stable
 use Rattle.draid_shard.specs.Fits.{Valid}
-use Rattle.draid_shard.specs.Groups.{ListsOnce, Opens}
+use Rattle.draid_groups.specs.Groups.{ListsOnce, Opens}
 use Rattle.draid_shard.specs.States.{part_of}
 use Rattle.draid_shard.specs.declared.shard.Shard.{Shard}
 use Rattle.draid_uber.specs.Slots.{chosen_of, group_of, read_body}

@@ -31,11 +31,11 @@ use Rattle.draid_pool.specs.Shards.{FreesIn, Goes}
 use Rattle.draid_shard.specs.Calls.{IsLive}
 use Rattle.draid_shard.specs.Changes.{SetsBlock}
 use Rattle.draid_shard.specs.Fits.{Valid}
-use Rattle.draid_shard.specs.Groups.{Opens, OpensCounts}
+use Rattle.draid_groups.specs.Groups.{Opens, OpensCounts}
 use Rattle.draid_shard.specs.Part.{Part}
 use Rattle.draid_shard.specs.States.{part_of}
-use Rattle.draid_shard.specs.declared.fault.OpenFault.{OpenFault}
-use Rattle.draid_shard.specs.declared.fault.OpenFault.TheVariants as open_fault
+use Rattle.draid_groups.specs.declared.fault.OpenFault.{OpenFault}
+use Rattle.draid_groups.specs.declared.fault.OpenFault.TheVariants as open_fault
 use Rattle.draid_shard.specs.declared.shard.Shard.{Shard}
 use Rattle.draid_found.specs.Found.{AllLive}
 use Rattle.draid_uber.specs.declared.uber.Uber.{Uber}

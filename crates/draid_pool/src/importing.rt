@@ -34,10 +34,11 @@ use crate::opening::EVENTS;
 use crate::pool::Pool;
 use draid_area::Area;
 use draid_found::{Found, FoundFault};
+use draid_groups::{OpenFault, OpenRefused, reopen};
 use draid_names::{DeviceFault, Pointer};
 use draid_perm::Perms;
 use draid_rack::Rack;
-use draid_shard::{OpenFault, OpenRefused, Shard};
+use draid_shard::Shard;
 use draid_shelf::Shelf;
 use draid_uber::{Uber, UberFault, UberRefused};
 use std::alloc::Global;
@@ -179,7 +180,7 @@ fn reopen_shard<H: Shelf>(
     };
     let events = EVENTS / u64::from(layout.props.metaslabs);
     let group = uber.committed();
-    match Shard::reopen(
+    match reopen(
         alloc,
         number,
         layout,

@@ -21,15 +21,15 @@ use std::test::Fail;
 
 type Metaslab = Shard<MemoryRack, MemoryArea>;
 
-/// Two data columns and their parity on three children, in one slice of eight stripes.
-fn first_layout() -> Result<Geometry, SpecFault>
+/// Two data columns and their parity on three children, in one metaslab of slices of eight stripes.
+pub fn layout(slices: u32) -> Result<Geometry, SpecFault>
     ensures { IfOk result IsGeometry }
 {
     let props = Props {
         sector: 512,
         height: 8,
         metaslabs: 1,
-        slices: 1,
+        slices,
         seed: 1,
         version: 1,
     };
@@ -42,19 +42,14 @@ fn area(alloc: Global, failing: &[u64]) -> Result<MemoryArea, AllocError> {
 }
 
 /// An empty metaslab of so many events, over a memory rack whose calls with these numbers fail.
-fn metaslab(
-    alloc: Global,
-    layout: Geometry,
-    failing: &[u64],
-    events: u64,
-) -> Result<Metaslab, NoMemory>
-    requires layout { IsGeometry layout }
+fn metaslab(alloc: Global, failing: &[u64], events: u64) -> Result<Metaslab, Fail>
     ensures valid { IfOk result (Valid ⟦<MemoryRack as Rack>⟧) }
     ensures open_group { IfOk result (λ shard. shard.open_group ≡ 2) }
     ensures idle { IfOk result (λ shard. shard.closing ≡ None) }
     ensures empty { IfOk result (λ shard. (key : Key) → held_in shard.entries key ≡ None) }
 {
-    metaslab_over(alloc, layout, [failing, &[]], events)
+    let layout = layout(1)?;
+    Ok(metaslab_over(alloc, layout, [failing, &[]], events)?)
 }
 
 /// The same over areas of which the even one's calls fail too.
@@ -201,33 +196,59 @@ struct Life {
     events: usize,
 }
 
-/// Writes a block, and fetches and frees it where it was written.
-fn lived(alloc: Global, failing: &[u64]) -> Result<Life, Fail> {
-    let mut shard = metaslab(alloc, first_layout()?, failing, 4096)?;
-    let written = write(alloc, &mut shard, b"hello")?;
-    let mut life = Life {
-        missed: None,
+/// What is told of a block that was written, once it was fetched and freed.
+fn ended<R: Rack, A: Area>(
+    alloc: Global,
+    shard: &mut Shard<R, A>,
+    pointer: &Pointer,
+    written: Life,
+) -> Result<Life, Fail>
+    requires valid { Valid R.Rack shard.old }
+    ensures valid { Valid R.Rack shard.new }
+{
+    let fetched = Some(read(alloc, shard, pointer)?);
+    let freed = shard.free(pointer, 0).ok();
+    let gone = is_gone(shard, pointer);
+    Ok(Life {
+        fetched,
+        freed,
+        gone,
+        events: shard.events().len(),
+        ..written
+    })
+}
+
+/// What is told of a shard behind a write.
+fn written<R: Rack, A: Area>(shard: &Shard<R, A>, missed: Option<u32>) -> Life
+    requires valid { Valid R.Rack shard.now }
+{
+    Life {
+        missed,
         logged: [
-            is_logged(&shard, 0),
-            is_logged(&shard, 1),
-            is_logged(&shard, 2),
+            is_logged(shard, 0),
+            is_logged(shard, 1),
+            is_logged(shard, 2),
         ],
         run: shard.room(1).run,
         fetched: None,
         freed: None,
         gone: false,
-        events: 0,
-    };
-    match written {
-        Ok(pointer) => {
-            life.fetched = Some(read(alloc, &mut shard, &pointer)?);
-            life.freed = shard.free(&pointer, 0).ok();
-            life.gone = is_gone(&mut shard, &pointer);
-        }
-        Err(missed) => life.missed = Some(missed.columns),
+        events: shard.events().len(),
     }
-    life.events = shard.events().len();
-    Ok(life)
+}
+
+/// Writes a block, and fetches and frees it where it was written.
+fn lived<R: Rack, A: Area>(alloc: Global, shard: &mut Shard<R, A>) -> Result<Life, Fail>
+    requires valid { Valid R.Rack shard.old }
+    requires empty { (key : Key) → held_in shard.old.entries key ≡ None }
+{
+    match write(alloc, shard, b"hello")? {
+        Ok(pointer) => {
+            let life = written(shard, None);
+            ended(alloc, shard, &pointer, life)
+        }
+        Err(missed) => Ok(written(shard, Some(missed.columns))),
+    }
 }
 
 /// The life of a block of which no call fails.
@@ -266,17 +287,21 @@ fn blocks_live_while_calls_fail(rt: HostRuntime) -> Result<(), Fail> {
     };
     let table: [(&[u64], Life); 4] = [(&[], WHOLE), (&[1], one), (&[4], absent), (&[0, 2], MISSED)];
     for (failing, wanted) in table {
-        assert_eq!(rt; lived(rt.alloc(), failing)?, wanted);
+        let mut shard = metaslab(rt.alloc(), failing, 4096)?;
+        assert_eq!(rt; lived(rt.alloc(), &mut shard)?, wanted);
     }
     Ok(())
 }
 
 /// In which group a write is begun where the floor is the next one, and the longest run of free stripes beside it with
 /// one column put, and as it was given up.
-fn given_up(alloc: Global) -> Result<[u64; 3], Fail> {
-    let mut shard = metaslab(alloc, first_layout()?, &[], 4096)?;
+fn given_up<R: Rack, A: Area>(alloc: Global, shard: &mut Shard<R, A>) -> Result<[u64; 3], Fail>
+    requires valid { Valid R.Rack shard.old }
+    requires open_group { shard.old.open_group ≡ 2 }
+    requires empty { (key : Key) → held_in shard.old.entries key ≡ None }
+{
     let block = Encoded::of(alloc, &shard.geometry, b"hello")?;
-    let mut ticket = begin(&mut shard, &block, 3)?;
+    let mut ticket = begin(shard, &block, 3)?;
     let birth = ticket.pointer.birth;
     shard.put(&mut ticket, &block);
     let open = shard.room(1).run;
@@ -286,7 +311,8 @@ fn given_up(alloc: Global) -> Result<[u64; 3], Fail> {
 
 #[test]
 fn a_write_that_is_given_up_leaves_its_stripes(rt: HostRuntime) -> Result<(), Fail> {
-    assert_eq!(rt; given_up(rt.alloc())?, [3, 7, 8]);
+    let mut shard = metaslab(rt.alloc(), &[], 4096)?;
+    assert_eq!(rt; given_up(rt.alloc(), &mut shard)?, [3, 7, 8]);
     Ok(())
 }
 
@@ -306,59 +332,65 @@ fn damage<R: Rack, A: Area>(
     Ok(Some(shard.damage(leaf, sector)))
 }
 
-/// What damaging the first sectors of three leaves answers, what is told of the block then, and the sectors of the last
-/// leaf as the devices come back.
-fn damaged(
+/// What damaging the first sectors of three leaves answers, and what is told of the block then.
+fn damaged<R: Rack, A: Area>(
     alloc: Global,
-    failing: &[u64],
-) -> Result<([Option<Result<(), Failed>>; 3], (usize, bool), Option<u64>), Fail> {
-    let mut shard = metaslab(alloc, first_layout()?, failing, 4096)?;
-    let pointer = write(alloc, &mut shard, b"hello")??;
+    shard: &mut Shard<R, A>,
+) -> Result<([Option<Result<(), Failed>>; 3], (usize, bool)), Fail>
+    requires valid { Valid R.Rack shard.old }
+    requires empty { (key : Key) → held_in shard.old.entries key ≡ None }
+{
+    let pointer = write(alloc, shard, b"hello")??;
     let answers = [
-        damage(&mut shard, 0, 0)?,
-        damage(&mut shard, 1, 0)?,
-        damage(&mut shard, 3, 0)?,
+        damage(shard, 0, 0)?,
+        damage(shard, 1, 0)?,
+        damage(shard, 3, 0)?,
     ];
-    let told = read(alloc, &mut shard, &pointer)?;
-    Ok((answers, told, into_kit(shard).rack.sectors(2)))
+    Ok((answers, read(alloc, shard, &pointer)?))
 }
 
 #[test]
 fn one_damaged_sector_is_read_around(rt: HostRuntime) -> Result<(), Fail> {
     let both = [Some(Ok(())), Some(Ok(())), None];
     let one = [Some(Ok(())), Some(Err(Failed)), None];
-    assert_eq!(rt; damaged(rt.alloc(), &[])?, (both, (0, false), Some(8)));
-    assert_eq!(rt; damaged(rt.alloc(), &[4])?, (one, (0, true), Some(8)));
+    let table: [(&[u64], _); 2] = [(&[], (both, (0, false))), (&[4], (one, (0, true)))];
+    for (failing, wanted) in table {
+        let mut shard = metaslab(rt.alloc(), failing, 4096)?;
+        assert_eq!(rt; damaged(rt.alloc(), &mut shard)?, wanted);
+    }
     Ok(())
 }
 
-/// Why a metaslab of so many events takes no block, the longest run that it tells, why a block of so many bytes isn't
-/// begun, and what reserving and asking for an event answers.
-fn refused(
-    alloc: Global,
-    events: u64,
-    bytes: &[u8],
-) -> Result<
-    (
-        Option<Shut>,
-        u64,
-        Option<BeginFault>,
-        [Result<(), ReserveFault>; 2],
-    ),
-    Fail,
->
+#[test]
+fn devices_come_back(rt: HostRuntime) -> Result<(), Fail> {
+    let shard = metaslab(rt.alloc(), &[], 4096)?;
+    assert_eq!(rt; into_kit(shard).rack.sectors(2), Some(8));
+    Ok(())
+}
+
+/// Why a metaslab takes no block, the longest run that it tells, why a block of these bytes isn't begun, and what
+/// reserving and asking for an event answers.
+type Refusal = (
+    Option<Shut>,
+    u64,
+    Option<BeginFault>,
+    [Result<(), ReserveFault>; 2],
+);
+
+fn refused<R: Rack, A: Area>(alloc: Global, shard: &mut Shard<R, A>, bytes: &[u8]) -> Refusal
+    requires valid { Valid R.Rack shard.old }
+    requires empty { (key : Key) → held_in shard.old.entries key ≡ None }
     requires some { 1 ≤ length bytes.now }
     requires short { length bytes.now ≤ 131072 }
 {
-    let mut shard = metaslab(alloc, first_layout()?, &[], events)?;
     let shut = shard.shut();
     let run = shard.room(1).run;
-    let begun = write(alloc, &mut shard, bytes).err();
-    Ok((shut, run, begun, [shard.reserve(1), shard.ask(1)]))
+    let begun = write(alloc, shard, bytes).err();
+    (shut, run, begun, [shard.reserve(1), shard.ask(1)])
 }
 
 #[test]
-fn refusals_say_why(rt: HostRuntime) -> Result<(), Fail> {
+fn a_worn_metaslab_says_so(rt: HostRuntime) -> Result<(), Fail> {
     let worn = Err(ReserveFault::Worn { events: 0 });
     let at_limit = (
         Some(Shut::Worn),
@@ -366,14 +398,21 @@ fn refusals_say_why(rt: HostRuntime) -> Result<(), Fail> {
         Some(BeginFault::Worn { events: 0 }),
         [worn; 2],
     );
-    assert_eq!(rt; refused(rt.alloc(), 3072, b"hello")?, at_limit);
+    let mut shard = metaslab(rt.alloc(), &[], 3072)?;
+    assert_eq!(rt; refused(rt.alloc(), &mut shard, b"hello"), at_limit);
+    Ok(())
+}
+
+#[test]
+fn a_block_that_does_not_fit_is_refused(rt: HostRuntime) -> Result<(), Fail> {
     let full = (
         None,
         8,
         Some(BeginFault::NoRoom { largest: 8 }),
         [Ok(()); 2],
     );
-    assert_eq!(rt; refused(rt.alloc(), 4096, &[5; 16384])?, full);
+    let mut shard = metaslab(rt.alloc(), &[], 4096)?;
+    assert_eq!(rt; refused(rt.alloc(), &mut shard, &[5; 16384]), full);
     Ok(())
 }
 
@@ -390,19 +429,27 @@ fn groups<R: Rack, A: Area>(shard: &Shard<R, A>) -> Groups {
     )
 }
 
-/// What the closing of the first group answers in a metaslab of so many events, and what is told of its groups then.
-fn closed(alloc: Global, events: u64) -> Result<(Result<(), CloseFault>, Groups), Fail> {
-    let mut shard = metaslab(alloc, first_layout()?, &[], events)?;
-    let answer = close_group(&mut shard, 2);
-    Ok((answer, groups(&shard)))
+/// What the closing of the first group answers, and what is told of the groups then.
+fn closed<R: Rack, A: Area>(shard: &mut Shard<R, A>) -> (Result<(), CloseFault>, Groups)
+    requires valid { Valid R.Rack shard.old }
+    requires open_group { shard.old.open_group ≡ 2 }
+    requires idle { shard.old.closing ≡ None }
+{
+    let answer = close_group(shard, 2);
+    (answer, groups(shard))
 }
 
 // The closing of a group may use the limit up.
 #[test]
 fn a_group_closes_up_to_the_limit(rt: HostRuntime) -> Result<(), Fail> {
     let worn = Err(CloseFault::Worn { events: 0 });
-    assert_eq!(rt; closed(rt.alloc(), 3)?, (Ok(()), (3, Some(2), false, 1)));
-    assert_eq!(rt; closed(rt.alloc(), 2)?, (worn, (2, None, false, 1)));
+    for (events, wanted) in [
+        (3, (Ok(()), (3, Some(2), false, 1))),
+        (2, (worn, (2, None, false, 1))),
+    ] {
+        let mut shard = metaslab(rt.alloc(), &[], events)?;
+        assert_eq!(rt; closed(&mut shard), wanted);
+    }
     Ok(())
 }
 
@@ -439,15 +486,17 @@ type Sealing = (
     usize,
 );
 
-fn sealing(alloc: Global, failing: [&[u64]; 2]) -> Result<Sealing, Fail> {
-    let mut shard = metaslab_over(alloc, first_layout()?, failing, 4096)?;
-    write(alloc, &mut shard, b"hello")??;
-    close(&mut shard);
-    let answers = [seal(&mut shard), seal(&mut shard)];
+fn sealing<R: Rack, A: Area>(alloc: Global, shard: &mut Shard<R, A>) -> Result<Sealing, Fail>
+    requires valid { Valid R.Rack shard.old }
+    requires empty { (key : Key) → held_in shard.old.entries key ≡ None }
+{
+    write(alloc, shard, b"hello")??;
+    close(shard);
+    let answers = [seal(shard), seal(shard)];
     let logged = [
-        is_logged(&shard, 0),
-        is_logged(&shard, 1),
-        is_logged(&shard, 2),
+        is_logged(shard, 0),
+        is_logged(shard, 1),
+        is_logged(shard, 2),
     ];
     Ok((answers, logged, shard.sealed(), shard.events().len()))
 }
@@ -466,24 +515,31 @@ fn groups_are_sealed_while_calls_fail(rt: HostRuntime) -> Result<(), Fail> {
         ([&[], &[1]], ([failed, whole], [false; 3], true, 7)),
     ];
     for (failing, wanted) in table {
-        assert_eq!(rt; sealing(rt.alloc(), failing)?, wanted);
+        let mut shard = metaslab_over(rt.alloc(), layout(1)?, failing, 4096)?;
+        assert_eq!(rt; sealing(rt.alloc(), &mut shard)?, wanted);
     }
     Ok(())
 }
 
 /// What sealing answers while a write of the group is open.
-fn early(alloc: Global) -> Result<Option<Result<Sealed, SealFault>>, Fail> {
-    let mut shard = metaslab(alloc, first_layout()?, &[], 4096)?;
+fn early<R: Rack, A: Area>(
+    alloc: Global,
+    shard: &mut Shard<R, A>,
+) -> Result<Option<Result<Sealed, SealFault>>, Fail>
+    requires valid { Valid R.Rack shard.old }
+    requires empty { (key : Key) → held_in shard.old.entries key ≡ None }
+{
     let block = Encoded::of(alloc, &shard.geometry, b"hello")?;
-    begin(&mut shard, &block, 0)?;
-    close(&mut shard);
-    Ok(seal(&mut shard))
+    begin(shard, &block, 0)?;
+    close(shard);
+    Ok(seal(shard))
 }
 
 #[test]
 fn a_seal_waits_for_open_writes(rt: HostRuntime) -> Result<(), Fail> {
     let not_yet = Some(Err(SealFault::NotYet { tickets: 1 }));
-    assert_eq!(rt; early(rt.alloc())?, not_yet);
+    let mut shard = metaslab(rt.alloc(), &[], 4096)?;
+    assert_eq!(rt; early(rt.alloc(), &mut shard)?, not_yet);
     Ok(())
 }
 
@@ -501,20 +557,53 @@ fn commit<R: Rack, A: Area>(shard: &mut Shard<R, A>)
 
 /// The longest run of free stripes once a block was freed, once its group was sealed, and once that was committed; and
 /// what is told of the groups then.
-fn committed(alloc: Global) -> Result<([u64; 3], Groups), Fail> {
-    let mut shard = metaslab(alloc, first_layout()?, &[], 4096)?;
-    let pointer = write(alloc, &mut shard, b"hello")??;
+fn committed<R: Rack, A: Area>(
+    alloc: Global,
+    shard: &mut Shard<R, A>,
+) -> Result<([u64; 3], Groups), Fail>
+    requires valid { Valid R.Rack shard.old }
+    requires empty { (key : Key) → held_in shard.old.entries key ≡ None }
+{
+    let pointer = write(alloc, shard, b"hello")??;
     shard.free(&pointer, 0).ok();
     let freed = shard.room(1).run;
-    close(&mut shard);
-    seal(&mut shard);
+    close(shard);
+    seal(shard);
     let sealed = shard.room(1).run;
-    commit(&mut shard);
-    Ok(([freed, sealed, shard.room(1).run], groups(&shard)))
+    commit(shard);
+    Ok(([freed, sealed, shard.room(1).run], groups(shard)))
 }
 
 #[test]
 fn freed_stripes_come_back_at_the_commit(rt: HostRuntime) -> Result<(), Fail> {
-    assert_eq!(rt; committed(rt.alloc())?, ([7, 7, 8], (3, None, false, 2)));
+    let mut shard = metaslab(rt.alloc(), &[], 4096)?;
+    let found = committed(rt.alloc(), &mut shard)?;
+    assert_eq!(rt; found, ([7, 7, 8], (3, None, false, 2)));
+    Ok(())
+}
+
+/// Why a block isn't fetched once more, and why the metaslab takes no block then; nothing where so many fetches are done.
+fn worn_out<R: Rack, A: Area>(
+    shard: &mut Shard<R, A>,
+    pointer: &Pointer,
+    most: u32,
+) -> Option<(FetchFault, Option<Shut>)>
+    requires valid { Valid R.Rack shard.old }
+{
+    for _ in 0..most {
+        if let Err(fault) = shard.fetch(pointer) {
+            return Some((fault, shard.shut()));
+        }
+    }
+    None
+}
+
+// Each fetch is an event. Of 20,000 the last 3,072 are left for the closing of groups.
+#[test]
+fn a_metaslab_wears_out(rt: HostRuntime) -> Result<(), Fail> {
+    let mut shard = metaslab(rt.alloc(), &[], 20_000)?;
+    let pointer = write(rt.alloc(), &mut shard, b"hello")??;
+    let fault = FetchFault::Worn { events: 16_928 };
+    assert_eq!(rt; worn_out(&mut shard, &pointer, 20_000), Some((fault, Some(Shut::Worn))));
     Ok(())
 }

@@ -1,9 +1,9 @@
 use Rattle.std.proofs.Common.{arith, ◌/◌, ◌∙◌, ap, inr, subst, sym}
 use Rattle.draid_uber.specs.Slots.{group_of}
 use Rattle.draid_uber.specs.Uber.{kept_of, layout_of, next_leaf_of}
-use Rattle.draid_shard.specs.Reopening.{OpenIsRefused}
+use Rattle.draid_groups.specs.Reopening.{OpenIsRefused}
 use Rattle.draid_pool.proofs.ImportUnread.{no_open_record, no_shelf_record}
-use Rattle.draid_shard.specs.Groups.{Opens}
+use Rattle.draid_groups.specs.Groups.{Opens}
 use Rattle.draid_spec.specs.declared.layout.Geometry.{Geometry}
 use Rattle.draid_shard.specs.Part.{Part}
 use Rattle.draid_pool.proofs.Found.{fault_is, kit_back, records_rose, refused_area, reopened, stays_put, stays_same}

@@ -13,5 +13,5 @@ loop-metaslab-preserved g c =
     let vec = c.args.shards.now.ok.0 in
     let many = b.many in
     let there = borrowed_at l.shards.items l.metaslab c.index_mut.result.now (omega (arith, below, len, vec, many)) c.index_mut.ensures.value in
-    below_more g.R.Rack c.args.group l.metaslab c.args.shards.now.items l.shards.items c.index_mut.result.now c.commit.new.self b there
+    below_more g.R.Rack c.args.group l.metaslab c.args.shards.now.items l.shards.items c.index_mut.result.now c.commit.new.shard b there
     (record { valid = e.valid; areas = e.areas; does = e.event; commits = e.commits; acts = e.acts; leaves = e.leaves; reserve = e.reserve })
