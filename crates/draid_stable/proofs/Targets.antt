@@ -85,8 +85,7 @@ module _ (all : List (List ArmTold)) (most : (slot : ℕ) → length (slice_inde
   targets_ranged (t ∷ ts) before there asc =
       let here : Here t = All-head Here t ts there in
       let inside = slot_inside t here in
-      let m = most t.slot in
-      (
+      let m = most t.slot in (
         subst (λ n. n ≤ t.slot) (sym (slot_same before)) asc.0,
         omega (arith, inside),
         omega (arith, inside, short),

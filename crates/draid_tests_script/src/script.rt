@@ -381,13 +381,7 @@ fn prints_replies_of_arms(rt: HostRuntime) -> Result<(), Fail> {
             Reply::DamageWorn { leaf: 2, sector: 3 },
             "damage 2 3 worn\n",
         ),
-        (
-            Reply::Spared {
-                slot: 2,
-                name,
-            },
-            "spare 2 draid2-0-0 ok\n",
-        ),
+        (Reply::Spared { slot: 2, name }, "spare 2 draid2-0-0 ok\n"),
         (Reply::SpareWorn { slot: 2 }, "spare 2 worn\n"),
         (
             Reply::Replaced { slot: 2, leaf: 3 },
@@ -810,7 +804,6 @@ fn prints_digests(rt: HostRuntime) {
         count: 1,
         digest: [0xa1; 32],
     };
-    let wanted =
-        "sum 7 1 a1a1a1a1a1a1a1a1a1a1a1a1a1a1a1a1a1a1a1a1a1a1a1a1a1a1a1a1a1a1a1a1\n";
+    let wanted = "sum 7 1 a1a1a1a1a1a1a1a1a1a1a1a1a1a1a1a1a1a1a1a1a1a1a1a1a1a1a1a1a1a1a1a1\n";
     assert!(rt; is_printed(&rt, &reply, wanted));
 }

@@ -604,6 +604,9 @@ fn a_metaslab_wears_out(rt: HostRuntime) -> Result<(), Fail> {
     let mut shard = metaslab(rt.alloc(), &[], 20_000)?;
     let pointer = write(rt.alloc(), &mut shard, b"hello")??;
     let fault = FetchFault::Worn { events: 16_928 };
-    assert_eq!(rt; worn_out(&mut shard, &pointer, 20_000), Some((fault, Some(Shut::Worn))));
+    assert_eq!(rt;
+        worn_out(&mut shard, &pointer, 20_000),
+        Some((fault, Some(Shut::Worn)))
+    );
     Ok(())
 }
