@@ -1,5 +1,5 @@
 -- A sync or an export that a failing device ended: the count of an area of the pool rose.
-use Rattle.std.proofs.Common.{◌≡◌, ◌≤◌, ◌<◌, ◌+◌, ◌∙◌, ◌==◌, ◌%◌, inl, inr, arith, refl, sym, ap, subst, ℕ, Bool, true, false, List, [], ◌∷◌, Some, if◌then◌else◌}
+use Rattle.std.proofs.Common.{◌≡◌, ◌≤◌, ◌<◌, ◌+◌, ◌-◌, ◌^◌, ◌∙◌, ◌⊎◌, ◌==◌, ◌%◌, min, inl, inr, arith, refl, sym, ap, subst, ℕ, Bool, true, false, List, [], ◌∷◌, Some, if◌then◌else◌}
 use Rattle.std.specs.Prelude.{slice_get, slice_set}
 use Rattle.std.proofs.lemmas.Bool.Decides.{nat_tests}
 use Rattle.draid_names.specs.Faults.{Rose}
@@ -17,7 +17,7 @@ use Rattle.draid_run.specs.Shelves.{AreaHasFailed, AreaRose}
 
 -- ---- counts don't fall
 
--- a metaslab of the later state was one before, and none of its areas' counts fell
+-- a metaslab of the later state was one before, and none of its areas' counts fell; nor did that of the uberblock's, but above its greatest value
 pub record CameFrom (x : State) (k : ℕ) (z : Metaslab) : Type 0 where
   pub y : Metaslab
   pub there : slice_get x.metaslabs k ≡ Some y
@@ -26,7 +26,7 @@ pub record CameFrom (x : State) (k : ℕ) (z : Metaslab) : Type 0 where
 
 pub record IsLater (x z : State) : Type 0 where
   pub each : (k : ℕ) (m : Metaslab) → slice_get z.metaslabs k ≡ Some m → CameFrom x k m
-  pub uber : x.uber_count ≤ z.uber_count
+  pub uber : min x.uber_count (2 ^ 64 - 1) ≤ z.uber_count
 
 later_none : (x : State) → IsLater x x
 later_none x = record { each = λ k m there. record { y = m; there = there; even = omega arith; odd = omega arith }; uber = omega arith }
@@ -42,7 +42,7 @@ later_more x y z a b = record {
     let again = two.odd in
     record { y = one.y; there = one.there; even = omega (arith, even, more); odd = omega (arith, odd, again) }
     );
-  uber = (let first = a.uber in let then = b.uber in omega (arith, first, then));
+  uber = (let first = a.uber in let next = b.uber in omega (arith, first, next));
 }
 
 module _ (v : View) (x z : State) where
@@ -73,9 +73,9 @@ module _ (v : View) (x z : State) where
 
 uber_later : (act : UberAct) (x z : State) → UberActs act x z → IsLater x z
 uber_later LookedUber x z it = subst (IsLater x) (sym it) (later_none x)
-uber_later (Committed group) x z it = subst (IsLater x) (sym it.2) (record { each = (later_none x).each; uber = it.1 })
+uber_later (Committed group) x z it = subst (IsLater x) (sym it.2) (record { each = (later_none x).each; uber = (let more = it.1 in omega (arith, more)) })
 uber_later (CommitFailed group) x z it = subst (IsLater x) (sym it.2) (record { each = (later_none x).each; uber = (let rose = it.1 in omega (arith, rose)) })
-uber_later (CommitStarved group) x z it = subst (IsLater x) (sym it.2) (record { each = (later_none x).each; uber = it.1 })
+uber_later (CommitStarved group) x z it = subst (IsLater x) (sym it.2) (record { each = (later_none x).each; uber = (let more = it.1 in omega (arith, more)) })
 uber_later (NextLeaf next) x z it = subst (IsLater x) (sym it) (record { each = (later_none x).each; uber = omega arith })
 
 hold_later : (hold : Hold) (x z : State) → Holds hold x z → IsLater x z
@@ -91,6 +91,9 @@ follows_later (hold ∷ holds) x z follows = later_more x follows.0 z (hold_late
 rose_from : (a b c : ℕ) → a ≤ b → Rose b c → Rose a c
 rose_from a b c low rose = omega (arith, low, rose)
 
+rose_capped : (a b c : ℕ) → min a (2 ^ 64 - 1) ≤ b → Rose b c → Rose a c
+rose_capped a b c low rose = omega (arith, low, rose)
+
 either : (group : ℕ) (before after : Counts) → Rose (area_count group before) (area_count group after) → Rose before.even after.even ⊎ Rose before.odd after.odd
 either group before after = by (group % 2 == 0) where
   by : (b : Bool) → Rose (if b then before.even else before.odd) (if b then after.even else after.odd) → Rose before.even after.even ⊎ Rose before.odd after.odd
@@ -104,7 +107,7 @@ rose_here (On v (AreaFailed group)) x y z later failed =
       | inl even ↦ inl (rose_from was.y.counts.even failed.0.counts.even failed.1.counts.even was.even even)
       | inr odd ↦ inr (rose_from was.y.counts.odd failed.0.counts.odd failed.1.counts.odd was.odd odd)
     ])
-rose_here (OnUber u (CommitFailed group)) x y z later failed = inr (rose_from x.uber_count y.uber_count z.uber_count later.uber failed)
+rose_here (OnUber u (CommitFailed group)) x y z later failed = inr (rose_capped x.uber_count y.uber_count z.uber_count later.uber failed)
 rose_here hold x y z later failed = absurd failed
 
 -- a command that breaks off has a rise

@@ -201,7 +201,7 @@ module _ {R A : Type 0} (rack : racks.Ghosts R) (area : areas.Ghosts A) (chosen 
       back : (x : Desk) → HoldsDesk x entry entry → IsLeft x x
       back Untouched is = refl
       back Bare is = refl
-      back (Made told failed geometry) is = refl
+      back (Made tells count geometry) is = refl
       back (Shut crash x) is = refl
       back Unknown is = refl
       back (Open x) is = absurd is

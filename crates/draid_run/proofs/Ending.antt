@@ -1,5 +1,5 @@
 -- A run that nothing disturbs, and of which each line can be run, ends with its input.
-use Rattle.std.proofs.Common.{arith, ◌≡◌, ◌≢◌, ◌∙◌, ◌+◌, ◌<◌, ◌≤◌, ◌++◌, inl, inr, ℕ, List, [], ◌∷◌, Option, Some, None, Result, Ok, Err, refl, sym, ap, subst, length, length-append, take, take_all, All}
+use Rattle.std.proofs.Common.{arith, ◌≡◌, ◌≢◌, ◌∙◌, ◌+◌, ◌<◌, ◌≤◌, ◌++◌, inl, inr, ℕ, true, false, List, [], ◌∷◌, Option, Some, None, Result, Ok, Err, refl, sym, ap, subst, length, length-append, take, take_all, All}
 use Rattle.std.specs.Prelude.{MatchOption, slice_index_or}
 use Rattle.std.specs.List.{before_first, position_or_len}
 use Rattle.std.proofs.lemmas.Bool.{cases_lt}
@@ -49,7 +49,7 @@ first_of bytes some = elim (cases_lt (position_or_len is_end bytes) (length byte
 ]
   where
     whole_line : (bytes : List ℕ) → position_or_len is_end bytes ≡ length bytes → before_first is_end bytes ≡ bytes
-    whole_line bytes whole = ap (λ n. take n bytes) whole ∙ take_all bytes
+    whole_line bytes whole = ap (λ n. take n bytes) whole ∙ take_all (length bytes) bytes (omega arith)
 
 not_long : (input : List ℕ) (lines : List (List ℕ)) (rest : List ℕ) → CanRun input → lines_of input ≡ lines ++ lines_of rest → IsTooLong (length lines) rest → ⊥
 not_long input lines rest can is (inl long) =

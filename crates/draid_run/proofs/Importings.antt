@@ -32,7 +32,7 @@ use Rattle.draid_pool.specs.declared.pool.Pool.{Pool}
 use Rattle.draid_run.specs.Desks.{Broken, IsDesk, IsPool, IsShelf, Turned}
 use Rattle.draid_run.specs.Importing.{ImportDid, ImportDoes, ImportIs}
 use Rattle.draid_run.specs.Serve.{AnswerIs, IsSaid}
-use Rattle.draid_run.specs.Shelves.{HasChecks, HoldsNew, HoldsShut, IsOut, OnShelf}
+use Rattle.draid_run.specs.Shelves.{HasChecks, HoldsFault, HoldsNew, HoldsShut, IsOut, OnShelf}
 use Rattle.draid_run.specs.declared.answer.Stop.{Stop}
 use Rattle.draid_run.specs.declared.answer.Stop.TheVariants as stop
 use Rattle.draid_run.proofs.Following.{same_layout, same_told}
@@ -166,6 +166,11 @@ true_or false = inr refl
 pub none_open : {T : Type 0} (o : Option T) → is_some o ≡ false → o ≡ None
 none_open None is = refl
 none_open (Some t) is = absurd (cc is)
+
+-- the fault by other names of its place
+pub fault_named : {R A : Type 0} (rack : racks.Ghosts R) (area : areas.Ghosts A) (before : OnShelf) (m m' : Option ℕ) (p p' k k' : ℕ) → m' ≡ m → p' ≡ p → k' ≡ k → HoldsFault rack area before m p k → HoldsFault rack area before m' p' k'
+fault_named rack area before m m' p p' k k' same_m same_p same_k fault =
+    subst (λ z. HoldsFault rack area before z p' k') (sym same_m) (subst (λ z. HoldsFault rack area before m z k') (sym same_p) (subst (λ z. HoldsFault rack area before m p z) (sym same_k) fault))
 
 -- ---- the call
 
@@ -391,7 +396,7 @@ module _ {R A : Type 0} (rack : racks.Ghosts R) (area : areas.Ghosts A) (entry b
     by : (x : Desk) → IsDesk rack area entry before (Some pool) x → ImportDid rack area entry x (PoolOpen name.Import) before (Some pool)
     by Untouched is = absurd is.stands
     by Bare is = absurd is.stands
-    by (Made told failed geometry) is = absurd is.stands
+    by (Made t count geometry) is = absurd is.stands
     by (Shut crash y) is = absurd is.stands
     by Unknown is = absurd is.stands
     by (Open y) is = record { new = Open y; desk = is; turns = (refl, refl) }
@@ -405,7 +410,7 @@ module _ {R A : Type 0} (rack : racks.Ghosts R) (area : areas.Ghosts A) (chosen 
     by : (x : Desk) (new : Desk) → ImportDoes x reply new → TurnsBy chosen (Ok ImportPool) x (Some reply) new
     by Untouched new turns = turns
     by Bare new turns = turns
-    by (Made told failed geometry) new turns = turns
+    by (Made t count geometry) new turns = turns
     by (Shut crash y) new turns = turns
     by Unknown new turns = turns
     by Foreign new turns = turns

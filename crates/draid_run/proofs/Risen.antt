@@ -76,7 +76,7 @@ module _ {R A : Type 0} (area : areas.Ghosts A) (command : Command) (before now 
   closed_fault : (new : Desk) → IsClosed new → HasFailed before now → HasFault area before now pool new
   closed_fault Untouched closed failed = failed
   closed_fault Bare closed failed = failed
-  closed_fault (Made told failed geometry) closed failed = failed
+  closed_fault (Made tells count geometry) closed failed = failed
   closed_fault (Shut crash x) closed failed = failed
   closed_fault Unknown closed failed = failed
   closed_fault (Open x) closed failed = absurd closed
@@ -88,7 +88,7 @@ module _ {R A : Type 0} (area : areas.Ghosts A) (command : Command) (before now 
   cause_fault Foreign new cause = cause
   cause_fault Untouched new cause = closed_fault new cause.0 (has_failed area command before now cause.1)
   cause_fault Bare new cause = closed_fault new cause.0 (has_failed area command before now cause.1)
-  cause_fault (Made told failed geometry) new cause = closed_fault new cause.0 (has_failed area command before now cause.1)
+  cause_fault (Made tells count geometry) new cause = closed_fault new cause.0 (has_failed area command before now cause.1)
   cause_fault (Shut crash x) new cause = closed_fault new cause.0 (has_failed area command before now cause.1)
   cause_fault Unknown new cause = closed_fault new cause.0 (has_failed area command before now cause.1)
 
@@ -98,7 +98,7 @@ module _ {R A : Type 0} (area : areas.Ghosts A) (command : Command) (before now 
   closed_cause Foreign new closed cause = absurd closed
   closed_cause Untouched new closed cause = cause
   closed_cause Bare new closed cause = cause
-  closed_cause (Made told failed geometry) new closed cause = cause
+  closed_cause (Made tells count geometry) new closed cause = cause
   closed_cause (Shut crash x) new closed cause = cause
   closed_cause Unknown new closed cause = cause
 
@@ -108,7 +108,7 @@ module _ {R A : Type 0} (area : areas.Ghosts A) (command : Command) (before now 
   cause_closed Foreign new closed after failed = absurd closed
   cause_closed Untouched new closed after failed = (after, failed)
   cause_closed Bare new closed after failed = (after, failed)
-  cause_closed (Made told failed geometry) new closed after failed = (after, failed)
+  cause_closed (Made tells count geometry) new closed after failed = (after, failed)
   cause_closed (Shut crash x) new closed after failed = (after, failed)
   cause_closed Unknown new closed after failed = (after, failed)
 
@@ -117,7 +117,7 @@ closed_shelf (Open y) entry before closed shelf = absurd closed
 closed_shelf Foreign entry before closed shelf = absurd closed
 closed_shelf Untouched entry before closed shelf = shelf
 closed_shelf Bare entry before closed shelf = shelf
-closed_shelf (Made told failed geometry) entry before closed shelf = shelf
+closed_shelf (Made tells count geometry) entry before closed shelf = shelf
 closed_shelf (Shut crash y) entry before closed shelf = shelf
 closed_shelf Unknown entry before closed shelf = shelf
 
@@ -137,7 +137,7 @@ fails_shut area text lines command old new entry before now pool line shelf late
 record_closed : (old new : Desk) (command : Command) → Breaks RecordFails old command new → IsClosed old
 record_closed Untouched new command breaks = tt
 record_closed Bare new command breaks = tt
-record_closed (Made told failed geometry) new command breaks = tt
+record_closed (Made tells count geometry) new command breaks = tt
 record_closed (Shut crash x) new command breaks = tt
 record_closed Unknown new command breaks = tt
 record_closed (Open x) new ImportPool breaks = absurd breaks

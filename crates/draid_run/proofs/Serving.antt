@@ -61,7 +61,7 @@ fault_from area entry before now pool later (Open x) fault = fault
 fault_from area entry before now pool later Foreign fault = fault
 fault_from area entry before now pool later Untouched fault = failed_from entry before now later fault
 fault_from area entry before now pool later Bare fault = failed_from entry before now later fault
-fault_from area entry before now pool later (Made told failed geometry) fault = failed_from entry before now later fault
+fault_from area entry before now pool later (Made tells count geometry) fault = failed_from entry before now later fault
 fault_from area entry before now pool later (Shut crash x) fault = failed_from entry before now later fault
 fault_from area entry before now pool later Unknown fault = failed_from entry before now later fault
 
@@ -91,7 +91,7 @@ module _ {R A : Type 0} (rack : racks.Ghosts R) (area : areas.Ghosts A) (chosen 
   -- a desk without a pool
   shut_desk : (first : Desk) → HoldsDesk first entry entry → IsDesk rack area entry entry None first
   shut_desk Untouched is = record { stands = tt; shelf = is }
-  shut_desk (Made told failed geometry) is = record { stands = tt; shelf = is }
+  shut_desk (Made tells count geometry) is = record { stands = tt; shelf = is }
   shut_desk (Shut crash x) is = record { stands = tt; shelf = is }
   shut_desk Bare is = record { stands = tt; shelf = is }
   shut_desk Unknown is = record { stands = tt; shelf = is }
@@ -221,7 +221,7 @@ module _ {R A : Type 0} (rack : racks.Ghosts R) (area : areas.Ghosts A) (chosen 
           prints = is.printed;
           failed = λ e. absurd (cc e);
           since = λ e. absurd (cc e);
-      bad = λ metaslab place kind e. absurd (cc e);
+          bad = λ metaslab place kind e. absurd (cc e);
         }
     served_unread input start held left left' now pool lines lines' Done is text = absurd text
     served_unread input start held left left' now pool lines lines' Usage is text = absurd text
@@ -254,7 +254,7 @@ module _ {R A : Type 0} (rack : racks.Ghosts R) (area : areas.Ghosts A) (chosen 
             prints = is.printed;
             failed = λ e. absurd (cc e);
             since = λ e. absurd (cc e);
-      bad = λ metaslab place kind e. absurd (cc e);
+            bad = λ metaslab place kind e. absurd (cc e);
           }
 
       -- memory was wanting before it was done
@@ -275,7 +275,7 @@ module _ {R A : Type 0} (rack : racks.Ghosts R) (area : areas.Ghosts A) (chosen 
         prints = is.printed;
         failed = λ e. absurd (cc e);
         since = λ e. absurd (cc e);
-      bad = λ metaslab place kind e. absurd (cc e);
+        bad = λ metaslab place kind e. absurd (cc e);
       }
 
       module _ (now : OnShelf) (pool' : Option (Pool R A)) where
@@ -297,7 +297,7 @@ module _ {R A : Type 0} (rack : racks.Ghosts R) (area : areas.Ghosts A) (chosen 
           prints = record { front = is.replies; reply = cut.reply; mid = held; shown_are = refl; whole = is.printed; part = cut.prints };
           failed = λ e. absurd (cc e);
           since = λ e. absurd (cc e);
-      bad = λ metaslab place kind e. absurd (cc e);
+          bad = λ metaslab place kind e. absurd (cc e);
         }
 
         -- memory was wanting for the text of its reply
@@ -318,7 +318,7 @@ module _ {R A : Type 0} (rack : racks.Ghosts R) (area : areas.Ghosts A) (chosen 
           prints = is.printed;
           failed = λ e. absurd (cc e);
           since = λ e. absurd (cc e);
-      bad = λ metaslab place kind e. absurd (cc e);
+          bad = λ metaslab place kind e. absurd (cc e);
         }
 
         -- the shelf failed

@@ -6,7 +6,7 @@ use Rattle.draid_script.specs.Line.{ImportPool}
 use Rattle.draid_run.specs.Desks.{Broken}
 use Rattle.draid_run.specs.Importing.{ImportDid}
 use Rattle.draid_run.specs.Shelves.{on_shelf}
-use Rattle.draid_run.proofs.Importings.{imported, no_memory, no_pool, none_open, record_fails, shelf_failed, unnamed}
+use Rattle.draid_run.proofs.Importings.{fault_named, imported, no_memory, no_pool, none_open, record_fails, shelf_failed, unnamed}
 use Rattle.draid_run.proofs.Makings.{shut}
 use Rattle.draid_run.proofs.importing.import.Goals as goal
 
@@ -71,11 +71,13 @@ returns-in-Err-Record-clause-answer g c entry x desk =
     let before = on_shelf g.H.Shelf c.args.shelf.now in
     let now = on_shelf g.H.Shelf c.import.new.shelf in
     let e = c.import.ensures in
+    let r = c.in-Err-Record in
     let none = sym c.is_some.ensures ∙ c.if-is_some.false in
-    let is = c.in-Err-Record.is ∙ ap Err c.in-Err-Record.field-0-is in (
+    let is = r.is ∙ ap Err r.field-0-is in
+    (
       subst (λ p. Broken g.H.R.Rack g.H.A.Area RecordFails ImportPool entry before x now p) (sym (none_open c.args.pool.now none))
-    (record_fails g.H.R.Rack g.H.A.Area entry before now c.import.result
-    (record { whole = e.whole; none = e.none; imports = e.import; tells = e.tells; checks_held = e.held; checks = e.checks; cause = e.cause; made = e.made })
-    c.in-Err-Record.metaslab c.in-Err-Record.at c.in-Err-Record.kind is x (shut g.H.R.Rack g.H.A.Area c.args.pool.now x none desk.stands) desk.shelf),
-      e.faulty c.in-Err-Record.metaslab c.in-Err-Record.at c.in-Err-Record.kind is,
+      (record_fails g.H.R.Rack g.H.A.Area entry before now c.import.result
+      (record { whole = e.whole; none = e.none; imports = e.import; tells = e.tells; checks_held = e.held; checks = e.checks; cause = e.cause; made = e.made })
+      r.metaslab r.at r.kind is x (shut g.H.R.Rack g.H.A.Area c.args.pool.now x none desk.stands) desk.shelf),
+      fault_named g.H.R.Rack g.H.A.Area before r.metaslab _ r.at _ r.kind _ r.metaslab-is r.at-is r.kind-is (e.faulty r.metaslab r.at r.kind is),
     )
