@@ -47,8 +47,9 @@ use Rattle.draid_uber.specs.Slots.{group_of}
 use Rattle.draid_uber.specs.Uber as ubers
 use Rattle.draid_uber.specs.Uber.{kept_of, layout_of, next_leaf_of, version_of}
 use Rattle.draid_found.specs.Found.{AllLive, AreFound, AreReady, Grows, IsNumberIn, IsNumberOf, KeepsNewer, LeadsTo, Notes, NotesOne, Reaches}
-use Rattle.draid_pool.specs.Found.{AnyRecordsRose, AreFreed, AreReopened, FreesAt, FreesOlder, FreesIfOlder, IsFoundUber, IsReopened, LeavesUber, OpensOver, RecordsRose, SameButFlushed, SameChecks, StaysHeld}
+use Rattle.draid_pool.specs.Found.{AnyRecordsRose, AreFreed, AreReopened, CountsLater, FreesAt, FreesOlder, FreesIfOlder, IsFoundUber, IsReopened, IsShardFault, LeavesUber, OpensOver, RecordsRose, SameButFlushed, SameChecks, StaysHeld}
 use Rattle.draid_pool.specs.Closing.{Returns, TakesBack}
+use Rattle.draid_pool.specs.Importing.{IsNotSpec}
 use Rattle.draid_pool.specs.Opening.{TakesFirst}
 use Rattle.draid_pool.specs.Whole.{IsWhole}
 use Rattle.draid_pool.specs.declared.fault.PoolFault.{PoolFault}
@@ -119,6 +120,53 @@ checks_back rack area shards b c before after r = by b c r.held
     by o None held = tt
     by None (Some y) held = absurd held
     by (Some x) (Some y) held = held.checks
+
+-- the area of the uberblock is put back
+pub checks_given : (told : Option content.Content) (o b c : Option shelf.Held) → SameChecks o b → c ≡ shelf.gives_uber told b → SameChecks o c
+checks_given told o b c same gives = subst (λ (z : Option shelf.Held). SameChecks o z) (sym gives) (by told o b same)
+  where
+    by : (a : Option content.Content) (o b : Option shelf.Held) → SameChecks o b → SameChecks o (shelf.gives_uber a b)
+    by None o b same = tt
+    by (Some a) o None same = tt
+    by (Some a) None (Some y) same = absurd same
+    by (Some a) (Some x) (Some y) same = same
+
+-- the devices of a metaslab are taken
+pub checks_taken : (m : ℕ) (o c : Option shelf.Held) → c ≡ shelf.takes_kit m o → SameChecks o c
+checks_taken m o c takes = subst (λ (z : Option shelf.Held). SameChecks o z) (sym takes) (by o)
+  where
+    by : (o : Option shelf.Held) → SameChecks o (shelf.takes_kit m o)
+    by None = tt
+    by (Some x) = refl
+
+-- and put back
+pub checks_put : (m : ℕ) (kit : Option shelf.KitTold) (o b c : Option shelf.Held) → SameChecks o b → c ≡ shelf.gives_kit m kit b → SameChecks o c
+checks_put m kit o b c same gives = subst (λ (z : Option shelf.Held). SameChecks o z) (sym gives) (by kit o b same)
+  where
+    by : (k : Option shelf.KitTold) (o b : Option shelf.Held) → SameChecks o b → SameChecks o (shelf.gives_kit m k b)
+    by None o b same = tt
+    by (Some k) o None same = tt
+    by (Some k) None (Some y) same = absurd same
+    by (Some k) (Some x) (Some y) same = same
+
+pub checks_equal : (o c : Option shelf.Held) → c ≡ o → SameChecks o c
+checks_equal o c same = subst (λ (z : Option shelf.Held). SameChecks o z) (sym same) (checks_same o)
+
+-- so counts that are the same
+pub counts_later : (before after : shelf.KitCounts) → after ≡ before → CountsLater before after
+counts_later before after same = record {
+  rack = λ who. ap (λ (k : shelf.KitCounts). k.rack who) same;
+  even = (let even = ap (λ (k : shelf.KitCounts). k.even) same in omega (arith, even));
+  odd = (let odd = ap (λ (k : shelf.KitCounts). k.odd) same in omega (arith, odd));
+}
+
+-- neither fault of what was asked for
+pub shard_not_spec : (why : PoolFault) → IsShardFault why → IsNotSpec why
+shard_not_spec (fault.Spec why) is = is
+shard_not_spec fault.NoPool is = tt
+shard_not_spec (fault.Record metaslab place kind) is = tt
+shard_not_spec fault.Shelf is = tt
+shard_not_spec fault.NoMemory is = tt
 
 -- the area of a group that failed is one of the metaslab's
 pub records_rose : {R A : Type 0} (faults : A → ℕ) (old new : Kit R A) (group : ℕ) (before after : shelf.KitCounts) → faults old.even ≡ before.even → faults old.odd ≡ before.odd → after.even ≡ faults new.even → after.odd ≡ faults new.odd

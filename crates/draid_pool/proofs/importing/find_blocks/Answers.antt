@@ -6,3 +6,21 @@ pub returns-in-Err-Record-clause-faulty : goal.returns-in-Err-Record-clause-faul
 returns-in-Err-Record-clause-faulty g c =
     let r = c.in-Err-Record in
     found_apart c.args.shards.now r.metaslab r.at r.kind (r.ensures.faulty r.metaslab r.at r.kind (ap Err r.field-0-is))
+
+pub returns-in-Ok : goal.returns-in-Ok
+returns-in-Ok g c = record { found = c.in-Ok.ensures.found; faulty = λ metaslab place kind err. absurd (cc); no_device = λ err. absurd (cc); fault = tt }
+
+pub returns-in-Err-NoMemory : goal.returns-in-Err-NoMemory
+returns-in-Err-NoMemory g c = record { found = tt; faulty = λ metaslab place kind err. absurd (cc); no_device = λ err. absurd (cc); fault = tt }
+
+pub returns-in-Err-Record-clause-found : goal.returns-in-Err-Record-clause-found
+returns-in-Err-Record-clause-found g c = tt
+
+pub returns-in-Err-Record-clause-no_device : goal.returns-in-Err-Record-clause-no_device
+returns-in-Err-Record-clause-no_device g c = λ err. absurd (cc)
+
+pub returns-in-Err-Record-clause-fault : goal.returns-in-Err-Record-clause-fault
+returns-in-Err-Record-clause-fault g c = tt
+
+pub find_blocks-requires : goal.find_blocks-requires
+find_blocks-requires g c = record { ready = c.requires.ready }

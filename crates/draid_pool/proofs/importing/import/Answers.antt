@@ -1,4 +1,4 @@
-use Rattle.std.proofs.Common.{◌∙◌, inl, inr, List, Option, Err, ap, subst, sym}
+use Rattle.std.proofs.Common.{◌∙◌, inl, inr, List, Option, Err, ap, subst, sym, arith}
 use Rattle.std.specs.Prelude.{nat_eq}
 use Rattle.std.proofs.lemmas.Result.{err_from_is_err_and}
 use Rattle.std.specs.HashMap.{get}
@@ -15,7 +15,7 @@ use Rattle.draid_pool.proofs.ImportFaulty.{err_is, passed_on}
 use Rattle.draid_pool.proofs.ImportLeft.{leaves_all, refusal_is, refused_pool, rests_known, risen_behind}
 use Rattle.draid_pool.proofs.ImportOne.{no_fault_apart}
 use Rattle.draid_pool.proofs.ImportPool.{pool_found, tells_as_before}
-use Rattle.draid_pool.proofs.Found.{absent_not, all_ready, checks_more, refused_too}
+use Rattle.draid_pool.proofs.Found.{absent_not, all_ready, checks_more, refused_too, checks_back, checks_given, shard_not_spec}
 use Rattle.draid_pool.proofs.importing.import.Goals as goal
 
 pub find_blocks-requires : goal.find_blocks-requires
@@ -146,3 +146,83 @@ returns-in-Err-clause-made g c geometry made = absurd (c.in_ok-uber.ensures.made
 
 pub returns-in-Err-find_blocks-clause-made : goal.returns-in-Err-find_blocks-clause-made
 returns-in-Err-find_blocks-clause-made g c geometry made = absurd (c.in_ok-uber.ensures.made geometry made).none
+
+pub returns-in-Ok-find_blocks-clause-whole : goal.returns-in-Ok-find_blocks-clause-whole
+returns-in-Ok-find_blocks-clause-whole g c = c.pool_of.ensures.whole
+
+pub returns-in-Ok-find_blocks-clause-not_spec : goal.returns-in-Ok-find_blocks-clause-not_spec
+returns-in-Ok-find_blocks-clause-not_spec g c = tt
+
+pub returns-in-Ok-find_blocks-clause-faulty : goal.returns-in-Ok-find_blocks-clause-faulty
+returns-in-Ok-find_blocks-clause-faulty g c metaslab place kind err = absurd (cc)
+
+pub returns-in-Ok-find_blocks-clause-checks : goal.returns-in-Ok-find_blocks-clause-checks
+returns-in-Ok-find_blocks-clause-checks g c = c.reopen_shards.ensures.checks ∙ c.find_uber.ensures.checks
+
+pub returns-in-Ok-find_blocks-clause-later : goal.returns-in-Ok-find_blocks-clause-later
+returns-in-Ok-find_blocks-clause-later g c = (let first = c.find_uber.ensures.later in let more = c.reopen_shards.ensures.later in omega (arith, first, more))
+
+pub returns-in-Ok-find_blocks-clause-cause : goal.returns-in-Ok-find_blocks-clause-cause
+returns-in-Ok-find_blocks-clause-cause g c failed = absurd (cc)
+
+pub returns-in-Err-clause-whole : goal.returns-in-Err-clause-whole
+returns-in-Err-clause-whole g c = tt
+
+pub returns-in-Err-clause-not_spec : goal.returns-in-Err-clause-not_spec
+returns-in-Err-clause-not_spec g c = shard_not_spec c.in-Err.fault c.in-Err.ensures.fault
+
+pub returns-in-Err-clause-tells : goal.returns-in-Err-clause-tells
+returns-in-Err-clause-tells g c = tt
+
+pub returns-in-Err-clause-held : goal.returns-in-Err-clause-held
+returns-in-Err-clause-held g c =
+    let shelf = g.H.Shelf in
+    checks_given (g.H.A.Area.told c.into_area.result) (shelf.told c.args.shelf.now) (shelf.told c.reopen_shards.new.shelf) (shelf.told c.give_uber.new.self)
+    (checks_more (shelf.told c.args.shelf.now) (shelf.told c.find_uber.new.shelf) (shelf.told c.reopen_shards.new.shelf) c.find_uber.ensures.held c.reopen_shards.ensures.held) c.give_uber.ensures.told
+
+pub returns-in-Err-clause-checks : goal.returns-in-Err-clause-checks
+returns-in-Err-clause-checks g c = c.give_uber.ensures.check_counts ∙ (c.reopen_shards.ensures.checks ∙ c.find_uber.ensures.checks)
+
+pub returns-in-Err-clause-later : goal.returns-in-Err-clause-later
+returns-in-Err-clause-later g c = (let first = c.find_uber.ensures.later in let more = c.reopen_shards.ensures.later in let same = c.give_uber.ensures.faults in omega (arith, first, more, same))
+
+pub returns-in-Err-find_blocks-clause-whole : goal.returns-in-Err-find_blocks-clause-whole
+returns-in-Err-find_blocks-clause-whole g c = tt
+
+pub returns-in-Err-find_blocks-clause-not_spec : goal.returns-in-Err-find_blocks-clause-not_spec
+returns-in-Err-find_blocks-clause-not_spec g c = shard_not_spec c.in-Err-find_blocks.fault c.in-Err-find_blocks.ensures.fault
+
+pub returns-in-Err-find_blocks-clause-tells : goal.returns-in-Err-find_blocks-clause-tells
+returns-in-Err-find_blocks-clause-tells g c = tt
+
+pub returns-in-Err-find_blocks-clause-held : goal.returns-in-Err-find_blocks-clause-held
+returns-in-Err-find_blocks-clause-held g c =
+    let shelf = g.H.Shelf in
+    checks_given (g.H.A.Area.told c.into_area-in-Err-find_blocks.result) (shelf.told c.args.shelf.now) (shelf.told c.give_back.new.shelf) (shelf.told c.give_uber-in-Err-find_blocks.new.self)
+    (checks_more (shelf.told c.args.shelf.now) (shelf.told c.reopen_shards.new.shelf) (shelf.told c.give_back.new.shelf)
+    (checks_more (shelf.told c.args.shelf.now) (shelf.told c.find_uber.new.shelf) (shelf.told c.reopen_shards.new.shelf) c.find_uber.ensures.held c.reopen_shards.ensures.held)
+    (checks_back g.H.R.Rack g.H.A.Area c.in-Ok.shards.items (shelf.told c.reopen_shards.new.shelf) (shelf.told c.give_back.new.shelf) (shelf.counts c.reopen_shards.new.shelf) (shelf.counts c.give_back.new.shelf) c.give_back.ensures.returns))
+    c.give_uber-in-Err-find_blocks.ensures.told
+
+pub returns-in-Err-find_blocks-clause-checks : goal.returns-in-Err-find_blocks-clause-checks
+returns-in-Err-find_blocks-clause-checks g c = c.give_uber-in-Err-find_blocks.ensures.check_counts ∙ (c.give_back.ensures.checks ∙ (c.reopen_shards.ensures.checks ∙ c.find_uber.ensures.checks))
+
+pub returns-in-Err-find_blocks-clause-later : goal.returns-in-Err-find_blocks-clause-later
+returns-in-Err-find_blocks-clause-later g c =
+    let first = c.find_uber.ensures.later in
+    let more = c.reopen_shards.ensures.later in
+    let back = c.give_back.ensures.faults in
+    let same = c.give_uber-in-Err-find_blocks.ensures.faults in
+    omega (arith, first, more, back, same)
+
+pub returns-in-Err-find_blocks-clause-cause : goal.returns-in-Err-find_blocks-clause-cause
+returns-in-Err-find_blocks-clause-cause g c failed = absurd (c.in-Err-find_blocks.ensures.no_device (refused_too c.in-Err-find_blocks.fault failed))
+
+pub returns-in_err-uber-clause-held : goal.returns-in_err-uber-clause-held
+returns-in_err-uber-clause-held g c = c.find_uber.ensures.held
+
+pub returns-in_err-uber-clause-checks : goal.returns-in_err-uber-clause-checks
+returns-in_err-uber-clause-checks g c = c.find_uber.ensures.checks
+
+pub returns-in_err-uber-clause-later : goal.returns-in_err-uber-clause-later
+returns-in_err-uber-clause-later g c = c.find_uber.ensures.later

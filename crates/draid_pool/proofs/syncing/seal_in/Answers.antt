@@ -42,3 +42,45 @@ returns-in-Err-Area-clause-cause g c = λ is.
     let why : ((w : machine.State) → IsIn old w → OpenUpto w c.args.group 0) × Rose (g.A.Area.faults (area_in old c.args.group)) (g.A.Area.faults (area_in new c.args.group))
     = subst (SealIsRefused g.A.Area.faults old new c.args.group) c.in-Err-Area.field-0-is c.in-Err-Area.ensures.refused.why in
     area_some g.A.Area.faults new c.args.group (g.A.Area.faults (area_in old c.args.group)) why.1
+
+pub returns-in-Err-Area-clause-valid : goal.returns-in-Err-Area-clause-valid
+returns-in-Err-Area-clause-valid g c = c.in-Err-Area.ensures.valid
+
+pub returns-in-Err-Area-clause-table : goal.returns-in-Err-Area-clause-table
+returns-in-Err-Area-clause-table g c = record { part = c.in-Err-Area.ensures.refused.none.part; entries = c.in-Err-Area.ensures.keeps.entries; committed = c.in-Err-Area.ensures.keeps.groups.committed }
+
+pub returns-in-Err-Area-clause-sealed : goal.returns-in-Err-Area-clause-sealed
+returns-in-Err-Area-clause-sealed g c = tt
+
+pub returns-in-Err-Area-clause-low : goal.returns-in-Err-Area-clause-low
+returns-in-Err-Area-clause-low g c = tt
+
+pub returns-in-Err-NoMemory-clause-valid : goal.returns-in-Err-NoMemory-clause-valid
+returns-in-Err-NoMemory-clause-valid g c = c.in-Err-NoMemory.ensures.valid
+
+pub returns-in-Err-NoMemory-clause-table : goal.returns-in-Err-NoMemory-clause-table
+returns-in-Err-NoMemory-clause-table g c = record { part = c.in-Err-NoMemory.ensures.refused.none.part; entries = c.in-Err-NoMemory.ensures.keeps.entries; committed = c.in-Err-NoMemory.ensures.keeps.groups.committed }
+
+pub returns-in-Err-NoMemory-clause-sealed : goal.returns-in-Err-NoMemory-clause-sealed
+returns-in-Err-NoMemory-clause-sealed g c = tt
+
+pub returns-in-Err-NoMemory-clause-low : goal.returns-in-Err-NoMemory-clause-low
+returns-in-Err-NoMemory-clause-low g c = tt
+
+pub returns-in-Err-NoMemory-clause-cause : goal.returns-in-Err-NoMemory-clause-cause
+returns-in-Err-NoMemory-clause-cause g c failed = absurd (cc)
+
+pub returns-in-Ok-clause-valid : goal.returns-in-Ok-clause-valid
+returns-in-Ok-clause-valid g c = c.in-Ok.ensures.valid
+
+pub returns-in-Ok-clause-table : goal.returns-in-Ok-clause-table
+returns-in-Ok-clause-table g c = record { part = c.in-Ok.ensures.sealed.does.part; entries = c.in-Ok.ensures.seals.entries; committed = c.in-Ok.ensures.seals.committed }
+
+pub returns-in-Ok-clause-low : goal.returns-in-Ok-clause-low
+returns-in-Ok-clause-low g c = c.in-Ok.ensures.sealed.low
+
+pub returns-in-Ok-clause-cause : goal.returns-in-Ok-clause-cause
+returns-in-Ok-clause-cause g c failed = absurd (cc)
+
+pub seal-requires : goal.seal-requires
+seal-requires g c = record { valid = c.requires.valid; closing = (c.requires.closing, sym c.sealed.ensures ∙ c.if-sealed.false) }
