@@ -1,12 +1,12 @@
 -- A sync or an export that a failing device ended: the count of an area of the pool rose.
-use Rattle.std.proofs.Common.{◌≡◌, ◌≤◌, ◌<◌, ◌+◌, ◌-◌, ◌^◌, ◌∙◌, ◌⊎◌, ◌==◌, ◌%◌, min, inl, inr, arith, refl, sym, ap, subst, ℕ, Bool, true, false, List, [], ◌∷◌, Some, if◌then◌else◌}
+use Rattle.std.proofs.Common.{◌≡◌, ◌≤◌, ◌<◌, ◌-◌, ◌^◌, ◌∙◌, ◌⊎◌, ◌==◌, ◌%◌, min, inl, inr, arith, refl, sym, subst, ℕ, Bool, true, false, List, [], ◌∷◌, Some, if◌then◌else◌}
 use Rattle.std.specs.Prelude.{slice_get, slice_set}
 use Rattle.std.proofs.lemmas.Bool.Decides.{nat_tests}
 use Rattle.draid_names.specs.Faults.{Rose}
 use Rattle.draid_spec.specs.declared.layout.Geometry.{Geometry}
 use Rattle.draid_perm.specs.declared.perms.Perms.{Perms}
 use Rattle.draid_script.specs.Line.{Command}
-use Rattle.draid_session.specs.Certain.{EndsFailed, HasFailed}
+use Rattle.draid_session.specs.Certain.{HasFailed}
 use Rattle.draid_session.specs.Does.{Broken}
 use Rattle.draid_session.specs.Follows.{Follows, Holds, HoldsMetaslab, UberActs, area_count}
 use Rattle.draid_session.specs.Holds.{Act, AreaFailed, Committed, CommitFailed, CommitStarved, Did, Hold, Looked, LookedUber, MadeLeaf, NextLeaf, On, OnUber, RackFailed, Reserved, UberAct, View}
@@ -34,14 +34,14 @@ later_none x = record { each = λ k m there. record { y = m; there = there; even
 later_more : (x y z : State) → IsLater x y → IsLater y z → IsLater x z
 later_more x y z a b = record {
   each = λ k m there. (
-    let two = b.each k m there in
-    let one = a.each k two.y two.there in
-    let even = one.even in
-    let more = two.even in
-    let odd = one.odd in
-    let again = two.odd in
-    record { y = one.y; there = one.there; even = omega (arith, even, more); odd = omega (arith, odd, again) }
-    );
+      let two = b.each k m there in
+      let one = a.each k two.y two.there in
+      let even = one.even in
+      let more = two.even in
+      let odd = one.odd in
+      let again = two.odd in
+      record { y = one.y; there = one.there; even = omega (arith, even, more); odd = omega (arith, odd, again) }
+      );
   uber = (let first = a.uber in let next = b.uber in omega (arith, first, next));
 }
 
@@ -64,7 +64,7 @@ module _ (v : View) (x z : State) where
       from k m there true is =
           let at : v.metaslab ≡ k = grind (arith, nat_tests, is) in
           let two : slice_get (slice_set x.metaslabs v.metaslab it.after) k ≡ Some it.after =
-              subst (λ n. slice_get (slice_set x.metaslabs v.metaslab it.after) n ≡ Some it.after) at (get_set_same x.metaslabs v.metaslab it.before it.after it.there) in
+          subst (λ n. slice_get (slice_set x.metaslabs v.metaslab it.after) n ≡ Some it.after) at (get_set_same x.metaslabs v.metaslab it.before it.after it.there) in
           let same : it.after ≡ m = some_of (slice_get (slice_set x.metaslabs v.metaslab it.after) k) it.after m two there in
           subst (CameFrom x k) same (record { y = it.before; there = subst (λ n. slice_get x.metaslabs n ≡ Some it.before) at it.there; even = counts.0; odd = counts.1 })
       from k m there false is =
@@ -103,10 +103,17 @@ either group before after = by (group % 2 == 0) where
 rose_here : (hold : Hold) (x y z : State) → IsLater x y → HasFailed hold y z → AreaRose x z
 rose_here (On v (AreaFailed group)) x y z later failed =
     let was = later.each v.metaslab failed.0 failed.2 in
-    inl (v.metaslab, was.y, failed.1, was.there, failed.3, elim (either group failed.0.counts failed.1.counts failed.4) [
-      | inl even ↦ inl (rose_from was.y.counts.even failed.0.counts.even failed.1.counts.even was.even even)
-      | inr odd ↦ inr (rose_from was.y.counts.odd failed.0.counts.odd failed.1.counts.odd was.odd odd)
-    ])
+    inl (
+      v.metaslab,
+      was.y,
+      failed.1,
+      was.there,
+      failed.3,
+      elim (either group failed.0.counts failed.1.counts failed.4) [
+        | inl even ↦ inl (rose_from was.y.counts.even failed.0.counts.even failed.1.counts.even was.even even)
+        | inr odd ↦ inr (rose_from was.y.counts.odd failed.0.counts.odd failed.1.counts.odd was.odd odd)
+      ],
+    )
 rose_here (OnUber u (CommitFailed group)) x y z later failed = inr (rose_capped x.uber_count y.uber_count z.uber_count later.uber failed)
 rose_here hold x y z later failed = absurd failed
 
@@ -122,10 +129,15 @@ rose_some before now rose = omega (arith, rose)
 -- and what has risen isn't 0
 pub rose_shows : (x y : State) → AreaRose x y → AreaHasFailed y
 rose_shows x y rose = elim rose [
-  | inl at ↦ inl (at.0, at.2, at.4, elim at.5 [
+  | inl at ↦ inl (
+    at.0,
+    at.2,
+    at.4,
+    elim at.5 [
       | inl even ↦ (let some = rose_some at.1.counts.even at.2.counts.even even in omega (arith, some))
       | inr odd ↦ (let some = rose_some at.1.counts.odd at.2.counts.odd odd in omega (arith, some))
-    ])
+    ],
+  )
   | inr uber ↦ inr (rose_some x.uber_count y.uber_count uber)
 ]
 

@@ -73,11 +73,10 @@ returns-in-Err-Record-clause-answer g c entry x desk =
     let e = c.import.ensures in
     let r = c.in-Err-Record in
     let none = sym c.is_some.ensures ∙ c.if-is_some.false in
-    let is = r.is ∙ ap Err r.field-0-is in
-    (
+    let is = r.is ∙ ap Err r.field-0-is in (
       subst (λ p. Broken g.H.R.Rack g.H.A.Area RecordFails ImportPool entry before x now p) (sym (none_open c.args.pool.now none))
-      (record_fails g.H.R.Rack g.H.A.Area entry before now c.import.result
-      (record { whole = e.whole; none = e.none; imports = e.import; tells = e.tells; checks_held = e.held; checks = e.checks; cause = e.cause; made = e.made })
-      r.metaslab r.at r.kind is x (shut g.H.R.Rack g.H.A.Area c.args.pool.now x none desk.stands) desk.shelf),
+          (record_fails g.H.R.Rack g.H.A.Area entry before now c.import.result
+          (record { whole = e.whole; none = e.none; imports = e.import; tells = e.tells; checks_held = e.held; checks = e.checks; cause = e.cause; made = e.made })
+          r.metaslab r.at r.kind is x (shut g.H.R.Rack g.H.A.Area c.args.pool.now x none desk.stands) desk.shelf),
       fault_named g.H.R.Rack g.H.A.Area before r.metaslab _ r.at _ r.kind _ r.metaslab-is r.at-is r.kind-is (e.faulty r.metaslab r.at r.kind is),
     )
