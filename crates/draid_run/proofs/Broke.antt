@@ -1,12 +1,12 @@
 -- A sync or an export that a failing device ended: the count of an area of the pool rose.
-use Rattle.std.proofs.Common.{◌≡◌, ◌≤◌, ◌<◌, ◌+◌, ◌-◌, ◌^◌, ◌∙◌, ◌⊎◌, ◌==◌, ◌%◌, min, inl, inr, arith, refl, sym, ap, subst, ℕ, Bool, true, false, List, [], ◌∷◌, Some, if◌then◌else◌}
+use Rattle.std.proofs.Common.{◌≡◌, ◌≤◌, ◌<◌, ◌-◌, ◌^◌, ◌∙◌, ◌⊎◌, ◌==◌, ◌%◌, min, inl, inr, arith, refl, sym, subst, ℕ, Bool, true, false, List, [], ◌∷◌, Some, if◌then◌else◌}
 use Rattle.std.specs.Prelude.{slice_get, slice_set}
 use Rattle.std.proofs.lemmas.Bool.Decides.{nat_tests}
 use Rattle.draid_names.specs.Faults.{Rose}
 use Rattle.draid_spec.specs.declared.layout.Geometry.{Geometry}
 use Rattle.draid_perm.specs.declared.perms.Perms.{Perms}
 use Rattle.draid_script.specs.Line.{Command}
-use Rattle.draid_session.specs.Certain.{EndsFailed, HasFailed}
+use Rattle.draid_session.specs.Certain.{HasFailed}
 use Rattle.draid_session.specs.Does.{Broken}
 use Rattle.draid_session.specs.Follows.{Follows, Holds, HoldsMetaslab, UberActs, area_count}
 use Rattle.draid_session.specs.Holds.{Act, AreaFailed, Committed, CommitFailed, CommitStarved, Did, Hold, Looked, LookedUber, MadeLeaf, NextLeaf, On, OnUber, RackFailed, Reserved, UberAct, View}

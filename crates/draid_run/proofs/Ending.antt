@@ -1,13 +1,13 @@
 -- A run that nothing disturbs, and of which each line can be run, ends with its input.
-use Rattle.std.proofs.Common.{arith, ◌≡◌, ◌≢◌, ◌∙◌, ◌+◌, ◌<◌, ◌≤◌, ◌++◌, inl, inr, ℕ, true, false, List, [], ◌∷◌, Option, Some, None, Result, Ok, Err, refl, sym, ap, subst, length, length-append, take, take_all, All}
-use Rattle.std.specs.Prelude.{MatchOption, slice_index_or}
+use Rattle.std.proofs.Common.{arith, ◌≡◌, ◌≢◌, ◌∙◌, ◌<◌, ◌≤◌, ◌++◌, inl, inr, ℕ, true, false, List, [], ◌∷◌, Option, Some, None, Result, Ok, Err, refl, sym, ap, subst, length, length-append, take, take_all, All}
+use Rattle.std.specs.Prelude.{slice_index_or}
 use Rattle.std.specs.List.{before_first, position_or_len}
 use Rattle.std.proofs.lemmas.Bool.{cases_lt}
 use Rattle.draid_names.specs.declared.numbers.TheConstants.{LONGEST_LINE}
 use Rattle.draid_names.specs.declared.room.Room.{Room}
 use Rattle.draid_rack.specs.declared.Rack as racks
 use Rattle.draid_area.specs.declared.Area as areas
-use Rattle.draid_lines.specs.Lines.{IsTooLong, is_end, lines_of, most_lines}
+use Rattle.draid_lines.specs.Lines.{IsTooLong, is_end, lines_of}
 use Rattle.draid_lines.proofs.Ends.{lines_first, lines_last, position-le}
 use Rattle.draid_script.specs.Grammar.{line_of}
 use Rattle.draid_script.specs.Line.{Command, ImportPool}

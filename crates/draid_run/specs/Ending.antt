@@ -1,11 +1,11 @@
 -- How a run ends that nothing stops before the end of its input.
-use Rattle.std.specs.Prelude.{◌≡◌, ◌≢◌, ◌≤◌, ⊤, ℕ, true, false, List, Result, Ok, Err, All, length}
+use Rattle.std.specs.Prelude.{◌≡◌, ◌≢◌, ◌≤◌, ⊤, ℕ, false, List, Result, Ok, Err, All, length}
 use Rattle.draid_names.specs.declared.numbers.TheConstants.{LONGEST_LINE}
 use Rattle.draid_lines.specs.Lines.{lines_of, most_lines}
 use Rattle.draid_script.specs.Grammar.{line_of}
 use Rattle.draid_script.specs.Line.{Command}
 use Rattle.draid_script.specs.declared.fault.LineFault.{LineFault}
-use Rattle.draid_session.specs.Session.{Desk, Untouched, Bare, Made, Open, Shut, Foreign, Unknown}
+use Rattle.draid_session.specs.Session.{Desk, Untouched, Made, Shut, Unknown}
 use Rattle.draid_run.specs.Script.{IsUnbuilt}
 use Rattle.draid_run.specs.declared.status.Status.{Status}
 use Rattle.draid_run.specs.declared.status.Status.TheVariants.{Done, Record, SourceFault, SinkFault, NoMemory, ShelfFault}
