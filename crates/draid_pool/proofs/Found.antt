@@ -1,13 +1,12 @@
 -- The metaslabs that an import opens, and the blocks that it finds there.
-use Rattle.std.proofs.Common.{arith, ◌≡◌, ◌==◌, ◌%◌, ◌+◌, ◌<◌, ◌≤◌, ◌++◌, ◌∙◌, ◌⊎◌, inl, inr, ℕ, Bool, true, false, cond, List, [], ◌∷◌, Option, Some, None, Ok, Err, refl, sym, ap, subst, slice_index_or, slice_set, length, length-append, if◌then◌else◌}
+use Rattle.std.proofs.Common.{arith, ◌≡◌, ◌==◌, ◌%◌, ◌+◌, ◌<◌, ◌≤◌, ◌++◌, ◌∙◌, ◌⊎◌, inl, inr, ℕ, Bool, true, false, List, [], ◌∷◌, Option, Some, None, Ok, Err, refl, sym, ap, subst, slice_set, length, length-append, if◌then◌else◌}
 use Rattle.std.specs.Prelude.{⊤, IsErrOf, IsSomeAnd, MatchOption, find, nat_eq, option_map, slice_get}
 use Rattle.std.proofs.lemmas.Bool.{cases_eq, cases_lt}
 use Rattle.std.proofs.lemmas.Bool.Decides.{nat_tests}
 use Rattle.std.proofs.lemmas.List.{length-set}
-use Rattle.std.proofs.lemmas.Option.{slice_get-get_or, slice_get_within}
+use Rattle.std.proofs.lemmas.Option.{slice_get_within}
 use Rattle.draid_names.specs.Faults.{Rose}
 use Rattle.draid_names.specs.declared.fault.DeviceFault.{DeviceFault}
-use Rattle.draid_names.specs.declared.numbers.TheConstants.{NUMBERS}
 use Rattle.draid_names.specs.declared.pointer.Pointer.{Pointer}
 use Rattle.draid_rack.specs.declared.Rack as racks
 use Rattle.draid_area.specs.Area as content
@@ -27,10 +26,9 @@ use Rattle.draid_entries.specs.Maps.{held_at, key_of, staged}
 use Rattle.draid_shelf.specs.Kits as shelf
 use Rattle.draid_shelf.specs.declared.kit.Kit.{Kit}
 use Rattle.draid_spec.specs.declared.layout.Geometry.{Geometry}
-use Rattle.draid_spec.specs.Geometry.{metaslab_stripes}
 use Rattle.draid_map.specs.Place.{IsLayout}
 use Rattle.std.specs.HashMap.{get}
-use Rattle.draid_shard.specs.Calls.{IsLive, IsNextHeld}
+use Rattle.draid_shard.specs.Calls.{IsLive}
 use Rattle.draid_shard.specs.Changes.{SetsBlock}
 use Rattle.draid_shard.specs.Fits.{Valid}
 use Rattle.draid_groups.specs.Groups.{GivesBack, Opens, area_of_kit}
@@ -46,7 +44,7 @@ use Rattle.draid_uber.specs.declared.uber.Uber.{Uber}
 use Rattle.draid_uber.specs.Slots.{group_of}
 use Rattle.draid_uber.specs.Uber as ubers
 use Rattle.draid_uber.specs.Uber.{kept_of, layout_of, next_leaf_of, version_of}
-use Rattle.draid_found.specs.Found.{AllLive, AreFound, AreReady, Grows, IsNumberIn, IsNumberOf, KeepsNewer, LeadsTo, Notes, NotesOne, Reaches}
+use Rattle.draid_found.specs.Found.{AllLive, AreFound, AreReady}
 use Rattle.draid_pool.specs.Found.{AnyRecordsRose, AreFreed, AreReopened, CountsLater, FreesAt, FreesOlder, FreesIfOlder, IsFoundUber, IsReopened, IsShardFault, LeavesUber, OpensOver, RecordsRose, SameButFlushed, SameChecks, StaysHeld}
 use Rattle.draid_pool.specs.Closing.{Returns, TakesBack}
 use Rattle.draid_pool.specs.Importing.{IsNotSpec}

@@ -17,12 +17,7 @@ use Rattle.draid_objects.specs.Blocks.{Blocks, sealed_at}
 use Rattle.draid_objects.specs.Changes.{Write, write_by}
 use Rattle.draid_segments.specs.Segments.{Pieces}
 use Rattle.draid_slots.specs.Table.{SlotTable, arms_of}
-use Rattle.draid_entries.specs.declared.entry.Entry.{Entry}
-use Rattle.draid_entries.specs.declared.entries.Entries.{Entries}
-use Rattle.draid_entries.specs.Entries.{entry_at, held_in}
-use Rattle.draid_entries.specs.Maps.{held_at, key_of}
 use Rattle.draid_slots.specs.States.{HasSlots, name_of, named}
-use Rattle.draid_shard.proofs.Held.{key_leads}
 use Rattle.draid_session.specs.Opening.{MayFind, Reopens}
 use Rattle.draid_session.specs.State.{Metaslab, State}
 use Rattle.draid_pool.specs.Importable.{AreAlike, IsAlike, IsFindable, SameArms, bare}
