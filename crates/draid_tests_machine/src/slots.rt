@@ -129,10 +129,12 @@ fn chained(
     keeper: u32,
 ) -> Result<Option<[bool; 2]>, NoMemory> {
     attach_some(slots, alloc, spared, ArmKind::Spare, 0)?;
-    Ok(match attach(slots, alloc, keeper, arm(ArmKind::Spare, 1))? {
-        Ok(moved) => Some([moved.has(0), moved.has(1)]),
-        Err(_) => None,
-    })
+    Ok(
+        match attach(slots, alloc, keeper, arm(ArmKind::Spare, 1))? {
+            Ok(moved) => Some([moved.has(0), moved.has(1)]),
+            Err(_) => None,
+        },
+    )
 }
 
 /// Whether a leaf that leaves was online as it was detached, for a leaf that was and for one that wasn't; and where a

@@ -63,11 +63,13 @@ fn finds<R: AllocGlobal + Threads + Sync>(
     group: usize,
 ) -> Result<bool, AllocError> {
     let (_, found) = run_on(rt, shelf, "import\nread 7\n")?;
-    Ok(FOUND
-        .iter()
-        .skip(group)
-        .take(2)
-        .any(|wanted| found.as_slice() == wanted.as_bytes()))
+    Ok(
+        FOUND
+            .iter()
+            .skip(group)
+            .take(2)
+            .any(|wanted| found.as_slice() == wanted.as_bytes()),
+    )
 }
 
 /// Whether a session on devices that stop behind so many calls, and then a crash by this rule, leaves the last group
