@@ -1,6 +1,8 @@
 ghost use Rattle.std.specs.Prelude.{◌≡◌, ◌≤◌, ◌+◌, None, IfOk, length};
 ghost use Rattle.draid_block.specs.Blocks.{cut_of};
-ghost use Rattle.draid_spec.specs.Geometry.{IsGeometry};
+ghost use Rattle.draid_rack.specs.Memory.{shape_of_memory};
+ghost use Rattle.draid_rack.specs.Rack.{HasJust};
+ghost use Rattle.draid_spec.specs.Geometry.{IsGeometry, metaslab_sectors};
 ghost use Rattle.draid_machine.specs.declared.names.Key.{Key};
 ghost use Rattle.draid_entries.specs.Entries.{held_in};
 ghost use Rattle.draid_shard.specs.Calls.{Carries};
@@ -38,7 +40,38 @@ pub fn layout(slices: u32) -> Result<Geometry, SpecFault>
 
 /// An empty area whose calls with these numbers fail.
 fn area(alloc: Global, failing: &[u64]) -> Result<MemoryArea, AllocError> {
-    MemoryArea::new(alloc, Vec::new(alloc), Vec::from_slice(alloc, failing)?)
+    let failing = Vec::from_slice(alloc, failing)?;
+    MemoryArea::new(alloc, Vec::new(alloc), failing)
+}
+
+/// The leaves of a new metaslab. The calls with these numbers fail.
+fn rack(alloc: Global, layout: &Geometry, failing: &[u64]) -> Result<MemoryRack, NoMemory>
+    requires layout { IsGeometry layout.now }
+    ensures just { IfOk result (λ rack. HasJust (shape_of_memory rack) layout.now.spec.children (metaslab_sectors layout.now) layout.now.props.sector) }
+{
+    let failing = Vec::from_slice(alloc, failing)?;
+    MemoryRack::new(
+        alloc,
+        layout.spec.children,
+        layout.metaslab_sectors(),
+        layout.props.sector,
+        failing,
+    )
+}
+
+/// The devices of a new metaslab. The calls of the leaves and of the even area with these numbers fail.
+fn kit(
+    alloc: Global,
+    layout: &Geometry,
+    failing: [&[u64]; 2],
+) -> Result<Kit<MemoryRack, MemoryArea>, NoMemory>
+    requires layout { IsGeometry layout.now }
+    ensures just { IfOk result (λ kit. HasJust (shape_of_memory kit.rack) layout.now.spec.children (metaslab_sectors layout.now) layout.now.props.sector) }
+{
+    let even = area(alloc, failing[1])?;
+    let odd = area(alloc, &[])?;
+    let rack = rack(alloc, layout, failing[0])?;
+    Ok(Kit { rack, even, odd })
 }
 
 /// An empty metaslab of so many events, over a memory rack whose calls with these numbers fail.
@@ -65,21 +98,8 @@ fn metaslab_over(
     ensures idle { IfOk result (λ shard. shard.closing ≡ None) }
     ensures empty { IfOk result (λ shard. (key : Key) → held_in shard.entries key ≡ None) }
 {
+    let kit = kit(alloc, &layout, failing)?;
     let perms = Perms::new(layout.spec.children, layout.props.seed);
-    let [failing, even] = failing;
-    let failing = Vec::from_slice(alloc, failing)?;
-    let rack = MemoryRack::new(
-        alloc,
-        layout.spec.children,
-        layout.metaslab_sectors(),
-        layout.props.sector,
-        failing,
-    )?;
-    let kit = Kit {
-        rack,
-        even: area(alloc, even)?,
-        odd: area(alloc, &[])?,
-    };
     match create(alloc, 0, layout, perms, kit, events) {
         Ok(shard) => Ok(shard),
         Err(_) => Err(NoMemory),
@@ -368,14 +388,17 @@ fn devices_come_back(rt: HostRuntime) -> Result<(), Fail> {
     Ok(())
 }
 
-/// Why a metaslab takes no block, the longest run that it tells, why a block of these bytes isn't begun, and what
-/// reserving and asking for an event answers.
-type Refusal = (
-    Option<Shut>,
-    u64,
-    Option<BeginFault>,
-    [Result<(), ReserveFault>; 2],
-);
+/// What is told where no block is begun.
+#[derive(Clone, Copy, Debug, PartialEq, Eq)]
+struct Refusal {
+    /// Why the metaslab takes no block.
+    shut: Option<Shut>,
+    /// The longest run of free stripes that it tells.
+    run: u64,
+    begun: Option<BeginFault>,
+    /// What reserving and asking for an event answers.
+    answers: [Result<(), ReserveFault>; 2],
+}
 
 fn refused<R: Rack, A: Area>(alloc: Global, shard: &mut Shard<R, A>, bytes: &[u8]) -> Refusal
     requires valid { Valid R.Rack shard.old }
@@ -386,18 +409,23 @@ fn refused<R: Rack, A: Area>(alloc: Global, shard: &mut Shard<R, A>, bytes: &[u8
     let shut = shard.shut();
     let run = shard.room(1).run;
     let begun = write(alloc, shard, bytes).err();
-    (shut, run, begun, [shard.reserve(1), shard.ask(1)])
+    Refusal {
+        shut,
+        run,
+        begun,
+        answers: [shard.reserve(1), shard.ask(1)],
+    }
 }
 
 #[test]
 fn a_worn_metaslab_says_so(rt: HostRuntime) -> Result<(), Fail> {
     let worn = Err(ReserveFault::Worn { events: 0 });
-    let at_limit = (
-        Some(Shut::Worn),
-        0,
-        Some(BeginFault::Worn { events: 0 }),
-        [worn; 2],
-    );
+    let at_limit = Refusal {
+        shut: Some(Shut::Worn),
+        run: 0,
+        begun: Some(BeginFault::Worn { events: 0 }),
+        answers: [worn; 2],
+    };
     let mut shard = metaslab(rt.alloc(), &[], 3072)?;
     assert_eq!(rt; refused(rt.alloc(), &mut shard, b"hello"), at_limit);
     Ok(())
@@ -405,28 +433,35 @@ fn a_worn_metaslab_says_so(rt: HostRuntime) -> Result<(), Fail> {
 
 #[test]
 fn a_block_that_does_not_fit_is_refused(rt: HostRuntime) -> Result<(), Fail> {
-    let full = (
-        None,
-        8,
-        Some(BeginFault::NoRoom { largest: 8 }),
-        [Ok(()); 2],
-    );
+    let full = Refusal {
+        shut: None,
+        run: 8,
+        begun: Some(BeginFault::NoRoom { largest: 8 }),
+        answers: [Ok(()); 2],
+    };
     let mut shard = metaslab(rt.alloc(), &[], 4096)?;
     assert_eq!(rt; refused(rt.alloc(), &mut shard, &[5; 16384]), full);
     Ok(())
 }
 
-/// What is told of the groups of a metaslab: the open one, the closing one and whether it is sealed, and the last that
-/// was committed.
-type Groups = (u64, Option<u64>, bool, u64);
+/// What is told of the groups of a metaslab.
+#[derive(Clone, Copy, Debug, PartialEq, Eq)]
+struct Groups {
+    open: u64,
+    closing: Option<u64>,
+    /// Whether the closing one is sealed.
+    sealed: bool,
+    /// The last that was committed.
+    committed: u64,
+}
 
 fn groups<R: Rack, A: Area>(shard: &Shard<R, A>) -> Groups {
-    (
-        shard.open_group(),
-        shard.closing(),
-        shard.sealed(),
-        shard.committed(),
-    )
+    Groups {
+        open: shard.open_group(),
+        closing: shard.closing(),
+        sealed: shard.sealed(),
+        committed: shard.committed(),
+    }
 }
 
 /// What the closing of the first group answers, and what is told of the groups then.
@@ -443,10 +478,18 @@ fn closed<R: Rack, A: Area>(shard: &mut Shard<R, A>) -> (Result<(), CloseFault>,
 #[test]
 fn a_group_closes_up_to_the_limit(rt: HostRuntime) -> Result<(), Fail> {
     let worn = Err(CloseFault::Worn { events: 0 });
-    for (events, wanted) in [
-        (3, (Ok(()), (3, Some(2), false, 1))),
-        (2, (worn, (2, None, false, 1))),
-    ] {
+    let before = Groups {
+        open: 2,
+        closing: None,
+        sealed: false,
+        committed: 1,
+    };
+    let behind = Groups {
+        open: 3,
+        closing: Some(2),
+        ..before
+    };
+    for (events, wanted) in [(3, (Ok(()), behind)), (2, (worn, before))] {
         let mut shard = metaslab(rt.alloc(), &[], events)?;
         assert_eq!(rt; closed(&mut shard), wanted);
     }
@@ -477,14 +520,16 @@ fn seal<R: Rack, A: Area>(shard: &mut Shard<R, A>) -> Option<Result<Sealed, Seal
     Some(draid_groups::seal(shard, group))
 }
 
-/// What sealing a group with one block answers, twice; which leaves have the group in their logs then, whether the group
-/// is sealed, and how many events there are.
-type Sealing = (
-    [Option<Result<Sealed, SealFault>>; 2],
-    [bool; 3],
-    bool,
-    usize,
-);
+/// What is told of a group with one block that is sealed.
+#[derive(Clone, Copy, Debug, PartialEq, Eq)]
+struct Sealing {
+    /// What sealing it answers, twice.
+    answers: [Option<Result<Sealed, SealFault>>; 2],
+    /// Which leaves have the group in their logs then.
+    logged: [bool; 3],
+    sealed: bool,
+    events: usize,
+}
 
 fn sealing<R: Rack, A: Area>(alloc: Global, shard: &mut Shard<R, A>) -> Result<Sealing, Fail>
     requires valid { Valid R.Rack shard.old }
@@ -493,26 +538,43 @@ fn sealing<R: Rack, A: Area>(alloc: Global, shard: &mut Shard<R, A>) -> Result<S
     write(alloc, shard, b"hello")??;
     close(shard);
     let answers = [seal(shard), seal(shard)];
-    let logged = [
-        is_logged(shard, 0),
-        is_logged(shard, 1),
-        is_logged(shard, 2),
-    ];
-    Ok((answers, logged, shard.sealed(), shard.events().len()))
+    Ok(Sealing {
+        answers,
+        logged: [
+            is_logged(shard, 0),
+            is_logged(shard, 1),
+            is_logged(shard, 2),
+        ],
+        sealed: shard.sealed(),
+        events: shard.events().len(),
+    })
 }
 
 // The block is three writes, and then three leaves are flushed. One on which that fails has the group in its log, and the
 // block is thin. Where its area fails, a group isn't sealed, and may be sealed once more.
 #[test]
 fn groups_are_sealed_while_calls_fail(rt: HostRuntime) -> Result<(), Fail> {
-    let whole = Some(Ok(Sealed { thin: 0 }));
-    let thin = Some(Ok(Sealed { thin: 1 }));
-    let failed = Some(Err(SealFault::Area));
+    let sealed = Some(Ok(Sealed { thin: 0 }));
+    let whole = Sealing {
+        answers: [sealed, None],
+        logged: [false; 3],
+        sealed: true,
+        events: 7,
+    };
+    let thin = Sealing {
+        answers: [Some(Ok(Sealed { thin: 1 })), None],
+        logged: [false, true, false],
+        ..whole
+    };
+    let again = Sealing {
+        answers: [Some(Err(SealFault::Area)), sealed],
+        ..whole
+    };
     let table: [([&[u64]; 2], Sealing); 4] = [
-        ([&[], &[]], ([whole, None], [false; 3], true, 7)),
-        ([&[4], &[]], ([thin, None], [false, true, false], true, 7)),
-        ([&[], &[0]], ([failed, whole], [false; 3], true, 7)),
-        ([&[], &[1]], ([failed, whole], [false; 3], true, 7)),
+        ([&[], &[]], whole),
+        ([&[4], &[]], thin),
+        ([&[], &[0]], again),
+        ([&[], &[1]], again),
     ];
     for (failing, wanted) in table {
         let mut shard = metaslab_over(rt.alloc(), layout(1)?, failing, 4096)?;
@@ -578,7 +640,13 @@ fn committed<R: Rack, A: Area>(
 fn freed_stripes_come_back_at_the_commit(rt: HostRuntime) -> Result<(), Fail> {
     let mut shard = metaslab(rt.alloc(), &[], 4096)?;
     let found = committed(rt.alloc(), &mut shard)?;
-    assert_eq!(rt; found, ([7, 7, 8], (3, None, false, 2)));
+    let groups = Groups {
+        open: 3,
+        closing: None,
+        sealed: false,
+        committed: 2,
+    };
+    assert_eq!(rt; found, ([7, 7, 8], groups));
     Ok(())
 }
 
