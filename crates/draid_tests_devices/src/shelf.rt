@@ -162,7 +162,11 @@ fn flush_both<H: Shelf>(shelf: &mut H, geometry: &Geometry) -> Result<[bool; 4],
 }
 
 /// Which flushes failed behind a fuse of three calls, and which after a crash.
-fn fused(shelf: &mut MemoryShelf, alloc: Global, geometry: &Geometry) -> Result<[[bool; 4]; 2], Fail>
+fn fused(
+    shelf: &mut MemoryShelf,
+    alloc: Global,
+    geometry: &Geometry,
+) -> Result<[[bool; 4]; 2], Fail>
     requires { IsGeometry geometry.now }
 {
     Shelf::make(shelf, alloc, geometry)?;
