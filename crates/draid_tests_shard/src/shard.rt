@@ -456,7 +456,7 @@ struct Groups {
     committed: u64,
 }
 
-fn groups<R: Rack, A: Area>(shard: &Shard<R, A>) -> Groups {
+fn groups_of<R: Rack, A: Area>(shard: &Shard<R, A>) -> Groups {
     Groups {
         open: shard.open_group(),
         closing: shard.closing(),
@@ -472,7 +472,7 @@ fn closed<R: Rack, A: Area>(shard: &mut Shard<R, A>) -> (Result<(), CloseFault>,
     requires idle { shard.old.closing ≡ None }
 {
     let answer = shard.close_group(2);
-    (answer, groups(shard))
+    (answer, groups_of(shard))
 }
 
 // The closing of a group may use the limit up.
@@ -532,7 +532,7 @@ struct Sealing {
     events: usize,
 }
 
-fn sealing<R: Rack, A: Area>(alloc: Global, shard: &mut Shard<R, A>) -> Result<Sealing, Fail>
+fn seal_twice<R: Rack, A: Area>(alloc: Global, shard: &mut Shard<R, A>) -> Result<Sealing, Fail>
     requires valid { Valid R.Rack shard.old }
     requires empty { (key : Key) → held_in shard.old.entries key ≡ None }
 {
@@ -579,7 +579,7 @@ fn groups_are_sealed_while_calls_fail(rt: HostRuntime) -> Result<(), Fail> {
     ];
     for (failing, wanted) in table {
         let mut shard = metaslab_over(rt.alloc(), layout(1)?, failing, 4096)?;
-        assert_eq!(rt; sealing(rt.alloc(), &mut shard)?, wanted);
+        assert_eq!(rt; seal_twice(rt.alloc(), &mut shard)?, wanted);
     }
     Ok(())
 }
@@ -634,7 +634,7 @@ fn committed<R: Rack, A: Area>(
     seal(shard);
     let sealed = shard.room(1).run;
     commit(shard);
-    Ok(([freed, sealed, shard.room(1).run], groups(shard)))
+    Ok(([freed, sealed, shard.room(1).run], groups_of(shard)))
 }
 
 #[test]
