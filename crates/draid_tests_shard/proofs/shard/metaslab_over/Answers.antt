@@ -1,0 +1,6 @@
+use Rattle.std.proofs.Common.{sym}
+use Rattle.draid_tests_shard.proofs.shard.metaslab_over.Goals as goal
+
+-- a new metaslab holds no block
+pub returns-in-Ok-clause-empty : goal.returns-in-Ok-clause-empty
+returns-in-Ok-clause-empty c = λ key. sym (c.in-Ok.ensures.created.held key)
