@@ -144,7 +144,7 @@ fn is_read(rt: &HostRuntime, text: &str, want: &str) -> Result<bool, Fail> {
 }
 
 /// Lines outside a section, and what is read of them.
-const LINES: [(&str, &str); 56] = [
+static LINES: [(&str, &str); 56] = [
     ("", "Nothing"),
     ("#create", "Nothing"),
     (
@@ -217,7 +217,7 @@ const LINES: [(&str, &str); 56] = [
 
 #[test]
 fn reads_lines(rt: HostRuntime) -> Result<(), Fail> {
-    for (text, want) in LINES {
+    for (text, want) in LINES.iter() {
         assert!(rt; is_read(&rt, text, want)?, "{text}");
     }
     Ok(())
@@ -246,7 +246,7 @@ fn is_read_in(rt: &HostRuntime, text: &str, want: &str) -> Result<bool, Fail> {
 }
 
 /// Lines of a section of four lanes, and what is read of them.
-const SECTION_LINES: [(&str, &str); 17] = [
+static SECTION_LINES: [(&str, &str); 17] = [
     ("", "Nothing"),
     ("# a", "Nothing"),
     ("end", "End"),
@@ -268,7 +268,7 @@ const SECTION_LINES: [(&str, &str); 17] = [
 
 #[test]
 fn reads_lines_of_sections(rt: HostRuntime) -> Result<(), Fail> {
-    for (text, want) in SECTION_LINES {
+    for (text, want) in SECTION_LINES.iter() {
         assert!(rt; is_read_in(&rt, text, want)?, "{text}");
     }
     Ok(())
