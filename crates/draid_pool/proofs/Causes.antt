@@ -7,7 +7,7 @@ use Rattle.draid_names.specs.declared.fault.DeviceFault.TheVariants.{Failed}
 use Rattle.draid_rack.specs.Rack.{Shape}
 use Rattle.draid_spec.specs.declared.layout.Geometry.{Geometry}
 use Rattle.draid_shelf.specs.Kits.{Held, KitCounts}
-use Rattle.draid_shard.specs.Groups.{area_in}
+use Rattle.draid_groups.specs.Groups.{area_in}
 use Rattle.draid_shard.specs.declared.shard.Shard.{Shard}
 use Rattle.draid_pool.specs.Closing.{OwnCounts}
 use Rattle.draid_pool.specs.Opening.{HasBadArea, HoldsUncommitted, NewPoolFailed}

@@ -46,7 +46,8 @@ use Rattle.draid_pool.specs.Pools.{Represents, Stands}
 use Rattle.draid_pool.specs.Shards.{AreShut, HasRoom, HasRoomAt, IsNoSpace, RoomIs, ShutIs}
 use Rattle.draid_pool.specs.Whole.{IsWhole}
 use Rattle.draid_pool.specs.declared.pool.Pool.{Pool}
-use Rattle.draid_pool.proofs.Looking.{changes_none, looked, looks_at, seen_at}
+use Rattle.draid_pool.specs.Views.{seen_at}
+use Rattle.draid_pool.proofs.Looking.{changes_none, looked, looks_at}
 use Rattle.draid_pool.proofs.StoreSteps.{worn_for}
 use Rattle.draid_pool.proofs.Wholes.{whole_valid}
 use Rattle.draid_pool.proofs.WriteSteps.{follows_both}

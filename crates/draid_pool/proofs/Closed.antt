@@ -22,7 +22,7 @@ use Rattle.draid_shelf.specs.Shelf.{SameOthers}
 use Rattle.draid_stable.specs.Stable as stable
 use Rattle.draid_stable.proofs.Lasting.{stable_left}
 use Rattle.draid_shard.specs.declared.shard.Shard.{Shard}
-use Rattle.draid_shard.specs.Groups.{ListsOnce, at_version}
+use Rattle.draid_groups.specs.Groups.{ListsOnce, at_version}
 use Rattle.draid_shard.specs.Part.{Part, layout_in}
 use Rattle.draid_shard.specs.States.{layout_by}
 use Rattle.draid_uber.specs.Uber.{area_of}

@@ -21,7 +21,7 @@ use Rattle.draid_slots.specs.Table.{SlotTable, is_leaf_kind}
 use Rattle.draid_shard.specs.Calls.{ActsOn, SameAreas, SameKit}
 use Rattle.draid_shard.specs.Fits.{IsLeaf, Valid}
 use Rattle.draid_shard.specs.Part.{Part, layout_in}
-use Rattle.draid_stable.specs.Slots.{HasSlots, named}
+use Rattle.draid_slots.specs.States.{HasSlots, named}
 use Rattle.draid_shard.specs.States.{Does, DoesNone, IsIn}
 use Rattle.draid_shard.specs.declared.shard.Shard.{Shard}
 use Rattle.draid_shard.proofs.Damaging.{leaf_found}

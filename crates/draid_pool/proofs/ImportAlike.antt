@@ -17,17 +17,12 @@ use Rattle.draid_objects.specs.Blocks.{Blocks, sealed_at}
 use Rattle.draid_objects.specs.Changes.{Write, write_by}
 use Rattle.draid_segments.specs.Segments.{Pieces}
 use Rattle.draid_slots.specs.Table.{SlotTable, arms_of}
-use Rattle.draid_entries.specs.declared.entry.Entry.{Entry}
-use Rattle.draid_entries.specs.declared.entries.Entries.{Entries}
-use Rattle.draid_entries.specs.Entries.{entry_at, held_in}
-use Rattle.draid_entries.specs.Maps.{held_at, key_of}
-use Rattle.draid_stable.specs.Slots.{HasSlots, name_of, named}
-use Rattle.draid_shard.proofs.Held.{key_leads}
+use Rattle.draid_slots.specs.States.{HasSlots, name_of, named}
 use Rattle.draid_session.specs.Opening.{MayFind, Reopens}
 use Rattle.draid_session.specs.State.{Metaslab, State}
 use Rattle.draid_pool.specs.Importable.{AreAlike, IsAlike, IsFindable, SameArms, bare}
 use Rattle.draid_pool.specs.Objects.{HoldsObjects, blocks_of}
-use Rattle.draid_pool.specs.Together.{IsSameArm}
+use Rattle.draid_found.specs.Together.{IsSameArm}
 use Rattle.draid_pool.proofs.Alike.{alike_opened, same_bare}
 use Rattle.draid_pool.proofs.Lists.{some_of}
 
@@ -111,8 +106,3 @@ found_once x group pieces blocks objects are m n k g h at there =
     let v = objects.stores.only m k a.h a.found a.block in
     let w = objects.stores.only n k b.h b.found b.block in
     sym v.2 ∙ (ap (λ (z : Write). z.metaslab) (some_of (write_by x.store.changes k) v.0 w.0 v.1 w.1) ∙ w.2)
-
--- nor at two places of one
-pub one_place : (t : Entries) (j k : ℕ) (d e : Entry) → entry_at t j ≡ Some d → entry_at t k ≡ Some e → key_of d.pointer ≡ key_of e.pointer → d.pointer.first ≡ e.pointer.first
-one_place t j k d e at there same =
-    ap (λ (h : Block). h.first) (some_of (held_in t (key_of e.pointer)) (held_at d) (held_at e) (ap (held_in t) (sym same) ∙ key_leads t j d at) (key_leads t k e there))

@@ -17,7 +17,7 @@ use Rattle.draid_stable.specs.Stable as stable
 use Rattle.draid_shard.specs.declared.shard.Shard.{Shard}
 use Rattle.draid_session.specs.State.{Metaslab, State}
 use Rattle.draid_pool.specs.Closing.{Returns, TakesBack}
-use Rattle.draid_shard.specs.Groups.{ListsOnce}
+use Rattle.draid_groups.specs.Groups.{ListsOnce}
 use Rattle.draid_pool.specs.Importable.{AllAlike, HasImageLeaves, IsImportable}
 use Rattle.draid_pool.specs.Metaslabs.{IsMetaslab}
 use Rattle.draid_pool.specs.Pools.{part_in}

@@ -1,5 +1,5 @@
 -- The fault of a record for which an import is refused.
-use Rattle.std.proofs.Common.{◌≡◌, ◌∙◌, ℕ, Option, Some, None, Result, Ok, Err, sym, ap, subst}
+use Rattle.std.proofs.Common.{◌≡◌, ◌∙◌, ℕ, List, Option, Some, None, Result, Ok, Err, sym, ap, subst}
 use Rattle.std.specs.Prelude.{IsErrOf}
 use Rattle.draid_names.specs.declared.fault.DeviceFault.{DeviceFault}
 use Rattle.draid_names.specs.declared.fault.DeviceFault.TheVariants as device
@@ -10,9 +10,11 @@ use Rattle.draid_record.specs.declared.fault.RecordFault.TheVariants.{Bad}
 use Rattle.draid_shelf.specs.Kits.{Held, KitCounts, OnHeld, kit_of}
 use Rattle.draid_shelf.specs.declared.kit.Kit.{Kit}
 use Rattle.draid_spec.specs.declared.layout.Geometry.{Geometry}
-use Rattle.draid_shard.specs.Reopening.{OpenIsRefused}
-use Rattle.draid_shard.specs.declared.fault.OpenFault.{OpenFault}
-use Rattle.draid_shard.specs.declared.fault.OpenFault.TheVariants as open_why
+use Rattle.draid_groups.specs.Reopening.{OpenIsRefused}
+use Rattle.draid_groups.specs.declared.fault.OpenFault.{OpenFault}
+use Rattle.draid_groups.specs.declared.fault.OpenFault.TheVariants as open_why
+use Rattle.draid_shard.specs.declared.shard.Shard.{Shard}
+use Rattle.draid_found.specs.Together.{AreApart}
 use Rattle.draid_uber.specs.Slots.{chosen_of}
 use Rattle.draid_uber.specs.Uber.{FindsFault}
 use Rattle.draid_uber.specs.declared.uber.UberFault.{UberFault}
@@ -31,6 +33,15 @@ err_is f g err = cc
 -- one that is passed on
 pub passed_on : {T U : Type 0} (r : Result T PoolFault) (y f w : PoolFault) → r ≡ Err y → y ≡ f → IsErrOf r w → IsErrOf {T = U} (Err f) w
 passed_on {T} r y f w is same err = (let it : f ≡ w = sym same ∙ err_is {T = T} y w (sym is ∙ err) in ap Err it)
+
+-- metaslabs that aren't those of one pool
+pub found_apart : {R A T : Type 0} (shards : List (Shard R A)) (m place kind : ℕ) → AreApart shards (Some m) place kind → (metaslab : Option ℕ) (p k : ℕ)
+    → IsErrOf {T = T} (Err (fault.Record (Some m) place kind)) (fault.Record metaslab p k) → AreApart shards metaslab p k
+found_apart shards m place kind apart metaslab p k err =
+    let own : Some m ≡ metaslab = cc in
+    let p_is : place ≡ p = cc in
+    let k_is : kind ≡ k = cc in
+    subst (λ x. AreApart shards x p k) own (subst (λ n. AreApart shards (Some m) n k) p_is (subst (λ n. AreApart shards (Some m) place n) k_is apart))
 
 -- a call on the shelf that gave nothing isn't a record's fault
 pub shelf_no_record : (why : DeviceFault) (metaslab : Option ℕ) (place kind : ℕ) → shelf_fault_of why ≡ fault.Record metaslab place kind → ⊥

@@ -21,19 +21,18 @@ use Rattle.draid_shelf.specs.declared.kit.Kit.{Kit}
 use Rattle.draid_stable.specs.Images.{image_by}
 use Rattle.draid_stable.specs.Stable as stable
 use Rattle.draid_shard.specs.Calls.{OnBothTold}
-use Rattle.draid_shard.specs.Groups.{ListsOnce, Opens}
+use Rattle.draid_groups.specs.Groups.{ListsOnce, Opens}
 use Rattle.draid_shard.specs.declared.shard.Shard.{Shard}
 use Rattle.draid_uber.specs.Slots.{StandsTold, group_of}
 use Rattle.draid_uber.specs.Uber.{area_of, kept_of, layout_of, next_leaf_of}
 use Rattle.draid_uber.specs.declared.uber.Uber.{Uber}
 use Rattle.draid_session.specs.State.{Metaslab, State, limit_of}
 use Rattle.draid_pool.specs.Closing.{AllTell, RestsOn, Returns, ReturnsLeaves, TakesBack, kit_in}
-use Rattle.draid_pool.specs.Found.{AnyRecordsRose, AreReopened, CountsLater, HasRisen, HoldsKits, IsFoundUber, IsRecovered, IsReopened, IsShardFault, KeepsKnown, LeavesShards, OpensAllOver, RecordsRose, StaysHeld}
+use Rattle.draid_pool.specs.Found.{AnyRecordsRose, AreReopened, CountsLater, HasRisen, HoldsKits, IsFoundUber, IsRecovered, IsReopened, IsShardFault, KeepsKnown, LeavesShards, NoRecord, OpensAllOver, RecordsRose, StaysHeld}
 use Rattle.draid_pool.specs.Importable.{HasImageLeaves}
 use Rattle.draid_pool.specs.Imported.{FindsBody, OpensFound, RestsFound}
 use Rattle.draid_pool.specs.Importing.{ImportIs, LeavesPool, RestsThere}
 use Rattle.draid_pool.specs.Opening.{TakesFirst}
-use Rattle.draid_pool.specs.Together.{NoRecord}
 use Rattle.draid_pool.specs.Ubers.{UberStands}
 use Rattle.draid_pool.specs.declared.fault.PoolFault.{PoolFault}
 use Rattle.draid_pool.specs.declared.fault.PoolFault.TheVariants as fault
@@ -316,11 +315,12 @@ refused_pool {R} {A} alloc rack area x pieces (Some held) mid back new leaves ye
 -- ---- the answer
 
 -- a call that failed as metaslabs were opened
-pub risen_behind : (first since last new uber uber' : ℕ) (counts yet late after : ℕ → KitCounts) → first ≤ since → new ≡ last → ((m : ℕ) → yet m ≡ counts m) → ((m : ℕ) → after m ≡ late m)
-    → Rose since last ⊎ AnyRecordsRose yet late → HasRisen first new uber uber' counts after
-risen_behind first since last new uber uber' counts yet late after later same yet_is after_is (inl rose) = inl (inl (subst (λ (n : ℕ). Rose first n) (sym same) (rose_since first since last later rose)))
-risen_behind first since last new uber uber' counts yet late after later same yet_is after_is (inr z) =
-    inr (z.0, subst (λ (k : KitCounts). RecordsRose k (after z.0)) (yet_is z.0) (subst (λ (k : KitCounts). RecordsRose (yet z.0) k) (sym (after_is z.0)) z.1))
+pub risen_behind : {A : Type 0} (area : areas.Ghosts A) (o : Option Held) (first since last new uber uber' : ℕ) (counts yet late after : ℕ → KitCounts) (found : Uber A) → IsFoundUber area found → IsRecovered area o uber found
+    → first ≤ since → new ≡ last → ((m : ℕ) → yet m ≡ counts m) → ((m : ℕ) → after m ≡ late m) → Rose since last ⊎ AnyRecordsRose (layout_of found).props.metaslabs yet late → HasRisen area o first new uber uber' counts after
+risen_behind area o first since last new uber uber' counts yet late after found is recovered later same yet_is after_is (inl rose) = inl (inl (subst (λ (n : ℕ). Rose first n) (sym same) (rose_since first since last later rose)))
+risen_behind area o first since last new uber uber' counts yet late after found is recovered later same yet_is after_is (inr z) =
+    let rose = subst (λ (k : KitCounts). RecordsRose k (after z.0)) (yet_is z.0) (subst (λ (k : KitCounts). RecordsRose (yet z.0) k) (sym (after_is z.0)) z.2) in
+    inr (record { uber = found; found = is; recovered = recovered; rose = (z.0, z.1, rose) })
 
 -- the shelf's leaves are as they were
 pub rests_known : (x : State) (pieces : ℕ → Pieces) (o : Option Held) (leaves now : ℕ → Option Shape) (counts : ℕ → KitCounts) (count : ℕ) → ((m : ℕ) → now m ≡ leaves m) → RestsThere x pieces o leaves counts count

@@ -40,19 +40,19 @@ use Rattle.draid_shelf.specs.declared.kit.Kit.{Kit}
 use Rattle.draid_stable.specs.Images.{LeavesBelow, image_by}
 use Rattle.draid_stable.specs.Kits.{IsStable}
 use Rattle.draid_stable.specs.Opening.{has_leaf_arm}
-use Rattle.draid_stable.specs.Slots.{HasSlots, named}
+use Rattle.draid_slots.specs.States.{HasSlots, named}
 use Rattle.draid_stable.proofs.There.{arm_named}
 use Rattle.draid_stable.specs.Stable as stable
 use Rattle.draid_stable.specs.Stable.{HasRecord}
 use Rattle.draid_entries.specs.History.{limit_in}
 use Rattle.draid_shard.specs.Calls.{OnBothTold}
 use Rattle.draid_shard.specs.Fits.{Valid}
-use Rattle.draid_shard.specs.Groups.{ListsOnce, Opens, at_version}
+use Rattle.draid_groups.specs.Groups.{ListsOnce, Opens, at_version}
 use Rattle.draid_shard.specs.Part.{IsPart, Part, layout_in}
 use Rattle.draid_shard.specs.Stands.{StandsFor}
 use Rattle.draid_shard.specs.States.{layout_by, part_of}
 use Rattle.draid_shard.specs.declared.shard.Shard.{Shard}
-use Rattle.draid_shard.proofs.Opened.{opened_stands}
+use Rattle.draid_groups.proofs.Opened.{opened_stands}
 use Rattle.draid_shard.proofs.Standing.{has_layout, reached_more}
 use Rattle.draid_session.specs.Follows.{CountsRise, HarmBoth}
 use Rattle.draid_session.specs.Opening.{Reopens}

@@ -27,13 +27,13 @@ use Rattle.draid_uber.specs.Uber.{kept_of, layout_of, next_leaf_of}
 use Rattle.draid_uber.specs.declared.uber.Uber.{Uber}
 use Rattle.draid_session.specs.Opening.{Reopens}
 use Rattle.draid_session.specs.State.{Metaslab, State, limit_of}
-use Rattle.draid_pool.specs.Found.{AreReopened, IsFoundUber, IsRecovered, OpensAllOver}
+use Rattle.draid_pool.specs.Found.{AreReopened, IsFoundUber, IsRecovered, NoRecord, OpensAllOver}
 use Rattle.draid_pool.specs.Importable.{SameArms}
 use Rattle.draid_pool.specs.Imported.{OpensFound}
 use Rattle.draid_pool.specs.Importing.{RestsThere}
 use Rattle.draid_pool.specs.Objects.{blocks_of}
 use Rattle.draid_pool.specs.Pools.{part_in}
-use Rattle.draid_pool.specs.Together.{AreApart, HasBlock, HaveSameArms, NoRecord}
+use Rattle.draid_found.specs.Together.{AreApart, HasBlock, HaveSameArms}
 use Rattle.draid_pool.specs.declared.fault.PoolFault.{PoolFault}
 use Rattle.draid_pool.specs.declared.fault.PoolFault.TheVariants as fault
 use Rattle.draid_pool.proofs.ImportAlike.{as_many, found_alike, found_once, same_arms}

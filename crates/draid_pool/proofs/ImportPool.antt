@@ -16,7 +16,7 @@ use Rattle.draid_segments.specs.Segments.{Pieces}
 use Rattle.draid_shelf.specs.Kits.{Held, KitCounts, KitTold, takes_uber}
 use Rattle.draid_stable.specs.Stable as stable
 use Rattle.draid_shard.specs.Fits.{Valid}
-use Rattle.draid_shard.specs.Groups.{ListsOnce, Opens}
+use Rattle.draid_groups.specs.Groups.{ListsOnce, Opens}
 use Rattle.draid_shard.specs.States.{part_of}
 use Rattle.draid_shard.specs.declared.shard.Shard.{Shard}
 use Rattle.draid_uber.specs.Slots.{chosen_of, group_of, read_body}
@@ -24,7 +24,8 @@ use Rattle.draid_uber.specs.Uber.{kept_of, layout_of, next_leaf_of, version_of}
 use Rattle.draid_uber.specs.declared.uber.Uber.{Uber}
 use Rattle.draid_session.specs.State.{Metaslab, State, limit_of}
 use Rattle.draid_pool.specs.Closing.{Rests}
-use Rattle.draid_pool.specs.Found.{AreFound, AreReopened, IsFoundUber, IsRecovered, OpensAllOver, OpensOver}
+use Rattle.draid_found.specs.Found.{AreFound}
+use Rattle.draid_pool.specs.Found.{AreReopened, IsFoundUber, IsRecovered, OpensAllOver, OpensOver}
 use Rattle.draid_pool.specs.Importable.{IsImportable}
 use Rattle.draid_pool.specs.Imported.{FindsBody, IsFoundOf, IsLastIn, IsNewestIn, OpensFound}
 use Rattle.draid_pool.specs.Importing.{RestsThere}

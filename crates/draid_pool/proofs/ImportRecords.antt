@@ -20,15 +20,15 @@ use Rattle.draid_slots.specs.Table.{is_leaf, is_leaf_kind}
 use Rattle.draid_entries.specs.Live.{first_twice}
 use Rattle.draid_stable.specs.Images.{all_arms, arm_of, has_name}
 use Rattle.draid_stable.specs.Opening.{arm_len, arms_len, fitting, has_leaf, is_lacking, lacking_from, lacking_in, once_in, opening_of, slots_at, there_in}
-use Rattle.draid_stable.specs.Slots.{named}
+use Rattle.draid_slots.specs.States.{named}
 use Rattle.draid_stable.specs.Stable as stable
 use Rattle.draid_stable.specs.Stable.{HasRecord}
 use Rattle.draid_shelf.specs.Kits.{KitTold, kit_of}
 use Rattle.draid_shelf.specs.declared.kit.Kit.{Kit}
 use Rattle.draid_segments.specs.Segments.{Pieces}
-use Rattle.draid_shard.specs.Groups.{ListsOnce, at_version}
-use Rattle.draid_shard.specs.Reopening.{OpenIsRefused}
-use Rattle.draid_shard.specs.declared.fault.OpenFault.TheVariants as fault
+use Rattle.draid_groups.specs.Groups.{ListsOnce, at_version}
+use Rattle.draid_groups.specs.Reopening.{OpenIsRefused}
+use Rattle.draid_groups.specs.declared.fault.OpenFault.TheVariants as fault
 use Rattle.draid_session.specs.State.{Metaslab, State}
 use Rattle.draid_pool.specs.Importable.{HasImageLeaves}
 use Rattle.draid_pool.proofs.Closed.{kit_is}

@@ -22,7 +22,7 @@ use Rattle.draid_uber.specs.Slots.{StandsTold}
 use Rattle.draid_session.specs.Opening.{Finds, MayFind, Reopens}
 use Rattle.draid_session.specs.State.{Counts, Metaslab, State}
 use Rattle.draid_pool.specs.Closing.{Rests, RestsOn, SameCounts, kit_in}
-use Rattle.draid_shard.specs.Groups.{ListsOnce}
+use Rattle.draid_groups.specs.Groups.{ListsOnce}
 use Rattle.draid_pool.specs.Importable.{AreAlike, HasImageLeaves, IsFindable, IsImportable, SameArms}
 use Rattle.draid_pool.specs.Imported.{FindsBody, OpensFound, RestsFound, found_state}
 use Rattle.draid_pool.specs.Pools.{part_in}

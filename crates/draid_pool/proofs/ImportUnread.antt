@@ -12,19 +12,18 @@ use Rattle.draid_shelf.specs.Kits.{Held, KitCounts, OnHeld, kit_of, takes_uber}
 use Rattle.draid_shelf.specs.Shelf.{IsKnown}
 use Rattle.draid_shelf.specs.declared.kit.Kit.{Kit}
 use Rattle.draid_stable.specs.Stable as stable
-use Rattle.draid_shard.specs.Groups.{ListsOnce}
-use Rattle.draid_shard.specs.Reopening.{OpenIsRefused}
-use Rattle.draid_shard.specs.declared.fault.OpenFault.{OpenFault}
-use Rattle.draid_shard.specs.declared.fault.OpenFault.TheVariants as open_why
+use Rattle.draid_groups.specs.Groups.{ListsOnce}
+use Rattle.draid_groups.specs.Reopening.{OpenIsRefused}
+use Rattle.draid_groups.specs.declared.fault.OpenFault.{OpenFault}
+use Rattle.draid_groups.specs.declared.fault.OpenFault.TheVariants as open_why
 use Rattle.draid_uber.specs.Slots.{group_of}
 use Rattle.draid_uber.specs.Uber.{kept_of, layout_of, next_leaf_of}
 use Rattle.draid_uber.specs.declared.uber.Uber.{Uber}
 use Rattle.draid_session.specs.State.{State}
-use Rattle.draid_pool.specs.Found.{IsFoundUber, IsRecovered, open_fault_of, shelf_fault_of}
+use Rattle.draid_pool.specs.Found.{IsFoundUber, IsRecovered, NoRecord, open_fault_of, shelf_fault_of}
 use Rattle.draid_pool.specs.Importable.{HasImageLeaves}
 use Rattle.draid_pool.specs.Importing.{RestsThere}
 use Rattle.draid_pool.specs.Opening.{TakesFirst}
-use Rattle.draid_pool.specs.Together.{NoRecord}
 use Rattle.draid_pool.specs.declared.fault.PoolFault.{PoolFault}
 use Rattle.draid_pool.specs.declared.fault.PoolFault.TheVariants as fault
 use Rattle.draid_pool.proofs.ImportFound.{finds_image}

@@ -34,6 +34,7 @@ pub mod Listing
 pub mod ChooseSteps
 pub mod Walks
 pub mod Turns
+pub mod Viewed
 pub mod Stood
 pub mod SyncSteps
 pub mod Naming
@@ -59,8 +60,8 @@ pub mod Causes
 pub mod Counted
 pub mod ImportPool
 pub mod ImportUnread
-pub mod ImportTogether
 pub mod ImportOne
 pub mod ImportTaken
+pub mod ImportMade
 pub mod ImportLeft
 pub mod ImportFaulty

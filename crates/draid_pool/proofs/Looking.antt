@@ -8,17 +8,14 @@ use Rattle.draid_session.specs.Holds.{Hold, Looked, On, View, view_of}
 use Rattle.draid_session.specs.Looks.{LooksFrom}
 use Rattle.draid_session.specs.Phases.{NoneOf}
 use Rattle.draid_session.specs.State.{Metaslab, State}
+use Rattle.draid_pool.specs.Views.{seen_at}
 use Rattle.draid_pool.proofs.Lists.{set_back}
 use Rattle.draid_pool.proofs.OneHold.{rests}
 
--- a look at each metaslab from a number on, and what is seen
+-- a look at each metaslab from a number on
 unfoldable pub looks_at : ℕ → List Metaslab → List Hold
 looks_at m [] = []
 looks_at m (y ∷ ys) = On (view_of m y) Looked ∷ looks_at (m + 1) ys
-
-unfoldable pub seen_at : ℕ → List Metaslab → List View
-seen_at m [] = []
-seen_at m (y ∷ ys) = view_of m y ∷ seen_at (m + 1) ys
 
 pub looked : (m : ℕ) (ys : List Metaslab) → LooksFrom m (length ys) (looks_at m ys) (seen_at m ys)
 unfolding looks_at seen_at

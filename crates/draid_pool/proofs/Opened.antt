@@ -20,7 +20,7 @@ use Rattle.draid_shelf.specs.Shelf.{SameOthers}
 use Rattle.draid_shelf.specs.declared.kit.Kit.{Kit}
 use Rattle.draid_entries.specs.History.{limit_in, reserved_of}
 use Rattle.draid_shard.specs.Fits.{Valid}
-use Rattle.draid_shard.specs.Groups.{ListsOnce}
+use Rattle.draid_groups.specs.Groups.{ListsOnce}
 use Rattle.draid_shard.specs.Part.{Part, layout_in}
 use Rattle.draid_shard.specs.States.{IsIn, part_of, stored_in}
 use Rattle.draid_shard.specs.declared.shard.Shard.{Shard}

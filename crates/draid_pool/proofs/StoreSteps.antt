@@ -26,11 +26,13 @@ use Rattle.draid_segments.proofs.Beginning.{pieces_backed}
 use Rattle.draid_entries.specs.Entries.{held_in}
 use Rattle.draid_entries.specs.History.{stored_of}
 use Rattle.draid_entries.specs.Maps.{held_at, key_of, staged}
-use Rattle.draid_shard.specs.Calls.{Carries, IsTicketOf, IsWornFor, SameKit, SameReserve, begins, block_events}
+use Rattle.draid_shard.specs.Calls.{BeginRefused, Carries, IsTicketOf, IsWornFor, SameKit, SameReserve, begins, block_events}
 use Rattle.draid_shard.specs.Columns.{ArePieces, row_bytes}
 use Rattle.draid_shard.specs.Fits.{Valid}
 use Rattle.draid_shard.specs.Part.{Part, layout_in}
 use Rattle.draid_shard.specs.States.{Does, layout_by, part_of}
+use Rattle.draid_shard.specs.declared.fault.BeginFault.{BeginFault}
+use Rattle.draid_shard.specs.declared.fault.BeginFault.TheVariants as begin
 use Rattle.draid_shard.specs.declared.shard.Shard.{Shard}
 use Rattle.draid_shard.specs.declared.ticket.Ticket.{Ticket}
 use Rattle.draid_shard.proofs.Held.{key_leads}
@@ -42,12 +44,20 @@ use Rattle.draid_session.specs.State.{Metaslab}
 use Rattle.draid_session.specs.Worn.{IsWorn}
 use Rattle.draid_session.specs.Writes.{PutsColumns, WritesBlock}
 use Rattle.draid_pool.specs.Metaslabs.{IsMetaslab}
-use Rattle.draid_pool.specs.Shards.{FollowsIn, Goes, KeepsImages, NotStored, SameBut, SamePieces, Stored}
+use Rattle.draid_pool.specs.Shards.{FollowsIn, Goes, HasRoom, KeepsImages, NotStored, SameBut, SamePieces, Stored}
 use Rattle.draid_pool.proofs.Dids.{Done, did_quiet}
 use Rattle.draid_pool.proofs.Imaged.{keeps_then, step_keeps}
 use Rattle.draid_pool.proofs.Lists.{some_of}
 use Rattle.draid_pool.proofs.Lives.{live_by}
 use Rattle.draid_pool.proofs.PutSteps.{follows_more, set_other, set_own}
+
+-- a block for which there is room is refused for want of memory alone
+pub never_refused : {R A : Type 0} (shard : Shard R A) (need : ℕ) (w : machine.State) → HasRoom need shard w → (why : BeginFault) → BeginRefused shard need w why → why ≡ begin.NoMemory
+never_refused shard need w room (begin.Disabled pass) r = (let both = sym r.2 ∙ room.takes.enabled r.0 r.1 in absurd (cc))
+never_refused shard need w room (begin.Entries held) r = absurd (r.1 room.takes.fewer)
+never_refused shard need w room (begin.NoRoom largest) r = (let less = r.3 in let most = r.2.longest room.first need (omega (arith, less)) room.fits in absurd (omega (arith, less, most)))
+never_refused shard need w room (begin.Worn events) r = absurd (room.takes.events r.3)
+never_refused shard need w room begin.NoMemory r = refl
 
 -- ---- pieces
 

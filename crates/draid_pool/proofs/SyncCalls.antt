@@ -29,10 +29,11 @@ use Rattle.draid_pool.specs.declared.fault.SyncFault.{SyncFault}
 use Rattle.draid_pool.specs.declared.fault.SyncFault.TheVariants as sync
 use Rattle.draid_pool.specs.declared.fault.Synced.{Synced}
 use Rattle.draid_pool.specs.declared.pool.Pool.{Pool}
+use Rattle.draid_pool.specs.Views.{seen_at}
 use Rattle.draid_pool.proofs.Commits.{CommitsAll, CommittedBelow, commits_all}
 use Rattle.draid_pool.proofs.Lifted.{HasMetaslab, metaslab_of}
 use Rattle.draid_pool.proofs.Lists.{present}
-use Rattle.draid_pool.proofs.Looking.{changes_none, looked, looks_at, none_seen, not_none, seen_at, seen_there}
+use Rattle.draid_pool.proofs.Looking.{changes_none, looked, looks_at, none_seen, not_none, seen_there}
 use Rattle.draid_pool.proofs.Moved.{uber_stays}
 use Rattle.draid_pool.proofs.Naming.{Names, Refuses, named_state, refused_state, stood_named, stood_refused, uber_named, uber_refused}
 use Rattle.draid_pool.proofs.Steps.{carried, carries_so, follows_on, own_of, same_layout, settled}

@@ -30,13 +30,13 @@ use Rattle.draid_entries.specs.History as history
 use Rattle.draid_entries.specs.History.{limit_in, reserved_of}
 use Rattle.draid_shard.specs.Calls.{SameKit, SameReserve}
 use Rattle.draid_shard.specs.Fits.{Valid}
-use Rattle.draid_shard.specs.Groups.{AreasLater, CloseRefused, KeepsOtherArea, ListsOnce, OpenUpto, Seals, Unsealed, area_in}
+use Rattle.draid_groups.specs.Groups.{AreasLater, CloseRefused, KeepsOtherArea, ListsOnce, OpenUpto, Seals, Unsealed, area_in}
 use Rattle.draid_shard.specs.Part.{Part, layout_in}
 use Rattle.draid_shard.specs.States.{Does, DoesNone, IsIn, layout_by, part_of}
-use Rattle.draid_shard.specs.declared.fault.CloseFault.{CloseFault}
-use Rattle.draid_shard.specs.declared.fault.CloseFault.TheVariants as close
-use Rattle.draid_shard.specs.declared.fault.SealFault.{SealFault}
-use Rattle.draid_shard.specs.declared.fault.SealFault.TheVariants as seal
+use Rattle.draid_groups.specs.declared.fault.CloseFault.{CloseFault}
+use Rattle.draid_groups.specs.declared.fault.CloseFault.TheVariants as close
+use Rattle.draid_groups.specs.declared.fault.SealFault.{SealFault}
+use Rattle.draid_groups.specs.declared.fault.SealFault.TheVariants as seal
 use Rattle.draid_shard.specs.declared.shard.Shard.{Shard}
 use Rattle.draid_shard.proofs.Standing.{has_layout}
 use Rattle.draid_session.specs.Follows.{CountsRise, Rests, area_count}

@@ -11,7 +11,7 @@ use Rattle.draid_layouts.specs.Layout.{layout_of}
 use Rattle.draid_segments.specs.Segments.{Backed, Pieces}
 use Rattle.draid_shelf.specs.Kits.{AreNewChecks, CheckCounts, Held, KitCounts, KitTold, OnHeld, kit_of}
 use Rattle.draid_stable.specs.Kits.{IsStable}
-use Rattle.draid_shard.specs.Groups.{at_version}
+use Rattle.draid_groups.specs.Groups.{at_version}
 use Rattle.draid_shard.specs.declared.shard.Shard.{Shard}
 use Rattle.draid_session.specs.State.{Counts, Metaslab, State}
 use Rattle.draid_pool.specs.Importable.{IsImportable}

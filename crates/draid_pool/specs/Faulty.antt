@@ -10,15 +10,15 @@ use Rattle.draid_record.specs.declared.fault.RecordFault.TheVariants.{Bad}
 use Rattle.draid_stable.specs.Opening.{has_leaf, opening_of}
 use Rattle.draid_shelf.specs.Kits.{Held, KitCounts, OnHeld, takes_uber}
 use Rattle.draid_shelf.specs.declared.kit.Kit.{Kit}
-use Rattle.draid_shard.specs.Groups.{area_of_kit}
-use Rattle.draid_shard.specs.Reopening.{AreBytes}
+use Rattle.draid_groups.specs.Groups.{area_of_kit}
+use Rattle.draid_groups.specs.Reopening.{AreBytes}
 use Rattle.draid_shard.specs.declared.shard.Shard.{Shard}
 use Rattle.draid_uber.specs.Slots.{chosen_of, group_of}
 use Rattle.draid_uber.specs.Uber.{kept_of, layout_of, next_leaf_of}
 use Rattle.draid_uber.specs.declared.uber.Uber.{Uber}
 use Rattle.draid_session.specs.State.{limit_of}
 use Rattle.draid_pool.specs.Found.{AreReopened, IsFoundUber, IsKitOf, IsRecovered, OpensAllOver}
-use Rattle.draid_pool.specs.Together.{AreApart}
+use Rattle.draid_found.specs.Together.{AreApart}
 
 -- the uberblock that the shelf holds has this fault
 pub record UberIsBad (held : Option Held) (metaslab : Option ℕ) (place kind : ℕ) : Type 0 where

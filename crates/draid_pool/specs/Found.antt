@@ -1,5 +1,5 @@
 -- The metaslabs that an import opens, and the blocks that it finds there.
-use Rattle.std.specs.Prelude.{◌≡◌, ◌<◌, ◌≤◌, ◌+◌, ◌⊎◌, ⊤, ℕ, true, List, Option, Some, None, Ok, IsSome, IsSomeAnd, MatchOption, [], length, option_map, slice_get, slice_set}
+use Rattle.std.specs.Prelude.{◌≡◌, ◌<◌, ◌≤◌, ◌+◌, ◌⊎◌, ⊤, ℕ, true, List, Option, Some, None, Ok, IsErrOf, IsSome, IsSomeAnd, MatchOption, Result, [], length, option_map, slice_get, slice_set}
 use Rattle.draid_names.specs.Faults.{Rose}
 use Rattle.draid_names.specs.declared.fault.DeviceFault.{DeviceFault}
 use Rattle.draid_names.specs.declared.fault.DeviceFault.TheVariants as device
@@ -31,12 +31,13 @@ use Rattle.draid_pool.specs.Shards.{FreesIn, Goes}
 use Rattle.draid_shard.specs.Calls.{IsLive}
 use Rattle.draid_shard.specs.Changes.{SetsBlock}
 use Rattle.draid_shard.specs.Fits.{Valid}
-use Rattle.draid_shard.specs.Groups.{Opens, OpensCounts}
+use Rattle.draid_groups.specs.Groups.{Opens, OpensCounts}
 use Rattle.draid_shard.specs.Part.{Part}
 use Rattle.draid_shard.specs.States.{part_of}
-use Rattle.draid_shard.specs.declared.fault.OpenFault.{OpenFault}
-use Rattle.draid_shard.specs.declared.fault.OpenFault.TheVariants as open_fault
+use Rattle.draid_groups.specs.declared.fault.OpenFault.{OpenFault}
+use Rattle.draid_groups.specs.declared.fault.OpenFault.TheVariants as open_fault
 use Rattle.draid_shard.specs.declared.shard.Shard.{Shard}
+use Rattle.draid_found.specs.Found.{AllLive}
 use Rattle.draid_uber.specs.declared.uber.Uber.{Uber}
 use Rattle.draid_uber.specs.declared.uber.UberFault.{UberFault}
 use Rattle.draid_uber.specs.declared.uber.UberFault.TheVariants as uber_fault
@@ -54,12 +55,9 @@ SameChecks old new = shelf.OnHeld new (λ y. MatchOption old ⊥ (λ x. y.checks
 abbrev pub RecordsRose : shelf.KitCounts → shelf.KitCounts → Type 0
 RecordsRose before after = Rose before.even after.even ⊎ Rose before.odd after.odd
 
-abbrev pub AnyRecordsRose : (ℕ → shelf.KitCounts) → (ℕ → shelf.KitCounts) → Type 0
-AnyRecordsRose before after = (m : ℕ) × RecordsRose (before m) (after m)
-
--- the shelf's count rose, or that of the uberblock's area, or that of an area of a metaslab's records
-abbrev pub HasRisen : ℕ → ℕ → ℕ → ℕ → (ℕ → shelf.KitCounts) → (ℕ → shelf.KitCounts) → Type 0
-HasRisen faults faults' uber uber' counts counts' = (Rose faults faults' ⊎ Rose uber uber') ⊎ AnyRecordsRose counts counts'
+-- so of one of so many metaslabs
+abbrev pub AnyRecordsRose : ℕ → (ℕ → shelf.KitCounts) → (ℕ → shelf.KitCounts) → Type 0
+AnyRecordsRose metaslabs before after = (m : ℕ) × (m < metaslabs) × RecordsRose (before m) (after m)
 
 -- the same is held
 pub record SameHeld (old new : shelf.Held) : Type 0 where
@@ -78,10 +76,6 @@ pub record CountsLater (before after : shelf.KitCounts) : Type 0 where
   pub odd : before.odd ≤ after.odd
 
 -- ---- metaslabs
-
--- all blocks of a shard are live
-abbrev pub AllLive : {R A : Type 0} → Shard R A → Type 0
-AllLive shard = (first : ℕ) (e : Entry) → entry_at shard.entries first ≡ Some e → e.stage ≡ Live
 
 -- a metaslab that was opened from the record of a group
 pub record IsReopened {R A : Type 0} (rack : racks.Ghosts R) (part : Part) (group : ℕ) (shard : Shard R A) : Type 0 where
@@ -145,16 +139,6 @@ pub record LeavesShards {R A : Type 0} (rack : racks.Ghosts R) (area : areas.Gho
   pub leaves_own : (m : ℕ) (shard : Shard R A) → slice_get shards m ≡ Some shard → now m ≡ Some (rack.shape shard.rack)
   pub leaves_left : (m : ℕ) → length shards ≤ m → m < geometry.props.metaslabs → KeepsKnown (leaves m) (now m)
 
--- a metaslab of which the blocks may be noted or freed
-pub record IsReady {R A : Type 0} (rack : racks.Ghosts R) (m : ℕ) (shard : Shard R A) : Type 0 where
-  pub valid : Valid rack shard
-  pub number_is : shard.number ≡ m
-  pub live : AllLive shard
-
--- each of some metaslabs is so
-abbrev pub AreReady : {R A : Type 0} → racks.Ghosts R → List (Shard R A) → Type 0
-AreReady {R} {A} rack shards = (m : ℕ) (shard : Shard R A) → slice_get shards m ≡ Some shard → IsReady rack m shard
-
 -- ---- refusals
 
 -- why an import is refused where the uberblock wasn't recovered
@@ -182,6 +166,10 @@ IsShardFault fault.NoPool = ⊥
 IsShardFault (fault.Record metaslab place kind) = ⊤
 IsShardFault fault.Shelf = ⊤
 IsShardFault fault.NoMemory = ⊤
+
+-- the answer isn't that a record has a fault
+abbrev pub NoRecord : {T : Type 0} → Result T PoolFault → Type 0
+NoRecord result = (metaslab : Option ℕ) (place kind : ℕ) → IsErrOf result (fault.Record metaslab place kind) → ⊥
 
 -- ---- the uberblock
 
@@ -215,60 +203,16 @@ pub record IsRecovered {A : Type 0} (area : areas.Ghosts A) (held : Option shelf
   pub leaf : IsSomeAnd (kept_of uber) (λ body. next_leaf_of uber ≡ body.next_leaf)
   pub later : count ≤ area.faults (area_of uber)
 
--- ---- blocks
+-- an uberblock was found there, and the count of an area of records rose, of one of the metaslabs that it names
+pub record FoundRecordsRose {A : Type 0} (area : areas.Ghosts A) (held : Option shelf.Held) (count : ℕ) (before after : ℕ → shelf.KitCounts) : Type 0 where
+  pub uber : Uber A
+  pub found : IsFoundUber area uber
+  pub recovered : IsRecovered area held count uber
+  pub rose : AnyRecordsRose (layout_of uber).props.metaslabs before after
 
--- a table has a pointer of an object with at least this number
-abbrev pub Reaches : (ℕ → Option Pointer) → (object seq : ℕ) → Type 0
-Reaches table object seq = (p : Pointer) × (table object ≡ Some p) × (seq ≤ p.seq)
-
--- the numbers of a table's pointers don't fall
-abbrev pub Grows : (ℕ → Option Pointer) → (ℕ → Option Pointer) → Type 0
-Grows old new = (object : ℕ) (p : Pointer) → old object ≡ Some p → Reaches new object p.seq
-
--- a table has a block, or a newer one of its object
-pub record KeepsNewer (pointer : Pointer) (old new : ℕ → Option Pointer) : Type 0 where
-  pub newest : (object : ℕ) (p : Pointer) → new object ≡ Some p → (old object ≡ Some p) ⊎ ((pointer.object ≡ object) × (p ≡ pointer))
-  pub known : Reaches new pointer.object pointer.seq
-  pub grows : Grows old new
-
--- a block was noted
-pub record NotesOne (pointer : Pointer) (old new : ℕ → Option Pointer) (before after : ℕ) : Type 0 where
-  pub later : before ≤ after
-  pub numbered : pointer.seq ≤ after
-  pub one : (after ≡ before) ⊎ (after ≡ pointer.seq)
-  pub table : KeepsNewer pointer old new
-
--- a number is that of a block of a shard
-abbrev pub IsNumberOf : {R A : Type 0} → Shard R A → ℕ → Type 0
-IsNumberOf shard seq = (first : ℕ) × (e : Entry) × (entry_at shard.entries first ≡ Some e) × (seq ≡ e.pointer.seq)
-
--- no block that was found has a greater number, and of each object one is kept in mind
-pub record Notes {R A : Type 0} (shard : Shard R A) (old new : ℕ → Option Pointer) (before after : ℕ) : Type 0 where
-  pub later : before ≤ after
-  pub numbered : (first : ℕ) (e : Entry) → entry_at shard.entries first ≡ Some e → e.pointer.seq ≤ after
-  pub newest : (object : ℕ) (p : Pointer) → new object ≡ Some p → (old object ≡ Some p) ⊎ ((p.object ≡ object) × (p.metaslab ≡ shard.number) × IsLive shard p)
-  pub one : (after ≡ before) ⊎ IsNumberOf shard after
-  pub known : (first : ℕ) (e : Entry) → entry_at shard.entries first ≡ Some e → Reaches new e.pointer.object e.pointer.seq
-  pub grows : Grows old new
-
--- a pointer of an object is that of a live block of a metaslab
-pub record LeadsTo {R A : Type 0} (shards : List (Shard R A)) (object : ℕ) (pointer : Pointer) : Type 0 where
-  pub object_is : pointer.object ≡ object
-  pub shard : Shard R A
-  pub there : slice_get shards pointer.metaslab ≡ Some shard
-  pub live : IsLive shard pointer
-
--- 0, or the number of a block of one of some shards
-abbrev pub IsNumberIn : {R A : Type 0} → List (Shard R A) → ℕ → Type 0
-IsNumberIn {R} {A} shards seq =
-    (seq ≡ 0) ⊎ ((m : ℕ) × (shard : Shard R A) × (first : ℕ) × (e : Entry) × (slice_get shards m ≡ Some shard) × (entry_at shard.entries first ≡ Some e) × (seq ≡ e.pointer.seq))
-
--- what was found in all metaslabs: for each object its newest block, which is live, and the greatest number
-pub record AreFound {R A : Type 0} (shards : List (Shard R A)) (newest : ℕ → Option Pointer) (seq : ℕ) : Type 0 where
-  pub pointers : (object : ℕ) (pointer : Pointer) → newest object ≡ Some pointer → LeadsTo shards object pointer
-  pub numbered : (m : ℕ) (shard : Shard R A) (first : ℕ) (e : Entry) → slice_get shards m ≡ Some shard → entry_at shard.entries first ≡ Some e → e.pointer.seq ≤ seq
-  pub one : IsNumberIn shards seq
-  pub known : (m : ℕ) (shard : Shard R A) (first : ℕ) (e : Entry) → slice_get shards m ≡ Some shard → entry_at shard.entries first ≡ Some e → Reaches newest e.pointer.object e.pointer.seq
+-- the shelf's count rose, or that of the uberblock's area, or that of an area of such a metaslab's records
+abbrev pub HasRisen : {A : Type 0} → areas.Ghosts A → Option shelf.Held → ℕ → ℕ → ℕ → ℕ → (ℕ → shelf.KitCounts) → (ℕ → shelf.KitCounts) → Type 0
+HasRisen area held faults faults' uber uber' counts counts' = (Rose faults faults' ⊎ Rose uber uber') ⊎ FoundRecordsRose area held uber counts counts'
 
 -- ---- older blocks
 

@@ -1,15 +1,17 @@
--- What an import comes to, over a shelf on which the pool of a state rests.
-use Rattle.std.specs.Prelude.{◌≡◌, ⊤, ℕ, Option, Some, IsSomeAnd, Result, Ok, Err, slice_get}
+-- What an import comes to, over a shelf on which the pool of a state rests, or a new pool that wasn't opened.
+use Rattle.std.specs.Prelude.{◌≡◌, ◌≤◌, ⊤, ℕ, Option, Some, IsSomeAnd, Result, Ok, Err, slice_get}
 use Rattle.draid_rack.specs.Rack.{Shape}
 use Rattle.draid_rack.specs.declared.Rack as racks
 use Rattle.draid_area.specs.declared.Area as areas
+use Rattle.draid_spec.specs.declared.layout.Geometry.{Geometry}
 use Rattle.draid_segments.specs.Segments.{Pieces}
 use Rattle.draid_shelf.specs.Kits.{Held, KitCounts}
 use Rattle.draid_session.specs.Opening.{Imports}
 use Rattle.draid_session.specs.Session.{FindsNoGroup, LeavesState}
 use Rattle.draid_session.specs.State.{Metaslab, State}
-use Rattle.draid_pool.specs.Closing.{Rests, SameCounts}
+use Rattle.draid_pool.specs.Closing.{OwnCounts, Rests, SameCounts}
 use Rattle.draid_pool.specs.Importable.{IsImportable}
+use Rattle.draid_pool.specs.Opening.{HoldsMade}
 use Rattle.draid_pool.specs.Pools.{Represents}
 use Rattle.draid_pool.specs.declared.fault.PoolFault.{PoolFault}
 use Rattle.draid_pool.specs.declared.fault.PoolFault.TheVariants as fault
@@ -54,3 +56,22 @@ ImportIs rack area x pieces told leaves counts uber_count (Err (fault.Record met
 ImportIs rack area x pieces told leaves counts uber_count (Err (fault.Spec why)) = ⊥
 ImportIs rack area x pieces told leaves counts uber_count (Err fault.Shelf) = LeavesPool x pieces told leaves counts uber_count
 ImportIs rack area x pieces told leaves counts uber_count (Err fault.NoMemory) = LeavesPool x pieces told leaves counts uber_count
+
+-- ---- a new pool
+
+-- none is found, or it is refused for a device or for want of memory
+abbrev pub FindsNoPool : {P : Type 0} → Result P PoolFault → Type 0
+FindsNoPool (Ok pool) = ⊥
+FindsNoPool (Err fault.NoPool) = ⊤
+FindsNoPool (Err (fault.Record metaslab place kind)) = ⊥
+FindsNoPool (Err (fault.Spec why)) = ⊥
+FindsNoPool (Err fault.Shelf) = ⊤
+FindsNoPool (Err fault.NoMemory) = ⊤
+
+-- So it is over the devices of a new pool, to which no uberblock was committed. They are there still, and only calls on the area of the uberblock may have failed.
+pub record LeavesMade {P : Type 0} (geometry : Geometry) (result : Result P PoolFault) (told : Option Held) (before after : ℕ → KitCounts) (own now : OwnCounts) : Type 0 where
+  pub none : FindsNoPool result
+  pub held : IsSomeAnd told (HoldsMade geometry)
+  pub counts : (m : ℕ) → after m ≡ before m
+  pub uber : own.uber ≤ now.uber
+  pub checks : now.checks ≡ own.checks

@@ -15,6 +15,6 @@ pub mod Pools
 pub mod Records
 pub mod Shards
 pub mod Syncing
-pub mod Together
 pub mod Ubers
+pub mod Views
 pub mod Whole

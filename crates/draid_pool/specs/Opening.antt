@@ -79,12 +79,16 @@ pub record HoldsMade (geometry : Geometry) (x : Held) : Type 0 where
   pub checks : IsSomeAnd x.checks AreNewChecks
   pub kits : (m : ℕ) → m < geometry.props.metaslabs → IsSomeAnd (x.kits m) (λ kit. IsNewRack geometry kit.rack)
 
--- the shelf holds them, and no call has failed but on areas of records
-pub record IsMade (geometry : Geometry) (new : Option Held) (after : ℕ → KitCounts) (now : OwnCounts) : Type 0 where
+-- the shelf holds them, and no call has failed but on areas of records, and so many on that of the uberblock
+pub record StaysMade (geometry : Geometry) (failed : ℕ) (new : Option Held) (after : ℕ → KitCounts) (now : OwnCounts) : Type 0 where
   pub held : OnHeld new (HoldsMade geometry)
   pub counts : (m : ℕ) (who : Option ℕ) → m < geometry.props.metaslabs → (after m).rack who ≡ 0
-  pub uber : now.uber ≡ 0
+  pub uber : now.uber ≡ failed
   pub checks : NoChecks now
+
+-- as it was made, none has failed there
+abbrev pub IsMade : Geometry → Option Held → (ℕ → KitCounts) → OwnCounts → Type 0
+IsMade geometry new after now = StaysMade geometry 0 new after now
 
 -- The first commit of a new pool was refused, and the pool was given back. No record of it has a fault to an import, where the shelf has these leaves.
 pub record IsRefused (geometry : Geometry) (new : Option Held) (leaves : ℕ → Option Shape) (after : ℕ → KitCounts) (now : OwnCounts) : Type 0 where

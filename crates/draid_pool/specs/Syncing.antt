@@ -13,9 +13,9 @@ use Rattle.draid_session.specs.Holds.{Act, Hold, On, view_of}
 use Rattle.draid_session.specs.Phases.{End, Went, WasWorn, WasLast, Starved, Broke}
 use Rattle.draid_session.specs.State.{Metaslab, State, Store}
 use Rattle.draid_shard.specs.Calls.{ActsOn, SameAreas, SameReserve}
-use Rattle.draid_shard.specs.Changes.{CommitsGroup}
+use Rattle.draid_groups.specs.Changes.{CommitsGroup}
 use Rattle.draid_shard.specs.Fits.{Valid}
-use Rattle.draid_shard.specs.Groups.{DropsDetached}
+use Rattle.draid_groups.specs.Groups.{DropsDetached}
 use Rattle.draid_shard.specs.Part.{Part, layout_in}
 use Rattle.draid_shard.specs.States.{Does, part_of, stored_in}
 use Rattle.draid_shard.specs.declared.shard.Shard.{Shard}

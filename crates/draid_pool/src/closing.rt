@@ -8,6 +8,7 @@ ghost use Rattle.draid_pool.specs.Pools.{Represents};
 ghost use Rattle.draid_pool.specs.Whole.{IsWhole};
 
 use crate::pool::Pool;
+use draid_groups::into_kit;
 use draid_shard::Shard;
 use draid_shelf::Shelf;
 
@@ -22,7 +23,7 @@ pub(crate) fn give_back<H: Shelf>(shelf: &mut H, shards: Vec<Shard<H::R, H::A>>)
 {
     let mut left = shards;
     while let Some(shard) = left.pop() {
-        shelf.give(left.len() as u32, shard.into_kit());
+        shelf.give(left.len() as u32, into_kit(shard));
     }
 }
 

@@ -1,14 +1,13 @@
 //! A pool is imported from what was given back to a shelf: its uberblock is found, each metaslab is opened from the
 //! record of the group that it names, and of each object the block with the greatest number counts.
-ghost use Rattle.std.specs.Prelude.{◌≡◌, ◌<◌, ◌≤◌, ◌+◌, ◌⊎◌, ◌↔◌, ℕ, None, Some, Err, IfErr, IfOk, IsErrOf, IsSome, IsTrue, OnErr, OnOk, false, is_some, nat_eq, slice_get, Option, true};
+ghost use Rattle.std.specs.Prelude.{◌≡◌, ◌<◌, ◌≤◌, ◌+◌, ◌⊎◌, ◌↔◌, ℕ, None, Some, Err, IfErr, IfOk, IsErrOf, IsSome, IsSomeAnd, IsTrue, OnErr, OnOk, is_some, nat_eq, slice_get, Option};
 ghost use Rattle.std.specs.HashMap.{get};
 ghost use Rattle.draid_names.specs.Faults.{Rose};
 ghost use Rattle.draid_names.specs.declared.numbers.TheConstants.{LAST_NUMBER};
-ghost use Rattle.draid_names.specs.declared.pointer.Pointer.{Pointer};
 ghost use Rattle.draid_area.specs.Area.{IsOfSize, OnTold};
 ghost use Rattle.draid_rack.specs.Rack.{Shape};
 ghost use Rattle.draid_map.specs.Place.{IsLayout};
-ghost use Rattle.draid_entries.specs.Maps.{key_of};
+ghost use Rattle.draid_spec.specs.declared.layout.Geometry.{Geometry};
 ghost use Rattle.draid_shelf.specs.Kits.{Held, KitCounts, OnHeld, takes_kit, takes_uber};
 ghost use Rattle.draid_shelf.specs.Shelf.{SameOthers};
 ghost use Rattle.draid_shard.specs.Calls.{IsLive};
@@ -20,12 +19,13 @@ ghost use Rattle.draid_segments.specs.Segments.{Pieces};
 ghost use Rattle.draid_session.specs.State.{State, limit_of};
 ghost use Rattle.draid_pool.specs.Faulty.{IsUnread, OneIsUnread, RecordIsBad, UberIsBad};
 ghost use Rattle.draid_pool.specs.Imported.{AreNewest, IsFoundOf};
-ghost use Rattle.draid_pool.specs.Importing.{ImportIs, ImportsPool, IsNotSpec, RestsThere};
-ghost use Rattle.draid_pool.specs.Opening.{IsAsBefore, TakesFirst};
-ghost use Rattle.draid_pool.specs.Found.{AllLive, AnyRecordsRose, AreFound, AreFreed, AreReady, AreReopened, CountsLater, FreesIfOlder, FreesOlder, HasOnly, HasRisen, IsFoundUber, IsRecovered, IsReopened, IsShardFault, KeepsFound, KeepsFoundAt, KeepsKnown, KeepsNewer, LeavesShards, LeavesUber, Notes, NotesOne, OpensAllOver, OpensOver, Reaches, RecordsRose, SameChecks, StaysHeld, shelf_fault_of, uber_fault_of, open_fault_of};
-ghost use Rattle.draid_pool.specs.Together.{AreApart, AreSameArms, HaveSameArms, IsNotedTwice, IsSameArm, NoRecord, NotesOnly, NotesOnlyOf, noted_in};
+ghost use Rattle.draid_pool.specs.Importing.{ImportIs, ImportsPool, IsNotSpec, LeavesMade, RestsThere};
+ghost use Rattle.draid_pool.specs.Opening.{HoldsMade, IsAsBefore, TakesFirst};
+ghost use Rattle.draid_pool.specs.Found.{AnyRecordsRose, AreFreed, AreReopened, CountsLater, FreesIfOlder, FreesOlder, HasOnly, HasRisen, IsFoundUber, IsRecovered, IsReopened, IsShardFault, KeepsFound, KeepsFoundAt, KeepsKnown, LeavesShards, LeavesUber, NoRecord, OpensAllOver, OpensOver, RecordsRose, SameChecks, StaysHeld, shelf_fault_of, uber_fault_of, open_fault_of};
+ghost use Rattle.draid_found.specs.Found.{AllLive, AreFound, AreReady};
+ghost use Rattle.draid_found.specs.Together.{AreApart};
 ghost use Rattle.draid_pool.specs.Whole.{IsWhole};
-ghost use Rattle.draid_pool.specs.declared.importing.Found.{Found};
+ghost use Rattle.draid_found.specs.declared.finding.Found.{Found};
 
 use crate::closing::give_back;
 use crate::fault::PoolFault;
@@ -33,20 +33,16 @@ use crate::freeing::free_block;
 use crate::opening::EVENTS;
 use crate::pool::Pool;
 use draid_area::Area;
-use draid_names::{Arm, DeviceFault, NoMemory, Pointer};
+use draid_found::{Found, FoundFault};
+use draid_groups::{OpenFault, OpenRefused, reopen};
+use draid_names::{DeviceFault, Pointer};
 use draid_perm::Perms;
 use draid_rack::Rack;
-use draid_shard::{OpenFault, OpenRefused, Shard};
+use draid_shard::Shard;
 use draid_shelf::Shelf;
 use draid_uber::{Uber, UberFault, UberRefused};
 use std::alloc::Global;
-use std::collections::{HashMap, HashSet};
-
-/// Where the number of slots stands in a metaslab's record.
-const SLOTS_AT: u64 = 20;
-
-/// How many bytes of a record a block takes.
-const BLOCK_BYTES: u64 = 72;
+use std::collections::HashMap;
 
 /// Why an uberblock gave no pool.
 fn uber_fault(why: UberFault) -> PoolFault
@@ -117,6 +113,10 @@ fn find_uber<H: Shelf>(shelf: &mut H) -> Result<Uber<H::A>, PoolFault>
         × IsAsBefore (H.told shelf.old) (H.told shelf.new) (H.counts shelf.old) (H.counts shelf.new)
         (record { uber = H.uber_count shelf.old; checks = H.check_counts shelf.old })
         (record { uber = H.uber_count shelf.new; checks = H.check_counts shelf.new })) }
+    ensures made { (geometry : Geometry) → IsSomeAnd (H.told shelf.old) (HoldsMade geometry)
+        → LeavesMade geometry result (H.told shelf.new) (H.counts shelf.old) (H.counts shelf.new)
+        (record { uber = H.uber_count shelf.old; checks = H.check_counts shelf.old })
+        (record { uber = H.uber_count shelf.new; checks = H.check_counts shelf.new }) }
     ensures held { SameChecks (H.told shelf.old) (H.told shelf.new) }
     ensures checks { H.check_counts shelf.new ≡ H.check_counts shelf.old }
     ensures counts { (m : ℕ) → H.counts shelf.new m ≡ H.counts shelf.old m }
@@ -180,7 +180,7 @@ fn reopen_shard<H: Shelf>(
     };
     let events = EVENTS / u64::from(layout.props.metaslabs);
     let group = uber.committed();
-    match Shard::reopen(
+    match reopen(
         alloc,
         number,
         layout,
@@ -218,7 +218,7 @@ fn reopen_shards<H: Shelf>(
     ensures held { SameChecks (H.told shelf.old) (H.told shelf.new) }
     ensures checks { H.check_counts shelf.new ≡ H.check_counts shelf.old }
     ensures later { H.faults shelf.old ≤ H.faults shelf.new }
-    ensures cause { IsErrOf result PoolFault.Shelf → Rose (H.faults shelf.old) (H.faults shelf.new) ⊎ AnyRecordsRose (H.counts shelf.old) (H.counts shelf.new) }
+    ensures cause { IsErrOf result PoolFault.Shelf → Rose (H.faults shelf.old) (H.faults shelf.new) ⊎ AnyRecordsRose (layout_of uber.now).props.metaslabs (H.counts shelf.old) (H.counts shelf.new) }
 {
     let layout = *uber.geometry();
     let perms = Perms::new(layout.spec.children, layout.props.seed);
@@ -237,122 +237,6 @@ fn reopen_shards<H: Shelf>(
     Ok(shards)
 }
 
-/// Whether a block is newer than that of its object which was noted.
-fn is_newer(newest: &HashMap<u64, Pointer>, pointer: &Pointer) -> bool
-    ensures newer { IsTrue result → (p : Pointer) → get nat_eq newest.now pointer.now.object ≡ Some p → p.seq < pointer.now.seq }
-    ensures older { result ≡ false → Reaches (get nat_eq newest.now) pointer.now.object pointer.now.seq }
-{
-    match newest.get(&pointer.object) {
-        Some(earlier) => earlier.seq < pointer.seq,
-        None => true,
-    }
-}
-
-/// Keeps a block in mind, unless one of its object was noted that is as new.
-fn keep_newer(newest: &mut HashMap<u64, Pointer>, pointer: Pointer) -> Result<(), NoMemory>
-    ensures keeps { OnOk result (KeepsNewer pointer (get nat_eq newest.old) (get nat_eq newest.new)) }
-{
-    if is_newer(newest, &pointer) {
-        newest.insert(pointer.object, pointer)?;
-    }
-    Ok(())
-}
-
-/// What the records of a pool's metaslabs say of its objects.
-#[derive(Drop)]
-pub(crate) struct Found {
-    /// The newest block of each object.
-    newest: HashMap<u64, Pointer>,
-    /// The object and the number of each block.
-    keys: HashSet<(u64, u64)>,
-    /// The greatest number of a write, 0 where there is no block.
-    seq: u64,
-}
-
-impl Found {
-    /// Notes a block. The answer is whether no other has its object and number.
-    fn note(&mut self, pointer: Pointer) -> Result<bool, NoMemory>
-        ensures keys { OnOk result (NotesOnly pointer (noted_in self.old.keys) (noted_in self.new.keys)) }
-        ensures again { IfOk result (λ new. new ≡ false → noted_in self.old.keys (key_of pointer) ≡ true) }
-        ensures noted { IfOk result (λ new. IsTrue new → NotesOne pointer (get nat_eq self.old.newest) (get nat_eq self.new.newest) self.old.seq self.new.seq) }
-    {
-        if !self.keys.insert((pointer.object, pointer.seq))? {
-            return Ok(false);
-        }
-        self.seq = self.seq.max(pointer.seq);
-        keep_newer(&mut self.newest, pointer)?;
-        Ok(true)
-    }
-
-    /// Notes all blocks of a metaslab.
-    fn note_all<R: Rack, A: Area>(&mut self, shard: &Shard<R, A>) -> Result<(), PoolFault>
-        requires valid { Valid R.Rack shard.now }
-        requires live { AllLive shard.now }
-        ensures noted { OnOk result (Notes shard.now (get nat_eq self.old.newest) (get nat_eq self.new.newest) self.old.seq self.new.seq) }
-        ensures keys { OnOk result (NotesOnlyOf shard.now (noted_in self.old.keys) (noted_in self.new.keys)) }
-        ensures again { (metaslab : Option ℕ) (place kind : ℕ) → IsErrOf result (PoolFault.Record metaslab place kind) → IsNotedTwice shard.now (noted_in self.old.keys) metaslab place kind }
-        ensures no_device { IsErrOf result PoolFault.Shelf → ⊥ }
-        ensures fault { IfErr result IsShardFault }
-    {
-        let mut from = 0;
-        let mut at = shard.blocks_at();
-        while let Some(pointer) = shard.next_held(from) {
-            match self.note(pointer) {
-                Ok(true) => {}
-                Ok(false) => {
-                    return Err(PoolFault::Record {
-                        metaslab: Some(shard.number),
-                        at,
-                        kind: 5,
-                    });
-                }
-                Err(NoMemory) => return Err(PoolFault::NoMemory),
-            }
-            from = pointer.first + 1;
-            at = at.saturating_add(BLOCK_BYTES);
-        }
-        Ok(())
-    }
-}
-
-/// Whether two arms are one, but for whether a pass has made it good.
-fn is_same_arm(one: &Arm, other: &Arm) -> bool
-    ensures { IsTrue result ↔ IsSameArm one.now other.now }
-{
-    one.kind == other.kind && one.number == other.number && one.offline == other.offline
-}
-
-/// Whether two slots have the same arms.
-fn have_same_arms(one: &[Arm], other: &[Arm]) -> bool
-    ensures { IsTrue result ↔ AreSameArms one.now other.now }
-{
-    if one.len() != other.len() {
-        return false;
-    }
-    for place in 0..one.len() {
-        if !is_same_arm(&one[place], &other[place]) {
-            return false;
-        }
-    }
-    true
-}
-
-/// Whether two metaslabs have the same arms in each slot.
-fn are_alike<R: Rack, A: Area>(one: &Shard<R, A>, other: &Shard<R, A>) -> bool
-    ensures { IsTrue result ↔ HaveSameArms one.now.slots other.now.slots }
-{
-    let children = one.slots.children();
-    if other.slots.children() != children {
-        return false;
-    }
-    for slot in 0..children {
-        if !have_same_arms(one.slots.arms(slot), other.slots.arms(slot)) {
-            return false;
-        }
-    }
-    true
-}
-
 /// What the records of all metaslabs say of the objects.
 fn find_blocks<R: Rack, A: Area>(alloc: Global, shards: &[Shard<R, A>]) -> Result<Found, PoolFault>
     requires ready { AreReady R.Rack shards.now }
@@ -361,25 +245,15 @@ fn find_blocks<R: Rack, A: Area>(alloc: Global, shards: &[Shard<R, A>]) -> Resul
     ensures no_device { IsErrOf result PoolFault.Shelf → ⊥ }
     ensures fault { IfErr result IsShardFault }
 {
-    let mut found = Found {
-        newest: HashMap::new(alloc),
-        keys: HashSet::new(alloc),
-        seq: 0,
-    };
-    for shard in shards {
-        if !are_alike(&shards[0], shard) {
-            return Err(PoolFault::Record {
-                metaslab: Some(shard.number),
-                at: SLOTS_AT,
-                kind: 4,
-            });
-        }
-        match found.note_all(shard) {
-            Ok(()) => {}
-            Err(fault) => return Err(fault),
-        }
+    match draid_found::find_blocks(alloc, shards) {
+        Ok(found) => Ok(found),
+        Err(FoundFault::Record { metaslab, at, kind }) => Err(PoolFault::Record {
+            metaslab: Some(metaslab),
+            at,
+            kind,
+        }),
+        Err(FoundFault::NoMemory) => Err(PoolFault::NoMemory),
     }
-    Ok(found)
 }
 
 /// Whether this is the newest block of its object.
@@ -477,6 +351,10 @@ pub fn import<H: Shelf>(alloc: Global, shelf: &mut H) -> Result<Pool<H::R, H::A>
         × IsAsBefore (H.told shelf.old) (H.told shelf.new) (H.counts shelf.old) (H.counts shelf.new)
         (record { uber = H.uber_count shelf.old; checks = H.check_counts shelf.old })
         (record { uber = H.uber_count shelf.new; checks = H.check_counts shelf.new })) }
+    ensures made { (geometry : Geometry) → IsSomeAnd (H.told shelf.old) (HoldsMade geometry)
+        → LeavesMade geometry result (H.told shelf.new) (H.counts shelf.old) (H.counts shelf.new)
+        (record { uber = H.uber_count shelf.old; checks = H.check_counts shelf.old })
+        (record { uber = H.uber_count shelf.new; checks = H.check_counts shelf.new }) }
     // What is found of a pool that rests there is that pool, and a refusal leaves it there.
     ensures import { (x : State) (pieces : ℕ → Pieces)
         → RestsThere x pieces (H.told shelf.old) (H.leaves shelf.old) (H.counts shelf.old) (H.uber_count shelf.old)
@@ -489,7 +367,7 @@ pub fn import<H: Shelf>(alloc: Global, shelf: &mut H) -> Result<Pool<H::R, H::A>
     ensures held { SameChecks (H.told shelf.old) (H.told shelf.new) }
     ensures checks { H.check_counts shelf.new ≡ H.check_counts shelf.old }
     ensures later { H.faults shelf.old ≤ H.faults shelf.new }
-    ensures cause { IsErrOf result PoolFault.Shelf → HasRisen (H.faults shelf.old) (H.faults shelf.new) (H.uber_count shelf.old) (H.uber_count shelf.new) (H.counts shelf.old) (H.counts shelf.new) }
+    ensures cause { IsErrOf result PoolFault.Shelf → HasRisen H.A.Area (H.told shelf.old) (H.faults shelf.old) (H.faults shelf.new) (H.uber_count shelf.old) (H.uber_count shelf.new) (H.counts shelf.old) (H.counts shelf.new) }
 {
     let uber = find_uber(shelf)?;
     let shards = match reopen_shards(alloc, shelf, &uber) {

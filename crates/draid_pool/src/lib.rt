@@ -17,6 +17,7 @@ mod store;
 mod summing;
 mod syncing;
 mod unsynced;
+mod viewing;
 mod writing;
 
 pub use closing::close;
@@ -25,3 +26,4 @@ pub use fault::{DamageFault, FreeFault, PoolFault, SumFault, SyncFault, Synced};
 pub use importing::import;
 pub use opening::create;
 pub use pool::Pool;
+pub use viewing::vdev_name;

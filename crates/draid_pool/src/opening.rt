@@ -12,9 +12,10 @@ use crate::closing::give_back;
 use crate::fault::PoolFault;
 use crate::pool::Pool;
 use draid_area::Area;
+use draid_groups::{OpenFault, OpenRefused};
 use draid_names::DeviceFault;
 use draid_perm::Perms;
-use draid_shard::{OpenFault, OpenRefused, Shard};
+use draid_shard::Shard;
 use draid_shelf::Shelf;
 use draid_spec::{Geometry, Props, Spec, geometry};
 use draid_uber::Uber;
@@ -57,7 +58,7 @@ fn open_shard<H: Shelf>(
 {
     let kit = shelf.take(number, &layout)?;
     let events = EVENTS / u64::from(layout.props.metaslabs);
-    match Shard::create(alloc, number, layout, perms, kit, events) {
+    match draid_groups::create(alloc, number, layout, perms, kit, events) {
         Ok(shard) => Ok(shard),
         Err(OpenRefused { kit, why }) => {
             shelf.give(number, kit);

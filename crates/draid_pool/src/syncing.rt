@@ -27,9 +27,10 @@ use crate::fault::{SyncFault, Synced};
 use crate::pool::Pool;
 use crate::unsynced::is_unsynced;
 use draid_area::Area;
+use draid_groups::{CloseFault, SealFault, close_group, commit, seal};
 use draid_names::DeviceFault;
 use draid_rack::Rack;
-use draid_shard::{CloseFault, SealFault, Shard};
+use draid_shard::Shard;
 
 /// Closes a group in a shard where it isn't closing already.
 fn close_in<R: Rack, A: Area>(shard: &mut Shard<R, A>, group: u64) -> Result<(), SyncFault>
@@ -45,7 +46,7 @@ fn close_in<R: Rack, A: Area>(shard: &mut Shard<R, A>, group: u64) -> Result<(),
     if shard.closing().is_some() {
         return Ok(());
     }
-    match shard.close_group(group) {
+    match close_group(shard, group) {
         Ok(()) => Ok(()),
         Err(CloseFault::Worn { .. }) => Err(SyncFault::Worn),
         Err(CloseFault::Last) => Err(SyncFault::Last),
@@ -69,7 +70,7 @@ fn seal_in<R: Rack, A: Area>(shard: &mut Shard<R, A>, group: u64) -> Result<u64,
     if shard.sealed() {
         return Ok(0);
     }
-    match shard.seal(group) {
+    match seal(shard, group) {
         Ok(sealed) => Ok(sealed.thin),
         Err(SealFault::NotYet { .. }) => unreachable!(),
         Err(SealFault::Area) => Err(SyncFault::Shelf),
@@ -84,7 +85,7 @@ fn commit_all<R: Rack, A: Area>(shards: &mut Vec<Shard<R, A>>, group: u64)
     ensures commits { CommitsBelow R.Rack group (length shards.old.items) shards.old.items shards.new.items }
 {
     for metaslab in 0..shards.len() {
-        shards[metaslab].commit(group);
+        commit(&mut shards[metaslab], group);
     }
 }
 

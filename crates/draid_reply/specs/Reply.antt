@@ -1,4 +1,4 @@
-use Rattle.std.specs.Prelude.{ℕ, Bool, true, false, List, ◌++◌, length, codes, Option, None, Some, string_bytes, encode_utf8}
+use Rattle.std.specs.Prelude.{⊤, ℕ, Bool, true, false, List, ◌++◌, length, codes, Option, None, Some, string_bytes, encode_utf8}
 use Rattle.std.specs.Fmt.{decimal}
 use Rattle.hex.specs.Hex.{encode_lower}
 use Rattle.draid_script.specs.declared.line.ArmArgument.{ArmArgument}
@@ -13,7 +13,7 @@ use Rattle.draid_names.specs.declared.refusal.WriteFault.TheVariants as fill
 use Rattle.draid_names.specs.declared.refusal.ObjectFault.{ObjectFault}
 use Rattle.draid_names.specs.declared.refusal.ObjectFault.TheVariants as sum
 use Rattle.draid_reply.specs.declared.reply.Reply.{Reply}
-use Rattle.draid_reply.specs.declared.reply.Reply.TheVariants.{NoPool, PoolOpen, NoMemory, Worn, Last, PassThere, NoCheckpoint, Created, CreateRefused, Imported, Exported, Written, NoSpace, Missed, WriteLast, Filled, FillRefused, Contents, NoObject, Unreadable, ReadWorn, Summed, SumRefused, Freed, FreeNoObject, Synced, OfflineDone, OfflineRefused, OfflineWorn, OnlineDone, OnlineRefused, OnlineWorn, Damaged, DamageRefused, DamageFailed, DamageWorn, Spared, SpareRefused, SpareWorn, Replaced, ReplaceRefused, ReplaceWorn, Detached, DetachRefused, DetachWorn, DetachLast, Rebuilt, RebuildNothing, Scrubbed, Rebalanced, RebalanceRefused, RebalanceWorn, RebalanceLast, Cancelled, Crashed, LanesClash, LanesClashMend, LanesCheckpoint, Upgraded, UpgradeAlready, AgentIdle, Acted, Journal, Checkpointed, CheckpointThere, Rewound, Discarded}
+use Rattle.draid_reply.specs.declared.reply.Reply.TheVariants.{NoPool, PoolOpen, NoMemory, Worn, Last, PassThere, NoCheckpoint, Created, CreateRefused, Imported, Exported, Written, NoSpace, Missed, WriteLast, Filled, FillRefused, Contents, NoObject, Unreadable, ReadWorn, Summed, SumRefused, Freed, FreeNoObject, Synced, OfflineDone, OfflineRefused, OfflineWorn, OnlineDone, OnlineRefused, OnlineWorn, Damaged, DamageRefused, DamageFailed, DamageWorn, Spared, SpareRefused, SpareWorn, Replaced, ReplaceRefused, ReplaceWorn, Detached, DetachRefused, DetachWorn, DetachLast, Rebuilt, RebuildNothing, Scrubbed, Rebalanced, RebalanceRefused, RebalanceWorn, RebalanceLast, Cancelled, Crashed, LanesClash, LanesClashMend, LanesCheckpoint, Upgraded, UpgradeAlready, AgentIdle, Acted, Journal, Checkpointed, CheckpointThere, Rewound, Discarded, Status}
 use Rattle.draid_script.specs.Name.{arm_of, name_text}
 use Rattle.draid_reply.specs.Agent.{acted_of, journal_of}
 
@@ -175,6 +175,7 @@ text_of (RebalanceWorn slot) = codes "rebalance " ++ (decimal slot ++ codes " wo
 text_of (RebalanceLast slot) = codes "rebalance " ++ (decimal slot ++ codes " last\n")
 text_of (Cancelled passes) = codes "cancel " ++ (decimal passes ++ codes "\n")
 text_of Crashed = codes "crash\n"
+text_of (Status text) = text.items
 text_of (LanesClash object) = codes "lanes clash object=" ++ (decimal object ++ codes "\n")
 text_of LanesClashMend = codes "lanes clash mend\n"
 text_of LanesCheckpoint = codes "lanes checkpoint\n"
@@ -187,3 +188,8 @@ text_of (Checkpointed group) = codes "checkpoint group=" ++ (decimal group ++ co
 text_of (CheckpointThere group) = codes "checkpoint refused group=" ++ (decimal group ++ codes "\n")
 text_of (Rewound group objects) = codes "rewind group=" ++ (decimal group ++ (codes " objects=" ++ (decimal objects ++ codes "\n")))
 text_of (Discarded freed group) = codes "discard freed=" ++ (decimal freed ++ (codes " group=" ++ (decimal group ++ codes "\n")))
+
+-- the reply is one line, which is put together here
+abbrev pub IsLine : Reply → Type 0
+IsLine (Status text) = ⊥
+IsLine reply = ⊤

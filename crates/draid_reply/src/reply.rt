@@ -1,5 +1,5 @@
 ghost use Rattle.std.specs.Prelude.{◌≡◌, IfOk, string_bytes};
-ghost use Rattle.draid_reply.specs.Reply.{text_of};
+ghost use Rattle.draid_reply.specs.Reply.{IsLine, text_of};
 
 use crate::agent::{acted, journal};
 use crate::texts::{
@@ -276,6 +276,10 @@ pub enum Reply {
     },
     /// The pool was closed as it stood.
     Crashed,
+    /// The text of the pool's status, in several lines or as JSON in one.
+    Status {
+        text: Vec<u8>,
+    },
     /// Two lanes name this object, the least such.
     LanesClash {
         object: u64,
@@ -331,14 +335,19 @@ pub struct AgentErrors {
     pub scrub: u64,
 }
 
-/// The line that the reply is printed as, its end included.
+/// What the reply is printed as, the end of its last line included.
 pub fn reply_text(alloc: Global, reply: &Reply) -> Result<Vec<u8>, NoMemory>
     ensures { IfOk result (λ text. text.items ≡ text_of reply.now) }
 {
-    Ok(text(alloc, reply)?.into_bytes())
+    match reply {
+        Reply::Status { text: bytes } => Ok(Vec::from_slice(alloc, bytes)?),
+        _ => Ok(text(alloc, reply)?.into_bytes()),
+    }
 }
 
+/// The line of a reply that has one by its words.
 fn text(alloc: Global, reply: &Reply) -> Result<String, AllocError>
+    requires { IsLine reply.now }
     ensures { IfOk result (λ text. string_bytes text ≡ text_of reply.now) }
 {
     match reply {
@@ -496,6 +505,7 @@ fn text(alloc: Global, reply: &Reply) -> Result<String, AllocError>
         Reply::RebalanceLast { slot } => numbered(alloc, "rebalance ", u64::from(*slot), " last\n"),
         Reply::Cancelled { passes } => numbered(alloc, "cancel ", u64::from(*passes), "\n"),
         Reply::Crashed => String::from_str(alloc, "crash\n"),
+        Reply::Status { .. } => unreachable!(),
         Reply::LanesClash { object } => numbered(alloc, "lanes clash object=", *object, "\n"),
         Reply::LanesClashMend => String::from_str(alloc, "lanes clash mend\n"),
         Reply::LanesCheckpoint => String::from_str(alloc, "lanes checkpoint\n"),

@@ -1,151 +1,145 @@
--- A sync or an export that a failing device ended: on an area of the pool a call has failed.
-use Rattle.std.proofs.Common.{◌≡◌, ◌∙◌, ◌==◌, ◌<◌, ◌+◌, ◌%◌, inl, inr, arith, refl, sym, ap, subst, ℕ, zero, suc, Bool, true, false, List, [], ◌∷◌, ◌++◌, Some, append_assoc, if◌then◌else◌}
-use Rattle.std.specs.Prelude.{⊤, slice_get, slice_set}
+-- A sync or an export that a failing device ended: the count of an area of the pool rose.
+use Rattle.std.proofs.Common.{◌≡◌, ◌≤◌, ◌<◌, ◌-◌, ◌^◌, ◌∙◌, ◌⊎◌, ◌==◌, ◌%◌, min, inl, inr, arith, refl, sym, subst, ℕ, Bool, true, false, List, [], ◌∷◌, Some, if◌then◌else◌}
+use Rattle.std.specs.Prelude.{slice_get, slice_set}
+use Rattle.std.proofs.lemmas.Bool.Decides.{nat_tests}
 use Rattle.draid_names.specs.Faults.{Rose}
 use Rattle.draid_spec.specs.declared.layout.Geometry.{Geometry}
 use Rattle.draid_perm.specs.declared.perms.Perms.{Perms}
-use Rattle.draid_session.specs.Follows.{Follows, Holds, area_count}
-use Rattle.draid_session.specs.Groups as groups
-use Rattle.draid_session.specs.Holds.{Looked, Did, Reserved, MadeLeaf, AreaFailed, RackFailed, Hold, On, OnUber, LookedUber, Committed, CommitFailed, CommitStarved, NextLeaf}
-use Rattle.draid_session.specs.Phases.{Broke, Chain, End, Walk}
-use Rattle.draid_session.specs.State.{Counts, State}
-use Rattle.draid_run.specs.Shelves.{AreaHasFailed}
+use Rattle.draid_script.specs.Line.{Command}
+use Rattle.draid_session.specs.Certain.{HasFailed}
+use Rattle.draid_session.specs.Does.{Broken}
+use Rattle.draid_session.specs.Follows.{Follows, Holds, HoldsMetaslab, UberActs, area_count}
+use Rattle.draid_session.specs.Holds.{Act, AreaFailed, Committed, CommitFailed, CommitStarved, Did, Hold, Looked, LookedUber, MadeLeaf, NextLeaf, On, OnUber, RackFailed, Reserved, UberAct, View}
+use Rattle.draid_session.specs.State.{Counts, Metaslab, State}
+use Rattle.draid_session.proofs.Failed.{breaks_failed}
+use Rattle.draid_session.proofs.Lists.{get_set_other, get_set_same, some_of}
+use Rattle.draid_run.specs.Shelves.{AreaHasFailed, AreaRose}
 
--- an area failed in a hold
-abbrev pub Fails : Hold → Type 0
-Fails (On v (AreaFailed group)) = ⊤
-Fails (OnUber u (CommitFailed group)) = ⊤
-Fails hold = ⊥
+-- ---- counts don't fall
 
--- it did in the last of some holds
-pub record LastFails (holds : List Hold) : Type 0 where
-  pub front : List Hold
-  pub hold : Hold
-  pub are : holds ≡ front ++ hold ∷ []
-  pub fails : Fails hold
+-- a metaslab of the later state was one before, and none of its areas' counts fell; nor did that of the uberblock's, but above its greatest value
+pub record CameFrom (x : State) (k : ℕ) (z : Metaslab) : Type 0 where
+  pub y : Metaslab
+  pub there : slice_get x.metaslabs k ≡ Some y
+  pub even : y.counts.even ≤ z.counts.even
+  pub odd : y.counts.odd ≤ z.counts.odd
 
-behind : (front back : List Hold) → LastFails back → LastFails (front ++ back)
-behind front back last =
-    record { front = front ++ last.front; hold = last.hold; are = ap (λ hs. front ++ hs) last.are ∙ sym (append_assoc front last.front (last.hold ∷ [])); fails = last.fails }
+pub record IsLater (x z : State) : Type 0 where
+  pub each : (k : ℕ) (m : Metaslab) → slice_get z.metaslabs k ≡ Some m → CameFrom x k m
+  pub uber : min x.uber_count (2 ^ 64 - 1) ≤ z.uber_count
 
-behind_of : (holds front back : List Hold) → holds ≡ front ++ back → LastFails back → LastFails holds
-behind_of holds front back are last = subst LastFails (sym are) (behind front back last)
+later_none : (x : State) → IsLater x x
+later_none x = record { each = λ k m there. record { y = m; there = there; even = omega arith; odd = omega arith }; uber = omega arith }
 
-walk_broke : (P : ℕ → Hold → ℕ → Type 0) (S : ℕ → Hold → End → Type 0) → ((m : ℕ) (hold : Hold) → S m hold Broke → Fails hold) → (n m : ℕ) (holds : List Hold) (sum : ℕ) → Walk P S m n holds Broke sum → LastFails holds
-walk_broke P S stops zero m holds sum w = absurd (cc (w.1))
-walk_broke P S stops (suc n) m holds sum (inl (hold, rest, x, more, are, sums, p, w)) = behind_of holds (hold ∷ []) rest are (walk_broke P S stops n (m + 1) rest more w)
-walk_broke P S stops (suc n) m holds sum (inr (inl (hold, are, ended, none, s))) = record { front = []; hold = hold; are = are; fails = stops m hold s }
-walk_broke P S stops (suc n) m holds sum (inr (inr (are, ended, none))) = absurd (cc ended)
+later_more : (x y z : State) → IsLater x y → IsLater y z → IsLater x z
+later_more x y z a b = record {
+  each = λ k m there. (
+      let two = b.each k m there in
+      let one = a.each k two.y two.there in
+      let even = one.even in
+      let more = two.even in
+      let odd = one.odd in
+      let again = two.odd in
+      record { y = one.y; there = one.there; even = omega (arith, even, more); odd = omega (arith, odd, again) }
+      );
+  uber = (let first = a.uber in let next = b.uber in omega (arith, first, next));
+}
 
-chain_broke : (P Q : List Hold → End → Type 0) → ((holds : List Hold) → P holds Broke → LastFails holds) → ((holds : List Hold) → Q holds Broke → LastFails holds) → (holds : List Hold) → Chain P Q holds Broke → LastFails holds
-chain_broke P Q p q holds (inl (front, back, are, went, broke)) = behind_of holds front back are (q back broke)
-chain_broke P Q p q holds (inr (other, broke)) = p holds broke
+module _ (v : View) (x z : State) where
+  act_even : (act : Act) → (it : HoldsMetaslab v act x z) → (it.before.counts.even ≤ it.after.counts.even) × (it.before.counts.odd ≤ it.after.counts.odd)
+  act_even Looked it = (it.acts.0.counts.even, it.acts.0.counts.odd)
+  act_even (Did e w) it = (it.acts.counts.even, it.acts.counts.odd)
+  act_even (Reserved n) it = (it.acts.0.counts.even, it.acts.0.counts.odd)
+  act_even (MadeLeaf leaf) it = (it.acts.0.counts.even, it.acts.0.counts.odd)
+  act_even (AreaFailed group) it = (it.acts.0.counts.even, it.acts.0.counts.odd)
+  act_even RackFailed it = (it.acts.0.counts.even, it.acts.0.counts.odd)
 
-module _ (geometry : Geometry) (perms : Perms) where
-  close_stops : (group m : ℕ) (hold : Hold) → groups.CloseStops geometry perms group m hold Broke → Fails hold
-  close_stops group m (On v Looked) s = absurd s
-  close_stops group m (On v (Did e w)) s = absurd s
-  close_stops group m (On v (Reserved n)) s = absurd s
-  close_stops group m (On v (MadeLeaf leaf)) s = absurd s
-  close_stops group m (On v (AreaFailed t)) s = absurd s
-  close_stops group m (On v RackFailed) s = absurd s
-  close_stops group m (OnUber u act) s = absurd s
+  act_later : (act : Act) → HoldsMetaslab v act x z → IsLater x z
+  act_later act it = subst (IsLater x) (sym it.made) (record { each = λ k m there. from k m there (k == v.metaslab) refl; uber = omega arith })
+    where
+      counts : (it.before.counts.even ≤ it.after.counts.even) × (it.before.counts.odd ≤ it.after.counts.odd)
+      counts = act_even act it
 
-  seal_stops : (group m : ℕ) (hold : Hold) → groups.SealStops geometry perms group m hold Broke → Fails hold
-  seal_stops group m (On v Looked) s = absurd s
-  seal_stops group m (On v (Did e w)) s = absurd s
-  seal_stops group m (On v (Reserved n)) s = absurd s
-  seal_stops group m (On v (MadeLeaf leaf)) s = absurd s
-  seal_stops group m (On v (AreaFailed t)) s = tt
-  seal_stops group m (On v RackFailed) s = absurd s
-  seal_stops group m (OnUber u act) s = absurd s
+      from : (k : ℕ) (m : Metaslab) → slice_get (slice_set x.metaslabs v.metaslab it.after) k ≡ Some m → (b : Bool) → (k == v.metaslab) ≡ b → CameFrom x k m
+      from k m there true is =
+          let at : v.metaslab ≡ k = grind (arith, nat_tests, is) in
+          let two : slice_get (slice_set x.metaslabs v.metaslab it.after) k ≡ Some it.after =
+          subst (λ n. slice_get (slice_set x.metaslabs v.metaslab it.after) n ≡ Some it.after) at (get_set_same x.metaslabs v.metaslab it.before it.after it.there) in
+          let same : it.after ≡ m = some_of (slice_get (slice_set x.metaslabs v.metaslab it.after) k) it.after m two there in
+          subst (CameFrom x k) same (record { y = it.before; there = subst (λ n. slice_get x.metaslabs n ≡ Some it.before) at it.there; even = counts.0; odd = counts.1 })
+      from k m there false is =
+          let one : slice_get x.metaslabs k ≡ Some m = sym (get_set_other x.metaslabs v.metaslab k it.after (λ at. (let other = is in grind (arith, nat_tests, other, at)))) ∙ there in
+          record { y = m; there = one; even = omega arith; odd = omega arith }
 
-  names_broke : (group : ℕ) (holds : List Hold) → groups.Names geometry perms group holds Broke → LastFails holds
-  names_broke group [] n = absurd n
-  names_broke group (On v act ∷ []) n = absurd n
-  names_broke group (On v act ∷ (h ∷ hs)) n = absurd n
-  names_broke group (OnUber u LookedUber ∷ []) n = absurd n
-  names_broke group (OnUber u (Committed t) ∷ []) n = absurd n
-  names_broke group (OnUber u (CommitFailed t) ∷ []) n = record { front = []; hold = OnUber u (CommitFailed t); are = refl; fails = tt }
-  names_broke group (OnUber u (CommitStarved t) ∷ []) n = absurd n
-  names_broke group (OnUber u (NextLeaf next) ∷ []) n = absurd n
-  names_broke group (OnUber u LookedUber ∷ (h ∷ hs)) n = absurd n
-  names_broke group (OnUber u (Committed t) ∷ (h ∷ hs)) n = absurd n
-  names_broke group (OnUber u (CommitFailed t) ∷ (h ∷ hs)) n = absurd n
-  names_broke group (OnUber u (CommitStarved t) ∷ (h ∷ hs)) n = absurd n
-  names_broke group (OnUber u (NextLeaf next) ∷ (h ∷ hs)) n = absurd n
+uber_later : (act : UberAct) (x z : State) → UberActs act x z → IsLater x z
+uber_later LookedUber x z it = subst (IsLater x) (sym it) (later_none x)
+uber_later (Committed group) x z it = subst (IsLater x) (sym it.2) (record { each = (later_none x).each; uber = (let more = it.1 in omega (arith, more)) })
+uber_later (CommitFailed group) x z it = subst (IsLater x) (sym it.2) (record { each = (later_none x).each; uber = (let rose = it.1 in omega (arith, rose)) })
+uber_later (CommitStarved group) x z it = subst (IsLater x) (sym it.2) (record { each = (later_none x).each; uber = (let more = it.1 in omega (arith, more)) })
+uber_later (NextLeaf next) x z it = subst (IsLater x) (sym it) (record { each = (later_none x).each; uber = omega arith })
 
-  group_broke : (group thin : ℕ) (holds : List Hold) → groups.Group geometry perms group thin holds Broke → LastFails holds
-  group_broke group thin =
-      chain_broke (groups.ClosePhase geometry perms group) (Chain (groups.SealPhase geometry perms group thin) (Chain (groups.Names geometry perms group) (groups.CommitPhase geometry perms group)))
-      (λ holds w. walk_broke (groups.Closes geometry perms group) (groups.CloseStops geometry perms group) (close_stops group) geometry.props.metaslabs 0 holds 0 w)
-      (chain_broke (groups.SealPhase geometry perms group thin) (Chain (groups.Names geometry perms group) (groups.CommitPhase geometry perms group))
-      (λ holds w. walk_broke (groups.Seals geometry perms group) (groups.SealStops geometry perms group) (seal_stops group) geometry.props.metaslabs 0 holds w.0 w.1)
-      (chain_broke (groups.Names geometry perms group) (groups.CommitPhase geometry perms group) (names_broke group) (λ holds c. absurd (cc (c.1)))))
+hold_later : (hold : Hold) (x z : State) → Holds hold x z → IsLater x z
+hold_later (On v act) x z it = act_later v x z act it
+hold_later (OnUber u act) x z it = uber_later act x z it.acts
 
-  finishes_broke : (holds : List Hold) → groups.Finishes geometry perms holds Broke → LastFails holds
-  finishes_broke holds f = elim f.does [
-    | inl none ↦ absurd (cc (none.2))
-    | inr some ↦ behind_of holds f.looks f.rest f.are (group_broke some.0 some.2 f.rest some.5)
-  ]
+follows_later : (holds : List Hold) (x z : State) → Follows holds x z → IsLater x z
+follows_later [] x z follows = subst (IsLater x) (sym follows) (later_none x)
+follows_later (hold ∷ holds) x z follows = later_more x follows.0 z (hold_later hold x follows.0 follows.1) (follows_later holds follows.0 z follows.2)
 
-  next_broke : (group thin : ℕ) (holds : List Hold) → groups.Next geometry perms group thin holds Broke → LastFails holds
-  next_broke group thin holds n = behind_of holds (OnUber n.0 LookedUber ∷ []) n.1 n.2 (group_broke group thin n.1 n.4)
+-- ---- what rose
 
-  syncs_broke : (group thin : ℕ) (holds : List Hold) → groups.Syncs geometry perms group thin holds Broke → LastFails holds
-  syncs_broke group thin = chain_broke (groups.Finishes geometry perms) (groups.Next geometry perms group thin) finishes_broke (next_broke group thin)
+rose_from : (a b c : ℕ) → a ≤ b → Rose b c → Rose a c
+rose_from a b c low rose = omega (arith, low, rose)
 
-  pub sync_broke : (holds : List Hold) → groups.SyncStops geometry perms holds Broke → LastFails holds
-  sync_broke holds s = syncs_broke s.group s.thin holds s.syncs
+rose_capped : (a b c : ℕ) → min a (2 ^ 64 - 1) ≤ b → Rose b c → Rose a c
+rose_capped a b c low rose = omega (arith, low, rose)
 
-  pub export_broke : (holds : List Hold) → groups.ExportStops geometry perms holds Broke → LastFails holds
-  export_broke holds s =
-      let e = s.exports in
-      elim e.does [
-        | inl none ↦ absurd (cc (none.2))
-        | inr some ↦ behind_of holds e.looks (OnUber e.u LookedUber ∷ e.rest) e.are (behind (OnUber e.u LookedUber ∷ []) e.rest (syncs_broke s.group some.1.0 e.rest some.1.1))
-      ]
+either : (group : ℕ) (before after : Counts) → Rose (area_count group before) (area_count group after) → Rose before.even after.even ⊎ Rose before.odd after.odd
+either group before after = by (group % 2 == 0) where
+  by : (b : Bool) → Rose (if b then before.even else before.odd) (if b then after.even else after.odd) → Rose before.even after.even ⊎ Rose before.odd after.odd
+  by true rose = inl rose
+  by false rose = inr rose
 
--- ---- counts
+rose_here : (hold : Hold) (x y z : State) → IsLater x y → HasFailed hold y z → AreaRose x z
+rose_here (On v (AreaFailed group)) x y z later failed =
+    let was = later.each v.metaslab failed.0 failed.2 in
+    inl (
+      v.metaslab,
+      was.y,
+      failed.1,
+      was.there,
+      failed.3,
+      elim (either group failed.0.counts failed.1.counts failed.4) [
+        | inl even ↦ inl (rose_from was.y.counts.even failed.0.counts.even failed.1.counts.even was.even even)
+        | inr odd ↦ inr (rose_from was.y.counts.odd failed.0.counts.odd failed.1.counts.odd was.odd odd)
+      ],
+    )
+rose_here (OnUber u (CommitFailed group)) x y z later failed = inr (rose_capped x.uber_count y.uber_count z.uber_count later.uber failed)
+rose_here hold x y z later failed = absurd failed
 
-last_of : (front : List Hold) (hold : Hold) (x y : State) → Follows (front ++ hold ∷ []) x y → (mid : State) × Holds hold mid y
-last_of [] hold x y f = (x, subst (λ s. Holds hold x s) (sym f.2) f.1)
-last_of (h ∷ front) hold x y f = last_of front hold f.0 y f.2
+-- a command that breaks off has a rise
+pub broken_rose : (geometry : Geometry) (perms : Perms) (command : Command) (holds : List Hold) (x y : State) → Broken geometry perms command holds → Follows holds x y → AreaRose x y
+broken_rose geometry perms command holds x y broken follows =
+    let e = breaks_failed geometry perms command holds x y broken follows in
+    rose_here e.hold x e.mid y (follows_later e.front x e.mid e.follows) e.failed
 
 rose_some : (before now : ℕ) → Rose before now → 0 < now
 rose_some before now rose = omega (arith, rose)
 
-area_some : (group : ℕ) (before after : Counts) → Rose (area_count group before) (area_count group after) → 0 < after.even + after.odd
-area_some group before after = by (group % 2 == 0) where
-  by : (b : Bool) → Rose (if b then before.even else before.odd) (if b then after.even else after.odd) → 0 < after.even + after.odd
-  by true rose = omega (arith, rose)
-  by false rose = omega (arith, rose)
+-- and what has risen isn't 0
+pub rose_shows : (x y : State) → AreaRose x y → AreaHasFailed y
+rose_shows x y rose = elim rose [
+  | inl at ↦ inl (
+    at.0,
+    at.2,
+    at.4,
+    elim at.5 [
+      | inl even ↦ (let some = rose_some at.1.counts.even at.2.counts.even even in omega (arith, some))
+      | inr odd ↦ (let some = rose_some at.1.counts.odd at.2.counts.odd odd in omega (arith, some))
+    ],
+  )
+  | inr uber ↦ inr (rose_some x.uber_count y.uber_count uber)
+]
 
-set_there : {A : Type 0} (xs : List A) (m : ℕ) (x y : A) → slice_get xs m ≡ Some x → slice_get (slice_set xs m y) m ≡ Some y
-set_there [] m x y is = absurd (cc)
-set_there (z ∷ xs) zero x y is = refl
-set_there (z ∷ xs) (suc m) x y is = set_there xs m x y is
-
-failed_there : (hold : Hold) (x y : State) → Fails hold → Holds hold x y → AreaHasFailed y
-failed_there (On v (AreaFailed group)) x y fails h =
-    let there : slice_get y.metaslabs v.metaslab ≡ Some h.after = ap (λ (s : State). slice_get s.metaslabs v.metaslab) h.made ∙ set_there x.metaslabs v.metaslab h.before h.after h.there in
-    inl (v.metaslab, h.after, there, area_some group h.before.counts h.after.counts h.acts.2)
-failed_there (OnUber u (CommitFailed group)) x y fails h =
-    let same = ap (λ (s : State). s.uber_count) h.acts.2 in
-    let some = rose_some x.uber_count h.acts.0 h.acts.1 in
-    inr (omega (arith, same, some))
-failed_there (On v Looked) x y fails h = absurd fails
-failed_there (On v (Did e w)) x y fails h = absurd fails
-failed_there (On v (Reserved n)) x y fails h = absurd fails
-failed_there (On v (MadeLeaf leaf)) x y fails h = absurd fails
-failed_there (On v RackFailed) x y fails h = absurd fails
-failed_there (OnUber u LookedUber) x y fails h = absurd fails
-failed_there (OnUber u (Committed group)) x y fails h = absurd fails
-failed_there (OnUber u (CommitStarved group)) x y fails h = absurd fails
-failed_there (OnUber u (NextLeaf next)) x y fails h = absurd fails
-
--- what has failed shows in the state that was reached
-pub broken_shows : (holds : List Hold) (x y : State) → LastFails holds → Follows holds x y → AreaHasFailed y
-broken_shows holds x y last follows =
-    let z = last_of last.front last.hold x y (subst (λ hs. Follows hs x y) last.are follows) in
-    failed_there last.hold z.0 y last.fails z.1
+pub broken_shows : (geometry : Geometry) (perms : Perms) (command : Command) (holds : List Hold) (x y : State) → Broken geometry perms command holds → Follows holds x y → AreaHasFailed y
+broken_shows geometry perms command holds x y broken follows = rose_shows x y (broken_rose geometry perms command holds x y broken follows)

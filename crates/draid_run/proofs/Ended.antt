@@ -9,12 +9,13 @@ use Rattle.draid_reply.specs.declared.reply.Reply.{Reply}
 use Rattle.draid_session.specs.Session.{Desk, Untouched, Bare, Made, Open, Shut, Foreign, Unknown, IsLeft}
 use Rattle.draid_pool.specs.declared.pool.Pool.{Pool}
 use Rattle.draid_run.specs.Desks.{IsDesk, LeavesDesk}
-use Rattle.draid_run.specs.Script.{BreaksOff, Ends, EndsWithLine, FailsShut, GetsReplies, IsSession, Prints, RunsFrom, Shows}
+use Rattle.draid_run.specs.Script.{BreaksOff, Ends, EndsWithLine, Fails, FailsShut, GetsReplies, IsSession, Prints, RunsFrom, Shows}
 use Rattle.draid_run.specs.Serve.{Served}
-use Rattle.draid_run.specs.Shelves.{HoldsDesk, OnShelf}
+use Rattle.draid_run.specs.Shelves.{HasFailed, HoldsDesk, IsClosed, OnShelf}
 use Rattle.draid_run.specs.Status.{HasNumber, last_text}
 use Rattle.draid_run.specs.declared.status.Status.{Status}
 use Rattle.draid_run.specs.declared.status.Status.TheVariants.{Done, Usage, Line, SourceFault, SinkFault, NoMemory, TooLong, ShelfFault, Record}
+use Rattle.draid_run.proofs.Broke.{broken_rose}
 use Rattle.draid_run.proofs.Known.{appends_none}
 
 -- ---- the last line
@@ -76,12 +77,30 @@ gets_short SinkFault shown old new number gets = absurd number
 gets_short NoMemory shown old new number gets = absurd number
 gets_short ShelfFault shown old new number gets = absurd number
 
+-- what failed, by what was open
+shelf_fails : {A : Type 0} (area : areas.Ghosts A) (broken : Option (List ℕ)) (lines : List (List ℕ)) (mid last : Desk) (entry now : OnShelf) → BreaksOff ShelfFault broken mid last
+    → (IsClosed mid → FailsShut area broken lines mid entry now) → HasFailed entry now → Fails area broken lines mid last entry now
+shelf_fails area None lines mid last entry now breaks shut failed = absurd breaks
+shelf_fails area (Some text) lines Untouched last entry now breaks shut failed = shut tt
+shelf_fails area (Some text) lines Bare last entry now breaks shut failed = shut tt
+shelf_fails area (Some text) lines (Made told n geometry) last entry now breaks shut failed = shut tt
+shelf_fails area (Some text) lines (Shut crash x) last entry now breaks shut failed = shut tt
+shelf_fails area (Some text) lines Unknown last entry now breaks shut failed = shut tt
+shelf_fails area (Some text) lines Foreign last entry now breaks shut failed = failed
+shelf_fails area (Some text) lines (Open x) (Open y) entry now breaks shut failed =
+    broken_rose x.geometry x.perms breaks.command breaks.breaks.holds x y breaks.breaks.broken breaks.breaks.follows
+shelf_fails area (Some text) lines (Open x) last entry now breaks shut failed = absurd breaks.breaks
+
 not_usage : NoMemory ≡ Usage → ⊥
 not_usage e = cc e
 
 not_fault : (meant : Status) → (meant ≡ Usage) ⊎ (meant ≡ NoMemory) → meant ≡ ShelfFault → ⊥
 not_fault meant (inl usage) is = (let e = sym usage ∙ is in cc e)
 not_fault meant (inr none) is = (let e = sym none ∙ is in cc e)
+
+not_bad : (meant : Status) → (meant ≡ Usage) ⊎ (meant ≡ NoMemory) → (metaslab : Option ℕ) (place kind : ℕ) → meant ≡ Record metaslab place kind → ⊥
+not_bad meant (inl usage) metaslab place kind is = (let e = sym usage ∙ is in cc e)
+not_bad meant (inr none) metaslab place kind is = (let e = sym none ∙ is in cc e)
 
 module _ {R A : Type 0} (rack : racks.Ghosts R) (area : areas.Ghosts A) (chosen : List Room → Option ℕ → Type 0) (first : Desk) where
   -- want of memory for the last line is as good an end as that line
@@ -102,11 +121,12 @@ module _ {R A : Type 0} (rack : racks.Ghosts R) (area : areas.Ghosts A) (chosen 
     prints = gets_short ended is.shown start held number is.prints;
     failed = λ e. absurd (cc e);
     since = λ e. absurd (cc e);
+    bad = λ metaslab place kind e. absurd (cc e);
   }
 
   -- what was served, as the run of these words
   run_of : (words : List (List ℕ)) (status ended : Status) (input start mid new : Option (List ℕ)) (entry before now : OnShelf) (pool : Option (Pool R A)) → (ended ≡ Usage → ⊥) → IsSession words
-      → (is : Served rack area chosen first ended input start mid entry before pool) → LeavesDesk area entry before now pool is.last → Prints status ended (last_text ended) mid new → RunsFrom chosen words status input start new entry now first
+      → (is : Served rack area chosen first ended input start mid entry before pool) → LeavesDesk area entry before now pool is.last → Prints status ended (last_text ended) mid new → RunsFrom rack area chosen words status input start new entry now first
   run_of words status ended input start mid new entry before now pool other session is leaves line = record {
     last = is.last;
     session = record {
@@ -127,14 +147,16 @@ module _ {R A : Type 0} (rack : racks.Ghosts R) (area : areas.Ghosts A) (chosen 
     left = leaves.left;
     is_left = leaves.is;
     shelf = leaves.shelf;
-    failed = λ e closed. (let since = is.since e closed in subst (FailsShut is.broken is.lines is.mid entry) (sym (leaves.same since.0)) since.1);
+    failed = λ e. shelf_fails area is.broken is.lines is.mid is.last entry now (subst (λ s. BreaksOff s is.broken is.mid is.last) e is.breaks)
+        (λ closed. (let since = is.since e closed in subst (FailsShut area is.broken is.lines is.mid entry) (sym (leaves.same since.0)) since.1)) (leaves.failed (is.failed e));
+    bad = is.bad;
   }
 
   -- a run of a session: what was served, the last line, and the pool on the shelf
   pub run_served : (words : List (List ℕ)) (status ended : Status) (input start mid new : Option (List ℕ)) (entry before now : OnShelf) (pool : Option (Pool R A)) → IsSession words → (ended ≡ Usage → ⊥)
       → Served rack area chosen first ended input start mid entry before pool → EndsWithLine ended status mid new
       → ((x : Desk) → IsDesk rack area entry before pool x → LeavesDesk area entry before now pool x)
-      → RunsFrom chosen words status input start new entry now first
+      → RunsFrom rack area chosen words status input start new entry now first
   run_served words status ended input start mid new entry before now pool session other is line leaves = elim line.is [
     | inl same ↦
         let prints = subst (λ m. Prints status m (last_text m) mid new) same line.prints in
@@ -145,10 +167,10 @@ module _ {R A : Type 0} (rack : racks.Ghosts R) (area : areas.Ghosts A) (chosen 
         run_of words status NoMemory input start mid new entry before now pool (λ e. absurd (not_usage e)) session short (leaves short.last short.desk) prints
   ]
 
-module _ (chosen : List Room → Option ℕ → Type 0) (words : List (List ℕ)) (status : Status) (input old new : Option (List ℕ)) (entry : OnShelf) (first : Desk) (at : HoldsDesk first entry entry) where
+module _ {R A : Type 0} (rack : racks.Ghosts R) (area : areas.Ghosts A) (chosen : List Room → Option ℕ → Type 0) (words : List (List ℕ)) (status : Status) (input old new : Option (List ℕ)) (entry : OnShelf) (first : Desk) (at : HoldsDesk first entry entry) where
   -- a run that does nothing but print its last line
   run_of_none : (meant : Status) → (meant ≡ Usage → IsSession words → ⊥) → (meant ≡ Usage) ⊎ (meant ≡ NoMemory) → ((known : Option (List ℕ)) → MatchOption known ⊤ (Ends meant None [])) → Shows meant [] []
-      → BreaksOff meant None first first → GetsReplies meant [] old old → (HasNumber meant → ⊥) → EndsWithLine meant status old new → RunsFrom chosen words status input old new entry entry first
+      → BreaksOff meant None first first → GetsReplies meant [] old old → (HasNumber meant → ⊥) → EndsWithLine meant status old new → RunsFrom rack area chosen words status input old new entry entry first
   run_of_none meant wrong refused ends shows breaks gets plain line = elim line.is [
     | inl same ↦ record {
       last = first;
@@ -171,6 +193,7 @@ module _ (chosen : List Room → Option ℕ → Type 0) (words : List (List ℕ)
       is_left = back first at;
       shelf = at;
       failed = λ e. absurd (not_fault meant refused e);
+      bad = λ metaslab place kind e. absurd (not_bad meant refused metaslab place kind e);
     }
     | inr none ↦ absurd (plain none.1)
   ]
@@ -178,21 +201,21 @@ module _ (chosen : List Room → Option ℕ → Type 0) (words : List (List ℕ)
       back : (x : Desk) → HoldsDesk x entry entry → IsLeft x x
       back Untouched is = refl
       back Bare is = refl
-      back (Made geometry) is = refl
+      back (Made tells count geometry) is = refl
       back (Shut crash x) is = refl
       back Unknown is = refl
       back (Open x) is = absurd is
       back Foreign is = absurd is
 
   -- a run whose words aren't those of a session
-  pub run_refused : (IsSession words → ⊥) → EndsWithLine Usage status old new → RunsFrom chosen words status input old new entry entry first
+  pub run_refused : (IsSession words → ⊥) → EndsWithLine Usage status old new → RunsFrom rack area chosen words status input old new entry entry first
   run_refused wrong = run_of_none Usage (λ e. wrong) (inl refl) ends_nothing refl refl (appends_none old) (λ number. number) where
     ends_nothing : (known : Option (List ℕ)) → MatchOption known ⊤ (Ends Usage None [])
     ends_nothing None = tt
     ends_nothing (Some bytes) = refl
 
   -- a run whose words can't be read for want of memory
-  pub run_unread : EndsWithLine NoMemory status old new → RunsFrom chosen words status input old new entry entry first
+  pub run_unread : EndsWithLine NoMemory status old new → RunsFrom rack area chosen words status input old new entry entry first
   run_unread = run_of_none NoMemory (λ e. absurd (not_usage e)) (inr refl) ends_nothing (inl refl) refl (appends_none old) (λ number. number) where
     ends_nothing : (known : Option (List ℕ)) → MatchOption known ⊤ (Ends NoMemory None [])
     ends_nothing None = tt

@@ -122,7 +122,7 @@ module _ {R A : Type 0} (rack : racks.Ghosts R) (area : areas.Ghosts A) (entry b
       by : (x : Desk) → IsDesk rack area entry before None x → LeavesDesk {R = R} area entry before before None x
       by Untouched is = record { left = Untouched; is = refl; shelf = is.shelf; failed = λ failed. failed; same = λ closed. refl }
       by Bare is = record { left = Bare; is = refl; shelf = is.shelf; failed = λ failed. failed; same = λ closed. refl }
-      by (Made geometry) is = record { left = Made geometry; is = refl; shelf = is.shelf; failed = λ failed. failed; same = λ closed. refl }
+      by (Made tells count geometry) is = record { left = Made tells count geometry; is = refl; shelf = is.shelf; failed = λ failed. failed; same = λ closed. refl }
       by (Shut crash y) is = record { left = Shut crash y; is = refl; shelf = is.shelf; failed = λ failed. failed; same = λ closed. refl }
       by Unknown is = record { left = Unknown; is = refl; shelf = is.shelf; failed = λ failed. failed; same = λ closed. refl }
       by (Open y) is = absurd is.stands
@@ -134,7 +134,7 @@ module _ {R A : Type 0} (rack : racks.Ghosts R) (area : areas.Ghosts A) (entry b
     by : (x : Desk) → IsDesk rack area entry before (Some pool) x → LeavesDesk area entry before now (Some pool) x
     by Untouched is = absurd is.stands
     by Bare is = absurd is.stands
-    by (Made geometry) is = absurd is.stands
+    by (Made tells count geometry) is = absurd is.stands
     by (Shut crash y) is = absurd is.stands
     by Unknown is = absurd is.stands
     by Foreign is = record { left = Unknown; is = refl; shelf = tt; failed = λ failed. inr (shows failed); same = λ closed. absurd closed }

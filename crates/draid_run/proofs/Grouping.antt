@@ -30,7 +30,7 @@ use Rattle.draid_run.specs.Serve.{AnswerIs, IsSaid}
 use Rattle.draid_run.specs.Shelves.{IsOut, OnShelf, PoolFails}
 use Rattle.draid_run.specs.declared.answer.Stop.{Stop}
 use Rattle.draid_run.specs.declared.answer.Stop.TheVariants as stop
-use Rattle.draid_run.proofs.Broke.{broken_shows, export_broke, sync_broke}
+use Rattle.draid_run.proofs.Broke.{broken_shows}
 use Rattle.draid_run.proofs.Following.{same_store}
 use Rattle.draid_run.proofs.GivenBack.{is_given, left_as, shelf_has}
 use Rattle.draid_run.proofs.Steps.{by_answer, still_out}
@@ -68,7 +68,7 @@ module _ {R A : Type 0} (rack : racks.Ghosts R) (area : areas.Ghosts A) where
     by : (x : Desk) → IsPool rack area (Some pool) x → SyncDid rack area x result (Some new)
     by Untouched stands = absurd stands
     by Bare stands = absurd stands
-    by (Made geometry) stands = absurd stands
+    by (Made tells count geometry) stands = absurd stands
     by (Shut crash y) stands = absurd stands
     by Unknown stands = absurd stands
     by (Open y) stands = (whole, leads y stands.1)
@@ -79,7 +79,7 @@ module _ {R A : Type 0} (rack : racks.Ghosts R) (area : areas.Ghosts A) where
     by : (x : Desk) → IsPool rack area None x → SyncDid rack area x result new
     by Untouched stands = (said, same)
     by Bare stands = (said, same)
-    by (Made geometry) stands = (said, same)
+    by (Made tells count geometry) stands = (said, same)
     by (Shut crash y) stands = (said, same)
     by Unknown stands = (said, same)
     by (Open y) stands = absurd stands
@@ -130,7 +130,7 @@ module _ {R A : Type 0} (rack : racks.Ghosts R) (area : areas.Ghosts A) (chosen 
   -- ---- a sync leaves the shelf alone
   pub by_sync : (x : Desk) (reply : Reply) (desk new : Option (Pool R A)) → IsDesk rack area entry now desk x → SyncDid rack area x (Ok reply) new → Turned rack area chosen (Ok SyncPool) entry x (Some reply) now new
   by_sync Untouched reply desk new is did = told Untouched reply SyncPool name.Sync desk new (ok_same reply (NoPool name.Sync) (Ok reply) (Ok (NoPool name.Sync)) refl refl did.0) did.1 (record { stands = tt; shelf = is.shelf }) (refl, refl)
-  by_sync (Made geometry) reply desk new is did = told (Made geometry) reply SyncPool name.Sync desk new (ok_same reply (NoPool name.Sync) (Ok reply) (Ok (NoPool name.Sync)) refl refl did.0) did.1 (record { stands = tt; shelf = is.shelf }) (refl, refl)
+  by_sync (Made tells count geometry) reply desk new is did = told (Made tells count geometry) reply SyncPool name.Sync desk new (ok_same reply (NoPool name.Sync) (Ok reply) (Ok (NoPool name.Sync)) refl refl did.0) did.1 (record { stands = tt; shelf = is.shelf }) (refl, refl)
   by_sync (Shut crash y) reply desk new is did = told (Shut crash y) reply SyncPool name.Sync desk new (ok_same reply (NoPool name.Sync) (Ok reply) (Ok (NoPool name.Sync)) refl refl did.0) did.1 (record { stands = tt; shelf = is.shelf }) (refl, refl)
   by_sync Bare reply desk new is did = told Bare reply SyncPool name.Sync desk new (ok_same reply (NoPool name.Sync) (Ok reply) (Ok (NoPool name.Sync)) refl refl did.0) did.1 (record { stands = tt; shelf = is.shelf }) (refl, refl)
   by_sync Unknown reply desk new is did = told Unknown reply SyncPool name.Sync desk new (ok_same reply (NoPool name.Sync) (Ok reply) (Ok (NoPool name.Sync)) refl refl did.0) did.1 (record { stands = tt; shelf = is.shelf }) (refl, refl)
@@ -147,7 +147,7 @@ module _ {R A : Type 0} (rack : racks.Ghosts R) (area : areas.Ghosts A) (chosen 
 
   pub sync_breaks : (x : Desk) (desk new : Option (Pool R A)) → IsDesk rack area entry now desk x → SyncDid rack area x (Err stop.Shelf) new → Broken rack area ShelfFails SyncPool entry before x now new
   sync_breaks Untouched desk new is did = absurd (cc (did.0))
-  sync_breaks (Made geometry) desk new is did = absurd (cc (did.0))
+  sync_breaks (Made tells count geometry) desk new is did = absurd (cc (did.0))
   sync_breaks (Shut crash y) desk new is did = absurd (cc (did.0))
   sync_breaks Bare desk new is did = absurd (cc (did.0))
   sync_breaks Unknown desk new is did = absurd (cc (did.0))
@@ -162,7 +162,7 @@ module _ {R A : Type 0} (rack : racks.Ghosts R) (area : areas.Ghosts A) (chosen 
         new = Open (record c.reached { store = c.store });
         desk = record { stands = (did.0, c.represents); shelf = still_out y c.reached now c.holds c.follows is.shelf c.store };
         breaks = record { holds = c.holds; follows = follows; broken = f.1 };
-        cause = broken_shows c.holds y (record c.reached { store = c.store }) (sync_broke y.geometry y.perms c.holds f.1) follows;
+        cause = broken_shows y.geometry y.perms SyncPool c.holds y (record c.reached { store = c.store }) f.1 follows;
       }
 
   -- ---- an export
@@ -197,7 +197,7 @@ module _ {R A : Type 0} (rack : racks.Ghosts R) (area : areas.Ghosts A) (chosen 
   by_export x reply new did = record { new = did.new; desk = did.desk; turns = by x did.turns } where
     by : (x : Desk) → ExportTurns x (Some reply) did.new → TurnsBy chosen (Ok ExportPool) x (Some reply) did.new
     by Untouched turns = subst (λ r. TurnsBy chosen (Ok ExportPool) Untouched (Some r) did.new) (sym (some_same reply (NoPool name.Export) turns.0)) (refl, turns.1)
-    by (Made geometry) turns = subst (λ r. TurnsBy chosen (Ok ExportPool) (Made geometry) (Some r) did.new) (sym (some_same reply (NoPool name.Export) turns.0)) (refl, turns.1)
+    by (Made tells count geometry) turns = subst (λ r. TurnsBy chosen (Ok ExportPool) (Made tells count geometry) (Some r) did.new) (sym (some_same reply (NoPool name.Export) turns.0)) (refl, turns.1)
     by (Shut crash y) turns = subst (λ r. TurnsBy chosen (Ok ExportPool) (Shut crash y) (Some r) did.new) (sym (some_same reply (NoPool name.Export) turns.0)) (refl, turns.1)
     by Bare turns = subst (λ r. TurnsBy chosen (Ok ExportPool) Bare (Some r) did.new) (sym (some_same reply (NoPool name.Export) turns.0)) (refl, turns.1)
     by Unknown turns = subst (λ r. TurnsBy chosen (Ok ExportPool) Unknown (Some r) did.new) (sym (some_same reply (NoPool name.Export) turns.0)) (refl, turns.1)
@@ -217,7 +217,7 @@ module _ {R A : Type 0} (rack : racks.Ghosts R) (area : areas.Ghosts A) (chosen 
     by : (x : Desk) → ExportTurns x None did.new → Broken rack area ShelfFails ExportPool entry before x now new
     by Untouched turns = absurd (cc (turns.0))
     by Bare turns = absurd (cc (turns.0))
-    by (Made geometry) turns = absurd (cc (turns.0))
+    by (Made tells count geometry) turns = absurd (cc (turns.0))
     by (Shut crash y) turns = absurd (cc (turns.0))
     by Unknown turns = absurd (cc (turns.0))
     by Foreign turns =
@@ -232,7 +232,7 @@ module _ {R A : Type 0} (rack : racks.Ghosts R) (area : areas.Ghosts A) (chosen 
           new = Open turns.y;
           desk = subst (λ d. IsDesk rack area entry now new d) same did.desk;
           breaks = record { holds = l.holds; follows = follows; broken = f.1 };
-          cause = broken_shows l.holds y turns.y (export_broke y.geometry y.perms l.holds f.1) follows;
+          cause = broken_shows y.geometry y.perms ExportPool l.holds y turns.y f.1 follows;
         }
 
   -- ---- a crash
@@ -240,7 +240,7 @@ module _ {R A : Type 0} (rack : racks.Ghosts R) (area : areas.Ghosts A) (chosen 
   by_crash x reply new did = record { new = did.new; desk = did.desk; turns = by x did.turns } where
     by : (x : Desk) → CrashTurns x reply did.new → TurnsBy chosen (Ok CrashPool) x (Some reply) did.new
     by Untouched turns = subst (λ r. TurnsBy chosen (Ok CrashPool) Untouched (Some r) did.new) (sym turns.0) (refl, turns.1)
-    by (Made geometry) turns = subst (λ r. TurnsBy chosen (Ok CrashPool) (Made geometry) (Some r) did.new) (sym turns.0) (refl, turns.1)
+    by (Made tells count geometry) turns = subst (λ r. TurnsBy chosen (Ok CrashPool) (Made tells count geometry) (Some r) did.new) (sym turns.0) (refl, turns.1)
     by (Shut crash y) turns = subst (λ r. TurnsBy chosen (Ok CrashPool) (Shut crash y) (Some r) did.new) (sym turns.0) (refl, turns.1)
     by Bare turns = subst (λ r. TurnsBy chosen (Ok CrashPool) Bare (Some r) did.new) (sym turns.0) (refl, turns.1)
     by Unknown turns = subst (λ r. TurnsBy chosen (Ok CrashPool) Unknown (Some r) did.new) (sym turns.0) (refl, turns.1)
@@ -263,7 +263,7 @@ module _ {R A : Type 0} (rack : racks.Ghosts R) (area : areas.Ghosts A) (chosen 
         no_record : (x : Desk) (new : Option (Pool R A)) → SyncDid rack area x (Err (stop.Record metaslab place kind)) new → ⊥
         no_record Untouched new did = cc (did.0)
         no_record Bare new did = cc (did.0)
-        no_record (Made geometry) new did = cc (did.0)
+        no_record (Made tells count geometry) new did = cc (did.0)
         no_record (Shut crash y) new did = cc (did.0)
         no_record Unknown new did = cc (did.0)
         no_record (Open y) None did = did
@@ -274,7 +274,7 @@ module _ {R A : Type 0} (rack : racks.Ghosts R) (area : areas.Ghosts A) (chosen 
       where
         not_unbuilt : (x : Desk) (new : Option (Pool R A)) → SyncDid rack area x (Err stop.Unbuilt) new → ⊥
         not_unbuilt Untouched new did = cc (did.0)
-        not_unbuilt (Made geometry) new did = cc (did.0)
+        not_unbuilt (Made tells count geometry) new did = cc (did.0)
         not_unbuilt (Shut crash y) new did = cc (did.0)
         not_unbuilt Bare new did = cc (did.0)
         not_unbuilt Unknown new did = cc (did.0)
@@ -297,7 +297,7 @@ module _ {R A : Type 0} (rack : racks.Ghosts R) (area : areas.Ghosts A) (entry b
     by : (x : Desk) → IsPool rack area (Some was) x → IsShelf x entry before → P x
     by Untouched stands shelf = absurd stands
     by Bare stands shelf = absurd stands
-    by (Made geometry) stands shelf = absurd stands
+    by (Made tells count geometry) stands shelf = absurd stands
     by (Shut crash y) stands shelf = absurd stands
     by Unknown stands shelf = absurd stands
     by (Open y) stands shelf = f y stands.1 shelf

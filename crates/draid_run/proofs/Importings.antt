@@ -1,5 +1,5 @@
 -- An import, in the words of a session.
-use Rattle.std.proofs.Common.{◌≡◌, ◌∙◌, ◌⊎◌, inl, inr, refl, sym, ap, subst, ℕ, List, Bool, true, false, [], ◌∷◌, Option, Some, None, Result, Ok, Err, String, Global}
+use Rattle.std.proofs.Common.{◌≡◌, ◌≤◌, ◌∙◌, ◌⊎◌, inl, inr, refl, sym, ap, subst, ℕ, List, Bool, true, false, [], ◌∷◌, Option, Some, None, Result, Ok, Err, String, Global}
 use Rattle.std.specs.Prelude.{IfOk, IsErrOf, IsSomeAnd, OnOk, is_some, string_bytes}
 use Rattle.draid_names.specs.declared.room.Room.{Room}
 use Rattle.draid_rack.specs.declared.Rack as racks
@@ -7,7 +7,7 @@ use Rattle.draid_area.specs.declared.Area as areas
 use Rattle.draid_spec.specs.declared.layout.Geometry.{Geometry}
 use Rattle.draid_machine.specs.declared.event.Event.TheVariants as event
 use Rattle.draid_segments.specs.Segments.{Pieces}
-use Rattle.draid_shelf.specs.Kits.{AreNewChecks, Held, OnHeld}
+use Rattle.draid_shelf.specs.Kits.{AreNewChecks, Held, KitCounts, OnHeld}
 use Rattle.draid_script.specs.Line.{ImportPool}
 use Rattle.draid_script.specs.declared.name.CommandName.TheVariants as name
 use Rattle.draid_reply.specs.declared.reply.Reply.{Reply}
@@ -22,8 +22,8 @@ use Rattle.draid_pool.specs.Closing.{GivesBack, HoldsPool, Rests}
 use Rattle.draid_pool.specs.Found.{HasRisen, SameChecks}
 use Rattle.draid_pool.specs.Importable.{IsImportable}
 use Rattle.draid_pool.specs.Importing as pools
-use Rattle.draid_pool.specs.Importing.{ImportsPool, LeavesPool, RestsThere}
-use Rattle.draid_pool.specs.Opening.{IsAsBefore, NoChecks}
+use Rattle.draid_pool.specs.Importing.{FindsNoPool, ImportsPool, LeavesMade, LeavesPool, RestsThere}
+use Rattle.draid_pool.specs.Opening.{HoldsMade, IsAsBefore, NoChecks}
 use Rattle.draid_pool.specs.Pools.{Represents}
 use Rattle.draid_pool.specs.Whole.{IsWhole}
 use Rattle.draid_pool.specs.declared.fault.PoolFault.{PoolFault}
@@ -32,7 +32,7 @@ use Rattle.draid_pool.specs.declared.pool.Pool.{Pool}
 use Rattle.draid_run.specs.Desks.{Broken, IsDesk, IsPool, IsShelf, Turned}
 use Rattle.draid_run.specs.Importing.{ImportDid, ImportDoes, ImportIs}
 use Rattle.draid_run.specs.Serve.{AnswerIs, IsSaid}
-use Rattle.draid_run.specs.Shelves.{HasChecks, HoldsShut, IsOut, OnShelf}
+use Rattle.draid_run.specs.Shelves.{HasChecks, HoldsFault, HoldsNew, HoldsShut, IsOut, OnShelf}
 use Rattle.draid_run.specs.declared.answer.Stop.{Stop}
 use Rattle.draid_run.specs.declared.answer.Stop.TheVariants as stop
 use Rattle.draid_run.proofs.Following.{same_layout, same_told}
@@ -154,6 +154,11 @@ checks_there x pieces old None same rests = tt
 checks_there x pieces None (Some held) same rests = absurd same
 checks_there x pieces (Some before) (Some held) same rests = subst (λ c. IsSomeAnd c AreNewChecks) (sym same) rests.checks
 
+-- a new pool is held, where the shelf tells it
+new_held : (o : Option Held) (P : Held → Type 0) → true ≡ is_some o → OnHeld o P → IsSomeAnd o P
+new_held None P told is = absurd (cc told)
+new_held (Some h) P told is = is
+
 true_or : (b : Bool) → (b ≡ true) ⊎ (b ≡ false)
 true_or true = inl refl
 true_or false = inr refl
@@ -161,6 +166,11 @@ true_or false = inr refl
 pub none_open : {T : Type 0} (o : Option T) → is_some o ≡ false → o ≡ None
 none_open None is = refl
 none_open (Some t) is = absurd (cc is)
+
+-- the fault by other names of its place
+pub fault_named : {R A : Type 0} (rack : racks.Ghosts R) (area : areas.Ghosts A) (before : OnShelf) (m m' : Option ℕ) (p p' k k' : ℕ) → m' ≡ m → p' ≡ p → k' ≡ k → HoldsFault rack area before m p k → HoldsFault rack area before m' p' k'
+fault_named rack area before m m' p p' k k' same_m same_p same_k fault =
+    subst (λ z. HoldsFault rack area before z p' k') (sym same_m) (subst (λ z. HoldsFault rack area before m z k') (sym same_p) (subst (λ z. HoldsFault rack area before m p z) (sym same_k) fault))
 
 -- ---- the call
 
@@ -172,7 +182,8 @@ pub record Called {R A : Type 0} (rack : racks.Ghosts R) (area : areas.Ghosts A)
   pub tells : OnOk result (is_some now.held ≡ is_some before.held)
   pub checks_held : SameChecks before.held now.held
   pub checks : now.own.checks ≡ before.own.checks
-  pub cause : IsErrOf result fault.Shelf → HasRisen before.faults now.faults before.own.uber now.own.uber before.counts now.counts
+  pub cause : IsErrOf result fault.Shelf → HasRisen area before.held before.faults now.faults before.own.uber now.own.uber before.counts now.counts
+  pub made : (geometry : Geometry) → IsSomeAnd before.held (HoldsMade geometry) → LeavesMade geometry result now.held before.counts now.counts before.own now.own
 
 module _ {R A : Type 0} (rack : racks.Ghosts R) (area : areas.Ghosts A) (entry before now : OnShelf) where
   module _ (result : Result (Pool R A) PoolFault) (called : Called rack area before now result) where
@@ -187,11 +198,36 @@ module _ {R A : Type 0} (rack : racks.Ghosts R) (area : areas.Ghosts A) (entry b
     was : (y : State) (r : Result (Pool R A) PoolFault) → result ≡ r → (rest : Resting y before) → pools.ImportIs rack area y rest.pieces now.held now.leaves now.counts now.own.uber r
     was y r is rest = subst (pools.ImportIs rack area y rest.pieces now.held now.leaves now.counts now.own.uber) is (called.imports y rest.pieces rest.rests)
 
+    -- a new pool stays there
+    new_made : (failed : ℕ) (geometry : Geometry) → HoldsNew true failed geometry before → LeavesMade geometry result now.held before.counts now.counts before.own now.own
+    new_made failed geometry shelf = called.made geometry (new_held before.held (HoldsMade geometry) shelf.told_is shelf.made.held)
+
+    new_left : (failed : ℕ) (geometry : Geometry) → HoldsNew true failed geometry before → HoldsNew true now.own.uber geometry now × (failed ≤ now.own.uber)
+    new_left failed geometry shelf =
+        let l = new_made failed geometry shelf in (
+          record {
+            told_is = sym (some_is now.held (HoldsMade geometry) l.held);
+            made = record {
+              held = on_some now.held (HoldsMade geometry) l.held;
+              counts = λ m who less. ap (λ (k : KitCounts). k.rack who) (l.counts m) ∙ shelf.made.counts m who less;
+              uber = refl;
+              checks = l.checks ∙ shelf.made.checks;
+            };
+          },
+          subst (λ n. n ≤ now.own.uber) shelf.made.uber l.uber,
+        )
+
+    new_none : (failed : ℕ) (geometry : Geometry) (r : Result (Pool R A) PoolFault) → result ≡ r → HoldsNew true failed geometry before → FindsNoPool r
+    new_none failed geometry r is shelf = subst FindsNoPool is (new_made failed geometry shelf).none
+
     -- ---- refusals
 
     pub no_pool : result ≡ Err fault.NoPool → (x : Desk) → IsPool rack area None x → IsShelf x entry before → ImportDid rack area entry x (NoPool name.Import) now None
     no_pool is Untouched stands shelf = record { new = Unknown; desk = record { stands = tt; shelf = tt }; turns = refl }
-    no_pool is (Made geometry) stands shelf = record { new = Unknown; desk = record { stands = tt; shelf = tt }; turns = refl }
+    no_pool is (Made true failed geometry) stands shelf =
+        let left = new_left failed geometry shelf in
+        record { new = Made true now.own.uber geometry; desk = record { stands = tt; shelf = left.0 }; turns = (now.own.uber, left.1, refl) }
+    no_pool is (Made false failed geometry) stands shelf = record { new = Unknown; desk = record { stands = tt; shelf = tt }; turns = refl }
     no_pool is Unknown stands shelf = record { new = Unknown; desk = record { stands = tt; shelf = tt }; turns = refl }
     no_pool is Bare stands shelf =
         let none = bare_none shelf in
@@ -213,7 +249,10 @@ module _ {R A : Type 0} (rack : racks.Ghosts R) (area : areas.Ghosts A) (entry b
 
     pub no_memory : result ≡ Err fault.NoMemory → (x : Desk) → IsPool rack area None x → IsShelf x entry before → ImportDid rack area entry x (NoMemory name.Import) now None
     no_memory is Untouched stands shelf = record { new = Unknown; desk = record { stands = tt; shelf = tt }; turns = refl }
-    no_memory is (Made geometry) stands shelf = record { new = Unknown; desk = record { stands = tt; shelf = tt }; turns = refl }
+    no_memory is (Made true failed geometry) stands shelf =
+        let left = new_left failed geometry shelf in
+        record { new = Made true now.own.uber geometry; desk = record { stands = tt; shelf = left.0 }; turns = (now.own.uber, left.1, refl) }
+    no_memory is (Made false failed geometry) stands shelf = record { new = Unknown; desk = record { stands = tt; shelf = tt }; turns = refl }
     no_memory is Unknown stands shelf = record { new = Unknown; desk = record { stands = tt; shelf = tt }; turns = refl }
     no_memory is Bare stands shelf = absurd (let z = sym is ∙ (bare_none shelf).0 in cc)
     no_memory is (Shut crash y) stands shelf = elim (true_or y.told) [
@@ -232,7 +271,10 @@ module _ {R A : Type 0} (rack : racks.Ghosts R) (area : areas.Ghosts A) (entry b
 
     pub shelf_failed : result ≡ Err fault.Shelf → (x : Desk) → IsPool rack area None x → IsShelf x entry before → Broken rack area ShelfFails ImportPool entry before x now None
     shelf_failed is Untouched stands shelf = record { new = Unknown; desk = record { stands = tt; shelf = tt }; breaks = refl; cause = (tt, called.cause is) }
-    shelf_failed is (Made geometry) stands shelf = record { new = Unknown; desk = record { stands = tt; shelf = tt }; breaks = refl; cause = (tt, called.cause is) }
+    shelf_failed is (Made true failed geometry) stands shelf =
+        let left = new_left failed geometry shelf in
+        record { new = Made true now.own.uber geometry; desk = record { stands = tt; shelf = left.0 }; breaks = (now.own.uber, left.1, refl); cause = (tt, called.cause is) }
+    shelf_failed is (Made false failed geometry) stands shelf = record { new = Unknown; desk = record { stands = tt; shelf = tt }; breaks = refl; cause = (tt, called.cause is) }
     shelf_failed is Unknown stands shelf = record { new = Unknown; desk = record { stands = tt; shelf = tt }; breaks = refl; cause = (tt, called.cause is) }
     shelf_failed is Bare stands shelf = absurd (let z = sym is ∙ (bare_none shelf).0 in cc)
     shelf_failed is (Shut crash y) stands shelf = elim (true_or y.told) [
@@ -253,7 +295,8 @@ module _ {R A : Type 0} (rack : racks.Ghosts R) (area : areas.Ghosts A) (entry b
     pub record_fails : (metaslab : Option ℕ) (place kind : ℕ) → result ≡ Err (fault.Record metaslab place kind) → (x : Desk) → IsPool rack area None x → IsShelf x entry before
         → Broken rack area RecordFails ImportPool entry before x now None
     record_fails metaslab place kind is Untouched stands shelf = record { new = Unknown; desk = record { stands = tt; shelf = tt }; breaks = refl; cause = tt }
-    record_fails metaslab place kind is (Made geometry) stands shelf = record { new = Unknown; desk = record { stands = tt; shelf = tt }; breaks = refl; cause = tt }
+    record_fails metaslab place kind is (Made true failed geometry) stands shelf = absurd (new_none failed geometry (Err (fault.Record metaslab place kind)) is shelf)
+    record_fails metaslab place kind is (Made false failed geometry) stands shelf = record { new = Unknown; desk = record { stands = tt; shelf = tt }; breaks = refl; cause = tt }
     record_fails metaslab place kind is Unknown stands shelf = record { new = Unknown; desk = record { stands = tt; shelf = tt }; breaks = refl; cause = tt }
     record_fails metaslab place kind is Bare stands shelf = absurd (let z = sym is ∙ (bare_none shelf).0 in cc)
     record_fails metaslab place kind is (Shut crash y) stands shelf = elim (true_or y.told) [
@@ -294,7 +337,8 @@ module _ {R A : Type 0} (rack : racks.Ghosts R) (area : areas.Ghosts A) (entry b
 
         by : (x : Desk) → IsPool rack area None x → IsShelf x entry before → ImportDid rack area entry x (Imported called_name group objects) now (Some pool)
         by Untouched stands shelf = foreign Untouched refl
-        by (Made geo) stands shelf = foreign (Made geo) refl
+        by (Made true failed geo) stands shelf = absurd (new_none failed geo (Ok pool) is shelf)
+        by (Made false failed geo) stands shelf = foreign (Made false failed geo) refl
         by Unknown stands shelf = foreign Unknown refl
         by Bare stands shelf = absurd (let z = sym is ∙ (bare_none shelf).0 in cc)
         by (Shut crash y) stands shelf = elim (true_or y.told) [
@@ -322,7 +366,8 @@ module _ {R A : Type 0} (rack : racks.Ghosts R) (area : areas.Ghosts A) (entry b
       unnamed late back checks = by where
         by : (x : Desk) → IsPool rack area None x → IsShelf x entry before → ImportDid rack area entry x (NoMemory name.Import) late None
         by Untouched stands shelf = record { new = Unknown; desk = record { stands = tt; shelf = tt }; turns = refl }
-        by (Made geo) stands shelf = record { new = Unknown; desk = record { stands = tt; shelf = tt }; turns = refl }
+        by (Made true failed geo) stands shelf = absurd (new_none failed geo (Ok pool) is shelf)
+        by (Made false failed geo) stands shelf = record { new = Unknown; desk = record { stands = tt; shelf = tt }; turns = refl }
         by Unknown stands shelf = record { new = Unknown; desk = record { stands = tt; shelf = tt }; turns = refl }
         by Bare stands shelf = absurd (let z = sym is ∙ (bare_none shelf).0 in cc)
         by (Shut crash y) stands shelf = elim (true_or y.told) [
@@ -351,7 +396,7 @@ module _ {R A : Type 0} (rack : racks.Ghosts R) (area : areas.Ghosts A) (entry b
     by : (x : Desk) → IsDesk rack area entry before (Some pool) x → ImportDid rack area entry x (PoolOpen name.Import) before (Some pool)
     by Untouched is = absurd is.stands
     by Bare is = absurd is.stands
-    by (Made geometry) is = absurd is.stands
+    by (Made t count geometry) is = absurd is.stands
     by (Shut crash y) is = absurd is.stands
     by Unknown is = absurd is.stands
     by (Open y) is = record { new = Open y; desk = is; turns = (refl, refl) }
@@ -365,7 +410,7 @@ module _ {R A : Type 0} (rack : racks.Ghosts R) (area : areas.Ghosts A) (chosen 
     by : (x : Desk) (new : Desk) → ImportDoes x reply new → TurnsBy chosen (Ok ImportPool) x (Some reply) new
     by Untouched new turns = turns
     by Bare new turns = turns
-    by (Made geometry) new turns = turns
+    by (Made t count geometry) new turns = turns
     by (Shut crash y) new turns = turns
     by Unknown new turns = turns
     by Foreign new turns = turns

@@ -1,5 +1,6 @@
 pub mod Broke
 pub mod Ended
+pub mod Ending
 pub mod Filled
 pub mod Following
 pub mod GivenBack
@@ -11,4 +12,5 @@ pub mod Risen
 pub mod Runs
 pub mod Said
 pub mod Serving
+pub mod Shown
 pub mod Steps

@@ -57,11 +57,14 @@ same_shelf Untouched entry before now none s d = (
   λ m. s.1 m ∙ d.1 m,
 )
 same_shelf Bare entry before now none s d = subst (λ (h : Option Held). IsSomeAnd h (λ held. held.uber ≡ None)) (sym s.0.held) d
-same_shelf (Made geometry) entry before now none s d = record {
-  held = subst (λ h. OnHeld h (HoldsMade geometry)) (sym s.0.held) d.held;
-  counts = λ m who less. ap (λ (k : KitCounts). k.rack who) (s.0.counts m) ∙ d.counts m who less;
-  uber = s.0.uber ∙ d.uber;
-  checks = s.0.checks ∙ d.checks;
+same_shelf (Made tells count geometry) entry before now none s d = record {
+  told_is = d.told_is ∙ ap is_some (sym s.0.held);
+  made = record {
+    held = subst (λ h. OnHeld h (HoldsMade geometry)) (sym s.0.held) d.made.held;
+    counts = λ m who less. ap (λ (k : KitCounts). k.rack who) (s.0.counts m) ∙ d.made.counts m who less;
+    uber = s.0.uber ∙ d.made.uber;
+    checks = s.0.checks ∙ d.made.checks;
+  };
 }
 same_shelf (Shut crash y) entry before now none s d = record {
   held = subst (λ h. OnHeld h (HoldsPool y crash)) (sym s.0.held) d.held;
@@ -90,7 +93,7 @@ module _ {R A : Type 0} (rack : racks.Ghosts R) (area : areas.Ghosts A) where
 
   not_open : (x : Desk) → IsPool rack area None x → (y : State) → x ≡ Open y → ⊥
   not_open Untouched is y same = cc same
-  not_open (Made geometry) is y same = cc same
+  not_open (Made tells count geometry) is y same = cc same
   not_open (Shut crash z) is y same = cc same
   not_open Bare is y same = cc same
   not_open Unknown is y same = cc same
@@ -99,7 +102,7 @@ module _ {R A : Type 0} (rack : racks.Ghosts R) (area : areas.Ghosts A) where
 
   is_closed : (x : Desk) → IsPool rack area None x → IsClosed x
   is_closed Untouched is = tt
-  is_closed (Made geometry) is = tt
+  is_closed (Made tells count geometry) is = tt
   is_closed (Shut crash z) is = tt
   is_closed Bare is = tt
   is_closed Unknown is = tt
@@ -108,7 +111,7 @@ module _ {R A : Type 0} (rack : racks.Ghosts R) (area : areas.Ghosts A) where
 
   stays_shut : (x : Desk) → IsPool rack area None x → StaysShut x x
   stays_shut Untouched is = refl
-  stays_shut (Made geometry) is = refl
+  stays_shut (Made tells count geometry) is = refl
   stays_shut (Shut crash z) is = refl
   stays_shut Bare is = refl
   stays_shut Unknown is = refl
@@ -119,7 +122,7 @@ module _ {R A : Type 0} (rack : racks.Ghosts R) (area : areas.Ghosts A) where
     turns_made : (x : Desk) (m : answer.Made) (new : State) → IsPool rack area None x → Makes text children keys (string_bytes m.name) m.stripes new
         → CreateTurns text children keys x (Created m.name m.stripes) (Open new)
     turns_made Untouched m new is makes = makes
-    turns_made (Made geometry) m new is makes = makes
+    turns_made (Made tells count geometry) m new is makes = makes
     turns_made (Shut crash z) m new is makes = makes
     turns_made Bare m new is makes = makes
     turns_made Unknown m new is makes = makes
@@ -128,7 +131,7 @@ module _ {R A : Type 0} (rack : racks.Ghosts R) (area : areas.Ghosts A) where
 
     turns_refused : (x : Desk) (why : SpecFault) → IsPool rack area None x → layout_by text children keys ≡ Err why → CreateTurns text children keys x (CreateRefused why) x
     turns_refused Untouched why is none = (none, refl)
-    turns_refused (Made geometry) why is none = (none, refl)
+    turns_refused (Made tells count geometry) why is none = (none, refl)
     turns_refused (Shut crash z) why is none = (none, refl)
     turns_refused Bare why is none = (none, refl)
     turns_refused Unknown why is none = (none, refl)
@@ -137,7 +140,7 @@ module _ {R A : Type 0} (rack : racks.Ghosts R) (area : areas.Ghosts A) where
 
     turns_none : (x : Desk) (new : Desk) → IsPool rack area None x → MakesNone text children keys x new → CreateTurns text children keys x (NoMemory name.Create) new
     turns_none Untouched new is none = none
-    turns_none (Made geometry) new is none = none
+    turns_none (Made tells count geometry) new is none = none
     turns_none (Shut crash z) new is none = none
     turns_none Bare new is none = none
     turns_none Unknown new is none = none
@@ -146,7 +149,7 @@ module _ {R A : Type 0} (rack : racks.Ghosts R) (area : areas.Ghosts A) where
 
     breaks_none : (x : Desk) (new : Desk) → IsPool rack area None x → MakesNone text children keys x new → Breaks ShelfFails x (CreatePool text children keys) new
     breaks_none Untouched new is none = none
-    breaks_none (Made geometry) new is none = none
+    breaks_none (Made tells count geometry) new is none = none
     breaks_none (Shut crash z) new is none = none
     breaks_none Bare new is none = none
     breaks_none Unknown new is none = none
@@ -236,9 +239,9 @@ module _ {R A : Type 0} (rack : racks.Ghosts R) (area : areas.Ghosts A) where
         )
         | inr all ↦ elim all.2 [
           | inl made ↦ (
-            Made all.0,
-            record { stands = subst (λ p. IsPool rack area p (Made all.0)) (sym none) tt; shelf = made },
-            (all.0, layout_is (Ok all.0) all.1, inr (inl refl)),
+            Made (is_some now.held) 0 all.0,
+            record { stands = subst (λ p. IsPool rack area p (Made (is_some now.held) 0 all.0)) (sym none) tt; shelf = record { told_is = refl; made = made } },
+            (all.0, layout_is (Ok all.0) all.1, inr (inl (is_some now.held, refl))),
             tt,
           )
           | inr r ↦ (

@@ -3,9 +3,11 @@ use Rattle.std.proofs.Common.{ℕ, List, Option, Result, Ok, Err, refl, subst, s
 use Rattle.std.specs.declared.vec.Vec.{Vec}
 use Rattle.std.specs.declared.alloc.Global.{Global}
 use Rattle.draid_names.specs.declared.room.Room.{Room}
+use Rattle.draid_names.specs.declared.fault.NoMemory.{NoMemory as Starved}
 use Rattle.draid_names.specs.declared.refusal.ObjectFault.{ObjectFault}
 use Rattle.draid_names.specs.declared.refusal.ObjectFault.TheVariants as object
-use Rattle.draid_script.specs.Line.{DamageSector, FreeObject, ReadObject, SumObjects}
+use Rattle.draid_script.specs.Line.{DamageSector, FreeObject, ReadObject, ShowStatus, SumObjects}
+use Rattle.draid_script.specs.declared.line.StatusFormat.{StatusFormat}
 use Rattle.draid_reply.specs.declared.reply.Reply.{Reply}
 use Rattle.draid_session.specs.Holds.{Hold}
 use Rattle.draid_session.specs.State.{State, Store}
@@ -15,7 +17,7 @@ use Rattle.draid_pool.specs.declared.fault.DamageFault.TheVariants as damaged
 use Rattle.draid_pool.specs.declared.fault.FreeFault.{FreeFault}
 use Rattle.draid_pool.specs.declared.fault.SumFault.{SumFault}
 use Rattle.draid_run.specs.Desks.{ReplyDoes}
-use Rattle.draid_run.specs.Says.{DamageSays, FreeSays, ReadSays, SumSays, damage_reply, free_reply, read_reply, sum_reply}
+use Rattle.draid_run.specs.Says.{DamageSays, FreeSays, ReadSays, StatusDoes, StatusSays, SumSays, damage_reply, free_reply, read_reply, status_reply, sum_reply}
 
 module _ (x : State) (chosen : List Room → Option ℕ → Type 0) (reply : Reply) (holds : List Hold) (store : Store) where
   pub read_does : (o : ℕ) → ReadSays o reply x holds store → ReplyDoes x chosen (ReadObject o) reply holds store
@@ -47,3 +49,9 @@ module _ (x : State) (chosen : List Room → Option ℕ → Type 0) (reply : Rep
     by (Err damaged.Worn) does = (refl, refl, does.0, does.1)
     by (Err damaged.Failed) does = (refl, refl, does.0, does.1)
     by (Err damaged.NoMemory) does = does
+
+  pub status_does : (form : StatusFormat) → StatusSays form reply x holds store → ReplyDoes x chosen (ShowStatus form) reply holds store
+  status_does form said = subst (λ r. ReplyDoes x chosen (ShowStatus form) r holds store) (sym said.1) (by said.0 said.2) where
+    by : (answer : Result (Vec ℕ Global) Starved) → StatusDoes x form answer holds store → ReplyDoes x chosen (ShowStatus form) (status_reply answer) holds store
+    by (Ok text) does = does
+    by (Err starved) does = does

@@ -1,6 +1,6 @@
 -- What the loop over the lines keeps, and what its ends come to.
 use Rattle.std.proofs.Common.{arith, refl, sym, ap, ◌≡◌, ◌∙◌, ◌+◌, ◌≤◌, inl, inr, ℕ, List, [], ◌∷◌, ◌++◌, Option, Some, None, Result, Ok, Err, Vec, Global, subst, append_assoc, length-append}
-use Rattle.std.specs.Prelude.{flat_map}
+use Rattle.std.specs.Prelude.{flat_map, ⊤}
 use Rattle.std.specs.Io.KnownBytes.{prepend_known}
 use Rattle.std.proofs.lemmas.Grind.{flat_map-append}
 use Rattle.std.proofs.lemmas.List.{append-nil}
@@ -15,13 +15,13 @@ use Rattle.draid_reply.specs.declared.reply.Reply.{Reply}
 use Rattle.draid_session.specs.Session.{Desk, Untouched, Bare, Made, Open, Shut, Foreign, Unknown, RecordFails, ShelfFails}
 use Rattle.draid_pool.specs.declared.pool.Pool.{Pool}
 use Rattle.draid_run.specs.Desks.{IsDesk, Turned}
-use Rattle.draid_run.specs.Script.{Ends, LineFaultIs, said_text, texts_of}
+use Rattle.draid_run.specs.Script.{Ends, FaultyShut, LineFaultIs, said_text, texts_of}
 use Rattle.draid_run.specs.Serve.{BrokenLine, Cut, LineIs, Printed, Served, Serving, TextIs}
-use Rattle.draid_run.specs.Shelves.{HasFailed, HasFault, HoldsDesk, OnShelf}
+use Rattle.draid_run.specs.Shelves.{HasFailed, HasFault, HoldsDesk, HoldsFault, OnShelf}
 use Rattle.draid_run.specs.declared.status.Status.{Status}
 use Rattle.draid_run.specs.declared.status.Status.TheVariants.{Done, Usage, Line, SourceFault, SinkFault, NoMemory, TooLong, ShelfFault, Record}
 use Rattle.draid_run.proofs.Known.{appends_more, appends_none, known_input, known_on}
-use Rattle.draid_run.proofs.Risen.{cause_fault, fails_shut}
+use Rattle.draid_run.proofs.Risen.{cause_fault, fails_shut, faulty_shut}
 use Rattle.draid_run.proofs.Runs.{runs_more}
 
 -- the texts of one more reply
@@ -61,11 +61,16 @@ fault_from area entry before now pool later (Open x) fault = fault
 fault_from area entry before now pool later Foreign fault = fault
 fault_from area entry before now pool later Untouched fault = failed_from entry before now later fault
 fault_from area entry before now pool later Bare fault = failed_from entry before now later fault
-fault_from area entry before now pool later (Made geometry) fault = failed_from entry before now later fault
+fault_from area entry before now pool later (Made tells count geometry) fault = failed_from entry before now later fault
 fault_from area entry before now pool later (Shut crash x) fault = failed_from entry before now later fault
 fault_from area entry before now pool later Unknown fault = failed_from entry before now later fault
 
 module _ {R A : Type 0} (rack : racks.Ghosts R) (area : areas.Ghosts A) (chosen : List Room → Option ℕ → Type 0) (entry : OnShelf) where
+  -- the fault that a status names
+  abbrev NamesFault : OnShelf → Status → Type 0
+  NamesFault before (Record metaslab place kind) = HoldsFault rack area before metaslab place kind
+  NamesFault before status = ⊤
+
   -- the line under another name of its number and its text
   pub line_by : (number number' : ℕ) (text text' : List ℕ) (before : OnShelf) (pool : Option (Pool R A)) (x : Desk) (now : OnShelf) (pool' : Option (Pool R A)) (held held' : Option (List ℕ)) (result : Result Unit Status)
       → number ≡ number' → text ≡ text' → LineIs rack area chosen number text entry before pool x now pool' held held' result → LineIs rack area chosen number' text' entry before pool x now pool' held held' result
@@ -86,7 +91,7 @@ module _ {R A : Type 0} (rack : racks.Ghosts R) (area : areas.Ghosts A) (chosen 
   -- a desk without a pool
   shut_desk : (first : Desk) → HoldsDesk first entry entry → IsDesk rack area entry entry None first
   shut_desk Untouched is = record { stands = tt; shelf = is }
-  shut_desk (Made geometry) is = record { stands = tt; shelf = is }
+  shut_desk (Made tells count geometry) is = record { stands = tt; shelf = is }
   shut_desk (Shut crash x) is = record { stands = tt; shelf = is }
   shut_desk Bare is = record { stands = tt; shelf = is }
   shut_desk Unknown is = record { stands = tt; shelf = is }
@@ -155,6 +160,7 @@ module _ {R A : Type 0} (rack : racks.Ghosts R) (area : areas.Ghosts A) (chosen 
       prints = is.printed;
       failed = λ e. absurd (cc e);
       since = λ e. absurd (cc e);
+      bad = λ metaslab place kind e. absurd (cc e);
     }
 
     -- the next line could not be read
@@ -176,6 +182,7 @@ module _ {R A : Type 0} (rack : racks.Ghosts R) (area : areas.Ghosts A) (chosen 
       prints = is.printed;
       failed = λ e. absurd (cc e);
       since = λ e. absurd (cc e);
+      bad = λ metaslab place kind e. absurd (cc e);
     }
     served_unread input start held left left' now pool lines lines' NoMemory is text = record {
       lines = is.lines;
@@ -192,6 +199,7 @@ module _ {R A : Type 0} (rack : racks.Ghosts R) (area : areas.Ghosts A) (chosen 
       prints = is.printed;
       failed = λ e. absurd (cc e);
       since = λ e. absurd (cc e);
+      bad = λ metaslab place kind e. absurd (cc e);
     }
     served_unread input start held left left' now pool lines lines' (TooLong line) is text =
         let counted = is.count_is in
@@ -213,6 +221,7 @@ module _ {R A : Type 0} (rack : racks.Ghosts R) (area : areas.Ghosts A) (chosen 
           prints = is.printed;
           failed = λ e. absurd (cc e);
           since = λ e. absurd (cc e);
+          bad = λ metaslab place kind e. absurd (cc e);
         }
     served_unread input start held left left' now pool lines lines' Done is text = absurd text
     served_unread input start held left left' now pool lines lines' Usage is text = absurd text
@@ -245,6 +254,7 @@ module _ {R A : Type 0} (rack : racks.Ghosts R) (area : areas.Ghosts A) (chosen 
             prints = is.printed;
             failed = λ e. absurd (cc e);
             since = λ e. absurd (cc e);
+            bad = λ metaslab place kind e. absurd (cc e);
           }
 
       -- memory was wanting before it was done
@@ -265,6 +275,7 @@ module _ {R A : Type 0} (rack : racks.Ghosts R) (area : areas.Ghosts A) (chosen 
         prints = is.printed;
         failed = λ e. absurd (cc e);
         since = λ e. absurd (cc e);
+        bad = λ metaslab place kind e. absurd (cc e);
       }
 
       module _ (now : OnShelf) (pool' : Option (Pool R A)) where
@@ -286,6 +297,7 @@ module _ {R A : Type 0} (rack : racks.Ghosts R) (area : areas.Ghosts A) (chosen 
           prints = record { front = is.replies; reply = cut.reply; mid = held; shown_are = refl; whole = is.printed; part = cut.prints };
           failed = λ e. absurd (cc e);
           since = λ e. absurd (cc e);
+          bad = λ metaslab place kind e. absurd (cc e);
         }
 
         -- memory was wanting for the text of its reply
@@ -306,6 +318,7 @@ module _ {R A : Type 0} (rack : racks.Ghosts R) (area : areas.Ghosts A) (chosen 
           prints = is.printed;
           failed = λ e. absurd (cc e);
           since = λ e. absurd (cc e);
+          bad = λ metaslab place kind e. absurd (cc e);
         }
 
         -- the shelf failed
@@ -326,12 +339,13 @@ module _ {R A : Type 0} (rack : racks.Ghosts R) (area : areas.Ghosts A) (chosen 
           prints = is.printed;
           failed = λ e. fault_from area entry before now pool' later at.broken.new (cause_fault area at.command before now pool' is.reached at.broken.new at.broken.cause);
           since = λ e. fails_shut area line is.lines at.command is.reached at.broken.new entry before now pool' at.line is.desk.shelf later is.unanswered at.broken.cause;
+          bad = λ metaslab place kind e. absurd (cc e);
         }
 
         -- a record has a fault
-        faulty : (metaslab : Option ℕ) (place kind : ℕ) → BrokenLine rack area RecordFails line entry before is.reached now pool'
+        faulty : (metaslab : Option ℕ) (place kind : ℕ) → BrokenLine rack area RecordFails line entry before is.reached now pool' → HoldsFault rack area before metaslab place kind
             → Served rack area chosen first (Record metaslab place kind) input start held entry now pool'
-        faulty metaslab place kind at = record {
+        faulty metaslab place kind at fault = record {
           lines = is.lines;
           replies = is.replies;
           shown = is.replies;
@@ -347,7 +361,13 @@ module _ {R A : Type 0} (rack : racks.Ghosts R) (area : areas.Ghosts A) (chosen 
           prints = is.printed;
           failed = λ e. absurd (cc e);
           since = λ e. absurd (cc e);
+          bad = λ m p k e. shut m p k e;
         }
+          where
+            shut : (m : Option ℕ) (p k : ℕ) → Record metaslab place kind ≡ Record m p k → FaultyShut rack area (Some line) is.lines is.reached entry m p k
+            shut m p k e =
+                let holds : HoldsFault rack area before m p k = subst (λ (s : Status). NamesFault before s) e fault in
+                faulty_shut rack area line is.lines at.command is.reached at.broken.new entry before m p k at.line is.desk.shelf later is.unanswered at.broken.breaks holds
 
         pub served_line : (held' : Option (List ℕ)) (status : Status) → LineIs rack area chosen (count + 1) line entry before pool is.reached now pool' held held' (Err status)
             → Served rack area chosen first status input start held' entry now pool'
@@ -359,7 +379,7 @@ module _ {R A : Type 0} (rack : racks.Ghosts R) (area : areas.Ghosts A) (chosen 
           | inr made ↦ rw became.0 (untold made.0 made.1)
         ]
         served_line held' ShelfFault became = rw became.0 (failed became.1)
-        served_line held' (Record metaslab place kind) became = rw became.0 (faulty metaslab place kind became.1)
+        served_line held' (Record metaslab place kind) became = rw became.0 (faulty metaslab place kind became.1 became.2)
         served_line held' Done became = absurd became
         served_line held' Usage became = absurd became
         served_line held' SourceFault became = absurd became

@@ -4,8 +4,9 @@ use Rattle.draid_rack.specs.declared.Rack as racks
 use Rattle.draid_area.specs.declared.Area as areas
 use Rattle.draid_names.specs.declared.room.Room.{Room}
 use Rattle.draid_spec.specs.declared.layout.Geometry.{Geometry}
-use Rattle.draid_script.specs.Line.{Command, CreatePool, DamageSector, FillObjects, FreeObject, ReadObject, SumObjects, WriteObject}
+use Rattle.draid_script.specs.Line.{Command, CreatePool, DamageSector, FillObjects, FreeObject, ReadObject, ShowStatus, SumObjects, WriteObject}
 use Rattle.draid_script.specs.declared.line.PoolKeys.{PoolKeys}
+use Rattle.draid_script.specs.declared.line.StatusFormat.{StatusFormat}
 use Rattle.draid_script.specs.declared.name.CommandName.{CommandName}
 use Rattle.draid_script.specs.declared.name.CommandName.TheVariants as name
 use Rattle.draid_reply.specs.declared.reply.Reply.{Reply}
@@ -21,10 +22,10 @@ use Rattle.draid_pool.specs.Whole.{IsWhole}
 use Rattle.draid_pool.specs.declared.pool.Pool.{Pool}
 use Rattle.draid_run.specs.Desks.{IsDesk, IsPool, PoolDid, ReplyDoes, Turned}
 use Rattle.draid_run.specs.Making.{CreateDid, CreateTurns}
-use Rattle.draid_run.specs.Says.{DamageSays, FreeSays, ReadSays, SumSays}
+use Rattle.draid_run.specs.Says.{DamageSays, FreeSays, ReadSays, StatusSays, SumSays}
 use Rattle.draid_run.specs.Shelves.{IsOut, OnShelf}
 use Rattle.draid_run.proofs.Following.{same_told}
-use Rattle.draid_run.proofs.Said.{damage_does, free_does, read_does, sum_does}
+use Rattle.draid_run.proofs.Said.{damage_does, free_does, read_does, status_does, sum_does}
 
 -- what an answer says, said otherwise
 pub by_answer : {R A T : Type 0} (rack : racks.Ghosts R) (area : areas.Ghosts A) (P : T → List Hold → Store → Type 0) (Q : List Hold → Store → Type 0) (x : State) (pool : Pool R A) (result said : T)
@@ -44,7 +45,7 @@ is_whole rack area desk pool is stands = by stands.0 (subst (λ d. IsPool rack a
   by : (x : Desk) → IsPool rack area (Some pool) x → IsWhole rack area pool
   by Untouched stands = absurd stands
   by Bare stands = absurd stands
-  by (Made geometry) stands = absurd stands
+  by (Made tells count geometry) stands = absurd stands
   by (Shut crash y) stands = absurd stands
   by Unknown stands = absurd stands
   by (Open y) stands = stands.0
@@ -62,11 +63,16 @@ module _ {R A : Type 0} (rack : racks.Ghosts R) (area : areas.Ghosts A) (called 
     by : (x : Desk) → IsPool rack area (Some pool) x → PoolDid rack area called says x reply (Some new)
     by Untouched stands = absurd stands
     by Bare stands = absurd stands
-    by (Made geometry) stands = absurd stands
+    by (Made tells count geometry) stands = absurd stands
     by (Shut crash y) stands = absurd stands
     by Unknown stands = absurd stands
     by (Open y) stands = (whole, step y stands.1)
     by Foreign stands = whole
+
+  -- and left the pool as it is
+  pub did_look : (desk : Option (Pool R A)) (pool : Pool R A) → desk ≡ Some pool → IsWhole rack area pool → ((x : State) → Represents rack area pool x → CarriesOut rack area pool x (says x))
+      → (x : Desk) → IsPool rack area desk x → PoolDid rack area called says x reply desk
+  did_look desk pool is whole step x stands = subst (λ d. PoolDid rack area called says x reply d) (sym is) (did_open desk pool pool is whole step x stands)
 
   -- no pool is open, and the reply says so
   pub did_shut : (desk new : Option (Pool R A)) → desk ≡ None → new ≡ None → reply ≡ NoPool called → (x : Desk) → IsPool rack area desk x → PoolDid rack area called says x reply new
@@ -74,7 +80,7 @@ module _ {R A : Type 0} (rack : racks.Ghosts R) (area : areas.Ghosts A) (called 
     by : (x : Desk) → IsPool rack area None x → PoolDid rack area called says x reply new
     by Untouched stands = (said, same)
     by Bare stands = (said, same)
-    by (Made geometry) stands = (said, same)
+    by (Made tells count geometry) stands = (said, same)
     by (Shut crash y) stands = (said, same)
     by Unknown stands = (said, same)
     by (Open y) stands = absurd stands
@@ -85,7 +91,7 @@ module _ {R A : Type 0} (rack : racks.Ghosts R) (area : areas.Ghosts A) (chosen 
       → ((x : State) (holds : List Hold) (store : Store) → says x holds store → ReplyDoes x chosen command reply holds store)
       → ((x y : State) → session.CarriesOut chosen command reply x y → TurnsBy chosen (Ok command) (Open x) (Some reply) (Open y))
       → TurnsBy chosen (Ok command) Untouched (Some (NoPool called)) Untouched
-      → ((geometry : Geometry) → TurnsBy chosen (Ok command) (Made geometry) (Some (NoPool called)) (Made geometry))
+      → ((tells : Bool) (count : ℕ) (geometry : Geometry) → TurnsBy chosen (Ok command) (Made tells count geometry) (Some (NoPool called)) (Made tells count geometry))
       → ((crash : Bool) (y : State) → TurnsBy chosen (Ok command) (Shut crash y) (Some (NoPool called)) (Shut crash y))
       → TurnsBy chosen (Ok command) Bare (Some (NoPool called)) Bare → TurnsBy chosen (Ok command) Unknown (Some (NoPool called)) Unknown → TurnsBy chosen (Ok command) Foreign (Some reply) Foreign
       → (x : Desk) (new : Option (Pool R A)) → IsDesk rack area entry now desk x → PoolDid rack area called says x reply new → Turned rack area chosen (Ok command) entry x (Some reply) now new
@@ -99,7 +105,7 @@ module _ {R A : Type 0} (rack : racks.Ghosts R) (area : areas.Ghosts A) (chosen 
 
     by : (x : Desk) (new : Option (Pool R A)) → IsDesk rack area entry now desk x → PoolDid rack area called says x reply new → Turned rack area chosen (Ok command) entry x (Some reply) now new
     by Untouched new is did = told Untouched new did tt is untouched
-    by (Made geometry) new is did = told (Made geometry) new did tt is (made geometry)
+    by (Made tells count geometry) new is did = told (Made tells count geometry) new did tt is (made tells count geometry)
     by (Shut crash y) new is did = told (Shut crash y) new did tt is (shut crash y)
     by Bare new is did = told Bare new did tt is bare
     by Unknown new is did = told Unknown new did tt is unknown
@@ -115,29 +121,33 @@ module _ {R A : Type 0} (rack : racks.Ghosts R) (area : areas.Ghosts A) (chosen 
 
   pub by_write : (o : ℕ) (bytes : List ℕ) (x : Desk) (new : Option (Pool R A)) → IsDesk rack area entry now desk x → PoolDid rack area name.Write (λ y. ReplyDoes y chosen (WriteObject o bytes) reply) x reply new
       → Turned rack area chosen (Ok (WriteObject o bytes)) entry x (Some reply) now new
-  by_write o bytes = turned_by (WriteObject o bytes) name.Write (λ y. ReplyDoes y chosen (WriteObject o bytes) reply) (λ y holds store w. w) (λ y z c. c) (refl, refl) (λ geometry. (refl, refl)) (λ crash y. (refl, refl)) (refl, refl) (refl, refl) refl
+  by_write o bytes = turned_by (WriteObject o bytes) name.Write (λ y. ReplyDoes y chosen (WriteObject o bytes) reply) (λ y holds store w. w) (λ y z c. c) (refl, refl) (λ tells count geometry. (refl, refl)) (λ crash y. (refl, refl)) (refl, refl) (refl, refl) refl
 
   pub by_fill : (first count len seed : ℕ) (x : Desk) (new : Option (Pool R A)) → IsDesk rack area entry now desk x
       → PoolDid rack area name.Fill (λ y. ReplyDoes y chosen (FillObjects first count len seed) reply) x reply new
       → Turned rack area chosen (Ok (FillObjects first count len seed)) entry x (Some reply) now new
   by_fill first count len seed =
-      turned_by (FillObjects first count len seed) name.Fill (λ y. ReplyDoes y chosen (FillObjects first count len seed) reply) (λ y holds store w. w) (λ y z c. c) (refl, refl) (λ geometry. (refl, refl)) (λ crash y. (refl, refl)) (refl, refl) (refl, refl) refl
+      turned_by (FillObjects first count len seed) name.Fill (λ y. ReplyDoes y chosen (FillObjects first count len seed) reply) (λ y holds store w. w) (λ y z c. c) (refl, refl) (λ tells count geometry. (refl, refl)) (λ crash y. (refl, refl)) (refl, refl) (refl, refl) refl
 
   pub by_read : (o : ℕ) (x : Desk) (new : Option (Pool R A)) → IsDesk rack area entry now desk x → PoolDid rack area name.Read (ReadSays o reply) x reply new
       → Turned rack area chosen (Ok (ReadObject o)) entry x (Some reply) now new
-  by_read o = turned_by (ReadObject o) name.Read (ReadSays o reply) (λ y holds store w. read_does y chosen reply holds store o w) (λ y z c. c) (refl, refl) (λ geometry. (refl, refl)) (λ crash y. (refl, refl)) (refl, refl) (refl, refl) refl
+  by_read o = turned_by (ReadObject o) name.Read (ReadSays o reply) (λ y holds store w. read_does y chosen reply holds store o w) (λ y z c. c) (refl, refl) (λ tells count geometry. (refl, refl)) (λ crash y. (refl, refl)) (refl, refl) (refl, refl) refl
 
   pub by_free : (o : ℕ) (x : Desk) (new : Option (Pool R A)) → IsDesk rack area entry now desk x → PoolDid rack area name.Free (FreeSays o reply) x reply new
       → Turned rack area chosen (Ok (FreeObject o)) entry x (Some reply) now new
-  by_free o = turned_by (FreeObject o) name.Free (FreeSays o reply) (λ y holds store w. free_does y chosen reply holds store o w) (λ y z c. c) (refl, refl) (λ geometry. (refl, refl)) (λ crash y. (refl, refl)) (refl, refl) (refl, refl) refl
+  by_free o = turned_by (FreeObject o) name.Free (FreeSays o reply) (λ y holds store w. free_does y chosen reply holds store o w) (λ y z c. c) (refl, refl) (λ tells count geometry. (refl, refl)) (λ crash y. (refl, refl)) (refl, refl) (refl, refl) refl
 
   pub by_sum : (first count : ℕ) (x : Desk) (new : Option (Pool R A)) → IsDesk rack area entry now desk x → PoolDid rack area name.Sum (SumSays first count reply) x reply new
       → Turned rack area chosen (Ok (SumObjects first count)) entry x (Some reply) now new
-  by_sum first count = turned_by (SumObjects first count) name.Sum (SumSays first count reply) (λ y holds store w. sum_does y chosen reply holds store first count w) (λ y z c. c) (refl, refl) (λ geometry. (refl, refl)) (λ crash y. (refl, refl)) (refl, refl) (refl, refl) refl
+  by_sum first count = turned_by (SumObjects first count) name.Sum (SumSays first count reply) (λ y holds store w. sum_does y chosen reply holds store first count w) (λ y z c. c) (refl, refl) (λ tells count geometry. (refl, refl)) (λ crash y. (refl, refl)) (refl, refl) (refl, refl) refl
 
   pub by_damage : (leaf sector : ℕ) (x : Desk) (new : Option (Pool R A)) → IsDesk rack area entry now desk x → PoolDid rack area name.Damage (DamageSays leaf sector reply) x reply new
       → Turned rack area chosen (Ok (DamageSector leaf sector)) entry x (Some reply) now new
-  by_damage leaf sector = turned_by (DamageSector leaf sector) name.Damage (DamageSays leaf sector reply) (λ y holds store w. damage_does y chosen reply holds store leaf sector w) (λ y z c. c) (refl, refl) (λ geometry. (refl, refl)) (λ crash y. (refl, refl)) (refl, refl) (refl, refl) refl
+  by_damage leaf sector = turned_by (DamageSector leaf sector) name.Damage (DamageSays leaf sector reply) (λ y holds store w. damage_does y chosen reply holds store leaf sector w) (λ y z c. c) (refl, refl) (λ tells count geometry. (refl, refl)) (λ crash y. (refl, refl)) (refl, refl) (refl, refl) refl
+
+  pub by_status : (form : StatusFormat) (x : Desk) (new : Option (Pool R A)) → IsDesk rack area entry now desk x → PoolDid rack area name.Status (StatusSays form reply) x reply new
+      → Turned rack area chosen (Ok (ShowStatus form)) entry x (Some reply) now new
+  by_status form = turned_by (ShowStatus form) name.Status (StatusSays form reply) (λ y holds store w. status_does y chosen reply holds store form w) (λ y z c. c) (refl, refl) (λ tells count geometry. (refl, refl)) (λ crash y. (refl, refl)) (refl, refl) (refl, refl) refl
 
 -- a pool was made or refused, in the words of all commands
 pub by_create : {R A : Type 0} (rack : racks.Ghosts R) (area : areas.Ghosts A) (chosen : List Room → Option ℕ → Type 0) (entry now : OnShelf) (text : List ℕ) (children : ℕ) (keys : PoolKeys) (x : Desk) (reply : Reply)
@@ -148,7 +158,7 @@ by_create rack area chosen entry now text children keys x reply pool did =
     by : (x : Desk) (new : Desk) → CreateTurns text children keys x reply new → TurnsBy chosen (Ok (CreatePool text children keys)) x (Some reply) new
     by Untouched new turns = turns
     by Bare new turns = turns
-    by (Made geometry) new turns = turns
+    by (Made tells count geometry) new turns = turns
     by (Shut crash y) new turns = turns
     by Unknown new turns = turns
     by Foreign new turns = turns

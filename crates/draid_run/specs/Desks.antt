@@ -75,7 +75,7 @@ abbrev pub CauseShows : {R A : Type 0} → areas.Ghosts A → Cause → Command 
 CauseShows area RecordFails command before old now pool new = ⊤
 CauseShows area ShelfFails command before (Open x) now pool new = HasFault area before now pool new
 CauseShows area ShelfFails command before Foreign now pool new = HasFault area before now pool new
-CauseShows area ShelfFails command before old now pool new = IsClosed new × FailsIn command before now
+CauseShows area ShelfFails command before old now pool new = IsClosed new × FailsIn area command before now
 
 -- A command broke off, since a call of the shelf or on an area failed, or since a record has a fault.
 pub record Broken {R A : Type 0} (rack : racks.Ghosts R) (area : areas.Ghosts A) (why : Cause) (command : Command) (entry before : OnShelf) (old : Desk) (now : OnShelf) (pool : Option (Pool R A)) : Type 0 where

@@ -9,7 +9,7 @@ use Rattle.draid_reply.specs.declared.reply.Reply.TheVariants.{PoolOpen}
 use Rattle.draid_session.specs.Session.{Desk, Open, Foreign, ImportTurns, RecordFails, ShelfFails}
 use Rattle.draid_pool.specs.declared.pool.Pool.{Pool}
 use Rattle.draid_run.specs.Desks.{Broken, IsDesk}
-use Rattle.draid_run.specs.Shelves.{OnShelf}
+use Rattle.draid_run.specs.Shelves.{HoldsFault, OnShelf}
 use Rattle.draid_run.specs.declared.answer.Stop.{Stop}
 use Rattle.draid_run.specs.declared.answer.Stop.TheVariants as stop
 
@@ -30,4 +30,5 @@ abbrev pub ImportIs : {R A : Type 0} → racks.Ghosts R → areas.Ghosts A → O
 ImportIs rack area entry before old now pool (Ok reply) = ImportDid rack area entry old reply now pool
 ImportIs rack area entry before old now pool (Err stop.Unbuilt) = ⊥
 ImportIs rack area entry before old now pool (Err stop.Shelf) = Broken rack area ShelfFails ImportPool entry before old now pool
-ImportIs rack area entry before old now pool (Err (stop.Record metaslab place kind)) = Broken rack area RecordFails ImportPool entry before old now pool
+ImportIs rack area entry before old now pool (Err (stop.Record metaslab place kind)) =
+    Broken rack area RecordFails ImportPool entry before old now pool × HoldsFault rack area before metaslab place kind

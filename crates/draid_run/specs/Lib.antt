@@ -1,4 +1,5 @@
 pub mod Desks
+pub mod Ending
 pub mod Groups
 pub mod Importing
 pub mod Making

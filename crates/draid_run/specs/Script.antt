@@ -2,16 +2,18 @@
 use Rattle.std.specs.Prelude.{◌≡◌, ◌≤◌, ◌+◌, ◌⊎◌, ⊤, ℕ, List, [], ◌∷◌, ◌++◌, Option, Some, None, Result, Ok, Err, MatchOption, flat_map, length}
 use Rattle.std.specs.Io.KnownBytes.{Appends}
 use Rattle.draid_names.specs.declared.room.Room.{Room}
+use Rattle.draid_rack.specs.declared.Rack as racks
+use Rattle.draid_area.specs.declared.Area as areas
 use Rattle.draid_lines.specs.Lines.{IsTooLong, lines_of}
 use Rattle.draid_lines.specs.Sink.{AppendsFront}
 use Rattle.draid_script.specs.Grammar.{line_of}
-use Rattle.draid_script.specs.Line.{Command, Silent, CreatePool, ImportPool, ExportPool, SyncPool, CrashPool, WriteObject, ReadObject, FillObjects, FreeObject, SumObjects, DamageSector}
+use Rattle.draid_script.specs.Line.{Command, Silent, CreatePool, ImportPool, ExportPool, SyncPool, CrashPool, WriteObject, ReadObject, FillObjects, FreeObject, SumObjects, DamageSector, ShowStatus}
 use Rattle.draid_script.specs.declared.fault.LineFault.{LineFault}
 use Rattle.draid_reply.specs.Reply.{text_of}
 use Rattle.draid_reply.specs.declared.reply.Reply.{Reply}
 use Rattle.draid_words.specs.Mode.{OfSession, asked}
-use Rattle.draid_session.specs.Session.{Desk, Breaks, Cause, IsLeft, RecordFails, Runs, ShelfFails}
-use Rattle.draid_run.specs.Shelves.{FailsIn, HoldsDesk, IsClosed, OnShelf}
+use Rattle.draid_session.specs.Session.{Desk, Open, Foreign, Breaks, Cause, IsLeft, RecordFails, Runs, ShelfFails}
+use Rattle.draid_run.specs.Shelves.{AreaRose, FailsIn, HasFailed, HoldsDesk, HoldsFault, OnShelf}
 use Rattle.draid_run.specs.Status.{HasNumber, last_text}
 use Rattle.draid_run.specs.declared.status.Status.{Status}
 use Rattle.draid_run.specs.declared.status.Status.TheVariants.{Done, Usage, Line, SourceFault, SinkFault, NoMemory, TooLong, ShelfFault, Record}
@@ -32,6 +34,7 @@ IsUnbuilt (FillObjects first count len seed) = ⊥
 IsUnbuilt (FreeObject object) = ⊥
 IsUnbuilt (SumObjects first count) = ⊥
 IsUnbuilt (DamageSector leaf sector) = ⊥
+IsUnbuilt (ShowStatus format) = ⊥
 IsUnbuilt command = ⊤
 
 -- Why a line can't be run: its first fault by the grammar, or 7 at 0 where its command is beyond what is built.
@@ -149,8 +152,8 @@ pub record HasRun (chosen : List Room → Option ℕ → Type 0) (words : List (
   pub shows : Shows ended replies shown
   pub prints : PrintsAll status ended shown old new
 
--- At its line a run broke off in a command that found no pool open. The shelf held this desk as the command came, and was as at the entry where no line was answered before; since then it failed.
-pub record FailsShut (broken : Option (List ℕ)) (lines : List (List ℕ)) (mid : Desk) (entry now : OnShelf) : Type 0 where
+-- At its line a run broke off in a command that found no pool open. The shelf held this desk as the command came, and was as at the entry where no line was answered before.
+pub record CameShut (broken : Option (List ℕ)) (lines : List (List ℕ)) (mid : Desk) (entry : OnShelf) : Type 0 where
   pub text : List ℕ
   pub is : broken ≡ Some text
   pub command : Command
@@ -159,18 +162,35 @@ pub record FailsShut (broken : Option (List ℕ)) (lines : List (List ℕ)) (mid
   pub held : HoldsDesk mid entry before
   pub later : entry.faults ≤ before.faults
   pub first : lines ≡ [] → before ≡ entry
-  pub failed : FailsIn command before now
+
+-- since then the shelf failed
+pub record FailsShut {A : Type 0} (area : areas.Ghosts A) (broken : Option (List ℕ)) (lines : List (List ℕ)) (mid : Desk) (entry now : OnShelf) : Type 0 where
+  pub came : CameShut broken lines mid entry
+  pub failed : FailsIn area came.command came.before now
+
+-- the uberblock that the shelf held then, or a record of a metaslab, has this fault
+pub record FaultyShut {R A : Type 0} (rack : racks.Ghosts R) (area : areas.Ghosts A) (broken : Option (List ℕ)) (lines : List (List ℕ)) (mid : Desk) (entry : OnShelf) (metaslab : Option ℕ) (place kind : ℕ) : Type 0 where
+  pub came : CameShut broken lines mid entry
+  pub bad : HoldsFault rack area came.before metaslab place kind
+
+-- What failed where a run broke off at a failing device. Where a pool was open the count of an area of it rose in that command; of one of which nothing is said it isn't 0.
+abbrev pub Fails : {A : Type 0} → areas.Ghosts A → Option (List ℕ) → List (List ℕ) → Desk → Desk → OnShelf → OnShelf → Type 0
+Fails area broken lines (Open x) (Open y) entry now = AreaRose x y
+Fails area broken lines (Open x) last entry now = ⊥
+Fails area broken lines Foreign last entry now = HasFailed entry now
+Fails area broken lines mid last entry now = FailsShut area broken lines mid entry now
 
 -- a session from one desk to a last one, whose pool is given back; and the shelf holds what is left
-pub record RunsFrom (chosen : List Room → Option ℕ → Type 0) (words : List (List ℕ)) (status : Status) (input old new : Option (List ℕ)) (entry now : OnShelf) (first : Desk) : Type 0 where
+pub record RunsFrom {R A : Type 0} (rack : racks.Ghosts R) (area : areas.Ghosts A) (chosen : List Room → Option ℕ → Type 0) (words : List (List ℕ)) (status : Status) (input old new : Option (List ℕ)) (entry now : OnShelf) (first : Desk) : Type 0 where
   pub last : Desk
   pub session : HasRun chosen words status input old new first last
   pub left : Desk
   pub is_left : IsLeft last left
   pub shelf : HoldsDesk left entry now
-  pub failed : session.ended ≡ ShelfFault → IsClosed session.mid → FailsShut session.broken session.lines session.mid entry now
+  pub failed : session.ended ≡ ShelfFault → Fails area session.broken session.lines session.mid last entry now
+  pub bad : (metaslab : Option ℕ) (place kind : ℕ) → session.ended ≡ Record metaslab place kind → FaultyShut rack area session.broken session.lines session.mid entry metaslab place kind
 
 -- What a run of the program is: such a session from each desk that the shelf holds at the entry. It may be as it was found, or tell that it has no pool, or hold the
 -- devices of a new pool, or a pool that was given back; and nothing may be known of it.
-abbrev pub RunIs : (List Room → Option ℕ → Type 0) → List (List ℕ) → Status → Option (List ℕ) → Option (List ℕ) → Option (List ℕ) → OnShelf → OnShelf → Type 0
-RunIs chosen words status input old new entry now = (first : Desk) → HoldsDesk first entry entry → RunsFrom chosen words status input old new entry now first
+abbrev pub RunIs : {R A : Type 0} → racks.Ghosts R → areas.Ghosts A → (List Room → Option ℕ → Type 0) → List (List ℕ) → Status → Option (List ℕ) → Option (List ℕ) → Option (List ℕ) → OnShelf → OnShelf → Type 0
+RunIs rack area chosen words status input old new entry now = (first : Desk) → HoldsDesk first entry entry → RunsFrom rack area chosen words status input old new entry now first

@@ -15,8 +15,8 @@ use Rattle.draid_reply.specs.declared.reply.Reply.{Reply}
 use Rattle.draid_session.specs.Session.{Cause, Desk, RecordFails, Runs, ShelfFails}
 use Rattle.draid_pool.specs.declared.pool.Pool.{Pool}
 use Rattle.draid_run.specs.Desks.{Broken, IsDesk, Turned}
-use Rattle.draid_run.specs.Script.{BreaksOff, Ends, FailsShut, GetsReplies, IsUnbuilt, LineFaultIs, Shows, said_text, texts_of}
-use Rattle.draid_run.specs.Shelves.{HasFault, IsClosed, OnShelf}
+use Rattle.draid_run.specs.Script.{BreaksOff, Ends, FailsShut, FaultyShut, GetsReplies, IsUnbuilt, LineFaultIs, Shows, said_text, texts_of}
+use Rattle.draid_run.specs.Shelves.{HasFault, HoldsFault, IsClosed, OnShelf}
 use Rattle.draid_run.specs.declared.answer.Stop.{Stop}
 use Rattle.draid_run.specs.declared.answer.Stop.TheVariants as stop
 use Rattle.draid_run.specs.declared.status.Status.{Status}
@@ -58,7 +58,8 @@ module _ {R A : Type 0} (rack : racks.Ghosts R) (area : areas.Ghosts A) (chosen 
   AnswerIs command entry before pool old now pool' (Ok reply) = Turned rack area chosen (Ok command) entry old reply now pool'
   AnswerIs command entry before pool old now pool' (Err stop.Unbuilt) = IsUnbuilt command × (now ≡ before) × (pool' ≡ pool)
   AnswerIs command entry before pool old now pool' (Err stop.Shelf) = Broken rack area ShelfFails command entry before old now pool'
-  AnswerIs command entry before pool old now pool' (Err (stop.Record metaslab place kind)) = Broken rack area RecordFails command entry before old now pool'
+  AnswerIs command entry before pool old now pool' (Err (stop.Record metaslab place kind)) =
+      Broken rack area RecordFails command entry before old now pool' × HoldsFault rack area before metaslab place kind
 
   -- A line was answered, and its reply printed.
   pub record Printed (text : List ℕ) (entry : OnShelf) (old : Desk) (now : OnShelf) (pool : Option (Pool R A)) (held held' : Option (List ℕ)) : Type 0 where
@@ -77,7 +78,8 @@ module _ {R A : Type 0} (rack : racks.Ghosts R) (area : areas.Ghosts A) (chosen 
   LineIs number text entry before pool old now pool' held held' (Ok done) = Printed text entry old now pool' held held'
   LineIs number text entry before pool old now pool' held held' (Err SinkFault) = Cut text entry old now pool' held held'
   LineIs number text entry before pool old now pool' held held' (Err ShelfFault) = (held' ≡ held) × BrokenLine rack area ShelfFails text entry before old now pool'
-  LineIs number text entry before pool old now pool' held held' (Err (Record metaslab place kind)) = (held' ≡ held) × BrokenLine rack area RecordFails text entry before old now pool'
+  LineIs number text entry before pool old now pool' held held' (Err (Record metaslab place kind)) =
+      (held' ≡ held) × BrokenLine rack area RecordFails text entry before old now pool' × HoldsFault rack area before metaslab place kind
   LineIs number text entry before pool old now pool' held held' (Err (Line line kind at)) =
       LineFaultIs (line_of text) kind at × (now ≡ before) × (pool' ≡ pool) × (held' ≡ held) × (line ≡ number)
   LineIs number text entry before pool old now pool' held held' (Err NoMemory) =
@@ -111,4 +113,5 @@ module _ {R A : Type 0} (rack : racks.Ghosts R) (area : areas.Ghosts A) (chosen 
     pub shows : Shows ended replies shown
     pub prints : GetsReplies ended shown start held
     pub failed : ended ≡ ShelfFault → HasFault area entry now pool last
-    pub since : ended ≡ ShelfFault → IsClosed mid → IsClosed last × FailsShut broken lines mid entry now
+    pub since : ended ≡ ShelfFault → IsClosed mid → IsClosed last × FailsShut area broken lines mid entry now
+    pub bad : (metaslab : Option ℕ) (place kind : ℕ) → ended ≡ Record metaslab place kind → FaultyShut rack area broken lines mid entry metaslab place kind

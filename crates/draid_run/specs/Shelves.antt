@@ -2,6 +2,7 @@
 use Rattle.std.specs.Prelude.{◌≡◌, ◌<◌, ◌+◌, ◌⊎◌, ⊤, ℕ, Bool, Option, Some, None, IsSomeAnd, is_some, slice_get}
 use Rattle.draid_names.specs.Faults.{Rose}
 use Rattle.draid_rack.specs.Rack.{Shape}
+use Rattle.draid_rack.specs.declared.Rack as racks
 use Rattle.draid_area.specs.declared.Area as areas
 use Rattle.draid_spec.specs.declared.layout.Geometry.{Geometry}
 use Rattle.draid_script.specs.Line.{Command, CreatePool, ImportPool}
@@ -11,9 +12,10 @@ use Rattle.draid_session.specs.Session.{Desk, Untouched, Bare, Made, Open, Shut,
 use Rattle.draid_session.specs.State.{Metaslab, State}
 use Rattle.draid_pool.specs.Closing.{HoldsPool, OwnCounts, SameCounts}
 use Rattle.draid_pool.specs.Failing.{AreaFails}
+use Rattle.draid_pool.specs.Faulty.{RecordIsBad}
 use Rattle.draid_pool.specs.Found.{HasRisen}
 use Rattle.draid_pool.specs.Importable.{IsImportable}
-use Rattle.draid_pool.specs.Opening.{AreaFailed, IsAsBefore, IsMade, NewPoolFailed, NoChecks, SameLeaves}
+use Rattle.draid_pool.specs.Opening.{AreaFailed, IsAsBefore, NewPoolFailed, NoChecks, SameLeaves, StaysMade}
 use Rattle.draid_pool.specs.declared.pool.Pool.{Pool}
 
 -- What a shelf tells that it holds, the leaves of each metaslab's rack where they are known, and how often calls have failed: on the devices of each metaslab, on the
@@ -59,6 +61,11 @@ pub record HoldsShut (crash : Bool) (x : State) (now : OnShelf) : Type 0 where
   pub uber : now.own.uber ≡ x.uber_count
   pub checks : NoChecks now.own
 
+-- The devices of a new pool are on the shelf, which tells them or not. So many calls on the area of its uberblock have failed, and none but these and calls on areas of records.
+pub record HoldsNew (told : Bool) (failed : ℕ) (geometry : Geometry) (now : OnShelf) : Type 0 where
+  pub told_is : told ≡ is_some now.held
+  pub made : StaysMade geometry failed now.held now.counts now.own
+
 -- it tells that it has no pool
 abbrev pub HoldsBare : OnShelf → Type 0
 HoldsBare now = IsSomeAnd now.held (λ held. held.uber ≡ None)
@@ -73,7 +80,7 @@ IsClosed desk = ⊤
 abbrev pub HoldsDesk : Desk → OnShelf → OnShelf → Type 0
 HoldsDesk Untouched entry now = IsSame entry now
 HoldsDesk Bare entry now = HoldsBare now
-HoldsDesk (Made geometry) entry now = IsMade geometry now.held now.counts now.own
+HoldsDesk (Made told failed geometry) entry now = HoldsNew told failed geometry now
 HoldsDesk (Open state) entry now = ⊥
 HoldsDesk (Shut crash state) entry now = HoldsShut crash state now
 HoldsDesk Foreign entry now = ⊥
@@ -88,6 +95,12 @@ HasFailed entry now = Rose entry.faults now.faults ⊎ AreaFailed now.counts now
 -- a call on an area of an open pool has failed
 abbrev pub AreaHasFailed : State → Type 0
 AreaHasFailed x = ((m : ℕ) × (y : Metaslab) × (slice_get x.metaslabs m ≡ Some y) × (0 < y.counts.even + y.counts.odd)) ⊎ (0 < x.uber_count)
+
+-- the count of one rose between two states of the pool
+abbrev pub AreaRose : State → State → Type 0
+AreaRose x y =
+    ((m : ℕ) × (a : Metaslab) × (b : Metaslab) × (slice_get x.metaslabs m ≡ Some a) × (slice_get y.metaslabs m ≡ Some b)
+    × (Rose a.counts.even b.counts.even ⊎ Rose a.counts.odd b.counts.odd)) ⊎ Rose x.uber_count y.uber_count
 
 -- so of a pool of which nothing else is said
 abbrev pub PoolFails : {R A : Type 0} → areas.Ghosts A → Option (Pool R A) → Type 0
@@ -104,8 +117,13 @@ HasFault area entry now pool desk = HasFailed entry now
 abbrev pub MakingFailed : Geometry → OnShelf → OnShelf → Type 0
 MakingFailed geometry before now = Rose before.faults now.faults ⊎ NewPoolFailed geometry now.held now.leaves now.counts now.own
 
--- What has failed in a command that found no pool open. In an import the shelf's count rose, or that of the uberblock's area, or that of an area of a metaslab's records.
-abbrev pub FailsIn : Command → OnShelf → OnShelf → Type 0
-FailsIn (CreatePool text children keys) before now = (geometry : Geometry) × HasLayout text children keys geometry × MakingFailed geometry before now
-FailsIn ImportPool before now = HasRisen before.faults now.faults before.own.uber now.own.uber before.counts now.counts
-FailsIn command before now = ⊥
+-- What has failed in a command that found no pool open. In an import the shelf's count rose, or that of the uberblock's area, or that of an area of records of a metaslab
+-- that the uberblock names which the shelf held.
+abbrev pub FailsIn : {A : Type 0} → areas.Ghosts A → Command → OnShelf → OnShelf → Type 0
+FailsIn area (CreatePool text children keys) before now = (geometry : Geometry) × HasLayout text children keys geometry × MakingFailed geometry before now
+FailsIn area ImportPool before now = HasRisen area before.held before.faults now.faults before.own.uber now.own.uber before.counts now.counts
+FailsIn area command before now = ⊥
+
+-- the uberblock that a shelf held, or a record of a metaslab, has this fault
+abbrev pub HoldsFault : {R A : Type 0} → racks.Ghosts R → areas.Ghosts A → OnShelf → Option ℕ → (place kind : ℕ) → Type 0
+HoldsFault rack area before metaslab place kind = RecordIsBad rack area before.held before.counts before.own.uber metaslab place kind

@@ -1,27 +1,27 @@
 //! What the commands of a script reply, whether a pool is open or not.
-ghost use Rattle.std.specs.Prelude.{◌≡◌, ◌≤◌, None, IfOk, string_bytes};
+ghost use Rattle.std.specs.Prelude.{◌≡◌, ◌≤◌, None};
 ghost use Rattle.draid_script.specs.Line.{FillObjects, IsInRange, SumObjects, WriteObject, command_in};
 ghost use Rattle.std.specs.Fn.{FnReturnsAt};
 ghost use Rattle.draid_choose.specs.Rooms.{IsChooser};
 ghost use Rattle.draid_spec.specs.Spec.{IsSpec};
-ghost use Rattle.draid_session.specs.Making.{props_of, vdev_name_of};
+ghost use Rattle.draid_session.specs.Making.{props_of};
 ghost use Rattle.draid_session.specs.Session.{Desk};
 ghost use Rattle.draid_run.specs.Desks.{IsDesk, IsPool, PoolDid, ReplyDoes};
 ghost use Rattle.draid_run.specs.Making.{CreateIs, MakeIs};
-ghost use Rattle.draid_run.specs.Says.{DamageSays, FreeSays, ReadSays, SumSays};
+ghost use Rattle.draid_run.specs.Says.{DamageSays, FreeSays, ReadSays, StatusSays, SumSays};
 ghost use Rattle.draid_run.specs.Serve.{AnswerIs, IsSaid};
 ghost use Rattle.draid_run.specs.Shelves.{OnShelf, on_shelf};
 
 use crate::{fill, groups, importing, replies};
 use draid_area::Area;
 use draid_choose::Chooser;
-use draid_names::{NoMemory, Room};
-use draid_pool::{Pool, PoolFault};
+use draid_names::Room;
+use draid_pool::{Pool, PoolFault, vdev_name};
 use draid_rack::Rack;
 use draid_reply::Reply;
-use draid_script::{CommandName, Line, PoolKeys};
+use draid_script::{CommandName, Line, PoolKeys, StatusFormat};
 use draid_shelf::Shelf;
-use draid_spec::{Props, Spec, geometry, parse_spec, spec_name};
+use draid_spec::{Props, Spec, geometry, parse_spec};
 use std::alloc::Global;
 use std::thread::Threads;
 
@@ -53,15 +53,6 @@ fn props(keys: PoolKeys) -> Props
         seed: keys.seed,
         version: keys.version,
     }
-}
-
-/// The name of a pool's vdev: its spec in full, and the number of the vdev, which is the only one.
-pub(crate) fn vdev_name(alloc: Global, spec: Spec) -> Result<String, NoMemory>
-    ensures { IfOk result (λ name. string_bytes name ≡ vdev_name_of spec) }
-{
-    let mut name = spec_name(alloc, spec)?;
-    name.push_str("-0")?;
-    Ok(name)
 }
 
 /// Opens a new pool, where none is open.
@@ -234,6 +225,18 @@ fn damage<R: Rack, A: Area>(pool: &mut Option<Pool<R, A>>, leaf: u64, sector: u6
     }
 }
 
+/// Tells what the open pool is, if one is.
+fn status<R: Rack, A: Area>(alloc: Global, pool: &Option<Pool<R, A>>, format: StatusFormat) -> Reply
+    requires desk { (x : Desk) × IsPool R.Rack A.Area pool.now x }
+    ensures did { (x : Desk) → IsPool R.Rack A.Area pool.now x
+        → PoolDid R.Rack A.Area CommandName.Status (StatusSays format result) x result pool.now }
+{
+    match pool {
+        Some(pool) => replies::status(alloc, pool, format),
+        None => no_pool(CommandName::Status),
+    }
+}
+
 /// The answer to a command that has a reply, unless the run ends there.
 fn said(reply: Result<Reply, Stop>) -> Result<Option<Reply>, Stop>
     ensures { IsSaid reply result }
@@ -282,6 +285,7 @@ pub(crate) fn answer<H: Shelf, F: Fn(&[Room]) -> Option<u32>>(
         Line::Read { object } => Ok(Some(read(pool, object))),
         Line::Sum { first, count } => Ok(Some(sum(rt, pool, first, count))),
         Line::Damage { leaf, sector } => Ok(Some(damage(pool, leaf, sector))),
+        Line::Status { format } => Ok(Some(status(alloc, pool, format))),
         _ => Err(Stop::Unbuilt),
     }
 }

@@ -6,8 +6,8 @@ ghost use Rattle.draid_run.specs.Desks.{IsDesk};
 ghost use Rattle.draid_run.specs.Importing.{ImportIs};
 ghost use Rattle.draid_run.specs.Shelves.{OnShelf, on_shelf};
 
-use crate::answer::{Stop, vdev_name};
-use draid_pool::{Pool, PoolFault, close};
+use crate::answer::Stop;
+use draid_pool::{Pool, PoolFault, close, vdev_name};
 use draid_reply::Reply;
 use draid_script::CommandName;
 use draid_shelf::Shelf;

@@ -6,11 +6,14 @@ mod answer;
 mod fill;
 mod groups;
 mod importing;
+mod laws;
 mod replies;
 mod serve;
+mod showing;
 mod status;
 mod top;
 mod words;
 
+pub use laws::undisturbed_runs_are_done;
 pub use status::Status;
 pub use top::run;

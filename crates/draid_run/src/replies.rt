@@ -8,15 +8,17 @@ ghost use Rattle.draid_pool.specs.Carries.{CarriesOut};
 ghost use Rattle.draid_pool.specs.Pools.{Represents};
 ghost use Rattle.draid_pool.specs.Whole.{IsWhole};
 ghost use Rattle.draid_run.specs.Desks.{ReplyDoes};
-ghost use Rattle.draid_run.specs.Says.{DamageSays, FreeSays, ReadSays, SumSays};
+ghost use Rattle.draid_run.specs.Says.{DamageSays, FreeSays, ReadSays, StatusSays, SumSays};
 
+use crate::showing::status_bytes;
 use draid_area::Area;
 use draid_choose::Chooser;
 use draid_names::{ObjectFault, Room, WriteFault};
 use draid_pool::{DamageFault, FreeFault, Pool, SumFault};
 use draid_rack::Rack;
 use draid_reply::Reply;
-use draid_script::CommandName;
+use draid_script::{CommandName, StatusFormat};
+use std::alloc::Global;
 use std::thread::Threads;
 
 /// Writes to an object.
@@ -129,6 +131,24 @@ pub(crate) fn damage<R: Rack, A: Area>(pool: &mut Pool<R, A>, leaf: u64, sector:
         Err(DamageFault::Failed) => Reply::DamageFailed { leaf, sector },
         Err(DamageFault::NoMemory) => Reply::NoMemory {
             command: CommandName::Damage,
+        },
+    }
+}
+
+/// Tells what a pool is, in this format.
+pub(crate) fn status<R: Rack, A: Area>(
+    alloc: Global,
+    pool: &Pool<R, A>,
+    format: StatusFormat,
+) -> Reply
+    requires whole { IsWhole R.Rack A.Area pool.now }
+    ensures step { (x : State) → Represents R.Rack A.Area pool.now x
+        → CarriesOut R.Rack A.Area pool.now x (StatusSays format result x) }
+{
+    match status_bytes(alloc, pool, format) {
+        Ok(text) => Reply::Status { text },
+        Err(_) => Reply::NoMemory {
+            command: CommandName::Status,
         },
     }
 }

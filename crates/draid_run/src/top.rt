@@ -82,7 +82,7 @@ pub fn run<
     chooser: &Chooser<F>,
 ) -> Status
     requires chooser { IsChooser F.Fn chooser.now }
-    ensures run { RunIs (FnReturnsAt F.Fn chooser.now) (map string_bytes words.now) result (S.left source.old) (K.held sink.old) (K.held sink.new) (on_shelf H.Shelf shelf.old) (on_shelf H.Shelf shelf.new) }
+    ensures run { RunIs H.R.Rack H.A.Area (FnReturnsAt F.Fn chooser.now) (map string_bytes words.now) result (S.left source.old) (K.held sink.old) (K.held sink.new) (on_shelf H.Shelf shelf.old) (on_shelf H.Shelf shelf.new) }
 
     // The devices are to blame only where they failed in this run.
     ensures source_fault { result ≡ Status.SourceFault → Rose (S.faults source.old) (S.faults source.new) }

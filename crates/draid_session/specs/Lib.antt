@@ -1,3 +1,4 @@
+pub mod Certain
 pub mod Damage
 pub mod Does
 pub mod Follows
@@ -11,5 +12,6 @@ pub mod Reads
 pub mod Rooms
 pub mod Session
 pub mod State
+pub mod Status
 pub mod Worn
 pub mod Writes

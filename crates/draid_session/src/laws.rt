@@ -1,10 +1,19 @@
-ghost use Rattle.std.specs.Prelude.{◌<◌, ℕ, List};
+ghost use Rattle.std.specs.Prelude.{◌≡◌, ◌<◌, ℕ, List, Option, Some};
+ghost use Rattle.std.specs.Fn.{FnReturnsAt};
 ghost use Rattle.draid_spec.specs.declared.layout.Geometry.{Geometry};
 ghost use Rattle.draid_perm.specs.declared.perms.Perms.{Perms};
+ghost use Rattle.draid_objects.specs.Changes.{Write, write_of};
+ghost use Rattle.draid_reply.specs.declared.reply.Reply.{Reply};
+ghost use Rattle.draid_script.specs.Line.{Command, ReadObject, SyncPool, WriteObject};
+ghost use Rattle.draid_session.specs.Certain.{AllAnswer, EndsFailed, FailsNoPut, HasPlace, MaySync, ReadsLast, StaysReadable, SyncsNext, WritesOnce};
 ghost use Rattle.draid_session.specs.Holds.{Hold, View, layout_at};
 ghost use Rattle.draid_session.specs.Looks.{AllOf, Looks};
 ghost use Rattle.draid_session.specs.Rooms.{FitsNowhere, stripes_for};
+ghost use Rattle.draid_session.specs.Session.{BreaksOpen, CarriesOut};
+ghost use Rattle.draid_session.specs.State.{State};
 ghost use Rattle.draid_session.specs.Writes.{HasNoSpace};
+
+use draid_names::Room;
 
 /// Law: where a block finds no space, each metaslab was looked at, and one that takes blocks has no run that it fits.
 pub fn no_space_means_no_room()
@@ -12,4 +21,32 @@ pub fn no_space_means_no_room()
         → 0 < stripes_for geometry bytes → HasNoSpace geometry perms bytes run disabled full worn holds
         → (views : List View) × Looks geometry.props.metaslabs holds views
         × AllOf (FitsNowhere geometry perms (stripes_for geometry bytes)) views }
+{}
+
+/// Law: a read of an object that was written gives the bytes of its last write, by their number and digest, where the
+/// metaslab's rack tells harm and no more columns of the block are bad than there are parity columns. Else the metaslab
+/// is worn, or memory is wanting.
+pub fn readable_objects_are_read<F: Fn(&[Room]) -> Option<u32>>(chooser: &F)
+    ensures { (object : ℕ) (reply : Reply) (old new : State) (w : Write)
+        → CarriesOut (FnReturnsAt F.Fn chooser.now) (ReadObject object) reply old new → write_of old.store.changes object ≡ Some w
+        → StaysReadable old new w → ReadsLast old object w reply }
+{}
+
+/// Law: a write is done where a metaslab that takes blocks has a run which fits, an arm of each column's slot answers, and
+/// no put fails. Else the last number of a write is used up, or memory is wanting.
+pub fn writes_that_fit_are_done<F: Fn(&[Room]) -> Option<u32>>(chooser: &F)
+    ensures { (object : ℕ) (bytes : List ℕ) (reply : Reply) (old new : State)
+        → (it : CarriesOut (FnReturnsAt F.Fn chooser.now) (WriteObject object bytes) reply old new)
+        → HasPlace old (stripes_for old.geometry bytes) → AllAnswer old → AllOf FailsNoPut it.holds → WritesOnce old object reply }
+{}
+
+/// Law: a sync commits the group behind the committed one where no group is closing, each metaslab has room for the events
+/// of a closing, and that group hasn't the last number. Else memory is wanting.
+pub fn idle_pools_are_synced<F: Fn(&[Room]) -> Option<u32>>(chooser: &F)
+    ensures { (reply : Reply) (old new : State) → CarriesOut (FnReturnsAt F.Fn chooser.now) SyncPool reply old new → MaySync old → SyncsNext old reply }
+{}
+
+/// Law: a command breaks off on an open pool where the count of an area rose in its last hold.
+pub fn broken_commands_end_failed()
+    ensures { (command : Command) (old new : State) → (it : BreaksOpen command old new) → EndsFailed it.holds old new }
 {}

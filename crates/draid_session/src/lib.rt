@@ -5,4 +5,7 @@
 
 mod laws;
 
-pub use laws::no_space_means_no_room;
+pub use laws::{
+    broken_commands_end_failed, idle_pools_are_synced, no_space_means_no_room,
+    readable_objects_are_read, writes_that_fit_are_done,
+};

@@ -33,7 +33,7 @@ use Rattle.draid_slots.specs.Table as table
 use Rattle.draid_slots.specs.Table.{SlotTable, arm_at, arms_of, is_leaf_kind, is_spare_kind}
 use Rattle.draid_shard.specs.Part.{IsPart, IsRun, Part, layout_in}
 use Rattle.draid_shard.specs.Rows.{AreApart, IsRowsOf, answers_on, arm_no, leaf_on, name_on}
-use Rattle.draid_stable.specs.Slots.{HasSlots, arm_in, name_of, named}
+use Rattle.draid_slots.specs.States.{HasSlots, arm_in, name_of, named}
 use Rattle.draid_shard.specs.declared.places.ColumnRows.{ColumnRows}
 use Rattle.draid_shard.proofs.Holders.{holder_there}
 use Rattle.draid_shard.proofs.Homes.{has_column, lays, same_group, slice_follows}

@@ -18,7 +18,7 @@ use Rattle.draid_slots.specs.declared.slot.Detached.{Detached}
 use Rattle.draid_slots.specs.Table.{IsArmOf, SlotTable, arm_at, is_leaf_kind, is_leaving}
 use Rattle.draid_shard.specs.Calls.{OnBothTold}
 use Rattle.draid_shard.specs.Fits.{IsLeaf}
-use Rattle.draid_stable.specs.Slots.{HasSlots, arm_in, named}
+use Rattle.draid_slots.specs.States.{HasSlots, arm_in, named}
 use Rattle.draid_shard.specs.States.{IsIn, layout_by}
 use Rattle.draid_shard.specs.declared.shard.Shard.{Shard}
 

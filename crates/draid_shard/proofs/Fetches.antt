@@ -34,7 +34,7 @@ use Rattle.draid_shard.specs.Fits.{HasLeaves, IsPlaced, Valid}
 use Rattle.draid_shard.specs.Part.{IsPart, IsRun, Part, layout_in}
 use Rattle.draid_shard.specs.Reads.{Columns, IsReadAt, IsSilentAt, ReadsColumns, StandsAt}
 use Rattle.draid_shard.specs.Rows.{rows_on}
-use Rattle.draid_stable.specs.Slots.{HasSlots}
+use Rattle.draid_slots.specs.States.{HasSlots}
 use Rattle.draid_shard.specs.States.{IsIn, Leads, layout_by, part_of, stored_in}
 use Rattle.draid_shard.specs.declared.places.ColumnRows.{ColumnRows}
 use Rattle.draid_shard.specs.declared.shard.Shard.{Shard}

@@ -28,7 +28,7 @@ use Rattle.draid_shard.specs.declared.fault.Shut.TheVariants.{Disabled, Full, Wo
 use Rattle.draid_shard.specs.Calls.{IsLongest, ShutBy, TakesBlocks}
 use Rattle.draid_shard.specs.Fits.{Tables, is_rebuild}
 use Rattle.draid_shard.specs.States.{IsIn}
-use Rattle.draid_stable.specs.Slots.{pass_in}
+use Rattle.draid_slots.specs.States.{pass_in}
 use Rattle.draid_shard.proofs.Held.{held_entry, key_leads}
 use Rattle.draid_shard.proofs.Tables.{WasFree, first_is, spot_free}
 

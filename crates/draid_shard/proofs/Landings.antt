@@ -22,7 +22,7 @@ use Rattle.draid_slots.specs.Reading.{holder, is_online}
 use Rattle.draid_slots.specs.Table.{SlotTable, arm_at, is_at, is_logged, room_at}
 use Rattle.draid_shard.specs.Calls.{CountsFailed}
 use Rattle.draid_shard.specs.Rows.{AreApart, CountsOn, IsNamed, KeepsOn, Lands, LandsOn, LogsBirth, MissesAt, Wrote, answers_on, arm_no, is_done, leaf_on, name_on, noted, rows_on, written_below}
-use Rattle.draid_stable.specs.Slots.{name_of}
+use Rattle.draid_slots.specs.States.{name_of}
 use Rattle.draid_shard.specs.declared.outcome.Outcome.{Outcome}
 use Rattle.draid_shard.specs.declared.outcome.Outcome.TheVariants.{Silent, Failed, Done}
 use Rattle.draid_shard.specs.declared.places.ColumnRows.{ColumnRows}

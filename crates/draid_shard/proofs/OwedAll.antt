@@ -11,7 +11,7 @@ use Rattle.draid_entries.proofs.Owing.{owes, owes_back}
 use Rattle.draid_shard.specs.declared.shard.Shard.{Shard}
 use Rattle.draid_shard.specs.Fits.{Valid, owed_for_group, owed_for_pass}
 use Rattle.draid_shard.specs.States.{IsIn}
-use Rattle.draid_stable.specs.Slots.{pass_in}
+use Rattle.draid_slots.specs.States.{pass_in}
 
 pass_owes : (slots : SlotTable) (pass : Option Pass) → owed_by_pass (option_map (pass_in slots) pass) ≡ owed_for_pass pass
 pass_owes slots None = refl

@@ -15,7 +15,7 @@ use Rattle.draid_entries.specs.Entries.{SetsEntry, count_of, entry_at, owed_at, 
 use Rattle.draid_entries.specs.History.{owed_of, reserved_of}
 use Rattle.draid_entries.specs.Maps.{staged}
 use Rattle.draid_slots.specs.Table.{SlotTable, arms_of}
-use Rattle.draid_stable.specs.Sealing.{HoldsPass}
+use Rattle.draid_slots.specs.States.{HoldsPass}
 use Rattle.draid_shard.specs.Fits.{Valid, birth_groups, oldest_open}
 use Rattle.draid_shard.specs.Rows.{LogsBirth}
 use Rattle.draid_shard.specs.declared.shard.Shard.{Shard}

@@ -36,7 +36,7 @@ use Rattle.draid_shard.specs.Calls.{OnBothTold}
 use Rattle.draid_shard.specs.Columns.{ArePieces, row_bytes}
 use Rattle.draid_shard.specs.Part.{IsPart, IsRun, Part, layout_in}
 use Rattle.draid_shard.specs.Rows.{AreApart, IsRowsOf, Lands, Wrote, answers_on, arm_no, leaf_on, name_on, rows_on, written_below}
-use Rattle.draid_stable.specs.Slots.{HasSlots, name_of, named, names_at, pass_in}
+use Rattle.draid_slots.specs.States.{HasSlots, name_of, named, names_at, pass_in}
 use Rattle.draid_shard.specs.declared.places.ColumnRows.{ColumnRows}
 use Rattle.draid_shard.specs.declared.put.Landing.{Landing}
 use Rattle.draid_parity.specs.Columns.{column_at}

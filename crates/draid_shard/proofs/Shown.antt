@@ -14,8 +14,8 @@ use Rattle.draid_machine.proofs.Small.{absurd_test, bool_cases, name_refl, name_
 use Rattle.draid_entries.specs.Entries.{held_in}
 use Rattle.draid_slots.specs.declared.slot.Detached.{Detached}
 use Rattle.draid_slots.specs.Table.{SlotTable, arm_at, arms_of}
-use Rattle.draid_stable.specs.Slots.{HasArm, HasSlots, IsGone, WasArm, arm_in, name_of, named, pass_in}
-use Rattle.draid_stable.proofs.Armed.{any_where}
+use Rattle.draid_slots.specs.States.{HasArm, HasSlots, IsGone, WasArm, arm_in, name_of, named, pass_in}
+use Rattle.draid_slots.proofs.Somewhere.{any_where}
 use Rattle.draid_shard.specs.declared.shard.Shard.{Shard}
 use Rattle.draid_shard.specs.Fits.{NamesOnce, Valid}
 use Rattle.draid_shard.specs.States.{IsIn}

@@ -1,15 +1,10 @@
 pub mod Calls
 pub mod Changes
 pub mod Columns
-pub mod Committing
-pub mod Counting
 pub mod Fits
-pub mod Groups
 pub mod Holding
 pub mod Part
 pub mod Reads
-pub mod Reopening
 pub mod Rows
-pub mod Sealing
 pub mod Stands
 pub mod States

@@ -19,7 +19,7 @@ use Rattle.draid_slots.specs.Table.{SlotTable, IsThere, arm_at, is_at, is_logged
 use Rattle.draid_shard.specs.Calls.{CountsFailed}
 use Rattle.draid_shard.specs.Fits.{HasLeaves}
 use Rattle.draid_shard.specs.Part.{Part, layout_in}
-use Rattle.draid_stable.specs.Slots.{name_of}
+use Rattle.draid_slots.specs.States.{name_of}
 use Rattle.draid_shard.specs.declared.places.ColumnRows.{ColumnRows}
 use Rattle.draid_shard.specs.declared.put.Landing.{Landing}
 use Rattle.draid_shard.specs.declared.outcome.Outcome.{Outcome}

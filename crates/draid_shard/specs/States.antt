@@ -8,7 +8,7 @@ use Rattle.draid_machine.specs.Created.{IsReached}
 use Rattle.draid_machine.specs.Step.{Step}
 use Rattle.draid_entries.specs.Entries.{held_in}
 use Rattle.draid_entries.specs.History.{events_of}
-use Rattle.draid_stable.specs.Slots.{HasSlots, pass_in}
+use Rattle.draid_slots.specs.States.{HasSlots, pass_in}
 use Rattle.draid_shard.specs.Part.{Part, layout_in}
 use Rattle.draid_shard.specs.declared.shard.Shard.{Shard}
 

@@ -1,5 +1,4 @@
-ghost use Rattle.std.specs.Prelude.{◌≡◌, ◌⊎◌, ◌+◌, ◌||◌, ◌↔◌, ℕ, List, MatchOption, Some, Vec};
-ghost use Rattle.std.specs.declared.alloc.Global.{Global};
+ghost use Rattle.std.specs.Prelude.{◌≡◌, ◌⊎◌, ◌+◌, ◌↔◌, ℕ, List, Some};
 ghost use Rattle.draid_block.specs.Blocks.{AreColumns, IsContent, cut_of};
 ghost use Rattle.draid_block.specs.Solving.{IsReadable};
 ghost use Rattle.draid_block.specs.declared.solve.Fetched.{Fetched};
@@ -7,11 +6,6 @@ ghost use Rattle.draid_names.specs.declared.pointer.Pointer.{Pointer};
 ghost use Rattle.draid_rack.specs.Rack.{OnTold};
 ghost use Rattle.draid_machine.specs.declared.event.Event.{Event};
 ghost use Rattle.draid_machine.specs.declared.names.Held.{Held};
-ghost use Rattle.draid_machine.specs.declared.names.Segment.{Segment};
-ghost use Rattle.draid_machine.specs.After.{reopen_state};
-ghost use Rattle.draid_machine.specs.Created.{IsReached};
-ghost use Rattle.draid_machine.specs.Images.{IsImage};
-ghost use Rattle.draid_machine.specs.Names.{has_segment};
 ghost use Rattle.draid_machine.specs.State as machine;
 ghost use Rattle.draid_machine.specs.Step.{Step};
 ghost use Rattle.draid_entries.specs.History.{owed_of, reserved_of};
@@ -19,14 +13,10 @@ ghost use Rattle.draid_entries.specs.Maps.{key_of};
 ghost use Rattle.draid_entries.specs.Owed.{IsOwed};
 ghost use Rattle.draid_segments.specs.Acts.{WritesPieces, pieces_after};
 ghost use Rattle.draid_segments.specs.Reads.{MoreBad};
-ghost use Rattle.draid_segments.specs.Segments.{Firm, Pieces};
-ghost use Rattle.draid_shelf.specs.declared.kit.Kit.{Kit};
-ghost use Rattle.draid_stable.specs.Images.{LeavesBelow};
-ghost use Rattle.draid_stable.specs.Stable.{HasRecord};
+ghost use Rattle.draid_segments.specs.Segments.{Pieces};
 ghost use Rattle.draid_shard.specs.Calls.{ActsOn, Fetches};
 ghost use Rattle.draid_shard.specs.Columns.{ArePieces};
 ghost use Rattle.draid_shard.specs.Fits.{Valid};
-ghost use Rattle.draid_shard.specs.Groups.{Opens, area_of_kit, at_version};
 ghost use Rattle.draid_shard.specs.Part.{IsPart};
 ghost use Rattle.draid_shard.specs.Stands.{StandsFor};
 ghost use Rattle.draid_shard.specs.States.{Does, DoesNone, IsIn, layout_by, part_of};
@@ -70,18 +60,4 @@ pub fn worn_is_what_is_owed<R: Rack, A: Area>()
 /// Law: a valid shard stands for some state of its metaslab.
 pub fn valid_shards_have_states<R: Rack, A: Area>()
     ensures { (shard : Shard R A) → Valid R.Rack shard → (w : machine.State) × IsIn shard w }
-{}
-
-/// Law: a metaslab that was opened from the record of a state's image, over a rack on which that image is firm but for
-/// what is in doubt, stands for the state that the opening from that image gives.
-pub fn opened_shards_stand<R: Rack, A: Area>()
-    ensures { (kit : Kit R A) (shard : Shard R A) (group next : ℕ) (w : machine.State) (image : machine.Image)
-        (doubtful : Vec Segment Global) (pieces : Pieces) → Opens R.Rack A.told kit group next shard
-        → IsPart (part_of shard) → IsReached (layout_by shard) w → IsImage w image → image.group ≡ group
-        → image.version ≡ shard.geometry.props.version → LeavesBelow next image
-        → MatchOption (A.told (area_of_kit kit group)) ⊥
-        (HasRecord (at_version image.version shard.geometry) shard.number image)
-        → MatchOption (R.told kit.rack) ⊥
-        (Firm (layout_by shard) pieces image (λ s. w.aside s || has_segment doubtful.items s))
-        → StandsFor R.Rack shard (reopen_state (layout_by shard) w image doubtful.items) pieces }
 {}

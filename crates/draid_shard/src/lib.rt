@@ -4,33 +4,26 @@
 #![tactic(auto)]
 
 mod blocks;
-mod commit;
 mod damage;
 mod fault;
 mod fetch;
 mod groups;
 mod laws;
-mod looks;
-mod marks;
-mod opening;
 mod outcome;
 mod places;
 mod put;
-mod records;
-mod reopening;
 mod rooms;
-mod seal;
 mod shard;
 mod ticket;
 mod tickets;
 
-pub use fault::{
-    BeginFault, CloseFault, FetchFault, Missed, NotLive, OpenFault, OpenRefused, SealFault, Sealed,
-    Shut,
-};
+pub use fault::{BeginFault, FetchFault, Missed, NotLive, Shut};
 pub use laws::{
-    calls_keep_what_stands, fetched_blocks_are_readable, opened_shards_stand,
-    valid_shards_have_states, worn_is_what_is_owed,
+    calls_keep_what_stands, fetched_blocks_are_readable, valid_shards_have_states,
+    worn_is_what_is_owed,
 };
+pub use places::ColumnRows;
+pub use put::miss;
 pub use shard::Shard;
 pub use ticket::Ticket;
+pub use tickets::release;

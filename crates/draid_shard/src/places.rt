@@ -17,13 +17,13 @@ use draid_spec::Geometry;
 /// The rows of a column of a block: the slot that has them, their slice, the sector of the first and their number,
 /// counted within the metaslab, the length of a sector, and the group in which the block was born.
 #[derive(Clone, Copy, Debug, PartialEq, Eq)]
-pub(crate) struct ColumnRows {
-    pub(crate) slot: u32,
-    pub(crate) slice: u64,
-    pub(crate) first: u64,
-    pub(crate) count: u64,
-    pub(crate) size: usize,
-    pub(crate) birth: u64,
+pub struct ColumnRows {
+    pub slot: u32,
+    pub slice: u64,
+    pub first: u64,
+    pub count: u64,
+    pub size: usize,
+    pub birth: u64,
 }
 
 impl ColumnRows {
@@ -69,7 +69,7 @@ pub(crate) fn column_place(
 
 impl<R: Rack, A: Area> Shard<R, A> {
     /// The rows of a column of a pointer's block.
-    pub(crate) fn rows_of(&self, pointer: &Pointer, column: u32) -> ColumnRows
+    pub fn rows_of(&self, pointer: &Pointer, column: u32) -> ColumnRows
         requires part { IsPart (part_of self.now) }
         requires run { IsRun self.now.geometry pointer.now.first pointer.now.stripes }
         requires column { column < self.now.geometry.g }

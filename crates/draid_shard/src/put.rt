@@ -2,7 +2,7 @@ ghost use Rattle.std.specs.Prelude.{◌≡◌, ◌<◌, ◌≤◌, ◌+◌, ◌*
 ghost use Rattle.draid_shard.specs.Calls.{Carries, Puts, SameAreas, SameReserve};
 ghost use Rattle.draid_shard.specs.Fits.{Valid};
 ghost use Rattle.draid_shard.specs.Rows.{CountsOn, FitsRows, HasRoomFor, Lands, LandsOn, MissesAt, arm_no, is_done, noted};
-ghost use Rattle.draid_stable.specs.Slots as slots_of;
+ghost use Rattle.draid_slots.specs.States as slots_of;
 ghost use Rattle.draid_names.specs.declared.arm.ArmKind.TheVariants.{Spare};
 ghost use Rattle.draid_slots.specs.Table.{IsThere, arms_of};
 
@@ -145,7 +145,7 @@ fn write_to<R: Rack>(
 }
 
 /// Notes in the log of an arm that a block born in this group isn't whole there.
-pub(crate) fn miss(slots: &mut Slots, at: ArmAt, birth: u64)
+pub fn miss(slots: &mut Slots, at: ArmAt, birth: u64)
     requires there { IsThere slots.old at }
     requires birth { birth < 2 ^ 48 }
     requires room { HasRoomFor slots.old birth }

@@ -8,17 +8,25 @@ ghost use Rattle.draid_machine.specs.State as machine;
 ghost use Rattle.draid_shard.specs.Calls.{IsRoom, SameKit, ShutBy};
 ghost use Rattle.draid_shard.specs.Changes.{KeepsBlocks};
 ghost use Rattle.draid_shard.specs.Fits.{Valid, is_rebuild};
-ghost use Rattle.draid_shard.specs.States.{DoesNone, IsIn};
+ghost use Rattle.draid_shard.specs.States.{DoesNone, IsIn, stored_in};
 
 use crate::fault::Shut;
 use crate::shard::Shard;
 use draid_area::Area;
 use draid_entries::ReserveFault;
+use draid_machine::Event;
 use draid_names::{PassKind, Room, most_held};
 use draid_pass::Pass;
 use draid_rack::Rack;
 
 impl<R: Rack, A: Area> Shard<R, A> {
+    /// What was done since the opening, in order.
+    pub fn events(&self) -> &[Event]
+        ensures { result.now ≡ stored_in self.now }
+    {
+        self.history.events()
+    }
+
     /// How many events the write of a block asks for: its own, one for each column, one for its end, and one for the
     /// freeing of the block.
     pub(crate) fn block_events(&self) -> u64

@@ -8,7 +8,7 @@ use draid_slots::Slots;
 use draid_spec::Geometry;
 use std::alloc::Global;
 
-/// One metaslab over its devices.
+/// One metaslab over its devices. Each call needs and keeps what `Valid` says of the fields.
 #[derive(Drop)]
 pub struct Shard<R: Rack, A: Area> {
     /// The metaslab's number.
@@ -28,19 +28,23 @@ pub struct Shard<R: Rack, A: Area> {
     /// What was done since the opening.
     pub history: History,
     /// The blocks and the open writes.
-    pub(crate) entries: Entries,
+    pub entries: Entries,
     /// The areas of the records of even and of odd groups.
-    pub(crate) even: A,
-    pub(crate) odd: A,
-    pub(crate) open_group: u64,
-    pub(crate) closing: Option<u64>,
+    pub even: A,
+    pub odd: A,
+    /// The group in which blocks are born.
+    pub open_group: u64,
+    /// The group before it, while that is closed and not yet committed.
+    pub closing: Option<u64>,
     /// Whether the closing group is sealed.
-    pub(crate) sealed: bool,
-    pub(crate) committed: u64,
+    pub sealed: bool,
+    /// The last group that was committed.
+    pub committed: u64,
     /// The version of the committed group, and the one that the next seal is to have.
-    pub(crate) version: u32,
-    pub(crate) asked: u32,
+    pub version: u32,
+    pub asked: u32,
     /// The byte of the first block in the record from which the metaslab was opened; 0 in a new one.
-    pub(crate) blocks_at: u64,
-    pub(crate) alloc: Global,
+    pub blocks_at: u64,
+    /// Where memory is asked for.
+    pub alloc: Global,
 }

@@ -211,7 +211,7 @@ fn enter(
 }
 
 /// Ends an open write without a block: its stripes are free again.
-pub(crate) fn release(space: &mut Space, entries: &mut Entries, pointer: &Pointer)
+pub fn release(space: &mut Space, entries: &mut Entries, pointer: &Pointer)
     requires tables { AreFitting space.old entries.old }
     requires there { IsEntered entries.old pointer.now }
     ensures tables { (geometry : Geometry) (open_group : ℕ) → Tables geometry open_group space.old entries.old

@@ -9,5 +9,6 @@ pub mod Reserved
 pub mod Rooms
 pub mod Settled
 pub mod Slices
+pub mod Somewhere
 pub mod Spares
 pub mod Tables

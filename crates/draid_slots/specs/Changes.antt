@@ -1,5 +1,4 @@
-use Rattle.std.specs.Prelude.{◌≡◌, ◌≢◌, ◌==◌, ◌<◌, ◌≤◌, ◌+◌, ◌&&◌, ℕ, Bool, true, false, Some, List, []}
-use Rattle.std.specs.Prelude.{All, length, slice_index_or, nat_le, nat_lt, filter, remove, if◌then◌else◌, ◌++◌, ◌∷◌}
+use Rattle.std.specs.Prelude.{◌&&◌, ◌++◌, ◌+◌, ◌<◌, ◌==◌, ◌∷◌, ◌≡◌, ◌≢◌, ◌≤◌, All, Bool, List, Some, [], false, filter, if◌then◌else◌, length, nat_le, nat_lt, remove, slice_index_or, true, ℕ}
 use Rattle.std.specs.Option.{option_map}
 use Rattle.draid_names.specs.declared.arm.Arm.{Arm}
 use Rattle.draid_names.specs.declared.arm.ArmAt.{ArmAt}

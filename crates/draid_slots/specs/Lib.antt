@@ -2,4 +2,5 @@ pub mod Changes
 pub mod Faults
 pub mod Moves
 pub mod Reading
+pub mod States
 pub mod Table

@@ -10,6 +10,7 @@ use Rattle.draid_names.specs.declared.arm.Arm.{Arm}
 use Rattle.draid_names.specs.declared.arm.ArmAt.{ArmAt}
 use Rattle.draid_names.specs.declared.arm.ArmKind.{ArmKind}
 use Rattle.draid_names.specs.declared.arm.ArmKind.TheVariants.{Leaf, Spare}
+use Rattle.draid_slots.proofs.Somewhere.{any_where}
 use Rattle.draid_slots.specs.Table as table
 use Rattle.draid_slots.specs.Table.{IsTable, SlotTable, arm_at, arms_of}
 use Rattle.draid_machine.proofs.Small.{both_true, either_true, some_same, true_both, true_left, true_right}
@@ -18,7 +19,7 @@ use Rattle.draid_record.specs.Ranges.{AreArms, AreSlots, IsArm, IsSlot}
 use Rattle.draid_record.specs.Record.{ArmTold, are_flags, has_arm, has_leaf, is_kind, limit_of, stands}
 use Rattle.draid_record.specs.Written.{code_of, flags_of}
 use Rattle.draid_stable.specs.Images.{none_told}
-use Rattle.draid_stable.specs.Slots.{name_of, named}
+use Rattle.draid_slots.specs.States.{name_of, named}
 use Rattle.draid_stable.specs.Within.{ArmsFit, LogFits, LogsFit, TellsArms}
 use Rattle.draid_stable.proofs.Settled.{get_is}
 
@@ -35,15 +36,6 @@ at_seam (x ∷ xs) ys y d = at_seam xs ys y d
 seam_length : {X : Type 0} (xs ys : List X) → length (xs ++ ys) ≡ length xs + length ys
 seam_length [] ys = omega arith
 seam_length (x ∷ xs) ys = let n = seam_length xs ys in omega (arith, n)
-
-pub any_where : {X : Type 0} (p : X → Bool) (xs : List X) (d : X) → list_any p xs ≡ true → (k : ℕ) × (k < length xs) × (p (slice_index_or xs k d) ≡ true)
-any_where p [] d any = absurd (true≢false (sym any))
-any_where p (x ∷ xs) d any = by (p x) refl any (any_where p xs d)
-  where
-    by : (b : Bool) → p x ≡ b → (b || list_any p xs) ≡ true → (list_any p xs ≡ true → (k : ℕ) × (k < length xs) × (p (slice_index_or xs k d) ≡ true))
-        → (k : ℕ) × (k < length (x ∷ xs)) × (p (slice_index_or (x ∷ xs) k d) ≡ true)
-    by true is any rest = (0, omega arith, is)
-    by false is any rest = let z = rest any in (suc z.0, (let l = z.1 in omega (arith, l)), z.2)
 
 not_true : (b : Bool) → (b ≡ true → ⊥) → not b ≡ true
 not_true true never = absurd (never refl)

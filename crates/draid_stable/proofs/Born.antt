@@ -17,7 +17,7 @@ use Rattle.draid_entries.specs.Entries.{held_in}
 use Rattle.draid_entries.specs.Listed.{ListsBlocks, has_key, held_of}
 use Rattle.draid_entries.specs.Maps.{key_of}
 use Rattle.draid_stable.specs.Sealing.{was_born}
-use Rattle.draid_stable.proofs.Armed.{any_where}
+use Rattle.draid_slots.proofs.Somewhere.{any_where}
 use Rattle.draid_stable.proofs.Made.{any_at}
 
 -- a block of the table that is listed

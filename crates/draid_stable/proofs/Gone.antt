@@ -12,7 +12,7 @@ use Rattle.draid_rack.specs.Rack.{CountsOthers}
 use Rattle.draid_slots.specs.Table.{IsArmOf, SlotTable, arm_at, is_leaf_kind, is_leaf_of}
 use Rattle.draid_stable.specs.Images.{none_told}
 use Rattle.draid_stable.specs.Opening.{KeepsCounts, has_leaf_arm}
-use Rattle.draid_stable.proofs.Armed.{any_where}
+use Rattle.draid_slots.proofs.Somewhere.{any_where}
 use Rattle.draid_stable.proofs.Settled.{get_is}
 
 pub none_of : {A : Type 0} (o : Option A) (P : Type 0) → is_some o ≡ false → IfNone o P → P

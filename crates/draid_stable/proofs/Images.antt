@@ -11,8 +11,8 @@ use Rattle.draid_entries.specs.Entries.{held_in}
 use Rattle.draid_record.specs.Record.{ArmTold, told_pass, told_record, told_slots}
 use Rattle.draid_record.specs.declared.record.Record.{Record}
 use Rattle.draid_stable.specs.Images.{arm_by, held_by, image_by, order_by, pass_of}
-use Rattle.draid_stable.specs.Sealing.{AreTables, AreThere, IsCurrent, IsMade, IsReady, SaysCore}
-use Rattle.draid_stable.specs.Slots.{pass_in}
+use Rattle.draid_stable.specs.Sealing.{AreTables, AreThere, IsMade, IsReady, SaysCore}
+use Rattle.draid_slots.specs.States.{IsCurrent, pass_in}
 use Rattle.draid_stable.specs.declared.sealing.Head.{Head}
 use Rattle.draid_stable.proofs.Lists.{arms_say, blocks_say}
 use Rattle.draid_stable.proofs.Made.{TellsSlot, each_told, says_core, told_targets}

@@ -20,8 +20,8 @@ use Rattle.draid_machine.proofs.Small.{name_refl, some_injective, true_left, tru
 use Rattle.draid_record.specs.Record.{ArmTold, told_arm, told_slot, told_slots}
 use Rattle.draid_stable.specs.Images.{all_arms, arm_of, has_name, name_of, none_told, order_by, target_of}
 use Rattle.draid_stable.specs.Sealing.{AllAt, AreMarked, CopiesSlot, CopiesSlots, SaysCore, is_marked}
-use Rattle.draid_stable.specs.Slots as slots
-use Rattle.draid_stable.specs.Slots.{HasArm, HasSlots, WasArm, arm_in, names_at}
+use Rattle.draid_slots.specs.States as slots
+use Rattle.draid_slots.specs.States.{HasArm, HasSlots, WasArm, arm_in, names_at}
 
 -- ---- lists by their places
 at_map : {X Y : Type 0} (P : ℕ → Y → Type 0) (f : X → Y) (xs : List X) → AllAt (λ k x. P k (f x)) xs → AllAt P (map f xs)

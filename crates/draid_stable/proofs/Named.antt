@@ -18,7 +18,7 @@ use Rattle.draid_record.specs.Record.{ArmTold, has_arm, has_leaf, is_kind, limit
 use Rattle.draid_record.specs.Written.{code_of}
 use Rattle.draid_stable.specs.Images.{all_arms, has_name, name_of}
 use Rattle.draid_stable.specs.Opening.{arms_told}
-use Rattle.draid_stable.specs.Slots.{named}
+use Rattle.draid_slots.specs.States.{named}
 
 -- ---- an arm of a kind and number
 

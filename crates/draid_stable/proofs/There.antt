@@ -21,7 +21,7 @@ use Rattle.draid_record.specs.declared.fault.RecordFault.{RecordFault}
 use Rattle.draid_record.specs.declared.limits.Limits.{Limits}
 use Rattle.draid_stable.specs.Images.{image_by, name_of}
 use Rattle.draid_stable.specs.Opening.{arm_len, arms_len, arms_told, fitting, has_leaf, has_leaf_arm, is_lacking, lacking_from, lacking_in, once_in, opening_of, slots_at, there_in}
-use Rattle.draid_stable.specs.Slots.{named}
+use Rattle.draid_slots.specs.States.{named}
 use Rattle.draid_stable.proofs.Named.{any_got}
 use Rattle.draid_stable.proofs.Opened.{from_map, index_map, into_map}
 

@@ -28,10 +28,9 @@ use Rattle.draid_record.specs.Record.{ArmTold, RecordTold, Spelled, limits_of, r
 use Rattle.draid_record.proofs.Spelled.{spelled_ranged}
 use Rattle.draid_stable.specs.declared.opening.Tables.{Tables}
 use Rattle.draid_stable.specs.Opening.{AreTablesOf, IsSpaceOf, arms_told, fitting, lacking_from, once_in, opening_of, slots_at, there_in}
-use Rattle.draid_stable.specs.Slots.{pass_in}
-use Rattle.draid_stable.proofs.Armed.{any_where}
+use Rattle.draid_slots.specs.States.{HoldsPass, pass_in}
+use Rattle.draid_slots.proofs.Somewhere.{any_where}
 use Rattle.draid_stable.proofs.Named.{apart_slots, slots_are}
-use Rattle.draid_stable.specs.Sealing.{HoldsPass}
 use Rattle.draid_stable.proofs.Opened.{arms_are, from_map, index_map, logs_are, opened_holds, opened_pass, opened_slots, told_of}
 use Rattle.draid_stable.proofs.Places.{sound_limits}
 use Rattle.draid_stable.proofs.Settled.{get_is}

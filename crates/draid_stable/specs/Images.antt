@@ -15,7 +15,7 @@ use Rattle.draid_machine.specs.State as state
 use Rattle.draid_machine.specs.State.{Image}
 use Rattle.draid_entries.specs.Listed.{has_key, held_of}
 use Rattle.draid_record.specs.Record.{ArmTold, PassTold, RecordTold}
-use Rattle.draid_stable.specs.Slots as slots
+use Rattle.draid_slots.specs.States as slots
 
 -- ---- blocks: each is live
 abbrev pub held_by : List Pointer → Key → Option Held

@@ -26,8 +26,7 @@ use Rattle.draid_record.specs.declared.fault.RecordFault.{RecordFault}
 use Rattle.draid_record.specs.declared.fault.RecordFault.TheVariants.{Bad, NoMemory}
 use Rattle.draid_record.specs.declared.limits.Limits.{Limits}
 use Rattle.draid_stable.specs.Images.{image_by, pass_of}
-use Rattle.draid_stable.specs.Sealing.{HoldsPass}
-use Rattle.draid_stable.specs.Slots.{HasSlots, pass_in}
+use Rattle.draid_slots.specs.States.{HasSlots, HoldsPass, pass_in}
 use Rattle.draid_stable.specs.declared.opening.Tables.{Tables}
 
 -- ---- leaves that aren't there

@@ -1,5 +1,5 @@
 -- The record of a group, made from the tables of a metaslab before its devices are flushed, and settled afterwards.
-use Rattle.std.specs.Prelude.{◌≡◌, ◌==◌, ◌+◌, ◌<◌, ◌≤◌, ◌^◌, ◌||◌, ◌&&◌, not, ℕ, Bool, true, false, List, [], Option, None, Some, All, IfSome, count_by, filter, length, slice_get, slice_index_or, option_map}
+use Rattle.std.specs.Prelude.{◌≡◌, ◌==◌, ◌+◌, ◌<◌, ◌^◌, ◌||◌, ◌&&◌, not, ℕ, Bool, true, false, List, [], Option, Some, All, IfSome, count_by, filter, length, slice_get, slice_index_or, option_map}
 use Rattle.std.specs.declared.alloc.Global.{Global}
 use Rattle.std.specs.declared.vec.Vec.{Vec}
 use Rattle.draid_names.specs.declared.arm.Arm.{Arm}
@@ -22,8 +22,7 @@ use Rattle.draid_record.specs.Record.{ArmTold, PassTold, told_pass, told_slots}
 use Rattle.draid_record.specs.declared.record.Record.{Record}
 use Rattle.draid_stable.specs.declared.sealing.Head.{Head}
 use Rattle.draid_stable.specs.Images.{SaysArms, name_of, order_by}
-use Rattle.draid_stable.specs.Slots.{HasSlots, pass_in}
-use Rattle.draid_stable.specs.Within.{AscendBehind}
+use Rattle.draid_slots.specs.States.{HasSlots, pass_in}
 
 -- each element of a list is what it is to be at its place
 abbrev pub AllAt : {X : Type 0} → (ℕ → X → Type 0) → List X → Type 0
@@ -79,17 +78,6 @@ pub record AreTables (entries : Entries) (slots : SlotTable) (pass : Option Pass
   pub slots_are : HasSlots slots q
   pub pass_is : q.pass ≡ option_map (pass_in slots) pass
   pub last_is : q.last ≡ last
-
--- the pass has the last number, and its targets are arms of the slots
-pub record IsCurrent (slots : SlotTable) (last : ℕ) (pass : Pass) : Type 0 where
-  pub number : pass.number ≡ last
-  pub targets : All (λ (place : ArmAt). place.arm < length (arms_of slots place.slot)) pass.targets.items
-
--- The pass has the last number, and makes good some group. Its targets are arms of the slots, ascending.
-pub record HoldsPass (slots : SlotTable) (last : ℕ) (pass : Pass) : Type 0 where
-  pub current : IsCurrent slots last pass
-  pub ascending : AscendBehind None pass.targets.items
-  pub some_max : 1 ≤ pass.max
 
 -- each log of a record has room for one more group, and the targets of its pass are there
 abbrev pub HaveRoom : List (Vec (Arm × Numbers) Global) → Type 0

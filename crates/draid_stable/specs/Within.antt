@@ -1,5 +1,5 @@
 -- What holds of the tables of a metaslab, so that the record of a group is in the ranges of a record.
-use Rattle.std.specs.Prelude.{◌≡◌, ◌<◌, ◌≤◌, ◌+◌, ◌%◌, ◌^◌, ⊤, ℕ, false, List, [], ◌∷◌, Option, None, Some, All, IfSome, length, map, option_map, slice_index_or}
+use Rattle.std.specs.Prelude.{◌≡◌, ◌<◌, ◌≤◌, ◌+◌, ◌%◌, ◌^◌, ℕ, false, List, [], Option, None, Some, All, IfSome, length, map, option_map, slice_index_or}
 use Rattle.draid_names.specs.Numbers.{most_held}
 use Rattle.draid_names.specs.declared.numbers.TheConstants.{LONGEST_BLOCK, NUMBERS, OBJECTS}
 use Rattle.draid_names.specs.declared.arm.Arm.{Arm}
@@ -12,10 +12,10 @@ use Rattle.draid_entries.specs.declared.entries.Entries.{Entries}
 use Rattle.draid_entries.specs.Entries.{count_of, entry_at}
 use Rattle.draid_record.specs.declared.limits.Limits.{Limits}
 use Rattle.draid_record.specs.Ranges.{AreRuns, least_running}
-use Rattle.draid_record.specs.Record.{ArmTold, PassTold, least_arm, least_slot, stripes_of, told_pass}
+use Rattle.draid_record.specs.Record.{ArmTold, PassTold, stripes_of, told_pass}
 use Rattle.draid_record.specs.Written.{bit}
 use Rattle.draid_slots.specs.Table.{SlotTable, arm_at, arms_of}
-use Rattle.draid_stable.specs.Slots.{name_of}
+use Rattle.draid_slots.specs.States.{AscendBehind, name_of}
 use Rattle.draid_stable.specs.declared.sealing.Head.{Head}
 
 -- ---- blocks
@@ -67,11 +67,6 @@ pub record TellsArms (table : SlotTable) (slots : List (List ArmTold)) : Type 0 
   pub same : (slot : ℕ) → map (λ (told : ArmTold). told.0) (slice_index_or slots slot []) ≡ arms_of table slot
 
 -- ---- the pass
-
--- places that ascend by slot and arm, behind one before
-abbrev pub AscendBehind : Option ArmAt → List ArmAt → Type 0
-AscendBehind before [] = ⊤
-AscendBehind before (t ∷ rest) = (least_slot before ≤ t.slot) × (least_arm before t.slot ≤ t.arm) × AscendBehind (Some t) rest
 
 -- A scrub runs. The targets are arms of the slots, ascending.
 pub record PassFits (limits : Limits) (table : SlotTable) (p : PassTold) : Type 0 where

@@ -25,7 +25,7 @@ ghost use Rattle.draid_slots.specs.Table.{IsTable, SlotTable, arm_at, is_logged}
 ghost use Rattle.draid_shelf.specs.Kits.{CrashedKit, KitTold};
 ghost use Rattle.draid_stable.specs.declared.sealing.Head.{Head};
 ghost use Rattle.draid_stable.specs.Sealing.{AreMarked, AreTables, IsMade, IsSettled, is_marked, was_born};
-ghost use Rattle.draid_stable.specs.Slots.{name_of};
+ghost use Rattle.draid_slots.specs.States.{name_of};
 ghost use Rattle.draid_stable.specs.Kits.{IsStable};
 ghost use Rattle.draid_stable.specs.Images.{LeavesBelow, SaysArms, arm_by, held_by};
 ghost use Rattle.draid_stable.specs.Within.{ArmsFit, EntriesFit, LimitsOf, LogsFit, TablesFit, TellsArms};

@@ -6,7 +6,8 @@ ghost use Rattle.draid_machine.specs.Arms.{is_silent, lies_on};
 ghost use Rattle.draid_machine.specs.State.{Core, Layout};
 ghost use Rattle.draid_record.specs.Record.{told_pass, told_record, told_slots};
 ghost use Rattle.draid_stable.specs.Images.{image_by};
-ghost use Rattle.draid_stable.specs.Sealing.{AreMarked, AreTables, HaveRoom, IsCurrent, IsMade, IsReady, IsSettled, was_born};
+ghost use Rattle.draid_stable.specs.Sealing.{AreMarked, AreTables, HaveRoom, IsMade, IsReady, IsSettled, was_born};
+ghost use Rattle.draid_slots.specs.States.{IsCurrent};
 
 use crate::arms::copied_slots;
 use crate::marks::{Marks, lose_targets, mark_slots};

@@ -1,22 +1,15 @@
-ghost use Rattle.std.specs.Prelude.{◌≡◌, ◌≤◌, ◌<◌, ◌+◌, IfOk, IfSome, length};
+ghost use Rattle.std.specs.Prelude.{◌≡◌, ◌≤◌, ◌<◌, ◌+◌, All, IfOk, IfSome, length};
 ghost use Rattle.draid_spec.specs.Geometry.{IsGeometry};
 ghost use Rattle.draid_block.specs.Blocks.{column_len, cut_of};
 ghost use Rattle.draid_block.specs.Solving.{IsFetched};
 
+use crate::layouts::{SMALL, layout};
 use draid_block::{Encoded, Fetched, Solve, SolveFault, solve_block, solve_many};
 use draid_names::{NoMemory, Pointer};
-use draid_spec::{Geometry, Props, SpecFault, geometry, parse_spec};
+use draid_spec::Geometry;
 use std::alloc::{AllocError, Global};
 use std::test::Fail;
-
-const PROPS: Props = Props {
-    sector: 512,
-    height: 8,
-    metaslabs: 1,
-    slices: 4,
-    seed: 1,
-    version: 1,
-};
+use std::thread::Threads;
 
 /// How many sets of missing columns are tried with three data columns: of g columns, a of them
 /// absent, the sum over k of the numbers of ways to choose k - a of the other g - a.
@@ -31,12 +24,6 @@ fn sets(parity: u32, absent: u32) -> u64 {
         (1, 1) | (2, 2) | (3, 3) => 1,
         _ => 0,
     }
-}
-
-fn layout(text: &[u8], children: u32) -> Result<Geometry, SpecFault>
-    ensures { IfOk result IsGeometry }
-{
-    geometry(parse_spec(text, children, 1)?, PROPS)
 }
 
 /// Bytes that differ from sector to sector and within a sector.
@@ -181,46 +168,65 @@ fn cut_in_three(alloc: Global, bytes: &[u8]) -> Result<Vec<u8>, AllocError>
     Ok(columns)
 }
 
+/// Whether the data columns of a block are these bytes, cut so.
+fn is_cut(
+    alloc: Global,
+    geometry: &Geometry,
+    block: &Encoded,
+    bytes: &[u8],
+) -> Result<bool, AllocError>
+    requires geometry { IsGeometry geometry.now }
+    requires cut { block.now.cut ≡ cut_of geometry.now }
+    requires some { 1536 ≤ length bytes.now }
+{
+    let columns = data_of(alloc, geometry, block)?;
+    Ok(columns == cut_in_three(alloc, bytes)?)
+}
+
+/// The stripes and bytes of a block, the first byte of its parity, and whether its data columns are those.
+fn cut(
+    alloc: Global,
+    geometry: &Geometry,
+    bytes: &[u8],
+) -> Result<(u32, u32, Option<u8>, bool), NoMemory>
+    requires geometry { IsGeometry geometry.now }
+    requires some { 1536 ≤ length bytes.now }
+    requires short { length bytes.now ≤ 131072 }
+{
+    let block = Encoded::of(alloc, geometry, bytes)?;
+    let is_cut = is_cut(alloc, geometry, &block, bytes)?;
+    let first = block.column(0).first().copied();
+    Ok((block.stripes(), block.len(), first, is_cut))
+}
+
 // Three data columns, a block of four sectors.
 #[test]
 fn cuts_a_block(rt: HostRuntime) -> Result<(), Fail> {
-    let alloc = rt.alloc();
-    let geometry = layout(b"draid:3d", 4)?;
-    let bytes = pattern(alloc, 2048)?;
-    let block = Encoded::of(alloc, &geometry, &bytes)?;
-    let expected = cut_in_three(alloc, &bytes)?;
-    let columns = data_of(alloc, &geometry, &block)?;
-    let first = bytes[0] ^ bytes[1024] ^ bytes[1536];
-    assert!(rt; columns.as_slice() == expected.as_slice());
-    assert_eq!(rt;
-        (
-            block.stripes(),
-            block.len(),
-            block.column(0).first().copied()
-        ),
-        (2, 2048, Some(first))
-    );
+    let geometry = layout(b"draid:3d", 4, SMALL)?;
+    let bytes = pattern(rt.alloc(), 2048)?;
+    let first = Some(bytes[0] ^ bytes[1024] ^ bytes[1536]);
+    assert_eq!(rt; cut(rt.alloc(), &geometry, &bytes)?, (2, 2048, first, true));
     Ok(())
 }
 
 #[test]
 fn any_columns_come_back(rt: HostRuntime) -> Result<(), Fail> {
     for absent in 0..16 {
-        let geometry = layout(b"draid1:3d", 4)?;
+        let geometry = layout(b"draid1:3d", 4, SMALL)?;
         assert!(rt;
             is_solved_with(rt.alloc(), &geometry, 4, absent)?,
             "{absent}"
         );
     }
     for absent in 0..32 {
-        let geometry = layout(b"draid2:3d", 5)?;
+        let geometry = layout(b"draid2:3d", 5, SMALL)?;
         assert!(rt;
             is_solved_with(rt.alloc(), &geometry, 5, absent)?,
             "{absent}"
         );
     }
     for absent in 0..64 {
-        let geometry = layout(b"draid3:3d", 6)?;
+        let geometry = layout(b"draid3:3d", 6, SMALL)?;
         assert!(rt;
             is_solved_with(rt.alloc(), &geometry, 6, absent)?,
             "{absent}"
@@ -231,7 +237,7 @@ fn any_columns_come_back(rt: HostRuntime) -> Result<(), Fail> {
 
 #[test]
 fn blocks_of_any_size_come_back(rt: HostRuntime) -> Result<(), Fail> {
-    let geometry = layout(b"draid2:3d", 5)?;
+    let geometry = layout(b"draid2:3d", 5, SMALL)?;
     for len in [1, 511, 512, 513, 131_071, 131_072] {
         let bytes = pattern(rt.alloc(), len)?;
         assert!(rt; is_solved(rt.alloc(), &geometry, &bytes, 0, 0)?, "{len}");
@@ -243,24 +249,75 @@ fn blocks_of_any_size_come_back(rt: HostRuntime) -> Result<(), Fail> {
     Ok(())
 }
 
+/// What is read of a block with a wrong column, without two columns, and without one.
+fn read_thrice(
+    alloc: Global,
+    geometry: &Geometry,
+    block: &Encoded,
+) -> Result<Vec<Fetched>, AllocError>
+    requires geometry { IsGeometry geometry.now }
+    requires cut { block.now.cut ≡ cut_of geometry.now }
+    ensures { IfOk result (λ blocks. All (IsFetched (cut_of geometry.now)) blocks.items) }
+{
+    let mut blocks = Vec::new(alloc);
+    for (absent, wrong) in [(0, 0b0010), (0b0011, 0), (0b0100, 0)] {
+        blocks.push(read(alloc, geometry, block, absent, wrong)?)?;
+    }
+    Ok(blocks)
+}
+
+/// What is so read of a block of these bytes.
+fn fetched_thrice(
+    alloc: Global,
+    geometry: &Geometry,
+    bytes: &[u8],
+) -> Result<Vec<Fetched>, NoMemory>
+    requires geometry { IsGeometry geometry.now }
+    requires some { 1 ≤ length bytes.now }
+    requires short { length bytes.now ≤ 131072 }
+    ensures { IfOk result (λ blocks. All (IsFetched (cut_of geometry.now)) blocks.items) }
+{
+    let block = Encoded::of(alloc, geometry, bytes)?;
+    Ok(read_thrice(alloc, geometry, &block)?)
+}
+
+/// Whether these bytes were found, and else how many columns are absent and how many sets were tried.
+fn told(answer: &Solve, bytes: &[u8]) -> (bool, u32, u64) {
+    match answer {
+        Solve::Bytes(found) => (found.as_slice() == bytes, 0, 0),
+        Solve::Unreadable { absent, tried } => (false, *absent, *tried),
+    }
+}
+
+/// What is told of three blocks that are solved together.
+fn solved<R: AllocGlobal + Threads + Sync>(
+    rt: &R,
+    geometry: &Geometry,
+    bytes: &[u8],
+) -> Result<Option<[(bool, u32, u64); 3]>, NoMemory>
+    requires geometry { IsGeometry geometry.now }
+    requires some { 1 ≤ length bytes.now }
+    requires short { length bytes.now ≤ 131072 }
+{
+    let blocks = fetched_thrice(rt.alloc(), geometry, bytes)?;
+    let answers = solve_many(rt, rt.alloc(), geometry, &blocks)?;
+    Ok(match answers.as_slice() {
+        [first, second, third] => Some([
+            told(first, bytes),
+            told(second, bytes),
+            told(third, bytes),
+        ]),
+        _ => None,
+    })
+}
+
 #[test]
 fn many_blocks_are_solved_in_order(rt: HostRuntime) -> Result<(), Fail> {
-    let alloc = rt.alloc();
-    let geometry = layout(b"draid:3d", 4)?;
-    let bytes = pattern(alloc, 1000)?;
-    let block = Encoded::of(alloc, &geometry, &bytes)?;
-    let mut blocks = Vec::new(alloc);
-    blocks.push(read(alloc, &geometry, &block, 0, 0b0010)?)?;
-    blocks.push(read(alloc, &geometry, &block, 0b0011, 0)?)?;
-    blocks.push(read(alloc, &geometry, &block, 0b0100, 0)?)?;
-    let mut expected = Vec::new(alloc);
-    expected.push(Solve::Bytes(Vec::from_slice(alloc, &bytes)?))?;
-    expected.push(Solve::Unreadable {
-        absent: 2,
-        tried: 0,
-    })?;
-    expected.push(Solve::Bytes(bytes))?;
-    let answers = solve_many(&rt, alloc, &geometry, &blocks)?;
-    assert!(rt; answers.as_slice() == expected.as_slice());
+    let geometry = layout(b"draid:3d", 4, SMALL)?;
+    let bytes = pattern(rt.alloc(), 1000)?;
+    assert_eq!(rt;
+        solved(&rt, &geometry, &bytes)?,
+        Some([(true, 0, 0), (false, 2, 0), (true, 0, 0)])
+    );
     Ok(())
 }

@@ -1,4 +1,4 @@
-ghost use Rattle.std.specs.Prelude.{◌<◌, ◌^◌, ℕ, All};
+ghost use Rattle.std.specs.Prelude.{◌<◌, ◌^◌, ℕ, All, length};
 
 use draid_dtl::{Log, group, mirror};
 use std::alloc::{AllocError, Global};
@@ -15,15 +15,32 @@ fn log(alloc: Global, groups: &[u64]) -> Result<Log, AllocError>
     Ok(log)
 }
 
-/// How many groups two arms that mirror each other missed, and three of a group with one parity; and whether these have 3.
+/// The logs of three arms.
+fn three(alloc: Global) -> Result<[Log; 3], AllocError> {
+    let first = log(alloc, &[2, 3])?;
+    let second = log(alloc, &[3])?;
+    Ok([first, second, Log::new(alloc)])
+}
+
+/// How many groups arms that mirror each other missed, and whether these have 3.
+fn missed_by_all(alloc: Global, logs: &[Log]) -> Result<(u64, bool), AllocError>
+    requires { 0 < length logs.now }
+{
+    let missed = mirror(alloc, logs)?;
+    Ok((missed.count(), missed.contains(3)))
+}
+
+/// The same of the arms of a group with one parity.
+fn missed_by_two(alloc: Global, logs: &[Log]) -> Result<(u64, bool), AllocError> {
+    let missed = group(alloc, 1, logs)?;
+    Ok((missed.count(), missed.contains(3)))
+}
+
+/// What the first two missed, and all three.
 fn missed(alloc: Global) -> Result<[(u64, bool); 2], AllocError> {
-    let three = [log(alloc, &[2, 3])?, log(alloc, &[3])?, log(alloc, &[])?];
-    let both = mirror(alloc, &three[..2])?;
-    let more = group(alloc, 1, &three)?;
-    Ok([
-        (both.count(), both.contains(3)),
-        (more.count(), more.contains(3)),
-    ])
+    let three = three(alloc)?;
+    let both = missed_by_all(alloc, &three[..2])?;
+    Ok([both, missed_by_two(alloc, &three)?])
 }
 
 /// What is left of a log up to 5 without the groups up to 2 and above 4.

@@ -44,28 +44,36 @@ fn sums_equal_a_loop(rt: HostRuntime) -> Result<(), Fail> {
     Ok(())
 }
 
-// The products of the worked rows, and values of H. P. Anvin, "The mathematics of RAID-6".
+/// Products of the worked rows, and those of H. P. Anvin, "The mathematics of RAID-6".
+fn products() -> [u8; 5] {
+    [
+        mul(2, 0x80),
+        mul(4, 0x80),
+        mul(2, 0x8e),
+        mul(0, 7),
+        mul(1, 0xff),
+    ]
+}
+
+/// Powers of 2 from there.
+fn powers() -> [u8; 6] {
+    [
+        pow2(0),
+        pow2(7),
+        pow2(8),
+        pow2(254),
+        pow2(255),
+        pow2(u32::MAX),
+    ]
+}
+
 #[test]
 fn known_values(rt: HostRuntime) {
-    for (a, b, product) in [
-        (2, 0x80, 0x1d),
-        (4, 0x80, 0x3a),
-        (2, 0x8e, 1),
-        (0, 7, 0),
-        (1, 0xff, 0xff),
-    ] {
-        assert_eq!(rt; mul(a, b), product, "{a} times {b}");
-    }
-    assert_eq!(rt; inv(0x02), 0x8e);
-    assert_eq!(rt; inv(1), 1);
-    for (e, power) in [
-        (0, 1),
-        (7, 0x80),
-        (8, 0x1d),
-        (254, 0x8e),
-        (255, 1),
-        (u32::MAX, 1),
-    ] {
-        assert_eq!(rt; pow2(e), power, "2 to the {e}");
-    }
+    let found = (products(), powers(), [inv(2), inv(1)]);
+    let wanted = (
+        [0x1d, 0x3a, 1, 0, 0xff],
+        [1, 0x80, 0x1d, 0x8e, 1, 1],
+        [0x8e, 1],
+    );
+    assert_eq!(rt; found, wanted);
 }

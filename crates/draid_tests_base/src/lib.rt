@@ -15,6 +15,8 @@ mod dtl;
 #[cfg(test)]
 mod gf;
 #[cfg(test)]
+mod layouts;
+#[cfg(test)]
 mod map;
 #[cfg(test)]
 mod metaslab;

@@ -1,8 +1,9 @@
 ghost use Rattle.draid_spec.specs.Geometry.{IsGeometry};
 
+use crate::layouts::{SMALL, layout};
 use draid_metaslab::{Space, SpaceFault};
 use draid_ranges::Run;
-use draid_spec::{Geometry, Props, geometry, parse_spec};
+use draid_spec::{Geometry, Props, SpecFault};
 use std::alloc::Global;
 
 fn out_and_back(alloc: Global, layout: &Geometry) -> Result<(u64, u64), SpaceFault>
@@ -33,20 +34,13 @@ fn beside_taken_runs(
 }
 
 #[test]
-fn stripes_go_out_and_come_back(rt: HostRuntime) {
-    let props = Props {
-        sector: 512,
-        height: 8,
-        metaslabs: 1,
-        slices: 2,
-        seed: 1,
-        version: 1,
-    };
-    let spec = parse_spec(b"draid1:2d:3c", 3, 1).expect(&rt, "a spec");
-    let layout = geometry(spec, props).expect(&rt, "a layout");
+fn stripes_go_out_and_come_back(rt: HostRuntime) -> Result<(), SpecFault> {
+    let two_slices = Props { slices: 2, ..SMALL };
+    let layout = layout(b"draid1:2d:3c", 3, two_slices)?;
     assert_eq!(rt; out_and_back(rt.alloc(), &layout), Ok((0, 16)));
     assert_eq!(rt;
         beside_taken_runs(rt.alloc(), &layout),
         Ok((9, 6, Err(SpaceFault::NoRoom { largest: 4 })))
     );
+    Ok(())
 }

@@ -32,10 +32,11 @@ fn read<A: Area>(area: &mut A, at: u64) -> Result<[u8; 4], DeviceFault>
 
 /// Reads where there are enough bytes.
 fn read_some<A: Area>(area: &mut A, at: u64) -> Result<[u8; 4], DeviceFault> {
-    if at > 1024 || area.length() < at + 4 {
-        return Ok([0; 4]);
+    let mut bytes = [9; 4];
+    if at <= 1020 && at + 4 <= area.length() {
+        area.read(at, &mut bytes)?;
     }
-    read(area, at)
+    Ok(bytes)
 }
 
 /// An area of 1,024 zero bytes.
@@ -67,17 +68,18 @@ fn the_calls_of_the_list_fail_alone(rt: HostRuntime) -> Result<(), Fail> {
 }
 
 /// What is read after a crash by this rule of an area whose second half was flushed, and the length.
-fn left_of_halves(alloc: Global, rule: CrashRule) -> Result<([Read; 4], u64), Fail> {
-    let mut area = zeros(alloc, Vec::new(alloc))?;
-    write_half(&mut area, 512, &[1; 512])?;
+fn halves_left(area: &mut MemoryArea, rule: CrashRule) -> Result<([[u8; 4]; 4], u64), DeviceFault>
+    requires { size_of_memory area.old ≡ 1024 }
+{
+    write_half(area, 512, &[1; 512])?;
     area.write(0, &[2; 512])?;
     area.crash(rule);
     let length = area.length();
     let left = [
-        read_some(&mut area, 0),
-        read_some(&mut area, 254),
-        read_some(&mut area, 512),
-        read_some(&mut area, 1020),
+        read_some(area, 0)?,
+        read_some(area, 254)?,
+        read_some(area, 512)?,
+        read_some(area, 1020)?,
     ];
     Ok((left, length))
 }
@@ -90,15 +92,17 @@ fn a_crash_leaves_the_half_that_was_flushed(rt: HostRuntime) -> Result<(), Fail>
         (CrashRule::Torn, [253; 4], [253; 4]),
         (CrashRule::Half, [2; 4], [2, 2, 0, 0]),
     ] {
-        let left = ([Ok(front), Ok(middle), Ok([1; 4]), Ok([1; 4])], 1024);
-        assert_eq!(rt; left_of_halves(rt.alloc(), rule)?, left);
+        let mut area = zeros(rt.alloc(), Vec::new(rt.alloc()))?;
+        let left = halves_left(&mut area, rule)?;
+        assert_eq!(rt; left, ([front, middle, [1; 4], [1; 4]], 1024));
     }
     Ok(())
 }
 
 /// The length after a crash by this rule, where four bytes were written behind the end.
-fn length_left(alloc: Global, rule: CrashRule) -> Result<u64, Fail> {
-    let mut area = zeros(alloc, Vec::new(alloc))?;
+fn length_left(area: &mut MemoryArea, rule: CrashRule) -> Result<u64, DeviceFault>
+    requires { size_of_memory area.old ≡ 1024 }
+{
     area.write(8, &[9; 4])?;
     area.write(1024, &[7; 4])?;
     area.crash(rule);
@@ -107,20 +111,30 @@ fn length_left(alloc: Global, rule: CrashRule) -> Result<u64, Fail> {
 
 #[test]
 fn a_crash_leaves_the_length_by_its_rule(rt: HostRuntime) -> Result<(), Fail> {
-    assert_eq!(rt; length_left(rt.alloc(), CrashRule::Old)?, 1024);
-    assert_eq!(rt; length_left(rt.alloc(), CrashRule::Half)?, 1028);
+    for (rule, length) in [(CrashRule::Old, 1024), (CrashRule::Half, 1028)] {
+        let mut area = zeros(rt.alloc(), Vec::new(rt.alloc()))?;
+        assert_eq!(rt; length_left(&mut area, rule)?, length);
+    }
     Ok(())
 }
 
-/// What two writes of a half and a read answer behind a fuse of two calls, and a read after a crash by this rule.
-fn behind_a_fuse(alloc: Global, rule: CrashRule) -> Result<([Written; 2], [Read; 2]), Fail> {
-    let mut area = zeros(alloc, Vec::new(alloc))?;
-    area.put_fuse(Fuse::new(alloc, 2)?);
-    let first = write_half(&mut area, 0, &[1; 512]);
-    let second = write_half(&mut area, 0, &[2; 512]);
-    let blown = read(&mut area, 0);
+/// What two writes of a half and a read answer before a crash by this rule, and a read behind it.
+fn around_a_crash(area: &mut MemoryArea, rule: CrashRule) -> ([Written; 2], [Read; 2])
+    requires { size_of_memory area.old ≡ 1024 }
+{
+    let first = write_half(area, 0, &[1; 512]);
+    let second = write_half(area, 0, &[2; 512]);
+    let before = read(area, 0);
     area.crash(rule);
-    Ok(([first, second], [blown, read_some(&mut area, 0)]))
+    ([first, second], [before, read_some(area, 0)])
+}
+
+/// The same, where a fuse lets two calls pass.
+fn behind_a_fuse(alloc: Global, rule: CrashRule) -> Result<([Written; 2], [Read; 2]), Fail> {
+    let fuse = Fuse::new(alloc, 2)?;
+    let mut area = zeros(alloc, Vec::new(alloc))?;
+    area.put_fuse(fuse);
+    Ok(around_a_crash(&mut area, rule))
 }
 
 #[test]

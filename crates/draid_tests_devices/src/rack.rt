@@ -136,15 +136,16 @@ fn the_calls_of_the_list_fail_alone(rt: HostRuntime) -> Result<(), Fail> {
 
 /// What is read after a crash by this rule of two sectors that were written and flushed, of which the second was written
 /// twice since.
-fn left_by(alloc: Global, rule: CrashRule) -> Result<[Read; 2], Fail> {
-    let mut rack = small_rack(alloc, Vec::new(alloc))?;
-    write(&mut rack, 0, [1, 2, 3, 4])?;
-    write(&mut rack, 1, [1, 2, 3, 4])?;
-    flush(&mut rack)?;
-    write(&mut rack, 1, [9; 4])?;
-    write(&mut rack, 1, [5, 6, 7, 8])?;
+fn left_by(rack: &mut MemoryRack, rule: CrashRule) -> Result<[[u8; 4]; 2], Failed>
+    requires { HasJust (shape_of_memory rack.old) 2 3 4 }
+{
+    write(rack, 0, [1, 2, 3, 4])?;
+    write(rack, 1, [1, 2, 3, 4])?;
+    flush(rack)?;
+    write(rack, 1, [9; 4])?;
+    write(rack, 1, [5, 6, 7, 8])?;
     rack.crash(rule);
-    Ok([read(&mut rack, 0), read(&mut rack, 1)])
+    Ok([read(rack, 0)?, read(rack, 1)?])
 }
 
 #[test]
@@ -155,7 +156,8 @@ fn a_crash_leaves_what_was_flushed_and_the_rest_by_its_rule(rt: HostRuntime) -> 
         (CrashRule::Torn, [250, 249, 248, 247]),
         (CrashRule::Half, [5, 6, 3, 4]),
     ] {
-        assert_eq!(rt; left_by(rt.alloc(), rule)?, [Ok([1, 2, 3, 4]), Ok(left)]);
+        let mut rack = small_rack(rt.alloc(), Vec::new(rt.alloc()))?;
+        assert_eq!(rt; left_by(&mut rack, rule)?, [[1, 2, 3, 4], left]);
     }
     Ok(())
 }
@@ -180,34 +182,48 @@ fn a_fuse_lets_just_its_calls_pass(rt: HostRuntime) -> Result<(), Fail> {
 }
 
 /// What is read of a sector that was damaged twice. Harm is spread then, and settled.
-fn damaged(alloc: Global) -> Result<Read, Fail> {
-    let mut rack = small_rack(alloc, Vec::new(alloc))?;
-    write(&mut rack, 0, [1, 2, 3, 4])?;
-    damage_twice(&mut rack)?;
-    let back = read(&mut rack, 0);
-    spread_harm(&mut rack, &[1, 2, 3, 4])?;
+fn damaged(rack: &mut MemoryRack) -> Result<[u8; 4], Failed>
+    requires { HasJust (shape_of_memory rack.old) 2 3 4 }
+{
+    write(rack, 0, [1, 2, 3, 4])?;
+    damage_twice(rack)?;
+    let back = read(rack, 0)?;
+    spread_harm(rack, &[1, 2, 3, 4])?;
     Ok(back)
 }
 
 /// What is read of a sector that was mended from a harmed one and not flushed before a crash.
-fn harmed(alloc: Global) -> Result<Read, Fail> {
-    let mut rack = small_rack(alloc, Vec::new(alloc))?;
-    crash_with_harm(&mut rack, &[6; 4])?;
-    Ok(read(&mut rack, 1))
+fn harmed(rack: &mut MemoryRack) -> Result<[u8; 4], Failed>
+    requires { HasJust (shape_of_memory rack.old) 2 3 4 }
+{
+    crash_with_harm(rack, &[6; 4])?;
+    read(rack, 1)
 }
 
 /// What is read of the last of three sectors that were written and flushed before a crash.
-fn third(alloc: Global) -> Result<Read, Fail> {
-    let mut rack = small_rack(alloc, Vec::new(alloc))?;
-    write_three(&mut rack, 1, &[1, 2, 3, 4])?;
+fn third(rack: &mut MemoryRack) -> Result<[u8; 4], Failed>
+    requires { HasJust (shape_of_memory rack.old) 2 3 4 }
+{
+    write_three(rack, 1, &[1, 2, 3, 4])?;
     rack.crash(CrashRule::Torn);
-    Ok(read(&mut rack, 2))
+    read(rack, 2)
+}
+
+/// The same of a rack of zeros each.
+fn read_back(alloc: Global, row: u32) -> Result<[u8; 4], Fail> {
+    let mut rack = small_rack(alloc, Vec::new(alloc))?;
+    let bytes = match row {
+        0 => damaged(&mut rack)?,
+        1 => harmed(&mut rack)?,
+        _ => third(&mut rack)?,
+    };
+    Ok(bytes)
 }
 
 #[test]
 fn harm_and_flushes_outlast_a_crash(rt: HostRuntime) -> Result<(), Fail> {
-    assert_eq!(rt; damaged(rt.alloc())?, Ok([1, 2, 3, 4]));
-    assert_eq!(rt; harmed(rt.alloc())?, Ok([0; 4]));
-    assert_eq!(rt; third(rt.alloc())?, Ok([1, 2, 3, 4]));
+    for (row, bytes) in [(0, [1, 2, 3, 4]), (1, [0; 4]), (2, [1, 2, 3, 4])] {
+        assert_eq!(rt; read_back(rt.alloc(), row)?, bytes);
+    }
     Ok(())
 }

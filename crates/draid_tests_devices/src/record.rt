@@ -223,24 +223,25 @@ fn an_uberblock_of_version_two_is_told(rt: HostRuntime) {
 fn read_version(
     alloc: Global,
     version: u8,
-    layout: &Geometry,
-) -> Result<(usize, usize, bool, u64), RecordFault>
-    requires { IsGeometry layout.now }
-{
-    read_changed(alloc, 5, version, layout)
+    layout: u32,
+) -> Result<Result<(usize, usize, bool, u64), RecordFault>, SpecFault> {
+    let props = Props {
+        version: layout,
+        ..PROPS
+    };
+    let layout = geometry(parse_spec(b"draid1:2d:3c", 3, layout)?, props)?;
+    Ok(read_changed(alloc, 5, version, &layout))
 }
 
 #[test]
 fn a_record_is_told_by_the_version(rt: HostRuntime) -> Result<(), SpecFault> {
-    let first = small_geometry()?;
-    let props = Props {
-        version: 2,
-        ..PROPS
-    };
-    let second = geometry(parse_spec(b"draid1:2d:3c", 3, 2)?, props)?;
-    assert_eq!(rt; read_version(rt.alloc(), 2, &second), Ok((3, 0, false, 0)));
-    assert_eq!(rt; read_version(rt.alloc(), 1, &second), bad(4, 2));
-    assert_eq!(rt; read_version(rt.alloc(), 2, &first), bad(4, 2));
+    for (version, layout, told) in [
+        (2, 2, Ok((3, 0, false, 0))),
+        (1, 2, bad(4, 2)),
+        (2, 1, bad(4, 2)),
+    ] {
+        assert_eq!(rt; read_version(rt.alloc(), version, layout)?, told);
+    }
     Ok(())
 }
 

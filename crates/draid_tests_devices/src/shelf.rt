@@ -60,8 +60,9 @@ fn read<R: Rack>(rack: &mut R, sector: u64) -> Result<u8, Failed>
 fn shelf_failing(alloc: Global, place: Place, calls: &[u64]) -> Result<MemoryShelf, Fail>
     requires { IsPlace place }
 {
+    let calls = Vec::from_slice(alloc, calls)?;
     let mut shelf = MemoryShelf::new(alloc, CrashRule::New);
-    shelf.fail(place, Vec::from_slice(alloc, calls)?);
+    shelf.fail(place, calls);
     Ok(shelf)
 }
 
@@ -98,7 +99,26 @@ fn found<H: Shelf>(shelf: &mut H, geometry: &Geometry) -> Option<(u8, u8, u64)>
     Some((flushed, soft, kit.odd.length()))
 }
 
-/// Whether a pool is there before it is made, and behind it; and what a crash by this rule leaves, looked at twice.
+/// Whether a pool is there before it is made, and behind it. It is used then, and crashes by this rule.
+fn make_and_crash(
+    shelf: &mut MemoryShelf,
+    alloc: Global,
+    geometry: &Geometry,
+    rule: CrashRule,
+) -> Result<[bool; 2], Fail>
+    requires geometry { IsGeometry geometry.now }
+    requires sector { geometry.now.props.sector ≡ 512 }
+{
+    let before = shelf.has_pool();
+    shelf.crash_by(rule);
+    Shelf::make(shelf, alloc, geometry)?;
+    let made = shelf.has_pool();
+    use_devices(shelf, geometry)?;
+    shelf.crash();
+    Ok([before, made])
+}
+
+/// The same, and what the crash leaves, looked at twice.
 fn left_by(
     alloc: Global,
     geometry: &Geometry,
@@ -108,14 +128,9 @@ fn left_by(
     requires sector { geometry.now.props.sector ≡ 512 }
 {
     let mut shelf = MemoryShelf::new(alloc, CrashRule::Torn);
-    let before = shelf.has_pool();
-    shelf.crash_by(rule);
-    Shelf::make(&mut shelf, alloc, geometry)?;
-    let made = shelf.has_pool();
-    use_devices(&mut shelf, geometry)?;
-    shelf.crash();
+    let there = make_and_crash(&mut shelf, alloc, geometry, rule)?;
     let left = [found(&mut shelf, geometry), found(&mut shelf, geometry)];
-    Ok(([before, made], left))
+    Ok((there, left))
 }
 
 #[test]
@@ -147,21 +162,26 @@ fn flush_both<H: Shelf>(shelf: &mut H, geometry: &Geometry) -> Result<[bool; 4],
 }
 
 /// Which flushes failed behind a fuse of three calls, and which after a crash.
-fn fused(alloc: Global, geometry: &Geometry) -> Result<[[bool; 4]; 2], Fail>
+fn fused(
+    shelf: &mut MemoryShelf,
+    alloc: Global,
+    geometry: &Geometry,
+) -> Result<[[bool; 4]; 2], Fail>
     requires { IsGeometry geometry.now }
 {
-    let mut shelf = MemoryShelf::new(alloc, CrashRule::New);
-    Shelf::make(&mut shelf, alloc, geometry)?;
+    Shelf::make(shelf, alloc, geometry)?;
     shelf.put_fuse(alloc, 3)?;
-    let behind = flush_both(&mut shelf, geometry)?;
+    let behind = flush_both(shelf, geometry)?;
     shelf.crash();
-    Ok([behind, flush_both(&mut shelf, geometry)?])
+    Ok([behind, flush_both(shelf, geometry)?])
 }
 
 #[test]
 fn the_devices_share_a_fuse_that_a_crash_takes_out(rt: HostRuntime) -> Result<(), Fail> {
     let failed = [[false, false, false, true], [false; 4]];
-    assert_eq!(rt; fused(rt.alloc(), &small_geometry()?)?, failed);
+    let geometry = small_geometry()?;
+    let mut shelf = MemoryShelf::new(rt.alloc(), CrashRule::New);
+    assert_eq!(rt; fused(&mut shelf, rt.alloc(), &geometry)?, failed);
     Ok(())
 }
 
@@ -187,34 +207,62 @@ fn the_shelf_fails_by_its_list_and_for_what_it_does_not_hold(rt: HostRuntime) ->
     Ok(())
 }
 
-/// Flushes leaf 0 and the records of metaslab 0, the check records and the uberblock; which of these calls failed.
-fn flush_all<H: Shelf>(shelf: &mut H, geometry: &Geometry) -> Result<[bool; 6], Fail> {
-    let mut uber = shelf.take_uber()?;
-    let (mut check_even, mut check_odd) = shelf.take_check()?;
+/// Flushes leaf 0 and the records of metaslab 0; which of these calls failed.
+fn flush_kit<H: Shelf>(shelf: &mut H, geometry: &Geometry) -> Result<[bool; 3], Fail> {
     let mut kit = shelf.take(0, geometry)?;
     let failed = [
         flush(&mut kit.rack).is_err(),
         kit.even.flush().is_err(),
         kit.odd.flush().is_err(),
-        check_even.flush().is_err(),
-        check_odd.flush().is_err(),
-        uber.flush().is_err(),
     ];
     shelf.give(0, kit);
-    shelf.give_check(check_even, check_odd);
+    Ok(failed)
+}
+
+/// The same of the check records.
+fn flush_checks<H: Shelf>(shelf: &mut H) -> Result<[bool; 2], Fail> {
+    let (mut even, mut odd) = shelf.take_check()?;
+    let failed = [even.flush().is_err(), odd.flush().is_err()];
+    shelf.give_check(even, odd);
+    Ok(failed)
+}
+
+/// The same of the uberblock.
+fn flush_uber<H: Shelf>(shelf: &mut H) -> Result<bool, Fail> {
+    let mut uber = shelf.take_uber()?;
+    let failed = uber.flush().is_err();
     shelf.give_uber(uber);
     Ok(failed)
 }
 
-/// Which of these calls failed, and which of them when made again, where the first one at this place fails.
+/// The same of all of these.
+fn flush_all<H: Shelf>(shelf: &mut H, geometry: &Geometry) -> Result<[bool; 6], Fail> {
+    let [rack, even, odd] = flush_kit(shelf, geometry)?;
+    let [check_even, check_odd] = flush_checks(shelf)?;
+    let uber = flush_uber(shelf)?;
+    Ok([rack, even, odd, check_even, check_odd, uber])
+}
+
+/// Which of these calls failed, and which of them when made again.
+fn flush_twice(
+    shelf: &mut MemoryShelf,
+    alloc: Global,
+    geometry: &Geometry,
+) -> Result<[[bool; 6]; 2], Fail>
+    requires { IsGeometry geometry.now }
+{
+    Shelf::make(shelf, alloc, geometry)?;
+    let first = flush_all(shelf, geometry)?;
+    Ok([first, flush_all(shelf, geometry)?])
+}
+
+/// The same, where the first one at this place fails.
 fn failed_at(alloc: Global, geometry: &Geometry, place: Place) -> Result<[[bool; 6]; 2], Fail>
     requires geometry { IsGeometry geometry.now }
     requires place { IsPlace place }
 {
     let mut shelf = shelf_failing(alloc, place, &[0])?;
-    Shelf::make(&mut shelf, alloc, geometry)?;
-    let first = flush_all(&mut shelf, geometry)?;
-    Ok([first, flush_all(&mut shelf, geometry)?])
+    flush_twice(&mut shelf, alloc, geometry)
 }
 
 /// The same for each place, and for one of another metaslab.
@@ -242,30 +290,37 @@ fn each_place_fails_by_its_own_list(rt: HostRuntime) -> Result<(), Fail> {
     Ok(())
 }
 
-/// Writes a check record that isn't flushed, gives the areas a crash, and answers how long they are then, and whether
-/// they are there a second time.
-fn checks_left(
-    alloc: Global,
-    geometry: &Geometry,
-    rule: CrashRule,
-) -> Result<([u64; 2], bool), Fail>
-    requires { IsGeometry geometry.now }
-{
-    let mut shelf = MemoryShelf::new(alloc, rule);
-    Shelf::make(&mut shelf, alloc, geometry)?;
+/// Writes a check record that isn't flushed.
+fn write_check(shelf: &mut MemoryShelf) -> Result<(), Fail> {
     let (even, mut odd) = shelf.take_check()?;
     odd.write(0, &[1, 2, 3])?;
     shelf.give_check(even, odd);
+    Ok(())
+}
+
+/// Gives the areas of check records a crash behind that, and answers how long they are then, and whether they are there a
+/// second time.
+fn checks_left(
+    shelf: &mut MemoryShelf,
+    alloc: Global,
+    geometry: &Geometry,
+) -> Result<([u64; 2], bool), Fail>
+    requires { IsGeometry geometry.now }
+{
+    Shelf::make(shelf, alloc, geometry)?;
+    write_check(shelf)?;
     shelf.crash();
     let (even, odd) = shelf.take_check()?;
-    Ok(([even.length(), odd.length()], shelf.take_check().is_ok()))
+    let lengths = [even.length(), odd.length()];
+    Ok((lengths, shelf.take_check().is_ok()))
 }
 
 #[test]
 fn check_records_are_given_taken_and_crash(rt: HostRuntime) -> Result<(), Fail> {
     let geometry = small_geometry()?;
     for (rule, odd) in [(CrashRule::Old, 0), (CrashRule::New, 3)] {
-        let left = checks_left(rt.alloc(), &geometry, rule)?;
+        let mut shelf = MemoryShelf::new(rt.alloc(), rule);
+        let left = checks_left(&mut shelf, rt.alloc(), &geometry)?;
         assert_eq!(rt; left, ([0, odd], false));
     }
     Ok(())

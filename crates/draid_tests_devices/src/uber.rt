@@ -24,9 +24,11 @@ fn zeros(alloc: Global) -> Result<MemoryArea, Fail>
 fn created(alloc: Global, calls: u64) -> Result<Uber<MemoryArea>, Fail>
     ensures { IfOk result (Valid size_of_memory) }
 {
+    let geometry = small_geometry()?;
+    let fuse = Fuse::new(alloc, calls)?;
     let mut area = zeros(alloc)?;
-    area.put_fuse(Fuse::new(alloc, calls)?);
-    match Uber::create(small_geometry()?, area) {
+    area.put_fuse(fuse);
+    match Uber::create(geometry, area) {
         Ok(uber) => Ok(uber),
         Err(_) => Err(Fail::new("it was refused")),
     }
@@ -114,11 +116,8 @@ fn a_stop_behind_the_last_write_may_leave_the_new_group(rt: HostRuntime) -> Resu
     Ok(())
 }
 
-/// The first byte of slot 0 and the 51 bytes of slot 1 after the first commit.
-fn first_bytes(alloc: Global) -> Result<([u8; 1], [u8; 51]), Fail> {
-    let mut uber = created(alloc, 100)?;
-    commit_next(&mut uber)?;
-    let mut area = uber.into_area();
+/// The first byte of slot 0 and the 51 bytes of slot 1.
+fn first_bytes(area: &mut MemoryArea) -> Result<([u8; 1], [u8; 51]), DeviceFault> {
     let mut gate = [9; 1];
     let mut slot = [9; 51];
     if area.length() >= 1024 {
@@ -130,9 +129,11 @@ fn first_bytes(alloc: Global) -> Result<([u8; 1], [u8; 51]), Fail> {
 
 #[test]
 fn the_first_commit_writes_slot_one(rt: HostRuntime) -> Result<(), Fail> {
-    let (gate, slot) = first_bytes(rt.alloc())?;
-    assert_eq!(rt; gate, [0]);
-    assert_eq!(rt; slot.as_slice(), UBER.as_slice());
+    let mut uber = created(rt.alloc(), 100)?;
+    commit_next(&mut uber)?;
+    let mut area = uber.into_area();
+    let (gate, slot) = first_bytes(&mut area)?;
+    assert!(rt; gate == [0] && slot.as_slice() == UBER.as_slice());
     Ok(())
 }
 
@@ -150,33 +151,43 @@ fn recovered_of(
     Ok(recovered(MemoryArea::new(alloc, bytes, Vec::new(alloc))?))
 }
 
-/// The slot of a new pool, with another byte at a place.
-fn changed(place: usize, byte: u8) -> [u8; 51] {
+/// The same of the slot of a new pool, with another byte at a place.
+fn recovered_changed(
+    alloc: Global,
+    len: usize,
+    place: usize,
+    byte: u8,
+) -> Result<Result<u64, UberFault>, Fail> {
     let mut slot = UBER;
     if place < 51 {
         slot[place] = byte;
     }
-    slot
+    recovered_of(alloc, len, 512, &slot)
 }
 
 #[test]
 fn a_recovery_tells_what_stands_there(rt: HostRuntime) -> Result<(), Fail> {
+    let bad = Err(UberFault::Record { at: 17, kind: 2 });
+    for (len, place, byte, told) in [
+        (1024, 0, 0x5a, Ok(1)),
+        (1024, 17, 33, bad),
+        (1024, 0, 0, Err(UberFault::Empty)),
+        (1023, 0, 0x5a, Err(UberFault::Empty)),
+    ] {
+        let found = recovered_changed(rt.alloc(), len, place, byte)?;
+        assert_eq!(rt; found, told);
+    }
+    Ok(())
+}
+
+// Slot 0 is for even groups.
+#[test]
+fn a_recovery_tells_of_slot_zero(rt: HostRuntime) -> Result<(), Fail> {
     let mut last = UBER;
     last[7..15].copy_from_slice(&[0, 0, 0xff, 0xff, 0xff, 0xff, 0xff, 0xfe]);
-    for (len, at, slot, told) in [
-        (1024, 512, UBER, Ok(1)),
-        (1024, 0, last, Ok(0xffff_ffff_fffe)),
-        (
-            1024,
-            512,
-            changed(17, 33),
-            Err(UberFault::Record { at: 17, kind: 2 }),
-        ),
-        (1024, 512, changed(0, 0), Err(UberFault::Empty)),
-        (1023, 512, UBER, Err(UberFault::Empty)),
-        (1024, 0, UBER, Err(UberFault::Record { at: 7, kind: 2 })),
-    ] {
-        assert_eq!(rt; recovered_of(rt.alloc(), len, at, &slot)?, told);
+    let bad = Err(UberFault::Record { at: 7, kind: 2 });
+    for (slot, told) in [(last, Ok(0xffff_ffff_fffe)), (UBER, bad)] {
+        assert_eq!(rt; recovered_of(rt.alloc(), 1024, 0, &slot)?, told);
     }
     Ok(())
 }

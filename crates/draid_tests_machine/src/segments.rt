@@ -155,12 +155,12 @@ fn add_mended(alloc: Global, site: &Site, events: &mut Vec<Event>) -> Result<(),
     let leaf = u64::from(slot);
     let arm = ArmName::Spare { spare: 0 };
     let kind = PassKind::Rebuild;
-    let failed = Vec::new(alloc);
     add(events, Event::Offline { leaf })?;
     add(events, Event::Attach { slot, arm })?;
     add(events, Event::Plan { kind })?;
     add_group(alloc, events, 3, true)?;
     add(events, Event::Ready)?;
+    let failed = Vec::new(alloc);
     add(events, Event::Lend { failed })?;
     add(
         events,
@@ -202,8 +202,6 @@ fn add_healed(alloc: Global, site: &Site, events: &mut Vec<Event>) -> Result<(),
     let back = u64::from(site.slot_of(0, 0));
     let leaf = u64::from(site.slot_of(0, 1));
     let kind = PassKind::Heal;
-    let failed = Vec::new(alloc);
-    let patched = patched(alloc, leaf)?;
     let damage = Event::Damage {
         leaf,
         sector: 0,
@@ -212,7 +210,9 @@ fn add_healed(alloc: Global, site: &Site, events: &mut Vec<Event>) -> Result<(),
     add(events, Event::Online { leaf: back })?;
     add(events, damage)?;
     add(events, Event::Plan { kind })?;
+    let failed = Vec::new(alloc);
     add(events, Event::Lend { failed })?;
+    let patched = patched(alloc, leaf)?;
     add(
         events,
         Event::LandBlock {
@@ -341,7 +341,7 @@ fn verdicts_at(alloc: Global, site: &Site, stage: u32) -> Option<[bool; 3]> {
 
 #[test]
 fn racks_have_what_states_and_images_say(rt: HostRuntime) -> Result<(), Fail> {
-    let site = site_of(b"draid1:2d:1s", 4).expect(&rt, "a site");
+    let site = site_of(b"draid1:2d:1s", 4)?;
     for stage in 0..4 {
         assert_eq!(rt;
             verdicts_at(rt.alloc(), &site, stage),

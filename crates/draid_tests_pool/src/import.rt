@@ -1,11 +1,7 @@
-ghost use Rattle.std.specs.Prelude.{◌≤◌, length};
-ghost use Rattle.draid_choose.specs.Rooms.{Picks, most_rooms};
-
+use crate::session::run_first;
 use draid_area::{Area, MemoryArea};
-use draid_choose::{Chooser, first_fit};
-use draid_lines::{MemorySink, MemorySource};
-use draid_names::Room;
-use draid_run::{Status, run};
+use draid_lines::MemorySource;
+use draid_run::Status;
 use draid_shelf::{CrashRule, MemoryShelf, Shelf};
 use draid_spec::{Geometry, Props, SpecFault, geometry, parse_spec};
 use std::alloc::{AllocError, Global};
@@ -19,17 +15,9 @@ fn run_on<R: AllocGlobal + Threads + Sync>(
     script: &str,
 ) -> Result<(Status, Vec<u8>), AllocError> {
     let alloc = rt.alloc();
-    let chooser = Chooser::new(
-        |rooms: &[Room]| -> Option<u32>
-            requires { length rooms.now ≤ most_rooms }
-            ensures { Picks rooms.now result }
-        { first_fit(rooms) },
-    );
-    let words = [String::from_str(alloc, "session")?];
-    let mut source = MemorySource::new(Vec::from_slice(alloc, script.as_bytes())?, Vec::new(alloc));
-    let mut sink = MemorySink::new(alloc, Vec::new(alloc));
-    let status = run(rt, &words, shelf, &mut source, &mut sink, &chooser);
-    Ok((status, Vec::from_slice(alloc, sink.held())?))
+    let script = Vec::from_slice(alloc, script.as_bytes())?;
+    let mut source = MemorySource::new(script, Vec::new(alloc));
+    run_first(rt, "session", shelf, &mut source, &[])
 }
 
 /// The groups of a session, and what an import then finds once so many were acknowledged.
@@ -54,6 +42,36 @@ fn acknowledged(printed: &[u8]) -> usize {
     groups
 }
 
+/// Runs the session on devices that stop behind so many calls and then crash: how many groups were acknowledged, and whether
+/// the session came to its end.
+fn stop<R: AllocGlobal + Threads + Sync>(
+    rt: &R,
+    shelf: &mut MemoryShelf,
+    calls: u64,
+) -> Result<(usize, bool), AllocError> {
+    shelf.put_fuse(rt.alloc(), calls)?;
+    let (ended, printed) = run_on(rt, shelf, SESSION)?;
+    shelf.put_fuse(rt.alloc(), u64::MAX)?;
+    shelf.crash();
+    Ok((acknowledged(&printed), ended == Status::Done))
+}
+
+/// Whether an import finds this group or the next one.
+fn finds<R: AllocGlobal + Threads + Sync>(
+    rt: &R,
+    shelf: &mut MemoryShelf,
+    group: usize,
+) -> Result<bool, AllocError> {
+    let (_, found) = run_on(rt, shelf, "import\nread 7\n")?;
+    Ok(
+        FOUND
+            .iter()
+            .skip(group)
+            .take(2)
+            .any(|wanted| found.as_slice() == wanted.as_bytes()),
+    )
+}
+
 /// Whether a session on devices that stop behind so many calls, and then a crash by this rule, leaves the last group
 /// that was acknowledged, or the next one; and whether the session came to its end.
 fn keeps_a_group<R: AllocGlobal + Threads + Sync>(
@@ -61,20 +79,9 @@ fn keeps_a_group<R: AllocGlobal + Threads + Sync>(
     rule: CrashRule,
     calls: u64,
 ) -> Result<(bool, bool), AllocError> {
-    let alloc = rt.alloc();
-    let mut shelf = MemoryShelf::new(alloc, rule);
-    shelf.put_fuse(alloc, calls)?;
-    let (ended, printed) = run_on(rt, &mut shelf, SESSION)?;
-    let groups = acknowledged(&printed);
-    shelf.put_fuse(alloc, u64::MAX)?;
-    shelf.crash();
-    let (_, found) = run_on(rt, &mut shelf, "import\nread 7\n")?;
-    let kept = FOUND
-        .iter()
-        .skip(groups)
-        .take(2)
-        .any(|wanted| found.as_slice() == wanted.as_bytes());
-    Ok((kept, ended == Status::Done))
+    let mut shelf = MemoryShelf::new(rt.alloc(), rule);
+    let (groups, ended) = stop(rt, &mut shelf, calls)?;
+    Ok((finds(rt, &mut shelf, groups)?, ended))
 }
 
 // However many calls of the devices pass before all fail, and whatever a crash leaves of what wasn't flushed.
@@ -201,16 +208,32 @@ const CHANGES: [(Changed, u64, &[u8], u8, &str); 10] = [
     ),
 ];
 
+/// Whether a run on a shelf has this status and prints this.
+fn comes_to<R: AllocGlobal + Threads + Sync>(
+    rt: &R,
+    shelf: &mut MemoryShelf,
+    script: &str,
+    code: u8,
+    wanted: &str,
+) -> Result<bool, AllocError> {
+    let (ended, printed) = run_on(rt, shelf, script)?;
+    Ok(ended.code() == code && printed.as_slice() == wanted.as_bytes())
+}
+
+/// A shelf with the pool of two blocks.
+fn with_blocks<R: AllocGlobal + Threads + Sync>(rt: &R) -> Result<MemoryShelf, AllocError> {
+    let mut shelf = MemoryShelf::new(rt.alloc(), CrashRule::New);
+    run_on(rt, &mut shelf, BLOCKS)?;
+    Ok(shelf)
+}
+
 #[test]
 fn records_that_are_at_fault_end_the_run(rt: HostRuntime) -> Result<(), Fail> {
     for (area, at, bytes, code, wanted) in CHANGES {
-        let mut shelf = MemoryShelf::new(rt.alloc(), CrashRule::New);
-        let (ended, _) = run_on(&rt, &mut shelf, BLOCKS)?;
-        assert_eq!(rt; ended, Status::Done);
-        assert!(rt; change(&mut shelf, area, at, bytes));
-        let (ended, printed) = run_on(&rt, &mut shelf, "import\n")?;
-        assert_eq!(rt; ended.code(), code, "{wanted}");
-        assert_eq!(rt; printed.as_slice(), wanted.as_bytes());
+        let mut shelf = with_blocks(&rt)?;
+        let is_changed = change(&mut shelf, area, at, bytes);
+        let is_told = comes_to(&rt, &mut shelf, "import\n", code, wanted)?;
+        assert!(rt; is_changed && is_told, "{wanted}");
     }
     Ok(())
 }
@@ -227,28 +250,21 @@ fn cut(alloc: Global, shelf: &mut MemoryShelf, bytes: &[u8]) -> Result<bool, Fai
 
 #[test]
 fn a_short_record_ends_the_run(rt: HostRuntime) -> Result<(), Fail> {
-    let mut shelf = MemoryShelf::new(rt.alloc(), CrashRule::New);
-    run_on(&rt, &mut shelf, BLOCKS)?;
-    assert!(rt; cut(rt.alloc(), &mut shelf, b"DZR")?);
-    let (ended, printed) = run_on(&rt, &mut shelf, "import\n")?;
-    assert_eq!(rt; ended.code(), 8);
-    assert_eq!(rt;
-        printed.as_slice(),
-        b"record metaslab=0 at=0 kind=1\n".as_slice()
-    );
+    let mut shelf = with_blocks(&rt)?;
+    let is_cut = cut(rt.alloc(), &mut shelf, b"DZR")?;
+    let wanted = "record metaslab=0 at=0 kind=1\n";
+    assert!(rt; is_cut && comes_to(&rt, &mut shelf, "import\n", 8, wanted)?);
     Ok(())
 }
 
 // Both gates are shut.
 #[test]
 fn shut_gates_are_no_pool(rt: HostRuntime) -> Result<(), Fail> {
-    let mut shelf = MemoryShelf::new(rt.alloc(), CrashRule::New);
-    run_on(&rt, &mut shelf, BLOCKS)?;
-    assert!(rt; change(&mut shelf, Changed::Uber, 0, &[0]));
-    assert!(rt; change(&mut shelf, Changed::Uber, 512, &[0]));
-    let (ended, printed) = run_on(&rt, &mut shelf, "import\n")?;
-    assert_eq!(rt; ended, Status::Done);
-    assert_eq!(rt; printed.as_slice(), b"import no pool\n".as_slice());
+    let mut shelf = with_blocks(&rt)?;
+    let is_shut = change(&mut shelf, Changed::Uber, 0, &[0])
+        && change(&mut shelf, Changed::Uber, 512, &[0]);
+    let wanted = "import no pool\n";
+    assert!(rt; is_shut && comes_to(&rt, &mut shelf, "import\n", 0, wanted)?);
     Ok(())
 }
 
@@ -258,14 +274,12 @@ const LAST: [u8; 8] = [0, 0, 255, 255, 255, 255, 255, 254];
 // No group is committed behind it.
 #[test]
 fn the_last_number_is_of_no_group(rt: HostRuntime) -> Result<(), Fail> {
-    let mut shelf = MemoryShelf::new(rt.alloc(), CrashRule::New);
-    run_on(&rt, &mut shelf, BLOCKS)?;
-    assert!(rt; change(&mut shelf, Changed::Uber, 7, &LAST));
-    assert!(rt; change(&mut shelf, Changed::Even, 12, &LAST));
-    let (ended, printed) = run_on(&rt, &mut shelf, "import\nsync\nread 7\nexport\n")?;
-    assert_eq!(rt; ended, Status::Done);
+    let mut shelf = with_blocks(&rt)?;
+    let is_last = change(&mut shelf, Changed::Uber, 7, &LAST)
+        && change(&mut shelf, Changed::Even, 12, &LAST);
+    let script = "import\nsync\nread 7\nexport\n";
     let wanted =
         "import draid1:2d:3c:0s-0 group=281474976710654 objects=2\nsync last\nread 7 1 aa\nexport last\n";
-    assert_eq!(rt; printed.as_slice(), wanted.as_bytes());
+    assert!(rt; is_last && comes_to(&rt, &mut shelf, script, 0, wanted)?);
     Ok(())
 }

@@ -7,3 +7,5 @@
 mod import;
 #[cfg(test)]
 mod run;
+#[cfg(test)]
+mod session;

@@ -1,10 +1,11 @@
 ghost use Rattle.std.specs.Prelude.{◌≤◌, length};
-ghost use Rattle.draid_choose.specs.Rooms.{IsChooser, Picks, most_rooms};
+ghost use Rattle.draid_choose.specs.Rooms.{Picks, most_rooms};
 
-use draid_choose::{Chooser, first_fit};
-use draid_lines::{MemorySink, MemorySource};
+use crate::session::{run_chosen, run_first};
+use draid_choose::Chooser;
+use draid_lines::MemorySource;
 use draid_names::Room;
-use draid_run::{Status, run};
+use draid_run::Status;
 use draid_shelf::{CrashRule, MemoryShelf, Place};
 use std::alloc::{AllocError, Global};
 use std::test::Fail;
@@ -41,39 +42,8 @@ const NONE: Failing = Failing {
     sink: &[],
 };
 
-/// Runs a script that follows the line that creates the pool, with the first metaslab that has room for a block, and gives
-/// the status and what was printed.
-fn run_words<R: AllocGlobal + Threads + Sync>(
-    rt: &R,
-    line: &str,
-    script: Vec<u8>,
-    failing: &Failing,
-) -> Result<(Status, Vec<u8>), AllocError> {
-    let chooser = Chooser::new(
-        |rooms: &[Room]| -> Option<u32>
-            requires { length rooms.now ≤ most_rooms }
-            ensures { Picks rooms.now result }
-        { first_fit(rooms) },
-    );
-    run_chosen(rt, line, script, failing, &chooser)
-}
-
-/// The same with another choice of metaslabs.
-fn run_chosen<R: AllocGlobal + Threads + Sync, F: Fn(&[Room]) -> Option<u32>>(
-    rt: &R,
-    line: &str,
-    script: Vec<u8>,
-    failing: &Failing,
-    chooser: &Chooser<F>,
-) -> Result<(Status, Vec<u8>), AllocError>
-    requires { IsChooser F.Fn chooser.now }
-{
-    let alloc = rt.alloc();
-    let mut words = Vec::new(alloc);
-    for word in line.split(' ') {
-        words.push(String::from_str(alloc, word)?)?;
-    }
-    let mut shelf = MemoryShelf::new(alloc, CrashRule::New);
+/// Has these calls of the devices on a shelf fail.
+fn fail_calls(shelf: &mut MemoryShelf, alloc: Global, failing: &Failing) -> Result<(), AllocError> {
     shelf.fail(Place::Own, Vec::from_slice(alloc, failing.shelf)?);
     for metaslab in 0..64 {
         shelf.fail(Place::Rack(metaslab), Vec::from_slice(alloc, failing.rack)?);
@@ -86,10 +56,21 @@ fn run_chosen<R: AllocGlobal + Threads + Sync, F: Fn(&[Room]) -> Option<u32>>(
             PoolArea::Uber => shelf.fail(Place::Uber, calls),
         }
     }
+    Ok(())
+}
+
+/// Runs a script on devices that fail so, and gives the status and what was printed.
+fn run_words<R: AllocGlobal + Threads + Sync>(
+    rt: &R,
+    line: &str,
+    script: Vec<u8>,
+    failing: &Failing,
+) -> Result<(Status, Vec<u8>), AllocError> {
+    let alloc = rt.alloc();
     let mut source = MemorySource::new(script, Vec::from_slice(alloc, failing.source)?);
-    let mut sink = MemorySink::new(alloc, Vec::from_slice(alloc, failing.sink)?);
-    let status = run(rt, &words, &mut shelf, &mut source, &mut sink, chooser);
-    Ok((status, Vec::from_slice(alloc, sink.held())?))
+    let mut shelf = MemoryShelf::new(alloc, CrashRule::New);
+    fail_calls(&mut shelf, alloc, failing)?;
+    run_first(rt, line, &mut shelf, &mut source, failing.sink)
 }
 
 /// The line that creates the pool, and these.
@@ -258,23 +239,29 @@ fn areas_that_fail_end_the_run(rt: HostRuntime) -> Result<(), Fail> {
 }
 
 #[test]
-fn devices_of_the_script_fail(rt: HostRuntime) -> Result<(), Fail> {
-    let unread = Failing {
+fn a_source_that_fails_ends_the_run(rt: HostRuntime) -> Result<(), Fail> {
+    let failing = Failing {
         source: &[0],
         ..NONE
     };
     let script = created(rt.alloc(), "")?;
     let wanted = (Status::SourceFault, "source fault\n");
-    assert!(rt; comes_to(&rt, "session", script, &unread, wanted)?);
-    let unheard = Failing { sink: &[1], ..NONE };
+    assert!(rt; comes_to(&rt, "session", script, &failing, wanted)?);
+    Ok(())
+}
+
+#[test]
+fn a_sink_that_fails_ends_the_run(rt: HostRuntime) -> Result<(), Fail> {
+    let failing = Failing { sink: &[1], ..NONE };
     let script = created(rt.alloc(), ONE)?;
     let wanted = (Status::SinkFault, CREATED);
-    assert!(rt; comes_to(&rt, "session", script, &unheard, wanted)?);
+    assert!(rt; comes_to(&rt, "session", script, &failing, wanted)?);
     Ok(())
 }
 
 /// Words that ask for nothing, and words that ask for what isn't built.
-const REFUSED: [&str; 6] = [
+const REFUSED: [&str; 7] = [
+    "frob",
     "workload",
     "workload 1 2",
     "session 1",
@@ -284,17 +271,23 @@ const REFUSED: [&str; 6] = [
 ];
 
 #[test]
-fn other_words_and_long_lines_end_a_run(rt: HostRuntime) -> Result<(), Fail> {
-    let script = created(rt.alloc(), "")?;
+fn other_words_end_a_run(rt: HostRuntime) -> Result<(), Fail> {
     let usage = "usage: dzpool session [--dir DIR] or dzpool workload NUMBER\n";
-    assert!(rt; comes_to(&rt, "frob", script, &NONE, (Status::Usage, usage))?);
     for words in REFUSED {
         let script = created(rt.alloc(), "")?;
-        assert!(rt;
-            comes_to(&rt, words, script, &NONE, (Status::Usage, usage))?,
-            "{words}"
-        );
+        let wanted = (Status::Usage, usage);
+        assert!(rt; comes_to(&rt, words, script, &NONE, wanted)?, "{words}");
     }
+    Ok(())
+}
+
+#[test]
+fn words_of_usage_have_status_one(rt: HostRuntime) {
+    assert_eq!(rt; Status::Usage.code(), 1);
+}
+
+#[test]
+fn a_long_line_ends_a_run(rt: HostRuntime) -> Result<(), Fail> {
     let long = vec![in rt.alloc(); b'a'; 300_001]?;
     let wanted = (Status::TooLong { line: 1 }, "line 1 too long\n");
     assert!(rt; comes_to(&rt, "session", long, &NONE, wanted)?);
@@ -315,24 +308,34 @@ fn last_fit(rooms: &[Room]) -> Option<u32>
     None
 }
 
-// As the example of metaslabs that fill, where the first metaslab is chosen.
-#[test]
-fn metaslabs_fill_from_the_last(rt: HostRuntime) -> Result<(), Fail> {
+/// Runs a script with the last metaslab that has room for a block.
+fn run_last<R: AllocGlobal + Threads + Sync>(
+    rt: &R,
+    lines: &str,
+) -> Result<(Status, Vec<u8>), AllocError> {
     let alloc = rt.alloc();
-    let lines =
-        "create draid1:2d:3c:0s 3 sector=512 height=8 metaslabs=2 slices=1\nfill 1 17 1024 1\nread 17\nfree 1\nfree 1\nsum 2 1\n";
-    let replies =
-        "create draid1:2d:3c:0s-0 stripes=16\nfill 1 written=16 no space run=0 disabled=0 full=0 worn=0\nread 17 no object\nfree 1 ok\nfree 1 no object\nsum 2 1 ba5bad6f19de8198fe601d1177afed48d27c6040506ed8c814cff891de30a0be\n";
-    let script = Vec::from_slice(alloc, lines.as_bytes())?;
     let last = Chooser::new(
         |rooms: &[Room]| -> Option<u32>
             requires { length rooms.now ≤ most_rooms }
             ensures { Picks rooms.now result }
         { last_fit(rooms) },
     );
-    let (ended, printed) = run_chosen(&rt, "session", script, &NONE, &last)?;
-    assert_eq!(rt; ended, Status::Done);
-    assert_eq!(rt; printed.as_slice(), replies.as_bytes());
+    let script = Vec::from_slice(alloc, lines.as_bytes())?;
+    let mut source = MemorySource::new(script, Vec::new(alloc));
+    let mut shelf = MemoryShelf::new(alloc, CrashRule::New);
+    run_chosen(rt, "session", &mut shelf, &mut source, &[], &last)
+}
+
+// As the example of metaslabs that fill, where the first metaslab is chosen.
+#[test]
+fn metaslabs_fill_from_the_last(rt: HostRuntime) -> Result<(), Fail> {
+    let lines =
+        "create draid1:2d:3c:0s 3 sector=512 height=8 metaslabs=2 slices=1\nfill 1 17 1024 1\nread 17\nfree 1\nfree 1\nsum 2 1\n";
+    let replies =
+        "create draid1:2d:3c:0s-0 stripes=16\nfill 1 written=16 no space run=0 disabled=0 full=0 worn=0\nread 17 no object\nfree 1 ok\nfree 1 no object\nsum 2 1 ba5bad6f19de8198fe601d1177afed48d27c6040506ed8c814cff891de30a0be\n";
+    let (ended, printed) = run_last(&rt, lines)?;
+    let is_done = ended == Status::Done;
+    assert!(rt; is_done && printed.as_slice() == replies.as_bytes());
     Ok(())
 }
 
@@ -362,22 +365,27 @@ const ZEROS: [(usize, &str); 3] = [
     ),
 ];
 
+/// A script that writes so many zero bytes, damages all sectors of the leaves of these bits, and asks for the sum.
+fn damaging(alloc: Global, create: &str, len: usize, leaves: u32) -> Result<Vec<u8>, AllocError> {
+    let mut script = Vec::from_slice(alloc, create.as_bytes())?;
+    add_write(&mut script, 7, len)?;
+    for leaf in 0..14 {
+        if leaves >> leaf & 1 == 1 {
+            add_damage(&mut script, leaf, 48)?;
+        }
+    }
+    script.extend_from_slice(b"sum 7 1\n")?;
+    Ok(script)
+}
+
 /// Whether blocks are read where all sectors of the leaves of these bits are damaged.
 fn reads_over<R: AllocGlobal + Threads + Sync>(
     rt: &R,
     create: &str,
     leaves: u32,
 ) -> Result<bool, AllocError> {
-    let alloc = rt.alloc();
     for (len, sum) in ZEROS {
-        let mut script = Vec::from_slice(alloc, create.as_bytes())?;
-        add_write(&mut script, 7, len)?;
-        for leaf in 0..14 {
-            if leaves >> leaf & 1 == 1 {
-                add_damage(&mut script, leaf, 48)?;
-            }
-        }
-        script.extend_from_slice(b"sum 7 1\n")?;
+        let script = damaging(rt.alloc(), create, len, leaves)?;
         let (ended, printed) = run_words(rt, "session", script, &NONE)?;
         if ended != Status::Done || !printed.ends_with(sum.as_bytes()) {
             return Ok(false);

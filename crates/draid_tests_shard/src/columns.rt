@@ -59,8 +59,10 @@ fn flushed(alloc: Global, failing: &[u64]) -> Result<Vec<u64>, Fail> {
 
 #[test]
 fn a_failed_flush_is_listed(rt: HostRuntime) -> Result<(), Fail> {
-    assert_eq!(rt; flushed(rt.alloc(), &[])?.as_slice(), [].as_slice());
-    assert_eq!(rt; flushed(rt.alloc(), &[0])?.as_slice(), [0].as_slice());
-    assert_eq!(rt; flushed(rt.alloc(), &[1])?.as_slice(), [1].as_slice());
+    let table: [(&[u64], &[u64]); 3] = [(&[], &[]), (&[0], &[0]), (&[1], &[1])];
+    for (failing, wanted) in table {
+        let failed = flushed(rt.alloc(), failing)?;
+        assert_eq!(rt; failed.as_slice(), wanted);
+    }
     Ok(())
 }

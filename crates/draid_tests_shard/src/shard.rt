@@ -1,6 +1,8 @@
 ghost use Rattle.std.specs.Prelude.{◌≡◌, ◌≤◌, ◌+◌, None, IfOk, length};
 ghost use Rattle.draid_block.specs.Blocks.{cut_of};
-ghost use Rattle.draid_spec.specs.Geometry.{IsGeometry};
+ghost use Rattle.draid_rack.specs.Memory.{shape_of_memory};
+ghost use Rattle.draid_rack.specs.Rack.{HasJust};
+ghost use Rattle.draid_spec.specs.Geometry.{IsGeometry, metaslab_sectors};
 ghost use Rattle.draid_machine.specs.declared.names.Key.{Key};
 ghost use Rattle.draid_entries.specs.Entries.{held_in};
 ghost use Rattle.draid_shard.specs.Calls.{Carries};
@@ -9,12 +11,11 @@ ghost use Rattle.draid_shard.specs.Fits.{Valid};
 use draid_area::{Area, MemoryArea};
 use draid_block::{Encoded, solve_block};
 use draid_entries::ReserveFault;
+use draid_groups::{CloseFault, SealFault, Sealed, close_group, create, into_kit};
 use draid_names::{ArmAt, Failed, NoMemory, Pointer};
 use draid_perm::Perms;
 use draid_rack::{MemoryRack, Rack};
-use draid_shard::{
-    BeginFault, CloseFault, FetchFault, Missed, NotLive, SealFault, Sealed, Shard, Shut, Ticket,
-};
+use draid_shard::{BeginFault, FetchFault, Missed, NotLive, Shard, Shut, Ticket};
 use draid_shelf::Kit;
 use draid_spec::{Geometry, Props, SpecFault, geometry, parse_spec};
 use std::alloc::{AllocError, Global};
@@ -22,15 +23,15 @@ use std::test::Fail;
 
 type Metaslab = Shard<MemoryRack, MemoryArea>;
 
-/// Two data columns and their parity on three children, in one slice of eight stripes.
-fn first_layout() -> Result<Geometry, SpecFault>
+/// Two data columns and their parity on three children, in one metaslab of slices of eight stripes.
+pub fn layout(slices: u32) -> Result<Geometry, SpecFault>
     ensures { IfOk result IsGeometry }
 {
     let props = Props {
         sector: 512,
         height: 8,
         metaslabs: 1,
-        slices: 1,
+        slices,
         seed: 1,
         version: 1,
     };
@@ -39,23 +40,49 @@ fn first_layout() -> Result<Geometry, SpecFault>
 
 /// An empty area whose calls with these numbers fail.
 fn area(alloc: Global, failing: &[u64]) -> Result<MemoryArea, AllocError> {
-    MemoryArea::new(alloc, Vec::new(alloc), Vec::from_slice(alloc, failing)?)
+    let failing = Vec::from_slice(alloc, failing)?;
+    MemoryArea::new(alloc, Vec::new(alloc), failing)
+}
+
+/// The leaves of a new metaslab. The calls with these numbers fail.
+fn rack(alloc: Global, layout: &Geometry, failing: &[u64]) -> Result<MemoryRack, NoMemory>
+    requires layout { IsGeometry layout.now }
+    ensures just { IfOk result (λ rack. HasJust (shape_of_memory rack) layout.now.spec.children (metaslab_sectors layout.now) layout.now.props.sector) }
+{
+    let failing = Vec::from_slice(alloc, failing)?;
+    MemoryRack::new(
+        alloc,
+        layout.spec.children,
+        layout.metaslab_sectors(),
+        layout.props.sector,
+        failing,
+    )
+}
+
+/// The devices of a new metaslab. The calls of the leaves and of the even area with these numbers fail.
+fn kit(
+    alloc: Global,
+    layout: &Geometry,
+    failing: [&[u64]; 2],
+) -> Result<Kit<MemoryRack, MemoryArea>, NoMemory>
+    requires layout { IsGeometry layout.now }
+    ensures just { IfOk result (λ kit. HasJust (shape_of_memory kit.rack) layout.now.spec.children (metaslab_sectors layout.now) layout.now.props.sector) }
+{
+    let even = area(alloc, failing[1])?;
+    let odd = area(alloc, &[])?;
+    let rack = rack(alloc, layout, failing[0])?;
+    Ok(Kit { rack, even, odd })
 }
 
 /// An empty metaslab of so many events, over a memory rack whose calls with these numbers fail.
-fn metaslab(
-    alloc: Global,
-    layout: Geometry,
-    failing: &[u64],
-    events: u64,
-) -> Result<Metaslab, NoMemory>
-    requires layout { IsGeometry layout }
+fn metaslab(alloc: Global, failing: &[u64], events: u64) -> Result<Metaslab, Fail>
     ensures valid { IfOk result (Valid ⟦<MemoryRack as Rack>⟧) }
     ensures open_group { IfOk result (λ shard. shard.open_group ≡ 2) }
     ensures idle { IfOk result (λ shard. shard.closing ≡ None) }
     ensures empty { IfOk result (λ shard. (key : Key) → held_in shard.entries key ≡ None) }
 {
-    metaslab_over(alloc, layout, [failing, &[]], events)
+    let layout = layout(1)?;
+    Ok(metaslab_over(alloc, layout, [failing, &[]], events)?)
 }
 
 /// The same over areas of which the even one's calls fail too.
@@ -71,22 +98,9 @@ fn metaslab_over(
     ensures idle { IfOk result (λ shard. shard.closing ≡ None) }
     ensures empty { IfOk result (λ shard. (key : Key) → held_in shard.entries key ≡ None) }
 {
+    let kit = kit(alloc, &layout, failing)?;
     let perms = Perms::new(layout.spec.children, layout.props.seed);
-    let [failing, even] = failing;
-    let failing = Vec::from_slice(alloc, failing)?;
-    let rack = MemoryRack::new(
-        alloc,
-        layout.spec.children,
-        layout.metaslab_sectors(),
-        layout.props.sector,
-        failing,
-    )?;
-    let kit = Kit {
-        rack,
-        even: area(alloc, even)?,
-        odd: area(alloc, &[])?,
-    };
-    match Shard::create(alloc, 0, layout, perms, kit, events) {
+    match create(alloc, 0, layout, perms, kit, events) {
         Ok(shard) => Ok(shard),
         Err(_) => Err(NoMemory),
     }
@@ -202,33 +216,59 @@ struct Life {
     events: usize,
 }
 
-/// Writes a block, and fetches and frees it where it was written.
-fn lived(alloc: Global, failing: &[u64]) -> Result<Life, Fail> {
-    let mut shard = metaslab(alloc, first_layout()?, failing, 4096)?;
-    let written = write(alloc, &mut shard, b"hello")?;
-    let mut life = Life {
-        missed: None,
+/// What is told of a block that was written, once it was fetched and freed.
+fn ended<R: Rack, A: Area>(
+    alloc: Global,
+    shard: &mut Shard<R, A>,
+    pointer: &Pointer,
+    written: Life,
+) -> Result<Life, Fail>
+    requires valid { Valid R.Rack shard.old }
+    ensures valid { Valid R.Rack shard.new }
+{
+    let fetched = Some(read(alloc, shard, pointer)?);
+    let freed = shard.free(pointer, 0).ok();
+    let gone = is_gone(shard, pointer);
+    Ok(Life {
+        fetched,
+        freed,
+        gone,
+        events: shard.events().len(),
+        ..written
+    })
+}
+
+/// What is told of a shard behind a write.
+fn written<R: Rack, A: Area>(shard: &Shard<R, A>, missed: Option<u32>) -> Life
+    requires valid { Valid R.Rack shard.now }
+{
+    Life {
+        missed,
         logged: [
-            is_logged(&shard, 0),
-            is_logged(&shard, 1),
-            is_logged(&shard, 2),
+            is_logged(shard, 0),
+            is_logged(shard, 1),
+            is_logged(shard, 2),
         ],
         run: shard.room(1).run,
         fetched: None,
         freed: None,
         gone: false,
-        events: 0,
-    };
-    match written {
-        Ok(pointer) => {
-            life.fetched = Some(read(alloc, &mut shard, &pointer)?);
-            life.freed = shard.free(&pointer, 0).ok();
-            life.gone = is_gone(&mut shard, &pointer);
-        }
-        Err(missed) => life.missed = Some(missed.columns),
+        events: shard.events().len(),
     }
-    life.events = shard.events().len();
-    Ok(life)
+}
+
+/// Writes a block, and fetches and frees it where it was written.
+fn lived<R: Rack, A: Area>(alloc: Global, shard: &mut Shard<R, A>) -> Result<Life, Fail>
+    requires valid { Valid R.Rack shard.old }
+    requires empty { (key : Key) → held_in shard.old.entries key ≡ None }
+{
+    match write(alloc, shard, b"hello")? {
+        Ok(pointer) => {
+            let life = written(shard, None);
+            ended(alloc, shard, &pointer, life)
+        }
+        Err(missed) => Ok(written(shard, Some(missed.columns))),
+    }
 }
 
 /// The life of a block of which no call fails.
@@ -267,17 +307,21 @@ fn blocks_live_while_calls_fail(rt: HostRuntime) -> Result<(), Fail> {
     };
     let table: [(&[u64], Life); 4] = [(&[], WHOLE), (&[1], one), (&[4], absent), (&[0, 2], MISSED)];
     for (failing, wanted) in table {
-        assert_eq!(rt; lived(rt.alloc(), failing)?, wanted);
+        let mut shard = metaslab(rt.alloc(), failing, 4096)?;
+        assert_eq!(rt; lived(rt.alloc(), &mut shard)?, wanted);
     }
     Ok(())
 }
 
 /// In which group a write is begun where the floor is the next one, and the longest run of free stripes beside it with
 /// one column put, and as it was given up.
-fn given_up(alloc: Global) -> Result<[u64; 3], Fail> {
-    let mut shard = metaslab(alloc, first_layout()?, &[], 4096)?;
+fn given_up<R: Rack, A: Area>(alloc: Global, shard: &mut Shard<R, A>) -> Result<[u64; 3], Fail>
+    requires valid { Valid R.Rack shard.old }
+    requires open_group { shard.old.open_group ≡ 2 }
+    requires empty { (key : Key) → held_in shard.old.entries key ≡ None }
+{
     let block = Encoded::of(alloc, &shard.geometry, b"hello")?;
-    let mut ticket = begin(&mut shard, &block, 3)?;
+    let mut ticket = begin(shard, &block, 3)?;
     let birth = ticket.pointer.birth;
     shard.put(&mut ticket, &block);
     let open = shard.room(1).run;
@@ -287,7 +331,8 @@ fn given_up(alloc: Global) -> Result<[u64; 3], Fail> {
 
 #[test]
 fn a_write_that_is_given_up_leaves_its_stripes(rt: HostRuntime) -> Result<(), Fail> {
-    assert_eq!(rt; given_up(rt.alloc())?, [3, 7, 8]);
+    let mut shard = metaslab(rt.alloc(), &[], 4096)?;
+    assert_eq!(rt; given_up(rt.alloc(), &mut shard)?, [3, 7, 8]);
     Ok(())
 }
 
@@ -307,103 +352,147 @@ fn damage<R: Rack, A: Area>(
     Ok(Some(shard.damage(leaf, sector)))
 }
 
-/// What damaging the first sectors of three leaves answers, what is told of the block then, and the sectors of the last
-/// leaf as the devices come back.
-fn damaged(
+/// What damaging the first sectors of three leaves answers, and what is told of the block then.
+fn damaged<R: Rack, A: Area>(
     alloc: Global,
-    failing: &[u64],
-) -> Result<([Option<Result<(), Failed>>; 3], (usize, bool), Option<u64>), Fail> {
-    let mut shard = metaslab(alloc, first_layout()?, failing, 4096)?;
-    let pointer = write(alloc, &mut shard, b"hello")??;
+    shard: &mut Shard<R, A>,
+) -> Result<([Option<Result<(), Failed>>; 3], (usize, bool)), Fail>
+    requires valid { Valid R.Rack shard.old }
+    requires empty { (key : Key) → held_in shard.old.entries key ≡ None }
+{
+    let pointer = write(alloc, shard, b"hello")??;
     let answers = [
-        damage(&mut shard, 0, 0)?,
-        damage(&mut shard, 1, 0)?,
-        damage(&mut shard, 3, 0)?,
+        damage(shard, 0, 0)?,
+        damage(shard, 1, 0)?,
+        damage(shard, 3, 0)?,
     ];
-    let told = read(alloc, &mut shard, &pointer)?;
-    Ok((answers, told, shard.into_kit().rack.sectors(2)))
+    Ok((answers, read(alloc, shard, &pointer)?))
 }
 
 #[test]
 fn one_damaged_sector_is_read_around(rt: HostRuntime) -> Result<(), Fail> {
     let both = [Some(Ok(())), Some(Ok(())), None];
     let one = [Some(Ok(())), Some(Err(Failed)), None];
-    assert_eq!(rt; damaged(rt.alloc(), &[])?, (both, (0, false), Some(8)));
-    assert_eq!(rt; damaged(rt.alloc(), &[4])?, (one, (0, true), Some(8)));
+    let table: [(&[u64], _); 2] = [(&[], (both, (0, false))), (&[4], (one, (0, true)))];
+    for (failing, wanted) in table {
+        let mut shard = metaslab(rt.alloc(), failing, 4096)?;
+        assert_eq!(rt; damaged(rt.alloc(), &mut shard)?, wanted);
+    }
     Ok(())
-}
-
-/// Why a metaslab of so many events takes no block, the longest run that it tells, why a block of so many bytes isn't
-/// begun, and what reserving and asking for an event answers.
-fn refused(
-    alloc: Global,
-    events: u64,
-    bytes: &[u8],
-) -> Result<
-    (
-        Option<Shut>,
-        u64,
-        Option<BeginFault>,
-        [Result<(), ReserveFault>; 2],
-    ),
-    Fail,
->
-    requires some { 1 ≤ length bytes.now }
-    requires short { length bytes.now ≤ 131072 }
-{
-    let mut shard = metaslab(alloc, first_layout()?, &[], events)?;
-    let shut = shard.shut();
-    let run = shard.room(1).run;
-    let begun = write(alloc, &mut shard, bytes).err();
-    Ok((shut, run, begun, [shard.reserve(1), shard.ask(1)]))
 }
 
 #[test]
-fn refusals_say_why(rt: HostRuntime) -> Result<(), Fail> {
-    let worn = Err(ReserveFault::Worn { events: 0 });
-    let at_limit = (
-        Some(Shut::Worn),
-        0,
-        Some(BeginFault::Worn { events: 0 }),
-        [worn; 2],
-    );
-    assert_eq!(rt; refused(rt.alloc(), 3072, b"hello")?, at_limit);
-    let full = (
-        None,
-        8,
-        Some(BeginFault::NoRoom { largest: 8 }),
-        [Ok(()); 2],
-    );
-    assert_eq!(rt; refused(rt.alloc(), 4096, &[5; 16384])?, full);
+fn devices_come_back(rt: HostRuntime) -> Result<(), Fail> {
+    let shard = metaslab(rt.alloc(), &[], 4096)?;
+    assert_eq!(rt; into_kit(shard).rack.sectors(2), Some(8));
     Ok(())
 }
 
-/// What is told of the groups of a metaslab: the open one, the closing one and whether it is sealed, and the last that
-/// was committed.
-type Groups = (u64, Option<u64>, bool, u64);
-
-fn groups<R: Rack, A: Area>(shard: &Shard<R, A>) -> Groups {
-    (
-        shard.open_group(),
-        shard.closing(),
-        shard.sealed(),
-        shard.committed(),
-    )
+/// What is told where no block is begun.
+#[derive(Clone, Copy, Debug, PartialEq, Eq)]
+struct Refusal {
+    /// Why the metaslab takes no block.
+    shut: Option<Shut>,
+    /// The longest run of free stripes that it tells.
+    run: u64,
+    begun: Option<BeginFault>,
+    /// What reserving and asking for an event answers.
+    answers: [Result<(), ReserveFault>; 2],
 }
 
-/// What the closing of the first group answers in a metaslab of so many events, and what is told of its groups then.
-fn closed(alloc: Global, events: u64) -> Result<(Result<(), CloseFault>, Groups), Fail> {
-    let mut shard = metaslab(alloc, first_layout()?, &[], events)?;
-    let answer = shard.close_group(2);
-    Ok((answer, groups(&shard)))
+fn refused<R: Rack, A: Area>(alloc: Global, shard: &mut Shard<R, A>, bytes: &[u8]) -> Refusal
+    requires valid { Valid R.Rack shard.old }
+    requires empty { (key : Key) → held_in shard.old.entries key ≡ None }
+    requires some { 1 ≤ length bytes.now }
+    requires short { length bytes.now ≤ 131072 }
+{
+    let shut = shard.shut();
+    let run = shard.room(1).run;
+    let begun = write(alloc, shard, bytes).err();
+    Refusal {
+        shut,
+        run,
+        begun,
+        answers: [shard.reserve(1), shard.ask(1)],
+    }
+}
+
+#[test]
+fn a_worn_metaslab_says_so(rt: HostRuntime) -> Result<(), Fail> {
+    let worn = Err(ReserveFault::Worn { events: 0 });
+    let at_limit = Refusal {
+        shut: Some(Shut::Worn),
+        run: 0,
+        begun: Some(BeginFault::Worn { events: 0 }),
+        answers: [worn; 2],
+    };
+    let mut shard = metaslab(rt.alloc(), &[], 3072)?;
+    assert_eq!(rt; refused(rt.alloc(), &mut shard, b"hello"), at_limit);
+    Ok(())
+}
+
+#[test]
+fn a_block_that_does_not_fit_is_refused(rt: HostRuntime) -> Result<(), Fail> {
+    let full = Refusal {
+        shut: None,
+        run: 8,
+        begun: Some(BeginFault::NoRoom { largest: 8 }),
+        answers: [Ok(()); 2],
+    };
+    let mut shard = metaslab(rt.alloc(), &[], 4096)?;
+    assert_eq!(rt; refused(rt.alloc(), &mut shard, &[5; 16384]), full);
+    Ok(())
+}
+
+/// What is told of the groups of a metaslab.
+#[derive(Clone, Copy, Debug, PartialEq, Eq)]
+struct Groups {
+    open: u64,
+    closing: Option<u64>,
+    /// Whether the closing one is sealed.
+    sealed: bool,
+    /// The last that was committed.
+    committed: u64,
+}
+
+fn groups_of<R: Rack, A: Area>(shard: &Shard<R, A>) -> Groups {
+    Groups {
+        open: shard.open_group(),
+        closing: shard.closing(),
+        sealed: shard.sealed(),
+        committed: shard.committed(),
+    }
+}
+
+/// What the closing of the first group answers, and what is told of the groups then.
+fn closed<R: Rack, A: Area>(shard: &mut Shard<R, A>) -> (Result<(), CloseFault>, Groups)
+    requires valid { Valid R.Rack shard.old }
+    requires open_group { shard.old.open_group ≡ 2 }
+    requires idle { shard.old.closing ≡ None }
+{
+    let answer = close_group(shard, 2);
+    (answer, groups_of(shard))
 }
 
 // The closing of a group may use the limit up.
 #[test]
 fn a_group_closes_up_to_the_limit(rt: HostRuntime) -> Result<(), Fail> {
     let worn = Err(CloseFault::Worn { events: 0 });
-    assert_eq!(rt; closed(rt.alloc(), 3)?, (Ok(()), (3, Some(2), false, 1)));
-    assert_eq!(rt; closed(rt.alloc(), 2)?, (worn, (2, None, false, 1)));
+    let before = Groups {
+        open: 2,
+        closing: None,
+        sealed: false,
+        committed: 1,
+    };
+    let behind = Groups {
+        open: 3,
+        closing: Some(2),
+        ..before
+    };
+    for (events, wanted) in [(3, (Ok(()), behind)), (2, (worn, before))] {
+        let mut shard = metaslab(rt.alloc(), &[], events)?;
+        assert_eq!(rt; closed(&mut shard), wanted);
+    }
     Ok(())
 }
 
@@ -416,7 +505,7 @@ fn close<R: Rack, A: Area>(shard: &mut Shard<R, A>) -> Option<Result<(), CloseFa
         return None;
     }
     let group = shard.open_group();
-    Some(shard.close_group(group))
+    Some(close_group(shard, group))
 }
 
 /// Seals the closing group, if it isn't sealed.
@@ -428,63 +517,91 @@ fn seal<R: Rack, A: Area>(shard: &mut Shard<R, A>) -> Option<Result<Sealed, Seal
     if shard.sealed() {
         return None;
     }
-    Some(shard.seal(group))
+    Some(draid_groups::seal(shard, group))
 }
 
-/// What sealing a group with one block answers, twice; which leaves have the group in their logs then, whether the group
-/// is sealed, and how many events there are.
-type Sealing = (
-    [Option<Result<Sealed, SealFault>>; 2],
-    [bool; 3],
-    bool,
-    usize,
-);
+/// What is told of a group with one block that is sealed.
+#[derive(Clone, Copy, Debug, PartialEq, Eq)]
+struct Sealing {
+    /// What sealing it answers, twice.
+    answers: [Option<Result<Sealed, SealFault>>; 2],
+    /// Which leaves have the group in their logs then.
+    logged: [bool; 3],
+    sealed: bool,
+    events: usize,
+}
 
-fn sealing(alloc: Global, failing: [&[u64]; 2]) -> Result<Sealing, Fail> {
-    let mut shard = metaslab_over(alloc, first_layout()?, failing, 4096)?;
-    write(alloc, &mut shard, b"hello")??;
-    close(&mut shard);
-    let answers = [seal(&mut shard), seal(&mut shard)];
-    let logged = [
-        is_logged(&shard, 0),
-        is_logged(&shard, 1),
-        is_logged(&shard, 2),
-    ];
-    Ok((answers, logged, shard.sealed(), shard.events().len()))
+fn seal_twice<R: Rack, A: Area>(alloc: Global, shard: &mut Shard<R, A>) -> Result<Sealing, Fail>
+    requires valid { Valid R.Rack shard.old }
+    requires empty { (key : Key) → held_in shard.old.entries key ≡ None }
+{
+    write(alloc, shard, b"hello")??;
+    close(shard);
+    let answers = [seal(shard), seal(shard)];
+    Ok(Sealing {
+        answers,
+        logged: [
+            is_logged(shard, 0),
+            is_logged(shard, 1),
+            is_logged(shard, 2),
+        ],
+        sealed: shard.sealed(),
+        events: shard.events().len(),
+    })
 }
 
 // The block is three writes, and then three leaves are flushed. One on which that fails has the group in its log, and the
 // block is thin. Where its area fails, a group isn't sealed, and may be sealed once more.
 #[test]
 fn groups_are_sealed_while_calls_fail(rt: HostRuntime) -> Result<(), Fail> {
-    let whole = Some(Ok(Sealed { thin: 0 }));
-    let thin = Some(Ok(Sealed { thin: 1 }));
-    let failed = Some(Err(SealFault::Area));
+    let sealed = Some(Ok(Sealed { thin: 0 }));
+    let whole = Sealing {
+        answers: [sealed, None],
+        logged: [false; 3],
+        sealed: true,
+        events: 7,
+    };
+    let thin = Sealing {
+        answers: [Some(Ok(Sealed { thin: 1 })), None],
+        logged: [false, true, false],
+        ..whole
+    };
+    let again = Sealing {
+        answers: [Some(Err(SealFault::Area)), sealed],
+        ..whole
+    };
     let table: [([&[u64]; 2], Sealing); 4] = [
-        ([&[], &[]], ([whole, None], [false; 3], true, 7)),
-        ([&[4], &[]], ([thin, None], [false, true, false], true, 7)),
-        ([&[], &[0]], ([failed, whole], [false; 3], true, 7)),
-        ([&[], &[1]], ([failed, whole], [false; 3], true, 7)),
+        ([&[], &[]], whole),
+        ([&[4], &[]], thin),
+        ([&[], &[0]], again),
+        ([&[], &[1]], again),
     ];
     for (failing, wanted) in table {
-        assert_eq!(rt; sealing(rt.alloc(), failing)?, wanted);
+        let mut shard = metaslab_over(rt.alloc(), layout(1)?, failing, 4096)?;
+        assert_eq!(rt; seal_twice(rt.alloc(), &mut shard)?, wanted);
     }
     Ok(())
 }
 
 /// What sealing answers while a write of the group is open.
-fn early(alloc: Global) -> Result<Option<Result<Sealed, SealFault>>, Fail> {
-    let mut shard = metaslab(alloc, first_layout()?, &[], 4096)?;
+fn early<R: Rack, A: Area>(
+    alloc: Global,
+    shard: &mut Shard<R, A>,
+) -> Result<Option<Result<Sealed, SealFault>>, Fail>
+    requires valid { Valid R.Rack shard.old }
+    requires empty { (key : Key) → held_in shard.old.entries key ≡ None }
+{
     let block = Encoded::of(alloc, &shard.geometry, b"hello")?;
-    begin(&mut shard, &block, 0)?;
-    close(&mut shard);
-    Ok(seal(&mut shard))
+    begin(shard, &block, 0)?;
+    close(shard);
+    Ok(seal(shard))
 }
 
 #[test]
 fn a_seal_waits_for_open_writes(rt: HostRuntime) -> Result<(), Fail> {
     let not_yet = Some(Err(SealFault::NotYet { tickets: 1 }));
-    assert_eq!(rt; early(rt.alloc())?, not_yet);
+    let mut shard = metaslab(rt.alloc(), &[], 4096)?;
+    assert_eq!(rt; early(rt.alloc(), &mut shard)?, not_yet);
     Ok(())
 }
 
@@ -495,27 +612,69 @@ fn commit<R: Rack, A: Area>(shard: &mut Shard<R, A>)
 {
     if let Some(group) = shard.closing() {
         if shard.sealed() {
-            shard.commit(group);
+            draid_groups::commit(shard, group);
         }
     }
 }
 
 /// The longest run of free stripes once a block was freed, once its group was sealed, and once that was committed; and
 /// what is told of the groups then.
-fn committed(alloc: Global) -> Result<([u64; 3], Groups), Fail> {
-    let mut shard = metaslab(alloc, first_layout()?, &[], 4096)?;
-    let pointer = write(alloc, &mut shard, b"hello")??;
+fn committed<R: Rack, A: Area>(
+    alloc: Global,
+    shard: &mut Shard<R, A>,
+) -> Result<([u64; 3], Groups), Fail>
+    requires valid { Valid R.Rack shard.old }
+    requires empty { (key : Key) → held_in shard.old.entries key ≡ None }
+{
+    let pointer = write(alloc, shard, b"hello")??;
     shard.free(&pointer, 0).ok();
     let freed = shard.room(1).run;
-    close(&mut shard);
-    seal(&mut shard);
+    close(shard);
+    seal(shard);
     let sealed = shard.room(1).run;
-    commit(&mut shard);
-    Ok(([freed, sealed, shard.room(1).run], groups(&shard)))
+    commit(shard);
+    Ok(([freed, sealed, shard.room(1).run], groups_of(shard)))
 }
 
 #[test]
 fn freed_stripes_come_back_at_the_commit(rt: HostRuntime) -> Result<(), Fail> {
-    assert_eq!(rt; committed(rt.alloc())?, ([7, 7, 8], (3, None, false, 2)));
+    let mut shard = metaslab(rt.alloc(), &[], 4096)?;
+    let found = committed(rt.alloc(), &mut shard)?;
+    let groups = Groups {
+        open: 3,
+        closing: None,
+        sealed: false,
+        committed: 2,
+    };
+    assert_eq!(rt; found, ([7, 7, 8], groups));
+    Ok(())
+}
+
+/// Why a block isn't fetched once more, and why the metaslab takes no block then; nothing where so many fetches are done.
+fn worn_out<R: Rack, A: Area>(
+    shard: &mut Shard<R, A>,
+    pointer: &Pointer,
+    most: u32,
+) -> Option<(FetchFault, Option<Shut>)>
+    requires valid { Valid R.Rack shard.old }
+{
+    for _ in 0..most {
+        if let Err(fault) = shard.fetch(pointer) {
+            return Some((fault, shard.shut()));
+        }
+    }
+    None
+}
+
+// Each fetch is an event. Of 20,000 the last 3,072 are left for the closing of groups.
+#[test]
+fn a_metaslab_wears_out(rt: HostRuntime) -> Result<(), Fail> {
+    let mut shard = metaslab(rt.alloc(), &[], 20_000)?;
+    let pointer = write(rt.alloc(), &mut shard, b"hello")??;
+    let fault = FetchFault::Worn { events: 16_928 };
+    assert_eq!(rt;
+        worn_out(&mut shard, &pointer, 20_000),
+        Some((fault, Some(Shut::Worn)))
+    );
     Ok(())
 }

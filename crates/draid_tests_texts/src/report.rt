@@ -29,26 +29,37 @@ fn leaf(rt: &HostRuntime, number: u64) -> Result<ArmView, Fail> {
     arm(rt, ArmKind::Leaf, number, "")
 }
 
-#[test]
-fn small_pool(rt: HostRuntime) -> Result<(), Fail> {
+/// The slots of that many leaves, which missed nothing.
+fn leaves(rt: &HostRuntime, count: u64) -> Result<Vec<Vec<ArmView>>, Fail> {
     let mut slots = Vec::new(rt.alloc());
-    for number in 0..3 {
-        slots.push(vec![in rt.alloc(); leaf(&rt, number)?]?)?;
+    for number in 0..count {
+        slots.push(vec![in rt.alloc(); leaf(rt, number)?]?)?;
     }
-    let view = View {
+    Ok(slots)
+}
+
+/// A new pool of three disks and one metaslab.
+fn small_pool(rt: &HostRuntime) -> Result<View, Fail> {
+    let metaslab = MetaslabView {
+        free: 32,
+        blocks: 0,
+        pass: None,
+    };
+    let slots = leaves(rt, 3)?;
+    let metaslabs = vec![in rt.alloc(); metaslab]?;
+    Ok(View {
         name: String::from_str(rt.alloc(), "draid1:2d:3c:0s-0")?,
         group: 1,
         open_group: 2,
         objects: 0,
         slots,
-        metaslabs: vec![in rt.alloc();
-            MetaslabView {
-                free: 32,
-                blocks: 0,
-                pass: None
-            },
-        ]?,
-    };
+        metaslabs,
+    })
+}
+
+#[test]
+fn a_new_pool(rt: HostRuntime) -> Result<(), Fail> {
+    let view = small_pool(&rt)?;
     assert_eq!(rt;
         text_of(&rt, &view)?.as_str(),
         "pool draid1:2d:3c:0s-0 group=1 open=2 objects=0
@@ -59,6 +70,12 @@ metaslab 0 free=32 blocks=0 none
 end
 "
     );
+    Ok(())
+}
+
+#[test]
+fn a_new_pool_as_json(rt: HostRuntime) -> Result<(), Fail> {
+    let view = small_pool(&rt)?;
     assert_eq!(rt;
         json_of(&rt, &view)?.as_str(),
         "{\"group\":1,\"metaslabs\":[{\"blocks\":0,\"free\":32,\"number\":0,\"pass\":null}],\"name\":\"draid1:2d:3c:0s-0\",\"objects\":0,\"open\":2,\"slots\":[[{\"kind\":\"leaf\",\"logged\":0,\"number\":0,\"offline\":false}],[{\"kind\":\"leaf\",\"logged\":0,\"number\":1,\"offline\":false}],[{\"kind\":\"leaf\",\"logged\":0,\"number\":2,\"offline\":false}]]}\n"
@@ -66,16 +83,30 @@ end
     Ok(())
 }
 
-/// Slot 0 has a leaf that is offline and a spare, slot 1 had its leaf replaced by leaf 3, and the passes have stopped in
-/// the middle.
-fn repaired(rt: &HostRuntime) -> Result<View, Fail> {
+/// A slot with a leaf that is offline, and a spare in its place.
+fn spared(rt: &HostRuntime) -> Result<Vec<ArmView>, Fail> {
     let mut lost = leaf(rt, 0)?;
     lost.arm.offline = true;
     lost.logged = 7;
     let spare = arm(rt, ArmKind::Spare, 0, "draid2-0-0")?;
-    let mut replaced = leaf(rt, 3)?;
-    replaced.arm.fresh = true;
-    replaced.logged = 12;
+    Ok(vec![in rt.alloc(); lost, spare]?)
+}
+
+/// A slot whose leaf was replaced by leaf 3.
+fn replaced(rt: &HostRuntime) -> Result<Vec<ArmView>, Fail> {
+    let mut leaf = leaf(rt, 3)?;
+    leaf.arm.fresh = true;
+    leaf.logged = 12;
+    Ok(vec![in rt.alloc(); leaf]?)
+}
+
+/// A metaslab with this pass.
+fn metaslab(free: u64, blocks: u64, pass: Option<PassView>) -> MetaslabView {
+    MetaslabView { free, blocks, pass }
+}
+
+/// Metaslabs whose passes have stopped in the middle, and one without a pass.
+fn paused(rt: &HostRuntime) -> Result<Vec<MetaslabView>, Fail> {
     let rebuild = PassView {
         number: 1,
         kind: PassKind::Rebuild,
@@ -88,32 +119,27 @@ fn repaired(rt: &HostRuntime) -> Result<View, Fail> {
         at: 281_474_976_710_655,
         errors: 3,
     };
+    let metaslabs = [
+        metaslab(3, 40, Some(rebuild)),
+        metaslab(0, 4096, Some(scrub)),
+        metaslab(64, 0, None),
+    ];
+    Ok(Vec::from_slice(rt.alloc(), &metaslabs)?)
+}
+
+/// A pool of those slots and metaslabs.
+fn repaired(rt: &HostRuntime) -> Result<View, Fail> {
     let mut slots = Vec::new(rt.alloc());
-    slots.push(vec![in rt.alloc(); lost, spare]?)?;
-    slots.push(vec![in rt.alloc(); replaced]?)?;
+    slots.push(spared(rt)?)?;
+    slots.push(replaced(rt)?)?;
+    let metaslabs = paused(rt)?;
     Ok(View {
         name: String::from_str(rt.alloc(), "draid2:2d:6c:1s-0")?,
         group: 9,
         open_group: 11,
         objects: 400,
         slots,
-        metaslabs: vec![in rt.alloc();
-            MetaslabView {
-                free: 3,
-                blocks: 40,
-                pass: Some(rebuild)
-            },
-            MetaslabView {
-                free: 0,
-                blocks: 4096,
-                pass: Some(scrub)
-            },
-            MetaslabView {
-                free: 64,
-                blocks: 0,
-                pass: None
-            },
-        ]?,
+        metaslabs,
     })
 }
 

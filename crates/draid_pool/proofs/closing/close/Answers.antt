@@ -60,3 +60,15 @@ returns-clause-failed g c =
     shows_there g.H.R.Rack g.H.A.Area c.args.pool (shelf.told c.args.shelf.now) (shelf.told c.give_back.new.shelf) (shelf.counts c.args.shelf.now) (shelf.counts c.give_back.new.shelf) (shelf.counts c.give_uber.new.self)
     (record { uber = shelf.uber_count c.give_uber.new.self; checks = shelf.check_counts c.give_uber.new.self }) c.give_back.ensures.returns
     (λ m. c.give_uber.ensures.counts m) (c.give_uber.ensures.count ∙ ap g.H.A.Area.faults c.into_area.ensures)
+
+pub returns-then-crash-clause-checks : goal.returns-then-crash-clause-checks
+returns-then-crash-clause-checks g c = c.crash.ensures.check_counts ∙ (c.give_uber.ensures.check_counts ∙ c.give_back.ensures.checks)
+
+pub returns-then-crash-clause-faults : goal.returns-then-crash-clause-faults
+returns-then-crash-clause-faults g c = c.crash.ensures.faults ∙ (c.give_uber.ensures.faults ∙ c.give_back.ensures.faults)
+
+pub returns-clause-checks : goal.returns-clause-checks
+returns-clause-checks g c = c.give_uber.ensures.check_counts ∙ c.give_back.ensures.checks
+
+pub returns-clause-faults : goal.returns-clause-faults
+returns-clause-faults g c = c.give_uber.ensures.faults ∙ c.give_back.ensures.faults

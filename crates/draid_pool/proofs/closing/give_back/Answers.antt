@@ -54,3 +54,12 @@ pub returns-clause-leaves : goal.returns-clause-leaves
 returns-clause-leaves g c =
     let none : c.loop-shard.left.items ≡ [] = search rules in
     leaves_all g.H.R.Rack g.H.A.Area c.args.shards.items c.loop-shard.left.items (g.H.Shelf.leaves c.args.shelf.now) (g.H.Shelf.leaves c.loop-shard.shelf) c.loop-shard.invariant.leaves none
+
+pub returns-clause-uber : goal.returns-clause-uber
+returns-clause-uber g c = c.loop-shard.invariant.uber
+
+pub returns-clause-checks : goal.returns-clause-checks
+returns-clause-checks g c = c.loop-shard.invariant.checks
+
+pub returns-clause-faults : goal.returns-clause-faults
+returns-clause-faults g c = c.loop-shard.invariant.faults

@@ -1,50 +1,26 @@
-use Rattle.std.proofs.Common.{arith, rules, Err, ap}
-use Rattle.std.specs.Prelude.{nat_eq}
-use Rattle.std.specs.HashMap.{get}
-use Rattle.draid_pool.specs.Together.{noted_in}
-use Rattle.draid_machine.proofs.Small.{absurd_test}
-use Rattle.draid_pool.proofs.ImportFaulty.{err_is}
-use Rattle.draid_pool.proofs.ImportTogether.{block_twice, earlier_more, earlier_none, other_arms}
-use Rattle.draid_pool.proofs.Found.{at_item, finding_all, finding_more, finding_none}
+use Rattle.std.proofs.Common.{Err, ap}
+use Rattle.draid_pool.proofs.ImportFaulty.{found_apart}
 use Rattle.draid_pool.proofs.importing.find_blocks.Goals as goal
 
-pub loop-shard-init : goal.loop-shard-init
-loop-shard-init g c = record { finding = finding_none g.R.Rack c.args.shards.now (get nat_eq c.new.result) (λ object. search rules); keys = earlier_none c.args.shards.now c.new-2.result c.new-2.ensures.empty; bound = omega arith }
+pub returns-in-Err-Record-clause-faulty : goal.returns-in-Err-Record-clause-faulty
+returns-in-Err-Record-clause-faulty g c =
+    let r = c.in-Err-Record in
+    found_apart c.args.shards.now r.metaslab r.at r.kind (r.ensures.faulty r.metaslab r.at r.kind (ap Err r.field-0-is))
 
-pub note_all-requires-clause-valid : goal.note_all-requires-clause-valid
-note_all-requires-clause-valid g c =
-    (c.requires.ready c.loop-shard.shard-index c.shard-item.result (at_item c.args.shards.now c.loop-shard.shard-index c.shard-item.result c.loop-shard-test.true c.shard-item.is)).valid
+pub returns-in-Ok : goal.returns-in-Ok
+returns-in-Ok g c = record { found = c.in-Ok.ensures.found; faulty = λ metaslab place kind err. absurd (cc); no_device = λ err. absurd (cc); fault = tt }
 
-pub note_all-requires-clause-live : goal.note_all-requires-clause-live
-note_all-requires-clause-live g c =
-    (c.requires.ready c.loop-shard.shard-index c.shard-item.result (at_item c.args.shards.now c.loop-shard.shard-index c.shard-item.result c.loop-shard-test.true c.shard-item.is)).live
+pub returns-in-Err-NoMemory : goal.returns-in-Err-NoMemory
+returns-in-Err-NoMemory g c = record { found = tt; faulty = λ metaslab place kind err. absurd (cc); no_device = λ err. absurd (cc); fault = tt }
 
-pub loop-shard-preserved : goal.loop-shard-preserved
-loop-shard-preserved g c =
-    let there = at_item c.args.shards.now c.loop-shard.shard-index c.shard-item.result c.loop-shard-test.true c.shard-item.is in
-    let below = c.loop-shard-test.true in
-    record {
-      finding = finding_more g.R.Rack c.args.shards.now c.loop-shard.shard-index c.shard-item.result (get nat_eq c.loop-shard.found.newest) (get nat_eq c.note_all.new.self.newest)
-          c.loop-shard.found.seq c.note_all.new.self.seq there c.requires.ready c.loop-shard.invariant.finding c.in-Ok.ensures.noted;
-      keys = earlier_more c.args.shards.now c.loop-shard.shard-index c.shard-item.result (noted_in c.loop-shard.found.keys) (noted_in c.note_all.new.self.keys) there c.loop-shard.invariant.keys c.in-Ok.ensures.keys;
-      bound = omega (arith, below);
-    }
+pub returns-in-Err-Record-clause-found : goal.returns-in-Err-Record-clause-found
+returns-in-Err-Record-clause-found g c = tt
 
-pub returns-clause-found : goal.returns-clause-found
-returns-clause-found g c =
-    let end = c.loop-shard-test.false in
-    finding_all g.R.Rack c.args.shards.now c.loop-shard.shard-index (get nat_eq c.loop-shard.found.newest) c.loop-shard.found.seq (omega (arith, end)) c.loop-shard.invariant.finding
+pub returns-in-Err-Record-clause-no_device : goal.returns-in-Err-Record-clause-no_device
+returns-in-Err-Record-clause-no_device g c = λ err. absurd (cc)
 
-pub returns-then-not-are_alike-clause-faulty : goal.returns-then-not-are_alike-clause-faulty
-returns-then-not-are_alike-clause-faulty g c =
-    let below = c.loop-shard-test.true in
-    let there = at_item c.args.shards.now c.loop-shard.shard-index c.shard-item.result below c.shard-item.is in
-    let begins = at_item c.args.shards.now 0 c.index-shards-0.result (omega (arith, below)) c.index-shards-0.is in
-    other_arms c.args.shards.now g.R.Rack c.loop-shard.shard-index c.index-shards-0.result c.shard-item.result begins there c.requires.ready
-    (λ same. absurd_test c.are_alike.result (c.are_alike.ensures.1 same) c.if-not-are_alike.true)
+pub returns-in-Err-Record-clause-fault : goal.returns-in-Err-Record-clause-fault
+returns-in-Err-Record-clause-fault g c = tt
 
-pub returns-in-Err-clause-faulty : goal.returns-in-Err-clause-faulty
-returns-in-Err-clause-faulty g c metaslab place kind err =
-    let there = at_item c.args.shards.now c.loop-shard.shard-index c.shard-item.result c.loop-shard-test.true c.shard-item.is in
-    block_twice c.args.shards.now g.R.Rack c.loop-shard.shard-index c.shard-item.result (noted_in c.loop-shard.found.keys) metaslab place kind there c.requires.ready c.loop-shard.invariant.keys
-    (c.in-Err.ensures.again metaslab place kind (ap Err (err_is c.in-Err.fault _ err)))
+pub find_blocks-requires : goal.find_blocks-requires
+find_blocks-requires g c = record { ready = c.requires.ready }

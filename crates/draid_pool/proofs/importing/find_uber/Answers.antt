@@ -1,8 +1,10 @@
-use Rattle.std.proofs.Common.{arith, rules, tests, ◌∙◌, Err, subst, sym}
+use Rattle.std.proofs.Common.{arith, rules, tests, ◌∙◌, Err, ap, refl, subst, sym}
+use Rattle.draid_uber.specs.Uber.{kept_of}
 use Rattle.draid_pool.specs.Importing.{ImportIs}
 use Rattle.draid_pool.specs.declared.fault.PoolFault.{PoolFault}
-use Rattle.draid_pool.proofs.Found.{leaf_found, uber_left, uber_put}
+use Rattle.draid_pool.proofs.Found.{leaf_found, uber_left, uber_put, checks_equal, checks_same, found_uber}
 use Rattle.draid_pool.proofs.ImportFaulty.{err_is, shelf_no_record, uber_bad}
+use Rattle.draid_pool.proofs.ImportMade.{made_left, made_not, made_same, made_untaken}
 use Rattle.draid_pool.proofs.ImportTaken.{no_pool, not_found, not_taken, taken_not}
 use Rattle.draid_pool.proofs.importing.find_uber.Goals as goal
 
@@ -77,3 +79,149 @@ returns-in-Err-recover-clause-faulty g c metaslab place kind err =
 
 pub returns-in-Err-recover-clause-none : goal.returns-in-Err-recover-clause-none
 returns-in-Err-recover-clause-none g c = taken_not c.in-Ok.area (g.H.Shelf.told c.args.shelf.now) _ c.in-Ok.ensures.needs
+
+pub returns-then-not-has_pool-clause-made : goal.returns-then-not-has_pool-clause-made
+returns-then-not-has_pool-clause-made g c geometry made =
+    let shelf = g.H.Shelf in
+    made_same geometry (shelf.told c.args.shelf.now) _ (shelf.counts c.args.shelf.now) _ _ _ _ tt refl (λ m. refl) refl refl made
+
+pub returns-in-Err-clause-made : goal.returns-in-Err-clause-made
+returns-in-Err-clause-made g c geometry made =
+    let shelf = g.H.Shelf in
+    let e = c.in-Err.ensures in
+    made_untaken geometry (shelf.told c.args.shelf.now) (shelf.told c.take_uber.new.self) (shelf.counts c.args.shelf.now) (shelf.counts c.take_uber.new.self) _ _ c.in-Err.why
+    (Err c.shelf_fault.result) (ap Err c.shelf_fault.ensures.is) e.err e.counts e.err_count e.check_counts made
+
+pub returns-in-Ok-recover-clause-made : goal.returns-in-Ok-recover-clause-made
+returns-in-Ok-recover-clause-made g c geometry made =
+    let t = c.in-Ok.ensures in
+    let e = c.in-Ok-recover.ensures in
+    absurd (made_not geometry (g.H.Shelf.told c.args.shelf.now) (g.H.A.Area.told c.in-Ok.area) (kept_of c.in-Ok-recover.uber) _ t.area e.finds e.some made)
+
+pub returns-in-Err-recover-clause-made : goal.returns-in-Err-recover-clause-made
+returns-in-Err-recover-clause-made g c geometry made =
+    let shelf = g.H.Shelf in
+    let area = g.H.A.Area in
+    let t = c.in-Ok.ensures in
+    let r = c.in-Err-recover in
+    let e = c.give_uber.ensures in
+    made_left geometry (shelf.told c.args.shelf.now) (shelf.told c.take_uber.new.self) (shelf.told c.give_uber.new.self) (shelf.counts c.args.shelf.now) (shelf.counts c.give_uber.new.self) _ _
+    (area.told c.in-Ok.area) (area.told r.field-0.area) r.field-0.why (Err c.uber_fault.result) (ap Err c.uber_fault.ensures.is) t.area r.ensures.finds r.ensures.err t.told e.told (λ m. e.counts m ∙ t.counts m)
+    (let was = t.count in let up = r.ensures.err_later in let now = e.count in omega (arith, was, up, now)) (e.check_counts ∙ t.check_counts) made
+
+pub returns-in-Ok-recover-clause-found : goal.returns-in-Ok-recover-clause-found
+returns-in-Ok-recover-clause-found g c = found_uber g.H.A.Area c.in-Ok-recover.uber c.in-Ok-recover.ensures.valid c.in-Ok-recover.ensures.some c.in-Ok-recover.ensures.ranges
+
+pub returns-in-Ok-recover-clause-not_spec : goal.returns-in-Ok-recover-clause-not_spec
+returns-in-Ok-recover-clause-not_spec g c = tt
+
+pub returns-in-Ok-recover-clause-told : goal.returns-in-Ok-recover-clause-told
+returns-in-Ok-recover-clause-told g c = c.in-Ok.ensures.told
+
+pub returns-in-Ok-recover-clause-back : goal.returns-in-Ok-recover-clause-back
+returns-in-Ok-recover-clause-back g c = tt
+
+pub returns-in-Ok-recover-clause-import : goal.returns-in-Ok-recover-clause-import
+returns-in-Ok-recover-clause-import g c x pieces there = tt
+
+pub returns-in-Ok-recover-clause-leaves : goal.returns-in-Ok-recover-clause-leaves
+returns-in-Ok-recover-clause-leaves g c = c.take_uber.ensures.leaves
+
+pub returns-in-Ok-recover-clause-faulty : goal.returns-in-Ok-recover-clause-faulty
+returns-in-Ok-recover-clause-faulty g c metaslab place kind err = absurd (cc)
+
+pub returns-in-Ok-recover-clause-checks : goal.returns-in-Ok-recover-clause-checks
+returns-in-Ok-recover-clause-checks g c = c.take_uber.ensures.check_counts
+
+pub returns-in-Ok-recover-clause-counts : goal.returns-in-Ok-recover-clause-counts
+returns-in-Ok-recover-clause-counts g c = c.take_uber.ensures.counts
+
+pub returns-in-Ok-recover-clause-later : goal.returns-in-Ok-recover-clause-later
+returns-in-Ok-recover-clause-later g c = c.take_uber.ensures.cause.later
+
+pub returns-in-Ok-recover-clause-cause : goal.returns-in-Ok-recover-clause-cause
+returns-in-Ok-recover-clause-cause g c failed = absurd (cc)
+
+pub returns-in-Err-clause-found : goal.returns-in-Err-clause-found
+returns-in-Err-clause-found g c = tt
+
+pub returns-in-Err-clause-recovered : goal.returns-in-Err-clause-recovered
+returns-in-Err-clause-recovered g c = tt
+
+pub returns-in-Err-clause-told : goal.returns-in-Err-clause-told
+returns-in-Err-clause-told g c = tt
+
+pub returns-in-Err-clause-not_spec : goal.returns-in-Err-clause-not_spec
+returns-in-Err-clause-not_spec g c = c.shelf_fault.ensures.not_spec
+
+pub returns-in-Err-clause-leaves : goal.returns-in-Err-clause-leaves
+returns-in-Err-clause-leaves g c = c.take_uber.ensures.leaves
+
+pub returns-in-Err-clause-held : goal.returns-in-Err-clause-held
+returns-in-Err-clause-held g c = checks_equal (g.H.Shelf.told c.args.shelf.now) (g.H.Shelf.told c.take_uber.new.self) c.in-Err.ensures.err
+
+pub returns-in-Err-clause-checks : goal.returns-in-Err-clause-checks
+returns-in-Err-clause-checks g c = c.take_uber.ensures.check_counts
+
+pub returns-in-Err-clause-counts : goal.returns-in-Err-clause-counts
+returns-in-Err-clause-counts g c = c.take_uber.ensures.counts
+
+pub returns-in-Err-clause-later : goal.returns-in-Err-clause-later
+returns-in-Err-clause-later g c = c.take_uber.ensures.cause.later
+
+pub returns-in-Err-recover-clause-found : goal.returns-in-Err-recover-clause-found
+returns-in-Err-recover-clause-found g c = tt
+
+pub returns-in-Err-recover-clause-recovered : goal.returns-in-Err-recover-clause-recovered
+returns-in-Err-recover-clause-recovered g c = tt
+
+pub returns-in-Err-recover-clause-told : goal.returns-in-Err-recover-clause-told
+returns-in-Err-recover-clause-told g c = tt
+
+pub returns-in-Err-recover-clause-not_spec : goal.returns-in-Err-recover-clause-not_spec
+returns-in-Err-recover-clause-not_spec g c = c.uber_fault.ensures.not_spec
+
+pub returns-in-Err-recover-clause-leaves : goal.returns-in-Err-recover-clause-leaves
+returns-in-Err-recover-clause-leaves g c m = c.give_uber.ensures.leaves m ∙ c.take_uber.ensures.leaves m
+
+pub returns-in-Err-recover-clause-checks : goal.returns-in-Err-recover-clause-checks
+returns-in-Err-recover-clause-checks g c = c.give_uber.ensures.check_counts ∙ c.take_uber.ensures.check_counts
+
+pub returns-in-Err-recover-clause-counts : goal.returns-in-Err-recover-clause-counts
+returns-in-Err-recover-clause-counts g c m = c.give_uber.ensures.counts m ∙ c.take_uber.ensures.counts m
+
+pub returns-in-Err-recover-clause-later : goal.returns-in-Err-recover-clause-later
+returns-in-Err-recover-clause-later g c = (let first = c.take_uber.ensures.cause.later in let same = c.give_uber.ensures.faults in omega (arith, first, same))
+
+pub returns-then-not-has_pool-clause-found : goal.returns-then-not-has_pool-clause-found
+returns-then-not-has_pool-clause-found g c = tt
+
+pub returns-then-not-has_pool-clause-recovered : goal.returns-then-not-has_pool-clause-recovered
+returns-then-not-has_pool-clause-recovered g c = tt
+
+pub returns-then-not-has_pool-clause-told : goal.returns-then-not-has_pool-clause-told
+returns-then-not-has_pool-clause-told g c = tt
+
+pub returns-then-not-has_pool-clause-not_spec : goal.returns-then-not-has_pool-clause-not_spec
+returns-then-not-has_pool-clause-not_spec g c = tt
+
+pub returns-then-not-has_pool-clause-leaves : goal.returns-then-not-has_pool-clause-leaves
+returns-then-not-has_pool-clause-leaves g c m = refl
+
+pub returns-then-not-has_pool-clause-faulty : goal.returns-then-not-has_pool-clause-faulty
+returns-then-not-has_pool-clause-faulty g c metaslab place kind err = absurd (cc)
+
+pub returns-then-not-has_pool-clause-checks : goal.returns-then-not-has_pool-clause-checks
+returns-then-not-has_pool-clause-checks g c = refl
+
+pub returns-then-not-has_pool-clause-counts : goal.returns-then-not-has_pool-clause-counts
+returns-then-not-has_pool-clause-counts g c m = refl
+
+pub returns-then-not-has_pool-clause-later : goal.returns-then-not-has_pool-clause-later
+returns-then-not-has_pool-clause-later g c = omega arith
+
+pub returns-then-not-has_pool-clause-cause : goal.returns-then-not-has_pool-clause-cause
+returns-then-not-has_pool-clause-cause g c failed = absurd (cc)
+
+pub returns-then-not-has_pool-clause-held : goal.returns-then-not-has_pool-clause-held
+returns-then-not-has_pool-clause-held g c = checks_same (g.H.Shelf.told c.args.shelf.now)

@@ -2,7 +2,8 @@ use Rattle.std.proofs.Common.{arith, ◌∙◌, sym}
 use Rattle.std.specs.Prelude.{nat_eq}
 use Rattle.std.specs.HashMap.{get}
 use Rattle.draid_pool.proofs.ImportFreed.{are_newest, keeps_more, only_more}
-use Rattle.draid_pool.proofs.Found.{at_item, freeing_all, freeing_more}
+use Rattle.draid_found.proofs.Noted.{at_item}
+use Rattle.draid_pool.proofs.Found.{freeing_all, freeing_more}
 use Rattle.draid_pool.proofs.importing.free_all.Goals as goal
 
 pub free_older-requires-clause-valid : goal.free_older-requires-clause-valid

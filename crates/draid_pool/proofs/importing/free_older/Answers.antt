@@ -4,7 +4,8 @@ use Rattle.std.specs.HashMap.{get}
 use Rattle.draid_spec.specs.Geometry.{metaslab_stripes}
 use Rattle.draid_shard.specs.Part.{Part}
 use Rattle.draid_pool.proofs.ImportFreed.{keeps_none, keeps_step, only_step}
-use Rattle.draid_pool.proofs.Found.{frees_none, frees_step, left_behind, next_inside, next_live, next_low}
+use Rattle.draid_found.proofs.Noted.{next_inside, next_live, next_low}
+use Rattle.draid_pool.proofs.Found.{frees_none, frees_step, left_behind}
 use Rattle.draid_pool.proofs.importing.free_older.Goals as goal
 
 pub loop-pointer-init : goal.loop-pointer-init
@@ -47,3 +48,21 @@ loop-pointer-preserved g c =
       keeps = keeps_step g.R.Rack g.A.Area newest c.args.floor c.args.shard.now c.loop-pointer.shard c.free_if_older.new.shard c.in-Some.pointer i.keeps live c.free_if_older.ensures.frees;
       only = only_step g.R.Rack g.A.Area newest c.args.floor c.loop-pointer.from c.loop-pointer.shard c.free_if_older.new.shard c.in-Some.pointer next c.free_if_older.ensures.frees i.only;
     }
+
+pub free_if_older-requires-clause-valid : goal.free_if_older-requires-clause-valid
+free_if_older-requires-clause-valid g c = c.loop-pointer.invariant.frees.valid
+
+pub free_if_older-requires-clause-live : goal.free_if_older-requires-clause-live
+free_if_older-requires-clause-live g c = next_live g.R.Rack c.loop-pointer.shard c.loop-pointer.from c.in-Some.pointer c.loop-pointer.invariant.left c.in-Some.ensures.some
+
+pub free_if_older-requires-clause-floor : goal.free_if_older-requires-clause-floor
+free_if_older-requires-clause-floor g c = (let floor = c.requires.floor in let same = c.loop-pointer.invariant.open_group in omega (arith, floor, same))
+
+pub free_if_older-requires-clause-last : goal.free_if_older-requires-clause-last
+free_if_older-requires-clause-last g c = c.requires.last
+
+pub returns-clause-frees : goal.returns-clause-frees
+returns-clause-frees g c = c.loop-pointer.invariant.frees
+
+pub returns-clause-keeps : goal.returns-clause-keeps
+returns-clause-keeps g c = c.loop-pointer.invariant.keeps

@@ -1,4 +1,4 @@
-use Rattle.std.proofs.Common.{◌∙◌, inl, inr, List, Option, Err, ap, subst, sym}
+use Rattle.std.proofs.Common.{◌∙◌, inl, inr, List, Option, Err, ap, subst, sym, arith}
 use Rattle.std.specs.Prelude.{nat_eq}
 use Rattle.std.proofs.lemmas.Result.{err_from_is_err_and}
 use Rattle.std.specs.HashMap.{get}
@@ -6,15 +6,16 @@ use Rattle.draid_shard.specs.declared.shard.Shard.{Shard}
 use Rattle.draid_uber.specs.Slots.{group_of}
 use Rattle.draid_shelf.specs.Kits.{Held, KitCounts, gives_uber}
 use Rattle.draid_uber.specs.Uber.{kept_of, layout_of, next_leaf_of}
-use Rattle.draid_pool.specs.Together.{AreApart}
+use Rattle.draid_found.specs.Together.{AreApart}
 use Rattle.draid_session.specs.State.{limit_of}
 use Rattle.draid_pool.specs.Faulty.{IsUnread, OneIsUnread}
-use Rattle.draid_pool.specs.Found.{AreFound, AreReady, OpensAllOver, OpensOver}
+use Rattle.draid_found.specs.Found.{AreFound, AreReady}
+use Rattle.draid_pool.specs.Found.{OpensAllOver, OpensOver}
 use Rattle.draid_pool.proofs.ImportFaulty.{err_is, passed_on}
 use Rattle.draid_pool.proofs.ImportLeft.{leaves_all, refusal_is, refused_pool, rests_known, risen_behind}
 use Rattle.draid_pool.proofs.ImportOne.{no_fault_apart}
 use Rattle.draid_pool.proofs.ImportPool.{pool_found, tells_as_before}
-use Rattle.draid_pool.proofs.Found.{absent_not, all_ready, checks_more, refused_too}
+use Rattle.draid_pool.proofs.Found.{absent_not, all_ready, checks_more, refused_too, checks_back, checks_given, shard_not_spec}
 use Rattle.draid_pool.proofs.importing.import.Goals as goal
 
 pub find_blocks-requires : goal.find_blocks-requires
@@ -132,6 +133,96 @@ returns-in-Err-find_blocks-clause-none g c = absent_not c.in_ok-uber.uber (g.H.S
 pub returns-in-Err-clause-cause : goal.returns-in-Err-clause-cause
 returns-in-Err-clause-cause g c failed =
     let shelf = g.H.Shelf in
-    risen_behind (shelf.faults c.args.shelf.now) (shelf.faults c.find_uber.new.shelf) (shelf.faults c.reopen_shards.new.shelf) (shelf.faults c.give_uber.new.self) (shelf.uber_count c.args.shelf.now) (shelf.uber_count c.give_uber.new.self)
-    (shelf.counts c.args.shelf.now) (shelf.counts c.find_uber.new.shelf) (shelf.counts c.reopen_shards.new.shelf) (shelf.counts c.give_uber.new.self) c.find_uber.ensures.later c.give_uber.ensures.faults
+    risen_behind g.H.A.Area (shelf.told c.args.shelf.now) (shelf.faults c.args.shelf.now) (shelf.faults c.find_uber.new.shelf) (shelf.faults c.reopen_shards.new.shelf) (shelf.faults c.give_uber.new.self) (shelf.uber_count c.args.shelf.now) (shelf.uber_count c.give_uber.new.self)
+    (shelf.counts c.args.shelf.now) (shelf.counts c.find_uber.new.shelf) (shelf.counts c.reopen_shards.new.shelf) (shelf.counts c.give_uber.new.self)
+    c.in_ok-uber.uber c.in_ok-uber.ensures.found c.in_ok-uber.ensures.recovered c.find_uber.ensures.later c.give_uber.ensures.faults
     c.find_uber.ensures.counts c.give_uber.ensures.counts (c.in-Err.ensures.cause (refused_too c.in-Err.fault failed))
+
+pub returns-in-Ok-find_blocks-clause-made : goal.returns-in-Ok-find_blocks-clause-made
+returns-in-Ok-find_blocks-clause-made g c geometry made = absurd (c.in_ok-uber.ensures.made geometry made).none
+
+pub returns-in-Err-clause-made : goal.returns-in-Err-clause-made
+returns-in-Err-clause-made g c geometry made = absurd (c.in_ok-uber.ensures.made geometry made).none
+
+pub returns-in-Err-find_blocks-clause-made : goal.returns-in-Err-find_blocks-clause-made
+returns-in-Err-find_blocks-clause-made g c geometry made = absurd (c.in_ok-uber.ensures.made geometry made).none
+
+pub returns-in-Ok-find_blocks-clause-whole : goal.returns-in-Ok-find_blocks-clause-whole
+returns-in-Ok-find_blocks-clause-whole g c = c.pool_of.ensures.whole
+
+pub returns-in-Ok-find_blocks-clause-not_spec : goal.returns-in-Ok-find_blocks-clause-not_spec
+returns-in-Ok-find_blocks-clause-not_spec g c = tt
+
+pub returns-in-Ok-find_blocks-clause-faulty : goal.returns-in-Ok-find_blocks-clause-faulty
+returns-in-Ok-find_blocks-clause-faulty g c metaslab place kind err = absurd (cc)
+
+pub returns-in-Ok-find_blocks-clause-checks : goal.returns-in-Ok-find_blocks-clause-checks
+returns-in-Ok-find_blocks-clause-checks g c = c.reopen_shards.ensures.checks ∙ c.find_uber.ensures.checks
+
+pub returns-in-Ok-find_blocks-clause-later : goal.returns-in-Ok-find_blocks-clause-later
+returns-in-Ok-find_blocks-clause-later g c = (let first = c.find_uber.ensures.later in let more = c.reopen_shards.ensures.later in omega (arith, first, more))
+
+pub returns-in-Ok-find_blocks-clause-cause : goal.returns-in-Ok-find_blocks-clause-cause
+returns-in-Ok-find_blocks-clause-cause g c failed = absurd (cc)
+
+pub returns-in-Err-clause-whole : goal.returns-in-Err-clause-whole
+returns-in-Err-clause-whole g c = tt
+
+pub returns-in-Err-clause-not_spec : goal.returns-in-Err-clause-not_spec
+returns-in-Err-clause-not_spec g c = shard_not_spec c.in-Err.fault c.in-Err.ensures.fault
+
+pub returns-in-Err-clause-tells : goal.returns-in-Err-clause-tells
+returns-in-Err-clause-tells g c = tt
+
+pub returns-in-Err-clause-held : goal.returns-in-Err-clause-held
+returns-in-Err-clause-held g c =
+    let shelf = g.H.Shelf in
+    checks_given (g.H.A.Area.told c.into_area.result) (shelf.told c.args.shelf.now) (shelf.told c.reopen_shards.new.shelf) (shelf.told c.give_uber.new.self)
+    (checks_more (shelf.told c.args.shelf.now) (shelf.told c.find_uber.new.shelf) (shelf.told c.reopen_shards.new.shelf) c.find_uber.ensures.held c.reopen_shards.ensures.held) c.give_uber.ensures.told
+
+pub returns-in-Err-clause-checks : goal.returns-in-Err-clause-checks
+returns-in-Err-clause-checks g c = c.give_uber.ensures.check_counts ∙ (c.reopen_shards.ensures.checks ∙ c.find_uber.ensures.checks)
+
+pub returns-in-Err-clause-later : goal.returns-in-Err-clause-later
+returns-in-Err-clause-later g c = (let first = c.find_uber.ensures.later in let more = c.reopen_shards.ensures.later in let same = c.give_uber.ensures.faults in omega (arith, first, more, same))
+
+pub returns-in-Err-find_blocks-clause-whole : goal.returns-in-Err-find_blocks-clause-whole
+returns-in-Err-find_blocks-clause-whole g c = tt
+
+pub returns-in-Err-find_blocks-clause-not_spec : goal.returns-in-Err-find_blocks-clause-not_spec
+returns-in-Err-find_blocks-clause-not_spec g c = shard_not_spec c.in-Err-find_blocks.fault c.in-Err-find_blocks.ensures.fault
+
+pub returns-in-Err-find_blocks-clause-tells : goal.returns-in-Err-find_blocks-clause-tells
+returns-in-Err-find_blocks-clause-tells g c = tt
+
+pub returns-in-Err-find_blocks-clause-held : goal.returns-in-Err-find_blocks-clause-held
+returns-in-Err-find_blocks-clause-held g c =
+    let shelf = g.H.Shelf in
+    checks_given (g.H.A.Area.told c.into_area-in-Err-find_blocks.result) (shelf.told c.args.shelf.now) (shelf.told c.give_back.new.shelf) (shelf.told c.give_uber-in-Err-find_blocks.new.self)
+    (checks_more (shelf.told c.args.shelf.now) (shelf.told c.reopen_shards.new.shelf) (shelf.told c.give_back.new.shelf)
+    (checks_more (shelf.told c.args.shelf.now) (shelf.told c.find_uber.new.shelf) (shelf.told c.reopen_shards.new.shelf) c.find_uber.ensures.held c.reopen_shards.ensures.held)
+    (checks_back g.H.R.Rack g.H.A.Area c.in-Ok.shards.items (shelf.told c.reopen_shards.new.shelf) (shelf.told c.give_back.new.shelf) (shelf.counts c.reopen_shards.new.shelf) (shelf.counts c.give_back.new.shelf) c.give_back.ensures.returns))
+    c.give_uber-in-Err-find_blocks.ensures.told
+
+pub returns-in-Err-find_blocks-clause-checks : goal.returns-in-Err-find_blocks-clause-checks
+returns-in-Err-find_blocks-clause-checks g c = c.give_uber-in-Err-find_blocks.ensures.check_counts ∙ (c.give_back.ensures.checks ∙ (c.reopen_shards.ensures.checks ∙ c.find_uber.ensures.checks))
+
+pub returns-in-Err-find_blocks-clause-later : goal.returns-in-Err-find_blocks-clause-later
+returns-in-Err-find_blocks-clause-later g c =
+    let first = c.find_uber.ensures.later in
+    let more = c.reopen_shards.ensures.later in
+    let back = c.give_back.ensures.faults in
+    let same = c.give_uber-in-Err-find_blocks.ensures.faults in
+    omega (arith, first, more, back, same)
+
+pub returns-in-Err-find_blocks-clause-cause : goal.returns-in-Err-find_blocks-clause-cause
+returns-in-Err-find_blocks-clause-cause g c failed = absurd (c.in-Err-find_blocks.ensures.no_device (refused_too c.in-Err-find_blocks.fault failed))
+
+pub returns-in_err-uber-clause-held : goal.returns-in_err-uber-clause-held
+returns-in_err-uber-clause-held g c = c.find_uber.ensures.held
+
+pub returns-in_err-uber-clause-checks : goal.returns-in_err-uber-clause-checks
+returns-in_err-uber-clause-checks g c = c.find_uber.ensures.checks
+
+pub returns-in_err-uber-clause-later : goal.returns-in_err-uber-clause-later
+returns-in_err-uber-clause-later g c = c.find_uber.ensures.later

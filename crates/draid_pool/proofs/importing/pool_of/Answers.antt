@@ -31,3 +31,9 @@ returns g c = record {
       found_imports g.R.Rack g.A.Area x pieces c.args.uber newest c.args.found.seq _ freed _ c.free_all.ensures.only refl refl c.geometry.ensures refl
       (floor ∙ ap (λ n. n + 1) (found_group g.R.Rack g.A.Area x c.args.uber pieces newest c.args.found.seq _ freed)) (λ object. refl));
 }
+
+pub free_all-requires-clause-last : goal.free_all-requires-clause-last
+free_all-requires-clause-last g c = (let low = c.requires.uber.low in let group = c.committed-floor.ensures in omega (arith, low, group))
+
+pub overflow_add-floor : goal.overflow_add-floor
+overflow_add-floor g c = (let low = c.requires.uber.low in let group = c.committed-floor.ensures in omega (arith, low, group))

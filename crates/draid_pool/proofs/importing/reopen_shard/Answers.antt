@@ -1,12 +1,12 @@
 use Rattle.std.proofs.Common.{arith, ◌/◌, ◌∙◌, ap, inr, subst, sym}
 use Rattle.draid_uber.specs.Slots.{group_of}
 use Rattle.draid_uber.specs.Uber.{kept_of, layout_of, next_leaf_of}
-use Rattle.draid_shard.specs.Reopening.{OpenIsRefused}
+use Rattle.draid_groups.specs.Reopening.{OpenIsRefused}
 use Rattle.draid_pool.proofs.ImportUnread.{no_open_record, no_shelf_record}
-use Rattle.draid_shard.specs.Groups.{Opens}
+use Rattle.draid_groups.specs.Groups.{Opens}
 use Rattle.draid_spec.specs.declared.layout.Geometry.{Geometry}
 use Rattle.draid_shard.specs.Part.{Part}
-use Rattle.draid_pool.proofs.Found.{fault_is, kit_back, records_rose, refused_area, reopened, stays_put, stays_same}
+use Rattle.draid_pool.proofs.Found.{fault_is, kit_back, records_rose, refused_area, reopened, stays_put, stays_same, checks_equal, checks_put, checks_taken, counts_later}
 use Rattle.draid_pool.proofs.ImportFaulty.{err_is, shelf_no_record, unread}
 use Rattle.draid_pool.proofs.ImportLeft.{keeps_equal, keeps_known, tells_put, tells_same}
 use Rattle.draid_pool.proofs.importing.reopen_shard.Goals as goal
@@ -111,3 +111,104 @@ returns-in-Err-reopen-clause-faulty g c metaslab place kind err =
     (subst (λ n. OpenIsRefused rack area.faults area.told c.geometry.result.now c.args.number c.in-Ok.kit e.field-0.kit n (next_leaf_of c.args.uber.now) e.field-0.why) c.committed-group.ensures
     (subst (λ n. OpenIsRefused rack area.faults area.told c.geometry.result.now c.args.number c.in-Ok.kit e.field-0.kit c.committed-group.result n e.field-0.why) c.next_leaf.ensures e.ensures.refused)))
     (sym c.open_fault.ensures.is ∙ err_is c.open_fault.result _ err)
+
+pub returns-in-Ok-reopen-clause-told : goal.returns-in-Ok-reopen-clause-told
+returns-in-Ok-reopen-clause-told g c = c.in-Ok.ensures.told
+
+pub returns-in-Ok-reopen-clause-back : goal.returns-in-Ok-reopen-clause-back
+returns-in-Ok-reopen-clause-back g c = tt
+
+pub returns-in-Ok-reopen-clause-tells : goal.returns-in-Ok-reopen-clause-tells
+returns-in-Ok-reopen-clause-tells g c = tt
+
+pub returns-in-Ok-reopen-clause-known : goal.returns-in-Ok-reopen-clause-known
+returns-in-Ok-reopen-clause-known g c = tt
+
+pub returns-in-Ok-reopen-clause-fault : goal.returns-in-Ok-reopen-clause-fault
+returns-in-Ok-reopen-clause-fault g c = tt
+
+pub returns-in-Ok-reopen-clause-back_counts : goal.returns-in-Ok-reopen-clause-back_counts
+returns-in-Ok-reopen-clause-back_counts g c = tt
+
+pub returns-in-Ok-reopen-clause-leaves : goal.returns-in-Ok-reopen-clause-leaves
+returns-in-Ok-reopen-clause-leaves g c = c.take.ensures.others
+
+pub returns-in-Ok-reopen-clause-faulty : goal.returns-in-Ok-reopen-clause-faulty
+returns-in-Ok-reopen-clause-faulty g c metaslab place kind err = absurd (cc)
+
+pub returns-in-Ok-reopen-clause-opens : goal.returns-in-Ok-reopen-clause-opens
+returns-in-Ok-reopen-clause-opens g c x pieces held leaves counts count there r takes same metaslab place kind err = cc
+
+pub returns-in-Ok-reopen-clause-held : goal.returns-in-Ok-reopen-clause-held
+returns-in-Ok-reopen-clause-held g c = checks_taken c.args.number (g.H.Shelf.told c.args.shelf.now) (g.H.Shelf.told c.take.new.self) c.in-Ok.ensures.told
+
+pub returns-in-Ok-reopen-clause-checks : goal.returns-in-Ok-reopen-clause-checks
+returns-in-Ok-reopen-clause-checks g c = c.take.ensures.check_counts
+
+pub returns-in-Ok-reopen-clause-counts : goal.returns-in-Ok-reopen-clause-counts
+returns-in-Ok-reopen-clause-counts g c = c.take.ensures.counts
+
+pub returns-in-Ok-reopen-clause-later : goal.returns-in-Ok-reopen-clause-later
+returns-in-Ok-reopen-clause-later g c = c.take.ensures.cause.later
+
+pub returns-in-Ok-reopen-clause-cause : goal.returns-in-Ok-reopen-clause-cause
+returns-in-Ok-reopen-clause-cause g c failed = absurd (cc)
+
+pub returns-in-Err-clause-reopened : goal.returns-in-Err-clause-reopened
+returns-in-Err-clause-reopened g c = tt
+
+pub returns-in-Err-clause-over : goal.returns-in-Err-clause-over
+returns-in-Err-clause-over g c = tt
+
+pub returns-in-Err-clause-told : goal.returns-in-Err-clause-told
+returns-in-Err-clause-told g c = tt
+
+pub returns-in-Err-clause-leaves : goal.returns-in-Err-clause-leaves
+returns-in-Err-clause-leaves g c = c.take.ensures.others
+
+pub returns-in-Err-clause-fault : goal.returns-in-Err-clause-fault
+returns-in-Err-clause-fault g c = c.shelf_fault.ensures.fault
+
+pub returns-in-Err-clause-back_counts : goal.returns-in-Err-clause-back_counts
+returns-in-Err-clause-back_counts g c = counts_later (g.H.Shelf.counts c.args.shelf.now c.args.number) (g.H.Shelf.counts c.take.new.self c.args.number) c.in-Err.ensures.err_counts
+
+pub returns-in-Err-clause-held : goal.returns-in-Err-clause-held
+returns-in-Err-clause-held g c = checks_equal (g.H.Shelf.told c.args.shelf.now) (g.H.Shelf.told c.take.new.self) c.in-Err.ensures.err
+
+pub returns-in-Err-clause-checks : goal.returns-in-Err-clause-checks
+returns-in-Err-clause-checks g c = c.take.ensures.check_counts
+
+pub returns-in-Err-clause-counts : goal.returns-in-Err-clause-counts
+returns-in-Err-clause-counts g c = c.take.ensures.counts
+
+pub returns-in-Err-clause-later : goal.returns-in-Err-clause-later
+returns-in-Err-clause-later g c = c.take.ensures.cause.later
+
+pub returns-in-Err-reopen-clause-reopened : goal.returns-in-Err-reopen-clause-reopened
+returns-in-Err-reopen-clause-reopened g c = tt
+
+pub returns-in-Err-reopen-clause-over : goal.returns-in-Err-reopen-clause-over
+returns-in-Err-reopen-clause-over g c = tt
+
+pub returns-in-Err-reopen-clause-told : goal.returns-in-Err-reopen-clause-told
+returns-in-Err-reopen-clause-told g c = tt
+
+pub returns-in-Err-reopen-clause-leaves : goal.returns-in-Err-reopen-clause-leaves
+returns-in-Err-reopen-clause-leaves g c m other = c.give.ensures.others m other ∙ c.take.ensures.others m other
+
+pub returns-in-Err-reopen-clause-counts : goal.returns-in-Err-reopen-clause-counts
+returns-in-Err-reopen-clause-counts g c m other = c.give.ensures.counts m other ∙ c.take.ensures.counts m other
+
+pub returns-in-Err-reopen-clause-fault : goal.returns-in-Err-reopen-clause-fault
+returns-in-Err-reopen-clause-fault g c = c.open_fault.ensures.fault
+
+pub returns-in-Err-reopen-clause-held : goal.returns-in-Err-reopen-clause-held
+returns-in-Err-reopen-clause-held g c =
+    let shelf = g.H.Shelf in
+    checks_put c.args.number _ (shelf.told c.args.shelf.now) (shelf.told c.take.new.self) (shelf.told c.give.new.self) (checks_taken c.args.number (shelf.told c.args.shelf.now) (shelf.told c.take.new.self) c.in-Ok.ensures.told) c.give.ensures.told
+
+pub returns-in-Err-reopen-clause-checks : goal.returns-in-Err-reopen-clause-checks
+returns-in-Err-reopen-clause-checks g c = c.give.ensures.check_counts ∙ c.take.ensures.check_counts
+
+pub returns-in-Err-reopen-clause-later : goal.returns-in-Err-reopen-clause-later
+returns-in-Err-reopen-clause-later g c = (let first = c.take.ensures.cause.later in let same = c.give.ensures.faults in omega (arith, first, same))

@@ -116,9 +116,11 @@ pub returns-in-Err-clause-cause : goal.returns-in-Err-clause-cause
 returns-in-Err-clause-cause g c failed =
     let shelf = g.H.Shelf in
     let i = c.loop-number.invariant in
-    records_rose_back g.H.R.Rack g.H.A.Area c.loop-number.shards.items c.loop-number.number (shelf.faults c.args.shelf.now) (shelf.faults c.loop-number.shelf) (shelf.faults c.reopen_shard.new.shelf) (shelf.faults c.give_back.new.shelf)
+    let same = ap (λ (x : Geometry). x.props.metaslabs) c.geometry-layout.ensures in
+    let test = c.loop-number-test.true in
+    records_rose_back g.H.R.Rack g.H.A.Area c.loop-number.shards.items c.loop-number.number (layout_of c.args.uber.now).props.metaslabs (shelf.faults c.args.shelf.now) (shelf.faults c.loop-number.shelf) (shelf.faults c.reopen_shard.new.shelf) (shelf.faults c.give_back.new.shelf)
     (shelf.told c.reopen_shard.new.shelf) (shelf.told c.give_back.new.shelf) (shelf.counts c.args.shelf.now) (shelf.counts c.loop-number.shelf) (shelf.counts c.reopen_shard.new.shelf) (shelf.counts c.give_back.new.shelf)
-    i.many i.later c.give_back.ensures.faults i.counts c.give_back.ensures.returns (c.in-Err.ensures.cause (refused_too c.in-Err.fault failed))
+    i.many (omega (arith, same, test)) i.later c.give_back.ensures.faults i.counts c.give_back.ensures.returns (c.in-Err.ensures.cause (refused_too c.in-Err.fault failed))
 
 pub returns-in-Err-clause-opens : goal.returns-in-Err-clause-opens
 returns-in-Err-clause-opens g c x pieces held counts count there r taken =
@@ -166,3 +168,84 @@ returns-in_default-clause-back g c =
     leaves_none g.H.R.Rack g.H.A.Area (layout_of c.args.uber.now) (group_of (kept_of c.args.uber.now)) (next_leaf_of c.args.uber.now) c.new-perms.result (shelf.told c.args.shelf.now) (shelf.counts c.args.shelf.now)
     (shelf.leaves c.args.shelf.now) (subst (λ (x : Geometry). IsLayout x c.new-perms.result) c.geometry-layout.ensures
     (record { geometry_is = subst IsGeometry (sym c.geometry-layout.ensures) c.requires.uber.valid.held.layout_is; perms_are = c.new-perms.ensures }))
+
+pub returns-clause-back : goal.returns-clause-back
+returns-clause-back g c = tt
+
+pub returns-clause-cause : goal.returns-clause-cause
+returns-clause-cause g c failed = absurd (cc)
+
+pub returns-clause-checks : goal.returns-clause-checks
+returns-clause-checks g c = c.loop-number.invariant.checks
+
+pub returns-clause-fault : goal.returns-clause-fault
+returns-clause-fault g c = tt
+
+pub returns-clause-faulty : goal.returns-clause-faulty
+returns-clause-faulty g c metaslab place kind err = absurd (cc)
+
+pub returns-clause-held : goal.returns-clause-held
+returns-clause-held g c = c.loop-number.invariant.held
+
+pub returns-clause-later : goal.returns-clause-later
+returns-clause-later g c = c.loop-number.invariant.later
+
+pub returns-clause-opens : goal.returns-clause-opens
+returns-clause-opens g c x pieces held counts count there r taken metaslab place kind err = cc
+
+pub returns-clause-over : goal.returns-clause-over
+returns-clause-over g c = c.loop-number.invariant.over
+
+pub returns-in-Err-clause-checks : goal.returns-in-Err-clause-checks
+returns-in-Err-clause-checks g c = c.give_back.ensures.checks ∙ (c.reopen_shard.ensures.checks ∙ c.loop-number.invariant.checks)
+
+pub returns-in-Err-clause-fault : goal.returns-in-Err-clause-fault
+returns-in-Err-clause-fault g c = c.in-Err.ensures.fault
+
+pub returns-in-Err-clause-later : goal.returns-in-Err-clause-later
+returns-in-Err-clause-later g c = (let first = c.loop-number.invariant.later in let more = c.reopen_shard.ensures.later in let same = c.give_back.ensures.faults in omega (arith, first, more, same))
+
+pub returns-in-Err-clause-over : goal.returns-in-Err-clause-over
+returns-in-Err-clause-over g c = tt
+
+pub returns-in-Err-clause-reopened : goal.returns-in-Err-clause-reopened
+returns-in-Err-clause-reopened g c = tt
+
+pub returns-in-Err-clause-told : goal.returns-in-Err-clause-told
+returns-in-Err-clause-told g c = tt
+
+pub returns-in_default-clause-cause : goal.returns-in_default-clause-cause
+returns-in_default-clause-cause g c failed = absurd (cc)
+
+pub returns-in_default-clause-checks : goal.returns-in_default-clause-checks
+returns-in_default-clause-checks g c = refl
+
+pub returns-in_default-clause-fault : goal.returns-in_default-clause-fault
+returns-in_default-clause-fault g c = tt
+
+pub returns-in_default-clause-faulty : goal.returns-in_default-clause-faulty
+returns-in_default-clause-faulty g c metaslab place kind err = absurd (cc)
+
+pub returns-in_default-clause-held : goal.returns-in_default-clause-held
+returns-in_default-clause-held g c = checks_same (g.H.Shelf.told c.args.shelf.now)
+
+pub returns-in_default-clause-later : goal.returns-in_default-clause-later
+returns-in_default-clause-later g c = omega arith
+
+pub returns-in_default-clause-opens : goal.returns-in_default-clause-opens
+returns-in_default-clause-opens g c x pieces held counts count there r taken metaslab place kind err = cc
+
+pub returns-in_default-clause-over : goal.returns-in_default-clause-over
+returns-in_default-clause-over g c = tt
+
+pub returns-in_default-clause-reopened : goal.returns-in_default-clause-reopened
+returns-in_default-clause-reopened g c = tt
+
+pub returns-in_default-clause-told : goal.returns-in_default-clause-told
+returns-in_default-clause-told g c = tt
+
+pub reopen_shard-requires-clause-uber : goal.reopen_shard-requires-clause-uber
+reopen_shard-requires-clause-uber g c κs within = c.requires.uber
+
+pub reopen_shard-requires-clause-number : goal.reopen_shard-requires-clause-number
+reopen_shard-requires-clause-number g c κs within = (let below = c.loop-number-test.true in let same = ap (λ (x : Geometry). x.props.metaslabs) c.geometry-layout.ensures in omega (arith, below, same))

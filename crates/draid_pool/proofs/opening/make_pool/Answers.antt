@@ -40,3 +40,28 @@ returns-clause-cause g c =
     let taken = c.take_uber.ensures.cause.later in
     let e = c.open_pool.ensures in
     new_failed c.args.layout _ _ _ _ (shelf.faults c.args.shelf.now) (shelf.faults c.take_uber.new.self) (shelf.faults c.open_pool.new.shelf) c.open_pool.result (omega (arith, made, taken)) e.back e.cause
+
+pub returns-clause-whole : goal.returns-clause-whole
+returns-clause-whole g c = c.open_pool.ensures.whole
+
+pub returns-clause-opens : goal.returns-clause-opens
+returns-clause-opens g c = c.open_pool.ensures.opens
+
+pub returns-clause-away : goal.returns-clause-away
+returns-clause-away g c = c.open_pool.ensures.away
+
+pub returns-clause-later : goal.returns-clause-later
+returns-clause-later g c =
+    let made = c.make.ensures.cause.later in
+    let taken = c.take_uber.ensures.cause.later in
+    let more = c.open_pool.ensures.later in
+    omega (arith, made, taken, more)
+
+pub returns-in_err-make-clause-later : goal.returns-in_err-make-clause-later
+returns-in_err-make-clause-later g c = c.make.ensures.cause.later
+
+pub returns-in_err-area-clause-later : goal.returns-in_err-area-clause-later
+returns-in_err-area-clause-later g c =
+    let made = c.make.ensures.cause.later in
+    let taken = c.take_uber.ensures.cause.later in
+    omega (arith, made, taken)

@@ -1,4 +1,4 @@
-use Rattle.std.proofs.Common.{rules, ◌∙◌, [], ◌∷◌, Option, ap, inl, inr, refl, subst, sym}
+use Rattle.std.proofs.Common.{rules, ◌∙◌, [], ◌∷◌, Option, ap, inl, inr, refl, subst, sym, arith}
 use Rattle.std.specs.Prelude.{is_some}
 use Rattle.draid_record.specs.declared.uber.UberBody.{UberBody}
 use Rattle.draid_shelf.specs.Kits.{gives_uber}
@@ -55,3 +55,48 @@ returns-in-Err-commit-clause-back g c =
     (subst (λ kept. StandsTold kept (next_of c.args.uber 1 ∷ []) (g.H.A.Area.told (area_of c.commit.new.self))) u.kept (e.refused [] before)) c.requires.counts again.counts
     (again.check_counts ∙ (c.give_back.ensures.checks ∙ (c.open_shards.ensures.checks ∙ c.requires.checks))) (shelf.leaves c.give_uber-in-Err-commit.new.self)
     (λ m shard there. again.leaves m ∙ c.give_back.ensures.leaves.own m shard there))
+
+pub returns-in-Ok-commit-clause-back : goal.returns-in-Ok-commit-clause-back
+returns-in-Ok-commit-clause-back g c = tt
+
+pub returns-in-Ok-commit-clause-checks : goal.returns-in-Ok-commit-clause-checks
+returns-in-Ok-commit-clause-checks g c = c.open_shards.ensures.checks
+
+pub returns-in-Ok-commit-clause-later : goal.returns-in-Ok-commit-clause-later
+returns-in-Ok-commit-clause-later g c = c.open_shards.ensures.later
+
+pub returns-in-Ok-commit-clause-cause : goal.returns-in-Ok-commit-clause-cause
+returns-in-Ok-commit-clause-cause g c failed = absurd (cc)
+
+pub returns-in-Err-clause-whole : goal.returns-in-Err-clause-whole
+returns-in-Err-clause-whole g c = tt
+
+pub returns-in-Err-clause-opens : goal.returns-in-Err-clause-opens
+returns-in-Err-clause-opens g c = tt
+
+pub returns-in-Err-clause-away : goal.returns-in-Err-clause-away
+returns-in-Err-clause-away g c = tt
+
+pub returns-in-Err-clause-checks : goal.returns-in-Err-clause-checks
+returns-in-Err-clause-checks g c = c.give_uber.ensures.check_counts ∙ c.open_shards.ensures.checks
+
+pub returns-in-Err-clause-later : goal.returns-in-Err-clause-later
+returns-in-Err-clause-later g c = (let first = c.open_shards.ensures.later in let same = c.give_uber.ensures.faults in omega (arith, first, same))
+
+pub returns-in-Err-commit-clause-whole : goal.returns-in-Err-commit-clause-whole
+returns-in-Err-commit-clause-whole g c = tt
+
+pub returns-in-Err-commit-clause-opens : goal.returns-in-Err-commit-clause-opens
+returns-in-Err-commit-clause-opens g c = tt
+
+pub returns-in-Err-commit-clause-away : goal.returns-in-Err-commit-clause-away
+returns-in-Err-commit-clause-away g c = tt
+
+pub returns-in-Err-commit-clause-checks : goal.returns-in-Err-commit-clause-checks
+returns-in-Err-commit-clause-checks g c = c.give_uber-in-Err-commit.ensures.check_counts ∙ (c.give_back.ensures.checks ∙ c.open_shards.ensures.checks)
+
+pub returns-in-Err-commit-clause-later : goal.returns-in-Err-commit-clause-later
+returns-in-Err-commit-clause-later g c = (let first = c.open_shards.ensures.later in let back = c.give_back.ensures.faults in let same = c.give_uber-in-Err-commit.ensures.faults in omega (arith, first, back, same))
+
+pub commit-requires-clause-valid : goal.commit-requires-clause-valid
+commit-requires-clause-valid g c = c.requires.uber.valid

@@ -76,3 +76,51 @@ returns-clause-told g c =
     let bound = c.loop-number.invariant.bound in
     let last : c.loop-number.number ≡ c.args.layout.props.metaslabs = omega (arith, end, bound) in
     subst (λ (n : ℕ). TakesFirst n (shelf.told c.args.shelf.now) (shelf.told c.loop-number.shelf)) last c.loop-number.invariant.opening.told
+
+pub returns-clause-back : goal.returns-clause-back
+returns-clause-back g c = tt
+
+pub returns-clause-uber : goal.returns-clause-uber
+returns-clause-uber g c = c.loop-number.invariant.uber
+
+pub returns-clause-checks : goal.returns-clause-checks
+returns-clause-checks g c = c.loop-number.invariant.checks
+
+pub returns-clause-later : goal.returns-clause-later
+returns-clause-later g c = c.loop-number.invariant.later
+
+pub returns-clause-cause : goal.returns-clause-cause
+returns-clause-cause g c failed = absurd (cc)
+
+pub returns-in-Err-clause-opened : goal.returns-in-Err-clause-opened
+returns-in-Err-clause-opened g c = tt
+
+pub returns-in-Err-clause-told : goal.returns-in-Err-clause-told
+returns-in-Err-clause-told g c = tt
+
+pub returns-in-Err-clause-uber : goal.returns-in-Err-clause-uber
+returns-in-Err-clause-uber g c = c.give_back.ensures.uber ∙ (c.open_shard.ensures.uber ∙ c.loop-number.invariant.uber)
+
+pub returns-in-Err-clause-checks : goal.returns-in-Err-clause-checks
+returns-in-Err-clause-checks g c = c.give_back.ensures.checks ∙ (c.open_shard.ensures.checks ∙ c.loop-number.invariant.checks)
+
+pub returns-in-Err-clause-later : goal.returns-in-Err-clause-later
+returns-in-Err-clause-later g c = (let first = c.loop-number.invariant.later in let more = c.open_shard.ensures.later in let same = c.give_back.ensures.faults in omega (arith, first, more, same))
+
+pub returns-in_default-clause-opened : goal.returns-in_default-clause-opened
+returns-in_default-clause-opened g c = tt
+
+pub returns-in_default-clause-told : goal.returns-in_default-clause-told
+returns-in_default-clause-told g c = tt
+
+pub returns-in_default-clause-uber : goal.returns-in_default-clause-uber
+returns-in_default-clause-uber g c = refl
+
+pub returns-in_default-clause-checks : goal.returns-in_default-clause-checks
+returns-in_default-clause-checks g c = refl
+
+pub returns-in_default-clause-later : goal.returns-in_default-clause-later
+returns-in_default-clause-later g c = omega arith
+
+pub returns-in_default-clause-cause : goal.returns-in_default-clause-cause
+returns-in_default-clause-cause g c failed = absurd (cc)

@@ -1,3 +1,4 @@
+use Rattle.draid_shard.specs.Fits.{Valid}
 use Rattle.std.proofs.Common.{◌≡◌, ◌+◌, ◌∙◌, arith, subst, sym, Bool, true, false}
 use Rattle.std.proofs.lemmas.Bool.{true≢false}
 use Rattle.draid_pool.proofs.Listing.{Counting, counting_all, counting_more, counting_none, counting_not}
@@ -22,3 +23,6 @@ loop-shard-preserved g c = elim c.if-is_shut_by.branch [
       subst (Counting c.args.why c.args.shards.now (c.loop-shard.shard-index + 1)) (sym w.count-is)
       (counting_not c.args.why c.args.shards.now c.loop-shard.shard-index c.loop-shard.count c.shard-item.result c.shut.result c.loop-shard-test.true c.shard-item.is c.shut.ensures (λ same. not_true (c.is_shut_by.ensures.1 same) w.if-is_shut_by.false) c.loop-shard.invariant)
 ]
+
+pub shut-requires : goal.shut-requires
+shut-requires g c = record { valid = subst (Valid g.R.Rack) (sym c.shard-item.is) (c.requires.valid c.loop-shard.shard-index c.shard-item.result c.loop-shard-test.true) }

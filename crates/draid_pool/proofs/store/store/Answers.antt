@@ -4,7 +4,7 @@ use Rattle.draid_entries.specs.Maps.{staged}
 use Rattle.draid_shard.specs.Part.{Part}
 use Rattle.draid_pool.specs.Shards.{NotStored, Stored}
 use Rattle.draid_pool.proofs.Sets.{drops_block, stores_block}
-use Rattle.draid_pool.proofs.StoreSteps.{AllPut, Begun, Ended, not_stored, stored}
+use Rattle.draid_pool.proofs.StoreSteps.{AllPut, Begun, Ended, not_stored, stored, never_refused}
 use Rattle.draid_pool.proofs.store.store.Goals as goal
 
 pub returns-in-Ok-finish : goal.returns-in-Ok-finish
@@ -92,3 +92,49 @@ returns-in-Err g c =
           (not_stored g.R.Rack g.A.Area c.args.object c.args.seq c.args.floor block old c.begin.new.self c.put_all.new.shard c.finish.new.self c.in-Ok.ticket c.put_all.new.ticket begun all ended part pieces x is
           (omega (arith, many, parity))));
     }
+
+pub begin-requires : goal.begin-requires
+begin-requires g c = record { valid = c.requires.valid; new = record { object_small = c.requires.object; some_seq = c.requires.seq.0; seq_small = c.requires.seq.1; unused = c.requires.unused }; floor = record { upto = c.requires.floor; low = c.requires.last }; cut = c.requires.cut }
+
+pub unreachable-requires : goal.unreachable-requires
+unreachable-requires g c =
+    let room = c.requires.room in
+    let no = never_refused c.args.shard.now _ room.0 room.2 c.in-Err-Disabled.field-0 (c.in-Err-Disabled.ensures.refused room.0 room.1) in
+    let is = sym c.in-Err-Disabled.field-0-is ∙ no in
+    absurd (cc)
+
+pub unreachable-requires-in-Err-Entries : goal.unreachable-requires-in-Err-Entries
+unreachable-requires-in-Err-Entries g c =
+    let room = c.requires.room in
+    let no = never_refused c.args.shard.now _ room.0 room.2 c.in-Err-Entries.field-0 (c.in-Err-Entries.ensures.refused room.0 room.1) in
+    let is = sym c.in-Err-Entries.field-0-is ∙ no in
+    absurd (cc)
+
+pub unreachable-requires-in-Err-NoRoom : goal.unreachable-requires-in-Err-NoRoom
+unreachable-requires-in-Err-NoRoom g c =
+    let room = c.requires.room in
+    let no = never_refused c.args.shard.now _ room.0 room.2 c.in-Err-NoRoom.field-0 (c.in-Err-NoRoom.ensures.refused room.0 room.1) in
+    let is = sym c.in-Err-NoRoom.field-0-is ∙ no in
+    absurd (cc)
+
+pub unreachable-requires-in-Err-Worn : goal.unreachable-requires-in-Err-Worn
+unreachable-requires-in-Err-Worn g c =
+    let room = c.requires.room in
+    let no = never_refused c.args.shard.now _ room.0 room.2 c.in-Err-Worn.field-0 (c.in-Err-Worn.ensures.refused room.0 room.1) in
+    let is = sym c.in-Err-Worn.field-0-is ∙ no in
+    absurd (cc)
+
+pub put_all-requires : goal.put_all-requires
+put_all-requires g c = record { valid = c.in-Ok.ensures.valid; carries = c.in-Ok.ensures.ticket.carries; fresh = c.in-Ok.ensures.ticket.named.fresh.0 }
+
+pub finish-requires : goal.finish-requires
+finish-requires g c = record { valid = c.put_all.ensures.valid; is_open = c.put_all.ensures.carries.is_open; all = c.put_all.ensures.all ∙ sym (ap (λ (q : Part). q.geometry.g) c.put_all.ensures.part) }
+
+pub returns-in-Err-NoMemory-clause-valid : goal.returns-in-Err-NoMemory-clause-valid
+returns-in-Err-NoMemory-clause-valid g c = c.in-Err-NoMemory.ensures.valid
+
+pub returns-in-Err-NoMemory-clause-part : goal.returns-in-Err-NoMemory-clause-part
+returns-in-Err-NoMemory-clause-part g c = c.in-Err-NoMemory.ensures.none.none.part
+
+pub returns-in-Err-NoMemory-clause-sets : goal.returns-in-Err-NoMemory-clause-sets
+returns-in-Err-NoMemory-clause-sets g c = c.in-Err-NoMemory.ensures.none.keeps

@@ -6,18 +6,69 @@ use Rattle.draid_pool.proofs.syncing.close_in.Goals as goal
 pub returns-in-Ok-clause-closes : goal.returns-in-Ok-clause-closes
 returns-in-Ok-clause-closes g c part pieces x is =
     let e = c.in-Ok.ensures in
-    closed g.R.Rack g.A.Area part pieces c.args.shard.now c.close_group.new.self c.args.group x is e.valid e.event e.kit e.reserve e.not_worn.0
+    closed g.R.Rack g.A.Area part pieces c.args.shard.now c.close_group.new.shard c.args.group x is e.valid e.event e.kit e.reserve e.not_worn.0
 
 pub returns-in-Err-Worn-clause-closes : goal.returns-in-Err-Worn-clause-closes
 returns-in-Err-Worn-clause-closes g c part pieces x is =
     let e = c.in-Err-Worn.ensures in
     let idle : c.args.shard.now.closing ≡ None = search rules in
-    not_closed g.R.Rack g.A.Area part pieces c.args.shard.now c.close_group.new.self c.args.group x c.in-Err-Worn.field-0 sync.Worn is e.valid e.none.none e.kit e.reserve idle e.refused
+    not_closed g.R.Rack g.A.Area part pieces c.args.shard.now c.close_group.new.shard c.args.group x c.in-Err-Worn.field-0 sync.Worn is e.valid e.none.none e.kit e.reserve idle e.refused
     (ap close_fault c.in-Err-Worn.field-0-is)
 
 pub returns-in-Err-Last-clause-closes : goal.returns-in-Err-Last-clause-closes
 returns-in-Err-Last-clause-closes g c part pieces x is =
     let e = c.in-Err-Last.ensures in
     let idle : c.args.shard.now.closing ≡ None = search rules in
-    not_closed g.R.Rack g.A.Area part pieces c.args.shard.now c.close_group.new.self c.args.group x c.in-Err-Last.field-0 sync.Last is e.valid e.none.none e.kit e.reserve idle e.refused
+    not_closed g.R.Rack g.A.Area part pieces c.args.shard.now c.close_group.new.shard c.args.group x c.in-Err-Last.field-0 sync.Last is e.valid e.none.none e.kit e.reserve idle e.refused
     (ap close_fault c.in-Err-Last.field-0-is)
+
+pub returns-in-Err-Worn-clause-valid : goal.returns-in-Err-Worn-clause-valid
+returns-in-Err-Worn-clause-valid g c = c.in-Err-Worn.ensures.valid
+
+pub returns-in-Err-Worn-clause-table : goal.returns-in-Err-Worn-clause-table
+returns-in-Err-Worn-clause-table g c = record { part = c.in-Err-Worn.ensures.none.none.part; entries = c.in-Err-Worn.ensures.none.keeps.entries; committed = c.in-Err-Worn.ensures.none.keeps.groups.committed }
+
+pub returns-in-Err-Worn-clause-closing : goal.returns-in-Err-Worn-clause-closing
+returns-in-Err-Worn-clause-closing g c = tt
+
+pub returns-in-Err-Worn-clause-not_shelf : goal.returns-in-Err-Worn-clause-not_shelf
+returns-in-Err-Worn-clause-not_shelf g c failed = absurd (cc)
+
+pub returns-in-Err-Last-clause-valid : goal.returns-in-Err-Last-clause-valid
+returns-in-Err-Last-clause-valid g c = c.in-Err-Last.ensures.valid
+
+pub returns-in-Err-Last-clause-table : goal.returns-in-Err-Last-clause-table
+returns-in-Err-Last-clause-table g c = record { part = c.in-Err-Last.ensures.none.none.part; entries = c.in-Err-Last.ensures.none.keeps.entries; committed = c.in-Err-Last.ensures.none.keeps.groups.committed }
+
+pub returns-in-Err-Last-clause-closing : goal.returns-in-Err-Last-clause-closing
+returns-in-Err-Last-clause-closing g c = tt
+
+pub returns-in-Err-Last-clause-not_shelf : goal.returns-in-Err-Last-clause-not_shelf
+returns-in-Err-Last-clause-not_shelf g c failed = absurd (cc)
+
+pub returns-in-Err-NoMemory-clause-valid : goal.returns-in-Err-NoMemory-clause-valid
+returns-in-Err-NoMemory-clause-valid g c = c.in-Err-NoMemory.ensures.valid
+
+pub returns-in-Err-NoMemory-clause-table : goal.returns-in-Err-NoMemory-clause-table
+returns-in-Err-NoMemory-clause-table g c = record { part = c.in-Err-NoMemory.ensures.none.none.part; entries = c.in-Err-NoMemory.ensures.none.keeps.entries; committed = c.in-Err-NoMemory.ensures.none.keeps.groups.committed }
+
+pub returns-in-Err-NoMemory-clause-closing : goal.returns-in-Err-NoMemory-clause-closing
+returns-in-Err-NoMemory-clause-closing g c = tt
+
+pub returns-in-Err-NoMemory-clause-not_shelf : goal.returns-in-Err-NoMemory-clause-not_shelf
+returns-in-Err-NoMemory-clause-not_shelf g c failed = absurd (cc)
+
+pub returns-in-Ok-clause-valid : goal.returns-in-Ok-clause-valid
+returns-in-Ok-clause-valid g c = c.in-Ok.ensures.valid
+
+pub returns-in-Ok-clause-table : goal.returns-in-Ok-clause-table
+returns-in-Ok-clause-table g c = record { part = c.in-Ok.ensures.event.part; entries = c.in-Ok.ensures.closes.entries; committed = c.in-Ok.ensures.closes.committed }
+
+pub returns-in-Ok-clause-not_shelf : goal.returns-in-Ok-clause-not_shelf
+returns-in-Ok-clause-not_shelf g c failed = absurd (cc)
+
+pub returns-then-is_some-clause-valid : goal.returns-then-is_some-clause-valid
+returns-then-is_some-clause-valid g c = c.requires.valid
+
+pub returns-then-is_some-clause-not_shelf : goal.returns-then-is_some-clause-not_shelf
+returns-then-is_some-clause-not_shelf g c failed = absurd (cc)

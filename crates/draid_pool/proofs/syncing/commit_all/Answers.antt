@@ -1,4 +1,4 @@
-use Rattle.std.proofs.Common.{arith}
+use Rattle.std.proofs.Common.{arith, refl, sym, ◌∙◌}
 use Rattle.draid_pool.proofs.Commits.{below_more}
 use Rattle.draid_pool.proofs.SyncSteps.{borrowed_at}
 use Rattle.draid_pool.proofs.syncing.commit_all.Goals as goal
@@ -13,5 +13,19 @@ loop-metaslab-preserved g c =
     let vec = c.args.shards.now.ok.0 in
     let many = b.many in
     let there = borrowed_at l.shards.items l.metaslab c.index_mut.result.now (omega (arith, below, len, vec, many)) c.index_mut.ensures.value in
-    below_more g.R.Rack c.args.group l.metaslab c.args.shards.now.items l.shards.items c.index_mut.result.now c.commit.new.self b there
+    below_more g.R.Rack c.args.group l.metaslab c.args.shards.now.items l.shards.items c.index_mut.result.now c.commit.new.shard b there
     (record { valid = e.valid; areas = e.areas; does = e.event; commits = e.commits; acts = e.acts; leaves = e.leaves; reserve = e.reserve })
+
+pub loop-metaslab-init : goal.loop-metaslab-init
+loop-metaslab-init g c = record { many = refl; below = λ k shard less there. absurd (omega (arith, less)); others = λ k past. refl }
+
+pub commit-requires-clause-sealed : goal.commit-requires-clause-sealed
+commit-requires-clause-sealed g c =
+    let l = c.loop-metaslab in
+    let b = l.invariant in
+    let below = c.loop-metaslab-test.true in
+    let len = c.len-metaslab-end.ensures in
+    let vec = c.args.shards.now.ok.0 in
+    let many = b.many in
+    let there = borrowed_at l.shards.items l.metaslab c.index_mut.result.now (omega (arith, below, len, vec, many)) c.index_mut.ensures.value in
+    c.requires.sealed l.metaslab c.index_mut.result.now (sym (b.others l.metaslab (omega arith)) ∙ there)

@@ -7,7 +7,7 @@ use Rattle.draid_run.specs.Shelves.{on_shelf}
 use Rattle.draid_run.specs.Serve.{AnswerIs}
 use Rattle.draid_run.proofs.Grouping.{answer_export, answer_sync, by_crash}
 use Rattle.draid_run.proofs.Importings.{answer_import}
-use Rattle.draid_run.proofs.Steps.{by_damage, by_fill, by_free, by_read, by_sum, by_write}
+use Rattle.draid_run.proofs.Steps.{by_damage, by_fill, by_free, by_read, by_status, by_sum, by_write}
 use Rattle.draid_run.proofs.answer.answer.Goals as goal
 
 pub returns-in-Write-clause-answer : goal.returns-in-Write-clause-answer
@@ -39,6 +39,11 @@ pub returns-in-Damage-clause-answer : goal.returns-in-Damage-clause-answer
 returns-in-Damage-clause-answer g c entry x desk =
     subst (λ (l : Line). Turned g.H.R.Rack g.H.A.Area (FnReturnsAt g.F.Fn c.args.chooser.now) (Ok (command_in l)) entry x (Some c.damage.result) (on_shelf g.H.Shelf c.args.shelf.now) c.damage.new.pool) (sym c.in-Damage.is)
     (by_damage g.H.R.Rack g.H.A.Area (FnReturnsAt g.F.Fn c.args.chooser.now) entry (on_shelf g.H.Shelf c.args.shelf.now) c.args.pool.now c.damage.result c.in-Damage.leaf c.in-Damage.sector x c.damage.new.pool desk (c.damage.ensures.did x desk.stands))
+
+pub returns-in-Status-clause-answer : goal.returns-in-Status-clause-answer
+returns-in-Status-clause-answer g c entry x desk =
+    subst (λ (l : Line). Turned g.H.R.Rack g.H.A.Area (FnReturnsAt g.F.Fn c.args.chooser.now) (Ok (command_in l)) entry x (Some c.status.result) (on_shelf g.H.Shelf c.args.shelf.now) c.args.pool.now) (sym c.in-Status.is)
+    (by_status g.H.R.Rack g.H.A.Area (FnReturnsAt g.F.Fn c.args.chooser.now) entry (on_shelf g.H.Shelf c.args.shelf.now) c.args.pool.now c.status.result c.in-Status.format x c.args.pool.now desk (c.status.ensures.did x desk.stands))
 
 pub returns-in-Sync-clause-answer : goal.returns-in-Sync-clause-answer
 returns-in-Sync-clause-answer g c entry x desk =

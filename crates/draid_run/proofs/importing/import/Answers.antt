@@ -6,7 +6,7 @@ use Rattle.draid_script.specs.Line.{ImportPool}
 use Rattle.draid_run.specs.Desks.{Broken}
 use Rattle.draid_run.specs.Importing.{ImportDid}
 use Rattle.draid_run.specs.Shelves.{on_shelf}
-use Rattle.draid_run.proofs.Importings.{imported, no_memory, no_pool, none_open, record_fails, shelf_failed, unnamed}
+use Rattle.draid_run.proofs.Importings.{fault_named, imported, no_memory, no_pool, none_open, record_fails, shelf_failed, unnamed}
 use Rattle.draid_run.proofs.Makings.{shut}
 use Rattle.draid_run.proofs.importing.import.Goals as goal
 
@@ -19,7 +19,7 @@ returns-in_default-clause-answer g c entry x desk =
     let none = sym c.is_some.ensures ∙ c.if-is_some.false in
     subst (λ p. ImportDid g.H.R.Rack g.H.A.Area entry x (NoMemory name.Import) late p) (sym (none_open c.args.pool.now none))
     (unnamed g.H.R.Rack g.H.A.Area entry before now c.import.result
-    (record { whole = e.whole; none = e.none; imports = e.import; tells = e.tells; checks_held = e.held; checks = e.checks; cause = e.cause }) c.in-Ok.open c.in-Ok.is late c.close.ensures.back c.close.ensures.checks
+    (record { whole = e.whole; none = e.none; imports = e.import; tells = e.tells; checks_held = e.held; checks = e.checks; cause = e.cause; made = e.made }) c.in-Ok.open c.in-Ok.is late c.close.ensures.back c.close.ensures.checks
     x (shut g.H.R.Rack g.H.A.Area c.args.pool.now x none desk.stands) desk.shelf)
 
 pub returns-in-Ok-vdev_name-clause-answer : goal.returns-in-Ok-vdev_name-clause-answer
@@ -29,7 +29,7 @@ returns-in-Ok-vdev_name-clause-answer g c entry x desk =
     let e = c.import.ensures in
     let none = sym c.is_some.ensures ∙ c.if-is_some.false in
     imported g.H.R.Rack g.H.A.Area entry before now c.import.result
-    (record { whole = e.whole; none = e.none; imports = e.import; tells = e.tells; checks_held = e.held; checks = e.checks; cause = e.cause }) c.in-Ok.open c.in-Ok.is
+    (record { whole = e.whole; none = e.none; imports = e.import; tells = e.tells; checks_held = e.held; checks = e.checks; cause = e.cause; made = e.made }) c.in-Ok.open c.in-Ok.is
     c.in-Ok-vdev_name.name c.geometry.result.now c.committed-group.result c.objects-objects.result c.in-Ok-vdev_name.ensures c.geometry.ensures.state c.committed-group.ensures c.objects-objects.ensures
     x (shut g.H.R.Rack g.H.A.Area c.args.pool.now x none desk.stands) desk.shelf
 
@@ -41,7 +41,7 @@ returns-in-Err-NoPool-clause-answer g c entry x desk =
     let none = sym c.is_some.ensures ∙ c.if-is_some.false in
     subst (λ p. ImportDid g.H.R.Rack g.H.A.Area entry x (NoPool name.Import) now p) (sym (none_open c.args.pool.now none))
     (no_pool g.H.R.Rack g.H.A.Area entry before now c.import.result
-    (record { whole = e.whole; none = e.none; imports = e.import; tells = e.tells; checks_held = e.held; checks = e.checks; cause = e.cause })
+    (record { whole = e.whole; none = e.none; imports = e.import; tells = e.tells; checks_held = e.held; checks = e.checks; cause = e.cause; made = e.made })
     (c.in-Err-NoPool.is ∙ ap Err c.in-Err-NoPool.field-0-is) x (shut g.H.R.Rack g.H.A.Area c.args.pool.now x none desk.stands) desk.shelf)
 
 pub returns-in-Err-NoMemory-clause-answer : goal.returns-in-Err-NoMemory-clause-answer
@@ -52,7 +52,7 @@ returns-in-Err-NoMemory-clause-answer g c entry x desk =
     let none = sym c.is_some.ensures ∙ c.if-is_some.false in
     subst (λ p. ImportDid g.H.R.Rack g.H.A.Area entry x (NoMemory name.Import) now p) (sym (none_open c.args.pool.now none))
     (no_memory g.H.R.Rack g.H.A.Area entry before now c.import.result
-    (record { whole = e.whole; none = e.none; imports = e.import; tells = e.tells; checks_held = e.held; checks = e.checks; cause = e.cause })
+    (record { whole = e.whole; none = e.none; imports = e.import; tells = e.tells; checks_held = e.held; checks = e.checks; cause = e.cause; made = e.made })
     (c.in-Err-NoMemory.is ∙ ap Err c.in-Err-NoMemory.field-0-is) x (shut g.H.R.Rack g.H.A.Area c.args.pool.now x none desk.stands) desk.shelf)
 
 pub returns-in-Err-Shelf-clause-answer : goal.returns-in-Err-Shelf-clause-answer
@@ -63,7 +63,7 @@ returns-in-Err-Shelf-clause-answer g c entry x desk =
     let none = sym c.is_some.ensures ∙ c.if-is_some.false in
     subst (λ p. Broken g.H.R.Rack g.H.A.Area ShelfFails ImportPool entry before x now p) (sym (none_open c.args.pool.now none))
     (shelf_failed g.H.R.Rack g.H.A.Area entry before now c.import.result
-    (record { whole = e.whole; none = e.none; imports = e.import; tells = e.tells; checks_held = e.held; checks = e.checks; cause = e.cause })
+    (record { whole = e.whole; none = e.none; imports = e.import; tells = e.tells; checks_held = e.held; checks = e.checks; cause = e.cause; made = e.made })
     (c.in-Err-Shelf.is ∙ ap Err c.in-Err-Shelf.field-0-is) x (shut g.H.R.Rack g.H.A.Area c.args.pool.now x none desk.stands) desk.shelf)
 
 pub returns-in-Err-Record-clause-answer : goal.returns-in-Err-Record-clause-answer
@@ -71,8 +71,12 @@ returns-in-Err-Record-clause-answer g c entry x desk =
     let before = on_shelf g.H.Shelf c.args.shelf.now in
     let now = on_shelf g.H.Shelf c.import.new.shelf in
     let e = c.import.ensures in
+    let r = c.in-Err-Record in
     let none = sym c.is_some.ensures ∙ c.if-is_some.false in
-    subst (λ p. Broken g.H.R.Rack g.H.A.Area RecordFails ImportPool entry before x now p) (sym (none_open c.args.pool.now none))
-    (record_fails g.H.R.Rack g.H.A.Area entry before now c.import.result
-    (record { whole = e.whole; none = e.none; imports = e.import; tells = e.tells; checks_held = e.held; checks = e.checks; cause = e.cause })
-    c.in-Err-Record.metaslab c.in-Err-Record.at c.in-Err-Record.kind (c.in-Err-Record.is ∙ ap Err c.in-Err-Record.field-0-is) x (shut g.H.R.Rack g.H.A.Area c.args.pool.now x none desk.stands) desk.shelf)
+    let is = r.is ∙ ap Err r.field-0-is in (
+      subst (λ p. Broken g.H.R.Rack g.H.A.Area RecordFails ImportPool entry before x now p) (sym (none_open c.args.pool.now none))
+          (record_fails g.H.R.Rack g.H.A.Area entry before now c.import.result
+          (record { whole = e.whole; none = e.none; imports = e.import; tells = e.tells; checks_held = e.held; checks = e.checks; cause = e.cause; made = e.made })
+          r.metaslab r.at r.kind is x (shut g.H.R.Rack g.H.A.Area c.args.pool.now x none desk.stands) desk.shelf),
+      fault_named g.H.R.Rack g.H.A.Area before r.metaslab _ r.at _ r.kind _ r.metaslab-is r.at-is r.kind-is (e.faulty r.metaslab r.at r.kind is),
+    )

@@ -8,12 +8,12 @@ use Rattle.draid_run.proofs.top.run.Goals as goal
 
 pub returns-in-Err-Usage-clause-run : goal.returns-in-Err-Usage-clause-run
 returns-in-Err-Usage-clause-run g c first at =
-    run_refused (FnReturnsAt g.F.Fn c.args.chooser.now) _ _ _ _ _ (on_shelf g.H.Shelf c.args.shelf.now) first at
+    run_refused g.H.R.Rack g.H.A.Area (FnReturnsAt g.F.Fn c.args.chooser.now) _ _ _ _ _ (on_shelf g.H.Shelf c.args.shelf.now) first at
     (c.take_words.ensures.usage (c.in-Err-Usage.is ∙ ap Err c.in-Err-Usage.field-0-is)) c.end_run.ensures.line
 
 pub returns-in-Err-NoMemory-clause-run : goal.returns-in-Err-NoMemory-clause-run
 returns-in-Err-NoMemory-clause-run g c first at =
-    run_unread (FnReturnsAt g.F.Fn c.args.chooser.now) _ _ _ _ _ (on_shelf g.H.Shelf c.args.shelf.now) first at
+    run_unread g.H.R.Rack g.H.A.Area (FnReturnsAt g.F.Fn c.args.chooser.now) _ _ _ _ _ (on_shelf g.H.Shelf c.args.shelf.now) first at
     c.end_run-in-Err-NoMemory.ensures.line
 
 pub returns-clause-run : goal.returns-clause-run

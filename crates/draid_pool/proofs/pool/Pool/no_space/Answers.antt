@@ -1,10 +1,10 @@
-use Rattle.std.proofs.Common.{sym, subst, List}
+use Rattle.std.proofs.Common.{sym, subst, List, length, ◌≤◌}
 use Rattle.std.specs.Prelude.{All}
 use Rattle.draid_shard.specs.Fits.{Valid}
 use Rattle.draid_shard.specs.declared.fault.Shut.TheVariants as shut
 use Rattle.draid_shard.specs.declared.shard.Shard.{Shard}
 use Rattle.draid_pool.specs.Shards.{AreShut}
-use Rattle.draid_pool.proofs.Wholes.{all_whole}
+use Rattle.draid_pool.proofs.Wholes.{all_whole, few_whole}
 use Rattle.draid_pool.proofs.pool.Pool.no_space.Goals as goal
 
 pub count_shut-requires-clause-valid : goal.count_shut-requires-clause-valid
@@ -26,3 +26,12 @@ returns g c = (
   subst (λ (xs : List (Shard g.row.R.Denot g.row.A.Denot)). AreShut xs shut.Full c.count_shut-2.result) c.as_slice-shards.ensures.value c.count_shut-2.ensures,
   subst (λ (xs : List (Shard g.row.R.Denot g.row.A.Denot)). AreShut xs shut.Worn c.count_shut-3.result) c.as_slice-shards.ensures.value c.count_shut-3.ensures,
 )
+
+pub count_shut-requires-clause-few : goal.count_shut-requires-clause-few
+count_shut-requires-clause-few g c = subst (λ (xs : List (Shard g.row.R.Denot g.row.A.Denot)). length xs ≤ 64) (sym c.as_slice-shards.ensures.value) (few_whole g.R.Rack g.A.Area c.args.self.now c.requires.whole)
+
+pub count_shut-requires-2-clause-few : goal.count_shut-requires-2-clause-few
+count_shut-requires-2-clause-few g c = subst (λ (xs : List (Shard g.row.R.Denot g.row.A.Denot)). length xs ≤ 64) (sym c.as_slice-shards.ensures.value) (few_whole g.R.Rack g.A.Area c.args.self.now c.requires.whole)
+
+pub count_shut-requires-3-clause-few : goal.count_shut-requires-3-clause-few
+count_shut-requires-3-clause-few g c = subst (λ (xs : List (Shard g.row.R.Denot g.row.A.Denot)). length xs ≤ 64) (sym c.as_slice-shards.ensures.value) (few_whole g.R.Rack g.A.Area c.args.self.now c.requires.whole)

@@ -158,3 +158,18 @@ returns-in-Err-NoMemory g c =
         represents = unwritten g.R.Rack g.A.Area c.args.metaslab c.args.object c.args.block.now.bytes old shard c.store.new.shard x is at.0 new (unwritten_here g.R.Rack g.A.Area c.args.metaslab c.args.object c.args.block.now.bytes old shard c.store.new.shard x is at.0 c.in-Err-NoMemory.field-0 c.in-Err-NoMemory.field-0-is e.stores) refl refl refl refl refl (λ q. c.reserve.ensures.entries.2 q);
       };
     }
+
+pub overflow_add-self : goal.overflow_add-self
+overflow_add-self g c = (let last = c.requires.last in omega (arith, last))
+
+pub overflow_add-self-in-Ok : goal.overflow_add-self-in-Ok
+overflow_add-self-in-Ok g c = (let last = c.requires.last in omega (arith, last))
+
+pub overflow_add-self-in-Err-Missed : goal.overflow_add-self-in-Err-Missed
+overflow_add-self-in-Err-Missed g c = (let last = c.requires.last in omega (arith, last))
+
+pub store-requires-clause-object : goal.store-requires-clause-object
+store-requires-clause-object g c = c.requires.object
+
+pub store-requires-clause-seq : goal.store-requires-clause-seq
+store-requires-clause-seq g c = (omega arith, c.requires.last)

@@ -1,0 +1,106 @@
+-- What the records of all metaslabs of one pool have in common, and which fault it is where they haven't.
+use Rattle.std.specs.Prelude.{◌≡◌, ◌<◌, ◌+◌, ◌-◌, ◌*◌, ◌^◌, ◌&&◌, ◌⊎◌, ℕ, zero, suc, Bool, true, List, Option, Some, if◌then◌else◌, is_some, length, min, nat_eq, slice_get}
+use Rattle.std.specs.HashSet.{HashSet, contains}
+use Rattle.draid_names.specs.declared.arm.Arm.{Arm}
+use Rattle.draid_names.specs.declared.pointer.Pointer.{Pointer}
+use Rattle.draid_machine.specs.declared.names.Key.{Key}
+use Rattle.draid_entries.specs.declared.entry.Entry.{Entry}
+use Rattle.draid_entries.specs.declared.entries.Entries.{Entries}
+use Rattle.draid_entries.specs.Entries.{entry_at}
+use Rattle.draid_entries.specs.Maps.{key_of}
+use Rattle.draid_slots.specs.Table.{SlotTable, arms_of}
+use Rattle.draid_shard.specs.declared.shard.Shard.{Shard}
+
+-- ---- arms
+
+-- two arms are one, but for whether a pass has made it good
+pub record IsSameArm (p q : Arm) : Type 0 where
+  pub kind_is : p.kind ≡ q.kind
+  pub number_is : p.number ≡ q.number
+  pub offline_is : p.offline ≡ q.offline
+
+-- so all of two slots, one after another
+pub record AreSameArms (ps qs : List Arm) : Type 0 where
+  pub many : length ps ≡ length qs
+  pub each : (k : ℕ) (p q : Arm) → slice_get ps k ≡ Some p → slice_get qs k ≡ Some q → IsSameArm p q
+
+-- so those of each slot of two metaslabs
+pub record HaveSameArms (a b : SlotTable) : Type 0 where
+  pub children : b.geometry.spec.children ≡ a.geometry.spec.children
+  pub slots : (slot : ℕ) → slot < a.geometry.spec.children → AreSameArms (arms_of a slot) (arms_of b slot)
+
+-- ---- blocks
+
+abbrev pub pair_eq : ℕ × ℕ → ℕ × ℕ → Bool
+pair_eq p q = nat_eq p.0 q.0 && nat_eq p.1 q.1
+
+-- whether a block of this object and number was noted
+abbrev pub noted_in : {S : Type 0} → HashSet (ℕ × ℕ) S → Key → Bool
+noted_in keys key = contains pair_eq keys (key.object, key.seq)
+
+-- a metaslab has a block of this object and number
+pub record HasBlock {R A : Type 0} (shard : Shard R A) (key : Key) : Type 0 where
+  pub first : ℕ
+  pub e : Entry
+  pub there : entry_at shard.entries first ≡ Some e
+  pub key_is : key_of e.pointer ≡ key
+
+-- how many blocks begin below a stripe
+unfoldable pub blocks_below : Entries → ℕ → ℕ
+blocks_below t zero = 0
+blocks_below t (suc n) = blocks_below t n + (if is_some (entry_at t n) then 1 else 0)
+
+-- where a block stands in the record from which its metaslab was opened: it takes 72 bytes, behind those of lower stripes. A number of 64 bits doesn't go on.
+abbrev pub place_in : {R A : Type 0} → Shard R A → ℕ → ℕ
+place_in shard first = min (shard.blocks_at + 72 * blocks_below shard.entries first) (2 ^ 64 - 1)
+
+-- nothing but a block was noted
+abbrev pub NotesOnly : Pointer → (Key → Bool) → (Key → Bool) → Type 0
+NotesOnly pointer old new = (key : Key) → new key ≡ true → (old key ≡ true) ⊎ (key_of pointer ≡ key)
+
+-- nothing but blocks of a metaslab was noted
+abbrev pub NotesOnlyOf : {R A : Type 0} → Shard R A → (Key → Bool) → (Key → Bool) → Type 0
+NotesOnlyOf shard old new = (key : Key) → new key ≡ true → (old key ≡ true) ⊎ HasBlock shard key
+
+-- ---- faults
+
+-- a block of this metaslab has the object and the number of one that was noted
+pub record IsNotedTwice {R A : Type 0} (shard : Shard R A) (noted : Key → Bool) (metaslab : Option ℕ) (place kind : ℕ) : Type 0 where
+  pub metaslab_is : metaslab ≡ Some shard.number
+  pub kind_is : kind ≡ 5
+  pub key : Key
+  pub block : HasBlock shard key
+  pub place_is : place ≡ place_in shard block.first
+  pub twice : noted key ≡ true
+
+-- a metaslab has other arms than the first one
+pub record HasOtherArms {R A : Type 0} (shards : List (Shard R A)) (metaslab : Option ℕ) (place kind : ℕ) : Type 0 where
+  pub m : ℕ
+  pub metaslab_is : metaslab ≡ Some m
+  pub place_is : place ≡ 20
+  pub kind_is : kind ≡ 4
+  pub first : Shard R A
+  pub begins : slice_get shards 0 ≡ Some first
+  pub shard : Shard R A
+  pub there : slice_get shards m ≡ Some shard
+  pub differ : HaveSameArms first.slots shard.slots → ⊥
+
+-- a metaslab has a block of the object and the number that a block of an earlier one has
+pub record HasBlockTwice {R A : Type 0} (shards : List (Shard R A)) (metaslab : Option ℕ) (place kind : ℕ) : Type 0 where
+  pub m : ℕ
+  pub metaslab_is : metaslab ≡ Some m
+  pub kind_is : kind ≡ 5
+  pub shard : Shard R A
+  pub there : slice_get shards m ≡ Some shard
+  pub earlier : ℕ
+  pub before : earlier < m
+  pub other : Shard R A
+  pub other_there : slice_get shards earlier ≡ Some other
+  pub key : Key
+  pub block : HasBlock shard key
+  pub place_is : place ≡ place_in shard block.first
+  pub twice : HasBlock other key
+
+-- which fault the record of a metaslab has that was read whole, among those of the others
+abbrev pub AreApart : {R A : Type 0} → List (Shard R A) → Option ℕ → (place kind : ℕ) → Type 0
+AreApart shards metaslab place kind = HasOtherArms shards metaslab place kind ⊎ HasBlockTwice shards metaslab place kind

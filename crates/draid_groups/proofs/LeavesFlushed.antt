@@ -1,0 +1,130 @@
+-- The leaves that a seal flushes.
+use Rattle.std.proofs.Common.{◌≡◌, ◌==◌, ◌<◌, ◌≤◌, ◌^◌, ◌&&◌, not, ◌∙◌, ℕ, zero, suc, Bool, true, false, List, [], ◌∷◌, Option, Some, None, arith, refl, sym, ap, subst, inl, inr, length, slice_get}
+use Rattle.std.specs.Prelude.{Contains, is_some, slice_index_or}
+use Rattle.std.specs.List.{list_any}
+use Rattle.std.proofs.lemmas.Bool.{cases_lt, true≢false}
+use Rattle.std.proofs.lemmas.List.Elements.{All-nil}
+use Rattle.draid_names.specs.declared.arm.Arm.{Arm}
+use Rattle.draid_names.specs.declared.arm.ArmAt.{ArmAt}
+use Rattle.draid_names.specs.declared.arm.ArmKind.{ArmKind}
+use Rattle.draid_names.specs.declared.arm.ArmKind.TheVariants as kind
+use Rattle.draid_machine.specs.declared.names.ArmName.{ArmName}
+use Rattle.draid_machine.specs.declared.names.ArmName.TheVariants.{Leaf, Spare}
+use Rattle.draid_machine.specs.Arms.{is_here, leaf_answers, online}
+use Rattle.draid_machine.specs.State as machine
+use Rattle.draid_machine.proofs.Small.{absurd_test, both_true, either_true, is_equal, none_some, not_true, some_injective, some_same}
+use Rattle.draid_rack.specs.Rack.{Shape}
+use Rattle.draid_slots.specs.declared.slot.Detached.{Detached}
+use Rattle.draid_slots.specs.Table.{IsArmOf, IsTable, IsThere, SlotTable, arm_at, arms_of, is_leaf_kind, is_leaving_online}
+use Rattle.draid_slots.specs.States.{HasSlots, IsGone, arm_in, name_of, named}
+use Rattle.draid_groups.specs.Sealing.{AreFlushed, FlushedBelow, IsOnline}
+use Rattle.draid_groups.proofs.Missing.{slot_inside}
+
+-- ---- leaves that answer
+leaf_there : (q : machine.Core) (leaf : ℕ) → leaf_answers q leaf ≡ true → (a : machine.Arm) × (q.arm (Leaf leaf) ≡ Some a) × (is_here (Some a) ≡ true)
+leaf_there q leaf is = by (q.arm (Leaf leaf)) refl
+  where
+    by : (o : Option machine.Arm) → q.arm (Leaf leaf) ≡ o → (a : machine.Arm) × (q.arm (Leaf leaf) ≡ Some a) × (is_here (Some a) ≡ true)
+    by None at = absurd_test false (sym (ap (λ o. is_here o && online o) at) ∙ is) refl
+    by (Some a) at = (a, at, (both_true (is_here (Some a)) (online (Some a)) (sym (ap (λ o. is_here o && online o) at) ∙ is)).0)
+
+is_arm_leaf : (a : Arm) (leaf : ℕ) → name_of a ≡ Leaf leaf → (a.kind ≡ kind.Leaf) × (a.number ≡ leaf)
+is_arm_leaf a leaf is = by a.kind refl
+  where
+    number : ArmName → ℕ
+    number (Leaf m) = m
+    number (Spare t) = t
+
+    leaves : ArmName → Bool
+    leaves (Leaf m) = true
+    leaves (Spare t) = false
+
+    by : (k : ArmKind) → a.kind ≡ k → (a.kind ≡ kind.Leaf) × (a.number ≡ leaf)
+    by kind.Leaf e = (e, ap number (sym (ap (λ k. named k a.number) e) ∙ is))
+    by kind.Spare e = absurd (true≢false (sym (ap leaves (sym (ap (λ k. named k a.number) e) ∙ is))))
+
+not_here : (a : machine.Arm) (g : machine.Gone) → a.gone ≡ Some g → is_here (Some a) ≡ false
+not_here a g is = ap (λ o. elim o as (λ g. Bool) [ None ↦ true | Some g ↦ false ]) is
+
+-- a leaf that answers is an arm
+pub answers_leaf : (slots : SlotTable) (q : machine.Core) (leaf : ℕ) → HasSlots slots q → leaf_answers q leaf ≡ true
+    → (at : ArmAt) × (arm : Arm) × (arm_at slots at ≡ Some arm) × (arm.kind ≡ kind.Leaf) × (arm.number ≡ leaf)
+answers_leaf slots q leaf has is =
+    let found = leaf_there q leaf is in
+    elim (has.only (Leaf leaf) (λ none. none_some (q.arm (Leaf leaf)) found.0 none found.1)) [
+      | inl arm ↦ (let z = is_arm_leaf arm.arm leaf arm.name_is in (arm.at, arm.arm, arm.there, z.0, z.1))
+      | inr was ↦ (let g = has.detached was.gone was.among in
+          let same : g.arm ≡ found.0 = some_same (q.arm (Leaf leaf)) g.arm found.0 (ap q.arm (sym was.name_is) ∙ g.there) found.1 in
+          absurd_test (is_here (Some found.0)) found.2 (ap (λ a. is_here (Some a)) (sym same) ∙ not_here g.arm (record { slot = was.gone.slot; group = was.gone.group }) g.by))
+    ]
+
+-- ---- the code's test
+below : (xs : List Arm) (k : ℕ) (x : Arm) → slice_get xs k ≡ Some x → k < length xs
+below [] k x is = absurd (cc)
+below (y ∷ ys) zero x is = omega arith
+below (y ∷ ys) (suc k) x is = let less = below ys k x is in omega (arith, less)
+
+got : (xs : List Arm) (k : ℕ) (x d : Arm) → slice_get xs k ≡ Some x → slice_index_or xs k d ≡ x
+got [] k x d at = absurd (cc)
+got (y ∷ ys) zero x d at = some_injective y x at
+got (y ∷ ys) (suc k) x d at = got ys k x d at
+
+pub found_there : (slots : SlotTable) (leaf : ℕ) (at : ArmAt) → IsArmOf kind.Leaf leaf (arm_at slots at) → IsThere slots at
+found_there slots leaf at found = below (arms_of slots at.slot) at.arm found.0 found.1
+
+pub found_slot : (slots : SlotTable) (leaf : ℕ) (at : ArmAt) → IsTable slots → IsArmOf kind.Leaf leaf (arm_at slots at) → at.slot < slots.geometry.spec.children
+found_slot slots leaf at is found = slot_inside slots at is (found_there slots leaf at found)
+
+pub found_online : (slots : SlotTable) (leaf : ℕ) (at : ArmAt) (arms : List Arm) (d : Arm) → arms ≡ arms_of slots at.slot → IsArmOf kind.Leaf leaf (arm_at slots at) → (q : machine.Core) → HasSlots slots q
+    → not (slice_index_or arms at.arm d).offline ≡ true → IsOnline q leaf
+found_online slots leaf at arms d are found q has is = record {
+  arm = arm_in slots at found.0;
+  found = subst (λ n. q.arm (Leaf n) ≡ Some (arm_in slots at found.0)) found.3 (subst (λ k. q.arm (named k found.0.number) ≡ Some (arm_in slots at found.0)) found.2 (has.arms at found.0 found.1));
+  online = ap (λ (a : Arm). a.offline) (sym (ap (λ xs. slice_index_or xs at.arm d) are ∙ got (arms_of slots at.slot) at.arm found.0 d found.1)) ∙ not_true (slice_index_or arms at.arm d).offline is;
+}
+
+pub none_answers : (slots : SlotTable) (leaf : ℕ) (b : Bool) → ((at : ArmAt) → IsArmOf kind.Leaf leaf (arm_at slots at) → ⊥) → (q : machine.Core) → HasSlots slots q → leaf_answers q leaf ≡ true → b ≡ true
+none_answers slots leaf b none q has is = let a = answers_leaf slots q leaf has is in absurd (none a.0 (a.1, a.2, a.3, a.4))
+
+leaf_kind : (k : ArmKind) → is_leaf_kind k ≡ true → k ≡ kind.Leaf
+leaf_kind kind.Leaf is = refl
+leaf_kind kind.Spare is = absurd_test false is refl
+
+left_online : (list : List Detached) (leaf : ℕ) → list_any (λ (gone : Detached). is_leaf_kind gone.kind && ((gone.number == leaf) && not gone.offline)) list ≡ true
+    → (gone : Detached) × Contains list gone × (gone.kind ≡ kind.Leaf) × (gone.number ≡ leaf) × (gone.offline ≡ false)
+left_online [] leaf is = absurd_test false is refl
+left_online (x ∷ xs) leaf is = elim (either_true (is_leaf_kind x.kind && ((x.number == leaf) && not x.offline)) (list_any (λ (gone : Detached). is_leaf_kind gone.kind && ((gone.number == leaf) && not gone.offline)) xs) is) [
+  | inl here ↦ (let a = both_true (is_leaf_kind x.kind) ((x.number == leaf) && not x.offline) here in let b = both_true (x.number == leaf) (not x.offline) a.1 in
+      (x, (zero, omega arith, refl), leaf_kind x.kind a.0, is_equal x.number leaf b.0, not_true x.offline b.1))
+  | inr behind ↦ (let z = left_online xs leaf behind in let a = z.1 in (z.0, (suc a.0, (let less = a.1 in omega (arith, less)), a.2), z.2, z.3, z.4))
+]
+
+pub leaving_is_online : (slots : SlotTable) (leaf : ℕ) → is_leaving_online slots leaf ≡ true → (q : machine.Core) → HasSlots slots q → IsOnline q leaf
+leaving_is_online slots leaf is q has =
+    let z = left_online slots.detached leaf is in
+    let was : IsGone z.0 (q.arm (named z.0.kind z.0.number)) = has.detached z.0 z.1 in
+    record {
+      arm = was.arm;
+      found = subst (λ n. q.arm (Leaf n) ≡ Some was.arm) z.3 (subst (λ k. q.arm (named k z.0.number) ≡ Some was.arm) z.2 was.there);
+      online = was.offline ∙ z.4;
+    }
+
+-- ---- the leaves that were found so far
+pub flushed_none : (shape : Shape) (slots : SlotTable) → FlushedBelow shape slots [] 0
+flushed_none shape slots = record { there = All-nil _; online = λ q has. All-nil _; below = λ q leaf has less there is. absurd (omega (arith, less)) }
+
+-- no leaf is there between two numbers
+pub flushed_on : (shape : Shape) (slots : SlotTable) (leaves : List ℕ) (from to : ℕ) → ((m : ℕ) → from ≤ m → m < to → shape.leaves m ≡ None) → FlushedBelow shape slots leaves from → FlushedBelow shape slots leaves to
+flushed_on shape slots leaves from to none f = record {
+  there = f.there;
+  online = f.online;
+  below = λ q leaf has less there is. elim (cases_lt leaf from) [
+    | inl low ↦ f.below q leaf has low there is
+    | inr high ↦ absurd (true≢false (sym there ∙ ap is_some (none leaf high less)))
+  ];
+}
+
+pub flushed_all : (shape : Shape) (slots : SlotTable) (leaves : List ℕ) (from : ℕ) → ((m : ℕ) → from ≤ m → m < 2 ^ 64 → shape.leaves m ≡ None) → FlushedBelow shape slots leaves from → AreFlushed shape slots leaves
+flushed_all shape slots leaves from none f =
+    let all = flushed_on shape slots leaves from (2 ^ 64) none f in
+    record { there = all.there; online = all.online; all = all.below }

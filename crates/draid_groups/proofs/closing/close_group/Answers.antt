@@ -1,0 +1,41 @@
+use Rattle.std.proofs.Common.{◌∙◌, ◌++◌, ◌∷◌, [], List, arith, ap, refl}
+use Rattle.draid_machine.specs.declared.event.Event.{Event}
+use Rattle.draid_machine.specs.declared.event.Event.TheVariants.{Close}
+use Rattle.draid_shard.proofs.Changed.{same_entries}
+use Rattle.draid_groups.proofs.Closed.{closed_valid, closes, kept_in, kept_valid}
+use Rattle.draid_groups.proofs.closing.close_group.Goals as goal
+
+pub returns-in_default-clause-valid : goal.returns-in_default-clause-valid
+returns-in_default-clause-valid g c =
+    kept_valid g.R.Rack c.args.shard.now c.reserve.new.self c.in_default.ensures.kept c.ask_for_group.new.self c.requires.valid c.in_default.ensures.roomier c.in-Ok.ensures.same
+
+pub returns-in_default-clause-none : goal.returns-in_default-clause-none
+returns-in_default-clause-none g c = record {
+  none = record {
+    part = refl;
+    stored = c.in-Ok.ensures.same.events;
+    stays = kept_in g.R.Rack c.args.shard.now c.reserve.new.self c.in_default.ensures.kept c.ask_for_group.new.self;
+  };
+  keeps = record { entries = same_entries c.args.shard.now.entries; groups = record { open_group_is = refl; closing = refl; sealed = refl; committed = refl } };
+}
+
+pub returns-clause-valid : goal.returns-clause-valid
+returns-clause-valid g c =
+    let v = c.requires.valid in
+    let same = c.in-Ok.ensures.same in
+    let low = v.low in
+    let open_is = c.requires.group in
+    let other = c.if-group-eq-LAST_NUMBER.false in
+    closed_valid g.R.Rack c.args.shard.now c.reserve.new.self c.in-Ok-reserve.ensures.kept c.args.group open_is c.requires.idle (omega (arith, low, open_is, other)) c.add_asked.new.self v c.in-Ok-reserve.ensures.room
+    (let owed = c.add_asked.ensures.owed in let was = same.owed in omega (arith, owed, was)) (c.add_asked.ensures.reserved ∙ same.reserved)
+
+pub returns-clause-event : goal.returns-clause-event
+returns-clause-event g c =
+    let low = c.requires.valid.low in
+    let open_is = c.requires.group in
+    let other = c.if-group-eq-LAST_NUMBER.false in
+    record {
+      part = refl;
+      stored = c.add_asked.ensures.stored ∙ ap (λ (events : List Event). events ++ Close c.args.group ∷ []) c.in-Ok.ensures.same.events;
+      leads = λ w reached at. closes g.R.Rack c.args.shard.now c.reserve.new.self c.in-Ok-reserve.ensures.kept c.args.group open_is c.requires.idle (omega (arith, low, open_is, other)) c.add_asked.new.self w at;
+    }

@@ -1,0 +1,13 @@
+use Rattle.std.proofs.Common.{◌≡◌, arith, subst}
+use Rattle.draid_groups.specs.Sealing.{MarksBelow}
+use Rattle.draid_groups.proofs.Missing.{table_all}
+use Rattle.draid_groups.proofs.marks.miss_all.Goals as goal
+
+pub returns : goal.returns
+returns c =
+    let past = c.loop-slot-test.false in
+    let upto = c.loop-slot.auto.slot-end in
+    let count = c.children-slot-end.ensures.count in
+    let all : c.loop-slot.slot ≡ c.args.slots.now.geometry.spec.children = omega (arith, past, upto, count) in
+    table_all c.args.slots.now c.loop-slot.slots c.args.marks.now c.args.group c.children-slot-end.ensures.sound
+    (subst (λ slot. MarksBelow c.args.slots.now c.loop-slot.slots c.args.marks.now slot c.args.group) all c.loop-slot.invariant)

@@ -1,0 +1,6 @@
+pub mod Changes
+pub mod Committing
+pub mod Counting
+pub mod Groups
+pub mod Reopening
+pub mod Sealing

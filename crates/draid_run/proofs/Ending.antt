@@ -1,0 +1,116 @@
+-- A run that nothing disturbs, and of which each line can be run, ends with its input.
+use Rattle.std.proofs.Common.{arith, ◌≡◌, ◌≢◌, ◌∙◌, ◌<◌, ◌≤◌, ◌++◌, inl, inr, ℕ, true, false, List, [], ◌∷◌, Option, Some, None, Result, Ok, Err, refl, sym, ap, subst, length, length-append, take, take_all, All}
+use Rattle.std.specs.Prelude.{slice_index_or}
+use Rattle.std.specs.List.{before_first, position_or_len}
+use Rattle.std.proofs.lemmas.Bool.{cases_lt}
+use Rattle.draid_names.specs.declared.numbers.TheConstants.{LONGEST_LINE}
+use Rattle.draid_names.specs.declared.room.Room.{Room}
+use Rattle.draid_rack.specs.declared.Rack as racks
+use Rattle.draid_area.specs.declared.Area as areas
+use Rattle.draid_lines.specs.Lines.{IsTooLong, is_end, lines_of}
+use Rattle.draid_lines.proofs.Ends.{lines_first, lines_last, position-le}
+use Rattle.draid_script.specs.Grammar.{line_of}
+use Rattle.draid_script.specs.Line.{Command, ImportPool}
+use Rattle.draid_script.specs.declared.fault.LineFault.{LineFault}
+use Rattle.draid_session.specs.Session.{Desk, Untouched, Bare, Made, Open, Shut, Foreign, Unknown, Breaks, RecordFails}
+use Rattle.draid_run.specs.Ending.{CanRun, EndsWell, IsBuilt, IsUndisturbed, IsUntold}
+use Rattle.draid_run.specs.Script.{BreaksOff, Ends, IsSession, LineFaultIs, Prints, RunsFrom}
+use Rattle.draid_run.specs.Shelves.{OnShelf}
+use Rattle.draid_run.specs.Status.{last_text}
+use Rattle.draid_run.specs.declared.status.Status.{Status}
+use Rattle.draid_run.specs.declared.status.Status.TheVariants.{Done, Usage, Line, SourceFault, SinkFault, NoMemory, TooLong, ShelfFault, Record}
+
+-- ---- lines
+
+at_front : (front : List (List ℕ)) (line : List ℕ) (rest : List (List ℕ)) (d : List ℕ) → slice_index_or (front ++ line ∷ rest) (length front) d ≡ line
+at_front [] line rest d = refl
+at_front (first ∷ front) line rest d = at_front front line rest d
+
+-- what holds of all lines holds of one of them
+all_here : (P : List ℕ → Type 0) (all front : List (List ℕ)) (line : List ℕ) (rest : List (List ℕ)) → all ≡ front ++ line ∷ rest → All P all → P line
+all_here P all front line rest is holds =
+    let longer = length-append front (line ∷ rest) in
+    let many : length all ≡ length (front ++ line ∷ rest) = ap (λ xs. length xs) is in
+    let there : P (slice_index_or all (length front) line) = holds (length front) line (omega (arith, longer, many)) in
+    subst P (ap (λ xs. slice_index_or xs (length front) line) is ∙ at_front front line rest line) there
+
+-- the first line of bytes
+pub record HasFirst (bytes : List ℕ) : Type 0 where
+  pub rest : List (List ℕ)
+  pub is : lines_of bytes ≡ before_first is_end bytes ∷ rest
+
+first_of : (bytes : List ℕ) → bytes ≢ [] → HasFirst bytes
+first_of bytes some = elim (cases_lt (position_or_len is_end bytes) (length bytes)) [
+  | inl inside ↦ record { rest = _; is = lines_first bytes inside }
+  | inr past ↦
+      let low = position-le bytes in
+      let whole : position_or_len is_end bytes ≡ length bytes = omega (arith, low, past) in
+      record { rest = []; is = lines_last bytes whole some ∙ ap (λ line. line ∷ []) (sym (whole_line bytes whole)) }
+]
+  where
+    whole_line : (bytes : List ℕ) → position_or_len is_end bytes ≡ length bytes → before_first is_end bytes ≡ bytes
+    whole_line bytes whole = ap (λ n. take n bytes) whole ∙ take_all (length bytes) bytes (omega arith)
+
+not_long : (input : List ℕ) (lines : List (List ℕ)) (rest : List ℕ) → CanRun input → lines_of input ≡ lines ++ lines_of rest → IsTooLong (length lines) rest → ⊥
+not_long input lines rest can is (inl long) =
+    let some : rest ≢ [] = λ none. (let none_long = subst (λ bytes. LONGEST_LINE < length (before_first is_end bytes)) none long in omega (arith, none_long)) in
+    let first = first_of rest some in
+    let short = all_here (λ line. length line ≤ LONGEST_LINE) (lines_of input) lines (before_first is_end rest) first.rest (is ∙ ap (λ xs. lines ++ xs) first.is) can.short in
+    omega (arith, long, short)
+not_long input lines rest can is (inr full) =
+    let first = first_of rest full.1 in
+    let longer = length-append lines (lines_of rest) in
+    let all : length (lines_of input) ≡ length (lines ++ lines_of rest) = ap (λ xs. length xs) is in
+    let one : length (lines_of rest) ≡ length (before_first is_end rest ∷ first.rest) = ap (λ xs. length xs) first.is in
+    let few = can.few in
+    let many = full.0 in
+    omega (arith, longer, all, one, few, many)
+
+not_built : (line : Result Command LineFault) (kind at : ℕ) → IsBuilt line → LineFaultIs line kind at → ⊥
+not_built (Ok command) kind at built fault = built fault.0
+not_built (Err why) kind at built fault = built
+
+-- ---- records
+
+untold_by : (mid last : Desk) (command : Command) → Breaks RecordFails mid command last → IsUntold mid
+untold_by Untouched last ImportPool breaks = tt
+untold_by Untouched last command breaks = tt
+untold_by Unknown last command breaks = tt
+untold_by Bare last ImportPool breaks = absurd breaks
+untold_by Bare last command breaks = absurd breaks
+untold_by (Made true failed geometry) last ImportPool breaks = absurd breaks
+untold_by (Made true failed geometry) last command breaks = absurd breaks
+untold_by (Made false failed geometry) last command breaks = refl
+untold_by (Shut crash x) Unknown ImportPool breaks = breaks
+untold_by (Shut crash x) last ImportPool breaks = absurd breaks
+untold_by (Shut crash x) last command breaks = absurd breaks
+untold_by (Open x) last ImportPool breaks = absurd breaks
+untold_by (Open x) last command breaks = absurd breaks
+untold_by Foreign last ImportPool breaks = absurd breaks
+untold_by Foreign last command breaks = absurd breaks
+
+-- ---- the run
+
+meant_is : (status ended : Status) (text : List ℕ) (old new : Option (List ℕ)) → status ≢ SinkFault → Prints status ended text old new → ended ≡ status
+meant_is SinkFault ended text old new sink prints = absurd (sink refl)
+meant_is status ended text old new sink prints = sym prints.0
+
+module _ {R A : Type 0} (rack : racks.Ghosts R) (area : areas.Ghosts A) (chosen : List Room → Option ℕ → Type 0) (words : List (List ℕ)) (input : List ℕ) (session : IsSession words) (can : CanRun input) where
+  by_end : (ended : Status) (broken : Option (List ℕ)) (lines : List (List ℕ)) (mid last : Desk) → IsUndisturbed ended → (ended ≡ Usage → IsSession words → ⊥) → BreaksOff ended broken mid last → Ends ended broken lines input → EndsWell ended mid
+  by_end Done broken lines mid last quiet usage breaks ends = tt
+  by_end Usage broken lines mid last quiet usage breaks ends = usage refl session
+  by_end (Line line kind at) broken lines mid last quiet usage breaks ends =
+      not_built (line_of ends.0) kind at (all_here (λ text. IsBuilt (line_of text)) (lines_of input) lines ends.0 ends.1 ends.2 can.built) ends.3
+  by_end (TooLong line) broken lines mid last quiet usage breaks ends = not_long input lines ends.0 can ends.1 ends.2
+  by_end SourceFault broken lines mid last quiet usage breaks ends = quiet.source refl
+  by_end SinkFault broken lines mid last quiet usage breaks ends = quiet.sink refl
+  by_end NoMemory broken lines mid last quiet usage breaks ends = quiet.memory refl
+  by_end ShelfFault broken lines mid last quiet usage breaks ends = quiet.shelf refl
+  by_end (Record metaslab place kind) None lines mid last quiet usage breaks ends = absurd breaks
+  by_end (Record metaslab place kind) (Some text) lines mid last quiet usage breaks ends = untold_by mid last breaks.command breaks.breaks
+
+  pub ends_well : (status : Status) (old new : Option (List ℕ)) (entry now : OnShelf) (first : Desk) → (it : RunsFrom rack area chosen words status (Some input) old new entry now first) → IsUndisturbed status → EndsWell status it.session.mid
+  ends_well status old new entry now first it quiet =
+      let s = it.session in
+      let same : s.ended ≡ status = meant_is status s.ended (last_text s.ended) s.prints.between new quiet.sink s.prints.last in
+      subst (λ e. EndsWell e s.mid) same (by_end s.ended s.broken s.lines s.mid it.last (subst IsUndisturbed (sym same) quiet) s.usage s.breaks s.ends)

@@ -1,0 +1,99 @@
+ghost use Rattle.std.specs.Prelude.{◌≡◌, ◌<◌, ◌↔◌, ℕ, List, Some, All, IfOk, IsTrue, length, nat_eq};
+ghost use Rattle.std.specs.HashMap.{get};
+ghost use Rattle.std.specs.List.{AllZip};
+ghost use Rattle.draid_shard.specs.Fits.{Valid};
+ghost use Rattle.draid_session.specs.Holds.{View};
+ghost use Rattle.draid_session.specs.Status.{HasCount, IsGreatestOpen};
+ghost use Rattle.draid_views.specs.Views.{AreShown, IsPassTold, IsPointedAt, IsToldOf};
+
+use draid_area::Area;
+use draid_names::{NoMemory, Pointer};
+use draid_pass::Pass;
+use draid_rack::Rack;
+use draid_report::{MetaslabView, PassView};
+use draid_shard::Shard;
+use std::alloc::Global;
+use std::collections::HashMap;
+
+/// What is told of each shard. Of blocks just those are counted to which the table of objects points.
+pub fn metaslab_views<R: Rack, A: Area>(
+    alloc: Global,
+    shards: &[Shard<R, A>],
+    objects: &HashMap<u64, Pointer>,
+) -> Result<Vec<MetaslabView>, NoMemory>
+    requires { All (Valid R.Rack) shards.now }
+    ensures { IfOk result (λ views. AllZip (IsToldOf objects.now) shards.now views.items) }
+{
+    let mut views = Vec::new(alloc);
+    for shard in shards {
+        views.push(metaslab_view(shard, objects))?;
+    }
+    Ok(views)
+}
+
+/// What is told of one.
+fn metaslab_view<R: Rack, A: Area>(
+    shard: &Shard<R, A>,
+    objects: &HashMap<u64, Pointer>,
+) -> MetaslabView
+    requires valid { Valid R.Rack shard.now }
+    ensures { IsToldOf objects.now shard.now result }
+{
+    MetaslabView {
+        free: shard.space.free_stripes(),
+        blocks: pointed_blocks(shard, objects),
+        pass: pass_view(&shard.pass),
+    }
+}
+
+/// How many blocks the table of objects points to.
+fn pointed_blocks<R: Rack, A: Area>(shard: &Shard<R, A>, objects: &HashMap<u64, Pointer>) -> u64
+    ensures { HasCount (IsPointedAt objects.now shard.now) result }
+{
+    let mut blocks = 0;
+    let mut stripe = 0;
+    while let Some(pointer) = shard.next_held(stripe) {
+        if is_pointed(objects, &pointer) {
+            blocks += 1;
+        }
+        stripe = pointer.first + 1;
+    }
+    blocks
+}
+
+/// Whether the pointer stands in the table of objects.
+fn is_pointed(objects: &HashMap<u64, Pointer>, pointer: &Pointer) -> bool
+    ensures { IsTrue result ↔ (get nat_eq objects.now pointer.now.object ≡ Some pointer.now) }
+{
+    match objects.get(&pointer.object) {
+        Some(found) => *found == *pointer,
+        None => false,
+    }
+}
+
+/// What is told of a pass.
+fn pass_view(pass: &Option<Pass>) -> Option<PassView>
+    ensures { IsPassTold pass.now result }
+{
+    match pass {
+        Some(pass) => Some(PassView {
+            number: pass.number,
+            kind: pass.kind,
+            at: pass.at,
+            errors: pass.errors,
+        }),
+        None => None,
+    }
+}
+
+/// The greatest group that is open in a shard.
+pub fn last_open_group<R: Rack, A: Area>(shards: &[Shard<R, A>]) -> u64
+    requires some { 0 < length shards.now }
+    ensures { (views : List View) → AreShown shards.now views → IsGreatestOpen views result }
+{
+    let mut group = 0;
+    for shard in shards {
+        group = group.max(shard.open_group());
+    }
+    group
+}
