@@ -1,7 +1,11 @@
-//! Tests of scripts: their sources and sinks, their lines, and the texts of replies. It offers nothing; the module is named
-//! after the crate that it tests.
+//! Tests of scripts: their sources and sinks, their lines, and the texts of replies. It offers nothing; each module is
+//! named after the crate that it tests.
 
 #![tactic(auto)]
 
+#[cfg(test)]
+mod lines;
+#[cfg(test)]
+mod reply;
 #[cfg(test)]
 mod script;
