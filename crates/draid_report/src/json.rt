@@ -24,15 +24,13 @@ pub fn status_json(alloc: Global, view: &View) -> Result<Vec<u8>, NoMemory>
 fn pool_value(alloc: Global, pool: &View) -> Result<Value, AllocError>
     ensures { IfOk result (λ value. view value ≡ tree_of pool.now) }
 {
-    let slots = slot_values(alloc, &pool.slots)?;
-    let metaslabs = metaslab_values(alloc, &pool.metaslabs)?;
     json!(in alloc; {
         "name": &pool.name,
         "group": pool.group,
         "open": pool.open_group,
         "objects": pool.objects,
-        "slots": slots,
-        "metaslabs": metaslabs
+        "slots": slot_values(alloc, &pool.slots)?,
+        "metaslabs": metaslab_values(alloc, &pool.metaslabs)?
     })
 }
 

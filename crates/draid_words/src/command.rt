@@ -9,8 +9,10 @@ use std::alloc::{AllocError, Global};
 pub fn command<'a>(alloc: Global) -> Result<Command<'a>, AllocError>
     ensures { IfOk result (λ command. app_of command ≡ line.command_line) }
 {
-    let number = Arg::new(alloc, "number");
-    bare(alloc).arg(mode(alloc))?.arg(number)?.arg(dir(alloc))
+    bare(alloc)
+        .arg(mode(alloc))?
+        .arg(number(alloc))?
+        .arg(dir(alloc))
 }
 
 /// No argument yet, and neither help nor a version.
@@ -29,6 +31,14 @@ fn mode<'a>(alloc: Global) -> Arg<'a>
     ensures own { result.global ≡ false }
 {
     Arg::new(alloc, "mode").required(true)
+}
+
+/// A number that may be left out.
+fn number<'a>(alloc: Global) -> Arg<'a>
+    ensures rule { rule_of result ≡ line.number }
+    ensures own { result.global ≡ false }
+{
+    Arg::new(alloc, "number")
 }
 
 /// `--dir`.
