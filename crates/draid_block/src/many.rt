@@ -14,7 +14,7 @@ use std::alloc::Global;
 use std::thread::Threads;
 
 /// The answer for a block.
-#[derive(Debug, Drop, PartialEq, Eq)]
+#[derive(Drop, PartialEq, Eq)]
 pub enum Solve {
     Bytes(Vec<u8>),
     /// No set of missing columns restores bytes with the block's digest.

@@ -17,7 +17,7 @@ pub struct Fetched {
 }
 
 /// Why a block has no answer.
-#[derive(Clone, Copy, Debug, PartialEq, Eq)]
+#[derive(Clone, Copy, PartialEq, Eq)]
 pub enum SolveFault {
     /// No set of missing columns restores bytes with the block's digest.
     Unreadable {

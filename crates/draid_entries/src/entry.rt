@@ -5,7 +5,7 @@ use draid_machine::{Key, Stage};
 use draid_names::Pointer;
 
 /// A block or an open write, and how far it is.
-#[derive(Clone, Copy, Debug, PartialEq, Eq)]
+#[derive(Clone, Copy, PartialEq, Eq)]
 pub struct Entry {
     pub pointer: Pointer,
     pub stage: Stage,

@@ -1,12 +1,12 @@
 /// A sector of a child.
-#[derive(Clone, Copy, Debug, PartialEq, Eq)]
+#[derive(Clone, Copy, PartialEq, Eq)]
 pub struct Place {
     pub child: u32,
     pub sector: u64,
 }
 
 /// What a sector of a child is for.
-#[derive(Clone, Copy, Debug, PartialEq, Eq)]
+#[derive(Clone, Copy, PartialEq, Eq)]
 pub enum Owner {
     /// A column of a stripe of the pool.
     Column { stripe: u64, column: u32 },

@@ -1,5 +1,5 @@
 /// What an arm of a child slot is.
-#[derive(Clone, Copy, Debug, PartialEq, Eq)]
+#[derive(Clone, Copy, PartialEq, Eq)]
 pub enum ArmKind {
     /// A disk.
     Leaf,
@@ -8,7 +8,7 @@ pub enum ArmKind {
 }
 
 /// A disk or a distributed spare that keeps the columns of a child slot.
-#[derive(Clone, Copy, Debug, PartialEq, Eq)]
+#[derive(Clone, Copy, PartialEq, Eq)]
 pub struct Arm {
     pub kind: ArmKind,
     /// The leaf's number below 2^48, or that of the spare.

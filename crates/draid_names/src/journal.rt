@@ -1,5 +1,5 @@
 /// Why the repair agent gives a slot a spare. Such a slot has one arm, a leaf.
-#[derive(Clone, Copy, Debug, PartialEq, Eq)]
+#[derive(Clone, Copy, PartialEq, Eq)]
 pub enum Cause {
     /// The leaf is offline.
     Offline,
@@ -8,7 +8,7 @@ pub enum Cause {
 }
 
 /// What the repair agent did for a slot.
-#[derive(Clone, Copy, Debug, PartialEq, Eq)]
+#[derive(Clone, Copy, PartialEq, Eq)]
 pub enum Did {
     /// The slot has got this spare.
     Spared { spare: u32 },
@@ -17,7 +17,7 @@ pub enum Did {
 }
 
 /// An entry of the repair agent's journal.
-#[derive(Clone, Copy, Debug, PartialEq, Eq)]
+#[derive(Clone, Copy, PartialEq, Eq)]
 pub struct Entry {
     /// The entry's number in the session, from 1 on.
     pub number: u64,

@@ -1,5 +1,5 @@
 /// Where a block lies, and how its bytes are known again.
-#[derive(Clone, Copy, Debug, PartialEq, Eq)]
+#[derive(Clone, Copy, PartialEq, Eq)]
 pub struct Pointer {
     /// The object that the block was written to, below 2^32.
     pub object: u64,

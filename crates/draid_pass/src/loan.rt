@@ -1,7 +1,7 @@
 use draid_names::{ArmAt, Pointer};
 
 /// What was read of one column on one arm.
-#[derive(Debug, Drop)]
+#[derive(Drop)]
 pub struct Reading {
     pub at: ArmAt,
     /// The column, from 0.
@@ -13,7 +13,7 @@ pub struct Reading {
 }
 
 /// A stripe (rebuild) or a block (scrub) that a pass lends out.
-#[derive(Debug, Drop)]
+#[derive(Drop)]
 pub struct Loan {
     /// The number of the pass.
     pub pass: u64,
@@ -28,7 +28,7 @@ pub struct Loan {
 }
 
 /// A loan with the columns that were restored from its readings.
-#[derive(Debug, Drop)]
+#[derive(Drop)]
 pub struct Solved {
     pub loan: Loan,
     /// All columns of the stripe or the block; None exactly where they can't be restored.

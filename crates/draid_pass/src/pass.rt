@@ -1,7 +1,7 @@
 use draid_names::{ArmAt, PassKind};
 
 /// A pass over one metaslab: a sequential rebuild or a scrub.
-#[derive(Debug, Drop)]
+#[derive(Drop)]
 pub struct Pass {
     /// The number of the pass in its metaslab, 1 to 2^48 - 1.
     pub number: u64,

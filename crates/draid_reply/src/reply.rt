@@ -329,7 +329,7 @@ pub enum Reply {
 }
 
 /// The errors of the two passes that an `agent` makes.
-#[derive(Clone, Copy, Debug, PartialEq, Eq)]
+#[derive(Clone, Copy, PartialEq, Eq)]
 pub struct AgentErrors {
     pub rebuild: u64,
     pub scrub: u64,

@@ -5,7 +5,7 @@ use draid_names::NoMemory;
 use std::alloc::Global;
 
 /// What a run came to, with the program's exit status in brackets.
-#[derive(Clone, Copy, Debug, PartialEq, Eq)]
+#[derive(Clone, Copy, PartialEq, Eq)]
 pub enum Status {
     /// The script was read to its end (0).
     Done,

@@ -54,5 +54,5 @@ pub struct Missed {
 }
 
 /// The pointer is that of no live block.
-#[derive(Clone, Copy, Debug, PartialEq, Eq)]
+#[derive(Clone, Copy, PartialEq, Eq)]
 pub struct NotLive;

@@ -22,7 +22,7 @@ pub(crate) struct Slot {
 }
 
 /// An arm that was detached in a group that isn't committed.
-#[derive(Clone, Copy, Debug, PartialEq, Eq)]
+#[derive(Clone, Copy, PartialEq, Eq)]
 pub struct Detached {
     pub kind: ArmKind,
     pub number: u64,

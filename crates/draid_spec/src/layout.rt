@@ -18,7 +18,7 @@ pub struct Props {
 }
 
 /// A pool's layout: its spec, its properties, and the numbers that follow from them.
-#[derive(Clone, Copy, Debug, PartialEq, Eq)]
+#[derive(Clone, Copy, PartialEq, Eq)]
 pub struct Geometry {
     pub spec: Spec,
     pub props: Props,

@@ -118,7 +118,7 @@ fn layout() -> Result<Geometry, SpecFault> {
 }
 
 /// An area of a pool of one metaslab.
-#[derive(Clone, Copy, Debug)]
+#[derive(Clone, Copy)]
 enum Changed {
     Uber,
     Even,

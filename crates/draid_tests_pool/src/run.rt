@@ -16,7 +16,7 @@ const CREATE: &str = "create draid1:2d:3c:0s 3 sector=512 height=8 metaslabs=1 s
 const CREATED: &str = "create draid1:2d:3c:0s-0 stripes=32\n";
 
 /// An area of a pool of one metaslab.
-#[derive(Clone, Copy, Debug)]
+#[derive(Clone, Copy)]
 enum PoolArea {
     Even,
     Odd,
@@ -24,7 +24,7 @@ enum PoolArea {
 }
 
 /// Which calls of the devices fail, by their numbers.
-#[derive(Clone, Copy, Debug)]
+#[derive(Clone, Copy)]
 struct Failing {
     shelf: &'static [u64],
     rack: &'static [u64],
