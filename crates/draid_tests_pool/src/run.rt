@@ -80,17 +80,6 @@ fn created(alloc: Global, lines: &str) -> Result<Vec<u8>, AllocError> {
     Ok(script)
 }
 
-/// Adds a line that writes `len` zero bytes to an object.
-fn add_write(script: &mut Vec<u8>, object: u64, len: usize) -> Result<(), AllocError> {
-    let alloc = *script.allocator();
-    let front = format!(in alloc; "write {object} ")?;
-    script.extend_from_slice(front.as_bytes())?;
-    let zeros = vec![in alloc; b'0'; len]?;
-    script.extend_from_slice(&zeros)?;
-    script.extend_from_slice(&zeros)?;
-    script.extend_from_slice(b"\n")
-}
-
 /// Whether a run behind the line that creates the pool is done and prints these replies, where these calls of the rack fail.
 fn replies_over<R: AllocGlobal + Threads + Sync>(
     rt: &R,
@@ -336,99 +325,6 @@ fn metaslabs_fill_from_the_last(rt: HostRuntime) -> Result<(), Fail> {
     let (ended, printed) = run_last(&rt, lines)?;
     let is_done = ended == Status::Done;
     assert!(rt; is_done && printed.as_slice() == replies.as_bytes());
-    Ok(())
-}
-
-/// Adds lines that damage the first sectors of a leaf.
-fn add_damage(script: &mut Vec<u8>, leaf: u64, sectors: u64) -> Result<(), AllocError> {
-    let alloc = *script.allocator();
-    for sector in 0..sectors {
-        let line = format!(in alloc; "damage {leaf} {sector}\n")?;
-        script.extend_from_slice(line.as_bytes())?;
-    }
-    Ok(())
-}
-
-/// Blocks of zero bytes: their lengths and the ends of what `sum` prints of them.
-const ZEROS: [(usize, &str); 3] = [
-    (
-        1,
-        "sum 7 1 6e340b9cffb37a989ca544e6bb780a2c78901d3fb33738768511a30617afa01d\n",
-    ),
-    (
-        4_096,
-        "sum 7 1 ad7facb2586fc6e966c004d7d1d16b024f5805ff7cb47c7a85dabd8b48892ca7\n",
-    ),
-    (
-        131_072,
-        "sum 7 1 fa43239bcee7b97ca62f007cc68487560a39e19f74f3dde7486db3f98df8e471\n",
-    ),
-];
-
-/// A script that writes so many zero bytes, damages all sectors of the leaves of these bits, and asks for the sum.
-fn damaging(alloc: Global, create: &str, len: usize, leaves: u32) -> Result<Vec<u8>, AllocError> {
-    let mut script = Vec::from_slice(alloc, create.as_bytes())?;
-    add_write(&mut script, 7, len)?;
-    for leaf in 0..14 {
-        if leaves >> leaf & 1 == 1 {
-            add_damage(&mut script, leaf, 48)?;
-        }
-    }
-    script.extend_from_slice(b"sum 7 1\n")?;
-    Ok(script)
-}
-
-/// Whether blocks are read where all sectors of the leaves of these bits are damaged.
-fn reads_over<R: AllocGlobal + Threads + Sync>(
-    rt: &R,
-    create: &str,
-    leaves: u32,
-) -> Result<bool, AllocError> {
-    for (len, sum) in ZEROS {
-        let script = damaging(rt.alloc(), create, len, leaves)?;
-        let (ended, printed) = run_words(rt, "session", script, &NONE)?;
-        if ended != Status::Done || !printed.ends_with(sum.as_bytes()) {
-            return Ok(false);
-        }
-    }
-    Ok(true)
-}
-
-/// Whether blocks are read whichever leaves of so many are damaged, as many as there are parity columns.
-fn reads_over_any<R: AllocGlobal + Threads + Sync>(
-    rt: &R,
-    create: &str,
-    children: u32,
-    parity: u32,
-) -> Result<bool, AllocError>
-    requires { children ≤ 14 }
-{
-    for leaves in 0..1u32 << children {
-        if leaves.count_ones() == parity && !reads_over(rt, create, leaves)? {
-            return Ok(false);
-        }
-    }
-    Ok(true)
-}
-
-#[test]
-fn any_one_leaf_may_be_damaged(rt: HostRuntime) -> Result<(), Fail> {
-    let create = "create draid1:8d:14c:2s 14 metaslabs=1 height=16 slices=1\n";
-    assert!(rt; reads_over_any(&rt, create, 14, 1)?);
-    Ok(())
-}
-
-#[test]
-fn any_two_leaves_may_be_damaged(rt: HostRuntime) -> Result<(), Fail> {
-    let create = "create draid2:4d:11c:1s 11 metaslabs=1 slices=1\n";
-    assert!(rt; reads_over_any(&rt, create, 11, 2)?);
-    Ok(())
-}
-
-#[test]
-fn any_three_leaves_may_be_damaged(rt: HostRuntime) -> Result<(), Fail> {
-    let create = "create draid3:3d:8c 8 metaslabs=1 height=16 slices=1\n";
-    assert!(rt; reads_over_any(&rt, create, 8, 3)?);
     Ok(())
 }
 
