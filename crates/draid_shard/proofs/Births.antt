@@ -1,5 +1,5 @@
 -- The greatest birth of those entries that were passed.
-use Rattle.std.proofs.Common.{◌≡◌, ◌⊎◌, ◌+◌, ◌<◌, ◌≤◌, ◌∙◌, ℕ, Some, arith, refl, sym, subst, inl, inr, max, nat_cmp}
+use Rattle.std.proofs.Common.{◌≡◌, ◌⊎◌, ◌+◌, ◌<◌, ◌≤◌, ◌∙◌, ℕ, Some, arith, sym, subst, inl, inr, max, nat_cmp}
 use Rattle.std.specs.Ordering.{ord_max}
 use Rattle.std.proofs.Math.Nat.{le-max_left, le-max_right}
 use Rattle.std.proofs.lemmas.Bool.{cases_lt}
@@ -20,9 +20,6 @@ use Rattle.draid_shard.proofs.Passing.{NoneBetween, NoneFrom, all_passed, next_c
 pub record GreatestBelow (t : Entries) (stripe birth : ℕ) : Type 0 where
   pub births : (e : Entry) → entry_at t e.pointer.first ≡ Some e → e.pointer.first < stripe → e.pointer.birth ≤ birth
   pub one : (birth ≡ 0) ⊎ ((e : Entry) × (entry_at t e.pointer.first ≡ Some e) × (e.pointer.birth ≡ birth))
-
-pub greatest_none : (t : Entries) → GreatestBelow t 0 0
-greatest_none t = record { births = λ e there low. omega (arith, low); one = inl refl }
 
 -- the greater by the order of numbers is the greater
 greater_is : (a b : ℕ) → ord_max nat_cmp a b ≡ max a b

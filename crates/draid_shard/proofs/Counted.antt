@@ -1,5 +1,5 @@
 -- Entries that pass a test are counted one after another, and those that a state has are as many.
-use Rattle.std.proofs.Common.{◌≡◌, ◌+◌, ◌<◌, ◌≤◌, ◌∙◌, ℕ, List, [], ◌∷◌, Some, false, arith, refl, sym, ap, subst, inl, inr, length}
+use Rattle.std.proofs.Common.{◌≡◌, ◌+◌, ◌<◌, ◌≤◌, ◌∙◌, ℕ, List, ◌∷◌, Some, false, arith, sym, ap, subst, inl, inr, length}
 use Rattle.std.specs.Prelude.{Contains}
 use Rattle.draid_machine.specs.declared.names.Key.{Key}
 use Rattle.draid_machine.specs.declared.names.Held.{Held}
@@ -14,7 +14,7 @@ use Rattle.draid_entries.specs.Thin.{Distinct}
 use Rattle.draid_shard.specs.Looks.{HasTickets}
 use Rattle.draid_shard.specs.States.{IsIn}
 use Rattle.draid_shard.specs.declared.shard.Shard.{Shard}
-use Rattle.draid_shard.proofs.Among.{has_behind, has_cases, has_first, has_nothing}
+use Rattle.draid_shard.proofs.Among.{has_behind, has_cases, has_first}
 use Rattle.draid_shard.proofs.Held.{HasEntry, held_entry, key_leads}
 use Rattle.draid_shard.proofs.Passing.{NoneBetween, NoneFrom, all_passed, next_cases, own_place}
 
@@ -35,15 +35,6 @@ pub record CountsBelow (t : Entries) (test : Entry → Type 0) (stripe count : �
   pub many : count ≡ length keys
 
 module _ (t : Entries) (test : Entry → Type 0) where
-  pub counts_none : CountsBelow t test 0 0
-  counts_none = record {
-    keys = [];
-    once = tt;
-    each = λ key among. absurd (has_nothing key among);
-    all = λ e there low passes. absurd (omega (arith, low));
-    many = refl;
-  }
-
   -- an entry further on
   further : (stripe at : ℕ) (key : Key) → stripe ≤ at → IsCounted t test stripe key → IsCounted t test (at + 1) key
   further stripe at key from c = record { e = c.e; there = c.there; key_is = c.key_is; low = (let low = c.low in omega (arith, low, from)); passes = c.passes }

@@ -31,9 +31,6 @@ ascend_more low (b ∷ blocks) p up before from = (
 )
 
 module _ (t : Entries) where
-  pub lists_none : ListsBelow t 0 []
-  lists_none = record { live = λ p. ((λ among. absurd (has_nothing p among)), (λ is. absurd (let low = is.low in omega (arith, low)))); ascending = tt }
-
   module _ (stripe : ℕ) (blocks : List Pointer) (e : Entry) (was : ListsBelow t stripe blocks) (there : entry_at t e.pointer.first ≡ Some e) (from : stripe ≤ e.pointer.first)
       (empty : NoneBetween t stripe e.pointer.first) where
     further : (p : Pointer) → Contains blocks p → IsLiveBelow t (e.pointer.first + 1) p

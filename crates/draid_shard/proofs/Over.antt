@@ -20,6 +20,7 @@ use Rattle.draid_shard.specs.declared.shard.Shard.{Shard}
 use Rattle.draid_shard.proofs.Held.{held_entry, key_leads}
 use Rattle.draid_shard.proofs.Passing.{NoneBetween, NoneFrom, own_place}
 
+-- what holds is so where there is nothing
 pub if_none : {X : Type 0} (o : Option X) (P : Type 0) → P → IfNone o P
 if_none None P p = p
 if_none (Some x) P p = tt

@@ -1,8 +1,5 @@
-use Rattle.draid_shard.proofs.Births.{greatest_more, greatest_none, is_greatest}
+use Rattle.draid_shard.proofs.Births.{greatest_more, is_greatest}
 use Rattle.draid_shard.proofs.shard.Shard.greatest_birth.Goals as goal
-
-pub loop-entry-init : goal.loop-entry-init
-loop-entry-init g c = greatest_none c.args.self.now.entries
 
 pub loop-entry-preserved : goal.loop-entry-preserved
 loop-entry-preserved g c =
