@@ -52,6 +52,17 @@ impl Entries {
         Some(entry)
     }
 
+    /// The last block or open write that begins at a stripe or before it.
+    pub fn last_upto(&self, stripe: u64) -> Option<Entry>
+        ensures there { IfSome result (λ e. entry_at self.now e.pointer.first ≡ Some e) }
+        ensures upto { IfSome result (λ e. e.pointer.first ≤ stripe) }
+        ensures last { IfSome result (λ e. (x : ℕ) → e.pointer.first < x → x ≤ stripe → entry_at self.now x ≡ None) }
+        ensures none { IfNone result ((x : ℕ) → x ≤ stripe → entry_at self.now x ≡ None) }
+    {
+        let (_, entry) = last_upto(&self.firsts, stripe)?;
+        Some(entry)
+    }
+
     /// A write is begun at the pointer's stripes.
     pub fn begin(&mut self, pointer: Pointer) -> Result<(), NoMemory>
         requires low { pointer.first < NUMBERS }
@@ -114,6 +125,19 @@ fn first_from(firsts: &BTreeMap<u64, Entry>, stripe: u64) -> Option<(u64, Entry)
         .range(stripe..)
         .next()
         .map(|(first, entry)| (*first, *entry))
+}
+
+/// The last entry up to a stripe, with the stripe at which it stands.
+fn last_upto(firsts: &BTreeMap<u64, Entry>, stripe: u64) -> Option<(u64, Entry)>
+    ensures there { IfSome result (λ e. entry_in firsts.now e.0 ≡ Some e.1) }
+    ensures upto { IfSome result (λ e. e.0 ≤ stripe) }
+    ensures last { IfSome result (λ e. (x : ℕ) → e.0 < x → x ≤ stripe → entry_in firsts.now x ≡ None) }
+    ensures none { IfNone result ((x : ℕ) → x ≤ stripe → entry_in firsts.now x ≡ None) }
+{
+    match firsts.range(..=stripe).next_back() {
+        Some((first, entry)) => Some((*first, *entry)),
+        None => None,
+    }
 }
 
 /// Another entry stands at a first stripe that has one.

@@ -1,7 +1,9 @@
 pub mod Among
 pub mod Answering
 pub mod Begins
+pub mod Births
 pub mod Changed
+pub mod Counted
 pub mod Damaging
 pub mod Fetches
 pub mod Fetching
@@ -12,8 +14,11 @@ pub mod Held
 pub mod Holders
 pub mod Homes
 pub mod Landings
+pub mod Listing
 pub mod Once
+pub mod Over
 pub mod OwedAll
+pub mod Passing
 pub mod PutKept
 pub mod Puts
 pub mod Putting

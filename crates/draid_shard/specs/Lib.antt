@@ -3,6 +3,7 @@ pub mod Changes
 pub mod Columns
 pub mod Fits
 pub mod Holding
+pub mod Looks
 pub mod Part
 pub mod Reads
 pub mod Rows

@@ -9,6 +9,7 @@ mod fault;
 mod fetch;
 mod groups;
 mod laws;
+mod looks;
 mod outcome;
 mod places;
 mod put;
