@@ -113,6 +113,11 @@ holder_alone perms spares slice slot spare first none =
     ap (λ test. if test then chain_end (spare_slot perms slice) first spares spare else spare_slot perms slice spare)
     (without_column perms spares slice slot none)
 
+pub links_alone : (perms : Perms) (spares slice slot spare : ℕ) (first : ℕ → Option ℕ) → ¬ HasColumn perms spares slice slot
+    → links_in perms spares slice first slot spare ≡ 1
+links_alone perms spares slice slot spare first none =
+    ap (λ test. if test then chain_links (spare_slot perms slice) first spares spare else 1) (without_column perms spares slice slot none)
+
 -- the chain of an arm of a slot with a column ends
 arm_end : (perms : Perms) (spares slice slot spare : ℕ) (first : ℕ → Option ℕ) → AreUsed (children_of perms) spares first
     → HasColumn perms spares slice slot → IsArm (children_of perms) spares first slot spare → HasEnd (spare_slot perms slice) spares first spare

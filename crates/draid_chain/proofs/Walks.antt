@@ -1,5 +1,5 @@
 -- What a walk along a chain keeps, over the slots of a geometry.
-use Rattle.std.proofs.Common.{◌≡◌, ◌+◌, ◌<◌, ◌≤◌, ℕ, List, [], ◌∷◌, length, Option, Some, None, refl, sym, ap, ◌∙◌, subst, arith}
+use Rattle.std.proofs.Common.{◌≡◌, ◌+◌, ◌-◌, ◌<◌, ◌≤◌, ℕ, List, [], ◌∷◌, length, Option, Some, None, refl, sym, ap, ◌∙◌, subst, arith}
 use Rattle.draid_perm.specs.declared.perms.Perms.{Perms}
 use Rattle.draid_perm.specs.Perms.{children_of}
 use Rattle.draid_perm.proofs.Children.{child_below}
@@ -22,6 +22,12 @@ pub record HasComeTo (perms : Perms) (spares slice : ℕ) (first : ℕ → Optio
 pub begun : (perms : Perms) (spares slice spare holder : ℕ) (first : ℕ → Option ℕ) → spare < spares → holder ≡ spare_slot perms slice spare
     → HasComeTo perms spares slice first spare holder 1
 begun perms spares slice spare holder first low is = record { last = spare; ws = []; low = low; way = refl; stands = is; count = refl }
+
+pub come_below : (perms : Perms) (n spares slice spare holder links : ℕ) (first : ℕ → Option ℕ) → children_of perms ≡ n
+    → HasComeTo perms spares slice first spare holder links → holder < n
+come_below perms n spares slice spare holder links first all come =
+    subst (λ m. holder < m) all
+    (subst (λ slot. slot < children_of perms) (sym come.stands) (child_below perms slice (children_of perms - 1 - come.last)))
 
 pub gone_on : (perms : Perms) (n spares slice spare holder links next after : ℕ) (first : ℕ → Option ℕ) → children_of perms ≡ n → AreUsed n spares first
     → HasComeTo perms spares slice first spare holder links → first holder ≡ Some next → after ≡ spare_slot perms slice next

@@ -3,6 +3,7 @@ pub mod Algebra
 pub mod WeightedSums
 pub mod Restored
 pub mod Missing
+pub mod Lost
 pub mod Vandermonde
 pub mod OneSolution
 pub mod StripeLemmas

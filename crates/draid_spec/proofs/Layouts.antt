@@ -1,8 +1,9 @@
-use Rattle.std.proofs.Common.{◌≡◌, ◌*◌, ◌/◌, ◌≤◌, ℕ, Result, Ok, sym, ap, ◌∙◌, arith}
+use Rattle.std.proofs.Common.{◌≡◌, ◌*◌, ◌/◌, ◌<◌, ◌≤◌, ℕ, Result, Ok, Err, sym, ap, ◌∙◌, arith}
 use Rattle.std.proofs.Math.Nat.{mul-div_cancel}
 use Rattle.std.proofs.lemmas.Bool.Decides.{nat_tests}
 use Rattle.std.specs.Result.{result_and}
 use Rattle.draid_spec.specs.declared.spec.SpecFault.{SpecFault}
+use Rattle.draid_spec.specs.declared.spec.SpecFault.TheVariants.{Limit}
 use Rattle.draid_spec.specs.declared.spec.Spec.{Spec}
 use Rattle.draid_spec.specs.declared.layout.Props.{Props}
 use Rattle.draid_spec.specs.declared.layout.Geometry.{Geometry}
@@ -56,3 +57,18 @@ given_layout layout is =
     ∙ (ap (λ r. next r (next (checked_props layout.props) (checked_layout (layout_of layout.spec layout.props)))) width
     ∙ (ap (λ r. next r (checked_layout (layout_of layout.spec layout.props))) props
     ∙ (ap (λ l. checked_layout l) (layout_is layout is) ∙ layout_passes layout is.total)))
+
+-- a layout with too many sectors is refused
+layout_refused : (layout : Geometry) → 67108864 < total_of layout.props layout.rows → checked_layout layout ≡ Err (Limit 122 (total_of layout.props layout.rows))
+layout_refused layout past = grind (arith, nat_tests)
+
+pub too_large : (spec : Spec) (props : Props) (total : ℕ) → Ok tt ≡ checked_version props.version → Ok tt ≡ checked_width spec → Ok tt ≡ checked_props props
+    → total ≡ total_of props (rows_of (need_of spec) (have_of spec)) → 67108864 < total → Err (Limit 122 total) ≡ geometry_of spec props
+too_large spec props total version width checked is past =
+    let sectors = total_of props (rows_of (need_of spec) (have_of spec)) in
+    let over : 67108864 < sectors = omega arith in
+    let next : Result Unit SpecFault → Result Geometry SpecFault → Result Geometry SpecFault = λ r s. result_and r s in
+    ap (λ n. Err (Limit 122 n)) is ∙ sym (layout_refused (layout_of spec props) over)
+    ∙ ap (λ r. next r (checked_layout (layout_of spec props))) checked
+    ∙ ap (λ r. next r (next (checked_props props) (checked_layout (layout_of spec props)))) width
+    ∙ ap (λ r. next r (next (checked_width spec) (next (checked_props props) (checked_layout (layout_of spec props))))) version

@@ -1,6 +1,7 @@
 pub mod Layouts
 pub mod Multiples
 pub mod NamesRead
+pub mod Openings
 pub mod Readings
 pub mod TextLaws
 pub mod TextLeft

@@ -1,7 +1,8 @@
-use Rattle.std.proofs.Common.{◌≡◌, ◌+◌, ◌≤◌, None, arith, refl}
+use Rattle.std.proofs.Common.{◌≡◌, ◌∙◌, ◌+◌, ◌<◌, ◌≤◌, None, arith, refl, sym, subst}
 use Rattle.draid_chain.specs.Used.{first_in}
 use Rattle.draid_chain.proofs.Ends.{not_some}
-use Rattle.draid_chain.proofs.Walks.{come_by_links, come_to_holder, gone_on, links_most}
+use Rattle.draid_chain.proofs.Holders.{holder_alone, links_alone}
+use Rattle.draid_chain.proofs.Walks.{begun, come_below, come_by_links, come_to_holder, gone_on, links_most}
 use Rattle.draid_chain.proofs.chain.chain.Goals as goal
 
 pub links-preserved : goal.links-preserved
@@ -34,3 +35,45 @@ returns-clause-links c =
     come_by_links c.args.perms.now c.args.geometry.now.spec.children c.args.geometry.now.spec.spares c.args.slice
     c.args.slot c.args.spare c.links.holder c.links.links (first_in c.args.used.now)
     c.requires.children c.requires.used (c.if-not-has_column.ensures.column.0 refl) c.requires.arm c.links.invariant.come none
+
+pub returns-then-not-has_column-clause-holder : goal.returns-then-not-has_column-clause-holder
+returns-then-not-has_column-clause-holder c =
+    c.at_spare-holder.ensures.slot
+    ∙ sym (holder_alone c.args.perms.now c.args.geometry.now.spec.spares c.args.slice c.args.slot c.args.spare (first_in c.args.used.now)
+    (λ column. let test = c.if-not-has_column.ensures.column.1 column in cc))
+
+pub returns-then-not-has_column-clause-links : goal.returns-then-not-has_column-clause-links
+returns-then-not-has_column-clause-links c =
+    sym (links_alone c.args.perms.now c.args.geometry.now.spec.spares c.args.slice c.args.slot c.args.spare (first_in c.args.used.now)
+    (λ column. let test = c.if-not-has_column.ensures.column.1 column in cc))
+
+pub links-init : goal.links-init
+links-init c =
+    let low = c.requires.arm.spare_is in
+    record {
+      come = begun c.args.perms.now c.args.geometry.now.spec.spares c.args.slice c.args.spare c.at_spare-holder.result (first_in c.args.used.now) low c.at_spare-holder.ensures.slot;
+      most = omega (arith, low);
+    }
+
+pub bounds : goal.bounds
+bounds c =
+    subst (λ n. c.links.holder < n) (sym c.requires.all)
+    (come_below c.args.perms.now c.args.geometry.now.spec.children c.args.geometry.now.spec.spares c.args.slice c.args.spare c.links.holder c.links.links
+    (first_in c.args.used.now) c.requires.children c.links.invariant.come)
+
+pub bounds-used-holder : goal.bounds-used-holder
+bounds-used-holder c =
+    subst (λ n. c.links.holder < n) (sym c.requires.all)
+    (come_below c.args.perms.now c.args.geometry.now.spec.children c.args.geometry.now.spec.spares c.args.slice c.args.spare c.links.holder c.links.links
+    (first_in c.args.used.now) c.requires.children c.links.invariant.come)
+
+pub at_spare-holder-requires-in-Some-clause-spare : goal.at_spare-holder-requires-in-Some-clause-spare
+at_spare-holder-requires-in-Some-clause-spare c =
+    c.requires.used.below c.links.holder c.in-Some.next
+    (come_below c.args.perms.now c.args.geometry.now.spec.children c.args.geometry.now.spec.spares c.args.slice c.args.spare c.links.holder c.links.links
+    (first_in c.args.used.now) c.requires.children c.links.invariant.come) c.in-Some.is
+
+pub returns-clause-below : goal.returns-clause-below
+returns-clause-below c =
+    come_below c.args.perms.now c.args.geometry.now.spec.children c.args.geometry.now.spec.spares c.args.slice c.args.spare c.links.holder c.links.links
+    (first_in c.args.used.now) c.requires.children c.links.invariant.come

@@ -1,4 +1,4 @@
-use Rattle.std.proofs.Common.{◌≡◌, ◌+◌, ◌-◌, ◌^◌, ◌<◌, ◌∙◌, [], length, subst, arith}
+use Rattle.std.proofs.Common.{◌≡◌, ◌+◌, ◌-◌, ◌^◌, ◌<◌, ◌≤◌, ◌∙◌, [], length, sym, subst, arith}
 use Rattle.std.proofs.lemmas.List.{get_or_default}
 use Rattle.draid_gf.specs.Lanes.{HasLanes}
 use Rattle.draid_parity.proofs.Horner.{first_lanes, front, next_sum}
@@ -56,3 +56,27 @@ pairs-preserved g c =
       first = subst (λ m. HasLanes n (list c.horner-first-in-pairs.result) (front (2 ^ c.args.k) at p columns (m - p))) two first_next;
       second = subst (λ m. HasLanes n (list c.horner-second-in-pairs.result) (front (2 ^ c.args.l) at p columns (m - p))) two second_next;
     }
+
+pub rows-row-requires : goal.rows-row-requires
+rows-row-requires g c =
+    let i = c.pairs.i in
+    let columns = c.args.columns.now in
+    let room = c.pairs-test.true in
+    let column = c.index-columns-i.result in
+    let below : i < length columns = omega (arith, room) in
+    subst (λ xs. c.args.at + g.V.Rows.COUNT ≤ length xs) (sym (c.index-columns-i.is ∙ get_or_default columns i column [] below)) (c.requires.inside i below)
+
+pub rows-row-requires-in-pairs : goal.rows-row-requires-in-pairs
+rows-row-requires-in-pairs g c =
+    let i = c.pairs.i in
+    let columns = c.args.columns.now in
+    let room = c.pairs-test.true in
+    let next = c.index-columns-i-in-pairs.result in
+    let below : i + 1 < length columns = omega (arith, room) in
+    subst (λ xs. c.args.at + g.V.Rows.COUNT ≤ length xs) (sym (c.index-columns-i-in-pairs.is ∙ get_or_default columns (i + 1) next [] below)) (c.requires.inside (i + 1) below)
+
+pub returns-clause-first : goal.returns-clause-first
+returns-clause-first g c = c.pairs.invariant.first
+
+pub returns-clause-second : goal.returns-clause-second
+returns-clause-second g c = c.pairs.invariant.second

@@ -1,5 +1,6 @@
-use Rattle.std.proofs.Common.{◌<◌, ◌≤◌, [], ◌∷◌, refl, inl, inr, subst, length, arith}
+use Rattle.std.proofs.Common.{◌≡◌, ◌-◌, ◌∙◌, ◌<◌, ◌≤◌, [], ◌∷◌, refl, sym, inl, inr, subst, length, arith}
 use Rattle.draid_parity.specs.Columns.{IsColumn, column_at}
+use Rattle.draid_parity.specs.Rows.{SolvesPair}
 use Rattle.draid_parity.proofs.RowsLemmas.{solved_whole, solved_column}
 use Rattle.draid_parity.proofs.pair.restore_two.Goals as goal
 
@@ -49,3 +50,17 @@ returns-clause-second c =
     subst (λ n. IsColumn n (column_at new c.args.y)) (c.solve_vectors-at.ensures.columns 0 (omega (arith, first)))
     (solved_column c.args.parity len c.solve_rows.result c.args.y (c.args.k ∷ c.args.l ∷ []) (c.args.x ∷ c.args.y ∷ []) new below c.solve_rows.ensures.columns enough
     c.solve_rows.ensures.solved (inr (inl refl)))
+
+pub solve_rows-requires-clause-pair : goal.solve_rows-requires-clause-pair
+solve_rows-requires-clause-pair c =
+    let counted = c.solve_vectors-at.ensures.count in
+    let pair = c.pair_of-pair.result in
+    let many = length c.solve_vectors-at.new.columns.items in
+    let first : c.len.result ≡ many = omega (arith, counted) in
+    let second : c.len-2.result ≡ many = c.len-2.ensures ∙ sym c.len.ensures ∙ first in
+    subst (λ n. SolvesPair c.args.k c.args.l (many - 1 - c.args.x) (n - 1 - c.args.y) pair.node pair.between pair.over_first pair.over_second) second
+    (subst (λ n. SolvesPair c.args.k c.args.l (n - 1 - c.args.x) (c.len-2.result - 1 - c.args.y) pair.node pair.between pair.over_first pair.over_second) first
+    c.pair_of-pair.ensures.pair)
+
+pub returns-clause-stays : goal.returns-clause-stays
+returns-clause-stays c = λ i not_x not_y. c.solve_rows.ensures.stays i not_x not_y ∙ c.solve_vectors-at.ensures.stays i not_x not_y

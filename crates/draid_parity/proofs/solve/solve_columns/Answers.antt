@@ -115,3 +115,29 @@ returns-clause-bytes c = λ i j found above.
     last : (xs ys : List ℕ) (i : ℕ) → (Contains xs i → ⊥) → Contains xs i ⊎ Contains ys i → Contains ys i
     last xs ys i low (inl found) = absurd (low found)
     last xs ys i low (inr found) = found
+
+pub loop-k-init : goal.loop-k-init
+loop-k-init c = record {
+  count = refl;
+  columns = c.solve_data.ensures.columns;
+  stays = λ i absent. refl;
+  kept = λ k absent sum. sum;
+  encoded = λ n none. absurd (omega arith);
+}
+
+pub returns-clause-columns : goal.returns-clause-columns
+returns-clause-columns c = c.loop-k.invariant.columns
+
+pub returns-clause-chosen : goal.returns-clause-chosen
+returns-clause-chosen c =
+    let chosen = c.solve_data.ensures.chosen in
+    record {
+      sums = λ k one.
+          c.loop-k.invariant.kept k
+          (λ found. one.present (contains-take c.args.missing.now c.first_data.result k (subst (λ xs. Contains xs k) c.split_at.ensures.front found)))
+          (chosen.sums k one);
+      first = chosen.first;
+      step = chosen.step;
+      steps = chosen.steps;
+      chosen = chosen.chosen;
+    }

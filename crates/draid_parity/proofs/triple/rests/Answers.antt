@@ -1,4 +1,4 @@
-use Rattle.std.proofs.Common.{◌≡◌, ℕ, zero, suc, ◌+◌, ◌∙◌, List, [], ◌<◌, length, arith}
+use Rattle.std.proofs.Common.{◌≡◌, ℕ, zero, suc, ◌+◌, ◌∙◌, List, [], ◌<◌, ◌≤◌, length, sym, subst, arith}
 use Rattle.std.specs.Prelude.{slice_index}
 use Rattle.draid_gf.specs.Field.{IsByte}
 use Rattle.draid_gf.specs.Lanes.{HasLanes}
@@ -51,3 +51,24 @@ returns-clause-bytes g c = λ k j kind low. by_column g.V.Rows.COUNT c.args.at c
     by_column n at columns p q r (suc zero) j kind low = q j low
     by_column n at columns p q r (suc (suc zero)) j kind low = r j low
     by_column n at columns p q r (suc (suc (suc k))) j kind low = absurd (omega arith)
+
+pub rows-first-requires : goal.rows-first-requires
+rows-first-requires g c =
+    let columns = c.args.columns.now in
+    let column = c.index-columns-0.result in
+    let below : 0 < length columns = omega arith in
+    subst (λ xs. c.args.at + g.V.Rows.COUNT ≤ length xs) (sym (c.index-columns-0.is ∙ get_or_default columns 0 column [] below)) (c.requires.inside 0 below)
+
+pub rows-second-requires : goal.rows-second-requires
+rows-second-requires g c =
+    let columns = c.args.columns.now in
+    let column = c.index-columns-1.result in
+    let below : 1 < length columns = omega arith in
+    subst (λ xs. c.args.at + g.V.Rows.COUNT ≤ length xs) (sym (c.index-columns-1.is ∙ get_or_default columns 1 column [] below)) (c.requires.inside 1 below)
+
+pub rows-third-requires : goal.rows-third-requires
+rows-third-requires g c =
+    let columns = c.args.columns.now in
+    let column = c.index-columns-2.result in
+    let below : 2 < length columns = omega arith in
+    subst (λ xs. c.args.at + g.V.Rows.COUNT ≤ length xs) (sym (c.index-columns-2.is ∙ get_or_default columns 2 column [] below)) (c.requires.inside 2 below)
