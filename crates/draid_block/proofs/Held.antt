@@ -1,13 +1,14 @@
 -- The stripe in which sets of missing columns are tried, and what was read.
-use Rattle.std.proofs.Common.{◌≡◌, ℕ, zero, suc, ◌+◌, ◌<◌, ◌≤◌, ◌≢◌, Bool, true, false, List, [], ◌∷◌, ◌++◌, length, drop, get_or, arith, refl, sym, ◌∙◌, ap, subst, inl, inr, add-one, Option, Some, None, Vec, Global, length-drop, drop-cons}
+use Rattle.std.proofs.Common.{◌≡◌, ℕ, zero, suc, ◌+◌, ◌<◌, ◌≤◌, ◌≢◌, Bool, true, false, List, [], ◌∷◌, ◌++◌, length, drop, get_or, set, arith, refl, sym, ◌∙◌, ap, ap₂, subst, replicate, inl, inr, add-one, Option, Some, None, Vec, Global, length-drop, drop-cons}
 use Rattle.std.specs.Prelude.{Contains, is_none, is_some, not, slice_get, option_map, unwrap_or}
+use Rattle.std.proofs.Math.Seq.{take-append_seam}
 use Rattle.std.proofs.lemmas.Bool.{cases_lt}
-use Rattle.std.proofs.lemmas.List.{length-map, append-nil, get_or-map, get_or_past}
+use Rattle.std.proofs.lemmas.List.{length-map, length-replicate, append-nil, get_or-map, get_or-set_same, get_or_past}
 use Rattle.std.proofs.lemmas.List.Elements.{Contains-append_left, Contains-push}
 use Rattle.std.proofs.lemmas.Option.{slice_get-get_or, slice_get_within, get_or_from_slice_get}
-use Rattle.draid_parity.specs.Columns.{StripeValue, IsSolution, column_at}
+use Rattle.draid_parity.specs.Columns.{StripeValue, IsSolution, column_at, written, zero_stripe}
 use Rattle.draid_block.specs.Columns.{Cut}
-use Rattle.draid_block.specs.Blocks.{stripe_of}
+use Rattle.draid_block.specs.Blocks.{column_len, stripe_of}
 use Rattle.draid_block.specs.Solving.{IsFetched, IsRestored, absent_below, read_of}
 use Rattle.draid_block.specs.Search.{IsHeld, HoldsAll, IsCandidate}
 use Rattle.draid_block.specs.declared.solve.Fetched.{Fetched}
@@ -145,3 +146,71 @@ restored cut fetched set s new f h candidate solution only =
           (subst (λ (t : StripeValue). IsSolution set t other) (sym h.shape)
           (other_start cut fetched.pointer.len set read s.columns other (λ i out. sym (same i out)) given));
     }
+
+-- ---- what a stripe that holds columns is like
+pub held_count : (cut : Cut) (len : ℕ) (columns : Columns) (except : ℕ → Type 0) (s : StripeValue) → IsHeld cut len columns except s → length s.columns ≡ s.parity + s.ndata
+held_count cut len columns except s h = h.count ∙ ap (λ (t : StripeValue). t.parity + t.ndata) (sym h.shape)
+
+pub held_range : (cut : Cut) (len : ℕ) (columns : Columns) (except : ℕ → Type 0) (s : StripeValue) (i : ℕ) → IsHeld cut len columns except s → i < cut.parity + cut.ndata → i < s.parity + s.ndata
+held_range cut len columns except s i h below =
+    let parity = ap (λ (t : StripeValue). t.parity) h.shape in
+    let ndata = ap (λ (t : StripeValue). t.ndata) h.shape in
+    omega (arith, parity, ndata, below)
+
+pub held_long : (cut : Cut) (fetched : Fetched) (except : ℕ → Type 0) (s : StripeValue) (i : ℕ) (c : Vec ℕ Global) → IsFetched cut fetched → IsHeld cut fetched.pointer.len fetched.columns.items except s
+    → slice_get fetched.columns.items i ≡ Some (Some c) → length c.items ≡ s.len
+held_long cut fetched except s i c f h there = f.long i c there ∙ ap (λ (t : StripeValue). t.len) (sym h.shape)
+
+-- before any column is put into a stripe
+pub held_none : (cut : Cut) (len n : ℕ) (columns : Columns) (s : StripeValue) → s ≡ zero_stripe cut.parity cut.ndata n → n ≡ column_len cut len → IsHeld cut len columns (λ k. 0 ≤ k) s
+held_none cut len n columns s is long = record {
+  shape = is ∙ ap₂ (λ (m : ℕ) (cs : List (List ℕ)). record (zero_stripe cut.parity cut.ndata m) { columns = cs }) long (sym (ap (λ (t : StripeValue). t.columns) is));
+  count = ap (λ (t : StripeValue). length t.columns) is ∙ length-replicate (cut.parity + cut.ndata) (replicate n 0);
+  held = λ i c there out. absurd (out (omega arith));
+}
+
+-- after one column more
+pub held_next : (cut : Cut) (len : ℕ) (columns : Columns) (n : ℕ) (s new : StripeValue) → IsHeld cut len columns (λ k. n ≤ k) s
+    → new ≡ record s { columns = new.columns } → length new.columns ≡ length s.columns
+    → ((c : Vec ℕ Global) → slice_get columns n ≡ Some (Some c) → column_at new.columns n ≡ c.items)
+    → ((k : ℕ) → k ≢ n → column_at new.columns k ≡ column_at s.columns k)
+    → IsHeld cut len columns (λ k. n + 1 ≤ k) new
+held_next cut len columns n s new h shape count put others = record {
+  shape = shape_kept cut len s new h.shape shape;
+  count = count ∙ h.count;
+  held = held;
+} where
+  held : (i : ℕ) (c : Vec ℕ Global) → slice_get columns i ≡ Some (Some c) → (n + 1 ≤ i → ⊥) → column_at new.columns i ≡ c.items
+  held i c there out = elim (cases_lt i n) [
+    | inl lt ↦ others i (λ same. omega arith) ∙ h.held i c there (λ past. omega arith)
+    | inr ge ↦ elim (cases_lt n i) [
+      | inl lt ↦ absurd (out (omega arith))
+      | inr le ↦
+          let e : n ≡ i = omega arith in
+          subst (λ (k : ℕ). column_at new.columns k ≡ c.items) e (put c (rw e there))
+    ]
+  ]
+
+pub held_last : (cut : Cut) (fetched : Fetched) (n : ℕ) (s : StripeValue) → IsFetched cut fetched → cut.parity + cut.ndata ≤ n
+    → IsHeld cut fetched.pointer.len fetched.columns.items (λ k. n ≤ k) s → HoldsAll cut fetched s
+held_last cut fetched n s f past h = record {
+  shape = h.shape;
+  count = h.count;
+  held = λ i c there out. h.held i c there (λ ge. (let within = slice_get_within fetched.columns.items i (Some c) there in let count = f.count in omega (arith, within, count, past, ge)));
+}
+
+-- a stripe that was solved has what stood in the columns that weren't missing
+pub held_solved : (cut : Cut) (fetched : Fetched) (set : List ℕ) (s new : StripeValue) → HoldsAll cut fetched s → new ≡ record s { columns = new.columns } → IsSolution set s new.columns
+    → IsHeld cut fetched.pointer.len fetched.columns.items (λ k. Contains set k) new
+held_solved cut fetched set s new h shape solution = record {
+  shape = shape_kept cut fetched.pointer.len s new h.shape shape;
+  count = solution.stripe.count ∙ ap (λ (t : StripeValue). t.parity + t.ndata) h.shape;
+  held = λ i c there out. solution.solves.stays i out ∙ h.held i c there (λ no. no);
+}
+
+-- ---- one column is written
+pub put_held : (columns : Columns) (cs : List (List ℕ)) (i : ℕ) (column c : Vec ℕ Global) (bytes : List ℕ) → i < length cs → length bytes ≡ length (column_at cs i) → bytes ≡ column.items
+    → slice_get columns i ≡ Some (Some column) → slice_get columns i ≡ Some (Some c) → column_at (set cs i (written (column_at cs i) bytes)) i ≡ c.items
+put_held columns cs i column c bytes below long is there same =
+    let e : column ≡ c = cc in
+    get_or-set_same cs i (written (column_at cs i) bytes) [] below ∙ (rw (← long) (take-append_seam bytes _) ∙ (is ∙ ap (λ (v : Vec ℕ Global). v.items) e))

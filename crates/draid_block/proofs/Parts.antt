@@ -1,5 +1,5 @@
 -- How a block is cut over the data columns of a geometry.
-use Rattle.std.proofs.Common.{◌≡◌, ℕ, ◌+◌, ◌*◌, ◌/◌, ◌%◌, ◌<◌, ◌≤◌, ◌⊎◌, min, arith, sym, subst, inl, inr}
+use Rattle.std.proofs.Common.{◌≡◌, ℕ, ◌+◌, ◌-◌, ◌*◌, ◌/◌, ◌%◌, ◌<◌, ◌≤◌, ◌⊎◌, min, arith, sym, subst, inl, inr}
 use Rattle.std.specs.Int.{div_ceil}
 use Rattle.std.proofs.lemmas.Bool.{cases_lt}
 use Rattle.std.proofs.lemmas.Bool.Decides.{nat_tests}
@@ -86,3 +86,20 @@ few_sectors n d size short = elim size [
 pub stripes_few : (cut : Cut) (len : ℕ) → 1 ≤ cut.ndata → (cut.sector ≡ 512) ⊎ (cut.sector ≡ 4096) → len ≤ 131072 → stripes_of cut len ≤ 256
 unfolding sectors_of
 stripes_few cut len some sector short = omega (arith, few_stripes cut len some, few_sectors len cut.sector sector short)
+
+-- a stripe has at most so many columns
+pub narrow : (geometry : Geometry) → IsGeometry geometry → geometry.spec.parity + geometry.spec.ndata ≤ 64
+narrow geometry g = omega (arith, g.columns, g.disks, g.width, g.spec.most_children)
+
+-- ---- the sectors of one column, by how many columns the last stripe fills
+pub in_full : (cut : Cut) (len i n h : ℕ) → n ≡ div_ceil len cut.sector → h ≡ stripes_of cut len → (n % cut.ndata ≡ 0) ⊎ (i < n % cut.ndata) → h ≡ sectors_in cut len i
+unfolding sectors_in full_columns sectors_of
+in_full cut len i n h is all few = rw (all, ← is) (elim few [ inl none ↦ grind (arith, nat_tests) | inr low ↦ grind (arith, nat_tests) ])
+
+pub past_full : (cut : Cut) (len i n h : ℕ) → n ≡ div_ceil len cut.sector → h ≡ stripes_of cut len → (n % cut.ndata ≡ 0 → ⊥) → n % cut.ndata ≤ i → h - 1 ≡ sectors_in cut len i
+unfolding sectors_in full_columns sectors_of
+past_full cut len i n h is all some past = rw (all, ← is) (grind (arith, nat_tests))
+
+pub some_left : (cut : Cut) (len n h : ℕ) → n ≡ div_ceil len cut.sector → h ≡ stripes_of cut len → (n % cut.ndata ≡ 0 → ⊥) → 1 ≤ h
+unfolding full_columns sectors_of
+some_left cut len n h is all some = rw all (some_stripes cut len (rw (← is) (omega (arith, some))))

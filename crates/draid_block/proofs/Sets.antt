@@ -1,11 +1,11 @@
 -- The order of solving, set by set.
-use Rattle.std.proofs.Common.{◌≡◌, ℕ, suc, ◌+◌, ◌-◌, ◌<◌, true, List, [], ◌∷◌, ◌++◌, map, length, arith, refl, sym, ◌∙◌, ap, subst, inl, inr, append_assoc, length-append, Option, Some, None, Result, Ok, Err, Vec, Global}
-use Rattle.std.specs.Prelude.{Contains, All}
+use Rattle.std.proofs.Common.{◌≡◌, ℕ, suc, ◌+◌, ◌-◌, ◌<◌, true, List, [], ◌∷◌, ◌++◌, map, length, take, arith, refl, sym, ◌∙◌, ap, ap₂, subst, inl, inr, append_assoc, length-append, Option, Some, None, Result, Ok, Err, Vec, Global}
+use Rattle.std.specs.Prelude.{Contains, All, OnOk}
 use Rattle.std.specs.declared.alloc.AllocError.{AllocError}
 use Rattle.std.specs.List.Sorted.{IsStrictlyIncreasing}
 use Rattle.std.proofs.lemmas.Bool.{cases_lt}
 use Rattle.std.proofs.lemmas.List.{append-nil, map-append, get_or_append_left}
-use Rattle.std.proofs.Math.Seq.{get_or-append_seam}
+use Rattle.std.proofs.Math.Seq.{get_or-append_seam, take-append_seam}
 use Rattle.std.proofs.lemmas.List.Elements.{All-nil, All-cons, All-append, All-push, All-contains, filter-append}
 use Rattle.std.proofs.lemmas.List.Sums.{AllPass-from_list_all}
 use Rattle.draid_parity.specs.Columns.{is_missing}
@@ -140,3 +140,21 @@ tries_more cut fetched xs ys s t before mid after (Err e) none more = tt
 pub tries_same : (cut : Cut) (fetched : Fetched) (xs ys : List (List ℕ)) (s : Attempts) (before after : ℕ) (result : Result (Option (Vec ℕ Global)) AllocError)
     → xs ≡ ys → TriesSets cut fetched ys s before after result → TriesSets cut fetched xs s before after result
 tries_same cut fetched xs ys s before after result same tries = subst (λ (l : List (List ℕ)). TriesSets cut fetched l s before after result) (sym same) tries
+
+-- ---- a member more and less
+pub begun_whole : (cut : Cut) (begun : List ℕ) (size first : ℕ) → size ≡ 0 → IsBegun cut begun size first → IsBegun cut begun 0 (cut.parity + cut.ndata)
+begun_whole cut begun size first none b = record {
+  few = (let few = b.few in omega (arith, few, none));
+  ascending = b.ascending;
+  below = λ k d there. (let less = b.below k d there in let within = b.in_range in omega (arith, less, within));
+  in_range = omega arith;
+}
+
+pub popped : (begun pushed left : List ℕ) (first n : ℕ) → pushed ≡ begun ++ first ∷ [] → n ≡ length pushed → left ≡ take (n - 1) pushed → left ≡ begun
+popped begun pushed left first n is long rest =
+    let e : n - 1 ≡ length begun = omega (arith, long, ap length is, length-append begun (first ∷ [])) in
+    rest ∙ (ap₂ (λ (m : ℕ) (xs : List ℕ). take m xs) e is ∙ take-append_seam begun (first ∷ []))
+
+pub always_ok : {A E P : Type 0} (r : Result A E) → P → OnOk r P
+always_ok (Ok x) p = p
+always_ok (Err e) p = tt

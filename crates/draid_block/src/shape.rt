@@ -27,19 +27,26 @@ pub fn column_bytes(geometry: &Geometry, len: u32) -> u32
     stripes_for(geometry, len) * geometry.props.sector
 }
 
+/// How many of the block's sectors data column `i` has.
+#[tactic(auto, unfolding(crate::specs::Columns::sectors_in, crate::specs::Columns::full_columns, crate::specs::Columns::sectors_of))]
+fn part_sectors(geometry: &Geometry, len: u32, i: u32) -> u32
+    requires geometry { IsGeometry geometry.now }
+    ensures { result ≡ sectors_in (cut_of geometry.now) len i }
+{
+    let stripes = stripes_for(geometry, len);
+    let full = len.div_ceil(geometry.props.sector) % geometry.spec.ndata;
+    if full == 0 || i < full {
+        return stripes;
+    }
+    stripes - 1
+}
+
 /// How many bytes of a column, from its front, are of the block's sectors: data column `i`.
-#[tactic(auto, using(crate::proofs::Parts::short_part, crate::proofs::Parts::some_stripes), unfolding(crate::specs::Columns::sectors_in, crate::specs::Columns::full_columns, crate::specs::Columns::sectors_of))]
+#[tactic(auto, using(crate::proofs::Parts::short_part))]
 pub fn part_bytes(geometry: &Geometry, len: u32, i: u32) -> usize
     requires geometry { IsGeometry geometry.now }
     requires short { len ≤ LONGEST_BLOCK }
     ensures { result ≡ sectors_in (cut_of geometry.now) len i * geometry.now.props.sector }
 {
-    let stripes = stripes_for(geometry, len);
-    let full = len.div_ceil(geometry.props.sector) % geometry.spec.ndata;
-    let sectors = if full == 0 || i < full {
-        stripes
-    } else {
-        stripes - 1
-    };
-    sectors as usize * geometry.props.sector as usize
+    part_sectors(geometry, len, i) as usize * geometry.props.sector as usize
 }

@@ -1,9 +1,9 @@
-use Rattle.std.proofs.Common.{rules, refl, ap, ◌∙◌, ◌∷◌, [], length}
+use Rattle.std.proofs.Common.{arith, rules, refl, ap, ◌∙◌, ◌∷◌, [], length}
 use Rattle.std.proofs.lemmas.Slice.{pushed}
 use Rattle.draid_area.specs.Cells.{covers}
 use Rattle.draid_names.specs.declared.fault.DeviceFault.TheVariants.{NoMemory}
-use Rattle.draid_area.proofs.Clocks.{bytes_written, clocks_marked, clocks_written, covers_more, marks_written, told_tears, told_waits, writes_all, writes_none, writes_torn}
-use Rattle.draid_area.proofs.Sound.{sound_written}
+use Rattle.draid_area.proofs.Clocks.{bytes_written, clocks_early, clocks_marked, clocks_written, covers_more, marks_longer, marks_same, marks_written, told_tears, told_waits, writes_all, writes_none, writes_torn}
+use Rattle.draid_area.proofs.Sound.{sound_unwritten, sound_written}
 use Rattle.draid_area.proofs.Moments.{elapsed_writes}
 use Rattle.draid_area.proofs.memory.MemoryAreaArea.write.Goals as goal
 
@@ -64,3 +64,25 @@ returns-clause-moments c = elapsed_writes _ _ _ _ _ (returns-clause-told c)
 
 pub returns-clause-flushed : goal.returns-clause-flushed
 returns-clause-flushed c = c.lengthen.ensures.same
+
+pub invariant_of-self : goal.invariant_of-self
+invariant_of-self c = record {
+  orderly = clocks_marked c.args.self.now.since.items _ c.args.at _ c.args.self.now.clock _ c.later-self.ensures
+      (clocks_written c.args.self.now.since.items c.args.self.now.since.items _ _ _ c.args.self.now.clock _ (λ i. refl) (λ i. c.mark-then-fails.ensures.here i _) c.later-self.ensures) c.args.self.now.orderly;
+  sound = c.args.self.now.sound;
+  marked = marks_longer c.args.self.now.bytes.items _ _ _ _ (omega (arith, c.mark.ensures.long)) (omega (arith, c.mark-then-fails.ensures.long)) c.args.self.now.marked;
+}
+
+pub invariant_of-self-in-Break-1 : goal.invariant_of-self-in-Break-1
+invariant_of-self-in-Break-1 c = record {
+  orderly = clocks_early c.args.self.now.since.items _ c.args.self.now.clock _ c.later-self.ensures c.make_room.ensures.clocks c.args.self.now.orderly;
+  sound = rw c.make_room.ensures.spans c.args.self.now.sound;
+  marked = marks_longer c.args.self.now.bytes.items _ _ _ _ c.make_room.ensures.marks_kept c.make_room.ensures.clocks_kept c.args.self.now.marked;
+}
+
+pub invariant_of-self-in-Break-branch-2 : goal.invariant_of-self-in-Break-branch-2
+invariant_of-self-in-Break-branch-2 c = record {
+  orderly = clocks_early c.args.self.now.since.items _ c.args.self.now.clock _ c.later-self.ensures c.make_room.ensures.clocks c.args.self.now.orderly;
+  sound = sound_unwritten c.args.self.now.bytes.items _ c.args.self.now.flushed.items _ c.args.self.now.firm c.args.self.now.unflushed.items _ c.in_err-lengthen.ensures.err c.lengthen.ensures.same c.lengthen.ensures.kept c.make_room.ensures.spans c.args.self.now.sound;
+  marked = marks_same c.args.self.now.bytes.items _ _ _ _ _ c.in_err-lengthen.ensures.err c.make_room.ensures.marks_kept c.make_room.ensures.clocks_kept c.args.self.now.marked;
+}
