@@ -16,6 +16,8 @@ use Rattle.draid_slots.specs.declared.slot.Detached.{Detached}
 use Rattle.draid_slots.specs.Changes.{HasRoom, IsRoomier, Keeps}
 use Rattle.draid_slots.specs.Table.{SlotTable, arm_at}
 use Rattle.draid_slots.specs.States.{HasArm, HasSlots, WasArm, arm_in, name_of}
+use Rattle.draid_shard.specs.Changes.{DoesNothing}
+use Rattle.draid_shard.proofs.Changed.{same_entries}
 use Rattle.draid_shard.specs.Fits.{AreGroups, HasLeaves, Tables, TicketsAreNew, Valid, birth_groups, oldest_open, owed_for_group}
 use Rattle.draid_shard.specs.States.{IsIn, Leads, layout_by}
 use Rattle.draid_shard.specs.declared.shard.Shard.{Shard}
@@ -168,3 +170,48 @@ module _ {R A : Type 0} (ghosts : Ghosts R) (old : Shard R A) (slots : SlotTable
         no_loan = at.no_loan;
       };
     }
+
+-- ---- room was asked for, and nothing else was done
+module _ {R A : Type 0} (ghosts : Ghosts R) (old : Shard R A) (history : History) (same : KeepsOwed old.history history) where
+  pub asked_valid : Valid ghosts old → Valid ghosts (record old { history = history })
+  asked_valid v = record {
+    part = v.part;
+    version = v.version;
+    asked = v.asked;
+    tables = v.tables;
+    disabled = v.disabled;
+    few = v.few;
+    here = v.here;
+    slots = v.slots;
+    once = v.once;
+    pass = v.pass;
+    logs = v.logs;
+    leaves = record { bytes = v.leaves.bytes; leaves = v.leaves.leaves };
+    groups = v.groups;
+    low = v.low;
+    tickets = v.tickets;
+    settled = v.settled;
+    owed = (let was = v.owed in let o = same.owed in let r = same.reserved in omega (arith, was, o, r));
+  }
+
+  pub asked_in : (w : machine.State) → IsIn old w → IsIn (record old { history = history }) w
+  asked_in w at = record {
+    held = at.held;
+    slots = at.slots;
+    pass = at.pass;
+    last = at.last;
+    open_group_is = at.open_group_is;
+    closing = at.closing;
+    sealed = at.sealed;
+    committed = at.committed;
+    version = at.version;
+    asked = at.asked;
+    serial = at.serial;
+    no_loan = at.no_loan;
+  }
+
+  pub asked_nothing : DoesNothing old (record old { history = history })
+  asked_nothing = record {
+    none = record { part = refl; stored = same.events; stays = asked_in };
+    keeps = record { entries = same_entries old.entries; groups = record { open_group_is = refl; closing = refl; sealed = refl; committed = refl } };
+  }

@@ -6,6 +6,7 @@ pub mod Dropping
 pub mod FirstRecord
 pub mod LeavesFlushed
 pub mod ListedOnce
+pub mod Marking
 pub mod Missing
 pub mod Once
 pub mod Opened

@@ -1,6 +1,7 @@
 pub mod Armed
 pub mod Blocks
 pub mod Born
+pub mod Copying
 pub mod Cut
 pub mod Gone
 pub mod Images

@@ -1,5 +1,5 @@
 -- The layout of a body that is in its ranges.
-use Rattle.std.proofs.Common.{◌≡◌, ◌≤◌, ◌∙◌, ℕ, Option, Bool, true, false, Result, Ok, Err, refl, sym, ap, inl, inr, arith, if◌then◌else◌}
+use Rattle.std.proofs.Common.{◌≡◌, ◌≤◌, ◌<◌, ◌^◌, ◌∙◌, ℕ, Option, Some, Bool, true, false, Result, Ok, Err, refl, sym, ap, subst, inl, inr, arith, if◌then◌else◌}
 use Rattle.std.specs.Prelude.{is_ok}
 use Rattle.std.specs.Result.{result_and}
 use Rattle.draid_record.specs.declared.uber.UberBody.{UberBody}
@@ -12,7 +12,7 @@ use Rattle.draid_spec.specs.Geometry.{IsGeometry, IsProps, IsVersion, checked_pr
 use Rattle.draid_spec.proofs.Layouts.{given_layout}
 use Rattle.draid_spec.specs.Spec.{IsSpec, checked_width}
 use Rattle.draid_uber.specs.Held.{IsHeld, IsNext}
-use Rattle.draid_uber.specs.Uber.{with_version}
+use Rattle.draid_uber.specs.Uber.{layout_in, with_version}
 
 abbrev pub in_ok : {A : Type 0} → A → Result A SpecFault
 in_ok x = Ok x
@@ -107,4 +107,43 @@ next_ranges kept geometry version next_leaf group held next =
       seed_below = held.seed_below;
       leaf_above = held.leaf_above;
       leaf_below = held.leaf_below;
+    }
+
+-- the parts that are taken from a body fit together
+pub held_by : (body : UberBody) (g : Geometry) → IsUber body → IsGeometry g → g.spec ≡ body.spec → g.props ≡ body.props → IsHeld (Some body) g body.props.version body.next_leaf
+held_by body g is whole spec props =
+    let same : g.props.version ≡ body.props.version = ap (λ (p : Props). p.version) props in
+    record {
+      layout_is = whole;
+      seed_below = subst (λ (p : Props). p.seed < 2 ^ 64) (sym props) is.seed_below;
+      version_is = is.version_is;
+      later = omega (arith, same);
+      leaf_above = subst (λ (s : Spec). s.children ≤ body.next_leaf) (sym spec) is.leaf_above;
+      leaf_below = is.leaf_below;
+      kept_is = (sym spec, sym props);
+    }
+
+-- the parts still fit together once what the next commit writes is committed
+pub held_next : (kept : Option UberBody) (geometry : Geometry) (version next_leaf : ℕ) (body : UberBody) → IsHeld kept geometry version next_leaf → IsUber body → body.spec ≡ geometry.spec → body.props ≡ with_version geometry.props version
+    → IsHeld (Some body) (layout_in geometry version) version next_leaf
+held_next kept geometry version next_leaf body held is spec props =
+    let l = held.layout_is in
+    let same : body.props.version ≡ version = ap (λ (p : Props). p.version) props in
+    record {
+      layout_is = record {
+        version = held.version_is;
+        spec = subst (λ (v : ℕ). IsSpec v geometry.spec) same (subst (λ (s : Spec). IsSpec body.props.version s) spec is.spec_is);
+        props = subst IsProps props is.props_are;
+        columns = l.columns;
+        disks = l.disks;
+        width = l.width;
+        slice = l.slice;
+        total = l.total;
+      };
+      seed_below = held.seed_below;
+      version_is = held.version_is;
+      later = omega arith;
+      leaf_above = held.leaf_above;
+      leaf_below = held.leaf_below;
+      kept_is = (spec, props);
     }

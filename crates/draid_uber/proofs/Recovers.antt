@@ -1,14 +1,17 @@
 -- What a recovery finds, and what a crash leaves from then on.
-use Rattle.std.proofs.Common.{arith, ◌≡◌, ◌+◌, ◌%◌, ◌≤◌, ℕ, Bool, true, false, nat_lt, List, [], Option, Some, None, Result, Ok, IfOk, option_map, length, slice_range, refl, sym, ◌∙◌, ap, subst, inl, inr}
+use Rattle.std.proofs.Common.{arith, ◌≡◌, ◌+◌, ◌%◌, ◌≤◌, ℕ, Bool, true, false, nat_lt, List, [], Option, Some, None, Result, Ok, Err, IfOk, option_map, length, slice_range, refl, sym, ◌∙◌, ap, subst, inl, inr}
 use Rattle.std.proofs.lemmas.Bool.Decides.{nat_tests}
+use Rattle.std.specs.Bool.{⊤}
 use Rattle.draid_area.specs.Area.{Content, IsOfSize, OnTold, Reads, flushes}
 use Rattle.draid_area.proofs.Moments.{leaves_all}
 use Rattle.draid_names.specs.declared.fault.DeviceFault.{DeviceFault}
 use Rattle.draid_record.specs.declared.fault.RecordFault.{RecordFault}
+use Rattle.draid_record.specs.declared.fault.RecordFault.TheVariants.{Bad}
 use Rattle.draid_record.specs.declared.uber.UberBody.{UberBody}
 use Rattle.draid_record.specs.Uber.{Begins, IsUber, uber}
 use Rattle.draid_record.proofs.Again.{uber_ranges, uber_slot}
 use Rattle.draid_uber.specs.Slots.{HasKept, IsLeft, StandsIn, StandsTold, area_bytes, base_of, body_in, choice_of, chosen_of, slot_in}
+use Rattle.draid_uber.specs.declared.uber.UberFault.TheVariants as faults
 use Rattle.draid_uber.proofs.Choices.{chosen_long}
 
 abbrev pub some_result : Result UberBody RecordFault → Option (Result UberBody RecordFault)
@@ -95,3 +98,35 @@ done_is c d e = cc
 
 pub layers : (r : Result Choice DeviceFault) (c : Choice) (s : Result UberBody RecordFault) (body : UberBody) → r ≡ Ok c → c ≡ Some s → s ≡ Ok body → r ≡ Ok (Some (Ok body))
 layers r c s body a b d = rw (a, b, d) refl
+
+-- ---- what a recovery answers
+-- what was taken is what the bytes have
+pub told_is : (o : Option Content) (c d : Choice) → c ≡ d → OnTold o (λ x. c ≡ chosen_of x.bytes) → OnTold o (λ x. chosen_of x.bytes ≡ d)
+told_is None c d e found = tt
+told_is (Some x) c d e found = sym found ∙ e
+
+pub told_any : (o : Option Content) → OnTold o (λ x. ⊤)
+told_any None = tt
+told_any (Some x) = tt
+
+pub layers_bad : (c : Choice) (s : Result UberBody RecordFault) (f : RecordFault) (place kind : ℕ) → c ≡ Some s → s ≡ Err f → f ≡ Bad place kind → c ≡ Some (Err (Bad place kind))
+layers_bad c s f place kind a b d = rw (a, b, d) refl
+
+-- these faults differ
+pub empty_area : {P : Type 0} → faults.Empty ≡ faults.Area → P
+empty_area e = absurd (cc)
+
+pub area_empty : {P : Type 0} → faults.Area ≡ faults.Empty → P
+area_empty e = absurd (cc)
+
+pub memory_area : {P : Type 0} → faults.NoMemory ≡ faults.Area → P
+memory_area e = absurd (cc)
+
+pub memory_empty : {P : Type 0} → faults.NoMemory ≡ faults.Empty → P
+memory_empty e = absurd (cc)
+
+pub record_area : {P : Type 0} (place kind : ℕ) → faults.Record place kind ≡ faults.Area → P
+record_area place kind e = absurd (cc)
+
+pub record_empty : {P : Type 0} (place kind : ℕ) → faults.Record place kind ≡ faults.Empty → P
+record_empty place kind e = absurd (cc)

@@ -2,7 +2,7 @@ use Rattle.std.proofs.Common.{◌∙◌, ◌++◌, ◌∷◌, [], List, arith, a
 use Rattle.draid_machine.specs.declared.event.Event.{Event}
 use Rattle.draid_machine.specs.declared.event.Event.TheVariants.{Close}
 use Rattle.draid_shard.proofs.Changed.{same_entries}
-use Rattle.draid_groups.proofs.Closed.{closed_valid, closes, kept_in, kept_valid}
+use Rattle.draid_groups.proofs.Closed.{asked_nothing, asked_valid, closed_valid, closes, kept_in, kept_valid}
 use Rattle.draid_groups.proofs.closing.close_group.Goals as goal
 
 pub returns-in_default-clause-valid : goal.returns-in_default-clause-valid
@@ -39,3 +39,24 @@ returns-clause-event g c =
       stored = c.add_asked.ensures.stored ∙ ap (λ (events : List Event). events ++ Close c.args.group ∷ []) c.in-Ok.ensures.same.events;
       leads = λ w reached at. closes g.R.Rack c.args.shard.now c.reserve.new.self c.in-Ok-reserve.ensures.kept c.args.group open_is c.requires.idle (omega (arith, low, open_is, other)) c.add_asked.new.self w at;
     }
+
+pub returns-in-Err-Worn-clause-valid : goal.returns-in-Err-Worn-clause-valid
+returns-in-Err-Worn-clause-valid g c = asked_valid g.R.Rack c.args.shard.now c.ask_for_group.new.self c.ask_for_group.ensures.same c.requires.valid
+
+pub returns-in-Err-Worn-clause-none : goal.returns-in-Err-Worn-clause-none
+returns-in-Err-Worn-clause-none g c = asked_nothing g.R.Rack c.args.shard.now c.ask_for_group.new.self c.ask_for_group.ensures.same
+
+pub returns-in-Err-NoMemory-clause-valid : goal.returns-in-Err-NoMemory-clause-valid
+returns-in-Err-NoMemory-clause-valid g c = asked_valid g.R.Rack c.args.shard.now c.ask_for_group.new.self c.ask_for_group.ensures.same c.requires.valid
+
+pub returns-in-Err-NoMemory-clause-none : goal.returns-in-Err-NoMemory-clause-none
+returns-in-Err-NoMemory-clause-none g c = asked_nothing g.R.Rack c.args.shard.now c.ask_for_group.new.self c.ask_for_group.ensures.same
+
+pub returns-then-group-eq-LAST_NUMBER-clause-valid : goal.returns-then-group-eq-LAST_NUMBER-clause-valid
+returns-then-group-eq-LAST_NUMBER-clause-valid g c = asked_valid g.R.Rack c.args.shard.now c.ask_for_group.new.self c.ask_for_group.ensures.same c.requires.valid
+
+pub returns-then-group-eq-LAST_NUMBER-clause-none : goal.returns-then-group-eq-LAST_NUMBER-clause-none
+returns-then-group-eq-LAST_NUMBER-clause-none g c = asked_nothing g.R.Rack c.args.shard.now c.ask_for_group.new.self c.ask_for_group.ensures.same
+
+pub returns-clause-closes : goal.returns-clause-closes
+returns-clause-closes g c = record { entries = same_entries c.args.shard.now.entries; open_group_is = refl; closing = refl; sealed = refl; committed = refl }
