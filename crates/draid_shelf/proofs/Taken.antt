@@ -1,17 +1,18 @@
 -- What a call of a shelf in memory that makes or takes leaves, where it succeeded and where it was refused.
-use Rattle.std.proofs.Common.{arith, refl, inl, inr, ◌≡◌, ◌+◌, ◌-◌, ◌^◌, ◌≤◌, ◌⊎◌, ◌==◌, ◌∙◌, ap, sym, subst, min, ℕ, Bool, Ok, Err, Option, Some, false, true, is_some, if◌then◌else◌}
+use Rattle.std.proofs.Common.{arith, refl, inl, inr, ◌≡◌, ◌+◌, ◌-◌, ◌^◌, ◌≤◌, ◌⊎◌, ◌==◌, ◌∙◌, ap, sym, subst, min, ℕ, Bool, Ok, Err, Option, Some, None, false, true, is_some, option_map, if◌then◌else◌}
 use Rattle.std.proofs.lemmas.Bool.{true≢false}
 use Rattle.std.proofs.lemmas.Bool.Decides.{nat_tests}
-use Rattle.std.specs.Prelude.{IsErrOf, IsTrue, option_and_then}
+use Rattle.std.specs.Prelude.{IsErrOf, IsSomeAnd, IsTrue, option_and_then}
 use Rattle.draid_names.specs.Faults.{Rose}
 use Rattle.draid_names.specs.declared.fault.DeviceFault.{DeviceFault}
 use Rattle.draid_faults.specs.declared.calls.Calls.{Calls}
 use Rattle.draid_faults.specs.Calls.{CountsCall, CountsJust, failing_calls, is_fused, next_call}
-use Rattle.draid_rack.specs.Memory.{told_by_memory}
+use Rattle.draid_rack.specs.Memory.{shape_of_memory, told_by_memory}
 use Rattle.draid_rack.specs.declared.memory.MemoryRack.{MemoryRack}
 use Rattle.draid_area.specs.Memory as device
 use Rattle.draid_area.specs.declared.memory.MemoryArea.{MemoryArea}
 use Rattle.draid_shelf.specs.Failing.{KeepsPlan, lists_by}
+use Rattle.draid_shelf.specs.Shelf.{IsKnown}
 use Rattle.draid_shelf.specs.Kits.{FailsJust, ShelfCounts, kit_of}
 use Rattle.draid_shelf.specs.Memory.{content_of}
 use Rattle.draid_shelf.specs.declared.memory.MemoryShelf.{MemoryShelf}
@@ -98,3 +99,17 @@ kit_taken r e o rack even odd a b c = rw (a, b, c) refl
 -- another place than the one that was set
 pub set_other : {A : Type 0} (now was v : Option A) (q m : ℕ) → (q ≡ m → ⊥) → now ≡ (if q == m then v else was) → now ≡ was
 set_other now was v q m away is = grind (arith, nat_tests)
+
+-- what is held tells
+pub area_some : (x : Option MemoryArea) (area : MemoryArea) → x ≡ Some area → content_of x ≡ None → ⊥
+area_some x area is none = true≢false (ap (λ k. is_some k) (ap (λ y. content_of y) (sym is) ∙ none))
+
+pub kit_some : (r : Option MemoryRack) (e o : Option MemoryArea) (rack : MemoryRack) (even odd : MemoryArea) → r ≡ Some rack → e ≡ Some even → o ≡ Some odd → kit_of (option_and_then told_by_memory r) (content_of e) (content_of o) ≡ None → ⊥
+kit_some r e o rack even odd a b c none = true≢false (ap (λ k. is_some k) (kit_taken r e o rack even odd a b c ∙ none))
+
+-- the leaves of a rack that is held
+pub is_known : (r : Option MemoryRack) (rack : MemoryRack) → r ≡ Some rack → IsKnown (option_map shape_of_memory r) (shape_of_memory rack)
+is_known r rack is = rw is refl
+
+pub has_sector : (r : Option MemoryRack) (rack : MemoryRack) (n : ℕ) → r ≡ Some rack → IsSomeAnd r (λ x. (shape_of_memory x).bytes ≡ n) → (shape_of_memory rack).bytes ≡ n
+has_sector r rack n is has = rw is at has

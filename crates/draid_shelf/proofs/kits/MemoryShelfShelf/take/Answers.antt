@@ -5,7 +5,7 @@ use Rattle.draid_area.specs.Memory.{size_of_memory}
 use Rattle.draid_shelf.specs.Memory.{HoldsKit, area_at, area_count, check_counts, counts_by, held_by, kit_counts, rack_at, shape_at}
 use Rattle.draid_shelf.specs.declared.devices.Devices.{Devices}
 use Rattle.draid_shelf.proofs.Holdings.{held_set}
-use Rattle.draid_shelf.proofs.Taken.{count_kept, count_risen, is_failure, just_risen, kit_taken, lists_kept, no_failure, plan_kept, refuses, same_count, set_other, succeeds}
+use Rattle.draid_shelf.proofs.Taken.{count_kept, count_risen, has_sector, is_failure, is_known, just_risen, kit_some, kit_taken, lists_kept, no_failure, plan_kept, refuses, same_count, set_other, succeeds}
 use Rattle.draid_shelf.proofs.kits.MemoryShelfShelf.take.Goals.{then-fails-via-then-fails, then-fails-via-else-fails+then-not-holds}
 use Rattle.draid_shelf.proofs.kits.MemoryShelfShelf.take.Goals as goal
 
@@ -52,8 +52,8 @@ returns c =
     let odd : area_at c.args.self.now.devices.odds m ≡ Some s.odd = sym c.take_from-odd.ensures.taken ∙ s.is-2 in
     let there : HoldsKit c.args.self.now.devices m c.args.geometry.now.props.sector = c.holds.ensures.0 c.if-not-holds.false in
     record {
-      sectors = rw rack at there.rack;
-      leaves = rw rack refl;
+      sectors = has_sector _ s.rack _ rack there.rack;
+      leaves = is_known _ s.rack rack;
       kit = kit_taken _ _ _ _ _ _ rack even odd;
       told = held_set c.args.metaslab None None None c.args.self.now.devices _ c.take_from-rack.ensures.left c.take_from-even.ensures.left c.take_from-odd.ensures.left refl refl refl;
       rack_count = λ who. ap (λ r. counts_by r who) (sym rack);
@@ -74,7 +74,7 @@ returns c =
       moved = (rack, even, odd, record { racks = c.take_from-rack.ensures.left; evens = c.take_from-even.ensures.left; odds = c.take_from-odd.ensures.left; check_even = refl; check_odd = refl; uber = refl });
       kept = tt;
       plan = record { rule = refl; lists = lists_kept c.args.self.now.calls c.fails.new.self c.args.self.now.plan c.fails.ensures.failing; fuse = refl };
-      needs = λ none. let some = kit_taken _ _ _ _ _ _ rack even odd ∙ none in absurd (cc);
+      needs = λ none. absurd (kit_some _ _ _ s.rack s.even s.odd rack even odd none);
       cause = count_kept _ _;
       device = no_failure _;
       risen = same_count _ _;

@@ -4,7 +4,7 @@ use Rattle.std.proofs.lemmas.Bool.{true≢false}
 use Rattle.draid_area.specs.Memory.{size_of_memory}
 use Rattle.draid_shelf.specs.Memory.{area_count, check_counts, content_of, held_by, kit_counts, shape_at}
 use Rattle.draid_shelf.specs.declared.devices.Devices.{Devices}
-use Rattle.draid_shelf.proofs.Taken.{Asked, asked, count_kept, count_risen, is_failure, just_risen, lists_kept, no_failure, plan_kept, refuses, same_count, succeeds}
+use Rattle.draid_shelf.proofs.Taken.{Asked, area_some, asked, count_kept, count_risen, is_failure, just_risen, lists_kept, no_failure, plan_kept, refuses, same_count, succeeds}
 use Rattle.draid_shelf.proofs.kits.MemoryShelfShelf.take_uber.Goals.{then-fails-via-then-fails, then-fails-via-else-fails+then-is_missing}
 use Rattle.draid_shelf.proofs.kits.MemoryShelfShelf.take_uber.Goals as goal
 
@@ -59,7 +59,7 @@ returns c =
       moved = (was, record { racks = refl; evens = refl; odds = refl; even_is = refl; odd_is = refl; uber_is = gone });
       kept = tt;
       plan = record { rule = refl; lists = lists_kept c.args.self.now.calls c.fails.new.self c.args.self.now.plan c.fails.ensures.failing; fuse = refl };
-      needs = λ none. let some = ap (λ x. content_of x) (sym was) ∙ none in absurd (cc);
+      needs = λ none. absurd (area_some _ c.in-Some.area was none);
       cause = count_kept _ _;
       device = no_failure _;
       risen = same_count _ _;
