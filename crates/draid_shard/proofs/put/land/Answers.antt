@@ -46,3 +46,17 @@ returns-clause-lands g c =
     let all : c.loop-arm.arm ≡ length (arms_of c.args.slots.now c.args.rows.slot) = omega (arith, past, upto, ap length c.arms.ensures.arms) in
     subst (λ k. Lands c.args.slots.now c.loop-arm.slots c.args.rows k c.args.column.now c.loop-arm.landing (g.R.Rack.told c.args.rack.now) (g.R.Rack.told c.loop-arm.rack) (g.R.Rack.faults c.args.rack.now) (g.R.Rack.faults c.loop-arm.rack))
     all c.loop-arm.invariant.lands
+
+pub land_on-outcome-requires-clause-long : goal.land_on-outcome-requires-clause-long
+land_on-outcome-requires-clause-long g c = c.requires.long
+
+pub land_on-outcome-requires-clause-birth : goal.land_on-outcome-requires-clause-birth
+land_on-outcome-requires-clause-birth g c = c.requires.birth
+
+pub note-requires : goal.note-requires
+note-requires g c =
+    let landed = c.loop-arm.invariant.lands.few_landed in
+    let failed = c.loop-arm.invariant.lands.few_failed in
+    let less = c.loop-arm-test.true in
+    let few = c.arms.ensures.few in
+    record { landed = omega (arith, landed, less, few); failed = omega (arith, failed, less, few) }

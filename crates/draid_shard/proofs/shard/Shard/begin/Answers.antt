@@ -9,11 +9,13 @@ use Rattle.draid_metaslab.specs.Spaces.{is_free}
 use Rattle.draid_metaslab.specs.Spots.{IsLowest}
 use Rattle.draid_entries.specs.Entries.{begun, count_of, held_in}
 use Rattle.draid_entries.specs.declared.entry.Entry.{Entry}
+use Rattle.draid_entries.specs.History.{Passes, left_for_groups}
 use Rattle.draid_entries.specs.Maps.{key_of}
 use Rattle.draid_machine.proofs.Small.{some_same}
 use Rattle.draid_shard.proofs.Begins.{IsGiven, MayBegin, begins_leads, due_from, due_low, due_upto, owed_begun, refused_by}
 use Rattle.draid_shard.proofs.FreeRuns.{fewer}
-use Rattle.draid_shard.proofs.Held.{here_same, here_set, tickets_same, tickets_staged}
+use Rattle.draid_shard.proofs.Held.{here_same, here_set, stays_in, tickets_same, tickets_staged}
+use Rattle.draid_shard.proofs.Tables.{set_here}
 use Rattle.draid_shard.proofs.Turns.{fitting, valid_with}
 use Rattle.draid_shard.proofs.shard.Shard.begin.Goals as goal
 
@@ -109,3 +111,73 @@ returns-in-Err-clause-refused g c w is_in =
     let same = c.stripes.ensures.stripes ∙ ap (λ (cut : Cut). stripes_of cut (length c.args.block.now.bytes)) c.requires.cut in
     refused_by c.args.self.now (stripes_of (cut_of c.args.self.now.geometry) (length c.args.block.now.bytes)) c.stripes.result c.block_events-asked.result c.in-Err.fault may
     (let some = c.stripes.ensures.some in omega (arith, some, same)) same c.block_events-asked.ensures c.in-Err.ensures.refused w is_in
+
+pub returns-in-Ok-clause-kit : goal.returns-in-Ok-clause-kit
+returns-in-Ok-clause-kit g c = record { rack = refl; areas = record { even = refl; odd = refl } }
+
+pub returns-in-Ok-clause-reserve : goal.returns-in-Ok-clause-reserve
+returns-in-Ok-clause-reserve g c = let e = c.in-Ok.ensures in record { reserved = e.stored.reserved; limit = e.stored.limit }
+
+pub returns-in-Ok-clause-not_worn : goal.returns-in-Ok-clause-not_worn
+returns-in-Ok-clause-not_worn g c worn = let e = c.in-Ok.ensures in e.not_worn (subst (λ n. Passes c.args.self.now.history n left_for_groups) (sym c.block_events-asked.ensures) worn)
+
+pub returns-in-Ok-clause-ticket : goal.returns-in-Ok-clause-ticket
+returns-in-Ok-clause-ticket g c =
+    let e = c.in-Ok.ensures in
+    let p = c.in-Ok.pointer in
+    record {
+      named = record {
+        object_is = ap (λ (q : Pointer). q.object) e.placed;
+        seq_is = ap (λ (q : Pointer). q.seq) e.placed;
+        metaslab_is = ap (λ (q : Pointer). q.metaslab) e.placed;
+        birth_is = ap (λ (q : Pointer). q.birth) e.placed ∙ c.max.ensures;
+        fresh = (refl, refl);
+      };
+      carries = record {
+        is_open = set_here c.args.self.now.entries c.hold.new.entries p (Some (begun p)) e.entered;
+        cut = c.requires.cut;
+        content = record {
+          len = sym c.len.ensures.len ∙ sym (ap (λ (q : Pointer). q.len) e.placed);
+          digest = sym c.digest.ensures.digest ∙ sym (ap (λ (q : Pointer). q.digest) e.placed);
+          bytes = c.digest.ensures.bytes;
+        };
+        columns = c.digest.ensures.columns;
+        count = omega arith;
+        few = omega arith;
+      };
+      was = e.was;
+      enters = record { entry = e.entered; groups = record { open_group_is = refl; closing = refl; sealed = refl; committed = refl } };
+    }
+
+pub returns-in-Err-clause-kit : goal.returns-in-Err-clause-kit
+returns-in-Err-clause-kit g c = record { rack = refl; areas = record { even = refl; odd = refl } }
+
+pub returns-in-Err-clause-none : goal.returns-in-Err-clause-none
+returns-in-Err-clause-none g c =
+    let e = c.in-Err.ensures in
+    record {
+      none = record {
+        part = refl;
+        stored = e.kept.events;
+        stays = λ w is_in. stays_in c.args.self.now c.hold.new.space c.hold.new.entries c.hold.new.history w e.same is_in;
+      };
+      keeps = record { entries = e.same; groups = record { open_group_is = refl; closing = refl; sealed = refl; committed = refl } };
+    }
+
+pub returns-in-Err-clause-reserve : goal.returns-in-Err-clause-reserve
+returns-in-Err-clause-reserve g c = let e = c.in-Err.ensures in record { reserved = e.kept.reserved; limit = e.kept.limit }
+
+pub returns-then-is_full-clause-valid : goal.returns-then-is_full-clause-valid
+returns-then-is_full-clause-valid g c = c.requires.valid
+
+pub returns-then-is_full-clause-kit : goal.returns-then-is_full-clause-kit
+returns-then-is_full-clause-kit g c = record { rack = refl; areas = record { even = refl; odd = refl } }
+
+pub returns-then-is_full-clause-none : goal.returns-then-is_full-clause-none
+returns-then-is_full-clause-none g c = record {
+  none = record { part = refl; stored = refl; stays = λ w is_in. is_in };
+  keeps = record {
+    entries = record { at = λ _. refl; held = λ _. refl; count = refl; owed = λ _. refl };
+    groups = record { open_group_is = refl; closing = refl; sealed = refl; committed = refl };
+  };
+}

@@ -1,4 +1,4 @@
-use Rattle.std.proofs.Common.{◌≡◌, ◌+◌, ◌*◌, ◌∙◌, ◌++◌, None, Some, Option, arith, ap, drop, length, refl, subst, sym, take}
+use Rattle.std.proofs.Common.{◌≡◌, ◌<◌, ℕ, ap₂, ◌+◌, ◌*◌, ◌∙◌, ◌++◌, None, Some, Option, arith, ap, drop, length, refl, subst, sym, take}
 use Rattle.draid_rack.specs.Rack.{Told}
 use Rattle.draid_shard.specs.Calls.{CountsFailed}
 use Rattle.draid_shard.specs.States.{part_of}
@@ -35,3 +35,22 @@ pub returns-clause-counts : goal.returns-clause-counts
 returns-clause-counts g c first was =
     subst (λ failed. CountsFailed failed first (g.R.Rack.faults c.read_column-outcome.new.rack)) (sym c.note_read.ensures.failed)
     (counts_after c.read_column-outcome.result c.args.failed.now.items first (g.R.Rack.faults c.args.self.now.rack) (g.R.Rack.faults c.read_column-outcome.new.rack) c.read_column-outcome.ensures.counts was)
+
+pub take_column-requires : goal.take_column-requires
+take_column-requires g c = subst (λ n. c.args.column < n) (sym c.requires.before.all) c.requires.less
+
+pub read_column-outcome-requires-clause-long : goal.read_column-outcome-requires-clause-long
+read_column-outcome-requires-clause-long g c =
+    let rows = c.rows_of-rows.ensures in
+    let bytes = c.in-Some.bytes in
+    let taken : c.take_column.result ≡ Some bytes = c.in-Some.is in
+    let long : length bytes.items ≡ c.args.pointer.now.stripes * c.args.self.now.geometry.props.sector = c.requires.before.long c.args.column bytes (c.take_column.ensures.taken ∙ ap Some taken) in
+    ap length c.deref_mut.ensures.value ∙ long ∙ sym (ap₂ (λ (a b : ℕ). a * b) rows.count_is rows.size_is)
+
+pub note_read-requires : goal.note_read-requires
+note_read-requires g c =
+    let few = c.requires.before.few in
+    let less = c.requires.less in
+    let room = c.requires.room in
+    let ok = c.args.failed.now.ok.0 in
+    record { taken = c.take_column.ensures.left.here; room = omega (arith, few, less, room, ok) }

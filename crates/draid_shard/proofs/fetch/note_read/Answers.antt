@@ -1,0 +1,18 @@
+use Rattle.std.proofs.Common.{refl}
+use Rattle.draid_shard.proofs.fetch.note_read.Goals as goal
+
+pub returns-in-Silent : goal.returns-in-Silent
+returns-in-Silent c = record {
+  columns = record { all = refl; here = rw c.in-Silent.is c.requires.taken; others = λ _ _. refl };
+  failed = rw c.in-Silent.is refl;
+  room = refl;
+}
+
+pub returns-in-Failed-clause-columns : goal.returns-in-Failed-clause-columns
+returns-in-Failed-clause-columns c = record { all = refl; here = rw c.in-Failed.is c.requires.taken; others = λ _ _. refl }
+
+pub returns-in-Done-clause-failed : goal.returns-in-Done-clause-failed
+returns-in-Done-clause-failed c = rw c.in-Done.is refl
+
+pub returns-in-Done-clause-room : goal.returns-in-Done-clause-room
+returns-in-Done-clause-room c = refl
