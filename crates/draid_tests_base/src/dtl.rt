@@ -2,58 +2,66 @@ ghost use Rattle.std.specs.Prelude.{◌<◌, ◌^◌, ℕ, All, length};
 
 use draid_dtl::{Log, group, mirror};
 use std::alloc::{AllocError, Global};
-use std::test::Fail;
 
-fn log(alloc: Global, groups: &[u64]) -> Result<Log, AllocError>
+/// Adds these groups to a log.
+fn add(log: &mut Log, groups: &[u64]) -> Result<(), AllocError>
     requires { All (λ (group : ℕ). group < 2 ^ 48) groups.now }
 {
-    let mut log = Log::new(alloc);
     log.reserve(3)?;
     for group in groups {
         log.dirty(*group)?;
     }
-    Ok(log)
+    Ok(())
 }
 
-/// The logs of three arms.
-fn three(alloc: Global) -> Result<[Log; 3], AllocError> {
-    let first = log(alloc, &[2, 3])?;
-    let second = log(alloc, &[3])?;
-    Ok([first, second, Log::new(alloc)])
-}
-
-/// How many groups arms that mirror each other missed, and whether these have 3.
-fn missed_by_all(alloc: Global, logs: &[Log]) -> Result<(u64, bool), AllocError>
+/// Whether arms that mirror each other missed the group 3 alone.
+fn all_missed(alloc: Global, logs: &[Log]) -> bool
     requires { 0 < length logs.now }
 {
-    let missed = mirror(alloc, logs)?;
-    Ok((missed.count(), missed.contains(3)))
+    match mirror(alloc, logs) {
+        Ok(missed) => missed.count() == 1 && missed.contains(3),
+        Err(_) => false,
+    }
 }
 
-/// The same of the arms of a group with one parity.
-fn missed_by_two(alloc: Global, logs: &[Log]) -> Result<(u64, bool), AllocError> {
-    let missed = group(alloc, 1, logs)?;
-    Ok((missed.count(), missed.contains(3)))
+/// Whether two arms of a group with one parity missed it, and no other.
+fn two_missed(alloc: Global, logs: &[Log]) -> bool {
+    match group(alloc, 1, logs) {
+        Ok(missed) => missed.count() == 1 && missed.contains(3),
+        Err(_) => false,
+    }
 }
 
-/// What the first two missed, and all three.
-fn missed(alloc: Global) -> Result<[(u64, bool); 2], AllocError> {
-    let three = three(alloc)?;
-    let both = missed_by_all(alloc, &three[..2])?;
-    Ok([both, missed_by_two(alloc, &three)?])
+/// Whether it is so of three arms, and of the first two.
+fn are_missed(alloc: Global) -> bool {
+    let mut logs = [Log::new(alloc), Log::new(alloc), Log::new(alloc)];
+    if add(&mut logs[0], &[2, 3]).is_err() || add(&mut logs[1], &[3]).is_err() {
+        return false;
+    }
+    all_missed(alloc, &logs[..2]) && two_missed(alloc, &logs)
 }
 
-/// What is left of a log up to 5 without the groups up to 2 and above 4.
-fn left(alloc: Global) -> Result<(u64, [bool; 2]), AllocError> {
-    let mut open = Log::upto(alloc, 5)?;
-    open.excise(2);
-    open.cut_above(4);
-    Ok((open.count(), [open.contains(3), open.contains(4)]))
+/// Whether 3 and 4 are left of a log without the groups up to 2 and above 4.
+fn has_the_rest(log: &mut Log) -> bool {
+    log.excise(2);
+    log.cut_above(4);
+    log.count() == 2 && log.contains(3) && log.contains(4)
+}
+
+/// Whether they are of a log up to 5.
+fn is_cut(alloc: Global) -> bool {
+    match Log::upto(alloc, 5) {
+        Ok(mut log) => has_the_rest(&mut log),
+        Err(_) => false,
+    }
 }
 
 #[test]
-fn logs_say_what_is_missed(rt: HostRuntime) -> Result<(), Fail> {
-    assert_eq!(rt; missed(rt.alloc())?, [(1, true); 2]);
-    assert_eq!(rt; left(rt.alloc())?, (2, [true; 2]));
-    Ok(())
+fn logs_say_what_is_missed(rt: HostRuntime) {
+    assert!(rt; are_missed(rt.alloc()));
+}
+
+#[test]
+fn logs_are_cut(rt: HostRuntime) {
+    assert!(rt; is_cut(rt.alloc()));
 }

@@ -1,15 +1,11 @@
-ghost use Rattle.std.specs.Prelude.{◌≡◌, length};
+ghost use Rattle.std.specs.Prelude.{◌≡◌, ◌≤◌, length};
 
 use draid_gf::{inv, mul, mul_into, pow2, xor_into};
-use std::alloc::{AllocError, Global};
-use std::test::Fail;
 
-fn numbered(alloc: Global, len: usize) -> Result<Vec<u8>, AllocError> {
-    let mut bytes = Vec::new(alloc);
-    for i in 0..len {
-        bytes.push((i % 251) as u8)?;
+fn number(bytes: &mut [u8]) {
+    for i in 0..bytes.len() {
+        bytes[i] = (i % 251) as u8;
     }
-    Ok(bytes)
 }
 
 fn add_by_kernels(to: &mut [u8], from: &[u8])
@@ -21,27 +17,42 @@ fn add_by_kernels(to: &mut [u8], from: &[u8])
     }
 }
 
-fn add_by_bytes(to: &mut [u8], from: &[u8]) {
-    for (to, byte) in to.iter_mut().zip(from) {
-        *to ^= *byte;
-        for by in 0..=255 {
-            *to ^= mul(by, *byte);
-        }
+/// What a byte becomes where another one is added, and then its product with each factor.
+fn sum_of(to: u8, from: u8) -> u8 {
+    let mut sum = to ^ from;
+    for by in 0..=255 {
+        sum ^= mul(by, from);
     }
+    sum
+}
+
+fn add_by_bytes(to: &mut [u8], from: &[u8])
+    requires { length to.old ≡ length from.now }
+{
+    for i in 0..from.len() {
+        to[i] = sum_of(to[i], from[i]);
+    }
+}
+
+/// Whether kernels add the same as a loop over bytes to so many bytes.
+fn equals_a_loop(len: usize) -> bool
+    requires { len ≤ 4096 }
+{
+    let mut from = [0; 4096];
+    number(&mut from);
+    let mut sum = from;
+    let mut plain = from;
+    add_by_kernels(&mut sum[..len], &from[..len]);
+    add_by_bytes(&mut plain[..len], &from[..len]);
+    sum == plain
 }
 
 // Every factor, at lengths round those of lanes.
 #[test]
-fn sums_equal_a_loop(rt: HostRuntime) -> Result<(), Fail> {
+fn sums_equal_a_loop(rt: HostRuntime) {
     for len in [0, 1, 31, 32, 33, 4096] {
-        let from = numbered(rt.alloc(), len)?;
-        let mut sum = from.clone()?;
-        let mut plain = from.clone()?;
-        add_by_kernels(&mut sum, &from);
-        add_by_bytes(&mut plain, &from);
-        assert_eq!(rt; sum, plain, "at length {len}");
+        assert!(rt; equals_a_loop(len), "at length {len}");
     }
-    Ok(())
 }
 
 /// Products of the worked rows, and those of H. P. Anvin, "The mathematics of RAID-6".
@@ -68,12 +79,12 @@ fn powers() -> [u8; 6] {
 }
 
 #[test]
-fn known_values(rt: HostRuntime) {
-    let found = (products(), powers(), [inv(2), inv(1)]);
-    let wanted = (
-        [0x1d, 0x3a, 1, 0, 0xff],
-        [1, 0x80, 0x1d, 0x8e, 1, 1],
-        [0x8e, 1],
-    );
-    assert_eq!(rt; found, wanted);
+fn known_products(rt: HostRuntime) {
+    assert!(rt; products() == [0x1d, 0x3a, 1, 0, 0xff]);
+    assert!(rt; inv(2) == 0x8e && inv(1) == 1);
+}
+
+#[test]
+fn known_powers(rt: HostRuntime) {
+    assert!(rt; powers() == [1, 0x80, 0x1d, 0x8e, 1, 1]);
 }
