@@ -7,3 +7,5 @@ pub mod Written
 pub mod WrittenLanes
 pub mod Inverse
 pub mod Read
+pub mod Steps
+pub mod GivenKeys
