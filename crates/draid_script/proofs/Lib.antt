@@ -9,3 +9,4 @@ pub mod Inverse
 pub mod Read
 pub mod Steps
 pub mod GivenKeys
+pub mod CommandSteps

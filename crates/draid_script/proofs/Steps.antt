@@ -1,6 +1,7 @@
 -- What is read by one step after another.
-use Rattle.std.proofs.Common.{◌≡◌, ◌≤◌, ◌<◌, List, [], ◌∷◌, length, get_or, Result, Ok, Err, sym, ap, ◌∙◌, subst, arith}
+use Rattle.std.proofs.Common.{◌≡◌, ◌-◌, ◌≤◌, ◌<◌, List, [], ◌∷◌, length, get_or, drop, take, Result, Ok, Err, sym, ap, ◌∙◌, subst, arith}
 use Rattle.std.specs.Result.{IsErrAnd}
+use Rattle.std.proofs.lemmas.List.{take_all}
 use Rattle.std.proofs.lemmas.Result.{err_from_is_err_and}
 use Rattle.draid_script.specs.declared.fault.LineFault.{LineFault}
 use Rattle.draid_script.specs.declared.fault.ParseFault.{ParseFault}
@@ -26,6 +27,23 @@ then_err view r e read first more steps passed fails =
 -- a fault that is the whole of what is read
 pub refuses_all : {B : Type 0} (e : ParseFault) (read : Result B LineFault) (fault : LineFault) → e ≡ refused.Line fault → read ≡ Err fault → Refuses e read
 refuses_all e read fault is fails = subst (λ f. Refuses f read) (sym is) fails
+
+-- want of memory says nothing of what is read
+pub no_memory : {B X : Type 0} (view : X → B) (r : Result X ParseFault) (read : Result B LineFault) → IsErrAnd r (λ y. y ≡ refused.NoMemory) → Gives view r read
+no_memory view r read passed =
+    let p = err_from_is_err_and r passed in
+    let same : Refuses p.0 read = subst (λ f. Refuses f read) (sym p.2) tt in
+    subst (λ result. Gives view result read) (sym p.1) same
+
+-- a list of two or more, by its first elements
+pub front_of : {A : Type 0} (xs : List A) (a b : A) → 2 ≤ length xs → a ≡ get_or xs 0 a → b ≡ get_or xs 1 b → xs ≡ a ∷ b ∷ take (length xs - 2) (drop 2 xs)
+front_of [] a b some at at' = absurd (omega (arith, some))
+front_of (x ∷ []) a b some at at' = absurd (omega (arith, some))
+front_of (x ∷ y ∷ xs) a b some at at' =
+    let all = x ∷ y ∷ xs in
+    let rest = take (length all - 2) xs in
+    let whole : all ≡ x ∷ y ∷ rest = ap (λ ys. x ∷ y ∷ ys) (sym (take_all (length all - 2) xs (omega arith))) in
+    subst (λ z. all ≡ z ∷ b ∷ rest) (sym at) (subst (λ z. all ≡ x ∷ z ∷ rest) (sym at') whole)
 
 -- lists of a known length, by their elements
 pub one_of : {A : Type 0} (xs : List A) (a : A) → 1 ≤ length xs → length xs < 2 → a ≡ get_or xs 0 a → xs ≡ a ∷ []
