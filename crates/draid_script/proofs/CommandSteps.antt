@@ -6,7 +6,7 @@ use Rattle.draid_script.specs.declared.line.PoolKeys.{PoolKeys}
 use Rattle.draid_script.specs.Fault.{◌>>=◌}
 use Rattle.draid_script.specs.Field.{count_at, number_at, number_in}
 use Rattle.draid_script.specs.Keys.{keys_at}
-use Rattle.draid_script.specs.Line.{Command, CreatePool, FillObjects, ReplaceDisk}
+use Rattle.draid_script.specs.Line.{Command, CreatePool, FillObjects, ReplaceDisk, SumObjects}
 use Rattle.draid_script.specs.Word.{Placed}
 
 -- `fill`, by what was read already
@@ -38,3 +38,10 @@ replace_sized slot sectors = Ok (ReplaceDisk slot (Some sectors))
 
 abbrev pub replace_slot : Placed → ℕ → Result Command LineFault
 replace_slot sectors slot = number_in 0 NUMBERS sectors >>= replace_sized slot
+
+-- `sum`, by what was read already
+abbrev pub sum_counted : ℕ → ℕ → Result Command LineFault
+sum_counted first count = Ok (SumObjects first count)
+
+abbrev pub sum_from : Placed → ℕ → Result Command LineFault
+sum_from count first = count_at first count >>= sum_counted first
