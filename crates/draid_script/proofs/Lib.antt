@@ -7,3 +7,6 @@ pub mod Written
 pub mod WrittenLanes
 pub mod Inverse
 pub mod Read
+pub mod Steps
+pub mod GivenKeys
+pub mod CommandSteps

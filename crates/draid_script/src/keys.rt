@@ -35,7 +35,6 @@ pub struct Given {
 
 impl Given {
     /// What is given with one more word `key=value`.
-    #[tactic(auto, unfolding(crate::specs::Keys::given_with))]
     fn with(self, word: &Word) -> Result<Given, ParseFault>
         ensures { Gives (λ given. given) result (spec.given_with self (placed word.now)) }
     {

@@ -9,7 +9,6 @@ use std::alloc::Global;
 use std::str;
 
 /// The number below 2^64 that the text is in decimal digits, without a sign or a leading zero.
-#[tactic(auto, using(crate::proofs::Numbers::number_read, crate::proofs::Numbers::not_begun, crate::proofs::Numbers::not_text), unfolding(crate::specs::Word::number_of))]
 pub fn decimal(text: &[u8]) -> Option<u64>
     ensures { result ≡ spec.number_of text.now }
 {
