@@ -4,10 +4,9 @@ ghost use Rattle.draid_rack.specs.Memory.{shape_of_memory, told_by_memory};
 ghost use Rattle.draid_rack.specs.Moments.{CrashKeepsOthers, KeptOthers, OnBoth};
 
 use draid_faults::{CrashRule, Fuse};
-use draid_names::{At, Failed};
+use draid_names::{At, Failed, NoMemory};
 use draid_rack::{MemoryRack, Rack};
 use std::alloc::Global;
-use std::test::Fail;
 
 /// Writes the first three sectors of a leaf and flushes it. At each moment of it every other sector reads as it did,
 /// and a crash at such a moment leaves those of them that weren't soft before.
@@ -73,10 +72,10 @@ fn crash_with_harm(rack: &mut MemoryRack, bytes: &[u8]) -> Result<(), Failed>
 }
 
 /// A rack of two leaves, each of three sectors of four bytes.
-fn small_rack(alloc: Global, failing: Vec<u64>) -> Result<MemoryRack, Fail>
+fn small_rack(alloc: Global, failing: Vec<u64>) -> Result<MemoryRack, NoMemory>
     ensures { IfOk result (λ rack. HasJust (shape_of_memory rack) 2 3 4) }
 {
-    Ok(MemoryRack::new(alloc, 2, 3, 4, failing)?)
+    MemoryRack::new(alloc, 2, 3, 4, failing)
 }
 
 fn write<R: Rack>(rack: &mut R, sector: u64, bytes: [u8; 4]) -> Result<(), Failed>
@@ -104,81 +103,129 @@ fn flush<R: Rack>(rack: &mut R) -> Result<(), Failed>
     rack.flush(1)
 }
 
-type Done = Result<(), Failed>;
-
-type Read = Result<[u8; 4], Failed>;
-
-/// What writes and reads answer, where the calls 2 and 3 fail.
-fn calls(alloc: Global) -> Result<([Done; 2], [Read; 3]), Fail> {
-    let mut rack = small_rack(alloc, vec![in alloc; 2, 3]?)?;
-    let first = write(&mut rack, 2, [1; 4]);
-    let zeros = read(&mut rack, 1);
-    let second = write(&mut rack, 2, [5; 4]);
-    let failed = read(&mut rack, 2);
-    Ok(([first, second], [zeros, failed, read(&mut rack, 2)]))
+/// Whether two writes and three reads answer as they have to, where the calls 2 and 3 fail.
+fn calls(rack: &mut MemoryRack) -> bool
+    requires { HasJust (shape_of_memory rack.old) 2 3 4 }
+{
+    if write(rack, 2, [1; 4]).is_err() || read(rack, 1) != Ok([0; 4]) {
+        return false;
+    }
+    if write(rack, 2, [5; 4]).is_ok() || read(rack, 2).is_ok() {
+        return false;
+    }
+    read(rack, 2) == Ok([1; 4])
 }
 
-/// The first leaf from 2 on once leaf 7 is added, and the sectors of leaf 1 once it is dropped.
-fn leaves(alloc: Global) -> Result<[Option<u64>; 2], Fail> {
-    let mut rack = small_rack(alloc, Vec::new(alloc))?;
-    rack.add_leaf(7, 2)?;
-    rack.drop_leaf(1);
-    Ok([rack.leaf_from(2), rack.sectors(1)])
+/// Whether just those fail.
+fn fail_alone(alloc: Global) -> bool {
+    let Ok(failing) = Vec::from_slice(alloc, &[2, 3]) else {
+        return false;
+    };
+    match small_rack(alloc, failing) {
+        Ok(mut rack) => calls(&mut rack),
+        Err(_) => false,
+    }
 }
 
 #[test]
-fn the_calls_of_the_list_fail_alone(rt: HostRuntime) -> Result<(), Fail> {
-    let answers = ([Ok(()), Err(Failed)], [Ok([0; 4]), Err(Failed), Ok([1; 4])]);
-    assert_eq!(rt; calls(rt.alloc())?, answers);
-    assert_eq!(rt; leaves(rt.alloc())?, [Some(7), None]);
-    Ok(())
+fn the_calls_of_the_list_fail_alone(rt: HostRuntime) {
+    assert!(rt; fail_alone(rt.alloc()));
 }
 
-/// What is read after a crash by this rule of two sectors that were written and flushed, of which the second was written
-/// twice since.
-fn left_by(rack: &mut MemoryRack, rule: CrashRule) -> Result<[[u8; 4]; 2], Failed>
+/// Whether the first leaf from 2 on is leaf 7 once that is added, and leaf 1 has no sectors once it is dropped.
+fn changes_leaves(rack: &mut MemoryRack) -> bool {
+    let added = rack.add_leaf(7, 2).is_ok();
+    rack.drop_leaf(1);
+    added && rack.leaf_from(2) == Some(7) && rack.sectors(1).is_none()
+}
+
+/// Whether a rack of zeros does so.
+fn leaves_change(alloc: Global) -> bool {
+    match small_rack(alloc, Vec::new(alloc)) {
+        Ok(mut rack) => changes_leaves(&mut rack),
+        Err(_) => false,
+    }
+}
+
+#[test]
+fn leaves_are_added_and_dropped(rt: HostRuntime) {
+    assert!(rt; leaves_change(rt.alloc()));
+}
+
+/// Writes two sectors and flushes them, and writes the second twice more.
+fn write_more(rack: &mut MemoryRack) -> Result<(), Failed>
     requires { HasJust (shape_of_memory rack.old) 2 3 4 }
+    ensures { HasJust (shape_of_memory rack.new) 2 3 4 }
 {
     write(rack, 0, [1, 2, 3, 4])?;
     write(rack, 1, [1, 2, 3, 4])?;
     flush(rack)?;
     write(rack, 1, [9; 4])?;
-    write(rack, 1, [5, 6, 7, 8])?;
+    write(rack, 1, [5, 6, 7, 8])
+}
+
+/// What is read of both after a crash by this rule.
+fn left_by(rack: &mut MemoryRack, rule: CrashRule) -> Result<[[u8; 4]; 2], Failed>
+    requires { HasJust (shape_of_memory rack.old) 2 3 4 }
+{
+    write_more(rack)?;
     rack.crash(rule);
     Ok([read(rack, 0)?, read(rack, 1)?])
 }
 
-#[test]
-fn a_crash_leaves_what_was_flushed_and_the_rest_by_its_rule(rt: HostRuntime) -> Result<(), Fail> {
-    for (rule, left) in [
-        (CrashRule::Old, [1, 2, 3, 4]),
-        (CrashRule::New, [5, 6, 7, 8]),
-        (CrashRule::Torn, [250, 249, 248, 247]),
-        (CrashRule::Half, [5, 6, 3, 4]),
-    ] {
-        let mut rack = small_rack(rt.alloc(), Vec::new(rt.alloc()))?;
-        assert_eq!(rt; left_by(&mut rack, rule)?, [[1, 2, 3, 4], left]);
+/// Whether it is this of a rack of zeros.
+fn is_left_by(alloc: Global, rule: CrashRule, left: [u8; 4]) -> bool {
+    match small_rack(alloc, Vec::new(alloc)) {
+        Ok(mut rack) => left_by(&mut rack, rule) == Ok([[1, 2, 3, 4], left]),
+        Err(_) => false,
     }
-    Ok(())
 }
 
-/// What calls answer behind a fuse of two calls, and a read after the crash.
-fn behind_a_fuse(alloc: Global) -> Result<([Done; 3], [Read; 2]), Fail> {
-    let mut rack = small_rack(alloc, Vec::new(alloc))?;
-    rack.put_fuse(Fuse::new(alloc, 2)?);
-    let first = write(&mut rack, 0, [1; 4]);
-    let before = read(&mut rack, 0);
-    let second = write(&mut rack, 0, [2; 4]);
-    let flushed = flush(&mut rack);
+static LEFT: [(CrashRule, [u8; 4]); 4] = [
+    (CrashRule::Old, [1, 2, 3, 4]),
+    (CrashRule::New, [5, 6, 7, 8]),
+    (CrashRule::Torn, [250, 249, 248, 247]),
+    (CrashRule::Half, [5, 6, 3, 4]),
+];
+
+#[test]
+fn a_crash_leaves_what_was_flushed_and_the_rest_by_its_rule(rt: HostRuntime) {
+    for (rule, left) in LEFT.iter() {
+        assert!(rt; is_left_by(rt.alloc(), *rule, *left));
+    }
+}
+
+/// Whether a fuse of two calls lets just two pass, and the second one is still read after the crash.
+fn is_fused(rack: &mut MemoryRack) -> bool
+    requires { HasJust (shape_of_memory rack.old) 2 3 4 }
+{
+    if write(rack, 0, [1; 4]).is_err() || read(rack, 0) != Ok([1; 4]) {
+        return false;
+    }
+    if write(rack, 0, [2; 4]).is_ok() || flush(rack).is_ok() {
+        return false;
+    }
     rack.crash(CrashRule::New);
-    Ok(([first, second, flushed], [before, read(&mut rack, 0)]))
+    read(rack, 0) == Ok([1; 4])
+}
+
+/// Whether one does so in a rack of zeros.
+fn behind_a_fuse(alloc: Global) -> bool {
+    let Ok(fuse) = Fuse::new(alloc, 2) else {
+        return false;
+    };
+    match small_rack(alloc, Vec::new(alloc)) {
+        Ok(mut rack) => {
+            rack.put_fuse(fuse);
+            is_fused(&mut rack)
+        }
+        Err(_) => false,
+    }
 }
 
 #[test]
-fn a_fuse_lets_just_its_calls_pass(rt: HostRuntime) -> Result<(), Fail> {
-    let answers = ([Ok(()), Err(Failed), Err(Failed)], [Ok([1; 4]); 2]);
-    assert_eq!(rt; behind_a_fuse(rt.alloc())?, answers);
-    Ok(())
+fn a_fuse_lets_just_its_calls_pass(rt: HostRuntime) {
+    assert!(rt; behind_a_fuse(rt.alloc()));
 }
 
 /// What is read of a sector that was damaged twice. Harm is spread then, and settled.
@@ -209,21 +256,32 @@ fn third(rack: &mut MemoryRack) -> Result<[u8; 4], Failed>
     read(rack, 2)
 }
 
-/// The same of a rack of zeros each.
-fn read_back(alloc: Global, row: u32) -> Result<[u8; 4], Fail> {
-    let mut rack = small_rack(alloc, Vec::new(alloc))?;
-    let bytes = match row {
-        0 => damaged(&mut rack)?,
-        1 => harmed(&mut rack)?,
-        _ => third(&mut rack)?,
-    };
-    Ok(bytes)
+/// What is read in each of these ways.
+fn read_back(rack: &mut MemoryRack, way: usize) -> Result<[u8; 4], Failed>
+    requires { HasJust (shape_of_memory rack.old) 2 3 4 }
+{
+    match way {
+        0 => damaged(rack),
+        1 => harmed(rack),
+        _ => third(rack),
+    }
+}
+
+static BACK: [[u8; 4]; 3] = [[1, 2, 3, 4], [0; 4], [1, 2, 3, 4]];
+
+/// Whether these bytes are so read of a rack of zeros.
+fn is_read_back(alloc: Global, way: usize) -> bool
+    requires { way < 3 }
+{
+    match small_rack(alloc, Vec::new(alloc)) {
+        Ok(mut rack) => read_back(&mut rack, way) == Ok(BACK[way]),
+        Err(_) => false,
+    }
 }
 
 #[test]
-fn harm_and_flushes_outlast_a_crash(rt: HostRuntime) -> Result<(), Fail> {
-    for (row, bytes) in [(0, [1, 2, 3, 4]), (1, [0; 4]), (2, [1, 2, 3, 4])] {
-        assert_eq!(rt; read_back(rt.alloc(), row)?, bytes);
+fn harm_and_flushes_outlast_a_crash(rt: HostRuntime) {
+    for way in 0..3 {
+        assert!(rt; is_read_back(rt.alloc(), way), "{way}");
     }
-    Ok(())
 }

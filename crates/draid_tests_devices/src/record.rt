@@ -19,7 +19,7 @@ const PROPS: Props = Props {
 };
 
 /// The record of metaslab 0 of a new pool of three disks.
-const RECORD: [u8; 84] = [
+static RECORD: [u8; 84] = [
     0x44, 0x5a, 0x52, 0x43, 0, 1, 0, 0, 0, 84, 0, 0, 0, 0, 0, 0, 0, 0, 0, 1, 0, 3, // the front
     1, 0, 0, 0, 0, 0, 0, 0, 0, 0, 0, 0, 0, 0, 0, // slot 0
     1, 0, 0, 0, 0, 0, 0, 0, 0, 1, 0, 0, 0, 0, 0, // slot 1
@@ -28,26 +28,24 @@ const RECORD: [u8; 84] = [
 ];
 
 /// The uberblock of that pool.
-pub(crate) const UBER: [u8; 51] = [
+pub(crate) static UBER: [u8; 51] = [
     0x5a, 0x44, 0x5a, 0x55, 0x42, 0, 1, 0, 0, 0, 0, 0, 0, 0, 1, 1, 2, 3, 0, 0, 0, 2, 0, 0, 0, 0, 8,
     0, 0, 0, 1, 0, 0, 0, 4, 0, 0, 0, 0, 0, 0, 0, 1, 0, 0, 0, 0, 0, 0, 0, 3,
 ];
 
-/// The record that `bytes` tell of, in the parts that tests compare, or its fault.
-fn read(
-    alloc: Global,
-    bytes: &[u8],
-    layout: &Geometry,
-) -> Result<(usize, usize, bool, u64), RecordFault>
+/// Whether a record is that of a new pool of three disks.
+fn is_new(told: &Record) -> bool {
+    told.slots.len() == 3 && told.blocks.is_empty() && told.pass.is_none() && told.last_pass == 0
+}
+
+/// Whether that record is told of `bytes`, or its fault.
+fn read(alloc: Global, bytes: &[u8], layout: &Geometry) -> Result<bool, RecordFault>
     requires { IsGeometry layout.now }
 {
-    let record = read_record(alloc, bytes, layout, 0, 1, 3)?;
-    Ok((
-        record.slots.len(),
-        record.blocks.len(),
-        record.pass.is_some(),
-        record.last_pass,
-    ))
+    match read_record(alloc, bytes, layout, 0, 1, 3) {
+        Ok(record) => Ok(is_new(&record)),
+        Err(fault) => Err(fault),
+    }
 }
 
 /// What is told of the record where one byte is another.
@@ -56,7 +54,7 @@ fn read_changed(
     place: usize,
     byte: u8,
     layout: &Geometry,
-) -> Result<(usize, usize, bool, u64), RecordFault>
+) -> Result<bool, RecordFault>
     requires { IsGeometry layout.now }
 {
     let mut bytes = RECORD;
@@ -67,12 +65,7 @@ fn read_changed(
 }
 
 /// What is told where the record is cut to so many bytes, and its length says so too, if it shall.
-fn read_cut(
-    alloc: Global,
-    len: usize,
-    told: bool,
-    layout: &Geometry,
-) -> Result<(usize, usize, bool, u64), RecordFault>
+fn read_cut(alloc: Global, len: usize, told: bool, layout: &Geometry) -> Result<bool, RecordFault>
     requires { IsGeometry layout.now }
 {
     let mut bytes = [0u8; 85];
@@ -83,10 +76,6 @@ fn read_cut(
     read(alloc, &bytes[..len.min(85)], layout)
 }
 
-fn bad(at: u64, kind: u8) -> Result<(usize, usize, bool, u64), RecordFault> {
-    Err(RecordFault::Bad { at, kind })
-}
-
 /// The layout of that pool.
 pub(crate) fn small_geometry() -> Result<Geometry, SpecFault>
     ensures { IfOk result IsGeometry }
@@ -94,55 +83,84 @@ pub(crate) fn small_geometry() -> Result<Geometry, SpecFault>
     geometry(parse_spec(b"draid1:2d:3c", 3, 1)?, PROPS)
 }
 
-#[test]
-fn a_record_is_told(rt: HostRuntime) -> Result<(), SpecFault> {
-    let told = read(rt.alloc(), &RECORD, &small_geometry()?);
-    assert_eq!(rt; told, Ok((3, 0, false, 0)));
-    Ok(())
+/// What is told of the record.
+fn read_whole(alloc: Global) -> Result<bool, RecordFault> {
+    match small_geometry() {
+        Ok(layout) => read(alloc, &RECORD, &layout),
+        Err(_) => Ok(false),
+    }
 }
 
 #[test]
-fn faults_of_ranges_are_found(rt: HostRuntime) -> Result<(), SpecFault> {
-    let layout = small_geometry()?;
-    for (place, byte, at, kind) in [
-        (11, 1, 10, 2),
-        (19, 2, 12, 2),
-        (21, 4, 20, 2),
-        (22, 0, 22, 2),
-        (23, 2, 23, 2),
-        (32, 4, 32, 2),
-        (46, 0, 39, 2),
-        (61, 3, 54, 2),
-        (75, 3, 75, 2),
-        (79, 1, 80, 1),
-    ] {
-        assert_eq!(rt;
-            read_changed(rt.alloc(), place, byte, &layout),
-            bad(at, kind)
-        );
+fn a_record_is_told(rt: HostRuntime) {
+    assert!(rt; read_whole(rt.alloc()) == Ok(true));
+}
+
+/// A place and a byte for it, and the fault that is found then.
+static RANGES: [(usize, u8, u64, u8); 10] = [
+    (11, 1, 10, 2),
+    (19, 2, 12, 2),
+    (21, 4, 20, 2),
+    (22, 0, 22, 2),
+    (23, 2, 23, 2),
+    (32, 4, 32, 2),
+    (46, 0, 39, 2),
+    (61, 3, 54, 2),
+    (75, 3, 75, 2),
+    (79, 1, 80, 1),
+];
+
+/// Whether that fault is found.
+fn is_bad(alloc: Global, place: usize, byte: u8, fault: RecordFault) -> bool {
+    match small_geometry() {
+        Ok(layout) => read_changed(alloc, place, byte, &layout) == Err(fault),
+        Err(_) => false,
     }
-    Ok(())
 }
 
 #[test]
-fn faults_of_lengths_are_found(rt: HostRuntime) -> Result<(), SpecFault> {
-    let layout = small_geometry()?;
-    for (len, is_told, at, kind) in [
-        (0, false, 0, 1),
-        (3, false, 0, 1),
-        (4, false, 4, 1),
-        (5, false, 4, 1),
-        (6, false, 6, 1),
-        (9, false, 6, 1),
-        (10, false, 6, 2),
-        (83, false, 6, 2),
-        (83, true, 80, 1),
-        (12, true, 12, 1),
-        (85, true, 84, 3),
-    ] {
-        assert_eq!(rt; read_cut(rt.alloc(), len, is_told, &layout), bad(at, kind));
+fn faults_of_ranges_are_found(rt: HostRuntime) {
+    for (place, byte, at, kind) in RANGES.iter() {
+        let fault = RecordFault::Bad {
+            at: *at,
+            kind: *kind,
+        };
+        assert!(rt; is_bad(rt.alloc(), *place, *byte, fault), "{place}");
     }
-    Ok(())
+}
+
+/// A length and whether the record says so, and the fault that is found then.
+static CUTS: [(usize, bool, u64, u8); 11] = [
+    (0, false, 0, 1),
+    (3, false, 0, 1),
+    (4, false, 4, 1),
+    (5, false, 4, 1),
+    (6, false, 6, 1),
+    (9, false, 6, 1),
+    (10, false, 6, 2),
+    (83, false, 6, 2),
+    (83, true, 80, 1),
+    (12, true, 12, 1),
+    (85, true, 84, 3),
+];
+
+/// Whether that fault is found.
+fn is_cut(alloc: Global, len: usize, told: bool, fault: RecordFault) -> bool {
+    match small_geometry() {
+        Ok(layout) => read_cut(alloc, len, told, &layout) == Err(fault),
+        Err(_) => false,
+    }
+}
+
+#[test]
+fn faults_of_lengths_are_found(rt: HostRuntime) {
+    for (len, told, at, kind) in CUTS.iter() {
+        let fault = RecordFault::Bad {
+            at: *at,
+            kind: *kind,
+        };
+        assert!(rt; is_cut(rt.alloc(), *len, *told, fault), "{len}");
+    }
 }
 
 /// What that uberblock tells.
@@ -182,16 +200,28 @@ fn uber_changed(place: usize, byte: u8) -> [u8; 51] {
     bytes
 }
 
+/// Whether this fault is found in slot `slot` of that uberblock with 33 at a place.
+fn is_bad_uber(place: usize, slot: u32, at: u64, kind: u8) -> bool {
+    read_uber(&uber_changed(place, 33), slot) == Err(RecordFault::Bad { at, kind })
+}
+
+fn is_written() -> bool {
+    uber().as_slice() == UBER.as_slice()
+}
+
+fn is_told() -> bool {
+    read_uber(&UBER, 1) == Ok(body())
+}
+
 #[test]
 fn an_uberblock_is_written_and_told(rt: HostRuntime) {
-    assert_eq!(rt; uber().as_slice(), UBER.as_slice());
-    for (place, slot, told) in [
-        (51, 1, Ok(body())),
-        (51, 0, Err(RecordFault::Bad { at: 7, kind: 2 })),
-        (17, 1, Err(RecordFault::Bad { at: 17, kind: 2 })),
-        (6, 1, Err(RecordFault::Bad { at: 5, kind: 2 })),
-    ] {
-        assert_eq!(rt; read_uber(&uber_changed(place, 33), slot), told);
+    assert!(rt; is_written() && is_told());
+}
+
+#[test]
+fn faults_of_an_uberblock_are_found(rt: HostRuntime) {
+    for (place, slot, at, kind) in [(51, 0, 7, 2), (17, 1, 17, 2), (6, 1, 5, 2)] {
+        assert!(rt; is_bad_uber(place, slot, at, kind), "{place}");
     }
 }
 
@@ -204,45 +234,51 @@ fn second(children: u8, next_leaf: u8) -> [u8; 51] {
     bytes
 }
 
-#[test]
-fn an_uberblock_of_version_two_is_told(rt: HostRuntime) {
+/// What it tells with 64 children and the next leaf 64.
+fn wide() -> UberBody {
     let mut wide = body();
     wide.spec.children = 64;
     wide.props.version = 2;
     wide.next_leaf = 64;
-    for (children, next_leaf, told) in [
-        (64, 64, Ok(wide)),
-        (65, 65, Err(RecordFault::Bad { at: 17, kind: 2 })),
-        (64, 63, Err(RecordFault::Bad { at: 43, kind: 2 })),
-    ] {
-        assert_eq!(rt; read_uber(&second(children, next_leaf), 1), told);
-    }
+    wide
 }
 
-/// What is told of the record with this version, by a layout of another or the same one.
-fn read_version(
-    alloc: Global,
-    version: u8,
-    layout: u32,
-) -> Result<Result<(usize, usize, bool, u64), RecordFault>, SpecFault> {
-    let props = Props {
-        version: layout,
-        ..PROPS
-    };
-    let layout = geometry(parse_spec(b"draid1:2d:3c", 3, layout)?, props)?;
-    Ok(read_changed(alloc, 5, version, &layout))
+/// Whether this fault is found in it.
+fn is_bad_second(children: u8, next_leaf: u8, at: u64) -> bool {
+    read_uber(&second(children, next_leaf), 1) == Err(RecordFault::Bad { at, kind: 2 })
 }
 
 #[test]
-fn a_record_is_told_by_the_version(rt: HostRuntime) -> Result<(), SpecFault> {
-    for (version, layout, told) in [
-        (2, 2, Ok((3, 0, false, 0))),
-        (1, 2, bad(4, 2)),
-        (2, 1, bad(4, 2)),
-    ] {
-        assert_eq!(rt; read_version(rt.alloc(), version, layout)?, told);
+fn an_uberblock_of_version_two_is_told(rt: HostRuntime) {
+    assert!(rt; read_uber(&second(64, 64), 1) == Ok(wide()));
+    assert!(rt; is_bad_second(65, 65, 17) && is_bad_second(64, 63, 43));
+}
+
+/// The geometry of a new pool of three disks in this version.
+fn small_version(version: u32) -> Result<Geometry, SpecFault>
+    ensures { IfOk result IsGeometry }
+{
+    let props = Props { version, ..PROPS };
+    geometry(parse_spec(b"draid1:2d:3c", 3, version)?, props)
+}
+
+/// What is told of the record with this version, by a layout of another or the same one.
+fn read_version(alloc: Global, version: u8, layout: u32) -> Result<bool, RecordFault> {
+    match small_version(layout) {
+        Ok(layout) => read_changed(alloc, 5, version, &layout),
+        Err(_) => Ok(false),
     }
-    Ok(())
+}
+
+/// Whether the version is its fault.
+fn is_bad_version(alloc: Global, version: u8, layout: u32) -> bool {
+    read_version(alloc, version, layout) == Err(RecordFault::Bad { at: 4, kind: 2 })
+}
+
+#[test]
+fn a_record_is_told_by_the_version(rt: HostRuntime) {
+    assert!(rt; read_version(rt.alloc(), 2, 2) == Ok(true));
+    assert!(rt; is_bad_version(rt.alloc(), 1, 2) && is_bad_version(rt.alloc(), 2, 1));
 }
 
 /// A slot with the leaf of this number, which missed nothing.
@@ -275,8 +311,15 @@ fn written(alloc: Global) -> Result<Vec<u8>, NoMemory> {
     write_record(alloc, &record)
 }
 
+/// Whether that record is written so.
+fn record_is_written(alloc: Global) -> bool {
+    match written(alloc) {
+        Ok(bytes) => bytes.as_slice() == RECORD.as_slice(),
+        Err(_) => false,
+    }
+}
+
 #[test]
 fn a_record_is_written(rt: HostRuntime) {
-    let bytes = written(rt.alloc()).expect(&rt, "the bytes");
-    assert_eq!(rt; bytes.as_slice(), RECORD.as_slice());
+    assert!(rt; record_is_written(rt.alloc()));
 }

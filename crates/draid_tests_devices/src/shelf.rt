@@ -7,12 +7,11 @@ use draid_faults::CrashRule;
 use draid_names::Failed;
 use draid_rack::Rack;
 use draid_shelf::{MemoryShelf, Place, Shelf};
-use draid_spec::{Geometry, Props, Spec, geometry};
+use draid_spec::{Geometry, Props, Spec, SpecFault, geometry};
 use std::alloc::Global;
-use std::test::Fail;
 
 /// Four children, two metaslabs of three slices of eight sectors on each child.
-fn small_geometry() -> Result<Geometry, Fail>
+fn small_geometry() -> Result<Geometry, SpecFault>
     ensures { IfOk result IsGeometry }
 {
     let spec = Spec {
@@ -29,7 +28,7 @@ fn small_geometry() -> Result<Geometry, Fail>
         seed: 1,
         version: 1,
     };
-    Ok(geometry(spec, props)?)
+    geometry(spec, props)
 }
 
 /// Writes a sector of leaf 0, where it is there.
@@ -56,14 +55,17 @@ fn read<R: Rack>(rack: &mut R, sector: u64) -> Result<u8, Failed>
     Ok(bytes[0])
 }
 
-/// A shelf of which the calls with these numbers fail at one place.
-fn shelf_failing(alloc: Global, place: Place, calls: &[u64]) -> Result<MemoryShelf, Fail>
+/// Lets the calls with these numbers fail at one place.
+fn fail(shelf: &mut MemoryShelf, alloc: Global, place: Place, calls: &[u64]) -> bool
     requires { IsPlace place }
 {
-    let calls = Vec::from_slice(alloc, calls)?;
-    let mut shelf = MemoryShelf::new(alloc, CrashRule::New);
-    shelf.fail(place, calls);
-    Ok(shelf)
+    match Vec::from_slice(alloc, calls) {
+        Ok(calls) => {
+            shelf.fail(place, calls);
+            true
+        }
+        Err(_) => false,
+    }
 }
 
 /// Flushes leaf 0, where it is there.
@@ -76,113 +78,158 @@ fn flush<R: Rack>(rack: &mut R) -> Result<(), Failed>
     }
 }
 
-/// Writes two sectors and a record of metaslab 1, of which the first sector is flushed, and gives its devices back.
-fn use_devices<H: Shelf>(shelf: &mut H, geometry: &Geometry) -> Result<(), Fail>
-    requires { geometry.now.props.sector ≡ 512 }
+/// Writes two sectors, of which the first is flushed.
+fn use_rack<R: Rack>(rack: &mut R) -> Result<(), Failed>
+    requires { (R.shape rack.old).bytes ≡ 512 }
 {
-    let mut kit = shelf.take(1, geometry)?;
-    write(&mut kit.rack, 23, 7)?;
-    flush(&mut kit.rack)?;
-    write(&mut kit.rack, 22, 8)?;
-    kit.odd.write(0, &[1, 2, 3])?;
-    shelf.give(1, kit);
-    Ok(())
+    write(rack, 23, 7)?;
+    flush(rack)?;
+    write(rack, 22, 8)
 }
 
-/// What the two sectors read, and how long the record is, where the shelf has them.
-fn found<H: Shelf>(shelf: &mut H, geometry: &Geometry) -> Option<(u8, u8, u64)>
+/// The same in metaslab 1, and writes a record of it; whether all was done.
+fn use_devices<H: Shelf>(shelf: &mut H, geometry: &Geometry) -> bool
     requires { geometry.now.props.sector ≡ 512 }
 {
-    let mut kit = shelf.take(1, geometry).ok()?;
-    let flushed = read(&mut kit.rack, 23).ok()?;
-    let soft = read(&mut kit.rack, 22).ok()?;
-    Some((flushed, soft, kit.odd.length()))
+    match shelf.take(1, geometry) {
+        Ok(mut kit) => {
+            let used = use_rack(&mut kit.rack).is_ok() && kit.odd.write(0, &[1, 2, 3]).is_ok();
+            shelf.give(1, kit);
+            used
+        }
+        Err(_) => false,
+    }
 }
 
-/// Whether a pool is there before it is made, and behind it. It is used then, and crashes by this rule.
-fn make_and_crash(
-    shelf: &mut MemoryShelf,
-    alloc: Global,
-    geometry: &Geometry,
-    rule: CrashRule,
-) -> Result<[bool; 2], Fail>
+/// What those two sectors read.
+fn read_both<R: Rack>(rack: &mut R) -> Result<[u8; 2], Failed>
+    requires { (R.shape rack.old).bytes ≡ 512 }
+{
+    Ok([read(rack, 23)?, read(rack, 22)?])
+}
+
+/// Whether the shelf has the devices of metaslab 1, the two sectors read so, and the record is so long.
+fn has_left<H: Shelf>(shelf: &mut H, geometry: &Geometry, sectors: [u8; 2], record: u64) -> bool
+    requires { geometry.now.props.sector ≡ 512 }
+{
+    match shelf.take(1, geometry) {
+        Ok(mut kit) => read_both(&mut kit.rack) == Ok(sectors) && kit.odd.length() == record,
+        Err(_) => false,
+    }
+}
+
+/// Makes a pool and uses it; whether it is there then, and not before.
+fn make_and_use(shelf: &mut MemoryShelf, alloc: Global, geometry: &Geometry) -> bool
     requires geometry { IsGeometry geometry.now }
     requires sector { geometry.now.props.sector ≡ 512 }
 {
-    let before = shelf.has_pool();
-    shelf.crash_by(rule);
-    Shelf::make(shelf, alloc, geometry)?;
-    let made = shelf.has_pool();
-    use_devices(shelf, geometry)?;
-    shelf.crash();
-    Ok([before, made])
+    if shelf.has_pool() || Shelf::make(shelf, alloc, geometry).is_err() {
+        return false;
+    }
+    shelf.has_pool() && use_devices(shelf, geometry)
 }
 
-/// The same, and what the crash leaves, looked at twice.
-fn left_by(
+/// Whether a crash leaves that of it, which is there once.
+fn has_after(
+    shelf: &mut MemoryShelf,
+    alloc: Global,
+    geometry: &Geometry,
+    sectors: [u8; 2],
+    record: u64,
+) -> bool
+    requires geometry { IsGeometry geometry.now }
+    requires sector { geometry.now.props.sector ≡ 512 }
+{
+    if !make_and_use(shelf, alloc, geometry) {
+        return false;
+    }
+    shelf.crash();
+    has_left(shelf, geometry, sectors, record) && shelf.take(1, geometry).is_err()
+}
+
+/// The same of a new shelf, where the crash is by this rule.
+fn is_left_by(
     alloc: Global,
     geometry: &Geometry,
     rule: CrashRule,
-) -> Result<([bool; 2], [Option<(u8, u8, u64)>; 2]), Fail>
+    sectors: [u8; 2],
+    record: u64,
+) -> bool
     requires geometry { IsGeometry geometry.now }
     requires sector { geometry.now.props.sector ≡ 512 }
 {
     let mut shelf = MemoryShelf::new(alloc, CrashRule::Torn);
-    let there = make_and_crash(&mut shelf, alloc, geometry, rule)?;
-    let left = [found(&mut shelf, geometry), found(&mut shelf, geometry)];
-    Ok((there, left))
+    shelf.crash_by(rule);
+    has_after(&mut shelf, alloc, geometry, sectors, record)
+}
+
+/// The same of a small pool.
+fn leaves(alloc: Global, rule: CrashRule, sectors: [u8; 2], record: u64) -> bool {
+    match small_geometry() {
+        Ok(geometry) if geometry.props.sector == 512 => {
+            is_left_by(alloc, &geometry, rule, sectors, record)
+        }
+        _ => false,
+    }
 }
 
 #[test]
-fn a_crash_reaches_all_that_was_given_back(rt: HostRuntime) -> Result<(), Fail> {
-    let geometry = small_geometry()?;
-    if geometry.props.sector != 512 {
-        return Ok(());
-    }
-    for (rule, left) in [(CrashRule::Old, (7, 0, 0)), (CrashRule::New, (7, 8, 3))] {
-        let wanted = ([false, true], [Some(left), None]);
-        assert_eq!(rt; left_by(rt.alloc(), &geometry, rule)?, wanted);
-    }
-    Ok(())
+fn a_crash_reaches_all_that_was_given_back(rt: HostRuntime) {
+    assert!(rt; leaves(rt.alloc(), CrashRule::Old, [7, 0], 0));
+    assert!(rt; leaves(rt.alloc(), CrashRule::New, [7, 8], 3));
 }
 
-/// Takes the area of the uberblock, and flushes it and an area of metaslab 0 one after another; which of these calls failed.
-fn flush_both<H: Shelf>(shelf: &mut H, geometry: &Geometry) -> Result<[bool; 4], Fail> {
-    let mut uber = shelf.take_uber()?;
-    let mut kit = shelf.take(0, geometry)?;
-    let failed = [
-        uber.flush().is_err(),
-        kit.even.flush().is_err(),
-        uber.flush().is_err(),
-        kit.even.flush().is_err(),
-    ];
+/// Flushes two areas one after another, twice; which of these calls failed.
+fn flush_in_turn<A: Area>(first: &mut A, second: &mut A) -> [bool; 4] {
+    [
+        first.flush().is_err(),
+        second.flush().is_err(),
+        first.flush().is_err(),
+        second.flush().is_err(),
+    ]
+}
+
+/// Takes the area of the uberblock and one of metaslab 0, and does so.
+fn flush_both<H: Shelf>(shelf: &mut H, geometry: &Geometry) -> Option<[bool; 4]> {
+    let mut uber = shelf.take_uber().ok()?;
+    let mut kit = shelf.take(0, geometry).ok()?;
+    let failed = flush_in_turn(&mut uber, &mut kit.even);
     shelf.give_uber(uber);
     shelf.give(0, kit);
-    Ok(failed)
+    Some(failed)
 }
 
-/// Which flushes failed behind a fuse of three calls, and which after a crash.
-fn fused(
-    shelf: &mut MemoryShelf,
-    alloc: Global,
-    geometry: &Geometry,
-) -> Result<[[bool; 4]; 2], Fail>
+/// Whether the last of four flushes fails behind a fuse of three calls, and none after a crash.
+fn is_fused(shelf: &mut MemoryShelf, alloc: Global, geometry: &Geometry) -> bool
     requires { IsGeometry geometry.now }
 {
-    Shelf::make(shelf, alloc, geometry)?;
-    shelf.put_fuse(alloc, 3)?;
-    let behind = flush_both(shelf, geometry)?;
+    if Shelf::make(shelf, alloc, geometry).is_err() || shelf.put_fuse(alloc, 3).is_err() {
+        return false;
+    }
+    let behind = flush_both(shelf, geometry);
     shelf.crash();
-    Ok([behind, flush_both(shelf, geometry)?])
+    behind == Some([false, false, false, true]) && flush_both(shelf, geometry) == Some([false; 4])
+}
+
+/// Whether it is so of a new shelf.
+fn fuses(alloc: Global, geometry: &Geometry) -> bool
+    requires { IsGeometry geometry.now }
+{
+    let mut shelf = MemoryShelf::new(alloc, CrashRule::New);
+    is_fused(&mut shelf, alloc, geometry)
+}
+
+/// Whether it is so of a small pool.
+fn fuses_small(alloc: Global) -> bool {
+    match small_geometry() {
+        Ok(geometry) => fuses(alloc, &geometry),
+        Err(_) => false,
+    }
 }
 
 #[test]
-fn the_devices_share_a_fuse_that_a_crash_takes_out(rt: HostRuntime) -> Result<(), Fail> {
-    let failed = [[false, false, false, true], [false; 4]];
-    let geometry = small_geometry()?;
-    let mut shelf = MemoryShelf::new(rt.alloc(), CrashRule::New);
-    assert_eq!(rt; fused(&mut shelf, rt.alloc(), &geometry)?, failed);
-    Ok(())
+fn the_devices_share_a_fuse_that_a_crash_takes_out(rt: HostRuntime) {
+    assert!(rt; fuses_small(rt.alloc()));
 }
 
 /// Which of two calls that make the devices and three that take the area of the uberblock are done.
@@ -198,130 +245,203 @@ fn made_and_taken<H: Shelf>(shelf: &mut H, alloc: Global, geometry: &Geometry) -
     ]
 }
 
+/// Whether the first, the third and the last of them fail where the shelf's own calls 0 and 2 do.
+fn own_fail(shelf: &mut MemoryShelf, alloc: Global, geometry: &Geometry) -> bool
+    requires { IsGeometry geometry.now }
+{
+    fail(shelf, alloc, Place::Own, &[0, 2])
+        && made_and_taken(shelf, alloc, geometry) == [false, true, false, true, false]
+}
+
+/// The same of a new shelf.
+fn own_fail_in(alloc: Global, geometry: &Geometry) -> bool
+    requires { IsGeometry geometry.now }
+{
+    let mut shelf = MemoryShelf::new(alloc, CrashRule::New);
+    own_fail(&mut shelf, alloc, geometry)
+}
+
+/// The same of a small pool.
+fn own_fail_small(alloc: Global) -> bool {
+    match small_geometry() {
+        Ok(geometry) => own_fail_in(alloc, &geometry),
+        Err(_) => false,
+    }
+}
+
 #[test]
-fn the_shelf_fails_by_its_list_and_for_what_it_does_not_hold(rt: HostRuntime) -> Result<(), Fail> {
-    let geometry = small_geometry()?;
-    let mut shelf = shelf_failing(rt.alloc(), Place::Own, &[0, 2])?;
-    let done = made_and_taken(&mut shelf, rt.alloc(), &geometry);
-    assert_eq!(rt; done, [false, true, false, true, false]);
-    Ok(())
+fn the_shelf_fails_by_its_list_and_for_what_it_does_not_hold(rt: HostRuntime) {
+    assert!(rt; own_fail_small(rt.alloc()));
 }
 
 /// Flushes leaf 0 and the records of metaslab 0; which of these calls failed.
-fn flush_kit<H: Shelf>(shelf: &mut H, geometry: &Geometry) -> Result<[bool; 3], Fail> {
-    let mut kit = shelf.take(0, geometry)?;
-    let failed = [
-        flush(&mut kit.rack).is_err(),
-        kit.even.flush().is_err(),
-        kit.odd.flush().is_err(),
-    ];
-    shelf.give(0, kit);
-    Ok(failed)
+fn flush_kit<H: Shelf>(shelf: &mut H, geometry: &Geometry) -> Option<[bool; 3]> {
+    match shelf.take(0, geometry) {
+        Ok(mut kit) => {
+            let failed = [
+                flush(&mut kit.rack).is_err(),
+                kit.even.flush().is_err(),
+                kit.odd.flush().is_err(),
+            ];
+            shelf.give(0, kit);
+            Some(failed)
+        }
+        Err(_) => None,
+    }
 }
 
 /// The same of the check records.
-fn flush_checks<H: Shelf>(shelf: &mut H) -> Result<[bool; 2], Fail> {
-    let (mut even, mut odd) = shelf.take_check()?;
-    let failed = [even.flush().is_err(), odd.flush().is_err()];
-    shelf.give_check(even, odd);
-    Ok(failed)
+fn flush_checks<H: Shelf>(shelf: &mut H) -> Option<[bool; 2]> {
+    match shelf.take_check() {
+        Ok((mut even, mut odd)) => {
+            let failed = [even.flush().is_err(), odd.flush().is_err()];
+            shelf.give_check(even, odd);
+            Some(failed)
+        }
+        Err(_) => None,
+    }
 }
 
 /// The same of the uberblock.
-fn flush_uber<H: Shelf>(shelf: &mut H) -> Result<bool, Fail> {
-    let mut uber = shelf.take_uber()?;
-    let failed = uber.flush().is_err();
-    shelf.give_uber(uber);
-    Ok(failed)
+fn flush_uber<H: Shelf>(shelf: &mut H) -> Option<bool> {
+    match shelf.take_uber() {
+        Ok(mut uber) => {
+            let failed = uber.flush().is_err();
+            shelf.give_uber(uber);
+            Some(failed)
+        }
+        Err(_) => None,
+    }
 }
 
 /// The same of all of these.
-fn flush_all<H: Shelf>(shelf: &mut H, geometry: &Geometry) -> Result<[bool; 6], Fail> {
+fn flush_all<H: Shelf>(shelf: &mut H, geometry: &Geometry) -> Option<[bool; 6]> {
     let [rack, even, odd] = flush_kit(shelf, geometry)?;
     let [check_even, check_odd] = flush_checks(shelf)?;
     let uber = flush_uber(shelf)?;
-    Ok([rack, even, odd, check_even, check_odd, uber])
+    Some([rack, even, odd, check_even, check_odd, uber])
 }
 
-/// Which of these calls failed, and which of them when made again.
-fn flush_twice(
+/// Whether just these calls fail in a new pool where the first one at this place does, and none when made again.
+fn just_fail(
     shelf: &mut MemoryShelf,
     alloc: Global,
     geometry: &Geometry,
-) -> Result<[[bool; 6]; 2], Fail>
-    requires { IsGeometry geometry.now }
-{
-    Shelf::make(shelf, alloc, geometry)?;
-    let first = flush_all(shelf, geometry)?;
-    Ok([first, flush_all(shelf, geometry)?])
-}
-
-/// The same, where the first one at this place fails.
-fn failed_at(alloc: Global, geometry: &Geometry, place: Place) -> Result<[[bool; 6]; 2], Fail>
+    place: Place,
+    wanted: [bool; 6],
+) -> bool
     requires geometry { IsGeometry geometry.now }
     requires place { IsPlace place }
 {
-    let mut shelf = shelf_failing(alloc, place, &[0])?;
-    flush_twice(&mut shelf, alloc, geometry)
+    if !fail(shelf, alloc, place, &[0]) || Shelf::make(shelf, alloc, geometry).is_err() {
+        return false;
+    }
+    flush_all(shelf, geometry) == Some(wanted) && flush_all(shelf, geometry) == Some([false; 6])
 }
 
-/// The same for each place, and for one of another metaslab.
-fn failed_at_each(alloc: Global, geometry: &Geometry) -> Result<[[[bool; 6]; 2]; 7], Fail>
-    requires { IsGeometry geometry.now }
+/// The same of a new shelf.
+fn fails_in(alloc: Global, geometry: &Geometry, place: Place, wanted: [bool; 6]) -> bool
+    requires geometry { IsGeometry geometry.now }
+    requires place { IsPlace place }
 {
-    Ok([
-        failed_at(alloc, geometry, Place::Rack(0))?,
-        failed_at(alloc, geometry, Place::Even(0))?,
-        failed_at(alloc, geometry, Place::Odd(0))?,
-        failed_at(alloc, geometry, Place::CheckEven)?,
-        failed_at(alloc, geometry, Place::CheckOdd)?,
-        failed_at(alloc, geometry, Place::Uber)?,
-        failed_at(alloc, geometry, Place::Even(1))?,
-    ])
+    let mut shelf = MemoryShelf::new(alloc, CrashRule::New);
+    just_fail(&mut shelf, alloc, geometry, place, wanted)
+}
+
+/// The same of a small pool.
+fn fails_at(alloc: Global, place: Place, wanted: [bool; 6]) -> bool
+    requires { IsPlace place }
+{
+    match small_geometry() {
+        Ok(geometry) => fails_in(alloc, &geometry, place, wanted),
+        Err(_) => false,
+    }
+}
+
+/// The places in the order of those calls, and one of another metaslab.
+fn place_of(call: usize) -> Place
+    ensures { IsPlace result }
+{
+    match call {
+        0 => Place::Rack(0),
+        1 => Place::Even(0),
+        2 => Place::Odd(0),
+        3 => Place::CheckEven,
+        4 => Place::CheckOdd,
+        5 => Place::Uber,
+        _ => Place::Even(1),
+    }
+}
+
+/// Whether just that call fails where the first one at its place does; no call at the place of another metaslab.
+fn fails_alone(alloc: Global, call: usize) -> bool {
+    let mut wanted = [false; 6];
+    if call < 6 {
+        wanted[call] = true;
+    }
+    fails_at(alloc, place_of(call), wanted)
 }
 
 #[test]
-fn each_place_fails_by_its_own_list(rt: HostRuntime) -> Result<(), Fail> {
-    let mut wanted = [[[false; 6]; 2]; 7];
-    for place in 0..6 {
-        wanted[place][0][place] = true;
+fn each_place_fails_by_its_own_list(rt: HostRuntime) {
+    for call in 0..7 {
+        assert!(rt; fails_alone(rt.alloc(), call), "{call}");
     }
-    assert_eq!(rt; failed_at_each(rt.alloc(), &small_geometry()?)?, wanted);
-    Ok(())
 }
 
 /// Writes a check record that isn't flushed.
-fn write_check(shelf: &mut MemoryShelf) -> Result<(), Fail> {
-    let (even, mut odd) = shelf.take_check()?;
-    odd.write(0, &[1, 2, 3])?;
-    shelf.give_check(even, odd);
-    Ok(())
+fn write_check(shelf: &mut MemoryShelf) -> bool {
+    match shelf.take_check() {
+        Ok((even, mut odd)) => {
+            let written = odd.write(0, &[1, 2, 3]).is_ok();
+            shelf.give_check(even, odd);
+            written
+        }
+        Err(_) => false,
+    }
 }
 
-/// Gives the areas of check records a crash behind that, and answers how long they are then, and whether they are there a
-/// second time.
-fn checks_left(
-    shelf: &mut MemoryShelf,
-    alloc: Global,
-    geometry: &Geometry,
-) -> Result<([u64; 2], bool), Fail>
+/// How long the areas of check records are.
+fn check_lengths(shelf: &mut MemoryShelf) -> Option<[u64; 2]> {
+    match shelf.take_check() {
+        Ok((even, odd)) => Some([even.length(), odd.length()]),
+        Err(_) => None,
+    }
+}
+
+/// How long they are behind that and a crash, where they aren't there a second time.
+fn checks_left(shelf: &mut MemoryShelf, alloc: Global, geometry: &Geometry) -> Option<[u64; 2]>
     requires { IsGeometry geometry.now }
 {
-    Shelf::make(shelf, alloc, geometry)?;
-    write_check(shelf)?;
+    if Shelf::make(shelf, alloc, geometry).is_err() || !write_check(shelf) {
+        return None;
+    }
     shelf.crash();
-    let (even, odd) = shelf.take_check()?;
-    let lengths = [even.length(), odd.length()];
-    Ok((lengths, shelf.take_check().is_ok()))
+    let lengths = check_lengths(shelf);
+    if shelf.take_check().is_ok() {
+        return None;
+    }
+    lengths
+}
+
+/// The same of a new shelf, where the crash is by this rule.
+fn checks_left_by(alloc: Global, geometry: &Geometry, rule: CrashRule) -> Option<[u64; 2]>
+    requires { IsGeometry geometry.now }
+{
+    let mut shelf = MemoryShelf::new(alloc, rule);
+    checks_left(&mut shelf, alloc, geometry)
+}
+
+/// Whether they are so long in a small pool.
+fn leaves_checks(alloc: Global, rule: CrashRule, odd: u64) -> bool {
+    match small_geometry() {
+        Ok(geometry) => checks_left_by(alloc, &geometry, rule) == Some([0, odd]),
+        Err(_) => false,
+    }
 }
 
 #[test]
-fn check_records_are_given_taken_and_crash(rt: HostRuntime) -> Result<(), Fail> {
-    let geometry = small_geometry()?;
-    for (rule, odd) in [(CrashRule::Old, 0), (CrashRule::New, 3)] {
-        let mut shelf = MemoryShelf::new(rt.alloc(), rule);
-        let left = checks_left(&mut shelf, rt.alloc(), &geometry)?;
-        assert_eq!(rt; left, ([0, odd], false));
-    }
-    Ok(())
+fn check_records_are_given_taken_and_crash(rt: HostRuntime) {
+    assert!(rt; leaves_checks(rt.alloc(), CrashRule::Old, 0));
+    assert!(rt; leaves_checks(rt.alloc(), CrashRule::New, 3));
 }

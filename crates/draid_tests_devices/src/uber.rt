@@ -1,18 +1,19 @@
-ghost use Rattle.std.specs.Prelude.{◌≡◌, ◌+◌, ◌≤◌, IfOk, length};
+ghost use Rattle.std.specs.Prelude.{◌≡◌, ◌+◌, ◌≤◌, IfOk, IfSome, length};
 ghost use Rattle.draid_area.specs.Area.{OnTold};
 ghost use Rattle.draid_area.specs.Memory.{size_of_memory, told_by_memory};
+ghost use Rattle.draid_spec.specs.Geometry.{IsGeometry};
 ghost use Rattle.draid_uber.specs.Uber.{IsNewArea, Valid};
 
 use crate::record::{UBER, small_geometry};
 use draid_area::{Area, DeviceFault, MemoryArea};
 use draid_faults::{CrashRule, Fuse};
 use draid_names::LAST_NUMBER;
+use draid_spec::Geometry;
 use draid_uber::{Uber, UberFault};
-use std::alloc::Global;
-use std::test::Fail;
+use std::alloc::{AllocError, Global};
 
 /// The area of a new pool.
-fn zeros(alloc: Global) -> Result<MemoryArea, Fail>
+fn zeros(alloc: Global) -> Result<MemoryArea, AllocError>
     ensures new { IfOk result (λ area. OnTold (told_by_memory area) IsNewArea) }
     ensures size { IfOk result (λ area. size_of_memory area ≡ 1024) }
 {
@@ -20,17 +21,33 @@ fn zeros(alloc: Global) -> Result<MemoryArea, Fail>
     Ok(MemoryArea::new(alloc, bytes, Vec::new(alloc))?)
 }
 
-/// The uberblock of a new pool of three disks, whose area fails once so many calls have passed.
-fn created(alloc: Global, calls: u64) -> Result<Uber<MemoryArea>, Fail>
-    ensures { IfOk result (Valid size_of_memory) }
+/// The uberblock of a new pool in an area of zeros.
+fn create(geometry: Geometry, area: MemoryArea) -> Option<Uber<MemoryArea>>
+    requires layout { IsGeometry geometry }
+    requires size { size_of_memory area ≡ 1024 }
+    requires new { OnTold (told_by_memory area) IsNewArea }
+    ensures { IfSome result (Valid size_of_memory) }
 {
-    let geometry = small_geometry()?;
-    let fuse = Fuse::new(alloc, calls)?;
-    let mut area = zeros(alloc)?;
-    area.put_fuse(fuse);
     match Uber::create(geometry, area) {
-        Ok(uber) => Ok(uber),
-        Err(_) => Err(Fail::new("it was refused")),
+        Ok(uber) => Some(uber),
+        Err(_) => None,
+    }
+}
+
+/// That of three disks, whose area fails once so many calls have passed.
+fn created(alloc: Global, calls: u64) -> Option<Uber<MemoryArea>>
+    ensures { IfSome result (Valid size_of_memory) }
+{
+    let Ok(geometry) = small_geometry() else {
+        return None;
+    };
+    let fuse = Fuse::new(alloc, calls).ok()?;
+    match zeros(alloc) {
+        Ok(mut area) => {
+            area.put_fuse(fuse);
+            create(geometry, area)
+        }
+        Err(_) => None,
     }
 }
 
@@ -54,140 +71,174 @@ fn recovered(area: MemoryArea) -> Result<u64, UberFault> {
     }
 }
 
-/// The group that an import takes from an area, 0 where no gate is open. From there it commits the next one, or fails.
-fn group_in(area: MemoryArea) -> Result<u64, Fail> {
+/// Whether the group behind this one is committed next, and recovered.
+fn goes_on(uber: Uber<MemoryArea>, group: u64) -> bool
+    requires { Valid size_of_memory uber }
+{
+    let mut uber = uber;
+    if commit_next(&mut uber).is_err() {
+        return false;
+    }
+    match recovered(uber.into_area()) {
+        Ok(next) => next.saturating_sub(1) == group,
+        Err(_) => false,
+    }
+}
+
+/// The group that an import takes from an area, 0 where no gate is open. From there it commits the next one.
+fn group_in(area: MemoryArea) -> Option<u64> {
     match Uber::recover(area) {
         Ok(uber) => {
-            let mut uber = uber;
             let group = uber.committed();
-            commit_next(&mut uber)?;
-            if recovered(uber.into_area())?.saturating_sub(1) != group {
-                return Err(Fail::new("the next group wasn't committed"));
-            }
-            Ok(group)
+            goes_on(uber, group).then_some(group)
         }
-        Err(refused) => match refused.why {
-            UberFault::Empty => Ok(0),
-            why => Err(Fail::from(why)),
-        },
+        Err(refused) => (refused.why == UberFault::Empty).then_some(0),
+    }
+}
+
+/// Commits three groups one after another, as far as that goes.
+fn commit_three(uber: &mut Uber<MemoryArea>)
+    requires { Valid size_of_memory uber.old }
+    ensures { Valid size_of_memory uber.new }
+{
+    for _ in 0..3 {
+        let _ = commit_next(uber);
     }
 }
 
 /// That group where three commits stop once so many calls have passed and a crash by this rule follows.
-fn group_after(alloc: Global, calls: u64, rule: CrashRule) -> Result<u64, Fail> {
-    let mut uber = created(alloc, calls)?;
-    for _ in 0..3 {
-        let _ = commit_next(&mut uber);
+fn group_after(alloc: Global, calls: u64, rule: CrashRule) -> Option<u64> {
+    match created(alloc, calls) {
+        Some(mut uber) => {
+            commit_three(&mut uber);
+            let mut area = uber.into_area();
+            area.crash(rule);
+            group_in(area)
+        }
+        None => None,
     }
-    let mut area = uber.into_area();
-    area.crash(rule);
-    group_in(area)
 }
 
-/// The same for each number of calls up to 20, which all three commits take.
-fn groups_by(alloc: Global, rule: CrashRule) -> Result<[u64; 21], Fail> {
-    let mut groups = [0; 21];
-    for calls in 0..21 {
-        groups[calls] = group_after(alloc, calls as u64, rule)?;
-    }
-    Ok(groups)
-}
-
-/// A commit is done once its last flush is: the first two commits take six calls each, the third eight, since the gate of
-/// its slot is open.
-const DONE: [u64; 21] = [
-    0, 0, 0, 0, 0, 0, 1, 1, 1, 1, 1, 1, 2, 2, 2, 2, 2, 2, 2, 2, 3,
+/// The same by the number of calls up to 21. A commit is done once its last flush is: the first two commits take six calls
+/// each, the third eight, since the gate of its slot is open.
+static DONE: [u64; 22] = [
+    0, 0, 0, 0, 0, 0, 1, 1, 1, 1, 1, 1, 2, 2, 2, 2, 2, 2, 2, 2, 3, 3,
 ];
 
-#[test]
-fn a_stop_leaves_the_group_before_or_the_new_one(rt: HostRuntime) -> Result<(), Fail> {
-    for rule in [CrashRule::Old, CrashRule::Torn, CrashRule::Half] {
-        assert_eq!(rt; groups_by(rt.alloc(), rule)?.as_slice(), DONE.as_slice());
+/// Whether the first 21 of these numbers are the groups, where so many more calls count as passed.
+fn are_groups(alloc: Global, rule: CrashRule, more: usize) -> bool
+    requires { more ≤ 1 }
+{
+    for calls in 0..21 {
+        if group_after(alloc, calls as u64, rule) != Some(DONE[calls + more]) {
+            return false;
+        }
     }
-    Ok(())
+    true
+}
+
+#[test]
+fn a_stop_leaves_the_group_before_or_the_new_one(rt: HostRuntime) {
+    for rule in [CrashRule::Old, CrashRule::Torn, CrashRule::Half] {
+        assert!(rt; are_groups(rt.alloc(), rule, 0));
+    }
 }
 
 /// Where what was written stays, the opened gate counts already before its flush.
 #[test]
-fn a_stop_behind_the_last_write_may_leave_the_new_group(rt: HostRuntime) -> Result<(), Fail> {
-    let groups = groups_by(rt.alloc(), CrashRule::New)?;
-    assert_eq!(rt; &groups[..20], &DONE[1..]);
-    assert_eq!(rt; groups[20], 3);
-    Ok(())
+fn a_stop_behind_the_last_write_may_leave_the_new_group(rt: HostRuntime) {
+    assert!(rt; are_groups(rt.alloc(), CrashRule::New, 1));
 }
 
-/// The first byte of slot 0 and the 51 bytes of slot 1.
-fn first_bytes(area: &mut MemoryArea) -> Result<([u8; 1], [u8; 51]), DeviceFault> {
+/// Whether slot 0 has no gate open, and slot 1 the first uberblock.
+fn has_first(area: &mut MemoryArea) -> Result<bool, DeviceFault> {
     let mut gate = [9; 1];
     let mut slot = [9; 51];
-    if area.length() >= 1024 {
-        area.read(0, &mut gate)?;
-        area.read(512, &mut slot)?;
+    if area.length() < 1024 {
+        return Ok(false);
     }
-    Ok((gate, slot))
+    area.read(0, &mut gate)?;
+    area.read(512, &mut slot)?;
+    Ok(gate == [0] && slot.as_slice() == UBER.as_slice())
+}
+
+/// Whether it is so behind the first commit.
+fn writes_slot_one(alloc: Global) -> bool {
+    match created(alloc, 100) {
+        Some(mut uber) => commit_next(&mut uber).is_ok()
+            && has_first(&mut uber.into_area()) == Ok(true),
+        None => false,
+    }
 }
 
 #[test]
-fn the_first_commit_writes_slot_one(rt: HostRuntime) -> Result<(), Fail> {
-    let mut uber = created(rt.alloc(), 100)?;
-    commit_next(&mut uber)?;
-    let mut area = uber.into_area();
-    let (gate, slot) = first_bytes(&mut area)?;
-    assert!(rt; gate == [0] && slot.as_slice() == UBER.as_slice());
-    Ok(())
+fn the_first_commit_writes_slot_one(rt: HostRuntime) {
+    assert!(rt; writes_slot_one(rt.alloc()));
 }
 
-/// What a recovery answers of an area of so many bytes: these at a place, where they fit, and zeros elsewhere.
-fn recovered_of(
-    alloc: Global,
-    len: usize,
-    at: usize,
-    slot: &[u8; 51],
-) -> Result<Result<u64, UberFault>, Fail> {
+/// So many bytes: these at a place, where they fit, and zeros elsewhere.
+fn bytes_of(alloc: Global, len: usize, at: usize, slot: &[u8; 51]) -> Result<Vec<u8>, AllocError> {
     let mut bytes = vec![in alloc; 0; len]?;
     if at <= len && 51 <= len - at {
         bytes[at..at + 51].copy_from_slice(slot);
     }
-    Ok(recovered(MemoryArea::new(alloc, bytes, Vec::new(alloc))?))
+    Ok(bytes)
 }
 
-/// The same of the slot of a new pool, with another byte at a place.
-fn recovered_changed(
+/// Whether a recovery of an area of these tells so.
+fn tells(
     alloc: Global,
     len: usize,
-    place: usize,
-    byte: u8,
-) -> Result<Result<u64, UberFault>, Fail> {
+    at: usize,
+    slot: &[u8; 51],
+    told: Result<u64, UberFault>,
+) -> bool {
+    let Ok(bytes) = bytes_of(alloc, len, at, slot) else {
+        return false;
+    };
+    match MemoryArea::new(alloc, bytes, Vec::new(alloc)) {
+        Ok(area) => recovered(area) == told,
+        Err(_) => false,
+    }
+}
+
+/// The slot of a new pool, with another byte at a place.
+fn changed(place: usize, byte: u8) -> [u8; 51] {
     let mut slot = UBER;
     if place < 51 {
         slot[place] = byte;
     }
-    recovered_of(alloc, len, 512, &slot)
+    slot
 }
 
+static TOLD: [(usize, usize, u8, Result<u64, UberFault>); 4] = [
+    (1024, 0, 0x5a, Ok(1)),
+    (1024, 17, 33, Err(UberFault::Record { at: 17, kind: 2 })),
+    (1024, 0, 0, Err(UberFault::Empty)),
+    (1023, 0, 0x5a, Err(UberFault::Empty)),
+];
+
 #[test]
-fn a_recovery_tells_what_stands_there(rt: HostRuntime) -> Result<(), Fail> {
-    let bad = Err(UberFault::Record { at: 17, kind: 2 });
-    for (len, place, byte, told) in [
-        (1024, 0, 0x5a, Ok(1)),
-        (1024, 17, 33, bad),
-        (1024, 0, 0, Err(UberFault::Empty)),
-        (1023, 0, 0x5a, Err(UberFault::Empty)),
-    ] {
-        let found = recovered_changed(rt.alloc(), len, place, byte)?;
-        assert_eq!(rt; found, told);
+fn a_recovery_tells_what_stands_there(rt: HostRuntime) {
+    for (len, place, byte, told) in TOLD.iter() {
+        assert!(rt;
+            tells(rt.alloc(), *len, 512, &changed(*place, *byte), *told),
+            "{place}"
+        );
     }
-    Ok(())
+}
+
+/// The slot of the last group.
+fn last() -> [u8; 51] {
+    let mut last = UBER;
+    last[7..15].copy_from_slice(&[0, 0, 0xff, 0xff, 0xff, 0xff, 0xff, 0xfe]);
+    last
 }
 
 // Slot 0 is for even groups.
 #[test]
-fn a_recovery_tells_of_slot_zero(rt: HostRuntime) -> Result<(), Fail> {
-    let mut last = UBER;
-    last[7..15].copy_from_slice(&[0, 0, 0xff, 0xff, 0xff, 0xff, 0xff, 0xfe]);
+fn a_recovery_tells_of_slot_zero(rt: HostRuntime) {
     let bad = Err(UberFault::Record { at: 7, kind: 2 });
-    for (slot, told) in [(last, Ok(0xffff_ffff_fffe)), (UBER, bad)] {
-        assert_eq!(rt; recovered_of(rt.alloc(), 1024, 0, &slot)?, told);
-    }
-    Ok(())
+    assert!(rt; tells(rt.alloc(), 1024, 0, &last(), Ok(0xffff_ffff_fffe)));
+    assert!(rt; tells(rt.alloc(), 1024, 0, &UBER, bad));
 }

@@ -1,7 +1,7 @@
 use Rattle.std.proofs.Common.{arith, ◌≡◌, ◌==◌, ◌&&◌, ◌<◌, nat_lt, true, ℕ, Bool, Result, Option, List, OnOk, OnErr, option_map, false}
 use Rattle.std.proofs.lemmas.Bool.Decides.{nat_tests}
-use Rattle.draid_rack.specs.Rack.{Lands, Told, OnTold, IsOrderly, flushes}
-use Rattle.draid_rack.specs.Moments.{ChangesOnlyTold, CrashKeepsOthers, KeptOthers, OnBoth}
+use Rattle.draid_rack.specs.Rack.{Lands, Told, flushes}
+use Rattle.draid_rack.specs.Moments.{ChangesOnlyTold}
 use Rattle.draid_rack.proofs.Moments.{kept, kept_by_crash, told_flushed, told_lands, told_on}
 use Rattle.draid_tests_devices.proofs.rack.write_three.Goals as goal
 
