@@ -1,6 +1,6 @@
 -- The calls of a sync: a group is committed, a closing one is finished, and all is made safe for an export.
 use Rattle.std.proofs.Common.{◌≡◌, ◌==◌, ◌≤◌, ◌+◌, ◌++◌, ◌∙◌, [], ◌∷◌, inl, inr, ℕ, true, false, List, Option, Some, None, Ok, Err, Contains, arith, refl, sym, ap, subst, length, if◌then◌else◌}
-use Rattle.std.specs.Prelude.{nat_eq, slice_get}
+use Rattle.std.specs.Prelude.{◌↔◌, Bool, nat_eq, slice_get}
 use Rattle.std.specs.HashMap.{get}
 use Rattle.std.proofs.lemmas.List.{append-nil}
 use Rattle.std.proofs.lemmas.Option.{slice_get_within}
@@ -23,7 +23,7 @@ use Rattle.draid_shard.specs.States.{stored_in}
 use Rattle.draid_pool.specs.Answers.{ExportDoes, SyncDoes}
 use Rattle.draid_pool.specs.Carries.{CarriesOut}
 use Rattle.draid_pool.specs.Pools.{Represents}
-use Rattle.draid_pool.specs.Syncing.{AreSealed, CommitsBelow, FoundClosing, FoundUnsynced, GroupDoes, Phase, SealDoes, end_of}
+use Rattle.draid_pool.specs.Syncing.{AreSealed, CommitsBelow, FoundClosing, FoundUnsynced, GroupDoes, HasUnsynced, Phase, SealDoes, end_of}
 use Rattle.draid_pool.specs.Ubers.{body_of}
 use Rattle.draid_pool.specs.declared.fault.SyncFault.{SyncFault}
 use Rattle.draid_pool.specs.declared.fault.SyncFault.TheVariants as sync
@@ -352,6 +352,19 @@ module _ {R A : Type 0} (rack : racks.Ghosts R) (area : areas.Ghosts A) where
           let own = r.stands.each k shard.0 y shard.1 at in
           absurd_test (groups.is_unsynced y.world.committed y.events) is
           (ap (λ c. groups.is_unsynced c y.events) own.stands.is_in.committed ∙ (ap (groups.is_unsynced shard.0.committed) own.events ∙ none k shard.0 shard.1))))
+
+  -- what is found in the shards is so of each state for which they stand
+  pub unsynced_of : (pool : Pool R A) (x : State) (result : Bool) → Represents rack area pool x → FoundUnsynced pool.shards.items result → (result ≡ true) ↔ HasUnsynced x
+  unsynced_of pool x true r (m, shard, there, unsynced) =
+      let z : HasMetaslab rack area pool x r.stands m shard = metaslab_of rack area pool x r.stands m shard there in
+      ((λ _. (m, z.y, z.at, ap (λ c. groups.is_unsynced c z.y.events) z.is.stands.is_in.committed ∙ (ap (groups.is_unsynced shard.committed) z.is.events ∙ unsynced))), (λ _. refl))
+  unsynced_of pool x false r none =
+      ((λ is. absurd_test false refl is), (λ (k, y, at, unsynced).
+      (let long = r.stands.shards in let inside = slice_get_within x.metaslabs k y at in
+      let shard = present pool.shards.items k (omega (arith, long, inside)) in
+      let own = r.stands.each k shard.0 y shard.1 at in
+      absurd_test (groups.is_unsynced y.world.committed y.events) unsynced
+      (ap (λ c. groups.is_unsynced c y.events) own.stands.is_in.committed ∙ (ap (groups.is_unsynced shard.0.committed) own.events ∙ none k shard.0 shard.1)))))
 
   pub export_done : (pool new : Pool R A) (x : State) (it : Synced) → Represents rack area pool x → FoundUnsynced pool.shards.items true → CarriesOut rack area new x (SyncDoes x (Ok it))
       → CarriesOut rack area new x (ExportDoes x (Ok it.group))

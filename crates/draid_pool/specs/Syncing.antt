@@ -118,3 +118,7 @@ abbrev pub FoundUnsynced : {R A : Type 0} → List (Shard R A) → Bool → Type
 FoundUnsynced {R = R} {A = A} shards true =
     (m : ℕ) × (shard : Shard R A) × (slice_get shards m ≡ Some shard) × (groups.is_unsynced shard.committed (stored_in shard) ≡ true)
 FoundUnsynced {R = R} {A = A} shards false = (m : ℕ) (shard : Shard R A) → slice_get shards m ≡ Some shard → groups.is_unsynced shard.committed (stored_in shard) ≡ false
+
+-- a metaslab of a state has something that no sync has made safe
+abbrev pub HasUnsynced : State → Type 0
+HasUnsynced x = (m : ℕ) × (y : Metaslab) × (slice_get x.metaslabs m ≡ Some y) × (groups.is_unsynced y.world.committed y.events ≡ true)

@@ -1,12 +1,13 @@
 //! Groups of a pool: one is closed in all metaslabs and sealed in all, then the uberblock names it, and then it is
 //! committed in all.
-ghost use Rattle.std.specs.Prelude.{◌≡◌, ◌<◌, ◌≤◌, ◌+◌, true, All, Some, IfOk, IsErrOf, OnOk, length};
+ghost use Rattle.std.specs.Prelude.{◌≡◌, ◌≤◌, ◌+◌, ◌↔◌, true, All, Some, IfOk, IsErrOf, IsTrue, OnOk, length};
 ghost use Rattle.draid_names.specs.declared.numbers.TheConstants.{NUMBERS};
 ghost use Rattle.draid_machine.specs.Names.{is_block};
 ghost use Rattle.draid_machine.specs.declared.names.Held.{Held};
 ghost use Rattle.draid_machine.specs.declared.names.Key.{Key};
 ghost use Rattle.draid_segments.specs.Segments.{Pieces};
 ghost use Rattle.draid_entries.specs.Entries.{held_in};
+ghost use Rattle.draid_groups.specs.Groups as sealing;
 ghost use Rattle.draid_shard.specs.Fits.{Valid};
 ghost use Rattle.draid_shard.specs.Part.{Part};
 ghost use Rattle.draid_session.specs.Groups as groups;
@@ -16,11 +17,11 @@ ghost use Rattle.draid_uber.specs.Slots.{group_of};
 ghost use Rattle.draid_uber.specs.Uber.{kept_of};
 ghost use Rattle.draid_pool.specs.Answers.{ExportDoes, SyncDoes};
 ghost use Rattle.draid_pool.specs.Carries.{CarriesOut};
-ghost use Rattle.draid_pool.specs.Failing.{AreaFails};
+ghost use Rattle.draid_pool.specs.Failing.{AreaRose, AreasLater, RecordsRose};
 ghost use Rattle.draid_pool.specs.Metaslabs.{IsMetaslab};
 ghost use Rattle.draid_pool.specs.Pools.{Represents};
 ghost use Rattle.draid_pool.specs.Whole.{IsWhole};
-ghost use Rattle.draid_pool.specs.Syncing.{AreClosing, AreSealed, CloseIs, CommitsBelow, FoundClosing, FoundUnsynced};
+ghost use Rattle.draid_pool.specs.Syncing.{AreClosing, AreSealed, CloseIs, CommitsBelow, FoundClosing, FoundUnsynced, HasUnsynced};
 ghost use Rattle.draid_pool.specs.Syncing.{GroupDoes, KeepsCommitted, KeepsTable, Phase, SealDoes, SealIs, Turns, end_of};
 
 use crate::fault::{SyncFault, Synced};
@@ -39,6 +40,7 @@ fn close_in<R: Rack, A: Area>(shard: &mut Shard<R, A>, group: u64) -> Result<(),
     ensures valid { Valid R.Rack shard.new }
     ensures table { KeepsTable shard.old shard.new }
     ensures closing { OnOk result (shard.new.closing ≡ Some group) }
+    ensures later { sealing.AreasLater A.faults shard.old shard.new }
     ensures not_shelf { IsErrOf result SyncFault.Shelf → ⊥ }
     ensures closes { (part : Part) (pieces : Pieces) (x : Metaslab) → IsMetaslab R.Rack A.Area part pieces shard.old x
         → Turns R.Rack A.Area part pieces x shard.new (λ hold y. CloseIs part group result hold × KeepsCommitted x.world y.world) }
@@ -63,7 +65,8 @@ fn seal_in<R: Rack, A: Area>(shard: &mut Shard<R, A>, group: u64) -> Result<u64,
     ensures table { KeepsTable shard.old shard.new }
     ensures sealed { OnOk result ((shard.new.closing ≡ Some group) × (shard.new.sealed ≡ true)) }
     ensures low { IfOk result (λ thin. thin ≤ NUMBERS) }
-    ensures cause { IsErrOf result SyncFault.Shelf → 0 < A.faults shard.new.even + A.faults shard.new.odd }
+    ensures later { sealing.AreasLater A.faults shard.old shard.new }
+    ensures cause { IsErrOf result SyncFault.Shelf → RecordsRose A.faults shard.old shard.new }
     ensures seals { (part : Part) (pieces : Pieces) (x : Metaslab) → IsMetaslab R.Rack A.Area part pieces shard.old x
         → Turns R.Rack A.Area part pieces x shard.new (λ hold y. SealIs part group result hold × KeepsCommitted x.world y.world) }
 {
@@ -94,7 +97,8 @@ impl<R: Rack, A: Area> Pool<R, A> {
     pub fn sync(&mut self) -> Result<Synced, SyncFault>
         requires whole { IsWhole R.Rack A.Area self.old }
         ensures whole { IsWhole R.Rack A.Area self.new }
-        ensures cause { IsErrOf result SyncFault.Shelf → AreaFails A.faults self.new }
+        ensures later { AreasLater A.faults self.old self.new }
+        ensures cause { IsErrOf result SyncFault.Shelf → AreaRose A.faults self.old self.new }
         ensures carries { (x : State) → Represents R.Rack A.Area self.old x
             → CarriesOut R.Rack A.Area self.new x (SyncDoes x result) }
     {
@@ -113,7 +117,8 @@ impl<R: Rack, A: Area> Pool<R, A> {
     pub fn sync_for_export(&mut self) -> Result<u64, SyncFault>
         requires whole { IsWhole R.Rack A.Area self.old }
         ensures whole { IsWhole R.Rack A.Area self.new }
-        ensures cause { IsErrOf result SyncFault.Shelf → AreaFails A.faults self.new }
+        ensures later { AreasLater A.faults self.old self.new }
+        ensures cause { IsErrOf result SyncFault.Shelf → AreaRose A.faults self.old self.new }
         ensures carries { (x : State) → Represents R.Rack A.Area self.old x
             → CarriesOut R.Rack A.Area self.new x (ExportDoes x result) }
     {
@@ -130,7 +135,8 @@ impl<R: Rack, A: Area> Pool<R, A> {
     fn finish(&mut self) -> Result<(), SyncFault>
         requires whole { IsWhole R.Rack A.Area self.old }
         ensures whole { IsWhole R.Rack A.Area self.new }
-        ensures cause { IsErrOf result SyncFault.Shelf → AreaFails A.faults self.new }
+        ensures later { AreasLater A.faults self.old self.new }
+        ensures cause { IsErrOf result SyncFault.Shelf → AreaRose A.faults self.old self.new }
         ensures carries { (x : State) → Represents R.Rack A.Area self.old x
             → CarriesOut R.Rack A.Area self.new x (Phase x (groups.Finishes x.geometry x.perms) (end_of result)) }
     {
@@ -160,7 +166,8 @@ impl<R: Rack, A: Area> Pool<R, A> {
         requires whole { IsWhole R.Rack A.Area self.old }
         requires next { group ≡ group_of (kept_of self.old.uber) + 1 }
         ensures whole { IsWhole R.Rack A.Area self.new }
-        ensures cause { IsErrOf result SyncFault.Shelf → AreaFails A.faults self.new }
+        ensures later { AreasLater A.faults self.old self.new }
+        ensures cause { IsErrOf result SyncFault.Shelf → AreaRose A.faults self.old self.new }
         ensures carries { (x : State) → Represents R.Rack A.Area self.old x
             → CarriesOut R.Rack A.Area self.new x (GroupDoes x group result) }
     {
@@ -182,7 +189,8 @@ impl<R: Rack, A: Area> Pool<R, A> {
         requires whole { IsWhole R.Rack A.Area self.old }
         requires next { group ≡ group_of (kept_of self.old.uber) + 1 }
         ensures whole { IsWhole R.Rack A.Area self.new }
-        ensures cause { IsErrOf result SyncFault.Shelf → AreaFails A.faults self.new }
+        ensures later { AreasLater A.faults self.old self.new }
+        ensures cause { IsErrOf result SyncFault.Shelf → AreaRose A.faults self.old self.new }
         ensures carries { (x : State) → Represents R.Rack A.Area self.old x
             → CarriesOut R.Rack A.Area self.new x (Phase x (groups.ClosePhase x.geometry x.perms group) (end_of result)) }
         ensures closing { OnOk result (AreClosing self.new.shards.items group) }
@@ -202,7 +210,8 @@ impl<R: Rack, A: Area> Pool<R, A> {
         requires whole { IsWhole R.Rack A.Area self.old }
         requires closing { AreClosing self.old.shards.items group }
         ensures whole { IsWhole R.Rack A.Area self.new }
-        ensures cause { IsErrOf result SyncFault.Shelf → AreaFails A.faults self.new }
+        ensures later { AreasLater A.faults self.old self.new }
+        ensures cause { IsErrOf result SyncFault.Shelf → AreaRose A.faults self.old self.new }
         ensures carries { (x : State) → Represents R.Rack A.Area self.old x
             → CarriesOut R.Rack A.Area self.new x (SealDoes x group result) }
         ensures sealed { OnOk result (AreSealed self.new.shards.items group) }
@@ -224,7 +233,8 @@ impl<R: Rack, A: Area> Pool<R, A> {
         requires next { group ≡ group_of (kept_of self.old.uber) + 1 }
         requires sealed { AreSealed self.old.shards.items group }
         ensures whole { IsWhole R.Rack A.Area self.new }
-        ensures cause { IsErrOf result SyncFault.Shelf → AreaFails A.faults self.new }
+        ensures later { AreasLater A.faults self.old self.new }
+        ensures cause { IsErrOf result SyncFault.Shelf → AreaRose A.faults self.old self.new }
         ensures carries { (x : State) → Represents R.Rack A.Area self.old x
             → CarriesOut R.Rack A.Area self.new x (Phase x
             (Chain (groups.Names x.geometry x.perms group) (groups.CommitPhase x.geometry x.perms group)) (end_of result)) }
@@ -239,9 +249,10 @@ impl<R: Rack, A: Area> Pool<R, A> {
         }
     }
 
-    /// Whether a metaslab has something that no sync has made safe.
-    fn unsynced(&self) -> bool
+    /// Whether a metaslab has something that no sync has made safe: an export makes a sync just there.
+    pub fn unsynced(&self) -> bool
         ensures found { FoundUnsynced self.now.shards.items result }
+        ensures unsynced { (x : State) → Represents R.Rack A.Area self.now x → IsTrue result ↔ HasUnsynced x }
     {
         for shard in &self.shards {
             if is_unsynced(shard.committed(), shard.events()) {

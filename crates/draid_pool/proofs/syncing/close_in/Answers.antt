@@ -1,5 +1,6 @@
 use Rattle.std.proofs.Common.{◌≡◌, None, ap, rules}
 use Rattle.draid_pool.specs.declared.fault.SyncFault.TheVariants as sync
+use Rattle.draid_pool.proofs.Rises.{records_same, records_still}
 use Rattle.draid_pool.proofs.Turns.{close_fault, closed, not_closed}
 use Rattle.draid_pool.proofs.syncing.close_in.Goals as goal
 
@@ -72,3 +73,18 @@ returns-then-is_some-clause-valid g c = c.requires.valid
 
 pub returns-then-is_some-clause-not_shelf : goal.returns-then-is_some-clause-not_shelf
 returns-then-is_some-clause-not_shelf g c failed = absurd (cc)
+
+pub returns-in-Ok-clause-later : goal.returns-in-Ok-clause-later
+returns-in-Ok-clause-later g c = records_same g.A.Area.faults c.args.shard.now c.close_group.new.shard c.in-Ok.ensures.kit.areas
+
+pub returns-in-Err-Worn-clause-later : goal.returns-in-Err-Worn-clause-later
+returns-in-Err-Worn-clause-later g c = records_same g.A.Area.faults c.args.shard.now c.close_group.new.shard c.in-Err-Worn.ensures.kit.areas
+
+pub returns-in-Err-Last-clause-later : goal.returns-in-Err-Last-clause-later
+returns-in-Err-Last-clause-later g c = records_same g.A.Area.faults c.args.shard.now c.close_group.new.shard c.in-Err-Last.ensures.kit.areas
+
+pub returns-in-Err-NoMemory-clause-later : goal.returns-in-Err-NoMemory-clause-later
+returns-in-Err-NoMemory-clause-later g c = records_same g.A.Area.faults c.args.shard.now c.close_group.new.shard c.in-Err-NoMemory.ensures.kit.areas
+
+pub returns-then-is_some-clause-later : goal.returns-then-is_some-clause-later
+returns-then-is_some-clause-later g c = records_still g.A.Area.faults c.args.shard.now

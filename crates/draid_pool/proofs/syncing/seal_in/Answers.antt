@@ -5,7 +5,7 @@ use Rattle.draid_groups.specs.Groups.{OpenUpto, SealIsRefused, area_in}
 use Rattle.draid_shard.specs.States.{IsIn}
 use Rattle.draid_pool.specs.declared.fault.SyncFault.TheVariants as sync
 use Rattle.draid_shard.proofs.Shown.{state_shown}
-use Rattle.draid_pool.proofs.Causes.{area_some}
+use Rattle.draid_pool.proofs.Rises.{records_rose, records_still}
 use Rattle.draid_pool.proofs.Turns.{no_tickets, not_sealed, seal_fault, sealed}
 use Rattle.draid_pool.proofs.syncing.seal_in.Goals as goal
 
@@ -41,7 +41,7 @@ returns-in-Err-Area-clause-cause g c = λ is.
     let new = c.seal.new.shard in
     let why : ((w : machine.State) → IsIn old w → OpenUpto w c.args.group 0) × Rose (g.A.Area.faults (area_in old c.args.group)) (g.A.Area.faults (area_in new c.args.group))
     = subst (SealIsRefused g.A.Area.faults old new c.args.group) c.in-Err-Area.field-0-is c.in-Err-Area.ensures.refused.why in
-    area_some g.A.Area.faults new c.args.group (g.A.Area.faults (area_in old c.args.group)) why.1
+    records_rose g.A.Area.faults old new c.args.group why.1
 
 pub returns-in-Err-Area-clause-valid : goal.returns-in-Err-Area-clause-valid
 returns-in-Err-Area-clause-valid g c = c.in-Err-Area.ensures.valid
@@ -84,3 +84,15 @@ returns-in-Ok-clause-cause g c failed = absurd (cc)
 
 pub seal-requires : goal.seal-requires
 seal-requires g c = record { valid = c.requires.valid; closing = (c.requires.closing, sym c.sealed.ensures ∙ c.if-sealed.false) }
+
+pub returns-in-Ok-clause-later : goal.returns-in-Ok-clause-later
+returns-in-Ok-clause-later g c = c.in-Ok.ensures.later
+
+pub returns-in-Err-Area-clause-later : goal.returns-in-Err-Area-clause-later
+returns-in-Err-Area-clause-later g c = c.in-Err-Area.ensures.later
+
+pub returns-in-Err-NoMemory-clause-later : goal.returns-in-Err-NoMemory-clause-later
+returns-in-Err-NoMemory-clause-later g c = c.in-Err-NoMemory.ensures.later
+
+pub returns-then-sealed-clause-later : goal.returns-then-sealed-clause-later
+returns-then-sealed-clause-later g c = records_still g.A.Area.faults c.args.shard.now

@@ -7,6 +7,7 @@ use Rattle.draid_uber.specs.Slots.{group_of}
 use Rattle.draid_uber.specs.Uber.{kept_of}
 use Rattle.draid_pool.specs.declared.pool.Pool.{Pool}
 use Rattle.draid_pool.proofs.Lifted.{SetsShard}
+use Rattle.draid_pool.proofs.Rises.{areas_on, areas_set, areas_still}
 use Rattle.draid_pool.proofs.SyncSteps.{below_all, below_set, borrowed_at, came_none, close_all_stops, close_all_went, close_more, whole_on}
 use Rattle.draid_pool.proofs.Wholes.{whole_valid}
 use Rattle.draid_pool.proofs.pool.Pool.close_all.Goals as goal
@@ -17,6 +18,7 @@ loop-metaslab-init g c = record {
   carries = λ x is. came_none g.R.Rack g.A.Area (groups.Closes x.geometry x.perms c.args.group) c.args.self.now x is;
   closing = λ k shard less. absurd (omega (arith, less));
   uber = refl;
+  later = areas_still g.A.Area.faults c.args.self.now;
   many = refl;
 }
 
@@ -64,6 +66,23 @@ returns-in-Err-clause-whole g c =
     let e = c.close_in.ensures in
     whole_on g.R.Rack g.A.Area l.metaslab l.self new shard after i.whole set e.valid e.table
 
+pub returns-in-Err-clause-later : goal.returns-in-Err-clause-later
+returns-in-Err-clause-later g c =
+    let l = c.loop-metaslab in
+    let i = l.invariant in
+    let shard = c.index_mut.result.now in
+    let below = c.loop-metaslab-test.true in
+    let len = c.len-metaslab-end.ensures in
+    let vec = c.args.self.now.shards.ok.0 in
+    let many = i.many in
+    let there = borrowed_at l.self.shards.items l.metaslab shard (omega (arith, below, len, vec, many)) c.index_mut.ensures.value in
+    let after = c.close_in.new.shard in
+    let new : Pool g.row.R.Denot g.row.A.Denot
+    = record { geometry = l.self.geometry; shards = with_item l.self.shards l.metaslab after; uber = l.self.uber; objects = l.self.objects; seq = l.self.seq; floor = l.self.floor; alloc = l.self.alloc } in
+    let set : SetsShard g.R.Rack g.A.Area l.metaslab l.self new shard after = record { there = there; sets = refl; geometry = refl; objects = refl; seq = refl; floor = refl; uber = refl } in
+    let e = c.close_in.ensures in
+    areas_on g.A.Area.faults c.args.self.now l.self new i.later (areas_set g.R.Rack g.A.Area l.metaslab l.self new shard after set e.later)
+
 pub returns-in-Err-clause-carries : goal.returns-in-Err-clause-carries
 returns-in-Err-clause-carries g c = λ x is.
     let l = c.loop-metaslab in
@@ -105,6 +124,7 @@ loop-metaslab-preserved g c =
       carries = λ x is. close_more g.R.Rack g.A.Area c.args.group l.metaslab l.self new shard after x (i.carries x is) set e.closes;
       closing = below_set (λ (z : Shard g.row.R.Denot g.row.A.Denot). z.closing ≡ Some c.args.group) l.self.shards.items l.metaslab shard after there e.closing i.closing;
       uber = i.uber;
+      later = areas_on g.A.Area.faults c.args.self.now l.self new i.later (areas_set g.R.Rack g.A.Area l.metaslab l.self new shard after set e.later);
       many = length-set l.self.shards.items l.metaslab after ∙ i.many;
     }
 

@@ -1,6 +1,7 @@
 use Rattle.std.proofs.Common.{◌≡◌, length}
 use Rattle.draid_session.specs.Groups as groups
 use Rattle.draid_session.specs.State.{State}
+use Rattle.draid_pool.specs.Failing.{AreasLater}
 use Rattle.draid_pool.specs.Pools.{Represents}
 use Rattle.draid_pool.specs.Whole.{IsWhole}
 use Rattle.draid_pool.proofs.SyncSteps.{Came, ClosingBelow}
@@ -12,5 +13,6 @@ invariant-loop-metaslab g l = record {
   carries : (x : State) → Represents g.R.Rack g.A.Area l.initial.self x → Came g.R.Rack g.A.Area (groups.Closes x.geometry x.perms l.group) l.metaslab 0 l.self x;
   closing : ClosingBelow l.self.shards.items l.group l.metaslab;
   uber : l.self.uber ≡ l.initial.self.uber;
+  later : AreasLater g.A.Area.faults l.initial.self l.self;
   many : length l.self.shards.items ≡ length l.initial.self.shards.items;
 }

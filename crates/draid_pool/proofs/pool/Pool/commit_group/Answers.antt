@@ -3,6 +3,7 @@ use Rattle.draid_uber.specs.Slots.{group_of}
 use Rattle.std.proofs.Common.{ℕ, ◌+◌, ◌∙◌, ap, sym}
 use Rattle.draid_pool.specs.declared.fault.SyncFault.TheVariants as sync
 use Rattle.draid_pool.proofs.Causes.{err_on}
+use Rattle.draid_pool.proofs.Rises.{areas_on, rose_then}
 use Rattle.draid_pool.proofs.SyncCalls.{group_done, group_unclosed, group_unnamed, group_unsealed}
 use Rattle.draid_pool.proofs.pool.Pool.commit_group.Goals as goal
 
@@ -19,7 +20,9 @@ returns-in-Ok-commit_sealed-clause-carries g c = λ x is.
     c.in-Ok-commit_sealed.ensures.carries
 
 pub returns-in-Err-commit_sealed-clause-cause : goal.returns-in-Err-commit_sealed-clause-cause
-returns-in-Err-commit_sealed-clause-cause g c = λ is. c.in-Err-commit_sealed.ensures.cause (err_on ℕ Unit c.in-Err-commit_sealed.fault sync.Shelf is)
+returns-in-Err-commit_sealed-clause-cause g c = λ is.
+    rose_then g.A.Area.faults c.args.self.now c.seal_all.new.self c.commit_sealed.new.self (areas_on g.A.Area.faults c.args.self.now c.close_all.new.self c.seal_all.new.self c.close_all.ensures.later c.seal_all.ensures.later)
+    (c.in-Err-commit_sealed.ensures.cause (err_on ℕ Unit c.in-Err-commit_sealed.fault sync.Shelf is))
 
 pub returns-in-Err-commit_sealed-clause-carries : goal.returns-in-Err-commit_sealed-clause-carries
 returns-in-Err-commit_sealed-clause-carries g c = λ x is.
@@ -46,3 +49,25 @@ returns-in-Ok-commit_sealed-clause-whole g c = c.commit_sealed.ensures.whole
 
 pub returns-in-Err-commit_sealed-clause-whole : goal.returns-in-Err-commit_sealed-clause-whole
 returns-in-Err-commit_sealed-clause-whole g c = c.commit_sealed.ensures.whole
+
+pub returns-in-Err-clause-later : goal.returns-in-Err-clause-later
+returns-in-Err-clause-later g c = c.close_all.ensures.later
+
+pub returns-in-Err-seal_all-clause-later : goal.returns-in-Err-seal_all-clause-later
+returns-in-Err-seal_all-clause-later g c = areas_on g.A.Area.faults c.args.self.now c.close_all.new.self c.seal_all.new.self c.close_all.ensures.later c.seal_all.ensures.later
+
+pub returns-in-Ok-commit_sealed-clause-later : goal.returns-in-Ok-commit_sealed-clause-later
+returns-in-Ok-commit_sealed-clause-later g c =
+    areas_on g.A.Area.faults c.args.self.now c.seal_all.new.self c.commit_sealed.new.self
+    (areas_on g.A.Area.faults c.args.self.now c.close_all.new.self c.seal_all.new.self c.close_all.ensures.later c.seal_all.ensures.later) c.commit_sealed.ensures.later
+
+pub returns-in-Err-commit_sealed-clause-later : goal.returns-in-Err-commit_sealed-clause-later
+returns-in-Err-commit_sealed-clause-later g c =
+    areas_on g.A.Area.faults c.args.self.now c.seal_all.new.self c.commit_sealed.new.self
+    (areas_on g.A.Area.faults c.args.self.now c.close_all.new.self c.seal_all.new.self c.close_all.ensures.later c.seal_all.ensures.later) c.commit_sealed.ensures.later
+
+pub returns-in-Err-seal_all-clause-cause : goal.returns-in-Err-seal_all-clause-cause
+returns-in-Err-seal_all-clause-cause g c = λ is. rose_then g.A.Area.faults c.args.self.now c.close_all.new.self c.seal_all.new.self c.close_all.ensures.later (c.in-Err-seal_all.ensures.cause is)
+
+pub returns-in-Err-clause-cause : goal.returns-in-Err-clause-cause
+returns-in-Err-clause-cause g c = λ is. c.in-Err.ensures.cause (err_on ℕ Unit c.in-Err.fault sync.Shelf is)

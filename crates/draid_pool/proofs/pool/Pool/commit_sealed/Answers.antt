@@ -1,8 +1,7 @@
 use Rattle.std.proofs.Common.{Err, ap, inl, refl}
-use Rattle.draid_uber.specs.Uber.{area_of}
 use Rattle.draid_pool.specs.declared.pool.Pool.{Pool}
-use Rattle.draid_pool.proofs.Causes.{rose_some}
 use Rattle.draid_pool.proofs.Naming.{Names, Refuses}
+use Rattle.draid_pool.proofs.Rises.{areas_committed, areas_named}
 use Rattle.draid_pool.proofs.SyncCalls.{named_sealed, refused_failed, refused_starved}
 use Rattle.draid_pool.proofs.WholeGroups.{sealed_next, whole_committed, whole_refused}
 use Rattle.draid_pool.proofs.Wholes.{all_whole}
@@ -77,4 +76,28 @@ returns-in-Err-NoMemory-clause-carries g c = λ x is.
 pub returns-in-Err-Failed-clause-cause : goal.returns-in-Err-Failed-clause-cause
 returns-in-Err-Failed-clause-cause g c = λ is.
     let e = c.in-Err-Failed.ensures in
-    inl (rose_some (g.A.Area.faults (area_of c.args.self.now.uber)) (g.A.Area.faults (area_of c.commit.new.self)) (e.cause.cause (ap Err c.in-Err-Failed.field-0-is)))
+    inl (e.cause.cause (ap Err c.in-Err-Failed.field-0-is))
+
+pub returns-in-Ok-clause-later : goal.returns-in-Ok-clause-later
+returns-in-Ok-clause-later g c =
+    let old = c.args.self.now in
+    let uber = c.commit.new.self in
+    let new : Pool g.row.R.Denot g.row.A.Denot
+    = record { geometry = old.geometry; shards = c.commit_all.new.shards; uber = uber; objects = old.objects; seq = old.seq; floor = old.floor; alloc = old.alloc } in
+    areas_committed g.R.Rack g.A.Area old new c.args.group c.in-Ok.ensures.cause.later c.commit_all.ensures.commits
+
+pub returns-in-Err-Failed-clause-later : goal.returns-in-Err-Failed-clause-later
+returns-in-Err-Failed-clause-later g c =
+    let old = c.args.self.now in
+    let uber = c.commit.new.self in
+    let new : Pool g.row.R.Denot g.row.A.Denot
+    = record { geometry = old.geometry; shards = old.shards; uber = uber; objects = old.objects; seq = old.seq; floor = old.floor; alloc = old.alloc } in
+    areas_named g.A.Area.faults old new c.in-Err-Failed.ensures.cause.later refl
+
+pub returns-in-Err-NoMemory-clause-later : goal.returns-in-Err-NoMemory-clause-later
+returns-in-Err-NoMemory-clause-later g c =
+    let old = c.args.self.now in
+    let uber = c.commit.new.self in
+    let new : Pool g.row.R.Denot g.row.A.Denot
+    = record { geometry = old.geometry; shards = old.shards; uber = uber; objects = old.objects; seq = old.seq; floor = old.floor; alloc = old.alloc } in
+    areas_named g.A.Area.faults old new c.in-Err-NoMemory.ensures.cause.later refl

@@ -1,6 +1,7 @@
 use Rattle.std.proofs.Common.{ℕ}
 use Rattle.draid_pool.specs.declared.fault.SyncFault.TheVariants as sync
 use Rattle.draid_pool.proofs.Causes.{err_on}
+use Rattle.draid_pool.proofs.Rises.{areas_still}
 use Rattle.draid_pool.proofs.SyncCalls.{finish_stops, finishes_none, finishes_some}
 use Rattle.draid_pool.proofs.WholeGroups.{closing_next}
 use Rattle.draid_pool.proofs.pool.Pool.finish.Goals as goal
@@ -23,3 +24,12 @@ returns-in-None-clause-carries g c = λ x is. finishes_none g.R.Rack g.A.Area c.
 
 pub returns-in-Err-clause-cause : goal.returns-in-Err-clause-cause
 returns-in-Err-clause-cause g c = λ is. c.in-Err.ensures.cause (err_on Unit ℕ c.in-Err.fault sync.Shelf is)
+
+pub returns-in-None-clause-later : goal.returns-in-None-clause-later
+returns-in-None-clause-later g c = areas_still g.A.Area.faults c.args.self.now
+
+pub returns-in-Ok-clause-later : goal.returns-in-Ok-clause-later
+returns-in-Ok-clause-later g c = c.in-Ok.ensures.later
+
+pub returns-in-Err-clause-later : goal.returns-in-Err-clause-later
+returns-in-Err-clause-later g c = c.in-Err.ensures.later

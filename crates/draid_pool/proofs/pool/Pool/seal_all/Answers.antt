@@ -1,11 +1,11 @@
-use Rattle.std.proofs.Common.{◌≡◌, ◌∙◌, Some, true, inr, arith, refl}
+use Rattle.std.proofs.Common.{◌≡◌, ◌∙◌, Some, true, arith, refl}
 use Rattle.std.specs.Vec.{with_item}
 use Rattle.std.proofs.lemmas.List.{length-set}
 use Rattle.draid_session.specs.Groups as groups
 use Rattle.draid_shard.specs.declared.shard.Shard.{Shard}
 use Rattle.draid_pool.specs.declared.pool.Pool.{Pool}
-use Rattle.draid_pool.proofs.Lists.{get_set_same}
 use Rattle.draid_pool.proofs.Lifted.{SetsShard}
+use Rattle.draid_pool.proofs.Rises.{areas_on, areas_set, areas_still, rose_set, rose_then}
 use Rattle.draid_pool.proofs.SyncSteps.{all_set, below_all, below_set, borrowed_at, came_none, seal_all_stops, seal_all_went, seal_more, whole_on}
 use Rattle.draid_pool.proofs.Wholes.{few_whole, whole_valid}
 use Rattle.draid_pool.proofs.pool.Pool.seal_all.Goals as goal
@@ -18,6 +18,7 @@ loop-metaslab-init g c = record {
   sealed = λ k shard less. absurd (omega (arith, less));
   low = omega arith;
   uber = refl;
+  later = areas_still g.A.Area.faults c.args.self.now;
   many = refl;
 }
 
@@ -74,6 +75,23 @@ returns-in-Err-clause-whole g c =
     let e = c.seal_in.ensures in
     whole_on g.R.Rack g.A.Area l.metaslab l.self new shard after i.whole set e.valid e.table
 
+pub returns-in-Err-clause-later : goal.returns-in-Err-clause-later
+returns-in-Err-clause-later g c =
+    let l = c.loop-metaslab in
+    let i = l.invariant in
+    let shard = c.index_mut.result.now in
+    let below = c.loop-metaslab-test.true in
+    let len = c.len-metaslab-end.ensures in
+    let vec = c.args.self.now.shards.ok.0 in
+    let many = i.many in
+    let there = borrowed_at l.self.shards.items l.metaslab shard (omega (arith, below, len, vec, many)) c.index_mut.ensures.value in
+    let after = c.seal_in.new.shard in
+    let new : Pool g.row.R.Denot g.row.A.Denot
+    = record { geometry = l.self.geometry; shards = with_item l.self.shards l.metaslab after; uber = l.self.uber; objects = l.self.objects; seq = l.self.seq; floor = l.self.floor; alloc = l.self.alloc } in
+    let set : SetsShard g.R.Rack g.A.Area l.metaslab l.self new shard after = record { there = there; sets = refl; geometry = refl; objects = refl; seq = refl; floor = refl; uber = refl } in
+    let e = c.seal_in.ensures in
+    areas_on g.A.Area.faults c.args.self.now l.self new i.later (areas_set g.R.Rack g.A.Area l.metaslab l.self new shard after set e.later)
+
 pub returns-in-Err-clause-carries : goal.returns-in-Err-clause-carries
 returns-in-Err-clause-carries g c = λ x is.
     let l = c.loop-metaslab in
@@ -102,7 +120,11 @@ returns-in-Err-clause-cause g c = λ is.
     let vec = c.args.self.now.shards.ok.0 in
     let many = i.many in
     let there = borrowed_at l.self.shards.items l.metaslab shard (omega (arith, below, len, vec, many)) c.index_mut.ensures.value in
-    inr (l.metaslab, c.seal_in.new.shard, get_set_same l.self.shards.items l.metaslab shard c.seal_in.new.shard there, c.in-Err.ensures.cause is)
+    let after = c.seal_in.new.shard in
+    let new : Pool g.row.R.Denot g.row.A.Denot
+    = record { geometry = l.self.geometry; shards = with_item l.self.shards l.metaslab after; uber = l.self.uber; objects = l.self.objects; seq = l.self.seq; floor = l.self.floor; alloc = l.self.alloc } in
+    let set : SetsShard g.R.Rack g.A.Area l.metaslab l.self new shard after = record { there = there; sets = refl; geometry = refl; objects = refl; seq = refl; floor = refl; uber = refl } in
+    rose_then g.A.Area.faults c.args.self.now l.self new i.later (rose_set g.R.Rack g.A.Area l.metaslab l.self new shard after set (c.in-Err.ensures.cause is))
 
 pub overflow_add-thin : goal.overflow_add-thin
 overflow_add-thin g c =
@@ -139,6 +161,7 @@ loop-metaslab-preserved g c =
       sealed = below_set (λ (z : Shard g.row.R.Denot g.row.A.Denot). (z.closing ≡ Some c.args.group) × (z.sealed ≡ true)) l.self.shards.items l.metaslab shard after there e.sealed i.sealed;
       low = omega (arith, low, own);
       uber = i.uber;
+      later = areas_on g.A.Area.faults c.args.self.now l.self new i.later (areas_set g.R.Rack g.A.Area l.metaslab l.self new shard after set e.later);
       many = length-set l.self.shards.items l.metaslab after ∙ i.many;
     }
 

@@ -2,6 +2,7 @@ use Rattle.std.proofs.Common.{◌≡◌, ◌≤◌, ◌*◌, length}
 use Rattle.draid_names.specs.declared.numbers.TheConstants.{NUMBERS}
 use Rattle.draid_session.specs.Groups as groups
 use Rattle.draid_session.specs.State.{State}
+use Rattle.draid_pool.specs.Failing.{AreasLater}
 use Rattle.draid_pool.specs.Pools.{Represents}
 use Rattle.draid_pool.specs.Syncing.{AreClosing}
 use Rattle.draid_pool.specs.Whole.{IsWhole}
@@ -16,5 +17,6 @@ invariant-loop-metaslab g l = record {
   sealed : SealedBelow l.self.shards.items l.group l.metaslab;
   low : l.thin ≤ l.metaslab * NUMBERS;
   uber : l.self.uber ≡ l.initial.self.uber;
+  later : AreasLater g.A.Area.faults l.initial.self l.self;
   many : length l.self.shards.items ≡ length l.initial.self.shards.items;
 }

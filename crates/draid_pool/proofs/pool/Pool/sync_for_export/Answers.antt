@@ -3,6 +3,7 @@ use Rattle.draid_pool.specs.Syncing.{FoundUnsynced}
 use Rattle.draid_pool.specs.declared.fault.SyncFault.TheVariants as sync
 use Rattle.draid_pool.specs.declared.fault.Synced.{Synced}
 use Rattle.draid_pool.proofs.Causes.{err_on}
+use Rattle.draid_pool.proofs.Rises.{areas_still}
 use Rattle.draid_pool.proofs.SyncCalls.{export_done, export_none, export_stops}
 use Rattle.draid_pool.proofs.pool.Pool.sync_for_export.Goals as goal
 
@@ -22,3 +23,12 @@ pub returns-in-Err-clause-carries : goal.returns-in-Err-clause-carries
 returns-in-Err-clause-carries g c = λ x is.
     export_stops g.R.Rack g.A.Area c.args.self.now c.sync.new.self x c.in-Err.fault is (subst (FoundUnsynced c.args.self.now.shards.items) c.if-not-unsynced.false c.unsynced.ensures.found)
     (c.in-Err.ensures.carries x is)
+
+pub returns-then-not-unsynced-clause-later : goal.returns-then-not-unsynced-clause-later
+returns-then-not-unsynced-clause-later g c = areas_still g.A.Area.faults c.args.self.now
+
+pub returns-in-Ok-clause-later : goal.returns-in-Ok-clause-later
+returns-in-Ok-clause-later g c = c.in-Ok.ensures.later
+
+pub returns-in-Err-clause-later : goal.returns-in-Err-clause-later
+returns-in-Err-clause-later g c = c.in-Err.ensures.later
