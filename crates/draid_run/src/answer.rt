@@ -26,7 +26,7 @@ use std::alloc::Global;
 use std::thread::Threads;
 
 /// Why a command has no reply, and the run ends.
-#[derive(Clone, Copy, PartialEq, Eq)]
+#[derive(Clone, Copy)]
 pub(crate) enum Stop {
     /// The command is beyond what is built.
     Unbuilt,
