@@ -1,5 +1,6 @@
 pub mod Counted
 pub mod Crashes
+pub mod Flushed
 pub mod Moments
 pub mod Shapes
 pub mod Sound

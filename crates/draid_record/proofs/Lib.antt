@@ -7,6 +7,7 @@ pub mod Loop
 pub mod Ranged
 pub mod Read
 pub mod Spelled
+pub mod Steps
 pub mod UberWritten
 pub mod Whole
 pub mod WholeWritten

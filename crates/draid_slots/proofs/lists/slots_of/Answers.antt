@@ -1,5 +1,6 @@
 use Rattle.std.proofs.Common.{◌≡◌, ◌≤◌, ◌<◌, ◌∷◌, ◌++◌, [], List, map, length, arith, ap, sym, refl, ◌∙◌, subst, Vec, Global}
 use Rattle.std.specs.Prelude.{All, remove}
+use Rattle.std.proofs.lemmas.List.{get_or-map, length-map}
 use Rattle.std.proofs.lemmas.List.Elements.{All-append}
 use Rattle.draid_names.specs.declared.arm.Arm.{Arm}
 use Rattle.draid_ranges.specs.Numbers.{Numbers}
@@ -35,3 +36,13 @@ loop-alloc-preserved c =
           (moved logs_in (λ (list : Vec (Arm × Numbers) Global). map (λ (pair : Arm × Numbers). pair.1) list.items) front slot rest list _ some c.loop-alloc.invariant.logs
           (c.in_ok-slot_of.ensures.logs ∙ ap (λ (list : Vec (Arm × Numbers) Global). map (λ (pair : Arm × Numbers). pair.1) list.items) c.remove.ensures.value)));
     }
+
+pub slot_of-requires : goal.slot_of-requires
+slot_of-requires c =
+    let rest = c.loop-alloc.listed.items in
+    let list : Vec (Arm × Numbers) Global = c.remove.result in
+    let some : 0 < length rest = omega arith in
+    let f : Vec (Arm × Numbers) Global → List Arm = λ list. map (λ (pair : Arm × Numbers). pair.0) list.items in
+    let here = c.loop-alloc.invariant.short 0 [] (omega (arith, length-map rest f)) in
+    let is = get_or-map f rest 0 list [] some ∙ ap f (sym c.remove.ensures.value) in
+    omega (arith, here, ap length is, length-map list.items (λ (pair : Arm × Numbers). pair.0))

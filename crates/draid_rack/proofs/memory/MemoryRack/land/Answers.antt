@@ -1,4 +1,7 @@
-use Rattle.std.proofs.Common.{arith}
+use Rattle.std.proofs.Common.{arith, ap, ◌∙◌}
+use Rattle.draid_rack.specs.Leaves.{bytes_of, view_at}
+use Rattle.draid_rack.specs.Sectors.{is_sector}
+use Rattle.draid_rack.proofs.Flushed.{counts_none, kept, landed_keeps, marked_keeps, marked_reads, only_none}
 use Rattle.draid_rack.proofs.Sound.{long_on, long_same, tick_later, up_to_on, up_to_same}
 use Rattle.draid_rack.proofs.Tells.{lands_by, lands_failed, long_at, shape_same, there_at}
 use Rattle.draid_rack.proofs.Counted.{counts_leaf, only_leaf, rises_after}
@@ -55,3 +58,24 @@ pub returns-then-fails-clause-exact : goal.returns-then-fails-clause-exact
 returns-then-fails-clause-exact c =
     only_leaf c.args.leaf c.args.self.now.own_faults c.args.self.now.leaves c.count_fault.new.leaves
     (rises_after _ _ _ _ c.mark_sector.ensures.faults c.count_fault.ensures)
+
+pub returns-then-fails-clause-shape : goal.returns-then-fails-clause-shape
+returns-then-fails-clause-shape c = shape_same _ c.args.self.now.leaves c.count_fault.new.leaves (λ l. c.count_fault.ensures.sectors l ∙ c.mark_sector.ensures.sectors l)
+
+pub returns-then-fails-clause-same : goal.returns-then-fails-clause-same
+returns-then-fails-clause-same c = λ l s. ap bytes_of (c.count_fault.ensures.views l s) ∙ marked_reads _ _ (view_at c.mark_sector.new.leaves l s) (view_at c.args.self.now.leaves l s) (is_sector c.args.leaf c.args.sector l s) (c.mark_sector.ensures.views l s)
+
+pub returns-then-fails-clause-flushed : goal.returns-then-fails-clause-flushed
+returns-then-fails-clause-flushed c = λ l s. ap kept (c.count_fault.ensures.views l s) ∙ marked_keeps _ _ (view_at c.mark_sector.new.leaves l s) (view_at c.args.self.now.leaves l s) (is_sector c.args.leaf c.args.sector l s) (c.mark_sector.ensures.views l s)
+
+pub returns-clause-flushed : goal.returns-clause-flushed
+returns-clause-flushed c = λ l s. landed_keeps _ _ _ (view_at c.land_sector.new.leaves l s) (view_at c.args.self.now.leaves l s) (is_sector c.args.leaf c.args.sector l s) (c.land_sector.ensures.views l s)
+
+pub returns-clause-cause : goal.returns-clause-cause
+returns-clause-cause c = counts_none c.args.leaf c.args.self.now.own_faults c.args.self.now.leaves c.land_sector.new.leaves c.land_sector.ensures.faults
+
+pub returns-clause-exact : goal.returns-clause-exact
+returns-clause-exact c = only_none c.args.leaf c.args.self.now.own_faults c.args.self.now.leaves c.land_sector.new.leaves c.land_sector.ensures.faults
+
+pub returns-clause-same : goal.returns-clause-same
+returns-clause-same c = tt

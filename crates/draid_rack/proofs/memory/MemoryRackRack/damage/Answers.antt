@@ -1,9 +1,10 @@
 use Rattle.draid_rack.specs.Leaves.{told_of, view_at}
 use Rattle.draid_rack.specs.Rack.{damages}
-use Rattle.std.proofs.Common.{arith, ◌∙◌, ◌-◌}
+use Rattle.std.proofs.Common.{arith, ◌∙◌, ◌-◌, ap}
 use Rattle.std.proofs.lemmas.List.{length-map}
 use Rattle.draid_rack.proofs.Sound.{long_on, long_same, tick_later, up_to_on, up_to_same}
 use Rattle.draid_rack.proofs.Tells.{told_same, shape_same, there_at, told_damaged}
+use Rattle.draid_rack.proofs.Flushed.{counts_none, kept, only_none}
 use Rattle.draid_rack.proofs.Counted.{counts_leaf, only_leaf, rises}
 use Rattle.draid_rack.proofs.Moments.{goes_damages, elapsed_change, elapsed_same}
 use Rattle.draid_rack.proofs.memory.MemoryRackRack.damage.Goals as goal
@@ -44,3 +45,30 @@ returns-clause-moments c = elapsed_change (damages c.args.leaf c.args.sector) (g
 
 pub returns-then-fails-clause-cause : goal.returns-then-fails-clause-cause
 returns-then-fails-clause-cause c = counts_leaf c.args.leaf c.args.self.now.own_faults c.args.self.now.leaves c.count_fault.new.leaves (rises _ _ _ c.count_fault.ensures) _
+
+pub returns-then-fails-clause-ok : goal.returns-then-fails-clause-ok
+returns-then-fails-clause-ok c = tt
+
+pub returns-then-fails-clause-err : goal.returns-then-fails-clause-err
+returns-then-fails-clause-err c = told_same _ c.args.self.now.leaves c.count_fault.new.leaves c.count_fault.ensures.views
+
+pub returns-then-fails-clause-shape : goal.returns-then-fails-clause-shape
+returns-then-fails-clause-shape c = shape_same _ c.args.self.now.leaves c.count_fault.new.leaves c.count_fault.ensures.sectors
+
+pub returns-then-fails-clause-flushed : goal.returns-then-fails-clause-flushed
+returns-then-fails-clause-flushed c = tt
+
+pub returns-then-fails-clause-unflushed : goal.returns-then-fails-clause-unflushed
+returns-then-fails-clause-unflushed c = λ l s. ap kept (c.count_fault.ensures.views l s)
+
+pub returns-clause-err : goal.returns-clause-err
+returns-clause-err c = tt
+
+pub returns-clause-unflushed : goal.returns-clause-unflushed
+returns-clause-unflushed c = tt
+
+pub returns-clause-cause : goal.returns-clause-cause
+returns-clause-cause c = counts_none c.args.leaf c.args.self.now.own_faults c.args.self.now.leaves c.damage_sector.new.leaves c.damage_sector.ensures.faults
+
+pub returns-clause-exact : goal.returns-clause-exact
+returns-clause-exact c = only_none c.args.leaf c.args.self.now.own_faults c.args.self.now.leaves c.damage_sector.new.leaves c.damage_sector.ensures.faults

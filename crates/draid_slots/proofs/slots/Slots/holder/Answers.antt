@@ -100,3 +100,12 @@ returns c =
     ∙ ap (λ k. first_leaf (arms_of t k)) (sym child)
     ∙ ap first_leaf arms
     ∙ c.first_leaf.ensures)
+
+pub spare_slot-child-requires-clause-used : goal.spare_slot-child-requires-clause-used
+spare_slot-child-requires-clause-used c = c.places-places.ensures.used
+
+pub spare_slot-child-requires-clause-past : goal.spare_slot-child-requires-clause-past
+spare_slot-child-requires-clause-past c = c.places-places.ensures.past
+
+pub spare_slot-child-requires-clause-slice : goal.spare_slot-child-requires-clause-slice
+spare_slot-child-requires-clause-slice c = c.requires.slice

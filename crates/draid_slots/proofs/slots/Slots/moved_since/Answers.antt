@@ -25,3 +25,21 @@ loop-spare-preserved c =
     let few = c.self.invariant.sound.layout.geometry_is.spec.most_spares in
     let within : c.loop-spare.spare < 4 = omega arith in
     moved_more c.args.before.now c.places-now.result c.args.self.now c.loop-spare.moved.spares c.loop-spare.spare c.moves.result within c.loop-spare.invariant c.moves.ensures.moves c.moves.ensures.stays
+
+pub moves-requires-clause-before : goal.moves-requires-clause-before
+moves-requires-clause-before c = c.requires.used
+
+pub moves-requires-clause-before_arm : goal.moves-requires-clause-before_arm
+moves-requires-clause-before_arm c = λ slot. c.requires.arm slot c.loop-spare.spare
+
+pub moves-requires-clause-before_past : goal.moves-requires-clause-before_past
+moves-requires-clause-before_past c = c.requires.past
+
+pub moves-requires-clause-now : goal.moves-requires-clause-now
+moves-requires-clause-now c = c.places-now.ensures.used
+
+pub moves-requires-clause-now_arm : goal.moves-requires-clause-now_arm
+moves-requires-clause-now_arm c = λ slot. c.places-now.ensures.arms slot c.loop-spare.spare
+
+pub moves-requires-clause-now_past : goal.moves-requires-clause-now_past
+moves-requires-clause-now_past c = c.places-now.ensures.past

@@ -41,3 +41,22 @@ loop-slice-preserved c = λ slice below lies. elim (cases_eq slice c.loop-slice.
       false≢true (sym c.if-moves_in.false ∙ c.moves_in.ensures.1 (subst L same lies))
   | inr other ↦ c.loop-slice.invariant slice (omega arith) lies
 ]
+
+pub moves_in-requires-clause-before : goal.moves_in-requires-clause-before
+moves_in-requires-clause-before c = c.requires.before
+
+pub moves_in-requires-clause-before_past : goal.moves_in-requires-clause-before_past
+moves_in-requires-clause-before_past c = c.requires.before_past
+
+pub moves_in-requires-clause-now : goal.moves_in-requires-clause-now
+moves_in-requires-clause-now c = c.requires.now
+
+pub moves_in-requires-clause-now_past : goal.moves_in-requires-clause-now_past
+moves_in-requires-clause-now_past c = c.requires.now_past
+
+pub moves_in-requires-clause-slice : goal.moves_in-requires-clause-slice
+moves_in-requires-clause-slice c =
+    let B : SlotTable → Type 0 = λ t. c.loop-slice.slice < t.geometry.props.slices in
+    let end = c.from-slice-end.ensures in
+    let test = c.loop-slice-test.true in
+    subst B c.self.view_is (omega (arith, end, test))

@@ -1,4 +1,4 @@
-use Rattle.std.proofs.Common.{List, map, sym, ◌∙◌, subst}
+use Rattle.std.proofs.Common.{List, map, refl, sym, ◌∙◌, subst}
 use Rattle.std.proofs.lemmas.List.{length-map}
 use Rattle.draid_slots.specs.declared.slot.Detached.{Detached}
 use Rattle.draid_slots.specs.Table.{AreKept, arms_in}
@@ -17,3 +17,14 @@ invariant_of-result c =
         slots = new_slots c.args.geometry (map arms_in slots) (length-map slots arms_in ∙ c.in_ok-slots.ensures.count) c.in_ok-slots.ensures.arms;
       };
     })
+
+pub returns-clause-of : goal.returns-clause-of
+returns-clause-of c = record { geometry_is = refl; perms_are = refl; metaslab_is = refl }
+
+pub returns-clause-new : goal.returns-clause-new
+returns-clause-new c = record {
+  count = length-map c.in_ok-slots.slots.items arms_in ∙ c.in_ok-slots.ensures.count;
+  arms_are = c.in_ok-slots.ensures.arms;
+  missed_none = c.in_ok-slots.ensures.logs;
+  detached_none = c.new.ensures.items;
+}

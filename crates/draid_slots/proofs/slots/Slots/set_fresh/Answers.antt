@@ -9,7 +9,7 @@ use Rattle.draid_slots.specs.Changes.{ChangesArms, freshened}
 use Rattle.draid_slots.specs.Table.{AreOf, IsPaired, IsThere, SlotTable, arms_in, next_rooms, table_of}
 use Rattle.draid_slots.proofs.Names.{freshened_name, one_freshened, one_named, slots_kept}
 use Rattle.draid_slots.proofs.OneSlot.{logs_kept}
-use Rattle.draid_slots.proofs.Tables.{IsPlace, its_place}
+use Rattle.draid_slots.proofs.Tables.{IsPlace, its_place, slot_there}
 use Rattle.draid_slots.proofs.slots.Slots.set_fresh.Goals as goal
 
 pub invariant_of-self : goal.invariant_of-self
@@ -60,3 +60,21 @@ returns c =
       next_stays = refl;
       places_stay = refl;
     })
+
+pub index_mut-requires : goal.index_mut-requires
+index_mut-requires c =
+    let s = c.self.inside in
+    let slots = s.slots.items in
+    let T : SlotTable → Type 0 = λ t. IsThere t c.args.at in
+    let below = slot_there (map arms_in slots) c.args.at.slot c.args.at.arm (subst T (sym c.self.view_is) c.requires.there) in
+    omega (arith, below, length-map slots arms_in, s.slots.ok.0)
+
+pub index_mut-requires-2 : goal.index_mut-requires-2
+index_mut-requires-2 c =
+    let s = c.self.inside in
+    let slots = s.slots.items in
+    let T : SlotTable → Type 0 = λ t. IsThere t c.args.at in
+    let old : Slot = c.index_mut.result.now in
+    let place : IsPlace slots c.args.at old = its_place slots c.args.at old c.self.invariant.paired (subst T (sym c.self.view_is) c.requires.there) c.index_mut.ensures.value in
+    let below = place.arm_within in
+    omega (arith, below, old.arms.ok.0)
