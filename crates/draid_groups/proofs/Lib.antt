@@ -17,3 +17,4 @@ pub mod SealRecords
 pub mod SealSteps
 pub mod Silent
 pub mod Thinning
+pub mod Unsealed

@@ -10,7 +10,7 @@ pub struct OpenRefused<R: Rack, A: Area> {
 }
 
 /// Why a metaslab isn't opened.
-#[derive(Clone, Copy, Debug, PartialEq, Eq)]
+#[derive(Clone, Copy, PartialEq, Eq)]
 pub enum OpenFault {
     /// A call on the area of the group's record failed.
     Area,
@@ -22,7 +22,7 @@ pub enum OpenFault {
 }
 
 /// Why the open group isn't closed. They are looked for in this order.
-#[derive(Clone, Copy, Debug, PartialEq, Eq)]
+#[derive(Clone, Copy, PartialEq, Eq)]
 pub enum CloseFault {
     /// So many events are stored or owed, and the limit leaves too few for a group.
     Worn { events: u64 },
@@ -32,13 +32,13 @@ pub enum CloseFault {
 }
 
 /// What a sealed group has lost: so many of its blocks have a column whose arms don't answer or missed the group.
-#[derive(Clone, Copy, Debug, PartialEq, Eq)]
+#[derive(Clone, Copy, PartialEq, Eq)]
 pub struct Sealed {
     pub thin: u64,
 }
 
 /// Why the closing group isn't sealed.
-#[derive(Clone, Copy, Debug, PartialEq, Eq)]
+#[derive(Clone, Copy, PartialEq, Eq)]
 pub enum SealFault {
     /// So many open writes were begun up to it.
     NotYet { tickets: u32 },

@@ -23,7 +23,7 @@ use Rattle.draid_shard.specs.declared.fault.BeginFault.TheVariants as begin
 use Rattle.draid_shard.specs.declared.shard.Shard.{Shard}
 use Rattle.draid_shard.specs.Calls.{BeginRefused, begins, block_events}
 use Rattle.draid_shard.specs.Fits.{AreGroups, Tables, is_rebuild, oldest_open}
-use Rattle.draid_shard.specs.Holding.{HoldRefused}
+use Rattle.draid_shard.specs.Holding.{EnterRefused, HoldRefused}
 use Rattle.draid_shard.specs.States.{IsIn, Leads, layout_by}
 use Rattle.draid_shard.proofs.Held.{set_same, tables_in, with_tables}
 use Rattle.draid_shard.proofs.FreeRuns.{enabled_by, longest_of, run_fits, spot_fits, spot_of}
@@ -143,3 +143,12 @@ refused_by old need stripes asked (begin.Worn used) may some same events refused
   refused.2,
 )
 refused_by old need stripes asked begin.NoMemory may some same events refused w is_in = tt
+
+-- a run was given, and its block wasn't entered
+pub hold_refused : (space : Stripes) (history : History) (need asked : ℕ) (fault : BeginFault) (first : ℕ) → IsLowest (is_free space) space.height need first → first + need ≤ space.total
+    → EnterRefused history asked fault → HoldRefused space history need asked fault
+hold_refused space history need asked (begin.Disabled pass) first lowest inside refused = refused
+hold_refused space history need asked (begin.Entries held) first lowest inside refused = refused
+hold_refused space history need asked (begin.NoRoom largest) first lowest inside refused = absurd refused
+hold_refused space history need asked (begin.Worn events) first lowest inside refused = ((first, lowest, inside), refused.0, refused.1)
+hold_refused space history need asked begin.NoMemory first lowest inside refused = tt

@@ -1,5 +1,5 @@
 -- Runs of free stripes by the space and by a state; why a metaslab takes no block.
-use Rattle.std.proofs.Common.{◌≡◌, ◌⊎◌, ◌+◌, ◌-◌, ◌*◌, ◌<◌, ◌≤◌, ◌%◌, ◌/◌, ◌∙◌, ◌↔◌, ℕ, zero, suc, Bool, true, false, nat_eq, Option, Some, None, option_map, arith, refl, sym, ap, inl, inr, subst}
+use Rattle.std.proofs.Common.{◌≡◌, ◌⊎◌, ◌+◌, ◌-◌, ◌*◌, ◌<◌, ◌≤◌, ◌%◌, ◌/◌, ◌∙◌, ◌↔◌, ℕ, zero, suc, Bool, true, false, nat_eq, Option, Some, None, IfNone, IfSome, is_some, option_map, arith, refl, sym, ap, inl, inr, subst}
 use Rattle.std.proofs.Math.Nat.{mod-lt}
 use Rattle.std.proofs.lemmas.Bool.{true≢false}
 use Rattle.std.proofs.lemmas.Bool.Decides.{nat_tests}
@@ -188,6 +188,15 @@ fewer_by shard w full is_in most is not_full =
     let version : most_held w.version ≡ most_held shard.version = ap most_held is_in.version in
     let less = fewer (count_of shard.entries) (most_held shard.version) most (λ same. true≢false (sym (is.1 same) ∙ not_full)) in
     few shard.entries w.core (most_held w.version) is_in.held (omega (arith, less, version))
+
+-- whether a rebuild has it
+pub no_rebuild : {X : Type 0} (o : Option X) (P : Type 0) → is_some o ≡ false → IfNone o P → P
+no_rebuild None P is p = p
+no_rebuild (Some x) P is p = absurd (true≢false is)
+
+pub rebuild_has : (o : Option ℕ) (q : machine.Core) → is_some o ≡ true → IfSome o (λ number. (p : machine.Pass) × (q.pass ≡ Some p) × (p.kind ≡ Rebuild) × (number ≡ p.number)) → IsEnabled q → ⊥
+rebuild_has None q is it enabled = true≢false (sym is)
+rebuild_has (Some number) q is it enabled = let heal = enabled it.0 it.1 in let rebuild = it.2 in absurd (cc (heal, rebuild))
 
 pub same_test : (a b x y : ℕ) → a ≡ x → b ≡ y → (nat_eq a b ≡ true) ↔ (x ≡ y)
 same_test a b x y p q = ((λ e. grind (arith, nat_tests, e, p, q)), (λ e. grind (arith, nat_tests, e, p, q)))

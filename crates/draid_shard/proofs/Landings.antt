@@ -124,6 +124,31 @@ logs_same birth a = record {
   room = λ at. omega arith;
 }
 
+-- ---- one arm
+
+-- what a call counts, by what became of it
+pub counts_done : (old new : Option ℕ → ℕ) → ((who : Option ℕ) → old who ≤ new who) → CountsOn Done old new
+counts_done old new later = record { later = later; cause = λ leaf is. absurd (cc) }
+
+pub counts_failed : (leaf : ℕ) (old new : Option ℕ → ℕ) → ((who : Option ℕ) → old who ≤ new who) → Rose (old (Some leaf)) (new (Some leaf)) → CountsOn (Failed leaf) old new
+counts_failed leaf old new later rose = record { later = later; cause = λ m is. subst (λ l. Rose (old (Some l)) (new (Some l))) (same m is) rose }
+  where
+    same : (m : ℕ) → Failed leaf ≡ Failed m → leaf ≡ m
+    same m is = cc
+
+pub not_done : (o : Outcome) → (o ≡ Done → ⊥) → not (is_done o) ≡ true
+not_done Silent other = refl
+not_done (Failed leaf) other = refl
+not_done Done other = absurd (other refl)
+
+-- a log in which nothing was noted
+pub misses_none : (slots : SlotTable) (at : ArmAt) (birth : ℕ) → MissesAt slots slots at birth false
+misses_none slots at birth = record { logs = logs_same birth slots; logged = λ other group. none (is_logged slots other group) }
+  where
+    none : (b : Bool) → b ≡ (b || false)
+    none true = refl
+    none false = refl
+
 -- ---- what is told
 module _ (rows : ColumnRows) (column : List ℕ) where
   out : (m leaf s : ℕ) → (m ≡ leaf → ⊥) → in_rows (rows_on rows leaf) m s ≡ false

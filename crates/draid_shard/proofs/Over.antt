@@ -1,6 +1,6 @@
 -- The entry that has a stripe, the next taken stripe, and the next block.
 use Rattle.std.proofs.Common.{◌≡◌, ◌⊎◌, ◌+◌, ◌<◌, ◌≤◌, ◌∙◌, ℕ, true, Option, Some, None, IfNone, IfSome, arith, sym, ap, subst, inl, inr}
-use Rattle.std.proofs.lemmas.Bool.{cases_lt}
+use Rattle.std.proofs.lemmas.Bool.{cases_eq, cases_lt}
 use Rattle.std.proofs.lemmas.Bool.Decides.{nat_tests}
 use Rattle.draid_names.specs.declared.pass_kind.PassKind.TheVariants.{Heal}
 use Rattle.draid_names.specs.declared.pointer.Pointer.{Pointer}
@@ -9,7 +9,7 @@ use Rattle.draid_machine.specs.declared.names.Held.{Held}
 use Rattle.draid_machine.specs.Names.{is_block, is_heal, takes}
 use Rattle.draid_machine.specs.State as machine
 use Rattle.draid_machine.specs.Step.{IsNext, IsTaken, is_lent}
-use Rattle.draid_machine.proofs.Small.{none_some}
+use Rattle.draid_machine.proofs.Small.{none_some, some_same}
 use Rattle.draid_entries.specs.declared.entry.Entry.{Entry}
 use Rattle.draid_entries.specs.declared.entries.Entries.{Entries}
 use Rattle.draid_entries.specs.Entries.{entry_at}
@@ -24,6 +24,31 @@ use Rattle.draid_shard.proofs.Passing.{NoneBetween, NoneFrom, own_place}
 pub if_none : {X : Type 0} (o : Option X) (P : Type 0) → P → IfNone o P
 if_none None P p = p
 if_none (Some x) P p = tt
+
+-- ---- the entry that begins last up to a stripe
+
+-- where none begins up to a stripe, none has it
+pub none_over : (t : Entries) (x : ℕ) → ((y : ℕ) → y ≤ x → entry_at t y ≡ None) → (d : Entry) → IsOver t x d → ⊥
+none_over t x none d over = none_some (entry_at t d.pointer.first) d (none d.pointer.first over.from) over.there
+
+module _ (t : Entries) (x : ℕ) (e : Entry) (there : entry_at t e.pointer.first ≡ Some e) (upto : e.pointer.first ≤ x)
+    (last : (y : ℕ) → e.pointer.first < y → y ≤ x → entry_at t y ≡ None)
+    (apart : (j k : ℕ) (a b : Entry) → entry_at t j ≡ Some a → entry_at t k ≡ Some b → j < k → j + a.pointer.stripes ≤ k) where
+  -- no other has the stripe
+  pub only_last : (d : Entry) → IsOver t x d → d ≡ e
+  only_last d over = elim (cases_lt d.pointer.first e.pointer.first) [
+    | inl before ↦ (let to = over.to in let past = apart d.pointer.first e.pointer.first d e over.there there before in absurd (omega (arith, upto, to, past)))
+    | inr from ↦ elim (cases_eq d.pointer.first e.pointer.first) [
+      | inl same ↦ some_same (entry_at t e.pointer.first) d e (ap (entry_at t) (sym same) ∙ over.there) there
+      | inr other ↦ absurd (none_some (entry_at t d.pointer.first) d (last d.pointer.first (omega (arith, from, other)) over.from) over.there)
+    ]
+  ]
+
+  -- where it ends before the stripe, none has it
+  pub none_last : e.pointer.first + e.pointer.stripes ≤ x → (d : Entry) → IsOver t x d → ⊥
+  none_last ends d over =
+      let to : x < e.pointer.first + e.pointer.stripes = subst (λ (f : Entry). x < f.pointer.first + f.pointer.stripes) (only_last d over) over.to in
+      omega (arith, ends, to)
 
 -- ---- what a state has
 

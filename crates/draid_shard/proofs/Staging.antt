@@ -1,11 +1,13 @@
 -- Logs get the birth of a ticket: the shard's parts fit together as before.
-use Rattle.std.proofs.Common.{◌≡◌, ◌==◌, ◌+◌, ◌*◌, ◌<◌, ◌≤◌, ◌&&◌, not, ◌∙◌, ℕ, zero, suc, Bool, true, false, [], arith, refl, sym, ap, subst, inl, inr, length, slice_get, if◌then◌else◌}
+use Rattle.std.proofs.Common.{◌≡◌, ◌==◌, ◌+◌, ◌*◌, ◌<◌, ◌≤◌, ◌&&◌, ◌^◌, not, ◌∙◌, ℕ, zero, suc, Bool, true, false, List, [], arith, refl, sym, ap, subst, inl, inr, length, slice_get, if◌then◌else◌}
 use Rattle.std.specs.Prelude.{slice_index_or}
 use Rattle.std.proofs.lemmas.Bool.{cases_eq}
 use Rattle.std.proofs.lemmas.Bool.Decides.{nat_tests}
+use Rattle.draid_names.specs.declared.arm.Arm.{Arm}
 use Rattle.draid_names.specs.declared.arm.ArmAt.{ArmAt}
 use Rattle.draid_names.specs.declared.pointer.Pointer.{Pointer}
 use Rattle.draid_spec.specs.declared.layout.Geometry.{Geometry}
+use Rattle.draid_spec.specs.Geometry.{metaslab_sectors}
 use Rattle.draid_block.specs.Blocks.{column_len, cut_of}
 use Rattle.draid_block.specs.Columns.{Cut, stripes_of}
 use Rattle.draid_rack.specs.Rack.{Shape}
@@ -14,9 +16,11 @@ use Rattle.std.specs.List.{list_any}
 use Rattle.draid_perm.specs.declared.perms.Perms.{Perms}
 use Rattle.draid_slots.specs.declared.slot.Detached.{Detached}
 use Rattle.draid_slots.specs.Changes.{IsOf}
+use Rattle.draid_slots.specs.Reading.{slice_of}
 use Rattle.draid_slots.specs.Table.{SlotTable, is_leaf_kind, is_logged, room_at}
 use Rattle.draid_shard.specs.Fits.{HasLeaves, IsLeaf, LogsHaveRoom, lacking}
-use Rattle.draid_shard.specs.Rows.{HasRoomFor, LogsBirth}
+use Rattle.draid_shard.specs.Rows.{FitsRows, HasRoomFor, LogsBirth}
+use Rattle.draid_shard.specs.declared.places.ColumnRows.{ColumnRows}
 
 -- ---- logs
 one_less : (a b : Bool) → (a ≡ true → b ≡ true) → (if b then 0 else 1) + (if b && not a then 1 else 0) ≤ (if a then 0 else 1)
@@ -110,6 +114,21 @@ logs_kept old new from groups arms same more logs at there =
 
 -- ---- devices
 
+-- a log that lacks the birth still has room for it
+lacked : (was now : Bool) → (was ≡ true → now ≡ true) → now ≡ false → was ≡ false
+lacked true now kept is = absurd (cc (kept refl))
+lacked false now kept is = refl
+
+room_kept : (was now : Bool) (before after : ℕ) → now ≡ false → 0 < before → before ≤ after + (if now && not was then 1 else 0) → 0 < after
+room_kept was true before after is some le = absurd (cc)
+room_kept was false before after is some le = omega (arith, some, le)
+
+pub room_left : (birth : ℕ) (old new : SlotTable) → LogsBirth birth old new → HasRoomFor old birth → HasRoomFor new birth
+room_left birth old new l room at there lacks =
+    let was : at.arm < length (slice_index_or old.arms at.slot []) = subst (λ (arms : List (List Arm)). at.arm < length (slice_index_or arms at.slot [])) l.arms there in
+    room_kept (is_logged old at birth) (is_logged new at birth) (room_at old at) (room_at new at) lacks
+    (room at was (lacked (is_logged old at birth) (is_logged new at birth) (l.kept at) lacks)) (l.room at)
+
 -- slots with the same arms and detachments have the same leaves
 pub leaf_was : (old new : SlotTable) (leaf : ℕ) → new.arms ≡ old.arms → new.detached ≡ old.detached → IsLeaf new leaf → IsLeaf old leaf
 leaf_was old new leaf arms detached (inl it) = inl (it.0, it.1, ap (λ arms. slice_get (slice_index_or arms it.0.slot []) it.0.arm) (sym arms) ∙ it.2, it.3, it.4)
@@ -119,6 +138,21 @@ leaf_was old new leaf arms detached (inr gone) =
 pub leaves_left : (shape now : Shape) (geometry : Geometry) (old new : SlotTable) (birth : ℕ) → now ≡ shape → LogsBirth birth old new → HasLeaves shape geometry old → HasLeaves now geometry new
 leaves_left shape now geometry old new birth same l has =
     subst (λ s. HasLeaves s geometry new) (sym same) (record { bytes = has.bytes; leaves = λ leaf is. has.leaves leaf (leaf_was old new leaf l.arms l.detached is) })
+
+-- the rows of a column fit as before
+pub fits_left : (shape now : Shape) (old new : SlotTable) (rows : ColumnRows) (birth : ℕ) → now ≡ shape → LogsBirth birth old new → FitsRows shape old rows → FitsRows now new rows
+fits_left shape now old new rows birth same l fits =
+    let geometry : old.geometry ≡ new.geometry = sym l.same.geometry_is in
+    record {
+      leaves = subst (λ (g : Geometry). HasLeaves now g new) geometry (leaves_left shape now old.geometry old new birth same l fits.leaves);
+      size_is = fits.size_is ∙ ap (λ (g : Geometry). g.props.sector) geometry;
+      slice_is = fits.slice_is ∙ ap (λ (g : Geometry). slice_of g rows.first) geometry;
+      some = fits.some;
+      inside = subst (λ (g : Geometry). rows.first + rows.count ≤ metaslab_sectors g) geometry fits.inside;
+      low = subst (λ (g : Geometry). metaslab_sectors g < 2 ^ 64) geometry fits.low;
+      slot_below = subst (λ (g : Geometry). rows.slot < g.spec.children) geometry fits.slot_below;
+      slice_below = subst (λ (g : Geometry). rows.slice < g.props.slices) geometry fits.slice_below;
+    }
 
 pub same_of : (old new : SlotTable) (geometry : Geometry) (perms : Perms) (number birth : ℕ) → LogsBirth birth old new → IsOf old geometry perms number → IsOf new geometry perms number
 same_of old new geometry perms number birth l of = record {

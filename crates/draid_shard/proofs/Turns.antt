@@ -1,11 +1,13 @@
 -- The end of a write and the freeing of a block: what a shard is after them, and that their events are legal.
-use Rattle.std.proofs.Common.{◌≡◌, ◌+◌, ◌<◌, ◌≤◌, ◌∙◌, ℕ, true, false, nat_lt, Option, Some, None, if◌then◌else◌, arith, refl, sym, ap}
+use Rattle.std.proofs.Common.{◌≡◌, ◌+◌, ◌<◌, ◌≤◌, ◌∙◌, ℕ, true, false, nat_lt, ◌++◌, ◌∷◌, [], List, Option, Some, None, if◌then◌else◌, arith, refl, sym, ap}
 use Rattle.std.proofs.lemmas.Bool.Decides.{nat_tests}
 use Rattle.draid_names.specs.Numbers.{most_held}
 use Rattle.draid_names.specs.declared.pointer.Pointer.{Pointer}
 use Rattle.draid_spec.specs.Geometry.{metaslab_stripes}
 use Rattle.draid_metaslab.specs.Spaces.{Stripes}
-use Rattle.draid_machine.specs.declared.event.Event.TheVariants.{Abort, Finish, Free}
+use Rattle.draid_block.specs.declared.solve.Fetched.{Fetched}
+use Rattle.draid_machine.specs.declared.event.Event.{Event}
+use Rattle.draid_machine.specs.declared.event.Event.TheVariants.{Abort, Fetch, Finish, Free}
 use Rattle.draid_machine.specs.declared.names.Stage.TheVariants.{Writing, Live, Freed}
 use Rattle.draid_machine.specs.After.{free_state, gone_state, live_state, not_kept, set_held, without_key}
 use Rattle.draid_machine.specs.State as machine
@@ -14,11 +16,13 @@ use Rattle.draid_entries.specs.declared.entry.Entry.{Entry}
 use Rattle.draid_entries.specs.declared.entries.Entries.{Entries}
 use Rattle.draid_entries.specs.declared.history.History.{History}
 use Rattle.draid_entries.specs.Entries.{SetsEntry, count_of, entry_at, owed_at, owed_by}
-use Rattle.draid_entries.specs.History.{owed_of, reserved_of}
+use Rattle.draid_entries.specs.History.{KeepsOwed, owed_of, reserved_of}
 use Rattle.draid_entries.specs.Maps.{held_at, key_of, staged}
 use Rattle.draid_shard.specs.declared.shard.Shard.{Shard}
 use Rattle.draid_shard.specs.declared.ticket.Ticket.{Ticket}
-use Rattle.draid_shard.specs.Calls.{IsLive, IsOpen}
+use Rattle.draid_shard.specs.Calls.{Fetches, IsLive, IsOpen}
+use Rattle.draid_shard.specs.Changes.{DoesNothing}
+use Rattle.draid_shard.proofs.Changed.{same_entries}
 use Rattle.draid_shard.specs.Fits.{AreHere, Tables, TicketsAreNew, Valid, oldest_open}
 use Rattle.draid_shard.specs.Holding.{AreFitting}
 use Rattle.draid_shard.specs.States.{IsIn, Leads, layout_by}
@@ -166,3 +170,36 @@ all_put columns ticket all = omega (arith, all)
 -- a history alone changed
 pub history_in : {R A : Type 0} (old : Shard R A) (history : History) (w : machine.State) → IsIn old w → IsIn (with_tables old old.space old.entries history) w
 history_in old history w is_in = tables_in old old.space old.entries history w w.core.held w.present w.aside w.kept is_in is_in.held
+
+-- ---- room was asked for, and nothing else was done
+module _ {R A : Type 0} (old : Shard R A) (history : History) (same : KeepsOwed old.history history) where
+  pub asked_valid : (rack : Ghosts R) → Valid rack old → Valid rack (record old { history = history })
+  asked_valid rack v =
+      let owed = same.owed in
+      let reserved = same.reserved in
+      valid_with rack old old.space old.entries history v v.tables refl v.few v.here (λ from low was. was) (omega (arith, owed, reserved))
+
+  pub asked_nothing : DoesNothing old (record old { history = history })
+  asked_nothing = record {
+    none = record { part = refl; stored = same.events; stays = history_in old history };
+    keeps = record { entries = same_entries old.entries; groups = record { open_group_is = refl; closing = refl; sealed = refl; committed = refl } };
+  }
+
+  -- a fetch from then on is one from before
+  pub asked_fetches : (rack : Ghosts R) (new : Shard R A) (pointer : Pointer) (fetched : Fetched) → Fetches rack (record old { history = history }) new pointer fetched → Fetches rack old new pointer fetched
+  asked_fetches rack new pointer fetched f =
+      let groups = f.keeps.groups in
+      record {
+        live = f.live;
+        pointer_is = f.pointer_is;
+        fetched_is = f.fetched_is;
+        keeps = record { entries = f.keeps.entries; groups = record { open_group_is = groups.open_group_is; closing = groups.closing; sealed = groups.sealed; committed = groups.committed } };
+        failed = f.failed;
+        does = record {
+          part = f.does.part;
+          stored = f.does.stored ∙ ap (λ (events : List Event). events ++ Fetch (key_of pointer) f.failed ∷ []) same.events;
+          leads = λ w reached is_in. f.does.leads w reached (history_in old history w is_in);
+        };
+        counts = f.counts;
+        are = λ w h reached is_in held. f.are w h reached (history_in old history w is_in) held;
+      }

@@ -3,7 +3,7 @@ ghost use Rattle.std.specs.Prelude.{◌≡◌};
 use draid_names::NoMemory;
 
 /// Why a metaslab takes no new block.
-#[derive(Clone, Copy, Debug, PartialEq, Eq)]
+#[derive(Clone, Copy, PartialEq, Eq)]
 pub enum Shut {
     /// A rebuild has it.
     Disabled,
@@ -14,7 +14,7 @@ pub enum Shut {
 }
 
 /// Why no write was begun. They are looked for in this order.
-#[derive(Clone, Copy, Debug, PartialEq, Eq)]
+#[derive(Clone, Copy, PartialEq, Eq)]
 pub enum BeginFault {
     /// The rebuild of this number has the metaslab.
     Disabled { pass: u64 },
@@ -38,7 +38,7 @@ impl From<NoMemory> for BeginFault {
 }
 
 /// Why no block was fetched.
-#[derive(Clone, Copy, Debug, PartialEq, Eq)]
+#[derive(Clone, Copy, PartialEq, Eq)]
 pub enum FetchFault {
     /// The pointer is that of no live block.
     NotLive,
@@ -48,11 +48,11 @@ pub enum FetchFault {
 }
 
 /// A write ended, of which so many columns landed on no arm: more than there are parity columns.
-#[derive(Clone, Copy, Debug, PartialEq, Eq)]
+#[derive(Clone, Copy)]
 pub struct Missed {
     pub columns: u32,
 }
 
 /// The pointer is that of no live block.
-#[derive(Clone, Copy, PartialEq, Eq)]
+#[derive(Clone, Copy)]
 pub struct NotLive;

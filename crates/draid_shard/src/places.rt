@@ -16,7 +16,7 @@ use draid_spec::Geometry;
 
 /// The rows of a column of a block: the slot that has them, their slice, the sector of the first and their number,
 /// counted within the metaslab, the length of a sector, and the group in which the block was born.
-#[derive(Clone, Copy, PartialEq, Eq)]
+#[derive(Clone, Copy)]
 pub struct ColumnRows {
     pub slot: u32,
     pub slice: u64,

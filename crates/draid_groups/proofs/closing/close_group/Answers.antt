@@ -60,3 +60,39 @@ returns-then-group-eq-LAST_NUMBER-clause-none g c = asked_nothing g.R.Rack c.arg
 
 pub returns-clause-closes : goal.returns-clause-closes
 returns-clause-closes g c = record { entries = same_entries c.args.shard.now.entries; open_group_is = refl; closing = refl; sealed = refl; committed = refl }
+
+pub returns-in-Err-Worn-clause-kit : goal.returns-in-Err-Worn-clause-kit
+returns-in-Err-Worn-clause-kit g c = record { rack = refl; areas = record { even = refl; odd = refl } }
+
+pub returns-in-Err-Worn-clause-reserve : goal.returns-in-Err-Worn-clause-reserve
+returns-in-Err-Worn-clause-reserve g c = record { reserved = c.ask_for_group.ensures.same.reserved; limit = c.ask_for_group.ensures.same.limit }
+
+pub returns-in-Err-NoMemory-clause-kit : goal.returns-in-Err-NoMemory-clause-kit
+returns-in-Err-NoMemory-clause-kit g c = record { rack = refl; areas = record { even = refl; odd = refl } }
+
+pub returns-in-Err-NoMemory-clause-reserve : goal.returns-in-Err-NoMemory-clause-reserve
+returns-in-Err-NoMemory-clause-reserve g c = record { reserved = c.ask_for_group.ensures.same.reserved; limit = c.ask_for_group.ensures.same.limit }
+
+pub returns-then-group-eq-LAST_NUMBER-clause-kit : goal.returns-then-group-eq-LAST_NUMBER-clause-kit
+returns-then-group-eq-LAST_NUMBER-clause-kit g c = record { rack = refl; areas = record { even = refl; odd = refl } }
+
+pub returns-then-group-eq-LAST_NUMBER-clause-reserve : goal.returns-then-group-eq-LAST_NUMBER-clause-reserve
+returns-then-group-eq-LAST_NUMBER-clause-reserve g c = record { reserved = c.ask_for_group.ensures.same.reserved; limit = c.ask_for_group.ensures.same.limit }
+
+pub returns-in_default-clause-kit : goal.returns-in_default-clause-kit
+returns-in_default-clause-kit g c = record { rack = refl; areas = record { even = refl; odd = refl } }
+
+pub returns-in_default-clause-reserve : goal.returns-in_default-clause-reserve
+returns-in_default-clause-reserve g c = record { reserved = c.ask_for_group.ensures.same.reserved; limit = c.ask_for_group.ensures.same.limit }
+
+pub returns-then-group-eq-LAST_NUMBER-clause-refused : goal.returns-then-group-eq-LAST_NUMBER-clause-refused
+returns-then-group-eq-LAST_NUMBER-clause-refused g c = (c.in-Ok.ensures.answer, c.if-group-eq-LAST_NUMBER.true)
+
+pub add_asked-requires : goal.add_asked-requires
+add_asked-requires g c = record { some = omega arith; asked = c.in-Ok.ensures.asked }
+
+pub returns-clause-kit : goal.returns-clause-kit
+returns-clause-kit g c = record { rack = refl; areas = record { even = refl; odd = refl } }
+
+pub returns-clause-reserve : goal.returns-clause-reserve
+returns-clause-reserve g c = record { reserved = c.add_asked.ensures.reserved ∙ c.in-Ok.ensures.same.reserved; limit = c.add_asked.ensures.limit ∙ c.in-Ok.ensures.same.limit }

@@ -4,7 +4,7 @@ use Rattle.draid_rack.specs.Moments.{LeavesTold}
 use Rattle.draid_metaslab.specs.Spaces.{Stripes, is_free}
 use Rattle.draid_record.specs.Record.{limits_of}
 use Rattle.draid_record.proofs.Ranged.{ranged_spelled}
-use Rattle.draid_stable.specs.Opening.{has_leaf, has_leaf_arm}
+use Rattle.draid_stable.specs.Opening.{KeepsCounts, has_leaf, has_leaf_arm}
 use Rattle.draid_stable.proofs.Gone.{no_arm}
 use Rattle.draid_stable.proofs.There.{whole_parts}
 use Rattle.draid_shard.specs.Fits.{is_rebuild}
@@ -89,3 +89,40 @@ returns-clause-opened g c =
 
 pub returns-clause-gone : goal.returns-clause-gone
 returns-clause-gone g c leaf low other = c.keep_arms.ensures.gone leaf low (no_arm c.in-Ok.it.tables.slots leaf (λ at is. other (inl (at, is.0, is.1, is.2, is.3))))
+
+pub returns-in-Err : goal.returns-in-Err
+returns-in-Err g c = record {
+  valid = tt;
+  part = tt;
+  begins = tt;
+  opened = tt;
+  gone = tt;
+  counts = c.read_kit.ensures.later;
+  back = c.read_kit.ensures.back;
+  refused = c.in-Err.ensures.refused;
+}
+
+pub returns-in_default : goal.returns-in_default
+returns-in_default g c = record {
+  valid = tt;
+  part = tt;
+  begins = tt;
+  opened = tt;
+  gone = tt;
+  counts = c.read_kit.ensures.later;
+  back = c.read_kit.ensures.back;
+  refused = tt;
+}
+
+pub returns-clause-part : goal.returns-clause-part
+returns-clause-part g c = refl
+
+pub returns-clause-begins : goal.returns-clause-begins
+returns-clause-begins g c = (c.in-Ok-history_of.ensures.limit_is, refl)
+
+pub returns-clause-counts : goal.returns-clause-counts
+returns-clause-counts g c =
+    let later = c.keep_arms.ensures.later in
+    let before = c.read_kit.ensures.later in
+    let kept = subst (λ rack. KeepsCounts c.in-Ok.it.tables.slots (g.R.Rack.faults rack) (g.R.Rack.faults c.keep_arms.new.rack)) c.in-Ok.ensures.back.rack later in
+    record { on_rack = record { own = kept.own; leaves = kept.leaves }; even = before.even; odd = before.odd }

@@ -1,4 +1,5 @@
-use Rattle.std.proofs.Common.{◌≡◌, ◌≤◌, ◌+◌, ◌^◌, ◌∙◌, ℕ, true, IsSome, List, Some, Vec, Global, All, ap, refl, sym, subst}
+use Rattle.std.specs.Prelude.{vec_capacity}
+use Rattle.std.proofs.Common.{Err, length, ◌≡◌, ◌≤◌, ◌+◌, ◌^◌, ◌∙◌, ℕ, true, IsSome, List, Some, Vec, Global, All, ap, refl, sym, subst}
 use Rattle.draid_names.specs.declared.pointer.Pointer.{Pointer}
 use Rattle.draid_area.specs.Area as content
 use Rattle.draid_columns.specs.Columns.{TellsBoth}
@@ -15,13 +16,15 @@ use Rattle.draid_stable.proofs.Logs.{copied_small}
 use Rattle.draid_record.specs.Record.{told_record}
 use Rattle.draid_shard.specs.Fits.{Valid, birth_groups, oldest_open}
 use Rattle.draid_shard.specs.States.{Does, IsIn, layout_by}
+use Rattle.draid_shard.proofs.Changed.{same_entries}
 use Rattle.draid_shard.proofs.Staging.{room_for}
 use Rattle.draid_shard.proofs.Standing.{reached_more}
 use Rattle.draid_groups.specs.Groups.{ListsOnce}
 use Rattle.draid_groups.specs.Sealing.{AreSilent, MarksTable, area_by}
 use Rattle.draid_groups.proofs.Ranging.{blocks_low}
 use Rattle.draid_groups.proofs.SealRecords.{Settles, has_record, no_writes, writes}
-use Rattle.draid_groups.proofs.SealSteps.{birth_high, birth_low, flushes_acts, on_told, one_after, seal_step, sealed_in, sealed_valid}
+use Rattle.draid_groups.proofs.SealSteps.{birth_high, birth_low, flushes_acts, flushes_leave, on_told, one_after, seal_step, sealed_in, sealed_valid}
+use Rattle.draid_groups.proofs.Unsealed.{unsealed_keeps, unsealed_none, unsealed_valid}
 use Rattle.draid_groups.proofs.sealing.seal_by.Given as given
 use Rattle.draid_groups.proofs.sealing.seal_by.Goals as goal
 use Rattle.draid_groups.proofs.sealing.seal_by.Goals.{After-add}
@@ -157,3 +160,68 @@ returns-clause-sealed g c =
       low = c.thin.ensures.low;
       counts = record { later = cause.later; cause = cause.cause };
     }
+
+-- ---- a seal that is refused
+pub returns-in-Err-Failed : goal.returns-in-Err-Failed
+returns-in-Err-Failed g c = record {
+  valid = unsealed_valid c.args.shard.now c.flush_leaves.new.rack c.write_to.new.even c.write_to.new.odd g.R.Rack c.flush_leaves.ensures.shape c.requires.valid;
+  other = c.write_to.ensures.other;
+  sealed = tt;
+  seals = tt;
+  refused = record {
+    none = unsealed_none c.args.shard.now c.flush_leaves.new.rack c.write_to.new.even c.write_to.new.odd;
+    leaves = flushes_leave c.args.plan.leaves.items c.flush_leaves.new.failed.items (g.R.Rack.told c.args.shard.now.rack) (g.R.Rack.told c.flush_leaves.new.rack)
+        (subst (λ leaves. TellsBoth (g.R.Rack.told c.args.shard.now.rack) (g.R.Rack.told c.flush_leaves.new.rack) (FlushesBut leaves c.flush_leaves.new.failed.items)) c.deref.ensures.value c.flush_leaves.ensures.told);
+    counts = c.flush_leaves.ensures.cause.later;
+    why = (c.requires.settled, c.write_to.ensures.cause (c.in-Err-Failed.is ∙ ap Err c.in-Err-Failed.field-0-is));
+  };
+  keeps = unsealed_keeps c.args.shard.now c.flush_leaves.new.rack c.write_to.new.even c.write_to.new.odd;
+  later = record { even = c.write_to.ensures.even_later; odd = c.write_to.ensures.odd_later };
+  reserve = record { reserved = refl; limit = refl };
+}
+
+pub returns-in-Err-NoMemory : goal.returns-in-Err-NoMemory
+returns-in-Err-NoMemory g c = record {
+  valid = unsealed_valid c.args.shard.now c.flush_leaves.new.rack c.write_to.new.even c.write_to.new.odd g.R.Rack c.flush_leaves.ensures.shape c.requires.valid;
+  other = c.write_to.ensures.other;
+  sealed = tt;
+  seals = tt;
+  refused = record {
+    none = unsealed_none c.args.shard.now c.flush_leaves.new.rack c.write_to.new.even c.write_to.new.odd;
+    leaves = flushes_leave c.args.plan.leaves.items c.flush_leaves.new.failed.items (g.R.Rack.told c.args.shard.now.rack) (g.R.Rack.told c.flush_leaves.new.rack)
+        (subst (λ leaves. TellsBoth (g.R.Rack.told c.args.shard.now.rack) (g.R.Rack.told c.flush_leaves.new.rack) (FlushesBut leaves c.flush_leaves.new.failed.items)) c.deref.ensures.value c.flush_leaves.ensures.told);
+    counts = c.flush_leaves.ensures.cause.later;
+    why = tt;
+  };
+  keeps = unsealed_keeps c.args.shard.now c.flush_leaves.new.rack c.write_to.new.even c.write_to.new.odd;
+  later = record { even = c.write_to.ensures.even_later; odd = c.write_to.ensures.odd_later };
+  reserve = record { reserved = refl; limit = refl };
+}
+
+-- ---- what the other clauses and calls ask for
+pub flush_leaves-requires : goal.flush_leaves-requires
+flush_leaves-requires g c =
+    let plan = c.requires.plan in
+    record {
+      there = subst (All (λ leaf. IsSome ((g.R.Rack.shape c.args.shard.now.rack).leaves leaf))) (sym c.deref.ensures.value) plan.leaves_are.there;
+      none = plan.none;
+      room = subst (λ (leaves : List ℕ). length leaves ≤ vec_capacity c.args.plan.failed) (sym c.deref.ensures.value) plan.room;
+    }
+
+pub mark_silent-requires : goal.mark_silent-requires
+mark_silent-requires g c = record {
+  valid = unsealed_valid c.args.shard.now c.flush_leaves.new.rack c.args.shard.now.even c.args.shard.now.odd g.R.Rack c.flush_leaves.ensures.shape c.requires.valid;
+  count = c.requires.plan.count;
+}
+
+pub returns-clause-seals : goal.returns-clause-seals
+returns-clause-seals g c = record { entries = same_entries c.args.shard.now.entries; open_group_is = refl; closing = refl; sealed = refl; committed = refl }
+
+pub returns-clause-other : goal.returns-clause-other
+returns-clause-other g c = c.write_to.ensures.other
+
+pub returns-clause-later : goal.returns-clause-later
+returns-clause-later g c = record { even = c.write_to.ensures.even_later; odd = c.write_to.ensures.odd_later }
+
+pub returns-clause-reserve : goal.returns-clause-reserve
+returns-clause-reserve g c = record { reserved = c.add.ensures.reserved; limit = c.add.ensures.limit }

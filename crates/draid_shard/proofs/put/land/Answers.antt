@@ -1,11 +1,13 @@
-use Rattle.std.proofs.Common.{◌≡◌, ◌<◌, ◌∙◌, Some, [], false, ap, arith, get_or, length, refl, slice_get, sym, subst}
+use Rattle.std.proofs.Common.{◌≡◌, ◌<◌, ◌∙◌, Some, List, [], false, ap, arith, get_or, length, refl, slice_get, sym, subst}
 use Rattle.std.specs.Prelude.{slice_index_or}
 use Rattle.std.proofs.lemmas.Option.{slice_get-get_or}
 use Rattle.draid_names.specs.declared.arm.Arm.{Arm}
 use Rattle.draid_names.specs.declared.arm.ArmKind.TheVariants.{Leaf}
+use Rattle.draid_spec.specs.declared.layout.Geometry.{Geometry}
 use Rattle.draid_slots.specs.Table.{arm_at, arms_of}
 use Rattle.draid_shard.specs.Rows.{Lands, arm_no}
 use Rattle.draid_shard.proofs.Landings.{lands_next, lands_none, lands_same}
+use Rattle.draid_shard.proofs.Staging.{fits_left, room_left}
 use Rattle.draid_shard.proofs.put.land.Goals as goal
 
 pub loop-arm-init : goal.loop-arm-init
@@ -60,3 +62,34 @@ note-requires g c =
     let less = c.loop-arm-test.true in
     let few = c.arms.ensures.few in
     record { landed = omega (arith, landed, less, few); failed = omega (arith, failed, less, few) }
+
+pub arms-requires : goal.arms-requires
+arms-requires g c = c.requires.fits.slot_below
+
+pub land_on-outcome-requires-clause-fits : goal.land_on-outcome-requires-clause-fits
+land_on-outcome-requires-clause-fits g c =
+    fits_left (g.R.Rack.shape c.args.rack.now) (g.R.Rack.shape c.loop-arm.rack) c.args.slots.now c.loop-arm.slots c.args.rows c.args.rows.birth
+    c.loop-arm.invariant.shape c.loop-arm.invariant.lands.logs c.requires.fits
+
+pub land_on-outcome-requires-clause-there : goal.land_on-outcome-requires-clause-there
+land_on-outcome-requires-clause-there g c =
+    subst (λ (arms : List (List Arm)). c.loop-arm.arm < length (slice_index_or arms c.args.rows.slot [])) (sym c.loop-arm.invariant.lands.logs.arms)
+    (subst (λ (arms : List Arm). c.loop-arm.arm < length arms) c.arms.ensures.arms c.loop-arm-test.true)
+
+pub land_on-outcome-requires-clause-room : goal.land_on-outcome-requires-clause-room
+land_on-outcome-requires-clause-room g c = room_left c.args.rows.birth c.args.slots.now c.loop-arm.slots c.loop-arm.invariant.lands.logs c.requires.room
+
+pub arms-requires-in-loop-arm : goal.arms-requires-in-loop-arm
+arms-requires-in-loop-arm g c =
+    subst (λ (geometry : Geometry). c.args.rows.slot < geometry.spec.children)
+    (sym (c.land_on-outcome.ensures.misses.logs.same.geometry_is ∙ c.loop-arm.invariant.lands.logs.same.geometry_is)) c.requires.fits.slot_below
+
+pub returns-clause-shape : goal.returns-clause-shape
+returns-clause-shape g c = c.loop-arm.invariant.shape
+
+pub bounds-arms-arm : goal.bounds-arms-arm
+bounds-arms-arm g c =
+    let inv = c.loop-arm.invariant.lands in
+    let same : c.arms-in-loop-arm.result.now ≡ arms_of c.args.slots.now c.args.rows.slot
+    = c.arms-in-loop-arm.ensures.arms ∙ ap (λ arms. slice_index_or arms c.args.rows.slot []) (c.land_on-outcome.ensures.misses.logs.arms ∙ inv.logs.arms) in
+    subst (λ (arms : List Arm). c.loop-arm.arm < length arms) (c.arms.ensures.arms ∙ sym same) c.loop-arm-test.true

@@ -1,8 +1,40 @@
 use Rattle.draid_shard.proofs.Holders.{leaf_is, rows_there}
 use Rattle.draid_shard.proofs.put.write_to.Goals as goal
-use Rattle.std.proofs.Common.{sym}
+use Rattle.std.proofs.Common.{◌≡◌, ◌∙◌, Some, arith, refl, subst, sym}
+use Rattle.draid_names.specs.Faults.{Rose}
+use Rattle.draid_rack.specs.Moments.{LeavesTold}
+use Rattle.draid_columns.specs.Columns.{TellsBoth, WritesRows, in_rows}
+use Rattle.draid_columns.specs.declared.rows.Rows.{Rows}
+use Rattle.draid_shard.proofs.Landings.{counts_done, counts_failed}
 
 pub write_rows-requires-clause-there : goal.write_rows-requires-clause-there
 write_rows-requires-clause-there g c =
     rows_there _ c.args.slots.now c.args.rows c.args.arm c.place-leaf.result.leaf c.on.result c.on.ensures c.requires.fits
     (leaf_is c.args.slots.now c.args.rows c.args.arm c.place-leaf.result.leaf _ (sym c.requires.fits.slice_is) c.place-leaf.ensures.leaf)
+
+pub returns-then-not-answers : goal.returns-then-not-answers
+returns-then-not-answers g c = record { lands = (sym c.answers.ensures ∙ c.if-not-answers.true, refl); counts = record { later = λ who. omega arith; cause = λ leaf is. absurd (cc) }; shape = refl }
+
+pub returns-in-Ok-clause-lands : goal.returns-in-Ok-clause-lands
+returns-in-Ok-clause-lands g c = (
+  sym c.answers.ensures ∙ c.if-not-answers.false,
+  c.place-leaf.result.leaf,
+  leaf_is c.args.slots.now c.args.rows c.args.arm c.place-leaf.result.leaf _ (sym c.requires.fits.slice_is) c.place-leaf.ensures.leaf,
+  subst (λ (on : Rows). TellsBoth (g.R.Rack.told c.args.rack.now) (g.R.Rack.told c.write_rows.new.rack) (WritesRows on c.args.column.now on.count on.count)) c.on.ensures c.in-Ok.ensures.ok,
+)
+
+pub returns-in-Err-clause-lands : goal.returns-in-Err-clause-lands
+returns-in-Err-clause-lands g c = (
+  sym c.answers.ensures ∙ c.if-not-answers.false,
+  leaf_is c.args.slots.now c.args.rows c.args.arm c.place-leaf.result.leaf _ (sym c.requires.fits.slice_is) c.place-leaf.ensures.leaf,
+  subst (λ (on : Rows). LeavesTold (in_rows on) (g.R.Rack.told c.args.rack.now) (g.R.Rack.told c.write_rows.new.rack)) c.on.ensures c.in-Err.ensures.leaves,
+)
+
+pub returns-in-Ok-clause-counts : goal.returns-in-Ok-clause-counts
+returns-in-Ok-clause-counts g c = counts_done (g.R.Rack.faults c.args.rack.now) (g.R.Rack.faults c.write_rows.new.rack) c.write_rows.ensures.cause.later
+
+pub returns-in-Err-clause-counts : goal.returns-in-Err-clause-counts
+returns-in-Err-clause-counts g c =
+    let before = g.R.Rack.faults c.args.rack.now in
+    let now = g.R.Rack.faults c.write_rows.new.rack in
+    counts_failed c.place-leaf.result.leaf before now c.in-Err.ensures.cause.later (subst (λ (on : Rows). Rose (before (Some on.leaf)) (now (Some on.leaf))) c.on.ensures c.in-Err.ensures.cause.cause)

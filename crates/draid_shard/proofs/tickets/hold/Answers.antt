@@ -1,5 +1,7 @@
-use Rattle.std.proofs.Common.{◌∙◌, arith, refl}
+use Rattle.std.proofs.Common.{◌∙◌, arith, refl, subst}
 use Rattle.draid_metaslab.specs.Spaces.{is_free}
+use Rattle.draid_metaslab.specs.Spots.{IsLowest}
+use Rattle.draid_shard.proofs.Begins.{hold_refused}
 use Rattle.draid_shard.proofs.Tables.{allocated, back_again, held_tables, kept_tables, none_at, space_of}
 use Rattle.draid_shard.proofs.tickets.hold.Goals as goal
 
@@ -60,3 +62,65 @@ returns-in-Err-clause-tables c geometry group t sized =
       total = c.release.ensures.kept.total ∙ c.in-Ok.ensures.kept.total ∙ t.total;
       count = omega (arith, up, down, held, len);
     })
+
+pub allocate-requires : goal.allocate-requires
+allocate-requires c = let some = c.requires.some in let same = c.from.ensures in record { some = omega (arith, some, same); enabled = c.requires.enabled }
+
+pub enter-requires-clause-low : goal.enter-requires-clause-low
+enter-requires-clause-low c =
+    let some = c.requires.some in
+    let same = c.from.ensures in
+    let inside = c.in-Ok.ensures.inside in
+    let total = c.requires.tables.tables.total in
+    let low = c.requires.tables.low in
+    omega (arith, some, same, inside, total, low)
+
+pub enter-requires-clause-unused : goal.enter-requires-clause-unused
+enter-requires-clause-unused c = c.requires.unused
+
+pub enter-requires-clause-asked : goal.enter-requires-clause-asked
+enter-requires-clause-asked c = c.requires.asked
+
+pub release-requires : goal.release-requires
+release-requires c =
+    let some = c.requires.some in
+    let was = c.from.ensures in
+    let same = c.from-in-Err.ensures in
+    let inside = c.in-Ok.ensures.inside in
+    let total = c.in-Ok.ensures.kept.total in
+    let held = c.in-Ok.ensures.held in
+    record { span = record { some = omega (arith, some, same); below = omega (arith, inside, total, was, same) }; held = omega (arith, held) }
+
+pub returns-in-Err-clause-same : goal.returns-in-Err-clause-same
+returns-in-Err-clause-same c = c.in-Err.ensures.same
+
+pub returns-in-Err-clause-kept : goal.returns-in-Err-clause-kept
+returns-in-Err-clause-kept c = c.in-Err.ensures.kept
+
+pub returns-in-Err-clause-refused : goal.returns-in-Err-clause-refused
+returns-in-Err-clause-refused c =
+    let inside = c.in-Ok.ensures.inside in
+    let same = c.from.ensures in
+    hold_refused c.args.space.now c.args.history.now c.args.pointer.stripes c.args.asked c.in-Err.fault c.in-Ok.first
+    (subst (λ n. IsLowest (is_free c.args.space.now) c.args.space.now.height n c.in-Ok.first) same c.in-Ok.ensures.lowest) (omega (arith, inside, same)) c.in-Err.ensures.refused
+
+pub returns-in-Ok-enter-clause-placed : goal.returns-in-Ok-enter-clause-placed
+returns-in-Ok-enter-clause-placed c = refl
+
+pub returns-in-Ok-enter-clause-lowest : goal.returns-in-Ok-enter-clause-lowest
+returns-in-Ok-enter-clause-lowest c = subst (λ n. IsLowest (is_free c.args.space.now) c.args.space.now.height n c.in-Ok.first) c.from.ensures c.in-Ok.ensures.lowest
+
+pub returns-in-Ok-enter-clause-inside : goal.returns-in-Ok-enter-clause-inside
+returns-in-Ok-enter-clause-inside c = let inside = c.in-Ok.ensures.inside in let same = c.from.ensures in omega (arith, inside, same)
+
+pub returns-in-Ok-enter-clause-entered : goal.returns-in-Ok-enter-clause-entered
+returns-in-Ok-enter-clause-entered c = c.in-Ok-enter.ensures.entered
+
+pub returns-in-Ok-enter-clause-count : goal.returns-in-Ok-enter-clause-count
+returns-in-Ok-enter-clause-count c = c.in-Ok-enter.ensures.count
+
+pub returns-in-Ok-enter-clause-stored : goal.returns-in-Ok-enter-clause-stored
+returns-in-Ok-enter-clause-stored c = c.in-Ok-enter.ensures.stored
+
+pub returns-in-Ok-enter-clause-not_worn : goal.returns-in-Ok-enter-clause-not_worn
+returns-in-Ok-enter-clause-not_worn c = c.in-Ok-enter.ensures.not_worn

@@ -36,3 +36,15 @@ returns-clause-event g c = record {
   stored = c.add.ensures.stored ∙ ap (λ key. c.args.self.now.history.events.items ++ Abort key ∷ []) c.key_of.ensures;
   leads = λ w reached is_in. aborts c.args.self.now c.release.new.space c.release.new.entries c.add.new.self c.args.ticket c.requires.is_open c.release.ensures.gone w is_in;
 }
+
+pub release-requires-clause-there : goal.release-requires-clause-there
+release-requires-clause-there g c = record { stage = Writing c.args.ticket.next c.args.ticket.missed; there = c.requires.is_open }
+
+pub returns-clause-kit : goal.returns-clause-kit
+returns-clause-kit g c = record { rack = refl; areas = record { even = refl; odd = refl } }
+
+pub returns-clause-gone : goal.returns-clause-gone
+returns-clause-gone g c = record { entry = c.release.ensures.gone; groups = record { open_group_is = refl; closing = refl; sealed = refl; committed = refl } }
+
+pub returns-clause-reserve : goal.returns-clause-reserve
+returns-clause-reserve g c = record { reserved = c.add.ensures.reserved; limit = c.add.ensures.limit }

@@ -181,3 +181,9 @@ returns-then-is_full-clause-none g c = record {
     groups = record { open_group_is = refl; closing = refl; sealed = refl; committed = refl };
   };
 }
+
+pub returns-then-is_full-clause-refused : goal.returns-then-is_full-clause-refused
+returns-then-is_full-clause-refused g c w is_in = (c.in_default.ensures.none w is_in, (c.is_full.ensures.held w is_in).0 c.if-is_full.true, c.count.ensures)
+
+pub returns-in-Some-clause-refused : goal.returns-in-Some-clause-refused
+returns-in-Some-clause-refused g c w is_in = c.in-Some.ensures.some w is_in

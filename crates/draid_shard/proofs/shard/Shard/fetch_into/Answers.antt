@@ -20,3 +20,15 @@ pub returns-clause-fetches : goal.returns-clause-fetches
 returns-clause-fetches g c =
     fetches_stored g.R.Rack c.args.self.now c.read_columns.new.self c.requires.valid c.read_columns.ensures.rack c.add_asked.new.self c.args.pointer.now c.key_of.result c.read_columns.new.columns c.read_columns.new.failed
     c.requires.live c.key_of.ensures c.read_columns.ensures.read c.read_columns.ensures.counts c.add_asked.ensures.stored
+
+pub read_columns-requires-clause-valid : goal.read_columns-requires-clause-valid
+read_columns-requires-clause-valid g c = c.requires.valid
+
+pub read_columns-requires-clause-no_leaf : goal.read_columns-requires-clause-no_leaf
+read_columns-requires-clause-no_leaf g c = c.requires.failed
+
+pub read_columns-requires-clause-room : goal.read_columns-requires-clause-room
+read_columns-requires-clause-room g c = c.requires.room
+
+pub returns-clause-told : goal.returns-clause-told
+returns-clause-told g c = c.read_columns.ensures.told

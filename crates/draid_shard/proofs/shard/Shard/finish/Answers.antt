@@ -68,3 +68,33 @@ returns-then-ticket-self-clause-event g c = record {
   leads = λ w reached is_in. misses c.args.self.now c.release.new.space c.release.new.entries c.add.new.self c.args.ticket c.requires.is_open c.requires.all
       (let many = c.if-ticket-self.true in omega (arith, many)) c.release.ensures.gone w is_in;
 }
+
+pub release-requires-clause-there : goal.release-requires-clause-there
+release-requires-clause-there g c = record { stage = Writing c.args.ticket.next c.args.ticket.missed; there = c.requires.is_open }
+
+pub turn-requires : goal.turn-requires
+turn-requires g c = record { there = record { stage = Writing c.args.ticket.next c.args.ticket.missed; there = c.requires.is_open } }
+
+pub returns-then-ticket-self-clause-kit : goal.returns-then-ticket-self-clause-kit
+returns-then-ticket-self-clause-kit g c = record { rack = refl; areas = record { even = refl; odd = refl } }
+
+pub returns-then-ticket-self-clause-missed : goal.returns-then-ticket-self-clause-missed
+returns-then-ticket-self-clause-missed g c = (c.if-ticket-self.true, refl)
+
+pub returns-then-ticket-self-clause-gone : goal.returns-then-ticket-self-clause-gone
+returns-then-ticket-self-clause-gone g c = record { entry = c.release.ensures.gone; groups = record { open_group_is = refl; closing = refl; sealed = refl; committed = refl } }
+
+pub returns-then-ticket-self-clause-reserve : goal.returns-then-ticket-self-clause-reserve
+returns-then-ticket-self-clause-reserve g c = record { reserved = c.add.ensures.reserved; limit = c.add.ensures.limit }
+
+pub returns-clause-kit : goal.returns-clause-kit
+returns-clause-kit g c = record { rack = refl; areas = record { even = refl; odd = refl } }
+
+pub returns-clause-live : goal.returns-clause-live
+returns-clause-live g c = (c.if-ticket-self.false, refl)
+
+pub returns-clause-sets : goal.returns-clause-sets
+returns-clause-sets g c = record { entry = c.turn.ensures.entered; groups = record { open_group_is = refl; closing = refl; sealed = refl; committed = refl } }
+
+pub returns-clause-reserve : goal.returns-clause-reserve
+returns-clause-reserve g c = record { reserved = c.add-2.ensures.reserved; limit = c.add-2.ensures.limit }

@@ -1,4 +1,5 @@
-use Rattle.std.proofs.Common.{◌∙◌, ◌++◌, ◌∷◌, [], Some, arith, ap, refl}
+use Rattle.std.proofs.Common.{◌∙◌, ◌++◌, ◌∷◌, [], Some, arith, ap, refl, sym}
+use Rattle.std.proofs.lemmas.Bool.{true≢false}
 use Rattle.draid_machine.specs.declared.event.Event.TheVariants.{Free}
 use Rattle.draid_machine.specs.declared.names.Stage.TheVariants.{Live, Freed}
 use Rattle.draid_entries.specs.Maps.{staged}
@@ -41,3 +42,29 @@ returns-clause-event g c =
             (due_upto c.args.self.now.open_group c.max-group.result c.args.floor c.max-group.ensures c.requires.floor.upto) c.turn.ensures.entered w is_in;
       },
     )
+
+pub turn-requires : goal.turn-requires
+turn-requires g c = record { there = record { stage = Live; there = c.is_live.ensures.0 c.if-not-is_live.false } }
+
+pub returns-clause-kit : goal.returns-clause-kit
+returns-clause-kit g c = record { rack = refl; areas = record { even = refl; odd = refl } }
+
+pub returns-clause-not_live : goal.returns-clause-not_live
+returns-clause-not_live g c = (λ e. absurd (true≢false (sym e)), λ dead. absurd (dead (c.is_live.ensures.0 c.if-not-is_live.false)))
+
+pub returns-clause-sets : goal.returns-clause-sets
+returns-clause-sets g c = record { entry = c.turn.ensures.entered; groups = record { open_group_is = refl; closing = refl; sealed = refl; committed = refl } }
+
+pub returns-clause-reserve : goal.returns-clause-reserve
+returns-clause-reserve g c = record { reserved = c.add.ensures.reserved; limit = c.add.ensures.limit }
+
+pub returns-then-not-is_live : goal.returns-then-not-is_live
+returns-then-not-is_live g c = record {
+  valid = c.requires.valid;
+  kit = record { rack = refl; areas = record { even = refl; odd = refl } };
+  not_live = (λ e live. true≢false (sym (c.is_live.ensures.1 live) ∙ c.if-not-is_live.true), λ dead. refl);
+  event = tt;
+  sets = tt;
+  same = refl;
+  reserve = record { reserved = refl; limit = refl };
+}

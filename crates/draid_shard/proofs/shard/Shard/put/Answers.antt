@@ -145,3 +145,9 @@ returns-clause-put g c =
           c.requires.carries.is_open c.land-landed.ensures.lands (sets g c) counts g.R.Rack c.args.block.now.columns refl refl c.column-column.ensures.column;
       counts = c.land-landed.ensures.lands.counts;
     }
+
+pub returns-clause-areas : goal.returns-clause-areas
+returns-clause-areas g c = record { even = refl; odd = refl }
+
+pub returns-clause-reserve : goal.returns-clause-reserve
+returns-clause-reserve g c = record { reserved = c.add.ensures.reserved; limit = c.add.ensures.limit }

@@ -54,3 +54,21 @@ note_read-requires g c =
     let room = c.requires.room in
     let ok = c.args.failed.now.ok.0 in
     record { taken = c.take_column.ensures.left.here; room = omega (arith, few, less, room, ok) }
+
+pub rows_of-rows-requires : goal.rows_of-rows-requires
+rows_of-rows-requires g c = record { part = c.requires.valid.part; run = c.requires.run; column = c.requires.less }
+
+pub returns-clause-told : goal.returns-clause-told
+returns-clause-told g c = c.read_column-outcome.ensures.told
+
+pub returns-clause-rack : goal.returns-clause-rack
+returns-clause-rack g c = refl
+
+pub returns-clause-shape : goal.returns-clause-shape
+returns-clause-shape g c = c.read_column-outcome.ensures.shape
+
+pub returns-clause-room : goal.returns-clause-room
+returns-clause-room g c = c.note_read.ensures.room
+
+pub returns-in_default : goal.returns-in_default
+returns-in_default g c = absurd (c.requires.before.rest c.args.column (omega arith) (c.take_column.ensures.taken ∙ ap Some c.in_default.is))
