@@ -1,122 +1,159 @@
 use draid_lines::{Lines, MemorySink, MemorySource, ReadFault, Sink};
-use draid_names::Failed;
-use std::test::Fail;
+use std::alloc::{AllocError, Global};
 
-fn source_of(rt: &HostRuntime, text: &[u8], failing: &[u64]) -> Result<MemorySource, Fail> {
-    Ok(MemorySource::new(
-        Vec::from_slice(rt.alloc(), text)?,
-        Vec::from_slice(rt.alloc(), failing)?,
-    ))
+fn source_of(alloc: Global, text: &[u8], failing: &[u64]) -> Result<MemorySource, AllocError> {
+    let text = Vec::from_slice(alloc, text)?;
+    let failing = Vec::from_slice(alloc, failing)?;
+    Ok(MemorySource::new(text, failing))
 }
 
-/// Whether the lines of a text are these, one after another.
-fn gives(rt: &HostRuntime, text: &[u8], wanted: [Option<&str>; 4]) -> Result<bool, Fail> {
-    let mut source = source_of(rt, text, &[])?;
-    let mut lines = Lines::new(rt.alloc());
-    for wanted in wanted {
-        let line = lines.next(rt.alloc(), &mut source).unwrap_or(None);
-        if line.as_deref() != wanted.map(|line| line.as_bytes()) {
-            return Ok(false);
-        }
+/// Whether this is the next line.
+fn is_next(alloc: Global, lines: &mut Lines, source: &mut MemorySource, wanted: &str) -> bool {
+    match lines.next(alloc, source) {
+        Ok(Some(line)) => line.as_slice() == wanted.as_bytes(),
+        _ => false,
     }
-    Ok(true)
 }
 
-#[test]
-fn gives_each_line_and_the_end(rt: HostRuntime) -> Result<(), Fail> {
-    for (text, wanted) in [
-        ("", [None, None, None, None]),
-        ("ab\n\ncd", [Some("ab"), Some(""), Some("cd"), None]),
-        ("ab\ncd\n", [Some("ab"), Some("cd"), None, None]),
-    ] {
-        assert!(rt; gives(&rt, text.as_bytes(), wanted)?, "{text}");
+/// Whether there is no next line.
+fn is_end(alloc: Global, lines: &mut Lines, source: &mut MemorySource) -> bool {
+    match lines.next(alloc, source) {
+        Ok(line) => line.is_none(),
+        Err(_) => false,
     }
-    Ok(())
-}
-
-/// How long the next line is, if there is one.
-fn next_len(rt: &HostRuntime, lines: &mut Lines, source: &mut MemorySource) -> Option<usize> {
-    let line = lines.next(rt.alloc(), source).unwrap_or(None)?;
-    Some(line.len())
 }
 
 /// Why there is no next line.
-fn next_fault(rt: &HostRuntime, lines: &mut Lines, source: &mut MemorySource) -> Option<ReadFault> {
-    lines.next(rt.alloc(), source).err()
+fn next_fault(alloc: Global, lines: &mut Lines, source: &mut MemorySource) -> Option<ReadFault> {
+    lines.next(alloc, source).err()
 }
 
-/// How long the first line of a text is, and what is told then, twice.
-fn len_and_faults(
-    rt: &HostRuntime,
-    text: &[u8],
-) -> Result<(Option<usize>, [Option<ReadFault>; 2]), Fail> {
-    let mut source = source_of(rt, text, &[])?;
-    let mut lines = Lines::new(rt.alloc());
-    let first = next_len(rt, &mut lines, &mut source);
-    let fault = next_fault(rt, &mut lines, &mut source);
-    Ok((first, [fault, next_fault(rt, &mut lines, &mut source)]))
-}
-
-#[test]
-fn refuses_a_line_that_is_too_long(rt: HostRuntime) -> Result<(), Fail> {
-    let mut text = vec![in rt.alloc(); b'#'; 600_002]?;
-    text[300_000] = b'\n';
-    let fault = Some(ReadFault::TooLong { line: 2 });
-    assert_eq!(rt; len_and_faults(&rt, &text)?, (Some(300_000), [fault; 2]));
-    Ok(())
-}
-
-/// Whether so many lines are empty, and what is told then.
-fn empty_lines(
-    rt: &HostRuntime,
-    text: &[u8],
-    count: u32,
-) -> Result<(bool, Option<ReadFault>), Fail> {
-    let mut source = source_of(rt, text, &[])?;
-    let mut lines = Lines::new(rt.alloc());
-    for _ in 0..count {
-        if next_len(rt, &mut lines, &mut source) != Some(0) {
-            return Ok((false, None));
+/// Whether the lines of a source are these, and the end stays behind them.
+fn are_lines(alloc: Global, source: &mut MemorySource, wanted: &[&str]) -> bool {
+    let mut lines = Lines::new(alloc);
+    for line in wanted {
+        if !is_next(alloc, &mut lines, source, line) {
+            return false;
         }
     }
-    Ok((true, next_fault(rt, &mut lines, &mut source)))
+    for _ in 0..4 {
+        if !is_end(alloc, &mut lines, source) {
+            return false;
+        }
+    }
+    true
+}
+
+/// Whether it is so of the lines of a text.
+fn gives(alloc: Global, text: &str, wanted: &[&str]) -> bool {
+    match source_of(alloc, text.as_bytes(), &[]) {
+        Ok(mut source) => are_lines(alloc, &mut source, wanted),
+        Err(_) => false,
+    }
 }
 
 #[test]
-fn refuses_too_many_lines(rt: HostRuntime) -> Result<(), Fail> {
-    let text = vec![in rt.alloc(); b'\n'; 1_048_577]?;
-    let fault = Some(ReadFault::TooLong { line: 1_048_577 });
-    assert_eq!(rt; empty_lines(&rt, &text, 1_048_576)?, (true, fault));
-    Ok(())
+fn gives_each_line_and_the_end(rt: HostRuntime) {
+    assert!(rt; gives(rt.alloc(), "", &[]));
+    assert!(rt; gives(rt.alloc(), "ab\n\ncd", &["ab", "", "cd"]));
+    assert!(rt; gives(rt.alloc(), "ab\ncd\n", &["ab", "cd"]));
 }
 
-/// Whether the first line comes of a source whose second call fails, and what is told then and the next time.
-fn line_and_faults(rt: &HostRuntime) -> Result<(bool, [Option<ReadFault>; 2]), Fail> {
-    let mut source = source_of(rt, b"ab\ncd", &[1])?;
-    let mut lines = Lines::new(rt.alloc());
-    let line = lines.next(rt.alloc(), &mut source).unwrap_or(None);
-    let is_first = line.as_deref() == Some(b"ab".as_slice());
-    let fault = next_fault(rt, &mut lines, &mut source);
-    let again = next_fault(rt, &mut lines, &mut source);
-    Ok((is_first, [fault, again]))
+/// How long the next line is, if there is one.
+fn next_len(alloc: Global, lines: &mut Lines, source: &mut MemorySource) -> Option<usize> {
+    match lines.next(alloc, source) {
+        Ok(Some(line)) => Some(line.len()),
+        _ => None,
+    }
+}
+
+/// Whether the next lines of a source have this length, and then this fault is told, twice.
+fn stops(alloc: Global, source: &mut MemorySource, len: usize, count: u32, line: u64) -> bool {
+    let mut lines = Lines::new(alloc);
+    for _ in 0..count {
+        if next_len(alloc, &mut lines, source) != Some(len) {
+            return false;
+        }
+    }
+    let fault = Some(ReadFault::TooLong { line });
+    next_fault(alloc, &mut lines, source) == fault && next_fault(alloc, &mut lines, source) == fault
+}
+
+/// Whether it is so of a line of 300,000 bytes and one that is longer.
+fn stops_at_long_line(alloc: Global) -> bool {
+    let Ok(mut text) = vec![in alloc; b'#'; 600_002] else {
+        return false;
+    };
+    text[300_000] = b'\n';
+    match source_of(alloc, &text, &[]) {
+        Ok(mut source) => stops(alloc, &mut source, 300_000, 1, 2),
+        Err(_) => false,
+    }
 }
 
 #[test]
-fn a_source_fails_at_the_listed_calls(rt: HostRuntime) -> Result<(), Fail> {
+fn refuses_a_line_that_is_too_long(rt: HostRuntime) {
+    assert!(rt; stops_at_long_line(rt.alloc()));
+}
+
+/// Whether it is so of one empty line more than an input may have.
+fn stops_at_last_line(alloc: Global) -> bool {
+    let Ok(text) = vec![in alloc; b'\n'; 1_048_577] else {
+        return false;
+    };
+    match source_of(alloc, &text, &[]) {
+        Ok(mut source) => stops(alloc, &mut source, 0, 1_048_576, 1_048_577),
+        Err(_) => false,
+    }
+}
+
+#[test]
+fn refuses_too_many_lines(rt: HostRuntime) {
+    assert!(rt; stops_at_last_line(rt.alloc()));
+}
+
+/// Whether the line `ab` comes of a source, and then its fault, twice.
+fn fails_behind_ab(alloc: Global, source: &mut MemorySource) -> bool {
+    let mut lines = Lines::new(alloc);
     let fault = Some(ReadFault::SourceFault);
-    assert_eq!(rt; line_and_faults(&rt)?, (true, [fault, fault]));
-    Ok(())
+    if !is_next(alloc, &mut lines, source, "ab") {
+        return false;
+    }
+    next_fault(alloc, &mut lines, source) == fault && next_fault(alloc, &mut lines, source) == fault
 }
 
-/// What three calls of a sink answer of which the second fails, and whether it holds the bytes of the others.
-fn puts(rt: &HostRuntime) -> Result<([Result<(), Failed>; 3], bool), Fail> {
-    let mut sink = MemorySink::new(rt.alloc(), Vec::from_slice(rt.alloc(), &[1])?);
-    let answers = [sink.put(b"ab"), sink.put(b"cd"), sink.put(b"ef")];
-    Ok((answers, sink.held() == b"abef".as_slice()))
+/// Whether it is so of a source whose second call fails.
+fn fails_at_second_call(alloc: Global) -> bool {
+    match source_of(alloc, b"ab\ncd", &[1]) {
+        Ok(mut source) => fails_behind_ab(alloc, &mut source),
+        Err(_) => false,
+    }
 }
 
 #[test]
-fn a_sink_fails_at_the_listed_calls(rt: HostRuntime) -> Result<(), Fail> {
-    assert_eq!(rt; puts(&rt)?, ([Ok(()), Err(Failed), Ok(())], true));
-    Ok(())
+fn a_source_fails_at_the_listed_calls(rt: HostRuntime) {
+    assert!(rt; fails_at_second_call(rt.alloc()));
+}
+
+/// Whether the second of three calls of a sink fails, and it holds the bytes of the others.
+fn holds_two(sink: &mut MemorySink) -> bool {
+    let done = [
+        sink.put(b"ab").is_ok(),
+        sink.put(b"cd").is_ok(),
+        sink.put(b"ef").is_ok(),
+    ];
+    done == [true, false, true] && sink.held() == b"abef".as_slice()
+}
+
+/// Whether it is so of a sink whose second call fails.
+fn refuses_second_call(alloc: Global) -> bool {
+    match Vec::from_slice(alloc, &[1]) {
+        Ok(failing) => holds_two(&mut MemorySink::new(alloc, failing)),
+        Err(_) => false,
+    }
+}
+
+#[test]
+fn a_sink_fails_at_the_listed_calls(rt: HostRuntime) {
+    assert!(rt; refuses_second_call(rt.alloc()));
 }

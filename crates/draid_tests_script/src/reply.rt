@@ -2,544 +2,665 @@ use draid_names::{Cause, Did, Entry, ObjectFault, SlotFault, WriteFault};
 use draid_reply::{AgentErrors, Reply, reply_text};
 use draid_script::{ArmArgument, CommandName};
 use draid_spec::SpecFault;
-use std::test::Fail;
-
-fn name_of(rt: &HostRuntime, name: &str) -> Result<String, Fail> {
-    Ok(String::from_str(rt.alloc(), name)?)
-}
+use std::alloc::{AllocError, Global};
 
 /// Whether a reply is printed so.
-fn is_printed(rt: &HostRuntime, reply: &Reply, want: &str) -> bool {
-    match reply_text(rt.alloc(), reply) {
+fn prints(alloc: Global, reply: Reply, want: &str) -> bool {
+    match reply_text(alloc, &reply) {
         Ok(text) => text.as_slice() == want.as_bytes(),
         Err(_) => false,
     }
 }
 
-#[test]
-fn prints_replies_of_objects(rt: HostRuntime) -> Result<(), Fail> {
-    let created = name_of(&rt, "draid2-0-0")?;
-    let imported = name_of(&rt, "draid2-0-0")?;
-    for (reply, want) in [
-        (
-            Reply::Created {
-                name: created,
-                stripes: 2,
-            },
+fn prints_created(alloc: Global) -> bool {
+    match String::from_str(alloc, "draid2-0-0") {
+        Ok(name) => prints(
+            alloc,
+            Reply::Created { name, stripes: 2 },
             "create draid2-0-0 stripes=2\n",
         ),
-        (
-            Reply::Imported {
-                name: imported,
+        Err(_) => false,
+    }
+}
+
+fn prints_imported(alloc: Global) -> bool {
+    match String::from_str(alloc, "draid2-0-0") {
+        Ok(name) => {
+            let reply = Reply::Imported {
+                name,
                 group: 2,
                 objects: 3,
-            },
-            "import draid2-0-0 group=2 objects=3\n",
-        ),
-        (Reply::Exported { group: 2 }, "export group=2\n"),
-        (
-            Reply::Worn {
-                command: CommandName::Export,
-            },
-            "export worn\n",
-        ),
-        (
-            Reply::Last {
-                command: CommandName::Sync,
-            },
-            "sync last\n",
-        ),
-        (Reply::Written { object: 2 }, "write 2 ok\n"),
-        (
-            Reply::NoSpace {
-                object: 2,
-                run: 3,
-                disabled: 4,
-                full: 5,
-                worn: 6,
-            },
-            "write 2 no space run=3 disabled=4 full=5 worn=6\n",
-        ),
-        (
+            };
+            prints(alloc, reply, "import draid2-0-0 group=2 objects=3\n")
+        }
+        Err(_) => false,
+    }
+}
+
+fn prints_exported(alloc: Global) -> bool {
+    prints(alloc, Reply::Exported { group: 2 }, "export group=2\n")
+        && prints(alloc, Reply::Crashed, "crash\n")
+}
+
+/// Replies that tell a command alone.
+fn prints_commands(alloc: Global) -> bool {
+    prints(
+        alloc,
+        Reply::Worn {
+            command: CommandName::Export,
+        },
+        "export worn\n",
+    ) && prints(
+        alloc,
+        Reply::Last {
+            command: CommandName::Sync,
+        },
+        "sync last\n",
+    ) && prints(
+        alloc,
+        Reply::NoPool {
+            command: CommandName::Read,
+        },
+        "read no pool\n",
+    ) && prints(
+        alloc,
+        Reply::PoolOpen {
+            command: CommandName::Create,
+        },
+        "create pool open\n",
+    ) && prints(
+        alloc,
+        Reply::NoMemory {
+            command: CommandName::Write,
+        },
+        "write no memory\n",
+    )
+}
+
+#[test]
+fn prints_replies_of_pools(rt: HostRuntime) {
+    assert!(rt; prints_created(rt.alloc()) && prints_imported(rt.alloc()));
+    assert!(rt; prints_exported(rt.alloc()) && prints_commands(rt.alloc()));
+}
+
+fn prints_no_space(alloc: Global) -> bool {
+    let reply = Reply::NoSpace {
+        object: 2,
+        run: 3,
+        disabled: 4,
+        full: 5,
+        worn: 6,
+    };
+    prints(
+        alloc,
+        reply,
+        "write 2 no space run=3 disabled=4 full=5 worn=6\n",
+    )
+}
+
+fn prints_writes(alloc: Global) -> bool {
+    prints(alloc, Reply::Written { object: 2 }, "write 2 ok\n")
+        && prints(
+            alloc,
             Reply::Missed {
                 object: 2,
                 columns: 3,
             },
             "write 2 missed columns=3\n",
-        ),
-        (Reply::WriteLast { object: 2 }, "write 2 last\n"),
-        (
+        )
+        && prints(alloc, Reply::WriteLast { object: 2 }, "write 2 last\n")
+        && prints(
+            alloc,
             Reply::Filled {
                 first: 2,
                 written: 3,
             },
             "fill 2 written=3\n",
-        ),
-        (Reply::NoObject { object: 2 }, "read 2 no object\n"),
-        (
-            Reply::Unreadable {
-                object: 2,
-                absent: 3,
-                tried: 4,
-            },
-            "read 2 unreadable absent=3 tried=4\n",
-        ),
-        (Reply::ReadWorn { object: 2 }, "read 2 worn\n"),
-        (Reply::Freed { object: 2 }, "free 2 ok\n"),
-        (Reply::FreeNoObject { object: 2 }, "free 2 no object\n"),
-        (Reply::Synced { group: 2, thin: 3 }, "sync group=2 thin=3\n"),
-        (Reply::OfflineDone { leaf: 2 }, "offline 2 ok\n"),
-        (Reply::OfflineRefused { leaf: 2 }, "offline 2 refused 1\n"),
-        (Reply::OfflineWorn { leaf: 2 }, "offline 2 worn\n"),
-        (Reply::OnlineDone { leaf: 2 }, "online 2 ok\n"),
-        (Reply::OnlineRefused { leaf: 2 }, "online 2 refused 1\n"),
-        (Reply::OnlineWorn { leaf: 2 }, "online 2 worn\n"),
-        (Reply::Damaged { leaf: 2, sector: 3 }, "damage 2 3 ok\n"),
-        (
-            Reply::DamageRefused { leaf: 2, sector: 3 },
-            "damage 2 3 refused 1\n",
-        ),
-        (
-            Reply::DamageFailed { leaf: 2, sector: 3 },
-            "damage 2 3 failed\n",
-        ),
-    ] {
-        assert!(rt; is_printed(&rt, &reply, want), "{want}");
-    }
-    Ok(())
+        )
+        && prints(
+            alloc,
+            Reply::Synced { group: 2, thin: 3 },
+            "sync group=2 thin=3\n",
+        )
+}
+
+fn prints_reads(alloc: Global) -> bool {
+    let unreadable = Reply::Unreadable {
+        object: 2,
+        absent: 3,
+        tried: 4,
+    };
+    prints(alloc, unreadable, "read 2 unreadable absent=3 tried=4\n")
+        && prints(alloc, Reply::NoObject { object: 2 }, "read 2 no object\n")
+        && prints(alloc, Reply::ReadWorn { object: 2 }, "read 2 worn\n")
+        && prints(alloc, Reply::Freed { object: 2 }, "free 2 ok\n")
+        && prints(
+            alloc,
+            Reply::FreeNoObject { object: 2 },
+            "free 2 no object\n",
+        )
 }
 
 #[test]
-fn prints_replies_of_arms(rt: HostRuntime) -> Result<(), Fail> {
-    let name = name_of(&rt, "draid2-0-0")?;
-    for (reply, want) in [
-        (
-            Reply::DamageWorn { leaf: 2, sector: 3 },
-            "damage 2 3 worn\n",
+fn prints_replies_of_objects(rt: HostRuntime) {
+    assert!(rt; prints_no_space(rt.alloc()) && prints_writes(rt.alloc()));
+    assert!(rt; prints_reads(rt.alloc()));
+}
+
+fn prints_leaves(alloc: Global) -> bool {
+    prints(alloc, Reply::OfflineDone { leaf: 2 }, "offline 2 ok\n")
+        && prints(
+            alloc,
+            Reply::OfflineRefused { leaf: 2 },
+            "offline 2 refused 1\n",
+        )
+        && prints(alloc, Reply::OfflineWorn { leaf: 2 }, "offline 2 worn\n")
+        && prints(alloc, Reply::OnlineDone { leaf: 2 }, "online 2 ok\n")
+        && prints(
+            alloc,
+            Reply::OnlineRefused { leaf: 2 },
+            "online 2 refused 1\n",
+        )
+        && prints(alloc, Reply::OnlineWorn { leaf: 2 }, "online 2 worn\n")
+}
+
+fn prints_damage(alloc: Global) -> bool {
+    prints(
+        alloc,
+        Reply::Damaged { leaf: 2, sector: 3 },
+        "damage 2 3 ok\n",
+    ) && prints(
+        alloc,
+        Reply::DamageRefused { leaf: 2, sector: 3 },
+        "damage 2 3 refused 1\n",
+    ) && prints(
+        alloc,
+        Reply::DamageFailed { leaf: 2, sector: 3 },
+        "damage 2 3 failed\n",
+    ) && prints(
+        alloc,
+        Reply::DamageWorn { leaf: 2, sector: 3 },
+        "damage 2 3 worn\n",
+    )
+}
+
+#[test]
+fn prints_replies_of_leaves(rt: HostRuntime) {
+    assert!(rt; prints_leaves(rt.alloc()) && prints_damage(rt.alloc()));
+}
+
+fn prints_spared(alloc: Global) -> bool {
+    match String::from_str(alloc, "draid2-0-0") {
+        Ok(name) => prints(
+            alloc,
+            Reply::Spared { slot: 2, name },
+            "spare 2 draid2-0-0 ok\n",
         ),
-        (Reply::Spared { slot: 2, name }, "spare 2 draid2-0-0 ok\n"),
-        (Reply::SpareWorn { slot: 2 }, "spare 2 worn\n"),
-        (
+        Err(_) => false,
+    }
+}
+
+fn prints_slots(alloc: Global) -> bool {
+    prints(alloc, Reply::SpareWorn { slot: 2 }, "spare 2 worn\n")
+        && prints(
+            alloc,
             Reply::Replaced { slot: 2, leaf: 3 },
             "replace 2 leaf=3 ok\n",
-        ),
-        (Reply::ReplaceWorn { slot: 2 }, "replace 2 worn\n"),
-        (Reply::RebuildNothing, "rebuild nothing\n"),
-        (
-            Reply::PassThere {
-                command: CommandName::Rebuild,
-                metaslab: 2,
-                number: 3,
-            },
-            "rebuild refused 6 metaslab=2 number=3\n",
-        ),
-        (Reply::RebalanceWorn { slot: 2 }, "rebalance 2 worn\n"),
-        (Reply::RebalanceLast { slot: 2 }, "rebalance 2 last\n"),
-        (Reply::Cancelled { passes: 2 }, "cancel 2\n"),
-        (Reply::Crashed, "crash\n"),
-        (Reply::LanesClash { object: 2 }, "lanes clash object=2\n"),
-        (Reply::LanesClashMend, "lanes clash mend\n"),
-        (
-            Reply::NoPool {
-                command: CommandName::Read,
-            },
-            "read no pool\n",
-        ),
-        (
-            Reply::PoolOpen {
-                command: CommandName::Create,
-            },
-            "create pool open\n",
-        ),
-        (
-            Reply::NoMemory {
-                command: CommandName::Write,
-            },
-            "write no memory\n",
-        ),
-        (
-            Reply::CreateRefused {
-                why: SpecFault::NotDraid,
-            },
-            "create refused 1\n",
-        ),
-        (
-            Reply::CreateRefused {
-                why: SpecFault::Parity,
-            },
-            "create refused 2\n",
-        ),
-        (
-            Reply::CreateRefused {
-                why: SpecFault::Number { at: 6 },
-            },
-            "create refused 3 at=6\n",
-        ),
-        (
-            Reply::CreateRefused {
-                why: SpecFault::Repeated { letter: b'd' },
-            },
-            "create refused 4 letter=d\n",
-        ),
-        (
-            Reply::CreateRefused {
-                why: SpecFault::Children {
-                    said: 11,
-                    given: 10,
-                },
-            },
-            "create refused 5 said=11 given=10\n",
-        ),
-        (
-            Reply::CreateRefused {
-                why: SpecFault::Width { need: 10, have: 8 },
-            },
-            "create refused 6 need=10 have=8\n",
-        ),
-    ] {
-        assert!(rt; is_printed(&rt, &reply, want), "{want}");
-    }
-    Ok(())
+        )
+        && prints(alloc, Reply::ReplaceWorn { slot: 2 }, "replace 2 worn\n")
+        && prints(
+            alloc,
+            Reply::RebalanceWorn { slot: 2 },
+            "rebalance 2 worn\n",
+        )
+        && prints(
+            alloc,
+            Reply::RebalanceLast { slot: 2 },
+            "rebalance 2 last\n",
+        )
+}
+
+/// A pass is in the way of a command, in metaslab 2, with number 3.
+fn prints_there(alloc: Global, command: CommandName, want: &str) -> bool {
+    prints(
+        alloc,
+        Reply::PassThere {
+            command,
+            metaslab: 2,
+            number: 3,
+        },
+        want,
+    )
+}
+
+fn prints_passes(alloc: Global) -> bool {
+    prints_there(
+        alloc,
+        CommandName::Rebuild,
+        "rebuild refused 6 metaslab=2 number=3\n",
+    ) && prints_there(
+        alloc,
+        CommandName::Agent,
+        "agent refused 6 metaslab=2 number=3\n",
+    ) && prints(alloc, Reply::RebuildNothing, "rebuild nothing\n")
+        && prints(alloc, Reply::Cancelled { passes: 2 }, "cancel 2\n")
 }
 
 #[test]
-fn prints_refusals(rt: HostRuntime) -> Result<(), Fail> {
-    for (reply, want) in [
-        (
-            Reply::CreateRefused {
-                why: SpecFault::Limit {
-                    which: b'h',
-                    value: 7,
-                },
-            },
-            "create refused 7 which=h value=7\n",
-        ),
-        (
-            Reply::FillRefused {
-                first: 1,
-                written: 4,
-                why: WriteFault::NoSpace {
-                    run: 1,
-                    disabled: 2,
-                    full: 3,
-                    worn: 4,
-                },
-            },
-            "fill 1 written=4 no space run=1 disabled=2 full=3 worn=4\n",
-        ),
-        (
-            Reply::FillRefused {
-                first: 1,
-                written: 4,
-                why: WriteFault::Missed { columns: 2 },
-            },
-            "fill 1 written=4 missed columns=2\n",
-        ),
-        (
-            Reply::FillRefused {
-                first: 1,
-                written: 4,
-                why: WriteFault::Last,
-            },
-            "fill 1 written=4 last\n",
-        ),
-        (
-            Reply::FillRefused {
-                first: 1,
-                written: 4,
-                why: WriteFault::NoMemory,
-            },
-            "fill 1 written=4 no memory\n",
-        ),
-        (
-            Reply::SumRefused {
-                object: 7,
-                why: ObjectFault::NoObject,
-            },
-            "sum 7 no object\n",
-        ),
-        (
-            Reply::SumRefused {
-                object: 7,
-                why: ObjectFault::Unreadable {
-                    absent: 1,
-                    tried: 2,
-                },
-            },
-            "sum 7 unreadable absent=1 tried=2\n",
-        ),
-        (
-            Reply::SumRefused {
-                object: 7,
-                why: ObjectFault::Worn,
-            },
-            "sum 7 worn\n",
-        ),
-        (
-            Reply::SpareRefused {
-                slot: 4,
-                why: SlotFault::NoSuch,
-            },
-            "spare 4 refused 1\n",
-        ),
-        (
-            Reply::ReplaceRefused {
-                slot: 4,
-                why: SlotFault::SpareBusy { by: 3 },
-            },
-            "replace 4 refused 2 by=3\n",
-        ),
-        (
-            Reply::SpareRefused {
-                slot: 4,
-                why: SlotFault::LogNotEmpty { groups: 8 },
-            },
-            "spare 4 refused 4 groups=8\n",
-        ),
-        (
-            Reply::ReplaceRefused {
-                slot: 4,
-                why: SlotFault::LastArm,
-            },
-            "replace 4 refused 5\n",
-        ),
-        (
-            Reply::RebalanceRefused {
-                slot: 4,
-                why: SlotFault::PassRunning {
-                    metaslab: 0,
-                    number: 1,
-                },
-            },
-            "rebalance 4 refused 6 metaslab=0 number=1\n",
-        ),
-        (
-            Reply::SpareRefused {
-                slot: 4,
-                why: SlotFault::TooSmall {
-                    need: 1536,
-                    have: 100,
-                },
-            },
-            "spare 4 refused 7 need=1536 have=100\n",
-        ),
-        (
-            Reply::ReplaceRefused {
-                slot: 4,
-                why: SlotFault::Full { arms: 3 },
-            },
-            "replace 4 refused 8 arms=3\n",
-        ),
-        (
-            Reply::RebalanceRefused {
-                slot: 4,
-                why: SlotFault::Last,
-            },
-            "rebalance 4 refused 9\n",
-        ),
-        (
-            Reply::DetachRefused {
-                arm: ArmArgument::Leaf { leaf: 3 },
-                why: SlotFault::LastArm,
-            },
-            "detach 3 refused 5\n",
-        ),
-        (
-            Reply::Detached {
-                arm: ArmArgument::Spare {
-                    parity: 2,
-                    spare: 0,
-                },
-                group: 9,
-            },
-            "detach draid2-0-0 ok group=9\n",
-        ),
-        (
-            Reply::DetachWorn {
-                arm: ArmArgument::Leaf { leaf: 3 },
-            },
-            "detach 3 worn\n",
-        ),
-        (
-            Reply::DetachLast {
-                arm: ArmArgument::Leaf { leaf: 3 },
-            },
-            "detach 3 last\n",
-        ),
-        (
-            Reply::Rebuilt {
-                from: 3,
-                stripes: 2,
-                errors: 0,
-                paused: false,
-            },
-            "rebuild from=3 stripes=2 errors=0 done\n",
-        ),
-        (
-            Reply::Scrubbed {
-                from: 0,
-                blocks: 1,
-                repaired: 2,
-                errors: 0,
-                paused: true,
-            },
-            "scrub from=0 blocks=1 repaired=2 errors=0 paused\n",
-        ),
-        (
-            Reply::Rebalanced {
-                slot: 0,
-                blocks: 1,
-                repaired: 1,
-                errors: 0,
-                group: Some(4),
-            },
-            "rebalance 0 blocks=1 repaired=1 errors=0 detached group=4\n",
-        ),
-        (
-            Reply::Rebalanced {
-                slot: 0,
-                blocks: 1,
-                repaired: 1,
-                errors: 2,
-                group: None,
-            },
-            "rebalance 0 blocks=1 repaired=1 errors=2 kept\n",
-        ),
-    ] {
-        assert!(rt; is_printed(&rt, &reply, want), "{want}");
-    }
-    Ok(())
+fn prints_replies_of_arms(rt: HostRuntime) {
+    assert!(rt; prints_spared(rt.alloc()) && prints_slots(rt.alloc()));
+    assert!(rt; prints_passes(rt.alloc()));
 }
 
-/// An entry of the agent's journal.
-fn entry(number: u64, slot: u32, cause: Cause, did: Did) -> Entry {
-    Entry {
-        number,
-        slot,
-        cause,
-        did,
+fn prints_lanes(alloc: Global) -> bool {
+    prints(
+        alloc,
+        Reply::LanesClash { object: 2 },
+        "lanes clash object=2\n",
+    ) && prints(alloc, Reply::LanesClashMend, "lanes clash mend\n")
+        && prints(alloc, Reply::LanesCheckpoint, "lanes checkpoint\n")
+}
+
+#[test]
+fn prints_replies_of_lanes(rt: HostRuntime) {
+    assert!(rt; prints_lanes(rt.alloc()));
+}
+
+/// Why a pool isn't created, and what is printed then.
+static SPECS: [(SpecFault, &str); 7] = [
+    (SpecFault::NotDraid, "create refused 1\n"),
+    (SpecFault::Parity, "create refused 2\n"),
+    (SpecFault::Number { at: 6 }, "create refused 3 at=6\n"),
+    (
+        SpecFault::Repeated { letter: b'd' },
+        "create refused 4 letter=d\n",
+    ),
+    (
+        SpecFault::Children {
+            said: 11,
+            given: 10,
+        },
+        "create refused 5 said=11 given=10\n",
+    ),
+    (
+        SpecFault::Width { need: 10, have: 8 },
+        "create refused 6 need=10 have=8\n",
+    ),
+    (
+        SpecFault::Limit {
+            which: b'h',
+            value: 7,
+        },
+        "create refused 7 which=h value=7\n",
+    ),
+];
+
+#[test]
+fn prints_refused_specs(rt: HostRuntime) {
+    for (why, want) in SPECS.iter() {
+        assert!(rt;
+            prints(rt.alloc(), Reply::CreateRefused { why: *why }, want),
+            "{want}"
+        );
     }
+}
+
+/// Why a `fill` stops, and what is printed then.
+static FILLS: [(WriteFault, &str); 4] = [
+    (
+        WriteFault::NoSpace {
+            run: 1,
+            disabled: 2,
+            full: 3,
+            worn: 4,
+        },
+        "fill 1 written=4 no space run=1 disabled=2 full=3 worn=4\n",
+    ),
+    (
+        WriteFault::Missed { columns: 2 },
+        "fill 1 written=4 missed columns=2\n",
+    ),
+    (WriteFault::Last, "fill 1 written=4 last\n"),
+    (WriteFault::NoMemory, "fill 1 written=4 no memory\n"),
+];
+
+fn prints_fill(alloc: Global, why: WriteFault, want: &str) -> bool {
+    prints(
+        alloc,
+        Reply::FillRefused {
+            first: 1,
+            written: 4,
+            why,
+        },
+        want,
+    )
+}
+
+#[test]
+fn prints_stopped_fills(rt: HostRuntime) {
+    for (why, want) in FILLS.iter() {
+        assert!(rt; prints_fill(rt.alloc(), *why, want), "{want}");
+    }
+}
+
+/// Why an object has no digest, and what is printed then.
+static SUMS: [(ObjectFault, &str); 3] = [
+    (ObjectFault::NoObject, "sum 7 no object\n"),
+    (
+        ObjectFault::Unreadable {
+            absent: 1,
+            tried: 2,
+        },
+        "sum 7 unreadable absent=1 tried=2\n",
+    ),
+    (ObjectFault::Worn, "sum 7 worn\n"),
+];
+
+#[test]
+fn prints_refused_sums(rt: HostRuntime) {
+    for (why, want) in SUMS.iter() {
+        assert!(rt;
+            prints(
+                rt.alloc(),
+                Reply::SumRefused {
+                    object: 7,
+                    why: *why
+                },
+                want
+            ),
+            "{want}"
+        );
+    }
+}
+
+/// Why a slot gets no spare, and what is printed then.
+static SPARES: [(SlotFault, &str); 3] = [
+    (SlotFault::NoSuch, "spare 4 refused 1\n"),
+    (
+        SlotFault::LogNotEmpty { groups: 8 },
+        "spare 4 refused 4 groups=8\n",
+    ),
+    (
+        SlotFault::TooSmall {
+            need: 1536,
+            have: 100,
+        },
+        "spare 4 refused 7 need=1536 have=100\n",
+    ),
+];
+
+#[test]
+fn prints_refused_spares(rt: HostRuntime) {
+    for (why, want) in SPARES.iter() {
+        assert!(rt;
+            prints(rt.alloc(), Reply::SpareRefused { slot: 4, why: *why }, want),
+            "{want}"
+        );
+    }
+}
+
+/// Why a slot gets no new leaf, and what is printed then.
+static REPLACES: [(SlotFault, &str); 3] = [
+    (SlotFault::SpareBusy { by: 3 }, "replace 4 refused 2 by=3\n"),
+    (SlotFault::LastArm, "replace 4 refused 5\n"),
+    (SlotFault::Full { arms: 3 }, "replace 4 refused 8 arms=3\n"),
+];
+
+#[test]
+fn prints_refused_replacements(rt: HostRuntime) {
+    for (why, want) in REPLACES.iter() {
+        assert!(rt;
+            prints(
+                rt.alloc(),
+                Reply::ReplaceRefused { slot: 4, why: *why },
+                want
+            ),
+            "{want}"
+        );
+    }
+}
+
+/// Why a slot stays as it is, and what is printed then.
+static REBALANCES: [(SlotFault, &str); 2] = [
+    (
+        SlotFault::PassRunning {
+            metaslab: 0,
+            number: 1,
+        },
+        "rebalance 4 refused 6 metaslab=0 number=1\n",
+    ),
+    (SlotFault::Last, "rebalance 4 refused 9\n"),
+];
+
+#[test]
+fn prints_refused_rebalances(rt: HostRuntime) {
+    for (why, want) in REBALANCES.iter() {
+        assert!(rt;
+            prints(
+                rt.alloc(),
+                Reply::RebalanceRefused { slot: 4, why: *why },
+                want
+            ),
+            "{want}"
+        );
+    }
+}
+
+fn prints_detached(alloc: Global) -> bool {
+    let arm = ArmArgument::Spare {
+        parity: 2,
+        spare: 0,
+    };
+    prints(
+        alloc,
+        Reply::Detached { arm, group: 9 },
+        "detach draid2-0-0 ok group=9\n",
+    )
+}
+
+/// The replies where leaf 3 stays in its slot.
+fn prints_kept(alloc: Global) -> bool {
+    let arm = ArmArgument::Leaf { leaf: 3 };
+    let why = SlotFault::LastArm;
+    prints(
+        alloc,
+        Reply::DetachRefused { arm, why },
+        "detach 3 refused 5\n",
+    ) && prints(alloc, Reply::DetachWorn { arm }, "detach 3 worn\n")
+        && prints(alloc, Reply::DetachLast { arm }, "detach 3 last\n")
+}
+
+#[test]
+fn prints_replies_of_detach(rt: HostRuntime) {
+    assert!(rt; prints_detached(rt.alloc()) && prints_kept(rt.alloc()));
+}
+
+fn prints_rebuilt(alloc: Global) -> bool {
+    let reply = Reply::Rebuilt {
+        from: 3,
+        stripes: 2,
+        errors: 0,
+        paused: false,
+    };
+    prints(alloc, reply, "rebuild from=3 stripes=2 errors=0 done\n")
+}
+
+fn prints_scrubbed(alloc: Global) -> bool {
+    let reply = Reply::Scrubbed {
+        from: 0,
+        blocks: 1,
+        repaired: 2,
+        errors: 0,
+        paused: true,
+    };
+    prints(
+        alloc,
+        reply,
+        "scrub from=0 blocks=1 repaired=2 errors=0 paused\n",
+    )
+}
+
+fn prints_rebalanced(alloc: Global, errors: u64, group: Option<u64>, want: &str) -> bool {
+    let reply = Reply::Rebalanced {
+        slot: 0,
+        blocks: 1,
+        repaired: 1,
+        errors,
+        group,
+    };
+    prints(alloc, reply, want)
+}
+
+#[test]
+fn prints_passes_that_were_made(rt: HostRuntime) {
+    let done = "rebalance 0 blocks=1 repaired=1 errors=0 detached group=4\n";
+    let kept = "rebalance 0 blocks=1 repaired=1 errors=2 kept\n";
+    assert!(rt; prints_rebuilt(rt.alloc()) && prints_scrubbed(rt.alloc()));
+    assert!(rt; prints_rebalanced(rt.alloc(), 0, Some(4), done));
+    assert!(rt; prints_rebalanced(rt.alloc(), 2, None, kept));
 }
 
 /// What the agent did: a spare for one slot, none for another.
-fn entries(rt: &HostRuntime) -> Result<Vec<Entry>, Fail> {
-    let entries = [
-        entry(1, 3, Cause::Offline, Did::Spared { spare: 0 }),
-        entry(2, 5, Cause::Logged { groups: 7 }, Did::NoneFree),
-    ];
-    Ok(Vec::from_slice(rt.alloc(), &entries)?)
-}
+static ENTRIES: [Entry; 2] = [
+    Entry {
+        number: 1,
+        slot: 3,
+        cause: Cause::Offline,
+        did: Did::Spared { spare: 0 },
+    },
+    Entry {
+        number: 2,
+        slot: 5,
+        cause: Cause::Logged { groups: 7 },
+        did: Did::NoneFree,
+    },
+];
 
-#[test]
-fn prints_replies_of_the_agent(rt: HostRuntime) -> Result<(), Fail> {
-    let first = entries(&rt)?;
-    let second = entries(&rt)?;
-    let third = entries(&rt)?;
-    let none = Vec::new(rt.alloc());
-    for (reply, want) in [
-        (Reply::AgentIdle, "agent idle\n"),
-        (
+/// Whether that is printed so, with these errors.
+fn prints_acted(alloc: Global, parity: u32, errors: Option<AgentErrors>, want: &str) -> bool {
+    match Vec::from_slice(alloc, &ENTRIES) {
+        Ok(entries) => prints(
+            alloc,
             Reply::Acted {
-                parity: 2,
-                entries: first,
-                errors: Some(AgentErrors {
-                    rebuild: 0,
-                    scrub: 1,
-                }),
+                parity,
+                entries,
+                errors,
             },
-            "agent 3=draid2-0-0 5=none rebuild errors=0 scrub errors=1\n",
+            want,
         ),
-        (
-            Reply::Acted {
-                parity: 1,
-                entries: second,
-                errors: None,
-            },
-            "agent 3=draid1-0-0 5=none\n",
-        ),
-        (
-            Reply::PassThere {
-                command: CommandName::Agent,
-                metaslab: 2,
-                number: 3,
-            },
-            "agent refused 6 metaslab=2 number=3\n",
-        ),
-        (
-            Reply::Journal {
-                parity: 2,
-                entries: third,
-            },
-            "agent 1 slot 3 offline spared draid2-0-0\nagent 2 slot 5 logged=7 none\nend\n",
-        ),
-        (
-            Reply::Journal {
-                parity: 2,
-                entries: none,
-            },
-            "end\n",
-        ),
-    ] {
-        assert!(rt; is_printed(&rt, &reply, want), "{want}");
+        Err(_) => false,
     }
-    Ok(())
 }
 
-#[test]
-fn prints_replies_of_checkpoints(rt: HostRuntime) -> Result<(), Fail> {
-    for (reply, want) in [
-        (Reply::Upgraded { group: 2 }, "upgrade version=2 group=2\n"),
-        (Reply::UpgradeAlready, "upgrade already\n"),
-        (Reply::Checkpointed { group: 2 }, "checkpoint group=2\n"),
-        (
-            Reply::CheckpointThere { group: 2 },
-            "checkpoint refused group=2\n",
-        ),
-        (
-            Reply::Rewound {
-                group: 4,
-                objects: 1,
-            },
-            "rewind group=4 objects=1\n",
-        ),
-        (
-            Reply::NoCheckpoint {
-                command: CommandName::Rewind,
-            },
-            "rewind none\n",
-        ),
-        (
-            Reply::Discarded { freed: 1, group: 3 },
-            "discard freed=1 group=3\n",
-        ),
-        (
-            Reply::Worn {
-                command: CommandName::Discard,
-            },
-            "discard worn\n",
-        ),
-        (Reply::LanesCheckpoint, "lanes checkpoint\n"),
-    ] {
-        assert!(rt; is_printed(&rt, &reply, want), "{want}");
+/// Whether these entries are listed so.
+fn lists(alloc: Global, entries: &[Entry], want: &str) -> bool {
+    match Vec::from_slice(alloc, entries) {
+        Ok(entries) => prints(alloc, Reply::Journal { parity: 2, entries }, want),
+        Err(_) => false,
     }
-    Ok(())
 }
 
 #[test]
-fn prints_bytes(rt: HostRuntime) -> Result<(), Fail> {
-    let bytes = Vec::from_slice(rt.alloc(), b"hello\xfa")?;
-    let reply = Reply::Contents { object: 7, bytes };
-    assert!(rt; is_printed(&rt, &reply, "read 7 6 68656c6c6ffa\n"));
-    Ok(())
+fn prints_replies_of_the_agent(rt: HostRuntime) {
+    let errors = Some(AgentErrors {
+        rebuild: 0,
+        scrub: 1,
+    });
+    let passes = "agent 3=draid2-0-0 5=none rebuild errors=0 scrub errors=1\n";
+    assert!(rt; prints(rt.alloc(), Reply::AgentIdle, "agent idle\n"));
+    assert!(rt; prints_acted(rt.alloc(), 2, errors, passes));
+    assert!(rt; prints_acted(rt.alloc(), 1, None, "agent 3=draid1-0-0 5=none\n"));
 }
 
 #[test]
-fn prints_digests(rt: HostRuntime) {
+fn prints_the_journal(rt: HostRuntime) {
+    let want = "agent 1 slot 3 offline spared draid2-0-0\nagent 2 slot 5 logged=7 none\nend\n";
+    assert!(rt; lists(rt.alloc(), &ENTRIES, want));
+    assert!(rt; lists(rt.alloc(), &[], "end\n"));
+}
+
+fn prints_upgrades(alloc: Global) -> bool {
+    prints(
+        alloc,
+        Reply::Upgraded { group: 2 },
+        "upgrade version=2 group=2\n",
+    ) && prints(alloc, Reply::UpgradeAlready, "upgrade already\n")
+}
+
+fn prints_checkpoints(alloc: Global) -> bool {
+    prints(
+        alloc,
+        Reply::Checkpointed { group: 2 },
+        "checkpoint group=2\n",
+    ) && prints(
+        alloc,
+        Reply::CheckpointThere { group: 2 },
+        "checkpoint refused group=2\n",
+    ) && prints(
+        alloc,
+        Reply::Rewound {
+            group: 4,
+            objects: 1,
+        },
+        "rewind group=4 objects=1\n",
+    ) && prints(
+        alloc,
+        Reply::Discarded { freed: 1, group: 3 },
+        "discard freed=1 group=3\n",
+    )
+}
+
+fn prints_no_checkpoint(alloc: Global) -> bool {
+    prints(
+        alloc,
+        Reply::NoCheckpoint {
+            command: CommandName::Rewind,
+        },
+        "rewind none\n",
+    ) && prints(
+        alloc,
+        Reply::Worn {
+            command: CommandName::Discard,
+        },
+        "discard worn\n",
+    )
+}
+
+#[test]
+fn prints_replies_of_checkpoints(rt: HostRuntime) {
+    assert!(rt; prints_upgrades(rt.alloc()) && prints_checkpoints(rt.alloc()));
+    assert!(rt; prints_no_checkpoint(rt.alloc()));
+}
+
+/// Whether six bytes of an object are printed as hexadecimal digits.
+fn prints_contents(alloc: Global) -> bool {
+    match Vec::from_slice(alloc, b"hello\xfa") {
+        Ok(bytes) => prints(
+            alloc,
+            Reply::Contents { object: 7, bytes },
+            "read 7 6 68656c6c6ffa\n",
+        ),
+        Err(_) => false,
+    }
+}
+
+#[test]
+fn prints_bytes(rt: HostRuntime) {
+    assert!(rt; prints_contents(rt.alloc()));
+}
+
+/// Whether a digest is.
+fn prints_digest(alloc: Global) -> bool {
     let reply = Reply::Summed {
         first: 7,
         count: 1,
         digest: [0xa1; 32],
     };
-    let wanted = "sum 7 1 a1a1a1a1a1a1a1a1a1a1a1a1a1a1a1a1a1a1a1a1a1a1a1a1a1a1a1a1a1a1a1a1\n";
-    assert!(rt; is_printed(&rt, &reply, wanted));
+    let want = "sum 7 1 a1a1a1a1a1a1a1a1a1a1a1a1a1a1a1a1a1a1a1a1a1a1a1a1a1a1a1a1a1a1a1a1\n";
+    prints(alloc, reply, want)
+}
+
+#[test]
+fn prints_digests(rt: HostRuntime) {
+    assert!(rt; prints_digest(rt.alloc()));
 }

@@ -1,23 +1,27 @@
 use draid_script::{ParseFault, parse_lane, parse_line};
+use std::alloc::{AllocError, Global};
 use std::fmt::Debug;
-use std::test::Fail;
 
 /// What was read, as a text.
-fn said<T: Debug + Drop>(rt: &HostRuntime, read: Result<T, ParseFault>) -> Result<String, Fail> {
-    let said = match read {
-        Ok(line) => format!(in rt.alloc(); "{line:?}")?,
-        Err(ParseFault::Line(fault)) => {
-            format!(in rt.alloc(); "kind {} at {}", fault.kind, fault.at)?
-        }
-        Err(ParseFault::NoMemory) => String::from_str(rt.alloc(), "no memory")?,
-    };
-    Ok(said)
+fn said<T: Debug + Drop>(alloc: Global, read: Result<T, ParseFault>) -> Result<String, AllocError> {
+    match read {
+        Ok(line) => format!(in alloc; "{line:?}"),
+        Err(ParseFault::Line(fault)) => format!(in alloc; "kind {} at {}", fault.kind, fault.at),
+        Err(ParseFault::NoMemory) => Err(AllocError),
+    }
+}
+
+/// Whether that text is this.
+fn is_said<T: Debug + Drop>(alloc: Global, read: Result<T, ParseFault>, want: &str) -> bool {
+    match said(alloc, read) {
+        Ok(said) => said.as_str() == want,
+        Err(_) => false,
+    }
 }
 
 /// Whether a line outside a section is read so.
-fn is_read(rt: &HostRuntime, text: &str, want: &str) -> Result<bool, Fail> {
-    let read = parse_line(rt.alloc(), text.as_bytes());
-    Ok(said(rt, read)?.as_str() == want)
+fn is_read(alloc: Global, text: &str, want: &str) -> bool {
+    is_said(alloc, parse_line(alloc, text.as_bytes()), want)
 }
 
 /// Lines outside a section, and what is read of them.
@@ -93,33 +97,37 @@ static LINES: [(&str, &str); 56] = [
 ];
 
 #[test]
-fn reads_lines(rt: HostRuntime) -> Result<(), Fail> {
+fn reads_lines(rt: HostRuntime) {
     for (text, want) in LINES.iter() {
-        assert!(rt; is_read(&rt, text, want)?, "{text}");
+        assert!(rt; is_read(rt.alloc(), text, want), "{text}");
     }
-    Ok(())
 }
 
 /// A `write` of so many bytes.
-fn writing(rt: &HostRuntime, bytes: u32) -> Result<String, Fail> {
-    let mut text = String::from_str(rt.alloc(), "write 7 ")?;
+fn writing(alloc: Global, bytes: u32) -> Result<String, AllocError> {
+    let mut text = String::from_str(alloc, "write 7 ")?;
     for _ in 0..bytes {
         text.push_str("0f")?;
     }
     Ok(text)
 }
 
+/// Whether a `write` of more bytes than a block has is refused.
+fn refuses_long_write(alloc: Global) -> bool {
+    match writing(alloc, 131_073) {
+        Ok(text) => is_read(alloc, text.as_str(), "kind 5 at 8"),
+        Err(_) => false,
+    }
+}
+
 #[test]
-fn refuses_too_many_bytes(rt: HostRuntime) -> Result<(), Fail> {
-    let text = writing(&rt, 131_073)?;
-    assert!(rt; is_read(&rt, text.as_str(), "kind 5 at 8")?);
-    Ok(())
+fn refuses_too_many_bytes(rt: HostRuntime) {
+    assert!(rt; refuses_long_write(rt.alloc()));
 }
 
 /// Whether a line of a section of four lanes is read so.
-fn is_read_in(rt: &HostRuntime, text: &str, want: &str) -> Result<bool, Fail> {
-    let read = parse_lane(rt.alloc(), text.as_bytes(), 4);
-    Ok(said(rt, read)?.as_str() == want)
+fn is_read_in(alloc: Global, text: &str, want: &str) -> bool {
+    is_said(alloc, parse_lane(alloc, text.as_bytes(), 4), want)
 }
 
 /// Lines of a section of four lanes, and what is read of them.
@@ -144,9 +152,8 @@ static SECTION_LINES: [(&str, &str); 17] = [
 ];
 
 #[test]
-fn reads_lines_of_sections(rt: HostRuntime) -> Result<(), Fail> {
+fn reads_lines_of_sections(rt: HostRuntime) {
     for (text, want) in SECTION_LINES.iter() {
-        assert!(rt; is_read_in(&rt, text, want)?, "{text}");
+        assert!(rt; is_read_in(rt.alloc(), text, want), "{text}");
     }
-    Ok(())
 }

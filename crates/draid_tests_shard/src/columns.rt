@@ -1,26 +1,15 @@
-ghost use Rattle.std.specs.Prelude.{IfOk};
 ghost use Rattle.draid_rack.specs.Memory.{shape_of_memory};
 ghost use Rattle.draid_rack.specs.Rack.{HasJust};
 
+use crate::devices::rack;
 use draid_columns::{Rows, flush_leaves, read_rows, write_rows};
-use draid_names::Failed;
 use draid_rack::MemoryRack;
 use std::alloc::Global;
-use std::test::Fail;
 
-/// A rack of two leaves of four sectors, whose calls with these numbers fail.
-fn rack(alloc: Global, failing: &[u64]) -> Result<MemoryRack, Fail>
-    ensures { IfOk result (λ rack. HasJust (shape_of_memory rack) 2 4 512) }
+/// Whether the writing of two rows and then their reading are done, and the first byte that was read of each row.
+fn rows(rack: &mut MemoryRack) -> ([bool; 2], [u8; 2])
+    requires { HasJust (shape_of_memory rack.old) 2 4 512 }
 {
-    let failing = Vec::from_slice(alloc, failing)?;
-    Ok(MemoryRack::new(alloc, 2, 4, 512, failing)?)
-}
-
-type Answer = Result<(), Failed>;
-
-/// What the writing and the reading of two rows answer, and the first byte that was read of each row.
-fn rows(alloc: Global, failing: &[u64]) -> Result<([Answer; 2], [u8; 2]), Fail> {
-    let mut rack = rack(alloc, failing)?;
     let rows = Rows {
         leaf: 1,
         first: 1,
@@ -28,41 +17,63 @@ fn rows(alloc: Global, failing: &[u64]) -> Result<([Answer; 2], [u8; 2]), Fail> 
         size: 512,
     };
     let mut bytes = [0; 1024];
-    let written = write_rows(&mut rack, rows, &[7; 1024]);
-    let read = read_rows(&mut rack, rows, &mut bytes);
-    Ok(([written, read], [bytes[0], bytes[512]]))
+    let written = write_rows(rack, rows, &[7; 1024]).is_ok();
+    let read = read_rows(rack, rows, &mut bytes).is_ok();
+    ([written, read], [bytes[0], bytes[512]])
 }
+
+/// Whether it is so over two leaves of four sectors, where the calls with these numbers fail.
+fn has_rows(alloc: Global, failing: &[u64], done: [bool; 2], bytes: [u8; 2]) -> bool {
+    match rack(alloc, 2, 4, 512, failing) {
+        Ok(mut rack) => rows(&mut rack) == (done, bytes),
+        Err(_) => false,
+    }
+}
+
+/// The call that fails, which of the two is done, and the bytes that are read.
+static ROWS: [(u64, [bool; 2], [u8; 2]); 4] = [
+    (0, [false, true], [0, 0]),
+    (1, [false, true], [7, 0]),
+    (2, [true, false], [0, 0]),
+    (3, [true, false], [7, 0]),
+];
 
 // Rows are tried one after another, up to the first that fails.
 #[test]
-fn rows_stop_where_a_call_fails(rt: HostRuntime) -> Result<(), Fail> {
-    let table: [(&[u64], [Answer; 2], [u8; 2]); 5] = [
-        (&[], [Ok(()), Ok(())], [7, 7]),
-        (&[0], [Err(Failed), Ok(())], [0, 0]),
-        (&[1], [Err(Failed), Ok(())], [7, 0]),
-        (&[2], [Ok(()), Err(Failed)], [0, 0]),
-        (&[3], [Ok(()), Err(Failed)], [7, 0]),
-    ];
-    for (failing, answers, bytes) in table {
-        assert_eq!(rt; rows(rt.alloc(), failing)?, (answers, bytes));
+fn rows_stop_where_a_call_fails(rt: HostRuntime) {
+    for (call, done, bytes) in ROWS.iter() {
+        assert!(rt; has_rows(rt.alloc(), &[*call], *done, *bytes), "{call}");
     }
-    Ok(())
-}
-
-/// The leaves of which a flush failed.
-fn flushed(alloc: Global, failing: &[u64]) -> Result<Vec<u64>, Fail> {
-    let mut rack = rack(alloc, failing)?;
-    let mut failed = Vec::with_capacity(alloc, 2)?;
-    flush_leaves(&mut rack, &[0, 1], &mut failed);
-    Ok(failed)
 }
 
 #[test]
-fn a_failed_flush_is_listed(rt: HostRuntime) -> Result<(), Fail> {
-    let table: [(&[u64], &[u64]); 3] = [(&[], &[]), (&[0], &[0]), (&[1], &[1])];
-    for (failing, wanted) in table {
-        let failed = flushed(rt.alloc(), failing)?;
-        assert_eq!(rt; failed.as_slice(), wanted);
+fn rows_are_written_and_read(rt: HostRuntime) {
+    assert!(rt; has_rows(rt.alloc(), &[], [true; 2], [7; 2]));
+}
+
+/// Whether a flush of both leaves lists just these as failed.
+fn lists(alloc: Global, rack: &mut MemoryRack, wanted: &[u64]) -> bool
+    requires { HasJust (shape_of_memory rack.old) 2 4 512 }
+{
+    match Vec::with_capacity(alloc, 2) {
+        Ok(mut failed) => {
+            flush_leaves(rack, &[0, 1], &mut failed);
+            failed.as_slice() == wanted
+        }
+        Err(_) => false,
     }
-    Ok(())
+}
+
+/// Whether those are listed whose flushes are to fail.
+fn lists_failed(alloc: Global, failing: &[u64]) -> bool {
+    match rack(alloc, 2, 4, 512, failing) {
+        Ok(mut rack) => lists(alloc, &mut rack, failing),
+        Err(_) => false,
+    }
+}
+
+#[test]
+fn a_failed_flush_is_listed(rt: HostRuntime) {
+    assert!(rt; lists_failed(rt.alloc(), &[]));
+    assert!(rt; lists_failed(rt.alloc(), &[0]) && lists_failed(rt.alloc(), &[1]));
 }

@@ -1,13 +1,20 @@
 //! Tests of a metaslab over its devices, and of the table, the history and the columns on which it stands. It offers
-//! nothing; a module is named after the crate, or the part of it, that it tests.
+//! nothing. A module is named after the crate, or the part of it, that it tests; `devices` makes the devices of a metaslab, and
+//! `trials` tries in an empty one what `shard` and `groups` have.
 
 #![tactic(auto)]
 
 #[cfg(test)]
 mod columns;
 #[cfg(test)]
+mod devices;
+#[cfg(test)]
 mod entries;
+#[cfg(test)]
+mod groups;
 #[cfg(test)]
 mod reopening;
 #[cfg(test)]
 mod shard;
+#[cfg(test)]
+mod trials;

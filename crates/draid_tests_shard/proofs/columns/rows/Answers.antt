@@ -12,6 +12,6 @@ has_rows shape just = record {
   low = omega arith;
 }
 
-pub read_rows-read-requires-clause-there : goal.read_rows-read-requires-clause-there
-read_rows-read-requires-clause-there c =
-    subst (λ shape. HasRows shape (record { leaf = 1; first = 1; count = 2; size = 512 })) (sym c.write_rows-written.ensures.shape) (has_rows _ c.in_ok-rack.ensures)
+pub read_rows-requires-clause-there : goal.read_rows-requires-clause-there
+read_rows-requires-clause-there c =
+    subst (λ shape. HasRows shape (record { leaf = 1; first = 1; count = 2; size = 512 })) (sym c.write_rows.ensures.shape) (has_rows _ c.requires)
