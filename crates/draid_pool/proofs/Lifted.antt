@@ -2,6 +2,7 @@
 use Rattle.std.proofs.Common.{◌≡◌, ◌∙◌, [], ℕ, List, Option, Some, None, arith, refl, sym, ap, subst, slice_index_or, slice_set}
 use Rattle.std.specs.Prelude.{nat_eq, slice_get}
 use Rattle.std.specs.HashMap.{get}
+use Rattle.std.specs.Vec.{with_item}
 use Rattle.std.proofs.lemmas.Option.{slice_get-get_or, slice_get_within}
 use Rattle.draid_names.specs.declared.pointer.Pointer.{Pointer}
 use Rattle.draid_rack.specs.declared.Rack as racks
@@ -29,6 +30,10 @@ use Rattle.draid_pool.proofs.Moved.{Turned, follows_one, pointer_on, same_blocks
 pub shard_at : {S : Type 0} (shards : List S) (m : ℕ) (some here : S) → slice_get shards m ≡ Some some → here ≡ slice_index_or shards m here → slice_get shards m ≡ Some here
 shard_at shards m some here there is = slice_get-get_or shards m here (slice_get_within shards m some there) ∙ ap Some (sym is)
 
+-- the pool with another shard at a place
+abbrev pub with_shard : {R A : Type 0} → Pool R A → ℕ → Shard R A → Pool R A
+with_shard pool m shard = record pool { shards = with_item pool.shards m shard }
+
 module _ {R A : Type 0} (rack : racks.Ghosts R) (area : areas.Ghosts A) where
   -- one shard of a pool is another, and the rest is as before
   pub record SetsShard (m : ℕ) (pool new : Pool R A) (shard shard' : Shard R A) : Type 0 where
@@ -39,6 +44,9 @@ module _ {R A : Type 0} (rack : racks.Ghosts R) (area : areas.Ghosts A) where
     pub seq : new.seq ≡ pool.seq
     pub floor : new.floor ≡ pool.floor
     pub uber : new.uber ≡ pool.uber
+
+  pub sets_shard : (pool : Pool R A) (m : ℕ) (shard shard' : Shard R A) → slice_get pool.shards.items m ≡ Some shard → SetsShard m pool (with_shard pool m shard') shard shard'
+  sets_shard pool m shard shard' there = record { there = there; sets = refl; geometry = refl; objects = refl; seq = refl; floor = refl; uber = refl }
 
   -- the metaslab of a shard
   pub record HasMetaslab (pool : Pool R A) (x : State) (s : Stands rack area pool (λ object. get nat_eq pool.objects object) x) (m : ℕ) (shard : Shard R A) : Type 0 where

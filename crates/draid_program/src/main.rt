@@ -5,10 +5,8 @@
 ghost use Rattle.std.specs.Prelude.{◌≤◌, length};
 ghost use Rattle.draid_choose.specs.Rooms.{Picks, most_rooms};
 
-mod adapters;
-
-use adapters::{Input, Output};
 use draid_choose::{Chooser, first_fit};
+use draid_files::{Input, Output};
 use draid_names::Room;
 use draid_run::{Status, run};
 use draid_shelf::{CrashRule, MemoryShelf};

@@ -1,8 +1,6 @@
 use Rattle.std.proofs.Common.{◌/◌, refl}
-use Rattle.std.specs.Vec.{with_item}
-use Rattle.draid_pool.specs.declared.pool.Pool.{Pool}
 use Rattle.draid_pool.proofs.DamageSteps.{damage_done, damage_none, damage_shard, sector_below}
-use Rattle.draid_pool.proofs.Lifted.{SetsShard}
+use Rattle.draid_pool.proofs.Lifted.{sets_shard, with_shard}
 use Rattle.draid_pool.proofs.Wholes.{Replaces, whole_kept, whole_valid}
 use Rattle.draid_pool.proofs.pool.Pool.damage.Goals as goal
 
@@ -37,11 +35,10 @@ returns g c =
     let after = c.damage_sector.new.shard in
     let there = damage_shard g.R.Rack g.A.Area old k c.from.result before c.requires.whole c.from.ensures c.if-metaslab-from.false c.index_mut.ensures.value in
     let e = c.damage_sector.ensures in
-    let new : Pool g.row.R.Denot g.row.A.Denot
-    = record { geometry = old.geometry; shards = with_item old.shards k after; uber = old.uber; objects = old.objects; seq = old.seq; floor = old.floor; alloc = old.alloc } in
+    let new = with_shard old k after in
     let r : Replaces g.R.Rack g.A.Area k old new before after
     = record { there = there; sets = refl; geometry = refl; uber = refl; valid = e.valid; part = e.part; committed = e.keeps.groups.committed } in
-    let set : SetsShard g.R.Rack g.A.Area k old new before after = record { there = there; sets = refl; geometry = refl; objects = refl; seq = refl; floor = refl; uber = refl } in
+    let set = sets_shard g.R.Rack g.A.Area old k before after there in
     record {
       whole = whole_kept g.R.Rack g.A.Area k old new before after c.requires.whole r e.keeps refl refl (λ q. refl);
       step = λ x is.

@@ -2,15 +2,13 @@ use Rattle.std.proofs.Common.{◌≡◌, ◌∙◌, Err, Some, ap, arith, refl, 
 use Rattle.std.specs.Prelude.{nat_eq}
 use Rattle.std.specs.HashMap.{get}
 use Rattle.std.proofs.lemmas.Option.{slice_get_within}
-use Rattle.std.specs.Vec.{with_item}
 use Rattle.draid_spec.specs.declared.layout.Geometry.{Geometry}
 use Rattle.draid_block.specs.Blocks.{cut_of}
 use Rattle.draid_block.specs.Solving.{IsFetched}
 use Rattle.draid_shard.specs.Calls.{FetchIsWorn}
 use Rattle.draid_shard.specs.declared.fault.FetchFault.TheVariants as fault
-use Rattle.draid_pool.specs.declared.pool.Pool.{Pool}
 use Rattle.draid_pool.proofs.FetchSteps.{fetch_done, fetch_none, fetch_starved, fetch_worn}
-use Rattle.draid_pool.proofs.Lifted.{SetsShard}
+use Rattle.draid_pool.proofs.Lifted.{sets_shard, with_shard}
 use Rattle.draid_pool.proofs.Wholes.{Replaces, whole_geometry, whole_kept, whole_shard, whole_valid}
 use Rattle.draid_pool.proofs.pool.Pool.fetch.Goals as goal
 
@@ -51,11 +49,10 @@ returns-in-Ok g c =
     let after = c.fetch.new.self in
     let at = whole_shard g.R.Rack g.A.Area old c.args.object c.in-Some.pointer before (w.objects c.args.object c.in-Some.pointer there) c.index_mut.ensures.value in
     let e = c.in-Ok.ensures in
-    let new : Pool g.row.R.Denot g.row.A.Denot
-    = record { geometry = old.geometry; shards = with_item old.shards m after; uber = old.uber; objects = old.objects; seq = old.seq; floor = old.floor; alloc = old.alloc } in
+    let new = with_shard old m after in
     let r : Replaces g.R.Rack g.A.Area m old new before after
     = record { there = at.0; sets = refl; geometry = refl; uber = refl; valid = e.valid; part = e.fetches.does.part; committed = e.fetches.keeps.groups.committed } in
-    let set : SetsShard g.R.Rack g.A.Area m old new before after = record { there = at.0; sets = refl; geometry = refl; objects = refl; seq = refl; floor = refl; uber = refl } in
+    let set = sets_shard g.R.Rack g.A.Area old m before after at.0 in
     record {
       whole = whole_kept g.R.Rack g.A.Area m old new before after w r e.fetches.keeps refl refl (λ q. refl);
       geometry = refl;
@@ -74,11 +71,10 @@ returns-in-Err-Worn g c =
     let at = whole_shard g.R.Rack g.A.Area old c.args.object c.in-Some.pointer before (w.objects c.args.object c.in-Some.pointer there) c.index_mut.ensures.value in
     let e = c.in-Err-Worn.ensures in
     let worn : FetchIsWorn before (fault.Worn c.in-Err-Worn.field-0-0) = subst (FetchIsWorn before) c.in-Err-Worn.field-0-is e.worn in
-    let new : Pool g.row.R.Denot g.row.A.Denot
-    = record { geometry = old.geometry; shards = with_item old.shards m after; uber = old.uber; objects = old.objects; seq = old.seq; floor = old.floor; alloc = old.alloc } in
+    let new = with_shard old m after in
     let r : Replaces g.R.Rack g.A.Area m old new before after
     = record { there = at.0; sets = refl; geometry = refl; uber = refl; valid = e.valid; part = e.none.none.part; committed = e.none.keeps.groups.committed } in
-    let set : SetsShard g.R.Rack g.A.Area m old new before after = record { there = at.0; sets = refl; geometry = refl; objects = refl; seq = refl; floor = refl; uber = refl } in
+    let set = sets_shard g.R.Rack g.A.Area old m before after at.0 in
     record {
       whole = whole_kept g.R.Rack g.A.Area m old new before after w r e.none.keeps refl refl (λ q. refl);
       geometry = refl;
@@ -96,11 +92,10 @@ returns-in-Err-NoMemory g c =
     let after = c.fetch.new.self in
     let at = whole_shard g.R.Rack g.A.Area old c.args.object c.in-Some.pointer before (w.objects c.args.object c.in-Some.pointer there) c.index_mut.ensures.value in
     let e = c.in-Err-NoMemory.ensures in
-    let new : Pool g.row.R.Denot g.row.A.Denot
-    = record { geometry = old.geometry; shards = with_item old.shards m after; uber = old.uber; objects = old.objects; seq = old.seq; floor = old.floor; alloc = old.alloc } in
+    let new = with_shard old m after in
     let r : Replaces g.R.Rack g.A.Area m old new before after
     = record { there = at.0; sets = refl; geometry = refl; uber = refl; valid = e.valid; part = e.none.none.part; committed = e.none.keeps.groups.committed } in
-    let set : SetsShard g.R.Rack g.A.Area m old new before after = record { there = at.0; sets = refl; geometry = refl; objects = refl; seq = refl; floor = refl; uber = refl } in
+    let set = sets_shard g.R.Rack g.A.Area old m before after at.0 in
     record {
       whole = whole_kept g.R.Rack g.A.Area m old new before after w r e.none.keeps refl refl (λ q. refl);
       geometry = refl;

@@ -12,8 +12,7 @@ use Rattle.draid_pool.proofs.pool.Pool.free.Goals as goal
 pub returns-in_default : goal.returns-in_default
 returns-in_default g c =
     let old = c.args.self.now in
-    let new : Pool g.row.R.Denot g.row.A.Denot
-    = record { geometry = old.geometry; shards = old.shards; uber = old.uber; objects = c.remove.new.self; seq = old.seq; floor = old.floor; alloc = old.alloc } in
+    let new : Pool g.row.R.Denot g.row.A.Denot = record old { objects = c.remove.new.self } in
     record {
       whole = whole_table g.R.Rack g.A.Area old new c.requires.whole refl refl refl refl refl
           (λ o q at. c.requires.whole.objects o q (removed (λ i. get nat_eq new.objects i) (λ i. get nat_eq old.objects i) c.args.object (λ i. c.remove.ensures.updates.0 i) o q at).0);
@@ -51,8 +50,7 @@ returns g c =
     let group = c.free_block-self.result in
     let at = whole_shard g.R.Rack g.A.Area old c.args.object p before (w.objects c.args.object p there) c.index_mut.ensures.value in
     let e = c.free_block-self.ensures in
-    let new : Pool g.row.R.Denot g.row.A.Denot
-    = record { geometry = old.geometry; shards = with_item old.shards p.metaslab after; uber = old.uber; objects = c.remove.new.self; seq = old.seq; floor = group; alloc = old.alloc } in
+    let new : Pool g.row.R.Denot g.row.A.Denot = record old { shards = with_item old.shards p.metaslab after; objects = c.remove.new.self; floor = group } in
     let r : Replaces g.R.Rack g.A.Area p.metaslab old new before after
     = record { there = at.0; sets = refl; geometry = refl; uber = refl; valid = e.valid; part = e.part; committed = e.sets.groups.committed } in
     record {

@@ -38,8 +38,7 @@ returns-in-Some g c =
     let group = c.free_block-self.result in
     let at = whole_shard g.R.Rack g.A.Area old c.args.object p before (w.objects c.args.object p there) c.index_mut.ensures.value in
     let e = c.free_block-self.ensures in
-    let new : Pool g.row.R.Denot g.row.A.Denot
-    = record { geometry = old.geometry; shards = with_item old.shards p.metaslab after; uber = old.uber; objects = c.insert.new.self; seq = old.seq; floor = group; alloc = old.alloc } in
+    let new : Pool g.row.R.Denot g.row.A.Denot = record old { shards = with_item old.shards p.metaslab after; objects = c.insert.new.self; floor = group } in
     let r : Replaces g.R.Rack g.A.Area p.metaslab old new before after
     = record { there = at.0; sets = refl; geometry = refl; uber = refl; valid = e.valid; part = e.part; committed = e.sets.groups.committed } in
     record {
@@ -53,8 +52,7 @@ returns-in-Some g c =
 pub returns-in_default-earlier : goal.returns-in_default-earlier
 returns-in_default-earlier g c =
     let old = c.args.self.now in
-    let new : Pool g.row.R.Denot g.row.A.Denot
-    = record { geometry = old.geometry; shards = old.shards; uber = old.uber; objects = c.insert.new.self; seq = old.seq; floor = old.floor; alloc = old.alloc } in
+    let new : Pool g.row.R.Denot g.row.A.Denot = record old { objects = c.insert.new.self } in
     record {
       whole = whole_table g.R.Rack g.A.Area old new c.requires.whole refl refl refl refl refl
           (pointers_with g.R.Rack g.A.Area old c.args.object c.args.pointer (λ i. get nat_eq new.objects i) c.requires.whole c.requires.newer (λ i. c.in-Ok.ensures.updates.0 i));

@@ -1,10 +1,8 @@
 use Rattle.std.proofs.Common.{◌≡◌, ◌∙◌, Some, true, arith, refl}
-use Rattle.std.specs.Vec.{with_item}
 use Rattle.std.proofs.lemmas.List.{length-set}
 use Rattle.draid_session.specs.Groups as groups
 use Rattle.draid_shard.specs.declared.shard.Shard.{Shard}
-use Rattle.draid_pool.specs.declared.pool.Pool.{Pool}
-use Rattle.draid_pool.proofs.Lifted.{SetsShard}
+use Rattle.draid_pool.proofs.Lifted.{sets_shard, with_shard}
 use Rattle.draid_pool.proofs.Rises.{areas_on, areas_set, areas_still, rose_set, rose_then}
 use Rattle.draid_pool.proofs.SyncSteps.{all_set, below_all, below_set, borrowed_at, came_none, seal_all_stops, seal_all_went, seal_more, whole_on}
 use Rattle.draid_pool.proofs.Wholes.{few_whole, whole_valid}
@@ -69,9 +67,8 @@ returns-in-Err-clause-whole g c =
     let many = i.many in
     let there = borrowed_at l.self.shards.items l.metaslab shard (omega (arith, below, len, vec, many)) c.index_mut.ensures.value in
     let after = c.seal_in.new.shard in
-    let new : Pool g.row.R.Denot g.row.A.Denot
-    = record { geometry = l.self.geometry; shards = with_item l.self.shards l.metaslab after; uber = l.self.uber; objects = l.self.objects; seq = l.self.seq; floor = l.self.floor; alloc = l.self.alloc } in
-    let set : SetsShard g.R.Rack g.A.Area l.metaslab l.self new shard after = record { there = there; sets = refl; geometry = refl; objects = refl; seq = refl; floor = refl; uber = refl } in
+    let new = with_shard l.self l.metaslab after in
+    let set = sets_shard g.R.Rack g.A.Area l.self l.metaslab shard after there in
     let e = c.seal_in.ensures in
     whole_on g.R.Rack g.A.Area l.metaslab l.self new shard after i.whole set e.valid e.table
 
@@ -86,9 +83,8 @@ returns-in-Err-clause-later g c =
     let many = i.many in
     let there = borrowed_at l.self.shards.items l.metaslab shard (omega (arith, below, len, vec, many)) c.index_mut.ensures.value in
     let after = c.seal_in.new.shard in
-    let new : Pool g.row.R.Denot g.row.A.Denot
-    = record { geometry = l.self.geometry; shards = with_item l.self.shards l.metaslab after; uber = l.self.uber; objects = l.self.objects; seq = l.self.seq; floor = l.self.floor; alloc = l.self.alloc } in
-    let set : SetsShard g.R.Rack g.A.Area l.metaslab l.self new shard after = record { there = there; sets = refl; geometry = refl; objects = refl; seq = refl; floor = refl; uber = refl } in
+    let new = with_shard l.self l.metaslab after in
+    let set = sets_shard g.R.Rack g.A.Area l.self l.metaslab shard after there in
     let e = c.seal_in.ensures in
     areas_on g.A.Area.faults c.args.self.now l.self new i.later (areas_set g.R.Rack g.A.Area l.metaslab l.self new shard after set e.later)
 
@@ -103,9 +99,8 @@ returns-in-Err-clause-carries g c = λ x is.
     let many = i.many in
     let there = borrowed_at l.self.shards.items l.metaslab shard (omega (arith, below, len, vec, many)) c.index_mut.ensures.value in
     let after = c.seal_in.new.shard in
-    let new : Pool g.row.R.Denot g.row.A.Denot
-    = record { geometry = l.self.geometry; shards = with_item l.self.shards l.metaslab after; uber = l.self.uber; objects = l.self.objects; seq = l.self.seq; floor = l.self.floor; alloc = l.self.alloc } in
-    let set : SetsShard g.R.Rack g.A.Area l.metaslab l.self new shard after = record { there = there; sets = refl; geometry = refl; objects = refl; seq = refl; floor = refl; uber = refl } in
+    let new = with_shard l.self l.metaslab after in
+    let set = sets_shard g.R.Rack g.A.Area l.self l.metaslab shard after there in
     let e = c.in-Err.ensures in
     let all = i.whole.many in
     seal_all_stops g.R.Rack g.A.Area c.args.group l.metaslab l.thin l.self new shard after x c.in-Err.fault (i.carries x is) set (omega (arith, below, len, vec, many, all)) e.seals
@@ -121,9 +116,8 @@ returns-in-Err-clause-cause g c = λ is.
     let many = i.many in
     let there = borrowed_at l.self.shards.items l.metaslab shard (omega (arith, below, len, vec, many)) c.index_mut.ensures.value in
     let after = c.seal_in.new.shard in
-    let new : Pool g.row.R.Denot g.row.A.Denot
-    = record { geometry = l.self.geometry; shards = with_item l.self.shards l.metaslab after; uber = l.self.uber; objects = l.self.objects; seq = l.self.seq; floor = l.self.floor; alloc = l.self.alloc } in
-    let set : SetsShard g.R.Rack g.A.Area l.metaslab l.self new shard after = record { there = there; sets = refl; geometry = refl; objects = refl; seq = refl; floor = refl; uber = refl } in
+    let new = with_shard l.self l.metaslab after in
+    let set = sets_shard g.R.Rack g.A.Area l.self l.metaslab shard after there in
     rose_then g.A.Area.faults c.args.self.now l.self new i.later (rose_set g.R.Rack g.A.Area l.metaslab l.self new shard after set (c.in-Err.ensures.cause is))
 
 pub overflow_add-thin : goal.overflow_add-thin
@@ -148,9 +142,8 @@ loop-metaslab-preserved g c =
     let many = i.many in
     let there = borrowed_at l.self.shards.items l.metaslab shard (omega (arith, below, len, vec, many)) c.index_mut.ensures.value in
     let after = c.seal_in.new.shard in
-    let new : Pool g.row.R.Denot g.row.A.Denot
-    = record { geometry = l.self.geometry; shards = with_item l.self.shards l.metaslab after; uber = l.self.uber; objects = l.self.objects; seq = l.self.seq; floor = l.self.floor; alloc = l.self.alloc } in
-    let set : SetsShard g.R.Rack g.A.Area l.metaslab l.self new shard after = record { there = there; sets = refl; geometry = refl; objects = refl; seq = refl; floor = refl; uber = refl } in
+    let new = with_shard l.self l.metaslab after in
+    let set = sets_shard g.R.Rack g.A.Area l.self l.metaslab shard after there in
     let e = c.in-Ok.ensures in
     let low = i.low in
     let own = e.low in

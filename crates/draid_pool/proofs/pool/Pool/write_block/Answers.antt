@@ -20,8 +20,7 @@ on_ok (Err e) P ok none = absurd (cc)
 pub returns-then-is_err : goal.returns-then-is_err
 returns-then-is_err g c =
     let old = c.args.self.now in
-    let new : Pool g.row.R.Denot g.row.A.Denot
-    = record { geometry = old.geometry; shards = old.shards; uber = old.uber; objects = c.reserve.new.self; seq = old.seq; floor = old.floor; alloc = old.alloc } in
+    let new : Pool g.row.R.Denot g.row.A.Denot = record old { objects = c.reserve.new.self } in
     record {
       whole = whole_table g.R.Rack g.A.Area old new c.requires.whole refl refl refl refl refl (λ o q at. c.requires.whole.objects o q (sym (c.reserve.ensures.entries.2 o) ∙ at));
       step = λ x is. record {
@@ -142,8 +141,7 @@ returns-in-Err-NoMemory g c =
     let shard = c.index_mut-shard.result.now in
     let at = borrowed g.R.Rack g.A.Area old.shards.items c.args.metaslab c.requires.room.shard shard c.requires.room.there c.index_mut-shard.ensures.value in
     let e = c.in-Err-NoMemory.ensures in
-    let new : Pool g.row.R.Denot g.row.A.Denot
-    = record { geometry = old.geometry; shards = with_item old.shards c.args.metaslab c.store.new.shard; uber = old.uber; objects = c.reserve.new.self; seq = old.seq; floor = old.floor; alloc = old.alloc } in
+    let new : Pool g.row.R.Denot g.row.A.Denot = record old { shards = with_item old.shards c.args.metaslab c.store.new.shard; objects = c.reserve.new.self } in
     let keeps : KeepsBlocks shard c.store.new.shard = subst (λ f. StoreSets shard c.store.new.shard c.args.object (old.seq + 1) old.floor (Err f)) c.in-Err-NoMemory.field-0-is e.sets in
     let r : Replaces g.R.Rack g.A.Area c.args.metaslab old new shard c.store.new.shard
     = record { there = at.0; sets = refl; geometry = refl; uber = refl; valid = e.valid; part = e.part; committed = keeps.groups.committed } in
