@@ -1,4 +1,5 @@
-ghost use Rattle.std.specs.Prelude.{◌<◌, ◌^◌, IfOk, OnOk, All, length};
+ghost use Rattle.std.specs.Prelude.{◌<◌, ◌^◌, All, List};
+ghost use Rattle.draid_machine.specs.declared.event.Event.{Event};
 ghost use Rattle.draid_replay.specs.Within.{IsSmallEvent};
 
 use draid_machine::{ArmName, Event, FewArms, FewLeaves, Key};
@@ -8,7 +9,7 @@ use draid_replay::{ReplayFault, new_world, replay};
 use draid_spec::{Props, SpecFault, geometry, parse_spec};
 use draid_world::{Site, World};
 use std::alloc::Global;
-use std::test::Fail;
+use std::marker::Model;
 
 /// The only metaslab of a pool of version 1 with this layout.
 pub fn site_of(spec: &[u8], children: u32) -> Result<Site, SpecFault> {
@@ -29,113 +30,62 @@ pub fn site_of(spec: &[u8], children: u32) -> Result<Site, SpecFault> {
     })
 }
 
-/// What becomes of a new metaslab of version 1 by these events, or the fault.
-pub fn world_after(alloc: Global, site: &Site, events: &[Event]) -> Result<World, ReplayFault>
-    requires small { All IsSmallEvent events.now }
-    requires few { length events.now < 2 ^ 32 }
-{
-    let Ok(world) = new_world(alloc, site, 1) else {
-        return Err(ReplayFault::NoMemory);
-    };
-    replay(alloc, site, world, events)
+/// Events one after another, whose numbers are in their ranges.
+#[derive(Drop)]
+pub struct History {
+    events: Vec<Event>,
 }
 
-/// The open group behind these events of a new metaslab, or the fault.
-fn open_group_after(alloc: Global, site: &Site, events: &[Event]) -> Result<u64, ReplayFault>
-    requires small { All IsSmallEvent events.now }
-    requires few { length events.now < 2 ^ 32 }
-{
-    let world = world_after(alloc, site, events)?;
-    Ok(world.open_group)
+impl Model for History {
+    ghost Value = { List Event };
+
+    ghost view = { λ h. h.events.items };
+
+    ghost invariant = { λ h. All IsSmallEvent h.events.items };
 }
 
-/// The answer to no event, to a commit alone, to a landing alone, and to a group that is closed, sealed and
-/// committed, with its seal and without.
-fn answer(alloc: Global, site: &Site, row: u32) -> Result<u64, ReplayFault> {
-    let close = Event::Close { group: 2 };
-    let commit = Event::Commit { group: 2 };
-    match row {
-        0 => open_group_after(alloc, site, &[]),
-        1 => open_group_after(alloc, site, &[commit]),
-        2 => open_group_after(alloc, site, &[landing(alloc)]),
-        3 => open_group_after(alloc, site, &[close, seal(alloc), commit]),
-        _ => open_group_after(alloc, site, &[close, commit]),
+impl History {
+    pub fn new(alloc: Global) -> History {
+        History {
+            events: Vec::new(alloc),
+        }
+    }
+
+    /// Adds events.
+    pub fn add<const N: usize>(&mut self, alloc: Global, events: [Event; N]) -> Result<(), NoMemory>
+        requires { All IsSmallEvent events }
+    {
+        let mut more = Vec::from_array(alloc, events)?;
+        self.events.append(&mut more)?;
+        Ok(())
+    }
+
+    /// What becomes of a new metaslab of version 1 by these events, or the fault.
+    pub fn replayed(&self, alloc: Global, site: &Site) -> Result<World, ReplayFault> {
+        if self.events.len() > 100 {
+            return Err(ReplayFault::NoMemory);
+        }
+        match new_world(alloc, site, 1) {
+            Ok(world) => replay(alloc, site, world, &self.events),
+            Err(_) => Err(ReplayFault::NoMemory),
+        }
+    }
+
+    /// The open group and the version then.
+    fn end(&self, alloc: Global, site: &Site) -> Result<(u64, u32), ReplayFault> {
+        match self.replayed(alloc, site) {
+            Ok(world) => Ok((world.open_group, world.version)),
+            Err(fault) => Err(fault),
+        }
     }
 }
 
-fn seal(alloc: Global) -> Event
-    ensures { IsSmallEvent result }
-{
-    Event::Seal {
-        group: 2,
-        failed: Vec::new(alloc),
-    }
-}
+const KEY: Key = Key { object: 7, seq: 1 };
 
-fn landing(alloc: Global) -> Event
-    ensures { IsSmallEvent result }
-{
-    Event::LandStripe {
-        pass: 1,
-        serial: 1,
-        failed: Vec::new(alloc),
-    }
-}
+const OTHER: Key = Key { object: 8, seq: 2 };
 
-/// Adds an event.
-pub fn add(events: &mut Vec<Event>, event: Event) -> Result<(), NoMemory>
-    requires small { IsSmallEvent event }
-    requires before { All IsSmallEvent events.old.items }
-    ensures behind { OnOk result (All IsSmallEvent events.new.items) }
-{
-    events.push(event)?;
-    Ok(())
-}
-
-/// The column of a block on stripe 0 lands on the leaf of its slot.
-pub fn put(site: &Site, key: Key, column: u32) -> Event
-    requires column { column < site.now.geometry.g }
-    ensures { IsSmallEvent result }
-{
-    let slot = site.slot_of(0, column);
-    Event::Put {
-        key,
-        landed: FewArms::one(ArmName::Leaf {
-            leaf: u64::from(slot),
-        }),
-        failed: FewLeaves::none(),
-    }
-}
-
-/// A group is closed and sealed, and committed if it shall.
-pub fn add_group(
-    alloc: Global,
-    events: &mut Vec<Event>,
-    group: u64,
-    commits: bool,
-) -> Result<(), NoMemory>
-    requires group { group < 2 ^ 48 }
-    requires before { All IsSmallEvent events.old.items }
-    ensures behind { OnOk result (All IsSmallEvent events.new.items) }
-{
-    add(events, Event::Close { group })?;
-    add(
-        events,
-        Event::Seal {
-            group,
-            failed: Vec::new(alloc),
-        },
-    )?;
-    if !commits {
-        return Ok(());
-    }
-    add(events, Event::Commit { group })
-}
-
-pub const KEY: Key = Key { object: 7, seq: 1 };
-
-/// A block is begun on stripe 0 in group 2.
-pub fn begin(key: Key, first: u64, birth: u64) -> Event
+/// A block of one stripe is begun.
+fn begin(key: Key, first: u64, birth: u64) -> Event
     requires first { first < 2 ^ 48 }
     requires birth { birth < 2 ^ 48 }
     ensures { IsSmallEvent result }
@@ -150,304 +100,441 @@ pub fn begin(key: Key, first: u64, birth: u64) -> Event
     }
 }
 
-/// A block is written, read, damaged and committed in group 2.
-fn add_write(alloc: Global, site: &Site, events: &mut Vec<Event>) -> Result<(), NoMemory>
-    requires before { All IsSmallEvent events.old.items }
-    ensures behind { OnOk result (All IsSmallEvent events.new.items) }
+/// A column of the block lands on the leaf of a slot.
+fn put(slot: u32) -> Event
+    ensures { IsSmallEvent result }
 {
-    add(events, begin(KEY, 0, 2))?;
-    for column in 0..site.geometry.g {
-        add(events, put(site, KEY, column))?;
+    Event::Put {
+        key: KEY,
+        landed: FewArms::one(ArmName::Leaf {
+            leaf: u64::from(slot),
+        }),
+        failed: FewLeaves::none(),
     }
-    add(events, Event::Finish { key: KEY })?;
-    add(
-        events,
-        Event::Fetch {
-            key: KEY,
-            failed: Vec::new(alloc),
-        },
-    )?;
-    add(
-        events,
-        Event::Damage {
-            leaf: 0,
-            sector: 0,
-            failed: false,
-        },
-    )?;
-    add_group(alloc, events, 2, true)
 }
 
-/// A disk goes offline, and a spare takes its place, is rebuilt behind group 3, and leaves again.
-fn add_rebuild(
-    alloc: Global,
-    site: &Site,
-    events: &mut Vec<Event>,
-    commits: bool,
-) -> Result<(), NoMemory>
-    requires columns { 0 < site.now.geometry.g }
-    requires before { All IsSmallEvent events.old.items }
-    ensures behind { OnOk result (All IsSmallEvent events.new.items) }
+/// A group is sealed.
+pub fn seal(alloc: Global, group: u64) -> Event
+    requires { group < 2 ^ 48 }
+    ensures { IsSmallEvent result }
 {
-    let slot = site.slot_of(0, 0);
-    let leaf = u64::from(slot);
-    let arm = ArmName::Spare { spare: 0 };
-    let kind = PassKind::Rebuild;
-    add(events, Event::Offline { leaf })?;
-    add(events, Event::Attach { slot, arm })?;
-    add(events, Event::Plan { kind })?;
-    add_group(alloc, events, 3, commits)?;
-    add(events, Event::Ready)?;
-    add_stripe(alloc, events, 1, 1)?;
-    add(events, Event::Detach { slot, arm })?;
-    add(events, Event::Online { leaf })
+    Event::Seal {
+        group,
+        failed: Vec::new(alloc),
+    }
+}
+
+/// A stripe or block is lent.
+pub fn lend(alloc: Global) -> Event
+    ensures { IsSmallEvent result }
+{
+    Event::Lend {
+        failed: Vec::new(alloc),
+    }
+}
+
+/// A stripe that was lent comes back in a pass.
+pub fn land_stripe(alloc: Global, pass: u64, serial: u64) -> Event
+    ensures { IsSmallEvent result }
+{
+    Event::LandStripe {
+        pass,
+        serial,
+        failed: Vec::new(alloc),
+    }
+}
+
+/// A pass ends.
+pub fn done(alloc: Global) -> Event
+    ensures { IsSmallEvent result }
+{
+    Event::Done {
+        failed: Vec::new(alloc),
+    }
+}
+
+/// The slots of the three columns of stripe 0.
+pub fn three_slots(site: &Site) -> Option<[u32; 3]> {
+    if site.geometry.g < 3 {
+        return None;
+    }
+    Some([site.slot_of(0, 0), site.slot_of(0, 1), site.slot_of(0, 2)])
+}
+
+/// A block is written in group 2.
+pub fn add_block(history: &mut History, alloc: Global, slots: [u32; 3]) -> Result<(), NoMemory> {
+    history.add(
+        alloc,
+        [
+            begin(KEY, 0, 2),
+            put(slots[0]),
+            put(slots[1]),
+            put(slots[2]),
+            Event::Finish { key: KEY },
+        ],
+    )
+}
+
+/// Group 2 is closed, sealed and committed.
+pub fn add_group(history: &mut History, alloc: Global) -> Result<(), NoMemory> {
+    history.add(
+        alloc,
+        [
+            Event::Close { group: 2 },
+            seal(alloc, 2),
+            Event::Commit { group: 2 },
+        ],
+    )
+}
+
+/// It is read, damaged and committed.
+fn add_looks(history: &mut History, alloc: Global) -> Result<(), NoMemory> {
+    history.add(
+        alloc,
+        [
+            Event::Fetch {
+                key: KEY,
+                failed: Vec::new(alloc),
+            },
+            Event::Damage {
+                leaf: 0,
+                sector: 0,
+                failed: false,
+            },
+            Event::Close { group: 2 },
+            seal(alloc, 2),
+            Event::Commit { group: 2 },
+        ],
+    )
+}
+
+/// A leaf goes offline, a spare takes its place, and group 3 is sealed.
+pub fn add_spare(history: &mut History, alloc: Global, slot: u32) -> Result<(), NoMemory> {
+    history.add(
+        alloc,
+        [
+            Event::Offline {
+                leaf: u64::from(slot),
+            },
+            Event::Attach {
+                slot,
+                arm: ArmName::Spare { spare: 0 },
+            },
+            Event::Plan {
+                kind: PassKind::Rebuild,
+            },
+            Event::Close { group: 3 },
+            seal(alloc, 3),
+        ],
+    )
+}
+
+/// The block's stripe is rebuilt behind an event, the spare leaves again, and the leaf is back.
+fn add_rebuild(
+    history: &mut History,
+    alloc: Global,
+    slot: u32,
+    before: Event,
+) -> Result<(), NoMemory>
+    requires { IsSmallEvent before }
+{
+    history.add(
+        alloc,
+        [
+            before,
+            Event::Ready,
+            lend(alloc),
+            land_stripe(alloc, 1, 1),
+            done(alloc),
+            Event::Detach {
+                slot,
+                arm: ArmName::Spare { spare: 0 },
+            },
+            Event::Online {
+                leaf: u64::from(slot),
+            },
+        ],
+    )
 }
 
 /// A scrub goes over the block.
-fn add_scrub(alloc: Global, events: &mut Vec<Event>) -> Result<(), NoMemory>
-    requires before { All IsSmallEvent events.old.items }
-    ensures behind { OnOk result (All IsSmallEvent events.new.items) }
-{
-    let kind = PassKind::Heal;
-    add(events, Event::Plan { kind })?;
-    let failed = Vec::new(alloc);
-    add(events, Event::Lend { failed })?;
-    add(
-        events,
-        Event::LandBlock {
-            pass: 2,
-            serial: 2,
-            failed: Vec::new(alloc),
-            patched: Vec::new(alloc),
-            unreadable: false,
-        },
-    )?;
-    let failed = Vec::new(alloc);
-    add(events, Event::Done { failed })
+fn add_scrub(history: &mut History, alloc: Global) -> Result<(), NoMemory> {
+    history.add(
+        alloc,
+        [
+            Event::Plan {
+                kind: PassKind::Heal,
+            },
+            lend(alloc),
+            Event::LandBlock {
+                pass: 2,
+                serial: 2,
+                failed: Vec::new(alloc),
+                patched: Vec::new(alloc),
+                unreadable: false,
+            },
+            done(alloc),
+        ],
+    )
 }
 
 /// The block is freed; a second write is given up, a second scrub is cancelled, and the metaslab is opened again from
 /// group 3.
-fn add_opening(alloc: Global, events: &mut Vec<Event>) -> Result<(), NoMemory>
-    requires before { All IsSmallEvent events.old.items }
-    ensures behind { OnOk result (All IsSmallEvent events.new.items) }
-{
-    let other = Key { object: 8, seq: 2 };
-    let kind = PassKind::Heal;
-    add(events, Event::Free { key: KEY, group: 4 })?;
-    add(events, begin(other, 1, 4))?;
-    add(events, Event::Abort { key: other })?;
-    add(events, Event::Plan { kind })?;
-    add(events, Event::Cancel)?;
-    add(
-        events,
-        Event::Reopen {
-            group: 3,
-            doubtful: Vec::new(alloc),
-        },
+fn add_opening(history: &mut History, alloc: Global) -> Result<(), NoMemory> {
+    history.add(
+        alloc,
+        [
+            Event::Free { key: KEY, group: 4 },
+            begin(OTHER, 1, 4),
+            Event::Abort { key: OTHER },
+            Event::Plan {
+                kind: PassKind::Heal,
+            },
+            Event::Cancel,
+            Event::Reopen {
+                group: 3,
+                doubtful: Vec::new(alloc),
+            },
+        ],
     )
 }
 
-/// A history with every kind of event; without the commit of group 3, if it shall.
-fn all_kinds(alloc: Global, site: &Site, commits: bool) -> Result<Vec<Event>, NoMemory>
-    requires columns { 0 < site.now.geometry.g }
-    ensures { IfOk result (λ events. All IsSmallEvent events.items) }
-{
-    let mut events = Vec::new(alloc);
-    add_write(alloc, site, &mut events)?;
-    add_rebuild(alloc, site, &mut events, commits)?;
-    add_scrub(alloc, &mut events)?;
-    add_opening(alloc, &mut events)?;
-    Ok(events)
-}
-
-/// The open group behind that history.
-fn open_group_behind_all(alloc: Global, site: &Site, commits: bool) -> Result<u64, ReplayFault> {
-    if site.geometry.g == 0 {
-        return Err(ReplayFault::NoMemory);
-    }
-    match all_kinds(alloc, site, commits) {
-        Ok(events) if events.len() < 100 => open_group_after(alloc, site, &events),
-        _ => Err(ReplayFault::NoMemory),
-    }
-}
-
-/// A rebuild is planned, and runs behind a group.
-fn add_ready(alloc: Global, events: &mut Vec<Event>, group: u64) -> Result<(), NoMemory>
-    requires group { group < 2 ^ 48 }
-    requires before { All IsSmallEvent events.old.items }
-    ensures behind { OnOk result (All IsSmallEvent events.new.items) }
-{
-    add(
-        events,
-        Event::Plan {
-            kind: PassKind::Rebuild,
-        },
-    )?;
-    add_group(alloc, events, group, true)?;
-    add(events, Event::Ready)
-}
-
-/// The block's stripe is lent, comes back in a pass, and this ends.
-fn add_stripe(
+/// A history with every kind of event; with this one in place of the commit of group 3.
+fn add_all_kinds(
+    history: &mut History,
     alloc: Global,
-    events: &mut Vec<Event>,
-    pass: u64,
-    serial: u64,
+    slots: [u32; 3],
+    third: Event,
 ) -> Result<(), NoMemory>
-    requires before { All IsSmallEvent events.old.items }
-    ensures behind { OnOk result (All IsSmallEvent events.new.items) }
+    requires { IsSmallEvent third }
 {
-    add(
-        events,
-        Event::Lend {
-            failed: Vec::new(alloc),
-        },
-    )?;
-    add(
-        events,
-        Event::LandStripe {
-            pass,
-            serial,
-            failed: Vec::new(alloc),
-        },
-    )?;
-    add(
-        events,
-        Event::Done {
-            failed: Vec::new(alloc),
-        },
+    add_block(history, alloc, slots)?;
+    add_looks(history, alloc)?;
+    add_spare(history, alloc, slots[0])?;
+    add_rebuild(history, alloc, slots[0], third)?;
+    add_scrub(history, alloc)?;
+    add_opening(history, alloc)
+}
+
+/// A spare is rebuilt behind group 3.
+fn add_first(history: &mut History, alloc: Global, slot: u32) -> Result<(), NoMemory> {
+    history.add(
+        alloc,
+        [
+            Event::Attach {
+                slot,
+                arm: ArmName::Spare { spare: 0 },
+            },
+            Event::Plan {
+                kind: PassKind::Rebuild,
+            },
+            Event::Close { group: 3 },
+            seal(alloc, 3),
+            Event::Commit { group: 3 },
+            Event::Ready,
+            lend(alloc),
+            land_stripe(alloc, 1, 1),
+            done(alloc),
+        ],
     )
 }
 
-/// Version 2 is asked for, a block is written, and a spare is rebuilt behind group 3.
-fn add_spare(alloc: Global, site: &Site, events: &mut Vec<Event>) -> Result<(), NoMemory>
-    requires columns { 0 < site.now.geometry.g }
-    requires before { All IsSmallEvent events.old.items }
-    ensures behind { OnOk result (All IsSmallEvent events.new.items) }
-{
-    let slot = site.slot_of(0, 0);
-    let arm = ArmName::Spare { spare: 0 };
-    add(events, Event::Upgrade)?;
-    add_write(alloc, site, events)?;
-    add(events, Event::Attach { slot, arm })?;
-    add_ready(alloc, events, 3)?;
-    add_stripe(alloc, events, 1, 1)
+/// A second spare takes the place of the leaf of this slot, on which the first one lies, so that this one moves; both are
+/// rebuilt, and the block's stripe is lent.
+fn add_second(history: &mut History, alloc: Global, slot: u32) -> Result<(), NoMemory> {
+    history.add(
+        alloc,
+        [
+            Event::Attach {
+                slot,
+                arm: ArmName::Spare { spare: 1 },
+            },
+            Event::Plan {
+                kind: PassKind::Rebuild,
+            },
+            Event::Close { group: 4 },
+            seal(alloc, 4),
+            Event::Commit { group: 4 },
+            Event::Ready,
+            lend(alloc),
+        ],
+    )
 }
 
-/// A second spare takes the place of the leaf on which the first one lies, so that this one moves. While both are
-/// rebuilt, with the block's stripe lent, a leaf joins: the rebuild begins again, and the stripe comes back in a pass.
-fn add_chain(alloc: Global, site: &Site, events: &mut Vec<Event>, pass: u64) -> Result<(), NoMemory>
-    requires columns { 1 < site.now.geometry.g }
-    requires before { All IsSmallEvent events.old.items }
-    ensures behind { OnOk result (All IsSmallEvent events.new.items) }
-{
-    let slot = site.home(&[], 0, 0);
-    let arm = ArmName::Spare { spare: 1 };
-    add(events, Event::Attach { slot, arm })?;
-    add_ready(alloc, events, 4)?;
-    add(
-        events,
-        Event::Lend {
-            failed: Vec::new(alloc),
-        },
-    )?;
-    let slot = site.slot_of(0, 1);
-    let arm = ArmName::Leaf { leaf: 9 };
-    add(events, Event::Attach { slot, arm })?;
-    add_group(alloc, events, 5, true)?;
-    add(events, Event::Ready)?;
-    add_stripe(alloc, events, pass, 3)
+/// Meanwhile a leaf joins this slot: the rebuild begins again, and the stripe comes back in a pass.
+fn add_leaf(history: &mut History, alloc: Global, slot: u32, pass: u64) -> Result<(), NoMemory> {
+    history.add(
+        alloc,
+        [
+            Event::Attach {
+                slot,
+                arm: ArmName::Leaf { leaf: 9 },
+            },
+            Event::Close { group: 5 },
+            seal(alloc, 5),
+            Event::Commit { group: 5 },
+            Event::Ready,
+            lend(alloc),
+            land_stripe(alloc, pass, 3),
+            done(alloc),
+        ],
+    )
 }
 
-/// A history of an upgrade, a chain of two spares, and a rebuild that begins again; its last stripe comes back in a pass.
-fn chain(alloc: Global, site: &Site, pass: u64) -> Result<Vec<Event>, NoMemory>
-    requires columns { 1 < site.now.geometry.g }
-    ensures { IfOk result (λ events. All IsSmallEvent events.items) }
-{
-    let mut events = Vec::new(alloc);
-    add_spare(alloc, site, &mut events)?;
-    add_chain(alloc, site, &mut events, pass)?;
-    Ok(events)
+/// A history of an upgrade, a chain of two spares of which the second stands at this slot, and a rebuild that begins
+/// again; its last stripe comes back in a pass.
+fn add_chain(
+    history: &mut History,
+    alloc: Global,
+    slots: [u32; 3],
+    home: u32,
+    pass: u64,
+) -> Result<(), NoMemory> {
+    history.add(alloc, [Event::Upgrade])?;
+    add_block(history, alloc, slots)?;
+    add_looks(history, alloc)?;
+    add_first(history, alloc, slots[0])?;
+    add_second(history, alloc, home)?;
+    add_leaf(history, alloc, slots[1], pass)
 }
 
-/// The open group and the version behind that history.
-fn chain_end(alloc: Global, site: &Site, pass: u64) -> Result<(u64, u32), ReplayFault> {
-    if site.geometry.g < 2 {
+/// The histories whose ends are looked at.
+#[derive(Clone, Copy)]
+enum Course {
+    AllKinds,
+    /// Without the commit of group 3, behind which a rebuild begins.
+    Uncommitted,
+    /// The last stripe comes back in this pass.
+    Chain { pass: u64 },
+}
+
+fn add_course(
+    history: &mut History,
+    alloc: Global,
+    site: &Site,
+    course: Course,
+) -> Result<(), NoMemory> {
+    let Some(slots) = three_slots(site) else {
+        return Err(NoMemory);
+    };
+    match course {
+        Course::AllKinds => add_all_kinds(history, alloc, slots, Event::Commit { group: 3 }),
+        Course::Uncommitted => add_all_kinds(history, alloc, slots, Event::Ready),
+        Course::Chain { pass } => { add_chain(history, alloc, slots, site.home(&[], 0, 0), pass) }
+    }
+}
+
+/// The open group and the version behind such a history of a metaslab.
+fn end_at(alloc: Global, site: &Site, course: Course) -> Result<(u64, u32), ReplayFault> {
+    let mut history = History::new(alloc);
+    match add_course(&mut history, alloc, site, course) {
+        Ok(()) => history.end(alloc, site),
+        Err(_) => Err(ReplayFault::NoMemory),
+    }
+}
+
+/// The same of the metaslab of such a pool.
+fn end_of(
+    alloc: Global,
+    spec: &[u8],
+    children: u32,
+    course: Course,
+) -> Result<(u64, u32), ReplayFault> {
+    match site_of(spec, children) {
+        Ok(site) => end_at(alloc, &site, course),
+        Err(_) => Err(ReplayFault::NoMemory),
+    }
+}
+
+static ENDS: [(Course, Result<(u64, u32), ReplayFault>); 2] = [
+    (Course::AllKinds, Ok((4, 1))),
+    (Course::Uncommitted, Err(ReplayFault::NotLegal { at: 15 })),
+];
+
+#[test]
+fn every_kind_of_event_is_done(rt: HostRuntime) {
+    for (course, end) in ENDS.iter() {
+        assert!(rt; end_of(rt.alloc(), b"draid1:2d:1s", 4, *course) == *end);
+    }
+}
+
+static CHAINS: [(Course, Result<(u64, u32), ReplayFault>); 2] = [
+    (Course::Chain { pass: 3 }, Ok((6, 2))),
+    (
+        Course::Chain { pass: 2 },
+        Err(ReplayFault::NotLegal { at: 33 }),
+    ),
+];
+
+#[test]
+fn an_attachment_begins_a_rebuild_again(rt: HostRuntime) {
+    for (course, end) in CHAINS.iter() {
+        assert!(rt; end_of(rt.alloc(), b"draid1:2d:2s", 5, *course) == *end);
+    }
+}
+
+/// No event, a commit alone, a landing alone, and a group that is closed, sealed and committed, with its seal and without.
+fn add_few(history: &mut History, alloc: Global, row: usize) -> Result<(), NoMemory> {
+    match row {
+        0 => Ok(()),
+        1 => history.add(alloc, [Event::Commit { group: 2 }]),
+        2 => history.add(alloc, [land_stripe(alloc, 1, 1)]),
+        3 => add_group(history, alloc),
+        _ => history.add(
+            alloc,
+            [Event::Close { group: 2 }, Event::Commit { group: 2 }],
+        ),
+    }
+}
+
+static FEW: [Result<(u64, u32), ReplayFault>; 5] = [
+    Ok((2, 1)),
+    Err(ReplayFault::NotLegal { at: 0 }),
+    Err(ReplayFault::NotLegal { at: 0 }),
+    Ok((3, 1)),
+    Err(ReplayFault::NotLegal { at: 1 }),
+];
+
+/// The open group and the version behind these.
+fn end_of_few(alloc: Global, row: usize) -> Result<(u64, u32), ReplayFault> {
+    let Ok(site) = site_of(b"draid1:2d", 3) else {
         return Err(ReplayFault::NoMemory);
-    }
-    match chain(alloc, site, pass) {
-        Ok(events) if events.len() < 100 => {
-            let world = world_after(alloc, site, &events)?;
-            Ok((world.open_group, world.version))
-        }
-        _ => Err(ReplayFault::NoMemory),
+    };
+    let mut history = History::new(alloc);
+    match add_few(&mut history, alloc, row) {
+        Ok(()) => history.end(alloc, &site),
+        Err(_) => Err(ReplayFault::NoMemory),
     }
 }
 
 #[test]
-fn every_kind_of_event_is_done(rt: HostRuntime) -> Result<(), Fail> {
-    let site = site_of(b"draid1:2d:1s", 4)?;
-    let illegal = Err(ReplayFault::NotLegal { at: 15 });
-    for (commits, wanted) in [(true, Ok(4)), (false, illegal)] {
-        assert_eq!(rt; open_group_behind_all(rt.alloc(), &site, commits), wanted);
+fn histories_go_to_their_first_illegal_event(rt: HostRuntime) {
+    for row in 0..FEW.len() {
+        assert!(rt; end_of_few(rt.alloc(), row) == FEW[row], "{row}");
     }
-    Ok(())
 }
 
-#[test]
-fn histories_go_to_their_first_illegal_event(rt: HostRuntime) -> Result<(), Fail> {
-    let site = site_of(b"draid1:2d", 3)?;
-    let not_legal = |at: u64| Err(ReplayFault::NotLegal { at });
-    for (row, wanted) in [
-        (0, Ok(2)),
-        (1, not_legal(0)),
-        (2, not_legal(0)),
-        (3, Ok(3)),
-        (4, not_legal(1)),
-    ] {
-        assert_eq!(rt; answer(rt.alloc(), &site, row), wanted);
-    }
-    Ok(())
-}
-
-#[test]
-fn an_attachment_begins_a_rebuild_again(rt: HostRuntime) -> Result<(), Fail> {
-    let site = site_of(b"draid1:2d:2s", 5)?;
-    let illegal = Err(ReplayFault::NotLegal { at: 33 });
-    for (pass, wanted) in [(3, Ok((6, 2))), (2, illegal)] {
-        assert_eq!(rt; chain_end(rt.alloc(), &site, pass), wanted);
-    }
-    Ok(())
-}
-
-/// Whether lists of arms have what they were made of, in its order.
-fn arms_keep_their_order() -> [bool; 3] {
+/// Whether a list of three arms has them in their order.
+fn arms_keep_their_order() -> bool {
     let arms = [
         ArmName::Leaf { leaf: 3 },
         ArmName::Spare { spare: 1 },
         ArmName::Leaf { leaf: 0 },
     ];
-    [
-        FewArms::of(&arms).as_slice() == arms.as_slice(),
-        FewArms::of(&arms[1..]).as_slice() == &arms[1..],
-        FewArms::none().as_slice().is_empty(),
-    ]
+    FewArms::of(&arms).as_slice() == arms.as_slice()
+        && FewArms::of(&arms[1..]).as_slice() == &arms[1..]
 }
 
 /// The same of lists of leaves.
-fn leaves_keep_their_order() -> [bool; 2] {
+fn leaves_keep_their_order() -> bool {
     let leaves = [3, 0, 3];
-    [
-        FewLeaves::of(&leaves).as_slice() == leaves.as_slice(),
-        FewLeaves::one(4).as_slice() == [4].as_slice(),
-    ]
+    FewLeaves::of(&leaves).as_slice() == leaves.as_slice()
+        && FewLeaves::one(4).as_slice() == [4].as_slice()
 }
 
 #[test]
 fn lists_of_a_put_keep_their_order(rt: HostRuntime) {
-    assert_eq!(rt;
-        (arms_keep_their_order(), leaves_keep_their_order()),
-        ([true; 3], [true; 2])
-    );
+    assert!(rt; arms_keep_their_order());
+    assert!(rt; FewArms::none().as_slice().is_empty());
+    assert!(rt; leaves_keep_their_order());
 }

@@ -1,17 +1,16 @@
-ghost use Rattle.std.specs.Prelude.{◌≡◌, ◌<◌, ◌^◌, All, IfOk, IsTrue, OnOk, length};
+ghost use Rattle.std.specs.Prelude.{IsTrue};
 ghost use Rattle.draid_rack.specs.Memory.{shape_of_memory};
 ghost use Rattle.draid_rack.specs.Rack.{Fits};
-ghost use Rattle.draid_replay.specs.Within.{IsSmallEvent};
 
-use crate::replay::{KEY, add, add_group, begin, put, site_of, world_after};
+use crate::replay::{
+    History, add_block, add_group, add_spare, done, land_stripe, lend, site_of, three_slots,
+};
 use draid_faults::CrashRule;
 use draid_machine::{ArmName, Event, Patched};
 use draid_names::{At, Failed, NoMemory, PassKind};
 use draid_rack::{MemoryRack, Rack};
-use draid_replay::ReplayFault;
 use draid_world::{Site, World};
 use std::alloc::Global;
-use std::test::Fail;
 
 // The one block of these histories lies on stripe 0, so each of its segments is the first sector of a leaf.
 
@@ -58,8 +57,8 @@ fn holds(world: &World, rack: &mut MemoryRack) -> bool {
 }
 
 /// Flushes the leaves from 0 on.
-fn flush_all(site: &Site, rack: &mut MemoryRack) -> Result<(), Failed> {
-    for leaf in 0..u64::from(site.geometry.spec.children) {
+fn flush_all(rack: &mut MemoryRack) -> Result<(), Failed> {
+    for leaf in 0..4 {
         if has_first(rack, leaf) {
             rack.flush(leaf)?;
         }
@@ -68,11 +67,11 @@ fn flush_all(site: &Site, rack: &mut MemoryRack) -> Result<(), Failed> {
 }
 
 /// The columns of the block are put, and its group is sealed.
-fn write_block(site: &Site, rack: &mut MemoryRack) -> Result<(), Failed> {
-    for column in 0..site.geometry.g {
-        write_first(rack, u64::from(site.slot_of(0, column)), &piece(column))?;
+fn write_block(rack: &mut MemoryRack, slots: [u32; 3]) -> Result<(), Failed> {
+    for column in 0..3 {
+        write_first(rack, u64::from(slots[column as usize]), &piece(column))?;
     }
-    flush_all(site, rack)
+    flush_all(rack)
 }
 
 /// The first sector of the leaf of a slot.
@@ -83,12 +82,9 @@ fn first_of(slot: u32) -> At {
     }
 }
 
-/// The first column is made from the second and third one, and lands on the spare.
-fn mend_first(site: &Site, rack: &mut MemoryRack) -> Result<(), Failed>
-    requires columns { 2 < site.now.geometry.g }
-{
-    let leaf = u64::from(site.home(&[], 0, 0));
-    let sources = [first_of(site.slot_of(0, 1)), first_of(site.slot_of(0, 2))];
+/// The first column is made from the second and third one, and lands on a leaf.
+fn mend_first(rack: &mut MemoryRack, leaf: u64, slots: [u32; 3]) -> Result<(), Failed> {
+    let sources = [first_of(slots[1]), first_of(slots[2])];
     if !has_first(rack, leaf) {
         return Err(Failed);
     }
@@ -122,63 +118,31 @@ fn settle_first(rack: &mut MemoryRack, leaf: u64) -> Result<(), Failed> {
 }
 
 /// The second column's leaf is damaged, and a whole landing puts it right.
-fn heal_second(site: &Site, rack: &mut MemoryRack) -> Result<(), Failed>
-    requires columns { 1 < site.now.geometry.g }
-{
-    let leaf = u64::from(site.slot_of(0, 1));
+fn heal_second(rack: &mut MemoryRack, leaf: u64) -> Result<(), Failed> {
     damage_first(rack, leaf)?;
     patch_first(rack, leaf, &piece(1))?;
     settle_first(rack, leaf)?;
-    flush_all(site, rack)
+    flush_all(rack)
 }
 
 /// The block is written, and committed in group 2.
-fn add_block(alloc: Global, site: &Site, events: &mut Vec<Event>) -> Result<(), NoMemory>
-    requires before { All IsSmallEvent events.old.items }
-    ensures behind { OnOk result (All IsSmallEvent events.new.items) }
-{
-    add(events, begin(KEY, 0, 2))?;
-    for column in 0..site.geometry.g {
-        add(events, put(site, KEY, column))?;
-    }
-    add(events, Event::Finish { key: KEY })?;
-    add_group(alloc, events, 2, true)
+fn add_committed(history: &mut History, alloc: Global, slots: [u32; 3]) -> Result<(), NoMemory> {
+    add_block(history, alloc, slots)?;
+    add_group(history, alloc)
 }
 
 /// The first column's leaf goes offline; a spare takes its place, and the block's stripe lands on it behind group 3.
-fn add_mended(alloc: Global, site: &Site, events: &mut Vec<Event>) -> Result<(), NoMemory>
-    requires columns { 0 < site.now.geometry.g }
-    requires before { All IsSmallEvent events.old.items }
-    ensures behind { OnOk result (All IsSmallEvent events.new.items) }
-{
-    let slot = site.slot_of(0, 0);
-    let leaf = u64::from(slot);
-    let arm = ArmName::Spare { spare: 0 };
-    let kind = PassKind::Rebuild;
-    add(events, Event::Offline { leaf })?;
-    add(events, Event::Attach { slot, arm })?;
-    add(events, Event::Plan { kind })?;
-    add_group(alloc, events, 3, true)?;
-    add(events, Event::Ready)?;
-    let failed = Vec::new(alloc);
-    add(events, Event::Lend { failed })?;
-    add(
-        events,
-        Event::LandStripe {
-            pass: 1,
-            serial: 1,
-            failed: Vec::new(alloc),
-        },
+fn add_mended(history: &mut History, alloc: Global, slot: u32) -> Result<(), NoMemory> {
+    add_spare(history, alloc, slot)?;
+    history.add(
+        alloc,
+        [
+            Event::Commit { group: 3 },
+            Event::Ready,
+            lend(alloc),
+            land_stripe(alloc, 1, 1),
+        ],
     )
-}
-
-/// The rebuild ends.
-fn add_done(alloc: Global, events: &mut Vec<Event>) -> Result<(), NoMemory>
-    requires before { All IsSmallEvent events.old.items }
-    ensures behind { OnOk result (All IsSmallEvent events.new.items) }
-{
-    let failed = Vec::new(alloc);
-    add(events, Event::Done { failed })
 }
 
 /// What a scrub rewrites of the second column, on its leaf.
@@ -193,160 +157,167 @@ fn patched(alloc: Global, leaf: u64) -> Result<Vec<Patched>, NoMemory> {
     Ok(patched)
 }
 
-/// The leaf is back, the second column's leaf is damaged, and a scrub puts it right.
-fn add_healed(alloc: Global, site: &Site, events: &mut Vec<Event>) -> Result<(), NoMemory>
-    requires columns { 1 < site.now.geometry.g }
-    requires before { All IsSmallEvent events.old.items }
-    ensures behind { OnOk result (All IsSmallEvent events.new.items) }
-{
-    let back = u64::from(site.slot_of(0, 0));
-    let leaf = u64::from(site.slot_of(0, 1));
-    let kind = PassKind::Heal;
-    let damage = Event::Damage {
-        leaf,
-        sector: 0,
-        failed: false,
-    };
-    add(events, Event::Online { leaf: back })?;
-    add(events, damage)?;
-    add(events, Event::Plan { kind })?;
-    let failed = Vec::new(alloc);
-    add(events, Event::Lend { failed })?;
-    let patched = patched(alloc, leaf)?;
-    add(
-        events,
-        Event::LandBlock {
-            pass: 2,
-            serial: 2,
-            failed: Vec::new(alloc),
-            patched,
-            unreadable: false,
-        },
+/// The first leaf is back, the second one is damaged, and a scrub writes this there.
+fn add_scrub(
+    history: &mut History,
+    alloc: Global,
+    slots: [u32; 3],
+    patched: Vec<Patched>,
+) -> Result<(), NoMemory> {
+    history.add(
+        alloc,
+        [
+            Event::Online {
+                leaf: u64::from(slots[0]),
+            },
+            Event::Damage {
+                leaf: u64::from(slots[1]),
+                sector: 0,
+                failed: false,
+            },
+            Event::Plan {
+                kind: PassKind::Heal,
+            },
+            lend(alloc),
+            Event::LandBlock {
+                pass: 2,
+                serial: 2,
+                failed: Vec::new(alloc),
+                patched,
+                unreadable: false,
+            },
+        ],
     )
 }
 
-/// The history up to a stage: the block is written, its stripe has landed on a spare, this pass has ended, a scrub has
-/// put the block right.
-fn history(alloc: Global, site: &Site, stage: u32) -> Result<Vec<Event>, NoMemory>
-    requires columns { 1 < site.now.geometry.g }
-    ensures { IfOk result (λ events. All IsSmallEvent events.items) }
-{
-    let mut events = Vec::new(alloc);
-    add_block(alloc, site, &mut events)?;
-    if stage == 0 {
-        return Ok(events);
+/// The scrub puts it right.
+fn add_scrubbed(history: &mut History, alloc: Global, slots: [u32; 3]) -> Result<(), NoMemory> {
+    match patched(alloc, u64::from(slots[1])) {
+        Ok(patched) => add_scrub(history, alloc, slots, patched),
+        Err(fault) => Err(fault),
     }
-    add_mended(alloc, site, &mut events)?;
-    if stage == 1 {
-        return Ok(events);
-    }
-    add_done(alloc, &mut events)?;
-    if stage == 2 {
-        return Ok(events);
-    }
-    add_healed(alloc, site, &mut events)?;
-    Ok(events)
 }
 
-/// What the calls of that history do to a rack.
-fn do_history(site: &Site, rack: &mut MemoryRack, stage: u32) -> Result<(), Failed>
-    requires columns { 2 < site.now.geometry.g }
-{
-    write_block(site, rack)?;
-    if stage == 0 {
-        return Ok(());
+/// A stage: the block is written, its stripe lands on a spare, this pass ends, a scrub puts the block right.
+fn add_stage(
+    history: &mut History,
+    alloc: Global,
+    slots: [u32; 3],
+    stage: u32,
+) -> Result<(), NoMemory> {
+    match stage {
+        0 => add_committed(history, alloc, slots),
+        1 => add_mended(history, alloc, slots[0]),
+        2 => history.add(alloc, [done(alloc)]),
+        _ => add_scrubbed(history, alloc, slots),
     }
-    mend_first(site, rack)?;
-    if stage == 1 {
-        return Ok(());
+}
+
+/// What the calls of a stage do to a rack.
+fn do_stage(site: &Site, rack: &mut MemoryRack, slots: [u32; 3], stage: u32) -> Result<(), Failed> {
+    match stage {
+        0 => write_block(rack, slots),
+        1 => mend_first(rack, u64::from(site.home(&[], 0, 0)), slots),
+        2 => flush_all(rack),
+        _ => heal_second(rack, u64::from(slots[1])),
     }
-    flush_all(site, rack)?;
-    if stage == 2 {
-        return Ok(());
-    }
-    heal_second(site, rack)
 }
 
 /// The metaslab is opened again from the group that is committed at a stage.
-fn reopen(alloc: Global, stage: u32) -> Event
-    ensures { IsSmallEvent result }
-{
-    Event::Reopen {
-        group: if stage == 0 { 2 } else { 3 },
-        doubtful: Vec::new(alloc),
-    }
-}
-
-/// What becomes of a new metaslab by a few events.
-fn world_by(alloc: Global, site: &Site, events: &Vec<Event>) -> Result<World, ReplayFault>
-    requires { All IsSmallEvent events.now.items }
-{
-    if events.len() > 100 {
-        return Err(ReplayFault::NoMemory);
-    }
-    world_after(alloc, site, events)
-}
-
-/// The states behind the history of a stage, and behind the opening of what it committed.
-fn worlds(alloc: Global, site: &Site, stage: u32) -> Result<(World, World), ReplayFault>
-    requires columns { 1 < site.now.geometry.g }
-{
-    let Ok(mut events) = history(alloc, site, stage) else {
-        return Err(ReplayFault::NoMemory);
-    };
-    let state = world_by(alloc, site, &events)?;
-    let Ok(()) = add(&mut events, reopen(alloc, stage)) else {
-        return Err(ReplayFault::NoMemory);
-    };
-    Ok((state, world_by(alloc, site, &events)?))
+fn add_opening(history: &mut History, alloc: Global, stage: u32) -> Result<(), NoMemory> {
+    let group = if stage == 0 { 2 } else { 3 };
+    history.add(
+        alloc,
+        [Event::Reopen {
+            group,
+            doubtful: Vec::new(alloc),
+        }],
+    )
 }
 
 /// A byte of the third column is changed.
-fn change_third(site: &Site, rack: &mut MemoryRack) -> Result<(), Failed>
-    requires columns { 2 < site.now.geometry.g }
-{
+fn change_third(rack: &mut MemoryRack, leaf: u64) -> Result<(), Failed> {
     let mut bytes = piece(2);
     bytes[0] = 0;
-    write_first(rack, u64::from(site.slot_of(0, 2)), &bytes)
+    write_first(rack, leaf, &bytes)
 }
 
-/// Whether the rack has what a state says behind that history; what its committed image says, opened again after a
-/// crash; and this still, once a byte of the third column is changed.
-fn verdicts(
+/// Whether a rack has what the state says that a history gives.
+fn agrees(alloc: Global, site: &Site, history: &History, rack: &mut MemoryRack) -> Option<bool> {
+    match history.replayed(alloc, site) {
+        Ok(world) => Some(holds(&world, rack)),
+        Err(_) => None,
+    }
+}
+
+/// Does the stages up to one, in the history and on the rack.
+fn do_all(
+    alloc: Global,
     site: &Site,
+    history: &mut History,
+    rack: &mut MemoryRack,
+    slots: [u32; 3],
+    last: u32,
+) -> bool {
+    for stage in 0..4 {
+        if stage <= last
+            && (add_stage(history, alloc, slots, stage).is_err()
+                || do_stage(site, rack, slots, stage).is_err())
+        {
+            return false;
+        }
+    }
+    true
+}
+
+/// Whether the rack has what the image says that is committed at a stage, opened again after a crash, and no more once a
+/// byte of the third column is changed.
+fn agrees_opened(
+    alloc: Global,
+    site: &Site,
+    history: &mut History,
+    rack: &mut MemoryRack,
+    third: u32,
+    stage: u32,
+) -> bool {
+    rack.crash(CrashRule::Torn);
+    add_opening(history, alloc, stage).is_ok()
+        && agrees(alloc, site, history, rack) == Some(true)
+        && change_third(rack, u64::from(third)).is_ok()
+        && agrees(alloc, site, history, rack) == Some(false)
+}
+
+/// Whether the rack has what the state says behind a stage, and this holds of its image.
+fn agrees_at(
+    alloc: Global,
+    site: &Site,
+    history: &mut History,
     rack: &mut MemoryRack,
     stage: u32,
-    state: &World,
-    image: &World,
-) -> Result<[bool; 3], Failed>
-    requires columns { 2 < site.now.geometry.g }
-{
-    do_history(site, rack, stage)?;
-    let before = holds(state, rack);
-    rack.crash(CrashRule::Torn);
-    let opened = holds(image, rack);
-    change_third(site, rack)?;
-    Ok([before, opened, holds(image, rack)])
+) -> bool {
+    let Some(slots) = three_slots(site) else {
+        return false;
+    };
+    do_all(alloc, site, history, rack, slots, stage)
+        && agrees(alloc, site, history, rack) == Some(true)
+        && agrees_opened(alloc, site, history, rack, slots[2], stage)
 }
 
-/// Those answers at a stage, where there is room.
-fn verdicts_at(alloc: Global, site: &Site, stage: u32) -> Option<[bool; 3]> {
-    if site.geometry.g < 3 {
-        return None;
+/// Whether this is so of a new rack.
+fn agree(alloc: Global, stage: u32) -> bool {
+    let Ok(site) = site_of(b"draid1:2d:1s", 4) else {
+        return false;
+    };
+    let mut history = History::new(alloc);
+    match MemoryRack::new(alloc, 4, 8, 512, Vec::new(alloc)) {
+        Ok(mut rack) => agrees_at(alloc, &site, &mut history, &mut rack, stage),
+        Err(_) => false,
     }
-    let (state, image) = worlds(alloc, site, stage).ok()?;
-    let mut rack = MemoryRack::new(alloc, 4, 8, 512, Vec::new(alloc)).ok()?;
-    verdicts(site, &mut rack, stage, &state, &image).ok()
 }
 
 #[test]
-fn racks_have_what_states_and_images_say(rt: HostRuntime) -> Result<(), Fail> {
-    let site = site_of(b"draid1:2d:1s", 4)?;
+fn racks_have_what_states_and_images_say(rt: HostRuntime) {
     for stage in 0..4 {
-        assert_eq!(rt;
-            verdicts_at(rt.alloc(), &site, stage),
-            Some([true, true, false])
-        );
+        assert!(rt; agree(rt.alloc(), stage), "{stage}");
     }
-    Ok(())
 }

@@ -1,16 +1,14 @@
-ghost use Rattle.std.specs.Prelude.{◌≡◌, ◌<◌, IfOk, map, [], ◌∷◌, false};
+ghost use Rattle.std.specs.Prelude.{◌≡◌, ◌<◌, ◌^◌, IfOk, map, [], ◌∷◌, false};
 ghost use Rattle.draid_slots.specs.Changes.{new_arm};
 ghost use Rattle.draid_slots.specs.Table.{arms_listed};
-ghost use Rattle.draid_map.specs.Place.{IsLayout};
-ghost use Rattle.draid_spec.specs.Geometry.{metaslab_sectors};
+ghost use Rattle.draid_spec.specs.Geometry.{IsGeometry, metaslab_sectors};
 
 use draid_dtl::Log;
 use draid_names::{Arm, ArmAt, ArmKind, At, NoMemory};
 use draid_perm::Perms;
-use draid_slots::{Moved, ReadArm, SlotFault, Slots};
-use draid_spec::{Geometry, Props, geometry, parse_spec};
+use draid_slots::{ReadArm, SlotFault, Slots};
+use draid_spec::{Geometry, Props, SpecFault, geometry, parse_spec};
 use std::alloc::Global;
-use std::test::Fail;
 
 const PROPS: Props = Props {
     sector: 512,
@@ -38,78 +36,72 @@ fn arm(kind: ArmKind, number: u64) -> Arm
     }
 }
 
-/// Attaches an arm in group 4, with room made for it.
-fn attach(
-    slots: &mut Slots,
-    alloc: Global,
-    slot: u32,
-    arm: Arm,
-) -> Result<Result<Moved, SlotFault>, NoMemory> {
-    slots.reserve(alloc, 2, 1)?;
-    Ok(slots.attach(slot, arm, 4))
-}
-
-/// Detaches an arm in group 5, with room made for it.
-fn detach(
-    slots: &mut Slots,
-    alloc: Global,
-    at: ArmAt,
-) -> Result<Result<Moved, SlotFault>, NoMemory> {
-    slots.reserve(alloc, 2, 1)?;
-    Ok(slots.detach(at, 5))
-}
-
-/// Whether an arm came or went, without the spares that moved.
-fn done(answer: Result<Moved, SlotFault>) -> Result<(), SlotFault> {
-    match answer {
-        Ok(_) => Ok(()),
-        Err(fault) => Err(fault),
-    }
-}
-
 /// The slots of a metaslab of such a pool.
-fn slots_of(alloc: Global, text: &[u8], children: u32) -> Result<Slots, Fail> {
-    let layout = geometry(parse_spec(text, children, 1)?, PROPS)?;
+fn slots_of(alloc: Global, text: &[u8], children: u32) -> Option<Slots> {
+    let layout = layout_of(text, children).ok()?;
     let perms = Perms::new(layout.spec.children, layout.props.seed);
-    Ok(Slots::new(alloc, layout, perms, 0)?)
+    Slots::new(alloc, layout, perms, 0).ok()
 }
 
-/// The answers to attachments, one after another: a spare, the spare again elsewhere, a leaf elsewhere, a
-/// leaf beside the spare, a fourth arm, and arms that aren't there.
-fn attached(slots: &mut Slots, alloc: Global) -> Result<[Result<(), SlotFault>; 7], NoMemory> {
-    Ok([
-        done(attach(slots, alloc, 1, arm(ArmKind::Spare, 0))?),
-        done(attach(slots, alloc, 2, arm(ArmKind::Spare, 0))?),
-        done(attach(slots, alloc, 2, arm(ArmKind::Leaf, 4))?),
-        done(attach(slots, alloc, 1, arm(ArmKind::Leaf, 5))?),
-        done(attach(slots, alloc, 1, arm(ArmKind::Leaf, 6))?),
-        done(attach(slots, alloc, 1, arm(ArmKind::Spare, 1))?),
-        done(attach(slots, alloc, 4, arm(ArmKind::Leaf, 6))?),
-    ])
-}
-
-/// The answers to detachments: of the only leaf, of no arm, of a spare, and of a leaf beside one whose log
-/// has four groups.
-fn detached(slots: &mut Slots, alloc: Global) -> Result<[Result<(), SlotFault>; 4], NoMemory> {
-    let only = done(detach(slots, alloc, at(0, 0))?);
-    let none = done(detach(slots, alloc, at(0, 1))?);
-    attach_some(slots, alloc, 1, ArmKind::Spare, 0)?;
-    let spare = done(detach(slots, alloc, at(1, 1))?);
-    attach_some(slots, alloc, 2, ArmKind::Leaf, 4)?;
-    let missed = done(detach(slots, alloc, at(2, 0))?);
-    Ok([only, none, spare, missed])
-}
-
-/// Attaches an arm, whatever is answered.
-fn attach_some(
+/// Attaches an arm in group 4, where there is memory for it.
+fn attach(
     slots: &mut Slots,
     alloc: Global,
     slot: u32,
     kind: ArmKind,
     number: u64,
-) -> Result<(), NoMemory> {
-    let _ = attach(slots, alloc, slot, arm(kind, number))?;
-    Ok(())
+) -> Result<bool, SlotFault> {
+    if slots.reserve(alloc, 2, 1).is_err() {
+        return Ok(false);
+    }
+    slots.attach(slot, arm(kind, number), 4)?;
+    Ok(true)
+}
+
+/// Detaches an arm in group 5, where there is memory for it.
+fn detach(slots: &mut Slots, alloc: Global, at: ArmAt) -> Result<bool, SlotFault> {
+    if slots.reserve(alloc, 2, 1).is_err() {
+        return Ok(false);
+    }
+    slots.detach(at, 5)?;
+    Ok(true)
+}
+
+/// Attachments, one after another, and their answers: a spare, the spare again elsewhere, a leaf elsewhere, a leaf
+/// beside the spare, a fourth arm, and arms that aren't there.
+static COMING: [(u32, ArmKind, u64, Result<bool, SlotFault>); 7] = [
+    (1, ArmKind::Spare, 0, Ok(true)),
+    (2, ArmKind::Spare, 0, Err(SlotFault::SpareBusy { by: 1 })),
+    (2, ArmKind::Leaf, 4, Ok(true)),
+    (1, ArmKind::Leaf, 5, Ok(true)),
+    (1, ArmKind::Leaf, 6, Err(SlotFault::Full { arms: 3 })),
+    (1, ArmKind::Spare, 1, Err(SlotFault::NoSuch)),
+    (4, ArmKind::Leaf, 6, Err(SlotFault::NoSuch)),
+];
+
+/// Whether these are answered.
+fn come(slots: &mut Slots, alloc: Global) -> bool {
+    for (slot, kind, number, answer) in COMING.iter() {
+        if attach(slots, alloc, *slot, *kind, *number) != *answer {
+            return false;
+        }
+    }
+    true
+}
+
+/// Whether the only leaf stays, no arm goes, and a spare does.
+fn go(slots: &mut Slots, alloc: Global) -> bool {
+    detach(slots, alloc, at(0, 0)) == Err(SlotFault::LastArm)
+        && detach(slots, alloc, at(0, 1)) == Err(SlotFault::NoSuch)
+        && attach(slots, alloc, 1, ArmKind::Spare, 0) == Ok(true)
+        && detach(slots, alloc, at(1, 1)) == Ok(true)
+}
+
+/// Whether a leaf stays beside one whose log has four groups.
+fn is_missed(slots: &mut Slots, alloc: Global) -> bool {
+    let wanted = Err(SlotFault::LogNotEmpty { groups: 4 });
+    attach(slots, alloc, 2, ArmKind::Leaf, 4) == Ok(true)
+        && detach(slots, alloc, at(2, 0)) == wanted
 }
 
 /// The slots at the first and the last position of the first slice of such a pool.
@@ -121,102 +113,187 @@ fn ends(children: u32) -> [u32; 2] {
     [perms.child(0, 0), perms.child(0, children - 1)]
 }
 
-/// Which of two spares move where the slot that keeps the first one's sectors gets the second.
-fn chained(
-    slots: &mut Slots,
-    alloc: Global,
-    spared: u32,
-    keeper: u32,
-) -> Result<Option<[bool; 2]>, NoMemory> {
-    attach_some(slots, alloc, spared, ArmKind::Spare, 0)?;
-    Ok(
-        match attach(slots, alloc, keeper, arm(ArmKind::Spare, 1))? {
-            Ok(moved) => Some([moved.has(0), moved.has(1)]),
-            Err(_) => None,
-        },
-    )
+/// Whether spare 0 moves alone where this slot gets spare 1.
+fn moves_alone(slots: &mut Slots, alloc: Global, slot: u32) -> bool {
+    if slots.reserve(alloc, 2, 1).is_err() {
+        return false;
+    }
+    match slots.attach(slot, arm(ArmKind::Spare, 1), 4) {
+        Ok(moved) => moved.has(0) && !moved.has(1),
+        Err(_) => false,
+    }
 }
 
-/// Whether a leaf that leaves was online as it was detached, for a leaf that was and for one that wasn't; and where a
-/// leaf and one that isn't there are found.
-fn left(
-    slots: &mut Slots,
-    alloc: Global,
-    offline: bool,
-) -> Result<(bool, [Option<ArmAt>; 2]), NoMemory> {
-    attach_some(slots, alloc, 1, ArmKind::Leaf, 4)?;
+/// Whether the first of two spares moves alone where the slot that keeps its sectors gets the second.
+fn moves_on(slots: &mut Slots, alloc: Global) -> bool {
+    let [spared, keeper] = ends(slots.children());
+    attach(slots, alloc, spared, ArmKind::Spare, 0) == Ok(true) && moves_alone(slots, alloc, keeper)
+}
+
+/// Whether a leaf is found, and a spare that isn't there is not.
+fn is_found(slots: &Slots) -> bool {
+    slots.find(ArmKind::Leaf, 4) == Some(at(1, 1)) && slots.find(ArmKind::Spare, 0).is_none()
+}
+
+/// Whether a leaf leaves as it was when it was detached, offline or not.
+fn leaves(slots: &mut Slots, alloc: Global, offline: bool) -> bool {
+    if attach(slots, alloc, 1, ArmKind::Leaf, 4) != Ok(true) {
+        return false;
+    }
     slots.set_offline(4, offline);
-    let found = slots.find(ArmKind::Leaf, 4);
-    let _ = detach(slots, alloc, at(1, 1))?;
-    Ok((
-        slots.leaving_online(4),
-        [found, slots.find(ArmKind::Spare, 0)],
-    ))
+    is_found(slots)
+        && detach(slots, alloc, at(1, 1)) == Ok(true)
+        && slots.leaving_online(4) != offline
 }
 
-/// Whether the spare is busy before the commit of its detachment and behind it, and whether a leaf is
-/// leaving.
-fn committed(slots: &mut Slots, alloc: Global) -> Result<([Option<u32>; 4], bool), NoMemory> {
-    let idle = slots.busy(0);
-    attach_some(slots, alloc, 1, ArmKind::Spare, 0)?;
-    let arm = slots.busy(0);
-    let _ = detach(slots, alloc, at(1, 1))?;
+/// Whether a spare becomes busy as it comes, and is so still as it goes.
+fn is_busy(slots: &mut Slots, alloc: Global) -> bool {
+    slots.busy(0).is_none()
+        && attach(slots, alloc, 1, ArmKind::Spare, 0) == Ok(true)
+        && slots.busy(0) == Some(1)
+        && detach(slots, alloc, at(1, 1)) == Ok(true)
+}
+
+/// Whether it is busy before the commit of its detachment and not behind it, and no leaf is leaving.
+fn is_let_go(slots: &mut Slots) -> bool {
     slots.commit(4);
     let leaving = slots.busy(0);
     slots.commit(5);
-    Ok(([idle, arm, leaving, slots.busy(0)], slots.leaving(0)))
+    leaving == Some(1) && slots.busy(0).is_none() && !slots.leaving(0)
 }
 
-/// The reading arms of slot 1 for a block born in group 3, with a second leaf there: as it comes, with the
-/// first leaf dirty, with the second leaf's log taken away, with that leaf offline, and with both.
-fn read(slots: &mut Slots, alloc: Global) -> Result<Option<[Option<ReadArm>; 5]>, NoMemory> {
-    attach_some(slots, alloc, 1, ArmKind::Leaf, 4)?;
-    slots.reserve(alloc, 2, 1)?;
-    if slots.children() < 2 || slots.arms(1).len() < 2 {
-        return Ok(None);
+/// The arm from which slot 1 is read for a block born in group 3.
+fn read(slots: &Slots) -> Option<ReadArm> {
+    if slots.children() < 2 {
+        return None;
     }
-    let first = slots.reading_arm(1, 0, 3);
+    slots.reading_arm(1, 0, 3)
+}
+
+/// Whether it is this one.
+fn reads(slots: &Slots, arm: u32, clean: bool) -> bool {
+    read(slots) == Some(ReadArm { arm, clean })
+}
+
+/// Adds a group to the log of slot 1's first leaf.
+fn dirty_first(slots: &mut Slots, alloc: Global) -> bool {
+    if slots.reserve(alloc, 2, 1).is_err() || slots.children() < 2 || slots.arms(1).is_empty() {
+        return false;
+    }
     slots.dirty(at(1, 0), 3);
-    let doubtful = slots.reading_arm(1, 0, 3);
-    slots.excise(at(1, 1), 3);
-    let second = slots.reading_arm(1, 0, 3);
-    slots.set_offline(4, true);
-    let offline = slots.reading_arm(1, 0, 3);
-    slots.set_offline(1, true);
-    Ok(Some([first, doubtful, second, offline, slots.reading_arm(1, 0, 3)]))
+    true
 }
 
-/// The counts of the log of slot 1's leaf as it comes, filled up to group 4, without the groups up to 1, and
-/// with another leaf's log in its place; and whether the leaf is fresh once that was set.
-fn logged(slots: &mut Slots, alloc: Global) -> Result<Option<([u64; 4], bool)>, NoMemory> {
-    slots.reserve(alloc, 2, 1)?;
-    if slots.children() < 2 || slots.arms(1).is_empty() {
-        return Ok(None);
+/// Takes groups out of the log of an arm of slot 1.
+fn excise(slots: &mut Slots, arm: u32, upto: u64) -> bool
+    requires { upto < 2 ^ 48 }
+{
+    if slots.children() < 2 || slots.arms(1).len() <= arm as usize {
+        return false;
     }
-    let leaf = at(1, 0);
-    let other = Log::upto(alloc, 2)?;
-    let clean = slots.log(leaf).count();
-    slots.fill(leaf, 4);
-    let filled = slots.log(leaf).count();
-    slots.excise(leaf, 1);
-    let excised = slots.log(leaf).count();
-    slots.set_log(leaf, other);
-    let set = slots.log(leaf).count();
-    slots.set_fresh(leaf, true);
-    Ok(Some((
-        [clean, filled, excised, set],
-        slots.arms(1).iter().any(|arm| arm.fresh),
-    )))
+    slots.excise(at(1, arm), upto);
+    true
 }
 
-/// Where sector 3 of slot 1 lies on its leaf.
-fn placed(slots: &Slots, sectors: u64) -> Option<At>
+/// Whether slot 1 with two leaves is read from its first arm, and from the second once the first is dirty and that one's
+/// log is empty.
+fn reads_the_clean(slots: &mut Slots, alloc: Global) -> bool {
+    attach(slots, alloc, 1, ArmKind::Leaf, 4) == Ok(true)
+        && reads(slots, 0, true)
+        && dirty_first(slots, alloc)
+        && reads(slots, 0, false)
+        && excise(slots, 1, 3)
+        && reads(slots, 1, true)
+}
+
+/// Whether it is read from the first again once the second is offline, and from none where both are.
+fn reads_what_answers(slots: &mut Slots) -> bool {
+    slots.set_offline(4, true);
+    let first = reads(slots, 0, false);
+    slots.set_offline(1, true);
+    first && read(slots).is_none()
+}
+
+/// How many groups the log of slot 1's leaf has.
+fn logged(slots: &Slots) -> Option<u64> {
+    if slots.children() < 2 || slots.arms(1).is_empty() {
+        return None;
+    }
+    Some(slots.log(at(1, 0)).count())
+}
+
+/// Fills that log up to group 4.
+fn fill(slots: &mut Slots, alloc: Global) -> bool {
+    if slots.reserve(alloc, 2, 1).is_err() || slots.children() < 2 || slots.arms(1).is_empty() {
+        return false;
+    }
+    slots.fill(at(1, 0), 4);
+    true
+}
+
+/// Whether it has four groups then, and three without the groups up to 1.
+fn is_filled(slots: &mut Slots, alloc: Global) -> bool {
+    logged(slots) == Some(0)
+        && fill(slots, alloc)
+        && logged(slots) == Some(4)
+        && excise(slots, 0, 1)
+        && logged(slots) == Some(3)
+}
+
+/// Puts the log of two groups in its place.
+fn set_log(slots: &mut Slots, alloc: Global) -> bool {
+    if slots.children() < 2 || slots.arms(1).is_empty() {
+        return false;
+    }
+    match Log::upto(alloc, 2) {
+        Ok(log) => {
+            slots.set_log(at(1, 0), log);
+            true
+        }
+        Err(_) => false,
+    }
+}
+
+/// Whether slot 1's leaf becomes fresh.
+fn freshens(slots: &mut Slots) -> bool {
+    if slots.children() < 2 || slots.arms(1).is_empty() {
+        return false;
+    }
+    slots.set_fresh(at(1, 0), true);
+    slots.children() > 1 && slots.arms(1).iter().any(|arm| arm.fresh)
+}
+
+/// Whether another log comes in its place, and the leaf becomes fresh.
+fn is_set(slots: &mut Slots, alloc: Global) -> bool {
+    set_log(slots, alloc) && logged(slots) == Some(2) && freshens(slots)
+}
+
+/// Whether sector 3 of slot 1 lies on its leaf.
+fn is_placed(slots: &Slots, sectors: u64) -> bool
     requires { sectors ≡ metaslab_sectors slots.now.geometry }
 {
     if slots.children() < 2 || slots.arms(1).is_empty() || sectors < 4 {
-        return None;
+        return false;
     }
-    Some(slots.place(at(1, 0), 3))
+    slots.place(at(1, 0), 3) == At { leaf: 1, sector: 3 }
+}
+
+/// The same of new slots.
+fn has_places(alloc: Global, layout: Geometry) -> bool
+    requires { IsGeometry layout }
+{
+    let perms = Perms::new(layout.spec.children, layout.props.seed);
+    match Slots::new(alloc, layout, perms, 0) {
+        Ok(slots) => is_placed(&slots, layout.metaslab_sectors()),
+        Err(_) => false,
+    }
+}
+
+/// The layout of such a pool.
+fn layout_of(text: &[u8], children: u32) -> Result<Geometry, SpecFault>
+    ensures { IfOk result IsGeometry }
+{
+    geometry(parse_spec(text, children, 1)?, PROPS)
 }
 
 /// A slot with the leaf of this number, which missed nothing.
@@ -240,119 +317,122 @@ fn two_leaves(alloc: Global) -> Result<Vec<Vec<(Arm, Log)>>, NoMemory>
     Ok(lists)
 }
 
-/// The arm from which slot 1 is read, as a record tells of the arms.
+/// The slots of two leaves, as a record tells of the arms.
 #[tactic(auto, using(crate::proofs::Told::two_slots))]
-fn recorded(alloc: Global, layout: Geometry, perms: Perms) -> Result<Option<ReadArm>, NoMemory>
-    requires { IsLayout layout perms }
+fn recorded(alloc: Global, layout: Geometry) -> Result<Slots, NoMemory>
+    requires layout { IsGeometry layout }
+    requires two { layout.spec.children ≡ 2 }
 {
-    if layout.spec.children != 2 {
-        return Ok(None);
-    }
-    let slots = Slots::of(alloc, layout, perms, 0, two_leaves(alloc)?)?;
-    Ok(slots.reading_arm(1, 0, 3))
-}
-
-#[test]
-fn a_record_tells_of_arms(rt: HostRuntime) -> Result<(), Fail> {
-    let layout = geometry(parse_spec(b"draid1:1d", 2, 1)?, PROPS)?;
     let perms = Perms::new(layout.spec.children, layout.props.seed);
-    let found = recorded(rt.alloc(), layout, perms)?;
-    let first = ReadArm {
-        arm: 0,
-        clean: true,
-    };
-    assert_eq!(rt; found, Some(first));
-    Ok(())
+    Slots::of(alloc, layout, perms, 0, two_leaves(alloc)?)
 }
 
-#[test]
-fn logs_change(rt: HostRuntime) -> Result<(), Fail> {
-    let mut slots = slots_of(rt.alloc(), b"draid1:2d:1s", 4)?;
-    let found = logged(&mut slots, rt.alloc())?;
-    assert_eq!(rt; found, Some(([0, 4, 3, 2], true)));
-    Ok(())
-}
-
-#[test]
-fn arms_have_places(rt: HostRuntime) -> Result<(), Fail> {
-    let layout = geometry(parse_spec(b"draid1:2d:1s", 4, 1)?, PROPS)?;
-    let perms = Perms::new(layout.spec.children, layout.props.seed);
-    let slots = Slots::new(rt.alloc(), layout, perms, 0)?;
-    let found = placed(&slots, layout.metaslab_sectors());
-    assert_eq!(rt; found, Some(At { leaf: 1, sector: 3 }));
-    Ok(())
-}
-
-#[test]
-fn arms_come(rt: HostRuntime) -> Result<(), Fail> {
-    let mut slots = slots_of(rt.alloc(), b"draid1:2d:1s", 4)?;
-    let found = attached(&mut slots, rt.alloc())?;
-    let wanted = [
-        Ok(()),
-        Err(SlotFault::SpareBusy { by: 1 }),
-        Ok(()),
-        Ok(()),
-        Err(SlotFault::Full { arms: 3 }),
-        Err(SlotFault::NoSuch),
-        Err(SlotFault::NoSuch),
-    ];
-    assert_eq!(rt; found, wanted);
-    Ok(())
-}
-
-#[test]
-fn arms_go(rt: HostRuntime) -> Result<(), Fail> {
-    let mut slots = slots_of(rt.alloc(), b"draid1:2d:1s", 4)?;
-    let found = detached(&mut slots, rt.alloc())?;
-    let wanted = [
-        Err(SlotFault::LastArm),
-        Err(SlotFault::NoSuch),
-        Ok(()),
-        Err(SlotFault::LogNotEmpty { groups: 4 }),
-    ];
-    assert_eq!(rt; found, wanted);
-    Ok(())
-}
-
-#[test]
-fn a_spare_is_busy_up_to_the_commit(rt: HostRuntime) -> Result<(), Fail> {
-    let mut slots = slots_of(rt.alloc(), b"draid1:2d:1s", 4)?;
-    let found = committed(&mut slots, rt.alloc())?;
-    assert_eq!(rt; found, ([None, Some(1), Some(1), None], false));
-    Ok(())
-}
-
-#[test]
-fn a_spare_moves_on_where_its_keeper_is_spared(rt: HostRuntime) -> Result<(), Fail> {
-    let mut slots = slots_of(rt.alloc(), b"draid1:2d:2s", 5)?;
-    let [spared, keeper] = ends(slots.children());
-    let found = chained(&mut slots, rt.alloc(), spared, keeper)?;
-    assert_eq!(rt; found, Some([true, false]));
-    Ok(())
-}
-
-#[test]
-fn a_leaf_leaves_as_it_was(rt: HostRuntime) -> Result<(), Fail> {
-    for offline in [false, true] {
-        let mut slots = slots_of(rt.alloc(), b"draid1:2d:2s", 5)?;
-        let found = left(&mut slots, rt.alloc(), offline)?;
-        assert_eq!(rt; found, (!offline, [Some(at(1, 1)), None]));
+/// Whether slot 1 is read from its first arm then.
+fn reads_recorded(alloc: Global) -> bool {
+    match layout_of(b"draid1:1d", 2) {
+        Ok(layout) if layout.spec.children == 2 => match recorded(alloc, layout) {
+            Ok(slots) => reads(&slots, 0, true),
+            Err(_) => false,
+        },
+        _ => false,
     }
-    Ok(())
 }
 
 #[test]
-fn the_reading_arm_is_the_first_clean_one(rt: HostRuntime) -> Result<(), Fail> {
-    let mut slots = slots_of(rt.alloc(), b"draid1:2d:1s", 4)?;
-    let found = read(&mut slots, rt.alloc())?;
-    let read_from = |arm: u32, clean: bool| Some(ReadArm { arm, clean });
-    let wanted = [
-        read_from(0, true),
-        read_from(0, false),
-        read_from(1, true),
-        read_from(0, false),
-        None,
-    ];
-    assert_eq!(rt; found, Some(wanted));
-    Ok(())
+fn a_record_tells_of_arms(rt: HostRuntime) {
+    assert!(rt; reads_recorded(rt.alloc()));
+}
+
+/// What is tried on slots.
+#[derive(Clone, Copy)]
+enum Trial {
+    Coming,
+    Going,
+    Logs,
+    Commit,
+    Chain,
+    Online,
+    Offline,
+    Reading,
+}
+
+/// Whether slots do as they have to in a trial.
+fn stands(slots: &mut Slots, alloc: Global, trial: Trial) -> bool {
+    match trial {
+        Trial::Coming => come(slots, alloc),
+        Trial::Going => go(slots, alloc) && is_missed(slots, alloc),
+        Trial::Logs => is_filled(slots, alloc) && is_set(slots, alloc),
+        Trial::Commit => is_busy(slots, alloc) && is_let_go(slots),
+        Trial::Chain => moves_on(slots, alloc),
+        Trial::Online => leaves(slots, alloc, false),
+        Trial::Offline => leaves(slots, alloc, true),
+        Trial::Reading => reads_the_clean(slots, alloc) && reads_what_answers(slots),
+    }
+}
+
+/// Whether the slots of a metaslab of such a pool do.
+fn stand(alloc: Global, text: &[u8], children: u32, trial: Trial) -> bool {
+    match slots_of(alloc, text, children) {
+        Some(mut slots) => stands(&mut slots, alloc, trial),
+        None => false,
+    }
+}
+
+/// The same of four disks and a spare.
+fn four_stand(alloc: Global, trial: Trial) -> bool {
+    stand(alloc, b"draid1:2d:1s", 4, trial)
+}
+
+/// The same of five disks and two spares.
+fn five_stand(alloc: Global, trial: Trial) -> bool {
+    stand(alloc, b"draid1:2d:2s", 5, trial)
+}
+
+/// Whether new slots of four disks and a spare have places.
+fn four_have_places(alloc: Global) -> bool {
+    match layout_of(b"draid1:2d:1s", 4) {
+        Ok(layout) => has_places(alloc, layout),
+        Err(_) => false,
+    }
+}
+
+#[test]
+fn arms_have_places(rt: HostRuntime) {
+    assert!(rt; four_have_places(rt.alloc()));
+}
+
+#[test]
+fn arms_come(rt: HostRuntime) {
+    assert!(rt; four_stand(rt.alloc(), Trial::Coming));
+}
+
+#[test]
+fn arms_go(rt: HostRuntime) {
+    assert!(rt; four_stand(rt.alloc(), Trial::Going));
+}
+
+#[test]
+fn logs_change(rt: HostRuntime) {
+    assert!(rt; four_stand(rt.alloc(), Trial::Logs));
+}
+
+#[test]
+fn a_spare_is_busy_up_to_the_commit(rt: HostRuntime) {
+    assert!(rt; four_stand(rt.alloc(), Trial::Commit));
+}
+
+#[test]
+fn a_spare_moves_on_where_its_keeper_is_spared(rt: HostRuntime) {
+    assert!(rt; five_stand(rt.alloc(), Trial::Chain));
+}
+
+#[test]
+fn a_leaf_leaves_as_it_was(rt: HostRuntime) {
+    assert!(rt; five_stand(rt.alloc(), Trial::Online));
+    assert!(rt; five_stand(rt.alloc(), Trial::Offline));
+}
+
+#[test]
+fn the_reading_arm_is_the_first_clean_one(rt: HostRuntime) {
+    assert!(rt; four_stand(rt.alloc(), Trial::Reading));
 }
