@@ -1,8 +1,10 @@
-//! Tests of scripts: their sources and sinks, their lines, and the texts of replies. It offers nothing; each module is
+//! Tests of scripts: their sources and sinks, readers and writers as such, their lines, and the texts of replies. It offers nothing; each module is
 //! named after the crate that it tests.
 
 #![tactic(auto)]
 
+#[cfg(test)]
+mod files;
 #[cfg(test)]
 mod lines;
 #[cfg(test)]
