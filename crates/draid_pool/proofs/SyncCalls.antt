@@ -358,13 +358,15 @@ module _ {R A : Type 0} (rack : racks.Ghosts R) (area : areas.Ghosts A) where
   unsynced_of pool x true r (m, shard, there, unsynced) =
       let z : HasMetaslab rack area pool x r.stands m shard = metaslab_of rack area pool x r.stands m shard there in
       ((λ _. (m, z.y, z.at, ap (λ c. groups.is_unsynced c z.y.events) z.is.stands.is_in.committed ∙ (ap (groups.is_unsynced shard.committed) z.is.events ∙ unsynced))), (λ _. refl))
-  unsynced_of pool x false r none =
-      ((λ is. absurd_test false is refl), (λ (k, y, at, unsynced).
-      (let long = r.stands.shards in let inside = slice_get_within x.metaslabs k y at in
-      let shard = present pool.shards.items k (omega (arith, long, inside)) in
-      let own = r.stands.each k shard.0 y shard.1 at in
-      absurd_test (groups.is_unsynced y.world.committed y.events) unsynced
-      (ap (λ c. groups.is_unsynced c y.events) own.stands.is_in.committed ∙ (ap (groups.is_unsynced shard.0.committed) own.events ∙ none k shard.0 shard.1)))))
+  unsynced_of pool x false r none = (
+    (λ is. absurd_test false is refl),
+    (λ (k, y, at, unsynced).
+        (let long = r.stands.shards in let inside = slice_get_within x.metaslabs k y at in
+        let shard = present pool.shards.items k (omega (arith, long, inside)) in
+        let own = r.stands.each k shard.0 y shard.1 at in
+        absurd_test (groups.is_unsynced y.world.committed y.events) unsynced
+        (ap (λ c. groups.is_unsynced c y.events) own.stands.is_in.committed ∙ (ap (groups.is_unsynced shard.0.committed) own.events ∙ none k shard.0 shard.1)))),
+  )
 
   pub export_done : (pool new : Pool R A) (x : State) (it : Synced) → Represents rack area pool x → FoundUnsynced pool.shards.items true → CarriesOut rack area new x (SyncDoes x (Ok it))
       → CarriesOut rack area new x (ExportDoes x (Ok it.group))
