@@ -1,5 +1,5 @@
 -- A seal is refused behind its flushes: only devices changed.
-use Rattle.std.proofs.Common.{◌≡◌, ℕ, refl, sym, subst}
+use Rattle.std.proofs.Common.{◌≡◌, refl, sym, subst}
 use Rattle.draid_rack.specs.declared.Rack.{Ghosts}
 use Rattle.draid_machine.specs.State as machine
 use Rattle.draid_shard.specs.Changes.{KeepsBlocks}

@@ -130,6 +130,9 @@ logs_same birth a = record {
 pub counts_done : (old new : Option ℕ → ℕ) → ((who : Option ℕ) → old who ≤ new who) → CountsOn Done old new
 counts_done old new later = record { later = later; cause = λ leaf is. absurd (cc) }
 
+pub counts_silent : (old : Option ℕ → ℕ) → CountsOn Silent old old
+counts_silent old = record { later = λ who. omega arith; cause = λ leaf is. absurd (cc) }
+
 pub counts_failed : (leaf : ℕ) (old new : Option ℕ → ℕ) → ((who : Option ℕ) → old who ≤ new who) → Rose (old (Some leaf)) (new (Some leaf)) → CountsOn (Failed leaf) old new
 counts_failed leaf old new later rose = record { later = later; cause = λ m is. subst (λ l. Rose (old (Some l)) (new (Some l))) (same m is) rose }
   where

@@ -5,7 +5,7 @@ use Rattle.draid_names.specs.Faults.{Rose}
 use Rattle.draid_names.specs.declared.fault.DeviceFault.{DeviceFault}
 use Rattle.draid_area.specs.Area.{Content, OnTold, flushes, writes}
 use Rattle.draid_record.specs.Record.{RecordTold, told_record}
-use Rattle.draid_record.specs.Written.{IsWhole, record_bytes}
+use Rattle.draid_record.specs.Written.{IsWhole}
 use Rattle.draid_stable.specs.Stable.{Stands}
 use Rattle.draid_groups.specs.Sealing.{area_by}
 use Rattle.draid_groups.proofs.records.write_to.Goals as goal

@@ -1,6 +1,6 @@
-use Rattle.std.proofs.Common.{Some, arith, refl, sym, subst}
+use Rattle.std.proofs.Common.{Some, refl, sym, subst}
 use Rattle.draid_names.specs.Faults.{Rose}
-use Rattle.draid_shard.proofs.Landings.{counts_done, counts_failed}
+use Rattle.draid_shard.proofs.Landings.{counts_done, counts_failed, counts_silent}
 use Rattle.draid_columns.specs.Columns.{RowsStand}
 use Rattle.draid_columns.specs.declared.rows.Rows.{Rows}
 use Rattle.draid_rack.specs.Rack.{OnTold}
@@ -28,7 +28,7 @@ pub reading_arm-requires : goal.reading_arm-requires
 reading_arm-requires g c = record { slot = c.requires.fits.slot_below; slice = c.requires.fits.slice_below }
 
 pub returns-in_default : goal.returns-in_default
-returns-in_default g c = record { reads = c.in_default.ensures.none; whole = refl; told = refl; shape = refl; counts = record { later = λ who. omega arith; cause = λ leaf is. absurd (cc) } }
+returns-in_default g c = record { reads = c.in_default.ensures.none; whole = refl; told = refl; shape = refl; counts = counts_silent (g.R.Rack.faults c.args.rack.now) }
 
 pub returns-in-Err-clause-reads : goal.returns-in-Err-clause-reads
 returns-in-Err-clause-reads g c = record {

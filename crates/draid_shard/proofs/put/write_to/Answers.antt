@@ -1,11 +1,11 @@
 use Rattle.draid_shard.proofs.Holders.{leaf_is, rows_there}
 use Rattle.draid_shard.proofs.put.write_to.Goals as goal
-use Rattle.std.proofs.Common.{◌≡◌, ◌∙◌, Some, arith, refl, subst, sym}
+use Rattle.std.proofs.Common.{◌∙◌, Some, refl, subst, sym}
 use Rattle.draid_names.specs.Faults.{Rose}
 use Rattle.draid_rack.specs.Moments.{LeavesTold}
 use Rattle.draid_columns.specs.Columns.{TellsBoth, WritesRows, in_rows}
 use Rattle.draid_columns.specs.declared.rows.Rows.{Rows}
-use Rattle.draid_shard.proofs.Landings.{counts_done, counts_failed}
+use Rattle.draid_shard.proofs.Landings.{counts_done, counts_failed, counts_silent}
 
 pub write_rows-requires-clause-there : goal.write_rows-requires-clause-there
 write_rows-requires-clause-there g c =
@@ -13,7 +13,7 @@ write_rows-requires-clause-there g c =
     (leaf_is c.args.slots.now c.args.rows c.args.arm c.place-leaf.result.leaf _ (sym c.requires.fits.slice_is) c.place-leaf.ensures.leaf)
 
 pub returns-then-not-answers : goal.returns-then-not-answers
-returns-then-not-answers g c = record { lands = (sym c.answers.ensures ∙ c.if-not-answers.true, refl); counts = record { later = λ who. omega arith; cause = λ leaf is. absurd (cc) }; shape = refl }
+returns-then-not-answers g c = record { lands = (sym c.answers.ensures ∙ c.if-not-answers.true, refl); counts = counts_silent (g.R.Rack.faults c.args.rack.now); shape = refl }
 
 pub returns-in-Ok-clause-lands : goal.returns-in-Ok-clause-lands
 returns-in-Ok-clause-lands g c = (
