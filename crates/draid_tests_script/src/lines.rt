@@ -52,11 +52,16 @@ fn gives(alloc: Global, text: &str, wanted: &[&str]) -> bool {
     }
 }
 
+/// Whether it is so with and without an end of the last line.
+fn gives_lines(alloc: Global) -> bool {
+    gives(alloc, "", &[])
+        && gives(alloc, "ab\n\ncd", &["ab", "", "cd"])
+        && gives(alloc, "ab\ncd\n", &["ab", "cd"])
+}
+
 #[test]
 fn gives_each_line_and_the_end(rt: HostRuntime) {
-    assert!(rt; gives(rt.alloc(), "", &[]));
-    assert!(rt; gives(rt.alloc(), "ab\n\ncd", &["ab", "", "cd"]));
-    assert!(rt; gives(rt.alloc(), "ab\ncd\n", &["ab", "cd"]));
+    assert!(rt; gives_lines(rt.alloc()));
 }
 
 /// How long the next line is, if there is one.

@@ -79,8 +79,14 @@ fn prints_commands(alloc: Global) -> bool {
 
 #[test]
 fn prints_replies_of_pools(rt: HostRuntime) {
-    assert!(rt; prints_created(rt.alloc()) && prints_imported(rt.alloc()));
-    assert!(rt; prints_exported(rt.alloc()) && prints_commands(rt.alloc()));
+    assert!(rt;
+        prints_created(rt.alloc()) && prints_imported(rt.alloc()) && prints_exported(rt.alloc())
+    );
+}
+
+#[test]
+fn prints_replies_of_commands(rt: HostRuntime) {
+    assert!(rt; prints_commands(rt.alloc()));
 }
 
 fn prints_no_space(alloc: Global) -> bool {
@@ -143,8 +149,9 @@ fn prints_reads(alloc: Global) -> bool {
 
 #[test]
 fn prints_replies_of_objects(rt: HostRuntime) {
-    assert!(rt; prints_no_space(rt.alloc()) && prints_writes(rt.alloc()));
-    assert!(rt; prints_reads(rt.alloc()));
+    assert!(rt;
+        prints_no_space(rt.alloc()) && prints_writes(rt.alloc()) && prints_reads(rt.alloc())
+    );
 }
 
 fn prints_leaves(alloc: Global) -> bool {
@@ -248,8 +255,7 @@ fn prints_passes(alloc: Global) -> bool {
 
 #[test]
 fn prints_replies_of_arms(rt: HostRuntime) {
-    assert!(rt; prints_spared(rt.alloc()) && prints_slots(rt.alloc()));
-    assert!(rt; prints_passes(rt.alloc()));
+    assert!(rt; prints_spared(rt.alloc()) && prints_slots(rt.alloc()) && prints_passes(rt.alloc()));
 }
 
 fn prints_lanes(alloc: Global) -> bool {
@@ -266,64 +272,47 @@ fn prints_replies_of_lanes(rt: HostRuntime) {
     assert!(rt; prints_lanes(rt.alloc()));
 }
 
-/// Why a pool isn't created, and what is printed then.
-static SPECS: [(SpecFault, &str); 7] = [
-    (SpecFault::NotDraid, "create refused 1\n"),
-    (SpecFault::Parity, "create refused 2\n"),
-    (SpecFault::Number { at: 6 }, "create refused 3 at=6\n"),
-    (
-        SpecFault::Repeated { letter: b'd' },
-        "create refused 4 letter=d\n",
-    ),
-    (
-        SpecFault::Children {
-            said: 11,
-            given: 10,
-        },
-        "create refused 5 said=11 given=10\n",
-    ),
-    (
-        SpecFault::Width { need: 10, have: 8 },
-        "create refused 6 need=10 have=8\n",
-    ),
-    (
-        SpecFault::Limit {
-            which: b'h',
-            value: 7,
-        },
-        "create refused 7 which=h value=7\n",
-    ),
-];
+/// Whether it is printed so why a pool isn't created.
+fn prints_spec(alloc: Global, why: SpecFault, want: &str) -> bool {
+    prints(alloc, Reply::CreateRefused { why }, want)
+}
+
+fn prints_specs(alloc: Global) -> bool {
+    prints_spec(alloc, SpecFault::NotDraid, "create refused 1\n")
+        && prints_spec(alloc, SpecFault::Parity, "create refused 2\n")
+        && prints_spec(
+            alloc,
+            SpecFault::Number { at: 6 },
+            "create refused 3 at=6\n",
+        )
+        && prints_spec(
+            alloc,
+            SpecFault::Repeated { letter: b'd' },
+            "create refused 4 letter=d\n",
+        )
+}
+
+fn prints_widths(alloc: Global) -> bool {
+    let children = SpecFault::Children {
+        said: 11,
+        given: 10,
+    };
+    let width = SpecFault::Width { need: 10, have: 8 };
+    let limit = SpecFault::Limit {
+        which: b'h',
+        value: 7,
+    };
+    prints_spec(alloc, children, "create refused 5 said=11 given=10\n")
+        && prints_spec(alloc, width, "create refused 6 need=10 have=8\n")
+        && prints_spec(alloc, limit, "create refused 7 which=h value=7\n")
+}
 
 #[test]
 fn prints_refused_specs(rt: HostRuntime) {
-    for (why, want) in SPECS.iter() {
-        assert!(rt;
-            prints(rt.alloc(), Reply::CreateRefused { why: *why }, want),
-            "{want}"
-        );
-    }
+    assert!(rt; prints_specs(rt.alloc()) && prints_widths(rt.alloc()));
 }
 
-/// Why a `fill` stops, and what is printed then.
-static FILLS: [(WriteFault, &str); 4] = [
-    (
-        WriteFault::NoSpace {
-            run: 1,
-            disabled: 2,
-            full: 3,
-            worn: 4,
-        },
-        "fill 1 written=4 no space run=1 disabled=2 full=3 worn=4\n",
-    ),
-    (
-        WriteFault::Missed { columns: 2 },
-        "fill 1 written=4 missed columns=2\n",
-    ),
-    (WriteFault::Last, "fill 1 written=4 last\n"),
-    (WriteFault::NoMemory, "fill 1 written=4 no memory\n"),
-];
-
+/// Whether it is printed so why a `fill` stops.
 fn prints_fill(alloc: Global, why: WriteFault, want: &str) -> bool {
     prints(
         alloc,
@@ -336,114 +325,106 @@ fn prints_fill(alloc: Global, why: WriteFault, want: &str) -> bool {
     )
 }
 
-#[test]
-fn prints_stopped_fills(rt: HostRuntime) {
-    for (why, want) in FILLS.iter() {
-        assert!(rt; prints_fill(rt.alloc(), *why, want), "{want}");
-    }
+fn prints_fills(alloc: Global) -> bool {
+    let no_space = WriteFault::NoSpace {
+        run: 1,
+        disabled: 2,
+        full: 3,
+        worn: 4,
+    };
+    prints_fill(
+        alloc,
+        no_space,
+        "fill 1 written=4 no space run=1 disabled=2 full=3 worn=4\n",
+    ) && prints_fill(
+        alloc,
+        WriteFault::Missed { columns: 2 },
+        "fill 1 written=4 missed columns=2\n",
+    ) && prints_fill(alloc, WriteFault::Last, "fill 1 written=4 last\n")
+        && prints_fill(alloc, WriteFault::NoMemory, "fill 1 written=4 no memory\n")
 }
 
-/// Why an object has no digest, and what is printed then.
-static SUMS: [(ObjectFault, &str); 3] = [
-    (ObjectFault::NoObject, "sum 7 no object\n"),
-    (
-        ObjectFault::Unreadable {
-            absent: 1,
-            tried: 2,
-        },
-        "sum 7 unreadable absent=1 tried=2\n",
-    ),
-    (ObjectFault::Worn, "sum 7 worn\n"),
-];
-
-#[test]
-fn prints_refused_sums(rt: HostRuntime) {
-    for (why, want) in SUMS.iter() {
-        assert!(rt;
-            prints(
-                rt.alloc(),
-                Reply::SumRefused {
-                    object: 7,
-                    why: *why
-                },
-                want
-            ),
-            "{want}"
-        );
-    }
+/// Whether it is printed so why an object has no digest.
+fn prints_sum(alloc: Global, why: ObjectFault, want: &str) -> bool {
+    prints(alloc, Reply::SumRefused { object: 7, why }, want)
 }
 
-/// Why a slot gets no spare, and what is printed then.
-static SPARES: [(SlotFault, &str); 3] = [
-    (SlotFault::NoSuch, "spare 4 refused 1\n"),
-    (
-        SlotFault::LogNotEmpty { groups: 8 },
-        "spare 4 refused 4 groups=8\n",
-    ),
-    (
-        SlotFault::TooSmall {
-            need: 1536,
-            have: 100,
-        },
-        "spare 4 refused 7 need=1536 have=100\n",
-    ),
-];
-
-#[test]
-fn prints_refused_spares(rt: HostRuntime) {
-    for (why, want) in SPARES.iter() {
-        assert!(rt;
-            prints(rt.alloc(), Reply::SpareRefused { slot: 4, why: *why }, want),
-            "{want}"
-        );
-    }
+fn prints_sums(alloc: Global) -> bool {
+    let unreadable = ObjectFault::Unreadable {
+        absent: 1,
+        tried: 2,
+    };
+    prints_sum(alloc, unreadable, "sum 7 unreadable absent=1 tried=2\n")
+        && prints_sum(alloc, ObjectFault::NoObject, "sum 7 no object\n")
+        && prints_sum(alloc, ObjectFault::Worn, "sum 7 worn\n")
 }
 
-/// Why a slot gets no new leaf, and what is printed then.
-static REPLACES: [(SlotFault, &str); 3] = [
-    (SlotFault::SpareBusy { by: 3 }, "replace 4 refused 2 by=3\n"),
-    (SlotFault::LastArm, "replace 4 refused 5\n"),
-    (SlotFault::Full { arms: 3 }, "replace 4 refused 8 arms=3\n"),
-];
-
 #[test]
-fn prints_refused_replacements(rt: HostRuntime) {
-    for (why, want) in REPLACES.iter() {
-        assert!(rt;
-            prints(
-                rt.alloc(),
-                Reply::ReplaceRefused { slot: 4, why: *why },
-                want
-            ),
-            "{want}"
-        );
-    }
+fn prints_refused_objects(rt: HostRuntime) {
+    assert!(rt; prints_fills(rt.alloc()) && prints_sums(rt.alloc()));
 }
 
-/// Why a slot stays as it is, and what is printed then.
-static REBALANCES: [(SlotFault, &str); 2] = [
-    (
-        SlotFault::PassRunning {
-            metaslab: 0,
-            number: 1,
-        },
+/// Whether it is printed so why a slot gets no spare.
+fn prints_spare(alloc: Global, why: SlotFault, want: &str) -> bool {
+    prints(alloc, Reply::SpareRefused { slot: 4, why }, want)
+}
+
+fn prints_spares(alloc: Global) -> bool {
+    let small = SlotFault::TooSmall {
+        need: 1536,
+        have: 100,
+    };
+    prints_spare(alloc, small, "spare 4 refused 7 need=1536 have=100\n")
+        && prints_spare(alloc, SlotFault::NoSuch, "spare 4 refused 1\n")
+        && prints_spare(
+            alloc,
+            SlotFault::LogNotEmpty { groups: 8 },
+            "spare 4 refused 4 groups=8\n",
+        )
+}
+
+/// Whether it is printed so why it gets no new leaf.
+fn prints_replace(alloc: Global, why: SlotFault, want: &str) -> bool {
+    prints(alloc, Reply::ReplaceRefused { slot: 4, why }, want)
+}
+
+fn prints_replacements(alloc: Global) -> bool {
+    prints_replace(
+        alloc,
+        SlotFault::SpareBusy { by: 3 },
+        "replace 4 refused 2 by=3\n",
+    ) && prints_replace(alloc, SlotFault::LastArm, "replace 4 refused 5\n")
+        && prints_replace(
+            alloc,
+            SlotFault::Full { arms: 3 },
+            "replace 4 refused 8 arms=3\n",
+        )
+}
+
+/// Whether it is printed so why it stays as it is.
+fn prints_rebalance(alloc: Global, why: SlotFault, want: &str) -> bool {
+    prints(alloc, Reply::RebalanceRefused { slot: 4, why }, want)
+}
+
+fn prints_rebalances(alloc: Global) -> bool {
+    let running = SlotFault::PassRunning {
+        metaslab: 0,
+        number: 1,
+    };
+    prints_rebalance(
+        alloc,
+        running,
         "rebalance 4 refused 6 metaslab=0 number=1\n",
-    ),
-    (SlotFault::Last, "rebalance 4 refused 9\n"),
-];
+    ) && prints_rebalance(alloc, SlotFault::Last, "rebalance 4 refused 9\n")
+}
 
 #[test]
-fn prints_refused_rebalances(rt: HostRuntime) {
-    for (why, want) in REBALANCES.iter() {
-        assert!(rt;
-            prints(
-                rt.alloc(),
-                Reply::RebalanceRefused { slot: 4, why: *why },
-                want
-            ),
-            "{want}"
-        );
-    }
+fn prints_refused_slots(rt: HostRuntime) {
+    assert!(rt;
+        prints_spares(rt.alloc())
+            && prints_replacements(rt.alloc())
+            && prints_rebalances(rt.alloc())
+    );
 }
 
 fn prints_detached(alloc: Global) -> bool {
@@ -511,13 +492,20 @@ fn prints_rebalanced(alloc: Global, errors: u64, group: Option<u64>, want: &str)
     prints(alloc, reply, want)
 }
 
-#[test]
-fn prints_passes_that_were_made(rt: HostRuntime) {
+/// A rebalance whose other arms have left the slot, and one whose are kept.
+fn prints_both_rebalanced(alloc: Global) -> bool {
     let done = "rebalance 0 blocks=1 repaired=1 errors=0 detached group=4\n";
     let kept = "rebalance 0 blocks=1 repaired=1 errors=2 kept\n";
-    assert!(rt; prints_rebuilt(rt.alloc()) && prints_scrubbed(rt.alloc()));
-    assert!(rt; prints_rebalanced(rt.alloc(), 0, Some(4), done));
-    assert!(rt; prints_rebalanced(rt.alloc(), 2, None, kept));
+    prints_rebalanced(alloc, 0, Some(4), done) && prints_rebalanced(alloc, 2, None, kept)
+}
+
+#[test]
+fn prints_passes_that_were_made(rt: HostRuntime) {
+    assert!(rt;
+        prints_rebuilt(rt.alloc())
+            && prints_scrubbed(rt.alloc())
+            && prints_both_rebalanced(rt.alloc())
+    );
 }
 
 /// What the agent did: a spare for one slot, none for another.
@@ -560,23 +548,25 @@ fn lists(alloc: Global, entries: &[Entry], want: &str) -> bool {
     }
 }
 
-#[test]
-fn prints_replies_of_the_agent(rt: HostRuntime) {
+fn prints_agent(alloc: Global) -> bool {
     let errors = Some(AgentErrors {
         rebuild: 0,
         scrub: 1,
     });
     let passes = "agent 3=draid2-0-0 5=none rebuild errors=0 scrub errors=1\n";
-    assert!(rt; prints(rt.alloc(), Reply::AgentIdle, "agent idle\n"));
-    assert!(rt; prints_acted(rt.alloc(), 2, errors, passes));
-    assert!(rt; prints_acted(rt.alloc(), 1, None, "agent 3=draid1-0-0 5=none\n"));
+    prints(alloc, Reply::AgentIdle, "agent idle\n")
+        && prints_acted(alloc, 2, errors, passes)
+        && prints_acted(alloc, 1, None, "agent 3=draid1-0-0 5=none\n")
+}
+
+fn prints_journal(alloc: Global) -> bool {
+    let want = "agent 1 slot 3 offline spared draid2-0-0\nagent 2 slot 5 logged=7 none\nend\n";
+    lists(alloc, &ENTRIES, want) && lists(alloc, &[], "end\n")
 }
 
 #[test]
-fn prints_the_journal(rt: HostRuntime) {
-    let want = "agent 1 slot 3 offline spared draid2-0-0\nagent 2 slot 5 logged=7 none\nend\n";
-    assert!(rt; lists(rt.alloc(), &ENTRIES, want));
-    assert!(rt; lists(rt.alloc(), &[], "end\n"));
+fn prints_replies_of_the_agent(rt: HostRuntime) {
+    assert!(rt; prints_agent(rt.alloc()) && prints_journal(rt.alloc()));
 }
 
 fn prints_upgrades(alloc: Global) -> bool {
@@ -628,8 +618,11 @@ fn prints_no_checkpoint(alloc: Global) -> bool {
 
 #[test]
 fn prints_replies_of_checkpoints(rt: HostRuntime) {
-    assert!(rt; prints_upgrades(rt.alloc()) && prints_checkpoints(rt.alloc()));
-    assert!(rt; prints_no_checkpoint(rt.alloc()));
+    assert!(rt;
+        prints_upgrades(rt.alloc())
+            && prints_checkpoints(rt.alloc())
+            && prints_no_checkpoint(rt.alloc())
+    );
 }
 
 /// Whether six bytes of an object are printed as hexadecimal digits.

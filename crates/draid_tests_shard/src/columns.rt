@@ -72,8 +72,11 @@ fn lists_failed(alloc: Global, failing: &[u64]) -> bool {
     }
 }
 
+fn each_is_listed(alloc: Global) -> bool {
+    lists_failed(alloc, &[]) && lists_failed(alloc, &[0]) && lists_failed(alloc, &[1])
+}
+
 #[test]
 fn a_failed_flush_is_listed(rt: HostRuntime) {
-    assert!(rt; lists_failed(rt.alloc(), &[]));
-    assert!(rt; lists_failed(rt.alloc(), &[0]) && lists_failed(rt.alloc(), &[1]));
+    assert!(rt; each_is_listed(rt.alloc()));
 }

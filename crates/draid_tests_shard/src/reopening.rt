@@ -338,10 +338,13 @@ fn is_not_opened(alloc: Global, call: u64) -> bool {
     }
 }
 
+/// Whether its area's first three failures are told so.
+fn fails_while_made(alloc: Global) -> bool {
+    is_not_made(alloc, 0) && is_not_made(alloc, 1) && is_not_opened(alloc, 2)
+}
+
 // The record of a new metaslab is written and flushed, and then it is read.
 #[test]
 fn a_new_metaslab_has_a_record(rt: HostRuntime) {
-    assert!(rt; is_made(rt.alloc()));
-    assert!(rt; is_not_made(rt.alloc(), 0) && is_not_made(rt.alloc(), 1));
-    assert!(rt; is_not_opened(rt.alloc(), 2));
+    assert!(rt; is_made(rt.alloc()) && fails_while_made(rt.alloc()));
 }

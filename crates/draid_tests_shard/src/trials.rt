@@ -118,13 +118,17 @@ fn lives(alloc: Global, failing: &[u64], leaves: [bool; 3], absent: usize) -> bo
     passes(alloc, failing, &[], 4096, Trial::Lives { leaves, absent })
 }
 
+/// Whether it does where no call fails, the second write, and the second read.
+fn each_lives(alloc: Global) -> bool {
+    lives(alloc, &[], [false; 3], 0)
+        && lives(alloc, &[1], [false, true, false], 0)
+        && lives(alloc, &[4], [false; 3], 1)
+}
+
 // A block of one stripe is three writes and three reads. A leaf on which a column is missed has the group in its log.
 #[test]
 fn blocks_live_while_calls_fail(rt: HostRuntime) {
-    let one = [false, true, false];
-    assert!(rt; lives(rt.alloc(), &[], [false; 3], 0));
-    assert!(rt; lives(rt.alloc(), &[1], one, 0));
-    assert!(rt; lives(rt.alloc(), &[4], [false; 3], 1));
+    assert!(rt; each_lives(rt.alloc()));
 }
 
 #[test]
@@ -167,8 +171,10 @@ fn a_metaslab_wears_out(rt: HostRuntime) {
 // The closing of a group may use the limit up.
 #[test]
 fn a_group_closes_up_to_the_limit(rt: HostRuntime) {
-    assert!(rt; passes(rt.alloc(), &[], &[], 3, Trial::Closes));
-    assert!(rt; passes(rt.alloc(), &[], &[], 2, Trial::StaysOpen));
+    assert!(rt;
+        passes(rt.alloc(), &[], &[], 3, Trial::Closes)
+            && passes(rt.alloc(), &[], &[], 2, Trial::StaysOpen)
+    );
 }
 
 /// Whether a group is sealed so where these calls of the leaves fail.
@@ -176,12 +182,16 @@ fn seals(alloc: Global, failing: &[u64], thin: u64, leaves: [bool; 3]) -> bool {
     passes(alloc, failing, &[], 4096, Trial::Seals { thin, leaves })
 }
 
+/// Whether one is where no call fails, and where the second flush does.
+fn each_seals(alloc: Global) -> bool {
+    seals(alloc, &[], 0, [false; 3]) && seals(alloc, &[4], 1, [false, true, false])
+}
+
 // The block is three writes, and then three leaves are flushed. One on which that fails has the group in its log, and the
 // block is thin.
 #[test]
 fn groups_are_sealed_while_flushes_fail(rt: HostRuntime) {
-    assert!(rt; seals(rt.alloc(), &[], 0, [false; 3]));
-    assert!(rt; seals(rt.alloc(), &[4], 1, [false, true, false]));
+    assert!(rt; each_seals(rt.alloc()));
 }
 
 // Where its area fails, a group isn't sealed, and may be sealed once more.
