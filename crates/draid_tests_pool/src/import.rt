@@ -1,30 +1,36 @@
 use crate::session::run_first;
 use draid_area::{Area, MemoryArea};
-use draid_lines::MemorySource;
+use draid_lines::{MemorySink, MemorySource};
 use draid_run::Status;
 use draid_shelf::{CrashRule, MemoryShelf, Shelf};
 use draid_spec::{Geometry, Props, SpecFault, geometry, parse_spec};
 use std::alloc::{AllocError, Global};
-use std::test::Fail;
 use std::thread::Threads;
 
-/// Runs a script on a shelf, and gives the status and what was printed.
+/// The source of a script whose calls don't fail.
+fn source_of(alloc: Global, script: &str) -> Result<MemorySource, AllocError> {
+    let script = Vec::from_slice(alloc, script.as_bytes())?;
+    Ok(MemorySource::new(script, Vec::new(alloc)))
+}
+
+/// Runs a script on a shelf, and gives the status.
 fn run_on<R: AllocGlobal + Threads + Sync>(
     rt: &R,
     shelf: &mut MemoryShelf,
     script: &str,
-) -> Result<(Status, Vec<u8>), AllocError> {
-    let alloc = rt.alloc();
-    let script = Vec::from_slice(alloc, script.as_bytes())?;
-    let mut source = MemorySource::new(script, Vec::new(alloc));
-    run_first(rt, "session", shelf, &mut source, &[])
+    sink: &mut MemorySink,
+) -> Option<Status> {
+    match source_of(rt.alloc(), script) {
+        Ok(mut source) => run_first(rt, "session", shelf, &mut source, sink),
+        Err(_) => None,
+    }
 }
 
 /// The groups of a session, and what an import then finds once so many were acknowledged.
-const SESSION: &str =
+static SESSION: &str =
     "create draid1:2d:3c:0s 3 sector=512 height=8 metaslabs=1 slices=4\nwrite 7 aa\nsync\nwrite 7 bb\nsync\n";
 
-const FOUND: [&str; 4] = [
+static FOUND: [&str; 4] = [
     "import no pool\nread no pool\n",
     "import draid1:2d:3c:0s-0 group=1 objects=0\nread 7 no object\n",
     "import draid1:2d:3c:0s-0 group=2 objects=1\nread 7 1 aa\n",
@@ -42,66 +48,77 @@ fn acknowledged(printed: &[u8]) -> usize {
     groups
 }
 
-/// Runs the session on devices that stop behind so many calls and then crash: how many groups were acknowledged, and whether
-/// the session came to its end.
+/// Runs the session on devices that stop behind so many calls and then crash.
 fn stop<R: AllocGlobal + Threads + Sync>(
     rt: &R,
     shelf: &mut MemoryShelf,
     calls: u64,
-) -> Result<(usize, bool), AllocError> {
-    shelf.put_fuse(rt.alloc(), calls)?;
-    let (ended, printed) = run_on(rt, shelf, SESSION)?;
-    shelf.put_fuse(rt.alloc(), u64::MAX)?;
+    sink: &mut MemorySink,
+) -> Option<Status> {
+    shelf.put_fuse(rt.alloc(), calls).ok()?;
+    let ended = run_on(rt, shelf, SESSION, sink)?;
+    shelf.put_fuse(rt.alloc(), u64::MAX).ok()?;
     shelf.crash();
-    Ok((acknowledged(&printed), ended == Status::Done))
+    Some(ended)
+}
+
+/// Whether replies are those of an import that finds this group or the next one.
+fn are_of_group(found: &[u8], group: usize) -> bool {
+    FOUND
+        .iter()
+        .skip(group)
+        .take(2)
+        .any(|wanted| found == wanted.as_bytes())
 }
 
 /// Whether an import finds this group or the next one.
-fn finds<R: AllocGlobal + Threads + Sync>(
-    rt: &R,
-    shelf: &mut MemoryShelf,
-    group: usize,
-) -> Result<bool, AllocError> {
-    let (_, found) = run_on(rt, shelf, "import\nread 7\n")?;
-    Ok(
-        FOUND
-            .iter()
-            .skip(group)
-            .take(2)
-            .any(|wanted| found.as_slice() == wanted.as_bytes()),
-    )
+fn finds<R: AllocGlobal + Threads + Sync>(rt: &R, shelf: &mut MemoryShelf, group: usize) -> bool {
+    let mut sink = MemorySink::new(rt.alloc(), Vec::new(rt.alloc()));
+    run_on(rt, shelf, "import\nread 7\n", &mut sink).is_some() && are_of_group(sink.held(), group)
 }
 
-/// Whether a session on devices that stop behind so many calls, and then a crash by this rule, leaves the last group
-/// that was acknowledged, or the next one; and whether the session came to its end.
+/// What a session comes to on devices that stop behind so many calls, where these, and then a crash, leave the last group
+/// that was acknowledged, or the next one.
 fn keeps_a_group<R: AllocGlobal + Threads + Sync>(
+    rt: &R,
+    shelf: &mut MemoryShelf,
+    calls: u64,
+) -> Option<Status> {
+    let mut sink = MemorySink::new(rt.alloc(), Vec::new(rt.alloc()));
+    let ended = stop(rt, shelf, calls, &mut sink)?;
+    if !finds(rt, shelf, acknowledged(sink.held())) {
+        return None;
+    }
+    Some(ended)
+}
+
+/// The same of devices that a crash leaves by this rule.
+fn keeps_by<R: AllocGlobal + Threads + Sync>(
     rt: &R,
     rule: CrashRule,
     calls: u64,
-) -> Result<(bool, bool), AllocError> {
+) -> Option<Status> {
     let mut shelf = MemoryShelf::new(rt.alloc(), rule);
-    let (groups, ended) = stop(rt, &mut shelf, calls)?;
-    Ok((finds(rt, &mut shelf, groups)?, ended))
+    keeps_a_group(rt, &mut shelf, calls)
 }
 
-// However many calls of the devices pass before all fail, and whatever a crash leaves of what wasn't flushed.
+static RULES: [CrashRule; 4] = [
+    CrashRule::Old,
+    CrashRule::New,
+    CrashRule::Torn,
+    CrashRule::Half,
+];
+
+// However many calls of the devices pass before all fail, and whatever a crash leaves of what wasn't flushed. With so many
+// the session comes to its end.
 #[test]
-fn imports_find_a_whole_group(rt: HostRuntime) -> Result<(), Fail> {
-    for rule in [
-        CrashRule::Old,
-        CrashRule::New,
-        CrashRule::Torn,
-        CrashRule::Half,
-    ] {
-        let mut ended = false;
+fn imports_find_a_whole_group(rt: HostRuntime) {
+    for rule in RULES.iter() {
         for calls in 0..200 {
-            let (kept, done) = keeps_a_group(&rt, rule, calls)?;
-            assert!(rt; kept, "{calls}");
-            ended = ended || done;
+            assert!(rt; keeps_by(&rt, *rule, calls).is_some(), "{calls}");
         }
-        assert!(rt; ended);
+        assert!(rt; keeps_by(&rt, *rule, 200) == Some(Status::Done));
     }
-    Ok(())
 }
 
 /// The layout of that pool.
@@ -129,37 +146,47 @@ fn overwrite(area: &mut MemoryArea, at: u64, bytes: &[u8]) -> bool {
     at <= area.length() && area.write(at, bytes).is_ok() && area.flush().is_ok()
 }
 
-/// Writes bytes over those of an area on a shelf.
-fn change(shelf: &mut MemoryShelf, area: Changed, at: u64, bytes: &[u8]) -> bool {
-    match area {
-        Changed::Uber => {
-            let Ok(mut uber) = shelf.take_uber() else {
-                return false;
-            };
+/// Writes bytes over those of the uberblock.
+fn change_uber(shelf: &mut MemoryShelf, at: u64, bytes: &[u8]) -> bool {
+    match shelf.take_uber() {
+        Ok(mut uber) => {
             let done = overwrite(&mut uber, at, bytes);
             shelf.give_uber(uber);
             done
         }
-        Changed::Even => {
-            let Ok(layout) = layout() else {
-                return false;
-            };
-            let Ok(mut kit) = shelf.take(0, &layout) else {
-                return false;
-            };
+        Err(_) => false,
+    }
+}
+
+/// Writes bytes over those of the record of an even group, on devices of this layout.
+fn change_even(shelf: &mut MemoryShelf, layout: &Geometry, at: u64, bytes: &[u8]) -> bool {
+    match shelf.take(0, layout) {
+        Ok(mut kit) => {
             let done = overwrite(&mut kit.even, at, bytes);
             shelf.give(0, kit);
             done
         }
+        Err(_) => false,
+    }
+}
+
+/// Writes bytes over those of an area on a shelf.
+fn change(shelf: &mut MemoryShelf, area: Changed, at: u64, bytes: &[u8]) -> bool {
+    match area {
+        Changed::Uber => change_uber(shelf, at, bytes),
+        Changed::Even => match layout() {
+            Ok(layout) => change_even(shelf, &layout, at, bytes),
+            Err(_) => false,
+        },
     }
 }
 
 /// A pool of two blocks, which lie in the record of the even group 2 behind 100 bytes, each in 72 of its own.
-const BLOCKS: &str =
+static BLOCKS: &str =
     "create draid1:2d:3c:0s 3 sector=512 height=8 metaslabs=1 slices=4\nwrite 7 aa\nwrite 8 bb\nsync\n";
 
 /// Which bytes are changed, the status of an import then, and what it prints.
-const CHANGES: [(Changed, u64, &[u8], u8, &str); 10] = [
+static CHANGES: [(Changed, u64, &[u8], u8, &str); 10] = [
     (
         Changed::Uber,
         0,
@@ -215,71 +242,120 @@ fn comes_to<R: AllocGlobal + Threads + Sync>(
     script: &str,
     code: u8,
     wanted: &str,
-) -> Result<bool, AllocError> {
-    let (ended, printed) = run_on(rt, shelf, script)?;
-    Ok(ended.code() == code && printed.as_slice() == wanted.as_bytes())
-}
-
-/// A shelf with the pool of two blocks.
-fn with_blocks<R: AllocGlobal + Threads + Sync>(rt: &R) -> Result<MemoryShelf, AllocError> {
-    let mut shelf = MemoryShelf::new(rt.alloc(), CrashRule::New);
-    run_on(rt, &mut shelf, BLOCKS)?;
-    Ok(shelf)
-}
-
-#[test]
-fn records_that_are_at_fault_end_the_run(rt: HostRuntime) -> Result<(), Fail> {
-    for (area, at, bytes, code, wanted) in CHANGES {
-        let mut shelf = with_blocks(&rt)?;
-        let is_changed = change(&mut shelf, area, at, bytes);
-        let is_told = comes_to(&rt, &mut shelf, "import\n", code, wanted)?;
-        assert!(rt; is_changed && is_told, "{wanted}");
+) -> bool {
+    let mut sink = MemorySink::new(rt.alloc(), Vec::new(rt.alloc()));
+    match run_on(rt, shelf, script, &mut sink) {
+        Some(ended) => ended.code() == code && sink.held() == wanted.as_bytes(),
+        None => false,
     }
-    Ok(())
 }
 
-/// Puts an area of these bytes in place of that of the record of group 2.
-fn cut(alloc: Global, shelf: &mut MemoryShelf, bytes: &[u8]) -> Result<bool, Fail> {
-    let Ok(mut kit) = shelf.take(0, &layout()?) else {
-        return Ok(false);
+/// Makes the pool of two blocks.
+fn add_blocks<R: AllocGlobal + Threads + Sync>(rt: &R, shelf: &mut MemoryShelf) -> bool {
+    let mut sink = MemorySink::new(rt.alloc(), Vec::new(rt.alloc()));
+    run_on(rt, shelf, BLOCKS, &mut sink).is_some()
+}
+
+/// Whether an import of that pool has this status and prints this, once these bytes are changed.
+fn tells<R: AllocGlobal + Threads + Sync>(
+    rt: &R,
+    change_of: &(Changed, u64, &[u8], u8, &str),
+) -> bool {
+    let (area, at, bytes, code, wanted) = *change_of;
+    let mut shelf = MemoryShelf::new(rt.alloc(), CrashRule::New);
+    add_blocks(rt, &mut shelf)
+        && change(&mut shelf, area, at, bytes)
+        && comes_to(rt, &mut shelf, "import\n", code, wanted)
+}
+
+#[test]
+fn records_that_are_at_fault_end_the_run(rt: HostRuntime) {
+    for row in CHANGES.iter() {
+        let wanted = row.4;
+        assert!(rt; tells(&rt, row), "{wanted}");
+    }
+}
+
+/// An area of three bytes.
+fn short_area(alloc: Global) -> Result<MemoryArea, AllocError> {
+    let bytes = Vec::from_slice(alloc, b"DZR")?;
+    Ok(MemoryArea::new(alloc, bytes, Vec::new(alloc))?)
+}
+
+/// Puts an area in place of that of the record of group 2, on devices of this layout.
+fn put_even(shelf: &mut MemoryShelf, layout: &Geometry, area: MemoryArea) -> bool {
+    match shelf.take(0, layout) {
+        Ok(mut kit) => {
+            kit.even = area;
+            shelf.give(0, kit);
+            true
+        }
+        Err(_) => false,
+    }
+}
+
+/// Cuts the record of group 2.
+fn cut(alloc: Global, shelf: &mut MemoryShelf) -> bool {
+    let Ok(layout) = layout() else {
+        return false;
     };
-    kit.even = MemoryArea::new(alloc, Vec::from_slice(alloc, bytes)?, Vec::new(alloc))?;
-    shelf.give(0, kit);
-    Ok(true)
+    match short_area(alloc) {
+        Ok(area) => put_even(shelf, &layout, area),
+        Err(_) => false,
+    }
+}
+
+/// Whether an import of the pool whose record is cut says so.
+fn tells_cut<R: AllocGlobal + Threads + Sync>(rt: &R) -> bool {
+    let mut shelf = MemoryShelf::new(rt.alloc(), CrashRule::New);
+    add_blocks(rt, &mut shelf)
+        && cut(rt.alloc(), &mut shelf)
+        && comes_to(
+            rt,
+            &mut shelf,
+            "import\n",
+            8,
+            "record metaslab=0 at=0 kind=1\n",
+        )
 }
 
 #[test]
-fn a_short_record_ends_the_run(rt: HostRuntime) -> Result<(), Fail> {
-    let mut shelf = with_blocks(&rt)?;
-    let is_cut = cut(rt.alloc(), &mut shelf, b"DZR")?;
-    let wanted = "record metaslab=0 at=0 kind=1\n";
-    assert!(rt; is_cut && comes_to(&rt, &mut shelf, "import\n", 8, wanted)?);
-    Ok(())
+fn a_short_record_ends_the_run(rt: HostRuntime) {
+    assert!(rt; tells_cut(&rt));
 }
 
-// Both gates are shut.
+/// Whether an import of the pool whose gates are both shut finds none.
+fn tells_shut<R: AllocGlobal + Threads + Sync>(rt: &R) -> bool {
+    let mut shelf = MemoryShelf::new(rt.alloc(), CrashRule::New);
+    add_blocks(rt, &mut shelf)
+        && change_uber(&mut shelf, 0, &[0])
+        && change_uber(&mut shelf, 512, &[0])
+        && comes_to(rt, &mut shelf, "import\n", 0, "import no pool\n")
+}
+
 #[test]
-fn shut_gates_are_no_pool(rt: HostRuntime) -> Result<(), Fail> {
-    let mut shelf = with_blocks(&rt)?;
-    let is_shut = change(&mut shelf, Changed::Uber, 0, &[0])
-        && change(&mut shelf, Changed::Uber, 512, &[0]);
-    let wanted = "import no pool\n";
-    assert!(rt; is_shut && comes_to(&rt, &mut shelf, "import\n", 0, wanted)?);
-    Ok(())
+fn shut_gates_are_no_pool(rt: HostRuntime) {
+    assert!(rt; tells_shut(&rt));
 }
 
 /// The greatest group that an uberblock may name.
-const LAST: [u8; 8] = [0, 0, 255, 255, 255, 255, 255, 254];
+static LAST: [u8; 8] = [0, 0, 255, 255, 255, 255, 255, 254];
 
-// No group is committed behind it.
+static LAST_SCRIPT: &str = "import\nsync\nread 7\nexport\n";
+
+static LAST_REPLIES: &str =
+    "import draid1:2d:3c:0s-0 group=281474976710654 objects=2\nsync last\nread 7 1 aa\nexport last\n";
+
+/// Whether no group is committed behind it.
+fn tells_last<R: AllocGlobal + Threads + Sync>(rt: &R) -> bool {
+    let mut shelf = MemoryShelf::new(rt.alloc(), CrashRule::New);
+    add_blocks(rt, &mut shelf)
+        && change_uber(&mut shelf, 7, &LAST)
+        && change(&mut shelf, Changed::Even, 12, &LAST)
+        && comes_to(rt, &mut shelf, LAST_SCRIPT, 0, LAST_REPLIES)
+}
+
 #[test]
-fn the_last_number_is_of_no_group(rt: HostRuntime) -> Result<(), Fail> {
-    let mut shelf = with_blocks(&rt)?;
-    let is_last = change(&mut shelf, Changed::Uber, 7, &LAST)
-        && change(&mut shelf, Changed::Even, 12, &LAST);
-    let script = "import\nsync\nread 7\nexport\n";
-    let wanted =
-        "import draid1:2d:3c:0s-0 group=281474976710654 objects=2\nsync last\nread 7 1 aa\nexport last\n";
-    assert!(rt; is_last && comes_to(&rt, &mut shelf, script, 0, wanted)?);
-    Ok(())
+fn the_last_number_is_of_no_group(rt: HostRuntime) {
+    assert!(rt; tells_last(&rt));
 }

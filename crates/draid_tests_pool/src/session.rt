@@ -18,23 +18,21 @@ fn words_of(alloc: Global, line: &str) -> Result<Vec<String>, AllocError> {
     Ok(words)
 }
 
-/// Runs a script on a shelf, and gives the status and what was printed. Calls of the source and of the sink with these
-/// numbers fail.
+/// Runs a script on a shelf, and gives the status; none where there is no memory for the words.
 pub fn run_chosen<R: AllocGlobal + Threads + Sync, F: Fn(&[Room]) -> Option<u32>>(
     rt: &R,
     line: &str,
     shelf: &mut MemoryShelf,
     source: &mut MemorySource,
-    sink_calls: &[u64],
+    sink: &mut MemorySink,
     chooser: &Chooser<F>,
-) -> Result<(Status, Vec<u8>), AllocError>
+) -> Option<Status>
     requires { IsChooser F.Fn chooser.now }
 {
-    let alloc = rt.alloc();
-    let words = words_of(alloc, line)?;
-    let mut sink = MemorySink::new(alloc, Vec::from_slice(alloc, sink_calls)?);
-    let status = run(rt, &words, shelf, source, &mut sink, chooser);
-    Ok((status, Vec::from_slice(alloc, sink.held())?))
+    match words_of(rt.alloc(), line) {
+        Ok(words) => Some(run(rt, &words, shelf, source, sink, chooser)),
+        Err(_) => None,
+    }
 }
 
 /// The same, where the first metaslab that has room for a block takes it.
@@ -43,13 +41,13 @@ pub fn run_first<R: AllocGlobal + Threads + Sync>(
     line: &str,
     shelf: &mut MemoryShelf,
     source: &mut MemorySource,
-    sink_calls: &[u64],
-) -> Result<(Status, Vec<u8>), AllocError> {
+    sink: &mut MemorySink,
+) -> Option<Status> {
     let chooser = Chooser::new(
         |rooms: &[Room]| -> Option<u32>
             requires { length rooms.now ≤ most_rooms }
             ensures { Picks rooms.now result }
         { first_fit(rooms) },
     );
-    run_chosen(rt, line, shelf, source, sink_calls, &chooser)
+    run_chosen(rt, line, shelf, source, sink, &chooser)
 }
