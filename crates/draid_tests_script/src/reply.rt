@@ -2,7 +2,7 @@ use draid_names::{Cause, Did, Entry, ObjectFault, SlotFault, WriteFault};
 use draid_reply::{AgentErrors, Reply, reply_text};
 use draid_script::{ArmArgument, CommandName};
 use draid_spec::SpecFault;
-use std::alloc::{AllocError, Global};
+use std::alloc::Global;
 
 /// Whether a reply is printed so.
 fn prints(alloc: Global, reply: Reply, want: &str) -> bool {

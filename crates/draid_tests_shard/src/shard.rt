@@ -1,4 +1,4 @@
-ghost use Rattle.std.specs.Prelude.{◌≡◌, ◌≤◌, ◌+◌, ℕ, None, IfOk, length};
+ghost use Rattle.std.specs.Prelude.{◌≡◌, ◌≤◌, ◌+◌, None, IfOk, length};
 ghost use Rattle.draid_block.specs.Blocks.{cut_of};
 ghost use Rattle.draid_block.specs.Solving.{IsFetched};
 ghost use Rattle.draid_spec.specs.Geometry.{IsGeometry};

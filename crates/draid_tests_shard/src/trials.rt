@@ -1,6 +1,6 @@
 //! What is tried in an empty metaslab.
 
-ghost use Rattle.std.specs.Prelude.{◌≡◌, ℕ, None};
+ghost use Rattle.std.specs.Prelude.{◌≡◌, None};
 ghost use Rattle.draid_machine.specs.declared.names.Key.{Key};
 ghost use Rattle.draid_rack.specs.Rack.{HasJust};
 ghost use Rattle.draid_spec.specs.Geometry.{IsGeometry, metaslab_sectors};
