@@ -257,23 +257,15 @@ fn add_blocks<R: AllocGlobal + Threads + Sync>(rt: &R, shelf: &mut MemoryShelf) 
 }
 
 /// Whether an import of that pool has this status and prints this, once these bytes are changed.
-fn tells<R: AllocGlobal + Threads + Sync>(
+fn tells_change<R: AllocGlobal + Threads + Sync>(
     rt: &R,
-    change_of: &(Changed, u64, &[u8], u8, &str),
+    shelf: &mut MemoryShelf,
+    row: usize,
 ) -> bool {
-    let (area, at, bytes, code, wanted) = *change_of;
-    let mut shelf = MemoryShelf::new(rt.alloc(), CrashRule::New);
-    add_blocks(rt, &mut shelf)
-        && change(&mut shelf, area, at, bytes)
-        && comes_to(rt, &mut shelf, "import\n", code, wanted)
-}
-
-#[test]
-fn records_that_are_at_fault_end_the_run(rt: HostRuntime) {
-    for row in CHANGES.iter() {
-        let wanted = row.4;
-        assert!(rt; tells(&rt, row), "{wanted}");
-    }
+    let Some((area, at, bytes, code, wanted)) = CHANGES.get(row) else {
+        return false;
+    };
+    change(shelf, *area, *at, bytes) && comes_to(rt, shelf, "import\n", *code, wanted)
 }
 
 /// An area of three bytes.
@@ -306,36 +298,15 @@ fn cut(alloc: Global, shelf: &mut MemoryShelf) -> bool {
 }
 
 /// Whether an import of the pool whose record is cut says so.
-fn tells_cut<R: AllocGlobal + Threads + Sync>(rt: &R) -> bool {
-    let mut shelf = MemoryShelf::new(rt.alloc(), CrashRule::New);
-    add_blocks(rt, &mut shelf)
-        && cut(rt.alloc(), &mut shelf)
-        && comes_to(
-            rt,
-            &mut shelf,
-            "import\n",
-            8,
-            "record metaslab=0 at=0 kind=1\n",
-        )
-}
-
-#[test]
-fn a_short_record_ends_the_run(rt: HostRuntime) {
-    assert!(rt; tells_cut(&rt));
+fn tells_cut<R: AllocGlobal + Threads + Sync>(rt: &R, shelf: &mut MemoryShelf) -> bool {
+    cut(rt.alloc(), shelf) && comes_to(rt, shelf, "import\n", 8, "record metaslab=0 at=0 kind=1\n")
 }
 
 /// Whether an import of the pool whose gates are both shut finds none.
-fn tells_shut<R: AllocGlobal + Threads + Sync>(rt: &R) -> bool {
-    let mut shelf = MemoryShelf::new(rt.alloc(), CrashRule::New);
-    add_blocks(rt, &mut shelf)
-        && change_uber(&mut shelf, 0, &[0])
-        && change_uber(&mut shelf, 512, &[0])
-        && comes_to(rt, &mut shelf, "import\n", 0, "import no pool\n")
-}
-
-#[test]
-fn shut_gates_are_no_pool(rt: HostRuntime) {
-    assert!(rt; tells_shut(&rt));
+fn tells_shut<R: AllocGlobal + Threads + Sync>(rt: &R, shelf: &mut MemoryShelf) -> bool {
+    change_uber(shelf, 0, &[0])
+        && change_uber(shelf, 512, &[0])
+        && comes_to(rt, shelf, "import\n", 0, "import no pool\n")
 }
 
 /// The greatest group that an uberblock may name.
@@ -347,15 +318,59 @@ static LAST_REPLIES: &str =
     "import draid1:2d:3c:0s-0 group=281474976710654 objects=2\nsync last\nread 7 1 aa\nexport last\n";
 
 /// Whether no group is committed behind it.
-fn tells_last<R: AllocGlobal + Threads + Sync>(rt: &R) -> bool {
+fn tells_last<R: AllocGlobal + Threads + Sync>(rt: &R, shelf: &mut MemoryShelf) -> bool {
+    change_uber(shelf, 7, &LAST)
+        && change(shelf, Changed::Even, 12, &LAST)
+        && comes_to(rt, shelf, LAST_SCRIPT, 0, LAST_REPLIES)
+}
+
+/// What is done to the areas of the pool of two blocks.
+#[derive(Clone, Copy)]
+enum Harm {
+    /// A row of the changes.
+    Change { row: usize },
+    Cut,
+    Shut,
+    Last,
+}
+
+/// Whether an import tells of it.
+fn tells<R: AllocGlobal + Threads + Sync>(rt: &R, shelf: &mut MemoryShelf, harm: Harm) -> bool {
+    if !add_blocks(rt, shelf) {
+        return false;
+    }
+    match harm {
+        Harm::Change { row } => tells_change(rt, shelf, row),
+        Harm::Cut => tells_cut(rt, shelf),
+        Harm::Shut => tells_shut(rt, shelf),
+        Harm::Last => tells_last(rt, shelf),
+    }
+}
+
+/// The same on a new shelf.
+fn is_told<R: AllocGlobal + Threads + Sync>(rt: &R, harm: Harm) -> bool {
     let mut shelf = MemoryShelf::new(rt.alloc(), CrashRule::New);
-    add_blocks(rt, &mut shelf)
-        && change_uber(&mut shelf, 7, &LAST)
-        && change(&mut shelf, Changed::Even, 12, &LAST)
-        && comes_to(rt, &mut shelf, LAST_SCRIPT, 0, LAST_REPLIES)
+    tells(rt, &mut shelf, harm)
+}
+
+#[test]
+fn records_that_are_at_fault_end_the_run(rt: HostRuntime) {
+    for row in 0..CHANGES.len() {
+        assert!(rt; is_told(&rt, Harm::Change { row }), "{row}");
+    }
+}
+
+#[test]
+fn a_short_record_ends_the_run(rt: HostRuntime) {
+    assert!(rt; is_told(&rt, Harm::Cut));
+}
+
+#[test]
+fn shut_gates_are_no_pool(rt: HostRuntime) {
+    assert!(rt; is_told(&rt, Harm::Shut));
 }
 
 #[test]
 fn the_last_number_is_of_no_group(rt: HostRuntime) {
-    assert!(rt; tells_last(&rt));
+    assert!(rt; is_told(&rt, Harm::Last));
 }

@@ -86,7 +86,23 @@ fn sink_of(alloc: Global, failing: &Failing) -> Result<MemorySink, AllocError> {
     Ok(MemorySink::new(alloc, Vec::from_slice(alloc, failing.sink)?))
 }
 
-/// Runs a script on devices that fail so, and gives the status; none where there is no memory for the script.
+/// Runs a script on the devices of a shelf, which fail so, and gives the status; none where there is no memory for the script.
+fn run_on<R: AllocGlobal + Threads + Sync>(
+    rt: &R,
+    line: &str,
+    script: &[u8],
+    failing: &Failing,
+    shelf: &mut MemoryShelf,
+    sink: &mut MemorySink,
+) -> Option<Status> {
+    fail_calls(shelf, rt.alloc(), failing).ok()?;
+    match source_of(rt.alloc(), script, failing) {
+        Ok(mut source) => run_first(rt, line, shelf, &mut source, sink),
+        Err(_) => None,
+    }
+}
+
+/// The same on a new shelf.
 fn run_words<R: AllocGlobal + Threads + Sync>(
     rt: &R,
     line: &str,
@@ -94,13 +110,8 @@ fn run_words<R: AllocGlobal + Threads + Sync>(
     failing: &Failing,
     sink: &mut MemorySink,
 ) -> Option<Status> {
-    let alloc = rt.alloc();
-    let mut shelf = MemoryShelf::new(alloc, CrashRule::New);
-    fail_calls(&mut shelf, alloc, failing).ok()?;
-    match source_of(alloc, script, failing) {
-        Ok(mut source) => run_first(rt, line, &mut shelf, &mut source, sink),
-        Err(_) => None,
-    }
+    let mut shelf = MemoryShelf::new(rt.alloc(), CrashRule::New);
+    run_on(rt, line, script, failing, &mut shelf, sink)
 }
 
 /// Whether a run comes to this status and prints this.
