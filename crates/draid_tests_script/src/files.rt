@@ -29,7 +29,8 @@ impl Read for Broken {
 
 impl Write for Broken {
     fn write(&mut self, bytes: &[u8]) -> io::Result<usize> {
-        self.count(bytes.len())
+        let count = self.count(bytes.len())?;
+        Ok(count.min(bytes.len()))
     }
 
     fn flush(&mut self) -> io::Result<()> {
