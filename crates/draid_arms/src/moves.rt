@@ -124,8 +124,8 @@ pub(crate) fn renew_arms(
     requires last { last < NUMBERS }
     ensures { OnOk result ((n : ArmName) → arm_in arms.new.entries n ≡ after.map_arm (after.renew_if (has_name names.now n) last) (arm_in arms.old.entries n)) }
 {
-    for at in 0..names.len() {
-        renew_at(arms, names[at], last)?;
+    for name in names {
+        renew_at(arms, *name, last)?;
     }
     Ok(())
 }

@@ -24,8 +24,8 @@ fn is_leaf_beside(name: ArmName, other: ArmName) -> bool
 fn has_leaf_beside(names: &[ArmName], name: ArmName) -> bool
     ensures { result ≡ list_any (is_other_leaf name) names.now }
 {
-    for at in 0..names.len() {
-        if is_leaf_beside(name, names[at]) {
+    for other in names {
+        if is_leaf_beside(name, *other) {
             return true;
         }
     }
@@ -47,8 +47,8 @@ fn is_other_clean(tables: &Tables, names: &[ArmName], name: ArmName) -> bool
     ensures yes { result ≡ true → IsOtherClean (core_of tables.now) names.now name }
     ensures no { result ≡ false → IsOtherClean (core_of tables.now) names.now name → ⊥ }
 {
-    for at in 0..names.len() {
-        if !is_same(name, names[at]) && tables.has_empty_log(names[at]) {
+    for other in names {
+        if !is_same(name, *other) && tables.has_empty_log(*other) {
             return true;
         }
     }

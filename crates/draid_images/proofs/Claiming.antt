@@ -82,3 +82,15 @@ on_row l order k h column ns s key at is on =
     (true_both (key_eq k s.key && (s.column == column)) (name_eq s.arm s.arm) (true_both (key_eq k s.key) (s.column == column) same (equal s.column column at)) (name_refl s.arm))
     y.1)
     z.1)
+
+-- segments of which those that have to be there are some
+pub claims_all : (l : Layout) (q : Core) (s : Segment) (b : Bool) → ((h : Held) → q.held s.key ≡ Some h → is_on l q.order s h ≡ true → b ≡ true) → (b && claims l q s) ≡ claims l q s
+claims_all l q s b has = by (claims l q s) refl
+  where
+    none : (b : Bool) → (b && false) ≡ false
+    none true = refl
+    none false = refl
+
+    by : (x : Bool) → claims l q s ≡ x → (b && x) ≡ x
+    by true is = let z = claim_is_on l q s is in ap (λ y. y && true) (has z.0 z.1 z.2)
+    by false is = none b

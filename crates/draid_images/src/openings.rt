@@ -118,8 +118,8 @@ fn add_all_claimed(
     ensures { OnOk result ((s : Segment) → names.has_segment set.new.keys s
         ≡ (names.has_segment set.old.keys s || (names.has_segment segments.now s && claims.claims (site_layout site.now) (core_of tables.now) s))) }
 {
-    for at in 0..segments.len() {
-        add_claimed(site, tables, set, segments[at])?;
+    for segment in segments {
+        add_claimed(site, tables, set, *segment)?;
     }
     Ok(())
 }

@@ -79,8 +79,8 @@ fn is_online(tables: &Tables, leaf: u64) -> bool
 fn are_online(tables: &Tables, leaves: &[u64]) -> bool
     ensures { result ≡ list_all (λ leaf. arms.online (arm_in tables.now.arms.entries (Leaf leaf))) leaves.now }
 {
-    for at in 0..leaves.len() {
-        if !is_online(tables, leaves[at]) {
+    for leaf in leaves {
+        if !is_online(tables, *leaf) {
             return false;
         }
     }
@@ -132,8 +132,8 @@ fn count_silent(site: &Site, tables: &Tables, failed: &[u64], names: &[ArmName])
     ensures { result ≡ count_by (arms.lies_on (site_layout site.now) (core_of tables.now) (arms.is_silent (core_of tables.now) failed.now)) names.now }
 {
     let mut count = 0;
-    for at in 0..names.len() {
-        if site.lies_on_silent(tables, failed, names[at]) {
+    for name in names {
+        if site.lies_on_silent(tables, failed, *name) {
             count += 1;
         }
     }
@@ -162,9 +162,9 @@ fn kept_targets(
         ≡ filter (λ n. not (arms.lies_on (site_layout site.now) (core_of tables.now) (arms.is_silent (core_of tables.now) failed.now) n)) targets.now) }
 {
     let mut kept = Vec::new(alloc);
-    for at in 0..targets.len() {
-        if !site.lies_on_silent(tables, failed, targets[at]) {
-            kept.push(targets[at])?;
+    for target in targets {
+        if !site.lies_on_silent(tables, failed, *target) {
+            kept.push(*target)?;
         }
     }
     Ok(kept)

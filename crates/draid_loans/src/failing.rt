@@ -76,8 +76,8 @@ fn reads_all(
     ensures yes { result ≡ true → AllRead (site_layout site.now) (core_of tables.now) (pass_of pass.now) held stripe leaves.now }
     ensures no { result ≡ false → AllRead (site_layout site.now) (core_of tables.now) (pass_of pass.now) held stripe leaves.now → ⊥ }
 {
-    for at in 0..leaves.len() {
-        if !reads_there(site, tables, pass, held, stripe, leaves[at]) {
+    for leaf in leaves {
+        if !reads_there(site, tables, pass, held, stripe, *leaf) {
             return false;
         }
     }

@@ -41,9 +41,9 @@ fn answering(
     ensures { IfOk result (λ found. found.items ≡ filter (λ n. arms.answers (site_layout site.now) (core_of tables.now) n stripe && not (arms.fails (site_layout site.now) (core_of tables.now) failed.now n stripe)) names.now) }
 {
     let mut found = Vec::new(alloc);
-    for at in 0..names.len() {
-        if is_answering(site, tables, failed, names[at], stripe) {
-            found.push(names[at])?;
+    for name in names {
+        if is_answering(site, tables, failed, *name, stripe) {
+            found.push(*name)?;
         }
     }
     Ok(found)

@@ -24,9 +24,9 @@ fn first_ready(site: &Site, tables: &Tables, names: &[ArmName], stripe: u64) -> 
     requires stripe { stripe < NUMBERS }
     ensures { arms.IsFirst (IsReady (site_layout site.now) (core_of tables.now) stripe) names.now result }
 {
-    for at in 0..names.len() {
-        if is_ready(site, tables, names[at], stripe) {
-            return Some(names[at]);
+    for name in names {
+        if is_ready(site, tables, *name, stripe) {
+            return Some(*name);
         }
     }
     None

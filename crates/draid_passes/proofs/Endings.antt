@@ -1,5 +1,5 @@
 -- The end of a pass.
-use Rattle.std.proofs.Common.{◌≡◌, ◌==◌, ◌+◌, ◌&&◌, not, ℕ, Bool, true, false, nat_le, List, [], ◌∷◌, Option, Some, None, IfSome, BTreeMap, is_some, option_map, filter, count_by, cond, refl, sym, ◌∙◌, ap, ap₂, subst, arith}
+use Rattle.std.proofs.Common.{◌≡◌, ◌==◌, ◌+◌, ◌&&◌, not, ℕ, Bool, true, false, nat_le, List, [], ◌∷◌, Option, Some, None, IfSome, IfNone, BTreeMap, is_some, option_map, filter, count_by, cond, refl, sym, ◌∙◌, ap, ap₂, subst, arith}
 use Rattle.std.proofs.lemmas.Bool.{true≢false}
 use Rattle.std.proofs.lemmas.List.Sums.{sum_by-cons}
 use Rattle.draid_names.specs.declared.pass_kind.PassKind.{PassKind}
@@ -76,6 +76,14 @@ some_left held p (Some x) e first nothing =
     let less = nothing first.key first.h x first.found first.lent first.taken in
     let from = first.from in
     absurd (omega (arith, less, from))
+
+pub nothing_left : {A : Type 0} (o : Option A) (P : Type 0) → is_some o ≡ false → IfNone o P → P
+nothing_left None P e none = none
+nothing_left (Some x) P e none = absurd (true≢false e)
+
+pub mapped_none : {A B : Type 0} (f : A → B) (o : Option A) → is_some o ≡ false → option_map f o ≡ None
+mapped_none f None e = refl
+mapped_none f (Some a) e = absurd (true≢false e)
 
 -- the pass of a state
 pub pass_same : (o : Option WorldPass) (pass : WorldPass) (p : Pass) → o ≡ Some pass → option_map pass_of o ≡ Some p → p ≡ pass_of pass

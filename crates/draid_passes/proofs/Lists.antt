@@ -1,6 +1,8 @@
 -- Members of lists, by their places.
-use Rattle.std.proofs.Common.{◌≡◌, ◌+◌, ◌<◌, ◌⊎◌, ℕ, zero, suc, true, List, [], ◌∷◌, take, get_or, length, sym, ◌∙◌, inl, inr, arith}
+use Rattle.std.proofs.Common.{◌≡◌, ◌==◌, ◌+◌, ◌<◌, ◌⊎◌, ℕ, zero, suc, Bool, true, false, List, [], ◌∷◌, cond, count_by, take, get_or, length, sym, ◌∙◌, inl, inr, arith}
 use Rattle.std.proofs.lemmas.Bool.{true≢false}
+use Rattle.std.proofs.lemmas.Bool.Decides.{nat_tests}
+use Rattle.std.proofs.lemmas.List.Sums.{count_by_more_yes, sum_by-take-le}
 use Rattle.draid_machine.specs.declared.names.ArmName.{ArmName}
 use Rattle.draid_machine.specs.Names.{has_name, name_eq}
 use Rattle.draid_machine.proofs.Small.{either_true, name_refl, name_true, true_left, true_right}
@@ -24,3 +26,13 @@ name_next ns at d n less e = elim (either_true (has_name (take at ns) n) (name_e
   | inl old ↦ inl old
   | inr new ↦ inr (name_true _ _ new)
 ]
+
+-- one that counts
+not_zero : (n : ℕ) → 0 < n → (n == 0) ≡ false
+not_zero n some = grind (arith, nat_tests)
+
+pub some_counted : (p : ArmName → Bool) (ns : List ArmName) (k : ℕ) (d : ArmName) → k < length ns → p (get_or ns k d) ≡ true → (count_by p ns == 0) ≡ false
+some_counted p ns k d less is =
+    let one = count_by_more_yes p ns k d less is in
+    let all = sum_by-take-le (λ n. cond (p n) 1 0) ns (k + 1) in
+    not_zero (count_by p ns) (omega (arith, one, all))

@@ -73,8 +73,8 @@ fn add_names(
     requires short { part.held.first + part.held.stripes < NUMBERS }
     ensures { OnOk result (Adds (OnNames (site_layout site.now) (core_of tables.now).order part.key part.held part.column names.now) out.old.items out.new.items) }
 {
-    for at in 0..names.len() {
-        add_rows(site, tables, part, names[at], out)?;
+    for name in names {
+        add_rows(site, tables, part, *name, out)?;
     }
     Ok(())
 }

@@ -21,8 +21,8 @@ fn any_lies_on(site: &Site, tables: &Tables, names: &[ArmName], leaf: u64) -> bo
     ensures yes { result ≡ true → (arm : ArmName) × (has_name names.now arm ≡ true) × (arms.lies_on (site_layout site.now) (core_of tables.now) (λ m. m == leaf) arm ≡ true) }
     ensures no { result ≡ false → (arm : ArmName) → has_name names.now arm ≡ true → arms.lies_on (site_layout site.now) (core_of tables.now) (λ m. m == leaf) arm ≡ true → ⊥ }
 {
-    for at in 0..names.len() {
-        if site.lies_on(tables, leaf, names[at]) {
+    for name in names {
+        if site.lies_on(tables, leaf, *name) {
             return true;
         }
     }
@@ -44,8 +44,8 @@ fn are_flushed(site: &Site, tables: &Tables, pass: &WorldPass, leaves: &[u64]) -
     ensures yes { result ≡ true → (leaf : ℕ) → has_number leaves.now leaf ≡ true → FlushesThere (site_layout site.now) (core_of tables.now) (pass_of pass.now) leaf }
     ensures no { result ≡ false → ((leaf : ℕ) → has_number leaves.now leaf ≡ true → FlushesThere (site_layout site.now) (core_of tables.now) (pass_of pass.now) leaf) → ⊥ }
 {
-    for at in 0..leaves.len() {
-        if !is_flushed(site, tables, pass, leaves[at]) {
+    for leaf in leaves {
+        if !is_flushed(site, tables, pass, *leaf) {
             return false;
         }
     }
@@ -74,8 +74,8 @@ fn may_end(site: &Site, world: &World, failed: &[u64]) -> bool
 fn none_lies_on_silent(site: &Site, tables: &Tables, names: &[ArmName], failed: &[u64]) -> bool
     ensures { result ≡ (count_by (arms.lies_on (site_layout site.now) (core_of tables.now) (arms.is_silent (core_of tables.now) failed.now)) names.now == 0) }
 {
-    for at in 0..names.len() {
-        if site.lies_on_silent(tables, failed, names[at]) {
+    for name in names {
+        if site.lies_on_silent(tables, failed, *name) {
             return false;
         }
     }

@@ -36,8 +36,8 @@ pub fn any_answers(site: &Site, tables: &Tables, names: &[ArmName], stripe: u64,
     if !tables.leaf_answers(leaf) {
         return false;
     }
-    for at in 0..names.len() {
-        if site.lies_at(tables, names[at], stripe, leaf) {
+    for name in names {
+        if site.lies_at(tables, *name, stripe, leaf) {
             return true;
         }
     }
@@ -66,9 +66,9 @@ pub fn kept(
     ensures { IfOk result (λ out. out.items ≡ filter (λ n. not (after.misses_stripe (site_layout site.now) (core_of tables.now) stripe failed.now n)) names.now) }
 {
     let mut out = Vec::new(alloc);
-    for at in 0..names.len() {
-        if !misses(site, tables, failed, names[at], stripe) {
-            out.push(names[at])?;
+    for name in names {
+        if !misses(site, tables, failed, *name, stripe) {
+            out.push(*name)?;
         }
     }
     Ok(out)

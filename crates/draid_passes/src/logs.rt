@@ -40,8 +40,8 @@ pub(crate) fn fill_logs(
     requires last { last < NUMBERS }
     ensures { OnOk result ((n : ArmName) → arm_in arms.new.entries n ≡ after.map_arm (after.fill_if (has_name names.now n) last) (arm_in arms.old.entries n)) }
 {
-    for at in 0..names.len() {
-        fill_at(arms, names[at], last)?;
+    for name in names {
+        fill_at(arms, *name, last)?;
     }
     Ok(())
 }
@@ -70,7 +70,7 @@ pub(crate) fn excise_logs(arms: &mut BTreeMap<ArmName, Arm>, names: &[ArmName], 
     requires upto { upto < NUMBERS }
     ensures { (n : ArmName) → arm_in arms.new.entries n ≡ after.map_arm (after.excise_if (has_name names.now n) upto) (arm_in arms.old.entries n) }
 {
-    for at in 0..names.len() {
-        excise_at(arms, names[at], upto);
+    for name in names {
+        excise_at(arms, *name, upto);
     }
 }

@@ -42,9 +42,9 @@ fn add_targets(
     ensures { OnOk result (targets.new.items ≡ targets.old.items ++ filter (arms.is_target (site_layout site.now) (core_of tables.now) kind) (names_at tables.now.order.items slot)) }
 {
     let names = names_of(&tables.order, slot);
-    for at in 0..names.len() {
-        if is_target(site, tables, kind, names[at]) {
-            targets.push(names[at])?;
+    for name in names {
+        if is_target(site, tables, kind, *name) {
+            targets.push(*name)?;
         }
     }
     Ok(())

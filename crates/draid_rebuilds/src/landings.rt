@@ -82,8 +82,8 @@ pub(crate) fn may_mend_all(
     ensures yes { result ≡ true → (leaf : ℕ) → has_number leaves.now leaf ≡ true → MayMend (site_layout site.now) (core_of tables.now) (pass_of pass.now) (loan_of loan.now) leaf }
     ensures no { result ≡ false → ((leaf : ℕ) → has_number leaves.now leaf ≡ true → MayMend (site_layout site.now) (core_of tables.now) (pass_of pass.now) (loan_of loan.now) leaf) → ⊥ }
 {
-    for at in 0..leaves.len() {
-        if !may_mend(site, tables, pass, loan, leaves[at]) {
+    for leaf in leaves {
+        if !may_mend(site, tables, pass, loan, *leaf) {
             return false;
         }
     }

@@ -49,9 +49,9 @@ fn in_stripe(
     ensures { IfOk result (λ out. (s : Segment) → has_segment out.items s ≡ (has_segment all.now s && is_in_stripe (site_layout site.now) (core_of tables.now) targets.now first stripe s)) }
 {
     let mut out = Vec::new(alloc);
-    for at in 0..all.len() {
-        if is_mended(site, tables, targets, first, stripe, all[at]) {
-            out.push(all[at])?;
+    for segment in all {
+        if is_mended(site, tables, targets, first, stripe, *segment) {
+            out.push(*segment)?;
         }
     }
     Ok(out)
@@ -95,9 +95,9 @@ pub(crate) fn landed(
     ensures { IfOk result (λ out. (s : Segment) → has_segment out.items s ≡ (has_segment all.now s && not (arms.fails (site_layout site.now) (core_of tables.now) failed.now s.arm stripe))) }
 {
     let mut out = Vec::new(alloc);
-    for at in 0..all.len() {
-        if !site.fails(tables, failed, all[at].arm, stripe) {
-            out.push(all[at])?;
+    for segment in all {
+        if !site.fails(tables, failed, segment.arm, stripe) {
+            out.push(*segment)?;
         }
     }
     Ok(out)
@@ -168,9 +168,9 @@ pub(crate) fn doubted(
     ensures { IfOk result (λ out. (s : Segment) → has_segment out.items s ≡ (has_segment all.now s && is_doubtful (site_layout site.now) (core_of tables.now) (has_segment aside.now.keys) (loan_of loan.now) s)) }
 {
     let mut out = Vec::new(alloc);
-    for at in 0..all.len() {
-        if is_in_doubt(site, tables, aside, loan, all[at]) {
-            out.push(all[at])?;
+    for segment in all {
+        if is_in_doubt(site, tables, aside, loan, *segment) {
+            out.push(*segment)?;
         }
     }
     Ok(out)

@@ -21,9 +21,9 @@ pub(crate) fn landed(
     ensures { IfOk result (λ out. (s : Segment) → has_segment out.items s ≡ (has_segment all.now s && after.has_landed patched.now s.column s.arm s.row)) }
 {
     let mut out = Vec::new(alloc);
-    for at in 0..all.len() {
-        if has_landed(patched, all[at].column, all[at].arm, all[at].row) {
-            out.push(all[at])?;
+    for segment in all {
+        if has_landed(patched, segment.column, segment.arm, segment.row) {
+            out.push(*segment)?;
         }
     }
     Ok(out)
@@ -38,9 +38,9 @@ pub(crate) fn written(
     ensures { IfOk result (λ out. (s : Segment) → has_segment out.items s ≡ (has_segment all.now s && after.was_written patched.now s.column s.arm s.row)) }
 {
     let mut out = Vec::new(alloc);
-    for at in 0..all.len() {
-        if was_written(patched, all[at].column, all[at].arm, all[at].row) {
-            out.push(all[at])?;
+    for segment in all {
+        if was_written(patched, segment.column, segment.arm, segment.row) {
+            out.push(*segment)?;
         }
     }
     Ok(out)
@@ -65,9 +65,9 @@ pub(crate) fn doubted(
     ensures { IfOk result (λ out. (s : Segment) → has_segment out.items s ≡ (has_segment all.now s && is_dubious (core_of tables.now) birth patched.now s)) }
 {
     let mut out = Vec::new(alloc);
-    for at in 0..all.len() {
-        if is_in_doubt(tables, birth, patched, all[at]) {
-            out.push(all[at])?;
+    for segment in all {
+        if is_in_doubt(tables, birth, patched, *segment) {
+            out.push(*segment)?;
         }
     }
     Ok(out)

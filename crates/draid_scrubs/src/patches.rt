@@ -15,8 +15,8 @@ use draid_world::{Site, Tables};
 fn has_row(rows: &[u32], row: u32) -> bool
     ensures { result ≡ has_number rows.now row }
 {
-    for at in 0..rows.len() {
-        if rows[at] == row {
+    for found in rows {
+        if *found == row {
             return true;
         }
     }
@@ -41,8 +41,8 @@ fn lands(part: &Patched, column: u32, arm: ArmName, row: u32) -> bool
 pub(crate) fn was_written(patched: &[Patched], column: u32, arm: ArmName, row: u32) -> bool
     ensures { result ≡ after.was_written patched.now column arm row }
 {
-    for at in 0..patched.len() {
-        if wrote(&patched[at], column, arm, row) {
+    for part in patched {
+        if wrote(part, column, arm, row) {
             return true;
         }
     }
@@ -53,8 +53,8 @@ pub(crate) fn was_written(patched: &[Patched], column: u32, arm: ArmName, row: u
 pub(crate) fn has_landed(patched: &[Patched], column: u32, arm: ArmName, row: u32) -> bool
     ensures { result ≡ after.has_landed patched.now column arm row }
 {
-    for at in 0..patched.len() {
-        if lands(&patched[at], column, arm, row) {
+    for part in patched {
+        if lands(part, column, arm, row) {
             return true;
         }
     }
@@ -109,8 +109,8 @@ fn rows_stand(
     ensures no { result ≡ false → ((r : ℕ) → has_number part.now.written.items r ≡ true → RowStands (site_layout site.now) (core_of tables.now) held failed.now patched.now part.now.column part.now.arm r) → ⊥ }
 {
     let rows = part.written.as_slice();
-    for at in 0..rows.len() {
-        if !row_stands(site, tables, held, failed, patched, part, rows[at]) {
+    for row in rows {
+        if !row_stands(site, tables, held, failed, patched, part, *row) {
             return false;
         }
     }
@@ -123,8 +123,8 @@ fn landed_were_written(patched: &[Patched], part: &Patched) -> bool
     ensures no { result ≡ false → ((r : ℕ) → has_number part.now.landed.items r ≡ true → after.was_written patched.now part.now.column part.now.arm r ≡ true) → ⊥ }
 {
     let rows = part.landed.as_slice();
-    for at in 0..rows.len() {
-        if !was_written(patched, part.column, part.arm, rows[at]) {
+    for row in rows {
+        if !was_written(patched, part.column, part.arm, *row) {
             return false;
         }
     }
@@ -159,8 +159,8 @@ pub(crate) fn parts_stand(
     ensures yes { result ≡ true → EachPart (PartStands (site_layout site.now) (core_of tables.now) held failed.now patched.now) patched.now }
     ensures no { result ≡ false → EachPart (PartStands (site_layout site.now) (core_of tables.now) held failed.now patched.now) patched.now → ⊥ }
 {
-    for at in 0..patched.len() {
-        if !part_stands(site, tables, held, failed, patched, &patched[at]) {
+    for part in patched {
+        if !part_stands(site, tables, held, failed, patched, part) {
             return false;
         }
     }

@@ -34,8 +34,8 @@ pub(crate) fn heals_all(site: &Site, tables: &Tables, held: Held, leaves: &[u64]
     ensures yes { result ≡ true → (leaf : ℕ) → has_number leaves.now leaf ≡ true → HealsThere (site_layout site.now) (core_of tables.now) held leaf }
     ensures no { result ≡ false → ((leaf : ℕ) → has_number leaves.now leaf ≡ true → HealsThere (site_layout site.now) (core_of tables.now) held leaf) → ⊥ }
 {
-    for at in 0..leaves.len() {
-        if !heals_there(site, tables, held, leaves[at]) {
+    for leaf in leaves {
+        if !heals_there(site, tables, held, *leaf) {
             return false;
         }
     }
@@ -87,8 +87,8 @@ fn names_patched(
     ensures yes { result ≡ true → AreOn (IsArmPatched (site_layout site.now) (core_of tables.now) held patched.now column) names.now }
     ensures no { result ≡ false → AreOn (IsArmPatched (site_layout site.now) (core_of tables.now) held patched.now column) names.now → ⊥ }
 {
-    for at in 0..names.len() {
-        if !is_patched(site, tables, held, patched, column, names[at]) {
+    for name in names {
+        if !is_patched(site, tables, held, patched, column, *name) {
             return false;
         }
     }
@@ -134,8 +134,8 @@ fn names_are_whole(
     ensures yes { result ≡ true → AreOn (IsArmWhole (site_layout site.now) (core_of tables.now) held failed.now) names.now }
     ensures no { result ≡ false → AreOn (IsArmWhole (site_layout site.now) (core_of tables.now) held failed.now) names.now → ⊥ }
 {
-    for at in 0..names.len() {
-        if !arm_is_whole(site, tables, held, failed, names[at]) {
+    for name in names {
+        if !arm_is_whole(site, tables, held, failed, *name) {
             return false;
         }
     }

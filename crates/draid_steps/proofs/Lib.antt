@@ -1,4 +1,5 @@
 pub mod Entries
+pub mod Exits
 pub mod Kept
 pub mod Lists
 pub mod Logs

@@ -2,12 +2,25 @@ ghost use Rattle.std.specs.Prelude.{◌≡◌, ◌<◌, IsSome, true, false};
 ghost use Rattle.draid_machine.specs.After.{gone_state, live_state};
 ghost use Rattle.draid_machine.specs.State.{State};
 ghost use Rattle.draid_machine.specs.Step.{AbortStep, FinishStep, FreeStep};
+ghost use Rattle.draid_machine.specs.declared.names.Stage.TheVariants.{Live};
 ghost use Rattle.draid_world.specs.World.{held_in, site_layout, state_of};
 
+use crate::tickets::is_due;
 use draid_machine::{Held, Key, Stage};
 use draid_names::NUMBERS;
 use draid_world::tables::{change, find, forget, forget_kept, forget_segments};
 use draid_world::{Site, World};
+
+/// Whether it is a block that isn't freed.
+pub(crate) fn is_live(stage: Stage) -> bool
+    ensures yes { result ≡ true → stage ≡ Live }
+    ensures no { result ≡ false → stage ≡ Live → ⊥ }
+{
+    match stage {
+        Stage::Live => true,
+        Stage::Writing { .. } | Stage::Freed { .. } => false,
+    }
+}
 
 /// Frees a live block in a group, where that is legal.
 pub fn free(world: &mut World, key: Key, group: u64) -> bool
@@ -18,7 +31,7 @@ pub fn free(world: &mut World, key: Key, group: u64) -> bool
     let Some(held) = find(&world.tables.held, key) else {
         return false;
     };
-    if held.stage != Stage::Live || group < world.open_group || group > world.open_group + 1 {
+    if !is_live(held.stage) || !is_due(world, group) {
         return false;
     }
     let freed = Held {

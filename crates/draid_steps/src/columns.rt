@@ -12,14 +12,14 @@ ghost use Rattle.draid_world.specs.World.{AreLow, arm_in, core_of, held_in, name
 
 use draid_machine::{ArmName, Held, Key, Segment, Stage};
 use draid_names::{NUMBERS, NoMemory};
-use draid_world::arms::{is_among, names_of};
+use draid_world::arms::{enter_arm, is_among, names_of};
 use draid_world::sets::add_segment;
 use draid_world::tables::{change, find};
 use draid_world::{Arm, Site, Tables, World};
 use std::collections::{BTreeMap, BTreeSet};
 
 /// A column of a block on an arm.
-#[derive(Clone, Copy, PartialEq, Eq)]
+#[derive(Clone, Copy)]
 pub struct ArmColumn {
     pub key: Key,
     pub column: u32,
@@ -30,8 +30,8 @@ pub struct ArmColumn {
 fn are_listed(names: &[ArmName], landed: &[ArmName]) -> bool
     ensures { result ≡ list_all (has_name names.now) landed.now }
 {
-    for at in 0..landed.len() {
-        if !is_among(names, landed[at]) {
+    for name in landed {
+        if !is_among(names, *name) {
             return false;
         }
     }
@@ -69,8 +69,8 @@ fn are_right(
     requires stripe { stripe < 2 ^ 49 }
     ensures { result ≡ list_all (lands_right (site_layout site.now) (core_of tables.now) stripe landed.now failed.now) names.now }
 {
-    for at in 0..names.len() {
-        if !is_right(site, tables, stripe, landed, failed, names[at]) {
+    for name in names {
+        if !is_right(site, tables, stripe, landed, failed, *name) {
             return false;
         }
     }
@@ -82,8 +82,8 @@ fn is_used(site: &Site, tables: &Tables, stripe: u64, names: &[ArmName], leaf: u
     requires stripe { stripe < 2 ^ 49 }
     ensures { result ≡ list_any (λ n. arms.lies (site_layout site.now) (core_of tables.now).order n stripe leaf) names.now }
 {
-    for at in 0..names.len() {
-        if site.is_at(&tables.order, names[at], stripe, leaf) {
+    for name in names {
+        if site.is_at(&tables.order, *name, stripe, leaf) {
             return true;
         }
     }
@@ -95,11 +95,11 @@ fn are_used(site: &Site, tables: &Tables, stripe: u64, names: &[ArmName], leaves
     requires stripe { stripe < 2 ^ 49 }
     ensures { result ≡ list_all (λ leaf. list_any (λ n. arms.lies (site_layout site.now) (core_of tables.now).order n stripe leaf) names.now && arms.leaf_answers (core_of tables.now) leaf) leaves.now }
 {
-    for at in 0..leaves.len() {
-        if !is_used(site, tables, stripe, names, leaves[at]) {
+    for leaf in leaves {
+        if !is_used(site, tables, stripe, names, *leaf) {
             return false;
         }
-        if !tables.leaf_answers(leaves[at]) {
+        if !tables.leaf_answers(*leaf) {
             return false;
         }
     }
@@ -115,8 +115,7 @@ pub fn log_arm(arms: &mut BTreeMap<ArmName, Arm>, name: ArmName, group: u64) -> 
         return Ok(());
     };
     arm.log.dirty(group)?;
-    arms.insert(name, arm)?;
-    Ok(())
+    enter_arm(arms, name, arm)
 }
 
 /// Logs a group for an arm, unless a column landed on it.
@@ -147,8 +146,8 @@ pub fn log_missed(
     ensures { OnOk result ((n : ArmName) → arm_in arms.new.entries n
         ≡ each_arm (λ m. log_if (has_name names.now m && not (has_name landed.now m)) group) (arm_in arms.old.entries) n) }
 {
-    for at in 0..names.len() {
-        log_unless(arms, landed, names[at], group)?;
+    for name in names {
+        log_unless(arms, landed, *name, group)?;
     }
     Ok(())
 }
@@ -233,11 +232,11 @@ pub fn add_landed(
     ensures { OnOk result ((s : Segment) → has_segment segments.new.keys s
         ≡ (has_segment segments.old.keys s || list_any (λ n. is_row (site_layout site.now) (names_at order.now) key held.now column n held.now.stripes s) landed.now)) }
 {
-    for at in 0..landed.len() {
+    for name in landed {
         let part = ArmColumn {
             key,
             column,
-            arm: landed[at],
+            arm: *name,
         };
         add_rows(site, order, segments, held, part)?;
     }

@@ -5,7 +5,8 @@ ghost use Rattle.draid_machine.specs.Step.{FetchStep};
 ghost use Rattle.draid_steps.specs.Reads.{IsRead, ReadsFrom};
 ghost use Rattle.draid_world.specs.World.{AreLow, core_of, site_layout, state_of};
 
-use draid_machine::{Held, Key, Stage};
+use crate::blocks::is_live;
+use draid_machine::{Held, Key};
 use draid_names::NUMBERS;
 use draid_world::tables::find;
 use draid_world::{Site, Tables, World};
@@ -43,8 +44,8 @@ fn are_read(site: &Site, tables: &Tables, held: Held, leaves: &[u64]) -> bool
     ensures yes { result ≡ true → (leaf : ℕ) → has_number leaves.now leaf ≡ true → IsRead (site_layout site.now) (core_of tables.now) held leaf }
     ensures no { result ≡ false → ((leaf : ℕ) → has_number leaves.now leaf ≡ true → IsRead (site_layout site.now) (core_of tables.now) held leaf) → ⊥ }
 {
-    for at in 0..leaves.len() {
-        if !is_read(site, tables, held, leaves[at]) {
+    for leaf in leaves {
+        if !is_read(site, tables, held, *leaf) {
             return false;
         }
     }
@@ -60,5 +61,8 @@ pub fn may_fetch(site: &Site, world: &World, key: Key, failed: &[u64]) -> bool
     let Some(held) = find(&world.tables.held, key) else {
         return false;
     };
-    held.stage == Stage::Live && are_read(site, &world.tables, held, failed)
+    if !is_live(held.stage) {
+        return false;
+    }
+    are_read(site, &world.tables, held, failed)
 }

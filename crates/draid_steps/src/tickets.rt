@@ -33,7 +33,7 @@ fn has_room(tables: &Tables, version: u32) -> bool
 }
 
 /// Whether a group is the open one or the next.
-fn is_due(world: &World, group: u64) -> bool
+pub(crate) fn is_due(world: &World, group: u64) -> bool
     requires open { world.now.open_group < NUMBERS }
     ensures yes { result ≡ true → IsDue (state_of world.now) group }
     ensures no { result ≡ false → IsDue (state_of world.now) group → ⊥ }

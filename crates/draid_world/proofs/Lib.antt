@@ -11,3 +11,4 @@ pub mod Readings
 pub mod SegmentLists
 pub mod Segments
 pub mod Sizes
+pub mod Walks

@@ -1,5 +1,5 @@
 -- Readings and lists of leaves.
-use Rattle.std.proofs.Common.{◌≡◌, ◌<◌, ◌&&◌, ◌||◌, ◌==◌, ℕ, zero, suc, Bool, true, false, List, [], ◌∷◌, None, find, length, get_or, refl, sym, ◌∙◌, ap, arith}
+use Rattle.std.proofs.Common.{◌≡◌, ◌<◌, ◌&&◌, ◌||◌, ◌==◌, ℕ, zero, suc, Bool, true, false, List, [], ◌∷◌, Some, None, find, length, get_or, refl, sym, ◌∙◌, ap, arith}
 use Rattle.std.proofs.lemmas.Bool.{true≢false}
 use Rattle.std.proofs.lemmas.Bool.Decides.{nat_tests}
 use Rattle.draid_machine.specs.declared.names.ArmName.{ArmName}
@@ -13,6 +13,11 @@ pub reading_else : (l : Layout) (q : Core) (h : Held) (c : ℕ) (names : List Ar
 reading_else l q h c names is none =
     ap (λ o. else_some o (find (λ n. answers l q n h.first) names)) (sym none)
     ∙ ap (λ ns. else_some (find (λ n. answers l q n h.first && is_clean q h.birth n) ns) (find (λ n. answers l q n h.first) ns)) is
+
+pub reading_first : (l : Layout) (q : Core) (h : Held) (c : ℕ) (names : List ArmName) (n : ArmName) → names ≡ q.order (l.slot_of h.first c)
+    → find (λ n. answers l q n h.first && is_clean q h.birth n) names ≡ Some n → Some n ≡ reading l q h c
+reading_first l q h c names n is first =
+    ap (λ o. else_some o (find (λ n. answers l q n h.first) (q.order (l.slot_of h.first c)))) (sym (ap (find (λ n. answers l q n h.first && is_clean q h.birth n)) (sym is) ∙ first))
 
 -- a number of a list stands somewhere
 pub number_at : (xs : List ℕ) (leaf : ℕ) → has_number xs leaf ≡ true → (i : ℕ) × (i < length xs) × (get_or xs i 0 ≡ leaf)

@@ -10,8 +10,8 @@ use draid_machine::ArmName;
 pub fn has_number(numbers: &[u64], number: u64) -> bool
     ensures { result ≡ names.has_number numbers.now number }
 {
-    for at in 0..numbers.len() {
-        if numbers[at] == number {
+    for found in numbers {
+        if *found == number {
             return true;
         }
     }

@@ -28,8 +28,8 @@ pub fn is_same(one: ArmName, other: ArmName) -> bool
 pub fn is_among(names: &[ArmName], name: ArmName) -> bool
     ensures { result ≡ has_name names.now name }
 {
-    for at in 0..names.len() {
-        if is_same(names[at], name) {
+    for found in names {
+        if is_same(*found, name) {
             return true;
         }
     }
@@ -76,8 +76,10 @@ pub fn slot_with(order: &[Vec<ArmName>], name: ArmName) -> Option<usize>
 pub fn enter_arm(arms: &mut BTreeMap<ArmName, Arm>, name: ArmName, arm: Arm) -> Result<(), NoMemory>
     ensures { OnOk result ((n : ArmName) → arm_in arms.new.entries n ≡ set_arm (arm_in arms.old.entries) name (Some (arm_of arm)) n) }
 {
-    arms.insert(name, arm)?;
-    Ok(())
+    match arms.insert(name, arm) {
+        Ok(_) => Ok(()),
+        Err(_) => Err(NoMemory),
+    }
 }
 
 /// Sets whether a leaf that is known is offline.
@@ -95,8 +97,8 @@ pub fn set_offline(arms: &mut BTreeMap<ArmName, Arm>, name: ArmName, offline: bo
 pub fn first_leaf(names: &[ArmName]) -> Option<u64>
     ensures { result ≡ arms.first_leaf names.now }
 {
-    for at in 0..names.len() {
-        if let ArmName::Leaf { leaf } = names[at] {
+    for name in names {
+        if let ArmName::Leaf { leaf } = *name {
             return Some(leaf);
         }
     }
@@ -107,8 +109,8 @@ pub fn first_leaf(names: &[ArmName]) -> Option<u64>
 pub fn first_spare(names: &[ArmName]) -> Option<u32>
     ensures { result ≡ arms.first_spare names.now }
 {
-    for at in 0..names.len() {
-        if let ArmName::Spare { spare } = names[at] {
+    for name in names {
+        if let ArmName::Spare { spare } = *name {
             return Some(spare);
         }
     }

@@ -49,9 +49,9 @@ impl Site {
         requires stripe { stripe < NUMBERS }
         ensures { result ≡ find (λ n. arms.answers (site_layout self.now) (core_of tables.now) n stripe) names.now }
     {
-        for at in 0..names.len() {
-            if self.answers(tables, names[at], stripe) {
-                return Some(names[at]);
+        for name in names {
+            if self.answers(tables, *name, stripe) {
+                return Some(*name);
             }
         }
         None
@@ -68,9 +68,9 @@ impl Site {
         requires stripe { stripe < NUMBERS }
         ensures { result ≡ find (λ n. arms.answers (site_layout self.now) (core_of tables.now) n stripe && arms.is_clean (core_of tables.now) birth n) names.now }
     {
-        for at in 0..names.len() {
-            if self.answers(tables, names[at], stripe) && !tables.is_logged(names[at], birth) {
-                return Some(names[at]);
+        for name in names {
+            if self.answers(tables, *name, stripe) && !tables.is_logged(*name, birth) {
+                return Some(*name);
             }
         }
         None

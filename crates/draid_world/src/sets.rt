@@ -25,8 +25,8 @@ pub fn add_segment(set: &mut BTreeSet<Segment>, segment: Segment) -> Result<(), 
 pub fn put_all(set: &mut BTreeSet<Segment>, segments: &[Segment]) -> Result<(), NoMemory>
     ensures { OnOk result ((s : Segment) → has_segment set.new.keys s ≡ (has_segment set.old.keys s || has_segment segments.now s)) }
 {
-    for at in 0..segments.len() {
-        add_segment(set, segments[at])?;
+    for segment in segments {
+        add_segment(set, *segment)?;
     }
     Ok(())
 }
@@ -42,7 +42,7 @@ fn drop(set: &mut BTreeSet<Segment>, segment: Segment)
 pub fn drop_all(set: &mut BTreeSet<Segment>, segments: &[Segment])
     ensures { (s : Segment) → has_segment set.new.keys s ≡ (has_segment set.old.keys s && not (has_segment segments.now s)) }
 {
-    for at in 0..segments.len() {
-        drop(set, segments[at]);
+    for segment in segments {
+        drop(set, *segment);
     }
 }

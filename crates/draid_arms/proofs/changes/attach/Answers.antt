@@ -1,4 +1,5 @@
-use Rattle.std.proofs.Common.{◌∙◌, ap, refl}
+use Rattle.std.proofs.lemmas.Bool.{true≢false}
+use Rattle.std.proofs.Common.{◌∙◌, ap, refl, sym}
 use Rattle.draid_machine.specs.Names.{has_name}
 use Rattle.draid_world.specs.World.{site_layout, state_of}
 use Rattle.draid_arms.proofs.Changed.{attached_made, may_plan}
@@ -27,3 +28,9 @@ returns-clause-legal c = λ e.
       made = attached_made l w c.args.slot c.args.name last (state_of c.take_in.new.world) (state_of c.replan.new.world) (has_name c.deref.result.now) c.in_ok-moved.ensures.made
           (λ m. ap (λ ns. has_name ns m) c.deref.ensures.value ∙ c.in_ok-moved.ensures.moved m) c.in_ok-replan.ensures;
     }
+
+pub returns-then-not-may_attach-clause-legal : goal.returns-then-not-may_attach-clause-legal
+returns-then-not-may_attach-clause-legal c = λ e. absurd (true≢false (sym e))
+
+pub returns-clause-illegal : goal.returns-clause-illegal
+returns-clause-illegal c = λ e. absurd (true≢false e)

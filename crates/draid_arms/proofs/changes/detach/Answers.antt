@@ -1,4 +1,5 @@
-use Rattle.std.proofs.Common.{◌≡◌, ◌∙◌, ap}
+use Rattle.std.proofs.lemmas.Bool.{true≢false}
+use Rattle.std.proofs.Common.{◌≡◌, ◌∙◌, ap, sym}
 use Rattle.draid_machine.specs.After.{detached_core}
 use Rattle.draid_world.specs.World.{core_of, names_at, site_layout, state_of}
 use Rattle.draid_arms.proofs.Changed.{rearranged_made}
@@ -26,3 +27,9 @@ returns-clause-legal c = λ e.
       last_is = record { one = c.last_group-last.ensures.one; open_group = c.last_group-last.ensures.from; births = c.last_group-last.ensures.births };
       made = rearranged_made l w last q.arm q.order now (names_at c.deref-2.result.now) (state_of c.rearrange.new.world) c.in_ok-rearrange.ensures.made same orders;
     }
+
+pub returns-then-not-may_detach-clause-legal : goal.returns-then-not-may_detach-clause-legal
+returns-then-not-may_detach-clause-legal c = λ e. absurd (true≢false (sym e))
+
+pub returns-clause-illegal : goal.returns-clause-illegal
+returns-clause-illegal c = λ e. absurd (true≢false e)

@@ -1,4 +1,5 @@
-use Rattle.std.proofs.Common.{◌∙◌, ◌||◌, is_some}
+use Rattle.draid_world.proofs.SegmentLists.{or_false}
+use Rattle.std.proofs.Common.{◌∙◌, ◌||◌, is_some, ◌&&◌, ap, sym}
 use Rattle.draid_machine.specs.Claims.{is_at}
 use Rattle.draid_machine.specs.Names.{has_segment}
 use Rattle.draid_world.specs.World.{core_of, kept_in, site_layout}
@@ -11,3 +12,15 @@ loop-segment-preserved c = λ s.
     (is_at (site_layout c.args.site.now) (core_of c.args.tables.now) s || is_some (kept_in c.args.kept.now.entries s))
     (has_segment c.loop-segment.left.keys s) (has_segment c.add_held.new.set.keys s) c.in-Some.ensures.steps (c.in_ok-add_held.ensures s)
     ∙ c.loop-segment.invariant s
+
+pub loop-segment-init : goal.loop-segment-init
+loop-segment-init c = λ s.
+    let test = is_at (site_layout c.args.site.now) (core_of c.args.tables.now) s || is_some (kept_in c.args.kept.now.entries s) in
+    ap (λ ys. has_segment ys s || (has_segment c.into_iter-segment-iterator.result s && test)) c.new-left.ensures.empty
+    ∙ ap (λ ys. has_segment ys s && test) (c.into_iter-segment-iterator.ensures.into_iter_gives ∙ c.iter-segment-items.ensures.rest)
+
+pub returns : goal.returns
+returns c = λ s.
+    let test = is_at (site_layout c.args.site.now) (core_of c.args.tables.now) s || is_some (kept_in c.args.kept.now.entries s) in
+    let cur = has_segment c.loop-segment.left.keys s in
+    sym (ap (λ ys. cur || (has_segment ys s && test)) c.in-None.ensures.steps.0 ∙ or_false cur) ∙ c.loop-segment.invariant s

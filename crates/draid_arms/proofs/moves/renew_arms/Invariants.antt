@@ -5,6 +5,6 @@ use Rattle.draid_machine.specs.Names.{has_name}
 use Rattle.draid_world.specs.World.{arm_in}
 use Rattle.draid_arms.proofs.moves.renew_arms.Given as goal
 
-abbrev pub invariant-loop-at : goal.invariant-loop-at
-invariant-loop-at l =
-    (n : ArmName) → arm_in l.arms.entries n ≡ map_arm (renew_if (has_name (take l.at l.names) n) l.last) (arm_in l.fn.arms.entries n)
+abbrev pub invariant-loop-name : goal.invariant-loop-name
+invariant-loop-name l =
+    (n : ArmName) → arm_in l.arms.entries n ≡ map_arm (renew_if (has_name (take l.name-index l.names) n) l.last) (arm_in l.fn.arms.entries n)

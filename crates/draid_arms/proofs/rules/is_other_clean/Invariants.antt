@@ -5,5 +5,5 @@ use Rattle.draid_machine.specs.declared.names.ArmName.TheVariants.{Leaf}
 use Rattle.draid_world.specs.World.{core_of}
 use Rattle.draid_arms.proofs.rules.is_other_clean.Given as goal
 
-abbrev pub invariant-loop-at : goal.invariant-loop-at
-invariant-loop-at l = (i : ℕ) → i < l.at → name_eq l.name (get_or l.names i (Leaf 0)) ≡ false → HasEmptyLog (core_of l.tables) (get_or l.names i (Leaf 0)) → ⊥
+abbrev pub invariant-loop-other : goal.invariant-loop-other
+invariant-loop-other l = (i : ℕ) → i < l.other-index → name_eq l.name (get_or l.names i (Leaf 0)) ≡ false → HasEmptyLog (core_of l.tables) (get_or l.names i (Leaf 0)) → ⊥

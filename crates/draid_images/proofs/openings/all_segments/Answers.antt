@@ -4,7 +4,7 @@ use Rattle.draid_machine.specs.declared.names.Held.{Held}
 use Rattle.draid_machine.specs.declared.names.Segment.{Segment}
 use Rattle.draid_machine.specs.Claims.{is_on}
 use Rattle.draid_machine.specs.Names.{key_eq, has_segment}
-use Rattle.draid_machine.proofs.Small.{key_true, some_injective, bool_cases}
+use Rattle.draid_machine.proofs.Small.{key_true, some_injective, bool_cases, none_some}
 use Rattle.draid_world.specs.World.{held_in, names_at, site_layout}
 use Rattle.draid_steps.proofs.Entries.{AreApart, AllLow, ordered_apart, head_low, tail_low}
 use Rattle.draid_images.proofs.openings.all_segments.Goals as goal
@@ -43,3 +43,9 @@ loop-key-preserved c =
       apart.1,
       tail_low e c.next.new.self apart (subst AllLow c.in-Some.ensures.steps c.loop-key.invariant.2),
     )
+
+pub returns : goal.returns
+returns c = λ s h found on. elim (c.loop-key.invariant.0 s h found on) [
+  | inl has ↦ has
+  | inr left ↦ absurd (none_some _ h (ap (λ es. held_in es s.key) c.in-None.ensures.steps.0) left)
+]

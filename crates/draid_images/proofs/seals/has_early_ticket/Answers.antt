@@ -1,3 +1,4 @@
+use Rattle.std.proofs.lemmas.Bool.{true≢false}
 use Rattle.std.proofs.Common.{◌∙◌, ◌||◌, Bool, ap, sym}
 use Rattle.std.specs.List.{list_any}
 use Rattle.draid_machine.specs.declared.names.Key.{Key}
@@ -17,3 +18,9 @@ pub returns-clause-no : goal.returns-clause-no
 returns-clause-no c = λ e.
     let test : Key × Held → Bool = λ x. is_early c.args.group x.1 in
     no_held (is_early c.args.group) c.args.held.now.entries (c.loop-found.invariant ∙ ap (list_any test) c.in-None.ensures.steps.0)
+
+pub returns-then-is_early_ticket-clause-no : goal.returns-then-is_early_ticket-clause-no
+returns-then-is_early_ticket-clause-no c = λ e. absurd (true≢false e)
+
+pub returns-clause-yes : goal.returns-clause-yes
+returns-clause-yes c = λ e. absurd (true≢false (sym e))

@@ -1,3 +1,4 @@
+use Rattle.std.proofs.lemmas.Bool.{true≢false}
 use Rattle.std.proofs.Common.{rules, ◌≡◌, ◌∙◌, ap, sym, Some, None, Bool, ℕ}
 use Rattle.draid_machine.specs.Arms.{online}
 use Rattle.draid_machine.specs.declared.names.ArmName.TheVariants.{Leaf}
@@ -36,3 +37,12 @@ returns-clause-legal c = λ e.
         sealed = Some (record { group = t; version = w.asked; core = (c.in_ok-tables.ensures ∙ ap (copied_core (Sealing t)) c.in_ok-seal_tables.ensures) i });
       };
     }
+
+pub returns-then-has_early_ticket-clause-legal : goal.returns-then-has_early_ticket-clause-legal
+returns-then-has_early_ticket-clause-legal c = λ e. absurd (true≢false (sym e))
+
+pub returns-then-not-are_online-clause-legal : goal.returns-then-not-are_online-clause-legal
+returns-then-not-are_online-clause-legal c = λ e. absurd (true≢false (sym e))
+
+pub returns-clause-illegal : goal.returns-clause-illegal
+returns-clause-illegal c = λ e. absurd (true≢false e)

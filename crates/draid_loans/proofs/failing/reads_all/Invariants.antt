@@ -3,5 +3,5 @@ use Rattle.draid_machine.specs.Step.{ReadsThere}
 use Rattle.draid_world.specs.World.{core_of, pass_of, site_layout}
 use Rattle.draid_loans.proofs.failing.reads_all.Given as goal
 
-abbrev pub invariant-loop-at : goal.invariant-loop-at
-invariant-loop-at l = (i : ℕ) → i < l.at → ReadsThere (site_layout l.site) (core_of l.tables) (pass_of l.pass) l.held l.stripe (get_or l.leaves i 0)
+abbrev pub invariant-loop-leaf : goal.invariant-loop-leaf
+invariant-loop-leaf l = (i : ℕ) → i < l.leaf-index → ReadsThere (site_layout l.site) (core_of l.tables) (pass_of l.pass) l.held l.stripe (get_or l.leaves i 0)

@@ -1,5 +1,5 @@
-use Rattle.std.proofs.Common.{◌≤◌, rules, inl, inr, arith, subst}
-use Rattle.std.proofs.lemmas.Bool.{cases_eq}
+use Rattle.std.proofs.Common.{◌≤◌, inl, inr, arith, subst, sym}
+use Rattle.std.proofs.lemmas.Bool.{cases_eq, true≢false}
 use Rattle.draid_loans.specs.Lending.{ReadsAt}
 use Rattle.draid_world.specs.World.{core_of, pass_of, site_layout}
 use Rattle.draid_loans.proofs.failing.reads_there.Goals as goal
@@ -13,6 +13,15 @@ loop-column-preserved c = λ k less reads. elim (cases_eq k c.loop-column.column
 
 pub returns-clause-no : goal.returns-clause-no
 returns-clause-no c = λ e r.
-    let past : c.args.site.now.geometry.g ≤ c.loop-column.column = search rules in
+    let past : c.args.site.now.geometry.g ≤ c.loop-column.column = c.loop-column-test.false in
     let column = r.column in
     c.loop-column.invariant r.c (omega (arith, past, column)) (record { n = r.n; rebuild = r.rebuild; heal = r.heal; lies = r.lies })
+
+pub loop-column-init : goal.loop-column-init
+loop-column-init c = λ k less reads. absurd (omega (arith, less))
+
+pub returns-then-reads_at-clause-no : goal.returns-then-reads_at-clause-no
+returns-then-reads_at-clause-no c = λ e. absurd (true≢false e)
+
+pub returns-clause-yes : goal.returns-clause-yes
+returns-clause-yes c = λ e. absurd (true≢false (sym e))

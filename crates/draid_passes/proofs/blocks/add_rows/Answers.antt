@@ -1,4 +1,4 @@
-use Rattle.std.proofs.Common.{◌≤◌, rules}
+use Rattle.std.proofs.Common.{◌≤◌}
 use Rattle.draid_machine.specs.declared.names.Segment.{Segment}
 use Rattle.draid_world.specs.World.{core_of, site_layout}
 use Rattle.draid_passes.specs.Blocks.{OnArm}
@@ -19,5 +19,5 @@ loop-row-preserved c =
 pub returns : goal.returns
 returns c =
     let part = c.args.part in
-    let past : part.held.stripes ≤ c.loop-row.row = search rules in
+    let past : part.held.stripes ≤ c.loop-row.row = c.loop-row-test.false in
     rows_all (site_layout c.args.site.now) (core_of c.args.tables.now).order part.key part.held part.column c.args.name c.loop-row.row c.args.out.now.items c.loop-row.out.items past c.loop-row.invariant

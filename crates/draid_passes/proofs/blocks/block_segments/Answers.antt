@@ -20,6 +20,6 @@ loop-column-preserved c =
 pub returns : goal.returns
 returns c =
     let l = site_layout c.args.site.now in
-    let past : l.columns ≤ c.loop-column.column = search rules in
+    let past : l.columns ≤ c.loop-column.column = c.loop-column-test.false in
     let within : c.loop-column.column ≤ l.columns = search rules in
     segments_all l (core_of c.args.tables.now).order c.args.key c.args.held c.loop-column.column c.loop-column.out.items past within c.loop-column.invariant

@@ -1,4 +1,5 @@
-use Rattle.std.proofs.Common.{◌≡◌, ◌==◌, ◌<◌, ◌≤◌, ◌∙◌, true, get_or, length, rules, sym, subst, inl, inr}
+use Rattle.std.proofs.lemmas.Bool.{true≢false}
+use Rattle.std.proofs.Common.{◌≡◌, ◌==◌, ◌<◌, ◌≤◌, ◌∙◌, true, get_or, length, sym, subst, inl, inr}
 use Rattle.std.proofs.lemmas.List.{take_all}
 use Rattle.draid_machine.specs.declared.names.ArmName.TheVariants.{Leaf}
 use Rattle.draid_machine.specs.Arms.{lies_on}
@@ -10,19 +11,28 @@ use Rattle.draid_passes.proofs.ends.any_lies_on.Goals as goal
 
 pub returns-then-lies_on-clause-yes : goal.returns-then-lies_on-clause-yes
 returns-then-lies_on-clause-yes c = λ e.
-    (get_or c.args.names.now c.loop-at.at (Leaf 0), name_here c.args.names.now c.loop-at.at (Leaf 0) (search rules), sym c.lies_on.ensures ∙ c.if-lies_on.true)
+    (get_or c.args.names.now c.loop-name.name-index (Leaf 0), name_here c.args.names.now c.loop-name.name-index (Leaf 0) c.loop-name-test.true, sym c.lies_on.ensures ∙ c.if-lies_on.true)
 
-pub loop-at-preserved : goal.loop-at-preserved
-loop-at-preserved c = λ arm has lies.
-    let less : c.loop-at.at < length c.args.names.now = search rules in
-    elim (name_next c.args.names.now c.loop-at.at (Leaf 0) arm less has) [
-      | inl old ↦ c.loop-at.invariant arm old lies
-      | inr new ↦ absurd_test (lies_on (site_layout c.args.site.now) (core_of c.args.tables.now) (λ m. m == c.args.leaf) (get_or c.args.names.now c.loop-at.at (Leaf 0)))
+pub loop-name-preserved : goal.loop-name-preserved
+loop-name-preserved c = λ arm has lies.
+    let less : c.loop-name.name-index < length c.args.names.now = c.loop-name-test.true in
+    elim (name_next c.args.names.now c.loop-name.name-index (Leaf 0) arm less has) [
+      | inl old ↦ c.loop-name.invariant arm old lies
+      | inr new ↦ absurd_test (lies_on (site_layout c.args.site.now) (core_of c.args.tables.now) (λ m. m == c.args.leaf) (get_or c.args.names.now c.loop-name.name-index (Leaf 0)))
           (subst (λ n. lies_on (site_layout c.args.site.now) (core_of c.args.tables.now) (λ m. m == c.args.leaf) n ≡ true) (sym new) lies)
           (sym c.lies_on.ensures ∙ c.if-lies_on.false)
     ]
 
 pub returns-clause-no : goal.returns-clause-no
 returns-clause-no c = λ e arm has lies.
-    let past : length c.args.names.now ≤ c.loop-at.at = search rules in
-    c.loop-at.invariant arm (subst (λ ns. has_name ns arm ≡ true) (sym (take_all c.loop-at.at c.args.names.now past)) has) lies
+    let past : length c.args.names.now ≤ c.loop-name.name-index = c.loop-name-test.false in
+    c.loop-name.invariant arm (subst (λ ns. has_name ns arm ≡ true) (sym (take_all c.loop-name.name-index c.args.names.now past)) has) lies
+
+pub loop-name-init : goal.loop-name-init
+loop-name-init c = λ arm has lies. absurd (true≢false (sym has))
+
+pub returns-then-lies_on-clause-no : goal.returns-then-lies_on-clause-no
+returns-then-lies_on-clause-no c = λ e. absurd (true≢false e)
+
+pub returns-clause-yes : goal.returns-clause-yes
+returns-clause-yes c = λ e. absurd (true≢false (sym e))

@@ -5,6 +5,6 @@ use Rattle.draid_machine.specs.Names.{has_name}
 use Rattle.draid_world.specs.World.{core_of, site_layout}
 use Rattle.draid_passes.proofs.landings.any_answers.Given as goal
 
-abbrev pub invariant-loop-at : goal.invariant-loop-at
-invariant-loop-at l =
-    (arm : ArmName) → has_name (take l.at l.names) arm ≡ true → leaf_at (site_layout l.site) (core_of l.tables).order arm l.stripe ≡ Some l.leaf → ⊥
+abbrev pub invariant-loop-name : goal.invariant-loop-name
+invariant-loop-name l =
+    (arm : ArmName) → has_name (take l.name-index l.names) arm ≡ true → leaf_at (site_layout l.site) (core_of l.tables).order arm l.stripe ≡ Some l.leaf → ⊥

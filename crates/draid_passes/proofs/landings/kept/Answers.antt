@@ -1,7 +1,7 @@
 use Rattle.std.proofs.Common.{◌∷◌, ◌++◌, ◌∙◌, [], Bool, not, get_or, take, ap, sym}
 use Rattle.std.specs.List.{filter}
 use Rattle.std.specs.Prelude.{cond}
-use Rattle.std.proofs.lemmas.List.{append-nil}
+use Rattle.std.proofs.lemmas.List.{append-nil, take_all}
 use Rattle.std.proofs.lemmas.List.Elements.{filter_more}
 use Rattle.draid_machine.specs.After.{misses_stripe}
 use Rattle.draid_machine.specs.declared.names.ArmName.{ArmName}
@@ -10,18 +10,26 @@ use Rattle.draid_world.specs.World.{core_of, site_layout}
 use Rattle.draid_passes.proofs.landings.kept.Goals as goal
 use Rattle.draid_passes.proofs.landings.kept.Goals.{then-not-misses+in_ok-push, else-not-misses}
 
-pub loop-at-preserved : goal.loop-at-preserved
-loop-at-preserved c =
+pub loop-name-preserved : goal.loop-name-preserved
+loop-name-preserved c =
     let names = c.args.names.now in
-    let at = c.loop-at.at in
+    let at = c.loop-name.name-index in
     let test : ArmName → Bool = λ n. not (misses_stripe (site_layout c.args.site.now) (core_of c.args.tables.now) c.args.stripe c.args.failed.now n) in
     let x : ArmName = get_or names at (Leaf 0) in
-    let more = filter_more test names at (Leaf 0) c.loop-at-test.true in
+    let more = filter_more test names at (Leaf 0) c.loop-name-test.true in
     elim c.if-not-misses.branch [
       | then-not-misses+in_ok-push w ↦
-          ap (λ v. v.items) w.out-is ∙ w.in_ok-push.ensures.items ∙ ap (λ xs. xs ++ x ∷ []) c.loop-at.invariant
+          ap (λ v. v.items) w.out-is ∙ w.in_ok-push.ensures.items ∙ ap (λ xs. xs ++ x ∷ []) c.loop-name.invariant
           ∙ sym (more ∙ ap (λ b. filter test (take at names) ++ cond (not b) (x ∷ []) []) (sym w.if-not-misses.ensures))
       | else-not-misses w ↦
-          ap (λ v. v.items) w.out-is ∙ c.loop-at.invariant
+          ap (λ v. v.items) w.out-is ∙ c.loop-name.invariant
           ∙ sym (more ∙ ap (λ b. filter test (take at names) ++ cond (not b) (x ∷ []) []) (sym w.if-not-misses.ensures) ∙ append-nil (filter test (take at names)))
     ]
+
+pub loop-name-init : goal.loop-name-init
+loop-name-init c = c.new-out.ensures.items
+
+pub returns : goal.returns
+returns c =
+    let test : ArmName → Bool = λ n. not (misses_stripe (site_layout c.args.site.now) (core_of c.args.tables.now) c.args.stripe c.args.failed.now n) in
+    c.loop-name.invariant ∙ ap (filter test) (take_all c.loop-name.name-index c.args.names.now c.loop-name-test.false)

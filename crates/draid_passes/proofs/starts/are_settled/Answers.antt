@@ -1,3 +1,4 @@
+use Rattle.std.proofs.lemmas.Bool.{true≢false}
 use Rattle.std.proofs.Common.{◌≡◌, ◌≤◌, true, sym, ◌∙◌, arith}
 use Rattle.draid_machine.specs.Names.{is_block}
 use Rattle.draid_machine.proofs.Small.{absurd_test}
@@ -28,3 +29,9 @@ returns-then-not-is_block-clause-no c = λ e settled.
       | then-not-is_block-via-then-not-is_block w ↦ absurd_test (is_block c.in-Some.block.now.stage) block (sym c.is_block.ensures ∙ w.if-not-is_block.true)
       | then-not-is_block-via-else-not-is_block+then-block-group w ↦ absurd (omega (arith, birth, w.if-block-group.true))
     ]
+
+pub returns-then-not-is_block-clause-yes : goal.returns-then-not-is_block-clause-yes
+returns-then-not-is_block-clause-yes c = λ e. absurd (true≢false (sym e))
+
+pub returns-clause-no : goal.returns-clause-no
+returns-clause-no c = λ e. absurd (true≢false e)

@@ -4,5 +4,5 @@ use Rattle.draid_world.specs.World.{core_of, loan_of, site_layout}
 use Rattle.draid_world.proofs.Picks.{ArePicked}
 use Rattle.draid_rebuilds.proofs.mending.doubted.Given as goal
 
-abbrev pub invariant-loop-at : goal.invariant-loop-at
-invariant-loop-at l = ArePicked (is_doubtful (site_layout l.site) (core_of l.tables) (has_segment l.aside.keys) (loan_of l.loan)) l.all l.at l.out.items
+abbrev pub invariant-loop-segment : goal.invariant-loop-segment
+invariant-loop-segment l = ArePicked (is_doubtful (site_layout l.site) (core_of l.tables) (has_segment l.aside.keys) (loan_of l.loan)) l.all l.segment-index l.out.items

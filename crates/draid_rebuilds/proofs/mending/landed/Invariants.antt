@@ -5,5 +5,5 @@ use Rattle.draid_world.specs.World.{core_of, site_layout}
 use Rattle.draid_world.proofs.Picks.{ArePicked}
 use Rattle.draid_rebuilds.proofs.mending.landed.Given as goal
 
-abbrev pub invariant-loop-at : goal.invariant-loop-at
-invariant-loop-at l = ArePicked (λ (s : Segment). not (fails (site_layout l.site) (core_of l.tables) l.failed s.arm l.stripe)) l.all l.at l.out.items
+abbrev pub invariant-loop-segment : goal.invariant-loop-segment
+invariant-loop-segment l = ArePicked (λ (s : Segment). not (fails (site_layout l.site) (core_of l.tables) l.failed s.arm l.stripe)) l.all l.segment-index l.out.items

@@ -1,5 +1,5 @@
-use Rattle.std.proofs.Common.{◌≡◌, true, false, Result, Ok, Err, IfOk, refl, subst}
-use Rattle.draid_machine.specs.Step.{Step}
+use Rattle.std.proofs.Common.{◌≡◌, true, false, Result, Ok, Err, IfOk, refl, subst, sym}
+use Rattle.draid_machine.specs.Step.{Step, DoneStep, FetchStep, LendStep, ReopenStep, SealStep}
 use Rattle.draid_machine.specs.declared.event.Event.{Event}
 use Rattle.draid_world.specs.World.{site_layout, state_of}
 use Rattle.draid_replay.proofs.events.advance.Goals as goal
@@ -109,3 +109,49 @@ returns-in-Cancel-clause-legal c = λ e. rw c.in-Cancel.is (c.cancel.ensures.leg
 pub returns-in-Cancel-clause-illegal : goal.returns-in-Cancel-clause-illegal
 returns-in-Cancel-clause-illegal c = λ e new step.
     c.cancel.ensures.illegal (ok_same _ _ _ refl e) new (subst (λ (x : Event). Step (site_layout c.args.site.now) (state_of c.args.world.now) x new) c.in-Cancel.is step)
+
+pub returns-in-Begin-clause-legal : goal.returns-in-Begin-clause-legal
+returns-in-Begin-clause-legal c = c.open_ticket.ensures.legal
+
+pub returns-in-Begin-clause-illegal : goal.returns-in-Begin-clause-illegal
+returns-in-Begin-clause-illegal c = c.open_ticket.ensures.illegal
+
+pub returns-in-Fetch-clause-legal : goal.returns-in-Fetch-clause-legal
+returns-in-Fetch-clause-legal c = λ e.
+    rw c.in-Fetch.is (subst (λ fs. FetchStep (site_layout c.args.site.now) (state_of c.args.world.now) c.in-Fetch.key fs (state_of c.args.world.now)) c.deref.ensures.value (c.may_fetch.ensures.legal (ok_same _ _ _ refl e)))
+
+pub returns-in-Fetch-clause-illegal : goal.returns-in-Fetch-clause-illegal
+returns-in-Fetch-clause-illegal c = λ e new step.
+    c.may_fetch.ensures.illegal (ok_same _ _ _ refl e) new (subst (λ fs. FetchStep (site_layout c.args.site.now) (state_of c.args.world.now) c.in-Fetch.key fs new) (sym c.deref.ensures.value) (subst (λ (x : Event). Step (site_layout c.args.site.now) (state_of c.args.world.now) x new) c.in-Fetch.is step))
+
+pub returns-in-Seal-clause-legal : goal.returns-in-Seal-clause-legal
+returns-in-Seal-clause-legal c = λ e.
+    rw c.in-Seal.is (subst (λ fs. SealStep (site_layout c.args.site.now) (state_of c.args.world.now) c.in-Seal.group fs (state_of c.seal.new.world)) c.deref-in-Seal.ensures.value (at_ok c.seal.result true _ c.seal.ensures.legal e refl))
+
+pub returns-in-Seal-clause-illegal : goal.returns-in-Seal-clause-illegal
+returns-in-Seal-clause-illegal c = λ e new step.
+    at_ok c.seal.result false _ c.seal.ensures.illegal e refl new (subst (λ fs. SealStep (site_layout c.args.site.now) (state_of c.args.world.now) c.in-Seal.group fs new) (sym c.deref-in-Seal.ensures.value) (subst (λ (x : Event). Step (site_layout c.args.site.now) (state_of c.args.world.now) x new) c.in-Seal.is step))
+
+pub returns-in-Reopen-clause-legal : goal.returns-in-Reopen-clause-legal
+returns-in-Reopen-clause-legal c = λ e.
+    rw c.in-Reopen.is (subst (λ fs. ReopenStep (site_layout c.args.site.now) (state_of c.args.world.now) c.in-Reopen.group fs (state_of c.reopen.new.world)) c.deref-in-Reopen.ensures.value (at_ok c.reopen.result true _ c.reopen.ensures.legal e refl))
+
+pub returns-in-Reopen-clause-illegal : goal.returns-in-Reopen-clause-illegal
+returns-in-Reopen-clause-illegal c = λ e new step.
+    at_ok c.reopen.result false _ c.reopen.ensures.illegal e refl new (subst (λ fs. ReopenStep (site_layout c.args.site.now) (state_of c.args.world.now) c.in-Reopen.group fs new) (sym c.deref-in-Reopen.ensures.value) (subst (λ (x : Event). Step (site_layout c.args.site.now) (state_of c.args.world.now) x new) c.in-Reopen.is step))
+
+pub returns-in-Lend-clause-legal : goal.returns-in-Lend-clause-legal
+returns-in-Lend-clause-legal c = λ e.
+    rw c.in-Lend.is (subst (λ fs. LendStep (site_layout c.args.site.now) (state_of c.args.world.now) fs (state_of c.lend.new.world)) c.deref-in-Lend.ensures.value (c.lend.ensures.legal e))
+
+pub returns-in-Lend-clause-illegal : goal.returns-in-Lend-clause-illegal
+returns-in-Lend-clause-illegal c = λ e new step.
+    c.lend.ensures.illegal e new (subst (λ fs. LendStep (site_layout c.args.site.now) (state_of c.args.world.now) fs new) (sym c.deref-in-Lend.ensures.value) (subst (λ (x : Event). Step (site_layout c.args.site.now) (state_of c.args.world.now) x new) c.in-Lend.is step))
+
+pub returns-in-Done-clause-legal : goal.returns-in-Done-clause-legal
+returns-in-Done-clause-legal c = λ e.
+    rw c.in-Done.is (subst (λ fs. DoneStep (site_layout c.args.site.now) (state_of c.args.world.now) fs (state_of c.done.new.world)) c.deref-in-Done.ensures.value (c.done.ensures.legal (ok_same _ _ _ refl e)))
+
+pub returns-in-Done-clause-illegal : goal.returns-in-Done-clause-illegal
+returns-in-Done-clause-illegal c = λ e new step.
+    c.done.ensures.illegal (ok_same _ _ _ refl e) new (subst (λ fs. DoneStep (site_layout c.args.site.now) (state_of c.args.world.now) fs new) (sym c.deref-in-Done.ensures.value) (subst (λ (x : Event). Step (site_layout c.args.site.now) (state_of c.args.world.now) x new) c.in-Done.is step))

@@ -3,5 +3,5 @@ use Rattle.draid_world.specs.World.{core_of}
 use Rattle.draid_world.proofs.Picks.{ArePicked}
 use Rattle.draid_scrubs.proofs.healing.doubted.Given as goal
 
-abbrev pub invariant-loop-at : goal.invariant-loop-at
-invariant-loop-at l = ArePicked (is_dubious (core_of l.tables) l.birth l.patched) l.all l.at l.out.items
+abbrev pub invariant-loop-segment : goal.invariant-loop-segment
+invariant-loop-segment l = ArePicked (is_dubious (core_of l.tables) l.birth l.patched) l.all l.segment-index l.out.items

@@ -1,5 +1,5 @@
-use Rattle.std.proofs.Common.{◌≤◌, ◌∙◌, ap, sym, rules, inl, inr, arith, subst}
-use Rattle.std.proofs.lemmas.Bool.{cases_eq}
+use Rattle.std.proofs.Common.{◌≤◌, ◌∙◌, ap, sym, inl, inr, arith, subst}
+use Rattle.std.proofs.lemmas.Bool.{cases_eq, true≢false}
 use Rattle.draid_machine.specs.Names.{has_name}
 use Rattle.draid_machine.specs.Step.{FailsThere}
 use Rattle.draid_world.specs.World.{core_of, names_at, site_layout}
@@ -30,6 +30,15 @@ loop-column-preserved c =
 
 pub returns-clause-no : goal.returns-clause-no
 returns-clause-no c = λ e heals.
-    let past : c.args.site.now.geometry.g ≤ c.loop-column.column = search rules in
+    let past : c.args.site.now.geometry.g ≤ c.loop-column.column = c.loop-column-test.false in
     let inside = heals.inside in
     c.loop-column.invariant heals.column (omega (arith, past, inside)) heals.there
+
+pub loop-column-init : goal.loop-column-init
+loop-column-init c = λ k less fails. absurd (omega (arith, less))
+
+pub returns-then-any_answers-clause-no : goal.returns-then-any_answers-clause-no
+returns-then-any_answers-clause-no c = λ e. absurd (true≢false e)
+
+pub returns-clause-yes : goal.returns-clause-yes
+returns-clause-yes c = λ e. absurd (true≢false (sym e))

@@ -7,7 +7,7 @@ use Rattle.draid_world.specs.World.{names_at, site_layout}
 use Rattle.draid_steps.specs.Columns.{is_row}
 use Rattle.draid_steps.proofs.columns.add_landed.Given as goal
 
-abbrev pub invariant-loop-at : goal.invariant-loop-at
-invariant-loop-at l = (s : Segment) →
+abbrev pub invariant-loop-name : goal.invariant-loop-name
+invariant-loop-name l = (s : Segment) →
     let test : ArmName → Bool = λ n. is_row (site_layout l.site) (names_at l.order) l.key l.held l.column n l.held.stripes s in
-    (has_segment l.segments.keys s || list_any test (drop l.at l.landed)) ≡ (has_segment l.fn.segments.keys s || list_any test l.landed)
+    (has_segment l.segments.keys s || list_any test (drop l.name-index l.landed)) ≡ (has_segment l.fn.segments.keys s || list_any test l.landed)

@@ -1,4 +1,4 @@
-use Rattle.std.proofs.Common.{◌∙◌, Bool, get_or, ap, sym}
+use Rattle.std.proofs.Common.{◌∙◌, Bool, get_or, ap, refl, sym}
 use Rattle.std.specs.List.{list_any}
 use Rattle.std.proofs.lemmas.List.{drop_all}
 use Rattle.draid_machine.specs.Arms as arms
@@ -11,16 +11,19 @@ use Rattle.draid_steps.proofs.columns.is_used.Goals as goal
 pub returns-then-is_at : goal.returns-then-is_at
 returns-then-is_at c =
     let test : ArmName → Bool = λ n. arms.lies (site_layout c.args.site.now) (core_of c.args.tables.now).order n c.args.stripe c.args.leaf in
-    sym (c.loop-at.invariant ∙ found_any test c.args.names.now c.loop-at.at (Leaf 0) c.loop-at-test.true
-    (ap (λ vs. arms.lies (site_layout c.args.site.now) (names_at vs) (get_or c.args.names.now c.loop-at.at (Leaf 0)) c.args.stripe c.args.leaf) (sym c.deref.ensures.value) ∙ sym c.if-is_at.ensures))
+    sym (c.loop-name.invariant ∙ found_any test c.args.names.now c.loop-name.name-index (Leaf 0) c.loop-name-test.true
+    (ap (λ vs. arms.lies (site_layout c.args.site.now) (names_at vs) (get_or c.args.names.now c.loop-name.name-index (Leaf 0)) c.args.stripe c.args.leaf) (sym c.deref.ensures.value) ∙ sym c.if-is_at.ensures))
 
-pub loop-at-preserved : goal.loop-at-preserved
-loop-at-preserved c =
+pub loop-name-preserved : goal.loop-name-preserved
+loop-name-preserved c =
     let test : ArmName → Bool = λ n. arms.lies (site_layout c.args.site.now) (core_of c.args.tables.now).order n c.args.stripe c.args.leaf in
-    c.loop-at.invariant ∙ next_any test c.args.names.now c.loop-at.at (Leaf 0) c.loop-at-test.true
-    (ap (λ vs. arms.lies (site_layout c.args.site.now) (names_at vs) (get_or c.args.names.now c.loop-at.at (Leaf 0)) c.args.stripe c.args.leaf) (sym c.deref.ensures.value) ∙ sym c.if-is_at.ensures)
+    c.loop-name.invariant ∙ next_any test c.args.names.now c.loop-name.name-index (Leaf 0) c.loop-name-test.true
+    (ap (λ vs. arms.lies (site_layout c.args.site.now) (names_at vs) (get_or c.args.names.now c.loop-name.name-index (Leaf 0)) c.args.stripe c.args.leaf) (sym c.deref.ensures.value) ∙ sym c.if-is_at.ensures)
 
 pub returns : goal.returns
 returns c =
     let test : ArmName → Bool = λ n. arms.lies (site_layout c.args.site.now) (core_of c.args.tables.now).order n c.args.stripe c.args.leaf in
-    sym (c.loop-at.invariant ∙ ap (list_any test) (drop_all c.loop-at.at c.args.names.now c.loop-at-test.false))
+    sym (c.loop-name.invariant ∙ ap (list_any test) (drop_all c.loop-name.name-index c.args.names.now c.loop-name-test.false))
+
+pub loop-name-init : goal.loop-name-init
+loop-name-init c = refl

@@ -1,7 +1,7 @@
 use Rattle.std.proofs.Common.{◌∙◌, sym, Some, None}
 use Rattle.draid_world.specs.World.{arm_in, arm_of}
 use Rattle.draid_world.specs.declared.world.Arm.{Arm}
-use Rattle.draid_world.proofs.Maps.{arm_found, arm_updated}
+use Rattle.draid_world.proofs.Maps.{arm_found, arm_updated, on_ok}
 use Rattle.draid_steps.proofs.Logs.{log_put, log_absent}
 use Rattle.draid_steps.proofs.columns.log_arm.Goals as goal
 
@@ -14,8 +14,8 @@ returns-in_default c =
 pub returns : goal.returns
 returns c =
     let put : Arm = record c.in-Some.arm { log = c.dirty.new.self } in
-    log_put (arm_in c.args.arms.now.entries) (arm_in c.remove.new.self.entries) (arm_in c.insert.new.self.entries) c.args.name (arm_of c.in-Some.arm) (arm_of put) c.args.group
+    on_ok c.enter_arm.result (λ entered. log_put (arm_in c.args.arms.now.entries) (arm_in c.remove.new.self.entries) (arm_in c.enter_arm.new.arms.entries) c.args.name (arm_of c.in-Some.arm) (arm_of put) c.args.group
     (arm_found c.args.arms.now.entries c.args.name (Some c.in-Some.arm) (sym c.remove.ensures.value ∙ c.in-Some.is))
     (arm_updated c.args.arms.now.entries c.remove.new.self.entries c.args.name None c.remove.ensures.updates.0)
-    (arm_updated c.remove.new.self.entries c.insert.new.self.entries c.args.name (Some put) c.in_ok-insert.ensures.updates.0)
-    (λ i. record (arm_of c.in-Some.arm) { log = λ x. c.in_ok-dirty.ensures.ok x i })
+    entered
+    (λ i. record (arm_of c.in-Some.arm) { log = λ x. c.in_ok-dirty.ensures.ok x i })) c.enter_arm.ensures

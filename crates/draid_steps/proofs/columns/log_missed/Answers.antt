@@ -7,17 +7,17 @@ use Rattle.draid_world.specs.World.{arm_in}
 use Rattle.draid_steps.proofs.Logs.{log_step, map_none}
 use Rattle.draid_steps.proofs.columns.log_missed.Goals as goal
 
-pub loop-at-init : goal.loop-at-init
-loop-at-init c = λ n. refl
+pub loop-name-init : goal.loop-name-init
+loop-name-init c = λ n. refl
 
-pub loop-at-preserved : goal.loop-at-preserved
-loop-at-preserved c = λ n.
-    log_step c.args.names.now c.args.landed.now c.args.group c.loop-at.at (Leaf 0) (arm_in c.loop-at.arms.entries) (arm_in c.log_unless.new.arms.entries) c.loop-at-test.true
+pub loop-name-preserved : goal.loop-name-preserved
+loop-name-preserved c = λ n.
+    log_step c.args.names.now c.args.landed.now c.args.group c.loop-name.name-index (Leaf 0) (arm_in c.loop-name.arms.entries) (arm_in c.log_unless.new.arms.entries) c.loop-name-test.true
     c.in_ok-log_unless.ensures n
-    ∙ c.loop-at.invariant n
+    ∙ c.loop-name.invariant n
 
 pub returns : goal.returns
 returns c = λ n.
-    sym (map_none c.args.group (arm_in c.loop-at.arms.entries n))
-    ∙ ap (λ ns. map_arm (log_if (has_name ns n && not (has_name c.args.landed.now n)) c.args.group) (arm_in c.loop-at.arms.entries n)) (sym (drop_all c.loop-at.at c.args.names.now c.loop-at-test.false))
-    ∙ c.loop-at.invariant n
+    sym (map_none c.args.group (arm_in c.loop-name.arms.entries n))
+    ∙ ap (λ ns. map_arm (log_if (has_name ns n && not (has_name c.args.landed.now n)) c.args.group) (arm_in c.loop-name.arms.entries n)) (sym (drop_all c.loop-name.name-index c.args.names.now c.loop-name-test.false))
+    ∙ c.loop-name.invariant n

@@ -4,7 +4,7 @@ use Rattle.draid_machine.specs.Arms as arms
 use Rattle.draid_world.specs.World.{core_of, site_layout}
 use Rattle.draid_world.proofs.site.Site.first_answering.Given as goal
 
-abbrev pub invariant-loop-at : goal.invariant-loop-at
-invariant-loop-at l =
+abbrev pub invariant-loop-name : goal.invariant-loop-name
+invariant-loop-name l =
     let test : ArmName → _ = λ n. arms.answers (site_layout l.self) (core_of l.tables) n l.stripe in
-    find test l.names ≡ find test (drop l.at l.names)
+    find test l.names ≡ find test (drop l.name-index l.names)

@@ -2,7 +2,7 @@ use Rattle.std.proofs.Common.{◌≡◌, ◌-◌, ◌+◌, Some, None, arith, sy
 use Rattle.draid_chain.specs.Chain.{chain_end, spare_slot}
 use Rattle.draid_machine.specs.Arms.{first_spare, first_spares}
 use Rattle.draid_world.specs.World.{names_at}
-use Rattle.draid_world.proofs.Chains.{end_from, end_is, ended, further}
+use Rattle.draid_world.proofs.Chains.{end_from, end_is, ended, further, passed_all}
 use Rattle.draid_world.proofs.site.Site.home.Goals as goal
 
 pub loop-passed-init : goal.loop-passed-init
@@ -32,4 +32,10 @@ loop-passed-preserved c =
     let there : first c.loop-passed.slot ≡ Some c.in-Some.next = sym (ap first_spare c.names_of.ensures) ∙ sym c.first_spare.ensures ∙ c.in-Some.is in
     ap (λ slot. end_from slot_at first (spares - (c.loop-passed._passed + 1)) slot) c.slot_at_spare-slot-in-Some.ensures
     ∙ further slot_at first spares c.loop-passed._passed c.loop-passed.slot c.in-Some.next c.loop-passed-test.true there
+    ∙ c.loop-passed.invariant
+
+pub returns : goal.returns
+returns c =
+    sym (passed_all (spare_slot c.args.self.now.perms c.slice_of-slice.result) (first_spares (names_at c.args.order.now)) c.args.self.now.geometry.spec.spares c.loop-passed._passed c.loop-passed.slot
+    c.loop-passed-test.false)
     ∙ c.loop-passed.invariant
