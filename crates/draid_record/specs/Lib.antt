@@ -1,4 +1,5 @@
 pub mod Grammar
+pub mod Reader
 pub mod Reading
 pub mod Record
 pub mod Uber

@@ -10,6 +10,7 @@ mod law;
 mod limits;
 mod log;
 mod pass;
+mod reader;
 mod record;
 mod uber;
 mod writing;
