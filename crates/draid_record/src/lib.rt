@@ -13,6 +13,7 @@ mod pass;
 mod reader;
 mod record;
 mod uber;
+mod writer;
 mod writing;
 
 pub use fault::RecordFault;
