@@ -13,7 +13,7 @@ IsBytes bytes = (i : ℕ) → get_or bytes i 0 < 256
 one_power : (n : ℕ) → 256 ^ suc n ≡ 256 ^ n * 256
 one_power n = let next : suc n ≡ n + 1 = omega arith in ap (λ k. 256 ^ k) next ∙ pow-add 256 n 1
 
-some_power : (n : ℕ) → 0 < 256 ^ n
+pub some_power : (n : ℕ) → 0 < 256 ^ n
 some_power zero = omega arith
 some_power (suc n) = let one = one_power n in let some = some_power n in omega arith
 

@@ -1,16 +1,14 @@
 -- What a grammar spells is what is read by it.
 use Rattle.std.proofs.Common.{◌≡◌, ℕ, ◌+◌, ◌^◌, ◌<◌, ◌≤◌, Bool, true, false, cond, ltb, leb, List, [], ◌++◌, length, take, drop, Result, Ok, Err, refl, sym, ap, ap₂, subst, ◌∙◌, append_assoc, arith}
 use Rattle.std.specs.Prelude.{◌&&◌}
-use Rattle.std.proofs.lemmas.Bool.{false≢true, ltb-false, le-ltb}
+use Rattle.std.proofs.lemmas.Bool.{ltb-false, le-ltb}
 use Rattle.std.proofs.lemmas.Bool.Decides.{nat_tests}
 use Rattle.std.proofs.lemmas.List.{take_at, drop_at, take-append-drop, length-append, length-take, get_or-drop}
 use Rattle.byteorder.specs.Endian.{big_bytes, big_number}
 use Rattle.byteorder.specs.Numbers.{big_from-lt, big_number-reads_back, length-bytes_high_first}
 use Rattle.draid_record.specs.declared.fault.Fault.{Fault}
-use Rattle.draid_record.specs.Grammar.{Grammar, Done, Number, Bytes, Check, Spells, ◌>>=◌, check}
-use Rattle.draid_record.specs.declared.fault.ReadError.{ReadError}
-use Rattle.draid_record.specs.declared.fault.ReadError.TheVariants as errors
-use Rattle.draid_record.specs.Reading.{Fails, bytes_at, cut, number_at, range, read, then_read}
+use Rattle.draid_record.specs.Grammar.{Grammar, Done, Number, Bytes, Check, Spells, ◌>>=◌}
+use Rattle.draid_record.specs.Reading.{bytes_at, cut, number_at, range, read, then_read}
 use Rattle.draid_record.proofs.Digits.{IsBytes, written_back}
 
 then_assoc : {A B C : Type 0} (r : Result A Fault) (f : A → Result B Fault) (g : B → Result C Fault) → then_read (then_read r f) g ≡ then_read r (λ x. then_read (f x) g)
@@ -163,26 +161,3 @@ spells_then (Number width low high next) f front rest x y is more =
 spells_then (Bytes width next) f front rest x y is more =
     (is.0, is.1 ++ rest, ap (λ bytes. bytes ++ rest) is.2 ∙ append_assoc is.0 is.1 rest, is.3, spells_then (next is.0) f is.1 rest x y is.4 more)
 spells_then (Check holds back next) f front rest x y is more = (is.0, spells_then next f front rest x y is.1 more)
-
--- ---- what is read behind a grammar
-
-pub after_ok : {A B : Type 0} (g : Grammar A) (f : A → Grammar B) (bytes rest : List ℕ) (x : A) → read g bytes ≡ Ok (x, rest) → read (g >>= f) bytes ≡ read (f x) rest
-after_ok g f bytes rest x is = read_then g f bytes ∙ ap (λ r. then_read r (λ x. read (f x.0) x.1)) is
-
-pub after_err : {A B : Type 0} (g : Grammar A) (f : A → Grammar B) (bytes : List ℕ) (e : ReadError) → Fails e (read g bytes) → Fails e (read (g >>= f) bytes)
-after_err g f bytes errors.NoMemory fails = tt
-after_err g f bytes (errors.Field fault) fails = read_then g f bytes ∙ ap (λ r. then_read r (λ x. read (f x.0) x.1)) fails
-
-pub read_done : {A : Type 0} (x : A) (bytes : List ℕ) → read (Done x) bytes ≡ Ok (x, bytes)
-unfolding read
-read_done x bytes = refl
-
-pub check_passes : {A : Type 0} (holds : Bool) (back : ℕ) (x : A) (bytes : List ℕ) → holds ≡ true → read (check holds back >>= λ u. Done x) bytes ≡ Ok (x, bytes)
-unfolding read
-check_passes true back x bytes is = refl
-check_passes false back x bytes is = absurd (false≢true is)
-
-pub check_fails : {A : Type 0} (holds : Bool) (back : ℕ) (x : A) (bytes : List ℕ) → holds ≡ false → read (check holds back >>= λ u. Done x) bytes ≡ Err (range (length bytes + back))
-unfolding read
-check_fails true back x bytes is = absurd (false≢true (sym is))
-check_fails false back x bytes is = refl

@@ -1,5 +1,7 @@
+pub mod Adding
 pub mod Again
 pub mod Digits
+pub mod Fields
 pub mod Front
 pub mod Joined
 pub mod Laws

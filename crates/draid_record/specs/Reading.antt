@@ -1,9 +1,7 @@
 -- Reading from left to right, with the first fault that is met.
-use Rattle.std.specs.Prelude.{◌≡◌, ◌+◌, ◌-◌, ◌&&◌, ⊤, ℕ, nat_le, nat_lt, List, length, take, drop, Result, Ok, Err, if◌then◌else◌}
+use Rattle.std.specs.Prelude.{◌≡◌, ◌+◌, ◌-◌, ◌&&◌, ℕ, nat_le, nat_lt, List, length, take, drop, Result, Ok, Err, if◌then◌else◌}
 use Rattle.byteorder.specs.Endian.{big_number}
 use Rattle.draid_record.specs.declared.fault.Fault.{Fault}
-use Rattle.draid_record.specs.declared.fault.ReadError.{ReadError}
-use Rattle.draid_record.specs.declared.fault.ReadError.TheVariants as errors
 use Rattle.draid_record.specs.declared.fault.RecordFault.{RecordFault}
 use Rattle.draid_record.specs.declared.fault.RecordFault.TheVariants as faults
 use Rattle.draid_record.specs.Grammar.{Grammar, Done, Number, Bytes, Check}
@@ -41,19 +39,10 @@ read (Number width low high next) bytes = then_read (number_at width low high by
 read (Bytes width next) bytes = then_read (bytes_at width bytes) (λ front. read (next front.0) front.1)
 read (Check holds back next) bytes = if holds then read next bytes else Err (range (length bytes + back))
 
--- What a function that takes no memory returned, seen by view, is what reading gives.
+-- What a function returned, seen by view, is what reading gives.
 abbrev pub Tells : {X Y : Type 0} → (X → Y) → Result X Fault → Result Y Fault → Type 0
 Tells view (Ok x) found = found ≡ Ok (view x)
 Tells view (Err f) found = found ≡ Err f
-
--- The same of one that takes memory, unless that ran out.
-abbrev pub Fails : {Y : Type 0} → ReadError → Result Y Fault → Type 0
-Fails errors.NoMemory found = ⊤
-Fails (errors.Field f) found = found ≡ Err f
-
-abbrev pub Gives : {X Y : Type 0} → (X → Y) → Result X ReadError → Result Y Fault → Type 0
-Gives view (Ok x) found = found ≡ Ok (view x)
-Gives view (Err e) found = Fails e found
 
 -- a fault by its place in a text of so many bytes
 abbrev pub placed : ℕ → Fault → RecordFault

@@ -1,14 +1,13 @@
 ghost use Rattle.std.specs.Prelude.{◌≡◌, ◌==◌, ◌≤◌, ◌+◌, ◌||◌, ◌&&◌, not, nat_lt, All, IfOk, length};
-ghost use Rattle.draid_record.specs.Reading.{Gives, Tells, read};
+ghost use Rattle.draid_record.specs.Reader.{Reads, state_of};
 ghost use Rattle.draid_record.specs.Record as spec;
 ghost use Rattle.draid_record.specs.Record.{told_arm, told_slot, told_slots};
 
-use crate::fault::{Fault, ReadError};
-use crate::field::{check, number};
 use crate::limits::Limits;
 use crate::log::log;
+use crate::reader::Reader;
 use draid_dtl::Log;
-use draid_names::{Arm, ArmKind};
+use draid_names::{Arm, ArmKind, NoMemory};
 use std::alloc::Global;
 
 /// Whether an arm of this kind and number stands among some.
@@ -96,98 +95,83 @@ fn is_new(
 }
 
 /// An arm without its log.
-#[tactic(auto, unfolding(crate::specs::Reading::read))]
-fn arm_head<'a>(
-    bytes: &'a [u8],
+fn arm_head(
+    reader: &mut Reader,
     limits: &Limits,
     before: &[Vec<(Arm, Log)>],
     count: u64,
     here: &[(Arm, Log)],
-) -> Result<(Arm, &'a [u8]), Fault>
-    ensures { Tells (λ x. (x.0, x.1.now)) result (read (spec.arm_head limits.now (told_slots before.now) count (told_slot here.now)) bytes.now) }
+) -> Arm
+    ensures { Reads (state_of reader.old) (state_of reader.new) result (spec.arm_head limits.now (told_slots before.now) count (told_slot here.now)) }
 {
-    let (code, bytes) = number(bytes, 1, 0, 1)?;
+    let code = reader.number(1, 0, 1);
+    reader.check(keeps_leaf(here, count, code), 1);
     let kind = kind_of(code);
-    check(keeps_leaf(here, count, code), bytes.len() + 1)?;
-    let (n, bytes) = number(bytes, 8, 0, u64::MAX)?;
-    check(is_new(limits, before, here, kind, n), bytes.len() + 8)?;
-    let (flags, bytes) = number(bytes, 1, 0, 3)?;
-    check(are_flags(kind, flags), bytes.len() + 1)?;
-    let arm = Arm {
+    let number = reader.number(8, 0, u64::MAX);
+    reader.check(is_new(limits, before, here, kind, number), 8);
+    let flags = reader.number(1, 0, 3);
+    reader.check(are_flags(kind, flags), 1);
+    Arm {
         kind,
-        number: n,
+        number,
         offline: flags % 2 == 1,
         fresh: flags / 2 == 1,
-    };
-    Ok((arm, bytes))
-}
-
-fn arm<'a>(
-    alloc: Global,
-    bytes: &'a [u8],
-    limits: &Limits,
-    before: &[Vec<(Arm, Log)>],
-    count: u64,
-    here: &[(Arm, Log)],
-) -> Result<((Arm, Log), &'a [u8]), ReadError>
-    ensures { Gives (λ x. (told_arm x.0, x.1.now)) result (read (spec.arm limits.now (told_slots before.now) count (told_slot here.now)) bytes.now) }
-{
-    let (arm, bytes) = arm_head(bytes, limits, before, count, here)?;
-    let (log, bytes) = log(alloc, bytes)?;
-    Ok(((arm, log), bytes))
+    }
 }
 
 /// So many arms of a slot behind others.
-fn arms<'a>(
+fn arms(
     alloc: Global,
-    bytes: &'a [u8],
+    reader: &mut Reader,
     limits: &Limits,
     before: &[Vec<(Arm, Log)>],
     count: u64,
-) -> Result<(Vec<(Arm, Log)>, &'a [u8]), ReadError>
-    ensures arms { Gives (λ x. (told_slot x.0.items, x.1.now)) result (read (spec.slot_arms limits.now (told_slots before.now) count) bytes.now) }
-    ensures few { IfOk result (λ x. length x.0.items ≤ count) }
+) -> Result<Vec<(Arm, Log)>, NoMemory>
+    ensures arms { IfOk result (λ arms. Reads (state_of reader.old) (state_of reader.new) (told_slot arms.items) (spec.slot_arms limits.now (told_slots before.now) count)) }
+    ensures few { IfOk result (λ arms. length arms.items ≤ count) }
 {
     let mut arms = Vec::new(alloc);
-    let mut rest = bytes;
     for _ in 0..count {
-        let (arm, after) = arm(alloc, rest, limits, before, count, &arms)?;
-        arms.push(arm)?;
-        rest = after;
+        let arm = arm_head(reader, limits, before, count, &arms);
+        let log = log(alloc, reader)?;
+        if reader.has_failed() {
+            return Ok(arms);
+        }
+        arms.push((arm, log))?;
     }
-    Ok((arms, rest))
+    Ok(arms)
 }
 
 /// A slot: the number of its arms, and each.
-#[tactic(auto, unfolding(crate::specs::Reading::read))]
-fn slot<'a>(
+fn slot(
     alloc: Global,
-    bytes: &'a [u8],
+    reader: &mut Reader,
     limits: &Limits,
     before: &[Vec<(Arm, Log)>],
-) -> Result<(Vec<(Arm, Log)>, &'a [u8]), ReadError>
-    ensures slot { Gives (λ x. (told_slot x.0.items, x.1.now)) result (read (spec.slot limits.now (told_slots before.now)) bytes.now) }
-    ensures few { IfOk result (λ x. length x.0.items ≤ 3) }
+) -> Result<Vec<(Arm, Log)>, NoMemory>
+    ensures slot { IfOk result (λ arms. Reads (state_of reader.old) (state_of reader.new) (told_slot arms.items) (spec.slot limits.now (told_slots before.now))) }
+    ensures few { IfOk result (λ arms. length arms.items ≤ 3) }
 {
-    let (count, bytes) = number(bytes, 1, 1, 3)?;
-    arms(alloc, bytes, limits, before, count)
+    let count = reader.number(1, 1, 3);
+    arms(alloc, reader, limits, before, count)
 }
 
 /// All slots.
-pub(crate) fn slots<'a>(
+pub(crate) fn slots(
     alloc: Global,
-    bytes: &'a [u8],
+    reader: &mut Reader,
     limits: &Limits,
-) -> Result<(Vec<Vec<(Arm, Log)>>, &'a [u8]), ReadError>
-    ensures slots { Gives (λ x. (told_slots x.0.items, x.1.now)) result (read (spec.slots limits.now) bytes.now) }
-    ensures few { IfOk result (λ x. All (λ list. length list ≤ 3) (told_slots x.0.items)) }
+) -> Result<Vec<Vec<(Arm, Log)>>, NoMemory>
+    ensures slots { IfOk result (λ slots. Reads (state_of reader.old) (state_of reader.new) (told_slots slots.items) (spec.slots limits.now)) }
+    ensures few { IfOk result (λ slots. All (λ list. length list ≤ 3) (told_slots slots.items)) }
 {
     let mut slots = Vec::new(alloc);
-    let mut rest = bytes;
     for _ in 0..limits.children {
-        let (slot, after) = slot(alloc, rest, limits, &slots)?;
+        let slot = slot(alloc, reader, limits, &slots)?;
+        if reader.has_failed() {
+            return Ok(slots);
+        }
         slots.push(slot)?;
-        rest = after;
     }
-    Ok((slots, rest))
+    Ok(slots)
 }

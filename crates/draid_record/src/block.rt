@@ -1,49 +1,47 @@
 ghost use Rattle.std.specs.Prelude.{◌≡◌, ◌+◌, ◌≤◌, ◌<◌, ◌^◌, ◌-◌, ◌∷◌, [], All, IfOk, length};
 ghost use Rattle.draid_names.specs.Numbers as numbers;
 ghost use Rattle.draid_names.specs.declared.pointer.Pointer.{Pointer};
-ghost use Rattle.draid_record.specs.Reading.{Gives, Tells, bytes_at, read};
+ghost use Rattle.draid_record.specs.Reader.{Reads, state_of};
 ghost use Rattle.draid_record.specs.Record as spec;
 ghost use Rattle.draid_record.specs.Record.{AreLimits};
 
-use crate::fault::{Fault, ReadError};
-use crate::field::{check, number, text};
 use crate::limits::Limits;
-use draid_names::{LAST_NUMBER, LONGEST_BLOCK, OBJECTS, Pointer, most_held};
+use crate::reader::Reader;
+use draid_names::{LAST_NUMBER, LONGEST_BLOCK, NoMemory, OBJECTS, Pointer, most_held};
 use draid_ranges::Run;
 use std::alloc::Global;
 
-#[tactic(auto, unfolding(crate::specs::Reading::read))]
-fn space_run(bytes: &[u8]) -> Result<(Run, &[u8]), Fault>
-    ensures { Tells (λ x. (x.0, x.1.now)) result (read (spec.space_run 0) bytes.now) }
+fn space_run(reader: &mut Reader) -> Run
+    ensures { Reads (state_of reader.old) (state_of reader.new) result (spec.space_run 0) }
 {
-    let (first, bytes) = number(bytes, 8, 0, u64::MAX)?;
-    let (len, bytes) = number(bytes, 8, 0, u64::MAX)?;
-    Ok((Run { first, len }, bytes))
+    let first = reader.number(8, 0, u64::MAX);
+    let len = reader.number(8, 0, u64::MAX);
+    Run { first, len }
 }
 
 /// So many runs of stripes.
-fn space_runs(alloc: Global, bytes: &[u8], count: u64) -> Result<(Vec<Run>, &[u8]), ReadError>
-    ensures runs { Gives (λ x. (x.0.items, x.1.now)) result (read (spec.space_runs count) bytes.now) }
-    ensures few { IfOk result (λ x. length x.0.items ≤ count) }
+fn space_runs(alloc: Global, reader: &mut Reader, count: u64) -> Result<Vec<Run>, NoMemory>
+    ensures runs { IfOk result (λ runs. Reads (state_of reader.old) (state_of reader.new) runs.items (spec.space_runs count)) }
+    ensures few { IfOk result (λ runs. length runs.items ≤ count) }
 {
     let mut runs = Vec::new(alloc);
-    let mut rest = bytes;
     for _ in 0..count {
-        let (run, after) = space_run(rest)?;
+        let run = space_run(reader);
+        if reader.has_failed() {
+            return Ok(runs);
+        }
         runs.push(run)?;
-        rest = after;
     }
-    Ok((runs, rest))
+    Ok(runs)
 }
 
 /// The number of runs of stripes, and each.
-#[tactic(auto, unfolding(crate::specs::Reading::read))]
-pub(crate) fn spaces(alloc: Global, bytes: &[u8]) -> Result<(Vec<Run>, &[u8]), ReadError>
-    ensures runs { Gives (λ x. (x.0.items, x.1.now)) result (read spec.spaces bytes.now) }
-    ensures few { IfOk result (λ x. length x.0.items < 2 ^ 32) }
+pub(crate) fn spaces(alloc: Global, reader: &mut Reader) -> Result<Vec<Run>, NoMemory>
+    ensures runs { IfOk result (λ runs. Reads (state_of reader.old) (state_of reader.new) runs.items spec.spaces) }
+    ensures few { IfOk result (λ runs. length runs.items < 2 ^ 32) }
 {
-    let (count, bytes) = number(bytes, 4, 0, u64::from(u32::MAX))?;
-    space_runs(alloc, bytes, count)
+    let count = reader.number(4, 0, u64::from(u32::MAX));
+    space_runs(alloc, reader, count)
 }
 
 /// The stripes of a block of so many bytes.
@@ -56,32 +54,20 @@ fn stripes_of(limits: &Limits, len: u64) -> u64
     (sectors + limits.ndata - 1) / limits.ndata
 }
 
-/// A digest.
-fn digest(bytes: &[u8]) -> Result<([u8; 32], &[u8]), Fault>
-    ensures { Tells (λ x. (x.0, x.1.now)) result (bytes_at 32 bytes.now) }
-{
-    let (front, bytes) = text(bytes, 32)?;
-    let mut digest = [0u8; 32];
-    digest.copy_from_slice(front);
-    Ok((digest, bytes))
-}
-
 /// A block at or behind a stripe.
-#[tactic(auto, unfolding(crate::specs::Reading::read))]
-fn block<'a>(bytes: &'a [u8], limits: &Limits, low: u64) -> Result<(Pointer, &'a [u8]), Fault>
+fn block(reader: &mut Reader, limits: &Limits, low: u64) -> Pointer
     requires { AreLimits limits.now }
-    ensures block { Tells (λ x. (x.0, x.1.now)) result (read (spec.block limits.now low) bytes.now) }
-    ensures range { IfOk result (λ x. x.0.first + x.0.stripes ≤ 2 ^ 49) }
+    ensures block { Reads (state_of reader.old) (state_of reader.new) result (spec.block limits.now low) }
+    ensures range { result.first + result.stripes ≤ 2 ^ 49 }
 {
-    let (object, bytes) = number(bytes, 8, 0, OBJECTS - 1)?;
-    let (seq, bytes) = number(bytes, 8, 1, LAST_NUMBER)?;
-    let (first, bytes) = number(bytes, 8, low, limits.stripes.saturating_sub(1))?;
-    let (stripes, bytes) = number(bytes, 4, 1, limits.height - first % limits.height)?;
-    let (len, bytes) = number(bytes, 4, 1, LONGEST_BLOCK)?;
-    check(stripes == stripes_of(limits, len), bytes.len() + 8)?;
-    let (birth, bytes) = number(bytes, 8, 1, limits.group)?;
-    let (digest, bytes) = digest(bytes)?;
-    let pointer = Pointer {
+    let object = reader.number(8, 0, OBJECTS - 1);
+    let seq = reader.number(8, 1, LAST_NUMBER);
+    let first = reader.number(8, low, limits.stripes.saturating_sub(1));
+    let stripes = reader.number(4, 1, limits.height - first % limits.height);
+    let len = reader.number(4, 1, LONGEST_BLOCK);
+    reader.check(stripes == stripes_of(limits, len), 8);
+    let birth = reader.number(8, 1, limits.group);
+    Pointer {
         object,
         seq,
         metaslab: limits.metaslab,
@@ -89,49 +75,48 @@ fn block<'a>(bytes: &'a [u8], limits: &Limits, low: u64) -> Result<(Pointer, &'a
         stripes: stripes as u32,
         len: len as u32,
         birth,
-        digest,
-    };
-    Ok((pointer, bytes))
+        digest: reader.digest(),
+    }
 }
 
 /// So many blocks.
-fn blocks_of<'a>(
+fn blocks_of(
     alloc: Global,
-    bytes: &'a [u8],
+    reader: &mut Reader,
     limits: &Limits,
     count: u64,
-) -> Result<(Vec<Pointer>, &'a [u8]), ReadError>
+) -> Result<Vec<Pointer>, NoMemory>
     requires { AreLimits limits.now }
-    ensures blocks { Gives (λ x. (x.0.items, x.1.now)) result (read (spec.blocks_of limits.now count) bytes.now) }
-    ensures range { IfOk result (λ x. All (λ (b : Pointer). b.first + b.stripes ≤ 2 ^ 49) x.0.items) }
-    ensures few { IfOk result (λ x. length x.0.items ≤ count) }
+    ensures blocks { IfOk result (λ blocks. Reads (state_of reader.old) (state_of reader.new) blocks.items (spec.blocks_of limits.now count)) }
+    ensures range { IfOk result (λ blocks. All (λ (b : Pointer). b.first + b.stripes ≤ 2 ^ 49) blocks.items) }
+    ensures few { IfOk result (λ blocks. length blocks.items ≤ count) }
 {
     let mut list = Vec::new(alloc);
-    let mut rest = bytes;
     let mut low = 0;
     for _ in 0..count {
-        let (block, after) = block(rest, limits, low)?;
+        let block = block(reader, limits, low);
+        if reader.has_failed() {
+            return Ok(list);
+        }
         list.push(block)?;
-        rest = after;
         low = block.first + u64::from(block.stripes);
     }
-    Ok((list, rest))
+    Ok(list)
 }
 
 /// The number of blocks, and each.
-#[tactic(auto, unfolding(crate::specs::Reading::read))]
-pub(crate) fn blocks<'a>(
+pub(crate) fn blocks(
     alloc: Global,
-    bytes: &'a [u8],
+    reader: &mut Reader,
     limits: &Limits,
-) -> Result<(Vec<Pointer>, &'a [u8]), ReadError>
+) -> Result<Vec<Pointer>, NoMemory>
     requires { AreLimits limits.now }
-    ensures blocks { Gives (λ x. (x.0.items, x.1.now)) result (read (spec.blocks limits.now) bytes.now) }
-    ensures range { IfOk result (λ x. All (λ (b : Pointer). b.first + b.stripes ≤ 2 ^ 49) x.0.items) }
-    ensures few { IfOk result (λ x. length x.0.items ≤ numbers.most_held limits.now.version) }
+    ensures blocks { IfOk result (λ blocks. Reads (state_of reader.old) (state_of reader.new) blocks.items (spec.blocks limits.now)) }
+    ensures range { IfOk result (λ blocks. All (λ (b : Pointer). b.first + b.stripes ≤ 2 ^ 49) blocks.items) }
+    ensures few { IfOk result (λ blocks. length blocks.items ≤ numbers.most_held limits.now.version) }
 {
-    let (count, bytes) = number(bytes, 4, 0, most_held(limits.version) as u64)?;
-    blocks_of(alloc, bytes, limits, count)
+    let count = reader.number(4, 0, most_held(limits.version) as u64);
+    blocks_of(alloc, reader, limits, count)
 }
 
 /// Whether the runs are just one, from a stripe up to another.

@@ -10,8 +10,10 @@ mod law;
 mod limits;
 mod log;
 mod pass;
+mod reader;
 mod record;
 mod uber;
+mod writer;
 mod writing;
 
 pub use fault::RecordFault;

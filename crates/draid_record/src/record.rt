@@ -2,19 +2,20 @@ ghost use Rattle.std.specs.Prelude.{◌≡◌, ◌+◌, ◌≤◌, Ok, IfOk, IfS
 ghost use Rattle.byteorder.specs.Endian.{big_number};
 ghost use Rattle.std.specs.Option.{option_map};
 ghost use Rattle.draid_spec.specs.Geometry.{IsGeometry};
-ghost use Rattle.draid_record.specs.Reading.{Gives, Tells, read};
+ghost use Rattle.draid_record.specs.Reader.{Reads, Took, state_of};
+ghost use Rattle.draid_record.specs.Reading.{read};
 ghost use Rattle.draid_record.specs.Record as spec;
 ghost use Rattle.draid_record.specs.Record.{AreLimits, RecordTold, told_record};
 
 use crate::arm::slots;
 use crate::block::{are_spaces, blocks, spaces};
-use crate::fault::{Fault, ReadError, RecordFault};
-use crate::field::{check, exactly, number};
+use crate::fault::{Fault, RecordFault};
 use crate::limits::Limits;
 use crate::pass::pass;
+use crate::reader::Reader;
 use byteorder::{BigEndian, ByteOrder};
 use draid_dtl::Log;
-use draid_names::{Arm, LAST_NUMBER, Pointer};
+use draid_names::{Arm, LAST_NUMBER, NoMemory, Pointer};
 use draid_pass::Pass;
 use draid_spec::Geometry;
 use std::alloc::Global;
@@ -71,44 +72,29 @@ pub fn length_of(bytes: &[u8]) -> u64
 }
 
 /// The metaslab, the group and the number of slots.
-#[tactic(auto, unfolding(crate::specs::Reading::read))]
-fn head<'a>(bytes: &'a [u8], limits: &Limits) -> Result<&'a [u8], Fault>
-    ensures { Tells (λ x. (limits.now.children, x.now)) result (read (spec.head limits.now) bytes.now) }
+fn head(reader: &mut Reader, limits: &Limits)
+    ensures { Reads (state_of reader.old) (state_of reader.new) limits.now.children (spec.head limits.now) }
 {
-    let bytes = exactly(bytes, 2, u64::from(limits.metaslab))?;
-    let bytes = exactly(bytes, 8, limits.group)?;
-    let bytes = exactly(bytes, 2, u64::from(limits.children))?;
-    Ok(bytes)
-}
-
-/// The last pass number used.
-#[tactic(auto, unfolding(crate::specs::Reading::read))]
-fn last_pass(bytes: &[u8]) -> Result<(u64, &[u8]), Fault>
-    ensures { Tells (λ x. (x.0, x.1.now)) result (read spec.last_pass bytes.now) }
-{
-    let (last, bytes) = number(bytes, 8, 0, LAST_NUMBER)?;
-    Ok((last, bytes))
+    reader.exactly(2, u64::from(limits.metaslab));
+    reader.exactly(8, limits.group);
+    reader.exactly(2, u64::from(limits.children));
 }
 
 /// The fields behind the length.
-fn body<'a>(
-    alloc: Global,
-    bytes: &'a [u8],
-    limits: &Limits,
-) -> Result<(Record, &'a [u8]), ReadError>
+fn body(alloc: Global, reader: &mut Reader, limits: &Limits) -> Result<Record, NoMemory>
     requires { AreLimits limits.now }
-    ensures body { Gives (λ x. (told_record x.0, x.1.now)) result (read (spec.body limits.now) bytes.now) }
-    ensures number { IfOk result (λ x. IfSome x.0.pass (λ pass. pass.number ≡ x.0.last_pass)) }
+    ensures body { IfOk result (λ it. Reads (state_of reader.old) (state_of reader.new) (told_record it) (spec.body limits.now)) }
+    ensures number { IfOk result (λ it. IfSome it.pass (λ pass. pass.number ≡ it.last_pass)) }
 {
-    let bytes = head(bytes, limits)?;
-    let (slots, bytes) = slots(alloc, bytes, limits)?;
-    let (last_pass, bytes) = last_pass(bytes)?;
-    let (pass, bytes) = pass(alloc, bytes, limits, &slots, last_pass)?;
-    let (runs, bytes) = spaces(alloc, bytes)?;
-    let (list, bytes) = blocks(alloc, bytes, limits)?;
+    head(reader, limits);
+    let slots = slots(alloc, reader, limits)?;
+    let last_pass = reader.number(8, 0, LAST_NUMBER);
+    let pass = pass(alloc, reader, limits, &slots, last_pass)?;
+    let runs = spaces(alloc, reader)?;
+    let list = blocks(alloc, reader, limits)?;
     let back = 8 + 16 * runs.len() + 72 * list.len();
-    check(are_spaces(&runs, &list), bytes.len() + back)?;
-    let record = Record {
+    reader.check(are_spaces(&runs, &list), back);
+    Ok(Record {
         version: limits.version,
         metaslab: limits.metaslab,
         group: limits.group,
@@ -116,8 +102,7 @@ fn body<'a>(
         last_pass,
         pass,
         blocks: list,
-    };
-    Ok((record, bytes))
+    })
 }
 
 /// What the ranges of a record's fields go by.
@@ -140,17 +125,16 @@ fn limits(geometry: &Geometry, metaslab: u32, group: u64, next_leaf: u64) -> Lim
     }
 }
 
-/// The length of the whole record, and the bytes behind it.
-#[tactic(auto, unfolding(crate::specs::Reading::read))]
-fn front<'a>(bytes: &'a [u8], limits: &Limits) -> Result<(u64, &'a [u8]), Fault>
-    ensures front { Tells (λ x. (x.0, x.1.now)) result (read (spec.front limits.now (length bytes.now)) bytes.now) }
-    ensures range { IfOk result (λ x. (10 ≤ x.0) × (x.0 ≤ length bytes.now)) }
-    ensures rest { IfOk result (λ x. length x.1.now + 10 ≡ length bytes.now) }
+/// The length of the whole record.
+fn front(reader: &mut Reader, limits: &Limits, area: u64) -> u64
+    ensures front { Reads (state_of reader.old) (state_of reader.new) result (spec.front limits.now area) }
+    ensures low { IfOk (state_of reader.new) (λ _. 10 ≤ result) }
+    ensures high { result ≤ area }
+    ensures took { Took 10 (state_of reader.old) (state_of reader.new) }
 {
-    let area = bytes.len() as u64;
-    let bytes = exactly(bytes, 4, MAGIC)?;
-    let bytes = exactly(bytes, 2, u64::from(limits.version))?;
-    number(bytes, 4, 10, area)
+    reader.exactly(4, MAGIC);
+    reader.exactly(2, u64::from(limits.version));
+    reader.number(4, 10, area)
 }
 
 /// The fields of a record of this length, which end with it.
@@ -159,15 +143,17 @@ fn fields(alloc: Global, bytes: &[u8], len: usize, limits: &Limits) -> Result<Re
     ensures fields { spec.Answers result (spec.ended len (read (spec.body limits.now) bytes.now)) }
     ensures number { IfOk result (λ it. IfSome it.pass (λ pass. pass.number ≡ it.last_pass)) }
 {
-    match body(alloc, bytes, limits) {
-        Ok((record, [])) => Ok(record),
-        Ok((_, left)) => Err(Fault {
-            left: left.len(),
-            kind: 3,
+    let mut reader = Reader::new(bytes);
+    let Ok(record) = body(alloc, &mut reader, limits) else {
+        return Err(RecordFault::NoMemory);
+    };
+    match reader.left() {
+        Ok([]) => Ok(record),
+        Ok(bytes) => {
+            let left = bytes.len();
+            Err(Fault { left, kind: 3 }.within(len))
         }
-        .within(len)),
-        Err(ReadError::NoMemory) => Err(RecordFault::NoMemory),
-        Err(ReadError::Field(fault)) => Err(fault.within(len)),
+        Err(fault) => Err(fault.within(len)),
     }
 }
 
@@ -177,8 +163,10 @@ fn told(alloc: Global, area: &[u8], limits: &Limits) -> Result<Record, RecordFau
     ensures told { spec.Answers result (spec.record_of limits.now area.now) }
     ensures number { IfOk result (λ it. IfSome it.pass (λ pass. pass.number ≡ it.last_pass)) }
 {
-    match front(area, limits) {
-        Ok((len, rest)) => fields(alloc, &rest[..len as usize - 10], len as usize, limits),
+    let mut reader = Reader::new(area);
+    let len = front(&mut reader, limits, area.len() as u64) as usize;
+    match reader.left() {
+        Ok(rest) => fields(alloc, &rest[..len - 10], len, limits),
         Err(fault) => Err(fault.within(area.len())),
     }
 }

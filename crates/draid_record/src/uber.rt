@@ -1,17 +1,19 @@
 ghost use Rattle.std.specs.Prelude.{◌≡◌, ◌==◌, ◌%◌, ◌||◌, Ok, IfOk, length};
 ghost use Rattle.draid_record.specs.Grammar.{Spells};
-ghost use Rattle.draid_record.specs.Reading.{Tells, read};
+ghost use Rattle.draid_record.specs.Reader.{Reads, state_of};
+ghost use Rattle.draid_record.specs.Reading.{read};
 ghost use Rattle.draid_spec.specs.Geometry.{IsVersion};
 ghost use Rattle.draid_spec.specs.Spec.{IsSpec};
 ghost use Rattle.draid_record.specs.Uber as grammar;
 
-use crate::fault::{Fault, RecordFault};
-use crate::field::{check, exactly, number, put};
+use crate::fault::RecordFault;
+use crate::field::put;
+use crate::reader::Reader;
 use draid_names::LAST_NUMBER;
 use draid_spec::{Props, Spec, geometry, most_children};
 
 /// What a slot of the uberblock area tells.
-#[derive(Clone, Copy, Debug, PartialEq, Eq)]
+#[derive(Clone, Copy, PartialEq, Eq)]
 pub struct UberBody {
     /// The committed group, 1 to 2^48 - 2.
     pub group: u64,
@@ -41,45 +43,43 @@ pub fn read_uber(bytes: &[u8], slot: u32) -> Result<UberBody, RecordFault>
 fn told(bytes: &[u8], slot: u32) -> Result<UberBody, RecordFault>
     ensures { result ≡ grammar.told (length bytes.now) (read (grammar.uber slot) bytes.now) }
 {
-    match uber(bytes, u64::from(slot)) {
-        Ok((body, _)) => Ok(body),
+    let mut reader = Reader::new(bytes);
+    let body = uber(&mut reader, u64::from(slot));
+    match reader.left() {
+        Ok(_) => Ok(body),
         Err(fault) => Err(fault.within(bytes.len())),
     }
 }
 
 /// The gate, the magic, the version and the group.
-#[tactic(auto, unfolding(crate::specs::Reading::read))]
-fn head(bytes: &[u8], slot: u64) -> Result<(u32, u64, &[u8]), Fault>
-    ensures front { Tells (λ x. ((x.0, x.1), x.2.now)) result (read (grammar.head slot) bytes.now) }
-    ensures version { IfOk result (λ x. IsVersion x.0) }
+fn head(reader: &mut Reader, slot: u64) -> (u32, u64)
+    ensures { Reads (state_of reader.old) (state_of reader.new) result (grammar.head slot) }
 {
-    let bytes = exactly(bytes, 1, GATE)?;
-    let bytes = exactly(bytes, 4, MAGIC)?;
-    let (version, bytes) = number(bytes, 2, 1, 2)?;
-    let (group, bytes) = number(bytes, 8, 1, LAST_NUMBER - 1)?;
-    check(group % 2 == slot, bytes.len() + 8)?;
-    Ok((version as u32, group, bytes))
+    reader.exactly(1, GATE);
+    reader.exactly(4, MAGIC);
+    let version = reader.number(2, 1, 2);
+    let group = reader.number(8, 1, LAST_NUMBER - 1);
+    reader.check(group % 2 == slot, 8);
+    (version as u32, group)
 }
 
 /// The spec of a pool of this version.
-#[tactic(auto, unfolding(crate::specs::Reading::read))]
-fn spec(bytes: &[u8], version: u32) -> Result<(Spec, &[u8]), Fault>
-    ensures spec { Tells (λ x. (x.0, x.1.now)) result (read (grammar.spec version) bytes.now) }
-    ensures ranges { IfOk result (λ x. IsSpec version x.0) }
+fn spec(reader: &mut Reader, version: u32) -> Spec
+    ensures spec { Reads (state_of reader.old) (state_of reader.new) result (grammar.spec version) }
+    ensures ranges { IfOk (state_of reader.new) (λ _. IsSpec version result) }
 {
-    let (parity, bytes) = number(bytes, 1, 1, 3)?;
-    let (ndata, bytes) = number(bytes, 1, 1, 255)?;
-    let (children, bytes) = number(bytes, 1, 2, u64::from(most_children(version)))?;
-    let (spares, bytes) = number(bytes, 1, 0, 4)?;
-    let spec = Spec {
+    let parity = reader.number(1, 1, 3);
+    let ndata = reader.number(1, 1, 255);
+    let children = reader.number(1, 2, u64::from(most_children(version)));
+    let spares = reader.number(1, 0, 4);
+    let have = children.saturating_sub(spares);
+    reader.check(parity + ndata <= have, 1);
+    Spec {
         parity: parity as u32,
         ndata: ndata as u32,
         children: children as u32,
         spares: spares as u32,
-    };
-    let have = spec.children.saturating_sub(spec.spares);
-    check(spec.parity + spec.ndata <= have, bytes.len() + 1)?;
-    Ok((spec, bytes))
+    }
 }
 
 /// Whether sectors may have so many bytes.
@@ -89,18 +89,25 @@ fn is_sector(bytes: u64) -> bool
     bytes == 512 || bytes == 4096
 }
 
-/// The properties of a pool of this spec and version.
-#[tactic(auto, unfolding(crate::specs::Reading::read))]
-fn props(bytes: &[u8], version: u32, spec: Spec) -> Result<(Props, &[u8]), Fault>
-    requires { IsSpec version spec }
-    ensures { Tells (λ x. (x.0, x.1.now)) result (read (grammar.props version spec) bytes.now) }
+/// Whether there is such a layout, where there was no fault yet.
+fn is_layout(reader: &Reader, spec: Spec, props: Props) -> bool
+    requires { IfOk (state_of reader.now) (λ _. IsSpec props.version spec) }
+    ensures { IfOk (state_of reader.now) (λ _. result ≡ grammar.gives_layout spec props) }
 {
-    let (sector, bytes) = number(bytes, 4, 512, 4096)?;
-    check(is_sector(sector), bytes.len() + 4)?;
-    let (height, bytes) = number(bytes, 4, 8, 4096)?;
-    check(height.is_power_of_two(), bytes.len() + 4)?;
-    let (metaslabs, bytes) = number(bytes, 4, 1, 64)?;
-    let (slices, bytes) = number(bytes, 4, 1, 1024)?;
+    !reader.has_failed() && geometry(spec, props).is_ok()
+}
+
+/// The properties of a pool of this spec and version.
+fn props(reader: &mut Reader, version: u32, spec: Spec) -> Props
+    requires { IfOk (state_of reader.old) (λ _. IsSpec version spec) }
+    ensures { Reads (state_of reader.old) (state_of reader.new) result (grammar.props version spec) }
+{
+    let sector = reader.number(4, 512, 4096);
+    reader.check(is_sector(sector), 4);
+    let height = reader.number(4, 8, 4096);
+    reader.check(height.is_power_of_two(), 4);
+    let metaslabs = reader.number(4, 1, 64);
+    let slices = reader.number(4, 1, 1024);
     let mut props = Props {
         sector: sector as u32,
         height: height as u32,
@@ -109,26 +116,24 @@ fn props(bytes: &[u8], version: u32, spec: Spec) -> Result<(Props, &[u8]), Fault
         seed: 0,
         version,
     };
-    check(geometry(spec, props).is_ok(), bytes.len() + 4)?;
-    let (seed, bytes) = number(bytes, 8, 0, u64::MAX)?;
-    props.seed = seed;
-    Ok((props, bytes))
+    reader.check(is_layout(reader, spec, props), 4);
+    props.seed = reader.number(8, 0, u64::MAX);
+    props
 }
 
-fn uber(bytes: &[u8], slot: u64) -> Result<(UberBody, &[u8]), Fault>
-    ensures { Tells (λ x. (x.0, x.1.now)) result (read (grammar.uber slot) bytes.now) }
+fn uber(reader: &mut Reader, slot: u64) -> UberBody
+    ensures { Reads (state_of reader.old) (state_of reader.new) result (grammar.uber slot) }
 {
-    let (version, group, bytes) = head(bytes, slot)?;
-    let (spec, bytes) = spec(bytes, version)?;
-    let (props, bytes) = props(bytes, version, spec)?;
-    let (next_leaf, bytes) = number(bytes, 8, u64::from(spec.children), LAST_NUMBER)?;
-    let body = UberBody {
+    let (version, group) = head(reader, slot);
+    let spec = spec(reader, version);
+    let props = props(reader, version, spec);
+    let next_leaf = reader.number(8, u64::from(spec.children), LAST_NUMBER);
+    UberBody {
         group,
         spec,
         props,
         next_leaf,
-    };
-    Ok((body, bytes))
+    }
 }
 
 /// The 51 bytes of an open slot that tells this. They are read again as the same value.

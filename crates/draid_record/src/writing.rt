@@ -1,29 +1,20 @@
-ghost use Rattle.std.specs.Prelude.{◌≡◌, ◌+◌, ◌-◌, ◌<◌, ◌≤◌, ◌^◌, ◌++◌, ℕ, All, List, Some, IfOk, OnOk, length};
+ghost use Rattle.std.specs.Prelude.{◌≡◌, ◌+◌, ◌-◌, ◌<◌, ◌≤◌, ◌^◌, ◌++◌, ℕ, All, List, Some, IfOk};
 ghost use Rattle.std.specs.List.{flat_map};
 ghost use Rattle.std.specs.Option.{option_map};
-ghost use Rattle.byteorder.specs.Endian.{big_bytes};
 ghost use Rattle.draid_names.specs.declared.pointer.Pointer.{Pointer};
 ghost use Rattle.draid_record.specs.declared.limits.Limits.{Limits};
 ghost use Rattle.draid_record.specs.Record as spec;
 ghost use Rattle.draid_record.specs.Record.{RecordTold, told_arm, told_pass, told_record, told_slot, told_slots};
+ghost use Rattle.draid_record.specs.Writer.{Writes, text_of};
 ghost use Rattle.draid_record.specs.Written as written;
 
 use crate::record::{MAGIC, Record};
+use crate::writer::Writer;
 use draid_dtl::Log;
 use draid_names::{Arm, ArmAt, ArmKind, NUMBERS, NoMemory, PassKind, Pointer};
 use draid_pass::Pass;
 use draid_ranges::Run;
 use std::alloc::Global;
-
-/// Adds the lowest bytes of a number, the highest of them first.
-fn put(out: &mut Vec<u8>, width: usize, number: u64) -> Result<(), NoMemory>
-    requires { (1 ≤ width) × (width ≤ 8) }
-    ensures { OnOk result (out.new.items ≡ out.old.items ++ big_bytes width number) }
-{
-    let bytes = number.to_be_bytes();
-    out.extend_from_slice(&bytes[8 - width..])?;
-    Ok(())
-}
 
 fn bit(flag: bool) -> u64
     ensures { result ≡ written.bit flag }
@@ -34,23 +25,22 @@ fn bit(flag: bool) -> u64
     }
 }
 
-fn put_run(out: &mut Vec<u8>, run: Run) -> Result<(), NoMemory>
+fn put_run(out: &mut Writer, run: Run)
     requires { (0 < run.len) × (run.first + run.len ≤ NUMBERS) }
-    ensures { OnOk result (out.new.items ≡ out.old.items ++ written.run_bytes run) }
+    ensures { Writes (text_of out.old) (text_of out.new) (written.run_bytes run) }
 {
-    put(out, 8, run.first)?;
-    put(out, 8, run.first + run.len - 1)
+    out.put(8, run.first);
+    out.put(8, run.first + run.len - 1);
 }
 
-fn put_log(out: &mut Vec<u8>, log: &Log) -> Result<(), NoMemory>
-    ensures { OnOk result (out.new.items ≡ out.old.items ++ written.log_bytes log.now.runs) }
+fn put_log(out: &mut Writer, log: &Log)
+    ensures { Writes (text_of out.old) (text_of out.new) (written.log_bytes log.now.runs) }
 {
     let runs = log.runs();
-    put(out, 4, runs.len() as u64)?;
+    out.put(4, runs.len() as u64);
     for run in runs {
-        put_run(out, *run)?;
+        put_run(out, *run);
     }
-    Ok(())
 }
 
 fn code_of(kind: ArmKind) -> u64
@@ -62,43 +52,39 @@ fn code_of(kind: ArmKind) -> u64
     }
 }
 
-fn put_arm(out: &mut Vec<u8>, arm: Arm, log: &Log) -> Result<(), NoMemory>
-    ensures { OnOk result (out.new.items ≡ out.old.items ++ written.arm_bytes (arm, log.now.runs)) }
+fn put_arm(out: &mut Writer, arm: Arm, log: &Log)
+    ensures { Writes (text_of out.old) (text_of out.new) (written.arm_bytes (arm, log.now.runs)) }
 {
-    put(out, 1, code_of(arm.kind))?;
-    put(out, 8, arm.number)?;
-    put(out, 1, bit(arm.offline) + 2 * bit(arm.fresh))?;
-    put_log(out, log)?;
-    Ok(())
+    out.put(1, code_of(arm.kind));
+    out.put(8, arm.number);
+    out.put(1, bit(arm.offline) + 2 * bit(arm.fresh));
+    put_log(out, log);
 }
 
-fn put_slot(out: &mut Vec<u8>, slot: &[(Arm, Log)]) -> Result<(), NoMemory>
-    ensures { OnOk result (out.new.items ≡ out.old.items ++ written.slot_bytes (told_slot slot.now)) }
+fn put_slot(out: &mut Writer, slot: &[(Arm, Log)])
+    ensures { Writes (text_of out.old) (text_of out.new) (written.slot_bytes (told_slot slot.now)) }
 {
-    put(out, 1, slot.len() as u64)?;
+    out.put(1, slot.len() as u64);
     for (arm, log) in slot {
-        put_arm(out, *arm, log)?;
+        put_arm(out, *arm, log);
     }
-    Ok(())
 }
 
-fn put_slots(out: &mut Vec<u8>, slots: &[Vec<(Arm, Log)>]) -> Result<(), NoMemory>
-    ensures { OnOk result (out.new.items ≡ out.old.items ++ flat_map written.slot_bytes (told_slots slots.now)) }
+fn put_slots(out: &mut Writer, slots: &[Vec<(Arm, Log)>])
+    ensures { Writes (text_of out.old) (text_of out.new) (flat_map written.slot_bytes (told_slots slots.now)) }
 {
     for slot in slots {
-        put_slot(out, slot)?;
+        put_slot(out, slot);
     }
-    Ok(())
 }
 
-fn put_targets(out: &mut Vec<u8>, targets: &[ArmAt]) -> Result<(), NoMemory>
-    ensures { OnOk result (out.new.items ≡ out.old.items ++ flat_map written.target_bytes targets.now) }
+fn put_targets(out: &mut Writer, targets: &[ArmAt])
+    ensures { Writes (text_of out.old) (text_of out.new) (flat_map written.target_bytes targets.now) }
 {
     for target in targets {
-        put(out, 2, u64::from(target.slot))?;
-        put(out, 1, u64::from(target.arm))?;
+        out.put(2, u64::from(target.slot));
+        out.put(1, u64::from(target.arm));
     }
-    Ok(())
 }
 
 fn pass_code(kind: PassKind) -> u64
@@ -110,25 +96,24 @@ fn pass_code(kind: PassKind) -> u64
     }
 }
 
-fn put_some_pass(out: &mut Vec<u8>, pass: &Pass) -> Result<(), NoMemory>
-    ensures { OnOk result (out.new.items ≡ out.old.items ++ written.pass_bytes (Some (told_pass pass.now))) }
+fn put_some_pass(out: &mut Writer, pass: &Pass)
+    ensures { Writes (text_of out.old) (text_of out.new) (written.pass_bytes (Some (told_pass pass.now))) }
 {
-    put(out, 1, pass_code(pass.kind))?;
-    put(out, 1, bit(pass.running))?;
-    put(out, 8, pass.max)?;
-    put(out, 8, pass.at)?;
-    put(out, 8, pass.errors)?;
-    put(out, 2, pass.targets.len() as u64)?;
-    put_targets(out, &pass.targets)?;
-    Ok(())
+    out.put(1, pass_code(pass.kind));
+    out.put(1, bit(pass.running));
+    out.put(8, pass.max);
+    out.put(8, pass.at);
+    out.put(8, pass.errors);
+    out.put(2, pass.targets.len() as u64);
+    put_targets(out, &pass.targets);
 }
 
-fn put_pass(out: &mut Vec<u8>, pass: &Option<Pass>) -> Result<(), NoMemory>
-    ensures { OnOk result (out.new.items ≡ out.old.items ++ written.pass_bytes (option_map told_pass pass.now)) }
+fn put_pass(out: &mut Writer, pass: &Option<Pass>)
+    ensures { Writes (text_of out.old) (text_of out.new) (written.pass_bytes (option_map told_pass pass.now)) }
 {
     match pass {
         Some(pass) => put_some_pass(out, pass),
-        None => put(out, 1, 0),
+        None => out.put(1, 0),
     }
 }
 
@@ -161,38 +146,35 @@ fn spaces_of(alloc: Global, blocks: &[Pointer]) -> Result<Vec<Run>, NoMemory>
     Ok(runs)
 }
 
-fn put_spaces(out: &mut Vec<u8>, runs: &[Run]) -> Result<(), NoMemory>
-    ensures { OnOk result (out.new.items ≡ out.old.items ++ written.spaces_bytes runs.now) }
+fn put_spaces(out: &mut Writer, runs: &[Run])
+    ensures { Writes (text_of out.old) (text_of out.new) (written.spaces_bytes runs.now) }
 {
-    put(out, 4, runs.len() as u64)?;
+    out.put(4, runs.len() as u64);
     for run in runs {
-        put(out, 8, run.first)?;
-        put(out, 8, run.len)?;
+        out.put(8, run.first);
+        out.put(8, run.len);
     }
-    Ok(())
 }
 
-fn put_block(out: &mut Vec<u8>, block: &Pointer) -> Result<(), NoMemory>
-    ensures { OnOk result (out.new.items ≡ out.old.items ++ written.block_bytes block.now) }
+fn put_block(out: &mut Writer, block: &Pointer)
+    ensures { Writes (text_of out.old) (text_of out.new) (written.block_bytes block.now) }
 {
-    put(out, 8, block.object)?;
-    put(out, 8, block.seq)?;
-    put(out, 8, block.first)?;
-    put(out, 4, u64::from(block.stripes))?;
-    put(out, 4, u64::from(block.len))?;
-    put(out, 8, block.birth)?;
-    out.extend_from_slice(&block.digest)?;
-    Ok(())
+    out.put(8, block.object);
+    out.put(8, block.seq);
+    out.put(8, block.first);
+    out.put(4, u64::from(block.stripes));
+    out.put(4, u64::from(block.len));
+    out.put(8, block.birth);
+    out.add(&block.digest);
 }
 
-fn put_blocks(out: &mut Vec<u8>, blocks: &[Pointer]) -> Result<(), NoMemory>
-    ensures { OnOk result (out.new.items ≡ out.old.items ++ written.blocks_bytes blocks.now) }
+fn put_blocks(out: &mut Writer, blocks: &[Pointer])
+    ensures { Writes (text_of out.old) (text_of out.new) (written.blocks_bytes blocks.now) }
 {
-    put(out, 4, blocks.len() as u64)?;
+    out.put(4, blocks.len() as u64);
     for block in blocks {
-        put_block(out, block)?;
+        put_block(out, block);
     }
-    Ok(())
 }
 
 /// The fields behind the length.
@@ -200,17 +182,17 @@ fn body(alloc: Global, value: &Record) -> Result<Vec<u8>, NoMemory>
     requires { All (λ (b : Pointer). b.first + b.stripes ≤ 2 ^ 49) value.now.blocks.items }
     ensures { IfOk result (λ bytes. bytes.items ≡ written.body_bytes (told_record value.now)) }
 {
-    let mut out = Vec::new(alloc);
-    put(&mut out, 2, u64::from(value.metaslab))?;
-    put(&mut out, 8, value.group)?;
-    put(&mut out, 2, value.slots.len() as u64)?;
-    put_slots(&mut out, &value.slots)?;
-    put(&mut out, 8, value.last_pass)?;
-    put_pass(&mut out, &value.pass)?;
     let runs = spaces_of(alloc, &value.blocks)?;
-    put_spaces(&mut out, &runs)?;
-    put_blocks(&mut out, &value.blocks)?;
-    Ok(out)
+    let mut out = Writer::new(alloc);
+    out.put(2, u64::from(value.metaslab));
+    out.put(8, value.group);
+    out.put(2, value.slots.len() as u64);
+    put_slots(&mut out, &value.slots);
+    out.put(8, value.last_pass);
+    put_pass(&mut out, &value.pass);
+    put_spaces(&mut out, &runs);
+    put_blocks(&mut out, &value.blocks);
+    out.done()
 }
 
 /// The record's bytes, for the front of an area. For each layout, group and next leaf for which the value is
@@ -233,10 +215,10 @@ fn whole(alloc: Global, value: &Record) -> Result<Vec<u8>, NoMemory>
     if fields.len() + 10 > u32::MAX as usize {
         return Err(NoMemory);
     }
-    let mut out = Vec::with_capacity(alloc, fields.len() + 10)?;
-    put(&mut out, 4, MAGIC)?;
-    put(&mut out, 2, u64::from(value.version))?;
-    put(&mut out, 4, (fields.len() + 10) as u64)?;
-    out.extend_from_slice(&fields)?;
-    Ok(out)
+    let mut out = Writer::with_room(alloc, fields.len() + 10)?;
+    out.put(4, MAGIC);
+    out.put(2, u64::from(value.version));
+    out.put(4, (fields.len() + 10) as u64);
+    out.add(&fields);
+    out.done()
 }

@@ -1,5 +1,5 @@
 -- What a recovery finds, and what a crash leaves from then on.
-use Rattle.std.proofs.Common.{arith, ◌≡◌, ◌+◌, ◌%◌, ◌≤◌, ℕ, Bool, true, false, nat_lt, List, [], Option, Some, None, Result, Ok, Err, IfOk, option_map, length, slice_range, refl, sym, ◌∙◌, ap, subst, inl, inr}
+use Rattle.std.proofs.Common.{arith, ◌≡◌, ◌+◌, ◌%◌, ◌≤◌, ℕ, Bool, true, false, nat_lt, List, [], Option, Some, None, Result, Ok, Err, IfOk, OnErr, OnOk, option_map, length, slice_range, refl, sym, ◌∙◌, ap, subst, inl, inr}
 use Rattle.std.proofs.lemmas.Bool.Decides.{nat_tests}
 use Rattle.std.specs.Bool.{⊤}
 use Rattle.draid_area.specs.Area.{Content, IsOfSize, OnTold, Reads, flushes}
@@ -11,6 +11,10 @@ use Rattle.draid_record.specs.declared.uber.UberBody.{UberBody}
 use Rattle.draid_record.specs.Uber.{Begins, IsUber, uber}
 use Rattle.draid_record.proofs.Again.{uber_ranges, uber_slot}
 use Rattle.draid_uber.specs.Slots.{HasKept, IsLeft, StandsIn, StandsTold, area_bytes, base_of, body_in, choice_of, chosen_of, slot_in}
+use Rattle.draid_names.specs.declared.fault.DeviceFault.TheVariants as devices
+use Rattle.draid_uber.specs.Steps.{IsSameOrFlushed}
+use Rattle.draid_uber.specs.Uber.{FindsFault, IsWhy}
+use Rattle.draid_uber.specs.declared.uber.UberFault.{UberFault}
 use Rattle.draid_uber.specs.declared.uber.UberFault.TheVariants as faults
 use Rattle.draid_uber.proofs.Choices.{chosen_long}
 
@@ -96,9 +100,6 @@ done choice = Ok choice
 pub done_is : (c d : Choice) → done c ≡ Ok d → c ≡ d
 done_is c d e = cc
 
-pub layers : (r : Result Choice DeviceFault) (c : Choice) (s : Result UberBody RecordFault) (body : UberBody) → r ≡ Ok c → c ≡ Some s → s ≡ Ok body → r ≡ Ok (Some (Ok body))
-layers r c s body a b d = rw (a, b, d) refl
-
 -- ---- what a recovery answers
 -- what was taken is what the bytes have
 pub told_is : (o : Option Content) (c d : Choice) → c ≡ d → OnTold o (λ x. c ≡ chosen_of x.bytes) → OnTold o (λ x. chosen_of x.bytes ≡ d)
@@ -108,9 +109,6 @@ told_is (Some x) c d e found = sym found ∙ e
 pub told_any : (o : Option Content) → OnTold o (λ x. ⊤)
 told_any None = tt
 told_any (Some x) = tt
-
-pub layers_bad : (c : Choice) (s : Result UberBody RecordFault) (f : RecordFault) (place kind : ℕ) → c ≡ Some s → s ≡ Err f → f ≡ Bad place kind → c ≡ Some (Err (Bad place kind))
-layers_bad c s f place kind a b d = rw (a, b, d) refl
 
 -- these faults differ
 pub empty_area : {P : Type 0} → faults.Empty ≡ faults.Area → P
@@ -130,3 +128,48 @@ record_area place kind e = absurd (cc)
 
 pub record_empty : {P : Type 0} (place kind : ℕ) → faults.Record place kind ≡ faults.Empty → P
 record_empty place kind e = absurd (cc)
+
+-- what is said of an area that told no uberblock
+pub record Refused (why : UberFault) (old new : Option Content) (Rises : Type 0) : Type 0 where
+  pub finds : OnTold old (λ x. FindsFault why (chosen_of x.bytes))
+  pub err : IsSameOrFlushed old new
+  pub empty : why ≡ faults.Empty → new ≡ option_map flushes old
+  pub cause : why ≡ faults.Area → Rises
+
+pub refused : (why : UberFault) (r : Result Choice DeviceFault) (old new : Option Content) (Rises : Type 0) → IsWhy why r
+    → IfOk r (λ c. OnTold old (λ x. c ≡ chosen_of x.bytes)) → OnOk r (new ≡ option_map flushes old) → OnErr r (IsSameOrFlushed old new) → (r ≡ Err devices.Failed → Rises)
+    → Refused why old new Rises
+refused faults.Area r old new Rises is chosen flushed err cause = record {
+  finds = told_any old;
+  err = subst (λ (r : Result Choice DeviceFault). OnErr r (IsSameOrFlushed old new)) is err;
+  empty = λ e. area_empty e;
+  cause = λ e. cause is;
+}
+refused faults.NoMemory r old new Rises (inl is) chosen flushed err cause = record {
+  finds = told_any old;
+  err = subst (λ (r : Result Choice DeviceFault). OnErr r (IsSameOrFlushed old new)) is err;
+  empty = λ e. memory_empty e;
+  cause = λ e. memory_area e;
+}
+refused faults.NoMemory r old new Rises (inr is) chosen flushed err cause = record {
+  finds = told_any old;
+  err = inr (subst (λ (r : Result Choice DeviceFault). OnOk r (new ≡ option_map flushes old)) is flushed);
+  empty = λ e. memory_empty e;
+  cause = λ e. memory_area e;
+}
+refused faults.Empty r old new Rises is chosen flushed err cause =
+    let same : new ≡ option_map flushes old = subst (λ (r : Result Choice DeviceFault). OnOk r (new ≡ option_map flushes old)) is flushed in
+    record {
+      finds = told_is old None None refl (subst (λ (r : Result Choice DeviceFault). IfOk r (λ c. OnTold old (λ x. c ≡ chosen_of x.bytes))) is chosen);
+      err = inr same;
+      empty = λ e. same;
+      cause = λ e. empty_area e;
+    }
+refused (faults.Record place kind) r old new Rises is chosen flushed err cause =
+    let same : new ≡ option_map flushes old = subst (λ (r : Result Choice DeviceFault). OnOk r (new ≡ option_map flushes old)) is flushed in
+    record {
+      finds = told_is old (Some (Err (Bad place kind))) _ refl (subst (λ (r : Result Choice DeviceFault). IfOk r (λ c. OnTold old (λ x. c ≡ chosen_of x.bytes))) is chosen);
+      err = inr same;
+      empty = λ e. record_empty _ _ e;
+      cause = λ e. record_area _ _ e;
+    }

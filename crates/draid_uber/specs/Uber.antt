@@ -1,7 +1,10 @@
 -- An uberblock area with what was committed, and what the next commit writes.
-use Rattle.std.specs.Prelude.{◌≡◌, ◌≤◌, ⊤, ℕ, false, Option, None, Some, Result, Ok, Err, option_map, replicate}
+use Rattle.std.specs.Prelude.{◌≡◌, ◌≤◌, ◌⊎◌, ⊤, ℕ, false, Option, None, Some, Result, Ok, Err, option_map, replicate}
 use Rattle.draid_area.specs.Area.{Content}
 use Rattle.draid_record.specs.declared.fault.RecordFault.{RecordFault}
+use Rattle.draid_names.specs.declared.fault.DeviceFault.{DeviceFault}
+use Rattle.draid_names.specs.declared.fault.DeviceFault.TheVariants as devices
+use Rattle.draid_record.specs.declared.fault.RecordFault.TheVariants as records
 use Rattle.draid_record.specs.declared.fault.RecordFault.TheVariants.{Bad}
 use Rattle.draid_record.specs.declared.uber.UberBody.{UberBody}
 use Rattle.draid_spec.specs.declared.layout.Geometry.{Geometry}
@@ -75,3 +78,10 @@ FindsFault (faults.Record place kind) chosen = chosen ≡ Some (Err (Bad place k
 abbrev pub Finds : {A : Type 0} → Result (Uber A) (UberRefused A) → Option (Result UberBody RecordFault) → Type 0
 Finds (Ok uber) chosen = chosen ≡ option_map read_body uber.kept
 Finds (Err refused) chosen = FindsFault refused.why chosen
+
+-- why an area told no uberblock, by what was chosen among its slots
+abbrev pub IsWhy : UberFault → Result (Option (Result UberBody RecordFault)) DeviceFault → Type 0
+IsWhy faults.Area chosen = chosen ≡ Err devices.Failed
+IsWhy faults.NoMemory chosen = (chosen ≡ Err devices.NoMemory) ⊎ (chosen ≡ Ok (Some (Err records.NoMemory)))
+IsWhy faults.Empty chosen = chosen ≡ Ok None
+IsWhy (faults.Record place kind) chosen = chosen ≡ Ok (Some (Err (Bad place kind)))

@@ -5,7 +5,6 @@ ghost use Rattle.draid_record.specs.declared.uber.UberBody.{UberBody};
 ghost use Rattle.draid_uber.specs.Slots.{Chooses, Stands, StandsTold, chosen_of, read_body};
 
 /// Law: what stands in an area stands there after a crash. An import takes the committed body, or one that is pending.
-#[tactic(auto, using(crate::proofs::Imports::crash_stands, crate::proofs::Imports::import_takes, crate::proofs::Imports::import_alone))]
 pub fn crashes_leave_what_stands()
     ensures crash { (kept : Option UberBody) (pending : List UberBody) (old new : Option Content)
         → StandsTold kept pending old → CrashesTold old new → StandsTold kept pending new }

@@ -1,4 +1,4 @@
-ghost use Rattle.std.specs.Prelude.{◌≡◌, ◌≤◌, ◌∷◌, [], ℕ, List, None, Some, IfErr, IfOk, IsErrOf, IsOk, IsSome, IsSomeAnd, OnErr, OnOk, option_map};
+ghost use Rattle.std.specs.Prelude.{◌≡◌, ◌≤◌, ◌∷◌, [], ℕ, List, None, Ok, Some, IfErr, IfOk, IsErrOf, IsOk, IsSome, IsSomeAnd, OnErr, OnOk, option_map};
 ghost use Rattle.draid_record.specs.Uber.{IsUber};
 ghost use Rattle.draid_area.specs.Area.{Counts, OnTold, flushes};
 ghost use Rattle.draid_area.specs.Moments.{ElapsesTold};
@@ -6,6 +6,7 @@ ghost use Rattle.draid_record.specs.declared.uber.UberBody.{UberBody};
 ghost use Rattle.draid_names.specs.Faults.{Rose};
 ghost use Rattle.draid_names.specs.declared.numbers.TheConstants.{LAST_NUMBER};
 ghost use Rattle.draid_spec.specs.Geometry.{IsGeometry};
+ghost use Rattle.draid_uber.specs.Uber.{IsWhy};
 
 use crate::slots::{chosen, layout};
 use crate::steps::{clear, write};
@@ -15,7 +16,7 @@ use draid_record::{RecordFault, UberBody};
 use draid_spec::Geometry;
 
 /// Why an uberblock area gave no uberblock.
-#[derive(Clone, Copy, Debug, PartialEq, Eq)]
+#[derive(Clone, Copy, PartialEq, Eq)]
 pub enum UberFault {
     /// The area failed, and its count rose.
     Area,
@@ -45,6 +46,23 @@ pub struct Uber<A: Area> {
     version: u32,
     /// The number of the next new leaf.
     next_leaf: u64,
+}
+
+/// The uberblock that an area told, or why it told none.
+fn found(
+    chosen: Result<Option<Result<UberBody, RecordFault>>, DeviceFault>,
+) -> Result<UberBody, UberFault>
+    ensures body { IfOk result (λ body. chosen ≡ Ok (Some (Ok body))) }
+    ensures why { IfErr result (λ why. IsWhy why chosen) }
+{
+    match chosen {
+        Ok(Some(Ok(body))) => Ok(body),
+        Ok(Some(Err(RecordFault::Bad { at, kind }))) => Err(UberFault::Record { at, kind }),
+        Ok(Some(Err(RecordFault::NoMemory))) => Err(UberFault::NoMemory),
+        Ok(None) => Err(UberFault::Empty),
+        Err(DeviceFault::Failed) => Err(UberFault::Area),
+        Err(DeviceFault::NoMemory) => Err(UberFault::NoMemory),
+    }
 }
 
 impl<A: Area> Uber<A> {
@@ -98,34 +116,15 @@ impl<A: Area> Uber<A> {
         ensures cause { IfErr result (λ refused. refused.why ≡ UberFault.Area → Rose (A.faults area) (A.faults refused.area)) }
     {
         let mut area = area;
-        match chosen(&mut area) {
-            Ok(Some(Ok(body))) => Ok(Uber {
+        match found(chosen(&mut area)) {
+            Ok(body) => Ok(Uber {
                 area,
                 kept: Some(body),
                 geometry: layout(&body),
                 version: body.props.version,
                 next_leaf: body.next_leaf,
             }),
-            Ok(Some(Err(RecordFault::Bad { at, kind }))) => {
-                let why = UberFault::Record { at, kind };
-                Err(UberRefused { area, why })
-            }
-            Ok(Some(Err(RecordFault::NoMemory))) => Err(UberRefused {
-                area,
-                why: UberFault::NoMemory,
-            }),
-            Ok(None) => Err(UberRefused {
-                area,
-                why: UberFault::Empty,
-            }),
-            Err(DeviceFault::Failed) => Err(UberRefused {
-                area,
-                why: UberFault::Area,
-            }),
-            Err(DeviceFault::NoMemory) => Err(UberRefused {
-                area,
-                why: UberFault::NoMemory,
-            }),
+            Err(why) => Err(UberRefused { area, why }),
         }
     }
 

@@ -1,27 +1,33 @@
-use Rattle.std.proofs.Common.{◌≡◌, ◌+◌, ◌-◌, List, subst, sym, arith}
-use Rattle.std.proofs.lemmas.Result.{err_from_is_err_and}
+use Rattle.std.proofs.Common.{◌≡◌, ◌+◌, ◌-◌, ◌∙◌, List, false, subst, sym, arith}
+use Rattle.std.specs.Prelude.{is_err}
 use Rattle.draid_ranges.specs.declared.run.Run.{Run}
 use Rattle.draid_record.specs.Grammar.{many}
-use Rattle.draid_record.specs.declared.fault.ReadError.TheVariants.{Field}
-use Rattle.draid_record.specs.Reading.{read}
+use Rattle.draid_record.specs.Reader.{state_of}
 use Rattle.draid_record.specs.Record as spec
-use Rattle.draid_record.specs.Record.{told_arm, told_slot, told_slots, told_pass, ArmTold, PassTold, RecordTold}
-use Rattle.draid_record.proofs.Loop.{ends, goes_on, is_done, with_front}
+use Rattle.draid_record.proofs.Loop.{Still, begins, ends, goes_on, is_done}
 use Rattle.draid_record.proofs.block.space_runs.Goals as goal
 
-pub returns-in_err-run-clause-runs : goal.returns-in_err-run-clause-runs
-returns-in_err-run-clause-runs c =
-    let p = err_from_is_err_and c.from_residual.result c.from_residual.ensures.1 in
-    rw (p.1, p.2) (ends spec.space_run spec.same_state 0 c.loop.runs.items (Field c.in_err-run.field-0.0) c.args.count c.loop.counter c.loop.rest.now (read (spec.space_runs c.args.count) c.args.bytes.now) c.loop-test.true c.in_err-run.ensures c.loop.invariant.still)
+pub loop-init : goal.loop-init
+loop-init c = record {
+  still = rw c.new-runs.ensures.items (begins spec.space_run spec.same_state 0 c.args.count (state_of c.args.reader.now));
+  few = rw c.new-runs.ensures.items (omega arith);
+}
+
+pub returns-then-has_failed-clause-runs : goal.returns-then-has_failed-clause-runs
+returns-then-has_failed-clause-runs c =
+    ends spec.space_run spec.same_state 0 c.loop.runs.items c.loop.runs.items c.args.count c.loop.counter (state_of c.args.reader.now) (state_of c.loop.reader) (state_of c.space_run-run.new.reader) c.space_run-run.result (spec.space_runs c.args.count)
+    c.loop-test.true c.space_run-run.ensures (sym c.has_failed.ensures ∙ c.if-has_failed.true) c.loop.invariant.still
 
 pub loop-preserved : goal.loop-preserved
 loop-preserved c =
-    let S : List Run → Type 0 = λ rs. with_front rs (read (many (c.args.count - (c.loop.counter + 1)) spec.space_run spec.same_state 0) c.in_ok-run.after.now) ≡ read (spec.space_runs c.args.count) c.args.bytes.now in
+    let r : Run = c.space_run-run.result in
+    let b = state_of c.space_run-run.new.reader in
+    let ok : is_err b ≡ false = sym c.has_failed.ensures ∙ c.if-has_failed.false in
+    let S : List Run → Type 0 = λ rs. Still (state_of c.args.reader.now) (spec.space_runs c.args.count) rs b (many (c.args.count - (c.loop.counter + 1)) spec.space_run spec.same_state 0) in
     record {
+      still = subst S (sym c.in_ok-push.ensures.items) (goes_on spec.space_run spec.same_state 0 c.loop.runs.items c.args.count c.loop.counter (state_of c.args.reader.now) (state_of c.loop.reader) b r (spec.space_runs c.args.count) c.loop-test.true c.space_run-run.ensures ok c.loop.invariant.still);
       few = (let few = c.loop.invariant.few in let one = c.in_ok-push.ensures.len in omega arith);
-      still = subst S (sym c.in_ok-push.ensures.items)
-          (goes_on spec.space_run spec.same_state 0 c.loop.runs.items c.args.count c.loop.counter c.loop.rest.now c.in_ok-run.run' c.in_ok-run.after.now (read (spec.space_runs c.args.count) c.args.bytes.now) c.loop-test.true c.in_ok-run.ensures c.loop.invariant.still);
     }
 
 pub returns-clause-runs : goal.returns-clause-runs
-returns-clause-runs c = is_done spec.space_run spec.same_state 0 c.loop.runs.items c.args.count c.loop.counter c.loop.rest.now (read (spec.space_runs c.args.count) c.args.bytes.now) c.loop-test.false c.loop.invariant.still
+returns-clause-runs c = is_done spec.space_run spec.same_state 0 c.loop.runs.items c.args.count c.loop.counter (state_of c.args.reader.now) (state_of c.loop.reader) (spec.space_runs c.args.count) c.loop-test.false c.loop.invariant.still

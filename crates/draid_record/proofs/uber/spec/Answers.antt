@@ -1,50 +1,36 @@
-use Rattle.std.proofs.Common.{◌∙◌, ap, refl, ◌+◌}
+use Rattle.std.proofs.Common.{◌∙◌, ◌≤◌, ap, refl, ◌+◌, arith}
 use Rattle.std.specs.Prelude.{nat_le}
-use Rattle.std.proofs.lemmas.Result.{err_from_is_err_and}
-use Rattle.draid_record.proofs.Laws.{read_done}
-use Rattle.draid_record.proofs.Steps.{check_goes, check_stops, number_goes, number_stops}
+use Rattle.draid_record.specs.Reader.{state_of}
+use Rattle.draid_record.proofs.Steps.{both, check_then, done, kept, number_then, so}
 use Rattle.draid_record.proofs.uber.spec.Goals as goal
-
-pub returns-in_err-parity-clause-spec : goal.returns-in_err-parity-clause-spec
-returns-in_err-parity-clause-spec c =
-    let p = err_from_is_err_and c.from_residual.result c.from_residual.ensures.1 in
-    rw (p.1, p.2) (number_stops 1 _ _ _ _ _ c.args.bytes.now _ refl refl c.in_err-parity.ensures.number)
-
-pub returns-in_err-ndata-clause-spec : goal.returns-in_err-ndata-clause-spec
-returns-in_err-ndata-clause-spec c =
-    let p = err_from_is_err_and c.from_residual-in_err-ndata.result c.from_residual-in_err-ndata.ensures.1 in
-    rw (p.1, p.2) (number_goes 1 _ _ _ _ _ c.args.bytes.now _ _ refl refl c.in_ok-parity.ensures.number
-    ∙ number_stops 1 _ _ _ _ _ c.in_ok-parity.bytes.now _ refl refl c.in_err-ndata.ensures.number)
-
-pub returns-in_err-children-clause-spec : goal.returns-in_err-children-clause-spec
-returns-in_err-children-clause-spec c =
-    let p = err_from_is_err_and c.from_residual-in_err-children.result c.from_residual-in_err-children.ensures.1 in
-    rw (p.1, p.2) (number_goes 1 _ _ _ _ _ c.args.bytes.now _ _ refl refl c.in_ok-parity.ensures.number
-    ∙ number_goes 1 _ _ _ _ _ c.in_ok-parity.bytes.now _ _ refl refl c.in_ok-ndata.ensures.number
-    ∙ number_stops 1 _ _ _ _ _ c.in_ok-ndata.bytes.now _ refl (c.from.ensures ∙ c.most_children.ensures.value) c.in_err-children.ensures.number)
-
-pub returns-in_err-spares-clause-spec : goal.returns-in_err-spares-clause-spec
-returns-in_err-spares-clause-spec c =
-    let p = err_from_is_err_and c.from_residual-in_err-spares.result c.from_residual-in_err-spares.ensures.1 in
-    rw (p.1, p.2) (number_goes 1 _ _ _ _ _ c.args.bytes.now _ _ refl refl c.in_ok-parity.ensures.number
-    ∙ number_goes 1 _ _ _ _ _ c.in_ok-parity.bytes.now _ _ refl refl c.in_ok-ndata.ensures.number
-    ∙ number_goes 1 _ _ _ _ _ c.in_ok-ndata.bytes.now _ _ refl (c.from.ensures ∙ c.most_children.ensures.value) c.in_ok-children.ensures.number
-    ∙ number_stops 1 _ _ _ _ _ c.in_ok-children.bytes.now _ refl refl c.in_err-spares.ensures.number)
-
-pub returns-in_err-check-clause-spec : goal.returns-in_err-check-clause-spec
-returns-in_err-check-clause-spec c =
-    let p = err_from_is_err_and c.from_residual-in_err-check.result c.from_residual-in_err-check.ensures.1 in
-    rw (p.1, p.2) (number_goes 1 _ _ _ _ _ c.args.bytes.now _ _ refl refl c.in_ok-parity.ensures.number
-    ∙ number_goes 1 _ _ _ _ _ c.in_ok-parity.bytes.now _ _ refl refl c.in_ok-ndata.ensures.number
-    ∙ number_goes 1 _ _ _ _ _ c.in_ok-ndata.bytes.now _ _ refl (c.from.ensures ∙ c.most_children.ensures.value) c.in_ok-children.ensures.number
-    ∙ number_goes 1 _ _ _ _ _ c.in_ok-children.bytes.now _ _ refl refl c.in_ok-spares.ensures.number
-    ∙ check_stops _ _ 1 _ _ c.in_ok-spares.bytes.now _ (ap (λ n. nat_le (c.in_ok-parity.parity + c.in_ok-ndata.ndata) n) c.saturating_sub-have.ensures) c.in_err-check.ensures.err c.in_err-check.ensures.fault refl)
 
 pub returns-clause-spec : goal.returns-clause-spec
 returns-clause-spec c =
-    number_goes 1 _ _ _ _ _ c.args.bytes.now _ _ refl refl c.in_ok-parity.ensures.number
-    ∙ number_goes 1 _ _ _ _ _ c.in_ok-parity.bytes.now _ _ refl refl c.in_ok-ndata.ensures.number
-    ∙ number_goes 1 _ _ _ _ _ c.in_ok-ndata.bytes.now _ _ refl (c.from.ensures ∙ c.most_children.ensures.value) c.in_ok-children.ensures.number
-    ∙ number_goes 1 _ _ _ _ _ c.in_ok-children.bytes.now _ _ refl refl c.in_ok-spares.ensures.number
-    ∙ check_goes _ _ 1 _ c.in_ok-spares.bytes.now (ap (λ n. nat_le (c.in_ok-parity.parity + c.in_ok-ndata.ndata) n) c.saturating_sub-have.ensures) c.in_ok-check.ensures.ok
-    ∙ read_done _ c.in_ok-spares.bytes.now
+    number_then 1 _ _ _ _ _ _ _ _ _ _ refl refl c.number-parity.ensures.reads
+    (number_then 1 _ _ _ _ _ _ _ _ _ _ refl refl c.number-ndata.ensures.reads
+    (number_then 1 _ _ _ _ _ _ _ _ _ _ refl (c.from.ensures ∙ c.most_children.ensures.value) c.number-children.ensures.reads
+    (number_then 1 _ _ _ _ _ _ _ _ _ _ refl refl c.number-spares.ensures.reads
+    (check_then _ _ 1 _ _ _ _ _ (ap (λ n. nat_le (c.number-parity.result + c.number-ndata.result) n) c.saturating_sub-have.ensures) c.check.ensures (done _ _)))))
+
+pub returns-clause-ranges : goal.returns-clause-ranges
+returns-clause-ranges c =
+    let P = 1 ≤ c.number-parity.result in
+    let D = 1 ≤ c.number-ndata.result in
+    let C = 2 ≤ c.number-children.result in
+    let e = state_of c.check.new.self in
+    let p = kept P _ _ _ _ c.check.ensures (kept P _ _ _ _ c.number-spares.ensures.reads (kept P _ _ _ _ c.number-children.ensures.reads (kept P _ _ _ _ c.number-ndata.ensures.reads c.number-parity.ensures.low))) in
+    let d = kept D _ _ _ _ c.check.ensures (kept D _ _ _ _ c.number-spares.ensures.reads (kept D _ _ _ _ c.number-children.ensures.reads c.number-ndata.ensures.low)) in
+    let k = kept C _ _ _ _ c.check.ensures (kept C _ _ _ _ c.number-spares.ensures.reads c.number-children.ensures.low) in
+    let most = c.number-children.ensures.high in
+    so (P × (D × C)) _ e
+    (λ (w : P × (D × C)). record {
+      some_parity = w.0;
+      most_parity = c.number-parity.ensures.high;
+      some_data = w.1.0;
+      most_data = omega (arith, c.number-ndata.ensures.high);
+      some_children = w.1.1;
+      most_children = omega (arith, most, c.from.ensures, c.most_children.ensures.most);
+      first_children = λ first. omega (arith, most, c.from.ensures, c.most_children.ensures.first first);
+      most_spares = c.number-spares.ensures.high;
+    })
+    (both P (D × C) e p (both D C e d k))

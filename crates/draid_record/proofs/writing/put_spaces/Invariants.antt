@@ -1,7 +1,8 @@
-use Rattle.std.proofs.Common.{◌≡◌, ◌++◌, take}
+use Rattle.std.proofs.Common.{take}
 use Rattle.std.specs.List.{flat_map}
+use Rattle.draid_record.specs.Writer.{Writes, text_of}
 use Rattle.draid_record.specs.Written as written
 use Rattle.draid_record.proofs.writing.put_spaces.Given as goal
 
 abbrev pub invariant-loop-run : goal.invariant-loop-run
-invariant-loop-run l = l.out.items ≡ l.initial.out.items ++ flat_map written.space_bytes (take l.run-index l.runs)
+invariant-loop-run l = Writes (text_of l.initial.out) (text_of l.out) (flat_map written.space_bytes (take l.run-index l.runs))

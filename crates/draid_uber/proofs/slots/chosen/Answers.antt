@@ -20,3 +20,9 @@ returns-clause-stands g c = λ body e.
     c.in_ok-read.ensures.whole c.in_ok-read-2.ensures.whole c.in_ok-read.ensures.read c.in_ok-read-2.ensures.read in
     let is = done_is c.choice.result _ e in
     body_taken _ _ _ body _ _ found is (c.choice.ensures.stands body is) (c.in_ok-read-2.ensures.told ∙ c.in_ok-read.ensures.told ∙ c.in_ok-flush.ensures.ok)
+
+pub returns-clause-flushed : goal.returns-clause-flushed
+returns-clause-flushed g c = c.in_ok-read-2.ensures.told ∙ c.in_ok-read.ensures.told ∙ c.in_ok-flush.ensures.ok
+
+pub returns-clause-err : goal.returns-clause-err
+returns-clause-err g c = tt
