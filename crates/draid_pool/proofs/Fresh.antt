@@ -449,3 +449,21 @@ made_again geometry c h n last before after final now new uncounted back zeros g
   uber = uber;
   checks = checks;
 }
+
+rack_new : (geometry : Geometry) (o : Option KitTold) → IsSomeAnd o (IsNewKit geometry) → IsSomeAnd o (λ kit. IsNewRack geometry kit.rack)
+rack_new geometry None h = absurd h
+rack_new geometry (Some kit) h = h.rack
+
+new_held : (geometry : Geometry) (o : Option Held) → OnHeld o (IsNewPool geometry) → OnHeld o (HoldsMade geometry)
+new_held geometry None h = tt
+new_held geometry (Some x) h = record { uber = h.uber; checks = h.checks; kits = λ m below. rack_new geometry (x.kits m) (h.kits m below) }
+
+-- all that was made is held where nothing was taken of it
+pub made_untouched : (geometry : Geometry) (old new : Option Held) (before after : ℕ → KitCounts) (own : OwnCounts) → OnHeld old (IsNewPool geometry) → new ≡ old → ((m : ℕ) → m < geometry.props.metaslabs → IsUncounted (before m))
+    → ((m : ℕ) → after m ≡ before m) → own.uber ≡ 0 → NoChecks own → IsMade geometry new after own
+made_untouched geometry old new before after own made same uncounted kept uber checks = record {
+  held = subst (λ (o : Option Held). OnHeld o (HoldsMade geometry)) (sym same) (new_held geometry old made);
+  counts = λ m who below. ap (λ (c : KitCounts). c.rack who) (kept m) ∙ (uncounted m below).no_rack who;
+  uber = uber;
+  checks = checks;
+}

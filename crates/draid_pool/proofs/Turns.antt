@@ -29,7 +29,7 @@ use Rattle.draid_entries.specs.Entries.{held_in}
 use Rattle.draid_entries.specs.History as history
 use Rattle.draid_entries.specs.History.{limit_in, reserved_of}
 use Rattle.draid_shard.specs.Calls.{SameKit, SameReserve}
-use Rattle.draid_shard.specs.Fits.{Valid}
+use Rattle.draid_shard.specs.Fits.{AreGroups, Valid}
 use Rattle.draid_groups.specs.Groups.{AreasLater, CloseRefused, KeepsOtherArea, ListsOnce, OpenUpto, Seals, Unsealed, area_in}
 use Rattle.draid_shard.specs.Part.{Part, layout_in}
 use Rattle.draid_shard.specs.States.{Does, DoesNone, IsIn, layout_by, part_of}
@@ -62,6 +62,19 @@ abbrev pub close_fault : CloseFault → SyncFault
 close_fault (close.Worn events) = sync.Worn
 close_fault close.Last = sync.Last
 close_fault close.NoMemory = sync.NoMemory
+
+-- where no group is closing
+pub idle_by : (o : Option ℕ) → is_some o ≡ false → o ≡ None
+idle_by None none = refl
+idle_by (Some t) none = absurd (cc)
+
+pub open_next : (open_group committed group : ℕ) (closing : Option ℕ) (sealed : Bool) → AreGroups open_group closing committed sealed → closing ≡ None → group ≡ committed + 1 → group ≡ open_group
+open_next open_group committed group closing sealed are idle next = (let a = subst (λ (o : Option ℕ). AreGroups open_group o committed sealed) idle are in next ∙ sym a.0)
+
+-- one that is closing is that behind the committed one
+pub closing_next : (open_group committed group : ℕ) (closing : Option ℕ) (sealed : Bool) → AreGroups open_group closing committed sealed → is_some closing ≡ true → group ≡ committed + 1 → closing ≡ Some group
+closing_next open_group committed group None sealed are some next = absurd (cc)
+closing_next open_group committed group (Some t) sealed are some next = ap (λ (n : ℕ). Some n) (are.1 ∙ sym next)
 
 -- why a pool's group isn't sealed
 abbrev pub seal_fault : SealFault → SyncFault
@@ -159,6 +172,12 @@ module _ {R A : Type 0} (rack : racks.Ghosts R) (area : areas.Ghosts A) where
   look part pieces new x does is done = record { act = Looked; reached = x; acts = (rests x x.reserved, refl); done = done; is = is }
 
   -- ---- closing
+
+  -- it is closing already
+  pub closing_here : (part : Part) (pieces : Pieces) (shard : Shard R A) (group : ℕ) (x : Metaslab) → IsMetaslab rack area part pieces shard x → shard.closing ≡ Some group
+      → Turns rack area part pieces x shard (λ hold y. CloseIs part group (Ok tt) hold × KeepsCommitted x.world y.world)
+  closing_here part pieces shard group x is closing =
+      look part pieces shard x (λ hold y. CloseIs part group (Ok tt) hold × KeepsCommitted x.world y.world) is ((refl, is.stands.is_in.closing ∙ closing, refl), kept_here x.world)
 
   pub closed : (part : Part) (pieces : Pieces) (old new : Shard R A) (group : ℕ) (x : Metaslab) → IsMetaslab rack area part pieces old x → Valid rack new → Does old new (event.Close group) → SameKit old new
       → SameReserve old new → (history.Passes old.history 3 0 → ⊥) → Turns rack area part pieces x new (λ hold y. CloseIs part group (Ok tt) hold × KeepsCommitted x.world y.world)

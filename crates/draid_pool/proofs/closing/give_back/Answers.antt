@@ -63,3 +63,17 @@ returns-clause-checks g c = c.loop-shard.invariant.checks
 
 pub returns-clause-faults : goal.returns-clause-faults
 returns-clause-faults g c = c.loop-shard.invariant.faults
+
+pub give-requires : goal.give-requires
+give-requires g c =
+    let at : c.len.result ≡ length c.pop.new.self.items = c.len.ensures ∙ c.pop.new.self.ok.0 in
+    let few = c.loop-shard.invariant.few in
+    let popped : c.loop-shard.left.items ≡ c.pop.new.self.items ++ c.in-Some.shard ∷ [] = c.in-Some.ensures.items in
+    let long : length c.loop-shard.left.items ≡ length c.pop.new.self.items + 1 = ap (λ (xs : List (Shard g.row.H-R.Denot g.row.H-A.Denot)). length xs) popped ∙ length-append c.pop.new.self.items (c.in-Some.shard ∷ []) in
+    omega (arith, at, few, long)
+
+pub loop-shard-smaller : goal.loop-shard-smaller
+loop-shard-smaller g c =
+    let popped : c.loop-shard.left.items ≡ c.pop.new.self.items ++ c.in-Some.shard ∷ [] = c.in-Some.ensures.items in
+    let long : length c.loop-shard.left.items ≡ length c.pop.new.self.items + 1 = ap (λ (xs : List (Shard g.row.H-R.Denot g.row.H-A.Denot)). length xs) popped ∙ length-append c.pop.new.self.items (c.in-Some.shard ∷ []) in
+    omega (arith, long)

@@ -16,6 +16,7 @@ use Rattle.draid_pool.proofs.ImportLeft.{leaves_all, refusal_is, refused_pool, r
 use Rattle.draid_pool.proofs.ImportOne.{no_fault_apart}
 use Rattle.draid_pool.proofs.ImportPool.{pool_found, tells_as_before}
 use Rattle.draid_pool.proofs.Found.{absent_not, all_ready, checks_more, refused_too, checks_back, checks_given, shard_not_spec}
+use Rattle.draid_pool.proofs.Refusing.{no_refusal}
 use Rattle.draid_pool.proofs.importing.import.Goals as goal
 
 pub find_blocks-requires : goal.find_blocks-requires
@@ -154,7 +155,7 @@ pub returns-in-Ok-find_blocks-clause-not_spec : goal.returns-in-Ok-find_blocks-c
 returns-in-Ok-find_blocks-clause-not_spec g c = tt
 
 pub returns-in-Ok-find_blocks-clause-faulty : goal.returns-in-Ok-find_blocks-clause-faulty
-returns-in-Ok-find_blocks-clause-faulty g c metaslab place kind err = absurd (cc)
+returns-in-Ok-find_blocks-clause-faulty g c metaslab place kind err = absurd (no_refusal err)
 
 pub returns-in-Ok-find_blocks-clause-checks : goal.returns-in-Ok-find_blocks-clause-checks
 returns-in-Ok-find_blocks-clause-checks g c = c.reopen_shards.ensures.checks ∙ c.find_uber.ensures.checks
@@ -163,7 +164,7 @@ pub returns-in-Ok-find_blocks-clause-later : goal.returns-in-Ok-find_blocks-clau
 returns-in-Ok-find_blocks-clause-later g c = (let first = c.find_uber.ensures.later in let more = c.reopen_shards.ensures.later in omega (arith, first, more))
 
 pub returns-in-Ok-find_blocks-clause-cause : goal.returns-in-Ok-find_blocks-clause-cause
-returns-in-Ok-find_blocks-clause-cause g c failed = absurd (cc)
+returns-in-Ok-find_blocks-clause-cause g c failed = absurd (no_refusal failed)
 
 pub returns-in-Err-clause-whole : goal.returns-in-Err-clause-whole
 returns-in-Err-clause-whole g c = tt

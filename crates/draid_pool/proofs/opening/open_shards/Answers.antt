@@ -5,6 +5,7 @@ use Rattle.draid_rack.specs.Rack.{Shape}
 use Rattle.draid_shelf.specs.Shelf.{HasLeavesOf}
 use Rattle.draid_pool.specs.Opening.{TakesFirst}
 use Rattle.draid_pool.proofs.Opened.{opening_all, opening_back, opening_more, opening_none, refused_counted, failed_too}
+use Rattle.draid_pool.proofs.Refusing.{no_device, no_refusal}
 use Rattle.draid_pool.proofs.opening.open_shards.Goals as goal
 
 pub loop-number-init : goal.loop-number-init
@@ -90,7 +91,7 @@ pub returns-clause-later : goal.returns-clause-later
 returns-clause-later g c = c.loop-number.invariant.later
 
 pub returns-clause-cause : goal.returns-clause-cause
-returns-clause-cause g c failed = absurd (cc)
+returns-clause-cause g c failed = absurd (no_refusal failed)
 
 pub returns-in-Err-clause-opened : goal.returns-in-Err-clause-opened
 returns-in-Err-clause-opened g c = tt
@@ -123,4 +124,4 @@ pub returns-in_default-clause-later : goal.returns-in_default-clause-later
 returns-in_default-clause-later g c = omega arith
 
 pub returns-in_default-clause-cause : goal.returns-in_default-clause-cause
-returns-in_default-clause-cause g c failed = absurd (cc)
+returns-in_default-clause-cause g c failed = absurd (no_device failed)

@@ -7,6 +7,7 @@ use Rattle.draid_pool.specs.declared.fault.SyncFault.TheVariants as sync
 use Rattle.draid_shard.proofs.Shown.{state_shown}
 use Rattle.draid_pool.proofs.Rises.{records_rose, records_still}
 use Rattle.draid_pool.proofs.Turns.{no_tickets, not_sealed, seal_fault, sealed}
+use Rattle.draid_pool.proofs.Refusing.{memory_no_shelf, no_refusal}
 use Rattle.draid_pool.proofs.syncing.seal_in.Goals as goal
 
 pub unreachable-requires : goal.unreachable-requires
@@ -68,7 +69,7 @@ pub returns-in-Err-NoMemory-clause-low : goal.returns-in-Err-NoMemory-clause-low
 returns-in-Err-NoMemory-clause-low g c = tt
 
 pub returns-in-Err-NoMemory-clause-cause : goal.returns-in-Err-NoMemory-clause-cause
-returns-in-Err-NoMemory-clause-cause g c failed = absurd (cc)
+returns-in-Err-NoMemory-clause-cause g c failed = absurd (memory_no_shelf failed)
 
 pub returns-in-Ok-clause-valid : goal.returns-in-Ok-clause-valid
 returns-in-Ok-clause-valid g c = c.in-Ok.ensures.valid
@@ -80,7 +81,7 @@ pub returns-in-Ok-clause-low : goal.returns-in-Ok-clause-low
 returns-in-Ok-clause-low g c = c.in-Ok.ensures.sealed.low
 
 pub returns-in-Ok-clause-cause : goal.returns-in-Ok-clause-cause
-returns-in-Ok-clause-cause g c failed = absurd (cc)
+returns-in-Ok-clause-cause g c failed = absurd (no_refusal failed)
 
 pub seal-requires : goal.seal-requires
 seal-requires g c = record { valid = c.requires.valid; closing = (c.requires.closing, sym c.sealed.ensures ∙ c.if-sealed.false) }
