@@ -98,6 +98,9 @@ back_untaken n old new before after same others own = record {
       | inr other ↦ others m (λ at. omega (arith, at, other))
     ]
 
+pub back_nothing : (held : Option Held) (counts : ℕ → KitCounts) → IsBackAgain held held counts counts
+back_nothing held counts = record { held = held_still held; counts = λ m who. refl }
+
 -- what was taken and given back is held again
 kits_again : (n : ℕ) (x : Held) (kit : KitTold) → rack_in (Some kit) ≡ rack_in (x.kits n) → SameButRecords x (puts_kit n (Some kit) (puts_kit n None x))
 kits_again n x kit same = record {
