@@ -80,6 +80,9 @@ below_test : (b : Bool) (leaf n : ℕ) → (b ≡ true → leaf < n) → IsSome 
 below_test false leaf n less some = absurd (cc)
 below_test true leaf n less some = less refl
 
+leaf_less : (leaf n m : ℕ) → n ≡ m → nat_lt leaf n ≡ true → leaf < m
+leaf_less leaf n m same less = grind (arith, nat_tests, same, less)
+
 module _ {R A : Type 0} (rack : racks.Ghosts R) (area : areas.Ghosts A) where
   -- the metaslab that a new shard is
   abbrev metaslab_of : Shard R A → Metaslab
@@ -184,7 +187,7 @@ module _ {R A : Type 0} (rack : racks.Ghosts R) (area : areas.Ghosts A) where
         → IsSome ((created (layout_by shard) shard.geometry.props.version).core.arm (Leaf leaf)) → leaf < geometry.spec.children
     leaf_below m shard leaf is some =
         let slots : shard.geometry.spec.children ≡ geometry.spec.children = ap (λ (p : Part). p.geometry.spec.children) is.part_is in
-        below_test (nat_lt leaf shard.geometry.spec.children) leaf geometry.spec.children (λ less. grind (arith, nat_tests, slots, less)) some
+        below_test (nat_lt leaf shard.geometry.spec.children) leaf geometry.spec.children (leaf_less leaf shard.geometry.spec.children geometry.spec.children slots) some
 
     -- ---- all
 

@@ -1,6 +1,6 @@
 -- What the answer of a call isn't.
-use Rattle.std.proofs.Common.{◌≡◌, ◌∙◌, ◌⊎◌, inr, ℕ, Bool, true, false, Option, Result, Ok, Err, ap, sym}
-use Rattle.std.specs.Prelude.{IfOk, IsErrAnd, IsErrOf, OnErr, OnOk}
+use Rattle.std.proofs.Common.{◌≡◌, ◌∙◌, ◌⊎◌, inr, ℕ, Bool, true, false, Option, Result, Ok, Err, ap, subst, sym}
+use Rattle.std.specs.Prelude.{IfErr, IfOk, IsErrAnd, IsErrOf, OnErr, OnOk}
 use Rattle.draid_names.specs.declared.fault.DeviceFault.TheVariants as device
 use Rattle.draid_pool.specs.declared.fault.PoolFault.TheVariants as fault
 use Rattle.draid_pool.specs.declared.fault.SyncFault.TheVariants as sync
@@ -65,6 +65,18 @@ on_ok_always (Err e) P h = tt
 pub on_err_right : {T E : Type 0} (r : Result T E) (P Q : Type 0) → OnErr r Q → OnErr r (P ⊎ Q)
 on_err_right (Ok x) P Q h = tt
 on_err_right (Err e) P Q h = inr h
+
+pub if_err_passed : {T E : Type 0} (r : Result T E) (f : E) (P : E → Type 0) → IsErrAnd r (λ y. y ≡ f) → P f → IfErr r P
+if_err_passed (Ok x) f P h p = absurd h
+if_err_passed (Err y) f P h p = subst P (sym h) p
+
+pub passed_is : {T E : Type 0} (r : Result T E) (f : E) → IsErrAnd r (λ y. y ≡ f) → r ≡ Err f
+passed_is (Ok x) f h = absurd h
+passed_is (Err y) f h = ap Err h
+
+pub passed_back : {T U E : Type 0} (r : Result T E) (f w : E) → IsErrAnd r (λ y. y ≡ f) → IsErrOf {T = U} (Err f) w → IsErrOf r w
+passed_back (Ok x) f w h is = absurd h
+passed_back (Err y) f w h is = (let same : f ≡ w = cc in ap Err (h ∙ same))
 
 pub passed : {T U E : Type 0} (r : Result T E) (f w : E) → IsErrAnd r (λ y. y ≡ f) → IsErrOf r w → IsErrOf {T = U} (Err f) w
 passed (Ok x) f w h is = absurd h

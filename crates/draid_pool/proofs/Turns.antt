@@ -1,6 +1,7 @@
 -- One metaslab as a group is closed, sealed and committed there.
 use Rattle.std.proofs.Common.{◌≡◌, ◌==◌, ◌%◌, ◌<◌, ◌+◌, ◌∙◌, [], ◌∷◌, inl, inr, ℕ, suc, Bool, true, false, List, Option, Some, None, Ok, Err, IsSome, Contains, Vec, Global, arith, refl, sym, ap, subst, length, if◌then◌else◌}
 use Rattle.std.specs.Prelude.{is_some}
+use Rattle.draid_pool.proofs.Refusing.{not_both}
 use Rattle.draid_names.specs.Faults.{Rose}
 use Rattle.draid_rack.specs.Rack.{OnTold, Told}
 use Rattle.draid_rack.specs.Moments.{Leaves, LeavesTold}
@@ -208,6 +209,13 @@ module _ {R A : Type 0} (rack : racks.Ghosts R) (area : areas.Ghosts A) where
       (subst (λ f. CloseIs part group (Err f) (On (view_of part.number x) Looked)) same (close_stops part pieces old group x why is idle refused), kept_here x.world)
 
   -- ---- sealing
+
+  -- it is sealed already
+  pub stays_sealed : (part : Part) (pieces : Pieces) (shard : Shard R A) (group : ℕ) (x : Metaslab) → IsMetaslab rack area part pieces shard x → shard.closing ≡ Some group → shard.sealed ≡ true
+      → Turns rack area part pieces x shard (λ hold y. SealIs part group (Ok 0) hold × KeepsCommitted x.world y.world)
+  stays_sealed part pieces shard group x is closing done =
+      look part pieces shard x (λ hold y. SealIs part group (Ok 0) hold × KeepsCommitted x.world y.world) is
+      ((refl, is.stands.is_in.closing ∙ closing, (λ none. not_both (is_some x.world.sealed) (is.stands.is_in.sealed ∙ done) (ap (λ (o : Option machine.Image). is_some o) none)), refl), kept_here x.world)
 
   sealed_record : (pieces : Pieces) (old new : Shard R A) (group thin : ℕ) (x : Metaslab) → IsMetaslab rack area (part_of old) pieces old x → (s : Seals rack area.told old new group thin)
       → KeepsOtherArea group old new → (v : machine.State) → Step (layout_by old) x.world (event.Seal group s.failed) v → HasRecords (part_of old) v (area.told new.even) (area.told new.odd)

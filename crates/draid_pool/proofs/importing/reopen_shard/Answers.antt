@@ -1,11 +1,12 @@
-use Rattle.std.proofs.Common.{arith, ◌/◌, ◌∙◌, Err, ap, inl, inr, subst, sym}
+use Rattle.std.proofs.Common.{arith, ◌<◌, ◌≤◌, ◌/◌, ◌∙◌, Err, ap, inl, inr, subst, sym}
+use Rattle.draid_names.specs.declared.numbers.TheConstants.{LAST_NUMBER}
 use Rattle.draid_uber.specs.Slots.{group_of}
 use Rattle.draid_uber.specs.Uber.{kept_of, layout_of, next_leaf_of}
 use Rattle.draid_groups.specs.Reopening.{OpenIsRefused}
 use Rattle.draid_pool.proofs.ImportUnread.{no_open_record, no_shelf_record}
 use Rattle.draid_groups.specs.Groups.{Opens}
 use Rattle.draid_spec.specs.declared.layout.Geometry.{Geometry}
-use Rattle.draid_shard.specs.Part.{Part}
+use Rattle.draid_shard.specs.Part.{IsPart, Part}
 use Rattle.draid_pool.proofs.Found.{fault_is, kit_back, records_rose, refused_area, reopened, stays_put, stays_same, checks_equal, checks_put, checks_taken, counts_later}
 use Rattle.draid_pool.proofs.ImportFaulty.{err_is, shelf_no_record, unread}
 use Rattle.draid_pool.proofs.ImportLeft.{keeps_equal, keeps_known, tells_put, tells_same}
@@ -219,3 +220,19 @@ returns-in-Err-clause-cause g c failed = inl (c.in-Err.ensures.cause.cause (ap E
 
 pub give-requires : goal.give-requires
 give-requires g c = (let below = c.requires.number in let most = c.requires.layout.geometry_is.props.most_metaslabs in omega (arith, below, most))
+
+pub reopen-requires-clause-part : goal.reopen-requires-clause-part
+reopen-requires-clause-part g c =
+    subst (λ (l : Geometry). IsPart (record { geometry = l; perms = c.args.perms; number = c.args.number })) (sym c.geometry.ensures) (record { layout = c.requires.layout; below = c.requires.number })
+
+pub reopen-requires-clause-bytes : goal.reopen-requires-clause-bytes
+reopen-requires-clause-bytes g c = c.in-Ok.ensures.sectors
+
+pub reopen-requires-clause-group : goal.reopen-requires-clause-group
+reopen-requires-clause-group g c = subst (λ n. (1 ≤ n) × (n < LAST_NUMBER)) (sym c.committed-group.ensures) (c.requires.uber.some, c.requires.uber.low)
+
+pub reopen-requires-clause-next : goal.reopen-requires-clause-next
+reopen-requires-clause-next g c =
+    let held = c.requires.uber.valid.held in
+    subst (λ (l : Geometry). (l.spec.children ≤ c.next_leaf.result) × (c.next_leaf.result ≤ LAST_NUMBER)) (sym c.geometry.ensures)
+    (subst (λ n. ((layout_of c.args.uber.now).spec.children ≤ n) × (n ≤ LAST_NUMBER)) (sym c.next_leaf.ensures) (held.leaf_above, held.leaf_below))

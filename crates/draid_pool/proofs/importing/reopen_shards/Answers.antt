@@ -250,3 +250,15 @@ reopen_shard-requires-clause-uber g c κs within = c.requires.uber
 
 pub reopen_shard-requires-clause-number : goal.reopen_shard-requires-clause-number
 reopen_shard-requires-clause-number g c κs within = (let below = c.loop-number-test.true in let same = ap (λ (x : Geometry). x.props.metaslabs) c.geometry-layout.ensures in omega (arith, below, same))
+
+pub new-perms-requires-clause-least : goal.new-perms-requires-clause-least
+new-perms-requires-clause-least g c =
+    let same = ap (λ (x : Geometry). x.spec.children) c.geometry-layout.ensures in
+    let least = c.requires.uber.valid.held.layout_is.spec.some_children in
+    omega (arith, same, least)
+
+pub new-perms-requires-clause-most : goal.new-perms-requires-clause-most
+new-perms-requires-clause-most g c =
+    let same = ap (λ (x : Geometry). x.spec.children) c.geometry-layout.ensures in
+    let most = c.requires.uber.valid.held.layout_is.spec.most_children in
+    omega (arith, same, most)
