@@ -1,6 +1,6 @@
 -- The metaslabs that an import opens, and the blocks that it finds there.
 use Rattle.std.proofs.Common.{arith, ◌≡◌, ◌==◌, ◌%◌, ◌+◌, ◌<◌, ◌≤◌, ◌++◌, ◌∙◌, ◌⊎◌, inl, inr, ℕ, Bool, true, false, List, [], ◌∷◌, Option, Some, None, Ok, Err, refl, sym, ap, subst, slice_set, length, length-append, if◌then◌else◌}
-use Rattle.std.specs.Prelude.{⊤, IsErrOf, IsSomeAnd, MatchOption, find, nat_eq, option_map, slice_get}
+use Rattle.std.specs.Prelude.{⊤, ◌↔◌, IsErrOf, IsSome, IsSomeAnd, IsTrue, MatchOption, find, nat_eq, option_map, slice_get}
 use Rattle.std.proofs.lemmas.Bool.{cases_eq, cases_lt}
 use Rattle.std.proofs.lemmas.Bool.Decides.{nat_tests}
 use Rattle.std.proofs.lemmas.List.{length-set}
@@ -138,6 +138,13 @@ checks_taken m o c takes = subst (λ (z : Option shelf.Held). SameChecks o z) (s
     by (Some x) = refl
 
 -- and put back
+pub checks_uber_taken : (o c : Option shelf.Held) → c ≡ shelf.takes_uber o → SameChecks o c
+checks_uber_taken o c takes = subst (λ (z : Option shelf.Held). SameChecks o z) (sym takes) (by o)
+  where
+    by : (o : Option shelf.Held) → SameChecks o (shelf.takes_uber o)
+    by None = tt
+    by (Some x) = refl
+
 pub checks_put : (m : ℕ) (kit : Option shelf.KitTold) (o b c : Option shelf.Held) → SameChecks o b → c ≡ shelf.gives_kit m kit b → SameChecks o c
 checks_put m kit o b c same gives = subst (λ (z : Option shelf.Held). SameChecks o z) (sym gives) (by kit o b same)
   where
@@ -424,3 +431,17 @@ module _ {R A : Type 0} (rack : racks.Ghosts R) (area : areas.Ghosts A) where
     floor = omega (arith, floor);
     low = (let low = found.low in omega (arith, floor, low));
   }
+
+-- where the shelf has a pool, its uberblock is held
+pub pool_there : (o : Option shelf.Held) (has : Bool) (Q : shelf.Held → Type 0) → shelf.OnHeld o (λ held. IsTrue has ↔ IsSome held.uber) → has ≡ true → shelf.OnHeld o (λ held. held.uber ≡ None → Q held)
+pool_there None has Q h on = tt
+pool_there (Some x) has Q h on = λ none. absurd (by x.uber none (h.0 on))
+  where
+    by : (u : Option content.Content) → u ≡ None → IsSome u → ⊥
+    by None is some = cc
+    by (Some c) is some = cc
+
+-- where nothing was taken
+pub none_there : (o : Option shelf.Held) (P : shelf.Held → Type 0) → ((x : shelf.Held) → P x) → shelf.OnHeld o P
+none_there None P h = tt
+none_there (Some x) P h = h x

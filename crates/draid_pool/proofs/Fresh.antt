@@ -80,6 +80,9 @@ below_test : (b : Bool) (leaf n : ℕ) → (b ≡ true → leaf < n) → IsSome 
 below_test false leaf n less some = absurd (cc)
 below_test true leaf n less some = less refl
 
+leaf_less : (leaf n m : ℕ) → n ≡ m → nat_lt leaf n ≡ true → leaf < m
+leaf_less leaf n m same less = grind (arith, nat_tests, same, less)
+
 module _ {R A : Type 0} (rack : racks.Ghosts R) (area : areas.Ghosts A) where
   -- the metaslab that a new shard is
   abbrev metaslab_of : Shard R A → Metaslab
@@ -184,7 +187,7 @@ module _ {R A : Type 0} (rack : racks.Ghosts R) (area : areas.Ghosts A) where
         → IsSome ((created (layout_by shard) shard.geometry.props.version).core.arm (Leaf leaf)) → leaf < geometry.spec.children
     leaf_below m shard leaf is some =
         let slots : shard.geometry.spec.children ≡ geometry.spec.children = ap (λ (p : Part). p.geometry.spec.children) is.part_is in
-        below_test (nat_lt leaf shard.geometry.spec.children) leaf geometry.spec.children (λ less. grind (arith, nat_tests, slots, less)) some
+        below_test (nat_lt leaf shard.geometry.spec.children) leaf geometry.spec.children (leaf_less leaf shard.geometry.spec.children geometry.spec.children slots) some
 
     -- ---- all
 
@@ -446,6 +449,24 @@ pub made_again : (geometry : Geometry) (c : Option Content) (h n last : Option H
 made_again geometry c h n last before after final now new uncounted back zeros gives kept uber checks = record {
   held = subst (λ (o : Option Held). OnHeld o (HoldsMade geometry)) (sym gives) (made_held geometry c h n new back.held zeros);
   counts = λ m who below. ap (λ (x : KitCounts). x.rack who) (kept m) ∙ (back.counts m who ∙ (uncounted m below).no_rack who);
+  uber = uber;
+  checks = checks;
+}
+
+rack_new : (geometry : Geometry) (o : Option KitTold) → IsSomeAnd o (IsNewKit geometry) → IsSomeAnd o (λ kit. IsNewRack geometry kit.rack)
+rack_new geometry None h = absurd h
+rack_new geometry (Some kit) h = h.rack
+
+new_held : (geometry : Geometry) (o : Option Held) → OnHeld o (IsNewPool geometry) → OnHeld o (HoldsMade geometry)
+new_held geometry None h = tt
+new_held geometry (Some x) h = record { uber = h.uber; checks = h.checks; kits = λ m below. rack_new geometry (x.kits m) (h.kits m below) }
+
+-- all that was made is held where nothing was taken of it
+pub made_untouched : (geometry : Geometry) (old new : Option Held) (before after : ℕ → KitCounts) (own : OwnCounts) → OnHeld old (IsNewPool geometry) → new ≡ old → ((m : ℕ) → m < geometry.props.metaslabs → IsUncounted (before m))
+    → ((m : ℕ) → after m ≡ before m) → own.uber ≡ 0 → NoChecks own → IsMade geometry new after own
+made_untouched geometry old new before after own made same uncounted kept uber checks = record {
+  held = subst (λ (o : Option Held). OnHeld o (HoldsMade geometry)) (sym same) (new_held geometry old made);
+  counts = λ m who below. ap (λ (c : KitCounts). c.rack who) (kept m) ∙ (uncounted m below).no_rack who;
   uber = uber;
   checks = checks;
 }

@@ -1,6 +1,6 @@
 -- An import over the devices of a new pool, whose uberblock's area is zeros.
-use Rattle.std.proofs.Common.{arith, ◌≡◌, ◌≤◌, ◌∙◌, inl, inr, ℕ, Option, Some, None, Result, Err, option_map, refl, sym, ap, subst, length, replicate}
-use Rattle.std.specs.Prelude.{IsSomeAnd}
+use Rattle.std.proofs.Common.{arith, ◌≡◌, ◌≤◌, ◌∙◌, inl, inr, ℕ, Option, Some, None, Result, Ok, Err, option_map, refl, sym, ap, subst, length, replicate}
+use Rattle.std.specs.Prelude.{IsErrAnd, IsErrOf, IsSomeAnd}
 use Rattle.draid_area.specs.Area.{Content, OnTold, flushes}
 use Rattle.draid_names.specs.declared.fault.DeviceFault.{DeviceFault}
 use Rattle.draid_names.specs.declared.fault.DeviceFault.TheVariants as device
@@ -18,6 +18,8 @@ use Rattle.draid_pool.specs.Found.{shelf_fault_of, uber_fault_of}
 use Rattle.draid_pool.specs.Importing.{FindsNoPool, LeavesMade}
 use Rattle.draid_pool.specs.Opening.{HoldsMade}
 use Rattle.draid_pool.specs.declared.fault.PoolFault.{PoolFault}
+use Rattle.draid_pool.specs.declared.fault.PoolFault.TheVariants as fault
+use Rattle.draid_pool.proofs.Refusing.{passed_back}
 
 -- zeros have no open gate
 zeros_none : chosen_of (replicate uber_bytes 0) ≡ None
@@ -104,3 +106,28 @@ module _ {P : Type 0} (geometry : Geometry) where
       left u zeros at =
           let put : new ≡ Some (puts_uber (Some u) held) = told ∙ (ap (λ o. gives_uber is o) taken ∙ ap (λ o. gives_uber o (takes_uber (Some held))) at) in
           subst (λ o. IsSomeAnd o (HoldsMade geometry)) (sym put) (record { uber = zeros; checks = made.checks; kits = made.kits })
+
+-- ---- a refusal that is passed on
+
+finds_as : (P Q : Type 0) (f : PoolFault) → FindsNoPool {P = P} (Err f) → FindsNoPool {P = Q} (Err f)
+finds_as P Q (fault.Spec why) h = h
+finds_as P Q fault.NoPool h = h
+finds_as P Q (fault.Record metaslab place kind) h = h
+finds_as P Q fault.Shelf h = h
+finds_as P Q fault.NoMemory h = h
+
+pub made_passed : (P Q : Type 0) (geometry : Geometry) (r : Result Q PoolFault) (f : PoolFault) (told : Option Held) (before after : ℕ → KitCounts) (own now : OwnCounts) → IsErrAnd r (λ y. y ≡ f)
+    → LeavesMade {P = P} geometry (Err f) told before after own now → LeavesMade geometry r told before after own now
+made_passed P Q geometry (Ok x) f told before after own now h m = absurd h
+made_passed P Q geometry (Err y) f told before after own now h m = record {
+  none = finds_as P Q y (subst (λ (z : PoolFault). FindsNoPool {P = P} (Err z)) (sym h) m.none);
+  held = m.held;
+  counts = m.counts;
+  uber = m.uber;
+  checks = m.checks;
+}
+
+pub none_passed : (P Q : Type 0) (o : Option Held) (r : Result Q PoolFault) (f : PoolFault) (B : Type 0) → IsErrAnd r (λ y. y ≡ f)
+    → OnHeld o (λ held. held.uber ≡ None → IsErrOf {T = P} (Err f) fault.NoPool × B) → OnHeld o (λ held. held.uber ≡ None → IsErrOf r fault.NoPool × B)
+none_passed P Q None r f B h n = tt
+none_passed P Q (Some x) r f B h n = λ none. (let both = n none in (passed_back r f fault.NoPool h both.0, both.1))

@@ -24,6 +24,7 @@ pub mod Opened
 pub mod PutSteps
 pub mod ReadSteps
 pub mod ReplaceSteps
+pub mod Refusing
 pub mod Rises
 pub mod Sets
 pub mod Steps

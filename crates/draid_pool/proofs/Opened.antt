@@ -1,5 +1,5 @@
 -- The metaslabs of a new pool are opened over the devices that were made for them.
-use Rattle.std.proofs.Common.{arith, ◌≡◌, ◌+◌, ◌<◌, ◌≤◌, ◌++◌, ◌∙◌, ◌⊎◌, inl, inr, ℕ, zero, suc, List, [], ◌∷◌, Option, Some, None, Ok, Err, refl, sym, ap, subst, length, length-append}
+use Rattle.std.proofs.Common.{arith, ◌≡◌, ◌==◌, ◌+◌, ◌<◌, ◌≤◌, ◌++◌, ◌∙◌, ◌⊎◌, inl, inr, ℕ, zero, suc, List, [], ◌∷◌, Option, Some, None, Ok, Err, refl, sym, ap, subst, length, length-append, if◌then◌else◌}
 use Rattle.std.specs.Prelude.{IsErrOf, IsSomeAnd, MatchOption, slice_get}
 use Rattle.std.proofs.lemmas.Bool.{cases_eq, cases_lt}
 use Rattle.std.proofs.lemmas.Option.{slice_get_within}
@@ -15,12 +15,14 @@ use Rattle.draid_map.specs.Place.{IsLayout}
 use Rattle.draid_machine.specs.Created.{created}
 use Rattle.draid_machine.specs.Images.{IsImage}
 use Rattle.draid_machine.specs.State.{Image}
-use Rattle.draid_shelf.specs.Kits.{Held, KitCounts, KitTold, NeedsKit, OnHeld, kit_of, takes_kit}
-use Rattle.draid_shelf.specs.Shelf.{SameOthers}
+use Rattle.draid_shelf.specs.Kits.{Held, KitCounts, KitTold, NeedsKit, OnHeld, gives_kit, kit_of, puts_kit, takes_kit}
+use Rattle.draid_shelf.specs.Shelf.{IsKnown, SameOthers}
 use Rattle.draid_shelf.specs.declared.kit.Kit.{Kit}
 use Rattle.draid_entries.specs.History.{limit_in, reserved_of}
 use Rattle.draid_shard.specs.Fits.{Valid}
 use Rattle.draid_groups.specs.Groups.{ListsOnce}
+use Rattle.draid_groups.specs.Reopening.{CreateIsRefused}
+use Rattle.draid_groups.specs.declared.fault.OpenFault.{OpenFault}
 use Rattle.draid_shard.specs.Part.{Part, layout_in}
 use Rattle.draid_shard.specs.States.{IsIn, part_of, stored_in}
 use Rattle.draid_shard.specs.declared.shard.Shard.{Shard}
@@ -72,7 +74,77 @@ held_rack : (o : Option KitTold) (r : Option Told) → IsSomeAnd o (λ kit. r �
 held_rack None r h = absurd h
 held_rack (Some kit) r h = h
 
+-- ---- one that wasn't opened
+
+-- its leaves are those that are known
+pub known_has : (o : Option Shape) (s : Shape) (P : Shape → Type 0) → IsSomeAnd o P → IsKnown o s → P s
+known_has None s P h known = absurd h
+known_has (Some x) s P h known = subst P (sym known) h
+
+held_still : (o : Option Held) → OnHeld o (λ y. MatchOption o ⊥ (λ x. SameButRecords x y))
+held_still None = tt
+held_still (Some x) = record { uber = refl; checks = refl; kits = λ m. refl }
+
+-- what wasn't taken is there as before
+pub back_untaken : (n : ℕ) (old new : Option Held) (before after : ℕ → KitCounts) → new ≡ old → SameOthers n before after → after n ≡ before n → IsBackAgain old new before after
+back_untaken n old new before after same others own = record {
+  held = subst (λ (o : Option Held). OnHeld o (λ y. MatchOption old ⊥ (λ x. SameButRecords x y))) (sym same) (held_still old);
+  counts = λ m who. ap (λ (c : KitCounts). c.rack who) (counted m);
+}
+  where
+    counted : (m : ℕ) → after m ≡ before m
+    counted m = elim (cases_eq m n) [
+      | inl at ↦ subst (λ (k : ℕ). after k ≡ before k) (sym at) own
+      | inr other ↦ others m (λ at. omega (arith, at, other))
+    ]
+
+pub back_nothing : (held : Option Held) (counts : ℕ → KitCounts) → IsBackAgain held held counts counts
+back_nothing held counts = record { held = held_still held; counts = λ m who. refl }
+
+-- what was taken and given back is held again
+kits_again : (n : ℕ) (x : Held) (kit : KitTold) → rack_in (Some kit) ≡ rack_in (x.kits n) → SameButRecords x (puts_kit n (Some kit) (puts_kit n None x))
+kits_again n x kit same = record {
+  uber = refl;
+  checks = refl;
+  kits = λ m. elim (cases_eq m n) [
+    | inl at ↦ ap rack_in (put_here n m (Some kit) (if m == n then None else x.kits m) at) ∙ (same ∙ ap (λ (k : ℕ). rack_in (x.kits k)) (sym at))
+    | inr other ↦ ap rack_in (put_there n m (Some kit) (if m == n then None else x.kits m) (λ at. omega (arith, at, other)) ∙ put_there n m None (x.kits m) (λ at. omega (arith, at, other)))
+  ];
+}
+
+held_again : (n : ℕ) (old : Option Held) (r s : Option Told) (e d : Option Content) → s ≡ r → OnHeld old (λ x. IsSomeAnd (x.kits n) (λ kit. r ≡ Some kit.rack))
+    → OnHeld (gives_kit n (kit_of s e d) (takes_kit n old)) (λ y. MatchOption old ⊥ (λ x. SameButRecords x y))
+held_again n old r s e d same h = by (kit_of s e d) refl old h
+  where
+    by : (k : Option KitTold) → kit_of s e d ≡ k → (o : Option Held) → OnHeld o (λ x. IsSomeAnd (x.kits n) (λ kit. r ≡ Some kit.rack))
+        → OnHeld (gives_kit n k (takes_kit n o)) (λ y. MatchOption o ⊥ (λ x. SameButRecords x y))
+    by None is None held = tt
+    by None is (Some x) held = tt
+    by (Some k) is None held = tt
+    by (Some k) is (Some x) held = kits_again n x k (sym (kit_is s e d k is).rack ∙ (same ∙ held_rack (x.kits n) r held))
+
+-- a failure of its odd area is counted there
+pub odd_failed : {T : Type 0} (before now odd : ℕ) (dev : DeviceFault) (why : OpenFault) → (dev ≡ DeviceFault.Failed → why ≡ OpenFault.Area) → CreateIsRefused before now why → odd ≡ now
+    → IsErrOf {T = T} (Err dev) DeviceFault.Failed → 0 < odd
+odd_failed before now odd dev why leads refused counted failed =
+    let is : dev ≡ DeviceFault.Failed = cc in
+    let rose : Rose before now = subst (CreateIsRefused before now) (leads is) refused in
+    omega (arith, rose, counted)
+
 module _ {R A : Type 0} (rack : racks.Ghosts R) (area : areas.Ghosts A) where
+  pub back_given : (n : ℕ) (kit back : Kit R A) (old mid new : Option Held) (before middle after : ℕ → KitCounts) → back.rack ≡ kit.rack
+      → OnHeld old (λ x. kit_of (rack.told kit.rack) (area.told kit.even) (area.told kit.odd) ≡ x.kits n) → NeedsKit n (Ok kit) old → mid ≡ takes_kit n old
+      → new ≡ gives_kit n (kit_of (rack.told back.rack) (area.told back.even) (area.told back.odd)) mid → ((who : Option ℕ) → rack.faults kit.rack who ≡ (before n).rack who) → SameOthers n before middle
+      → ((who : Option ℕ) → (after n).rack who ≡ rack.faults back.rack who) → SameOthers n middle after → IsBackAgain old new before after
+  back_given n kit back old mid new before middle after same told needs taken given rack_count others rack_count' others' = record {
+    held = subst (λ (o : Option Held). OnHeld o (λ y. MatchOption old ⊥ (λ x. SameButRecords x y))) (sym (given ∙ ap (gives_kit n (kit_of (rack.told back.rack) (area.told back.even) (area.told back.odd))) taken))
+        (held_again n old (rack.told kit.rack) (rack.told back.rack) (area.told back.even) (area.told back.odd) (ap rack.told same) (rack_held kit old (rack.told kit.rack) (area.told kit.even) (area.told kit.odd) n told needs));
+    counts = λ m who. elim (cases_eq m n) [
+      | inl at ↦ subst (λ (k : ℕ). (after k).rack who ≡ (before k).rack who) (sym at) (rack_count' who ∙ (ap (λ (r : R). rack.faults r who) same ∙ rack_count who))
+      | inr other ↦ ap (λ (c : KitCounts). c.rack who) (others' m (λ at. omega (arith, at, other)) ∙ others m (λ at. omega (arith, at, other)))
+    ];
+  }
+
   pub opened : (part : Part) (held : Option Held) (counts : KitCounts) (kit : Kit R A) (shard : Shard R A) (events : ℕ) → Valid rack shard → part_of shard ≡ part
       → IsIn shard (created (layout_in (part_of shard)) part.geometry.props.version) → stored_in shard ≡ [] → reserved_of shard.history ≡ 0 → limit_in shard.history ≡ events → events ≡ limit_of part.geometry
       → shard.rack ≡ kit.rack

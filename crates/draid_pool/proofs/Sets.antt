@@ -30,6 +30,12 @@ groups_then old mid new a b = record {
 
 -- ---- nothing changes
 
+pub kept_still : {R A : Type 0} (shard : Shard R A) → KeepsBlocks shard shard
+kept_still shard = record {
+  entries = record { at = λ first. refl; held = λ key. refl; count = refl; owed = λ columns. refl };
+  groups = record { open_group_is = refl; closing = refl; sealed = refl; committed = refl };
+}
+
 pub kept_then : {R A : Type 0} (old mid new : Shard R A) → KeepsBlocks old mid → KeepsBlocks mid new → KeepsBlocks old new
 kept_then old mid new a b = record {
   entries = record {

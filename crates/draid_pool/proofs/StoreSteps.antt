@@ -75,6 +75,22 @@ on_told : (o : Option Told) (P Q : Told → Type 0) → ((x : Told) → P x → 
 on_told None P Q f h = tt
 on_told (Some x) P Q f h = f x h
 
+none_is : (o : Option Held) → o ≡ None → IsSome o → ⊥
+none_is None e some = cc
+none_is (Some h) e some = cc
+
+not_less : (n m : ℕ) → m ≤ n → nat_lt n m ≡ false
+not_less n m less = grind (arith, nat_tests, less)
+
+is_less : (n m : ℕ) → n < m → nat_lt n m ≡ true
+is_less n m more = grind (arith, nat_tests, more)
+
+as_few : (a b n : ℕ) → a ≡ b → b ≤ n → a ≤ n
+as_few a b n same few = omega (arith, same, few)
+
+as_many : (a b n : ℕ) → a ≡ b → n < b → n < a
+as_many a b n same many = omega (arith, same, many)
+
 -- the bytes of what isn't held are free
 pub other_pieces : {R A : Type 0} (rack : racks.Ghosts R) (area : areas.Ghosts A) (part : Part) (shard : Shard R A) (x : Metaslab) (key : Key) (pieces now : Pieces) → IsMetaslab rack area part pieces shard x
     → x.world.core.held key ≡ None → SamePieces key pieces now → IsMetaslab rack area part now shard x
@@ -101,10 +117,6 @@ other_pieces rack area part shard x key pieces now is none same = record {
       where
         by : (b : Bool) → key_eq key k ≡ b → now k ≡ pieces k
         by true is = absurd (none_is (x.world.core.held k) (subst (λ j. x.world.core.held j ≡ None) (key_true key k is) none) some)
-          where
-            none_is : (o : Option Held) → o ≡ None → IsSome o → ⊥
-            none_is None e some = absurd (cc)
-            none_is (Some h) e some = absurd (cc)
         by false other = same k other
 
 -- ---- worn
@@ -230,7 +242,7 @@ module _ {R A : Type 0} (rack : racks.Ghosts R) (area : areas.Ghosts A) (object 
     birth = b.named.birth_is ∙ ap (λ g. max g floor) (sym is.stands.is_in.open_group_is)
 
     low : p.birth ≤ LAST_NUMBER
-    low = (let is = b.named.birth_is in let low = b.low in omega (arith, is, low))
+    low = as_few p.birth (max old.open_group floor) LAST_NUMBER b.named.birth_is b.low
 
     open_takes : IsShut part.geometry (view_of part.number x) → ⊥
     open_takes shut = elim shut [
@@ -277,10 +289,7 @@ module _ {R A : Type 0} (rack : racks.Ghosts R) (area : areas.Ghosts A) (object 
     }
 
     made_live : done.missed ≤ part.geometry.spec.parity → three.reached.world ≡ live_state two.reached.world (key_of done.pointer) three.step.h
-    made_live few = three.step.made ∙ ap (λ b. if b then gone_state two.reached.world (key_of done.pointer) else live_state two.reached.world (key_of done.pointer) three.step.h) (not_less part.geometry.spec.parity three.step.m (let same = its_missed in omega (arith, few, same)))
-      where
-        not_less : (n m : ℕ) → m ≤ n → nat_lt n m ≡ false
-        not_less n m less = grind (arith, nat_tests, less)
+    made_live few = three.step.made ∙ ap (λ b. if b then gone_state two.reached.world (key_of done.pointer) else live_state two.reached.world (key_of done.pointer) three.step.h) (not_less part.geometry.spec.parity three.step.m (as_few three.step.m done.missed part.geometry.spec.parity its_missed few))
 
     pub stored : done.missed ≤ part.geometry.spec.parity → Stored rack area part pieces object seq floor block.bytes x new done.pointer
     stored few = record {
@@ -348,11 +357,8 @@ module _ {R A : Type 0} (rack : racks.Ghosts R) (area : areas.Ghosts A) (object 
       };
     }
       where
-        less : (n m : ℕ) → n < m → nat_lt n m ≡ true
-        less n m more = grind (arith, nat_tests, more)
-
         made : three.reached.world ≡ gone_state two.reached.world (key_of done.pointer)
-        made = three.step.made ∙ ap (λ b. if b then gone_state two.reached.world (key_of done.pointer) else live_state two.reached.world (key_of done.pointer) three.step.h) (less part.geometry.spec.parity three.step.m (let same = its_missed in omega (arith, many, same)))
+        made = three.step.made ∙ ap (λ b. if b then gone_state two.reached.world (key_of done.pointer) else live_state two.reached.world (key_of done.pointer) three.step.h) (is_less part.geometry.spec.parity three.step.m (as_many three.step.m done.missed part.geometry.spec.parity its_missed many))
 
         held : (k : Key) → three.reached.world.core.held k ≡ x.world.core.held k
         held k = ap (λ (w : machine.State). w.core.held k) made ∙ by (key_eq key k) refl

@@ -63,6 +63,10 @@ below_set P shards m shard shard' there is below k z less at = elim (cases_eq k 
   | inr other ↦ below k z (omega (arith, less, other)) (sym (get_set_other shards m k shard' (λ same. omega (arith, same, other))) ∙ at)
 ]
 
+-- none stands before the first
+pub below_none : {S : Type 0} (P : S → Type 0) (shards : List S) → Below P shards 0
+below_none P shards k shard less at = absurd (omega (arith, less))
+
 -- the next one is so
 pub below_more : {S : Type 0} (P : S → Type 0) (shards : List S) (m : ℕ) (shard : S) → slice_get shards m ≡ Some shard → P shard → Below P shards m → Below P shards (m + 1)
 below_more P shards m shard there is below k z less at = elim (cases_eq k m) [

@@ -1,6 +1,7 @@
 -- One metaslab as a group is closed, sealed and committed there.
 use Rattle.std.proofs.Common.{◌≡◌, ◌==◌, ◌%◌, ◌<◌, ◌+◌, ◌∙◌, [], ◌∷◌, inl, inr, ℕ, suc, Bool, true, false, List, Option, Some, None, Ok, Err, IsSome, Contains, Vec, Global, arith, refl, sym, ap, subst, length, if◌then◌else◌}
 use Rattle.std.specs.Prelude.{is_some}
+use Rattle.draid_pool.proofs.Refusing.{not_both}
 use Rattle.draid_names.specs.Faults.{Rose}
 use Rattle.draid_rack.specs.Rack.{OnTold, Told}
 use Rattle.draid_rack.specs.Moments.{Leaves, LeavesTold}
@@ -29,7 +30,7 @@ use Rattle.draid_entries.specs.Entries.{held_in}
 use Rattle.draid_entries.specs.History as history
 use Rattle.draid_entries.specs.History.{limit_in, reserved_of}
 use Rattle.draid_shard.specs.Calls.{SameKit, SameReserve}
-use Rattle.draid_shard.specs.Fits.{Valid}
+use Rattle.draid_shard.specs.Fits.{AreGroups, Valid}
 use Rattle.draid_groups.specs.Groups.{AreasLater, CloseRefused, KeepsOtherArea, ListsOnce, OpenUpto, Seals, Unsealed, area_in}
 use Rattle.draid_shard.specs.Part.{Part, layout_in}
 use Rattle.draid_shard.specs.States.{Does, DoesNone, IsIn, layout_by, part_of}
@@ -62,6 +63,19 @@ abbrev pub close_fault : CloseFault → SyncFault
 close_fault (close.Worn events) = sync.Worn
 close_fault close.Last = sync.Last
 close_fault close.NoMemory = sync.NoMemory
+
+-- where no group is closing
+pub idle_by : (o : Option ℕ) → is_some o ≡ false → o ≡ None
+idle_by None none = refl
+idle_by (Some t) none = absurd (cc)
+
+pub open_next : (open_group committed group : ℕ) (closing : Option ℕ) (sealed : Bool) → AreGroups open_group closing committed sealed → closing ≡ None → group ≡ committed + 1 → group ≡ open_group
+open_next open_group committed group closing sealed are idle next = (let a = subst (λ (o : Option ℕ). AreGroups open_group o committed sealed) idle are in next ∙ sym a.0)
+
+-- one that is closing is that behind the committed one
+pub closing_next : (open_group committed group : ℕ) (closing : Option ℕ) (sealed : Bool) → AreGroups open_group closing committed sealed → is_some closing ≡ true → group ≡ committed + 1 → closing ≡ Some group
+closing_next open_group committed group None sealed are some next = absurd (cc)
+closing_next open_group committed group (Some t) sealed are some next = ap (λ (n : ℕ). Some n) (are.1 ∙ sym next)
 
 -- why a pool's group isn't sealed
 abbrev pub seal_fault : SealFault → SyncFault
@@ -160,6 +174,12 @@ module _ {R A : Type 0} (rack : racks.Ghosts R) (area : areas.Ghosts A) where
 
   -- ---- closing
 
+  -- it is closing already
+  pub closing_here : (part : Part) (pieces : Pieces) (shard : Shard R A) (group : ℕ) (x : Metaslab) → IsMetaslab rack area part pieces shard x → shard.closing ≡ Some group
+      → Turns rack area part pieces x shard (λ hold y. CloseIs part group (Ok tt) hold × KeepsCommitted x.world y.world)
+  closing_here part pieces shard group x is closing =
+      look part pieces shard x (λ hold y. CloseIs part group (Ok tt) hold × KeepsCommitted x.world y.world) is ((refl, is.stands.is_in.closing ∙ closing, refl), kept_here x.world)
+
   pub closed : (part : Part) (pieces : Pieces) (old new : Shard R A) (group : ℕ) (x : Metaslab) → IsMetaslab rack area part pieces old x → Valid rack new → Does old new (event.Close group) → SameKit old new
       → SameReserve old new → (history.Passes old.history 3 0 → ⊥) → Turns rack area part pieces x new (λ hold y. CloseIs part group (Ok tt) hold × KeepsCommitted x.world y.world)
   closed part pieces old new group x is valid does kit reserve fits =
@@ -189,6 +209,13 @@ module _ {R A : Type 0} (rack : racks.Ghosts R) (area : areas.Ghosts A) where
       (subst (λ f. CloseIs part group (Err f) (On (view_of part.number x) Looked)) same (close_stops part pieces old group x why is idle refused), kept_here x.world)
 
   -- ---- sealing
+
+  -- it is sealed already
+  pub stays_sealed : (part : Part) (pieces : Pieces) (shard : Shard R A) (group : ℕ) (x : Metaslab) → IsMetaslab rack area part pieces shard x → shard.closing ≡ Some group → shard.sealed ≡ true
+      → Turns rack area part pieces x shard (λ hold y. SealIs part group (Ok 0) hold × KeepsCommitted x.world y.world)
+  stays_sealed part pieces shard group x is closing done =
+      look part pieces shard x (λ hold y. SealIs part group (Ok 0) hold × KeepsCommitted x.world y.world) is
+      ((refl, is.stands.is_in.closing ∙ closing, (λ none. not_both (is_some x.world.sealed) (is.stands.is_in.sealed ∙ done) (ap (λ (o : Option machine.Image). is_some o) none)), refl), kept_here x.world)
 
   sealed_record : (pieces : Pieces) (old new : Shard R A) (group thin : ℕ) (x : Metaslab) → IsMetaslab rack area (part_of old) pieces old x → (s : Seals rack area.told old new group thin)
       → KeepsOtherArea group old new → (v : machine.State) → Step (layout_by old) x.world (event.Seal group s.failed) v → HasRecords (part_of old) v (area.told new.even) (area.told new.odd)

@@ -86,6 +86,9 @@ pieces_on geometry w pieces now same has = record {
 
 -- ---- objects
 
+differs : (object o : ℕ) → (o == object) ≡ false → (object == o) ≡ false
+differs object o other = grind (arith, nat_tests, other)
+
 module _ (geometry : Geometry) (committed : ℕ) (store : Store) (old : Blocks) (pieces : ℕ → Pieces) (holds : HoldsObjects geometry committed store old pieces) (m object : ℕ) (now : Pieces)
     (same : SamePieces (record { object = object; seq = store.seq + 1 }) (pieces m) now) where
   abbrev key : Key
@@ -352,11 +355,8 @@ module _ {R A : Type 0} (rack : racks.Ghosts R) (area : areas.Ghosts A) where
           by false other =
               points_same mid.shards.items (get nat_eq pool.objects o) (with_pointer object pointer (λ i. get nat_eq mid.objects i) o) (write_of (Wrote w ∷ x.store.changes) o)
               (ap (λ b. if b then Some pointer else get nat_eq mid.objects o) other ∙ objects o)
-              (subst (PointsTo mid.shards.items (get nat_eq pool.objects o)) (sym (other_changes (Wrote w) x.store.changes o (differs o other)))
+              (subst (PointsTo mid.shards.items (get nat_eq pool.objects o)) (sym (other_changes (Wrote w) x.store.changes o (differs object o other)))
               (points_on pool.shards.items mid.shards.items (get nat_eq pool.objects o) (write_of x.store.changes o) (λ q write q_is last points. old_pointer o q write last points) (is.stands.objects o)))
-            where
-              differs : (o : ℕ) → (o == object) ≡ false → (object == o) ≡ false
-              differs o other = grind (arith, nat_tests, other)
 
       pub awaits : Awaits rack area mid object pointer (write_of x.store.changes object) between
       awaits = record {

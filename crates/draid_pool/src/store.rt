@@ -25,7 +25,7 @@ use draid_rack::Rack;
 use draid_shard::{BeginFault, Missed, Shard, Ticket};
 
 /// Why a block wasn't stored.
-#[derive(Clone, Copy, PartialEq, Eq)]
+#[derive(Clone, Copy)]
 pub(crate) enum StoreFault {
     /// So many columns landed on no leaf. The block would have been born in this group.
     Missed { columns: u32, birth: u64 },
@@ -50,6 +50,17 @@ fn put_all<R: Rack, A: Area>(shard: &mut Shard<R, A>, ticket: &mut Ticket, block
 {
     for _column in 0..shard.geometry.g {
         shard.put(ticket, block);
+    }
+}
+
+/// Why no block was begun in a shard that has room for it: want of memory alone.
+fn begin_fault(why: BeginFault) -> StoreFault
+    requires { why ≡ BeginFault.NoMemory }
+    ensures { result ≡ StoreFault.NoMemory }
+{
+    match why {
+        BeginFault::NoMemory => StoreFault::NoMemory,
+        _ => unreachable!(),
     }
 }
 
@@ -78,11 +89,7 @@ pub(crate) fn store<R: Rack, A: Area>(
 {
     let mut ticket = match shard.begin(object, seq, block, floor) {
         Ok(ticket) => ticket,
-        Err(BeginFault::Disabled { .. }) => unreachable!(),
-        Err(BeginFault::Entries { .. }) => unreachable!(),
-        Err(BeginFault::NoRoom { .. }) => unreachable!(),
-        Err(BeginFault::Worn { .. }) => unreachable!(),
-        Err(BeginFault::NoMemory) => return Err(StoreFault::NoMemory),
+        Err(why) => return Err(begin_fault(why)),
     };
     let birth = ticket.pointer.birth;
     put_all(shard, &mut ticket, block);

@@ -1,17 +1,19 @@
 ghost use Rattle.std.specs.Prelude.{◌≡◌, ◌<◌, ◌≤◌, ◌+◌, Option, length};
 ghost use Rattle.std.specs.Fn.{FnReturnsAt};
 ghost use Rattle.std.specs.HashMap.{spare};
+ghost use Rattle.std.specs.List.{AllZip};
 ghost use Rattle.draid_choose.specs.Rooms.{IsChooser};
 ghost use Rattle.draid_names.specs.declared.numbers.TheConstants.{NUMBERS};
 ghost use Rattle.draid_block.specs.Blocks.{cut_of};
 ghost use Rattle.draid_block.specs.Columns.{stripes_of};
 ghost use Rattle.draid_objects.specs.Changes.{Write};
+ghost use Rattle.draid_session.specs.Rooms.{stripes_for};
 ghost use Rattle.draid_session.specs.State.{State};
 ghost use Rattle.draid_pool.specs.Answers.{ReplaceDoes, WriteDoes, WriteInDoes};
 ghost use Rattle.draid_pool.specs.Carries.{CarriesOut};
 ghost use Rattle.draid_pool.specs.Pools.{Awaits, Represents};
 ghost use Rattle.draid_pool.specs.Whole.{IsNewer, IsWhole};
-ghost use Rattle.draid_pool.specs.Shards.{HasRoomAt, IsNoSpace};
+ghost use Rattle.draid_pool.specs.Shards.{HasRoomAt, IsNoSpace, RoomIs};
 
 use crate::freeing::free_block;
 use crate::pool::Pool;
@@ -49,13 +51,34 @@ impl<R: Rack, A: Area> Pool<R, A> {
         let Ok(rooms) = rooms_of(self.alloc, self.shards.as_slice(), need) else {
             return Err(WriteFault::NoMemory);
         };
-        let Some(metaslab) = chooser.pick(rooms.as_slice()) else {
-            return Err(self.no_space(rooms.as_slice()));
+        self.write_chosen(chooser, rooms.as_slice(), object, &block)
+    }
+
+    /// Writes a block of an object to the metaslab that the chooser names, where these are the rooms for it.
+    fn write_chosen<F: Fn(&[Room]) -> Option<u32>>(
+        &mut self,
+        chooser: &Chooser<F>,
+        rooms: &[Room],
+        object: u64,
+        block: &Encoded,
+    ) -> Result<(), WriteFault>
+        requires chooser { IsChooser F.Fn chooser.now }
+        requires object { object < OBJECTS }
+        requires cut { block.now.cut ≡ cut_of self.old.geometry }
+        requires some { 1 ≤ stripes_for self.old.geometry block.now.bytes }
+        requires rooms { AllZip (RoomIs (stripes_for self.old.geometry block.now.bytes)) self.old.shards.items rooms.now }
+        requires whole { IsWhole R.Rack A.Area self.old }
+        ensures whole { IsWhole R.Rack A.Area self.new }
+        ensures step { (x : State) → Represents R.Rack A.Area self.old x
+            → CarriesOut R.Rack A.Area self.new x (WriteDoes x (FnReturnsAt F.Fn chooser.now) object block.now.bytes result) }
+    {
+        let Some(metaslab) = chooser.pick(rooms) else {
+            return Err(self.no_space(rooms));
         };
         if self.seq >= LAST_NUMBER {
             return Err(WriteFault::Last);
         }
-        self.write_block(metaslab, object, &block)
+        self.write_block(metaslab, object, block)
     }
 
     /// Why no metaslab took a block, where these are the rooms.

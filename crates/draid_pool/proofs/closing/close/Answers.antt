@@ -7,6 +7,7 @@ use Rattle.draid_uber.specs.Uber.{area_of}
 use Rattle.draid_pool.proofs.Closed.{counted_as, holds_pool, pool_crashed, pool_uncrashed, stands_parts}
 use Rattle.draid_pool.proofs.Failing.{shows_there}
 use Rattle.draid_pool.proofs.ImportClosed.{importable_back, importable_left}
+use Rattle.draid_pool.proofs.Wholes.{few_whole}
 use Rattle.draid_pool.proofs.closing.close.Goals as goal
 
 pub returns-then-crash-clause-back : goal.returns-then-crash-clause-back
@@ -72,3 +73,6 @@ returns-clause-checks g c = c.give_uber.ensures.check_counts ∙ c.give_back.ens
 
 pub returns-clause-faults : goal.returns-clause-faults
 returns-clause-faults g c = c.give_uber.ensures.faults ∙ c.give_back.ensures.faults
+
+pub give_back-requires-clause-few : goal.give_back-requires-clause-few
+give_back-requires-clause-few g c κs within = few_whole g.H.R.Rack g.H.A.Area c.args.pool c.requires.whole

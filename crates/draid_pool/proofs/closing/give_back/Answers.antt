@@ -6,6 +6,9 @@ use Rattle.draid_pool.specs.Closing.{kit_in}
 use Rattle.draid_pool.proofs.Closed.{giving_all, giving_more, giving_none, leaves_all, leaves_more, leaves_none}
 use Rattle.draid_pool.proofs.closing.give_back.Goals as goal
 
+longer : {A : Type 0} (left rest : List A) (last : A) → left ≡ rest ++ last ∷ [] → length left ≡ length rest + 1
+longer left rest last is = ap (λ xs. length xs) is ∙ length-append rest (last ∷ [])
+
 pub loop-shard-init : goal.loop-shard-init
 loop-shard-init g c = record {
   giving = giving_none g.H.R.Rack g.H.A.Area c.args.shards.items (g.H.Shelf.told c.args.shelf.now) (g.H.Shelf.counts c.args.shelf.now);
@@ -38,7 +41,7 @@ loop-shard-preserved g c =
       leaves = leaves_more g.H.R.Rack g.H.A.Area c.args.shards.items c.loop-shard.left.items c.pop.new.self.items shard c.len.result (shelf.told c.args.shelf.now) (shelf.told c.loop-shard.shelf)
           (shelf.counts c.args.shelf.now) (shelf.counts c.loop-shard.shelf) (shelf.leaves c.args.shelf.now) (shelf.leaves c.loop-shard.shelf) (shelf.leaves c.give.new.self)
           i.giving i.leaves popped at (e.leaves ∙ ap (λ r. Some (g.H.R.Rack.shape r)) rack) e.others;
-      few = (let long : length c.loop-shard.left.items ≡ length c.pop.new.self.items + 1 = ap (λ (xs : List (Shard g.row.H-R.Denot g.row.H-A.Denot)). length xs) popped ∙ length-append c.pop.new.self.items (shard ∷ []) in omega (arith, few, long));
+      few = (let long = longer c.loop-shard.left.items c.pop.new.self.items shard popped in omega (arith, few, long));
       uber = e.uber_count ∙ i.uber;
       checks = e.check_counts ∙ i.checks;
       faults = e.faults ∙ i.faults;
@@ -63,3 +66,22 @@ returns-clause-checks g c = c.loop-shard.invariant.checks
 
 pub returns-clause-faults : goal.returns-clause-faults
 returns-clause-faults g c = c.loop-shard.invariant.faults
+
+pub give-requires : goal.give-requires
+give-requires g c =
+    let at : c.len.result ≡ length c.pop.new.self.items = c.len.ensures ∙ c.pop.new.self.ok.0 in
+    let few = c.loop-shard.invariant.few in
+    let long = longer c.loop-shard.left.items c.pop.new.self.items c.in-Some.shard c.in-Some.ensures.items in
+    omega (arith, at, few, long)
+
+pub loop-shard-smaller : goal.loop-shard-smaller
+loop-shard-smaller g c =
+    let long = longer c.loop-shard.left.items c.pop.new.self.items c.in-Some.shard c.in-Some.ensures.items in
+    omega (arith, long)
+
+pub overflow_cast-len : goal.overflow_cast-len
+overflow_cast-len g c =
+    let at : c.len.result ≡ length c.pop.new.self.items = c.len.ensures ∙ c.pop.new.self.ok.0 in
+    let few = c.loop-shard.invariant.few in
+    let long = longer c.loop-shard.left.items c.pop.new.self.items c.in-Some.shard c.in-Some.ensures.items in
+    omega (arith, at, few, long)

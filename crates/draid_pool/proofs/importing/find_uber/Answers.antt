@@ -1,11 +1,12 @@
-use Rattle.std.proofs.Common.{arith, rules, tests, ◌∙◌, Err, ap, refl, subst, sym}
+use Rattle.std.proofs.Common.{arith, ◌∙◌, inl, inr, Err, ap, refl, subst, sym}
 use Rattle.draid_uber.specs.Uber.{kept_of}
 use Rattle.draid_pool.specs.Importing.{ImportIs}
 use Rattle.draid_pool.specs.declared.fault.PoolFault.{PoolFault}
-use Rattle.draid_pool.proofs.Found.{leaf_found, uber_left, uber_put, checks_equal, checks_same, found_uber}
+use Rattle.draid_pool.proofs.Found.{leaf_found, uber_left, uber_put, checks_equal, checks_given, checks_same, checks_uber_taken, found_uber, none_there, pool_there}
 use Rattle.draid_pool.proofs.ImportFaulty.{err_is, shelf_no_record, uber_bad}
 use Rattle.draid_pool.proofs.ImportMade.{made_left, made_not, made_same, made_untaken}
 use Rattle.draid_pool.proofs.ImportTaken.{no_pool, not_found, not_taken, taken_not}
+use Rattle.draid_pool.proofs.Refusing.{absent_no_record, absent_no_shelf, no_refusal}
 use Rattle.draid_pool.proofs.importing.find_uber.Goals as goal
 
 pub returns-in-Ok-recover-clause-recovered : goal.returns-in-Ok-recover-clause-recovered
@@ -29,7 +30,7 @@ pub returns-then-not-has_pool-clause-import : goal.returns-then-not-has_pool-cla
 returns-then-not-has_pool-clause-import g c x pieces there =
     let shelf = g.H.Shelf in
     no_pool g.H.R.Rack g.H.A.Area x pieces (shelf.told c.args.shelf.now) (shelf.told c.args.shelf.now) (shelf.leaves c.args.shelf.now) (shelf.leaves c.args.shelf.now) (shelf.counts c.args.shelf.now) (shelf.counts c.args.shelf.now)
-    (shelf.uber_count c.args.shelf.now) (shelf.uber_count c.args.shelf.now) c.has_pool.result c.has_pool.ensures (search (rules, tests)) there
+    (shelf.uber_count c.args.shelf.now) (shelf.uber_count c.args.shelf.now) c.has_pool.result c.has_pool.ensures c.if-not-has_pool.true there
 
 pub returns-in-Err-clause-import : goal.returns-in-Err-clause-import
 returns-in-Err-clause-import g c x pieces there =
@@ -128,7 +129,7 @@ pub returns-in-Ok-recover-clause-leaves : goal.returns-in-Ok-recover-clause-leav
 returns-in-Ok-recover-clause-leaves g c = c.take_uber.ensures.leaves
 
 pub returns-in-Ok-recover-clause-faulty : goal.returns-in-Ok-recover-clause-faulty
-returns-in-Ok-recover-clause-faulty g c metaslab place kind err = absurd (cc)
+returns-in-Ok-recover-clause-faulty g c metaslab place kind err = absurd (no_refusal err)
 
 pub returns-in-Ok-recover-clause-checks : goal.returns-in-Ok-recover-clause-checks
 returns-in-Ok-recover-clause-checks g c = c.take_uber.ensures.check_counts
@@ -140,7 +141,7 @@ pub returns-in-Ok-recover-clause-later : goal.returns-in-Ok-recover-clause-later
 returns-in-Ok-recover-clause-later g c = c.take_uber.ensures.cause.later
 
 pub returns-in-Ok-recover-clause-cause : goal.returns-in-Ok-recover-clause-cause
-returns-in-Ok-recover-clause-cause g c failed = absurd (cc)
+returns-in-Ok-recover-clause-cause g c failed = absurd (no_refusal failed)
 
 pub returns-in-Err-clause-found : goal.returns-in-Err-clause-found
 returns-in-Err-clause-found g c = tt
@@ -209,7 +210,7 @@ pub returns-then-not-has_pool-clause-leaves : goal.returns-then-not-has_pool-cla
 returns-then-not-has_pool-clause-leaves g c m = refl
 
 pub returns-then-not-has_pool-clause-faulty : goal.returns-then-not-has_pool-clause-faulty
-returns-then-not-has_pool-clause-faulty g c metaslab place kind err = absurd (cc)
+returns-then-not-has_pool-clause-faulty g c metaslab place kind err = absurd (absent_no_record metaslab place kind err)
 
 pub returns-then-not-has_pool-clause-checks : goal.returns-then-not-has_pool-clause-checks
 returns-then-not-has_pool-clause-checks g c = refl
@@ -221,7 +222,40 @@ pub returns-then-not-has_pool-clause-later : goal.returns-then-not-has_pool-clau
 returns-then-not-has_pool-clause-later g c = omega arith
 
 pub returns-then-not-has_pool-clause-cause : goal.returns-then-not-has_pool-clause-cause
-returns-then-not-has_pool-clause-cause g c failed = absurd (cc)
+returns-then-not-has_pool-clause-cause g c failed = absurd (absent_no_shelf failed)
 
 pub returns-then-not-has_pool-clause-held : goal.returns-then-not-has_pool-clause-held
 returns-then-not-has_pool-clause-held g c = checks_same (g.H.Shelf.told c.args.shelf.now)
+
+pub returns-then-not-has_pool-clause-back : goal.returns-then-not-has_pool-clause-back
+returns-then-not-has_pool-clause-back g c =
+    let shelf = g.H.Shelf in
+    uber_left (shelf.told c.args.shelf.now) (shelf.told c.args.shelf.now) (shelf.uber_count c.args.shelf.now) (shelf.uber_count c.args.shelf.now) refl refl
+
+pub returns-then-not-has_pool-clause-none : goal.returns-then-not-has_pool-clause-none
+returns-then-not-has_pool-clause-none g c = none_there (g.H.Shelf.told c.args.shelf.now) _ (λ held none. (refl, record { held = refl; counts = λ m. refl; uber = refl; checks = refl }))
+
+pub returns-in-Ok-recover-clause-none : goal.returns-in-Ok-recover-clause-none
+returns-in-Ok-recover-clause-none g c = taken_not c.in-Ok.area (g.H.Shelf.told c.args.shelf.now) _ c.in-Ok.ensures.needs
+
+pub returns-in-Ok-recover-clause-held : goal.returns-in-Ok-recover-clause-held
+returns-in-Ok-recover-clause-held g c = checks_uber_taken (g.H.Shelf.told c.args.shelf.now) (g.H.Shelf.told c.take_uber.new.self) c.in-Ok.ensures.told
+
+pub returns-in-Err-clause-none : goal.returns-in-Err-clause-none
+returns-in-Err-clause-none g c = pool_there (g.H.Shelf.told c.args.shelf.now) c.has_pool.result _ c.has_pool.ensures c.if-not-has_pool.false
+
+pub returns-in-Err-clause-cause : goal.returns-in-Err-clause-cause
+returns-in-Err-clause-cause g c failed = inl (c.in-Err.ensures.cause.cause (ap Err (c.shelf_fault.ensures.failed (err_is c.shelf_fault.result _ failed))))
+
+pub returns-in-Err-recover-clause-held : goal.returns-in-Err-recover-clause-held
+returns-in-Err-recover-clause-held g c =
+    let shelf = g.H.Shelf in
+    checks_given (g.H.A.Area.told c.in-Err-recover.field-0.area) (shelf.told c.args.shelf.now) (shelf.told c.take_uber.new.self) (shelf.told c.give_uber.new.self)
+    (checks_uber_taken (shelf.told c.args.shelf.now) (shelf.told c.take_uber.new.self) c.in-Ok.ensures.told) c.give_uber.ensures.told
+
+pub returns-in-Err-recover-clause-cause : goal.returns-in-Err-recover-clause-cause
+returns-in-Err-recover-clause-cause g c failed =
+    let was = c.in-Ok.ensures.count in
+    let rose = c.in-Err-recover.ensures.cause (c.uber_fault.ensures.area (err_is c.uber_fault.result _ failed)) in
+    let now = c.give_uber.ensures.count in
+    inr (omega (arith, was, rose, now))

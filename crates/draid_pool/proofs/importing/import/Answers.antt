@@ -1,21 +1,27 @@
-use Rattle.std.proofs.Common.{◌∙◌, inl, inr, List, Option, Err, ap, subst, sym, arith}
+use Rattle.std.proofs.Common.{◌∙◌, inl, inr, List, Option, Result, Err, ap, subst, sym, arith}
 use Rattle.std.specs.Prelude.{nat_eq}
 use Rattle.std.proofs.lemmas.Result.{err_from_is_err_and}
 use Rattle.std.specs.HashMap.{get}
 use Rattle.draid_shard.specs.declared.shard.Shard.{Shard}
 use Rattle.draid_uber.specs.Slots.{group_of}
 use Rattle.draid_shelf.specs.Kits.{Held, KitCounts, gives_uber}
+use Rattle.draid_uber.specs.declared.uber.Uber.{Uber}
 use Rattle.draid_uber.specs.Uber.{kept_of, layout_of, next_leaf_of}
 use Rattle.draid_found.specs.Together.{AreApart}
 use Rattle.draid_session.specs.State.{limit_of}
 use Rattle.draid_pool.specs.Faulty.{IsUnread, OneIsUnread}
 use Rattle.draid_found.specs.Found.{AreFound, AreReady}
 use Rattle.draid_pool.specs.Found.{OpensAllOver, OpensOver}
+use Rattle.draid_pool.specs.Importing.{ImportIs}
+use Rattle.draid_pool.specs.declared.fault.PoolFault.{PoolFault}
+use Rattle.draid_pool.specs.declared.pool.Pool.{Pool}
 use Rattle.draid_pool.proofs.ImportFaulty.{err_is, passed_on}
+use Rattle.draid_pool.proofs.ImportMade.{made_passed, none_passed}
 use Rattle.draid_pool.proofs.ImportLeft.{leaves_all, refusal_is, refused_pool, rests_known, risen_behind}
 use Rattle.draid_pool.proofs.ImportOne.{no_fault_apart}
 use Rattle.draid_pool.proofs.ImportPool.{pool_found, tells_as_before}
 use Rattle.draid_pool.proofs.Found.{absent_not, all_ready, checks_more, refused_too, checks_back, checks_given, shard_not_spec}
+use Rattle.draid_pool.proofs.Refusing.{if_err_passed, if_ok_passed, no_refusal, on_ok_passed, passed, passed_is}
 use Rattle.draid_pool.proofs.importing.import.Goals as goal
 
 pub find_blocks-requires : goal.find_blocks-requires
@@ -154,7 +160,7 @@ pub returns-in-Ok-find_blocks-clause-not_spec : goal.returns-in-Ok-find_blocks-c
 returns-in-Ok-find_blocks-clause-not_spec g c = tt
 
 pub returns-in-Ok-find_blocks-clause-faulty : goal.returns-in-Ok-find_blocks-clause-faulty
-returns-in-Ok-find_blocks-clause-faulty g c metaslab place kind err = absurd (cc)
+returns-in-Ok-find_blocks-clause-faulty g c metaslab place kind err = absurd (no_refusal err)
 
 pub returns-in-Ok-find_blocks-clause-checks : goal.returns-in-Ok-find_blocks-clause-checks
 returns-in-Ok-find_blocks-clause-checks g c = c.reopen_shards.ensures.checks ∙ c.find_uber.ensures.checks
@@ -163,7 +169,7 @@ pub returns-in-Ok-find_blocks-clause-later : goal.returns-in-Ok-find_blocks-clau
 returns-in-Ok-find_blocks-clause-later g c = (let first = c.find_uber.ensures.later in let more = c.reopen_shards.ensures.later in omega (arith, first, more))
 
 pub returns-in-Ok-find_blocks-clause-cause : goal.returns-in-Ok-find_blocks-clause-cause
-returns-in-Ok-find_blocks-clause-cause g c failed = absurd (cc)
+returns-in-Ok-find_blocks-clause-cause g c failed = absurd (no_refusal failed)
 
 pub returns-in-Err-clause-whole : goal.returns-in-Err-clause-whole
 returns-in-Err-clause-whole g c = tt
@@ -226,3 +232,28 @@ returns-in_err-uber-clause-checks g c = c.find_uber.ensures.checks
 
 pub returns-in_err-uber-clause-later : goal.returns-in_err-uber-clause-later
 returns-in_err-uber-clause-later g c = c.find_uber.ensures.later
+
+pub returns-in_err-uber-clause-whole : goal.returns-in_err-uber-clause-whole
+returns-in_err-uber-clause-whole g c = if_ok_passed _ c.from_residual.result _ c.from_residual.ensures.1
+
+pub returns-in_err-uber-clause-tells : goal.returns-in_err-uber-clause-tells
+returns-in_err-uber-clause-tells g c = on_ok_passed _ c.from_residual.result _ c.from_residual.ensures.1
+
+pub returns-in_err-uber-clause-not_spec : goal.returns-in_err-uber-clause-not_spec
+returns-in_err-uber-clause-not_spec g c = if_err_passed c.from_residual.result c.in_err-uber.field-0.0 _ c.from_residual.ensures.1 c.in_err-uber.ensures.not_spec
+
+pub returns-in_err-uber-clause-cause : goal.returns-in_err-uber-clause-cause
+returns-in_err-uber-clause-cause g c failed = inl (c.in_err-uber.ensures.cause (passed c.from_residual.result c.in_err-uber.field-0.0 _ c.from_residual.ensures.1 failed))
+
+pub returns-in_err-uber-clause-none : goal.returns-in_err-uber-clause-none
+returns-in_err-uber-clause-none g c = none_passed (Uber g.row.H-A.Denot) (Pool g.row.H-R.Denot g.row.H-A.Denot) (g.H.Shelf.told c.args.shelf.now) c.from_residual.result c.in_err-uber.field-0.0 _ c.from_residual.ensures.1 c.in_err-uber.ensures.none
+
+pub returns-in_err-uber-clause-made : goal.returns-in_err-uber-clause-made
+returns-in_err-uber-clause-made g c geometry made = made_passed (Uber g.row.H-A.Denot) (Pool g.row.H-R.Denot g.row.H-A.Denot) geometry c.from_residual.result c.in_err-uber.field-0.0 _ _ _ _ _ c.from_residual.ensures.1 (c.in_err-uber.ensures.made geometry made)
+
+pub returns-in_err-uber-clause-import : goal.returns-in_err-uber-clause-import
+returns-in_err-uber-clause-import g c x pieces there =
+    let shelf = g.H.Shelf in
+    let new = c.find_uber.new.shelf in
+    subst (λ (r : Result (Pool g.row.H-R.Denot g.row.H-A.Denot) PoolFault). ImportIs g.H.R.Rack g.H.A.Area x pieces (shelf.told new) (shelf.leaves new) (shelf.counts new) (shelf.uber_count new) r) (sym (passed_is c.from_residual.result c.in_err-uber.field-0.0 c.from_residual.ensures.1))
+    (c.in_err-uber.ensures.import x pieces there)

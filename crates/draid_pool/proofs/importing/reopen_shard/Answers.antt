@@ -1,14 +1,16 @@
-use Rattle.std.proofs.Common.{arith, ◌/◌, ◌∙◌, ap, inr, subst, sym}
+use Rattle.std.proofs.Common.{arith, ◌<◌, ◌≤◌, ◌/◌, ◌∙◌, Err, ap, inl, inr, subst, sym}
+use Rattle.draid_names.specs.declared.numbers.TheConstants.{LAST_NUMBER}
 use Rattle.draid_uber.specs.Slots.{group_of}
 use Rattle.draid_uber.specs.Uber.{kept_of, layout_of, next_leaf_of}
 use Rattle.draid_groups.specs.Reopening.{OpenIsRefused}
 use Rattle.draid_pool.proofs.ImportUnread.{no_open_record, no_shelf_record}
 use Rattle.draid_groups.specs.Groups.{Opens}
 use Rattle.draid_spec.specs.declared.layout.Geometry.{Geometry}
-use Rattle.draid_shard.specs.Part.{Part}
+use Rattle.draid_shard.specs.Part.{IsPart, Part}
 use Rattle.draid_pool.proofs.Found.{fault_is, kit_back, records_rose, refused_area, reopened, stays_put, stays_same, checks_equal, checks_put, checks_taken, counts_later}
 use Rattle.draid_pool.proofs.ImportFaulty.{err_is, shelf_no_record, unread}
 use Rattle.draid_pool.proofs.ImportLeft.{keeps_equal, keeps_known, tells_put, tells_same}
+use Rattle.draid_pool.proofs.Refusing.{no_refusal}
 use Rattle.draid_pool.proofs.importing.reopen_shard.Goals as goal
 
 pub returns-in-Ok-reopen-clause-reopened : goal.returns-in-Ok-reopen-clause-reopened
@@ -134,10 +136,10 @@ pub returns-in-Ok-reopen-clause-leaves : goal.returns-in-Ok-reopen-clause-leaves
 returns-in-Ok-reopen-clause-leaves g c = c.take.ensures.others
 
 pub returns-in-Ok-reopen-clause-faulty : goal.returns-in-Ok-reopen-clause-faulty
-returns-in-Ok-reopen-clause-faulty g c metaslab place kind err = absurd (cc)
+returns-in-Ok-reopen-clause-faulty g c metaslab place kind err = absurd (no_refusal err)
 
 pub returns-in-Ok-reopen-clause-opens : goal.returns-in-Ok-reopen-clause-opens
-returns-in-Ok-reopen-clause-opens g c x pieces held leaves counts count there r takes same metaslab place kind err = cc
+returns-in-Ok-reopen-clause-opens g c x pieces held leaves counts count there r takes same metaslab place kind err = no_refusal err
 
 pub returns-in-Ok-reopen-clause-held : goal.returns-in-Ok-reopen-clause-held
 returns-in-Ok-reopen-clause-held g c = checks_taken c.args.number (g.H.Shelf.told c.args.shelf.now) (g.H.Shelf.told c.take.new.self) c.in-Ok.ensures.told
@@ -152,7 +154,7 @@ pub returns-in-Ok-reopen-clause-later : goal.returns-in-Ok-reopen-clause-later
 returns-in-Ok-reopen-clause-later g c = c.take.ensures.cause.later
 
 pub returns-in-Ok-reopen-clause-cause : goal.returns-in-Ok-reopen-clause-cause
-returns-in-Ok-reopen-clause-cause g c failed = absurd (cc)
+returns-in-Ok-reopen-clause-cause g c failed = absurd (no_refusal failed)
 
 pub returns-in-Err-clause-reopened : goal.returns-in-Err-clause-reopened
 returns-in-Err-clause-reopened g c = tt
@@ -212,3 +214,25 @@ returns-in-Err-reopen-clause-checks g c = c.give.ensures.check_counts ∙ c.take
 
 pub returns-in-Err-reopen-clause-later : goal.returns-in-Err-reopen-clause-later
 returns-in-Err-reopen-clause-later g c = (let first = c.take.ensures.cause.later in let same = c.give.ensures.faults in omega (arith, first, same))
+
+pub returns-in-Err-clause-cause : goal.returns-in-Err-clause-cause
+returns-in-Err-clause-cause g c failed = inl (c.in-Err.ensures.cause.cause (ap Err (c.shelf_fault.ensures.failed (err_is c.shelf_fault.result _ failed))))
+
+pub give-requires : goal.give-requires
+give-requires g c = (let below = c.requires.number in let most = c.requires.layout.geometry_is.props.most_metaslabs in omega (arith, below, most))
+
+pub reopen-requires-clause-part : goal.reopen-requires-clause-part
+reopen-requires-clause-part g c =
+    subst (λ (l : Geometry). IsPart (record { geometry = l; perms = c.args.perms; number = c.args.number })) (sym c.geometry.ensures) (record { layout = c.requires.layout; below = c.requires.number })
+
+pub reopen-requires-clause-bytes : goal.reopen-requires-clause-bytes
+reopen-requires-clause-bytes g c = c.in-Ok.ensures.sectors
+
+pub reopen-requires-clause-group : goal.reopen-requires-clause-group
+reopen-requires-clause-group g c = subst (λ n. (1 ≤ n) × (n < LAST_NUMBER)) (sym c.committed-group.ensures) (c.requires.uber.some, c.requires.uber.low)
+
+pub reopen-requires-clause-next : goal.reopen-requires-clause-next
+reopen-requires-clause-next g c =
+    let held = c.requires.uber.valid.held in
+    subst (λ (l : Geometry). (l.spec.children ≤ c.next_leaf.result) × (c.next_leaf.result ≤ LAST_NUMBER)) (sym c.geometry.ensures)
+    (subst (λ n. ((layout_of c.args.uber.now).spec.children ≤ n) × (n ≤ LAST_NUMBER)) (sym c.next_leaf.ensures) (held.leaf_above, held.leaf_below))

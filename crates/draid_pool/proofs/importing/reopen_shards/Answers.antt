@@ -14,6 +14,7 @@ use Rattle.draid_pool.proofs.ImportUnread.{no_record_too}
 use Rattle.draid_pool.proofs.Opened.{none_taken, takes_more}
 use Rattle.draid_pool.proofs.ImportFaulty.{err_is, unread_first}
 use Rattle.draid_pool.proofs.ImportLeft.{leaves_none, leaves_shards}
+use Rattle.draid_pool.proofs.Refusing.{no_record, no_refusal, no_shelf}
 use Rattle.draid_pool.proofs.importing.reopen_shards.Goals as goal
 
 pub loop-number-init : goal.loop-number-init
@@ -173,7 +174,7 @@ pub returns-clause-back : goal.returns-clause-back
 returns-clause-back g c = tt
 
 pub returns-clause-cause : goal.returns-clause-cause
-returns-clause-cause g c failed = absurd (cc)
+returns-clause-cause g c failed = absurd (no_refusal failed)
 
 pub returns-clause-checks : goal.returns-clause-checks
 returns-clause-checks g c = c.loop-number.invariant.checks
@@ -182,7 +183,7 @@ pub returns-clause-fault : goal.returns-clause-fault
 returns-clause-fault g c = tt
 
 pub returns-clause-faulty : goal.returns-clause-faulty
-returns-clause-faulty g c metaslab place kind err = absurd (cc)
+returns-clause-faulty g c metaslab place kind err = absurd (no_refusal err)
 
 pub returns-clause-held : goal.returns-clause-held
 returns-clause-held g c = c.loop-number.invariant.held
@@ -191,7 +192,7 @@ pub returns-clause-later : goal.returns-clause-later
 returns-clause-later g c = c.loop-number.invariant.later
 
 pub returns-clause-opens : goal.returns-clause-opens
-returns-clause-opens g c x pieces held counts count there r taken metaslab place kind err = cc
+returns-clause-opens g c x pieces held counts count there r taken metaslab place kind err = no_refusal err
 
 pub returns-clause-over : goal.returns-clause-over
 returns-clause-over g c = c.loop-number.invariant.over
@@ -215,7 +216,7 @@ pub returns-in-Err-clause-told : goal.returns-in-Err-clause-told
 returns-in-Err-clause-told g c = tt
 
 pub returns-in_default-clause-cause : goal.returns-in_default-clause-cause
-returns-in_default-clause-cause g c failed = absurd (cc)
+returns-in_default-clause-cause g c failed = absurd (no_shelf failed)
 
 pub returns-in_default-clause-checks : goal.returns-in_default-clause-checks
 returns-in_default-clause-checks g c = refl
@@ -224,7 +225,7 @@ pub returns-in_default-clause-fault : goal.returns-in_default-clause-fault
 returns-in_default-clause-fault g c = tt
 
 pub returns-in_default-clause-faulty : goal.returns-in_default-clause-faulty
-returns-in_default-clause-faulty g c metaslab place kind err = absurd (cc)
+returns-in_default-clause-faulty g c metaslab place kind err = absurd (no_record metaslab place kind err)
 
 pub returns-in_default-clause-held : goal.returns-in_default-clause-held
 returns-in_default-clause-held g c = checks_same (g.H.Shelf.told c.args.shelf.now)
@@ -233,7 +234,7 @@ pub returns-in_default-clause-later : goal.returns-in_default-clause-later
 returns-in_default-clause-later g c = omega arith
 
 pub returns-in_default-clause-opens : goal.returns-in_default-clause-opens
-returns-in_default-clause-opens g c x pieces held counts count there r taken metaslab place kind err = cc
+returns-in_default-clause-opens g c x pieces held counts count there r taken metaslab place kind err = no_record metaslab place kind err
 
 pub returns-in_default-clause-over : goal.returns-in_default-clause-over
 returns-in_default-clause-over g c = tt
@@ -249,3 +250,15 @@ reopen_shard-requires-clause-uber g c κs within = c.requires.uber
 
 pub reopen_shard-requires-clause-number : goal.reopen_shard-requires-clause-number
 reopen_shard-requires-clause-number g c κs within = (let below = c.loop-number-test.true in let same = ap (λ (x : Geometry). x.props.metaslabs) c.geometry-layout.ensures in omega (arith, below, same))
+
+pub new-perms-requires-clause-least : goal.new-perms-requires-clause-least
+new-perms-requires-clause-least g c =
+    let same = ap (λ (x : Geometry). x.spec.children) c.geometry-layout.ensures in
+    let least = c.requires.uber.valid.held.layout_is.spec.some_children in
+    omega (arith, same, least)
+
+pub new-perms-requires-clause-most : goal.new-perms-requires-clause-most
+new-perms-requires-clause-most g c =
+    let same = ap (λ (x : Geometry). x.spec.children) c.geometry-layout.ensures in
+    let most = c.requires.uber.valid.held.layout_is.spec.most_children in
+    omega (arith, same, most)

@@ -1,10 +1,13 @@
-use Rattle.std.proofs.Common.{arith, ◌∙◌, Option, ap, subst, sym}
-use Rattle.std.specs.Prelude.{replicate}
+use Rattle.std.proofs.Common.{arith, ◌≡◌, ◌∙◌, ℕ, inl, inr, Option, ap, subst, sym}
+use Rattle.std.specs.Prelude.{⊤, IsSomeAnd, MatchOption, replicate}
+use Rattle.draid_rack.specs.Rack.{Shape}
 use Rattle.draid_area.specs.Area.{OnTold}
-use Rattle.draid_shelf.specs.Kits.{Held, IsNewArea, OnHeld, uber_bytes}
+use Rattle.draid_shelf.specs.Kits.{Held, IsNewArea, IsUncounted, OnHeld, uber_bytes}
+use Rattle.draid_shelf.specs.Shelf.{HasLeavesOf}
 use Rattle.draid_pool.specs.Opening.{HasNewKits}
 use Rattle.draid_pool.proofs.Causes.{new_failed}
-use Rattle.draid_pool.proofs.Fresh.{uber_new, uber_taken, uber_zeros}
+use Rattle.draid_pool.proofs.Refusing.{if_ok_passed, on_err_always, on_err_right, on_ok_always, on_ok_passed, passed}
+use Rattle.draid_pool.proofs.Fresh.{made_untouched, uber_new, uber_taken, uber_zeros}
 use Rattle.draid_pool.proofs.opening.make_pool.Goals as goal
 
 pub create-requires-clause-new : goal.create-requires-clause-new
@@ -65,3 +68,73 @@ returns-in_err-area-clause-later g c =
     let made = c.make.ensures.cause.later in
     let taken = c.take_uber.ensures.cause.later in
     omega (arith, made, taken)
+
+pub returns-in_err-make-clause-whole : goal.returns-in_err-make-clause-whole
+returns-in_err-make-clause-whole g c = if_ok_passed _ c.from_residual.result _ c.from_residual.ensures.1
+
+pub returns-in_err-make-clause-opens : goal.returns-in_err-make-clause-opens
+returns-in_err-make-clause-opens g c = if_ok_passed _ c.from_residual.result _ c.from_residual.ensures.1
+
+pub returns-in_err-make-clause-away : goal.returns-in_err-make-clause-away
+returns-in_err-make-clause-away g c = on_ok_passed _ c.from_residual.result _ c.from_residual.ensures.1
+
+pub returns-in_err-make-clause-checks : goal.returns-in_err-make-clause-checks
+returns-in_err-make-clause-checks g c = on_ok_passed _ c.from_residual.result _ c.from_residual.ensures.1
+
+pub returns-in_err-area-clause-whole : goal.returns-in_err-area-clause-whole
+returns-in_err-area-clause-whole g c = if_ok_passed _ c.from_residual-in_err-area.result _ c.from_residual-in_err-area.ensures.1
+
+pub returns-in_err-area-clause-opens : goal.returns-in_err-area-clause-opens
+returns-in_err-area-clause-opens g c = if_ok_passed _ c.from_residual-in_err-area.result _ c.from_residual-in_err-area.ensures.1
+
+pub returns-in_err-area-clause-away : goal.returns-in_err-area-clause-away
+returns-in_err-area-clause-away g c = on_ok_passed _ c.from_residual-in_err-area.result _ c.from_residual-in_err-area.ensures.1
+
+pub returns-in_err-area-clause-checks : goal.returns-in_err-area-clause-checks
+returns-in_err-area-clause-checks g c = on_ok_passed _ c.from_residual-in_err-area.result _ c.from_residual-in_err-area.ensures.1
+
+pub returns-in_err-make-clause-back : goal.returns-in_err-make-clause-back
+returns-in_err-make-clause-back g c =
+    let e = c.in_err-make.ensures in
+    on_err_always c.from_residual.result _ (inl (record { held = e.err; counts = e.err_counts; uber = e.err_uber_count; checks = e.err_check_counts }, e.err_leaves))
+
+pub returns-in_err-make-clause-cause : goal.returns-in_err-make-clause-cause
+returns-in_err-make-clause-cause g c failed = inl (c.in_err-make.ensures.cause.cause (passed c.from_residual.result c.in_err-make.field-0.0 _ c.from_residual.ensures.1 failed))
+
+pub open_pool-requires-clause-layout : goal.open_pool-requires-clause-layout
+open_pool-requires-clause-layout g c κs within = c.requires.layout
+
+pub returns-in_err-area-clause-back : goal.returns-in_err-area-clause-back
+returns-in_err-area-clause-back g c =
+    let shelf = g.H.Shelf in
+    let m = c.in_ok-make.ensures in
+    let e = c.in_err-area.ensures in
+    on_err_always c.from_residual-in_err-area.result _
+    (inr (inl (made_untouched c.args.layout (shelf.told c.make.new.self) (shelf.told c.take_uber.new.self) (shelf.counts c.make.new.self) (shelf.counts c.take_uber.new.self)
+    (record { uber = shelf.uber_count c.take_uber.new.self; checks = shelf.check_counts c.take_uber.new.self }) m.told e.err m.counts e.counts (e.err_count ∙ m.uber_count) (e.check_counts ∙ m.check_counts))))
+
+pub returns-in_err-area-clause-cause : goal.returns-in_err-area-clause-cause
+returns-in_err-area-clause-cause g c failed =
+    let made = c.make.ensures.cause.later in
+    let rose = c.in_err-area.ensures.cause.cause (passed c.from_residual-in_err-area.result c.in_err-area.field-0.0 _ c.from_residual-in_err-area.ensures.1 failed) in
+    inl (omega (arith, made, rose))
+
+pub create-requires-clause-size : goal.create-requires-clause-size
+create-requires-clause-size g c =
+    subst (λ (o : Option ℕ). MatchOption o ⊤ (λ n. g.H.A.Area.size c.in_ok-area.area ≡ n)) c.in_ok-make.ensures.uber c.in_ok-area.ensures.size
+
+pub open_pool-requires-clause-leaves : goal.open_pool-requires-clause-leaves
+open_pool-requires-clause-leaves g c κs within m below =
+    subst (λ (o : Option Shape). IsSomeAnd o (HasLeavesOf c.args.layout)) (sym (c.take_uber.ensures.leaves m)) (c.in_ok-make.ensures.leaves m below)
+
+pub open_pool-requires-clause-counts : goal.open_pool-requires-clause-counts
+open_pool-requires-clause-counts g c κs within m below = subst IsUncounted (sym (c.take_uber.ensures.counts m)) (c.in_ok-make.ensures.counts m below)
+
+pub open_pool-requires-clause-checks : goal.open_pool-requires-clause-checks
+open_pool-requires-clause-checks g c κs within = c.take_uber.ensures.check_counts ∙ c.in_ok-make.ensures.check_counts
+
+pub returns-clause-checks : goal.returns-clause-checks
+returns-clause-checks g c = on_ok_always c.open_pool.result _ (c.open_pool.ensures.checks ∙ (c.take_uber.ensures.check_counts ∙ c.in_ok-make.ensures.check_counts))
+
+pub returns-clause-back : goal.returns-clause-back
+returns-clause-back g c = on_err_right c.open_pool.result _ _ c.open_pool.ensures.back

@@ -1,10 +1,13 @@
-use Rattle.std.proofs.Common.{rules, ◌∙◌, [], ◌∷◌, Option, ap, inl, inr, refl, subst, sym, arith}
+use Rattle.std.proofs.Common.{rules, ◌+◌, ◌∙◌, [], ◌∷◌, Option, ap, inl, inr, refl, subst, sym, arith}
 use Rattle.std.specs.Prelude.{is_some}
 use Rattle.draid_record.specs.declared.uber.UberBody.{UberBody}
 use Rattle.draid_shelf.specs.Kits.{gives_uber}
 use Rattle.draid_uber.specs.Slots.{StandsTold, group_of}
 use Rattle.draid_uber.specs.Uber.{area_of, next_of}
 use Rattle.draid_pool.proofs.Fresh.{away, first_body, first_layout, first_whole, is_uber, made_again, opens, refused}
+use Rattle.draid_pool.proofs.Causes.{commit_failed, records_kept}
+use Rattle.draid_pool.proofs.Opened.{failed_too}
+use Rattle.draid_pool.proofs.Refusing.{no_refusal}
 use Rattle.draid_pool.proofs.opening.open_pool.Goals as goal
 
 pub returns-in-Err-clause-back : goal.returns-in-Err-clause-back
@@ -66,7 +69,7 @@ pub returns-in-Ok-commit-clause-later : goal.returns-in-Ok-commit-clause-later
 returns-in-Ok-commit-clause-later g c = c.open_shards.ensures.later
 
 pub returns-in-Ok-commit-clause-cause : goal.returns-in-Ok-commit-clause-cause
-returns-in-Ok-commit-clause-cause g c failed = absurd (cc)
+returns-in-Ok-commit-clause-cause g c failed = absurd (no_refusal failed)
 
 pub returns-in-Err-clause-whole : goal.returns-in-Err-clause-whole
 returns-in-Err-clause-whole g c = tt
@@ -100,3 +103,28 @@ returns-in-Err-commit-clause-later g c = (let first = c.open_shards.ensures.late
 
 pub commit-requires-clause-valid : goal.commit-requires-clause-valid
 commit-requires-clause-valid g c = c.requires.uber.valid
+
+pub open_shards-requires-clause-layout : goal.open_shards-requires-clause-layout
+open_shards-requires-clause-layout g c κs within = c.requires.layout
+
+pub open_shards-requires-clause-made : goal.open_shards-requires-clause-made
+open_shards-requires-clause-made g c κs within = c.requires.leaves
+
+pub commit-requires-clause-next : goal.commit-requires-clause-next
+commit-requires-clause-next g c = record { behind = ap (λ (kept : Option UberBody). 1 + group_of kept) (sym c.requires.uber.kept); below = omega arith }
+
+pub give_back-requires-clause-few : goal.give_back-requires-clause-few
+give_back-requires-clause-few g c κs within = (let many = c.in-Ok.ensures.opened.many in let most = c.requires.layout.props.most_metaslabs in omega (arith, many, most))
+
+pub returns-in-Err-clause-cause : goal.returns-in-Err-clause-cause
+returns-in-Err-clause-cause g c failed =
+    let shelf = g.H.Shelf in
+    records_kept c.args.layout (shelf.faults c.args.shelf.now) (shelf.faults c.open_shards.new.shelf) (shelf.faults c.give_uber.new.self) (shelf.counts c.open_shards.new.shelf) (shelf.counts c.give_uber.new.self)
+    (record { uber = shelf.uber_count c.give_uber.new.self; checks = shelf.check_counts c.give_uber.new.self }) c.give_uber.ensures.faults c.give_uber.ensures.counts (c.in-Err.ensures.cause (failed_too c.in-Err.fault failed))
+
+pub returns-in-Err-commit-clause-cause : goal.returns-in-Err-commit-clause-cause
+returns-in-Err-commit-clause-cause g c failed =
+    let area = g.H.A.Area in
+    let given = c.give_uber-in-Err-commit in
+    inr (inr (commit_failed (area.faults (area_of c.args.uber)) (area.faults (area_of c.commit.new.self)) (g.H.Shelf.uber_count given.new.self) c.in-Err-commit.fault c.in-Err-commit.ensures.cause
+    (given.ensures.count ∙ ap area.faults c.into_area-in-Err-commit.ensures) failed))

@@ -4,7 +4,8 @@ use Rattle.draid_names.specs.Faults.{Rose}
 use Rattle.draid_rack.specs.Rack.{Shape}
 use Rattle.draid_shelf.specs.Shelf.{HasLeavesOf}
 use Rattle.draid_pool.specs.Opening.{TakesFirst}
-use Rattle.draid_pool.proofs.Opened.{opening_all, opening_back, opening_more, opening_none, refused_counted, failed_too}
+use Rattle.draid_pool.proofs.Opened.{back_nothing, opening_all, opening_back, opening_more, opening_none, refused_counted, failed_too}
+use Rattle.draid_pool.proofs.Refusing.{no_device, no_refusal}
 use Rattle.draid_pool.proofs.opening.open_shards.Goals as goal
 
 pub loop-number-init : goal.loop-number-init
@@ -90,7 +91,7 @@ pub returns-clause-later : goal.returns-clause-later
 returns-clause-later g c = c.loop-number.invariant.later
 
 pub returns-clause-cause : goal.returns-clause-cause
-returns-clause-cause g c failed = absurd (cc)
+returns-clause-cause g c failed = absurd (no_refusal failed)
 
 pub returns-in-Err-clause-opened : goal.returns-in-Err-clause-opened
 returns-in-Err-clause-opened g c = tt
@@ -123,4 +124,30 @@ pub returns-in_default-clause-later : goal.returns-in_default-clause-later
 returns-in_default-clause-later g c = omega arith
 
 pub returns-in_default-clause-cause : goal.returns-in_default-clause-cause
-returns-in_default-clause-cause g c failed = absurd (cc)
+returns-in_default-clause-cause g c failed = absurd (no_device failed)
+
+pub open_shard-requires-clause-layout : goal.open_shard-requires-clause-layout
+open_shard-requires-clause-layout g c κs within = record { geometry_is = c.requires.layout; perms_are = c.new-perms.ensures }
+
+pub open_shard-requires-clause-number : goal.open_shard-requires-clause-number
+open_shard-requires-clause-number g c κs within = c.loop-number-test.true
+
+pub push_reserved-requires : goal.push_reserved-requires
+push_reserved-requires g c =
+    let i = c.loop-number.invariant in
+    let room = i.room in
+    let many = i.opening.many in
+    let below = c.loop-number-test.true in
+    let len = c.loop-number.shards.ok.0 in
+    omega (arith, room, many, below, len)
+
+pub give_back-requires-clause-few : goal.give_back-requires-clause-few
+give_back-requires-clause-few g c κs within =
+    let i = c.loop-number.invariant in
+    let bound = i.bound in
+    let many = i.opening.many in
+    let most = c.requires.layout.props.most_metaslabs in
+    omega (arith, bound, many, most)
+
+pub returns-in_default-clause-back : goal.returns-in_default-clause-back
+returns-in_default-clause-back g c = back_nothing (g.H.Shelf.told c.args.shelf.now) (g.H.Shelf.counts c.args.shelf.now)

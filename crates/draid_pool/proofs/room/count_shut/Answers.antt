@@ -26,3 +26,10 @@ loop-shard-preserved g c = elim c.if-is_shut_by.branch [
 
 pub shut-requires : goal.shut-requires
 shut-requires g c = record { valid = subst (Valid g.R.Rack) (sym c.shard-item.is) (c.requires.valid c.loop-shard.shard-index c.shard-item.result c.loop-shard-test.true) }
+
+pub overflow_add-count : goal.overflow_add-count
+overflow_add-count g c =
+    let few = c.loop-shard.invariant.few in
+    let below = c.loop-shard-test.true in
+    let short = c.requires.few in
+    omega (arith, few, below, short)

@@ -1,8 +1,10 @@
-use Rattle.std.proofs.Common.{◌∙◌, Some, arith, sym, ap, subst}
+use Rattle.std.proofs.Common.{◌∙◌, Some, Err, arith, sym, ap, subst}
 use Rattle.draid_machine.specs.declared.names.Stage.TheVariants.{Writing}
 use Rattle.draid_entries.specs.Maps.{staged}
 use Rattle.draid_shard.specs.Part.{Part}
-use Rattle.draid_pool.specs.Shards.{NotStored, Stored}
+use Rattle.draid_pool.specs.Shards.{NotStored, StoreDoes, StoreSets, Stored}
+use Rattle.draid_pool.specs.declared.store.StoreFault.{StoreFault}
+use Rattle.draid_pool.proofs.Dids.{none_here}
 use Rattle.draid_pool.proofs.Sets.{drops_block, stores_block}
 use Rattle.draid_pool.proofs.StoreSteps.{AllPut, Begun, Ended, not_stored, stored, never_refused}
 use Rattle.draid_pool.proofs.store.store.Goals as goal
@@ -50,11 +52,11 @@ returns-in-Ok-finish g c =
           (omega (arith, few, parity))));
     }
 
-pub returns-in-Err : goal.returns-in-Err
-returns-in-Err g c =
+pub returns-in-Err-finish : goal.returns-in-Err-finish
+returns-in-Err-finish g c =
     let e = c.in-Ok.ensures in
     let p = c.put_all.ensures in
-    let f = c.in-Err.ensures in
+    let f = c.in-Err-finish.ensures in
     let old = c.args.shard.now in
     let block = c.args.block.now in
     let begun : Begun g.R.Rack g.A.Area c.args.object c.args.seq c.args.floor block old c.begin.new.self c.in-Ok.ticket = record {
@@ -96,45 +98,29 @@ returns-in-Err g c =
 pub begin-requires : goal.begin-requires
 begin-requires g c = record { valid = c.requires.valid; new = record { object_small = c.requires.object; some_seq = c.requires.seq.0; seq_small = c.requires.seq.1; unused = c.requires.unused }; floor = record { upto = c.requires.floor; low = c.requires.last }; cut = c.requires.cut }
 
-pub unreachable-requires : goal.unreachable-requires
-unreachable-requires g c =
+pub begin_fault-requires : goal.begin_fault-requires
+begin_fault-requires g c =
     let room = c.requires.room in
-    let no = never_refused c.args.shard.now _ room.0 room.2 c.in-Err-Disabled.field-0 (c.in-Err-Disabled.ensures.refused room.0 room.1) in
-    let is = sym c.in-Err-Disabled.field-0-is ∙ no in
-    absurd (cc)
+    never_refused c.args.shard.now _ room.0 room.2 c.in-Err.why (c.in-Err.ensures.refused room.0 room.1)
 
-pub unreachable-requires-in-Err-Entries : goal.unreachable-requires-in-Err-Entries
-unreachable-requires-in-Err-Entries g c =
-    let room = c.requires.room in
-    let no = never_refused c.args.shard.now _ room.0 room.2 c.in-Err-Entries.field-0 (c.in-Err-Entries.ensures.refused room.0 room.1) in
-    let is = sym c.in-Err-Entries.field-0-is ∙ no in
-    absurd (cc)
+pub returns-in-Err-clause-valid : goal.returns-in-Err-clause-valid
+returns-in-Err-clause-valid g c = c.in-Err.ensures.valid
 
-pub unreachable-requires-in-Err-NoRoom : goal.unreachable-requires-in-Err-NoRoom
-unreachable-requires-in-Err-NoRoom g c =
-    let room = c.requires.room in
-    let no = never_refused c.args.shard.now _ room.0 room.2 c.in-Err-NoRoom.field-0 (c.in-Err-NoRoom.ensures.refused room.0 room.1) in
-    let is = sym c.in-Err-NoRoom.field-0-is ∙ no in
-    absurd (cc)
+pub returns-in-Err-clause-part : goal.returns-in-Err-clause-part
+returns-in-Err-clause-part g c = c.in-Err.ensures.none.none.part
 
-pub unreachable-requires-in-Err-Worn : goal.unreachable-requires-in-Err-Worn
-unreachable-requires-in-Err-Worn g c =
-    let room = c.requires.room in
-    let no = never_refused c.args.shard.now _ room.0 room.2 c.in-Err-Worn.field-0 (c.in-Err-Worn.ensures.refused room.0 room.1) in
-    let is = sym c.in-Err-Worn.field-0-is ∙ no in
-    absurd (cc)
+pub returns-in-Err-clause-sets : goal.returns-in-Err-clause-sets
+returns-in-Err-clause-sets g c =
+    subst (λ (f : StoreFault). StoreSets c.args.shard.now c.begin.new.self c.args.object c.args.seq c.args.floor (Err f)) (sym c.begin_fault.ensures) c.in-Err.ensures.none.keeps
+
+pub returns-in-Err-clause-stores : goal.returns-in-Err-clause-stores
+returns-in-Err-clause-stores g c part pieces x is =
+    let e = c.in-Err.ensures in
+    subst (λ (f : StoreFault). StoreDoes g.R.Rack g.A.Area part pieces c.args.object c.args.seq c.args.floor c.args.block.now.bytes x c.begin.new.self (Err f)) (sym c.begin_fault.ensures)
+    (none_here g.R.Rack g.A.Area part pieces c.args.shard.now c.begin.new.self x is e.valid e.none.none e.kit.rack e.kit.areas e.reserve.limit e.reserve.reserved)
 
 pub put_all-requires : goal.put_all-requires
 put_all-requires g c = record { valid = c.in-Ok.ensures.valid; carries = c.in-Ok.ensures.ticket.carries; fresh = c.in-Ok.ensures.ticket.named.fresh.0 }
 
 pub finish-requires : goal.finish-requires
 finish-requires g c = record { valid = c.put_all.ensures.valid; is_open = c.put_all.ensures.carries.is_open; all = c.put_all.ensures.all ∙ sym (ap (λ (q : Part). q.geometry.g) c.put_all.ensures.part) }
-
-pub returns-in-Err-NoMemory-clause-valid : goal.returns-in-Err-NoMemory-clause-valid
-returns-in-Err-NoMemory-clause-valid g c = c.in-Err-NoMemory.ensures.valid
-
-pub returns-in-Err-NoMemory-clause-part : goal.returns-in-Err-NoMemory-clause-part
-returns-in-Err-NoMemory-clause-part g c = c.in-Err-NoMemory.ensures.none.none.part
-
-pub returns-in-Err-NoMemory-clause-sets : goal.returns-in-Err-NoMemory-clause-sets
-returns-in-Err-NoMemory-clause-sets g c = c.in-Err-NoMemory.ensures.none.keeps

@@ -29,3 +29,13 @@ commit-requires-clause-sealed g c =
     let many = b.many in
     let there = borrowed_at l.shards.items l.metaslab c.index_mut.result.now (omega (arith, below, len, vec, many)) c.index_mut.ensures.value in
     c.requires.sealed l.metaslab c.index_mut.result.now (sym (b.others l.metaslab (omega arith)) ∙ there)
+
+pub index_mut-requires : goal.index_mut-requires
+index_mut-requires g c =
+    let l = c.loop-metaslab in
+    let below = c.loop-metaslab-test.true in
+    let len = c.len-metaslab-end.ensures in
+    let vec = c.args.shards.now.ok.0 in
+    let many = l.invariant.many in
+    let own = l.shards.ok.0 in
+    omega (arith, below, len, vec, many, own)

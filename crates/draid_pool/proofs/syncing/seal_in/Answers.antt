@@ -1,4 +1,4 @@
-use Rattle.std.proofs.Common.{◌<◌, ◌∙◌, ap, subst, sym}
+use Rattle.std.proofs.Common.{◌<◌, ◌∙◌, ap, arith, refl, subst, sym}
 use Rattle.draid_machine.specs.State as machine
 use Rattle.draid_names.specs.Faults.{Rose}
 use Rattle.draid_groups.specs.Groups.{OpenUpto, SealIsRefused, area_in}
@@ -6,7 +6,8 @@ use Rattle.draid_shard.specs.States.{IsIn}
 use Rattle.draid_pool.specs.declared.fault.SyncFault.TheVariants as sync
 use Rattle.draid_shard.proofs.Shown.{state_shown}
 use Rattle.draid_pool.proofs.Rises.{records_rose, records_still}
-use Rattle.draid_pool.proofs.Turns.{no_tickets, not_sealed, seal_fault, sealed}
+use Rattle.draid_pool.proofs.Turns.{no_tickets, not_sealed, seal_fault, sealed, stays_sealed}
+use Rattle.draid_pool.proofs.Refusing.{memory_no_shelf, no_refusal}
 use Rattle.draid_pool.proofs.syncing.seal_in.Goals as goal
 
 pub unreachable-requires : goal.unreachable-requires
@@ -68,7 +69,7 @@ pub returns-in-Err-NoMemory-clause-low : goal.returns-in-Err-NoMemory-clause-low
 returns-in-Err-NoMemory-clause-low g c = tt
 
 pub returns-in-Err-NoMemory-clause-cause : goal.returns-in-Err-NoMemory-clause-cause
-returns-in-Err-NoMemory-clause-cause g c failed = absurd (cc)
+returns-in-Err-NoMemory-clause-cause g c failed = absurd (memory_no_shelf failed)
 
 pub returns-in-Ok-clause-valid : goal.returns-in-Ok-clause-valid
 returns-in-Ok-clause-valid g c = c.in-Ok.ensures.valid
@@ -80,7 +81,7 @@ pub returns-in-Ok-clause-low : goal.returns-in-Ok-clause-low
 returns-in-Ok-clause-low g c = c.in-Ok.ensures.sealed.low
 
 pub returns-in-Ok-clause-cause : goal.returns-in-Ok-clause-cause
-returns-in-Ok-clause-cause g c failed = absurd (cc)
+returns-in-Ok-clause-cause g c failed = absurd (no_refusal failed)
 
 pub seal-requires : goal.seal-requires
 seal-requires g c = record { valid = c.requires.valid; closing = (c.requires.closing, sym c.sealed.ensures ∙ c.if-sealed.false) }
@@ -96,3 +97,24 @@ returns-in-Err-NoMemory-clause-later g c = c.in-Err-NoMemory.ensures.later
 
 pub returns-then-sealed-clause-later : goal.returns-then-sealed-clause-later
 returns-then-sealed-clause-later g c = records_still g.A.Area.faults c.args.shard.now
+
+pub returns-then-sealed-clause-valid : goal.returns-then-sealed-clause-valid
+returns-then-sealed-clause-valid g c = c.requires.valid
+
+pub returns-then-sealed-clause-table : goal.returns-then-sealed-clause-table
+returns-then-sealed-clause-table g c = record { part = refl; entries = record { at = λ first. refl; held = λ key. refl; count = refl; owed = λ columns. refl }; committed = refl }
+
+pub returns-then-sealed-clause-sealed : goal.returns-then-sealed-clause-sealed
+returns-then-sealed-clause-sealed g c = (c.requires.closing, sym c.sealed.ensures ∙ c.if-sealed.true)
+
+pub returns-then-sealed-clause-low : goal.returns-then-sealed-clause-low
+returns-then-sealed-clause-low g c = omega arith
+
+pub returns-then-sealed-clause-cause : goal.returns-then-sealed-clause-cause
+returns-then-sealed-clause-cause g c failed = absurd (no_refusal failed)
+
+pub returns-in-Ok-clause-sealed : goal.returns-in-Ok-clause-sealed
+returns-in-Ok-clause-sealed g c = (c.in-Ok.ensures.seals.closing ∙ c.requires.closing, c.in-Ok.ensures.seals.sealed)
+
+pub returns-then-sealed-clause-seals : goal.returns-then-sealed-clause-seals
+returns-then-sealed-clause-seals g c part pieces x is = stays_sealed g.R.Rack g.A.Area part pieces c.args.shard.now c.args.group x is c.requires.closing (sym c.sealed.ensures ∙ c.if-sealed.true)

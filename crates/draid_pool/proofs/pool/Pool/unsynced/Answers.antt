@@ -4,7 +4,7 @@ use Rattle.draid_session.specs.Groups as groups
 use Rattle.draid_shard.specs.States.{stored_in}
 use Rattle.draid_shard.specs.declared.shard.Shard.{Shard}
 use Rattle.draid_pool.proofs.SyncCalls.{unsynced_of}
-use Rattle.draid_pool.proofs.SyncSteps.{below_all, below_more, borrowed_at}
+use Rattle.draid_pool.proofs.SyncSteps.{below_all, below_more, below_none, borrowed_at}
 use Rattle.draid_pool.proofs.pool.Pool.unsynced.Goals as goal
 
 pub returns-then-is_unsynced-clause-found : goal.returns-then-is_unsynced-clause-found
@@ -32,3 +32,6 @@ returns-clause-found g c =
 
 pub returns-clause-unsynced : goal.returns-clause-unsynced
 returns-clause-unsynced g c = λ x is. unsynced_of g.R.Rack g.A.Area c.args.self.now x false is (returns-clause-found g c)
+
+pub loop-shard-init : goal.loop-shard-init
+loop-shard-init g c = below_none (λ (z : Shard g.row.R.Denot g.row.A.Denot). groups.is_unsynced z.committed (stored_in z) ≡ false) c.args.self.now.shards.items

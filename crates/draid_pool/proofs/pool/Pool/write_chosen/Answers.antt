@@ -1,0 +1,48 @@
+use Rattle.std.proofs.Common.{arith, refl}
+use Rattle.std.specs.Fn.{FnReturnsAt}
+use Rattle.draid_session.specs.Rooms.{stripes_for}
+use Rattle.draid_pool.proofs.Wholes.{few_whole}
+use Rattle.draid_pool.proofs.ChooseSteps.{as_long, has_room, last_step, no_space_step, written_as}
+use Rattle.draid_pool.proofs.pool.Pool.write_chosen.Goals as goal
+
+pub pick-requires-clause-chooser : goal.pick-requires-clause-chooser
+pick-requires-clause-chooser g c = c.requires.chooser
+
+pub pick-requires-clause-few : goal.pick-requires-clause-few
+pick-requires-clause-few g c =
+    let need = stripes_for c.args.self.now.geometry c.args.block.now.bytes in
+    let long = as_long g.R.Rack g.A.Area need c.args.self.now.shards.items c.args.rooms.now c.requires.rooms in
+    let few = few_whole g.R.Rack g.A.Area c.args.self.now c.requires.whole in
+    omega (arith, long, few)
+
+pub returns-in_default : goal.returns-in_default
+returns-in_default g c = record {
+  whole = c.requires.whole;
+  step = λ x is.
+      no_space_step g.R.Rack g.A.Area c.args.self.now x is c.args.block.now.bytes (stripes_for c.args.self.now.geometry c.args.block.now.bytes) c.args.rooms.now refl c.requires.rooms
+      (FnReturnsAt g.F.Fn c.args.chooser.now) c.args.object c.no_space.result c.requires.some c.in_default.ensures.picks c.no_space.ensures;
+}
+
+pub returns-then-self-ge-LAST_NUMBER : goal.returns-then-self-ge-LAST_NUMBER
+returns-then-self-ge-LAST_NUMBER g c = record {
+  whole = c.requires.whole;
+  step = λ x is.
+      last_step g.R.Rack g.A.Area c.args.self.now x is c.args.block.now.bytes (stripes_for c.args.self.now.geometry c.args.block.now.bytes) c.args.rooms.now refl c.requires.rooms
+      (FnReturnsAt g.F.Fn c.args.chooser.now) c.args.object c.in-Some.metaslab c.in-Some.ensures.answer c.if-self-ge-LAST_NUMBER.true;
+}
+
+pub write_block-requires-clause-room : goal.write_block-requires-clause-room
+write_block-requires-clause-room g c =
+    has_room g.R.Rack g.A.Area c.args.self.now c.requires.whole (stripes_for c.args.self.now.geometry c.args.block.now.bytes) c.args.rooms.now c.requires.rooms c.in-Some.metaslab c.requires.some c.in-Some.ensures.picks
+
+pub write_block-requires-clause-last : goal.write_block-requires-clause-last
+write_block-requires-clause-last g c = (let last = c.if-self-ge-LAST_NUMBER.false in omega (arith, last))
+
+pub returns : goal.returns
+returns g c = record {
+  whole = c.write_block.ensures.whole;
+  step = λ x is.
+      written_as g.R.Rack g.A.Area c.args.self.now x is c.args.block.now.bytes (stripes_for c.args.self.now.geometry c.args.block.now.bytes) c.args.rooms.now refl c.requires.rooms
+      (FnReturnsAt g.F.Fn c.args.chooser.now) c.args.object c.in-Some.metaslab c.write_block.result c.write_block.new.self c.in-Some.ensures.answer
+      (let last = c.if-self-ge-LAST_NUMBER.false in omega (arith, last)) (c.write_block.ensures.step x is);
+}
