@@ -59,22 +59,6 @@ fn half_by_half(area: &mut MemoryArea) -> bool
     read(area, 510) == Ok([0, 0, 1, 1]) && area.length() == 1024
 }
 
-/// Whether just those fail.
-fn fail_alone(alloc: Global) -> bool {
-    let Ok(failing) = Vec::from_slice(alloc, &[2, 5]) else {
-        return false;
-    };
-    match zeros(alloc, failing) {
-        Ok(mut area) => half_by_half(&mut area),
-        Err(_) => false,
-    }
-}
-
-#[test]
-fn the_calls_of_the_list_fail_alone(rt: HostRuntime) {
-    assert!(rt; fail_alone(rt.alloc()));
-}
-
 /// What is read at four places of an area.
 fn read_four(area: &mut MemoryArea) -> Result<[[u8; 4]; 4], DeviceFault> {
     Ok([
@@ -95,29 +79,11 @@ fn halves_left(area: &mut MemoryArea, rule: CrashRule) -> Result<[[u8; 4]; 4], D
     read_four(area)
 }
 
-/// Whether it is this of an area of zeros, which is as long as before.
-fn are_left(alloc: Global, rule: CrashRule, front: [u8; 4], middle: [u8; 4]) -> bool {
-    match zeros(alloc, Vec::new(alloc)) {
-        Ok(mut area) => {
-            halves_left(&mut area, rule) == Ok([front, middle, [1; 4], [1; 4]])
-                && area.length() == 1024
-        }
-        Err(_) => false,
-    }
-}
-
-static HALVES: [(CrashRule, [u8; 4], [u8; 4]); 4] = [
-    (CrashRule::Old, [0; 4], [0; 4]),
-    (CrashRule::New, [2; 4], [2; 4]),
-    (CrashRule::Torn, [253; 4], [253; 4]),
-    (CrashRule::Half, [2; 4], [2, 2, 0, 0]),
-];
-
-#[test]
-fn a_crash_leaves_the_half_that_was_flushed(rt: HostRuntime) {
-    for (rule, front, middle) in HALVES.iter() {
-        assert!(rt; are_left(rt.alloc(), *rule, *front, *middle));
-    }
+/// Whether it is this, and the area as long as before.
+fn are_left(area: &mut MemoryArea, rule: CrashRule, front: [u8; 4], middle: [u8; 4]) -> bool
+    requires { size_of_memory area.old ≡ 1024 }
+{
+    halves_left(area, rule) == Ok([front, middle, [1; 4], [1; 4]]) && area.length() == 1024
 }
 
 /// The length after a crash by this rule, where four bytes were written behind the end.
@@ -128,20 +94,6 @@ fn length_left(area: &mut MemoryArea, rule: CrashRule) -> Result<u64, DeviceFaul
     area.write(1024, &[7; 4])?;
     area.crash(rule);
     Ok(area.length())
-}
-
-/// Whether it is this of an area of zeros.
-fn has_length(alloc: Global, rule: CrashRule, length: u64) -> bool {
-    match zeros(alloc, Vec::new(alloc)) {
-        Ok(mut area) => length_left(&mut area, rule) == Ok(length),
-        Err(_) => false,
-    }
-}
-
-#[test]
-fn a_crash_leaves_the_length_by_its_rule(rt: HostRuntime) {
-    assert!(rt; has_length(rt.alloc(), CrashRule::Old, 1024));
-    assert!(rt; has_length(rt.alloc(), CrashRule::Half, 1028));
 }
 
 /// What is read behind a crash by this rule, where the first of two writes of a half is done, and neither the second nor a
@@ -159,21 +111,126 @@ fn around_a_crash(area: &mut MemoryArea, rule: CrashRule) -> Option<[u8; 4]>
 }
 
 /// Whether this is so read, where a fuse lets two calls pass.
-fn behind_a_fuse(alloc: Global, rule: CrashRule, left: u8) -> bool {
-    let Ok(fuse) = Fuse::new(alloc, 2) else {
-        return false;
-    };
-    match zeros(alloc, Vec::new(alloc)) {
-        Ok(mut area) => {
+fn behind_a_fuse(area: &mut MemoryArea, alloc: Global, rule: CrashRule, left: u8) -> bool
+    requires { size_of_memory area.old ≡ 1024 }
+{
+    match Fuse::new(alloc, 2) {
+        Ok(fuse) => {
             area.put_fuse(fuse);
-            around_a_crash(&mut area, rule) == Some([left; 4])
+            around_a_crash(area, rule) == Some([left; 4])
         }
         Err(_) => false,
     }
 }
 
+/// What is tried on an area of zeros.
+#[derive(Clone, Copy)]
+enum Trial {
+    Calls,
+    /// What a crash leaves at the front and in the middle of an area whose second half was flushed.
+    Halves { front: [u8; 4], middle: [u8; 4] },
+    /// The length that a crash leaves.
+    Length { length: u64 },
+    /// The byte that a crash leaves of a write behind which a fuse lets no call pass.
+    Fuse { left: u8 },
+}
+
+/// Whether an area does as it has to in a trial, where crashes are by this rule.
+fn stands(area: &mut MemoryArea, alloc: Global, rule: CrashRule, trial: Trial) -> bool
+    requires { size_of_memory area.old ≡ 1024 }
+{
+    match trial {
+        Trial::Calls => half_by_half(area),
+        Trial::Halves { front, middle } => are_left(area, rule, front, middle),
+        Trial::Length { length } => length_left(area, rule) == Ok(length),
+        Trial::Fuse { left } => behind_a_fuse(area, alloc, rule, left),
+    }
+}
+
+/// Whether an area of zeros does, of which these calls fail.
+fn stand(alloc: Global, failing: &[u64], rule: CrashRule, trial: Trial) -> bool {
+    let Ok(failing) = Vec::from_slice(alloc, failing) else {
+        return false;
+    };
+    match zeros(alloc, failing) {
+        Ok(mut area) => stands(&mut area, alloc, rule, trial),
+        Err(_) => false,
+    }
+}
+
+/// What is tried, the calls that fail, by which rule a crash goes, and what that shows.
+static TRIALS: [(Trial, &[u64], CrashRule, &str); 9] = [
+    (
+        Trial::Calls,
+        &[2, 5],
+        CrashRule::New,
+        "the calls of the list fail alone",
+    ),
+    (
+        Trial::Halves {
+            front: [0; 4],
+            middle: [0; 4],
+        },
+        &[],
+        CrashRule::Old,
+        "a crash leaves the half that was flushed",
+    ),
+    (
+        Trial::Halves {
+            front: [2; 4],
+            middle: [2; 4],
+        },
+        &[],
+        CrashRule::New,
+        "and the other one as it was written",
+    ),
+    (
+        Trial::Halves {
+            front: [253; 4],
+            middle: [253; 4],
+        },
+        &[],
+        CrashRule::Torn,
+        "or torn",
+    ),
+    (
+        Trial::Halves {
+            front: [2; 4],
+            middle: [2, 2, 0, 0],
+        },
+        &[],
+        CrashRule::Half,
+        "or half",
+    ),
+    (
+        Trial::Length { length: 1024 },
+        &[],
+        CrashRule::Old,
+        "a crash leaves the length by its rule",
+    ),
+    (
+        Trial::Length { length: 1028 },
+        &[],
+        CrashRule::Half,
+        "or the new length",
+    ),
+    (
+        Trial::Fuse { left: 1 },
+        &[],
+        CrashRule::New,
+        "a fuse lets just its calls pass",
+    ),
+    (
+        Trial::Fuse { left: 254 },
+        &[],
+        CrashRule::Torn,
+        "a fuse lets just its calls pass, and the rest is torn",
+    ),
+];
+
 #[test]
-fn a_fuse_lets_just_its_calls_pass(rt: HostRuntime) {
-    assert!(rt; behind_a_fuse(rt.alloc(), CrashRule::New, 1));
-    assert!(rt; behind_a_fuse(rt.alloc(), CrashRule::Torn, 254));
+fn areas_do_as_they_have_to(rt: HostRuntime) {
+    for (trial, failing, rule, shown) in TRIALS.iter() {
+        assert!(rt; stand(rt.alloc(), failing, *rule, *trial), "{shown}");
+    }
 }

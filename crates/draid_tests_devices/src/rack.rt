@@ -116,40 +116,11 @@ fn calls(rack: &mut MemoryRack) -> bool
     read(rack, 2) == Ok([1; 4])
 }
 
-/// Whether just those fail.
-fn fail_alone(alloc: Global) -> bool {
-    let Ok(failing) = Vec::from_slice(alloc, &[2, 3]) else {
-        return false;
-    };
-    match small_rack(alloc, failing) {
-        Ok(mut rack) => calls(&mut rack),
-        Err(_) => false,
-    }
-}
-
-#[test]
-fn the_calls_of_the_list_fail_alone(rt: HostRuntime) {
-    assert!(rt; fail_alone(rt.alloc()));
-}
-
 /// Whether the first leaf from 2 on is leaf 7 once that is added, and leaf 1 has no sectors once it is dropped.
 fn changes_leaves(rack: &mut MemoryRack) -> bool {
     let added = rack.add_leaf(7, 2).is_ok();
     rack.drop_leaf(1);
     added && rack.leaf_from(2) == Some(7) && rack.sectors(1).is_none()
-}
-
-/// Whether a rack of zeros does so.
-fn leaves_change(alloc: Global) -> bool {
-    match small_rack(alloc, Vec::new(alloc)) {
-        Ok(mut rack) => changes_leaves(&mut rack),
-        Err(_) => false,
-    }
-}
-
-#[test]
-fn leaves_are_added_and_dropped(rt: HostRuntime) {
-    assert!(rt; leaves_change(rt.alloc()));
 }
 
 /// Writes two sectors and flushes them, and writes the second twice more.
@@ -173,28 +144,6 @@ fn left_by(rack: &mut MemoryRack, rule: CrashRule) -> Result<[[u8; 4]; 2], Faile
     Ok([read(rack, 0)?, read(rack, 1)?])
 }
 
-/// Whether it is this of a rack of zeros.
-fn is_left_by(alloc: Global, rule: CrashRule, left: [u8; 4]) -> bool {
-    match small_rack(alloc, Vec::new(alloc)) {
-        Ok(mut rack) => left_by(&mut rack, rule) == Ok([[1, 2, 3, 4], left]),
-        Err(_) => false,
-    }
-}
-
-static LEFT: [(CrashRule, [u8; 4]); 4] = [
-    (CrashRule::Old, [1, 2, 3, 4]),
-    (CrashRule::New, [5, 6, 7, 8]),
-    (CrashRule::Torn, [250, 249, 248, 247]),
-    (CrashRule::Half, [5, 6, 3, 4]),
-];
-
-#[test]
-fn a_crash_leaves_what_was_flushed_and_the_rest_by_its_rule(rt: HostRuntime) {
-    for (rule, left) in LEFT.iter() {
-        assert!(rt; is_left_by(rt.alloc(), *rule, *left));
-    }
-}
-
 /// Whether a fuse of two calls lets just two pass, and the second one is still read after the crash.
 fn is_fused(rack: &mut MemoryRack) -> bool
     requires { HasJust (shape_of_memory rack.old) 2 3 4 }
@@ -209,23 +158,17 @@ fn is_fused(rack: &mut MemoryRack) -> bool
     read(rack, 0) == Ok([1; 4])
 }
 
-/// Whether one does so in a rack of zeros.
-fn behind_a_fuse(alloc: Global) -> bool {
-    let Ok(fuse) = Fuse::new(alloc, 2) else {
-        return false;
-    };
-    match small_rack(alloc, Vec::new(alloc)) {
-        Ok(mut rack) => {
+/// Whether one does so that is put into a rack.
+fn behind_a_fuse(rack: &mut MemoryRack, alloc: Global) -> bool
+    requires { HasJust (shape_of_memory rack.old) 2 3 4 }
+{
+    match Fuse::new(alloc, 2) {
+        Ok(fuse) => {
             rack.put_fuse(fuse);
-            is_fused(&mut rack)
+            is_fused(rack)
         }
         Err(_) => false,
     }
-}
-
-#[test]
-fn a_fuse_lets_just_its_calls_pass(rt: HostRuntime) {
-    assert!(rt; behind_a_fuse(rt.alloc()));
 }
 
 /// What is read of a sector that was damaged twice. Harm is spread then, and settled.
@@ -256,32 +199,94 @@ fn third(rack: &mut MemoryRack) -> Result<[u8; 4], Failed>
     read(rack, 2)
 }
 
-/// What is read in each of these ways.
-fn read_back(rack: &mut MemoryRack, way: usize) -> Result<[u8; 4], Failed>
+/// What is tried on a rack of zeros.
+#[derive(Clone, Copy)]
+enum Trial {
+    Calls,
+    Leaves,
+    /// A crash by this rule leaves this of what wasn't flushed.
+    Crash { rule: CrashRule, left: [u8; 4] },
+    Fuse,
+    Damage,
+    Harm,
+    Third,
+}
+
+/// Whether a rack does as it has to in a trial.
+fn stands(rack: &mut MemoryRack, alloc: Global, trial: Trial) -> bool
     requires { HasJust (shape_of_memory rack.old) 2 3 4 }
 {
-    match way {
-        0 => damaged(rack),
-        1 => harmed(rack),
-        _ => third(rack),
+    match trial {
+        Trial::Calls => calls(rack),
+        Trial::Leaves => changes_leaves(rack),
+        Trial::Crash { rule, left } => left_by(rack, rule) == Ok([[1, 2, 3, 4], left]),
+        Trial::Fuse => behind_a_fuse(rack, alloc),
+        Trial::Damage => damaged(rack) == Ok([1, 2, 3, 4]),
+        Trial::Harm => harmed(rack) == Ok([0; 4]),
+        Trial::Third => third(rack) == Ok([1, 2, 3, 4]),
     }
 }
 
-static BACK: [[u8; 4]; 3] = [[1, 2, 3, 4], [0; 4], [1, 2, 3, 4]];
-
-/// Whether these bytes are so read of a rack of zeros.
-fn is_read_back(alloc: Global, way: usize) -> bool
-    requires { way < 3 }
-{
-    match small_rack(alloc, Vec::new(alloc)) {
-        Ok(mut rack) => read_back(&mut rack, way) == Ok(BACK[way]),
+/// Whether a rack of zeros does, of which these calls fail.
+fn stand(alloc: Global, failing: &[u64], trial: Trial) -> bool {
+    let Ok(failing) = Vec::from_slice(alloc, failing) else {
+        return false;
+    };
+    match small_rack(alloc, failing) {
+        Ok(mut rack) => stands(&mut rack, alloc, trial),
         Err(_) => false,
     }
 }
 
+/// What is tried, the calls that fail, and what that shows.
+static TRIALS: [(Trial, &[u64], &str); 10] = [
+    (Trial::Calls, &[2, 3], "the calls of the list fail alone"),
+    (Trial::Leaves, &[], "leaves are added and dropped"),
+    (
+        Trial::Crash {
+            rule: CrashRule::Old,
+            left: [1, 2, 3, 4],
+        },
+        &[],
+        "a crash leaves what was flushed, and the rest by the old rule",
+    ),
+    (
+        Trial::Crash {
+            rule: CrashRule::New,
+            left: [5, 6, 7, 8],
+        },
+        &[],
+        "by the new one",
+    ),
+    (
+        Trial::Crash {
+            rule: CrashRule::Torn,
+            left: [250, 249, 248, 247],
+        },
+        &[],
+        "by the torn one",
+    ),
+    (
+        Trial::Crash {
+            rule: CrashRule::Half,
+            left: [5, 6, 3, 4],
+        },
+        &[],
+        "by halves",
+    ),
+    (Trial::Fuse, &[], "a fuse lets just its calls pass"),
+    (
+        Trial::Damage,
+        &[],
+        "damage is undone by damage, and harm is spread",
+    ),
+    (Trial::Harm, &[], "harm outlasts a crash"),
+    (Trial::Third, &[], "flushes outlast a crash"),
+];
+
 #[test]
-fn harm_and_flushes_outlast_a_crash(rt: HostRuntime) {
-    for way in 0..3 {
-        assert!(rt; is_read_back(rt.alloc(), way), "{way}");
+fn racks_do_as_they_have_to(rt: HostRuntime) {
+    for (trial, failing, shown) in TRIALS.iter() {
+        assert!(rt; stand(rt.alloc(), failing, *trial), "{shown}");
     }
 }

@@ -76,90 +76,94 @@ fn read_cut(alloc: Global, len: usize, told: bool, layout: &Geometry) -> Result<
     read(alloc, &bytes[..len.min(85)], layout)
 }
 
-/// The layout of that pool.
+/// The layout of that pool, in this version.
+fn small_version(version: u32) -> Result<Geometry, SpecFault>
+    ensures { IfOk result IsGeometry }
+{
+    let props = Props { version, ..PROPS };
+    geometry(parse_spec(b"draid1:2d:3c", 3, version)?, props)
+}
+
+/// The same in version 1.
 pub(crate) fn small_geometry() -> Result<Geometry, SpecFault>
     ensures { IfOk result IsGeometry }
 {
-    geometry(parse_spec(b"draid1:2d:3c", 3, 1)?, PROPS)
+    small_version(1)
 }
 
-/// What is told of the record.
-fn read_whole(alloc: Global) -> Result<bool, RecordFault> {
-    match small_geometry() {
-        Ok(layout) => read(alloc, &RECORD, &layout),
-        Err(_) => Ok(false),
+/// What is read.
+#[derive(Clone, Copy)]
+enum Bytes {
+    /// The record.
+    Whole,
+    /// The record where one byte is another.
+    Changed(usize, u8),
+    /// Its first bytes, so many.
+    Cut(usize),
+    /// The same, where its length says so too.
+    Said(usize),
+}
+
+/// What is told of these.
+fn read_bytes(alloc: Global, bytes: Bytes, layout: &Geometry) -> Result<bool, RecordFault>
+    requires { IsGeometry layout.now }
+{
+    match bytes {
+        Bytes::Whole => read(alloc, &RECORD, layout),
+        Bytes::Changed(place, byte) => read_changed(alloc, place, byte, layout),
+        Bytes::Cut(len) => read_cut(alloc, len, false, layout),
+        Bytes::Said(len) => read_cut(alloc, len, true, layout),
     }
 }
 
-#[test]
-fn a_record_is_told(rt: HostRuntime) {
-    assert!(rt; read_whole(rt.alloc()) == Ok(true));
-}
-
-/// A place and a byte for it, and the fault that is found then.
-static RANGES: [(usize, u8, u64, u8); 10] = [
-    (11, 1, 10, 2),
-    (19, 2, 12, 2),
-    (21, 4, 20, 2),
-    (22, 0, 22, 2),
-    (23, 2, 23, 2),
-    (32, 4, 32, 2),
-    (46, 0, 39, 2),
-    (61, 3, 54, 2),
-    (75, 3, 75, 2),
-    (79, 1, 80, 1),
-];
-
-/// Whether that fault is found.
-fn is_bad(alloc: Global, place: usize, byte: u8, fault: RecordFault) -> bool {
-    match small_geometry() {
-        Ok(layout) => read_changed(alloc, place, byte, &layout) == Err(fault),
+/// Whether it is this by a layout of this version, or the fault at this byte, of this kind.
+fn is_read(alloc: Global, bytes: Bytes, version: u32, told: Result<bool, (u64, u8)>) -> bool {
+    let wanted = match told {
+        Ok(whole) => Ok(whole),
+        Err((at, kind)) => Err(RecordFault::Bad { at, kind }),
+    };
+    match small_version(version) {
+        Ok(layout) => read_bytes(alloc, bytes, &layout) == wanted,
         Err(_) => false,
     }
 }
 
-#[test]
-fn faults_of_ranges_are_found(rt: HostRuntime) {
-    for (place, byte, at, kind) in RANGES.iter() {
-        let fault = RecordFault::Bad {
-            at: *at,
-            kind: *kind,
-        };
-        assert!(rt; is_bad(rt.alloc(), *place, *byte, fault), "{place}");
-    }
-}
-
-/// A length and whether the record says so, and the fault that is found then.
-static CUTS: [(usize, bool, u64, u8); 11] = [
-    (0, false, 0, 1),
-    (3, false, 0, 1),
-    (4, false, 4, 1),
-    (5, false, 4, 1),
-    (6, false, 6, 1),
-    (9, false, 6, 1),
-    (10, false, 6, 2),
-    (83, false, 6, 2),
-    (83, true, 80, 1),
-    (12, true, 12, 1),
-    (85, true, 84, 3),
+static ROWS: [(Bytes, u32, Result<bool, (u64, u8)>); 25] = [
+    (Bytes::Whole, 1, Ok(true)),
+    // Faults of ranges.
+    (Bytes::Changed(11, 1), 1, Err((10, 2))),
+    (Bytes::Changed(19, 2), 1, Err((12, 2))),
+    (Bytes::Changed(21, 4), 1, Err((20, 2))),
+    (Bytes::Changed(22, 0), 1, Err((22, 2))),
+    (Bytes::Changed(23, 2), 1, Err((23, 2))),
+    (Bytes::Changed(32, 4), 1, Err((32, 2))),
+    (Bytes::Changed(46, 0), 1, Err((39, 2))),
+    (Bytes::Changed(61, 3), 1, Err((54, 2))),
+    (Bytes::Changed(75, 3), 1, Err((75, 2))),
+    (Bytes::Changed(79, 1), 1, Err((80, 1))),
+    // Faults of lengths.
+    (Bytes::Cut(0), 1, Err((0, 1))),
+    (Bytes::Cut(3), 1, Err((0, 1))),
+    (Bytes::Cut(4), 1, Err((4, 1))),
+    (Bytes::Cut(5), 1, Err((4, 1))),
+    (Bytes::Cut(6), 1, Err((6, 1))),
+    (Bytes::Cut(9), 1, Err((6, 1))),
+    (Bytes::Cut(10), 1, Err((6, 2))),
+    (Bytes::Cut(83), 1, Err((6, 2))),
+    (Bytes::Said(83), 1, Err((80, 1))),
+    (Bytes::Said(12), 1, Err((12, 1))),
+    (Bytes::Said(85), 1, Err((84, 3))),
+    // The version.
+    (Bytes::Changed(5, 2), 2, Ok(true)),
+    (Bytes::Changed(5, 1), 2, Err((4, 2))),
+    (Bytes::Changed(5, 2), 1, Err((4, 2))),
 ];
 
-/// Whether that fault is found.
-fn is_cut(alloc: Global, len: usize, told: bool, fault: RecordFault) -> bool {
-    match small_geometry() {
-        Ok(layout) => read_cut(alloc, len, told, &layout) == Err(fault),
-        Err(_) => false,
-    }
-}
-
 #[test]
-fn faults_of_lengths_are_found(rt: HostRuntime) {
-    for (len, told, at, kind) in CUTS.iter() {
-        let fault = RecordFault::Bad {
-            at: *at,
-            kind: *kind,
-        };
-        assert!(rt; is_cut(rt.alloc(), *len, *told, fault), "{len}");
+fn records_are_told(rt: HostRuntime) {
+    for row in 0..ROWS.len() {
+        let (bytes, version, told) = ROWS[row];
+        assert!(rt; is_read(rt.alloc(), bytes, version, told), "{row}");
     }
 }
 
@@ -252,33 +256,6 @@ fn is_bad_second(children: u8, next_leaf: u8, at: u64) -> bool {
 fn an_uberblock_of_version_two_is_told(rt: HostRuntime) {
     assert!(rt; read_uber(&second(64, 64), 1) == Ok(wide()));
     assert!(rt; is_bad_second(65, 65, 17) && is_bad_second(64, 63, 43));
-}
-
-/// The geometry of a new pool of three disks in this version.
-fn small_version(version: u32) -> Result<Geometry, SpecFault>
-    ensures { IfOk result IsGeometry }
-{
-    let props = Props { version, ..PROPS };
-    geometry(parse_spec(b"draid1:2d:3c", 3, version)?, props)
-}
-
-/// What is told of the record with this version, by a layout of another or the same one.
-fn read_version(alloc: Global, version: u8, layout: u32) -> Result<bool, RecordFault> {
-    match small_version(layout) {
-        Ok(layout) => read_changed(alloc, 5, version, &layout),
-        Err(_) => Ok(false),
-    }
-}
-
-/// Whether the version is its fault.
-fn is_bad_version(alloc: Global, version: u8, layout: u32) -> bool {
-    read_version(alloc, version, layout) == Err(RecordFault::Bad { at: 4, kind: 2 })
-}
-
-#[test]
-fn a_record_is_told_by_the_version(rt: HostRuntime) {
-    assert!(rt; read_version(rt.alloc(), 2, 2) == Ok(true));
-    assert!(rt; is_bad_version(rt.alloc(), 1, 2) && is_bad_version(rt.alloc(), 2, 1));
 }
 
 /// A slot with the leaf of this number, which missed nothing.

@@ -147,38 +147,6 @@ fn has_after(
     has_left(shelf, geometry, sectors, record) && shelf.take(1, geometry).is_err()
 }
 
-/// The same of a new shelf, where the crash is by this rule.
-fn is_left_by(
-    alloc: Global,
-    geometry: &Geometry,
-    rule: CrashRule,
-    sectors: [u8; 2],
-    record: u64,
-) -> bool
-    requires geometry { IsGeometry geometry.now }
-    requires sector { geometry.now.props.sector ≡ 512 }
-{
-    let mut shelf = MemoryShelf::new(alloc, CrashRule::Torn);
-    shelf.crash_by(rule);
-    has_after(&mut shelf, alloc, geometry, sectors, record)
-}
-
-/// The same of a small pool.
-fn leaves(alloc: Global, rule: CrashRule, sectors: [u8; 2], record: u64) -> bool {
-    match small_geometry() {
-        Ok(geometry) if geometry.props.sector == 512 => {
-            is_left_by(alloc, &geometry, rule, sectors, record)
-        }
-        _ => false,
-    }
-}
-
-#[test]
-fn a_crash_reaches_all_that_was_given_back(rt: HostRuntime) {
-    assert!(rt; leaves(rt.alloc(), CrashRule::Old, [7, 0], 0));
-    assert!(rt; leaves(rt.alloc(), CrashRule::New, [7, 8], 3));
-}
-
 /// Flushes two areas one after another, twice; which of these calls failed.
 fn flush_in_turn<A: Area>(first: &mut A, second: &mut A) -> [bool; 4] {
     [
@@ -211,27 +179,6 @@ fn is_fused(shelf: &mut MemoryShelf, alloc: Global, geometry: &Geometry) -> bool
     behind == Some([false, false, false, true]) && flush_both(shelf, geometry) == Some([false; 4])
 }
 
-/// Whether it is so of a new shelf.
-fn fuses(alloc: Global, geometry: &Geometry) -> bool
-    requires { IsGeometry geometry.now }
-{
-    let mut shelf = MemoryShelf::new(alloc, CrashRule::New);
-    is_fused(&mut shelf, alloc, geometry)
-}
-
-/// Whether it is so of a small pool.
-fn fuses_small(alloc: Global) -> bool {
-    match small_geometry() {
-        Ok(geometry) => fuses(alloc, &geometry),
-        Err(_) => false,
-    }
-}
-
-#[test]
-fn the_devices_share_a_fuse_that_a_crash_takes_out(rt: HostRuntime) {
-    assert!(rt; fuses_small(rt.alloc()));
-}
-
 /// Which of two calls that make the devices and three that take the area of the uberblock are done.
 fn made_and_taken<H: Shelf>(shelf: &mut H, alloc: Global, geometry: &Geometry) -> [bool; 5]
     requires { IsGeometry geometry.now }
@@ -251,27 +198,6 @@ fn own_fail(shelf: &mut MemoryShelf, alloc: Global, geometry: &Geometry) -> bool
 {
     fail(shelf, alloc, Place::Own, &[0, 2])
         && made_and_taken(shelf, alloc, geometry) == [false, true, false, true, false]
-}
-
-/// The same of a new shelf.
-fn own_fail_in(alloc: Global, geometry: &Geometry) -> bool
-    requires { IsGeometry geometry.now }
-{
-    let mut shelf = MemoryShelf::new(alloc, CrashRule::New);
-    own_fail(&mut shelf, alloc, geometry)
-}
-
-/// The same of a small pool.
-fn own_fail_small(alloc: Global) -> bool {
-    match small_geometry() {
-        Ok(geometry) => own_fail_in(alloc, &geometry),
-        Err(_) => false,
-    }
-}
-
-#[test]
-fn the_shelf_fails_by_its_list_and_for_what_it_does_not_hold(rt: HostRuntime) {
-    assert!(rt; own_fail_small(rt.alloc()));
 }
 
 /// Flushes leaf 0 and the records of metaslab 0; which of these calls failed.
@@ -339,25 +265,6 @@ fn just_fail(
     flush_all(shelf, geometry) == Some(wanted) && flush_all(shelf, geometry) == Some([false; 6])
 }
 
-/// The same of a new shelf.
-fn fails_in(alloc: Global, geometry: &Geometry, place: Place, wanted: [bool; 6]) -> bool
-    requires geometry { IsGeometry geometry.now }
-    requires place { IsPlace place }
-{
-    let mut shelf = MemoryShelf::new(alloc, CrashRule::New);
-    just_fail(&mut shelf, alloc, geometry, place, wanted)
-}
-
-/// The same of a small pool.
-fn fails_at(alloc: Global, place: Place, wanted: [bool; 6]) -> bool
-    requires { IsPlace place }
-{
-    match small_geometry() {
-        Ok(geometry) => fails_in(alloc, &geometry, place, wanted),
-        Err(_) => false,
-    }
-}
-
 /// The places in the order of those calls, and one of another metaslab.
 fn place_of(call: usize) -> Place
     ensures { IsPlace result }
@@ -374,19 +281,14 @@ fn place_of(call: usize) -> Place
 }
 
 /// Whether just that call fails where the first one at its place does; no call at the place of another metaslab.
-fn fails_alone(alloc: Global, call: usize) -> bool {
+fn fails_alone(shelf: &mut MemoryShelf, alloc: Global, geometry: &Geometry, call: usize) -> bool
+    requires { IsGeometry geometry.now }
+{
     let mut wanted = [false; 6];
     if call < 6 {
         wanted[call] = true;
     }
-    fails_at(alloc, place_of(call), wanted)
-}
-
-#[test]
-fn each_place_fails_by_its_own_list(rt: HostRuntime) {
-    for call in 0..7 {
-        assert!(rt; fails_alone(rt.alloc(), call), "{call}");
-    }
+    just_fail(shelf, alloc, geometry, place_of(call), wanted)
 }
 
 /// Writes a check record that isn't flushed.
@@ -424,24 +326,129 @@ fn checks_left(shelf: &mut MemoryShelf, alloc: Global, geometry: &Geometry) -> O
     lengths
 }
 
-/// The same of a new shelf, where the crash is by this rule.
-fn checks_left_by(alloc: Global, geometry: &Geometry, rule: CrashRule) -> Option<[u64; 2]>
-    requires { IsGeometry geometry.now }
-{
-    let mut shelf = MemoryShelf::new(alloc, rule);
-    checks_left(&mut shelf, alloc, geometry)
+/// What is tried on a new shelf.
+#[derive(Clone, Copy)]
+enum Trial {
+    /// A crash by its rule leaves two sectors so, and a record of this length.
+    Crash { sectors: [u8; 2], record: u64 },
+    Fuse,
+    Own,
+    /// The first of these calls fails at its place.
+    Place { call: usize },
+    /// A crash by its rule leaves the check record of an odd group so long.
+    Checks { odd: u64 },
 }
 
-/// Whether they are so long in a small pool.
-fn leaves_checks(alloc: Global, rule: CrashRule, odd: u64) -> bool {
-    match small_geometry() {
-        Ok(geometry) => checks_left_by(alloc, &geometry, rule) == Some([0, odd]),
-        Err(_) => false,
+/// Whether a shelf does as it has to in a trial.
+fn stands(shelf: &mut MemoryShelf, alloc: Global, geometry: &Geometry, trial: Trial) -> bool
+    requires geometry { IsGeometry geometry.now }
+    requires sector { geometry.now.props.sector ≡ 512 }
+{
+    match trial {
+        Trial::Crash { sectors, record } => has_after(shelf, alloc, geometry, sectors, record),
+        Trial::Fuse => is_fused(shelf, alloc, geometry),
+        Trial::Own => own_fail(shelf, alloc, geometry),
+        Trial::Place { call } => fails_alone(shelf, alloc, geometry, call),
+        Trial::Checks { odd } => checks_left(shelf, alloc, geometry) == Some([0, odd]),
     }
 }
 
+/// Whether a new shelf does, which a crash leaves by this rule.
+fn stand_by(alloc: Global, geometry: &Geometry, rule: CrashRule, trial: Trial) -> bool
+    requires geometry { IsGeometry geometry.now }
+    requires sector { geometry.now.props.sector ≡ 512 }
+{
+    let mut shelf = MemoryShelf::new(alloc, CrashRule::Torn);
+    shelf.crash_by(rule);
+    stands(&mut shelf, alloc, geometry, trial)
+}
+
+/// The same of a small pool.
+fn stand(alloc: Global, rule: CrashRule, trial: Trial) -> bool {
+    match small_geometry() {
+        Ok(geometry) if geometry.props.sector == 512 => stand_by(alloc, &geometry, rule, trial),
+        _ => false,
+    }
+}
+
+/// What is tried, by which rule a crash goes, and what that shows.
+static TRIALS: [(Trial, CrashRule, &str); 13] = [
+    (
+        Trial::Crash {
+            sectors: [7, 0],
+            record: 0,
+        },
+        CrashRule::Old,
+        "a crash reaches all that was given back",
+    ),
+    (
+        Trial::Crash {
+            sectors: [7, 8],
+            record: 3,
+        },
+        CrashRule::New,
+        "a crash leaves all that was given back",
+    ),
+    (
+        Trial::Fuse,
+        CrashRule::New,
+        "the devices share a fuse that a crash takes out",
+    ),
+    (
+        Trial::Own,
+        CrashRule::New,
+        "the shelf fails by its list and for what it does not hold",
+    ),
+    (
+        Trial::Place { call: 0 },
+        CrashRule::New,
+        "the rack fails by its own list",
+    ),
+    (
+        Trial::Place { call: 1 },
+        CrashRule::New,
+        "the even records do",
+    ),
+    (
+        Trial::Place { call: 2 },
+        CrashRule::New,
+        "the odd records do",
+    ),
+    (
+        Trial::Place { call: 3 },
+        CrashRule::New,
+        "the even check records do",
+    ),
+    (
+        Trial::Place { call: 4 },
+        CrashRule::New,
+        "the odd check records do",
+    ),
+    (
+        Trial::Place { call: 5 },
+        CrashRule::New,
+        "the uberblock does",
+    ),
+    (
+        Trial::Place { call: 6 },
+        CrashRule::New,
+        "no other place does",
+    ),
+    (
+        Trial::Checks { odd: 0 },
+        CrashRule::Old,
+        "check records are given, taken and crash",
+    ),
+    (
+        Trial::Checks { odd: 3 },
+        CrashRule::New,
+        "check records are left",
+    ),
+];
+
 #[test]
-fn check_records_are_given_taken_and_crash(rt: HostRuntime) {
-    assert!(rt; leaves_checks(rt.alloc(), CrashRule::Old, 0));
-    assert!(rt; leaves_checks(rt.alloc(), CrashRule::New, 3));
+fn shelves_do_as_they_have_to(rt: HostRuntime) {
+    for (trial, rule, shown) in TRIALS.iter() {
+        assert!(rt; stand(rt.alloc(), *rule, *trial), "{shown}");
+    }
 }

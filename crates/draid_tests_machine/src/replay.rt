@@ -2,7 +2,7 @@ ghost use Rattle.std.specs.Prelude.{◌<◌, ◌^◌, All, List};
 ghost use Rattle.draid_machine.specs.declared.event.Event.{Event};
 ghost use Rattle.draid_replay.specs.Within.{IsSmallEvent};
 
-use draid_machine::{ArmName, Event, FewArms, FewLeaves, Key};
+use draid_machine::{ArmName, Event, FewArms, FewLeaves, Key, Patched};
 use draid_names::{NoMemory, PassKind};
 use draid_perm::Perms;
 use draid_replay::{ReplayFault, new_world, replay};
@@ -51,12 +51,11 @@ impl History {
         }
     }
 
-    /// Adds events.
-    pub fn add<const N: usize>(&mut self, alloc: Global, events: [Event; N]) -> Result<(), NoMemory>
-        requires { All IsSmallEvent events }
+    /// Adds an event.
+    pub fn add(&mut self, event: Event) -> Result<(), NoMemory>
+        requires { IsSmallEvent event }
     {
-        let mut more = Vec::from_array(alloc, events)?;
-        self.events.append(&mut more)?;
+        self.events.push(event)?;
         Ok(())
     }
 
@@ -100,417 +99,409 @@ fn begin(key: Key, first: u64, birth: u64) -> Event
     }
 }
 
-/// A column of the block lands on the leaf of a slot.
-fn put(slot: u32) -> Event
+/// An event of these histories. A number of a column stands for the slot in which it lies, and 3 for the one at which the chain of
+/// spare 0 ends.
+#[derive(Clone, Copy)]
+pub enum Step {
+    /// The block's write begins in group 2.
+    Begin,
+    /// A second one does in group 4.
+    BeginOther,
+    Put(usize),
+    Finish,
+    AbortOther,
+    Fetch,
+    Free(u32),
+    /// The first sector of leaf 0 is damaged.
+    Damage,
+    /// That of a column's leaf is.
+    DamageColumn(usize),
+    Close(u32),
+    Seal(u32),
+    Commit(u32),
+    Reopen(u32),
+    Offline(usize),
+    Online(usize),
+    Attach(usize, ArmName),
+    Detach(usize, ArmName),
+    Upgrade,
+    Plan(PassKind),
+    Ready,
+    Lend,
+    /// A stripe that was lent comes back, in a pass and with a serial.
+    LandStripe(u64, u64),
+    /// A block does, in pass 2 with serial 2.
+    LandBlock,
+    Done,
+    Cancel,
+}
+
+/// The slot of a column.
+fn slot_at(slots: [u32; 4], column: usize) -> u32 {
+    slots[column % 4]
+}
+
+/// The leaf with which that slot begins.
+fn leaf_at(slots: [u32; 4], column: usize) -> u64 {
+    u64::from(slot_at(slots, column))
+}
+
+/// A column of the block lands on a leaf.
+fn put(leaf: u64) -> Event
     ensures { IsSmallEvent result }
 {
     Event::Put {
         key: KEY,
-        landed: FewArms::one(ArmName::Leaf {
-            leaf: u64::from(slot),
-        }),
+        landed: FewArms::one(ArmName::Leaf { leaf }),
         failed: FewLeaves::none(),
     }
 }
 
-/// A group is sealed.
-pub fn seal(alloc: Global, group: u64) -> Event
-    requires { group < 2 ^ 48 }
+/// The event of a step.
+fn event_of(alloc: Global, slots: [u32; 4], step: Step) -> Event
     ensures { IsSmallEvent result }
 {
-    Event::Seal {
-        group,
-        failed: Vec::new(alloc),
+    match step {
+        Step::Begin => begin(KEY, 0, 2),
+        Step::BeginOther => begin(OTHER, 1, 4),
+        Step::Put(column) => put(leaf_at(slots, column)),
+        Step::Finish => Event::Finish { key: KEY },
+        Step::AbortOther => Event::Abort { key: OTHER },
+        Step::Fetch => Event::Fetch {
+            key: KEY,
+            failed: Vec::new(alloc),
+        },
+        Step::Free(group) => Event::Free {
+            key: KEY,
+            group: u64::from(group),
+        },
+        _ => group_event(alloc, slots, step),
     }
 }
 
-/// A stripe or block is lent.
-pub fn lend(alloc: Global) -> Event
+/// That of one that isn't of a block.
+fn group_event(alloc: Global, slots: [u32; 4], step: Step) -> Event
     ensures { IsSmallEvent result }
 {
-    Event::Lend {
-        failed: Vec::new(alloc),
+    match step {
+        Step::Close(group) => Event::Close {
+            group: u64::from(group),
+        },
+        Step::Seal(group) => Event::Seal {
+            group: u64::from(group),
+            failed: Vec::new(alloc),
+        },
+        Step::Commit(group) => Event::Commit {
+            group: u64::from(group),
+        },
+        Step::Reopen(group) => Event::Reopen {
+            group: u64::from(group),
+            doubtful: Vec::new(alloc),
+        },
+        _ => leaf_event(alloc, slots, step),
     }
 }
 
-/// A stripe that was lent comes back in a pass.
-pub fn land_stripe(alloc: Global, pass: u64, serial: u64) -> Event
+/// That of one that is of no group either.
+fn leaf_event(alloc: Global, slots: [u32; 4], step: Step) -> Event
     ensures { IsSmallEvent result }
 {
-    Event::LandStripe {
-        pass,
-        serial,
-        failed: Vec::new(alloc),
+    match step {
+        Step::Damage => damage(0),
+        Step::DamageColumn(column) => damage(leaf_at(slots, column)),
+        Step::Offline(column) => Event::Offline {
+            leaf: leaf_at(slots, column),
+        },
+        Step::Online(column) => Event::Online {
+            leaf: leaf_at(slots, column),
+        },
+        Step::Attach(column, arm) => Event::Attach {
+            slot: slot_at(slots, column),
+            arm,
+        },
+        Step::Detach(column, arm) => Event::Detach {
+            slot: slot_at(slots, column),
+            arm,
+        },
+        Step::Upgrade => Event::Upgrade,
+        _ => pass_event(alloc, step),
     }
 }
 
-/// A pass ends.
-pub fn done(alloc: Global) -> Event
+/// The first sector of a leaf is damaged.
+fn damage(leaf: u64) -> Event
     ensures { IsSmallEvent result }
 {
-    Event::Done {
-        failed: Vec::new(alloc),
+    Event::Damage {
+        leaf,
+        sector: 0,
+        failed: false,
     }
 }
 
-/// The slots of the three columns of stripe 0.
-pub fn three_slots(site: &Site) -> Option<[u32; 3]> {
+/// The event of a step of a pass.
+fn pass_event(alloc: Global, step: Step) -> Event
+    ensures { IsSmallEvent result }
+{
+    match step {
+        Step::Plan(kind) => Event::Plan { kind },
+        Step::Ready => Event::Ready,
+        Step::Lend => Event::Lend {
+            failed: Vec::new(alloc),
+        },
+        Step::LandStripe(pass, serial) => Event::LandStripe {
+            pass,
+            serial,
+            failed: Vec::new(alloc),
+        },
+        Step::LandBlock => land_block(alloc, Vec::new(alloc)),
+        Step::Done => Event::Done {
+            failed: Vec::new(alloc),
+        },
+        _ => Event::Cancel,
+    }
+}
+
+/// A block comes back in a scrub, which writes this.
+pub fn land_block(alloc: Global, patched: Vec<Patched>) -> Event
+    ensures { IsSmallEvent result }
+{
+    Event::LandBlock {
+        pass: 2,
+        serial: 2,
+        failed: Vec::new(alloc),
+        patched,
+        unreadable: false,
+    }
+}
+
+/// Adds steps to a history.
+pub fn add_steps(
+    history: &mut History,
+    alloc: Global,
+    slots: [u32; 4],
+    steps: &[Step],
+) -> Result<(), NoMemory> {
+    for step in steps {
+        history.add(event_of(alloc, slots, *step))?;
+    }
+    Ok(())
+}
+
+/// The slots of the three columns of stripe 0, and that at which the chain of spare 0 ends.
+pub fn slots_of(site: &Site) -> Option<[u32; 4]> {
     if site.geometry.g < 3 {
         return None;
     }
-    Some([site.slot_of(0, 0), site.slot_of(0, 1), site.slot_of(0, 2)])
+    Some([
+        site.slot_of(0, 0),
+        site.slot_of(0, 1),
+        site.slot_of(0, 2),
+        site.home(&[], 0, 0),
+    ])
 }
 
-/// A block is written in group 2.
-pub fn add_block(history: &mut History, alloc: Global, slots: [u32; 3]) -> Result<(), NoMemory> {
-    history.add(
-        alloc,
-        [
-            begin(KEY, 0, 2),
-            put(slots[0]),
-            put(slots[1]),
-            put(slots[2]),
-            Event::Finish { key: KEY },
-        ],
-    )
-}
+pub const SPARE: ArmName = ArmName::Spare { spare: 0 };
 
-/// Group 2 is closed, sealed and committed.
-pub fn add_group(history: &mut History, alloc: Global) -> Result<(), NoMemory> {
-    history.add(
-        alloc,
-        [
-            Event::Close { group: 2 },
-            seal(alloc, 2),
-            Event::Commit { group: 2 },
-        ],
-    )
-}
+const SECOND: ArmName = ArmName::Spare { spare: 1 };
 
-/// It is read, damaged and committed.
-fn add_looks(history: &mut History, alloc: Global) -> Result<(), NoMemory> {
-    history.add(
-        alloc,
-        [
-            Event::Fetch {
-                key: KEY,
-                failed: Vec::new(alloc),
-            },
-            Event::Damage {
-                leaf: 0,
-                sector: 0,
-                failed: false,
-            },
-            Event::Close { group: 2 },
-            seal(alloc, 2),
-            Event::Commit { group: 2 },
-        ],
-    )
-}
+const NINTH: ArmName = ArmName::Leaf { leaf: 9 };
 
-/// A leaf goes offline, a spare takes its place, and group 3 is sealed.
-pub fn add_spare(history: &mut History, alloc: Global, slot: u32) -> Result<(), NoMemory> {
-    history.add(
-        alloc,
-        [
-            Event::Offline {
-                leaf: u64::from(slot),
-            },
-            Event::Attach {
-                slot,
-                arm: ArmName::Spare { spare: 0 },
-            },
-            Event::Plan {
-                kind: PassKind::Rebuild,
-            },
-            Event::Close { group: 3 },
-            seal(alloc, 3),
-        ],
-    )
-}
-
-/// The block's stripe is rebuilt behind an event, the spare leaves again, and the leaf is back.
-fn add_rebuild(
-    history: &mut History,
-    alloc: Global,
-    slot: u32,
-    before: Event,
-) -> Result<(), NoMemory>
-    requires { IsSmallEvent before }
-{
-    history.add(
-        alloc,
-        [
-            before,
-            Event::Ready,
-            lend(alloc),
-            land_stripe(alloc, 1, 1),
-            done(alloc),
-            Event::Detach {
-                slot,
-                arm: ArmName::Spare { spare: 0 },
-            },
-            Event::Online {
-                leaf: u64::from(slot),
-            },
-        ],
-    )
-}
-
-/// A scrub goes over the block.
-fn add_scrub(history: &mut History, alloc: Global) -> Result<(), NoMemory> {
-    history.add(
-        alloc,
-        [
-            Event::Plan {
-                kind: PassKind::Heal,
-            },
-            lend(alloc),
-            Event::LandBlock {
-                pass: 2,
-                serial: 2,
-                failed: Vec::new(alloc),
-                patched: Vec::new(alloc),
-                unreadable: false,
-            },
-            done(alloc),
-        ],
-    )
-}
-
-/// The block is freed; a second write is given up, a second scrub is cancelled, and the metaslab is opened again from
-/// group 3.
-fn add_opening(history: &mut History, alloc: Global) -> Result<(), NoMemory> {
-    history.add(
-        alloc,
-        [
-            Event::Free { key: KEY, group: 4 },
-            begin(OTHER, 1, 4),
-            Event::Abort { key: OTHER },
-            Event::Plan {
-                kind: PassKind::Heal,
-            },
-            Event::Cancel,
-            Event::Reopen {
-                group: 3,
-                doubtful: Vec::new(alloc),
-            },
-        ],
-    )
-}
-
-/// A history with every kind of event; with this one in place of the commit of group 3.
-fn add_all_kinds(
-    history: &mut History,
-    alloc: Global,
-    slots: [u32; 3],
-    third: Event,
-) -> Result<(), NoMemory>
-    requires { IsSmallEvent third }
-{
-    add_block(history, alloc, slots)?;
-    add_looks(history, alloc)?;
-    add_spare(history, alloc, slots[0])?;
-    add_rebuild(history, alloc, slots[0], third)?;
-    add_scrub(history, alloc)?;
-    add_opening(history, alloc)
-}
-
-/// A spare is rebuilt behind group 3.
-fn add_first(history: &mut History, alloc: Global, slot: u32) -> Result<(), NoMemory> {
-    history.add(
-        alloc,
-        [
-            Event::Attach {
-                slot,
-                arm: ArmName::Spare { spare: 0 },
-            },
-            Event::Plan {
-                kind: PassKind::Rebuild,
-            },
-            Event::Close { group: 3 },
-            seal(alloc, 3),
-            Event::Commit { group: 3 },
-            Event::Ready,
-            lend(alloc),
-            land_stripe(alloc, 1, 1),
-            done(alloc),
-        ],
-    )
-}
-
-/// A second spare takes the place of the leaf of this slot, on which the first one lies, so that this one moves; both are
-/// rebuilt, and the block's stripe is lent.
-fn add_second(history: &mut History, alloc: Global, slot: u32) -> Result<(), NoMemory> {
-    history.add(
-        alloc,
-        [
-            Event::Attach {
-                slot,
-                arm: ArmName::Spare { spare: 1 },
-            },
-            Event::Plan {
-                kind: PassKind::Rebuild,
-            },
-            Event::Close { group: 4 },
-            seal(alloc, 4),
-            Event::Commit { group: 4 },
-            Event::Ready,
-            lend(alloc),
-        ],
-    )
-}
-
-/// Meanwhile a leaf joins this slot: the rebuild begins again, and the stripe comes back in a pass.
-fn add_leaf(history: &mut History, alloc: Global, slot: u32, pass: u64) -> Result<(), NoMemory> {
-    history.add(
-        alloc,
-        [
-            Event::Attach {
-                slot,
-                arm: ArmName::Leaf { leaf: 9 },
-            },
-            Event::Close { group: 5 },
-            seal(alloc, 5),
-            Event::Commit { group: 5 },
-            Event::Ready,
-            lend(alloc),
-            land_stripe(alloc, pass, 3),
-            done(alloc),
-        ],
-    )
-}
-
-/// A history of an upgrade, a chain of two spares of which the second stands at this slot, and a rebuild that begins
-/// again; its last stripe comes back in a pass.
-fn add_chain(
-    history: &mut History,
-    alloc: Global,
-    slots: [u32; 3],
-    home: u32,
-    pass: u64,
-) -> Result<(), NoMemory> {
-    history.add(alloc, [Event::Upgrade])?;
-    add_block(history, alloc, slots)?;
-    add_looks(history, alloc)?;
-    add_first(history, alloc, slots[0])?;
-    add_second(history, alloc, home)?;
-    add_leaf(history, alloc, slots[1], pass)
-}
-
-/// The histories whose ends are looked at.
-#[derive(Clone, Copy)]
-enum Course {
-    AllKinds,
-    /// Without the commit of group 3, behind which a rebuild begins.
-    Uncommitted,
-    /// The last stripe comes back in this pass.
-    Chain { pass: u64 },
-}
-
-fn add_course(
-    history: &mut History,
-    alloc: Global,
-    site: &Site,
-    course: Course,
-) -> Result<(), NoMemory> {
-    let Some(slots) = three_slots(site) else {
-        return Err(NoMemory);
-    };
-    match course {
-        Course::AllKinds => add_all_kinds(history, alloc, slots, Event::Commit { group: 3 }),
-        Course::Uncommitted => add_all_kinds(history, alloc, slots, Event::Ready),
-        Course::Chain { pass } => { add_chain(history, alloc, slots, site.home(&[], 0, 0), pass) }
-    }
-}
-
-/// The open group and the version behind such a history of a metaslab.
-fn end_at(alloc: Global, site: &Site, course: Course) -> Result<(u64, u32), ReplayFault> {
-    let mut history = History::new(alloc);
-    match add_course(&mut history, alloc, site, course) {
-        Ok(()) => history.end(alloc, site),
-        Err(_) => Err(ReplayFault::NoMemory),
-    }
-}
-
-/// The same of the metaslab of such a pool.
-fn end_of(
-    alloc: Global,
-    spec: &[u8],
-    children: u32,
-    course: Course,
-) -> Result<(u64, u32), ReplayFault> {
-    match site_of(spec, children) {
-        Ok(site) => end_at(alloc, &site, course),
-        Err(_) => Err(ReplayFault::NoMemory),
-    }
-}
-
-static ENDS: [(Course, Result<(u64, u32), ReplayFault>); 2] = [
-    (Course::AllKinds, Ok((4, 1))),
-    (Course::Uncommitted, Err(ReplayFault::NotLegal { at: 15 })),
+/// A history with every kind of event. A block is written, read, damaged and committed, a leaf goes offline, a spare takes its
+/// place, and group 3 is sealed. The commit of group 3 follows.
+const FRONT: &[Step] = &[
+    Step::Begin,
+    Step::Put(0),
+    Step::Put(1),
+    Step::Put(2),
+    Step::Finish,
+    Step::Fetch,
+    Step::Damage,
+    Step::Close(2),
+    Step::Seal(2),
+    Step::Commit(2),
+    Step::Offline(0),
+    Step::Attach(0, SPARE),
+    Step::Plan(PassKind::Rebuild),
+    Step::Close(3),
+    Step::Seal(3),
 ];
 
-#[test]
-fn every_kind_of_event_is_done(rt: HostRuntime) {
-    for (course, end) in ENDS.iter() {
-        assert!(rt; end_of(rt.alloc(), b"draid1:2d:1s", 4, *course) == *end);
-    }
-}
+/// Then the block's stripe is rebuilt, the spare leaves again, the leaf is back, and a scrub goes over the block. The block is
+/// freed; a second write is given up, a second scrub is cancelled, and the metaslab is opened again from group 3.
+const BACK: &[Step] = &[
+    Step::Ready,
+    Step::Lend,
+    Step::LandStripe(1, 1),
+    Step::Done,
+    Step::Detach(0, SPARE),
+    Step::Online(0),
+    Step::Plan(PassKind::Heal),
+    Step::Lend,
+    Step::LandBlock,
+    Step::Done,
+    Step::Free(4),
+    Step::BeginOther,
+    Step::AbortOther,
+    Step::Plan(PassKind::Heal),
+    Step::Cancel,
+    Step::Reopen(3),
+];
 
-static CHAINS: [(Course, Result<(u64, u32), ReplayFault>); 2] = [
-    (Course::Chain { pass: 3 }, Ok((6, 2))),
+/// A history of an upgrade, and a block that is written, read, damaged and committed.
+const UPGRADED: &[Step] = &[
+    Step::Upgrade,
+    Step::Begin,
+    Step::Put(0),
+    Step::Put(1),
+    Step::Put(2),
+    Step::Finish,
+    Step::Fetch,
+    Step::Damage,
+    Step::Close(2),
+    Step::Seal(2),
+    Step::Commit(2),
+    // A spare is rebuilt behind group 3.
+    Step::Attach(0, SPARE),
+    Step::Plan(PassKind::Rebuild),
+    Step::Close(3),
+    Step::Seal(3),
+    Step::Commit(3),
+    Step::Ready,
+    Step::Lend,
+    Step::LandStripe(1, 1),
+    Step::Done,
+    // A second spare takes the place of the leaf on which the first one lies, so that this one moves; both are rebuilt, and
+    // the block's stripe is lent.
+    Step::Attach(3, SECOND),
+    Step::Plan(PassKind::Rebuild),
+    Step::Close(4),
+    Step::Seal(4),
+    Step::Commit(4),
+    Step::Ready,
+    Step::Lend,
+    // Meanwhile a leaf joins the slot of the second column: the rebuild begins again, and the stripe comes back in a pass.
+    Step::Attach(1, NINTH),
+    Step::Close(5),
+    Step::Seal(5),
+    Step::Commit(5),
+    Step::Ready,
+    Step::Lend,
+];
+
+/// The layout of a pool, a history in three parts, and the open group and the version behind it, or its first illegal event.
+type Row = (
+    &'static [u8],
+    u32,
+    &'static [Step],
+    &'static [Step],
+    &'static [Step],
+    Result<(u64, u32), ReplayFault>,
+);
+
+static ROWS: [Row; 9] = [
+    // Every kind of event is done, and a rebuild begins only behind a commit.
     (
-        Course::Chain { pass: 2 },
+        b"draid1:2d:1s",
+        4,
+        FRONT,
+        &[Step::Commit(3)],
+        BACK,
+        Ok((4, 1)),
+    ),
+    (
+        b"draid1:2d:1s",
+        4,
+        FRONT,
+        &[Step::Ready],
+        BACK,
+        Err(ReplayFault::NotLegal { at: 15 }),
+    ),
+    // An attachment begins a rebuild again.
+    (
+        b"draid1:2d:2s",
+        5,
+        UPGRADED,
+        &[Step::LandStripe(3, 3)],
+        &[Step::Done],
+        Ok((6, 2)),
+    ),
+    (
+        b"draid1:2d:2s",
+        5,
+        UPGRADED,
+        &[Step::LandStripe(2, 3)],
+        &[Step::Done],
         Err(ReplayFault::NotLegal { at: 33 }),
+    ),
+    // No event, a commit alone, a landing alone, and a group that is closed, sealed and committed, and not sealed.
+    (b"draid1:2d", 3, &[], &[], &[], Ok((2, 1))),
+    (
+        b"draid1:2d",
+        3,
+        &[Step::Commit(2)],
+        &[],
+        &[],
+        Err(ReplayFault::NotLegal { at: 0 }),
+    ),
+    (
+        b"draid1:2d",
+        3,
+        &[Step::LandStripe(1, 1)],
+        &[],
+        &[],
+        Err(ReplayFault::NotLegal { at: 0 }),
+    ),
+    (
+        b"draid1:2d",
+        3,
+        &[Step::Close(2)],
+        &[Step::Seal(2)],
+        &[Step::Commit(2)],
+        Ok((3, 1)),
+    ),
+    (
+        b"draid1:2d",
+        3,
+        &[Step::Close(2)],
+        &[],
+        &[Step::Commit(2)],
+        Err(ReplayFault::NotLegal { at: 1 }),
     ),
 ];
 
-#[test]
-fn an_attachment_begins_a_rebuild_again(rt: HostRuntime) {
-    for (course, end) in CHAINS.iter() {
-        assert!(rt; end_of(rt.alloc(), b"draid1:2d:2s", 5, *course) == *end);
-    }
-}
-
-/// No event, a commit alone, a landing alone, and a group that is closed, sealed and committed, with its seal and without.
-fn add_few(history: &mut History, alloc: Global, row: usize) -> Result<(), NoMemory> {
-    match row {
-        0 => Ok(()),
-        1 => history.add(alloc, [Event::Commit { group: 2 }]),
-        2 => history.add(alloc, [land_stripe(alloc, 1, 1)]),
-        3 => add_group(history, alloc),
-        _ => history.add(
-            alloc,
-            [Event::Close { group: 2 }, Event::Commit { group: 2 }],
-        ),
-    }
-}
-
-static FEW: [Result<(u64, u32), ReplayFault>; 5] = [
-    Ok((2, 1)),
-    Err(ReplayFault::NotLegal { at: 0 }),
-    Err(ReplayFault::NotLegal { at: 0 }),
-    Ok((3, 1)),
-    Err(ReplayFault::NotLegal { at: 1 }),
-];
-
-/// The open group and the version behind these.
-fn end_of_few(alloc: Global, row: usize) -> Result<(u64, u32), ReplayFault> {
-    let Ok(site) = site_of(b"draid1:2d", 3) else {
-        return Err(ReplayFault::NoMemory);
-    };
+/// The history of a row.
+fn history_of(alloc: Global, slots: [u32; 4], row: &Row) -> Result<History, NoMemory> {
     let mut history = History::new(alloc);
-    match add_few(&mut history, alloc, row) {
-        Ok(()) => history.end(alloc, &site),
-        Err(_) => Err(ReplayFault::NoMemory),
+    add_steps(&mut history, alloc, slots, row.2)?;
+    add_steps(&mut history, alloc, slots, row.3)?;
+    add_steps(&mut history, alloc, slots, row.4)?;
+    Ok(history)
+}
+
+/// Whether a metaslab comes to this end.
+fn ends(alloc: Global, site: &Site, row: &Row) -> bool {
+    let Some(slots) = slots_of(site) else {
+        return false;
+    };
+    match history_of(alloc, slots, row) {
+        Ok(history) => history.end(alloc, site) == row.5,
+        Err(_) => false,
+    }
+}
+
+/// Whether that of such a pool does.
+fn is_ended(alloc: Global, row: &Row) -> bool {
+    match site_of(row.0, row.1) {
+        Ok(site) => ends(alloc, &site, row),
+        Err(_) => false,
     }
 }
 
 #[test]
 fn histories_go_to_their_first_illegal_event(rt: HostRuntime) {
-    for row in 0..FEW.len() {
-        assert!(rt; end_of_few(rt.alloc(), row) == FEW[row], "{row}");
+    for row in 0..ROWS.len() {
+        assert!(rt; is_ended(rt.alloc(), &ROWS[row]), "{row}");
     }
 }
 

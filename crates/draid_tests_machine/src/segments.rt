@@ -2,11 +2,9 @@ ghost use Rattle.std.specs.Prelude.{IsTrue};
 ghost use Rattle.draid_rack.specs.Memory.{shape_of_memory};
 ghost use Rattle.draid_rack.specs.Rack.{Fits};
 
-use crate::replay::{
-    History, add_block, add_group, add_spare, done, land_stripe, lend, site_of, three_slots,
-};
+use crate::replay::{History, SPARE, Step, add_steps, land_block, site_of, slots_of};
 use draid_faults::CrashRule;
-use draid_machine::{ArmName, Event, Patched};
+use draid_machine::{ArmName, Patched};
 use draid_names::{At, Failed, NoMemory, PassKind};
 use draid_rack::{MemoryRack, Rack};
 use draid_world::{Site, World};
@@ -67,7 +65,7 @@ fn flush_all(rack: &mut MemoryRack) -> Result<(), Failed> {
 }
 
 /// The columns of the block are put, and its group is sealed.
-fn write_block(rack: &mut MemoryRack, slots: [u32; 3]) -> Result<(), Failed> {
+fn write_block(rack: &mut MemoryRack, slots: [u32; 4]) -> Result<(), Failed> {
     for column in 0..3 {
         write_first(rack, u64::from(slots[column as usize]), &piece(column))?;
     }
@@ -83,7 +81,7 @@ fn first_of(slot: u32) -> At {
 }
 
 /// The first column is made from the second and third one, and lands on a leaf.
-fn mend_first(rack: &mut MemoryRack, leaf: u64, slots: [u32; 3]) -> Result<(), Failed> {
+fn mend_first(rack: &mut MemoryRack, leaf: u64, slots: [u32; 4]) -> Result<(), Failed> {
     let sources = [first_of(slots[1]), first_of(slots[2])];
     if !has_first(rack, leaf) {
         return Err(Failed);
@@ -126,24 +124,37 @@ fn heal_second(rack: &mut MemoryRack, leaf: u64) -> Result<(), Failed> {
 }
 
 /// The block is written, and committed in group 2.
-fn add_committed(history: &mut History, alloc: Global, slots: [u32; 3]) -> Result<(), NoMemory> {
-    add_block(history, alloc, slots)?;
-    add_group(history, alloc)
-}
+static WRITTEN: [Step; 8] = [
+    Step::Begin,
+    Step::Put(0),
+    Step::Put(1),
+    Step::Put(2),
+    Step::Finish,
+    Step::Close(2),
+    Step::Seal(2),
+    Step::Commit(2),
+];
 
 /// The first column's leaf goes offline; a spare takes its place, and the block's stripe lands on it behind group 3.
-fn add_mended(history: &mut History, alloc: Global, slot: u32) -> Result<(), NoMemory> {
-    add_spare(history, alloc, slot)?;
-    history.add(
-        alloc,
-        [
-            Event::Commit { group: 3 },
-            Event::Ready,
-            lend(alloc),
-            land_stripe(alloc, 1, 1),
-        ],
-    )
-}
+static MENDED: [Step; 9] = [
+    Step::Offline(0),
+    Step::Attach(0, SPARE),
+    Step::Plan(PassKind::Rebuild),
+    Step::Close(3),
+    Step::Seal(3),
+    Step::Commit(3),
+    Step::Ready,
+    Step::Lend,
+    Step::LandStripe(1, 1),
+];
+
+/// The first leaf is back, the second one is damaged, and a scrub begins.
+static SCRUBBED: [Step; 4] = [
+    Step::Online(0),
+    Step::DamageColumn(1),
+    Step::Plan(PassKind::Heal),
+    Step::Lend,
+];
 
 /// What a scrub rewrites of the second column, on its leaf.
 fn patched(alloc: Global, leaf: u64) -> Result<Vec<Patched>, NoMemory> {
@@ -157,43 +168,11 @@ fn patched(alloc: Global, leaf: u64) -> Result<Vec<Patched>, NoMemory> {
     Ok(patched)
 }
 
-/// The first leaf is back, the second one is damaged, and a scrub writes this there.
-fn add_scrub(
-    history: &mut History,
-    alloc: Global,
-    slots: [u32; 3],
-    patched: Vec<Patched>,
-) -> Result<(), NoMemory> {
-    history.add(
-        alloc,
-        [
-            Event::Online {
-                leaf: u64::from(slots[0]),
-            },
-            Event::Damage {
-                leaf: u64::from(slots[1]),
-                sector: 0,
-                failed: false,
-            },
-            Event::Plan {
-                kind: PassKind::Heal,
-            },
-            lend(alloc),
-            Event::LandBlock {
-                pass: 2,
-                serial: 2,
-                failed: Vec::new(alloc),
-                patched,
-                unreadable: false,
-            },
-        ],
-    )
-}
-
-/// The scrub puts it right.
-fn add_scrubbed(history: &mut History, alloc: Global, slots: [u32; 3]) -> Result<(), NoMemory> {
+/// The second leaf is damaged, and a scrub puts it right.
+fn add_scrubbed(history: &mut History, alloc: Global, slots: [u32; 4]) -> Result<(), NoMemory> {
+    add_steps(history, alloc, slots, SCRUBBED.as_slice())?;
     match patched(alloc, u64::from(slots[1])) {
-        Ok(patched) => add_scrub(history, alloc, slots, patched),
+        Ok(patched) => history.add(land_block(alloc, patched)),
         Err(fault) => Err(fault),
     }
 }
@@ -202,37 +181,25 @@ fn add_scrubbed(history: &mut History, alloc: Global, slots: [u32; 3]) -> Result
 fn add_stage(
     history: &mut History,
     alloc: Global,
-    slots: [u32; 3],
+    slots: [u32; 4],
     stage: u32,
 ) -> Result<(), NoMemory> {
     match stage {
-        0 => add_committed(history, alloc, slots),
-        1 => add_mended(history, alloc, slots[0]),
-        2 => history.add(alloc, [done(alloc)]),
+        0 => add_steps(history, alloc, slots, WRITTEN.as_slice()),
+        1 => add_steps(history, alloc, slots, MENDED.as_slice()),
+        2 => add_steps(history, alloc, slots, &[Step::Done]),
         _ => add_scrubbed(history, alloc, slots),
     }
 }
 
 /// What the calls of a stage do to a rack.
-fn do_stage(site: &Site, rack: &mut MemoryRack, slots: [u32; 3], stage: u32) -> Result<(), Failed> {
+fn do_stage(rack: &mut MemoryRack, slots: [u32; 4], stage: u32) -> Result<(), Failed> {
     match stage {
         0 => write_block(rack, slots),
-        1 => mend_first(rack, u64::from(site.home(&[], 0, 0)), slots),
+        1 => mend_first(rack, u64::from(slots[3]), slots),
         2 => flush_all(rack),
         _ => heal_second(rack, u64::from(slots[1])),
     }
-}
-
-/// The metaslab is opened again from the group that is committed at a stage.
-fn add_opening(history: &mut History, alloc: Global, stage: u32) -> Result<(), NoMemory> {
-    let group = if stage == 0 { 2 } else { 3 };
-    history.add(
-        alloc,
-        [Event::Reopen {
-            group,
-            doubtful: Vec::new(alloc),
-        }],
-    )
 }
 
 /// A byte of the third column is changed.
@@ -253,16 +220,15 @@ fn agrees(alloc: Global, site: &Site, history: &History, rack: &mut MemoryRack) 
 /// Does the stages up to one, in the history and on the rack.
 fn do_all(
     alloc: Global,
-    site: &Site,
     history: &mut History,
     rack: &mut MemoryRack,
-    slots: [u32; 3],
+    slots: [u32; 4],
     last: u32,
 ) -> bool {
     for stage in 0..4 {
         if stage <= last
             && (add_stage(history, alloc, slots, stage).is_err()
-                || do_stage(site, rack, slots, stage).is_err())
+                || do_stage(rack, slots, stage).is_err())
         {
             return false;
         }
@@ -277,13 +243,14 @@ fn agrees_opened(
     site: &Site,
     history: &mut History,
     rack: &mut MemoryRack,
-    third: u32,
+    slots: [u32; 4],
     stage: u32,
 ) -> bool {
     rack.crash(CrashRule::Torn);
-    add_opening(history, alloc, stage).is_ok()
+    let group = if stage == 0 { 2 } else { 3 };
+    add_steps(history, alloc, slots, &[Step::Reopen(group)]).is_ok()
         && agrees(alloc, site, history, rack) == Some(true)
-        && change_third(rack, u64::from(third)).is_ok()
+        && change_third(rack, u64::from(slots[2])).is_ok()
         && agrees(alloc, site, history, rack) == Some(false)
 }
 
@@ -295,12 +262,12 @@ fn agrees_at(
     rack: &mut MemoryRack,
     stage: u32,
 ) -> bool {
-    let Some(slots) = three_slots(site) else {
+    let Some(slots) = slots_of(site) else {
         return false;
     };
-    do_all(alloc, site, history, rack, slots, stage)
+    do_all(alloc, history, rack, slots, stage)
         && agrees(alloc, site, history, rack) == Some(true)
-        && agrees_opened(alloc, site, history, rack, slots[2], stage)
+        && agrees_opened(alloc, site, history, rack, slots, stage)
 }
 
 /// Whether this is so of a new rack.

@@ -378,14 +378,48 @@ fn stand(alloc: Global, text: &[u8], children: u32, trial: Trial) -> bool {
     }
 }
 
-/// The same of four disks and a spare.
-fn four_stand(alloc: Global, trial: Trial) -> bool {
-    stand(alloc, b"draid1:2d:1s", 4, trial)
-}
+/// Four disks and a spare, or five disks and two spares, what is tried on their slots, and what that shows.
+static TRIALS: [(&[u8], u32, Trial, &str); 8] = [
+    (b"draid1:2d:1s", 4, Trial::Coming, "arms come"),
+    (b"draid1:2d:1s", 4, Trial::Going, "arms go"),
+    (b"draid1:2d:1s", 4, Trial::Logs, "logs change"),
+    (
+        b"draid1:2d:1s",
+        4,
+        Trial::Commit,
+        "a spare is busy up to the commit",
+    ),
+    (
+        b"draid1:2d:2s",
+        5,
+        Trial::Chain,
+        "a spare moves on where its keeper is spared",
+    ),
+    (
+        b"draid1:2d:2s",
+        5,
+        Trial::Online,
+        "a leaf leaves as it was, online",
+    ),
+    (
+        b"draid1:2d:2s",
+        5,
+        Trial::Offline,
+        "a leaf leaves as it was, offline",
+    ),
+    (
+        b"draid1:2d:1s",
+        4,
+        Trial::Reading,
+        "the reading arm is the first clean one",
+    ),
+];
 
-/// The same of five disks and two spares.
-fn five_stand(alloc: Global, trial: Trial) -> bool {
-    stand(alloc, b"draid1:2d:2s", 5, trial)
+#[test]
+fn slots_do_as_they_have_to(rt: HostRuntime) {
+    for (text, children, trial, shown) in TRIALS.iter() {
+        assert!(rt; stand(rt.alloc(), text, *children, *trial), "{shown}");
+    }
 }
 
 /// Whether new slots of four disks and a spare have places.
@@ -399,40 +433,4 @@ fn four_have_places(alloc: Global) -> bool {
 #[test]
 fn arms_have_places(rt: HostRuntime) {
     assert!(rt; four_have_places(rt.alloc()));
-}
-
-#[test]
-fn arms_come(rt: HostRuntime) {
-    assert!(rt; four_stand(rt.alloc(), Trial::Coming));
-}
-
-#[test]
-fn arms_go(rt: HostRuntime) {
-    assert!(rt; four_stand(rt.alloc(), Trial::Going));
-}
-
-#[test]
-fn logs_change(rt: HostRuntime) {
-    assert!(rt; four_stand(rt.alloc(), Trial::Logs));
-}
-
-#[test]
-fn a_spare_is_busy_up_to_the_commit(rt: HostRuntime) {
-    assert!(rt; four_stand(rt.alloc(), Trial::Commit));
-}
-
-#[test]
-fn a_spare_moves_on_where_its_keeper_is_spared(rt: HostRuntime) {
-    assert!(rt; five_stand(rt.alloc(), Trial::Chain));
-}
-
-#[test]
-fn a_leaf_leaves_as_it_was(rt: HostRuntime) {
-    assert!(rt; five_stand(rt.alloc(), Trial::Online));
-    assert!(rt; five_stand(rt.alloc(), Trial::Offline));
-}
-
-#[test]
-fn the_reading_arm_is_the_first_clean_one(rt: HostRuntime) {
-    assert!(rt; four_stand(rt.alloc(), Trial::Reading));
 }

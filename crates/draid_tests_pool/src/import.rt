@@ -1,17 +1,11 @@
-use crate::session::run_first;
+use crate::session::run_script;
 use draid_area::{Area, MemoryArea};
-use draid_lines::{MemorySink, MemorySource};
+use draid_lines::MemorySink;
 use draid_run::Status;
 use draid_shelf::{CrashRule, MemoryShelf, Shelf};
 use draid_spec::{Geometry, Props, SpecFault, geometry, parse_spec};
 use std::alloc::{AllocError, Global};
 use std::thread::Threads;
-
-/// The source of a script whose calls don't fail.
-fn source_of(alloc: Global, script: &str) -> Result<MemorySource, AllocError> {
-    let script = Vec::from_slice(alloc, script.as_bytes())?;
-    Ok(MemorySource::new(script, Vec::new(alloc)))
-}
 
 /// Runs a script on a shelf, and gives the status.
 fn run_on<R: AllocGlobal + Threads + Sync>(
@@ -20,10 +14,7 @@ fn run_on<R: AllocGlobal + Threads + Sync>(
     script: &str,
     sink: &mut MemorySink,
 ) -> Option<Status> {
-    match source_of(rt.alloc(), script) {
-        Ok(mut source) => run_first(rt, "session", shelf, &mut source, sink),
-        Err(_) => None,
-    }
+    run_script(rt, "session", script.as_bytes(), &[], shelf, sink)
 }
 
 /// The groups of a session, and what an import then finds once so many were acknowledged.
@@ -134,12 +125,19 @@ fn layout() -> Result<Geometry, SpecFault> {
     geometry(parse_spec(b"draid1:2d:3c", 3, 1)?, props)
 }
 
-/// An area of a pool of one metaslab.
+/// What is done to an area of a pool of one metaslab.
 #[derive(Clone, Copy)]
-enum Changed {
+enum Place {
+    /// These bytes are written over those of the uberblock.
     Uber,
+    /// They are over those of the record of an even group.
     Even,
+    /// They are all that is left of that record.
+    Whole,
 }
+
+/// Where bytes are changed, from which one on, and what stands there then.
+type Change = (Place, u64, &'static [u8]);
 
 /// Writes bytes over those of an area.
 fn overwrite(area: &mut MemoryArea, at: u64, bytes: &[u8]) -> bool {
@@ -170,14 +168,42 @@ fn change_even(shelf: &mut MemoryShelf, layout: &Geometry, at: u64, bytes: &[u8]
     }
 }
 
-/// Writes bytes over those of an area on a shelf.
-fn change(shelf: &mut MemoryShelf, area: Changed, at: u64, bytes: &[u8]) -> bool {
-    match area {
-        Changed::Uber => change_uber(shelf, at, bytes),
-        Changed::Even => match layout() {
-            Ok(layout) => change_even(shelf, &layout, at, bytes),
+/// An area of these bytes.
+fn area_of(alloc: Global, bytes: &[u8]) -> Result<MemoryArea, AllocError> {
+    let bytes = Vec::from_slice(alloc, bytes)?;
+    Ok(MemoryArea::new(alloc, bytes, Vec::new(alloc))?)
+}
+
+/// Puts an area in place of that of the record of an even group, on devices of this layout.
+fn put_even(shelf: &mut MemoryShelf, layout: &Geometry, area: MemoryArea) -> bool {
+    match shelf.take(0, layout) {
+        Ok(mut kit) => {
+            kit.even = area;
+            shelf.give(0, kit);
+            true
+        }
+        Err(_) => false,
+    }
+}
+
+/// Changes an area on a shelf of this layout.
+fn change_in(alloc: Global, shelf: &mut MemoryShelf, layout: &Geometry, change: Change) -> bool {
+    let (place, at, bytes) = change;
+    match place {
+        Place::Uber => change_uber(shelf, at, bytes),
+        Place::Even => change_even(shelf, layout, at, bytes),
+        Place::Whole => match area_of(alloc, bytes) {
+            Ok(area) => put_even(shelf, layout, area),
             Err(_) => false,
         },
+    }
+}
+
+/// The same on a shelf with that pool, if something is to be changed.
+fn change(alloc: Global, shelf: &mut MemoryShelf, change: Option<Change>) -> bool {
+    match (change, layout()) {
+        (Some(change), Ok(layout)) => change_in(alloc, shelf, &layout, change),
+        (change, _) => change.is_none(),
     }
 }
 
@@ -185,55 +211,114 @@ fn change(shelf: &mut MemoryShelf, area: Changed, at: u64, bytes: &[u8]) -> bool
 static BLOCKS: &str =
     "create draid1:2d:3c:0s 3 sector=512 height=8 metaslabs=1 slices=4\nwrite 7 aa\nwrite 8 bb\nsync\n";
 
-/// Which bytes are changed, the status of an import then, and what it prints.
-static CHANGES: [(Changed, u64, &[u8], u8, &str); 10] = [
+/// Up to two changes of that pool, a script, its status then, and what it prints.
+type Harm = (
+    Option<Change>,
+    Option<Change>,
+    &'static str,
+    u8,
+    &'static str,
+);
+
+static HARMS: [Harm; 13] = [
     (
-        Changed::Uber,
-        0,
-        &[0],
+        Some((Place::Uber, 0, &[0])),
+        None,
+        "import\n",
         0,
         "import draid1:2d:3c:0s-0 group=1 objects=0\n",
     ),
-    (Changed::Uber, 1, b"DZUX", 8, "record uber at=1 kind=2\n"),
-    (Changed::Uber, 14, &[3], 8, "record uber at=7 kind=2\n"),
-    (Changed::Uber, 17, &[33], 8, "record uber at=17 kind=2\n"),
     (
-        Changed::Even,
-        0,
-        b"DZRX",
+        Some((Place::Uber, 1, b"DZUX")),
+        None,
+        "import\n",
+        8,
+        "record uber at=1 kind=2\n",
+    ),
+    (
+        Some((Place::Uber, 14, &[3])),
+        None,
+        "import\n",
+        8,
+        "record uber at=7 kind=2\n",
+    ),
+    (
+        Some((Place::Uber, 17, &[33])),
+        None,
+        "import\n",
+        8,
+        "record uber at=17 kind=2\n",
+    ),
+    (
+        Some((Place::Even, 0, b"DZRX")),
+        None,
+        "import\n",
         8,
         "record metaslab=0 at=0 kind=2\n",
     ),
-    (Changed::Even, 9, &[9], 8, "record metaslab=0 at=6 kind=2\n"),
     (
-        Changed::Even,
-        9,
-        &[243],
+        Some((Place::Even, 9, &[9])),
+        None,
+        "import\n",
+        8,
+        "record metaslab=0 at=6 kind=2\n",
+    ),
+    (
+        Some((Place::Even, 9, &[243])),
+        None,
+        "import\n",
         8,
         "record metaslab=0 at=212 kind=1\n",
     ),
     (
-        Changed::Even,
-        31,
-        &[9],
+        Some((Place::Even, 31, &[9])),
+        None,
+        "import\n",
         8,
         "record metaslab=0 at=24 kind=2\n",
     ),
     (
-        Changed::Even,
-        176,
-        &[0, 0, 0, 7, 0, 0, 0, 0, 0, 0, 0, 1],
+        Some((Place::Even, 176, &[0, 0, 0, 7, 0, 0, 0, 0, 0, 0, 0, 1])),
+        None,
+        "import\n",
         8,
         "record metaslab=0 at=172 kind=5\n",
     ),
     (
-        Changed::Even,
-        179,
-        &[7],
+        Some((Place::Even, 179, &[7])),
+        None,
+        "import\n",
         0,
         "import draid1:2d:3c:0s-0 group=2 objects=1\n",
     ),
+    // A record that is cut.
+    (
+        Some((Place::Whole, 0, b"DZR")),
+        None,
+        "import\n",
+        8,
+        "record metaslab=0 at=0 kind=1\n",
+    ),
+    // Gates that are both shut.
+    (
+        Some((Place::Uber, 0, &[0])),
+        Some((Place::Uber, 512, &[0])),
+        "import\n",
+        0,
+        "import no pool\n",
+    ),
+    // The last group, behind which none is committed.
+    (
+        Some((Place::Uber, 7, &LAST)),
+        Some((Place::Even, 12, &LAST)),
+        "import\nsync\nread 7\nexport\n",
+        0,
+        "import draid1:2d:3c:0s-0 group=281474976710654 objects=2\nsync last\nread 7 1 aa\nexport last\n",
+    ),
 ];
+
+/// The greatest group that an uberblock may name.
+const LAST: [u8; 8] = [0, 0, 255, 255, 255, 255, 255, 254];
 
 /// Whether a run on a shelf has this status and prints this.
 fn comes_to<R: AllocGlobal + Threads + Sync>(
@@ -256,121 +341,24 @@ fn add_blocks<R: AllocGlobal + Threads + Sync>(rt: &R, shelf: &mut MemoryShelf) 
     run_on(rt, shelf, BLOCKS, &mut sink).is_some()
 }
 
-/// Whether an import of that pool has this status and prints this, once these bytes are changed.
-fn tells_change<R: AllocGlobal + Threads + Sync>(
-    rt: &R,
-    shelf: &mut MemoryShelf,
-    row: usize,
-) -> bool {
-    let Some((area, at, bytes, code, wanted)) = CHANGES.get(row) else {
-        return false;
-    };
-    change(shelf, *area, *at, bytes) && comes_to(rt, shelf, "import\n", *code, wanted)
-}
-
-/// An area of three bytes.
-fn short_area(alloc: Global) -> Result<MemoryArea, AllocError> {
-    let bytes = Vec::from_slice(alloc, b"DZR")?;
-    Ok(MemoryArea::new(alloc, bytes, Vec::new(alloc))?)
-}
-
-/// Puts an area in place of that of the record of group 2, on devices of this layout.
-fn put_even(shelf: &mut MemoryShelf, layout: &Geometry, area: MemoryArea) -> bool {
-    match shelf.take(0, layout) {
-        Ok(mut kit) => {
-            kit.even = area;
-            shelf.give(0, kit);
-            true
-        }
-        Err(_) => false,
-    }
-}
-
-/// Cuts the record of group 2.
-fn cut(alloc: Global, shelf: &mut MemoryShelf) -> bool {
-    let Ok(layout) = layout() else {
-        return false;
-    };
-    match short_area(alloc) {
-        Ok(area) => put_even(shelf, &layout, area),
-        Err(_) => false,
-    }
-}
-
-/// Whether an import of the pool whose record is cut says so.
-fn tells_cut<R: AllocGlobal + Threads + Sync>(rt: &R, shelf: &mut MemoryShelf) -> bool {
-    cut(rt.alloc(), shelf) && comes_to(rt, shelf, "import\n", 8, "record metaslab=0 at=0 kind=1\n")
-}
-
-/// Whether an import of the pool whose gates are both shut finds none.
-fn tells_shut<R: AllocGlobal + Threads + Sync>(rt: &R, shelf: &mut MemoryShelf) -> bool {
-    change_uber(shelf, 0, &[0])
-        && change_uber(shelf, 512, &[0])
-        && comes_to(rt, shelf, "import\n", 0, "import no pool\n")
-}
-
-/// The greatest group that an uberblock may name.
-static LAST: [u8; 8] = [0, 0, 255, 255, 255, 255, 255, 254];
-
-static LAST_SCRIPT: &str = "import\nsync\nread 7\nexport\n";
-
-static LAST_REPLIES: &str =
-    "import draid1:2d:3c:0s-0 group=281474976710654 objects=2\nsync last\nread 7 1 aa\nexport last\n";
-
-/// Whether no group is committed behind it.
-fn tells_last<R: AllocGlobal + Threads + Sync>(rt: &R, shelf: &mut MemoryShelf) -> bool {
-    change_uber(shelf, 7, &LAST)
-        && change(shelf, Changed::Even, 12, &LAST)
-        && comes_to(rt, shelf, LAST_SCRIPT, 0, LAST_REPLIES)
-}
-
-/// What is done to the areas of the pool of two blocks.
-#[derive(Clone, Copy)]
-enum Harm {
-    /// A row of the changes.
-    Change { row: usize },
-    Cut,
-    Shut,
-    Last,
-}
-
-/// Whether an import tells of it.
-fn tells<R: AllocGlobal + Threads + Sync>(rt: &R, shelf: &mut MemoryShelf, harm: Harm) -> bool {
-    if !add_blocks(rt, shelf) {
-        return false;
-    }
-    match harm {
-        Harm::Change { row } => tells_change(rt, shelf, row),
-        Harm::Cut => tells_cut(rt, shelf),
-        Harm::Shut => tells_shut(rt, shelf),
-        Harm::Last => tells_last(rt, shelf),
-    }
+/// Whether a session tells of harm so, once that pool is made on a shelf.
+fn tells<R: AllocGlobal + Threads + Sync>(rt: &R, shelf: &mut MemoryShelf, harm: &Harm) -> bool {
+    let (first, second, script, code, wanted) = *harm;
+    add_blocks(rt, shelf)
+        && change(rt.alloc(), shelf, first)
+        && change(rt.alloc(), shelf, second)
+        && comes_to(rt, shelf, script, code, wanted)
 }
 
 /// The same on a new shelf.
-fn is_told<R: AllocGlobal + Threads + Sync>(rt: &R, harm: Harm) -> bool {
+fn is_told<R: AllocGlobal + Threads + Sync>(rt: &R, harm: &Harm) -> bool {
     let mut shelf = MemoryShelf::new(rt.alloc(), CrashRule::New);
     tells(rt, &mut shelf, harm)
 }
 
 #[test]
-fn records_that_are_at_fault_end_the_run(rt: HostRuntime) {
-    for row in 0..CHANGES.len() {
-        assert!(rt; is_told(&rt, Harm::Change { row }), "{row}");
+fn imports_tell_what_the_areas_have(rt: HostRuntime) {
+    for row in 0..HARMS.len() {
+        assert!(rt; is_told(&rt, &HARMS[row]), "{row}");
     }
-}
-
-#[test]
-fn a_short_record_ends_the_run(rt: HostRuntime) {
-    assert!(rt; is_told(&rt, Harm::Cut));
-}
-
-#[test]
-fn shut_gates_are_no_pool(rt: HostRuntime) {
-    assert!(rt; is_told(&rt, Harm::Shut));
-}
-
-#[test]
-fn the_last_number_is_of_no_group(rt: HostRuntime) {
-    assert!(rt; is_told(&rt, Harm::Last));
 }

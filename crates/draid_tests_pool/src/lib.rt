@@ -1,11 +1,15 @@
-//! Tests of the top call: what the scripts of `examples/` can't show, since devices fail, metaslabs are chosen otherwise,
-//! or scripts are made. It offers nothing; the module is named after the crate that it tests.
+//! Tests of pools: of the top call what the scripts of `examples/` can't show, since devices fail, metaslabs are chosen
+//! otherwise, or scripts are made; of the lock of a metaslab, and of lanes over it. It offers nothing.
 
 #![tactic(auto)]
 
 #[cfg(test)]
 mod import;
 #[cfg(test)]
+mod log;
+#[cfg(test)]
 mod run;
 #[cfg(test)]
 mod session;
+#[cfg(test)]
+mod turn;

@@ -1,9 +1,9 @@
 ghost use Rattle.std.specs.Prelude.{◌≤◌, length};
 ghost use Rattle.draid_choose.specs.Rooms.{Picks, most_rooms};
 
-use crate::session::{run_chosen, run_first};
+use crate::session::{run_chosen, run_script, source_of};
 use draid_choose::Chooser;
-use draid_lines::{MemorySink, MemorySource};
+use draid_lines::MemorySink;
 use draid_names::Room;
 use draid_run::Status;
 use draid_shelf::{CrashRule, MemoryShelf, Place};
@@ -11,8 +11,6 @@ use std::alloc::{AllocError, Global};
 use std::thread::Threads;
 
 static CREATE: &str = "create draid1:2d:3c:0s 3 sector=512 height=8 metaslabs=1 slices=4\n";
-
-static CREATED: &str = "create draid1:2d:3c:0s-0 stripes=32\n";
 
 /// An area of a pool of one metaslab.
 #[derive(Clone, Copy)]
@@ -22,7 +20,7 @@ enum PoolArea {
     Uber,
 }
 
-/// Which calls of the devices fail, by their numbers.
+/// Which calls of the devices fail, by their numbers, and how metaslabs are chosen.
 #[derive(Clone, Copy)]
 struct Failing {
     shelf: &'static [u64],
@@ -31,6 +29,8 @@ struct Failing {
     area: Option<(PoolArea, u64)>,
     source: &'static [u64],
     sink: &'static [u64],
+    /// Whether the last metaslab that has room takes a block, and not the first.
+    last: bool,
 }
 
 const NONE: Failing = Failing {
@@ -39,6 +39,7 @@ const NONE: Failing = Failing {
     area: None,
     source: &[],
     sink: &[],
+    last: false,
 };
 
 /// Has these calls of the racks on a shelf fail.
@@ -75,18 +76,12 @@ fn fail_calls(shelf: &mut MemoryShelf, alloc: Global, failing: &Failing) -> Resu
     }
 }
 
-/// The source of a script, of which these calls fail.
-fn source_of(alloc: Global, script: &[u8], failing: &Failing) -> Result<MemorySource, AllocError> {
-    let script = Vec::from_slice(alloc, script)?;
-    Ok(MemorySource::new(script, Vec::from_slice(alloc, failing.source)?))
-}
-
 /// A sink, of which these calls fail.
 fn sink_of(alloc: Global, failing: &Failing) -> Result<MemorySink, AllocError> {
     Ok(MemorySink::new(alloc, Vec::from_slice(alloc, failing.sink)?))
 }
 
-/// Runs a script on the devices of a shelf, which fail so, and gives the status; none where there is no memory for the script.
+/// Runs a script on the devices of a shelf, which fail so, and gives the status; none where there is no memory for it.
 fn run_on<R: AllocGlobal + Threads + Sync>(
     rt: &R,
     line: &str,
@@ -95,9 +90,9 @@ fn run_on<R: AllocGlobal + Threads + Sync>(
     shelf: &mut MemoryShelf,
     sink: &mut MemorySink,
 ) -> Option<Status> {
-    fail_calls(shelf, rt.alloc(), failing).ok()?;
-    match source_of(rt.alloc(), script, failing) {
-        Ok(mut source) => run_first(rt, line, shelf, &mut source, sink),
+    match fail_calls(shelf, rt.alloc(), failing) {
+        Ok(()) if failing.last => run_last(rt, line, script, shelf, sink),
+        Ok(()) => run_script(rt, line, script, failing.source, shelf, sink),
         Err(_) => None,
     }
 }
@@ -131,16 +126,11 @@ fn comes_to<R: AllocGlobal + Threads + Sync>(
     }
 }
 
-/// Two texts, one behind the other.
-fn joined(alloc: Global, front: &str, back: &str) -> Result<Vec<u8>, AllocError> {
-    let mut both = Vec::from_slice(alloc, front.as_bytes())?;
-    both.extend_from_slice(back.as_bytes())?;
-    Ok(both)
-}
-
 /// The line that creates the pool, and these.
 fn created(alloc: Global, lines: &str) -> Result<Vec<u8>, AllocError> {
-    joined(alloc, CREATE, lines)
+    let mut script = Vec::from_slice(alloc, CREATE.as_bytes())?;
+    script.extend_from_slice(lines.as_bytes())?;
+    Ok(script)
 }
 
 /// Whether a session behind the line that creates the pool comes to this status and prints this.
@@ -157,107 +147,170 @@ fn comes_behind<R: AllocGlobal + Threads + Sync>(
     }
 }
 
-/// Whether a run behind the line that creates the pool is done and prints these replies, where these calls of the rack fail.
-fn replies_over<R: AllocGlobal + Threads + Sync>(
-    rt: &R,
-    lines: &str,
-    rack: &'static [u64],
-    replies: &str,
-) -> bool {
-    let failing = Failing { rack, ..NONE };
-    match joined(rt.alloc(), CREATED, replies) {
-        Ok(wanted) => comes_behind(rt, lines, &failing, Status::Done, &wanted),
-        Err(_) => false,
-    }
-}
+const ONE: &str = "write 7 aa\nread 7\n";
 
-/// Lines, the calls of the rack that fail, and the replies. A block of one stripe is written by three calls and read by
-/// three. Earlier bytes stay where a write misses too many columns, and no object behind one without bytes is summed.
-static FAILING_RACKS: [(&str, &[u64], &str); 11] = [
-    (ONE, &[0], SOLVED),
-    (ONE, &[1], SOLVED),
-    (ONE, &[2], SOLVED),
-    (ONE, &[3], SOLVED),
-    (ONE, &[4], SOLVED),
+const SOLVED: &str = "create draid1:2d:3c:0s-0 stripes=32\nwrite 7 ok\nread 7 1 aa\n";
+
+const BACK: &str = "export\nimport\n";
+
+const FAILED: &str = "create draid1:2d:3c:0s-0 stripes=32\nexport group=1\nshelf fault\n";
+
+const FOUND: &str =
+    "create draid1:2d:3c:0s-0 stripes=32\nexport group=1\nimport draid1:2d:3c:0s-0 group=1 objects=0\n";
+
+/// Lines, the calls that fail, the status and what is printed. A block of one stripe is written by three calls of the rack and
+/// read by three. Earlier bytes stay where a write misses too many columns, and no object behind one without bytes is summed.
+static FAILING: [(&str, Failing, Status, &str); 20] = [
+    (ONE, Failing { rack: &[0], ..NONE }, Status::Done, SOLVED),
+    (ONE, Failing { rack: &[1], ..NONE }, Status::Done, SOLVED),
+    (ONE, Failing { rack: &[2], ..NONE }, Status::Done, SOLVED),
+    (ONE, Failing { rack: &[3], ..NONE }, Status::Done, SOLVED),
+    (ONE, Failing { rack: &[4], ..NONE }, Status::Done, SOLVED),
     (
         ONE,
-        &[1, 5],
-        "write 7 ok\nread 7 unreadable absent=1 tried=1\n",
+        Failing {
+            rack: &[1, 5],
+            ..NONE
+        },
+        Status::Done,
+        "create draid1:2d:3c:0s-0 stripes=32\nwrite 7 ok\nread 7 unreadable absent=1 tried=1\n",
     ),
-    (ONE, &[0, 2], "write 7 missed columns=2\nread 7 no object\n"),
     (
         ONE,
-        &[3, 5],
-        "write 7 ok\nread 7 unreadable absent=2 tried=0\n",
+        Failing {
+            rack: &[0, 2],
+            ..NONE
+        },
+        Status::Done,
+        "create draid1:2d:3c:0s-0 stripes=32\nwrite 7 missed columns=2\nread 7 no object\n",
+    ),
+    (
+        ONE,
+        Failing {
+            rack: &[3, 5],
+            ..NONE
+        },
+        Status::Done,
+        "create draid1:2d:3c:0s-0 stripes=32\nwrite 7 ok\nread 7 unreadable absent=2 tried=0\n",
     ),
     (
         "write 7 aa\nwrite 7 bb\nread 7\n",
-        &[3, 5],
-        "write 7 ok\nwrite 7 missed columns=2\nread 7 1 aa\n",
+        Failing {
+            rack: &[3, 5],
+            ..NONE
+        },
+        Status::Done,
+        "create draid1:2d:3c:0s-0 stripes=32\nwrite 7 ok\nwrite 7 missed columns=2\nread 7 1 aa\n",
     ),
     (
         "write 1 aa\nwrite 3 cc\nsum 1 3\nread 3\n",
-        &[9, 11],
-        "write 1 ok\nwrite 3 ok\nsum 2 no object\nread 3 unreadable absent=2 tried=0\n",
+        Failing {
+            rack: &[9, 11],
+            ..NONE
+        },
+        Status::Done,
+        "create draid1:2d:3c:0s-0 stripes=32\nwrite 1 ok\nwrite 3 ok\nsum 2 no object\nread 3 unreadable absent=2 tried=0\n",
     ),
     (
         "write 1 aa\nwrite 2 bb\nwrite 3 cc\nsum 1 4\n",
-        &[12, 14],
-        "write 1 ok\nwrite 2 ok\nwrite 3 ok\nsum 2 unreadable absent=2 tried=0\n",
+        Failing {
+            rack: &[12, 14],
+            ..NONE
+        },
+        Status::Done,
+        "create draid1:2d:3c:0s-0 stripes=32\nwrite 1 ok\nwrite 2 ok\nwrite 3 ok\nsum 2 unreadable absent=2 tried=0\n",
+    ),
+    // Devices are made, and then the area of the uberblock and the devices of the one metaslab are taken.
+    (
+        "",
+        Failing {
+            shelf: &[0],
+            ..NONE
+        },
+        Status::ShelfFault,
+        "shelf fault\n",
+    ),
+    (
+        "",
+        Failing {
+            shelf: &[1],
+            ..NONE
+        },
+        Status::ShelfFault,
+        "shelf fault\n",
+    ),
+    (
+        "",
+        Failing {
+            shelf: &[2],
+            ..NONE
+        },
+        Status::ShelfFault,
+        "shelf fault\n",
+    ),
+    (
+        "",
+        Failing {
+            shelf: &[3],
+            ..NONE
+        },
+        Status::Done,
+        "create draid1:2d:3c:0s-0 stripes=32\n",
+    ),
+    // Behind these an import takes the area of the uberblock and the devices of the metaslab.
+    (
+        BACK,
+        Failing {
+            shelf: &[3],
+            ..NONE
+        },
+        Status::ShelfFault,
+        FAILED,
+    ),
+    (
+        BACK,
+        Failing {
+            shelf: &[4],
+            ..NONE
+        },
+        Status::ShelfFault,
+        FAILED,
+    ),
+    (
+        BACK,
+        Failing {
+            shelf: &[5],
+            ..NONE
+        },
+        Status::Done,
+        FOUND,
+    ),
+    (
+        "",
+        Failing {
+            source: &[0],
+            ..NONE
+        },
+        Status::SourceFault,
+        "source fault\n",
+    ),
+    (
+        ONE,
+        Failing { sink: &[1], ..NONE },
+        Status::SinkFault,
+        "create draid1:2d:3c:0s-0 stripes=32\n",
     ),
 ];
 
-const ONE: &str = "write 7 aa\nread 7\n";
-
-const SOLVED: &str = "write 7 ok\nread 7 1 aa\n";
-
 #[test]
-fn calls_of_the_rack_fail(rt: HostRuntime) {
-    for (lines, rack, replies) in FAILING_RACKS.iter() {
-        assert!(rt; replies_over(&rt, lines, rack, replies), "{lines}");
+fn calls_that_fail_are_told(rt: HostRuntime) {
+    for row in 0..FAILING.len() {
+        let (lines, failing, status, wanted) = &FAILING[row];
+        assert!(rt;
+            comes_behind(&rt, lines, failing, *status, wanted.as_bytes()),
+            "{row}"
+        );
     }
-}
-
-/// Whether a run on a shelf of which a call fails comes to this status and prints this.
-fn comes_where_fails<R: AllocGlobal + Threads + Sync>(
-    rt: &R,
-    lines: &str,
-    shelf: &'static [u64],
-    status: Status,
-    wanted: &str,
-) -> bool {
-    let failing = Failing { shelf, ..NONE };
-    comes_behind(rt, lines, &failing, status, wanted.as_bytes())
-}
-
-static SHELF_CALLS: [(&[u64], Status, &str); 4] = [
-    (&[0], Status::ShelfFault, "shelf fault\n"),
-    (&[1], Status::ShelfFault, "shelf fault\n"),
-    (&[2], Status::ShelfFault, "shelf fault\n"),
-    (&[3], Status::Done, "create draid1:2d:3c:0s-0 stripes=32\n"),
-];
-
-// Devices are made, and then the area of the uberblock and the devices of the one metaslab are taken.
-#[test]
-fn a_shelf_that_fails_ends_the_run(rt: HostRuntime) {
-    for (calls, status, wanted) in SHELF_CALLS.iter() {
-        assert!(rt; comes_where_fails(&rt, "", calls, *status, wanted));
-    }
-}
-
-static FAILED: &str = "create draid1:2d:3c:0s-0 stripes=32\nexport group=1\nshelf fault\n";
-
-static FOUND: &str =
-    "create draid1:2d:3c:0s-0 stripes=32\nexport group=1\nimport draid1:2d:3c:0s-0 group=1 objects=0\n";
-
-static BACK: &str = "export\nimport\n";
-
-// Behind these an import takes the area of the uberblock and the devices of the metaslab.
-#[test]
-fn a_shelf_that_fails_at_an_import_ends_the_run(rt: HostRuntime) {
-    assert!(rt; comes_where_fails(&rt, BACK, &[3], Status::ShelfFault, FAILED));
-    assert!(rt; comes_where_fails(&rt, BACK, &[4], Status::ShelfFault, FAILED));
-    assert!(rt; comes_where_fails(&rt, BACK, &[5], Status::Done, FOUND));
 }
 
 /// How often areas are called by a create and two syncs. A record is written and flushed. A commit of the uberblock flushes
@@ -307,31 +360,6 @@ fn areas_that_fail_end_the_run(rt: HostRuntime) {
     for (area, calls) in AREA_CALLS.iter() {
         assert!(rt; ends_up_to(&rt, *area, *calls), "{calls}");
     }
-}
-
-/// Whether a session whose first call of the source fails ends.
-fn source_fails<R: AllocGlobal + Threads + Sync>(rt: &R) -> bool {
-    let failing = Failing {
-        source: &[0],
-        ..NONE
-    };
-    comes_behind(rt, "", &failing, Status::SourceFault, b"source fault\n")
-}
-
-#[test]
-fn a_source_that_fails_ends_the_run(rt: HostRuntime) {
-    assert!(rt; source_fails(&rt));
-}
-
-/// Whether a session whose second call of the sink fails ends.
-fn sink_fails<R: AllocGlobal + Threads + Sync>(rt: &R) -> bool {
-    let failing = Failing { sink: &[1], ..NONE };
-    comes_behind(rt, ONE, &failing, Status::SinkFault, CREATED.as_bytes())
-}
-
-#[test]
-fn a_sink_that_fails_ends_the_run(rt: HostRuntime) {
-    assert!(rt; sink_fails(&rt));
 }
 
 /// Words that ask for nothing, and words that ask for what isn't built.
@@ -391,10 +419,12 @@ fn last_fit(rooms: &[Room]) -> Option<u32>
     None
 }
 
-/// Runs a script with the last metaslab that has room for a block.
+/// Runs a script on a shelf with the last metaslab that has room for a block.
 fn run_last<R: AllocGlobal + Threads + Sync>(
     rt: &R,
-    source: &mut MemorySource,
+    line: &str,
+    script: &[u8],
+    shelf: &mut MemoryShelf,
     sink: &mut MemorySink,
 ) -> Option<Status> {
     let last = Chooser::new(
@@ -403,9 +433,13 @@ fn run_last<R: AllocGlobal + Threads + Sync>(
             ensures { Picks rooms.now result }
         { last_fit(rooms) },
     );
-    let mut shelf = MemoryShelf::new(rt.alloc(), CrashRule::New);
-    run_chosen(rt, "session", &mut shelf, source, sink, &last)
+    match source_of(rt.alloc(), script, &[]) {
+        Ok(mut source) => run_chosen(rt, line, shelf, &mut source, sink, &last),
+        Err(_) => None,
+    }
 }
+
+const LAST: Failing = Failing { last: true, ..NONE };
 
 static FILLING: &str =
     "create draid1:2d:3c:0s 3 sector=512 height=8 metaslabs=2 slices=1\nfill 1 17 1024 1\nread 17\nfree 1\nfree 1\nsum 2 1\n";
@@ -413,22 +447,20 @@ static FILLING: &str =
 static FILLED: &str =
     "create draid1:2d:3c:0s-0 stripes=16\nfill 1 written=16 no space run=0 disabled=0 full=0 worn=0\nread 17 no object\nfree 1 ok\nfree 1 no object\nsum 2 1 ba5bad6f19de8198fe601d1177afed48d27c6040506ed8c814cff891de30a0be\n";
 
-/// Whether metaslabs fill so.
-fn fill_from_the_last<R: AllocGlobal + Threads + Sync>(rt: &R) -> bool {
-    let mut sink = MemorySink::new(rt.alloc(), Vec::new(rt.alloc()));
-    match source_of(rt.alloc(), FILLING.as_bytes(), &NONE) {
-        Ok(mut source) => {
-            run_last(rt, &mut source, &mut sink) == Some(Status::Done)
-                && sink.held() == FILLED.as_bytes()
-        }
-        Err(_) => false,
-    }
-}
-
 // As the example of metaslabs that fill, where the first metaslab is chosen.
 #[test]
 fn metaslabs_fill_from_the_last(rt: HostRuntime) {
-    assert!(rt; fill_from_the_last(&rt));
+    let script = FILLING.as_bytes();
+    assert!(rt;
+        comes_to(
+            &rt,
+            "session",
+            script,
+            &LAST,
+            Status::Done,
+            FILLED.as_bytes()
+        )
+    );
 }
 
 /// The exit status of a session where one byte of the script is another.

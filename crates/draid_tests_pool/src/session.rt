@@ -36,7 +36,7 @@ pub fn run_chosen<R: AllocGlobal + Threads + Sync, F: Fn(&[Room]) -> Option<u32>
 }
 
 /// The same, where the first metaslab that has room for a block takes it.
-pub fn run_first<R: AllocGlobal + Threads + Sync>(
+fn run_first<R: AllocGlobal + Threads + Sync>(
     rt: &R,
     line: &str,
     shelf: &mut MemoryShelf,
@@ -50,4 +50,29 @@ pub fn run_first<R: AllocGlobal + Threads + Sync>(
         { first_fit(rooms) },
     );
     run_chosen(rt, line, shelf, source, sink, &chooser)
+}
+
+/// The source of a script, of which the calls with these numbers fail.
+pub fn source_of(
+    alloc: Global,
+    script: &[u8],
+    failing: &[u64],
+) -> Result<MemorySource, AllocError> {
+    let script = Vec::from_slice(alloc, script)?;
+    Ok(MemorySource::new(script, Vec::from_slice(alloc, failing)?))
+}
+
+/// Runs a script on a shelf so, where these calls of its source fail; none where there is no memory for the script.
+pub fn run_script<R: AllocGlobal + Threads + Sync>(
+    rt: &R,
+    line: &str,
+    script: &[u8],
+    failing: &[u64],
+    shelf: &mut MemoryShelf,
+    sink: &mut MemorySink,
+) -> Option<Status> {
+    match source_of(rt.alloc(), script, failing) {
+        Ok(mut source) => run_first(rt, line, shelf, &mut source, sink),
+        Err(_) => None,
+    }
 }

@@ -93,134 +93,33 @@ fn reopened(
     }
 }
 
-/// Whether this is so told of it.
-fn keeps(alloc: Global, bytes: &[u8], leaves: u32, wanted: Kept) -> bool {
-    match reopened(alloc, bytes, leaves, 0, &[]) {
-        Some(Ok((kept, _))) => kept == wanted,
-        _ => false,
-    }
-}
-
-/// Whether it isn't opened for this fault.
-fn is_refused(alloc: Global, bytes: &[u8], leaves: u32, more: u64, fault: OpenFault) -> bool
-    requires { more ≤ 1 }
-{
-    match reopened(alloc, bytes, leaves, more, &[]) {
-        Some(Err(why)) => why == fault,
-        _ => false,
-    }
+/// What stands in the area of odd groups.
+#[derive(Clone, Copy)]
+enum Bytes {
+    /// The record.
+    Whole,
+    /// The record where one byte is another.
+    Changed(usize, u8),
+    /// Its first bytes, so many.
+    Cut(usize),
+    /// The record with two blocks of a stripe each. The second begins at stripe 1, and is of object 7 and this seq; so is
+    /// the first, with seq 1.
+    Blocks(u8),
 }
 
 /// The record where one byte is another.
-fn changed(place: usize, byte: u8) -> [u8; 84] {
-    let mut bytes = RECORD;
+fn changed(place: usize, byte: u8) -> [u8; 244] {
+    let mut bytes = [0u8; 244];
+    bytes[..84].copy_from_slice(&RECORD);
     if place < 84 {
         bytes[place] = byte;
     }
     bytes
 }
 
-/// A place and a byte for it, how many leaves there are, and which of them stay.
-static STAYS: [(usize, u8, u32, [bool; 4]); 3] = [
-    (84, 0, 3, [true, true, true, false]),
-    (84, 0, 4, [true, true, true, false]),
-    (46, 3, 4, [true, false, true, true]),
-];
-
-#[test]
-fn leaves_that_a_record_does_not_name_go(rt: HostRuntime) {
-    for (place, byte, leaves, stays) in STAYS.iter() {
-        assert!(rt;
-            keeps(rt.alloc(), &changed(*place, *byte), *leaves, (*stays, 32)),
-            "{leaves}"
-        );
-    }
-}
-
-/// The fault of a record at this byte.
-fn bad(at: u64, kind: u8) -> OpenFault {
-    OpenFault::Record { at, kind }
-}
-
-/// A place and a byte for it, how many leaves there are, and at which byte the record names one that isn't there.
-static LACKS: [(usize, u8, u32, u64); 6] = [
-    (84, 0, 0, 24),
-    (84, 0, 1, 39),
-    (84, 0, 2, 54),
-    (31, 3, 3, 24),
-    (46, 3, 3, 39),
-    (61, 3, 3, 54),
-];
-
-#[test]
-fn leaves_that_are_not_there_are_told(rt: HostRuntime) {
-    for (place, byte, leaves, at) in LACKS.iter() {
-        let record = changed(*place, *byte);
-        assert!(rt;
-            is_refused(rt.alloc(), &record, *leaves, 0, bad(*at, 6)),
-            "{at}"
-        );
-    }
-}
-
-#[test]
-fn leaves_of_other_sectors_are_told(rt: HostRuntime) {
-    assert!(rt; is_refused(rt.alloc(), &RECORD, 3, 1, bad(24, 6)));
-}
-
-/// A place and a byte for it, and the fault that is found then.
-static FIELDS: [(usize, u8, u64, u8); 7] = [
-    (11, 1, 10, 2),
-    (21, 4, 20, 2),
-    (31, 4, 24, 2),
-    (46, 0, 39, 2),
-    (79, 1, 80, 1),
-    (9, 83, 80, 1),
-    (9, 85, 6, 2),
-];
-
-#[test]
-fn faults_of_fields_come_before_those_of_leaves(rt: HostRuntime) {
-    for (place, byte, at, kind) in FIELDS.iter() {
-        let record = changed(*place, *byte);
-        assert!(rt;
-            is_refused(rt.alloc(), &record, 0, 0, bad(*at, *kind)),
-            "{place}"
-        );
-    }
-}
-
-/// A length to which the record is cut, and the fault that is found then.
-static LENGTHS: [(usize, u64, u8); 6] = [
-    (0, 0, 1),
-    (3, 0, 1),
-    (4, 4, 1),
-    (9, 6, 1),
-    (10, 6, 2),
-    (83, 6, 2),
-];
-
-/// The first bytes of the record.
-fn cut(len: usize) -> &'static [u8] {
-    &RECORD[..len.min(84)]
-}
-
-#[test]
-fn faults_of_lengths_come_before_those_of_leaves(rt: HostRuntime) {
-    for (len, at, kind) in LENGTHS.iter() {
-        assert!(rt;
-            is_refused(rt.alloc(), cut(*len), 0, 0, bad(*at, *kind)),
-            "{len}"
-        );
-    }
-}
-
-/// The record with two blocks of a stripe each. The second begins at stripe 1, and is of object 7 and this seq; so is
-/// the first, with seq 1.
+/// The record with two blocks, the second of this seq.
 fn with_blocks(seq: u8) -> [u8; 244] {
-    let mut bytes = [0u8; 244];
-    bytes[..84].copy_from_slice(&RECORD);
-    bytes[9] = 244;
+    let mut bytes = changed(9, 244);
     bytes[79] = 1; // a run of stripes, of two
     bytes[95] = 2;
     bytes[99] = 2; // two blocks
@@ -238,43 +137,240 @@ fn with_blocks(seq: u8) -> [u8; 244] {
     bytes
 }
 
-#[test]
-fn blocks_take_their_stripes(rt: HostRuntime) {
-    let stays = [true, true, true, false];
-    assert!(rt; keeps(rt.alloc(), &with_blocks(2), 3, (stays, 30)));
+/// Those bytes, and how many of them count.
+fn bytes_of(bytes: Bytes) -> ([u8; 244], usize) {
+    match bytes {
+        Bytes::Whole => (changed(84, 0), 84),
+        Bytes::Changed(place, byte) => (changed(place, byte), 84),
+        Bytes::Cut(len) => (changed(84, 0), len),
+        Bytes::Blocks(seq) => (with_blocks(seq), 244),
+    }
 }
 
-#[test]
-fn blocks_that_stand_twice_are_told_last(rt: HostRuntime) {
-    assert!(rt; is_refused(rt.alloc(), &with_blocks(1), 3, 0, bad(172, 5)));
-    assert!(rt; is_refused(rt.alloc(), &with_blocks(1), 2, 0, bad(54, 6)));
-}
+/// What stands there, how many leaves there are, how many sectors each has more, whether the first call on the area fails, and
+/// what is told then: what is kept, and whether there are two blocks.
+type Row = (Bytes, u32, u64, bool, Result<(Kept, bool), OpenFault>);
 
-/// Whether the area's failure is why a metaslab isn't opened where its first call fails.
-fn fails_for_area(alloc: Global) -> bool {
-    match reopened(alloc, &RECORD, 3, 0, &[0]) {
-        Some(Err(why)) => why == OpenFault::Area,
+/// The blocks of a record that has none.
+const NEW: Blocks = (84, [None; 3]);
+
+/// Those of a record that has two.
+const TWO: Blocks = (100, [Some(0), Some(1), None]);
+
+static ROWS: [Row; 27] = [
+    // Leaves that a record doesn't name go.
+    (
+        Bytes::Whole,
+        3,
+        0,
+        false,
+        Ok((([true, true, true, false], 32), false)),
+    ),
+    (
+        Bytes::Whole,
+        4,
+        0,
+        false,
+        Ok((([true, true, true, false], 32), false)),
+    ),
+    (
+        Bytes::Changed(46, 3),
+        4,
+        0,
+        false,
+        Ok((([true, false, true, true], 32), false)),
+    ),
+    // Leaves that aren't there are told, and those of other sectors.
+    (
+        Bytes::Whole,
+        0,
+        0,
+        false,
+        Err(OpenFault::Record { at: 24, kind: 6 }),
+    ),
+    (
+        Bytes::Whole,
+        1,
+        0,
+        false,
+        Err(OpenFault::Record { at: 39, kind: 6 }),
+    ),
+    (
+        Bytes::Whole,
+        2,
+        0,
+        false,
+        Err(OpenFault::Record { at: 54, kind: 6 }),
+    ),
+    (
+        Bytes::Changed(31, 3),
+        3,
+        0,
+        false,
+        Err(OpenFault::Record { at: 24, kind: 6 }),
+    ),
+    (
+        Bytes::Changed(46, 3),
+        3,
+        0,
+        false,
+        Err(OpenFault::Record { at: 39, kind: 6 }),
+    ),
+    (
+        Bytes::Changed(61, 3),
+        3,
+        0,
+        false,
+        Err(OpenFault::Record { at: 54, kind: 6 }),
+    ),
+    (
+        Bytes::Whole,
+        3,
+        1,
+        false,
+        Err(OpenFault::Record { at: 24, kind: 6 }),
+    ),
+    // Faults of fields and of lengths come before those of leaves.
+    (
+        Bytes::Changed(11, 1),
+        0,
+        0,
+        false,
+        Err(OpenFault::Record { at: 10, kind: 2 }),
+    ),
+    (
+        Bytes::Changed(21, 4),
+        0,
+        0,
+        false,
+        Err(OpenFault::Record { at: 20, kind: 2 }),
+    ),
+    (
+        Bytes::Changed(31, 4),
+        0,
+        0,
+        false,
+        Err(OpenFault::Record { at: 24, kind: 2 }),
+    ),
+    (
+        Bytes::Changed(46, 0),
+        0,
+        0,
+        false,
+        Err(OpenFault::Record { at: 39, kind: 2 }),
+    ),
+    (
+        Bytes::Changed(79, 1),
+        0,
+        0,
+        false,
+        Err(OpenFault::Record { at: 80, kind: 1 }),
+    ),
+    (
+        Bytes::Changed(9, 83),
+        0,
+        0,
+        false,
+        Err(OpenFault::Record { at: 80, kind: 1 }),
+    ),
+    (
+        Bytes::Changed(9, 85),
+        0,
+        0,
+        false,
+        Err(OpenFault::Record { at: 6, kind: 2 }),
+    ),
+    (
+        Bytes::Cut(0),
+        0,
+        0,
+        false,
+        Err(OpenFault::Record { at: 0, kind: 1 }),
+    ),
+    (
+        Bytes::Cut(3),
+        0,
+        0,
+        false,
+        Err(OpenFault::Record { at: 0, kind: 1 }),
+    ),
+    (
+        Bytes::Cut(4),
+        0,
+        0,
+        false,
+        Err(OpenFault::Record { at: 4, kind: 1 }),
+    ),
+    (
+        Bytes::Cut(9),
+        0,
+        0,
+        false,
+        Err(OpenFault::Record { at: 6, kind: 1 }),
+    ),
+    (
+        Bytes::Cut(10),
+        0,
+        0,
+        false,
+        Err(OpenFault::Record { at: 6, kind: 2 }),
+    ),
+    (
+        Bytes::Cut(83),
+        0,
+        0,
+        false,
+        Err(OpenFault::Record { at: 6, kind: 2 }),
+    ),
+    // Blocks take their stripes, and those that stand twice are told last.
+    (
+        Bytes::Blocks(2),
+        3,
+        0,
+        false,
+        Ok((([true, true, true, false], 30), true)),
+    ),
+    (
+        Bytes::Blocks(1),
+        3,
+        0,
+        false,
+        Err(OpenFault::Record { at: 172, kind: 5 }),
+    ),
+    (
+        Bytes::Blocks(1),
+        2,
+        0,
+        false,
+        Err(OpenFault::Record { at: 54, kind: 6 }),
+    ),
+    // An area that fails is told.
+    (Bytes::Whole, 3, 0, true, Err(OpenFault::Area)),
+];
+
+/// Whether that is told.
+fn is_told(alloc: Global, row: &Row) -> bool {
+    let (bytes, leaves, more, fails, wanted) = *row;
+    if more > 1 {
+        return false;
+    }
+    let (bytes, len) = bytes_of(bytes);
+    let failing: &[u64] = if fails { &[0] } else { &[] };
+    let told = reopened(alloc, &bytes[..len.min(244)], leaves, more, failing);
+    match (told, wanted) {
+        (Some(Ok((kept, blocks))), Ok((wanted, two))) => {
+            kept == wanted && blocks == (if two { TWO } else { NEW })
+        }
+        (Some(Err(why)), Err(fault)) => why == fault,
         _ => false,
     }
 }
 
 #[test]
-fn an_area_that_fails_is_told(rt: HostRuntime) {
-    assert!(rt; fails_for_area(rt.alloc()));
-}
-
-/// Whether these blocks are told of a metaslab that is opened from these bytes.
-fn names(alloc: Global, bytes: &[u8], wanted: Blocks) -> bool {
-    match reopened(alloc, bytes, 3, 0, &[]) {
-        Some(Ok((_, blocks))) => blocks == wanted,
-        _ => false,
+fn a_record_is_told(rt: HostRuntime) {
+    for row in 0..ROWS.len() {
+        assert!(rt; is_told(rt.alloc(), &ROWS[row]), "{row}");
     }
-}
-
-#[test]
-fn the_blocks_of_a_record_are_named(rt: HostRuntime) {
-    assert!(rt; names(rt.alloc(), &RECORD, (84, [None; 3])));
-    assert!(rt; names(rt.alloc(), &with_blocks(2), (100, [Some(0), Some(1), None])));
 }
 
 /// Makes a metaslab, and opens it again from the record of its group 1; or why it isn't made.
@@ -314,37 +410,39 @@ fn made_over(
     }
 }
 
-/// Whether a new metaslab with three leaves and 32 free stripes is opened again.
-fn is_made(alloc: Global) -> bool {
-    match made_over(alloc, &[]) {
-        Some(Ok(Ok((kept, _)))) => kept == ([true, true, true, false], 32),
+/// How far a new metaslab comes.
+#[derive(Clone, Copy)]
+enum Course {
+    /// It isn't made for its area's failure.
+    No,
+    /// It is made, and not opened again for that.
+    Shut,
+    /// It is opened again, with three leaves and 32 free stripes.
+    Opened,
+}
+
+/// Whether it comes so far where these calls on the area of odd groups fail.
+fn is_made(alloc: Global, failing: &[u64], wanted: Course) -> bool {
+    match (made_over(alloc, failing), wanted) {
+        (Some(Err(why)), Course::No) => why == OpenFault::Area,
+        (Some(Ok(Err(why))), Course::Shut) => why == OpenFault::Area,
+        (Some(Ok(Ok((kept, _)))), Course::Opened) => kept == ([true, true, true, false], 32),
         _ => false,
     }
 }
 
-/// Whether a metaslab isn't made for its area's failure, where this call fails.
-fn is_not_made(alloc: Global, call: u64) -> bool {
-    match made_over(alloc, &[call]) {
-        Some(Err(why)) => why == OpenFault::Area,
-        _ => false,
-    }
-}
-
-/// Whether one that is made isn't opened again for that.
-fn is_not_opened(alloc: Global, call: u64) -> bool {
-    match made_over(alloc, &[call]) {
-        Some(Ok(Err(why))) => why == OpenFault::Area,
-        _ => false,
-    }
-}
-
-/// Whether its area's first three failures are told so.
-fn fails_while_made(alloc: Global) -> bool {
-    is_not_made(alloc, 0) && is_not_made(alloc, 1) && is_not_opened(alloc, 2)
-}
+static MADE: [(&[u64], Course); 4] = [
+    (&[], Course::Opened),
+    (&[0], Course::No),
+    (&[1], Course::No),
+    (&[2], Course::Shut),
+];
 
 // The record of a new metaslab is written and flushed, and then it is read.
 #[test]
 fn a_new_metaslab_has_a_record(rt: HostRuntime) {
-    assert!(rt; is_made(rt.alloc()) && fails_while_made(rt.alloc()));
+    for row in 0..MADE.len() {
+        let (failing, wanted) = MADE[row];
+        assert!(rt; is_made(rt.alloc(), failing, wanted), "{row}");
+    }
 }

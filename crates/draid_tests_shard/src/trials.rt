@@ -113,101 +113,140 @@ fn passes(alloc: Global, rack: &[u64], even: &[u64], events: u64, trial: Trial) 
     }
 }
 
-/// Whether a block lives so where these calls of the leaves fail.
-fn lives(alloc: Global, failing: &[u64], leaves: [bool; 3], absent: usize) -> bool {
-    passes(alloc, failing, &[], 4096, Trial::Lives { leaves, absent })
-}
+/// What is shown, the calls of the leaves and of the even area that fail, how many events the metaslab may have, and what it does.
+type Row = (&'static str, &'static [u64], &'static [u64], u64, Trial);
 
-/// Whether it does where no call fails, the second write, and the second read.
-fn each_lives(alloc: Global) -> bool {
-    lives(alloc, &[], [false; 3], 0)
-        && lives(alloc, &[1], [false, true, false], 0)
-        && lives(alloc, &[4], [false; 3], 1)
-}
+const NONE: [bool; 3] = [false; 3];
 
-// A block of one stripe is three writes and three reads. A leaf on which a column is missed has the group in its log.
+const SECOND: [bool; 3] = [false, true, false];
+
+// A block of one stripe is three writes and three reads. A leaf on which a column is missed has the group in its log. The
+// last 3,072 events are left for the closing of groups, which may use the limit up; each fetch is an event. A seal flushes
+// three leaves behind those writes; one on which that fails has the group in its log, and the block is thin. Where its area
+// fails, a group isn't sealed, and may be sealed once more.
+static ROWS: [Row; 18] = [
+    (
+        "a block lives",
+        &[],
+        &[],
+        4096,
+        Trial::Lives {
+            leaves: NONE,
+            absent: 0,
+        },
+    ),
+    (
+        "a block lives while a write fails",
+        &[1],
+        &[],
+        4096,
+        Trial::Lives {
+            leaves: SECOND,
+            absent: 0,
+        },
+    ),
+    (
+        "a block lives while a read fails",
+        &[4],
+        &[],
+        4096,
+        Trial::Lives {
+            leaves: NONE,
+            absent: 1,
+        },
+    ),
+    (
+        "too many missed columns end a write",
+        &[0, 2],
+        &[],
+        4096,
+        Trial::MissesTwo,
+    ),
+    (
+        "a write that is given up leaves its stripes",
+        &[],
+        &[],
+        4096,
+        Trial::GivesUp,
+    ),
+    (
+        "two damaged sectors",
+        &[],
+        &[],
+        4096,
+        Trial::IsDamaged { second: true },
+    ),
+    (
+        "one damaged sector is read around",
+        &[4],
+        &[],
+        4096,
+        Trial::IsDamaged { second: false },
+    ),
+    ("a worn metaslab says so", &[], &[], 3072, Trial::IsWorn),
+    (
+        "a block that does not fit is refused",
+        &[],
+        &[],
+        4096,
+        Trial::IsSmall,
+    ),
+    ("a metaslab wears out", &[], &[], 20_000, Trial::WearsOut),
+    ("a group closes up to the limit", &[], &[], 3, Trial::Closes),
+    (
+        "no group closes behind the limit",
+        &[],
+        &[],
+        2,
+        Trial::StaysOpen,
+    ),
+    (
+        "a group is sealed",
+        &[],
+        &[],
+        4096,
+        Trial::Seals {
+            thin: 0,
+            leaves: NONE,
+        },
+    ),
+    (
+        "a group is sealed while a flush fails",
+        &[4],
+        &[],
+        4096,
+        Trial::Seals {
+            thin: 1,
+            leaves: SECOND,
+        },
+    ),
+    (
+        "a group whose record isn't written is sealed again",
+        &[],
+        &[0],
+        4096,
+        Trial::SealsAgain,
+    ),
+    (
+        "a group whose record isn't flushed is sealed again",
+        &[],
+        &[1],
+        4096,
+        Trial::SealsAgain,
+    ),
+    ("a seal waits for open writes", &[], &[], 4096, Trial::Waits),
+    (
+        "freed stripes come back at the commit",
+        &[],
+        &[],
+        4096,
+        Trial::GivesBack,
+    ),
+];
+
 #[test]
-fn blocks_live_while_calls_fail(rt: HostRuntime) {
-    assert!(rt; each_lives(rt.alloc()));
-}
-
-#[test]
-fn too_many_missed_columns_end_a_write(rt: HostRuntime) {
-    assert!(rt; passes(rt.alloc(), &[0, 2], &[], 4096, Trial::MissesTwo));
-}
-
-#[test]
-fn a_write_that_is_given_up_leaves_its_stripes(rt: HostRuntime) {
-    assert!(rt; passes(rt.alloc(), &[], &[], 4096, Trial::GivesUp));
-}
-
-/// Whether sectors are damaged so where these calls of the leaves fail.
-fn is_damaged(alloc: Global, failing: &[u64], second: bool) -> bool {
-    passes(alloc, failing, &[], 4096, Trial::IsDamaged { second })
-}
-
-#[test]
-fn one_damaged_sector_is_read_around(rt: HostRuntime) {
-    assert!(rt; is_damaged(rt.alloc(), &[], true) && is_damaged(rt.alloc(), &[4], false));
-}
-
-// The last 3,072 events are left for the closing of groups.
-#[test]
-fn a_worn_metaslab_says_so(rt: HostRuntime) {
-    assert!(rt; passes(rt.alloc(), &[], &[], 3072, Trial::IsWorn));
-}
-
-#[test]
-fn a_block_that_does_not_fit_is_refused(rt: HostRuntime) {
-    assert!(rt; passes(rt.alloc(), &[], &[], 4096, Trial::IsSmall));
-}
-
-// Each fetch is an event. Of 20,000 the last 3,072 are left for the closing of groups.
-#[test]
-fn a_metaslab_wears_out(rt: HostRuntime) {
-    assert!(rt; passes(rt.alloc(), &[], &[], 20_000, Trial::WearsOut));
-}
-
-// The closing of a group may use the limit up.
-#[test]
-fn a_group_closes_up_to_the_limit(rt: HostRuntime) {
-    assert!(rt;
-        passes(rt.alloc(), &[], &[], 3, Trial::Closes)
-            && passes(rt.alloc(), &[], &[], 2, Trial::StaysOpen)
-    );
-}
-
-/// Whether a group is sealed so where these calls of the leaves fail.
-fn seals(alloc: Global, failing: &[u64], thin: u64, leaves: [bool; 3]) -> bool {
-    passes(alloc, failing, &[], 4096, Trial::Seals { thin, leaves })
-}
-
-/// Whether one is where no call fails, and where the second flush does.
-fn each_seals(alloc: Global) -> bool {
-    seals(alloc, &[], 0, [false; 3]) && seals(alloc, &[4], 1, [false, true, false])
-}
-
-// The block is three writes, and then three leaves are flushed. One on which that fails has the group in its log, and the
-// block is thin.
-#[test]
-fn groups_are_sealed_while_flushes_fail(rt: HostRuntime) {
-    assert!(rt; each_seals(rt.alloc()));
-}
-
-// Where its area fails, a group isn't sealed, and may be sealed once more.
-#[test]
-fn groups_are_sealed_again(rt: HostRuntime) {
-    for call in 0..2 {
-        assert!(rt; passes(rt.alloc(), &[], &[call], 4096, Trial::SealsAgain));
+fn an_empty_metaslab_does_as_it_has_to(rt: HostRuntime) {
+    for (shown, rack, even, events, trial) in ROWS.iter() {
+        assert!(rt; passes(rt.alloc(), rack, even, *events, *trial), "{shown}");
     }
-}
-
-#[test]
-fn a_seal_waits_for_open_writes(rt: HostRuntime) {
-    assert!(rt; passes(rt.alloc(), &[], &[], 4096, Trial::Waits));
-}
-
-#[test]
-fn freed_stripes_come_back_at_the_commit(rt: HostRuntime) {
-    assert!(rt; passes(rt.alloc(), &[], &[], 4096, Trial::GivesBack));
 }

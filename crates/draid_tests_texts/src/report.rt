@@ -2,6 +2,79 @@ use draid_names::{Arm, ArmKind, PassKind};
 use draid_report::{ArmView, MetaslabView, PassView, View, status_json, status_text};
 use std::alloc::{AllocError, Global};
 
+/// An arm by its slot: what it is, the name of a spare, and how many groups it missed.
+#[derive(Clone, Copy)]
+struct ArmRow {
+    slot: u32,
+    arm: Arm,
+    name: &'static str,
+    logged: u64,
+}
+
+/// Leaf 0 in slot 0, which missed nothing.
+const LEAF: ArmRow = ArmRow {
+    slot: 0,
+    arm: ONLINE,
+    name: "",
+    logged: 0,
+};
+
+const ONLINE: Arm = Arm {
+    kind: ArmKind::Leaf,
+    number: 0,
+    offline: false,
+    fresh: false,
+};
+
+/// What a pool has, and how its status is told.
+struct Pool {
+    name: &'static str,
+    group: u64,
+    open_group: u64,
+    objects: u64,
+    slots: u32,
+    arms: &'static [ArmRow],
+    metaslabs: &'static [MetaslabView],
+    text: &'static str,
+    json: &'static str,
+}
+
+/// The arms of a slot.
+fn slot_of(alloc: Global, slot: u32, rows: &[ArmRow]) -> Result<Vec<ArmView>, AllocError> {
+    let mut arms = Vec::new(alloc);
+    for row in rows {
+        if row.slot == slot {
+            arms.push(ArmView {
+                arm: row.arm,
+                spare_name: String::from_str(alloc, row.name)?,
+                logged: row.logged,
+            })?;
+        }
+    }
+    Ok(arms)
+}
+
+/// So many slots with those arms.
+fn slots_of(alloc: Global, count: u32, rows: &[ArmRow]) -> Result<Vec<Vec<ArmView>>, AllocError> {
+    let mut slots = Vec::new(alloc);
+    for slot in 0..count {
+        slots.push(slot_of(alloc, slot, rows)?)?;
+    }
+    Ok(slots)
+}
+
+/// What `status` is told of a pool.
+fn view_of(alloc: Global, pool: &Pool) -> Result<View, AllocError> {
+    Ok(View {
+        name: String::from_str(alloc, pool.name)?,
+        group: pool.group,
+        open_group: pool.open_group,
+        objects: pool.objects,
+        slots: slots_of(alloc, pool.slots, pool.arms)?,
+        metaslabs: Vec::from_slice(alloc, pool.metaslabs)?,
+    })
+}
+
 /// Whether the text of a pool's status is this.
 fn has_text(alloc: Global, view: &View, wanted: &str) -> bool {
     match status_text(alloc, view) {
@@ -18,59 +91,15 @@ fn has_json(alloc: Global, view: &View, wanted: &str) -> bool {
     }
 }
 
-fn arm(alloc: Global, kind: ArmKind, number: u64, name: &str) -> Result<ArmView, AllocError> {
-    Ok(ArmView {
-        arm: Arm {
-            kind,
-            number,
-            offline: false,
-            fresh: false,
-        },
-        spare_name: String::from_str(alloc, name)?,
-        logged: 0,
-    })
-}
-
-fn leaf(alloc: Global, number: u64) -> Result<ArmView, AllocError> {
-    arm(alloc, ArmKind::Leaf, number, "")
-}
-
-/// A slot with this arm.
-fn with(alloc: Global, arm: ArmView) -> Result<Vec<ArmView>, AllocError> {
-    let mut arms = Vec::new(alloc);
-    arms.push(arm)?;
-    Ok(arms)
-}
-
-/// The slots of three leaves, which missed nothing.
-fn leaves(alloc: Global) -> Result<Vec<Vec<ArmView>>, AllocError> {
-    let mut slots = Vec::new(alloc);
-    for number in 0..3 {
-        slots.push(with(alloc, leaf(alloc, number)?)?)?;
+/// Whether the status of a pool is told so.
+fn is_told(alloc: Global, pool: &Pool) -> bool {
+    match view_of(alloc, pool) {
+        Ok(view) => has_text(alloc, &view, pool.text) && has_json(alloc, &view, pool.json),
+        Err(_) => false,
     }
-    Ok(slots)
 }
 
-/// An empty metaslab.
-static EMPTY: [MetaslabView; 1] = [MetaslabView {
-    free: 32,
-    blocks: 0,
-    pass: None,
-}];
-
-/// A new pool of three disks and one metaslab.
-fn small_pool(alloc: Global) -> Result<View, AllocError> {
-    Ok(View {
-        name: String::from_str(alloc, "draid1:2d:3c:0s-0")?,
-        group: 1,
-        open_group: 2,
-        objects: 0,
-        slots: leaves(alloc)?,
-        metaslabs: Vec::from_slice(alloc, &EMPTY)?,
-    })
-}
-
-static NEW: &str = "pool draid1:2d:3c:0s-0 group=1 open=2 objects=0
+const NEW: &str = "pool draid1:2d:3c:0s-0 group=1 open=2 objects=0
 slot 0 leaf 0 online logged=0
 slot 1 leaf 1 online logged=0
 slot 2 leaf 2 online logged=0
@@ -78,55 +107,82 @@ metaslab 0 free=32 blocks=0 none
 end
 ";
 
-static NEW_JSON: &str =
+const NEW_JSON: &str =
     "{\"group\":1,\"metaslabs\":[{\"blocks\":0,\"free\":32,\"number\":0,\"pass\":null}],\"name\":\"draid1:2d:3c:0s-0\",\"objects\":0,\"open\":2,\"slots\":[[{\"kind\":\"leaf\",\"logged\":0,\"number\":0,\"offline\":false}],[{\"kind\":\"leaf\",\"logged\":0,\"number\":1,\"offline\":false}],[{\"kind\":\"leaf\",\"logged\":0,\"number\":2,\"offline\":false}]]}\n";
 
-/// Whether the status of that pool is told so.
-fn new_is_told(alloc: Global) -> bool {
-    match small_pool(alloc) {
-        Ok(view) => has_text(alloc, &view, NEW) && has_json(alloc, &view, NEW_JSON),
-        Err(_) => false,
-    }
-}
+const SECOND: ArmRow = ArmRow {
+    slot: 1,
+    arm: Arm {
+        number: 1,
+        ..ONLINE
+    },
+    ..LEAF
+};
+
+const THIRD: ArmRow = ArmRow {
+    slot: 2,
+    arm: Arm {
+        number: 2,
+        ..ONLINE
+    },
+    ..LEAF
+};
+
+/// A new pool of three disks and one empty metaslab.
+static NEW_POOL: Pool = Pool {
+    name: "draid1:2d:3c:0s-0",
+    group: 1,
+    open_group: 2,
+    objects: 0,
+    slots: 3,
+    arms: &[LEAF, SECOND, THIRD],
+    metaslabs: &[MetaslabView {
+        free: 32,
+        blocks: 0,
+        pass: None,
+    }],
+    text: NEW,
+    json: NEW_JSON,
+};
 
 #[test]
 fn a_new_pool(rt: HostRuntime) {
-    assert!(rt; new_is_told(rt.alloc()));
+    assert!(rt; is_told(rt.alloc(), &NEW_POOL));
 }
 
-/// A leaf that is offline.
-fn lost(alloc: Global) -> Result<ArmView, AllocError> {
-    let mut lost = leaf(alloc, 0)?;
-    lost.arm.offline = true;
-    lost.logged = 7;
-    Ok(lost)
-}
+/// A leaf that is offline, and a spare in its place.
+const LOST: ArmRow = ArmRow {
+    arm: Arm {
+        offline: true,
+        ..ONLINE
+    },
+    logged: 7,
+    ..LEAF
+};
 
-/// A slot with such a leaf, and a spare in its place.
-fn spared(alloc: Global) -> Result<Vec<ArmView>, AllocError> {
-    let mut arms = with(alloc, lost(alloc)?)?;
-    arms.push(arm(alloc, ArmKind::Spare, 0, "draid2-0-0")?)?;
-    Ok(arms)
-}
+const SPARE: ArmRow = ArmRow {
+    arm: Arm {
+        kind: ArmKind::Spare,
+        ..ONLINE
+    },
+    name: "draid2-0-0",
+    ..LEAF
+};
 
-/// A slot whose leaf was replaced by leaf 3.
-fn replaced(alloc: Global) -> Result<Vec<ArmView>, AllocError> {
-    let mut leaf = leaf(alloc, 3)?;
-    leaf.arm.fresh = true;
-    leaf.logged = 12;
-    with(alloc, leaf)
-}
-
-/// Both slots.
-fn repaired_slots(alloc: Global) -> Result<Vec<Vec<ArmView>>, AllocError> {
-    let mut slots = Vec::new(alloc);
-    slots.push(spared(alloc)?)?;
-    slots.push(replaced(alloc)?)?;
-    Ok(slots)
-}
+/// Leaf 3 in place of another one.
+const FRESH: ArmRow = ArmRow {
+    slot: 1,
+    arm: Arm {
+        number: 3,
+        fresh: true,
+        ..ONLINE
+    },
+    logged: 12,
+    ..LEAF
+};
 
 /// Metaslabs whose passes have stopped in the middle, and one without a pass.
-static PAUSED: [MetaslabView; 3] = [
+const PAUSED: [MetaslabView; 3] = [
     MetaslabView {
         free: 3,
         blocks: 40,
@@ -154,19 +210,7 @@ static PAUSED: [MetaslabView; 3] = [
     },
 ];
 
-/// A pool of those slots and metaslabs.
-fn repaired(alloc: Global) -> Result<View, AllocError> {
-    Ok(View {
-        name: String::from_str(alloc, "draid2:2d:6c:1s-0")?,
-        group: 9,
-        open_group: 11,
-        objects: 400,
-        slots: repaired_slots(alloc)?,
-        metaslabs: Vec::from_slice(alloc, &PAUSED)?,
-    })
-}
-
-static REPAIRED: &str = "pool draid2:2d:6c:1s-0 group=9 open=11 objects=400
+const REPAIRED: &str = "pool draid2:2d:6c:1s-0 group=9 open=11 objects=400
 slot 0 leaf 0 offline logged=7
 slot 0 spare draid2-0-0 online logged=0
 slot 1 leaf 3 online logged=12
@@ -176,18 +220,23 @@ metaslab 2 free=64 blocks=0 none
 end
 ";
 
-static REPAIRED_JSON: &str =
+const REPAIRED_JSON: &str =
     "{\"group\":9,\"metaslabs\":[{\"blocks\":40,\"free\":3,\"number\":0,\"pass\":{\"at\":5,\"errors\":0,\"kind\":\"rebuild\",\"number\":1}},{\"blocks\":4096,\"free\":0,\"number\":1,\"pass\":{\"at\":281474976710655,\"errors\":3,\"kind\":\"scrub\",\"number\":2}},{\"blocks\":0,\"free\":64,\"number\":2,\"pass\":null}],\"name\":\"draid2:2d:6c:1s-0\",\"objects\":400,\"open\":11,\"slots\":[[{\"kind\":\"leaf\",\"logged\":7,\"number\":0,\"offline\":true},{\"kind\":\"spare\",\"logged\":0,\"number\":0,\"offline\":false}],[{\"kind\":\"leaf\",\"logged\":12,\"number\":3,\"offline\":false}]]}\n";
 
-/// Whether the status of that pool is told so.
-fn repaired_is_told(alloc: Global) -> bool {
-    match repaired(alloc) {
-        Ok(view) => has_text(alloc, &view, REPAIRED) && has_json(alloc, &view, REPAIRED_JSON),
-        Err(_) => false,
-    }
-}
+/// A pool of those slots and metaslabs.
+static REPAIRED_POOL: Pool = Pool {
+    name: "draid2:2d:6c:1s-0",
+    group: 9,
+    open_group: 11,
+    objects: 400,
+    slots: 2,
+    arms: &[LOST, SPARE, FRESH],
+    metaslabs: &PAUSED,
+    text: REPAIRED,
+    json: REPAIRED_JSON,
+};
 
 #[test]
 fn arms_and_passes(rt: HostRuntime) {
-    assert!(rt; repaired_is_told(rt.alloc()));
+    assert!(rt; is_told(rt.alloc(), &REPAIRED_POOL));
 }

@@ -2,11 +2,11 @@ use Rattle.std.proofs.Common.{◌≡◌, ℕ, List, [], ◌∷◌, ◌++◌, sub
 use Rattle.std.specs.Prelude.{⊤}
 use Rattle.draid_turn.specs.Calls.{Caller, Lock, MayCall}
 use Rattle.draid_holds.specs.Calls.{AllMayCall}
-use Rattle.draid_tests_turn.specs.declared.log.Log.{Log}
-use Rattle.draid_tests_turn.specs.declared.log.Put.{Put}
-use Rattle.draid_tests_turn.proofs.Moves.{no_number, put_adds}
-use Rattle.draid_tests_turn.proofs.TwoTurns.{two_may}
-use Rattle.draid_tests_turn.proofs.turn.call_in_two.Goals as goal
+use Rattle.draid_tests_pool.specs.declared.log.Log.{Log}
+use Rattle.draid_tests_pool.specs.declared.log.Put.{Put}
+use Rattle.draid_tests_pool.proofs.Moves.{no_number, put_adds}
+use Rattle.draid_tests_pool.proofs.TwoTurns.{two_may}
+use Rattle.draid_tests_pool.proofs.turn.call_in_two.Goals as goal
 
 abbrev events_of : Log → List ℕ
 events_of log = log.entries.items

@@ -1,6 +1,6 @@
 use Rattle.std.proofs.Common.{◌∙◌}
-use Rattle.draid_tests_turn.proofs.Moves.{moved_more}
-use Rattle.draid_tests_turn.proofs.log.PuttingWorkLog.work.Goals as goal
+use Rattle.draid_tests_pool.proofs.Moves.{moved_more}
+use Rattle.draid_tests_pool.proofs.log.PuttingWorkLog.work.Goals as goal
 
 pub loop-i-preserved : goal.loop-i-preserved
 loop-i-preserved g c =

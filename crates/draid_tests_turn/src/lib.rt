@@ -1,8 +1,0 @@
-//! Tests of the lock of a metaslab, and of lanes over it.
-
-#![tactic(auto)]
-
-#[cfg(test)]
-mod log;
-#[cfg(test)]
-mod turn;
