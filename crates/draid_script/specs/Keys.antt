@@ -3,6 +3,8 @@ use Rattle.std.specs.List.{before_first, after_first}
 use Rattle.std.specs.Str.{bytes_eq}
 use Rattle.draid_script.specs.declared.fault.LineFault.{LineFault}
 use Rattle.draid_script.specs.declared.keys.Given.{Given}
+use Rattle.draid_script.specs.declared.keys.Key.{Key}
+use Rattle.draid_script.specs.declared.keys.Key.TheVariants.{Sector, Height, Metaslabs, Slices, Seed, Version}
 use Rattle.draid_script.specs.declared.line.PoolKeys.{PoolKeys}
 use Rattle.draid_script.specs.Fault.{fault, ◌>>=◌}
 use Rattle.draid_script.specs.Word.{Placed}
@@ -22,6 +24,26 @@ value_in word = record { text = after_first is_equals word.text; at = word.at }
 abbrev pub new_value : (Placed → Result ℕ LineFault) → Option ℕ → Placed → Result (Option ℕ) LineFault
 new_value read (Some earlier) value = Err (fault 3 value.at)
 new_value read None value = read value >>= λ n. Ok (Some n)
+
+-- the key of a name
+unfoldable pub key_named : List ℕ → Option Key
+key_named name =
+    if bytes_eq name (codes "sector") then Some Sector
+    else if bytes_eq name (codes "height") then Some Height
+    else if bytes_eq name (codes "metaslabs") then Some Metaslabs
+    else if bytes_eq name (codes "slices") then Some Slices
+    else if bytes_eq name (codes "seed") then Some Seed
+    else if bytes_eq name (codes "version") then Some Version
+    else None
+
+-- what is given with the value of one more key
+abbrev pub given_value : Given → Key → Placed → Result Given LineFault
+given_value given Sector value = new_value short_at given.sector value >>= λ value. Ok (record given { sector = value })
+given_value given Height value = new_value short_at given.height value >>= λ value. Ok (record given { height = value })
+given_value given Metaslabs value = new_value short_at given.metaslabs value >>= λ value. Ok (record given { metaslabs = value })
+given_value given Slices value = new_value short_at given.slices value >>= λ value. Ok (record given { slices = value })
+given_value given Seed value = new_value number_at given.seed value >>= λ value. Ok (record given { seed = value })
+given_value given Version value = new_value short_at given.version value >>= λ value. Ok (record given { version = value })
 
 -- what is given with one more word `key=value`, of kind 3 where the word has another form or a key that is unknown or was given before
 unfoldable pub given_with : Given → Placed → Result Given LineFault

@@ -22,6 +22,17 @@ const SEED: &[u8] = b"seed";
 
 const VERSION: &[u8] = b"version";
 
+/// A key of `create`.
+#[derive(Clone, Copy)]
+pub enum Key {
+    Sector,
+    Height,
+    Metaslabs,
+    Slices,
+    Seed,
+    Version,
+}
+
 /// The values of the keys that were given so far.
 #[derive(Clone, Copy, Default)]
 pub struct Given {
@@ -38,32 +49,43 @@ impl Given {
     fn with(self, word: &Word) -> Result<Given, ParseFault>
         ensures { Gives (λ given. given) result (spec.given_with self (placed word.now)) }
     {
-        let (key, value) = halves(word);
-        if key == SECTOR {
-            let sector = new_short(self.sector, &value)?;
-            return Ok(Given { sector, ..self });
+        let (name, value) = halves(word);
+        match key_named(name) {
+            Some(key) => self.with_value(key, &value),
+            None => Err(ParseFault::line(LineFault::NUMBER, word.at)),
         }
-        if key == HEIGHT {
-            let height = new_short(self.height, &value)?;
-            return Ok(Given { height, ..self });
+    }
+
+    /// What is given with the value of one more key.
+    fn with_value(self, key: Key, value: &Word) -> Result<Given, ParseFault>
+        ensures { Gives (λ given. given) result (spec.given_value self key (placed value.now)) }
+    {
+        match key {
+            Key::Sector => {
+                let sector = new_short(self.sector, value)?;
+                Ok(Given { sector, ..self })
+            }
+            Key::Height => {
+                let height = new_short(self.height, value)?;
+                Ok(Given { height, ..self })
+            }
+            Key::Metaslabs => {
+                let metaslabs = new_short(self.metaslabs, value)?;
+                Ok(Given { metaslabs, ..self })
+            }
+            Key::Slices => {
+                let slices = new_short(self.slices, value)?;
+                Ok(Given { slices, ..self })
+            }
+            Key::Seed => {
+                let seed = new_number(self.seed, value)?;
+                Ok(Given { seed, ..self })
+            }
+            Key::Version => {
+                let version = new_short(self.version, value)?;
+                Ok(Given { version, ..self })
+            }
         }
-        if key == METASLABS {
-            let metaslabs = new_short(self.metaslabs, &value)?;
-            return Ok(Given { metaslabs, ..self });
-        }
-        if key == SLICES {
-            let slices = new_short(self.slices, &value)?;
-            return Ok(Given { slices, ..self });
-        }
-        if key == SEED {
-            let seed = new_number(self.seed, &value)?;
-            return Ok(Given { seed, ..self });
-        }
-        if key == VERSION {
-            let version = new_short(self.version, &value)?;
-            return Ok(Given { version, ..self });
-        }
-        Err(ParseFault::line(LineFault::NUMBER, word.at))
     }
 
     /// The values, with the default where a key isn't given.
@@ -90,6 +112,32 @@ pub fn keys(words: &[Word]) -> Result<PoolKeys, ParseFault>
         given = given.with(word)?;
     }
     Ok(given.keys())
+}
+
+/// The key of this name.
+#[tactic(auto, unfolding(crate::specs::Keys::key_named))]
+fn key_named(name: &[u8]) -> Option<Key>
+    ensures { result ≡ spec.key_named name.now }
+{
+    if name == SECTOR {
+        return Some(Key::Sector);
+    }
+    if name == HEIGHT {
+        return Some(Key::Height);
+    }
+    if name == METASLABS {
+        return Some(Key::Metaslabs);
+    }
+    if name == SLICES {
+        return Some(Key::Slices);
+    }
+    if name == SEED {
+        return Some(Key::Seed);
+    }
+    if name == VERSION {
+        return Some(Key::Version);
+    }
+    None
 }
 
 /// What stands before the first `=` of a word, and what behind it.
