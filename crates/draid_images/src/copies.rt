@@ -15,7 +15,7 @@ use std::alloc::Global;
 use std::collections::BTreeMap;
 
 /// What a copy of the tables is for.
-#[derive(Clone, Copy, PartialEq, Eq)]
+#[derive(Clone, Copy)]
 pub enum Copying {
     /// The image of a group: its blocks, live, and the arms that are there.
     Sealing { group: u64 },

@@ -4,7 +4,7 @@ use draid_names::{DeviceFault, NoMemory, ObjectFault};
 use draid_spec::SpecFault;
 
 /// Why no pool was created or imported.
-#[derive(Clone, Copy, PartialEq, Eq)]
+#[derive(Clone, Copy)]
 pub enum PoolFault {
     /// There is no layout of this spec and these properties.
     Spec(SpecFault),
@@ -22,21 +22,21 @@ pub enum PoolFault {
 }
 
 /// Why no object was freed.
-#[derive(Clone, Copy, PartialEq, Eq)]
+#[derive(Clone, Copy)]
 pub enum FreeFault {
     /// It has no bytes.
     NoObject,
 }
 
 /// The first of some objects that gives no bytes, and why.
-#[derive(Clone, Copy, PartialEq, Eq)]
+#[derive(Clone, Copy)]
 pub struct SumFault {
     pub object: u64,
     pub why: ObjectFault,
 }
 
 /// Why no sector was damaged.
-#[derive(Clone, Copy, PartialEq, Eq)]
+#[derive(Clone, Copy)]
 pub enum DamageFault {
     /// There is no such leaf, or it has no such sector.
     NoSuch,
@@ -48,7 +48,7 @@ pub enum DamageFault {
 }
 
 /// Why no group was committed.
-#[derive(Clone, Copy, PartialEq, Eq)]
+#[derive(Clone, Copy)]
 pub enum SyncFault {
     /// A metaslab has too many events.
     Worn,
@@ -60,7 +60,7 @@ pub enum SyncFault {
 }
 
 /// A sync: the group that it committed, and how many of its blocks have a column that no arm has as it was written.
-#[derive(Clone, Copy, PartialEq, Eq)]
+#[derive(Clone, Copy)]
 pub struct Synced {
     pub group: u64,
     pub thin: u64,

@@ -25,7 +25,7 @@ use draid_rack::Rack;
 use draid_shard::{BeginFault, Missed, Shard, Ticket};
 
 /// Why a block wasn't stored.
-#[derive(Clone, Copy, PartialEq, Eq)]
+#[derive(Clone, Copy)]
 pub(crate) enum StoreFault {
     /// So many columns landed on no leaf. The block would have been born in this group.
     Missed { columns: u32, birth: u64 },

@@ -4,7 +4,7 @@ ghost use Rattle.draid_record.specs.Reading.{placed};
 use std::alloc::{AllocError, AllocFailed};
 
 /// Why a record or an uberblock wasn't read.
-#[derive(Clone, Copy, Debug, PartialEq, Eq)]
+#[derive(Clone, Copy, PartialEq, Eq)]
 pub enum RecordFault {
     /// The first field that is cut (kind 1) or out of its range (kind 2) begins at byte `at`; with kind 3 the
     /// record's length goes on there, behind the last field.

@@ -1,5 +1,5 @@
 /// What the ranges of a record's fields go by.
-#[derive(Clone, Copy, PartialEq, Eq)]
+#[derive(Clone, Copy)]
 pub struct Limits {
     /// The version of the uberblock.
     pub version: u32,

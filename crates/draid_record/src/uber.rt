@@ -11,7 +11,7 @@ use draid_names::LAST_NUMBER;
 use draid_spec::{Props, Spec, geometry, most_children};
 
 /// What a slot of the uberblock area tells.
-#[derive(Clone, Copy, Debug, PartialEq, Eq)]
+#[derive(Clone, Copy, PartialEq, Eq)]
 pub struct UberBody {
     /// The committed group, 1 to 2^48 - 2.
     pub group: u64,

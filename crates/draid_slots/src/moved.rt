@@ -13,7 +13,7 @@ pub(crate) const MOST_SPARES: usize = 4;
 pub(crate) const MOST_CHILDREN: usize = 64;
 
 /// The spares that keep sectors on other leaves than before a change of arms.
-#[derive(Clone, Copy, PartialEq, Eq)]
+#[derive(Clone, Copy)]
 pub struct Moved {
     pub(crate) spares: [bool; MOST_SPARES],
 }

@@ -22,7 +22,7 @@ pub(crate) struct Slot {
 }
 
 /// An arm that was detached in a group that isn't committed.
-#[derive(Clone, Copy, PartialEq, Eq)]
+#[derive(Clone, Copy)]
 pub struct Detached {
     pub kind: ArmKind,
     pub number: u64,
@@ -35,7 +35,7 @@ pub struct Detached {
 }
 
 /// The arm of a slot that a column is read from.
-#[derive(Clone, Copy, Debug, PartialEq, Eq)]
+#[derive(Clone, Copy, PartialEq, Eq)]
 pub struct ReadArm {
     pub arm: u32,
     /// Whether its log lacks the group in which the block was born.

@@ -1,7 +1,7 @@
 use crate::spec::Spec;
 
 /// What is chosen for a pool beside its spec.
-#[derive(Clone, Copy, Debug, PartialEq, Eq)]
+#[derive(Clone, Copy, PartialEq, Eq)]
 pub struct Props {
     /// The bytes of a sector, 512 or 4096.
     pub sector: u32,
@@ -18,7 +18,7 @@ pub struct Props {
 }
 
 /// A pool's layout: its spec, its properties, and the numbers that follow from them.
-#[derive(Clone, Copy, PartialEq, Eq)]
+#[derive(Clone, Copy)]
 pub struct Geometry {
     pub spec: Spec,
     pub props: Props,

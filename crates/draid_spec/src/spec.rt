@@ -1,5 +1,5 @@
 /// How the columns of a stripe are protected and how many children hold them.
-#[derive(Clone, Copy, Debug, PartialEq, Eq)]
+#[derive(Clone, Copy, PartialEq, Eq)]
 pub struct Spec {
     /// The parity columns of a stripe, 1 to 3.
     pub parity: u32,
@@ -12,7 +12,7 @@ pub struct Spec {
 }
 
 /// Why a spec or its properties are refused.
-#[derive(Clone, Copy, Debug, PartialEq, Eq)]
+#[derive(Clone, Copy, PartialEq, Eq)]
 pub enum SpecFault {
     /// The text doesn't begin with `draid`.
     NotDraid,

@@ -7,7 +7,7 @@ use crate::numbers::{check_width, limit, most_children};
 use crate::spec::{Spec, SpecFault};
 
 /// What a text says: the parity, and the number that stands before each letter.
-#[derive(Clone, Copy, PartialEq, Eq)]
+#[derive(Clone, Copy)]
 pub struct Said {
     pub parity: u32,
     pub ndata: Option<u32>,
@@ -16,14 +16,14 @@ pub struct Said {
 }
 
 /// The digits of an argument so far, and their number.
-#[derive(Clone, Copy, PartialEq, Eq)]
+#[derive(Clone, Copy)]
 pub struct Digits {
     pub count: u32,
     pub value: u32,
 }
 
 /// How far a text was read: what it said, and the digits of the argument that has begun.
-#[derive(Clone, Copy, PartialEq, Eq)]
+#[derive(Clone, Copy)]
 pub struct Reading {
     pub said: Said,
     pub digits: Option<Digits>,

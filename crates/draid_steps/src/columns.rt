@@ -19,7 +19,7 @@ use draid_world::{Arm, Site, Tables, World};
 use std::collections::{BTreeMap, BTreeSet};
 
 /// A column of a block on an arm.
-#[derive(Clone, Copy, PartialEq, Eq)]
+#[derive(Clone, Copy)]
 pub struct ArmColumn {
     pub key: Key,
     pub column: u32,

@@ -15,7 +15,7 @@ use draid_record::{RecordFault, UberBody};
 use draid_spec::Geometry;
 
 /// Why an uberblock area gave no uberblock.
-#[derive(Clone, Copy, Debug, PartialEq, Eq)]
+#[derive(Clone, Copy, PartialEq, Eq)]
 pub enum UberFault {
     /// The area failed, and its count rose.
     Area,

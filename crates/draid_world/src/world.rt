@@ -4,7 +4,7 @@ use draid_names::PassKind;
 use std::collections::{BTreeMap, BTreeSet};
 
 /// The slot that an arm left, and the group that was open then.
-#[derive(Clone, Copy, PartialEq, Eq)]
+#[derive(Clone, Copy)]
 pub struct Detached {
     pub slot: u32,
     pub group: u64,
