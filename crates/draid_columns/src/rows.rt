@@ -7,7 +7,7 @@ use draid_names::Failed;
 use draid_rack::Rack;
 
 /// The rows of a column on one leaf: `count` sectors of `size` bytes, from the sector `first` on.
-#[derive(Clone, Copy, PartialEq, Eq)]
+#[derive(Clone, Copy)]
 pub struct Rows {
     pub leaf: u64,
     pub first: u64,

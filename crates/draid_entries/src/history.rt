@@ -4,7 +4,7 @@ use draid_machine::Event;
 use draid_names::NoMemory;
 
 /// Why events can't be promised.
-#[derive(Clone, Copy, Debug, PartialEq, Eq)]
+#[derive(Clone, Copy, PartialEq, Eq)]
 pub enum ReserveFault {
     /// The limit leaves too few; so many are stored or owed.
     Worn { events: u64 },

@@ -13,7 +13,7 @@ use draid_names::{NoMemory, Pointer};
 use std::alloc::Global;
 
 /// Why no table is made of a list of blocks.
-#[derive(Clone, Copy, PartialEq, Eq)]
+#[derive(Clone, Copy)]
 pub enum ListFault {
     /// The block at this place of the list is the first whose object and seq a block before it has.
     Twice { place: usize },

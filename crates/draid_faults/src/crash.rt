@@ -2,7 +2,7 @@ ghost use Rattle.std.specs.Prelude.{◌≡◌, ◌-◌, length, map};
 ghost use Rattle.draid_faults.specs.Crash.{complement_of, left_by};
 
 /// What a crash leaves of bytes that were written since the last flush.
-#[derive(Clone, Copy, PartialEq, Eq)]
+#[derive(Clone, Copy)]
 pub enum CrashRule {
     /// What stood there at the last flush.
     Old,

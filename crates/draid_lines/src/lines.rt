@@ -17,7 +17,7 @@ const CHUNK: usize = 8_192;
 const MOST_LINES: u64 = 1_048_576;
 
 /// Why no line was given.
-#[derive(Clone, Copy, Debug, PartialEq, Eq)]
+#[derive(Clone, Copy, PartialEq, Eq)]
 pub enum ReadFault {
     /// The source failed.
     SourceFault,

@@ -16,7 +16,7 @@ use std::alloc::{AllocError, Global};
 use std::marker::Model;
 
 /// A run of stripes that comes back at the commit of a group.
-#[derive(Clone, Copy, PartialEq, Eq)]
+#[derive(Clone, Copy)]
 pub struct Deferred {
     pub run: Run,
     pub group: u64,

@@ -1,5 +1,5 @@
 /// What an arm of a child slot is.
-#[derive(Clone, Copy, PartialEq, Eq)]
+#[derive(Clone, Copy)]
 pub enum ArmKind {
     /// A disk.
     Leaf,
@@ -8,7 +8,7 @@ pub enum ArmKind {
 }
 
 /// A disk or a distributed spare that keeps the columns of a child slot.
-#[derive(Clone, Copy, PartialEq, Eq)]
+#[derive(Clone, Copy)]
 pub struct Arm {
     pub kind: ArmKind,
     /// The leaf's number below 2^48, or that of the spare.
@@ -20,14 +20,14 @@ pub struct Arm {
 }
 
 /// An arm by its slot and its place in the order of attachment there.
-#[derive(Clone, Copy, Debug, PartialEq, Eq)]
+#[derive(Clone, Copy, PartialEq, Eq)]
 pub struct ArmAt {
     pub slot: u32,
     pub arm: u32,
 }
 
 /// A sector of a leaf.
-#[derive(Clone, Copy, Debug, PartialEq, Eq)]
+#[derive(Clone, Copy, PartialEq, Eq)]
 pub struct At {
     pub leaf: u64,
     pub sector: u64,

@@ -1,5 +1,5 @@
 /// What a pass over a metaslab does.
-#[derive(Clone, Copy, PartialEq, Eq)]
+#[derive(Clone, Copy)]
 pub enum PassKind {
     /// Restores stripe by stripe onto its targets, without checksums (a sequential rebuild).
     Rebuild,

@@ -1,5 +1,5 @@
 /// Why a change of arms was refused, by the number that is printed.
-#[derive(Clone, Copy, Debug, PartialEq, Eq)]
+#[derive(Clone, Copy, PartialEq, Eq)]
 pub enum SlotFault {
     /// 1: there is no such slot, arm or spare.
     NoSuch,
@@ -20,7 +20,7 @@ pub enum SlotFault {
 }
 
 /// Why no bytes were written to an object, which has its earlier ones.
-#[derive(Clone, Copy, PartialEq, Eq)]
+#[derive(Clone, Copy)]
 pub enum WriteFault {
     /// No metaslab has room: the longest run that one has is too short, and so many metaslabs take no new block,
     /// since they are disabled, full or worn.
@@ -40,7 +40,7 @@ pub enum WriteFault {
 }
 
 /// Why an object gives no bytes.
-#[derive(Clone, Copy, PartialEq, Eq)]
+#[derive(Clone, Copy)]
 pub enum ObjectFault {
     /// It has none.
     NoObject,

@@ -6,7 +6,7 @@ use crate::words::base_rows;
 
 /// The permutations of a vdev's children, one for each slice: a position that carries groups or a
 /// spare stands on another child in other slices.
-#[derive(Clone, Copy, PartialEq, Eq)]
+#[derive(Clone, Copy)]
 pub struct Perms {
     n: u32,
     rows: [[u8; 64]; 16],

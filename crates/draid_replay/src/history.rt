@@ -12,7 +12,7 @@ use draid_world::{Site, World};
 use std::alloc::Global;
 
 /// Why a history isn't gone over to its end.
-#[derive(Clone, Copy, Debug, PartialEq, Eq)]
+#[derive(Clone, Copy, PartialEq, Eq)]
 pub enum ReplayFault {
     /// The event at this place isn't legal in the state that those before it give.
     NotLegal { at: u64 },

@@ -329,7 +329,7 @@ pub enum Reply {
 }
 
 /// The errors of the two passes that an `agent` makes.
-#[derive(Clone, Copy, PartialEq, Eq)]
+#[derive(Clone, Copy)]
 pub struct AgentErrors {
     pub rebuild: u64,
     pub scrub: u64,

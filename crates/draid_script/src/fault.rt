@@ -5,7 +5,7 @@ use draid_names::NoMemory;
 use std::alloc::{AllocError, AllocFailed};
 
 /// Why a text is no line.
-#[derive(Clone, Copy, PartialEq, Eq)]
+#[derive(Clone, Copy)]
 pub struct LineFault {
     /// 1 for an unknown command, 2 for a wrong count of words, 3 for a word that is no number, no `key=value` or no
     /// name, 4 for a word that is no hex, 5 for a number out of its range, and 6 for a line that may not stand there.
@@ -30,7 +30,7 @@ impl LineFault {
 }
 
 /// Why no line was read.
-#[derive(Clone, Copy, PartialEq, Eq)]
+#[derive(Clone, Copy)]
 pub enum ParseFault {
     /// The first fault of the line.
     Line(LineFault),

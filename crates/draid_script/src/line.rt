@@ -111,7 +111,7 @@ pub enum Line {
 }
 
 /// The values of the keys of `create`, with the default where the line has none.
-#[derive(Clone, Copy, Debug, PartialEq, Eq)]
+#[derive(Clone, Copy, Debug)]
 pub struct PoolKeys {
     /// `sector`, the bytes of a sector; 4,096 by default.
     pub sector: u32,
@@ -128,7 +128,7 @@ pub struct PoolKeys {
 }
 
 /// An arm as `detach` names it.
-#[derive(Clone, Copy, Debug, PartialEq, Eq)]
+#[derive(Clone, Copy, Debug)]
 pub enum ArmArgument {
     /// A leaf's number, below 2^48.
     Leaf { leaf: u64 },
@@ -137,7 +137,7 @@ pub enum ArmArgument {
 }
 
 /// How `status` is printed.
-#[derive(Clone, Copy, Debug, PartialEq, Eq)]
+#[derive(Clone, Copy, Debug)]
 pub enum StatusFormat {
     Text,
     Json,

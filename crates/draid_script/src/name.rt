@@ -2,7 +2,7 @@ ghost use Rattle.std.specs.Prelude.{◌≡◌, IsTrue};
 ghost use Rattle.draid_script.specs.Name.{is_for_lanes, name_of, name_text};
 
 /// The first word of a command.
-#[derive(Clone, Copy, PartialEq, Eq)]
+#[derive(Clone, Copy)]
 pub enum CommandName {
     Create,
     Import,

@@ -12,7 +12,7 @@ pub struct Spec {
 }
 
 /// Why a spec or its properties are refused.
-#[derive(Clone, Copy, Debug, PartialEq, Eq)]
+#[derive(Clone, Copy, PartialEq, Eq)]
 pub enum SpecFault {
     /// The text doesn't begin with `draid`.
     NotDraid,

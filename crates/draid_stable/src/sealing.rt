@@ -19,7 +19,7 @@ use draid_slots::Slots;
 use std::alloc::Global;
 
 /// Which group of a metaslab is sealed, and in which version of the format.
-#[derive(Clone, Copy, PartialEq, Eq)]
+#[derive(Clone, Copy)]
 pub struct Head {
     pub version: u32,
     pub metaslab: u32,

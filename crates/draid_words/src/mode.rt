@@ -14,7 +14,7 @@ pub enum Mode {
 }
 
 /// Why the words give no mode.
-#[derive(Clone, Copy, PartialEq, Eq)]
+#[derive(Clone, Copy)]
 pub enum WordsFault {
     /// They are outside of what the program takes.
     Usage,
