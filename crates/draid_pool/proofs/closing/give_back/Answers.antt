@@ -1,7 +1,6 @@
 use Rattle.std.proofs.Common.{arith, rules, ◌≡◌, ◌+◌, ◌∙◌, ◌++◌, List, [], ◌∷◌, Some, ap, refl, length, length-append}
 use Rattle.draid_shelf.specs.Kits.{kit_of}
 use Rattle.draid_shelf.specs.declared.kit.Kit.{Kit}
-use Rattle.draid_shard.specs.declared.shard.Shard.{Shard}
 use Rattle.draid_pool.specs.Closing.{kit_in}
 use Rattle.draid_pool.proofs.Closed.{giving_all, giving_more, giving_none, leaves_all, leaves_more, leaves_none}
 use Rattle.draid_pool.proofs.closing.give_back.Goals as goal
