@@ -1,7 +1,7 @@
 use draid_files::{Input, Output};
 use draid_lines::{Sink, Source};
+use std::alloc::{AllocError, Global};
 use std::io::{self, Read, Write};
-use std::test::Fail;
 
 /// A reader and writer that moves two bytes a call at most, and fails at its third call.
 #[derive(Drop)]
@@ -39,8 +39,8 @@ impl Write for Broken {
 }
 
 /// The bytes that a source gives, taken three at a time.
-fn taken<S: Source>(rt: &HostRuntime, source: &mut S) -> Result<Vec<u8>, Fail> {
-    let mut bytes = Vec::new(rt.alloc());
+fn taken<S: Source>(alloc: Global, source: &mut S) -> Result<Vec<u8>, AllocError> {
+    let mut bytes = Vec::new(alloc);
     for _ in 0..4 {
         let mut three = [0; 3];
         let count = source.take(&mut three).unwrap_or(0).min(3);
@@ -49,42 +49,51 @@ fn taken<S: Source>(rt: &HostRuntime, source: &mut S) -> Result<Vec<u8>, Fail> {
     Ok(bytes)
 }
 
-#[test]
-fn a_reader_gives_its_bytes(rt: HostRuntime) -> Result<(), Fail> {
+/// Whether a reader gives its bytes.
+fn gives_bytes(alloc: Global) -> bool {
     let mut input = Input::new(&b"sync\n"[..]);
-    let bytes = taken(&rt, &mut input)?;
-    assert!(rt; bytes.as_slice() == b"sync\n".as_slice());
-    Ok(())
+    match taken(alloc, &mut input) {
+        Ok(bytes) => bytes.as_slice() == b"sync\n".as_slice(),
+        Err(_) => false,
+    }
 }
 
-#[test]
-fn a_reader_that_fails_is_told(rt: HostRuntime) -> Result<(), Fail> {
+/// Which of four calls of a reader that fails at its third do.
+fn reading_fails() -> [bool; 4] {
     let mut input = Input::new(Broken { calls: 0 });
     let mut ends = [false; 4];
     for end in &mut ends {
         *end = input.take(&mut [0; 3]).is_err();
     }
-    assert!(rt; ends == [false, false, true, false]);
-    Ok(())
+    ends
 }
 
 #[test]
-fn a_writer_takes_all_bytes(rt: HostRuntime) -> Result<(), Fail> {
-    let mut bytes = Vec::new(rt.alloc());
+fn a_reader_gives_its_bytes_and_tells_faults(rt: HostRuntime) {
+    assert!(rt; gives_bytes(rt.alloc()));
+    assert!(rt; reading_fails() == [false, false, true, false]);
+}
+
+/// Whether a writer takes all bytes.
+fn takes_bytes(alloc: Global) -> bool {
+    let mut bytes = Vec::new(alloc);
     let mut output = Output::new(&mut bytes);
     let wrote = output.put(b"sync ").is_ok() && output.put(b"group=2\n").is_ok();
-    assert!(rt; wrote && bytes.as_slice() == b"sync group=2\n".as_slice());
-    Ok(())
+    wrote && bytes.as_slice() == b"sync group=2\n".as_slice()
 }
 
-#[test]
-fn a_writer_that_fails_is_told(rt: HostRuntime) -> Result<(), Fail> {
+/// Which writes of two, four and one byte are done by a writer that fails at its third call.
+fn written() -> [bool; 3] {
     let mut output = Output::new(Broken { calls: 0 });
-    let ends = [
+    [
         output.put(b"ab").is_ok(),
         output.put(b"cdef").is_ok(),
         output.put(b"g").is_ok(),
-    ];
-    assert!(rt; ends == [true, false, true]);
-    Ok(())
+    ]
+}
+
+#[test]
+fn a_writer_takes_all_bytes_and_tells_faults(rt: HostRuntime) {
+    assert!(rt; takes_bytes(rt.alloc()));
+    assert!(rt; written() == [true, false, true]);
 }

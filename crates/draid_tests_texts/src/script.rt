@@ -24,8 +24,8 @@ fn is_read(alloc: Global, text: &str, want: &str) -> bool {
     is_said(alloc, parse_line(alloc, text.as_bytes()), want)
 }
 
-/// Lines outside a section, and what is read of them.
-static LINES: [(&str, &str); 25] = [
+/// Lines outside a section, and what is read of them, or why they are refused.
+static LINES: [(&str, &str); 56] = [
     ("", "Nothing"),
     ("#create", "Nothing"),
     (
@@ -63,17 +63,7 @@ static LINES: [(&str, &str); 25] = [
     ("checkpoint", "Checkpoint"),
     ("rewind", "Rewind"),
     ("discard", "Discard"),
-];
-
-#[test]
-fn reads_lines(rt: HostRuntime) {
-    for (text, want) in LINES.iter() {
-        assert!(rt; is_read(rt.alloc(), text, want), "{text}");
-    }
-}
-
-/// Lines outside a section that are refused, and why.
-static REFUSED: [(&str, &str); 31] = [
+    // Refused.
     ("frob", "kind 1 at 0"),
     (" read 7", "kind 1 at 0"),
     ("read", "kind 2 at 4"),
@@ -108,8 +98,8 @@ static REFUSED: [(&str, &str); 31] = [
 ];
 
 #[test]
-fn refuses_lines(rt: HostRuntime) {
-    for (text, want) in REFUSED.iter() {
+fn reads_lines(rt: HostRuntime) {
+    for (text, want) in LINES.iter() {
         assert!(rt; is_read(rt.alloc(), text, want), "{text}");
     }
 }
