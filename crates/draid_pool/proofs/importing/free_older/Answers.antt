@@ -3,7 +3,7 @@ use Rattle.std.specs.Prelude.{nat_eq}
 use Rattle.std.specs.HashMap.{get}
 use Rattle.draid_spec.specs.Geometry.{metaslab_stripes}
 use Rattle.draid_shard.specs.Part.{Part}
-use Rattle.draid_pool.proofs.ImportFreed.{keeps_none, keeps_step, only_step}
+use Rattle.draid_pool.proofs.ImportFreed.{keeps_none, keeps_step, only_all, only_step}
 use Rattle.draid_found.proofs.Noted.{next_inside, next_live, next_low}
 use Rattle.draid_pool.proofs.Found.{frees_none, frees_step, left_behind}
 use Rattle.draid_pool.proofs.importing.free_older.Goals as goal
@@ -66,3 +66,7 @@ returns-clause-frees g c = c.loop-pointer.invariant.frees
 
 pub returns-clause-keeps : goal.returns-clause-keeps
 returns-clause-keeps g c = c.loop-pointer.invariant.keeps
+
+pub returns-clause-only : goal.returns-clause-only
+returns-clause-only g c =
+    only_all g.R.Rack g.A.Area (get nat_eq c.args.newest.now) c.args.floor c.loop-pointer.from c.loop-pointer.shard c.in_default.ensures.none c.loop-pointer.invariant.only

@@ -30,6 +30,26 @@ find_blocks-requires g c = record {
       (all_ready g.H.R.Rack (layout_of c.in_ok-uber.uber) (group_of (kept_of c.in_ok-uber.uber)) c.in-Ok.shards.items c.in-Ok.ensures.reopened);
 }
 
+pub reopen_shards-requires-clause-uber : goal.reopen_shards-requires-clause-uber
+reopen_shards-requires-clause-uber g c κs within = c.in_ok-uber.ensures.found
+
+pub pool_of-requires-clause-uber : goal.pool_of-requires-clause-uber
+pool_of-requires-clause-uber g c = c.in_ok-uber.ensures.found
+
+pub pool_of-requires-clause-shards : goal.pool_of-requires-clause-shards
+pool_of-requires-clause-shards g c = c.in-Ok.ensures.reopened
+
+pub pool_of-requires-clause-found : goal.pool_of-requires-clause-found
+pool_of-requires-clause-found g c =
+    let found = c.in-Ok-find_blocks.found in
+    subst (λ (xs : List (Shard g.row.H-R.Denot g.row.H-A.Denot)). AreFound xs (get nat_eq found.newest) found.seq) c.deref.ensures.value c.in-Ok-find_blocks.ensures.found
+
+pub give_back-requires-clause-few : goal.give_back-requires-clause-few
+give_back-requires-clause-few g c κs within =
+    let many = c.in-Ok.ensures.reopened.many in
+    let most = c.in-Ok.ensures.reopened.layout.geometry_is.props.most_metaslabs in
+    omega (arith, many, most)
+
 pub returns-in-Ok-find_blocks-clause-none : goal.returns-in-Ok-find_blocks-clause-none
 returns-in-Ok-find_blocks-clause-none g c = absent_not c.in_ok-uber.uber (g.H.Shelf.told c.args.shelf.now) _ _ c.in_ok-uber.ensures.none
 
