@@ -40,6 +40,21 @@ returns-then-not-may_land-clause-illegal c = λ e new step.
     c.may_land.ensures.no c.if-not-may_land.true
     (may_step (site_layout c.args.site.now) (state_of c.args.world.now) c.args.key c.args.landed.now c.args.failed.now new step c.in-Some.held c.in-Some-columns_put.columns c.in-Some-columns_put.missed (sym c.find.ensures ∙ c.in-Some.is) c.in-Some-columns_put.ensures.some)
 
+pub may_land-requires-clause-column : goal.may_land-requires-clause-column
+may_land-requires-clause-column c = c.if-columns-site.false
+
+pub write_column-requires-clause-first : goal.write_column-requires-clause-first
+write_column-requires-clause-first c = c.requires.low c.args.key c.in-Some.held (sym c.find.ensures ∙ c.in-Some.is)
+
+pub write_column-requires-clause-birth : goal.write_column-requires-clause-birth
+write_column-requires-clause-birth c = (c.requires.counted c.args.key c.in-Some.held (sym c.find.ensures ∙ c.in-Some.is)).0
+
+pub write_column-requires-clause-column : goal.write_column-requires-clause-column
+write_column-requires-clause-column c = c.if-columns-site.false
+
+pub write_column-requires-clause-listed : goal.write_column-requires-clause-listed
+write_column-requires-clause-listed c = (c.may_land.ensures.yes c.if-not-may_land.false).listed
+
 pub returns-clause-legal : goal.returns-clause-legal
 returns-clause-legal c = λ e.
     let may = c.may_land.ensures.yes c.if-not-may_land.false in record {
