@@ -1,4 +1,4 @@
-ghost use Rattle.std.specs.Prelude.{◌≡◌, ◌<◌, ◌^◌, ◌&&◌, ◌||◌, not, true, false, Some, IfOk, OnOk, IsSome, ◌+◌, ◌-◌, if◌then◌else◌};
+ghost use Rattle.std.specs.Prelude.{◌≡◌, ◌<◌, ◌^◌, ◌&&◌, ◌||◌, not, true, false, ℕ, Some, IfNone, IfOk, IfSome, OnOk, IsSome, ◌+◌, ◌-◌, if◌then◌else◌};
 ghost use Rattle.std.specs.List.{list_all, list_any};
 ghost use Rattle.draid_machine.specs.After.{each_arm, log_if, put_state};
 ghost use Rattle.draid_machine.specs.Arms as arms;
@@ -7,6 +7,7 @@ ghost use Rattle.draid_machine.specs.State.{State};
 ghost use Rattle.draid_machine.specs.Step.{PutStep};
 ghost use Rattle.draid_machine.specs.declared.names.ArmName.{ArmName};
 ghost use Rattle.draid_machine.specs.declared.names.Segment.{Segment};
+ghost use Rattle.draid_machine.specs.declared.names.Stage.TheVariants.{Writing};
 ghost use Rattle.draid_steps.specs.Columns.{AreCounted, is_in_row, is_row, lands_right, MayLand};
 ghost use Rattle.draid_world.specs.World.{AreLow, arm_in, core_of, held_in, names_at, site_layout, slot_at, state_of};
 
@@ -318,6 +319,17 @@ fn write_column(
     Ok(())
 }
 
+/// How many columns a ticket has put, and how many of them landed nowhere.
+fn columns_put(stage: Stage) -> Option<(u32, u32)>
+    ensures some { IfSome result (λ n. stage ≡ Writing n.0 n.1) }
+    ensures none { IfNone result ((c m : ℕ) → stage ≡ Writing c m → ⊥) }
+{
+    match stage {
+        Stage::Writing { columns, missed } => Some((columns, missed)),
+        Stage::Live | Stage::Freed { .. } => None,
+    }
+}
+
 /// Writes a ticket's next column, where that is legal: it landed on these arms, and calls on these leaves failed.
 pub fn put(
     site: &Site,
@@ -334,7 +346,7 @@ pub fn put(
     let Some(held) = find(&world.tables.held, key) else {
         return Ok(false);
     };
-    let Stage::Writing { columns, missed } = held.stage else {
+    let Some((columns, missed)) = columns_put(held.stage) else {
         return Ok(false);
     };
     if columns >= site.geometry.g {
