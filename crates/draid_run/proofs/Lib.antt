@@ -1,6 +1,7 @@
 pub mod Broke
 pub mod Ended
 pub mod Ending
+pub mod Exits
 pub mod Filled
 pub mod Following
 pub mod GivenBack

@@ -5,6 +5,7 @@ use Rattle.draid_script.specs.declared.line.Line.{Line}
 use Rattle.draid_run.specs.Desks.{Turned}
 use Rattle.draid_run.specs.Shelves.{on_shelf}
 use Rattle.draid_run.specs.Serve.{AnswerIs}
+use Rattle.draid_run.proofs.Exits.{same_later}
 use Rattle.draid_run.proofs.Grouping.{answer_export, answer_sync, by_crash}
 use Rattle.draid_run.proofs.Importings.{answer_import}
 use Rattle.draid_run.proofs.Steps.{by_damage, by_fill, by_free, by_read, by_status, by_sum, by_write}
@@ -64,3 +65,72 @@ pub returns-in-Import-clause-answer : goal.returns-in-Import-clause-answer
 returns-in-Import-clause-answer g c entry x desk =
     subst (λ (l : Line). AnswerIs g.H.R.Rack g.H.A.Area (FnReturnsAt g.F.Fn c.args.chooser.now) (command_in l) entry (on_shelf g.H.Shelf c.args.shelf.now) c.args.pool.now x (on_shelf g.H.Shelf c.import.new.shelf) c.import.new.pool c.said.result) (sym c.in-Import.is)
     (answer_import g.H.R.Rack g.H.A.Area (FnReturnsAt g.F.Fn c.args.chooser.now) entry (on_shelf g.H.Shelf c.args.shelf.now) (on_shelf g.H.Shelf c.import.new.shelf) c.args.pool.now x c.import.new.pool c.import.result c.said.result c.said.ensures (c.import.ensures.answer entry x desk))
+
+pub returns-in-Nothing-clause-later : goal.returns-in-Nothing-clause-later
+returns-in-Nothing-clause-later g c = same_later (g.H.Shelf.faults c.args.shelf.now)
+
+pub returns-in-Sync-clause-later : goal.returns-in-Sync-clause-later
+returns-in-Sync-clause-later g c = same_later (g.H.Shelf.faults c.args.shelf.now)
+
+pub returns-in-Write-clause-later : goal.returns-in-Write-clause-later
+returns-in-Write-clause-later g c = same_later (g.H.Shelf.faults c.args.shelf.now)
+
+pub returns-in-Fill-clause-later : goal.returns-in-Fill-clause-later
+returns-in-Fill-clause-later g c = same_later (g.H.Shelf.faults c.args.shelf.now)
+
+pub returns-in-Free-clause-later : goal.returns-in-Free-clause-later
+returns-in-Free-clause-later g c = same_later (g.H.Shelf.faults c.args.shelf.now)
+
+pub returns-in-Read-clause-later : goal.returns-in-Read-clause-later
+returns-in-Read-clause-later g c = same_later (g.H.Shelf.faults c.args.shelf.now)
+
+pub returns-in-Sum-clause-later : goal.returns-in-Sum-clause-later
+returns-in-Sum-clause-later g c = same_later (g.H.Shelf.faults c.args.shelf.now)
+
+pub returns-in-Damage-clause-later : goal.returns-in-Damage-clause-later
+returns-in-Damage-clause-later g c = same_later (g.H.Shelf.faults c.args.shelf.now)
+
+pub returns-in-Status-clause-later : goal.returns-in-Status-clause-later
+returns-in-Status-clause-later g c = same_later (g.H.Shelf.faults c.args.shelf.now)
+
+pub returns-in_err-create-in-Create-clause-later : goal.returns-in_err-create-in-Create-clause-later
+returns-in_err-create-in-Create-clause-later g c = c.create.ensures.later
+
+pub returns-in_ok-create-in-Create-clause-later : goal.returns-in_ok-create-in-Create-clause-later
+returns-in_ok-create-in-Create-clause-later g c = c.create.ensures.later
+
+pub returns-in-Import-clause-later : goal.returns-in-Import-clause-later
+returns-in-Import-clause-later g c = c.import.ensures.later
+
+pub returns-in-Export-clause-later : goal.returns-in-Export-clause-later
+returns-in-Export-clause-later g c = c.export.ensures.later
+
+pub returns-in-Crash-clause-later : goal.returns-in-Crash-clause-later
+returns-in-Crash-clause-later g c = c.crash.ensures.later
+
+pub sync-requires : goal.sync-requires
+sync-requires g c = record { desk = c.requires.desk }
+
+pub free-requires : goal.free-requires
+free-requires g c = record { desk = c.requires.desk }
+
+pub read-requires : goal.read-requires
+read-requires g c = record { desk = c.requires.desk }
+
+pub damage-requires : goal.damage-requires
+damage-requires g c = record { desk = c.requires.desk }
+
+pub status-requires : goal.status-requires
+status-requires g c = record { desk = c.requires.desk }
+
+pub write-requires-clause-chooser : goal.write-requires-clause-chooser
+write-requires-clause-chooser g c = c.requires.chooser
+
+pub write-requires-clause-desk : goal.write-requires-clause-desk
+write-requires-clause-desk g c = c.requires.desk
+
+pub fill-requires-clause-chooser : goal.fill-requires-clause-chooser
+fill-requires-clause-chooser g c = c.requires.chooser
+
+pub fill-requires-clause-desk : goal.fill-requires-clause-desk
+fill-requires-clause-desk g c = c.requires.desk

@@ -13,4 +13,4 @@ returns-in-Some g c = record {
 }
 
 pub returns-in-None : goal.returns-in-None
-returns-in-None g c = record { did = did_shut g.R.Rack g.A.Area name.Status (StatusSays c.args.format c.no_pool.result) c.no_pool.result c.args.pool.now c.args.pool.now c.in-None.is c.in-None.is c.no_pool.ensures; }
+returns-in-None g c = record { did = did_shut g.R.Rack g.A.Area name.Status (StatusSays c.args.format c.no_pool.result) c.no_pool.result c.args.pool.now c.args.pool.now c.in-None.is c.in-None.is c.no_pool.ensures }

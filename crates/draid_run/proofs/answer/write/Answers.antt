@@ -9,7 +9,7 @@ pub write-requires-clause-whole : goal.write-requires-clause-whole
 write-requires-clause-whole g c = is_whole g.R.Rack g.A.Area c.args.pool.now c.in-Some.pool c.in-Some.is c.requires.desk
 
 pub returns-in-Some : goal.returns-in-Some
-returns-in-Some g c = record { did = did_open g.R.Rack g.A.Area name.Write (λ y. ReplyDoes y (FnReturnsAt g.F.Fn c.args.chooser.now) (WriteObject c.args.object c.args.bytes.now) c.write.result) c.write.result c.args.pool.now c.in-Some.pool c.write.new.pool c.in-Some.is c.write.ensures.whole c.write.ensures.step; }
+returns-in-Some g c = record { did = did_open g.R.Rack g.A.Area name.Write (λ y. ReplyDoes y (FnReturnsAt g.F.Fn c.args.chooser.now) (WriteObject c.args.object c.args.bytes.now) c.write.result) c.write.result c.args.pool.now c.in-Some.pool c.write.new.pool c.in-Some.is c.write.ensures.whole c.write.ensures.step }
 
 pub returns-in-None : goal.returns-in-None
-returns-in-None g c = record { did = did_shut g.R.Rack g.A.Area name.Write (λ y. ReplyDoes y (FnReturnsAt g.F.Fn c.args.chooser.now) (WriteObject c.args.object c.args.bytes.now) c.no_pool.result) c.no_pool.result c.args.pool.now c.args.pool.now c.in-None.is c.in-None.is c.no_pool.ensures; }
+returns-in-None g c = record { did = did_shut g.R.Rack g.A.Area name.Write (λ y. ReplyDoes y (FnReturnsAt g.F.Fn c.args.chooser.now) (WriteObject c.args.object c.args.bytes.now) c.no_pool.result) c.no_pool.result c.args.pool.now c.args.pool.now c.in-None.is c.in-None.is c.no_pool.ensures }

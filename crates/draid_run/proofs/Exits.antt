@@ -1,0 +1,81 @@
+-- What the exits of a run's functions come to.
+use Rattle.std.proofs.Common.{arith, ◌≡◌, ◌≤◌, inl, inr, ◌⊎◌, ℕ, List, Option, Some, None, Result, Ok, Err, Vec, Global}
+use Rattle.draid_names.specs.Faults.{Rose}
+use Rattle.draid_names.specs.declared.room.Room.{Room}
+use Rattle.draid_rack.specs.declared.Rack as racks
+use Rattle.draid_area.specs.declared.Area as areas
+use Rattle.draid_lines.specs.declared.lines.ReadFault.{ReadFault}
+use Rattle.draid_lines.specs.declared.lines.ReadFault.TheVariants as reads
+use Rattle.draid_script.specs.Grammar.{line_of}
+use Rattle.draid_reply.specs.Reply.{text_of}
+use Rattle.draid_reply.specs.declared.reply.Reply.{Reply}
+use Rattle.draid_session.specs.Session.{Desk}
+use Rattle.draid_pool.specs.declared.pool.Pool.{Pool}
+use Rattle.draid_run.specs.Desks.{Turned}
+use Rattle.draid_run.specs.Serve.{LineIs, PrintIs}
+use Rattle.draid_run.specs.Shelves.{OnShelf}
+use Rattle.draid_run.specs.declared.status.Status.{Status}
+use Rattle.draid_run.specs.declared.status.Status.TheVariants.{Done, Usage, Line, SourceFault, SinkFault, NoMemory, TooLong, ShelfFault, Record}
+
+-- nothing failed since
+pub same_later : (n : ℕ) → n ≤ n
+same_later n = omega arith
+
+-- ---- a line
+
+abbrev stopped : Status → Result Unit Status
+stopped status = Err status
+
+-- the sink isn't why a line ended so
+module _ (P : Type 0) where
+  pub done_cause : Ok tt ≡ stopped SinkFault → P
+  done_cause is = absurd (cc is)
+
+  pub line_cause : (number kind at : ℕ) → stopped (Line number kind at) ≡ stopped SinkFault → P
+  line_cause number kind at is = absurd (cc is)
+
+  pub memory_cause : stopped NoMemory ≡ stopped SinkFault → P
+  memory_cause is = absurd (cc is)
+
+  pub shelf_cause : stopped ShelfFault ≡ stopped SinkFault → P
+  shelf_cause is = absurd (cc is)
+
+  pub record_cause : (metaslab : Option ℕ) (place kind : ℕ) → stopped (Record metaslab place kind) ≡ stopped SinkFault → P
+  record_cause metaslab place kind is = absurd (cc is)
+
+-- a line was answered, and its reply printed or not
+module _ {R A : Type 0} (rack : racks.Ghosts R) (area : areas.Ghosts A) (chosen : List Room → Option ℕ → Type 0) (number : ℕ) (text : List ℕ) (entry before : OnShelf) (pool : Option (Pool R A)) (x : Desk) (now : OnShelf) (pool' : Option (Pool R A)) (reply : Reply) (held held' : Option (List ℕ)) where
+  pub line_told : (result : Result Unit Status) → Turned rack area chosen (line_of text) entry x (Some reply) now pool' → PrintIs (text_of reply) held held' result
+      → LineIs rack area chosen number text entry before pool x now pool' held held' result
+  line_told (Ok done) turned prints = record { reply = Some reply; turned = turned; prints = prints }
+  line_told (Err SinkFault) turned prints = record { reply = reply; turned = turned; prints = prints }
+  line_told (Err NoMemory) turned prints = (prints, inr (reply, turned))
+  line_told (Err Done) turned prints = absurd prints
+  line_told (Err Usage) turned prints = absurd prints
+  line_told (Err (Line line kind at)) turned prints = absurd prints
+  line_told (Err SourceFault) turned prints = absurd prints
+  line_told (Err (TooLong line)) turned prints = absurd prints
+  line_told (Err ShelfFault) turned prints = absurd prints
+  line_told (Err (Record metaslab place kind)) turned prints = absurd prints
+
+-- ---- the next line's text
+
+abbrev unread : Status → Result (Option (Vec ℕ Global)) Status
+unread status = Err status
+
+-- the source isn't why there is none
+module _ (P : Type 0) where
+  pub text_cause : (text : Option (Vec ℕ Global)) → Ok text ≡ unread SourceFault → P
+  text_cause text is = absurd (cc is)
+
+  pub long_cause : (line : ℕ) → unread (TooLong line) ≡ unread SourceFault → P
+  long_cause line is = absurd (cc is)
+
+  pub wanting_cause : unread NoMemory ≡ unread SourceFault → P
+  wanting_cause is = absurd (cc is)
+
+-- the source failed, where no refusal stood
+pub source_rose : (fault : Option ReadFault) (before now : ℕ) → fault ≡ None → (fault ≡ Some reads.SourceFault) ⊎ Rose before now → Rose before now
+source_rose None before now none (inl is) = absurd (cc is)
+source_rose None before now none (inr rose) = rose
+source_rose (Some fault) before now none rose = absurd (cc none)
