@@ -358,7 +358,8 @@ fn is_told<R: AllocGlobal + Threads + Sync>(rt: &R, harm: &Harm) -> bool {
 
 #[test]
 fn imports_tell_what_the_areas_have(rt: HostRuntime) {
-    for row in 0..HARMS.len() {
-        assert!(rt; is_told(&rt, &HARMS[row]), "{row}");
+    for harm in HARMS.iter() {
+        let wanted = harm.4;
+        assert!(rt; is_told(&rt, harm), "{wanted}");
     }
 }
