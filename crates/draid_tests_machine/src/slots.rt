@@ -1,6 +1,6 @@
-ghost use Rattle.std.specs.Prelude.{◌≡◌, ◌<◌, ◌^◌, IfOk, map, [], ◌∷◌, false};
+ghost use Rattle.std.specs.Prelude.{◌≡◌, ◌<◌, ◌^◌, IfOk, IfSome, map, [], ◌∷◌, false};
 ghost use Rattle.draid_slots.specs.Changes.{new_arm};
-ghost use Rattle.draid_slots.specs.Table.{arms_listed};
+ghost use Rattle.draid_slots.specs.Table.{IsThere, arms_listed};
 ghost use Rattle.draid_spec.specs.Geometry.{IsGeometry, metaslab_sectors};
 
 use draid_dtl::Log;
@@ -175,12 +175,25 @@ fn reads(slots: &Slots, arm: u32, clean: bool) -> bool {
     read(slots) == Some(ReadArm { arm, clean })
 }
 
+/// Where an arm of slot 1 is, if it is there.
+fn arm_at(slots: &Slots, arm: u32) -> Option<ArmAt>
+    ensures { IfSome result (λ at. IsThere slots.now at) }
+{
+    if slots.children() < 2 || slots.arms(1).len() <= arm as usize {
+        return None;
+    }
+    Some(at(1, arm))
+}
+
 /// Adds a group to the log of slot 1's first leaf.
 fn dirty_first(slots: &mut Slots, alloc: Global) -> bool {
-    if slots.reserve(alloc, 2, 1).is_err() || slots.children() < 2 || slots.arms(1).is_empty() {
+    if slots.reserve(alloc, 2, 1).is_err() {
         return false;
     }
-    slots.dirty(at(1, 0), 3);
+    let Some(at) = arm_at(slots, 0) else {
+        return false;
+    };
+    slots.dirty(at, 3);
     true
 }
 
@@ -188,10 +201,10 @@ fn dirty_first(slots: &mut Slots, alloc: Global) -> bool {
 fn excise(slots: &mut Slots, arm: u32, upto: u64) -> bool
     requires { upto < 2 ^ 48 }
 {
-    if slots.children() < 2 || slots.arms(1).len() <= arm as usize {
+    let Some(at) = arm_at(slots, arm) else {
         return false;
-    }
-    slots.excise(at(1, arm), upto);
+    };
+    slots.excise(at, upto);
     true
 }
 
@@ -216,18 +229,19 @@ fn reads_what_answers(slots: &mut Slots) -> bool {
 
 /// How many groups the log of slot 1's leaf has.
 fn logged(slots: &Slots) -> Option<u64> {
-    if slots.children() < 2 || slots.arms(1).is_empty() {
-        return None;
-    }
-    Some(slots.log(at(1, 0)).count())
+    let at = arm_at(slots, 0)?;
+    Some(slots.log(at).count())
 }
 
 /// Fills that log up to group 4.
 fn fill(slots: &mut Slots, alloc: Global) -> bool {
-    if slots.reserve(alloc, 2, 1).is_err() || slots.children() < 2 || slots.arms(1).is_empty() {
+    if slots.reserve(alloc, 2, 1).is_err() {
         return false;
     }
-    slots.fill(at(1, 0), 4);
+    let Some(at) = arm_at(slots, 0) else {
+        return false;
+    };
+    slots.fill(at, 4);
     true
 }
 
@@ -242,12 +256,12 @@ fn is_filled(slots: &mut Slots, alloc: Global) -> bool {
 
 /// Puts the log of two groups in its place.
 fn set_log(slots: &mut Slots, alloc: Global) -> bool {
-    if slots.children() < 2 || slots.arms(1).is_empty() {
+    let Some(at) = arm_at(slots, 0) else {
         return false;
-    }
+    };
     match Log::upto(alloc, 2) {
         Ok(log) => {
-            slots.set_log(at(1, 0), log);
+            slots.set_log(at, log);
             true
         }
         Err(_) => false,
@@ -256,10 +270,10 @@ fn set_log(slots: &mut Slots, alloc: Global) -> bool {
 
 /// Whether slot 1's leaf becomes fresh.
 fn freshens(slots: &mut Slots) -> bool {
-    if slots.children() < 2 || slots.arms(1).is_empty() {
+    let Some(at) = arm_at(slots, 0) else {
         return false;
-    }
-    slots.set_fresh(at(1, 0), true);
+    };
+    slots.set_fresh(at, true);
     slots.children() > 1 && slots.arms(1).iter().any(|arm| arm.fresh)
 }
 
@@ -272,10 +286,10 @@ fn is_set(slots: &mut Slots, alloc: Global) -> bool {
 fn is_placed(slots: &Slots, sectors: u64) -> bool
     requires { sectors ≡ metaslab_sectors slots.now.geometry }
 {
-    if slots.children() < 2 || slots.arms(1).is_empty() || sectors < 4 {
-        return false;
+    match arm_at(slots, 0) {
+        Some(at) if sectors >= 4 => slots.place(at, 3) == At { leaf: 1, sector: 3 },
+        _ => false,
     }
-    slots.place(at(1, 0), 3) == At { leaf: 1, sector: 3 }
 }
 
 /// The same of new slots.
