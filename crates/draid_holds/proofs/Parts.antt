@@ -70,3 +70,7 @@ passes_more lanes lanes' lane more = ap (map pass_of) more ∙ map_push pass_of 
 pub empty_of : {X : Type 0} (xs : List X) → length xs ≡ 0 → xs ≡ []
 empty_of [] e = refl
 empty_of (x ∷ xs) e = absurd (omega (arith, e))
+
+-- lanes are as many as their works
+pub as_many : {T W E : Type 0} → (lanes : List (Lane T W E)) (works : List W) → map work_of lanes ≡ works → length lanes ≡ length works
+as_many lanes works are = sym (length-map lanes work_of) ∙ ap length are

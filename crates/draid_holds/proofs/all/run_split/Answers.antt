@@ -1,4 +1,6 @@
-use Rattle.std.proofs.Common.{sym, ap, subst, ◌≡◌, ◌∙◌, map, arith}
+use Rattle.draid_holds.proofs.Parts.{as_many}
+use Rattle.std.specs.Vec.{vec_capacity}
+use Rattle.std.proofs.Common.{◌≤◌, ℕ, sym, ap, subst, ◌≡◌, ◌∙◌, map, arith}
 use Rattle.draid_turn.specs.Calls.{Caller, newcomer}
 use Rattle.draid_turn.specs.Lists.{one_if}
 use Rattle.draid_turn.specs.Numbers.{all_numbers, holds}
@@ -46,3 +48,30 @@ returns-clause-ran g c =
       passes = c.split_lanes-lanes.ensures.passes ∙ (λ k. map (λ list. newcomer (sym own.0 k) (first k).seen list.items) c.args.numbers.now);
       ran = c.run_and_close.ensures.ran;
     }
+
+pub split_lanes-lanes-requires-clause-own : goal.split_lanes-lanes-requires-clause-own
+split_lanes-lanes-requires-clause-own g c = ap (λ (p : Caller g.row.T-Event.Denot). p.table) c.requires.first
+
+pub split_lanes-lanes-requires-clause-none : goal.split_lanes-lanes-requires-clause-none
+split_lanes-lanes-requires-clause-none g c = c.requires.none.0
+
+pub split_lanes-lanes-requires-clause-count : goal.split_lanes-lanes-requires-clause-count
+split_lanes-lanes-requires-clause-count g c = c.requires.count
+
+pub split_lanes-lanes-requires-clause-room : goal.split_lanes-lanes-requires-clause-room
+split_lanes-lanes-requires-clause-room g c = subst (λ (n : ℕ). n ≤ vec_capacity c.args.rooms.0) c.requires.count c.requires.room.0
+
+pub split_lanes-lanes-requires-clause-some : goal.split_lanes-lanes-requires-clause-some
+split_lanes-lanes-requires-clause-some g c = c.requires.some
+
+pub run_and_close-requires-clause-own : goal.run_and_close-requires-clause-own
+run_and_close-requires-clause-own g c _ _ = c.split_lanes-lanes.ensures.own.0 ∙ ap (λ (p : Caller g.row.T-Event.Denot). p.table) c.requires.first
+
+pub run_and_close-requires-clause-none : goal.run_and_close-requires-clause-none
+run_and_close-requires-clause-none g c _ _ = (c.requires.none.1, c.requires.none.2)
+
+pub run_and_close-requires-clause-room : goal.run_and_close-requires-clause-room
+run_and_close-requires-clause-room g c _ _ = subst (λ (n : ℕ). (n ≤ vec_capacity c.args.rooms.1) × (n ≤ vec_capacity c.args.rooms.2)) (sym (as_many c.split_lanes-lanes.result.items c.args.works.items c.split_lanes-lanes.ensures.works)) (c.requires.room.1, c.requires.room.2)
+
+pub returns-clause-fact : goal.returns-clause-fact
+returns-clause-fact g c = c.run_and_close.ensures.fact

@@ -1,7 +1,10 @@
 use Rattle.std.proofs.Common.{rules, refl, sym, ap, ◌≡◌, ◌∙◌, ◌&&◌, not, [], ◌++◌, ℕ, List, length, map, get_or, subst, arith, vec_len}
 use Rattle.std.specs.Vec.Iter.{into_iter_items}
 use Rattle.draid_turn.specs.Calls.{Caller, newcomer}
-use Rattle.draid_turn.specs.Numbers.{HoldsOther, holds}
+use Rattle.std.specs.declared.vec.Vec.{Vec}
+use Rattle.std.specs.declared.alloc.Global.{Global}
+use Rattle.draid_turn.specs.declared.span.Span.{Span}
+use Rattle.draid_turn.specs.Numbers.{HoldsOther, HoldsSome, holds}
 use Rattle.draid_holds.specs.Lanes.{pass_of, work_of}
 use Rattle.draid_holds.proofs.Parts.{all_lists, empty_of, passes_more, work_within, works_all, works_more}
 use Rattle.draid_holds.proofs.Splits.{Splitting, all_left, all_split, splitting_held, splitting_more, splitting_other, splitting_start}
@@ -85,3 +88,16 @@ returns-clause-left g c n =
     let all = works_all c.args.works.items c.works.lanes.items (into_iter_items c.works.work-iterator) c.works.invariant.3 none in
     all_left c.args.first.now c.args.numbers.now (vec_len c.works.lanes) (map pass_of c.works.lanes.items) c.works.first c.works.invariant.2
     (all_lists c.args.works.items c.works.lanes.items (length c.args.numbers.now) (vec_len c.works.lanes) all c.requires.count c.works.lanes.ok.0) n
+
+pub split-pass-requires-clause-own : goal.split-pass-requires-clause-own
+split-pass-requires-clause-own g c = c.works.invariant.2.table ∙ c.requires.own
+
+pub returns-clause-own : goal.returns-clause-own
+returns-clause-own g c = (c.works.invariant.2.table, c.works.invariant.2.own)
+
+pub split-pass-requires-clause-some : goal.split-pass-requires-clause-some
+split-pass-requires-clause-some g c =
+    let lt = work_within c.args.works.items c.works.lanes.items (into_iter_items c.works.work-iterator) (into_iter_items c.next.new.self) c.in-Some.work (length c.args.numbers.now) (vec_len c.works.lanes) c.works.invariant.3
+    c.in-Some.ensures.steps.0 c.requires.count c.works.lanes.ok.0 in
+    let is = c.index-numbers-len.is ∙ ap (λ k. get_or c.args.numbers.now k c.index-numbers-len.result) c.len.ensures in
+    subst HoldsSome (sym (c.deref.ensures.value ∙ ap (λ (l : Vec Span Global). l.items) is)) (c.requires.some (vec_len c.works.lanes) c.index-numbers-len.result lt)

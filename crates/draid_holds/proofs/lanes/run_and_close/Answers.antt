@@ -1,4 +1,5 @@
-use Rattle.std.proofs.Common.{sym, ap, subst, ◌≡◌, ◌∙◌, ◌+◌, arith, map, All}
+use Rattle.std.specs.Vec.{vec_capacity}
+use Rattle.std.proofs.Common.{◌≤◌, ℕ, sym, ap, subst, ◌≡◌, ◌∙◌, ◌+◌, arith, map, All}
 use Rattle.draid_turn.specs.Calls.{Caller}
 use Rattle.draid_turn.specs.Lists.{StartsWith, times}
 use Rattle.draid_holds.specs.Lanes.{pass_of}
@@ -31,3 +32,15 @@ returns-clause-ran g c =
       seen = subst (All (λ (caller : Caller g.row.T-Event.Denot). StartsWith log caller.seen)) c.part-passes.ensures.passes c.close_each.ensures.seen;
       single = λ x. ap (λ ps. times x c.args.first.own + makers x ps) (sym c.part-passes.ensures.passes) ∙ c.close_each.ensures.single x;
     }
+
+pub part-passes-requires-clause-none : goal.part-passes-requires-clause-none
+part-passes-requires-clause-none g c = c.requires.none
+
+pub part-passes-requires-clause-room : goal.part-passes-requires-clause-room
+part-passes-requires-clause-room g c = subst (λ (n : ℕ). (n ≤ vec_capacity c.args.passes) × (n ≤ vec_capacity c.args.works)) (sym c.run_lanes.ensures.count) c.requires.room
+
+pub close_each-requires-clause-own : goal.close_each-requires-clause-own
+close_each-requires-clause-own g c = c.requires.own
+
+pub returns-clause-fact : goal.returns-clause-fact
+returns-clause-fact g c = c.close_each.ensures.fact

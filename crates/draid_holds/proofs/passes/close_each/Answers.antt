@@ -17,3 +17,18 @@ pub returns-clause-single : goal.returns-clause-single
 returns-clause-single g c x =
     let all : HoldsAll c.join_each.new.first.numbers = λ n lt. c.join_each.ensures.numbers n (c.requires.all n lt) in
     sym (c.join_each.ensures.made x) ∙ made_once (g.T.Stand.events c.args.turn.first) (g.T.Stand.events c.close.result) c.join_each.new.first.own x c.close.ensures.since (c.close.ensures.whole all)
+
+pub join_each-requires-clause-own : goal.join_each-requires-clause-own
+join_each-requires-clause-own g c = c.requires.own
+
+pub join_each-requires-clause-each : goal.join_each-requires-clause-each
+join_each-requires-clause-each g c = c.requires.each
+
+pub close-requires : goal.close-requires
+close-requires g c = record { own = c.join_each.ensures.own ∙ c.requires.own }
+
+pub returns-clause-fact : goal.returns-clause-fact
+returns-clause-fact g c = c.close.ensures.fact
+
+pub returns-clause-since : goal.returns-clause-since
+returns-clause-since g c = c.close.ensures.since

@@ -24,3 +24,9 @@ returns-clause-made g c = let none : c.passes.passes.items ≡ [] = search rules
 
 pub returns-clause-numbers : goal.returns-clause-numbers
 returns-clause-numbers g c = let none : c.passes.passes.items ≡ [] = search rules in all_held c.args.first.now c.args.passes.items c.passes.passes.items c.passes.first c.passes.invariant none
+
+pub returns-clause-own : goal.returns-clause-own
+returns-clause-own g c = c.passes.invariant.table
+
+pub returns-clause-begins : goal.returns-clause-begins
+returns-clause-begins g c = c.passes.invariant.begins

@@ -48,3 +48,6 @@ returns-clause-new g c = all_split c.args.first.now c.args.numbers.now c.lists.l
 
 pub returns-clause-left : goal.returns-clause-left
 returns-clause-left g c n = all_left c.args.first.now c.args.numbers.now c.lists.list-index c.lists.passes.items c.lists.first c.lists.invariant.0 (let out = c.lists-test.false in omega (arith, out)) n
+
+pub returns-clause-same : goal.returns-clause-same
+returns-clause-same g c = (c.lists.invariant.0.table, c.lists.invariant.0.seen, c.lists.invariant.0.own)
