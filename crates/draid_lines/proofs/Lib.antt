@@ -1,3 +1,4 @@
+pub mod Apart
 pub mod Copies
 pub mod Ends
 pub mod Given
