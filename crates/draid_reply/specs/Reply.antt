@@ -193,3 +193,74 @@ text_of (Discarded freed group) = codes "discard freed=" ++ (decimal freed ++ (c
 abbrev pub IsLine : Reply → Type 0
 IsLine (Status text) = ⊥
 IsLine reply = ⊤
+
+-- replies with a line, but for those on the pool; then those that are left behind objects, leaves, slots and passes
+abbrev pub IsBelowPool : Reply → Type 0
+IsBelowPool (NoPool _) = ⊥
+IsBelowPool (PoolOpen _) = ⊥
+IsBelowPool (NoMemory _) = ⊥
+IsBelowPool (Worn _) = ⊥
+IsBelowPool (Last _) = ⊥
+IsBelowPool (PassThere _ _ _) = ⊥
+IsBelowPool (NoCheckpoint _) = ⊥
+IsBelowPool (Created _ _) = ⊥
+IsBelowPool (CreateRefused _) = ⊥
+IsBelowPool (Imported _ _ _) = ⊥
+IsBelowPool (Exported _) = ⊥
+IsBelowPool (Synced _ _) = ⊥
+IsBelowPool Crashed = ⊥
+IsBelowPool reply = IsLine reply
+
+abbrev pub IsBelowObjects : Reply → Type 0
+IsBelowObjects (Written _) = ⊥
+IsBelowObjects (NoSpace _ _ _ _ _) = ⊥
+IsBelowObjects (Missed _ _) = ⊥
+IsBelowObjects (WriteLast _) = ⊥
+IsBelowObjects (Filled _ _) = ⊥
+IsBelowObjects (FillRefused _ _ _) = ⊥
+IsBelowObjects (Contents _ _) = ⊥
+IsBelowObjects (NoObject _) = ⊥
+IsBelowObjects (Unreadable _ _ _) = ⊥
+IsBelowObjects (ReadWorn _) = ⊥
+IsBelowObjects (Summed _ _ _) = ⊥
+IsBelowObjects (SumRefused _ _) = ⊥
+IsBelowObjects (Freed _) = ⊥
+IsBelowObjects (FreeNoObject _) = ⊥
+IsBelowObjects reply = IsBelowPool reply
+
+abbrev pub IsBelowDisks : Reply → Type 0
+IsBelowDisks (OfflineDone _) = ⊥
+IsBelowDisks (OfflineRefused _) = ⊥
+IsBelowDisks (OfflineWorn _) = ⊥
+IsBelowDisks (OnlineDone _) = ⊥
+IsBelowDisks (OnlineRefused _) = ⊥
+IsBelowDisks (OnlineWorn _) = ⊥
+IsBelowDisks (Damaged _ _) = ⊥
+IsBelowDisks (DamageRefused _ _) = ⊥
+IsBelowDisks (DamageFailed _ _) = ⊥
+IsBelowDisks (DamageWorn _ _) = ⊥
+IsBelowDisks reply = IsBelowObjects reply
+
+abbrev pub IsBelowSlots : Reply → Type 0
+IsBelowSlots (Spared _ _) = ⊥
+IsBelowSlots (SpareRefused _ _) = ⊥
+IsBelowSlots (SpareWorn _) = ⊥
+IsBelowSlots (Replaced _ _) = ⊥
+IsBelowSlots (ReplaceRefused _ _) = ⊥
+IsBelowSlots (ReplaceWorn _) = ⊥
+IsBelowSlots (Detached _ _) = ⊥
+IsBelowSlots (DetachRefused _ _) = ⊥
+IsBelowSlots (DetachWorn _) = ⊥
+IsBelowSlots (DetachLast _) = ⊥
+IsBelowSlots reply = IsBelowDisks reply
+
+abbrev pub IsBelowPasses : Reply → Type 0
+IsBelowPasses (Rebuilt _ _ _ _) = ⊥
+IsBelowPasses RebuildNothing = ⊥
+IsBelowPasses (Scrubbed _ _ _ _ _) = ⊥
+IsBelowPasses (Rebalanced _ _ _ _ _) = ⊥
+IsBelowPasses (RebalanceRefused _ _) = ⊥
+IsBelowPasses (RebalanceWorn _) = ⊥
+IsBelowPasses (RebalanceLast _) = ⊥
+IsBelowPasses (Cancelled _) = ⊥
+IsBelowPasses reply = IsBelowSlots reply

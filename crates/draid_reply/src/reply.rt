@@ -1,5 +1,5 @@
 ghost use Rattle.std.specs.Prelude.{◌≡◌, IfOk, string_bytes};
-ghost use Rattle.draid_reply.specs.Reply.{IsLine, text_of};
+ghost use Rattle.draid_reply.specs.Reply.{IsBelowDisks, IsBelowObjects, IsBelowPasses, IsBelowPool, IsBelowSlots, IsLine, text_of};
 
 use crate::agent::{acted, journal};
 use crate::texts::{
@@ -370,6 +370,25 @@ fn text(alloc: Global, reply: &Reply) -> Result<String, AllocError>
             objects,
         } => imported(alloc, name, *group, *objects),
         Reply::Exported { group } => numbered(alloc, "export group=", *group, "\n"),
+        Reply::Synced { group, thin } => twice_numbered(
+            alloc,
+            "sync group=",
+            *group,
+            " thin=",
+            *thin,
+            "\n",
+        ),
+        Reply::Crashed => String::from_str(alloc, "crash\n"),
+        _ => object_text(alloc, reply),
+    }
+}
+
+/// The line of a reply on objects, or of one that follows.
+fn object_text(alloc: Global, reply: &Reply) -> Result<String, AllocError>
+    requires { IsBelowPool reply.now }
+    ensures { IfOk result (λ text. string_bytes text ≡ text_of reply.now) }
+{
+    match reply {
         Reply::Written { object } => numbered(alloc, "write ", *object, " ok\n"),
         Reply::NoSpace {
             object,
@@ -416,14 +435,16 @@ fn text(alloc: Global, reply: &Reply) -> Result<String, AllocError>
         Reply::SumRefused { object, why } => sum_refused(alloc, *object, *why),
         Reply::Freed { object } => numbered(alloc, "free ", *object, " ok\n"),
         Reply::FreeNoObject { object } => numbered(alloc, "free ", *object, " no object\n"),
-        Reply::Synced { group, thin } => twice_numbered(
-            alloc,
-            "sync group=",
-            *group,
-            " thin=",
-            *thin,
-            "\n",
-        ),
+        _ => disk_text(alloc, reply),
+    }
+}
+
+/// The line of a reply on leaves, or of one that follows.
+fn disk_text(alloc: Global, reply: &Reply) -> Result<String, AllocError>
+    requires { IsBelowObjects reply.now }
+    ensures { IfOk result (λ text. string_bytes text ≡ text_of reply.now) }
+{
+    match reply {
         Reply::OfflineDone { leaf } => numbered(alloc, "offline ", *leaf, " ok\n"),
         Reply::OfflineRefused { leaf } => numbered(alloc, "offline ", *leaf, " refused 1\n"),
         Reply::OfflineWorn { leaf } => numbered(alloc, "offline ", *leaf, " worn\n"),
@@ -452,6 +473,16 @@ fn text(alloc: Global, reply: &Reply) -> Result<String, AllocError>
         Reply::DamageWorn { leaf, sector } => twice_numbered(
             alloc, "damage ", *leaf, " ", *sector, " worn\n",
         ),
+        _ => slot_text(alloc, reply),
+    }
+}
+
+/// The line of a reply on the arms of slots, or of one that follows.
+fn slot_text(alloc: Global, reply: &Reply) -> Result<String, AllocError>
+    requires { IsBelowDisks reply.now }
+    ensures { IfOk result (λ text. string_bytes text ≡ text_of reply.now) }
+{
+    match reply {
         Reply::Spared { slot, name } => spared(alloc, *slot, name),
         Reply::SpareRefused { slot, why } => slot_refused(alloc, CommandName::Spare, *slot, *why),
         Reply::SpareWorn { slot } => numbered(alloc, "spare ", u64::from(*slot), " worn\n"),
@@ -474,6 +505,16 @@ fn text(alloc: Global, reply: &Reply) -> Result<String, AllocError>
         Reply::DetachRefused { arm, why } => detach_refused(alloc, *arm, *why),
         Reply::DetachWorn { arm } => detach_stopped(alloc, *arm, "worn"),
         Reply::DetachLast { arm } => detach_stopped(alloc, *arm, "last"),
+        _ => pass_text(alloc, reply),
+    }
+}
+
+/// The line of a reply on passes, or of one that follows.
+fn pass_text(alloc: Global, reply: &Reply) -> Result<String, AllocError>
+    requires { IsBelowSlots reply.now }
+    ensures { IfOk result (λ text. string_bytes text ≡ text_of reply.now) }
+{
+    match reply {
         Reply::Rebuilt {
             from,
             stripes,
@@ -504,8 +545,16 @@ fn text(alloc: Global, reply: &Reply) -> Result<String, AllocError>
         Reply::RebalanceWorn { slot } => numbered(alloc, "rebalance ", u64::from(*slot), " worn\n"),
         Reply::RebalanceLast { slot } => numbered(alloc, "rebalance ", u64::from(*slot), " last\n"),
         Reply::Cancelled { passes } => numbered(alloc, "cancel ", u64::from(*passes), "\n"),
-        Reply::Crashed => String::from_str(alloc, "crash\n"),
-        Reply::Status { .. } => unreachable!(),
+        _ => late_text(alloc, reply),
+    }
+}
+
+/// The line of a reply on lanes, versions, the agent or the checkpoint.
+fn late_text(alloc: Global, reply: &Reply) -> Result<String, AllocError>
+    requires { IsBelowPasses reply.now }
+    ensures { IfOk result (λ text. string_bytes text ≡ text_of reply.now) }
+{
+    match reply {
         Reply::LanesClash { object } => numbered(alloc, "lanes clash object=", *object, "\n"),
         Reply::LanesClashMend => String::from_str(alloc, "lanes clash mend\n"),
         Reply::LanesCheckpoint => String::from_str(alloc, "lanes checkpoint\n"),
@@ -541,5 +590,6 @@ fn text(alloc: Global, reply: &Reply) -> Result<String, AllocError>
             *group,
             "\n",
         ),
+        _ => unreachable!(),
     }
 }

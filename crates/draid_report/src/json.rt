@@ -87,12 +87,11 @@ fn metaslab_values(alloc: Global, metaslabs: &[MetaslabView]) -> Result<Value, A
 fn metaslab_value(alloc: Global, number: usize, metaslab: MetaslabView) -> Result<Value, AllocError>
     ensures { IfOk result (λ value. view value ≡ metaslab_tree number metaslab) }
 {
-    let pass = pass_value(alloc, metaslab.pass)?;
     json!(in alloc; {
         "number": number,
         "free": metaslab.free,
         "blocks": metaslab.blocks,
-        "pass": pass
+        "pass": pass_value(alloc, metaslab.pass)?
     })
 }
 
