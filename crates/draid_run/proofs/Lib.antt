@@ -1,3 +1,4 @@
+pub mod Asking
 pub mod Broke
 pub mod Ended
 pub mod Ending

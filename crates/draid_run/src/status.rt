@@ -1,8 +1,7 @@
-ghost use Rattle.std.specs.Prelude.{◌≡◌, IfOk, IfSome, IfNone, OnErr, string_bytes};
+ghost use Rattle.std.specs.Prelude.{◌≡◌, IfOk, IfSome, IfNone, string_bytes};
 ghost use Rattle.draid_run.specs.Status.{HasNumber, fixed_text, last_text};
 
-use draid_names::NoMemory;
-use std::alloc::Global;
+use std::alloc::{AllocError, Global};
 
 /// What a run came to, with the program's exit status in brackets.
 #[derive(Clone, Copy, PartialEq, Eq)]
@@ -60,27 +59,27 @@ impl Status {
 }
 
 /// The line that is printed last, its end included, where it names a number.
-pub(crate) fn numbered_line(alloc: Global, status: Status) -> Result<Option<String>, NoMemory>
-    ensures some { IfOk result (λ line. IfSome line (λ text. string_bytes text ≡ last_text status)) }
-    ensures none { IfOk result (λ line. IfNone line (last_text status ≡ fixed_text status)) }
-    ensures err { OnErr result (HasNumber status) }
+pub(crate) fn numbered_line(alloc: Global, status: Status) -> Option<Result<String, AllocError>>
+    ensures some { IfSome result (λ line. IfOk line (λ text. string_bytes text ≡ last_text status)) }
+    ensures number { IfSome result (λ line. HasNumber status) }
+    ensures none { IfNone result (last_text status ≡ fixed_text status) }
 {
     match status {
-        Status::Line { line, kind, at } => Ok(Some(format!(in alloc;
-            "line {line} fault={kind} at={at}\n"
-        )?)),
-        Status::TooLong { line } => Ok(Some(format!(in alloc; "line {line} too long\n")?)),
+        Status::Line { line, kind, at } => {
+            Some(format!(in alloc; "line {line} fault={kind} at={at}\n"))
+        }
+        Status::TooLong { line } => Some(format!(in alloc; "line {line} too long\n")),
         Status::Record {
             metaslab: None,
             at,
             kind,
-        } => Ok(Some(format!(in alloc; "record uber at={at} kind={kind}\n")?)),
+        } => Some(format!(in alloc; "record uber at={at} kind={kind}\n")),
         Status::Record {
             metaslab: Some(metaslab),
             at,
             kind,
-        } => Ok(Some(format!(in alloc; "record metaslab={metaslab} at={at} kind={kind}\n")?)),
-        _ => Ok(None),
+        } => Some(format!(in alloc; "record metaslab={metaslab} at={at} kind={kind}\n")),
+        _ => None,
     }
 }
 
