@@ -11,11 +11,11 @@ use Rattle.draid_script.specs.declared.line.StatusFormat.{StatusFormat}
 use Rattle.draid_script.specs.declared.name.CommandName.{CommandName}
 use Rattle.draid_reply.specs.declared.reply.Reply.{Reply}
 use Rattle.draid_session.specs.Holds.{Hold}
-use Rattle.draid_session.specs.Session.{Desk}
+use Rattle.draid_session.specs.Session.{Desk, TurnsBy}
 use Rattle.draid_session.specs.State.{State, Store}
 use Rattle.draid_pool.specs.Carries.{CarriesOut}
 use Rattle.draid_pool.specs.declared.pool.Pool.{Pool}
-use Rattle.draid_run.specs.Desks.{IsDesk, ReplyDoes, asked_in}
+use Rattle.draid_run.specs.Desks.{IsDesk, ReplyDoes, Turned, asked_in}
 use Rattle.draid_run.specs.Making.{CreateIs}
 use Rattle.draid_run.specs.Says.{DamageSays, FreeSays, ReadSays, StatusSays, SumSays}
 use Rattle.draid_run.specs.Script.{IsUnbuilt}
@@ -36,6 +36,11 @@ module _ {R A : Type 0} (rack : racks.Ghosts R) (area : areas.Ghosts A) (chosen 
       subst (AnswerIs rack area chosen command entry now pool x now new) (sym said) (unbuilt did.0, refl, did.1)
   answer_ask (Err stop.Shelf) result said did = absurd did
   answer_ask (Err (stop.Record metaslab place kind)) result said did = absurd did
+
+-- an empty line, or a comment
+pub turned_silent : {R A : Type 0} (rack : racks.Ghosts R) (area : areas.Ghosts A) (chosen : List Room → Option ℕ → Type 0) (entry now : OnShelf) (pool : Option (Pool R A)) (x : Desk) (line : Line) → line ≡ variant.Nothing
+    → IsDesk rack area entry now pool x → Turned rack area chosen (Ok (command_in line)) entry x None now pool
+turned_silent rack area chosen entry now pool x line is desk = record { new = x; desk = desk; turns = subst (λ l. TurnsBy chosen (Ok (command_in l)) x None x) (sym is) refl }
 
 -- a pool was to be made
 module _ {R A : Type 0} (rack : racks.Ghosts R) (area : areas.Ghosts A) (chosen : List Room → Option ℕ → Type 0) (entry before now : OnShelf) (pool : Option (Pool R A)) (x : Desk) (new : Option (Pool R A)) (text : List ℕ) (children : ℕ) (keys : PoolKeys) where

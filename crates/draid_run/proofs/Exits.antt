@@ -1,5 +1,6 @@
 -- What the exits of a run's functions come to.
 use Rattle.std.proofs.Common.{arith, ◌≡◌, ◌≤◌, inl, inr, ◌⊎◌, ℕ, List, Option, Some, None, Result, Ok, Err, Vec, Global, refl, subst, sym}
+use Rattle.std.specs.Prelude.{⊤}
 use Rattle.draid_names.specs.Faults.{Rose}
 use Rattle.draid_names.specs.declared.room.Room.{Room}
 use Rattle.draid_rack.specs.declared.Rack as racks
@@ -24,6 +25,44 @@ use Rattle.draid_run.specs.declared.status.Status.TheVariants.{Done, Usage, Line
 -- nothing failed since
 pub same_later : (n : ℕ) → n ≤ n
 same_later n = omega arith
+
+pub later_on : (a b c : ℕ) → a ≤ b → b ≤ c → a ≤ c
+later_on a b c first then = omega (arith, first, then)
+
+pub later_same : (a b c : ℕ) → a ≤ b → c ≡ b → a ≤ c
+later_same a b c first same = omega (arith, first, same)
+
+-- a count rose in a part of a call
+pub rose_from : (entry before now : ℕ) → entry ≤ before → Rose before now → Rose entry now
+rose_from entry before now later rose = omega (arith, later, rose)
+
+pub rose_till : (entry mid now : ℕ) → Rose entry mid → mid ≤ now → Rose entry now
+rose_till entry mid now rose later = omega (arith, rose, later)
+
+-- no device is to blame for these
+abbrev pub IsBlameless : Status → Type 0
+IsBlameless SourceFault = ⊥
+IsBlameless SinkFault = ⊥
+IsBlameless ShelfFault = ⊥
+IsBlameless Usage = ⊤
+IsBlameless NoMemory = ⊤
+IsBlameless Done = ⊤
+IsBlameless (Line line kind at) = ⊤
+IsBlameless (TooLong line) = ⊤
+IsBlameless (Record metaslab place kind) = ⊤
+
+pub blameless : (P : Type 0) (ended status : Status) → IsBlameless ended → ended ≡ status → (IsBlameless status → ⊥) → P
+blameless P ended status none is device = absurd (device (subst IsBlameless is none))
+
+pub done_usage : Done ≡ Usage → ⊥
+done_usage is = cc is
+
+-- the sink failed as the last line was put, or before
+pub sink_last : (ended : Status) (before now : ℕ) → IsBlameless ended → (ended ≡ SinkFault) ⊎ Rose before now → Rose before now
+sink_last ended before now none why = elim why [ inl is ↦ absurd (subst IsBlameless is none) | inr rose ↦ rose ]
+
+pub sink_since : (ended : Status) (entry mid now : ℕ) → entry ≤ mid → mid ≤ now → (ended ≡ SinkFault → Rose entry mid) → (ended ≡ SinkFault) ⊎ Rose mid now → Rose entry now
+sink_since ended entry mid now first then cause why = elim why [ inl is ↦ rose_till entry mid now (cause is) then | inr rose ↦ rose_from entry mid now first rose ]
 
 -- ---- a line
 

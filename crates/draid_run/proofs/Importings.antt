@@ -422,3 +422,15 @@ module _ {R A : Type 0} (rack : racks.Ghosts R) (area : areas.Ghosts A) (chosen 
   answer_import pool x new (Err stop.Shelf) result said did = subst (AnswerIs rack area chosen ImportPool entry before pool x now new) (sym said) did
   answer_import pool x new (Err (stop.Record metaslab place kind)) result said did = subst (AnswerIs rack area chosen ImportPool entry before pool x now new) (sym said) did
   answer_import pool x new (Err stop.Unbuilt) result said did = absurd did
+
+-- a pool is open already
+pub already_open : {R A : Type 0} (rack : racks.Ghosts R) (area : areas.Ghosts A) (entry now : OnShelf) (desk : Option (Pool R A)) (x : Desk) → is_some desk ≡ true → IsDesk rack area entry now desk x
+    → ImportDid rack area entry x (PoolOpen name.Import) now desk
+already_open rack area entry now None x some is = absurd (cc some)
+already_open rack area entry now (Some pool) (Open y) some is = record { new = Open y; desk = is; turns = (refl, refl) }
+already_open rack area entry now (Some pool) Foreign some is = record { new = Foreign; desk = is; turns = (refl, refl) }
+already_open rack area entry now (Some pool) Untouched some is = absurd is.stands
+already_open rack area entry now (Some pool) (Made _ count geometry) some is = absurd is.stands
+already_open rack area entry now (Some pool) (Shut crash z) some is = absurd is.stands
+already_open rack area entry now (Some pool) Bare some is = absurd is.stands
+already_open rack area entry now (Some pool) Unknown some is = absurd is.stands

@@ -115,11 +115,16 @@ fn make<H: Shelf>(
     let Ok(name) = vdev_name(alloc, spec) else {
         return Err(PoolFault::NoMemory);
     };
-    *pool = Some(draid_pool::create(alloc, shelf, spec, props)?);
-    Ok(Made {
-        name,
-        stripes: layout.pool_stripes(),
-    })
+    match draid_pool::create(alloc, shelf, spec, props) {
+        Ok(open) => {
+            *pool = Some(open);
+            Ok(Made {
+                name,
+                stripes: layout.pool_stripes(),
+            })
+        }
+        Err(fault) => Err(fault),
+    }
 }
 
 /// What a command replies that needs an open pool, where none is open.

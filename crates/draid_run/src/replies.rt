@@ -137,11 +137,7 @@ fn damage<R: Rack, A: Area>(pool: &mut Pool<R, A>, leaf: u64, sector: u64) -> Re
 }
 
 /// Tells what a pool is, in this format.
-fn status<R: Rack, A: Area>(
-    alloc: Global,
-    pool: &Pool<R, A>,
-    format: StatusFormat,
-) -> Reply
+fn status<R: Rack, A: Area>(alloc: Global, pool: &Pool<R, A>, format: StatusFormat) -> Reply
     requires whole { IsWhole R.Rack A.Area pool.now }
     ensures step { (x : State) → Represents R.Rack A.Area pool.now x
         → CarriesOut R.Rack A.Area pool.now x (StatusSays format result x) }

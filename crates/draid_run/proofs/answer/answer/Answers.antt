@@ -5,67 +5,71 @@ use Rattle.draid_script.specs.declared.line.Line.{Line}
 use Rattle.draid_run.specs.Desks.{Turned}
 use Rattle.draid_run.specs.Shelves.{on_shelf}
 use Rattle.draid_run.specs.Serve.{AnswerIs}
-use Rattle.draid_run.proofs.Asking.{answer_ask, answer_create, is_unbuilt}
+use Rattle.draid_run.proofs.Asking.{answer_ask, answer_create, is_unbuilt, turned_silent}
 use Rattle.draid_run.proofs.Exits.{same_later}
 use Rattle.draid_run.proofs.Grouping.{answer_export, answer_sync, by_crash}
 use Rattle.draid_run.proofs.Importings.{answer_import}
 use Rattle.draid_run.proofs.answer.answer.Goals as goal
 
-pub returns-in-Sync-clause-answer : goal.returns-in-Sync-clause-answer
-returns-in-Sync-clause-answer g c entry x desk =
-    subst (λ (l : Line). AnswerIs g.H.R.Rack g.H.A.Area (FnReturnsAt g.F.Fn c.args.chooser.now) (command_in l) entry (on_shelf g.H.Shelf c.args.shelf.now) c.args.pool.now x (on_shelf g.H.Shelf c.args.shelf.now) c.sync.new.pool c.said-in-Sync.result) (sym c.in-Sync.is)
-    (answer_sync g.H.R.Rack g.H.A.Area (FnReturnsAt g.F.Fn c.args.chooser.now) entry (on_shelf g.H.Shelf c.args.shelf.now) (on_shelf g.H.Shelf c.args.shelf.now) c.args.pool.now x c.sync.new.pool c.sync.result c.said-in-Sync.result c.said-in-Sync.ensures refl desk (c.sync.ensures.did x desk.stands))
+pub returns-in-Sync : goal.returns-in-Sync
+returns-in-Sync g c = record {
+  answer = λ entry x desk.
+      subst (λ (l : Line). AnswerIs g.H.R.Rack g.H.A.Area (FnReturnsAt g.F.Fn c.args.chooser.now) (command_in l) entry (on_shelf g.H.Shelf c.args.shelf.now) c.args.pool.now x (on_shelf g.H.Shelf c.args.shelf.now) c.sync.new.pool c.said-in-Sync.result) (sym c.in-Sync.is)
+      (answer_sync g.H.R.Rack g.H.A.Area (FnReturnsAt g.F.Fn c.args.chooser.now) entry (on_shelf g.H.Shelf c.args.shelf.now) (on_shelf g.H.Shelf c.args.shelf.now) c.args.pool.now x c.sync.new.pool c.sync.result c.said-in-Sync.result c.said-in-Sync.ensures refl desk (c.sync.ensures.did x desk.stands));
+  later = same_later (g.H.Shelf.faults c.args.shelf.now);
+}
 
-pub returns-in-Export-clause-answer : goal.returns-in-Export-clause-answer
-returns-in-Export-clause-answer g c entry x desk =
-    subst (λ (l : Line). AnswerIs g.H.R.Rack g.H.A.Area (FnReturnsAt g.F.Fn c.args.chooser.now) (command_in l) entry (on_shelf g.H.Shelf c.args.shelf.now) c.args.pool.now x (on_shelf g.H.Shelf c.export.new.shelf) c.export.new.pool c.said-in-Export.result) (sym c.in-Export.is)
-    (answer_export g.H.R.Rack g.H.A.Area (FnReturnsAt g.F.Fn c.args.chooser.now) entry (on_shelf g.H.Shelf c.args.shelf.now) (on_shelf g.H.Shelf c.export.new.shelf) c.args.pool.now x c.export.new.pool c.export.result c.said-in-Export.result c.said-in-Export.ensures (c.export.ensures.answer entry x desk))
+pub returns-in-Export : goal.returns-in-Export
+returns-in-Export g c = record {
+  answer = λ entry x desk.
+      subst (λ (l : Line). AnswerIs g.H.R.Rack g.H.A.Area (FnReturnsAt g.F.Fn c.args.chooser.now) (command_in l) entry (on_shelf g.H.Shelf c.args.shelf.now) c.args.pool.now x (on_shelf g.H.Shelf c.export.new.shelf) c.export.new.pool c.said-in-Export.result) (sym c.in-Export.is)
+      (answer_export g.H.R.Rack g.H.A.Area (FnReturnsAt g.F.Fn c.args.chooser.now) entry (on_shelf g.H.Shelf c.args.shelf.now) (on_shelf g.H.Shelf c.export.new.shelf) c.args.pool.now x c.export.new.pool c.export.result c.said-in-Export.result c.said-in-Export.ensures (c.export.ensures.answer entry x desk));
+  later = c.export.ensures.later;
+}
 
-pub returns-in-Crash-clause-answer : goal.returns-in-Crash-clause-answer
-returns-in-Crash-clause-answer g c entry x desk =
-    subst (λ (l : Line). Turned g.H.R.Rack g.H.A.Area (FnReturnsAt g.F.Fn c.args.chooser.now) (Ok (command_in l)) entry x (Some c.crash.result) (on_shelf g.H.Shelf c.crash.new.shelf) c.crash.new.pool) (sym c.in-Crash.is)
-    (by_crash g.H.R.Rack g.H.A.Area (FnReturnsAt g.F.Fn c.args.chooser.now) entry (on_shelf g.H.Shelf c.args.shelf.now) (on_shelf g.H.Shelf c.crash.new.shelf) x c.crash.result c.crash.new.pool (c.crash.ensures.did entry x desk))
+pub returns-in-Crash : goal.returns-in-Crash
+returns-in-Crash g c = record {
+  answer = λ entry x desk.
+      subst (λ (l : Line). Turned g.H.R.Rack g.H.A.Area (FnReturnsAt g.F.Fn c.args.chooser.now) (Ok (command_in l)) entry x (Some c.crash.result) (on_shelf g.H.Shelf c.crash.new.shelf) c.crash.new.pool) (sym c.in-Crash.is)
+      (by_crash g.H.R.Rack g.H.A.Area (FnReturnsAt g.F.Fn c.args.chooser.now) entry (on_shelf g.H.Shelf c.args.shelf.now) (on_shelf g.H.Shelf c.crash.new.shelf) x c.crash.result c.crash.new.pool (c.crash.ensures.did entry x desk));
+  later = c.crash.ensures.later;
+}
 
-pub returns-in-Import-clause-answer : goal.returns-in-Import-clause-answer
-returns-in-Import-clause-answer g c entry x desk =
-    subst (λ (l : Line). AnswerIs g.H.R.Rack g.H.A.Area (FnReturnsAt g.F.Fn c.args.chooser.now) (command_in l) entry (on_shelf g.H.Shelf c.args.shelf.now) c.args.pool.now x (on_shelf g.H.Shelf c.import.new.shelf) c.import.new.pool c.said-in-Import.result) (sym c.in-Import.is)
-    (answer_import g.H.R.Rack g.H.A.Area (FnReturnsAt g.F.Fn c.args.chooser.now) entry (on_shelf g.H.Shelf c.args.shelf.now) (on_shelf g.H.Shelf c.import.new.shelf) c.args.pool.now x c.import.new.pool c.import.result c.said-in-Import.result c.said-in-Import.ensures (c.import.ensures.answer entry x desk))
+pub returns-in-Import : goal.returns-in-Import
+returns-in-Import g c = record {
+  answer = λ entry x desk.
+      subst (λ (l : Line). AnswerIs g.H.R.Rack g.H.A.Area (FnReturnsAt g.F.Fn c.args.chooser.now) (command_in l) entry (on_shelf g.H.Shelf c.args.shelf.now) c.args.pool.now x (on_shelf g.H.Shelf c.import.new.shelf) c.import.new.pool c.said-in-Import.result) (sym c.in-Import.is)
+      (answer_import g.H.R.Rack g.H.A.Area (FnReturnsAt g.F.Fn c.args.chooser.now) entry (on_shelf g.H.Shelf c.args.shelf.now) (on_shelf g.H.Shelf c.import.new.shelf) c.args.pool.now x c.import.new.pool c.import.result c.said-in-Import.result c.said-in-Import.ensures (c.import.ensures.answer entry x desk));
+  later = c.import.ensures.later;
+}
 
-pub returns-in-Nothing-clause-later : goal.returns-in-Nothing-clause-later
-returns-in-Nothing-clause-later g c = same_later (g.H.Shelf.faults c.args.shelf.now)
+pub returns-in_default : goal.returns-in_default
+returns-in_default g c = record {
+  answer = λ entry x desk.
+      answer_ask g.H.R.Rack g.H.A.Area (FnReturnsAt g.F.Fn c.args.chooser.now) entry (on_shelf g.H.Shelf c.args.shelf.now) c.args.pool.now x desk (command_in c.args.line.now)
+      (is_unbuilt c.args.line.now c.in_default.not-Nothing c.in_default.not-Create c.in_default.not-Import c.in_default.not-Export c.in_default.not-Sync c.in_default.not-Crash)
+      c.ask.new.pool c.ask.result c.said-in_default.result c.said-in_default.ensures (c.ask.ensures.did x desk.stands);
+  later = same_later (g.H.Shelf.faults c.args.shelf.now);
+}
 
-pub returns-in-Sync-clause-later : goal.returns-in-Sync-clause-later
-returns-in-Sync-clause-later g c = same_later (g.H.Shelf.faults c.args.shelf.now)
-
-pub returns-in-Import-clause-later : goal.returns-in-Import-clause-later
-returns-in-Import-clause-later g c = c.import.ensures.later
-
-pub returns-in-Export-clause-later : goal.returns-in-Export-clause-later
-returns-in-Export-clause-later g c = c.export.ensures.later
-
-pub returns-in-Create-clause-later : goal.returns-in-Create-clause-later
-returns-in-Create-clause-later g c = c.create.ensures.later
-
-pub returns-in_default-clause-later : goal.returns-in_default-clause-later
-returns-in_default-clause-later g c = same_later (g.H.Shelf.faults c.args.shelf.now)
-
-pub returns-in_default-clause-answer : goal.returns-in_default-clause-answer
-returns-in_default-clause-answer g c entry x desk =
-    answer_ask g.H.R.Rack g.H.A.Area (FnReturnsAt g.F.Fn c.args.chooser.now) entry (on_shelf g.H.Shelf c.args.shelf.now) c.args.pool.now x desk (command_in c.args.line.now)
-    (is_unbuilt c.args.line.now c.in_default.not-Nothing c.in_default.not-Create c.in_default.not-Import c.in_default.not-Export c.in_default.not-Sync c.in_default.not-Crash)
-    c.ask.new.pool c.ask.result c.said-in_default.result c.said-in_default.ensures (c.ask.ensures.did x desk.stands)
-
-pub returns-in-Create-clause-answer : goal.returns-in-Create-clause-answer
-returns-in-Create-clause-answer g c entry x desk =
-    subst (λ k. AnswerIs g.H.R.Rack g.H.A.Area (FnReturnsAt g.F.Fn c.args.chooser.now) k entry (on_shelf g.H.Shelf c.args.shelf.now) c.args.pool.now x (on_shelf g.H.Shelf c.create.new.shelf) c.create.new.pool c.said.result)
-    (sym (ap command_in c.in-Create.is ∙ ap (λ text. CreatePool text c.in-Create.children c.in-Create.keys) (sym c.deref.ensures.value)))
-    (answer_create g.H.R.Rack g.H.A.Area (FnReturnsAt g.F.Fn c.args.chooser.now) entry (on_shelf g.H.Shelf c.args.shelf.now) (on_shelf g.H.Shelf c.create.new.shelf) c.args.pool.now x c.create.new.pool c.deref.result.now c.in-Create.children c.in-Create.keys c.create.result c.said.result c.said.ensures (c.create.ensures.answer entry x desk))
-
-pub returns-in-Crash-clause-later : goal.returns-in-Crash-clause-later
-returns-in-Crash-clause-later g c = c.crash.ensures.later
+pub returns-in-Create : goal.returns-in-Create
+returns-in-Create g c = record {
+  answer = λ entry x desk.
+      subst (λ k. AnswerIs g.H.R.Rack g.H.A.Area (FnReturnsAt g.F.Fn c.args.chooser.now) k entry (on_shelf g.H.Shelf c.args.shelf.now) c.args.pool.now x (on_shelf g.H.Shelf c.create.new.shelf) c.create.new.pool c.said.result)
+      (sym (ap command_in c.in-Create.is ∙ ap (λ text. CreatePool text c.in-Create.children c.in-Create.keys) (sym c.deref.ensures.value)))
+      (answer_create g.H.R.Rack g.H.A.Area (FnReturnsAt g.F.Fn c.args.chooser.now) entry (on_shelf g.H.Shelf c.args.shelf.now) (on_shelf g.H.Shelf c.create.new.shelf) c.args.pool.now x c.create.new.pool c.deref.result.now c.in-Create.children c.in-Create.keys c.create.result c.said.result c.said.ensures (c.create.ensures.answer entry x desk));
+  later = c.create.ensures.later;
+}
 
 pub sync-requires : goal.sync-requires
 sync-requires g c = record { desk = c.requires.desk }
+
+pub returns-in-Nothing : goal.returns-in-Nothing
+returns-in-Nothing g c = record {
+  answer = λ entry x desk.
+      turned_silent g.H.R.Rack g.H.A.Area (FnReturnsAt g.F.Fn c.args.chooser.now) entry (on_shelf g.H.Shelf c.args.shelf.now) c.args.pool.now x c.args.line.now c.in-Nothing.is desk;
+  later = same_later (g.H.Shelf.faults c.args.shelf.now);
+}
 
 pub ask-requires-clause-chooser : goal.ask-requires-clause-chooser
 ask-requires-clause-chooser g c κs within = c.requires.chooser
@@ -75,3 +79,9 @@ ask-requires-clause-range g c κs within = c.requires.range
 
 pub ask-requires-clause-desk : goal.ask-requires-clause-desk
 ask-requires-clause-desk g c κs within = c.requires.desk
+
+pub export-requires-clause-desk : goal.export-requires-clause-desk
+export-requires-clause-desk g c κs within = c.requires.desk
+
+pub crash-requires-clause-desk : goal.crash-requires-clause-desk
+crash-requires-clause-desk g c κs within = c.requires.desk

@@ -10,14 +10,20 @@ returns-in_default g c = record { did = λ x stands. (sym c.asked.ensures ∙ c.
 
 pub returns-in-Some-pool : goal.returns-in-Some-pool
 returns-in-Some-pool g c = record {
-  did = λ x stands. (c.in-Some.command, sym c.asked.ensures ∙ c.in-Some.is,
-      did_open g.R.Rack g.A.Area (FnReturnsAt g.F.Fn c.args.chooser.now) (command_in c.args.line.now) c.in-Some.command c.reply.result c.args.pool.now c.in-Some-pool.pool c.reply.new.pool c.in-Some-pool.is c.reply.ensures.whole c.reply.ensures.step x stands);
+  did = λ x stands. (
+    c.in-Some.command,
+    sym c.asked.ensures ∙ c.in-Some.is,
+    did_open g.R.Rack g.A.Area (FnReturnsAt g.F.Fn c.args.chooser.now) (command_in c.args.line.now) c.in-Some.command c.reply.result c.args.pool.now c.in-Some-pool.pool c.reply.new.pool c.in-Some-pool.is c.reply.ensures.whole c.reply.ensures.step x stands,
+  );
 }
 
 pub returns-in-None : goal.returns-in-None
 returns-in-None g c = record {
-  did = λ x stands. (c.in-Some.command, sym c.asked.ensures ∙ c.in-Some.is,
-      did_shut g.R.Rack g.A.Area (FnReturnsAt g.F.Fn c.args.chooser.now) (command_in c.args.line.now) c.in-Some.command c.no_pool.result c.args.pool.now c.args.pool.now c.in-None.is c.in-None.is c.no_pool.ensures x stands);
+  did = λ x stands. (
+    c.in-Some.command,
+    sym c.asked.ensures ∙ c.in-Some.is,
+    did_shut g.R.Rack g.A.Area (FnReturnsAt g.F.Fn c.args.chooser.now) (command_in c.args.line.now) c.in-Some.command c.no_pool.result c.args.pool.now c.args.pool.now c.in-None.is c.in-None.is c.no_pool.ensures x stands,
+  );
 }
 
 pub reply-requires-clause-chooser : goal.reply-requires-clause-chooser

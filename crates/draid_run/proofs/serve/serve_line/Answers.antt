@@ -26,3 +26,12 @@ returns-in-Err-NoMemory g c = record {
   cause = memory_cause _;
   shelf_later = same_later (g.H.Shelf.faults c.args.shelf.now);
 }
+
+pub serve_command-requires-clause-chooser : goal.serve_command-requires-clause-chooser
+serve_command-requires-clause-chooser g c κs within = c.requires.chooser
+
+pub serve_command-requires-clause-range : goal.serve_command-requires-clause-range
+serve_command-requires-clause-range g c κs within = c.in-Ok.ensures.range
+
+pub serve_command-requires-clause-desk : goal.serve_command-requires-clause-desk
+serve_command-requires-clause-desk g c κs within = c.requires.desk
