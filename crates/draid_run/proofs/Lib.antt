@@ -10,6 +10,7 @@ pub mod Grouping
 pub mod Importings
 pub mod Known
 pub mod Makings
+pub mod Printing
 pub mod Risen
 pub mod Runs
 pub mod Said

@@ -50,6 +50,16 @@ text_no_sink lines lines' left left' status text is = subst (λ s. TextIs lines 
 pub text_no_usage : (lines lines' : Rest) (left left' : Option (List ℕ)) (status : Status) → TextIs lines lines' left left' (Err status) → status ≡ Usage → ⊥
 text_no_usage lines lines' left left' status text is = subst (λ s. TextIs lines lines' left left' (Err s)) is text
 
+-- the number of the next line
+pub first_number : (given : ℕ) → given ≡ 0 → given + 1 ≡ 1
+first_number given none = omega (arith, none)
+
+pub few_given : (given : ℕ) → given ≡ 0 → given ≤ most_lines
+few_given given none = omega (arith, none)
+
+pub next_number : (given' given number : ℕ) → given' ≡ given + 1 → given + 1 ≡ number → given' + 1 ≡ number + 1
+next_number given' given number one is = omega (arith, one, is)
+
 -- one line more than a script may have isn't given
 pub too_many : (number given : ℕ) → 1_048_578 ≤ number → given + 1 ≡ number → given ≤ most_lines → ⊥
 too_many number given past is few = omega (arith, past, is, few)

@@ -15,7 +15,7 @@ use crate::answer::{Stop, answer};
 use crate::status::Status;
 use draid_choose::Chooser;
 use draid_lines::{Lines, ReadFault, Sink, Source};
-use draid_names::{Failed, Room};
+use draid_names::{Failed, NoMemory, Room};
 use draid_pool::Pool;
 use draid_reply::{Reply, reply_text};
 use draid_script::{Line, LineFault, ParseFault, parse_line};
@@ -63,7 +63,7 @@ fn serve_command<H: Shelf, K: Sink, F: Fn(&[Room]) -> Option<u32>>(
     ensures shelf_later { H.faults shelf.old ≤ H.faults shelf.new }
 {
     match answer(rt, alloc, shelf, pool, chooser, line) {
-        Ok(Some(reply)) => print_reply(alloc, sink, &reply),
+        Ok(Some(reply)) => print_reply(alloc, sink, reply),
         Ok(None) => Ok(()),
         Err(stop) => Err(stopped(number, stop)),
     }
@@ -99,16 +99,23 @@ fn serve_line<H: Shelf, K: Sink, F: Fn(&[Room]) -> Option<u32>>(
     }
 }
 
+/// The text that a reply becomes.
+fn into_text(alloc: Global, reply: Reply) -> Result<Vec<u8>, NoMemory>
+    ensures { IfOk result (λ text. text.items ≡ text_of reply) }
+{
+    reply_text(alloc, &reply)
+}
+
 /// Prints a reply, as one `put`.
-fn print_reply<K: Sink>(alloc: Global, sink: &mut K, reply: &Reply) -> Result<(), Status>
-    ensures prints { PrintIs (text_of reply.now) (K.held sink.old) (K.held sink.new) result }
+fn print_reply<K: Sink>(alloc: Global, sink: &mut K, reply: Reply) -> Result<(), Status>
+    ensures prints { PrintIs (text_of reply) (K.held sink.old) (K.held sink.new) result }
     ensures later { K.faults sink.old ≤ K.faults sink.new }
     ensures cause { result ≡ Err Status.SinkFault → Rose (K.faults sink.old) (K.faults sink.new) }
 {
-    let Ok(bytes) = reply_text(alloc, reply) else {
+    let Ok(text) = into_text(alloc, reply) else {
         return Err(Status::NoMemory);
     };
-    match sink.put(&bytes) {
+    match sink.put(&text) {
         Ok(()) => Ok(()),
         Err(Failed) => Err(Status::SinkFault),
     }

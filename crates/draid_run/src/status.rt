@@ -1,4 +1,4 @@
-ghost use Rattle.std.specs.Prelude.{◌≡◌, IfOk, IfSome, IfNone, string_bytes};
+ghost use Rattle.std.specs.Prelude.{◌≡◌, Some, None, IfOk, IfSome, IfNone, string_bytes};
 ghost use Rattle.draid_run.specs.Status.{HasNumber, fixed_text, last_text};
 
 use std::alloc::{AllocError, Global};
@@ -58,6 +58,34 @@ impl Status {
     }
 }
 
+/// The line that is printed last where a line of the script can't be run.
+fn line_refused(alloc: Global, line: u64, kind: u8, at: u64) -> Result<String, AllocError>
+    ensures { IfOk result (λ text. string_bytes text ≡ last_text (Status.Line line kind at)) }
+{
+    format!(in alloc; "line {line} fault={kind} at={at}\n")
+}
+
+/// The line that is printed last where a line of the script is too long.
+fn line_too_long(alloc: Global, line: u64) -> Result<String, AllocError>
+    ensures { IfOk result (λ text. string_bytes text ≡ last_text (Status.TooLong line)) }
+{
+    format!(in alloc; "line {line} too long\n")
+}
+
+/// The line that is printed last where a record of a metaslab is out of its range.
+fn metaslab_refused(alloc: Global, metaslab: u32, at: u64, kind: u8) -> Result<String, AllocError>
+    ensures { IfOk result (λ text. string_bytes text ≡ last_text (Status.Record (Some metaslab) at kind)) }
+{
+    format!(in alloc; "record metaslab={metaslab} at={at} kind={kind}\n")
+}
+
+/// The line that is printed last where the uberblock's slot is out of its range.
+fn uber_refused(alloc: Global, at: u64, kind: u8) -> Result<String, AllocError>
+    ensures { IfOk result (λ text. string_bytes text ≡ last_text (Status.Record None at kind)) }
+{
+    format!(in alloc; "record uber at={at} kind={kind}\n")
+}
+
 /// The line that is printed last, its end included, where it names a number.
 pub(crate) fn numbered_line(alloc: Global, status: Status) -> Option<Result<String, AllocError>>
     ensures some { IfSome result (λ line. IfOk line (λ text. string_bytes text ≡ last_text status)) }
@@ -65,20 +93,18 @@ pub(crate) fn numbered_line(alloc: Global, status: Status) -> Option<Result<Stri
     ensures none { IfNone result (last_text status ≡ fixed_text status) }
 {
     match status {
-        Status::Line { line, kind, at } => {
-            Some(format!(in alloc; "line {line} fault={kind} at={at}\n"))
-        }
-        Status::TooLong { line } => Some(format!(in alloc; "line {line} too long\n")),
-        Status::Record {
-            metaslab: None,
-            at,
-            kind,
-        } => Some(format!(in alloc; "record uber at={at} kind={kind}\n")),
+        Status::Line { line, kind, at } => Some(line_refused(alloc, line, kind, at)),
+        Status::TooLong { line } => Some(line_too_long(alloc, line)),
         Status::Record {
             metaslab: Some(metaslab),
             at,
             kind,
-        } => Some(format!(in alloc; "record metaslab={metaslab} at={at} kind={kind}\n")),
+        } => Some(metaslab_refused(alloc, metaslab, at, kind)),
+        Status::Record {
+            metaslab: None,
+            at,
+            kind,
+        } => Some(uber_refused(alloc, at, kind)),
         _ => None,
     }
 }

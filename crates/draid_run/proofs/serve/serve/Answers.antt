@@ -1,11 +1,11 @@
-use Rattle.std.proofs.Common.{◌∙◌, arith, Ok, Err, ap, sym, refl, ℕ}
+use Rattle.std.proofs.Common.{◌∙◌, Ok, Err, ap, sym, refl, ℕ}
 use Rattle.std.specs.Fn.{FnReturnsAt}
 use Rattle.draid_lines.specs.Lines.{Rest}
 use Rattle.draid_session.specs.Session.{Untouched}
 use Rattle.draid_run.specs.Shelves.{on_shelf}
 use Rattle.draid_run.specs.declared.status.Status.TheVariants.{Done, SinkFault, SourceFault}
-use Rattle.draid_run.proofs.Exits.{blameless, done_usage, later_on, rose_from}
-use Rattle.draid_run.proofs.Serving.{as_found, line_by, line_no_source, line_no_usage, served_done, served_line, served_unread, serving_more, serving_start, text_by, text_no_sink, text_no_usage, too_many}
+use Rattle.draid_run.proofs.Exits.{blameless, done_usage, later_on, rose_from, same_later}
+use Rattle.draid_run.proofs.Serving.{as_found, few_given, first_number, line_by, line_no_source, line_no_usage, next_number, served_done, served_line, served_unread, serving_more, serving_start, text_by, text_no_sink, text_no_usage, too_many}
 use Rattle.draid_run.proofs.serve.serve.Goals as goal
 
 pub lines-init : goal.lines-init
@@ -15,11 +15,11 @@ lines-init g c =
     record {
       serving = λ first at. serving_start _ _ _ _ _ _ c.new-lines.result c.args.pool.now c.new-lines.ensures c.requires.closed first at;
       fault = ap (λ (r : Rest). r.fault) c.new-lines.ensures;
-      given = omega (arith, given);
-      few = omega (arith, given);
-      source_later = omega arith;
-      sink_later = omega arith;
-      shelf_later = omega arith;
+      given = first_number _ given;
+      few = few_given _ given;
+      source_later = same_later _;
+      sink_later = same_later _;
+      shelf_later = same_later _;
     }
 
 pub returns-in-Ok-None : goal.returns-in-Ok-None
@@ -70,21 +70,15 @@ lines-preserved g c =
     let text = text_by c.lines.lines c.next_text.new.lines _ _ _ _ c.in-Ok-Some.field-0-is c.in-Ok-Some.ensures.text in
     let one = text.0 in
     let given = c.lines.invariant.given in
-    let source = c.lines.invariant.source_later in
-    let source' = c.next_text.ensures.later in
-    let sink = c.lines.invariant.sink_later in
-    let sink' = c.serve_line.ensures.later in
-    let shelf = c.lines.invariant.shelf_later in
-    let shelf' = c.serve_line.ensures.shelf_later in
     record {
       serving = λ first at. (let serving = c.lines.invariant.serving first at in rw one (serving_more _ _ _ _ first _ _ _ _ _ _ _ _ _ _ _ _ serving text.3
           (line_by g.H.R.Rack g.H.A.Area (FnReturnsAt g.F.Fn c.args.chooser.now) (on_shelf g.H.Shelf c.args.shelf.now) c.lines.number c.lines.number _ c.in-Ok-Some.text.items (on_shelf g.H.Shelf c.lines.shelf) c.lines.pool serving.reached (on_shelf g.H.Shelf c.serve_line.new.shelf) c.serve_line.new.pool (g.K.Sink.held c.lines.sink) (g.K.Sink.held c.serve_line.new.sink) (Ok tt) refl c.deref.ensures.value (c.in_default.ensures.line (on_shelf g.H.Shelf c.args.shelf.now) serving.reached serving.desk))));
       fault = text.2;
-      given = omega (arith, one, given);
+      given = next_number _ _ _ one given;
       few = text.1;
-      source_later = omega (arith, source, source');
-      sink_later = omega (arith, sink, sink');
-      shelf_later = omega (arith, shelf, shelf');
+      source_later = later_on _ _ _ c.lines.invariant.source_later c.next_text.ensures.later;
+      sink_later = later_on _ _ _ c.lines.invariant.sink_later c.serve_line.ensures.later;
+      shelf_later = later_on _ _ _ c.lines.invariant.shelf_later c.serve_line.ensures.shelf_later;
     }
 
 pub next_text-requires : goal.next_text-requires
