@@ -16,6 +16,7 @@ use Rattle.draid_shelf.specs.Kits.{Held, KitCounts, OnHeld}
 use Rattle.draid_script.specs.Line.{CreatePool}
 use Rattle.draid_script.specs.declared.line.PoolKeys.{PoolKeys}
 use Rattle.draid_script.specs.declared.name.CommandName.TheVariants as name
+use Rattle.draid_reply.specs.declared.reply.Reply.{Reply}
 use Rattle.draid_reply.specs.declared.reply.Reply.TheVariants.{Created, CreateRefused, NoMemory, PoolOpen}
 use Rattle.draid_session.specs.Making.{IsFresh, Makes, layout_by, layout_from, props_of, vdev_name_of}
 use Rattle.draid_session.specs.Session.{Desk, Untouched, Bare, Made, Open, Shut, Foreign, Unknown, Breaks, MakesNone, ShelfFails, StaysShut, uncommitted}
@@ -29,9 +30,10 @@ use Rattle.draid_pool.specs.declared.fault.PoolFault.{PoolFault}
 use Rattle.draid_pool.specs.declared.fault.PoolFault.TheVariants as fault
 use Rattle.draid_pool.specs.declared.pool.Pool.{Pool}
 use Rattle.draid_run.specs.Desks.{Broken, IsDesk, IsPool, IsShelf}
-use Rattle.draid_run.specs.Making.{CreateDid, CreateTurns, MakeIs, PoolIs}
+use Rattle.draid_run.specs.Making.{CreateDid, CreateIs, CreateTurns, IsOfMaking, MakeIs, PoolIs, UnmadeIs}
 use Rattle.draid_run.specs.Shelves.{HasChecks, HoldsShut, IsClosed, IsSame, OnShelf}
 use Rattle.draid_run.specs.declared.answer.Made as answer
+use Rattle.draid_run.specs.declared.answer.Stop.{Stop}
 use Rattle.draid_run.proofs.GivenBack.{holds_as, importable_as, on_held, told_as}
 use Rattle.draid_run.proofs.Risen.{cause_closed}
 
@@ -240,7 +242,7 @@ module _ {R A : Type 0} (rack : racks.Ghosts R) (area : areas.Ghosts A) where
           });
         }
 
-      pub refused : (why : SpecFault) → result ≡ Err (fault.Spec why) → CreateDid rack area text children keys entry x (CreateRefused why) now pool
+      refused : (why : SpecFault) → result ≡ Err (fault.Spec why) → CreateDid rack area text children keys entry x (CreateRefused why) now pool
       refused why is =
           let o = pools (Err (fault.Spec why)) is in
           let s = shelves (Err (fault.Spec why)) is in
@@ -309,13 +311,13 @@ module _ {R A : Type 0} (rack : racks.Ghosts R) (area : areas.Ghosts A) where
         ]
       ]
 
-      pub no_memory : result ≡ Err fault.NoMemory → CreateDid rack area text children keys entry x (NoMemory name.Create) now pool
+      no_memory : result ≡ Err fault.NoMemory → CreateDid rack area text children keys entry x (NoMemory name.Create) now pool
       no_memory is =
           let o = pools (Err fault.NoMemory) is in
           let n = none_made o.0 o.1 (shelves (Err fault.NoMemory) is) in
           record { new = n.0; desk = n.1; turns = turns_none x n.0 stands n.2 }
 
-      pub shelf_failed : result ≡ Err fault.Shelf → Broken rack area ShelfFails (CreatePool text children keys) entry before x now pool
+      shelf_failed : result ≡ Err fault.Shelf → Broken rack area ShelfFails (CreatePool text children keys) entry before x now pool
       shelf_failed is =
           let o = pools (Err fault.Shelf) is in
           let n = none_made (o.1, o.2) o.0 (shelves (Err fault.Shelf) is) in
@@ -325,3 +327,19 @@ module _ {R A : Type 0} (rack : racks.Ghosts R) (area : areas.Ghosts A) where
             breaks = breaks_none x n.0 stands n.2;
             cause = cause_closed area (CreatePool text children keys) before now pool x n.0 (is_closed x stands) n.3 (o.1, layout_is (Ok o.1) o.2, o.3);
           }
+
+      -- by why
+      pub create_unmade : (why : PoolFault) → result ≡ Err why → (said : Result Reply Stop) → UnmadeIs why said → CreateIs rack area text children keys entry before x now pool said
+      create_unmade (fault.Spec why) is said said_is = subst (λ s. CreateIs rack area text children keys entry before x now pool s) (sym said_is) (refused why is)
+      create_unmade fault.Shelf is said said_is = subst (λ s. CreateIs rack area text children keys entry before x now pool s) (sym said_is) (shelf_failed is)
+      create_unmade fault.NoMemory is said said_is = subst (λ s. CreateIs rack area text children keys entry before x now pool s) (sym said_is) (no_memory is)
+      create_unmade fault.NoPool is said said_is = absurd said_is
+      create_unmade (fault.Record metaslab place kind) is said said_is = absurd said_is
+
+-- why none was made
+pub of_making : {R A : Type 0} (rack : racks.Ghosts R) (area : areas.Ghosts A) (spec : Spec) (props : Props) (before now : OnShelf) (pool : Option (Pool R A)) (why : PoolFault) → PoolIs rack area spec props before now pool (Err why) → IsOfMaking why
+of_making rack area spec props before now pool (fault.Spec why) is = tt
+of_making rack area spec props before now pool fault.Shelf is = tt
+of_making rack area spec props before now pool fault.NoMemory is = tt
+of_making rack area spec props before now pool fault.NoPool is = absurd is
+of_making rack area spec props before now pool (fault.Record metaslab place kind) is = absurd is

@@ -1,5 +1,5 @@
 -- What the last line of a run comes to.
-use Rattle.std.proofs.Common.{arith, ◌≡◌, ◌==◌, ◌⊎◌, inl, inr, refl, sym, subst, ℕ, List, [], ◌∷◌, ◌++◌, Bool, true, Option, length}
+use Rattle.std.proofs.Common.{arith, ◌≡◌, ◌==◌, ◌⊎◌, inl, inr, refl, sym, subst, ℕ, List, [], ◌∷◌, true, Option, length}
 use Rattle.std.specs.Io.KnownBytes.{Appends}
 use Rattle.std.proofs.lemmas.Bool.Decides.{nat_tests}
 use Rattle.std.proofs.lemmas.List.{append-nil}

@@ -7,7 +7,7 @@ ghost use Rattle.draid_spec.specs.Spec.{IsSpec};
 ghost use Rattle.draid_session.specs.Making.{props_of};
 ghost use Rattle.draid_session.specs.Session.{Desk};
 ghost use Rattle.draid_run.specs.Desks.{IsDesk, IsPool, asked_in};
-ghost use Rattle.draid_run.specs.Making.{CreateIs, MakeIs};
+ghost use Rattle.draid_run.specs.Making.{CreateIs, IsOfMaking, MakeIs, UnmadeIs};
 ghost use Rattle.draid_run.specs.Serve.{AnswerIs, AskIs, IsSaid};
 ghost use Rattle.draid_run.specs.Shelves.{OnShelf, on_shelf};
 
@@ -54,6 +54,21 @@ fn props(keys: PoolKeys) -> Props
     }
 }
 
+/// What a `create` replies that makes no pool, or that it has no reply.
+fn unmade(fault: PoolFault) -> Result<Reply, Stop>
+    requires { IsOfMaking fault }
+    ensures { UnmadeIs fault result }
+{
+    match fault {
+        PoolFault::Spec(why) => Ok(Reply::CreateRefused { why }),
+        PoolFault::Shelf => Err(Stop::Shelf),
+        PoolFault::NoMemory => Ok(Reply::NoMemory {
+            command: CommandName::Create,
+        }),
+        PoolFault::NoPool | PoolFault::Record { .. } => unreachable!(),
+    }
+}
+
 /// Opens a new pool, where none is open.
 fn create<H: Shelf>(
     alloc: Global,
@@ -78,13 +93,7 @@ fn create<H: Shelf>(
     };
     match make(alloc, shelf, pool, spec, props(keys)) {
         Ok(Made { name, stripes }) => Ok(Reply::Created { name, stripes }),
-        Err(PoolFault::Spec(why)) => Ok(Reply::CreateRefused { why }),
-        Err(PoolFault::Shelf) => Err(Stop::Shelf),
-        Err(PoolFault::NoMemory) => Ok(Reply::NoMemory {
-            command: CommandName::Create,
-        }),
-        Err(PoolFault::NoPool) => unreachable!(),
-        Err(PoolFault::Record { .. }) => unreachable!(),
+        Err(fault) => unmade(fault),
     }
 }
 

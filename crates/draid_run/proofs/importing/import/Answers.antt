@@ -1,9 +1,6 @@
-use Rattle.std.proofs.Common.{◌∙◌, Err, ap, subst, sym}
+use Rattle.std.proofs.Common.{◌∙◌, subst, sym}
 use Rattle.draid_script.specs.declared.name.CommandName.TheVariants as name
-use Rattle.draid_reply.specs.declared.reply.Reply.TheVariants.{NoMemory, NoPool}
-use Rattle.draid_session.specs.Session.{RecordFails, ShelfFails}
-use Rattle.draid_script.specs.Line.{ImportPool}
-use Rattle.draid_run.specs.Desks.{Broken}
+use Rattle.draid_reply.specs.declared.reply.Reply.TheVariants.{NoMemory}
 use Rattle.draid_run.specs.Importing.{ImportDid}
 use Rattle.draid_run.specs.Shelves.{on_shelf}
 use Rattle.draid_run.proofs.Exits.{later_same, same_later}

@@ -1,6 +1,6 @@
 use Rattle.std.proofs.Common.{◌∙◌, ap, subst, sym}
 use Rattle.std.specs.Fn.{FnReturnsAt}
-use Rattle.draid_script.specs.Line.{FillObjects, IsInRange, SumObjects, WriteObject, command_in}
+use Rattle.draid_script.specs.Line.{FillObjects, IsInRange, WriteObject, command_in}
 use Rattle.draid_run.proofs.Asking.{asks_nothing, replied_as, replied_damage, replied_free, replied_read, replied_status, replied_sum}
 use Rattle.draid_run.proofs.replies.reply.Goals as goal
 

@@ -1,4 +1,4 @@
-use Rattle.std.proofs.Common.{◌∙◌, Ok, Err, Some, None, ap, subst, sym}
+use Rattle.std.proofs.Common.{◌∙◌, Ok, Some, None, ap, subst, sym}
 use Rattle.std.specs.Fn.{FnReturnsAt}
 use Rattle.draid_script.specs.Line.{command_in}
 use Rattle.draid_run.specs.Desks.{Turned}
