@@ -1,5 +1,6 @@
 -- What the exits of a run's functions come to.
-use Rattle.std.proofs.Common.{arith, ◌≡◌, ◌≤◌, inl, inr, ◌⊎◌, ℕ, List, Option, Some, None, Result, Ok, Err, Vec, Global}
+use Rattle.std.proofs.Common.{arith, ◌≡◌, ◌≤◌, inl, inr, ◌⊎◌, ℕ, List, Option, Some, None, Result, Ok, Err, Vec, Global, refl, subst, sym}
+use Rattle.std.specs.Prelude.{⊤}
 use Rattle.draid_names.specs.Faults.{Rose}
 use Rattle.draid_names.specs.declared.room.Room.{Room}
 use Rattle.draid_rack.specs.declared.Rack as racks
@@ -7,19 +8,61 @@ use Rattle.draid_area.specs.declared.Area as areas
 use Rattle.draid_lines.specs.declared.lines.ReadFault.{ReadFault}
 use Rattle.draid_lines.specs.declared.lines.ReadFault.TheVariants as reads
 use Rattle.draid_script.specs.Grammar.{line_of}
+use Rattle.draid_script.specs.Line.{Command}
 use Rattle.draid_reply.specs.Reply.{text_of}
 use Rattle.draid_reply.specs.declared.reply.Reply.{Reply}
 use Rattle.draid_session.specs.Session.{Desk}
 use Rattle.draid_pool.specs.declared.pool.Pool.{Pool}
 use Rattle.draid_run.specs.Desks.{Turned}
-use Rattle.draid_run.specs.Serve.{LineIs, PrintIs}
+use Rattle.draid_run.specs.Serve.{AnswerIs, LineIs, PrintIs, status_of}
+use Rattle.draid_run.specs.Script.{LineFaultIs}
 use Rattle.draid_run.specs.Shelves.{OnShelf}
+use Rattle.draid_run.specs.declared.answer.Stop.{Stop}
+use Rattle.draid_run.specs.declared.answer.Stop.TheVariants as stop
 use Rattle.draid_run.specs.declared.status.Status.{Status}
 use Rattle.draid_run.specs.declared.status.Status.TheVariants.{Done, Usage, Line, SourceFault, SinkFault, NoMemory, TooLong, ShelfFault, Record}
 
 -- nothing failed since
 pub same_later : (n : ℕ) → n ≤ n
 same_later n = omega arith
+
+pub later_on : (a b c : ℕ) → a ≤ b → b ≤ c → a ≤ c
+later_on a b c first then = omega (arith, first, then)
+
+pub later_same : (a b c : ℕ) → a ≤ b → c ≡ b → a ≤ c
+later_same a b c first same = omega (arith, first, same)
+
+-- a count rose in a part of a call
+pub rose_from : (entry before now : ℕ) → entry ≤ before → Rose before now → Rose entry now
+rose_from entry before now later rose = omega (arith, later, rose)
+
+pub rose_till : (entry mid now : ℕ) → Rose entry mid → mid ≤ now → Rose entry now
+rose_till entry mid now rose later = omega (arith, rose, later)
+
+-- no device is to blame for these
+abbrev pub IsBlameless : Status → Type 0
+IsBlameless SourceFault = ⊥
+IsBlameless SinkFault = ⊥
+IsBlameless ShelfFault = ⊥
+IsBlameless Usage = ⊤
+IsBlameless NoMemory = ⊤
+IsBlameless Done = ⊤
+IsBlameless (Line line kind at) = ⊤
+IsBlameless (TooLong line) = ⊤
+IsBlameless (Record metaslab place kind) = ⊤
+
+pub blameless : (P : Type 0) (ended status : Status) → IsBlameless ended → ended ≡ status → (IsBlameless status → ⊥) → P
+blameless P ended status none is device = absurd (device (subst IsBlameless is none))
+
+pub done_usage : Done ≡ Usage → ⊥
+done_usage is = cc is
+
+-- the sink failed as the last line was put, or before
+pub sink_last : (ended : Status) (before now : ℕ) → IsBlameless ended → (ended ≡ SinkFault) ⊎ Rose before now → Rose before now
+sink_last ended before now none why = elim why [ inl is ↦ absurd (subst IsBlameless is none) | inr rose ↦ rose ]
+
+pub sink_since : (ended : Status) (entry mid now : ℕ) → entry ≤ mid → mid ≤ now → (ended ≡ SinkFault → Rose entry mid) → (ended ≡ SinkFault) ⊎ Rose mid now → Rose entry now
+sink_since ended entry mid now first then cause why = elim why [ inl is ↦ rose_till entry mid now (cause is) then | inr rose ↦ rose_from entry mid now first rose ]
 
 -- ---- a line
 
@@ -37,11 +80,10 @@ module _ (P : Type 0) where
   pub memory_cause : stopped NoMemory ≡ stopped SinkFault → P
   memory_cause is = absurd (cc is)
 
-  pub shelf_cause : stopped ShelfFault ≡ stopped SinkFault → P
-  shelf_cause is = absurd (cc is)
-
-  pub record_cause : (metaslab : Option ℕ) (place kind : ℕ) → stopped (Record metaslab place kind) ≡ stopped SinkFault → P
-  record_cause metaslab place kind is = absurd (cc is)
+  pub stop_cause : (number : ℕ) (why : Stop) (status : Status) → status ≡ status_of number why → stopped status ≡ stopped SinkFault → P
+  stop_cause number stop.Unbuilt status is sink = absurd (cc (is, sink))
+  stop_cause number stop.Shelf status is sink = absurd (cc (is, sink))
+  stop_cause number (stop.Record metaslab place kind) status is sink = absurd (cc (is, sink))
 
 -- a line was answered, and its reply printed or not
 module _ {R A : Type 0} (rack : racks.Ghosts R) (area : areas.Ghosts A) (chosen : List Room → Option ℕ → Type 0) (number : ℕ) (text : List ℕ) (entry before : OnShelf) (pool : Option (Pool R A)) (x : Desk) (now : OnShelf) (pool' : Option (Pool R A)) (reply : Reply) (held held' : Option (List ℕ)) where
@@ -57,6 +99,17 @@ module _ {R A : Type 0} (rack : racks.Ghosts R) (area : areas.Ghosts A) (chosen 
   line_told (Err (TooLong line)) turned prints = absurd prints
   line_told (Err ShelfFault) turned prints = absurd prints
   line_told (Err (Record metaslab place kind)) turned prints = absurd prints
+
+-- a line has no reply, and the run ends
+module _ {R A : Type 0} (rack : racks.Ghosts R) (area : areas.Ghosts A) (chosen : List Room → Option ℕ → Type 0) (number : ℕ) (text : List ℕ) (entry before : OnShelf) (pool : Option (Pool R A)) (x : Desk) (now : OnShelf) (pool' : Option (Pool R A)) (held : Option (List ℕ)) (command : Command) (line : line_of text ≡ Ok command) where
+  by_stop : (why : Stop) → AnswerIs rack area chosen command entry before pool x now pool' (Err why) → LineIs rack area chosen number text entry before pool x now pool' held held (Err (status_of number why))
+  by_stop stop.Unbuilt answered = (subst (λ r. LineFaultIs r 7 0) (sym line) (answered.0, refl, refl), answered.1, answered.2, refl, refl)
+  by_stop stop.Shelf answered = (refl, record { command = command; line = line; broken = answered })
+  by_stop (stop.Record metaslab place kind) answered = (refl, record { command = command; line = line; broken = answered.0 }, answered.1)
+
+  pub line_stopped : (why : Stop) (status : Status) → status ≡ status_of number why → AnswerIs rack area chosen command entry before pool x now pool' (Err why)
+      → LineIs rack area chosen number text entry before pool x now pool' held held (Err status)
+  line_stopped why status is answered = subst (λ s. LineIs rack area chosen number text entry before pool x now pool' held held (Err s)) (sym is) (by_stop why answered)
 
 -- ---- the next line's text
 

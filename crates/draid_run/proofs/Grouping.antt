@@ -289,6 +289,32 @@ module _ {R A : Type 0} (rack : racks.Ghosts R) (area : areas.Ghosts A) (chosen 
     answer_export (Err stop.Unbuilt) result said did = absurd did
     answer_export (Err (stop.Record metaslab place kind)) result said did = absurd did
 
+-- ---- a sync, by whether a pool is open
+
+module _ {R A : Type 0} (rack : racks.Ghosts R) (area : areas.Ghosts A) where
+  pub sync_led : (result : Result Reply Stop) (desk : Option (Pool R A)) (pool new : Pool R A) → desk ≡ Some pool → IsWhole rack area new → ((x : State) → Represents rack area pool x → SyncLeads rack area x result new)
+      → StopShows area result (Some new) → (x : Desk) → IsPool rack area desk x → SyncDid rack area x result (Some new)
+  sync_led result desk pool new is whole leads shows x = subst (λ d. IsPool rack area d x → SyncDid rack area x result (Some new)) (sym is) (by x) where
+    by : (x : Desk) → IsPool rack area (Some pool) x → SyncDid rack area x result (Some new)
+    by Untouched stands = absurd stands
+    by Bare stands = absurd stands
+    by (Made tells count geometry) stands = absurd stands
+    by (Shut crash y) stands = absurd stands
+    by Unknown stands = absurd stands
+    by (Open y) stands = (whole, leads y stands.1)
+    by Foreign stands = (whole, shows)
+
+  pub sync_lacks : (reply : Reply) (desk : Option (Pool R A)) → desk ≡ None → reply ≡ NoPool name.Sync → (x : Desk) → IsPool rack area desk x → SyncDid rack area x (Ok reply) desk
+  sync_lacks reply desk none said x = subst (λ d. IsPool rack area d x → SyncDid rack area x (Ok reply) d) (sym none) (by x) where
+    by : (x : Desk) → IsPool rack area None x → SyncDid rack area x (Ok reply) None
+    by Untouched stands = (ap Ok said, refl)
+    by Bare stands = (ap Ok said, refl)
+    by (Made tells count geometry) stands = (ap Ok said, refl)
+    by (Shut crash y) stands = (ap Ok said, refl)
+    by Unknown stands = (ap Ok said, refl)
+    by (Open y) stands = absurd stands
+    by Foreign stands = absurd stands
+
 -- ---- the pool is given back, or stays open
 
 module _ {R A : Type 0} (rack : racks.Ghosts R) (area : areas.Ghosts A) (entry before now : OnShelf) (desk : Option (Pool R A)) (was new : Pool R A) (some : desk ≡ Some was) where

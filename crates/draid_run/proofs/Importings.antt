@@ -30,13 +30,14 @@ use Rattle.draid_pool.specs.declared.fault.PoolFault.{PoolFault}
 use Rattle.draid_pool.specs.declared.fault.PoolFault.TheVariants as fault
 use Rattle.draid_pool.specs.declared.pool.Pool.{Pool}
 use Rattle.draid_run.specs.Desks.{Broken, IsDesk, IsPool, IsShelf, Turned}
-use Rattle.draid_run.specs.Importing.{ImportDid, ImportDoes, ImportIs}
+use Rattle.draid_run.specs.Importing.{ImportDid, ImportDoes, ImportIs, UnopenedIs}
 use Rattle.draid_run.specs.Serve.{AnswerIs, IsSaid}
 use Rattle.draid_run.specs.Shelves.{HasChecks, HoldsFault, HoldsNew, HoldsShut, IsOut, OnShelf}
 use Rattle.draid_run.specs.declared.answer.Stop.{Stop}
 use Rattle.draid_run.specs.declared.answer.Stop.TheVariants as stop
 use Rattle.draid_run.proofs.Following.{same_layout, same_told}
 use Rattle.draid_run.proofs.GivenBack.{is_given, left_as, on_held, shelf_has}
+use Rattle.draid_run.proofs.Makings.{shut}
 
 -- ---- what was found
 
@@ -422,3 +423,33 @@ module _ {R A : Type 0} (rack : racks.Ghosts R) (area : areas.Ghosts A) (chosen 
   answer_import pool x new (Err stop.Shelf) result said did = subst (AnswerIs rack area chosen ImportPool entry before pool x now new) (sym said) did
   answer_import pool x new (Err (stop.Record metaslab place kind)) result said did = subst (AnswerIs rack area chosen ImportPool entry before pool x now new) (sym said) did
   answer_import pool x new (Err stop.Unbuilt) result said did = absurd did
+
+-- a pool is open already
+pub already_open : {R A : Type 0} (rack : racks.Ghosts R) (area : areas.Ghosts A) (entry now : OnShelf) (desk : Option (Pool R A)) (x : Desk) → is_some desk ≡ true → IsDesk rack area entry now desk x
+    → ImportDid rack area entry x (PoolOpen name.Import) now desk
+already_open rack area entry now None x some is = absurd (cc some)
+already_open rack area entry now (Some pool) (Open y) some is = record { new = Open y; desk = is; turns = (refl, refl) }
+already_open rack area entry now (Some pool) Foreign some is = record { new = Foreign; desk = is; turns = (refl, refl) }
+already_open rack area entry now (Some pool) Untouched some is = absurd is.stands
+already_open rack area entry now (Some pool) (Made _ count geometry) some is = absurd is.stands
+already_open rack area entry now (Some pool) (Shut crash z) some is = absurd is.stands
+already_open rack area entry now (Some pool) Bare some is = absurd is.stands
+already_open rack area entry now (Some pool) Unknown some is = absurd is.stands
+
+-- none was opened
+module _ {R A : Type 0} (rack : racks.Ghosts R) (area : areas.Ghosts A) (entry before now : OnShelf) (result : Result (Pool R A) PoolFault) (called : Called rack area before now result)
+    (faulty : (metaslab : Option ℕ) (place kind : ℕ) → result ≡ Err (fault.Record metaslab place kind) → HoldsFault rack area before metaslab place kind)
+    (desk : Option (Pool R A)) (x : Desk) (none : is_some desk ≡ false) (is : IsDesk rack area entry before desk x) where
+  abbrev closed : IsPool rack area None x
+  closed = shut rack area desk x none is.stands
+
+  unopened : (why : PoolFault) → result ≡ Err why → (said : Result Reply Stop) → UnopenedIs why said → ImportIs rack area entry before x now None said
+  unopened fault.NoPool at said said_is = subst (λ s. ImportIs rack area entry before x now None s) (sym said_is) (no_pool rack area entry before now result called at x closed is.shelf)
+  unopened fault.NoMemory at said said_is = subst (λ s. ImportIs rack area entry before x now None s) (sym said_is) (no_memory rack area entry before now result called at x closed is.shelf)
+  unopened fault.Shelf at said said_is = subst (λ s. ImportIs rack area entry before x now None s) (sym said_is) (shelf_failed rack area entry before now result called at x closed is.shelf)
+  unopened (fault.Record metaslab place kind) at said said_is =
+      subst (λ s. ImportIs rack area entry before x now None s) (sym said_is) (record_fails rack area entry before now result called metaslab place kind at x closed is.shelf, faulty metaslab place kind at)
+  unopened (fault.Spec why) at said said_is = absurd said_is
+
+  pub import_unopened : (why : PoolFault) → result ≡ Err why → (said : Result Reply Stop) → UnopenedIs why said → ImportIs rack area entry before x now desk said
+  import_unopened why at said said_is = subst (λ p. ImportIs rack area entry before x now p said) (sym (none_open desk none)) (unopened why at said said_is)

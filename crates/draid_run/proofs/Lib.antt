@@ -1,3 +1,4 @@
+pub mod Asking
 pub mod Broke
 pub mod Ended
 pub mod Ending
@@ -9,6 +10,7 @@ pub mod Grouping
 pub mod Importings
 pub mod Known
 pub mod Makings
+pub mod Printing
 pub mod Risen
 pub mod Runs
 pub mod Said

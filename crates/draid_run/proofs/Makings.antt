@@ -9,14 +9,15 @@ use Rattle.draid_spec.specs.declared.layout.Geometry.{Geometry}
 use Rattle.draid_spec.specs.declared.layout.Props.{Props}
 use Rattle.draid_spec.specs.declared.spec.Spec.{Spec}
 use Rattle.draid_spec.specs.declared.spec.SpecFault.{SpecFault}
-use Rattle.draid_spec.specs.Geometry.{checked_props, checked_version, geometry_of, layout_of, total_of}
+use Rattle.draid_spec.specs.Geometry.{checked_props, checked_version, geometry_of, layout_of, pool_stripes, total_of}
 use Rattle.draid_spec.specs.Spec.{checked_width}
 use Rattle.draid_spec.specs.Text.{spec_by}
 use Rattle.draid_shelf.specs.Kits.{Held, KitCounts, OnHeld}
 use Rattle.draid_script.specs.Line.{CreatePool}
 use Rattle.draid_script.specs.declared.line.PoolKeys.{PoolKeys}
 use Rattle.draid_script.specs.declared.name.CommandName.TheVariants as name
-use Rattle.draid_reply.specs.declared.reply.Reply.TheVariants.{Created, CreateRefused, NoMemory}
+use Rattle.draid_reply.specs.declared.reply.Reply.{Reply}
+use Rattle.draid_reply.specs.declared.reply.Reply.TheVariants.{Created, CreateRefused, NoMemory, PoolOpen}
 use Rattle.draid_session.specs.Making.{IsFresh, Makes, layout_by, layout_from, props_of, vdev_name_of}
 use Rattle.draid_session.specs.Session.{Desk, Untouched, Bare, Made, Open, Shut, Foreign, Unknown, Breaks, MakesNone, ShelfFails, StaysShut, uncommitted}
 use Rattle.draid_session.specs.State.{State}
@@ -24,13 +25,15 @@ use Rattle.draid_pool.specs.Closing.{HoldsPool, SameCounts}
 use Rattle.draid_pool.specs.Importable.{HasImageLeaves, IsImportable}
 use Rattle.draid_pool.specs.Opening as opening
 use Rattle.draid_pool.specs.Opening.{HoldsMade, HoldsUncommitted, IsAway, IsRefused, ShelfIs}
+use Rattle.draid_pool.specs.Whole.{IsWhole}
 use Rattle.draid_pool.specs.declared.fault.PoolFault.{PoolFault}
 use Rattle.draid_pool.specs.declared.fault.PoolFault.TheVariants as fault
 use Rattle.draid_pool.specs.declared.pool.Pool.{Pool}
 use Rattle.draid_run.specs.Desks.{Broken, IsDesk, IsPool, IsShelf}
-use Rattle.draid_run.specs.Making.{CreateDid, CreateTurns, MakeIs, PoolIs}
+use Rattle.draid_run.specs.Making.{CreateDid, CreateIs, CreateTurns, IsOfMaking, MakeIs, PoolIs, UnmadeIs}
 use Rattle.draid_run.specs.Shelves.{HasChecks, HoldsShut, IsClosed, IsSame, OnShelf}
 use Rattle.draid_run.specs.declared.answer.Made as answer
+use Rattle.draid_run.specs.declared.answer.Stop.{Stop}
 use Rattle.draid_run.proofs.GivenBack.{holds_as, importable_as, on_held, told_as}
 use Rattle.draid_run.proofs.Risen.{cause_closed}
 
@@ -41,6 +44,12 @@ by_checks (Ok u) (Ok v) (Ok w) true f l layout is = absurd (cc)
 by_checks (Ok u) (Ok v) (Err e) big f l layout is = absurd (cc)
 by_checks (Ok u) (Err e) c big f l layout is = absurd (cc)
 by_checks (Err e) b c big f l layout is = absurd (cc)
+
+abbrev laid_out : Geometry → Result Geometry SpecFault
+laid_out layout = Ok layout
+
+same_layout : (a b : Geometry) → laid_out a ≡ Ok b → a ≡ b
+same_layout a b is = cc is
 
 same_spec : (spec : Spec) (props : Props) (layout : Geometry) → geometry_of spec props ≡ Ok layout → layout.spec ≡ spec
 same_spec spec props layout is =
@@ -118,6 +127,64 @@ module _ {R A : Type 0} (rack : racks.Ghosts R) (area : areas.Ghosts A) where
   stays_shut Foreign is = absurd is
   stays_shut (Open z) is = absurd is
 
+  turns_refused : (text : List ℕ) (children : ℕ) (keys : PoolKeys) (x : Desk) (why : SpecFault) → IsPool rack area None x → layout_by text children keys ≡ Err why → CreateTurns text children keys x (CreateRefused why) x
+  turns_refused text children keys Untouched why is none = (none, refl)
+  turns_refused text children keys (Made tells count geometry) why is none = (none, refl)
+  turns_refused text children keys (Shut crash z) why is none = (none, refl)
+  turns_refused text children keys Bare why is none = (none, refl)
+  turns_refused text children keys Unknown why is none = (none, refl)
+  turns_refused text children keys Foreign why is none = absurd is
+  turns_refused text children keys (Open z) why is none = absurd is
+
+  module _ (text : List ℕ) (children : ℕ) (keys : PoolKeys) (entry now : OnShelf) where
+    -- a pool is open already
+    pub already_open : (desk : Option (Pool R A)) (x : Desk) → is_some desk ≡ true → IsDesk rack area entry now desk x → CreateDid rack area text children keys entry x (PoolOpen name.Create) now desk
+    already_open None x some is = absurd (cc some)
+    already_open (Some pool) (Open y) some is = record { new = Open y; desk = is; turns = (refl, refl) }
+    already_open (Some pool) Foreign some is = record { new = Foreign; desk = is; turns = (refl, refl) }
+    already_open (Some pool) Untouched some is = absurd is.stands
+    already_open (Some pool) (Made tells count geometry) some is = absurd is.stands
+    already_open (Some pool) (Shut crash z) some is = absurd is.stands
+    already_open (Some pool) Bare some is = absurd is.stands
+    already_open (Some pool) Unknown some is = absurd is.stands
+
+    -- or the spec can't be read
+    pub unreadable : (desk : Option (Pool R A)) (x : Desk) (why : SpecFault) → spec_by text children keys.version ≡ Err why → is_some desk ≡ false → IsDesk rack area entry now desk x
+        → CreateDid rack area text children keys entry x (CreateRefused why) now desk
+    unreadable desk x why read none is = record {
+      new = x;
+      desk = is;
+      turns = turns_refused text children keys x why (shut desk x none is.stands) (ap (layout_from keys) read);
+    }
+
+  -- what becomes of the devices as none is made
+  module _ (spec : Spec) (props : Props) (before : OnShelf) (desk : Option (Pool R A)) where
+    abbrev unmade : IsSame before before
+    unmade = (record { held = refl; counts = λ m. refl; uber = refl; checks = refl }, λ m. refl)
+
+    pub make_refused : (why : SpecFault) → geometry_of spec props ≡ Err why → desk ≡ None → MakeIs rack area spec props before before desk (Err (fault.Spec why))
+    make_refused why is none = record { pool_is = (is, none); shelf = unmade }
+
+    pub make_unnamed : (geometry : Geometry) → geometry_of spec props ≡ Ok geometry → desk ≡ None → MakeIs rack area spec props before before desk (Err fault.NoMemory)
+    make_unnamed geometry is none = record { pool_is = ((geometry, is), none); shelf = inl unmade }
+
+    module _ (now : OnShelf) where
+      pub make_failed : (why : PoolFault) → opening.CreateIs {R = R} {A = A} rack area spec props now.held now.leaves before.faults now.faults now.counts now.own (Err why)
+          → ShelfIs {P = Pool R A} spec props before.held now.held before.leaves now.leaves before.counts now.counts before.own now.own (Err why) → desk ≡ None → MakeIs rack area spec props before now desk (Err why)
+      make_failed (fault.Spec why) answer shelf none = record { pool_is = (answer, none); shelf = shelf }
+      make_failed fault.Shelf answer shelf none = record { pool_is = (none, answer.0, answer.1, answer.2); shelf = shelf }
+      make_failed fault.NoPool answer shelf none = absurd answer
+      make_failed (fault.Record metaslab place kind) answer shelf none = absurd answer
+      make_failed fault.NoMemory answer shelf none = record { pool_is = (answer, none); shelf = shelf }
+
+      pub make_opened : (pool : Pool R A) (layout : Geometry) (called : answer.Made) → geometry_of spec props ≡ Ok layout → string_bytes called.name ≡ vdev_name_of spec → called.stripes ≡ pool_stripes layout → IsWhole rack area pool
+          → opening.CreateIs {R = R} {A = A} rack area spec props now.held now.leaves before.faults now.faults now.counts now.own (Ok pool)
+          → ShelfIs {P = Pool R A} spec props before.held now.held before.leaves now.leaves before.counts now.counts before.own now.own (Ok pool) → MakeIs rack area spec props before now (Some pool) (Ok called)
+      make_opened pool layout called is named stripes whole answer shelf = record {
+        pool_is = (whole, record { geometry = answer.0; layout = answer.1; opens = answer.2; name_is = named; stripes_are = stripes ∙ ap pool_stripes (same_layout layout answer.0 (sym is ∙ answer.1)) });
+        shelf = shelf;
+      }
+
   module _ (text : List ℕ) (children : ℕ) (keys : PoolKeys) (entry before now : OnShelf) (spec : Spec) (read : spec_by text children keys.version ≡ Ok spec) where
     turns_made : (x : Desk) (m : answer.Made) (new : State) → IsPool rack area None x → Makes text children keys (string_bytes m.name) m.stripes new
         → CreateTurns text children keys x (Created m.name m.stripes) (Open new)
@@ -128,15 +195,6 @@ module _ {R A : Type 0} (rack : racks.Ghosts R) (area : areas.Ghosts A) where
     turns_made Unknown m new is makes = makes
     turns_made Foreign m new is makes = absurd is
     turns_made (Open z) m new is makes = absurd is
-
-    turns_refused : (x : Desk) (why : SpecFault) → IsPool rack area None x → layout_by text children keys ≡ Err why → CreateTurns text children keys x (CreateRefused why) x
-    turns_refused Untouched why is none = (none, refl)
-    turns_refused (Made tells count geometry) why is none = (none, refl)
-    turns_refused (Shut crash z) why is none = (none, refl)
-    turns_refused Bare why is none = (none, refl)
-    turns_refused Unknown why is none = (none, refl)
-    turns_refused Foreign why is none = absurd is
-    turns_refused (Open z) why is none = absurd is
 
     turns_none : (x : Desk) (new : Desk) → IsPool rack area None x → MakesNone text children keys x new → CreateTurns text children keys x (NoMemory name.Create) new
     turns_none Untouched new is none = none
@@ -184,14 +242,14 @@ module _ {R A : Type 0} (rack : racks.Ghosts R) (area : areas.Ghosts A) where
           });
         }
 
-      pub refused : (why : SpecFault) → result ≡ Err (fault.Spec why) → CreateDid rack area text children keys entry x (CreateRefused why) now pool
+      refused : (why : SpecFault) → result ≡ Err (fault.Spec why) → CreateDid rack area text children keys entry x (CreateRefused why) now pool
       refused why is =
           let o = pools (Err (fault.Spec why)) is in
           let s = shelves (Err (fault.Spec why)) is in
           record {
             new = x;
             desk = record { stands = subst (λ p. IsPool rack area p x) (sym o.1) stands; shelf = same_shelf x entry before now (not_open x stands) s shelf };
-            turns = turns_refused x why stands (layout_is (Err why) o.0);
+            turns = turns_refused text children keys x why stands (layout_is (Err why) o.0);
           }
 
       -- the state of the new pool, told as the shelf tells now
@@ -253,13 +311,13 @@ module _ {R A : Type 0} (rack : racks.Ghosts R) (area : areas.Ghosts A) where
         ]
       ]
 
-      pub no_memory : result ≡ Err fault.NoMemory → CreateDid rack area text children keys entry x (NoMemory name.Create) now pool
+      no_memory : result ≡ Err fault.NoMemory → CreateDid rack area text children keys entry x (NoMemory name.Create) now pool
       no_memory is =
           let o = pools (Err fault.NoMemory) is in
           let n = none_made o.0 o.1 (shelves (Err fault.NoMemory) is) in
           record { new = n.0; desk = n.1; turns = turns_none x n.0 stands n.2 }
 
-      pub shelf_failed : result ≡ Err fault.Shelf → Broken rack area ShelfFails (CreatePool text children keys) entry before x now pool
+      shelf_failed : result ≡ Err fault.Shelf → Broken rack area ShelfFails (CreatePool text children keys) entry before x now pool
       shelf_failed is =
           let o = pools (Err fault.Shelf) is in
           let n = none_made (o.1, o.2) o.0 (shelves (Err fault.Shelf) is) in
@@ -269,3 +327,19 @@ module _ {R A : Type 0} (rack : racks.Ghosts R) (area : areas.Ghosts A) where
             breaks = breaks_none x n.0 stands n.2;
             cause = cause_closed area (CreatePool text children keys) before now pool x n.0 (is_closed x stands) n.3 (o.1, layout_is (Ok o.1) o.2, o.3);
           }
+
+      -- by why
+      pub create_unmade : (why : PoolFault) → result ≡ Err why → (said : Result Reply Stop) → UnmadeIs why said → CreateIs rack area text children keys entry before x now pool said
+      create_unmade (fault.Spec why) is said said_is = subst (λ s. CreateIs rack area text children keys entry before x now pool s) (sym said_is) (refused why is)
+      create_unmade fault.Shelf is said said_is = subst (λ s. CreateIs rack area text children keys entry before x now pool s) (sym said_is) (shelf_failed is)
+      create_unmade fault.NoMemory is said said_is = subst (λ s. CreateIs rack area text children keys entry before x now pool s) (sym said_is) (no_memory is)
+      create_unmade fault.NoPool is said said_is = absurd said_is
+      create_unmade (fault.Record metaslab place kind) is said said_is = absurd said_is
+
+-- why none was made
+pub of_making : {R A : Type 0} (rack : racks.Ghosts R) (area : areas.Ghosts A) (spec : Spec) (props : Props) (before now : OnShelf) (pool : Option (Pool R A)) (why : PoolFault) → PoolIs rack area spec props before now pool (Err why) → IsOfMaking why
+of_making rack area spec props before now pool (fault.Spec why) is = tt
+of_making rack area spec props before now pool fault.Shelf is = tt
+of_making rack area spec props before now pool fault.NoMemory is = tt
+of_making rack area spec props before now pool fault.NoPool is = absurd is
+of_making rack area spec props before now pool (fault.Record metaslab place kind) is = absurd is

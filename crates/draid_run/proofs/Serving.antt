@@ -4,12 +4,11 @@ use Rattle.std.specs.Prelude.{flat_map, ⊤}
 use Rattle.std.specs.Io.KnownBytes.{prepend_known}
 use Rattle.std.proofs.lemmas.Grind.{flat_map-append}
 use Rattle.std.proofs.lemmas.List.{append-nil}
-use Rattle.draid_names.specs.Faults.{Rose}
 use Rattle.draid_names.specs.declared.room.Room.{Room}
 use Rattle.draid_rack.specs.declared.Rack as racks
 use Rattle.draid_area.specs.declared.Area as areas
 use Rattle.draid_lines.proofs.Ends.{lines_none}
-use Rattle.draid_lines.specs.Lines.{Rest, WhereKnown, lines_of}
+use Rattle.draid_lines.specs.Lines.{most_lines, Rest, WhereKnown, lines_of}
 use Rattle.draid_script.specs.Grammar.{line_of}
 use Rattle.draid_reply.specs.declared.reply.Reply.{Reply}
 use Rattle.draid_session.specs.Session.{Desk, Untouched, Bare, Made, Open, Shut, Foreign, Unknown, RecordFails, ShelfFails}
@@ -20,6 +19,7 @@ use Rattle.draid_run.specs.Serve.{BrokenLine, Cut, LineIs, Printed, Served, Serv
 use Rattle.draid_run.specs.Shelves.{HasFailed, HasFault, HoldsDesk, HoldsFault, OnShelf}
 use Rattle.draid_run.specs.declared.status.Status.{Status}
 use Rattle.draid_run.specs.declared.status.Status.TheVariants.{Done, Usage, Line, SourceFault, SinkFault, NoMemory, TooLong, ShelfFault, Record}
+use Rattle.draid_run.proofs.Exits.{rose_from}
 use Rattle.draid_run.proofs.Known.{appends_more, appends_none, known_input, known_on}
 use Rattle.draid_run.proofs.Risen.{cause_fault, fails_shut, faulty_shut}
 use Rattle.draid_run.proofs.Runs.{runs_more}
@@ -42,14 +42,32 @@ text_by lines lines' left left' next next' is text =
     let P : Option (Vec ℕ Global) → Type 0 = λ n. TextIs lines lines' left left' (Ok n) in
     subst P is text
 
+-- a source that can't be read on says nothing of the sink, nor of the words
+pub text_no_sink : (lines lines' : Rest) (left left' : Option (List ℕ)) (status : Status) → TextIs lines lines' left left' (Err status) → status ≡ SinkFault → ⊥
+text_no_sink lines lines' left left' status text is = subst (λ s. TextIs lines lines' left left' (Err s)) is text
+
+pub text_no_usage : (lines lines' : Rest) (left left' : Option (List ℕ)) (status : Status) → TextIs lines lines' left left' (Err status) → status ≡ Usage → ⊥
+text_no_usage lines lines' left left' status text is = subst (λ s. TextIs lines lines' left left' (Err s)) is text
+
+-- the number of the next line
+pub first_number : (given : ℕ) → given ≡ 0 → given + 1 ≡ 1
+first_number given none = omega (arith, none)
+
+pub few_given : (given : ℕ) → given ≡ 0 → given ≤ most_lines
+few_given given none = omega (arith, none)
+
+pub next_number : (given' given number : ℕ) → given' ≡ given + 1 → given + 1 ≡ number → given' + 1 ≡ number + 1
+next_number given' given number one is = omega (arith, one, is)
+
+-- one line more than a script may have isn't given
+pub too_many : (number given : ℕ) → 1_048_578 ≤ number → given + 1 ≡ number → given ≤ most_lines → ⊥
+too_many number given past is few = omega (arith, past, is, few)
+
 -- the shelf as it is
 pub as_found : (entry : OnShelf) → HoldsDesk Untouched entry entry
 as_found entry = (record { held = refl; counts = λ m. refl; uber = refl; checks = refl }, λ m. refl)
 
 -- what failed in a line failed since the entry
-rose_from : (entry before now : ℕ) → entry ≤ before → Rose before now → Rose entry now
-rose_from entry before now later rose = omega (arith, later, rose)
-
 failed_from : (entry before now : OnShelf) → entry.faults ≤ before.faults → HasFailed before now → HasFailed entry now
 failed_from entry before now later failed = elim failed [
   | inl rose ↦ inl (rose_from entry.faults before.faults now.faults later rose)

@@ -4,11 +4,9 @@ use Rattle.draid_rack.specs.declared.Rack as racks
 use Rattle.draid_area.specs.declared.Area as areas
 use Rattle.draid_names.specs.declared.room.Room.{Room}
 use Rattle.draid_spec.specs.declared.layout.Geometry.{Geometry}
-use Rattle.draid_script.specs.Line.{Command, CreatePool, DamageSector, FillObjects, FreeObject, ReadObject, ShowStatus, SumObjects, WriteObject}
+use Rattle.draid_script.specs.Line.{Command, Silent, CreatePool, ImportPool, ExportPool, SyncPool, CancelPasses, CrashPool, WriteObject, FillObjects, ReadObject, FreeObject, SumObjects, TakeOffline, TakeOnline, DamageSector, AttachSpare, ReplaceDisk, DetachArm, RebuildPool, ScrubPool, RebalanceSlot, ShowStatus, OpenLanes, UpgradePool, RunAgent, ShowJournal, TakeCheckpoint, RewindPool, DiscardCheckpoint}
 use Rattle.draid_script.specs.declared.line.PoolKeys.{PoolKeys}
-use Rattle.draid_script.specs.declared.line.StatusFormat.{StatusFormat}
 use Rattle.draid_script.specs.declared.name.CommandName.{CommandName}
-use Rattle.draid_script.specs.declared.name.CommandName.TheVariants as name
 use Rattle.draid_reply.specs.declared.reply.Reply.{Reply}
 use Rattle.draid_reply.specs.declared.reply.Reply.TheVariants.{NoPool}
 use Rattle.draid_session.specs.Follows.{Follows}
@@ -20,12 +18,10 @@ use Rattle.draid_pool.specs.Carries.{CarriesOut}
 use Rattle.draid_pool.specs.Pools.{Represents}
 use Rattle.draid_pool.specs.Whole.{IsWhole}
 use Rattle.draid_pool.specs.declared.pool.Pool.{Pool}
-use Rattle.draid_run.specs.Desks.{IsDesk, IsPool, PoolDid, ReplyDoes, Turned}
+use Rattle.draid_run.specs.Desks.{IsDesk, IsPool, PoolDid, ReplyDoes, Turned, asked_in}
 use Rattle.draid_run.specs.Making.{CreateDid, CreateTurns}
-use Rattle.draid_run.specs.Says.{DamageSays, FreeSays, ReadSays, StatusSays, SumSays}
 use Rattle.draid_run.specs.Shelves.{IsOut, OnShelf}
 use Rattle.draid_run.proofs.Following.{same_told}
-use Rattle.draid_run.proofs.Said.{damage_does, free_does, read_does, status_does, sum_does}
 
 -- what an answer says, said otherwise
 pub by_answer : {R A T : Type 0} (rack : racks.Ghosts R) (area : areas.Ghosts A) (P : T → List Hold → Store → Type 0) (Q : List Hold → Store → Type 0) (x : State) (pool : Pool R A) (result said : T)
@@ -55,12 +51,13 @@ is_whole rack area desk pool is stands = by stands.0 (subst (λ d. IsPool rack a
 pub still_out : (x y : State) (now : OnShelf) (holds : List Hold) → Follows holds x y → IsOut x now → (store : Store) → IsOut (record y { store = store }) now
 still_out x y now holds follows out store = record { held = out.held; checks = out.checks; told = same_told holds x y follows ∙ out.told }
 
-module _ {R A : Type 0} (rack : racks.Ghosts R) (area : areas.Ghosts A) (called : CommandName) (says : State → List Hold → Store → Type 0) (reply : Reply) where
+module _ {R A : Type 0} (rack : racks.Ghosts R) (area : areas.Ghosts A) (chosen : List Room → Option ℕ → Type 0) (command : Command) (called : CommandName) (reply : Reply) where
   -- a command was carried out on the pool that is open
-  pub did_open : (desk : Option (Pool R A)) (pool new : Pool R A) → desk ≡ Some pool → IsWhole rack area new → ((x : State) → Represents rack area pool x → CarriesOut rack area new x (says x))
-      → (x : Desk) → IsPool rack area desk x → PoolDid rack area called says x reply (Some new)
-  did_open desk pool new is whole step x = subst (λ d. IsPool rack area d x → PoolDid rack area called says x reply (Some new)) (sym is) (by x) where
-    by : (x : Desk) → IsPool rack area (Some pool) x → PoolDid rack area called says x reply (Some new)
+  pub did_open : (desk : Option (Pool R A)) (pool new : Pool R A) → desk ≡ Some pool → IsWhole rack area new
+      → ((x : State) → Represents rack area pool x → CarriesOut rack area new x (ReplyDoes x chosen command reply))
+      → (x : Desk) → IsPool rack area desk x → PoolDid rack area chosen command called x reply (Some new)
+  did_open desk pool new is whole step x = subst (λ d. IsPool rack area d x → PoolDid rack area chosen command called x reply (Some new)) (sym is) (by x) where
+    by : (x : Desk) → IsPool rack area (Some pool) x → PoolDid rack area chosen command called x reply (Some new)
     by Untouched stands = absurd stands
     by Bare stands = absurd stands
     by (Made tells count geometry) stands = absurd stands
@@ -69,15 +66,10 @@ module _ {R A : Type 0} (rack : racks.Ghosts R) (area : areas.Ghosts A) (called 
     by (Open y) stands = (whole, step y stands.1)
     by Foreign stands = whole
 
-  -- and left the pool as it is
-  pub did_look : (desk : Option (Pool R A)) (pool : Pool R A) → desk ≡ Some pool → IsWhole rack area pool → ((x : State) → Represents rack area pool x → CarriesOut rack area pool x (says x))
-      → (x : Desk) → IsPool rack area desk x → PoolDid rack area called says x reply desk
-  did_look desk pool is whole step x stands = subst (λ d. PoolDid rack area called says x reply d) (sym is) (did_open desk pool pool is whole step x stands)
-
   -- no pool is open, and the reply says so
-  pub did_shut : (desk new : Option (Pool R A)) → desk ≡ None → new ≡ None → reply ≡ NoPool called → (x : Desk) → IsPool rack area desk x → PoolDid rack area called says x reply new
-  did_shut desk new none same said x = subst (λ d. IsPool rack area d x → PoolDid rack area called says x reply new) (sym none) (by x) where
-    by : (x : Desk) → IsPool rack area None x → PoolDid rack area called says x reply new
+  pub did_shut : (desk new : Option (Pool R A)) → desk ≡ None → new ≡ None → reply ≡ NoPool called → (x : Desk) → IsPool rack area desk x → PoolDid rack area chosen command called x reply new
+  did_shut desk new none same said x = subst (λ d. IsPool rack area d x → PoolDid rack area chosen command called x reply new) (sym none) (by x) where
+    by : (x : Desk) → IsPool rack area None x → PoolDid rack area chosen command called x reply new
     by Untouched stands = (said, same)
     by Bare stands = (said, same)
     by (Made tells count geometry) stands = (said, same)
@@ -87,15 +79,14 @@ module _ {R A : Type 0} (rack : racks.Ghosts R) (area : areas.Ghosts A) (called 
     by Foreign stands = absurd stands
 
 module _ {R A : Type 0} (rack : racks.Ghosts R) (area : areas.Ghosts A) (chosen : List Room → Option ℕ → Type 0) (entry now : OnShelf) (desk : Option (Pool R A)) (reply : Reply) where
-  turned_by : (command : Command) (called : CommandName) (says : State → List Hold → Store → Type 0)
-      → ((x : State) (holds : List Hold) (store : Store) → says x holds store → ReplyDoes x chosen command reply holds store)
+  turned_by : (command : Command) (called : CommandName)
       → ((x y : State) → session.CarriesOut chosen command reply x y → TurnsBy chosen (Ok command) (Open x) (Some reply) (Open y))
       → TurnsBy chosen (Ok command) Untouched (Some (NoPool called)) Untouched
       → ((tells : Bool) (count : ℕ) (geometry : Geometry) → TurnsBy chosen (Ok command) (Made tells count geometry) (Some (NoPool called)) (Made tells count geometry))
       → ((crash : Bool) (y : State) → TurnsBy chosen (Ok command) (Shut crash y) (Some (NoPool called)) (Shut crash y))
       → TurnsBy chosen (Ok command) Bare (Some (NoPool called)) Bare → TurnsBy chosen (Ok command) Unknown (Some (NoPool called)) Unknown → TurnsBy chosen (Ok command) Foreign (Some reply) Foreign
-      → (x : Desk) (new : Option (Pool R A)) → IsDesk rack area entry now desk x → PoolDid rack area called says x reply new → Turned rack area chosen (Ok command) entry x (Some reply) now new
-  turned_by command called says does turns untouched made shut bare unknown foreign = by where
+      → (x : Desk) (new : Option (Pool R A)) → IsDesk rack area entry now desk x → PoolDid rack area chosen command called x reply new → Turned rack area chosen (Ok command) entry x (Some reply) now new
+  turned_by command called turns untouched made shut bare unknown foreign = by where
     told : (x : Desk) (new : Option (Pool R A)) → (reply ≡ NoPool called) × (new ≡ None) → IsPool rack area None x → IsDesk rack area entry now desk x → TurnsBy chosen (Ok command) x (Some (NoPool called)) x
         → Turned rack area chosen (Ok command) entry x (Some reply) now new
     told x new said stands is turns =
@@ -103,7 +94,7 @@ module _ {R A : Type 0} (rack : racks.Ghosts R) (area : areas.Ghosts A) (chosen 
         (subst (λ d. Turned rack area chosen (Ok command) entry x (Some (NoPool called)) now d) (sym said.1)
         (record { new = x; desk = record { stands = stands; shelf = is.shelf }; turns = turns }))
 
-    by : (x : Desk) (new : Option (Pool R A)) → IsDesk rack area entry now desk x → PoolDid rack area called says x reply new → Turned rack area chosen (Ok command) entry x (Some reply) now new
+    by : (x : Desk) (new : Option (Pool R A)) → IsDesk rack area entry now desk x → PoolDid rack area chosen command called x reply new → Turned rack area chosen (Ok command) entry x (Some reply) now new
     by Untouched new is did = told Untouched new did tt is untouched
     by (Made tells count geometry) new is did = told (Made tells count geometry) new did tt is (made tells count geometry)
     by (Shut crash y) new is did = told (Shut crash y) new did tt is (shut crash y)
@@ -116,38 +107,41 @@ module _ {R A : Type 0} (rack : racks.Ghosts R) (area : areas.Ghosts A) (chosen 
       new = Open (record did.1.reached { store = did.1.store });
       desk = record { stands = (did.0, did.1.represents); shelf = still_out y did.1.reached now did.1.holds did.1.follows is.shelf did.1.store };
       turns = turns y (record did.1.reached { store = did.1.store })
-          (record { holds = did.1.holds; mid = did.1.reached; store = did.1.store; follows = did.1.follows; does = does y did.1.holds did.1.store did.1.done; made = refl });
+          (record { holds = did.1.holds; mid = did.1.reached; store = did.1.store; follows = did.1.follows; does = did.1.done; made = refl });
     }
 
-  pub by_write : (o : ℕ) (bytes : List ℕ) (x : Desk) (new : Option (Pool R A)) → IsDesk rack area entry now desk x → PoolDid rack area name.Write (λ y. ReplyDoes y chosen (WriteObject o bytes) reply) x reply new
-      → Turned rack area chosen (Ok (WriteObject o bytes)) entry x (Some reply) now new
-  by_write o bytes = turned_by (WriteObject o bytes) name.Write (λ y. ReplyDoes y chosen (WriteObject o bytes) reply) (λ y holds store w. w) (λ y z c. c) (refl, refl) (λ tells count geometry. (refl, refl)) (λ crash y. (refl, refl)) (refl, refl) (refl, refl) refl
-
-  pub by_fill : (first count len seed : ℕ) (x : Desk) (new : Option (Pool R A)) → IsDesk rack area entry now desk x
-      → PoolDid rack area name.Fill (λ y. ReplyDoes y chosen (FillObjects first count len seed) reply) x reply new
-      → Turned rack area chosen (Ok (FillObjects first count len seed)) entry x (Some reply) now new
-  by_fill first count len seed =
-      turned_by (FillObjects first count len seed) name.Fill (λ y. ReplyDoes y chosen (FillObjects first count len seed) reply) (λ y holds store w. w) (λ y z c. c) (refl, refl) (λ tells count geometry. (refl, refl)) (λ crash y. (refl, refl)) (refl, refl) (refl, refl) refl
-
-  pub by_read : (o : ℕ) (x : Desk) (new : Option (Pool R A)) → IsDesk rack area entry now desk x → PoolDid rack area name.Read (ReadSays o reply) x reply new
-      → Turned rack area chosen (Ok (ReadObject o)) entry x (Some reply) now new
-  by_read o = turned_by (ReadObject o) name.Read (ReadSays o reply) (λ y holds store w. read_does y chosen reply holds store o w) (λ y z c. c) (refl, refl) (λ tells count geometry. (refl, refl)) (λ crash y. (refl, refl)) (refl, refl) (refl, refl) refl
-
-  pub by_free : (o : ℕ) (x : Desk) (new : Option (Pool R A)) → IsDesk rack area entry now desk x → PoolDid rack area name.Free (FreeSays o reply) x reply new
-      → Turned rack area chosen (Ok (FreeObject o)) entry x (Some reply) now new
-  by_free o = turned_by (FreeObject o) name.Free (FreeSays o reply) (λ y holds store w. free_does y chosen reply holds store o w) (λ y z c. c) (refl, refl) (λ tells count geometry. (refl, refl)) (λ crash y. (refl, refl)) (refl, refl) (refl, refl) refl
-
-  pub by_sum : (first count : ℕ) (x : Desk) (new : Option (Pool R A)) → IsDesk rack area entry now desk x → PoolDid rack area name.Sum (SumSays first count reply) x reply new
-      → Turned rack area chosen (Ok (SumObjects first count)) entry x (Some reply) now new
-  by_sum first count = turned_by (SumObjects first count) name.Sum (SumSays first count reply) (λ y holds store w. sum_does y chosen reply holds store first count w) (λ y z c. c) (refl, refl) (λ tells count geometry. (refl, refl)) (λ crash y. (refl, refl)) (refl, refl) (refl, refl) refl
-
-  pub by_damage : (leaf sector : ℕ) (x : Desk) (new : Option (Pool R A)) → IsDesk rack area entry now desk x → PoolDid rack area name.Damage (DamageSays leaf sector reply) x reply new
-      → Turned rack area chosen (Ok (DamageSector leaf sector)) entry x (Some reply) now new
-  by_damage leaf sector = turned_by (DamageSector leaf sector) name.Damage (DamageSays leaf sector reply) (λ y holds store w. damage_does y chosen reply holds store leaf sector w) (λ y z c. c) (refl, refl) (λ tells count geometry. (refl, refl)) (λ crash y. (refl, refl)) (refl, refl) (refl, refl) refl
-
-  pub by_status : (form : StatusFormat) (x : Desk) (new : Option (Pool R A)) → IsDesk rack area entry now desk x → PoolDid rack area name.Status (StatusSays form reply) x reply new
-      → Turned rack area chosen (Ok (ShowStatus form)) entry x (Some reply) now new
-  by_status form = turned_by (ShowStatus form) name.Status (StatusSays form reply) (λ y holds store w. status_does y chosen reply holds store form w) (λ y z c. c) (refl, refl) (λ tells count geometry. (refl, refl)) (λ crash y. (refl, refl)) (refl, refl) (refl, refl) refl
+  -- the reply of the pool that is open, or that none is
+  pub by_ask : (command : Command) (called : CommandName) → asked_in command ≡ Some called → (x : Desk) (new : Option (Pool R A)) → IsDesk rack area entry now desk x
+      → PoolDid rack area chosen command called x reply new → Turned rack area chosen (Ok command) entry x (Some reply) now new
+  by_ask (WriteObject o bytes) called is = turned_by (WriteObject o bytes) called (λ y z c. c) (is, refl) (λ tells count geometry. (is, refl)) (λ crash y. (is, refl)) (is, refl) (is, refl) refl
+  by_ask (FillObjects first count len seed) called is = turned_by (FillObjects first count len seed) called (λ y z c. c) (is, refl) (λ tells count geometry. (is, refl)) (λ crash y. (is, refl)) (is, refl) (is, refl) refl
+  by_ask (ReadObject o) called is = turned_by (ReadObject o) called (λ y z c. c) (is, refl) (λ tells count geometry. (is, refl)) (λ crash y. (is, refl)) (is, refl) (is, refl) refl
+  by_ask (FreeObject o) called is = turned_by (FreeObject o) called (λ y z c. c) (is, refl) (λ tells count geometry. (is, refl)) (λ crash y. (is, refl)) (is, refl) (is, refl) refl
+  by_ask (SumObjects first count) called is = turned_by (SumObjects first count) called (λ y z c. c) (is, refl) (λ tells count geometry. (is, refl)) (λ crash y. (is, refl)) (is, refl) (is, refl) refl
+  by_ask (DamageSector leaf sector) called is = turned_by (DamageSector leaf sector) called (λ y z c. c) (is, refl) (λ tells count geometry. (is, refl)) (λ crash y. (is, refl)) (is, refl) (is, refl) refl
+  by_ask (ShowStatus form) called is = turned_by (ShowStatus form) called (λ y z c. c) (is, refl) (λ tells count geometry. (is, refl)) (λ crash y. (is, refl)) (is, refl) (is, refl) refl
+  by_ask Silent called is = absurd (cc is)
+  by_ask (CreatePool text children keys) called is = absurd (cc is)
+  by_ask ImportPool called is = absurd (cc is)
+  by_ask ExportPool called is = absurd (cc is)
+  by_ask SyncPool called is = absurd (cc is)
+  by_ask CancelPasses called is = absurd (cc is)
+  by_ask CrashPool called is = absurd (cc is)
+  by_ask (TakeOffline leaf) called is = absurd (cc is)
+  by_ask (TakeOnline leaf) called is = absurd (cc is)
+  by_ask (AttachSpare slot spare) called is = absurd (cc is)
+  by_ask (ReplaceDisk slot sectors) called is = absurd (cc is)
+  by_ask (DetachArm arm) called is = absurd (cc is)
+  by_ask (RebuildPool limit) called is = absurd (cc is)
+  by_ask (ScrubPool limit) called is = absurd (cc is)
+  by_ask (RebalanceSlot slot) called is = absurd (cc is)
+  by_ask (OpenLanes count) called is = absurd (cc is)
+  by_ask UpgradePool called is = absurd (cc is)
+  by_ask (RunAgent least) called is = absurd (cc is)
+  by_ask ShowJournal called is = absurd (cc is)
+  by_ask TakeCheckpoint called is = absurd (cc is)
+  by_ask RewindPool called is = absurd (cc is)
+  by_ask DiscardCheckpoint called is = absurd (cc is)
 
 -- a pool was made or refused, in the words of all commands
 pub by_create : {R A : Type 0} (rack : racks.Ghosts R) (area : areas.Ghosts A) (chosen : List Room → Option ℕ → Type 0) (entry now : OnShelf) (text : List ℕ) (children : ℕ) (keys : PoolKeys) (x : Desk) (reply : Reply)

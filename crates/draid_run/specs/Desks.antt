@@ -3,9 +3,10 @@ use Rattle.std.specs.Prelude.{◌≡◌, ⊤, ℕ, List, Option, Some, None, Res
 use Rattle.draid_names.specs.declared.room.Room.{Room}
 use Rattle.draid_rack.specs.declared.Rack as racks
 use Rattle.draid_area.specs.declared.Area as areas
-use Rattle.draid_script.specs.Line.{Command}
+use Rattle.draid_script.specs.Line.{Command, WriteObject, ReadObject, FillObjects, FreeObject, SumObjects, DamageSector, ShowStatus}
 use Rattle.draid_script.specs.declared.fault.LineFault.{LineFault}
 use Rattle.draid_script.specs.declared.name.CommandName.{CommandName}
+use Rattle.draid_script.specs.declared.name.CommandName.TheVariants as name
 use Rattle.draid_reply.specs.declared.reply.Reply.{Reply}
 use Rattle.draid_reply.specs.declared.reply.Reply.TheVariants.{NoPool}
 use Rattle.draid_session.specs.Does.{Does}
@@ -48,12 +49,23 @@ abbrev pub ReplyDoes : State → (List Room → Option ℕ → Type 0) → Comma
 ReplyDoes x chosen command reply holds store = Does x.geometry x.perms chosen content_of command x.store holds reply store
 
 -- What a command that leaves the shelf alone came to: it was carried out on the open pool, which may be one of which nothing is said, or its reply is that it wants one.
-abbrev pub PoolDid : {R A : Type 0} → racks.Ghosts R → areas.Ghosts A → CommandName → (State → List Hold → Store → Type 0) → Desk → Reply → Option (Pool R A) → Type 0
-PoolDid rack area called does (Open x) reply None = ⊥
-PoolDid rack area called does Foreign reply None = ⊥
-PoolDid rack area called does (Open x) reply (Some pool) = IsWhole rack area pool × CarriesOut rack area pool x (does x)
-PoolDid rack area called does Foreign reply (Some pool) = IsWhole rack area pool
-PoolDid rack area called does desk reply pool = (reply ≡ NoPool called) × (pool ≡ None)
+abbrev pub PoolDid : {R A : Type 0} → racks.Ghosts R → areas.Ghosts A → (List Room → Option ℕ → Type 0) → Command → CommandName → Desk → Reply → Option (Pool R A) → Type 0
+PoolDid rack area chosen command called (Open x) reply None = ⊥
+PoolDid rack area chosen command called Foreign reply None = ⊥
+PoolDid rack area chosen command called (Open x) reply (Some pool) = IsWhole rack area pool × CarriesOut rack area pool x (ReplyDoes x chosen command reply)
+PoolDid rack area chosen command called Foreign reply (Some pool) = IsWhole rack area pool
+PoolDid rack area chosen command called desk reply pool = (reply ≡ NoPool called) × (pool ≡ None)
+
+-- the name of a command that is carried out on the pool that is open, and leaves it open
+abbrev pub asked_in : Command → Option CommandName
+asked_in (WriteObject object bytes) = Some name.Write
+asked_in (FillObjects first count len seed) = Some name.Fill
+asked_in (ReadObject object) = Some name.Read
+asked_in (FreeObject object) = Some name.Free
+asked_in (SumObjects first count) = Some name.Sum
+asked_in (DamageSector leaf sector) = Some name.Damage
+asked_in (ShowStatus form) = Some name.Status
+asked_in command = None
 
 -- A command was done, and this is its reply.
 pub record Turned {R A : Type 0} (rack : racks.Ghosts R) (area : areas.Ghosts A) (chosen : List Room → Option ℕ → Type 0) (command : Result Command LineFault) (entry : OnShelf) (old : Desk)

@@ -1,5 +1,5 @@
 -- What becomes of a pool that is to be made, and of the shelf.
-use Rattle.std.specs.Prelude.{◌≡◌, ℕ, List, Option, Some, None, Result, Ok, Err, string_bytes}
+use Rattle.std.specs.Prelude.{◌≡◌, ⊤, ℕ, List, Option, Some, None, Result, Ok, Err, string_bytes}
 use Rattle.draid_rack.specs.declared.Rack as racks
 use Rattle.draid_area.specs.declared.Area as areas
 use Rattle.draid_spec.specs.declared.layout.Geometry.{Geometry}
@@ -10,7 +10,7 @@ use Rattle.draid_script.specs.Line.{CreatePool}
 use Rattle.draid_script.specs.declared.line.PoolKeys.{PoolKeys}
 use Rattle.draid_script.specs.declared.name.CommandName.TheVariants as name
 use Rattle.draid_reply.specs.declared.reply.Reply.{Reply}
-use Rattle.draid_reply.specs.declared.reply.Reply.TheVariants.{PoolOpen}
+use Rattle.draid_reply.specs.declared.reply.Reply.TheVariants.{CreateRefused, NoMemory, PoolOpen}
 use Rattle.draid_session.specs.Making.{vdev_name_of}
 use Rattle.draid_session.specs.Session.{Desk, Open, Foreign, Creates, ShelfFails}
 use Rattle.draid_pool.specs.Opening.{HasLayout, Opens, ShelfIs}
@@ -47,6 +47,19 @@ pub record MakeIs {R A : Type 0} (rack : racks.Ghosts R) (area : areas.Ghosts A)
   pub shelf : ShelfIs spec props before.held now.held before.leaves now.leaves before.counts now.counts before.own now.own result
 
 -- ---- the command
+
+-- a pool isn't made for one of these
+abbrev pub IsOfMaking : PoolFault → Type 0
+IsOfMaking fault.NoPool = ⊥
+IsOfMaking (fault.Record metaslab place kind) = ⊥
+IsOfMaking why = ⊤
+
+-- what is replied then
+abbrev pub UnmadeIs : PoolFault → Result Reply Stop → Type 0
+UnmadeIs (fault.Spec why) result = result ≡ Ok (CreateRefused why)
+UnmadeIs fault.Shelf result = result ≡ Err stop.Shelf
+UnmadeIs fault.NoMemory result = result ≡ Ok (NoMemory name.Create)
+UnmadeIs why result = ⊥
 
 -- what `create` does where a pool is open, or none is
 abbrev pub CreateTurns : List ℕ → ℕ → PoolKeys → Desk → Reply → Desk → Type 0

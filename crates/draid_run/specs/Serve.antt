@@ -10,11 +10,12 @@ use Rattle.draid_lines.specs.Lines.{Rest, WhereKnown, IsTooLong, lines_of, most_
 use Rattle.draid_lines.specs.Sink.{AppendsFront}
 use Rattle.draid_script.specs.Grammar.{line_of}
 use Rattle.draid_script.specs.Line.{Command}
+use Rattle.draid_script.specs.declared.name.CommandName.{CommandName}
 use Rattle.draid_reply.specs.Reply.{text_of}
 use Rattle.draid_reply.specs.declared.reply.Reply.{Reply}
 use Rattle.draid_session.specs.Session.{Cause, Desk, RecordFails, Runs, ShelfFails}
 use Rattle.draid_pool.specs.declared.pool.Pool.{Pool}
-use Rattle.draid_run.specs.Desks.{Broken, IsDesk, Turned}
+use Rattle.draid_run.specs.Desks.{Broken, IsDesk, PoolDid, Turned, asked_in}
 use Rattle.draid_run.specs.Script.{BreaksOff, Ends, FailsShut, FaultyShut, GetsReplies, IsUnbuilt, LineFaultIs, Shows, said_text, texts_of}
 use Rattle.draid_run.specs.Shelves.{HasFault, HoldsFault, IsClosed, OnShelf}
 use Rattle.draid_run.specs.declared.answer.Stop.{Stop}
@@ -52,7 +53,20 @@ abbrev pub IsSaid : Result Reply Stop → Result (Option Reply) Stop → Type 0
 IsSaid (Ok reply) result = result ≡ Ok (Some reply)
 IsSaid (Err stop) result = result ≡ Err stop
 
+-- the status of a run that ends at the line of this number
+abbrev pub status_of : ℕ → Stop → Status
+status_of number stop.Unbuilt = Line number 7 0
+status_of number stop.Shelf = ShelfFault
+status_of number (stop.Record metaslab place kind) = Record metaslab place kind
+
 module _ {R A : Type 0} (rack : racks.Ghosts R) (area : areas.Ghosts A) (chosen : List Room → Option ℕ → Type 0) where
+  -- the reply of the pool that is open, or that none is; or that the command asks for none
+  abbrev pub AskIs : Command → Option (Pool R A) → Desk → Option (Pool R A) → Result Reply Stop → Type 0
+  AskIs command pool old pool' (Ok reply) = (called : CommandName) × (asked_in command ≡ Some called) × PoolDid rack area chosen command called old reply pool'
+  AskIs command pool old pool' (Err stop.Unbuilt) = (asked_in command ≡ None) × (pool' ≡ pool)
+  AskIs command pool old pool' (Err stop.Shelf) = ⊥
+  AskIs command pool old pool' (Err (stop.Record metaslab place kind)) = ⊥
+
   -- the reply to a command, or why it has none
   abbrev pub AnswerIs : Command → OnShelf → OnShelf → Option (Pool R A) → Desk → OnShelf → Option (Pool R A) → Result (Option Reply) Stop → Type 0
   AnswerIs command entry before pool old now pool' (Ok reply) = Turned rack area chosen (Ok command) entry old reply now pool'

@@ -1,25 +1,24 @@
 //! What the commands of a script reply, whether a pool is open or not.
 ghost use Rattle.std.specs.Prelude.{◌≡◌, ◌≤◌, None};
-ghost use Rattle.draid_script.specs.Line.{FillObjects, IsInRange, SumObjects, WriteObject, command_in};
+ghost use Rattle.draid_script.specs.Line.{IsInRange, command_in};
 ghost use Rattle.std.specs.Fn.{FnReturnsAt};
 ghost use Rattle.draid_choose.specs.Rooms.{IsChooser};
 ghost use Rattle.draid_spec.specs.Spec.{IsSpec};
 ghost use Rattle.draid_session.specs.Making.{props_of};
 ghost use Rattle.draid_session.specs.Session.{Desk};
-ghost use Rattle.draid_run.specs.Desks.{IsDesk, IsPool, PoolDid, ReplyDoes};
-ghost use Rattle.draid_run.specs.Making.{CreateIs, MakeIs};
-ghost use Rattle.draid_run.specs.Says.{DamageSays, FreeSays, ReadSays, StatusSays, SumSays};
-ghost use Rattle.draid_run.specs.Serve.{AnswerIs, IsSaid};
+ghost use Rattle.draid_run.specs.Desks.{IsDesk, IsPool, asked_in};
+ghost use Rattle.draid_run.specs.Making.{CreateIs, IsOfMaking, MakeIs, UnmadeIs};
+ghost use Rattle.draid_run.specs.Serve.{AnswerIs, AskIs, IsSaid};
 ghost use Rattle.draid_run.specs.Shelves.{OnShelf, on_shelf};
 
-use crate::{fill, groups, importing, replies};
+use crate::{groups, importing, replies};
 use draid_area::Area;
 use draid_choose::Chooser;
 use draid_names::Room;
 use draid_pool::{Pool, PoolFault, vdev_name};
 use draid_rack::Rack;
 use draid_reply::Reply;
-use draid_script::{CommandName, Line, PoolKeys, StatusFormat};
+use draid_script::{CommandName, Line, PoolKeys};
 use draid_shelf::Shelf;
 use draid_spec::{Props, Spec, geometry, parse_spec};
 use std::alloc::Global;
@@ -55,6 +54,21 @@ fn props(keys: PoolKeys) -> Props
     }
 }
 
+/// What a `create` replies that makes no pool, or that it has no reply.
+fn unmade(fault: PoolFault) -> Result<Reply, Stop>
+    requires { IsOfMaking fault }
+    ensures { UnmadeIs fault result }
+{
+    match fault {
+        PoolFault::Spec(why) => Ok(Reply::CreateRefused { why }),
+        PoolFault::Shelf => Err(Stop::Shelf),
+        PoolFault::NoMemory => Ok(Reply::NoMemory {
+            command: CommandName::Create,
+        }),
+        PoolFault::NoPool | PoolFault::Record { .. } => unreachable!(),
+    }
+}
+
 /// Opens a new pool, where none is open.
 fn create<H: Shelf>(
     alloc: Global,
@@ -79,13 +93,7 @@ fn create<H: Shelf>(
     };
     match make(alloc, shelf, pool, spec, props(keys)) {
         Ok(Made { name, stripes }) => Ok(Reply::Created { name, stripes }),
-        Err(PoolFault::Spec(why)) => Ok(Reply::CreateRefused { why }),
-        Err(PoolFault::Shelf) => Err(Stop::Shelf),
-        Err(PoolFault::NoMemory) => Ok(Reply::NoMemory {
-            command: CommandName::Create,
-        }),
-        Err(PoolFault::NoPool) => unreachable!(),
-        Err(PoolFault::Record { .. }) => unreachable!(),
+        Err(fault) => unmade(fault),
     }
 }
 
@@ -116,11 +124,16 @@ fn make<H: Shelf>(
     let Ok(name) = vdev_name(alloc, spec) else {
         return Err(PoolFault::NoMemory);
     };
-    *pool = Some(draid_pool::create(alloc, shelf, spec, props)?);
-    Ok(Made {
-        name,
-        stripes: layout.pool_stripes(),
-    })
+    match draid_pool::create(alloc, shelf, spec, props) {
+        Ok(open) => {
+            *pool = Some(open);
+            Ok(Made {
+                name,
+                stripes: layout.pool_stripes(),
+            })
+        }
+        Err(fault) => Err(fault),
+    }
 }
 
 /// What a command replies that needs an open pool, where none is open.
@@ -130,110 +143,42 @@ pub(crate) fn no_pool(command: CommandName) -> Reply
     Reply::NoPool { command }
 }
 
-/// Writes to the pool that is open, if one is.
-fn write<R: Rack, A: Area, F: Fn(&[Room]) -> Option<u32>>(
-    pool: &mut Option<Pool<R, A>>,
-    chooser: &Chooser<F>,
-    object: u64,
-    bytes: &[u8],
-) -> Reply
-    requires chooser { IsChooser F.Fn chooser.now }
-    requires range { IsInRange (WriteObject object bytes.now) }
-    requires desk { (x : Desk) × IsPool R.Rack A.Area pool.old x }
-    ensures did { (x : Desk) → IsPool R.Rack A.Area pool.old x
-        → PoolDid R.Rack A.Area CommandName.Write (λ y. ReplyDoes y (FnReturnsAt F.Fn chooser.now) (WriteObject object bytes.now) result) x result pool.new }
+/// The name of what a line asks of the pool that is open, where that has a reply and leaves it open.
+fn asked(line: &Line) -> Option<CommandName>
+    ensures { result ≡ asked_in (command_in line.now) }
 {
-    match pool {
-        Some(pool) => replies::write(pool, chooser, object, bytes),
-        None => no_pool(CommandName::Write),
+    match line {
+        Line::Write { .. } => Some(CommandName::Write),
+        Line::Fill { .. } => Some(CommandName::Fill),
+        Line::Free { .. } => Some(CommandName::Free),
+        Line::Read { .. } => Some(CommandName::Read),
+        Line::Sum { .. } => Some(CommandName::Sum),
+        Line::Damage { .. } => Some(CommandName::Damage),
+        Line::Status { .. } => Some(CommandName::Status),
+        _ => None,
     }
 }
 
-/// Reads from the pool that is open, if one is.
-fn read<R: Rack, A: Area>(pool: &mut Option<Pool<R, A>>, object: u64) -> Reply
-    requires desk { (x : Desk) × IsPool R.Rack A.Area pool.old x }
-    ensures did { (x : Desk) → IsPool R.Rack A.Area pool.old x
-        → PoolDid R.Rack A.Area CommandName.Read (ReadSays object result) x result pool.new }
-{
-    match pool {
-        Some(pool) => replies::read(pool, object),
-        None => no_pool(CommandName::Read),
-    }
-}
-
-/// Fills objects of the pool that is open, if one is.
-fn fill<R: Rack, A: Area, F: Fn(&[Room]) -> Option<u32>>(
+/// Asks the pool that is open for a reply, if one is.
+fn ask<R: Rack, A: Area, F: Fn(&[Room]) -> Option<u32>>(
+    rt: &(impl Threads + Sync),
     alloc: Global,
     pool: &mut Option<Pool<R, A>>,
     chooser: &Chooser<F>,
-    first: u64,
-    count: u64,
-    len: u32,
-    seed: u64,
-) -> Reply
+    line: &Line,
+) -> Result<Reply, Stop>
     requires chooser { IsChooser F.Fn chooser.now }
-    requires range { IsInRange (FillObjects first count len seed) }
+    requires range { IsInRange (command_in line.now) }
     requires desk { (x : Desk) × IsPool R.Rack A.Area pool.old x }
     ensures did { (x : Desk) → IsPool R.Rack A.Area pool.old x
-        → PoolDid R.Rack A.Area CommandName.Fill (λ y. ReplyDoes y (FnReturnsAt F.Fn chooser.now) (FillObjects first count len seed) result) x result pool.new }
+        → AskIs R.Rack A.Area (FnReturnsAt F.Fn chooser.now) (command_in line.now) pool.old x pool.new result }
 {
+    let Some(command) = asked(line) else {
+        return Err(Stop::Unbuilt);
+    };
     match pool {
-        Some(pool) => fill::fill(alloc, pool, chooser, first, count, len, seed),
-        None => no_pool(CommandName::Fill),
-    }
-}
-
-/// Frees an object of the pool that is open, if one is.
-fn free<R: Rack, A: Area>(pool: &mut Option<Pool<R, A>>, object: u64) -> Reply
-    requires desk { (x : Desk) × IsPool R.Rack A.Area pool.old x }
-    ensures did { (x : Desk) → IsPool R.Rack A.Area pool.old x
-        → PoolDid R.Rack A.Area CommandName.Free (FreeSays object result) x result pool.new }
-{
-    match pool {
-        Some(pool) => replies::free(pool, object),
-        None => no_pool(CommandName::Free),
-    }
-}
-
-/// Sums objects of the pool that is open, if one is.
-fn sum<R: Rack, A: Area>(
-    rt: &(impl Threads + Sync),
-    pool: &mut Option<Pool<R, A>>,
-    first: u64,
-    count: u64,
-) -> Reply
-    requires range { IsInRange (SumObjects first count) }
-    requires desk { (x : Desk) × IsPool R.Rack A.Area pool.old x }
-    ensures did { (x : Desk) → IsPool R.Rack A.Area pool.old x
-        → PoolDid R.Rack A.Area CommandName.Sum (SumSays first count result) x result pool.new }
-{
-    match pool {
-        Some(pool) => replies::sum(rt, pool, first, count),
-        None => no_pool(CommandName::Sum),
-    }
-}
-
-/// Damages a sector of the pool that is open, if one is.
-fn damage<R: Rack, A: Area>(pool: &mut Option<Pool<R, A>>, leaf: u64, sector: u64) -> Reply
-    requires desk { (x : Desk) × IsPool R.Rack A.Area pool.old x }
-    ensures did { (x : Desk) → IsPool R.Rack A.Area pool.old x
-        → PoolDid R.Rack A.Area CommandName.Damage (DamageSays leaf sector result) x result pool.new }
-{
-    match pool {
-        Some(pool) => replies::damage(pool, leaf, sector),
-        None => no_pool(CommandName::Damage),
-    }
-}
-
-/// Tells what the open pool is, if one is.
-fn status<R: Rack, A: Area>(alloc: Global, pool: &Option<Pool<R, A>>, format: StatusFormat) -> Reply
-    requires desk { (x : Desk) × IsPool R.Rack A.Area pool.now x }
-    ensures did { (x : Desk) → IsPool R.Rack A.Area pool.now x
-        → PoolDid R.Rack A.Area CommandName.Status (StatusSays format result) x result pool.now }
-{
-    match pool {
-        Some(pool) => replies::status(alloc, pool, format),
-        None => no_pool(CommandName::Status),
+        Some(pool) => Ok(replies::reply(rt, alloc, pool, chooser, line)),
+        None => Ok(no_pool(command)),
     }
 }
 
@@ -254,13 +199,13 @@ pub(crate) fn answer<H: Shelf, F: Fn(&[Room]) -> Option<u32>>(
     shelf: &mut H,
     pool: &mut Option<Pool<H::R, H::A>>,
     chooser: &Chooser<F>,
-    line: Line,
+    line: &Line,
 ) -> Result<Option<Reply>, Stop>
     requires chooser { IsChooser F.Fn chooser.now }
-    requires range { IsInRange (command_in line) }
+    requires range { IsInRange (command_in line.now) }
     requires desk { (x : Desk) × IsPool H.R.Rack H.A.Area pool.old x }
     ensures answer { (entry : OnShelf) (x : Desk) → IsDesk H.R.Rack H.A.Area entry (on_shelf H.Shelf shelf.old) pool.old x
-        → AnswerIs H.R.Rack H.A.Area (FnReturnsAt F.Fn chooser.now) (command_in line) entry (on_shelf H.Shelf shelf.old) pool.old x (on_shelf H.Shelf shelf.new) pool.new result }
+        → AnswerIs H.R.Rack H.A.Area (FnReturnsAt F.Fn chooser.now) (command_in line.now) entry (on_shelf H.Shelf shelf.old) pool.old x (on_shelf H.Shelf shelf.new) pool.new result }
     ensures later { H.faults shelf.old ≤ H.faults shelf.new }
 {
     match line {
@@ -269,23 +214,11 @@ pub(crate) fn answer<H: Shelf, F: Fn(&[Room]) -> Option<u32>>(
             spec,
             children,
             keys,
-        } => Ok(Some(create(alloc, shelf, pool, &spec, children, keys)?)),
+        } => said(create(alloc, shelf, pool, spec, *children, *keys)),
         Line::Import => said(importing::import(alloc, shelf, pool)),
         Line::Sync => said(groups::sync(pool)),
         Line::Export => said(groups::export(shelf, pool)),
         Line::Crash => Ok(Some(groups::crash(shelf, pool))),
-        Line::Write { object, bytes } => Ok(Some(write(pool, chooser, object, &bytes))),
-        Line::Fill {
-            first,
-            count,
-            len,
-            seed,
-        } => Ok(Some(fill(alloc, pool, chooser, first, count, len, seed))),
-        Line::Free { object } => Ok(Some(free(pool, object))),
-        Line::Read { object } => Ok(Some(read(pool, object))),
-        Line::Sum { first, count } => Ok(Some(sum(rt, pool, first, count))),
-        Line::Damage { leaf, sector } => Ok(Some(damage(pool, leaf, sector))),
-        Line::Status { format } => Ok(Some(status(alloc, pool, format))),
-        _ => Err(Stop::Unbuilt),
+        _ => said(ask(rt, alloc, pool, chooser, line)),
     }
 }

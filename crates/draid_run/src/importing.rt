@@ -1,9 +1,9 @@
 //! The command that opens the pool of the shelf.
 ghost use Rattle.std.specs.Prelude.{◌≡◌, ◌≤◌};
 ghost use Rattle.draid_session.specs.Session.{Desk};
-ghost use Rattle.draid_pool.specs.Whole.{IsWhole};
+ghost use Rattle.draid_pool.specs.Importing.{IsNotSpec};
 ghost use Rattle.draid_run.specs.Desks.{IsDesk};
-ghost use Rattle.draid_run.specs.Importing.{ImportIs};
+ghost use Rattle.draid_run.specs.Importing.{ImportIs, UnopenedIs};
 ghost use Rattle.draid_run.specs.Shelves.{OnShelf, on_shelf};
 
 use crate::answer::Stop;
@@ -12,6 +12,24 @@ use draid_reply::Reply;
 use draid_script::CommandName;
 use draid_shelf::Shelf;
 use std::alloc::Global;
+
+/// What an import replies that opens no pool, or that it has no reply.
+fn unopened(fault: PoolFault) -> Result<Reply, Stop>
+    requires { IsNotSpec fault }
+    ensures { UnopenedIs fault result }
+{
+    match fault {
+        PoolFault::NoPool => Ok(Reply::NoPool {
+            command: CommandName::Import,
+        }),
+        PoolFault::NoMemory => Ok(Reply::NoMemory {
+            command: CommandName::Import,
+        }),
+        PoolFault::Shelf => Err(Stop::Shelf),
+        PoolFault::Record { metaslab, at, kind } => Err(Stop::Record { metaslab, at, kind }),
+        PoolFault::Spec(_) => unreachable!(),
+    }
+}
 
 /// Opens the pool of the shelf, where none is open. Its name is made behind that, since its layout isn't known before;
 /// where there is no memory for it the pool is given back.
@@ -46,16 +64,6 @@ pub(crate) fn import<H: Shelf>(
                 objects,
             })
         }
-        Err(PoolFault::NoPool) => Ok(Reply::NoPool {
-            command: CommandName::Import,
-        }),
-        Err(PoolFault::NoMemory) => Ok(Reply::NoMemory {
-            command: CommandName::Import,
-        }),
-        Err(PoolFault::Shelf) => Err(Stop::Shelf),
-        Err(PoolFault::Record { metaslab, at, kind }) => {
-            Err(Stop::Record { metaslab, at, kind })
-        }
-        Err(PoolFault::Spec(_)) => unreachable!(),
+        Err(fault) => unopened(fault),
     }
 }

@@ -1,15 +1,16 @@
 //! What the commands of an open pool reply.
-ghost use Rattle.std.specs.Prelude.{◌≤◌, ◌<◌, ◌^◌, length};
+ghost use Rattle.std.specs.Prelude.{◌≡◌, None};
 ghost use Rattle.std.specs.Fn.{FnReturnsAt};
 ghost use Rattle.draid_choose.specs.Rooms.{IsChooser};
-ghost use Rattle.draid_script.specs.Line.{IsInRange, SumObjects, WriteObject};
+ghost use Rattle.draid_script.specs.Line.{IsInRange, SumObjects, WriteObject, command_in};
 ghost use Rattle.draid_session.specs.State.{State};
 ghost use Rattle.draid_pool.specs.Carries.{CarriesOut};
 ghost use Rattle.draid_pool.specs.Pools.{Represents};
 ghost use Rattle.draid_pool.specs.Whole.{IsWhole};
-ghost use Rattle.draid_run.specs.Desks.{ReplyDoes};
+ghost use Rattle.draid_run.specs.Desks.{ReplyDoes, asked_in};
 ghost use Rattle.draid_run.specs.Says.{DamageSays, FreeSays, ReadSays, StatusSays, SumSays};
 
+use crate::fill::fill;
 use crate::showing::status_bytes;
 use draid_area::Area;
 use draid_choose::Chooser;
@@ -17,12 +18,12 @@ use draid_names::{ObjectFault, Room, WriteFault};
 use draid_pool::{DamageFault, FreeFault, Pool, SumFault};
 use draid_rack::Rack;
 use draid_reply::Reply;
-use draid_script::{CommandName, StatusFormat};
+use draid_script::{CommandName, Line, StatusFormat};
 use std::alloc::Global;
 use std::thread::Threads;
 
 /// Writes to an object.
-pub(crate) fn write<R: Rack, A: Area, F: Fn(&[Room]) -> Option<u32>>(
+fn write<R: Rack, A: Area, F: Fn(&[Room]) -> Option<u32>>(
     pool: &mut Pool<R, A>,
     chooser: &Chooser<F>,
     object: u64,
@@ -60,7 +61,7 @@ pub(crate) fn write<R: Rack, A: Area, F: Fn(&[Room]) -> Option<u32>>(
 }
 
 /// Reads an object.
-pub(crate) fn read<R: Rack, A: Area>(pool: &mut Pool<R, A>, object: u64) -> Reply
+fn read<R: Rack, A: Area>(pool: &mut Pool<R, A>, object: u64) -> Reply
     requires whole { IsWhole R.Rack A.Area pool.old }
     ensures whole { IsWhole R.Rack A.Area pool.new }
     ensures step { (x : State) → Represents R.Rack A.Area pool.old x
@@ -82,7 +83,7 @@ pub(crate) fn read<R: Rack, A: Area>(pool: &mut Pool<R, A>, object: u64) -> Repl
 }
 
 /// Frees an object.
-pub(crate) fn free<R: Rack, A: Area>(pool: &mut Pool<R, A>, object: u64) -> Reply
+fn free<R: Rack, A: Area>(pool: &mut Pool<R, A>, object: u64) -> Reply
     requires whole { IsWhole R.Rack A.Area pool.old }
     ensures whole { IsWhole R.Rack A.Area pool.new }
     ensures step { (x : State) → Represents R.Rack A.Area pool.old x
@@ -95,7 +96,7 @@ pub(crate) fn free<R: Rack, A: Area>(pool: &mut Pool<R, A>, object: u64) -> Repl
 }
 
 /// Sums so many objects from the first on.
-pub(crate) fn sum<R: Rack, A: Area>(
+fn sum<R: Rack, A: Area>(
     rt: &(impl Threads + Sync),
     pool: &mut Pool<R, A>,
     first: u64,
@@ -118,7 +119,7 @@ pub(crate) fn sum<R: Rack, A: Area>(
 }
 
 /// Damages a sector of a leaf.
-pub(crate) fn damage<R: Rack, A: Area>(pool: &mut Pool<R, A>, leaf: u64, sector: u64) -> Reply
+fn damage<R: Rack, A: Area>(pool: &mut Pool<R, A>, leaf: u64, sector: u64) -> Reply
     requires whole { IsWhole R.Rack A.Area pool.old }
     ensures whole { IsWhole R.Rack A.Area pool.new }
     ensures step { (x : State) → Represents R.Rack A.Area pool.old x
@@ -136,11 +137,7 @@ pub(crate) fn damage<R: Rack, A: Area>(pool: &mut Pool<R, A>, leaf: u64, sector:
 }
 
 /// Tells what a pool is, in this format.
-pub(crate) fn status<R: Rack, A: Area>(
-    alloc: Global,
-    pool: &Pool<R, A>,
-    format: StatusFormat,
-) -> Reply
+fn status<R: Rack, A: Area>(alloc: Global, pool: &Pool<R, A>, format: StatusFormat) -> Reply
     requires whole { IsWhole R.Rack A.Area pool.now }
     ensures step { (x : State) → Represents R.Rack A.Area pool.now x
         → CarriesOut R.Rack A.Area pool.now x (StatusSays format result x) }
@@ -150,5 +147,38 @@ pub(crate) fn status<R: Rack, A: Area>(
         Err(_) => Reply::NoMemory {
             command: CommandName::Status,
         },
+    }
+}
+
+/// What a pool replies to a line that asks something of it.
+pub(crate) fn reply<R: Rack, A: Area, F: Fn(&[Room]) -> Option<u32>>(
+    rt: &(impl Threads + Sync),
+    alloc: Global,
+    pool: &mut Pool<R, A>,
+    chooser: &Chooser<F>,
+    line: &Line,
+) -> Reply
+    requires chooser { IsChooser F.Fn chooser.now }
+    requires range { IsInRange (command_in line.now) }
+    requires asks { asked_in (command_in line.now) ≡ None → ⊥ }
+    requires whole { IsWhole R.Rack A.Area pool.old }
+    ensures whole { IsWhole R.Rack A.Area pool.new }
+    ensures step { (x : State) → Represents R.Rack A.Area pool.old x
+        → CarriesOut R.Rack A.Area pool.new x (ReplyDoes x (FnReturnsAt F.Fn chooser.now) (command_in line.now) result) }
+{
+    match line {
+        Line::Write { object, bytes } => write(pool, chooser, *object, bytes),
+        Line::Fill {
+            first,
+            count,
+            len,
+            seed,
+        } => fill(alloc, pool, chooser, *first, *count, *len, *seed),
+        Line::Free { object } => free(pool, *object),
+        Line::Read { object } => read(pool, *object),
+        Line::Sum { first, count } => sum(rt, pool, *first, *count),
+        Line::Damage { leaf, sector } => damage(pool, *leaf, *sector),
+        Line::Status { format } => status(alloc, pool, *format),
+        _ => unreachable!(),
     }
 }

@@ -3,26 +3,71 @@ ghost use Rattle.std.specs.Io.KnownBytes.{prepend_known};
 ghost use Rattle.std.specs.Fn.{FnReturnsAt};
 ghost use Rattle.draid_choose.specs.Rooms.{IsChooser};
 ghost use Rattle.draid_names.specs.Faults.{Rose};
+ghost use Rattle.draid_script.specs.Grammar.{line_of};
+ghost use Rattle.draid_script.specs.Line.{IsInRange, command_in};
 ghost use Rattle.draid_reply.specs.Reply.{text_of};
 ghost use Rattle.draid_session.specs.Session.{Desk};
 ghost use Rattle.draid_run.specs.Desks.{IsDesk, IsPool};
-ghost use Rattle.draid_run.specs.Serve.{LineIs, PrintIs, Served, TextIs};
+ghost use Rattle.draid_run.specs.Serve.{LineIs, PrintIs, Served, TextIs, status_of};
 ghost use Rattle.draid_run.specs.Shelves.{HoldsDesk, OnShelf, on_shelf};
 
 use crate::answer::{Stop, answer};
 use crate::status::Status;
 use draid_choose::Chooser;
 use draid_lines::{Lines, ReadFault, Sink, Source};
-use draid_names::{Failed, Room};
+use draid_names::{Failed, NoMemory, Room};
 use draid_pool::Pool;
 use draid_reply::{Reply, reply_text};
-use draid_script::{LineFault, ParseFault, parse_line};
+use draid_script::{Line, LineFault, ParseFault, parse_line};
 use draid_shelf::Shelf;
 use std::alloc::Global;
 use std::thread::Threads;
 
 /// One line more than a script may have.
 const LINES: u64 = 1_048_577;
+
+/// The status of a run that ends at the line of this number, since it has no reply.
+fn stopped(number: u64, stop: Stop) -> Status
+    ensures { result ≡ status_of number stop }
+{
+    match stop {
+        Stop::Unbuilt => Status::Line {
+            line: number,
+            kind: 7,
+            at: 0,
+        },
+        Stop::Shelf => Status::ShelfFault,
+        Stop::Record { metaslab, at, kind } => Status::Record { metaslab, at, kind },
+    }
+}
+
+/// Does what the line of this number asks for, and prints its reply.
+fn serve_command<H: Shelf, K: Sink, F: Fn(&[Room]) -> Option<u32>>(
+    rt: &(impl Threads + Sync),
+    alloc: Global,
+    shelf: &mut H,
+    pool: &mut Option<Pool<H::R, H::A>>,
+    chooser: &Chooser<F>,
+    sink: &mut K,
+    number: u64,
+    line: &Line,
+) -> Result<(), Status>
+    requires chooser { IsChooser F.Fn chooser.now }
+    requires range { IsInRange (command_in line.now) }
+    requires desk { (x : Desk) × IsPool H.R.Rack H.A.Area pool.old x }
+    ensures line { (text : List ℕ) (entry : OnShelf) (x : Desk) → line_of text ≡ Ok (command_in line.now)
+        → IsDesk H.R.Rack H.A.Area entry (on_shelf H.Shelf shelf.old) pool.old x
+        → LineIs H.R.Rack H.A.Area (FnReturnsAt F.Fn chooser.now) number text entry (on_shelf H.Shelf shelf.old) pool.old x (on_shelf H.Shelf shelf.new) pool.new (K.held sink.old) (K.held sink.new) result }
+    ensures later { K.faults sink.old ≤ K.faults sink.new }
+    ensures cause { result ≡ Err Status.SinkFault → Rose (K.faults sink.old) (K.faults sink.new) }
+    ensures shelf_later { H.faults shelf.old ≤ H.faults shelf.new }
+{
+    match answer(rt, alloc, shelf, pool, chooser, line) {
+        Ok(Some(reply)) => print_reply(alloc, sink, reply),
+        Ok(None) => Ok(()),
+        Err(stop) => Err(stopped(number, stop)),
+    }
+}
 
 /// Runs one line, with this number, and prints its reply.
 fn serve_line<H: Shelf, K: Sink, F: Fn(&[Room]) -> Option<u32>>(
@@ -43,45 +88,34 @@ fn serve_line<H: Shelf, K: Sink, F: Fn(&[Room]) -> Option<u32>>(
     ensures cause { result ≡ Err Status.SinkFault → Rose (K.faults sink.old) (K.faults sink.new) }
     ensures shelf_later { H.faults shelf.old ≤ H.faults shelf.new }
 {
-    let line = match parse_line(alloc, text) {
-        Ok(line) => line,
-        Err(ParseFault::Line(LineFault { kind, at })) => {
-            return Err(Status::Line {
-                line: number,
-                kind,
-                at,
-            });
-        }
-        Err(ParseFault::NoMemory) => return Err(Status::NoMemory),
-    };
-    let reply = match answer(rt, alloc, shelf, pool, chooser, line) {
-        Ok(Some(reply)) => reply,
-        Ok(None) => return Ok(()),
-        Err(Stop::Shelf) => return Err(Status::ShelfFault),
-        Err(Stop::Record { metaslab, at, kind }) => {
-            return Err(Status::Record { metaslab, at, kind });
-        }
-        Err(Stop::Unbuilt) => {
-            return Err(Status::Line {
-                line: number,
-                kind: 7,
-                at: 0,
-            });
-        }
-    };
-    print_reply(alloc, sink, &reply)
+    match parse_line(alloc, text) {
+        Ok(line) => serve_command(rt, alloc, shelf, pool, chooser, sink, number, &line),
+        Err(ParseFault::Line(LineFault { kind, at })) => Err(Status::Line {
+            line: number,
+            kind,
+            at,
+        }),
+        Err(ParseFault::NoMemory) => Err(Status::NoMemory),
+    }
+}
+
+/// The text that a reply becomes.
+fn into_text(alloc: Global, reply: Reply) -> Result<Vec<u8>, NoMemory>
+    ensures { IfOk result (λ text. text.items ≡ text_of reply) }
+{
+    reply_text(alloc, &reply)
 }
 
 /// Prints a reply, as one `put`.
-fn print_reply<K: Sink>(alloc: Global, sink: &mut K, reply: &Reply) -> Result<(), Status>
-    ensures prints { PrintIs (text_of reply.now) (K.held sink.old) (K.held sink.new) result }
+fn print_reply<K: Sink>(alloc: Global, sink: &mut K, reply: Reply) -> Result<(), Status>
+    ensures prints { PrintIs (text_of reply) (K.held sink.old) (K.held sink.new) result }
     ensures later { K.faults sink.old ≤ K.faults sink.new }
     ensures cause { result ≡ Err Status.SinkFault → Rose (K.faults sink.old) (K.faults sink.new) }
 {
-    let Ok(bytes) = reply_text(alloc, reply) else {
+    let Ok(text) = into_text(alloc, reply) else {
         return Err(Status::NoMemory);
     };
-    match sink.put(&bytes) {
+    match sink.put(&text) {
         Ok(()) => Ok(()),
         Err(Failed) => Err(Status::SinkFault),
     }

@@ -1,8 +1,7 @@
-ghost use Rattle.std.specs.Prelude.{◌≡◌, IfOk, IfSome, IfNone, OnErr, string_bytes};
+ghost use Rattle.std.specs.Prelude.{◌≡◌, Some, None, IfOk, IfSome, IfNone, string_bytes};
 ghost use Rattle.draid_run.specs.Status.{HasNumber, fixed_text, last_text};
 
-use draid_names::NoMemory;
-use std::alloc::Global;
+use std::alloc::{AllocError, Global};
 
 /// What a run came to, with the program's exit status in brackets.
 #[derive(Clone, Copy, PartialEq, Eq)]
@@ -59,28 +58,54 @@ impl Status {
     }
 }
 
+/// The line that is printed last where a line of the script can't be run.
+fn line_refused(alloc: Global, line: u64, kind: u8, at: u64) -> Result<String, AllocError>
+    ensures { IfOk result (λ text. string_bytes text ≡ last_text (Status.Line line kind at)) }
+{
+    format!(in alloc; "line {line} fault={kind} at={at}\n")
+}
+
+/// The line that is printed last where a line of the script is too long.
+fn line_too_long(alloc: Global, line: u64) -> Result<String, AllocError>
+    ensures { IfOk result (λ text. string_bytes text ≡ last_text (Status.TooLong line)) }
+{
+    format!(in alloc; "line {line} too long\n")
+}
+
+/// The line that is printed last where a record of a metaslab is out of its range.
+fn metaslab_refused(alloc: Global, metaslab: u32, at: u64, kind: u8) -> Result<String, AllocError>
+    ensures { IfOk result (λ text. string_bytes text ≡ last_text (Status.Record (Some metaslab) at kind)) }
+{
+    format!(in alloc; "record metaslab={metaslab} at={at} kind={kind}\n")
+}
+
+/// The line that is printed last where the uberblock's slot is out of its range.
+fn uber_refused(alloc: Global, at: u64, kind: u8) -> Result<String, AllocError>
+    ensures { IfOk result (λ text. string_bytes text ≡ last_text (Status.Record None at kind)) }
+{
+    format!(in alloc; "record uber at={at} kind={kind}\n")
+}
+
 /// The line that is printed last, its end included, where it names a number.
-pub(crate) fn numbered_line(alloc: Global, status: Status) -> Result<Option<String>, NoMemory>
-    ensures some { IfOk result (λ line. IfSome line (λ text. string_bytes text ≡ last_text status)) }
-    ensures none { IfOk result (λ line. IfNone line (last_text status ≡ fixed_text status)) }
-    ensures err { OnErr result (HasNumber status) }
+pub(crate) fn numbered_line(alloc: Global, status: Status) -> Option<Result<String, AllocError>>
+    ensures some { IfSome result (λ line. IfOk line (λ text. string_bytes text ≡ last_text status)) }
+    ensures number { IfSome result (λ line. HasNumber status) }
+    ensures none { IfNone result (last_text status ≡ fixed_text status) }
 {
     match status {
-        Status::Line { line, kind, at } => Ok(Some(format!(in alloc;
-            "line {line} fault={kind} at={at}\n"
-        )?)),
-        Status::TooLong { line } => Ok(Some(format!(in alloc; "line {line} too long\n")?)),
-        Status::Record {
-            metaslab: None,
-            at,
-            kind,
-        } => Ok(Some(format!(in alloc; "record uber at={at} kind={kind}\n")?)),
+        Status::Line { line, kind, at } => Some(line_refused(alloc, line, kind, at)),
+        Status::TooLong { line } => Some(line_too_long(alloc, line)),
         Status::Record {
             metaslab: Some(metaslab),
             at,
             kind,
-        } => Ok(Some(format!(in alloc; "record metaslab={metaslab} at={at} kind={kind}\n")?)),
-        _ => Ok(None),
+        } => Some(metaslab_refused(alloc, metaslab, at, kind)),
+        Status::Record {
+            metaslab: None,
+            at,
+            kind,
+        } => Some(uber_refused(alloc, at, kind)),
+        _ => None,
     }
 }
 

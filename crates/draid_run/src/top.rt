@@ -43,9 +43,9 @@ fn end_run<K: Sink>(alloc: Global, sink: &mut K, ended: Status) -> Status
     ensures shelf { result ≡ Status.ShelfFault → ended ≡ Status.ShelfFault }
 {
     match numbered_line(alloc, ended) {
-        Ok(Some(line)) => put_last(sink, line.as_bytes(), ended),
-        Ok(None) => put_last(sink, fixed_line(ended).as_bytes(), ended),
-        Err(_) => put_last(
+        Some(Ok(line)) => put_last(sink, line.as_bytes(), ended),
+        None => put_last(sink, fixed_line(ended).as_bytes(), ended),
+        Some(Err(_)) => put_last(
             sink,
             fixed_line(Status::NoMemory).as_bytes(),
             Status::NoMemory,

@@ -1,0 +1,39 @@
+use Rattle.std.proofs.Common.{◌∙◌, refl, sym}
+use Rattle.std.specs.Fn.{FnReturnsAt}
+use Rattle.draid_script.specs.Line.{command_in}
+use Rattle.draid_run.proofs.Asking.{some_asked}
+use Rattle.draid_run.proofs.Steps.{did_open, did_shut, is_whole}
+use Rattle.draid_run.proofs.answer.ask.Goals as goal
+
+pub returns-in_default : goal.returns-in_default
+returns-in_default g c = record { did = λ x stands. (sym c.asked.ensures ∙ c.in_default.is, refl) }
+
+pub returns-in-Some-pool : goal.returns-in-Some-pool
+returns-in-Some-pool g c = record {
+  did = λ x stands. (
+    c.in-Some.command,
+    sym c.asked.ensures ∙ c.in-Some.is,
+    did_open g.R.Rack g.A.Area (FnReturnsAt g.F.Fn c.args.chooser.now) (command_in c.args.line.now) c.in-Some.command c.reply.result c.args.pool.now c.in-Some-pool.pool c.reply.new.pool c.in-Some-pool.is c.reply.ensures.whole c.reply.ensures.step x stands,
+  );
+}
+
+pub returns-in-None : goal.returns-in-None
+returns-in-None g c = record {
+  did = λ x stands. (
+    c.in-Some.command,
+    sym c.asked.ensures ∙ c.in-Some.is,
+    did_shut g.R.Rack g.A.Area (FnReturnsAt g.F.Fn c.args.chooser.now) (command_in c.args.line.now) c.in-Some.command c.no_pool.result c.args.pool.now c.args.pool.now c.in-None.is c.in-None.is c.no_pool.ensures x stands,
+  );
+}
+
+pub reply-requires-clause-chooser : goal.reply-requires-clause-chooser
+reply-requires-clause-chooser g c κs within = c.requires.chooser
+
+pub reply-requires-clause-range : goal.reply-requires-clause-range
+reply-requires-clause-range g c κs within = c.requires.range
+
+pub reply-requires-clause-asks : goal.reply-requires-clause-asks
+reply-requires-clause-asks g c κs within none = some_asked (sym c.in-Some.is ∙ c.asked.ensures ∙ none)
+
+pub reply-requires-clause-whole : goal.reply-requires-clause-whole
+reply-requires-clause-whole g c κs within = is_whole g.R.Rack g.A.Area c.args.pool.now c.in-Some-pool.pool c.in-Some-pool.is c.requires.desk

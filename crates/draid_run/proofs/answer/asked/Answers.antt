@@ -1,0 +1,31 @@
+use Rattle.std.proofs.Common.{ap, sym}
+use Rattle.draid_script.specs.Line.{command_in}
+use Rattle.draid_script.specs.declared.line.Line.{Line}
+use Rattle.draid_run.specs.Desks.{asked_in}
+use Rattle.draid_run.proofs.Asking.{asks_nothing}
+use Rattle.draid_run.proofs.answer.asked.Goals as goal
+
+pub returns-in-Write : goal.returns-in-Write
+returns-in-Write c = sym (ap (λ (l : Line). asked_in (command_in l)) c.in-Write.is)
+
+pub returns-in-Fill : goal.returns-in-Fill
+returns-in-Fill c = sym (ap (λ (l : Line). asked_in (command_in l)) c.in-Fill.is)
+
+pub returns-in-Read : goal.returns-in-Read
+returns-in-Read c = sym (ap (λ (l : Line). asked_in (command_in l)) c.in-Read.is)
+
+pub returns-in-Free : goal.returns-in-Free
+returns-in-Free c = sym (ap (λ (l : Line). asked_in (command_in l)) c.in-Free.is)
+
+pub returns-in-Sum : goal.returns-in-Sum
+returns-in-Sum c = sym (ap (λ (l : Line). asked_in (command_in l)) c.in-Sum.is)
+
+pub returns-in-Damage : goal.returns-in-Damage
+returns-in-Damage c = sym (ap (λ (l : Line). asked_in (command_in l)) c.in-Damage.is)
+
+pub returns-in-Status : goal.returns-in-Status
+returns-in-Status c = sym (ap (λ (l : Line). asked_in (command_in l)) c.in-Status.is)
+
+pub returns-in_default : goal.returns-in_default
+returns-in_default c =
+    sym (asks_nothing c.args.line.now c.in_default.not-Write c.in_default.not-Fill c.in_default.not-Read c.in_default.not-Free c.in_default.not-Sum c.in_default.not-Damage c.in_default.not-Status)

@@ -1,0 +1,89 @@
+use Rattle.std.proofs.Common.{◌∙◌, ap, subst, sym}
+use Rattle.std.specs.Fn.{FnReturnsAt}
+use Rattle.draid_script.specs.Line.{FillObjects, IsInRange, WriteObject, command_in}
+use Rattle.draid_run.proofs.Asking.{asks_nothing, replied_as, replied_damage, replied_free, replied_read, replied_status, replied_sum}
+use Rattle.draid_run.proofs.replies.reply.Goals as goal
+
+pub returns-in-Write : goal.returns-in-Write
+returns-in-Write g c = record {
+  whole = c.write.ensures.whole;
+  step = λ x rep. replied_as g.R.Rack g.A.Area (FnReturnsAt g.F.Fn c.args.chooser.now) c.args.line.now x c.write.new.pool c.write.result (WriteObject c.in-Write.object c.deref.result.now)
+      (ap command_in c.in-Write.is ∙ ap (WriteObject c.in-Write.object) (sym c.deref.ensures.value)) (c.write.ensures.step x rep);
+}
+
+pub returns-in-Fill : goal.returns-in-Fill
+returns-in-Fill g c = record {
+  whole = c.fill.ensures.whole;
+  step = λ x rep. replied_as g.R.Rack g.A.Area (FnReturnsAt g.F.Fn c.args.chooser.now) c.args.line.now x c.fill.new.pool c.fill.result (FillObjects c.in-Fill.first c.in-Fill.count c.in-Fill.len c.in-Fill.seed)
+      (ap command_in c.in-Fill.is) (c.fill.ensures.step x rep);
+}
+
+pub returns-in-Free : goal.returns-in-Free
+returns-in-Free g c = record {
+  whole = c.free.ensures.whole;
+  step = λ x rep. replied_free g.R.Rack g.A.Area (FnReturnsAt g.F.Fn c.args.chooser.now) c.args.line.now x c.free.new.pool c.free.result c.in-Free.object c.in-Free.is (c.free.ensures.step x rep);
+}
+
+pub returns-in-Read : goal.returns-in-Read
+returns-in-Read g c = record {
+  whole = c.read.ensures.whole;
+  step = λ x rep. replied_read g.R.Rack g.A.Area (FnReturnsAt g.F.Fn c.args.chooser.now) c.args.line.now x c.read.new.pool c.read.result c.in-Read.object c.in-Read.is (c.read.ensures.step x rep);
+}
+
+pub returns-in-Sum : goal.returns-in-Sum
+returns-in-Sum g c = record {
+  whole = c.sum.ensures.whole;
+  step = λ x rep. replied_sum g.R.Rack g.A.Area (FnReturnsAt g.F.Fn c.args.chooser.now) c.args.line.now x c.sum.new.pool c.sum.result c.in-Sum.first c.in-Sum.count c.in-Sum.is (c.sum.ensures.step x rep);
+}
+
+pub returns-in-Damage : goal.returns-in-Damage
+returns-in-Damage g c = record {
+  whole = c.damage.ensures.whole;
+  step = λ x rep. replied_damage g.R.Rack g.A.Area (FnReturnsAt g.F.Fn c.args.chooser.now) c.args.line.now x c.damage.new.pool c.damage.result c.in-Damage.leaf c.in-Damage.sector c.in-Damage.is (c.damage.ensures.step x rep);
+}
+
+pub returns-in-Status : goal.returns-in-Status
+returns-in-Status g c = record {
+  whole = c.requires.whole;
+  step = λ x rep. replied_status g.R.Rack g.A.Area (FnReturnsAt g.F.Fn c.args.chooser.now) c.args.line.now x c.args.pool.now c.status.result c.in-Status.format c.in-Status.is (c.status.ensures.step x rep);
+}
+
+pub unreachable-requires : goal.unreachable-requires
+unreachable-requires g c =
+    c.requires.asks (asks_nothing c.args.line.now c.in_default.not-Write c.in_default.not-Fill c.in_default.not-Read c.in_default.not-Free c.in_default.not-Sum c.in_default.not-Damage c.in_default.not-Status)
+
+pub write-requires-clause-range : goal.write-requires-clause-range
+write-requires-clause-range g c = subst IsInRange (ap command_in c.in-Write.is ∙ ap (WriteObject c.in-Write.object) (sym c.deref.ensures.value)) c.requires.range
+
+pub write-requires-clause-chooser : goal.write-requires-clause-chooser
+write-requires-clause-chooser g c = c.requires.chooser
+
+pub write-requires-clause-whole : goal.write-requires-clause-whole
+write-requires-clause-whole g c = c.requires.whole
+
+pub fill-requires-clause-range : goal.fill-requires-clause-range
+fill-requires-clause-range g c = subst (λ l. IsInRange (command_in l)) c.in-Fill.is c.requires.range
+
+pub fill-requires-clause-chooser : goal.fill-requires-clause-chooser
+fill-requires-clause-chooser g c = c.requires.chooser
+
+pub fill-requires-clause-whole : goal.fill-requires-clause-whole
+fill-requires-clause-whole g c = c.requires.whole
+
+pub sum-requires-clause-range : goal.sum-requires-clause-range
+sum-requires-clause-range g c κs within = subst (λ l. IsInRange (command_in l)) c.in-Sum.is c.requires.range
+
+pub sum-requires-clause-whole : goal.sum-requires-clause-whole
+sum-requires-clause-whole g c κs within = c.requires.whole
+
+pub free-requires : goal.free-requires
+free-requires g c = record { whole = c.requires.whole }
+
+pub read-requires : goal.read-requires
+read-requires g c = record { whole = c.requires.whole }
+
+pub damage-requires : goal.damage-requires
+damage-requires g c = record { whole = c.requires.whole }
+
+pub status-requires : goal.status-requires
+status-requires g c = record { whole = c.requires.whole }
