@@ -29,51 +29,8 @@ fn holder_and_links(
     ]
 }
 
-/// The slots at three positions of slice 0.
-fn slots_of(layout: &Geometry, perms: &Perms) -> [u32; 3]
-    requires geometry { IsGeometry layout.now }
-    requires children { children_of perms.now ≡ layout.now.spec.children }
-    requires five { layout.now.spec.children ≡ 5 }
-{
-    [perms.child(0, 0), perms.child(0, 3), perms.child(0, 4)]
-}
-
-// Slice 0 has the slots 4, 2, 3, 1, 0 at its positions: spare 0 stands on slot 0, spare 1 on slot 1.
-
-/// Spare 0 of slot 4 where slot 0 has spare 1.
-fn behind_another(layout: &Geometry, perms: &Perms) -> [u32; 2]
-    requires geometry { IsGeometry layout.now }
-    requires children { children_of perms.now ≡ layout.now.spec.children }
-    requires five { layout.now.spec.children ≡ 5 }
-    requires two { layout.now.spec.spares ≡ 2 }
-{
-    let used = [Some(1), None, None, None, Some(0)];
-    holder_and_links(layout, perms, &used, 4, 0, 0)
-}
-
-/// Spare 0 of slot 4 where slot 0 has none.
-fn alone(layout: &Geometry, perms: &Perms) -> [u32; 2]
-    requires geometry { IsGeometry layout.now }
-    requires children { children_of perms.now ≡ layout.now.spec.children }
-    requires five { layout.now.spec.children ≡ 5 }
-    requires two { layout.now.spec.spares ≡ 2 }
-{
-    let used = [None, None, None, None, Some(0)];
-    holder_and_links(layout, perms, &used, 4, 0, 0)
-}
-
-/// Spare 0 of slot 1, where slots 0 and 1 have no column and each spare stands on the slot that has the other one.
-fn around(layout: &Geometry, perms: &Perms) -> [u32; 2]
-    requires geometry { IsGeometry layout.now }
-    requires children { children_of perms.now ≡ layout.now.spec.children }
-    requires five { layout.now.spec.children ≡ 5 }
-    requires two { layout.now.spec.spares ≡ 2 }
-{
-    let used = [Some(1), Some(0), None, None, None];
-    holder_and_links(layout, perms, &used, 1, 0, 7)
-}
-
-/// Whether the chains of five slots end so.
+/// Whether the chains of five slots end so. Slice 0 has the slots 4, 2, 3, 1, 0 at its positions: spare 0 stands on slot 0, spare
+/// 1 on slot 1.
 fn of_five(layout: &Geometry) -> bool
     requires { IsGeometry layout.now }
 {
@@ -81,23 +38,16 @@ fn of_five(layout: &Geometry) -> bool
         return false;
     }
     let perms = Perms::new(layout.spec.children, layout.props.seed);
-    slots_of(layout, &perms) == [4, 1, 0]
-        && behind_another(layout, &perms) == [1, 2]
-        && alone(layout, &perms) == [0, 1]
-        && around(layout, &perms) == [0, 1]
-}
-
-/// The same of a layout of these slots.
-fn of_five_slots() -> bool {
-    match layout(b"draid1:2d:5c:2s", 5, SMALL) {
-        Ok(layout) => of_five(&layout),
-        Err(_) => false,
-    }
-}
-
-#[test]
-fn chains_end_at_free_slots(rt: HostRuntime) {
-    assert!(rt; of_five_slots());
+    let slots = [perms.child(0, 0), perms.child(0, 3), perms.child(0, 4)];
+    // Spare 0 of slot 4 where slot 0 has spare 1, and where it has none.
+    let behind = [Some(1), None, None, None, Some(0)];
+    let alone = [None, None, None, None, Some(0)];
+    // Spare 0 of slot 1, where slots 0 and 1 have no column and each spare stands on the slot that has the other one.
+    let around = [Some(1), Some(0), None, None, None];
+    slots == [4, 1, 0]
+        && holder_and_links(layout, &perms, &behind, 4, 0, 0) == [1, 2]
+        && holder_and_links(layout, &perms, &alone, 4, 0, 0) == [0, 1]
+        && holder_and_links(layout, &perms, &around, 1, 0, 7) == [0, 1]
 }
 
 /// Spare 0 of slot 1 at a sector, where four of eight slots have a spare.
@@ -122,16 +72,19 @@ fn of_eight(layout: &Geometry) -> bool
     through_four(layout, &perms, 7) == [6, 4] && through_four(layout, &perms, 8) == [5, 1]
 }
 
-/// The same of a layout of these slots.
-fn of_eight_slots() -> bool {
-    match layout(b"draid1:1d:8c:4s", 8, SMALL) {
-        Ok(layout) => of_eight(&layout),
-        Err(_) => false,
+/// The same of layouts of these slots.
+fn end_at_free_slots() -> [bool; 2] {
+    match (
+        layout(b"draid1:2d:5c:2s", 5, SMALL),
+        layout(b"draid1:1d:8c:4s", 8, SMALL),
+    ) {
+        (Ok(five), Ok(eight)) => [of_five(&five), of_eight(&eight)],
+        _ => [false; 2],
     }
 }
 
-// By a second program, which follows the published code of the generator. A slice has one row here.
+// The second by a second program, which follows the published code of the generator. A slice has one row there.
 #[test]
-fn chains_pass_all_spares(rt: HostRuntime) {
-    assert!(rt; of_eight_slots());
+fn chains_end_at_free_slots(rt: HostRuntime) {
+    assert!(rt; end_at_free_slots() == [true, true]);
 }
