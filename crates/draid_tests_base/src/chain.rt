@@ -29,8 +29,51 @@ fn holder_and_links(
     ]
 }
 
-/// Whether the chains of five slots end so. Slice 0 has the slots 4, 2, 3, 1, 0 at its positions: spare 0 stands on slot 0, spare
-/// 1 on slot 1.
+/// The slots at three positions of slice 0.
+fn slots_of(layout: &Geometry, perms: &Perms) -> [u32; 3]
+    requires geometry { IsGeometry layout.now }
+    requires children { children_of perms.now ≡ layout.now.spec.children }
+    requires five { layout.now.spec.children ≡ 5 }
+{
+    [perms.child(0, 0), perms.child(0, 3), perms.child(0, 4)]
+}
+
+// Slice 0 has the slots 4, 2, 3, 1, 0 at its positions: spare 0 stands on slot 0, spare 1 on slot 1.
+
+/// Spare 0 of slot 4 where slot 0 has spare 1.
+fn behind_another(layout: &Geometry, perms: &Perms) -> [u32; 2]
+    requires geometry { IsGeometry layout.now }
+    requires children { children_of perms.now ≡ layout.now.spec.children }
+    requires five { layout.now.spec.children ≡ 5 }
+    requires two { layout.now.spec.spares ≡ 2 }
+{
+    let used = [Some(1), None, None, None, Some(0)];
+    holder_and_links(layout, perms, &used, 4, 0, 0)
+}
+
+/// Spare 0 of slot 4 where slot 0 has none.
+fn alone(layout: &Geometry, perms: &Perms) -> [u32; 2]
+    requires geometry { IsGeometry layout.now }
+    requires children { children_of perms.now ≡ layout.now.spec.children }
+    requires five { layout.now.spec.children ≡ 5 }
+    requires two { layout.now.spec.spares ≡ 2 }
+{
+    let used = [None, None, None, None, Some(0)];
+    holder_and_links(layout, perms, &used, 4, 0, 0)
+}
+
+/// Spare 0 of slot 1, where slots 0 and 1 have no column and each spare stands on the slot that has the other one.
+fn around(layout: &Geometry, perms: &Perms) -> [u32; 2]
+    requires geometry { IsGeometry layout.now }
+    requires children { children_of perms.now ≡ layout.now.spec.children }
+    requires five { layout.now.spec.children ≡ 5 }
+    requires two { layout.now.spec.spares ≡ 2 }
+{
+    let used = [Some(1), Some(0), None, None, None];
+    holder_and_links(layout, perms, &used, 1, 0, 7)
+}
+
+/// Whether the chains of five slots end so.
 fn of_five(layout: &Geometry) -> bool
     requires { IsGeometry layout.now }
 {
@@ -38,16 +81,10 @@ fn of_five(layout: &Geometry) -> bool
         return false;
     }
     let perms = Perms::new(layout.spec.children, layout.props.seed);
-    let slots = [perms.child(0, 0), perms.child(0, 3), perms.child(0, 4)];
-    // Spare 0 of slot 4 where slot 0 has spare 1, and where it has none.
-    let behind = [Some(1), None, None, None, Some(0)];
-    let alone = [None, None, None, None, Some(0)];
-    // Spare 0 of slot 1, where slots 0 and 1 have no column and each spare stands on the slot that has the other one.
-    let around = [Some(1), Some(0), None, None, None];
-    slots == [4, 1, 0]
-        && holder_and_links(layout, &perms, &behind, 4, 0, 0) == [1, 2]
-        && holder_and_links(layout, &perms, &alone, 4, 0, 0) == [0, 1]
-        && holder_and_links(layout, &perms, &around, 1, 0, 7) == [0, 1]
+    slots_of(layout, &perms) == [4, 1, 0]
+        && behind_another(layout, &perms) == [1, 2]
+        && alone(layout, &perms) == [0, 1]
+        && around(layout, &perms) == [0, 1]
 }
 
 /// Spare 0 of slot 1 at a sector, where four of eight slots have a spare.

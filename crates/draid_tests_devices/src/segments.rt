@@ -89,12 +89,19 @@ fn mend_first(rack: &mut MemoryRack, leaf: u64, slots: [u32; 4]) -> Result<(), F
     rack.mend(leaf, 0, &piece(0), &sources)
 }
 
-/// Damages the first sector of a leaf, and writes it anew. Its harm stays.
-fn damage_and_patch(rack: &mut MemoryRack, leaf: u64, bytes: &[u8; 512]) -> Result<(), Failed> {
+/// Damages the first sector of a leaf.
+fn damage_first(rack: &mut MemoryRack, leaf: u64) -> Result<(), Failed> {
     if !has_first(rack, leaf) {
         return Err(Failed);
     }
-    rack.damage(leaf, 0)?;
+    rack.damage(leaf, 0)
+}
+
+/// Writes the first sector of a leaf anew, whose harm stays.
+fn patch_first(rack: &mut MemoryRack, leaf: u64, bytes: &[u8; 512]) -> Result<(), Failed> {
+    if !has_first(rack, leaf) {
+        return Err(Failed);
+    }
     rack.patch(leaf, 0, bytes)
 }
 
@@ -110,7 +117,8 @@ fn settle_first(rack: &mut MemoryRack, leaf: u64) -> Result<(), Failed> {
 
 /// The second column's leaf is damaged, and a whole landing puts it right.
 fn heal_second(rack: &mut MemoryRack, leaf: u64) -> Result<(), Failed> {
-    damage_and_patch(rack, leaf, &piece(1))?;
+    damage_first(rack, leaf)?;
+    patch_first(rack, leaf, &piece(1))?;
     settle_first(rack, leaf)?;
     flush_all(rack)
 }
