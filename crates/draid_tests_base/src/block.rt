@@ -262,21 +262,11 @@ fn cuts(alloc: Global, geometry: &Geometry, bytes: &[u8]) -> bool
     }
 }
 
-/// Whether a block of four sectors does.
-fn cuts_four_sectors(alloc: Global, geometry: &Geometry) -> bool
-    requires { IsGeometry geometry.now }
-{
-    match pattern(alloc, 2048) {
-        Ok(bytes) => cuts(alloc, geometry, &bytes),
-        Err(_) => false,
-    }
-}
-
-/// The same with three data columns.
+/// Whether a block of four sectors does, with three data columns.
 fn cuts_by_three(alloc: Global) -> bool {
-    match layout(b"draid:3d", 4, SMALL) {
-        Ok(geometry) => cuts_four_sectors(alloc, &geometry),
-        Err(_) => false,
+    match (layout(b"draid:3d", 4, SMALL), pattern(alloc, 2048)) {
+        (Ok(geometry), Ok(bytes)) => cuts(alloc, &geometry, &bytes),
+        _ => false,
     }
 }
 

@@ -87,19 +87,6 @@ fn of_five(layout: &Geometry) -> bool
         && around(layout, &perms) == [0, 1]
 }
 
-/// The same of a layout of these slots.
-fn of_five_slots() -> bool {
-    match layout(b"draid1:2d:5c:2s", 5, SMALL) {
-        Ok(layout) => of_five(&layout),
-        Err(_) => false,
-    }
-}
-
-#[test]
-fn chains_end_at_free_slots(rt: HostRuntime) {
-    assert!(rt; of_five_slots());
-}
-
 /// Spare 0 of slot 1 at a sector, where four of eight slots have a spare.
 fn through_four(layout: &Geometry, perms: &Perms, sector: u64) -> [u32; 2]
     requires geometry { IsGeometry layout.now }
@@ -122,16 +109,19 @@ fn of_eight(layout: &Geometry) -> bool
     through_four(layout, &perms, 7) == [6, 4] && through_four(layout, &perms, 8) == [5, 1]
 }
 
-/// The same of a layout of these slots.
-fn of_eight_slots() -> bool {
-    match layout(b"draid1:1d:8c:4s", 8, SMALL) {
-        Ok(layout) => of_eight(&layout),
-        Err(_) => false,
+/// The same of layouts of these slots.
+fn end_at_free_slots() -> [bool; 2] {
+    match (
+        layout(b"draid1:2d:5c:2s", 5, SMALL),
+        layout(b"draid1:1d:8c:4s", 8, SMALL),
+    ) {
+        (Ok(five), Ok(eight)) => [of_five(&five), of_eight(&eight)],
+        _ => [false; 2],
     }
 }
 
-// By a second program, which follows the published code of the generator. A slice has one row here.
+// The second by a second program, which follows the published code of the generator. A slice has one row there.
 #[test]
-fn chains_pass_all_spares(rt: HostRuntime) {
-    assert!(rt; of_eight_slots());
+fn chains_end_at_free_slots(rt: HostRuntime) {
+    assert!(rt; end_at_free_slots() == [true, true]);
 }

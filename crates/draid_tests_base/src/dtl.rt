@@ -57,11 +57,7 @@ fn is_cut(alloc: Global) -> bool {
 }
 
 #[test]
-fn logs_say_what_is_missed(rt: HostRuntime) {
+fn logs_say_what_is_missed_and_are_cut(rt: HostRuntime) {
     assert!(rt; are_missed(rt.alloc()));
-}
-
-#[test]
-fn logs_are_cut(rt: HostRuntime) {
     assert!(rt; is_cut(rt.alloc()));
 }

@@ -79,12 +79,8 @@ fn powers() -> [u8; 6] {
 }
 
 #[test]
-fn known_products(rt: HostRuntime) {
+fn known_products_and_powers(rt: HostRuntime) {
     assert!(rt; products() == [0x1d, 0x3a, 1, 0, 0xff]);
     assert!(rt; inv(2) == 0x8e && inv(1) == 1);
-}
-
-#[test]
-fn known_powers(rt: HostRuntime) {
     assert!(rt; powers() == [1, 0x80, 0x1d, 0x8e, 1, 1]);
 }

@@ -1,6 +1,7 @@
 //! Tests of the crates that know no device: the arithmetic of parity, blocks and their columns, layouts, chains of
-//! spares, free space, logs of what was missed, and the choice of metaslabs. It offers nothing; a module is named
-//! after the crate that it tests.
+//! spares, free space, logs of what was missed, and the choice of metaslabs; scripts, with their sources and sinks, readers
+//! and writers as such, their lines and the texts of replies, and the script of a workload. It offers nothing; a module is
+//! named after the crate that it tests.
 
 #![tactic(auto)]
 
@@ -13,9 +14,13 @@ mod choose;
 #[cfg(test)]
 mod dtl;
 #[cfg(test)]
+mod files;
+#[cfg(test)]
 mod gf;
 #[cfg(test)]
 mod layouts;
+#[cfg(test)]
+mod lines;
 #[cfg(test)]
 mod map;
 #[cfg(test)]
@@ -27,6 +32,12 @@ mod perm;
 #[cfg(test)]
 mod ranges;
 #[cfg(test)]
+mod reply;
+#[cfg(test)]
+mod script;
+#[cfg(test)]
 mod spacemap;
 #[cfg(test)]
 mod spec;
+#[cfg(test)]
+mod workloads;

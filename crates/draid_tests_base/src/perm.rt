@@ -21,11 +21,6 @@ fn is_shuffled() -> bool {
     row == [2, 3, 0, 1]
 }
 
-#[test]
-fn rows_are_shuffled(rt: HostRuntime) {
-    assert!(rt; is_shuffled());
-}
-
 // The rows of a second program, which follows the published code of the generator.
 static SLICES: [(u32, u64, u64, [u32; 4]); 5] = [
     (4, 1, 0, [1, 2, 3, 0]),
@@ -43,6 +38,7 @@ fn slices_are_turned(rt: HostRuntime) {
 }
 
 #[test]
-fn positions_are_found(rt: HostRuntime) {
+fn rows_are_shuffled_and_positions_found(rt: HostRuntime) {
+    assert!(rt; is_shuffled());
     assert!(rt; Perms::new(4, 9).position(1, 1) == 2);
 }

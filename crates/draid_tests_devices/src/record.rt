@@ -195,67 +195,77 @@ fn uber() -> [u8; 51] {
     write_uber(&body())
 }
 
-/// That uberblock, with another byte at a place.
-fn uber_changed(place: usize, byte: u8) -> [u8; 51] {
+/// That uberblock, with other bytes at these places.
+pub(crate) fn uber_with(changes: &[(usize, u8)]) -> [u8; 51] {
     let mut bytes = UBER;
-    if place < 51 {
-        bytes[place] = byte;
+    for (place, byte) in changes {
+        if *place < 51 {
+            bytes[*place] = *byte;
+        }
     }
     bytes
 }
 
-/// Whether this fault is found in slot `slot` of that uberblock with 33 at a place.
-fn is_bad_uber(place: usize, slot: u32, at: u64, kind: u8) -> bool {
-    read_uber(&uber_changed(place, 33), slot) == Err(RecordFault::Bad { at, kind })
+/// Whether this is told of the uberblock with these bytes in a slot, or the fault at this byte, of this kind.
+fn is_told(changes: &[(usize, u8)], slot: u32, told: Result<UberBody, (u64, u8)>) -> bool {
+    let wanted = match told {
+        Ok(body) => Ok(body),
+        Err((at, kind)) => Err(RecordFault::Bad { at, kind }),
+    };
+    read_uber(&uber_with(changes), slot) == wanted
 }
 
-fn is_written() -> bool {
-    uber().as_slice() == UBER.as_slice()
-}
+/// What the uberblock of that pool tells.
+const NEW: UberBody = UberBody {
+    group: 1,
+    spec: Spec {
+        parity: 1,
+        ndata: 2,
+        children: 3,
+        spares: 0,
+    },
+    props: PROPS,
+    next_leaf: 3,
+};
 
-fn is_told() -> bool {
-    read_uber(&UBER, 1) == Ok(body())
-}
+/// The same in version 2, with 64 children and the next leaf 64.
+const WIDE: UberBody = UberBody {
+    spec: Spec {
+        parity: 1,
+        ndata: 2,
+        children: 64,
+        spares: 0,
+    },
+    props: Props {
+        version: 2,
+        ..PROPS
+    },
+    next_leaf: 64,
+    ..NEW
+};
+
+/// Bytes of the uberblock that are other ones, its slot, and what is told then: in version 1, and then in version 2.
+static UBERS: [(&[(usize, u8)], u32, Result<UberBody, (u64, u8)>); 7] = [
+    (&[], 1, Ok(NEW)),
+    (&[], 0, Err((7, 2))),
+    (&[(17, 33)], 1, Err((17, 2))),
+    (&[(6, 33)], 1, Err((5, 2))),
+    (&[(6, 2), (17, 64), (50, 64)], 1, Ok(WIDE)),
+    (&[(6, 2), (17, 65), (50, 65)], 1, Err((17, 2))),
+    (&[(6, 2), (17, 64), (50, 63)], 1, Err((43, 2))),
+];
 
 #[test]
-fn an_uberblock_is_written_and_told(rt: HostRuntime) {
-    assert!(rt; is_written() && is_told());
-}
-
-#[test]
-fn faults_of_an_uberblock_are_found(rt: HostRuntime) {
-    for (place, slot, at, kind) in [(51, 0, 7, 2), (17, 1, 17, 2), (6, 1, 5, 2)] {
-        assert!(rt; is_bad_uber(place, slot, at, kind), "{place}");
+fn an_uberblock_is_told(rt: HostRuntime) {
+    for row in 0..UBERS.len() {
+        let (changes, slot, told) = UBERS[row];
+        assert!(rt; is_told(changes, slot, told), "{row}");
     }
 }
 
-/// That uberblock in version 2, with so many children and this next leaf.
-fn second(children: u8, next_leaf: u8) -> [u8; 51] {
-    let mut bytes = UBER;
-    bytes[6] = 2;
-    bytes[17] = children;
-    bytes[50] = next_leaf;
-    bytes
-}
-
-/// What it tells with 64 children and the next leaf 64.
-fn wide() -> UberBody {
-    let mut wide = body();
-    wide.spec.children = 64;
-    wide.props.version = 2;
-    wide.next_leaf = 64;
-    wide
-}
-
-/// Whether this fault is found in it.
-fn is_bad_second(children: u8, next_leaf: u8, at: u64) -> bool {
-    read_uber(&second(children, next_leaf), 1) == Err(RecordFault::Bad { at, kind: 2 })
-}
-
 #[test]
-fn an_uberblock_of_version_two_is_told(rt: HostRuntime) {
-    assert!(rt; read_uber(&second(64, 64), 1) == Ok(wide()));
-    assert!(rt; is_bad_second(65, 65, 17) && is_bad_second(64, 63, 43));
+fn an_uberblock_is_written(rt: HostRuntime) {
+    assert!(rt; uber().as_slice() == UBER.as_slice());
 }
 
 /// A slot with the leaf of this number, which missed nothing.

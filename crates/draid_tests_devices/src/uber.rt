@@ -4,7 +4,7 @@ ghost use Rattle.draid_area.specs.Memory.{size_of_memory, told_by_memory};
 ghost use Rattle.draid_spec.specs.Geometry.{IsGeometry};
 ghost use Rattle.draid_uber.specs.Uber.{IsNewArea, Valid};
 
-use crate::record::{UBER, small_geometry};
+use crate::record::{UBER, small_geometry, uber_with};
 use draid_area::{Area, DeviceFault, MemoryArea};
 use draid_faults::{CrashRule, Fuse};
 use draid_names::LAST_NUMBER;
@@ -125,29 +125,32 @@ static DONE: [u64; 22] = [
     0, 0, 0, 0, 0, 0, 1, 1, 1, 1, 1, 1, 2, 2, 2, 2, 2, 2, 2, 2, 3, 3,
 ];
 
-/// Whether the first 21 of these numbers are the groups, where so many more calls count as passed.
-fn are_groups(alloc: Global, rule: CrashRule, more: usize) -> bool
-    requires { more ≤ 1 }
-{
+/// Whether the first 21 of these numbers are the groups behind a crash by this rule, where one call more counts as passed or
+/// none.
+fn are_groups(alloc: Global, rule: CrashRule, ahead: bool) -> bool {
     for calls in 0..21 {
-        if group_after(alloc, calls as u64, rule) != Some(DONE[calls + more]) {
+        let done = if ahead { DONE[calls + 1] } else { DONE[calls] };
+        if group_after(alloc, calls as u64, rule) != Some(done) {
             return false;
         }
     }
     true
 }
 
+/// The rules of a crash. Where what was written stays, the opened gate counts already before its flush.
+static RULES: [(CrashRule, bool); 4] = [
+    (CrashRule::Old, false),
+    (CrashRule::Torn, false),
+    (CrashRule::Half, false),
+    (CrashRule::New, true),
+];
+
 #[test]
 fn a_stop_leaves_the_group_before_or_the_new_one(rt: HostRuntime) {
-    for rule in [CrashRule::Old, CrashRule::Torn, CrashRule::Half] {
-        assert!(rt; are_groups(rt.alloc(), rule, 0));
+    for row in 0..RULES.len() {
+        let (rule, ahead) = RULES[row];
+        assert!(rt; are_groups(rt.alloc(), rule, ahead), "{row}");
     }
-}
-
-/// Where what was written stays, the opened gate counts already before its flush.
-#[test]
-fn a_stop_behind_the_last_write_may_leave_the_new_group(rt: HostRuntime) {
-    assert!(rt; are_groups(rt.alloc(), CrashRule::New, 1));
 }
 
 /// Whether slot 0 has no gate open, and slot 1 the first uberblock.
@@ -202,43 +205,41 @@ fn tells(
     }
 }
 
-/// The slot of a new pool, with another byte at a place.
-fn changed(place: usize, byte: u8) -> [u8; 51] {
-    let mut slot = UBER;
-    if place < 51 {
-        slot[place] = byte;
-    }
-    slot
-}
+/// The last group in an uberblock.
+const LAST: &[(usize, u8)] = &[
+    (7, 0),
+    (8, 0),
+    (9, 0xff),
+    (10, 0xff),
+    (11, 0xff),
+    (12, 0xff),
+    (13, 0xff),
+    (14, 0xfe),
+];
 
-static TOLD: [(usize, usize, u8, Result<u64, UberFault>); 4] = [
-    (1024, 0, 0x5a, Ok(1)),
-    (1024, 17, 33, Err(UberFault::Record { at: 17, kind: 2 })),
-    (1024, 0, 0, Err(UberFault::Empty)),
-    (1023, 0, 0x5a, Err(UberFault::Empty)),
+/// How long an area is, where the uberblock of a new pool stands in it, its bytes that are other ones, and what a recovery tells
+/// then. Slot 0 is for even groups.
+static TOLD: [(usize, usize, &[(usize, u8)], Result<u64, UberFault>); 6] = [
+    (1024, 512, &[], Ok(1)),
+    (
+        1024,
+        512,
+        &[(17, 33)],
+        Err(UberFault::Record { at: 17, kind: 2 }),
+    ),
+    (1024, 512, &[(0, 0)], Err(UberFault::Empty)),
+    (1023, 512, &[], Err(UberFault::Empty)),
+    (1024, 0, LAST, Ok(0xffff_ffff_fffe)),
+    (1024, 0, &[], Err(UberFault::Record { at: 7, kind: 2 })),
 ];
 
 #[test]
 fn a_recovery_tells_what_stands_there(rt: HostRuntime) {
-    for (len, place, byte, told) in TOLD.iter() {
+    for row in 0..TOLD.len() {
+        let (len, at, changes, told) = TOLD[row];
         assert!(rt;
-            tells(rt.alloc(), *len, 512, &changed(*place, *byte), *told),
-            "{place}"
+            tells(rt.alloc(), len, at, &uber_with(changes), told),
+            "{row}"
         );
     }
-}
-
-/// The slot of the last group.
-fn last() -> [u8; 51] {
-    let mut last = UBER;
-    last[7..15].copy_from_slice(&[0, 0, 0xff, 0xff, 0xff, 0xff, 0xff, 0xfe]);
-    last
-}
-
-// Slot 0 is for even groups.
-#[test]
-fn a_recovery_tells_of_slot_zero(rt: HostRuntime) {
-    let bad = Err(UberFault::Record { at: 7, kind: 2 });
-    assert!(rt; tells(rt.alloc(), 1024, 0, &last(), Ok(0xffff_ffff_fffe)));
-    assert!(rt; tells(rt.alloc(), 1024, 0, &UBER, bad));
 }

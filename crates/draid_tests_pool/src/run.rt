@@ -384,10 +384,6 @@ fn other_words_end_a_run(rt: HostRuntime) {
             "{words}"
         );
     }
-}
-
-#[test]
-fn words_of_usage_have_status_one(rt: HostRuntime) {
     assert!(rt; Status::Usage.code() == 1);
 }
 
