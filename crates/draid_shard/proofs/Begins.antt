@@ -1,5 +1,5 @@
 -- The beginning of a write: legal where a run was given, and refused for what a state says.
-use Rattle.std.proofs.Common.{◌≡◌, ◌+◌, ◌*◌, ◌<◌, ◌≤◌, ◌^◌, ◌∙◌, ℕ, Bool, false, Option, Some, None, arith, refl, ap, inl, inr, max, subst}
+use Rattle.std.proofs.Common.{◌↔◌, ◌==◌, true, sym, if◌then◌else◌, IsTrue, ◌≡◌, ◌+◌, ◌*◌, ◌<◌, ◌≤◌, ◌^◌, ◌∙◌, ℕ, Bool, false, Option, Some, None, arith, refl, ap, inl, inr, max, subst}
 use Rattle.std.proofs.Math.Nat.{mul-le-mul}
 use Rattle.std.proofs.lemmas.Bool.{cases_lt}
 use Rattle.std.proofs.lemmas.Bool.Decides.{nat_tests}
@@ -18,6 +18,9 @@ use Rattle.draid_entries.specs.declared.history.History.{History}
 use Rattle.draid_entries.specs.Entries.{SetsEntry, begun, count_of, entry_at, held_in, owed_at, owed_by}
 use Rattle.draid_entries.specs.Maps.{held_at, key_of}
 use Rattle.draid_entries.proofs.Counted.{few}
+use Rattle.draid_pass.specs.declared.pass.Pass.{Pass as ThePass}
+use Rattle.std.specs.Prelude.{is_some}
+use Rattle.std.proofs.lemmas.Bool.{true≢false}
 use Rattle.draid_shard.specs.declared.fault.BeginFault.{BeginFault}
 use Rattle.draid_shard.specs.declared.fault.BeginFault.TheVariants as begin
 use Rattle.draid_shard.specs.declared.shard.Shard.{Shard}
@@ -42,6 +45,37 @@ few_stripes geometry is = let low = low_stripes geometry is in omega (arith, low
 
 pub some_height : (geometry : Geometry) → IsGeometry geometry → 0 < geometry.props.height
 some_height geometry is = let least : 8 ≤ geometry.props.height = is.props.least_height in omega (arith, least)
+
+-- the sectors of a band are some, and few
+pub low_band : (geometry : Geometry) → IsGeometry geometry → (rows height : ℕ) → rows ≡ geometry.rows → height ≡ geometry.props.height → rows * height < 2 ^ 64
+low_band geometry is rows height r h =
+    let few : rows ≤ 64 = (let a = is.slice.most_rows in let w = is.width in let d = is.disks in let c = is.spec.most_children in omega (arith, a, w, d, c, r)) in
+    let low : height ≤ 4096 = (let most = is.props.most_height in omega (arith, most, h)) in
+    let both : rows * height ≤ 64 * 4096 = mul-le-mul few low in
+    omega (arith, both)
+
+pub some_band : (geometry : Geometry) → IsGeometry geometry → (rows height : ℕ) → rows ≡ geometry.rows → height ≡ geometry.props.height → 0 < rows * height
+some_band geometry is rows height r h =
+    let some : 1 ≤ rows = (let a = is.slice.some_rows in omega (arith, a, r)) in
+    let tall : 1 ≤ height = (let a = is.props.least_height in omega (arith, a, h)) in
+    let both : 1 * 1 ≤ rows * height = mul-le-mul some tall in
+    omega (arith, both)
+
+pub columns_low : (geometry : Geometry) → IsGeometry geometry → geometry.g ≤ 64
+columns_low geometry is = let w = is.width in let d = is.disks in let c = is.spec.most_children in omega (arith, w, d, c)
+
+-- without a rebuild it takes blocks
+pub enabled_without : (disabled : Bool) (pass : Option ThePass) (rebuild : Option ℕ) → disabled ≡ is_rebuild pass → IsTrue (is_some rebuild) ↔ IsTrue (is_rebuild pass) → rebuild ≡ None → disabled ≡ false
+enabled_without false pass rebuild same is none = refl
+enabled_without true pass rebuild same is none = absurd (true≢false (sym (is.1 (sym same)) ∙ ap is_some none))
+
+-- a table that holds so many at most counts them in 32 bits
+pub low_count : (version count held : ℕ) → held ≡ count → count ≤ most_held version → held < 2 ^ 32
+low_count version count held same few = omega (arith, same, few, at_most (version == 1))
+  where
+    at_most : (b : Bool) → (if b then 4096 else 8192) ≤ 8192
+    at_most true = omega arith
+    at_most false = omega arith
 
 -- the greater of the open group and a floor
 pub due_from : (group birth floor : ℕ) → birth ≡ max group floor → group ≤ birth

@@ -1,5 +1,5 @@
 -- The leaf that keeps an arm's sectors is an arm of a slot.
-use Rattle.std.proofs.Common.{◌≡◌, ◌+◌, ◌≤◌, ◌∙◌, ℕ, zero, suc, List, [], ◌∷◌, Option, Some, None, arith, refl, sym, ap, subst, inl, slice_get, if◌then◌else◌}
+use Rattle.std.proofs.Common.{◌≡◌, ◌+◌, ◌*◌, ◌<◌, ◌≤◌, Bool, true, false, length, ◌∙◌, ℕ, zero, suc, List, [], ◌∷◌, Option, Some, None, arith, refl, sym, ap, subst, inl, slice_get, if◌then◌else◌}
 use Rattle.std.specs.Prelude.{IsSomeAnd, MatchOption, option_map}
 use Rattle.draid_names.specs.declared.arm.Arm.{Arm}
 use Rattle.draid_names.specs.declared.arm.ArmAt.{ArmAt}
@@ -10,7 +10,8 @@ use Rattle.draid_rack.specs.Rack.{Shape}
 use Rattle.draid_columns.specs.Columns.{HasRows}
 use Rattle.draid_columns.specs.declared.rows.Rows.{Rows}
 use Rattle.draid_slots.specs.Changes.{IsSame}
-use Rattle.draid_slots.specs.Reading.{first_leaf, holder, holder_of, spare_slot}
+use Rattle.draid_slots.specs.declared.slot.ReadArm.{ReadArm}
+use Rattle.draid_slots.specs.Reading.{IsRead, first_leaf, holder, holder_of, spare_slot}
 use Rattle.draid_slots.specs.Table.{SlotTable, arm_at, arms_of, is_leaf_kind}
 use Rattle.draid_machine.proofs.Small.{some_same}
 use Rattle.draid_shard.specs.Fits.{IsLeaf}
@@ -80,3 +81,15 @@ rows_there shape slots rows k leaf on is fits lies = rw is (record {
 -- slots with the same arms keep them on the same leaves
 pub holder_same : (old new : SlotTable) (at : ArmAt) (slice : ℕ) → IsSame old new → new.arms ≡ old.arms → holder new at slice ≡ holder old at slice
 holder_same old new at slice same arms = λ i. holder (record old { geometry = same.geometry_is i; perms = same.perms_are i; metaslab = same.metaslab_is i; arms = arms i }) at slice
+
+-- the bytes of the rows on a leaf
+pub rows_long : (rows : ColumnRows) (leaf : ℕ) (on : Rows) (long : ℕ) → on ≡ rows_on rows leaf → long ≡ rows.count * rows.size → long ≡ on.count * on.size
+rows_long rows leaf on long same is = is ∙ ap (λ (on : Rows). on.count * on.size) (sym same)
+
+-- the arm that a column is read from is there
+pub read_there : (slots : SlotTable) (slot slice birth : ℕ) (read : ReadArm) → IsRead slots slot slice birth read → read.arm < length (arms_of slots slot)
+read_there slots slot slice birth read is = by read.clean refl
+  where
+    by : (b : Bool) → read.clean ≡ b → read.arm < length (arms_of slots slot)
+    by true clean = (is.clean_arm clean).within
+    by false clean = (is.doubtful clean).within

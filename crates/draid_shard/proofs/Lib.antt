@@ -23,6 +23,7 @@ pub mod PutKept
 pub mod Puts
 pub mod Putting
 pub mod Readable
+pub mod Refusing
 pub mod Shown
 pub mod Staging
 pub mod Standing

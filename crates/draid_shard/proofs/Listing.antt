@@ -72,6 +72,10 @@ module _ (t : Entries) where
     pub lists_more : (new : List Pointer) → new ≡ blocks ++ e.pointer ∷ [] → e.stage ≡ Live → ListsBelow t (e.pointer.first + 1) new
     lists_more new is live = subst (ListsBelow t (e.pointer.first + 1)) (sym is) (more live)
 
+  -- before the first stripe there is nothing
+  pub lists_none : (blocks : List Pointer) → blocks ≡ [] → ListsBelow t 0 blocks
+  lists_none blocks is = subst (ListsBelow t 0) (sym is) (record { live = λ p. ((λ among. absurd (has_nothing p among)), (λ below. let low = below.low in absurd (omega (arith, low)))); ascending = tt })
+
   -- all were passed
   pub lists_live : (stripe : ℕ) (blocks : List Pointer) → ListsBelow t stripe blocks → NoneFrom t stripe → (p : Pointer) → Contains blocks p ↔ (entry_at t p.first ≡ Some (staged Live p))
   lists_live stripe blocks was none p =

@@ -1,5 +1,5 @@
 -- Entries are looked at one after another, by their first stripes: which of them were passed.
-use Rattle.std.proofs.Common.{◌≡◌, ◌⊎◌, ◌+◌, ◌<◌, ◌≤◌, ◌∙◌, ℕ, Some, None, arith, sym, ap, inl, inr}
+use Rattle.std.proofs.Common.{◌≡◌, ◌⊎◌, ◌+◌, ◌<◌, ◌≤◌, ◌∙◌, ℕ, Some, None, arith, sym, ap, subst, inl, inr}
 use Rattle.std.proofs.lemmas.Bool.{cases_eq, cases_lt}
 use Rattle.draid_machine.specs.declared.names.Key.{Key}
 use Rattle.draid_machine.specs.declared.names.Held.{Held}
@@ -7,6 +7,7 @@ use Rattle.draid_machine.proofs.Small.{none_some, some_same}
 use Rattle.draid_entries.specs.declared.entry.Entry.{Entry}
 use Rattle.draid_entries.specs.declared.entries.Entries.{Entries}
 use Rattle.draid_entries.specs.Entries.{entry_at}
+use Rattle.draid_shard.specs.Looks.{IsBlockUpto, NoBlockBetween}
 use Rattle.draid_shard.proofs.Held.{HasEntry}
 use Rattle.draid_shard.proofs.Tables.{first_is}
 
@@ -42,3 +43,17 @@ own_stripe t key h z = first_is t h.first z.e z.there
 
 pub own_place : (t : Entries) (key : Key) (h : Held) (z : HasEntry t key h) → entry_at t z.e.pointer.first ≡ Some z.e
 own_place t key h z = ap (entry_at t) (own_stripe t key h z) ∙ z.there
+
+-- no block up to a group was passed, and none begins before the next entry
+pub block_first : (t : Entries) (upto from stripe first : ℕ) → NoBlockBetween t upto from stripe → NoneBetween t stripe first → NoBlockBetween t upto from first
+block_first t upto from stripe first none empty d there after before block = elim (cases_lt d.pointer.first stripe) [
+  | inl low ↦ none d there after low block
+  | inr past ↦ none_some (entry_at t d.pointer.first) d (empty d.pointer.first past before) there
+]
+
+pub block_passed : (t : Entries) (upto from stripe : ℕ) (e : Entry) → NoBlockBetween t upto from stripe → NoneBetween t stripe e.pointer.first → entry_at t e.pointer.first ≡ Some e
+    → (IsBlockUpto upto e → ⊥) → NoBlockBetween t upto from (e.pointer.first + 1)
+block_passed t upto from stripe e none empty there other d at after before block = elim (next_cases t stripe e d empty there at before) [
+  | inl same ↦ other (subst (IsBlockUpto upto) same block)
+  | inr low ↦ none d at after low block
+]

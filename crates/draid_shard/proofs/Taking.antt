@@ -4,7 +4,8 @@ use Rattle.std.proofs.lemmas.Bool.{cases_lt}
 use Rattle.std.proofs.lemmas.List.{append-nil, drop_all, length-append, take_all}
 use Rattle.draid_rack.specs.Rack.{Told}
 use Rattle.draid_slots.specs.Table.{SlotTable}
-use Rattle.draid_shard.specs.Reads.{AreWhole, Columns, ReadsOn}
+use Rattle.std.proofs.Math.ListN.{length-set, set}
+use Rattle.draid_shard.specs.Reads.{AreWhole, Columns, ReadsOn, Replaces}
 use Rattle.draid_shard.specs.declared.outcome.Outcome.{Outcome}
 use Rattle.draid_shard.specs.declared.places.ColumnRows.{ColumnRows}
 
@@ -35,3 +36,21 @@ whole_pushed new columns bytes len is whole long = subst (λ columns. AreWhole c
 pub reads_buffer : (slots : SlotTable) (rows : ColumnRows) (outcome : Outcome) (told : Option Told) (n : ℕ) (x items : List ℕ) → length x ≡ length items → length items ≡ n
     → ReadsOn slots rows outcome told x → ReadsOn slots rows outcome told (take n (x ++ drop (length x) items))
 reads_buffer slots rows outcome told n x items same long reads = subst (ReadsOn slots rows outcome told) (sym (whole n x items same long)) reads
+
+-- ---- one place
+
+set_here : {A : Type 0} (xs : List A) (k : ℕ) (x y : A) → slice_get xs k ≡ Some x → slice_get (set xs k y) k ≡ Some y
+set_here [] k x y there = absurd (cc)
+set_here (z ∷ xs) zero x y there = refl
+set_here (z ∷ xs) (suc k) x y there = set_here xs k x y there
+
+set_there : {A : Type 0} (xs : List A) (k j : ℕ) (y : A) → (j ≡ k → ⊥) → slice_get (set xs k y) j ≡ slice_get xs j
+set_there [] k j y other = refl
+set_there (z ∷ xs) zero zero y other = absurd (other refl)
+set_there (z ∷ xs) zero (suc j) y other = refl
+set_there (z ∷ xs) (suc k) zero y other = refl
+set_there (z ∷ xs) (suc k) (suc j) y other = set_there xs k j y (λ same. other (ap suc same))
+
+-- another column was put into its place
+pub replaced : (columns : Columns) (c : ℕ) (was column : Option (Vec ℕ Global)) → slice_get columns c ≡ Some was → Replaces columns (set columns c column) c column
+replaced columns c was column there = record { all = length-set columns c column; here = set_here columns c was column there; others = λ k other. set_there columns c k column other }

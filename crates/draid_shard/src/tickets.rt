@@ -103,18 +103,16 @@ impl<R: Rack, A: Area> Shard<R, A> {
         ensures reserve { SameReserve self.old self.new }
     {
         let pointer = ticket.pointer;
-        let event = Event::Finish {
-            key: key_of(&pointer),
-        };
+        let key = key_of(&pointer);
         if ticket.missed > self.geometry.spec.parity {
             release(&mut self.space, &mut self.entries, &pointer);
-            self.history.add(event, 2);
+            self.history.add(Event::Finish { key }, 2);
             return Err(Missed {
                 columns: ticket.missed,
             });
         }
         self.entries.turn(&pointer, Stage::Live);
-        self.history.add(event, 1);
+        self.history.add(Event::Finish { key }, 1);
         Ok(pointer)
     }
 
@@ -129,11 +127,12 @@ impl<R: Rack, A: Area> Shard<R, A> {
         ensures reserve { SameReserve self.old self.new }
     {
         release(&mut self.space, &mut self.entries, &ticket.pointer);
+        let left = self.geometry.g.saturating_sub(ticket.next);
+        let owed = u64::from(left) + 2;
         let event = Event::Abort {
             key: key_of(&ticket.pointer),
         };
-        let left = self.geometry.g.saturating_sub(ticket.next);
-        self.history.add(event, u64::from(left) + 2);
+        self.history.add(event, owed);
     }
 }
 

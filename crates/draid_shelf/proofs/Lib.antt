@@ -1,3 +1,4 @@
 pub mod Holdings
 pub mod Nothing
 pub mod Taken
+pub mod Passed

@@ -1,5 +1,5 @@
 /// What of a shelf in memory has calls that can be made to fail.
-#[derive(Clone, Copy, PartialEq, Eq)]
+#[derive(Clone, Copy)]
 pub enum Place {
     /// The shelf itself, which makes and takes devices.
     Own,

@@ -252,12 +252,18 @@ pub(crate) fn devices_of(
         (list_of plan.now.uber) (is_some plan.now.fuse)) }
 {
     let metaslabs = geometry.props.metaslabs;
+    let racks = racks_of(alloc, geometry, &plan.racks, &plan.fuse)?;
+    let evens = areas_of(alloc, metaslabs, &plan.evens, &plan.fuse)?;
+    let odds = areas_of(alloc, metaslabs, &plan.odds, &plan.fuse)?;
+    let check_even = area_of(alloc, 0, &plan.check_even, &plan.fuse)?;
+    let check_odd = area_of(alloc, 0, &plan.check_odd, &plan.fuse)?;
+    let uber = area_of(alloc, UBER, &plan.uber, &plan.fuse)?;
     Ok(Devices {
-        racks: racks_of(alloc, geometry, &plan.racks, &plan.fuse)?,
-        evens: areas_of(alloc, metaslabs, &plan.evens, &plan.fuse)?,
-        odds: areas_of(alloc, metaslabs, &plan.odds, &plan.fuse)?,
-        check_even: Some(area_of(alloc, 0, &plan.check_even, &plan.fuse)?),
-        check_odd: Some(area_of(alloc, 0, &plan.check_odd, &plan.fuse)?),
-        uber: Some(area_of(alloc, UBER, &plan.uber, &plan.fuse)?),
+        racks,
+        evens,
+        odds,
+        check_even: Some(check_even),
+        check_odd: Some(check_odd),
+        uber: Some(uber),
     })
 }

@@ -1,7 +1,8 @@
 -- Lists of which a front was mapped.
-use Rattle.std.proofs.Common.{◌≡◌, ℕ, zero, suc, ◌+◌, ◌<◌, List, [], ◌∷◌, ◌++◌, map, length, take, drop, get_or, set, arith, refl, ap, ◌∙◌}
+use Rattle.std.proofs.Common.{Bool, true, ◌==◌, ◌≡◌, ℕ, zero, suc, ◌+◌, ◌<◌, List, [], ◌∷◌, ◌++◌, map, length, take, drop, get_or, set, arith, refl, ap, sym, ◌∙◌}
 use Rattle.std.specs.Prelude.{All, remove}
-use Rattle.std.proofs.lemmas.List.{append_assoc, map-append}
+use Rattle.std.proofs.lemmas.Bool.Decides.{nat_tests}
+use Rattle.std.proofs.lemmas.List.{append-nil, append_assoc, map-append}
 
 pub unmapped_at : {X : Type 0} (f : X → X) (xs : List X) (i : ℕ) (d : X) → i < length xs → get_or (map f (take i xs) ++ drop i xs) i d ≡ get_or xs i d
 unmapped_at f [] i d l = absurd (omega arith)
@@ -32,6 +33,14 @@ moved f g front s (r ∷ rest) d all some was is =
     ∙ append_assoc (map f front) (f s ∷ []) (map g rest)
     ∙ ap (λ x. map f front ++ x ∷ map g rest) is
     ∙ was
+
+pub none_left : (n : ℕ) (empty : Bool) → empty ≡ (n == 0) → empty ≡ true → n ≡ 0
+none_left n empty is none = grind (arith, nat_tests)
+
+-- where none is left, all were taken
+pub all_moved : {L A : Type 0} (g : L → A) (rest : List L) (front whole : List A) → length rest ≡ 0 → front ++ map g rest ≡ whole → front ≡ whole
+all_moved g [] front whole none is = sym (append-nil front) ∙ is
+all_moved g (r ∷ rest) front whole none is = absurd (omega (arith, none))
 
 pub All-rest : {X : Type 0} (P : X → Type 0) (xs : List X) → All P xs → All P (remove xs 0)
 All-rest P [] all k d below = absurd (omega arith)

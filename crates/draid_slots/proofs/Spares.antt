@@ -213,6 +213,10 @@ held_left arms detached spare slot h = left (has_spare (get_or arms slot []) spa
 pub held_right : (arms : List (List Arm)) (detached : List Detached) (spare slot : ℕ) → was_spare_of detached spare slot ≡ true → holds_in arms detached spare slot ≡ true
 held_right arms detached spare slot h = right (has_spare (get_or arms slot []) spare) (was_spare_of detached spare slot) h
 
+pub held_neither : (arms : List (List Arm)) (detached : List Detached) (spare slot : ℕ) → has_spare (get_or arms slot []) spare ≡ false → was_spare_of detached spare slot ≡ false
+    → holds_in arms detached spare slot ≡ false
+held_neither arms detached spare slot none gone = rw (none, gone) refl
+
 -- ---- a new pool's slots
 
 new_slot : (spares number : ℕ) → IsSlot spares (new_arm number ∷ [])

@@ -1,6 +1,6 @@
 -- What the fields of the slots say of the arms and logs by slot and arm.
-use Rattle.std.proofs.Common.{◌≡◌, ℕ, zero, suc, ◌+◌, ◌<◌, ◌≤◌, Bool, true, false, List, [], ◌∷◌, map, length, get_or, set, arith, refl, ap, ap₂, sym, ◌∙◌, subst, Option, Some, None}
-use Rattle.std.specs.Prelude.{All, IfSome, slice_get, cond}
+use Rattle.std.proofs.Common.{Err, Ok, Result, ◌≡◌, ℕ, zero, suc, ◌+◌, ◌<◌, ◌≤◌, Bool, true, false, List, [], ◌∷◌, map, length, get_or, set, arith, refl, ap, ap₂, sym, ◌∙◌, subst, Option, Some, None}
+use Rattle.std.specs.Prelude.{IfErr, OnOk, IfOk, OnErr, IsErrAnd, IfNone, All, IfSome, slice_get, cond}
 use Rattle.std.proofs.lemmas.Bool.Decides.{nat_tests}
 use Rattle.std.proofs.lemmas.List.{map-set, get_or-map, length-map, get_or_default}
 use Rattle.std.proofs.lemmas.List.Elements.{All-set}
@@ -115,6 +115,41 @@ arm_found slots at slot arm place is =
 pub if_some : {X : Type 0} (r : Option X) (P Q : X → Type 0) → ((x : X) → P x → Q x) → IfSome r P → IfSome r Q
 if_some None P Q f p = p
 if_some (Some x) P Q f p = f x p
+
+pub if_none : {X : Type 0} (r : Option X) (P Q : Type 0) → (P → Q) → IfNone r P → IfNone r Q
+if_none None P Q f p = f p
+if_none (Some x) P Q f p = p
+
+-- ---- a fault that is passed on
+
+pub if_ok_passed : {T E : Type 0} (Q : E → Type 0) (r : Result T E) (P : T → Type 0) → IsErrAnd r Q → IfOk r P
+if_ok_passed Q (Ok x) P h = absurd h
+if_ok_passed Q (Err e) P h = tt
+
+pub on_ok_passed : {T E : Type 0} (Q : E → Type 0) (r : Result T E) (P : Type 0) → IsErrAnd r Q → OnOk r P
+on_ok_passed Q (Ok x) P h = absurd h
+on_ok_passed Q (Err e) P h = tt
+
+pub if_err_passed : {T E : Type 0} (Q : E → Type 0) (r : Result T E) (P : E → Type 0) → IsErrAnd r Q → ((e : E) → Q e → P e) → IfErr r P
+if_err_passed Q (Ok x) P h f = tt
+if_err_passed Q (Err e) P h f = f e h
+
+pub if_some_passed : {X : Type 0} (r : Option X) (P : X → Type 0) → r ≡ None → IfSome r P
+if_some_passed None P is = tt
+if_some_passed (Some x) P is = absurd (cc)
+
+pub on_err_always : {T E : Type 0} (r : Result T E) (P : Type 0) → P → OnErr r P
+on_err_always (Ok x) P h = tt
+on_err_always (Err e) P h = h
+
+-- ---- the slots that are there
+
+pub few_slots : (geometry : Geometry) (perms : Perms) (metaslab : ℕ) (slots : List Slot) (detached : List Detached) → AreKept geometry perms metaslab slots detached
+    → length slots ≤ 64
+few_slots geometry perms metaslab slots detached kept =
+    let many = kept.sound.slots.children in
+    let most = kept.sound.layout.geometry_is.spec.most_children in
+    omega (arith, many, most, length-map slots arms_in)
 
 -- an arm that is there has a log
 pub log_there : (slots : List Slot) (i k : ℕ) → All IsPaired slots → k < length (get_or (map arms_in slots) i []) → k < length (get_or (map logs_in slots) i [])

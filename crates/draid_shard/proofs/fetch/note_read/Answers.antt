@@ -1,4 +1,5 @@
-use Rattle.std.proofs.Common.{refl}
+use Rattle.draid_shard.proofs.Taking.{replaced}
+use Rattle.std.proofs.Common.{Some, None, refl}
 use Rattle.draid_shard.proofs.fetch.note_read.Goals as goal
 
 pub returns-in-Silent : goal.returns-in-Silent
@@ -16,3 +17,12 @@ returns-in-Done-clause-failed c = rw c.in-Done.is refl
 
 pub returns-in-Done-clause-room : goal.returns-in-Done-clause-room
 returns-in-Done-clause-room c = refl
+
+pub returns-in-Failed-clause-failed : goal.returns-in-Failed-clause-failed
+returns-in-Failed-clause-failed c = rw c.in-Failed.is c.push_reserved.ensures.items
+
+pub returns-in-Failed-clause-room : goal.returns-in-Failed-clause-room
+returns-in-Failed-clause-room c = c.push_reserved.ensures.capacity
+
+pub returns-in-Done-clause-columns : goal.returns-in-Done-clause-columns
+returns-in-Done-clause-columns c = rw c.in-Done.is (replaced c.args.columns.now.items c.args.column None (Some c.args.bytes) c.requires.taken)

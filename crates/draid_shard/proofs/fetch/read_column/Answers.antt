@@ -1,10 +1,10 @@
-use Rattle.std.proofs.Common.{Some, refl, sym, subst}
+use Rattle.std.proofs.Common.{length, arith, Some, refl, sym, subst}
 use Rattle.draid_names.specs.Faults.{Rose}
 use Rattle.draid_shard.proofs.Landings.{counts_done, counts_failed, counts_silent}
 use Rattle.draid_columns.specs.Columns.{RowsStand}
 use Rattle.draid_columns.specs.declared.rows.Rows.{Rows}
 use Rattle.draid_rack.specs.Rack.{OnTold}
-use Rattle.draid_shard.proofs.Holders.{leaf_is, rows_there}
+use Rattle.draid_shard.proofs.Holders.{rows_long, read_there, leaf_is, rows_there}
 use Rattle.draid_shard.proofs.fetch.read_column.Goals as goal
 
 pub read_rows-requires-clause-there : goal.read_rows-requires-clause-there
@@ -45,3 +45,30 @@ returns-in-Err-clause-counts g c =
     let before = g.R.Rack.faults c.args.rack.now in
     let now = g.R.Rack.faults c.read_rows.new.rack in
     counts_failed c.place-leaf.result.leaf before now c.in-Err.ensures.cause.later (subst (λ (on : Rows). Rose (before (Some on.leaf)) (now (Some on.leaf))) c.on.ensures c.in-Err.ensures.cause.cause)
+
+pub place-leaf-requires-clause-sector : goal.place-leaf-requires-clause-sector
+place-leaf-requires-clause-sector g c = let some = c.requires.fits.some in let inside = c.requires.fits.inside in omega (arith, some, inside)
+
+pub read_rows-requires-clause-long : goal.read_rows-requires-clause-long
+read_rows-requires-clause-long g c = rows_long c.args.rows c.place-leaf.result.leaf c.on.result (length c.args.into.now) c.on.ensures c.requires.long
+
+pub returns-in-Ok-clause-whole : goal.returns-in-Ok-clause-whole
+returns-in-Ok-clause-whole g c = c.read_rows.ensures.whole
+
+pub returns-in-Ok-clause-told : goal.returns-in-Ok-clause-told
+returns-in-Ok-clause-told g c = c.read_rows.ensures.told
+
+pub returns-in-Ok-clause-shape : goal.returns-in-Ok-clause-shape
+returns-in-Ok-clause-shape g c = c.read_rows.ensures.shape
+
+pub returns-in-Err-clause-whole : goal.returns-in-Err-clause-whole
+returns-in-Err-clause-whole g c = c.read_rows.ensures.whole
+
+pub returns-in-Err-clause-told : goal.returns-in-Err-clause-told
+returns-in-Err-clause-told g c = c.read_rows.ensures.told
+
+pub returns-in-Err-clause-shape : goal.returns-in-Err-clause-shape
+returns-in-Err-clause-shape g c = c.read_rows.ensures.shape
+
+pub place-leaf-requires-clause-there : goal.place-leaf-requires-clause-there
+place-leaf-requires-clause-there g c = read_there c.args.slots.now c.args.rows.slot c.args.rows.slice c.args.rows.birth c.in-Some.read c.in-Some.ensures.read

@@ -22,3 +22,9 @@ pub returns-clause-sector : goal.returns-clause-sector
 returns-clause-sector c =
     let part : Part = record { geometry = c.args.geometry.now; perms = c.args.perms.now; number = c.args.number } in
     sector_by part c.args.stripe c.args.column c.place-lies.result _ _ _ c.place-lies.ensures c.from-number.ensures c.metaslab_stripes.ensures.value c.metaslab_sectors.ensures.value
+
+pub place-lies-requires-clause-layout : goal.place-lies-requires-clause-layout
+place-lies-requires-clause-layout c = c.requires.part.layout
+
+pub place-lies-requires-clause-column : goal.place-lies-requires-clause-column
+place-lies-requires-clause-column c = c.requires.column

@@ -1,6 +1,6 @@
-use Rattle.draid_shard.proofs.Holders.{leaf_is, rows_there}
+use Rattle.draid_shard.proofs.Holders.{rows_long, leaf_is, rows_there}
 use Rattle.draid_shard.proofs.put.write_to.Goals as goal
-use Rattle.std.proofs.Common.{◌∙◌, Some, refl, subst, sym}
+use Rattle.std.proofs.Common.{length, arith, ◌∙◌, Some, refl, subst, sym}
 use Rattle.draid_names.specs.Faults.{Rose}
 use Rattle.draid_rack.specs.Moments.{LeavesTold}
 use Rattle.draid_columns.specs.Columns.{TellsBoth, WritesRows, in_rows}
@@ -38,3 +38,24 @@ returns-in-Err-clause-counts g c =
     let before = g.R.Rack.faults c.args.rack.now in
     let now = g.R.Rack.faults c.write_rows.new.rack in
     counts_failed c.place-leaf.result.leaf before now c.in-Err.ensures.cause.later (subst (λ (on : Rows). Rose (before (Some on.leaf)) (now (Some on.leaf))) c.on.ensures c.in-Err.ensures.cause.cause)
+
+pub answers-requires-clause-there : goal.answers-requires-clause-there
+answers-requires-clause-there g c = c.requires.there
+
+pub answers-requires-clause-slice : goal.answers-requires-clause-slice
+answers-requires-clause-slice g c = c.requires.fits.slice_below
+
+pub place-leaf-requires-clause-there : goal.place-leaf-requires-clause-there
+place-leaf-requires-clause-there g c = c.requires.there
+
+pub place-leaf-requires-clause-sector : goal.place-leaf-requires-clause-sector
+place-leaf-requires-clause-sector g c = let some = c.requires.fits.some in let inside = c.requires.fits.inside in omega (arith, some, inside)
+
+pub write_rows-requires-clause-long : goal.write_rows-requires-clause-long
+write_rows-requires-clause-long g c = rows_long c.args.rows c.place-leaf.result.leaf c.on.result (length c.args.column.now) c.on.ensures c.requires.long
+
+pub returns-in-Ok-clause-shape : goal.returns-in-Ok-clause-shape
+returns-in-Ok-clause-shape g c = c.write_rows.ensures.shape
+
+pub returns-in-Err-clause-shape : goal.returns-in-Err-clause-shape
+returns-in-Err-clause-shape g c = c.write_rows.ensures.shape

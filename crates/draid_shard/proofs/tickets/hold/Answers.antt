@@ -1,3 +1,4 @@
+use Rattle.draid_shard.proofs.Changed.{same_entries}
 use Rattle.std.proofs.Common.{◌∙◌, arith, refl, subst}
 use Rattle.draid_metaslab.specs.Spaces.{is_free}
 use Rattle.draid_metaslab.specs.Spots.{IsLowest}
@@ -124,3 +125,30 @@ returns-in-Ok-enter-clause-stored c = c.in-Ok-enter.ensures.stored
 
 pub returns-in-Ok-enter-clause-not_worn : goal.returns-in-Ok-enter-clause-not_worn
 returns-in-Ok-enter-clause-not_worn c = c.in-Ok-enter.ensures.not_worn
+
+pub returns-in-Err-NoRoom-clause-same : goal.returns-in-Err-NoRoom-clause-same
+returns-in-Err-NoRoom-clause-same c = same_entries c.args.entries.now
+
+pub returns-in-Err-NoRoom-clause-kept : goal.returns-in-Err-NoRoom-clause-kept
+returns-in-Err-NoRoom-clause-kept c = record { events = refl; stored = refl; owed = refl; reserved = refl; limit = refl }
+
+pub returns-in-Err-NoRoom-clause-disabled : goal.returns-in-Err-NoRoom-clause-disabled
+returns-in-Err-NoRoom-clause-disabled c = c.in-Err-NoRoom.ensures.kept.disabled
+
+pub returns-in-Err-NoMemory-clause-same : goal.returns-in-Err-NoMemory-clause-same
+returns-in-Err-NoMemory-clause-same c = same_entries c.args.entries.now
+
+pub returns-in-Err-NoMemory-clause-kept : goal.returns-in-Err-NoMemory-clause-kept
+returns-in-Err-NoMemory-clause-kept c = record { events = refl; stored = refl; owed = refl; reserved = refl; limit = refl }
+
+pub returns-in-Err-NoMemory-clause-refused : goal.returns-in-Err-NoMemory-clause-refused
+returns-in-Err-NoMemory-clause-refused c = tt
+
+pub returns-in-Err-NoMemory-clause-disabled : goal.returns-in-Err-NoMemory-clause-disabled
+returns-in-Err-NoMemory-clause-disabled c = c.in-Err-NoMemory.ensures.kept.disabled
+
+pub returns-in-Ok-enter-clause-disabled : goal.returns-in-Ok-enter-clause-disabled
+returns-in-Ok-enter-clause-disabled c = c.in-Ok.ensures.kept.disabled
+
+pub returns-in-Err-clause-disabled : goal.returns-in-Err-clause-disabled
+returns-in-Err-clause-disabled c = c.release.ensures.kept.disabled ∙ c.in-Ok.ensures.kept.disabled

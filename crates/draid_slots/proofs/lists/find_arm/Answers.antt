@@ -29,3 +29,12 @@ returns-clause-none c = λ at h. elim (cases_lt at.slot (length c.args.slots.now
       let none = ap (λ xs. slice_get xs at.arm) (get_or-eq_default (map arms_in c.args.slots.now) [] out) in
       none_some _ h.0 (sym (none ∙ slice_get_past [] at.arm (omega arith)) ∙ h.1)
 ]
+
+pub offset_bounds-slots-slot : goal.offset_bounds-slots-slot
+offset_bounds-slots-slot c = omega arith
+
+pub bounds-slots-slot : goal.bounds-slots-slot
+bounds-slots-slot c = omega arith
+
+pub overflow_cast-result : goal.overflow_cast-result
+overflow_cast-result c = omega arith

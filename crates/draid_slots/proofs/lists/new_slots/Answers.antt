@@ -1,3 +1,4 @@
+use Rattle.draid_slots.proofs.Tables.{if_ok_passed}
 use Rattle.std.proofs.Common.{arith, ◌≡◌, ◌<◌, ◌+◌, ◌++◌, ◌∷◌, [], ℕ, List, false, map, length, get_or, ap, sym, ◌∙◌, inl, inr}
 use Rattle.std.specs.Prelude.{All, slice_index_or}
 use Rattle.std.proofs.Math.Seq.{get_or-append_seam}
@@ -69,3 +70,48 @@ loop-number-preserved c =
       arms = arms_more xs ys x c.loop-number.number is was.count new.arms was.arms;
       logs = logs_more xs ys x is new.logs was.logs;
     }
+
+pub overflow_cast-children : goal.overflow_cast-children
+overflow_cast-children c = omega arith
+
+pub returns-in_err-slots-clause-paired : goal.returns-in_err-slots-clause-paired
+returns-in_err-slots-clause-paired c = if_ok_passed _ c.from_residual.result _ c.from_residual.ensures.1
+
+pub returns-in_err-slots-clause-count : goal.returns-in_err-slots-clause-count
+returns-in_err-slots-clause-count c = if_ok_passed _ c.from_residual.result _ c.from_residual.ensures.1
+
+pub returns-in_err-slots-clause-arms : goal.returns-in_err-slots-clause-arms
+returns-in_err-slots-clause-arms c = if_ok_passed _ c.from_residual.result _ c.from_residual.ensures.1
+
+pub returns-in_err-slots-clause-logs : goal.returns-in_err-slots-clause-logs
+returns-in_err-slots-clause-logs c = if_ok_passed _ c.from_residual.result _ c.from_residual.ensures.1
+
+pub returns-in_err-new_slot-clause-paired : goal.returns-in_err-new_slot-clause-paired
+returns-in_err-new_slot-clause-paired c = if_ok_passed _ c.from_residual-in_err-new_slot.result _ c.from_residual-in_err-new_slot.ensures.1
+
+pub returns-in_err-new_slot-clause-count : goal.returns-in_err-new_slot-clause-count
+returns-in_err-new_slot-clause-count c = if_ok_passed _ c.from_residual-in_err-new_slot.result _ c.from_residual-in_err-new_slot.ensures.1
+
+pub returns-in_err-new_slot-clause-arms : goal.returns-in_err-new_slot-clause-arms
+returns-in_err-new_slot-clause-arms c = if_ok_passed _ c.from_residual-in_err-new_slot.result _ c.from_residual-in_err-new_slot.ensures.1
+
+pub returns-in_err-new_slot-clause-logs : goal.returns-in_err-new_slot-clause-logs
+returns-in_err-new_slot-clause-logs c = if_ok_passed _ c.from_residual-in_err-new_slot.result _ c.from_residual-in_err-new_slot.ensures.1
+
+pub returns-in_err-push-clause-paired : goal.returns-in_err-push-clause-paired
+returns-in_err-push-clause-paired c = if_ok_passed _ c.from_residual-in_err-push.result _ c.from_residual-in_err-push.ensures.1
+
+pub returns-in_err-push-clause-count : goal.returns-in_err-push-clause-count
+returns-in_err-push-clause-count c = if_ok_passed _ c.from_residual-in_err-push.result _ c.from_residual-in_err-push.ensures.1
+
+pub returns-in_err-push-clause-arms : goal.returns-in_err-push-clause-arms
+returns-in_err-push-clause-arms c = if_ok_passed _ c.from_residual-in_err-push.result _ c.from_residual-in_err-push.ensures.1
+
+pub returns-in_err-push-clause-logs : goal.returns-in_err-push-clause-logs
+returns-in_err-push-clause-logs c = if_ok_passed _ c.from_residual-in_err-push.result _ c.from_residual-in_err-push.ensures.1
+
+pub returns-clause-paired : goal.returns-clause-paired
+returns-clause-paired c = c.loop-number.invariant.paired
+
+pub returns-clause-logs : goal.returns-clause-logs
+returns-clause-logs c = c.loop-number.invariant.logs

@@ -1,3 +1,5 @@
+use Rattle.draid_slots.proofs.Tables.{on_ok_passed}
+use Rattle.std.proofs.Common.{refl}
 use Rattle.std.proofs.Common.{arith, rules}
 use Rattle.draid_slots.proofs.Rooms.{added_more}
 use Rattle.draid_slots.proofs.lists.reserve_next.Goals as goal
@@ -33,3 +35,30 @@ returns-clause-kept c = λ k. let grown = c.reserve_logs.ensures.grown.kept k in
 
 pub returns-clause-room : goal.returns-clause-room
 returns-clause-room c = c.loop-more.invariant.rooms
+
+pub returns-in_err-reserve_logs-clause-arms : goal.returns-in_err-reserve_logs-clause-arms
+returns-in_err-reserve_logs-clause-arms c = on_ok_passed _ c.from_residual.result _ c.from_residual.ensures.1
+
+pub returns-in_err-reserve_logs-clause-room : goal.returns-in_err-reserve_logs-clause-room
+returns-in_err-reserve_logs-clause-room c = on_ok_passed _ c.from_residual.result _ c.from_residual.ensures.1
+
+pub returns-in_err-reserve-clause-arms : goal.returns-in_err-reserve-clause-arms
+returns-in_err-reserve-clause-arms c = on_ok_passed _ c.from_residual-in_err-reserve.result _ c.from_residual-in_err-reserve.ensures.1
+
+pub returns-in_err-reserve-clause-room : goal.returns-in_err-reserve-clause-room
+returns-in_err-reserve-clause-room c = on_ok_passed _ c.from_residual-in_err-reserve.result _ c.from_residual-in_err-reserve.ensures.1
+
+pub same-log : goal.same-log
+same-log c = refl
+
+pub returns-in_err-push-clause-count : goal.returns-in_err-push-clause-count
+returns-in_err-push-clause-count c = omega arith
+
+pub returns-in_err-push-clause-arms : goal.returns-in_err-push-clause-arms
+returns-in_err-push-clause-arms c = on_ok_passed _ c.from_residual-in_err-push.result _ c.from_residual-in_err-push.ensures.1
+
+pub returns-in_err-push-clause-room : goal.returns-in_err-push-clause-room
+returns-in_err-push-clause-room c = on_ok_passed _ c.from_residual-in_err-push.result _ c.from_residual-in_err-push.ensures.1
+
+pub returns-clause-arms : goal.returns-clause-arms
+returns-clause-arms c = omega arith

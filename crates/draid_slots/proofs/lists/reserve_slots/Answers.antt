@@ -1,3 +1,4 @@
+use Rattle.draid_slots.proofs.Tables.{on_ok_passed}
 use Rattle.std.proofs.Common.{◌≡◌, ◌<◌, ◌+◌, List, map, length, arith, ap, sym, ◌∙◌, subst, refl}
 use Rattle.std.proofs.lemmas.List.{map-set, length-map}
 use Rattle.std.proofs.lemmas.List.Elements.{All-set}
@@ -54,3 +55,15 @@ loop-at-preserved c =
           (reserved_more (map logs_in slots) c.loop-at.at c.args.changes logs.items within c.loop-at.invariant.reserved
           (λ k l. grown.reserved k (let len = grown.len in omega arith)));
     }
+
+pub returns-in_err-reserve_logs-clause-reserved : goal.returns-in_err-reserve_logs-clause-reserved
+returns-in_err-reserve_logs-clause-reserved c = on_ok_passed _ c.from_residual.result _ c.from_residual.ensures.1
+
+pub returns-clause-paired : goal.returns-clause-paired
+returns-clause-paired c = c.loop-at.invariant.paired
+
+pub returns-clause-arms : goal.returns-clause-arms
+returns-clause-arms c = c.loop-at.invariant.arms
+
+pub returns-clause-logs : goal.returns-clause-logs
+returns-clause-logs c = c.loop-at.invariant.logs

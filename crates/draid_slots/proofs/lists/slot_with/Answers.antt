@@ -14,3 +14,12 @@ loop-slot-preserved c slot below = elim (cases_eq slot c.loop-slot.slot) [
       ∙ sym c.has_spare.ensures ∙ c.if-has_spare.false
   | inr differs ↦ c.loop-slot.invariant slot (omega arith)
 ]
+
+pub offset_bounds-slots-slot : goal.offset_bounds-slots-slot
+offset_bounds-slots-slot c = omega arith
+
+pub bounds-slots-slot : goal.bounds-slots-slot
+bounds-slots-slot c = omega arith
+
+pub overflow_cast-result : goal.overflow_cast-result
+overflow_cast-result c = omega arith

@@ -1,3 +1,5 @@
+use Rattle.draid_slots.proofs.Tables.{if_ok_passed}
+use Rattle.draid_slots.proofs.Tables.{if_ok_passed}
 use Rattle.std.proofs.Common.{◌≡◌, ◌≤◌, ◌<◌, ◌∷◌, ◌++◌, [], List, map, length, arith, ap, sym, refl, ◌∙◌, subst, Vec, Global}
 use Rattle.std.specs.Prelude.{All, remove}
 use Rattle.std.proofs.lemmas.List.{get_or-map, length-map}
@@ -6,7 +8,7 @@ use Rattle.draid_names.specs.declared.arm.Arm.{Arm}
 use Rattle.draid_ranges.specs.Numbers.{Numbers}
 use Rattle.draid_slots.specs.declared.slot.Slot.{Slot}
 use Rattle.draid_slots.specs.Table.{IsPaired, arms_in, arms_listed, logs_in, logs_listed}
-use Rattle.draid_slots.proofs.Mapped.{All-rest, moved, one}
+use Rattle.draid_slots.proofs.Mapped.{all_moved, none_left, All-rest, moved, one}
 use Rattle.draid_slots.proofs.lists.slots_of.Goals as goal
 
 arms_rest : (lists : List (Vec (Arm × Numbers) Global)) → remove (arms_listed lists) 0 ≡ arms_listed (remove lists 0)
@@ -46,3 +48,48 @@ slot_of-requires c =
     let here = c.loop-alloc.invariant.short 0 [] (omega (arith, length-map rest f)) in
     let is = get_or-map f rest 0 list [] some ∙ ap f (sym c.remove.ensures.value) in
     omega (arith, here, ap length is, length-map list.items (λ (pair : Arm × Numbers). pair.0))
+
+pub returns-in_err-slot_of-clause-paired : goal.returns-in_err-slot_of-clause-paired
+returns-in_err-slot_of-clause-paired c = if_ok_passed _ c.from_residual-in_err-slot_of.result _ c.from_residual-in_err-slot_of.ensures.1
+
+pub returns-in_err-slot_of-clause-arms : goal.returns-in_err-slot_of-clause-arms
+returns-in_err-slot_of-clause-arms c = if_ok_passed _ c.from_residual-in_err-slot_of.result _ c.from_residual-in_err-slot_of.ensures.1
+
+pub returns-in_err-slot_of-clause-logs : goal.returns-in_err-slot_of-clause-logs
+returns-in_err-slot_of-clause-logs c = if_ok_passed _ c.from_residual-in_err-slot_of.result _ c.from_residual-in_err-slot_of.ensures.1
+
+pub returns-in_err-push-clause-paired : goal.returns-in_err-push-clause-paired
+returns-in_err-push-clause-paired c = if_ok_passed _ c.from_residual-in_err-push.result _ c.from_residual-in_err-push.ensures.1
+
+pub returns-in_err-push-clause-arms : goal.returns-in_err-push-clause-arms
+returns-in_err-push-clause-arms c = if_ok_passed _ c.from_residual-in_err-push.result _ c.from_residual-in_err-push.ensures.1
+
+pub returns-in_err-push-clause-logs : goal.returns-in_err-push-clause-logs
+returns-in_err-push-clause-logs c = if_ok_passed _ c.from_residual-in_err-push.result _ c.from_residual-in_err-push.ensures.1
+
+pub returns-clause-paired : goal.returns-clause-paired
+returns-clause-paired c = c.loop-alloc.invariant.paired
+
+pub returns-clause-arms : goal.returns-clause-arms
+returns-clause-arms c =
+    let none = none_left _ _ c.is_empty.ensures c.loop-alloc-test.false in
+    all_moved (λ (list : Vec (Arm × Numbers) Global). map (λ (pair : Arm × Numbers). pair.0) list.items) c.loop-alloc.listed.items (map arms_in c.loop-alloc.slots.items) _ (omega (arith, none, c.loop-alloc.listed.ok.0))
+    c.loop-alloc.invariant.arms
+
+pub returns-clause-logs : goal.returns-clause-logs
+returns-clause-logs c =
+    let none = none_left _ _ c.is_empty.ensures c.loop-alloc-test.false in
+    all_moved (λ (list : Vec (Arm × Numbers) Global). map (λ (pair : Arm × Numbers). pair.1) list.items) c.loop-alloc.listed.items (map logs_in c.loop-alloc.slots.items) _ (omega (arith, none, c.loop-alloc.listed.ok.0))
+    c.loop-alloc.invariant.logs
+
+pub loop-alloc-smaller : goal.loop-alloc-smaller
+loop-alloc-smaller c = let left = c.remove.ensures.len in omega (arith, left, c.remove.new.self.ok.0, c.loop-alloc.listed.ok.0)
+
+pub returns-in_err-slots-clause-paired : goal.returns-in_err-slots-clause-paired
+returns-in_err-slots-clause-paired c = if_ok_passed _ c.from_residual.result _ c.from_residual.ensures.1
+
+pub returns-in_err-slots-clause-arms : goal.returns-in_err-slots-clause-arms
+returns-in_err-slots-clause-arms c = if_ok_passed _ c.from_residual.result _ c.from_residual.ensures.1
+
+pub returns-in_err-slots-clause-logs : goal.returns-in_err-slots-clause-logs
+returns-in_err-slots-clause-logs c = if_ok_passed _ c.from_residual.result _ c.from_residual.ensures.1

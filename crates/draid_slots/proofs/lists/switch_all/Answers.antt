@@ -28,3 +28,9 @@ loop-at-preserved c =
           (c.switch.ensures.arms ∙ ap f (sym (arms_found slots c.loop-at.at old below c.index_mut.ensures.value)));
       logs = logs_kept slots c.loop-at.at old new c.index_mut.ensures.value refl ∙ c.loop-at.invariant.logs;
     }
+
+pub returns-clause-paired : goal.returns-clause-paired
+returns-clause-paired c = c.loop-at.invariant.paired
+
+pub returns-clause-logs : goal.returns-clause-logs
+returns-clause-logs c = c.loop-at.invariant.logs

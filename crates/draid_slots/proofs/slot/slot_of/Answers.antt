@@ -1,3 +1,5 @@
+use Rattle.draid_slots.proofs.Tables.{if_ok_passed}
+use Rattle.draid_slots.proofs.Mapped.{all_moved, none_left}
 use Rattle.std.proofs.Common.{◌≡◌, ◌<◌, ◌∷◌, ◌++◌, [], ℕ, Bool, false, List, map, length, get_or, ap, ◌∙◌, append_assoc, arith}
 use Rattle.std.specs.Prelude.{◌==◌, remove}
 use Rattle.std.proofs.lemmas.Bool.Decides.{nat_tests}
@@ -37,3 +39,31 @@ add_arm-requires-clause-room c =
     let behind = length-map c.loop-listed.listed.items (λ (p : Arm × Numbers). p.0) in
     let whole = length-map c.args.listed.items (λ (p : Arm × Numbers). p.0) in
     omega (arith, c.loop-listed.listed.ok.0)
+
+pub returns-clause-paired : goal.returns-clause-paired
+returns-clause-paired c = c.loop-listed.invariant.paired
+
+pub returns-clause-arms : goal.returns-clause-arms
+returns-clause-arms c =
+    let none = none_left _ _ c.is_empty.ensures c.loop-listed-test.false in
+    all_moved (λ (p : Arm × Numbers). p.0) c.loop-listed.listed.items (arms_in c.loop-listed.slot) _ (omega (arith, none, c.loop-listed.listed.ok.0)) c.loop-listed.invariant.arms
+
+pub returns-clause-logs : goal.returns-clause-logs
+returns-clause-logs c =
+    let none = none_left _ _ c.is_empty.ensures c.loop-listed-test.false in
+    all_moved (λ (p : Arm × Numbers). p.1) c.loop-listed.listed.items (logs_in c.loop-listed.slot) _ (omega (arith, none, c.loop-listed.listed.ok.0)) c.loop-listed.invariant.logs
+
+pub add_arm-requires-clause-paired : goal.add_arm-requires-clause-paired
+add_arm-requires-clause-paired c = c.loop-listed.invariant.paired
+
+pub remove-log-requires : goal.remove-log-requires
+remove-log-requires c = some_left _ _ c.is_empty.ensures c.loop-listed-test.true
+
+pub returns-in_err-slot-clause-paired : goal.returns-in_err-slot-clause-paired
+returns-in_err-slot-clause-paired c = if_ok_passed _ c.from_residual.result _ c.from_residual.ensures.1
+
+pub returns-in_err-slot-clause-arms : goal.returns-in_err-slot-clause-arms
+returns-in_err-slot-clause-arms c = if_ok_passed _ c.from_residual.result _ c.from_residual.ensures.1
+
+pub returns-in_err-slot-clause-logs : goal.returns-in_err-slot-clause-logs
+returns-in_err-slot-clause-logs c = if_ok_passed _ c.from_residual.result _ c.from_residual.ensures.1

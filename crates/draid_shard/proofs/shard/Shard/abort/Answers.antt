@@ -1,3 +1,4 @@
+use Rattle.draid_shard.proofs.Begins.{columns_low}
 use Rattle.std.proofs.Common.{◌∙◌, ◌+◌, ◌-◌, ◌++◌, ◌∷◌, [], None, arith, ap, refl}
 use Rattle.draid_machine.specs.declared.event.Event.TheVariants.{Abort}
 use Rattle.draid_machine.specs.declared.names.Stage.TheVariants.{Writing}
@@ -14,7 +15,7 @@ add-requires-clause-owed g c =
     let turns = owed_turns c.args.self.now.geometry.g c.args.self.now.entries c.release.new.entries c.args.ticket.pointer None
     (staged (Writing c.args.ticket.next c.args.ticket.missed) c.args.ticket.pointer) (c.args.self.now.geometry.g - c.args.ticket.next + 2) 0 c.release.ensures.gone c.requires.is_open refl refl in
     let all = c.requires.valid.owed in
-    let from = c.from.ensures in
+    let from = c.from-owed.ensures in
     let left = c.saturating_sub-left.ensures in
     omega (arith, turns, all, from, left)
 
@@ -28,7 +29,7 @@ returns-clause-valid g c =
     (let few = v.few in let count = c.release.ensures.count in omega (arith, few, count))
     (here_gone c.args.self.now.entries c.release.new.entries c.args.ticket.pointer c.args.self.now.number c.release.ensures.gone v.here)
     (λ from low was. tickets_gone c.args.self.now.entries c.release.new.entries c.args.ticket.pointer from was c.release.ensures.gone)
-    (let owed = c.add.ensures.owed in let reserved = c.add.ensures.reserved in let from = c.from.ensures in let left = c.saturating_sub-left.ensures in omega (arith, turns, owed, reserved, from, left))
+    (let owed = c.add.ensures.owed in let reserved = c.add.ensures.reserved in let from = c.from-owed.ensures in let left = c.saturating_sub-left.ensures in omega (arith, turns, owed, reserved, from, left))
 
 pub returns-clause-event : goal.returns-clause-event
 returns-clause-event g c = record {
@@ -48,3 +49,13 @@ returns-clause-gone g c = record { entry = c.release.ensures.gone; groups = reco
 
 pub returns-clause-reserve : goal.returns-clause-reserve
 returns-clause-reserve g c = record { reserved = c.add.ensures.reserved; limit = c.add.ensures.limit }
+
+pub add-requires-clause-some : goal.add-requires-clause-some
+add-requires-clause-some g c = omega arith
+
+pub overflow_add-owed : goal.overflow_add-owed
+overflow_add-owed g c =
+    let most = columns_low c.args.self.now.geometry c.requires.valid.part.layout.geometry_is in
+    let from = c.from-owed.ensures in
+    let left = c.saturating_sub-left.ensures in
+    omega (arith, from, left, most)

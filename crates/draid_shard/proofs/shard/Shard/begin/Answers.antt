@@ -1,4 +1,5 @@
-use Rattle.std.proofs.Common.{rules, ◌≡◌, ◌∙◌, false, Some, arith, ap, ap₂, refl, sym, subst, length}
+use Rattle.draid_shard.proofs.Changed.{same_entries}
+use Rattle.std.proofs.Common.{rules, ◌≡◌, ◌∙◌, Some, arith, ap, ap₂, refl, sym, subst, length}
 use Rattle.std.proofs.lemmas.Bool.{true≢false}
 use Rattle.draid_names.specs.Numbers.{most_held}
 use Rattle.draid_names.specs.declared.pointer.Pointer.{Pointer}
@@ -12,7 +13,7 @@ use Rattle.draid_entries.specs.declared.entry.Entry.{Entry}
 use Rattle.draid_entries.specs.History.{Passes, left_for_groups}
 use Rattle.draid_entries.specs.Maps.{key_of}
 use Rattle.draid_machine.proofs.Small.{some_same}
-use Rattle.draid_shard.proofs.Begins.{IsGiven, MayBegin, begins_leads, due_from, due_low, due_upto, owed_begun, refused_by}
+use Rattle.draid_shard.proofs.Begins.{low_count, enabled_without, IsGiven, MayBegin, begins_leads, due_from, due_low, due_upto, owed_begun, refused_by}
 use Rattle.draid_shard.proofs.FreeRuns.{fewer}
 use Rattle.draid_shard.proofs.Held.{here_same, here_set, stays_in, tickets_same, tickets_staged}
 use Rattle.draid_shard.proofs.Tables.{set_here}
@@ -56,7 +57,7 @@ returns-in-Ok-clause-event g c =
     let stripes : p.stripes ≡ c.stripes.result = ap (λ (q : Pointer). q.stripes) e.placed in
     let birth = ap (λ (q : Pointer). q.birth) e.placed ∙ c.max.ensures in
     let v = c.requires.valid in
-    let enabled : c.args.self.now.space.disabled ≡ false = search rules in
+    let enabled = enabled_without c.args.self.now.space.disabled c.args.self.now.pass c.rebuild.result c.requires.valid.disabled c.rebuild.ensures.is c.in_default.is in
     let may : MayBegin c.args.self.now = record {
       geometry_is = v.part.layout.geometry_is;
       tables = v.tables;
@@ -101,7 +102,7 @@ returns-in-Err-clause-valid g c =
 pub returns-in-Err-clause-refused : goal.returns-in-Err-clause-refused
 returns-in-Err-clause-refused g c w is_in =
     let v = c.requires.valid in
-    let enabled : c.args.self.now.space.disabled ≡ false = search rules in
+    let enabled = enabled_without c.args.self.now.space.disabled c.args.self.now.pass c.rebuild.result c.requires.valid.disabled c.rebuild.ensures.is c.in_default.is in
     let may : MayBegin c.args.self.now = record {
       geometry_is = v.part.layout.geometry_is;
       tables = v.tables;
@@ -187,3 +188,39 @@ returns-then-is_full-clause-refused g c w is_in = (c.in_default.ensures.none w i
 
 pub returns-in-Some-clause-refused : goal.returns-in-Some-clause-refused
 returns-in-Some-clause-refused g c w is_in = c.in-Some.ensures.some w is_in
+
+pub is_full-requires : goal.is_full-requires
+is_full-requires g c = record { valid = c.requires.valid }
+
+pub returns-in-Some-clause-valid : goal.returns-in-Some-clause-valid
+returns-in-Some-clause-valid g c = c.requires.valid
+
+pub returns-in-Some-clause-kit : goal.returns-in-Some-clause-kit
+returns-in-Some-clause-kit g c = record { rack = refl; areas = record { even = refl; odd = refl } }
+
+pub returns-in-Some-clause-none : goal.returns-in-Some-clause-none
+returns-in-Some-clause-none g c = record {
+  none = record { part = refl; stored = refl; stays = λ w is_in. is_in };
+  keeps = record { entries = same_entries c.args.self.now.entries; groups = record { open_group_is = refl; closing = refl; sealed = refl; committed = refl } };
+}
+
+pub returns-in-Some-clause-reserve : goal.returns-in-Some-clause-reserve
+returns-in-Some-clause-reserve g c = record { reserved = refl; limit = refl }
+
+pub returns-then-is_full-clause-reserve : goal.returns-then-is_full-clause-reserve
+returns-then-is_full-clause-reserve g c = record { reserved = refl; limit = refl }
+
+pub overflow_cast-result : goal.overflow_cast-result
+overflow_cast-result g c = let low = low_count c.args.self.now.version (count_of c.args.self.now.entries) c.count.result c.count.ensures c.requires.valid.few in omega (arith, low)
+
+pub hold-requires-clause-some : goal.hold-requires-clause-some
+hold-requires-clause-some g c = c.stripes.ensures.some
+
+pub hold-requires-clause-asked : goal.hold-requires-clause-asked
+hold-requires-clause-asked g c = let asked = c.block_events-asked.ensures in omega (arith, asked)
+
+pub hold-requires-clause-unused : goal.hold-requires-clause-unused
+hold-requires-clause-unused g c = c.requires.new.unused
+
+pub hold-requires-clause-enabled : goal.hold-requires-clause-enabled
+hold-requires-clause-enabled g c = enabled_without c.args.self.now.space.disabled c.args.self.now.pass c.rebuild.result c.requires.valid.disabled c.rebuild.ensures.is c.in_default.is

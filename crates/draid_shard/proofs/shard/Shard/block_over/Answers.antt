@@ -13,3 +13,6 @@ returns-then-is_block_upto-clause-some g c = record { over = c.in_ok-entry.ensur
 pub returns-else-is_block_upto-clause-none : goal.returns-else-is_block_upto-clause-none
 returns-else-is_block_upto-clause-none g c = λ e is.
     true≢false (sym (c.is_block_upto.ensures.1 (subst (IsBlockUpto c.args.upto) (c.in_ok-entry.ensures.only e is.over) is.block)) ∙ c.if-is_block_upto.false)
+
+pub entry_over-requires : goal.entry_over-requires
+entry_over-requires g c = record { valid = c.requires.valid }

@@ -1,3 +1,4 @@
+use Rattle.draid_shard.proofs.Changed.{same_entries}
 use Rattle.std.proofs.Common.{◌∙◌, ◌++◌, ◌∷◌, [], ap, arith, refl, subst, sym}
 use Rattle.draid_machine.specs.declared.event.Event.TheVariants.{Damage}
 use Rattle.draid_entries.specs.History.{events_of}
@@ -44,3 +45,21 @@ returns-clause-event g c = record {
 
 pub returns-clause-acts : goal.returns-clause-acts
 returns-clause-acts g c = λ pieces w after step reached is. damage_acts c.args.leaf c.args.sector c.damage-done.result _ _ c.damage-done.ensures.ok c.damage-done.ensures.err
+
+pub add_reserved-requires : goal.add_reserved-requires
+add_reserved-requires g c = record { reserved = c.requires.reserved }
+
+pub returns-clause-areas : goal.returns-clause-areas
+returns-clause-areas g c = record { even = refl; odd = refl }
+
+pub returns-clause-keeps : goal.returns-clause-keeps
+returns-clause-keeps g c = record { entries = same_entries c.args.self.now.entries; groups = record { open_group_is = refl; closing = refl; sealed = refl; committed = refl } }
+
+pub returns-clause-cause : goal.returns-clause-cause
+returns-clause-cause g c = c.damage-done.ensures.cause
+
+pub returns-clause-reserve : goal.returns-clause-reserve
+returns-clause-reserve g c = c.add_reserved.ensures.reserved
+
+pub returns-clause-limit : goal.returns-clause-limit
+returns-clause-limit g c = c.add_reserved.ensures.limit

@@ -24,3 +24,6 @@ returns-else-stripe-entry-clause-none g c =
     let past = c.if-stripe-entry.false in
     let same = c.from.ensures in
     none_last c.args.self.now.entries c.args.stripe c.in_ok-entry.entry at.there upto at.last c.requires.valid.tables.apart (omega (arith, upto, past, same))
+
+pub overflow_sub-stripe : goal.overflow_sub-stripe
+overflow_sub-stripe g c = c.in_ok-entry.ensures.upto

@@ -1,3 +1,4 @@
+use Rattle.draid_shard.proofs.Refusing.{fetched_is_other, memory_is_other, worn_is_other}
 use Rattle.std.proofs.Common.{◌∙◌, refl, sym}
 use Rattle.std.proofs.lemmas.Bool.{true≢false}
 use Rattle.draid_shard.proofs.Changed.{same_entries}
@@ -42,7 +43,7 @@ pub returns-in-Err-Worn-clause-areas : goal.returns-in-Err-Worn-clause-areas
 returns-in-Err-Worn-clause-areas g c = record { even = refl; odd = refl }
 
 pub returns-in-Err-Worn-clause-not_live : goal.returns-in-Err-Worn-clause-not_live
-returns-in-Err-Worn-clause-not_live g c = (λ e. absurd (cc), λ dead. absurd (dead (c.is_live.ensures.0 c.if-not-is_live.false)))
+returns-in-Err-Worn-clause-not_live g c = (λ e. absurd (worn_is_other _ e), λ dead. absurd (dead (c.is_live.ensures.0 c.if-not-is_live.false)))
 
 pub returns-in-Err-Worn-clause-none : goal.returns-in-Err-Worn-clause-none
 returns-in-Err-Worn-clause-none g c = asked_nothing c.args.self.now c.ask.new.self c.ask.ensures.same
@@ -58,7 +59,7 @@ returns-in-Err-NoMemory g c = record {
   valid = asked_valid c.args.self.now c.ask.new.self c.ask.ensures.same g.R.Rack c.requires.valid;
   areas = record { even = refl; odd = refl };
   told = refl;
-  not_live = (λ e. absurd (cc), λ dead. absurd (dead (c.is_live.ensures.0 c.if-not-is_live.false)));
+  not_live = (λ e. absurd (memory_is_other e), λ dead. absurd (dead (c.is_live.ensures.0 c.if-not-is_live.false)));
   worn = tt;
   not_worn = tt;
   fetched = tt;
@@ -73,7 +74,7 @@ returns-in_default g c = record {
   valid = asked_valid c.args.self.now c.ask.new.self c.ask.ensures.same g.R.Rack c.requires.valid;
   areas = record { even = refl; odd = refl };
   told = refl;
-  not_live = (λ e. absurd (cc), λ dead. absurd (dead (c.is_live.ensures.0 c.if-not-is_live.false)));
+  not_live = (λ e. absurd (memory_is_other e), λ dead. absurd (dead (c.is_live.ensures.0 c.if-not-is_live.false)));
   worn = tt;
   not_worn = tt;
   fetched = tt;
@@ -91,7 +92,7 @@ returns g c =
       valid = it.valid;
       areas = record { even = it.areas.even; odd = it.areas.odd };
       told = it.told;
-      not_live = (λ e. absurd (cc), λ dead. absurd (dead (c.is_live.ensures.0 c.if-not-is_live.false)));
+      not_live = (λ e. absurd (fetched_is_other _ e), λ dead. absurd (dead (c.is_live.ensures.0 c.if-not-is_live.false)));
       worn = tt;
       not_worn = c.in-Ok.ensures.answer;
       fetched = (it.fetches.pointer_is, it.fetches.fetched_is);
@@ -100,3 +101,9 @@ returns g c =
       kit = tt;
       reserve = record { reserved = it.reserve.reserved ∙ same.reserved; limit = it.reserve.limit ∙ same.limit };
     }
+
+pub returns-in-Err-Worn-clause-told : goal.returns-in-Err-Worn-clause-told
+returns-in-Err-Worn-clause-told g c = refl
+
+pub returns-in-Err-Worn-clause-worn : goal.returns-in-Err-Worn-clause-worn
+returns-in-Err-Worn-clause-worn g c = rw c.in-Err-Worn.field-0-is at c.in-Err-Worn.ensures.answer

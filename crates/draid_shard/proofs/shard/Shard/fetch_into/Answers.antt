@@ -1,3 +1,7 @@
+use Rattle.std.proofs.Common.{sym, ◌∙◌}
+use Rattle.draid_entries.specs.History.{limit_in, reserved_of, IsAsked}
+use Rattle.draid_shard.specs.declared.shard.Shard.{Shard}
+use Rattle.std.proofs.Common.{subst, arith, ap}
 use Rattle.draid_machine.specs.declared.names.Stage.TheVariants.{Live}
 use Rattle.draid_entries.specs.Maps.{staged}
 use Rattle.draid_shard.specs.States.{part_of}
@@ -32,3 +36,23 @@ read_columns-requires-clause-room g c = c.requires.room
 
 pub returns-clause-told : goal.returns-clause-told
 returns-clause-told g c = c.read_columns.ensures.told
+
+pub add_asked-requires-clause-some : goal.add_asked-requires-clause-some
+add_asked-requires-clause-some g c = omega arith
+
+pub add_asked-requires-clause-asked : goal.add_asked-requires-clause-asked
+add_asked-requires-clause-asked g c = subst (λ (s : Shard g.row.R.Denot g.row.A.Denot). IsAsked s.history 1) (sym c.read_columns.ensures.rack) c.requires.asked
+
+pub returns-clause-areas : goal.returns-clause-areas
+returns-clause-areas g c =
+    let e = c.read_columns.ensures.rack in
+    record { even = ap (λ (s : Shard g.row.R.Denot g.row.A.Denot). s.even) e; odd = ap (λ (s : Shard g.row.R.Denot g.row.A.Denot). s.odd) e }
+
+pub returns-clause-reserve : goal.returns-clause-reserve
+returns-clause-reserve g c =
+    let e = c.read_columns.ensures.rack in
+    let stored = c.add_asked.ensures in
+    record {
+      reserved = stored.reserved ∙ ap (λ (s : Shard g.row.R.Denot g.row.A.Denot). reserved_of s.history) e;
+      limit = stored.limit ∙ ap (λ (s : Shard g.row.R.Denot g.row.A.Denot). limit_in s.history) e;
+    }

@@ -56,7 +56,7 @@ returns-clause-valid g c =
 pub returns-clause-event : goal.returns-clause-event
 returns-clause-event g c = record {
   part = refl;
-  stored = c.add-2.ensures.stored ∙ ap (λ key. c.args.self.now.history.events.items ++ Finish key ∷ []) c.key_of.ensures;
+  stored = c.add-2.ensures.stored ∙ ap (λ key. c.args.self.now.history.events.items ++ Finish key ∷ []) c.key_of-key.ensures;
   leads = λ w reached is_in. finishes c.args.self.now c.args.self.now.space c.turn.new.self c.add-2.new.self c.args.ticket c.requires.is_open c.requires.all
       (let few = c.if-ticket-self.false in omega (arith, few)) c.turn.ensures.entered w is_in;
 }
@@ -64,7 +64,7 @@ returns-clause-event g c = record {
 pub returns-then-ticket-self-clause-event : goal.returns-then-ticket-self-clause-event
 returns-then-ticket-self-clause-event g c = record {
   part = refl;
-  stored = c.add.ensures.stored ∙ ap (λ key. c.args.self.now.history.events.items ++ Finish key ∷ []) c.key_of.ensures;
+  stored = c.add.ensures.stored ∙ ap (λ key. c.args.self.now.history.events.items ++ Finish key ∷ []) c.key_of-key.ensures;
   leads = λ w reached is_in. misses c.args.self.now c.release.new.space c.release.new.entries c.add.new.self c.args.ticket c.requires.is_open c.requires.all
       (let many = c.if-ticket-self.true in omega (arith, many)) c.release.ensures.gone w is_in;
 }

@@ -1,3 +1,4 @@
+use Rattle.draid_shard.proofs.Begins.{columns_low}
 use Rattle.std.proofs.Common.{◌≡◌, ◌+◌, ◌<◌, ◌^◌, ◌∙◌, ◌++◌, ◌∷◌, [], arith, Some, ap, refl, subst, sym}
 use Rattle.draid_names.specs.declared.pointer.Pointer.{Pointer}
 use Rattle.draid_machine.specs.declared.event.Event.TheVariants.{Put}
@@ -151,3 +152,26 @@ returns-clause-areas g c = record { even = refl; odd = refl }
 
 pub returns-clause-reserve : goal.returns-clause-reserve
 returns-clause-reserve g c = record { reserved = c.add.ensures.reserved; limit = c.add.ensures.limit }
+
+pub rows_of-rows-requires-clause-column : goal.rows_of-rows-requires-clause-column
+rows_of-rows-requires-clause-column g c = c.requires.left
+
+pub add-requires-clause-some : goal.add-requires-clause-some
+add-requires-clause-some g c = omega arith
+
+pub overflow_add-ticket : goal.overflow_add-ticket
+overflow_add-ticket g c =
+    let few = c.requires.carries.few in
+    let left = c.requires.left in
+    let most = columns_low c.args.self.now.geometry c.requires.valid.part.layout.geometry_is in
+    omega (arith, few, left, most)
+
+pub overflow_add-ticket-2 : goal.overflow_add-ticket-2
+overflow_add-ticket-2 g c =
+    let left = c.requires.left in
+    let most = columns_low c.args.self.now.geometry c.requires.valid.part.layout.geometry_is in
+    let next : c.if-is_empty.ticket.next ≡ c.args.ticket.now.next = elim c.if-is_empty.branch [
+      | then-is_empty w ↦ ap (λ (t : Ticket). t.next) w.ticket-is
+      | else-is_empty w ↦ ap (λ (t : Ticket). t.next) w.ticket-is
+    ] in
+    omega (arith, next, left, most)

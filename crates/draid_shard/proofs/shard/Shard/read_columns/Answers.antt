@@ -51,3 +51,15 @@ returns-clause-read g c =
     let all : c.loop-column.column ≡ c.args.self.now.geometry.g = omega (arith, past, upto) in
     subst (λ n. ReadsColumns (part_of c.args.self.now) c.args.self.now.slots c.args.pointer.now n (g.R.Rack.told c.args.self.now.rack) c.loop-column.columns.items c.loop-column.failed.items)
     all c.loop-column.invariant.read
+
+pub returns-clause-rack : goal.returns-clause-rack
+returns-clause-rack g c = c.loop-column.invariant.whole
+
+pub returns-clause-told : goal.returns-clause-told
+returns-clause-told g c = c.loop-column.invariant.told
+
+pub returns-clause-shape : goal.returns-clause-shape
+returns-clause-shape g c = c.loop-column.invariant.shape
+
+pub returns-clause-counts : goal.returns-clause-counts
+returns-clause-counts g c = c.loop-column.invariant.counts

@@ -1,3 +1,4 @@
+use Rattle.draid_shard.proofs.Changed.{same_entries}
 use Rattle.std.proofs.Common.{refl, arith}
 use Rattle.draid_shard.proofs.Turns.{history_in, valid_with}
 use Rattle.draid_shard.proofs.shard.Shard.reserve.Goals as goal
@@ -10,3 +11,12 @@ returns-clause-valid g c =
 
 pub returns-clause-none : goal.returns-clause-none
 returns-clause-none g c = record { part = refl; stored = c.reserve.ensures.events; stays = history_in c.args.self.now c.reserve.new.self }
+
+pub returns-clause-kit : goal.returns-clause-kit
+returns-clause-kit g c = record { rack = refl; areas = record { even = refl; odd = refl } }
+
+pub returns-clause-keeps : goal.returns-clause-keeps
+returns-clause-keeps g c = record { entries = same_entries c.args.self.now.entries; groups = record { open_group_is = refl; closing = refl; sealed = refl; committed = refl } }
+
+pub returns-clause-limit : goal.returns-clause-limit
+returns-clause-limit g c = c.reserve.ensures.limit

@@ -1,3 +1,4 @@
+use Rattle.draid_shard.proofs.Begins.{some_band, low_band}
 use Rattle.std.proofs.Common.{◌*◌, ◌/◌, ℕ, arith, ap₂, refl}
 use Rattle.draid_shard.proofs.shard.Shard.rows_of.Goals as goal
 
@@ -18,3 +19,9 @@ returns g c =
       birth_is = refl;
       slice_is = ap₂ (λ (a b : ℕ). place.result.sector / (a * b)) c.from.ensures c.from-2.ensures;
     }
+
+pub overflow_mul-band : goal.overflow_mul-band
+overflow_mul-band g c = let low = low_band c.args.self.now.geometry c.requires.part.layout.geometry_is c.from.result c.from-2.result c.from.ensures c.from-2.ensures in omega (arith, low)
+
+pub nonzero_div-result : goal.nonzero_div-result
+nonzero_div-result g c = some_band c.args.self.now.geometry c.requires.part.layout.geometry_is c.from.result c.from-2.result c.from.ensures c.from-2.ensures

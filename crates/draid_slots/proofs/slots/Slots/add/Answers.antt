@@ -1,3 +1,4 @@
+use Rattle.draid_slots.proofs.Tables.{on_ok_passed, on_err_always}
 use Rattle.std.proofs.Common.{◌≡◌, ◌<◌, ◌≤◌, ◌+◌, ◌-◌, ◌∷◌, ◌++◌, [], ℕ, true, List, length, map, set, get_or, arith, refl, sym, ap, ◌∙◌, subst}
 use Rattle.std.specs.Prelude.{All, vec_len, vec_capacity}
 use Rattle.std.proofs.lemmas.List.{length-map, length-set, get_or-map, map-set}
@@ -139,3 +140,24 @@ returns-clause-chains c =
     subst O c.self.view_is (subst P (sym same) (λ slot spare h.
     arm_settled s.geometry _ (map arms_in slots) s.detached.items (first_spares t) slot spare all (λ k. refl)
     (λ other there. more_once s.geometry (map arms_in slots) s.detached.items c.args.slot arm within may.idle are spare slot other h there) h))
+
+pub returns-in_err-may_attach-clause-allowed : goal.returns-in_err-may_attach-clause-allowed
+returns-in_err-may_attach-clause-allowed c = on_ok_passed _ c.from_residual.result _ c.from_residual.ensures.1
+
+pub returns-in_err-may_attach-clause-attached : goal.returns-in_err-may_attach-clause-attached
+returns-in_err-may_attach-clause-attached c = on_ok_passed _ c.from_residual.result _ c.from_residual.ensures.1
+
+pub returns-in_err-may_attach-clause-count : goal.returns-in_err-may_attach-clause-count
+returns-in_err-may_attach-clause-count c = on_ok_passed _ c.from_residual.result _ c.from_residual.ensures.1
+
+pub returns-in_err-may_attach-clause-chains : goal.returns-in_err-may_attach-clause-chains
+returns-in_err-may_attach-clause-chains c = on_ok_passed _ c.from_residual.result _ c.from_residual.ensures.1
+
+pub returns-in_err-may_attach-clause-same : goal.returns-in_err-may_attach-clause-same
+returns-in_err-may_attach-clause-same c = on_err_always c.from_residual.result _ refl
+
+pub fill-requires-clause-range : goal.fill-requires-clause-range
+fill-requires-clause-range c = c.requires.range
+
+pub same-self : goal.same-self
+same-self c = refl

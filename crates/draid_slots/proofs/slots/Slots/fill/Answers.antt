@@ -31,3 +31,12 @@ returns c =
     let left = c.fill.ensures.left in
     one.log_changed s.geometry s.perms s.metaslab s.slots.items s.detached.items (next_rooms s.next.items) (vec_capacity s.detached - vec_len s.detached) _ c.self.view_is c.args.at c.requires.there c.self.invariant c.index_mut.result.now c.index_mut.ensures.value
     before c.fill.new.self _ c.index_mut-2.ensures.value (λ x. c.fill.ensures.members x) (omega (arith, left))
+
+pub overflow_cast-at : goal.overflow_cast-at
+overflow_cast-at c = omega arith
+
+pub overflow_cast-at-2 : goal.overflow_cast-at-2
+overflow_cast-at-2 c = omega arith
+
+pub fill-requires-clause-range : goal.fill-requires-clause-range
+fill-requires-clause-range c = c.requires.range

@@ -1,3 +1,4 @@
+use Rattle.draid_slots.proofs.Spares.{spares_below}
 use Rattle.std.proofs.Common.{◌≡◌, ◌<◌, ◌-◌, [], true, List, Some, length, map, get_or, arith, sym, ap, ◌∙◌, subst}
 use Rattle.std.specs.Prelude.{cond, vec_len, vec_capacity}
 use Rattle.std.proofs.lemmas.List.{get_or-map, length-map}
@@ -109,3 +110,34 @@ spare_slot-child-requires-clause-past c = c.places-places.ensures.past
 
 pub spare_slot-child-requires-clause-slice : goal.spare_slot-child-requires-clause-slice
 spare_slot-child-requires-clause-slice c = c.requires.slice
+
+pub overflow_cast-arm : goal.overflow_cast-arm
+overflow_cast-arm c =
+    let s = c.self.inside in
+    let slots = s.slots.items in
+    let slot : Slot = c.index.result.now in
+    let arm : Arm = c.index-arm.result.now in
+    let T : SlotTable → Type 0 = λ t. IsThere t c.args.at in
+    let place : IsPlace slots c.args.at slot = its_place slots c.args.at slot c.self.invariant.paired (subst T (sym c.self.view_is) c.requires.there) c.index.ensures in
+    let sound = c.self.invariant.sound in
+    let below = spares_below s.geometry (map arms_in slots) s.detached.items c.args.at.slot arm.number sound.slots
+    (ap (λ arms. has_spare arms arm.number) place.arms_are
+    ∙ its_own slot.arms.items c.args.at.arm arm place.arm_within c.index-arm.ensures (sym c.is_leaf.ensures ∙ c.if-is_leaf.false)) in
+    let most = sound.layout.geometry_is.spec.most_spares in
+    omega (arith, below, most)
+
+pub overflow_cast-child : goal.overflow_cast-child
+overflow_cast-child c =
+    let s = c.self.inside in
+    let N : SlotTable → Type 0 = λ t. c.spare_slot-child.result < t.geometry.spec.children in
+    let below : c.spare_slot-child.result < s.geometry.spec.children = subst N (sym c.self.view_is) c.spare_slot-child.ensures.below in
+    let most = c.self.invariant.sound.layout.geometry_is.spec.most_children in
+    omega (arith, below, most)
+
+pub index-requires-2 : goal.index-requires-2
+index-requires-2 c =
+    let s = c.self.inside in
+    let N : SlotTable → Type 0 = λ t. c.spare_slot-child.result < t.geometry.spec.children in
+    let below : c.spare_slot-child.result < s.geometry.spec.children = subst N (sym c.self.view_is) c.spare_slot-child.ensures.below in
+    let many = c.self.invariant.sound.slots.children in
+    omega (arith, below, many, length-map s.slots.items arms_in, s.slots.ok.0)

@@ -105,3 +105,18 @@ returns-then-not-has_leaf_beside c =
     false≢true (sym c.if-not-has_leaf_beside.true ∙ c.has_leaf_beside.ensures ∙ ap (λ arms. has_leaf (remove arms c.args.at.arm)) (c.deref.ensures.value ∙ sym arms) ∙ beside) in
     let M : SlotTable → Type 0 = λ t. IsThere t c.args.at × (HasLeafBeside t c.args.at → ⊥) in
     record { allowed = tt; refused = subst M c.self.view_is (there, none) }
+
+pub overflow_cast-at : goal.overflow_cast-at
+overflow_cast-at c = omega arith
+
+pub overflow_cast-at-2 : goal.overflow_cast-at-2
+overflow_cast-at-2 c = omega arith
+
+pub overflow_cast-at-3 : goal.overflow_cast-at-3
+overflow_cast-at-3 c = omega arith
+
+pub has_leaf_beside-requires : goal.has_leaf_beside-requires
+has_leaf_beside-requires c = omega arith
+
+pub overflow_cast-at-4 : goal.overflow_cast-at-4
+overflow_cast-at-4 c = omega arith

@@ -1,4 +1,5 @@
-use Rattle.std.proofs.Common.{◌≡◌, ◌<◌, ℕ, [], true, List, map, get_or, arith, sym, ◌∙◌, subst, inl, inr}
+use Rattle.draid_slots.proofs.Tables.{few_slots}
+use Rattle.std.proofs.Common.{length, ap, false, ◌≡◌, ◌<◌, ℕ, [], true, List, map, get_or, arith, sym, ◌∙◌, subst, inl, inr}
 use Rattle.std.proofs.lemmas.Bool.{cases_eq, false≢true}
 use Rattle.draid_slots.specs.declared.slot.Slot.{Slot}
 use Rattle.draid_slots.specs.Moves.{LiesElsewhere}
@@ -60,3 +61,42 @@ moves_in-requires-clause-slice c =
     let end = c.from-slice-end.ensures in
     let test = c.loop-slice-test.true in
     subst B c.self.view_is (omega (arith, end, test))
+
+pub slot_with-requires : goal.slot_with-requires
+slot_with-requires c =
+    let s = c.self.inside in
+    let few = few_slots s.geometry s.perms s.metaslab s.slots.items s.detached.items c.self.invariant in
+    omega (arith, few, ap length c.deref.ensures.value)
+
+pub returns-in_default-clause-moves : goal.returns-in_default-clause-moves
+returns-in_default-clause-moves c is = absurd (false≢true is)
+
+pub returns-in_default-clause-stays : goal.returns-in_default-clause-stays
+returns-in_default-clause-stays c is lies =
+    let s = c.self.inside in
+    let H : SlotTable → Type 0 = λ t. has_spare (arms_of t lies.slot) c.args.spare ≡ true in
+    let F : List Slot → Type 0 = λ slots. (slot : ℕ) → has_spare (get_or (map arms_in slots) slot []) c.args.spare ≡ false in
+    let none : F s.slots.items = subst F c.deref.ensures.value c.in_default.ensures.none in
+    false≢true (sym (none lies.slot) ∙ subst H (sym c.self.view_is) lies.arm_is)
+
+pub returns-then-moves_in-clause-moves : goal.returns-then-moves_in-clause-moves
+returns-then-moves_in-clause-moves c is =
+    let slots = c.self.inside.slots.items in
+    let F : List Slot → Type 0 = λ slots. has_spare (get_or (map arms_in slots) c.in-Some.slot []) c.args.spare ≡ true in
+    let H : SlotTable → Type 0 = λ t. has_spare (arms_of t c.in-Some.slot) c.args.spare ≡ true in
+    let B : SlotTable → Type 0 = λ t. c.loop-slice.slice < t.geometry.props.slices in
+    let end = c.from-slice-end.ensures in
+    let test = c.loop-slice-test.true in
+    record {
+      slot = c.in-Some.slot;
+      slice = c.loop-slice.slice;
+      arm_is = subst H c.self.view_is (subst F c.deref.ensures.value c.in-Some.ensures.has);
+      slice_is = subst B c.self.view_is (omega (arith, end, test));
+      elsewhere = c.moves_in.ensures.0 c.if-moves_in.true;
+    }
+
+pub returns-then-moves_in-clause-stays : goal.returns-then-moves_in-clause-stays
+returns-then-moves_in-clause-stays c is = absurd (false≢true (sym is))
+
+pub returns-clause-moves : goal.returns-clause-moves
+returns-clause-moves c is = absurd (false≢true is)

@@ -1,4 +1,5 @@
-use Rattle.std.proofs.Common.{◌≡◌, ◌≢◌, ◌*◌, ◌+◌, ℕ, true, eqb, get_or, ap, ap₂, sym, subst, ◌∙◌}
+use Rattle.std.proofs.Common.{arith}
+use Rattle.std.proofs.Common.{◌<◌, ◌≡◌, ◌≢◌, ◌*◌, ◌+◌, ℕ, true, eqb, get_or, ap, ap₂, sym, subst, ◌∙◌}
 use Rattle.std.specs.Prelude.{not}
 use Rattle.std.proofs.lemmas.Bool.{eq-eqb, false≢true, ne_eqb}
 use Rattle.draid_chain.specs.Used.{HasColumn}
@@ -49,3 +50,26 @@ spare_slot-new-requires c = record {
   past = c.requires.now_past;
   slice = c.requires.slice;
 }
+
+pub has_column-requires-clause-geometry : goal.has_column-requires-clause-geometry
+has_column-requires-clause-geometry c = c.self.invariant.sound.layout.geometry_is
+
+pub has_column-requires-clause-children : goal.has_column-requires-clause-children
+has_column-requires-clause-children c = c.self.invariant.sound.layout.perms_are.children
+
+pub has_column-requires-clause-slot : goal.has_column-requires-clause-slot
+has_column-requires-clause-slot c =
+    let S : SlotTable → Type 0 = λ t. c.args.slot < t.geometry.spec.children in
+    subst S (sym c.self.view_is) c.requires.now_arm.slot_is
+
+pub overflow_cast-result : goal.overflow_cast-result
+overflow_cast-result c = omega arith
+
+pub offset_bounds-before-old : goal.offset_bounds-before-old
+offset_bounds-before-old c = omega arith
+
+pub overflow_cast-result-2 : goal.overflow_cast-result-2
+overflow_cast-result-2 c = omega arith
+
+pub offset_bounds-now-new : goal.offset_bounds-now-new
+offset_bounds-now-new c = omega arith

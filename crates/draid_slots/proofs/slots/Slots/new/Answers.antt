@@ -1,3 +1,4 @@
+use Rattle.draid_slots.proofs.Tables.{if_ok_passed}
 use Rattle.std.proofs.Common.{List, map, refl, sym, ◌∙◌, subst}
 use Rattle.std.proofs.lemmas.List.{length-map}
 use Rattle.draid_slots.specs.declared.slot.Detached.{Detached}
@@ -28,3 +29,9 @@ returns-clause-new c = record {
   missed_none = c.in_ok-slots.ensures.logs;
   detached_none = c.new.ensures.items;
 }
+
+pub returns-in_err-slots-clause-of : goal.returns-in_err-slots-clause-of
+returns-in_err-slots-clause-of c = if_ok_passed _ c.from_residual.result _ c.from_residual.ensures.1
+
+pub returns-in_err-slots-clause-new : goal.returns-in_err-slots-clause-new
+returns-in_err-slots-clause-new c = if_ok_passed _ c.from_residual.result _ c.from_residual.ensures.1

@@ -1,3 +1,4 @@
+use Rattle.draid_slots.proofs.Tables.{if_ok_passed}
 use Rattle.std.proofs.Common.{[], List, refl, sym, subst}
 use Rattle.draid_names.specs.declared.arm.Arm.{Arm}
 use Rattle.draid_slots.specs.declared.slot.Detached.{Detached}
@@ -29,3 +30,15 @@ returns-clause-logs c = c.in_ok-slots.ensures.logs
 
 pub returns-clause-detached : goal.returns-clause-detached
 returns-clause-detached c = c.new.ensures.items
+
+pub returns-in_err-slots-clause-of : goal.returns-in_err-slots-clause-of
+returns-in_err-slots-clause-of c = if_ok_passed _ c.from_residual.result _ c.from_residual.ensures.1
+
+pub returns-in_err-slots-clause-arms : goal.returns-in_err-slots-clause-arms
+returns-in_err-slots-clause-arms c = if_ok_passed _ c.from_residual.result _ c.from_residual.ensures.1
+
+pub returns-in_err-slots-clause-logs : goal.returns-in_err-slots-clause-logs
+returns-in_err-slots-clause-logs c = if_ok_passed _ c.from_residual.result _ c.from_residual.ensures.1
+
+pub returns-in_err-slots-clause-detached : goal.returns-in_err-slots-clause-detached
+returns-in_err-slots-clause-detached c = if_ok_passed _ c.from_residual.result _ c.from_residual.ensures.1

@@ -1,3 +1,4 @@
+use Rattle.draid_slots.proofs.Tables.{on_ok_passed}
 use Rattle.std.proofs.Common.{◌≡◌, ◌-◌, length, map, arith, rules, refl, sym, subst, ap, ◌∙◌}
 use Rattle.std.specs.Prelude.{vec_len, vec_capacity}
 use Rattle.std.proofs.lemmas.List.{length-map}
@@ -105,3 +106,12 @@ returns-clause-room c =
       arm_logs = all_rooms c.reserve_next.new.next.items c.args.changes c.in-Some.more (omega arith) c.in_ok-reserve_next.ensures.room;
       places = (let room = c.in_ok-reserve.ensures.ok in omega arith);
     }
+
+pub returns-in_err-reserve_slots-clause-room : goal.returns-in_err-reserve_slots-clause-room
+returns-in_err-reserve_slots-clause-room c = on_ok_passed _ c.from_residual.result _ c.from_residual.ensures.1
+
+pub returns-in_err-reserve-clause-room : goal.returns-in_err-reserve-clause-room
+returns-in_err-reserve-clause-room c = on_ok_passed _ c.from_residual-in_err-reserve.result _ c.from_residual-in_err-reserve.ensures.1
+
+pub returns-in_err-reserve_next-clause-room : goal.returns-in_err-reserve_next-clause-room
+returns-in_err-reserve_next-clause-room c = on_ok_passed _ c.from_residual-in_err-reserve_next.result _ c.from_residual-in_err-reserve_next.ensures.1

@@ -1,4 +1,4 @@
-use Rattle.std.proofs.Common.{arith, ◌≡◌, ◌≤◌, ◌+◌, ◌*◌, ℕ, List, Option, None, take, ap₂, sym, ◌∙◌, subst, inl, inr}
+use Rattle.std.proofs.Common.{◌<◌, arith, ◌≡◌, ◌≤◌, ◌+◌, ◌*◌, ℕ, List, Option, None, take, ap₂, sym, ◌∙◌, subst, inl, inr}
 use Rattle.std.proofs.lemmas.Bool.{cases_lt}
 use Rattle.std.proofs.lemmas.List.{get_or-take, get_or_past, length-take}
 use Rattle.draid_chain.specs.Chain.{holder_in}
@@ -38,3 +38,17 @@ returns-clause-slot c =
     subst (λ (t : SlotTable). c.slice_holder.result ≡ holder_in t.perms t.geometry.spec.spares (pool_slice t c.args.slice) (first_in used) c.args.slot c.args.spare) c.self.view_is
     (c.slice_holder.ensures.slot
     ∙ ap₂ (λ (n : ℕ) (first : ℕ → Option ℕ). holder_in c.self.inside.perms c.self.inside.geometry.spec.spares n first c.args.slot c.args.spare) slice (first_kept _ used past))
+
+pub slice_holder-requires-clause-geometry : goal.slice_holder-requires-clause-geometry
+slice_holder-requires-clause-geometry c = c.self.invariant.sound.layout.geometry_is
+
+pub slice_holder-requires-clause-children : goal.slice_holder-requires-clause-children
+slice_holder-requires-clause-children c = c.self.invariant.sound.layout.perms_are.children
+
+pub returns-clause-below : goal.returns-clause-below
+returns-clause-below c =
+    let B : SlotTable → Type 0 = λ t. c.slice_holder.result < t.geometry.spec.children in
+    subst B c.self.view_is c.slice_holder.ensures.below
+
+pub shared_ref_as_front-slice_holder : goal.shared_ref_as_front-slice_holder
+shared_ref_as_front-slice_holder c = omega arith

@@ -1,3 +1,5 @@
+use Rattle.draid_slots.proofs.Tables.{on_err_always}
+use Rattle.draid_slots.proofs.Tables.{on_ok_passed}
 use Rattle.std.proofs.Common.{◌≡◌, ◌<◌, ◌+◌, ◌-◌, ◌∷◌, ◌++◌, [], ℕ, true, List, length, map, set, get_or, arith, refl, sym, ap, ◌∙◌, subst}
 use Rattle.std.specs.Prelude.{remove, vec_len, vec_capacity}
 use Rattle.std.proofs.lemmas.List.{length-map, length-set, map-set}
@@ -141,3 +143,27 @@ returns-clause-chains c =
     subst O c.self.view_is (subst P (sym same) (λ slot spare h.
     arm_settled s.geometry _ (map arms_in slots) _ (first_spares t) slot spare all (λ k. refl)
     (λ other there. less_once s.geometry (map arms_in slots) s.detached.items c.args.at.slot c.args.at.arm c.args.group arm within may.there is are spare slot other h there) h))
+
+pub same-self : goal.same-self
+same-self c = refl
+
+pub returns-in_err-may_detach-clause-allowed : goal.returns-in_err-may_detach-clause-allowed
+returns-in_err-may_detach-clause-allowed c = on_ok_passed _ c.from_residual.result _ c.from_residual.ensures.1
+
+pub returns-in_err-may_detach-clause-detached : goal.returns-in_err-may_detach-clause-detached
+returns-in_err-may_detach-clause-detached c = on_ok_passed _ c.from_residual.result _ c.from_residual.ensures.1
+
+pub returns-in_err-may_detach-clause-count : goal.returns-in_err-may_detach-clause-count
+returns-in_err-may_detach-clause-count c = on_ok_passed _ c.from_residual.result _ c.from_residual.ensures.1
+
+pub returns-in_err-may_detach-clause-chains : goal.returns-in_err-may_detach-clause-chains
+returns-in_err-may_detach-clause-chains c = on_ok_passed _ c.from_residual.result _ c.from_residual.ensures.1
+
+pub returns-in_err-may_detach-clause-same : goal.returns-in_err-may_detach-clause-same
+returns-in_err-may_detach-clause-same c = on_err_always c.from_residual.result _ refl
+
+pub overflow_cast-at : goal.overflow_cast-at
+overflow_cast-at c = omega arith
+
+pub overflow_cast-at-2 : goal.overflow_cast-at-2
+overflow_cast-at-2 c = omega arith
