@@ -1,9 +1,9 @@
 -- What an import compares of the metaslabs that it opens, and what it notes of their blocks.
-use Rattle.std.proofs.Common.{arith, ◌≡◌, ◌+◌, ◌<◌, ◌≤◌, ◌∙◌, ◌⊎◌, inl, inr, not, ℕ, zero, suc, Bool, true, false, cond, List, [], Option, Some, None, Err, refl, sym, ap, subst, if◌then◌else◌}
-use Rattle.std.specs.Prelude.{◌-◌, IsErrOf, is_some, slice_get}
+use Rattle.std.proofs.Common.{arith, ◌≡◌, ◌+◌, ◌<◌, ◌≤◌, ◌∙◌, ◌⊎◌, inl, inr, not, ℕ, zero, suc, Bool, true, false, cond, List, [], Option, Some, None, Ok, Err, refl, sym, ap, subst, if◌then◌else◌}
+use Rattle.std.specs.Prelude.{◌-◌, ◌↔◌, IsErrOf, IsTrue, is_some, slice_get}
 use Rattle.std.specs.HashSet.{HashSet, contains, keys}
 use Rattle.std.specs.List.{list_any}
-use Rattle.std.proofs.lemmas.Bool.{cases_eq}
+use Rattle.std.proofs.lemmas.Bool.{cases_eq, false≢true}
 use Rattle.draid_names.specs.declared.pointer.Pointer.{Pointer}
 use Rattle.draid_machine.specs.declared.names.Held.{Held as Block}
 use Rattle.draid_machine.specs.declared.names.Key.{Key}
@@ -21,6 +21,14 @@ use Rattle.draid_found.specs.Found.{AreReady}
 use Rattle.draid_found.specs.Together.{AreApart, AreSameArms, HasBlock, HaveSameArms, IsNotedTwice, NotesOnly, NotesOnlyOf, blocks_below, noted_in, pair_eq, place_in}
 use Rattle.draid_found.specs.declared.fault.FoundFault.{FoundFault}
 use Rattle.draid_found.specs.declared.fault.FoundFault.TheVariants as fault
+
+-- ---- what a test tells
+
+pub not_so : {P : Type 0} → (P → ⊥) → IsTrue false ↔ P
+not_so never = (λ is. absurd (false≢true is), λ p. absurd (never p))
+
+pub is_so : {P : Type 0} → P → IsTrue true ↔ P
+is_so p = (λ is. p, λ q. refl)
 
 -- ---- arms
 
@@ -169,6 +177,12 @@ module _ {R A : Type 0} (shard : Shard R A) where
 -- ---- all metaslabs
 
 -- a fault is one whatever the answer would have been
+pub starved : {T : Type 0} (metaslab place kind : ℕ) → IsErrOf {T = T} (Err fault.NoMemory) (fault.Record metaslab place kind) → ⊥
+starved metaslab place kind is = cc
+
+pub no_fault : {T : Type 0} {x : T} {why : FoundFault} → IsErrOf (Ok x) why → ⊥
+no_fault is = cc
+
 pub passed : {T U : Type 0} (why fault : FoundFault) → IsErrOf {T = T} (Err why) fault → IsErrOf {T = U} (Err why) fault
 passed why fault err = (let same : why ≡ fault = cc in ap Err same)
 

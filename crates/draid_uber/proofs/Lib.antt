@@ -3,4 +3,5 @@ pub mod Commits
 pub mod Ends
 pub mod Imports
 pub mod Layouts
+pub mod Passed
 pub mod Recovers

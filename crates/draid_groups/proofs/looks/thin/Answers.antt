@@ -45,13 +45,13 @@ loop-entry-preserved g c =
           }
     ]
 
-pub returns-clause-low : goal.returns-clause-low
-returns-clause-low g c =
-    let i = c.loop-entry.invariant in
-    let few = i.few in
-    let inside = i.low in
-    let low = low_stripes c.args.shard.now.geometry c.requires.valid.part.layout.geometry_is in
-    omega (arith, few, inside, low)
-
-pub returns-clause-is : goal.returns-clause-is
-returns-clause-is g c = thin_is g.R.Rack c.args.shard.now c.requires.valid c.args.group c.loop-entry.stripe c.loop-entry.thin c.loop-entry.invariant.counts c.in_default.ensures.none
+pub returns : goal.returns
+returns g c =
+    record {
+      low = (let i = c.loop-entry.invariant in
+          let few = i.few in
+          let inside = i.low in
+          let low = low_stripes c.args.shard.now.geometry c.requires.valid.part.layout.geometry_is in
+          omega (arith, few, inside, low));
+      is = thin_is g.R.Rack c.args.shard.now c.requires.valid c.args.group c.loop-entry.stripe c.loop-entry.thin c.loop-entry.invariant.counts c.in_default.ensures.none;
+    }

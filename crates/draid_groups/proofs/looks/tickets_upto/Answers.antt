@@ -44,8 +44,9 @@ loop-entry-preserved g c =
           }
     ]
 
-pub returns-clause-tickets : goal.returns-clause-tickets
-returns-clause-tickets g c = open_upto c.args.shard.now c.args.group c.loop-entry.stripe c.loop-entry.tickets c.loop-entry.invariant.counts c.in_default.ensures.none
-
-pub returns-clause-none : goal.returns-clause-none
-returns-clause-none g c = none_open c.args.shard.now c.args.group c.loop-entry.stripe c.loop-entry.tickets c.loop-entry.invariant.counts c.in_default.ensures.none
+pub returns : goal.returns
+returns g c =
+    record {
+      tickets = open_upto c.args.shard.now c.args.group c.loop-entry.stripe c.loop-entry.tickets c.loop-entry.invariant.counts c.in_default.ensures.none;
+      none = none_open c.args.shard.now c.args.group c.loop-entry.stripe c.loop-entry.tickets c.loop-entry.invariant.counts c.in_default.ensures.none;
+    }

@@ -1,6 +1,6 @@
 use Rattle.std.proofs.Common.{◌≡◌, arith, subst}
 use Rattle.draid_groups.specs.Sealing.{MarksBelow}
-use Rattle.draid_groups.proofs.Missing.{table_all}
+use Rattle.draid_groups.proofs.Missing.{table_all, below_none, room_stays}
 use Rattle.draid_groups.proofs.marks.miss_all.Goals as goal
 
 pub returns : goal.returns
@@ -11,3 +11,12 @@ returns c =
     let all : c.loop-slot.slot ≡ c.args.slots.now.geometry.spec.children = omega (arith, past, upto, count) in
     table_all c.args.slots.now c.loop-slot.slots c.args.marks.now c.args.group c.children-slot-end.ensures.sound
     (subst (λ slot. MarksBelow c.args.slots.now c.loop-slot.slots c.args.marks.now slot c.args.group) all c.loop-slot.invariant)
+
+pub loop-slot-init : goal.loop-slot-init
+loop-slot-init c = below_none c.args.slots.now c.args.marks.now c.args.group
+
+pub miss_in_slot-requires-clause-range : goal.miss_in_slot-requires-clause-range
+miss_in_slot-requires-clause-range c = c.requires.range
+
+pub miss_in_slot-requires-clause-room : goal.miss_in_slot-requires-clause-room
+miss_in_slot-requires-clause-room c = room_stays c.args.slots.now c.loop-slot.slots c.args.group c.loop-slot.invariant.logs c.requires.room

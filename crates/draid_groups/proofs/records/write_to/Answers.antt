@@ -34,18 +34,6 @@ cause_even faults even odd new group is rose e = rw (even_now group is) (rose e)
 cause_odd : {A E : Type 0} (faults : A → ℕ) (even odd new : A) (group : ℕ) → (group % 2 ≡ 0 → ⊥) → (E → Rose (faults odd) (faults new)) → E → Rose (faults (area_by even odd group)) (faults (area_by even new group))
 cause_odd faults even odd new group is rose e = rw (odd_now group is) (rose e)
 
-pub returns-then-group-eq0-clause-other : goal.returns-then-group-eq0-clause-other
-returns-then-group-eq0-clause-other g c = other_even c.args.even.now c.args.odd.now _ c.args.group c.if-group-eq0.true
-
-pub returns-then-group-eq0-clause-cause : goal.returns-then-group-eq0-clause-cause
-returns-then-group-eq0-clause-cause g c = cause_even g.A.Area.faults c.args.even.now c.args.odd.now _ c.args.group c.if-group-eq0.true c.put_record.ensures.cause
-
-pub returns-clause-other : goal.returns-clause-other
-returns-clause-other g c = other_odd c.args.even.now c.args.odd.now _ c.args.group c.if-group-eq0.false
-
-pub returns-clause-cause : goal.returns-clause-cause
-returns-clause-cause g c = cause_odd g.A.Area.faults c.args.even.now c.args.odd.now _ c.args.group c.if-group-eq0.false c.put_record-else-group-eq0.ensures.cause
-
 -- ---- a record that was written and flushed stands
 ok_then : {P Q : Type 0} (r : Result Unit DeviceFault) → (P → Q) → OnOk r P → OnOk r Q
 ok_then (Ok done) f p = f p
@@ -76,21 +64,33 @@ on_even told value odd new group is stands = rw (even_now group is) stands
 on_odd : {A : Type 0} (told : A → Option Content) (value : RecordTold) (even new : A) (group : ℕ) → (group % 2 ≡ 0 → ⊥) → OnTold (told new) (Stands value) → OnTold (told (area_by even new group)) (Stands value)
 on_odd told value even new group is stands = rw (odd_now group is) stands
 
-pub returns-then-group-eq0-clause-stands : goal.returns-then-group-eq0-clause-stands
-returns-then-group-eq0-clause-stands g c =
-    let told = g.A.Area.told in
-    let value = told_record c.args.made.now in
-    let whole = subst (λ (bytes : List ℕ). IsWhole bytes value) (sym c.deref.ensures.value) c.in_ok-bytes.ensures.whole in
-    ok_then c.put_record.result
-    (λ is. on_even told value c.args.odd.now c.put_record.new.area c.args.group c.if-group-eq0.true (told_stands c.deref.result.now value (told c.args.even.now) (told c.put_record.new.area) whole is))
-    c.put_record.ensures.told
+pub returns-then-group-eq0 : goal.returns-then-group-eq0
+returns-then-group-eq0 g c =
+    record {
+      stands = (let told = g.A.Area.told in
+          let value = told_record c.args.made.now in
+          let whole = subst (λ (bytes : List ℕ). IsWhole bytes value) (sym c.deref.ensures.value) c.in_ok-bytes.ensures.whole in
+          ok_then c.put_record.result
+          (λ is. on_even told value c.args.odd.now c.put_record.new.area c.args.group c.if-group-eq0.true (told_stands c.deref.result.now value (told c.args.even.now) (told c.put_record.new.area) whole is))
+          c.put_record.ensures.told);
+      other = other_even c.args.even.now c.args.odd.now _ c.args.group c.if-group-eq0.true;
+      even_later = c.put_record.ensures.later;
+      odd_later = omega arith;
+      cause = cause_even g.A.Area.faults c.args.even.now c.args.odd.now _ c.args.group c.if-group-eq0.true c.put_record.ensures.cause;
+    }
 
-pub returns-clause-stands : goal.returns-clause-stands
-returns-clause-stands g c =
-    let told = g.A.Area.told in
-    let value = told_record c.args.made.now in
-    let whole = subst (λ (bytes : List ℕ). IsWhole bytes value) (sym c.deref-else-group-eq0.ensures.value) c.in_ok-bytes.ensures.whole in
-    ok_then c.put_record-else-group-eq0.result
-    (λ is. on_odd told value c.args.even.now c.put_record-else-group-eq0.new.area c.args.group c.if-group-eq0.false
-    (told_stands c.deref-else-group-eq0.result.now value (told c.args.odd.now) (told c.put_record-else-group-eq0.new.area) whole is))
-    c.put_record-else-group-eq0.ensures.told
+pub returns : goal.returns
+returns g c =
+    record {
+      stands = (let told = g.A.Area.told in
+          let value = told_record c.args.made.now in
+          let whole = subst (λ (bytes : List ℕ). IsWhole bytes value) (sym c.deref-else-group-eq0.ensures.value) c.in_ok-bytes.ensures.whole in
+          ok_then c.put_record-else-group-eq0.result
+          (λ is. on_odd told value c.args.even.now c.put_record-else-group-eq0.new.area c.args.group c.if-group-eq0.false
+          (told_stands c.deref-else-group-eq0.result.now value (told c.args.odd.now) (told c.put_record-else-group-eq0.new.area) whole is))
+          c.put_record-else-group-eq0.ensures.told);
+      other = other_odd c.args.even.now c.args.odd.now _ c.args.group c.if-group-eq0.false;
+      even_later = omega arith;
+      odd_later = c.put_record-else-group-eq0.ensures.later;
+      cause = cause_odd g.A.Area.faults c.args.even.now c.args.odd.now _ c.args.group c.if-group-eq0.false c.put_record-else-group-eq0.ensures.cause;
+    }

@@ -74,9 +74,6 @@ valid g c =
 pub thin-requires : goal.thin-requires
 thin-requires g c = record { valid = valid g c }
 
-pub returns-clause-valid : goal.returns-clause-valid
-returns-clause-valid g c = valid g (goal.at.returns-clause-valid g c).After-add
-
 -- ---- the event
 abbrev after_seal : (g : given.Over) (c : After-add g) → machine.State → machine.State
 after_seal g c w = seal_state (layout_by c.args.shard.now) w c.args.group c.flush_leaves.new.failed.items c.has_written-wrote.result
@@ -137,28 +134,37 @@ stands g c w reached at =
     (has_record g.R.Rack old c.requires.valid c.args.group c.requires.closing.0 c.args.plan c.requires.plan w reached at c.settle.new.it c.mark_silent.new.marks.items c.flush_leaves.new.failed.items
     c.has_written-wrote.result (settled g c) (settles g c) (silent g c)) c.in-Ok.ensures.stands
 
-pub returns-clause-sealed : goal.returns-clause-sealed
+pub returns : goal.returns
 unfolding does
-returns-clause-sealed g c =
-    let at_add : After-add g = (goal.at.returns-clause-sealed g c).After-add in
+returns g c =
+    let at_add : After-add g = (goal.at.returns g c).After-add in
     let old = c.args.shard.now in
     let v = c.requires.valid in
     let cause = c.flush_leaves.ensures.cause in
     record {
-      failed = c.flush_leaves.new.failed;
-      does = does g at_add;
-      acts = λ pieces w after step reached at.
-          flushes_acts (g.R.Rack.shape old.rack) old.slots c.args.plan.leaves.items c.flush_leaves.new.failed.items w.core (g.R.Rack.told old.rack) (g.R.Rack.told c.flush_leaves.new.rack) at.slots
-          (λ leaf is. subst IsSome (sym (v.leaves.leaves leaf is)) refl) (copied_small old.slots c.args.plan.made.slots.items c.requires.plan.made.slots_are) c.requires.plan.leaves_are (told g at_add);
-      image = λ w after image step reached at is.
-          subst (λ (i : machine.Image). content.OnTold (g.A.Area.told (area_by c.write_to.new.even c.write_to.new.odd c.args.group)) (ListsOnce old.geometry old.number i))
-          (image_is g at_add w after image reached at step is) (stands g at_add w reached at);
-      thin_is = λ w after step reached at.
-          c.thin.ensures.is after (reached_more (layout_by old) w after (Seal c.args.group c.flush_leaves.new.failed) reached step)
-          (subst (IsIn (record old { rack = c.flush_leaves.new.rack; even = c.write_to.new.even; odd = c.write_to.new.odd; slots = c.miss_marked.new.slots; pass = c.lose_targets.new.pass; sealed = true; history = c.add.new.self }))
-          (sym (state_is g at_add w after reached at step)) ((does g at_add).leads w reached at).is_in);
-      low = c.thin.ensures.low;
-      counts = record { later = cause.later; cause = cause.cause };
+      valid = valid g at_add;
+      other = c.write_to.ensures.other;
+      sealed = record {
+        failed = c.flush_leaves.new.failed;
+        does = does g at_add;
+        acts = λ pieces w after step reached at.
+            flushes_acts (g.R.Rack.shape old.rack) old.slots c.args.plan.leaves.items c.flush_leaves.new.failed.items w.core (g.R.Rack.told old.rack) (g.R.Rack.told c.flush_leaves.new.rack) at.slots
+            (λ leaf is. subst IsSome (sym (v.leaves.leaves leaf is)) refl) (copied_small old.slots c.args.plan.made.slots.items c.requires.plan.made.slots_are) c.requires.plan.leaves_are (told g at_add);
+        image = λ w after image step reached at is.
+            subst (λ (i : machine.Image). content.OnTold (g.A.Area.told (area_by c.write_to.new.even c.write_to.new.odd c.args.group)) (ListsOnce old.geometry old.number i))
+            (image_is g at_add w after image reached at step is) (stands g at_add w reached at);
+        thin_is = λ w after step reached at.
+            c.thin.ensures.is after (reached_more (layout_by old) w after (Seal c.args.group c.flush_leaves.new.failed) reached step)
+            (subst (IsIn (record old { rack = c.flush_leaves.new.rack; even = c.write_to.new.even; odd = c.write_to.new.odd; slots = c.miss_marked.new.slots; pass = c.lose_targets.new.pass; sealed = true; history = c.add.new.self }))
+            (sym (state_is g at_add w after reached at step)) ((does g at_add).leads w reached at).is_in);
+        low = c.thin.ensures.low;
+        counts = record { later = cause.later; cause = cause.cause };
+      };
+      seals = record { entries = same_entries c.args.shard.now.entries; open_group_is = refl; closing = refl; sealed = refl; committed = refl };
+      refused = tt;
+      keeps = tt;
+      later = record { even = c.write_to.ensures.even_later; odd = c.write_to.ensures.odd_later };
+      reserve = record { reserved = c.add.ensures.reserved; limit = c.add.ensures.limit };
     }
 
 -- ---- a seal that is refused
@@ -213,15 +219,3 @@ mark_silent-requires g c = record {
   valid = unsealed_valid c.args.shard.now c.flush_leaves.new.rack c.args.shard.now.even c.args.shard.now.odd g.R.Rack c.flush_leaves.ensures.shape c.requires.valid;
   count = c.requires.plan.count;
 }
-
-pub returns-clause-seals : goal.returns-clause-seals
-returns-clause-seals g c = record { entries = same_entries c.args.shard.now.entries; open_group_is = refl; closing = refl; sealed = refl; committed = refl }
-
-pub returns-clause-other : goal.returns-clause-other
-returns-clause-other g c = c.write_to.ensures.other
-
-pub returns-clause-later : goal.returns-clause-later
-returns-clause-later g c = record { even = c.write_to.ensures.even_later; odd = c.write_to.ensures.odd_later }
-
-pub returns-clause-reserve : goal.returns-clause-reserve
-returns-clause-reserve g c = record { reserved = c.add.ensures.reserved; limit = c.add.ensures.limit }

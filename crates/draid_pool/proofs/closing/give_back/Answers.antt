@@ -46,25 +46,18 @@ loop-shard-preserved g c =
       faults = e.faults ∙ i.faults;
     }
 
-pub returns-clause-returns : goal.returns-clause-returns
-returns-clause-returns g c =
-    let none : c.loop-shard.left.items ≡ [] = search rules in
-    giving_all g.H.R.Rack g.H.A.Area c.args.shards.items c.loop-shard.left.items (g.H.Shelf.told c.args.shelf.now) (g.H.Shelf.told c.loop-shard.shelf) (g.H.Shelf.counts c.args.shelf.now)
-    (g.H.Shelf.counts c.loop-shard.shelf) c.loop-shard.invariant.giving none
-
-pub returns-clause-leaves : goal.returns-clause-leaves
-returns-clause-leaves g c =
-    let none : c.loop-shard.left.items ≡ [] = search rules in
-    leaves_all g.H.R.Rack g.H.A.Area c.args.shards.items c.loop-shard.left.items (g.H.Shelf.leaves c.args.shelf.now) (g.H.Shelf.leaves c.loop-shard.shelf) c.loop-shard.invariant.leaves none
-
-pub returns-clause-uber : goal.returns-clause-uber
-returns-clause-uber g c = c.loop-shard.invariant.uber
-
-pub returns-clause-checks : goal.returns-clause-checks
-returns-clause-checks g c = c.loop-shard.invariant.checks
-
-pub returns-clause-faults : goal.returns-clause-faults
-returns-clause-faults g c = c.loop-shard.invariant.faults
+pub returns : goal.returns
+returns g c =
+    record {
+      returns = (let none : c.loop-shard.left.items ≡ [] = search rules in
+          giving_all g.H.R.Rack g.H.A.Area c.args.shards.items c.loop-shard.left.items (g.H.Shelf.told c.args.shelf.now) (g.H.Shelf.told c.loop-shard.shelf) (g.H.Shelf.counts c.args.shelf.now)
+          (g.H.Shelf.counts c.loop-shard.shelf) c.loop-shard.invariant.giving none);
+      leaves = (let none : c.loop-shard.left.items ≡ [] = search rules in
+          leaves_all g.H.R.Rack g.H.A.Area c.args.shards.items c.loop-shard.left.items (g.H.Shelf.leaves c.args.shelf.now) (g.H.Shelf.leaves c.loop-shard.shelf) c.loop-shard.invariant.leaves none);
+      uber = c.loop-shard.invariant.uber;
+      checks = c.loop-shard.invariant.checks;
+      faults = c.loop-shard.invariant.faults;
+    }
 
 pub give-requires : goal.give-requires
 give-requires g c =

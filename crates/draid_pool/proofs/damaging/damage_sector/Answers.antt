@@ -7,13 +7,24 @@ use Rattle.draid_pool.proofs.Damages.{damages, damages_nowhere, damages_starved,
 use Rattle.draid_pool.proofs.Sets.{kept_still, kept_then}
 use Rattle.draid_pool.proofs.damaging.damage_sector.Goals as goal
 
-pub returns-then-not-has_leaf-clause-damages : goal.returns-then-not-has_leaf-clause-damages
-returns-then-not-has_leaf-clause-damages g c = damages_nowhere g.R.Rack g.A.Area c.args.shard.now c.args.leaf (λ is. not_both c.has_leaf.result (c.has_leaf.ensures.1 is) c.if-not-has_leaf.true)
+pub returns-then-not-has_leaf : goal.returns-then-not-has_leaf
+returns-then-not-has_leaf g c =
+    record {
+      valid = c.requires.valid;
+      part = refl;
+      keeps = kept_still c.args.shard.now;
+      damages = damages_nowhere g.R.Rack g.A.Area c.args.shard.now c.args.leaf (λ is. not_both c.has_leaf.result (c.has_leaf.ensures.1 is) c.if-not-has_leaf.true);
+    }
 
-pub returns-in-Err-NoMemory-clause-damages : goal.returns-in-Err-NoMemory-clause-damages
-returns-in-Err-NoMemory-clause-damages g c =
-    let e = c.in-Err-NoMemory.ensures in
-    damages_starved g.R.Rack g.A.Area c.args.shard.now c.reserve.new.self (record { valid = e.valid; none = e.none; kit = e.kit; limit = e.limit }) e.same
+pub returns-in-Err-NoMemory : goal.returns-in-Err-NoMemory
+returns-in-Err-NoMemory g c =
+    record {
+      valid = c.in-Err-NoMemory.ensures.valid;
+      part = c.in-Err-NoMemory.ensures.none.part;
+      keeps = c.in-Err-NoMemory.ensures.keeps;
+      damages = (let e = c.in-Err-NoMemory.ensures in
+          damages_starved g.R.Rack g.A.Area c.args.shard.now c.reserve.new.self (record { valid = e.valid; none = e.none; kit = e.kit; limit = e.limit }) e.same);
+    }
 
 pub returns-in-Err-Worn : goal.returns-in-Err-Worn
 returns-in-Err-Worn g c =
@@ -27,10 +38,15 @@ returns-in-Err-Worn g c =
           c.in-Err-Worn.field-0 c.in-Err-Worn.field-0-0 c.in-Err-Worn.field-0-is e.answer;
     }
 
-pub damage-requires-clause-leaf : goal.damage-requires-clause-leaf
-damage-requires-clause-leaf g c =
-    let is = state_shown g.R.Rack c.args.shard.now c.requires.valid in
-    leaf_stays g.R.Rack g.A.Area c.args.shard.now c.reserve.new.self is.0 c.args.leaf is.1 c.reserve.ensures.none (c.has_leaf.ensures.0 c.if-not-has_leaf.false)
+pub damage-requires : goal.damage-requires
+damage-requires g c =
+    record {
+      valid = c.reserve.ensures.valid;
+      reserved = (let more = c.in-Ok.ensures.reserved in omega (arith, more));
+      leaf = (let is = state_shown g.R.Rack c.args.shard.now c.requires.valid in
+          leaf_stays g.R.Rack g.A.Area c.args.shard.now c.reserve.new.self is.0 c.args.leaf is.1 c.reserve.ensures.none (c.has_leaf.ensures.0 c.if-not-has_leaf.false));
+      sector = subst (λ (p : Part). c.args.sector < metaslab_sectors p.geometry) (sym c.reserve.ensures.none.part) c.requires.sector;
+    }
 
 pub returns-in-Ok-damage : goal.returns-in-Ok-damage
 returns-in-Ok-damage g c =
@@ -57,30 +73,3 @@ returns-in-Err g c =
           (record { valid = e.valid; none = e.none; kit = e.kit; limit = e.limit }) e.reserved e.answer d.valid d.event d.acts
           (raises_damage g.R.Rack g.A.Area c.reserve.new.self c.damage.new.self c.args.leaf c.args.sector (Err c.in-Err.field-0) d.areas d.cause) d.reserve d.limit;
     }
-
-pub returns-then-not-has_leaf-clause-valid : goal.returns-then-not-has_leaf-clause-valid
-returns-then-not-has_leaf-clause-valid g c = c.requires.valid
-
-pub returns-then-not-has_leaf-clause-part : goal.returns-then-not-has_leaf-clause-part
-returns-then-not-has_leaf-clause-part g c = refl
-
-pub returns-then-not-has_leaf-clause-keeps : goal.returns-then-not-has_leaf-clause-keeps
-returns-then-not-has_leaf-clause-keeps g c = kept_still c.args.shard.now
-
-pub returns-in-Err-NoMemory-clause-valid : goal.returns-in-Err-NoMemory-clause-valid
-returns-in-Err-NoMemory-clause-valid g c = c.in-Err-NoMemory.ensures.valid
-
-pub returns-in-Err-NoMemory-clause-part : goal.returns-in-Err-NoMemory-clause-part
-returns-in-Err-NoMemory-clause-part g c = c.in-Err-NoMemory.ensures.none.part
-
-pub returns-in-Err-NoMemory-clause-keeps : goal.returns-in-Err-NoMemory-clause-keeps
-returns-in-Err-NoMemory-clause-keeps g c = c.in-Err-NoMemory.ensures.keeps
-
-pub damage-requires-clause-valid : goal.damage-requires-clause-valid
-damage-requires-clause-valid g c = c.reserve.ensures.valid
-
-pub damage-requires-clause-sector : goal.damage-requires-clause-sector
-damage-requires-clause-sector g c = subst (λ (p : Part). c.args.sector < metaslab_sectors p.geometry) (sym c.reserve.ensures.none.part) c.requires.sector
-
-pub damage-requires-clause-reserved : goal.damage-requires-clause-reserved
-damage-requires-clause-reserved g c = (let more = c.in-Ok.ensures.reserved in omega (arith, more))

@@ -3,25 +3,21 @@ use Rattle.draid_pool.proofs.ImportFaulty.{found_apart}
 use Rattle.draid_pool.proofs.Refusing.{no_record, no_refusal, no_shelf, record_no_shelf}
 use Rattle.draid_pool.proofs.importing.find_blocks.Goals as goal
 
-pub returns-in-Err-Record-clause-faulty : goal.returns-in-Err-Record-clause-faulty
-returns-in-Err-Record-clause-faulty g c =
-    let r = c.in-Err-Record in
-    found_apart c.args.shards.now r.metaslab r.at r.kind (r.ensures.faulty r.metaslab r.at r.kind (ap Err r.field-0-is))
+pub returns-in-Err-Record : goal.returns-in-Err-Record
+returns-in-Err-Record g c =
+    record {
+      found = tt;
+      faulty = (let r = c.in-Err-Record in
+          found_apart c.args.shards.now r.metaslab r.at r.kind (r.ensures.faulty r.metaslab r.at r.kind (ap Err r.field-0-is)));
+      no_device = λ err. record_no_shelf (Some c.in-Err-Record.metaslab) c.in-Err-Record.at c.in-Err-Record.kind err;
+      fault = tt;
+    }
 
 pub returns-in-Ok : goal.returns-in-Ok
 returns-in-Ok g c = record { found = c.in-Ok.ensures.found; faulty = λ metaslab place kind err. absurd (no_refusal err); no_device = λ err. no_refusal err; fault = tt }
 
 pub returns-in-Err-NoMemory : goal.returns-in-Err-NoMemory
 returns-in-Err-NoMemory g c = record { found = tt; faulty = λ metaslab place kind err. absurd (no_record metaslab place kind err); no_device = λ err. no_shelf err; fault = tt }
-
-pub returns-in-Err-Record-clause-found : goal.returns-in-Err-Record-clause-found
-returns-in-Err-Record-clause-found g c = tt
-
-pub returns-in-Err-Record-clause-no_device : goal.returns-in-Err-Record-clause-no_device
-returns-in-Err-Record-clause-no_device g c = λ err. record_no_shelf (Some c.in-Err-Record.metaslab) c.in-Err-Record.at c.in-Err-Record.kind err
-
-pub returns-in-Err-Record-clause-fault : goal.returns-in-Err-Record-clause-fault
-returns-in-Err-Record-clause-fault g c = tt
 
 pub find_blocks-requires : goal.find_blocks-requires
 find_blocks-requires g c = record { ready = c.requires.ready }

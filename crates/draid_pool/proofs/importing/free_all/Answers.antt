@@ -6,35 +6,20 @@ use Rattle.draid_found.proofs.Noted.{at_item}
 use Rattle.draid_pool.proofs.Found.{freeing_all, freeing_more}
 use Rattle.draid_pool.proofs.importing.free_all.Goals as goal
 
-pub free_older-requires-clause-valid : goal.free_older-requires-clause-valid
-free_older-requires-clause-valid g c =
+pub free_older-requires : goal.free_older-requires
+free_older-requires g c =
     let f = c.loop-number.invariant.freeing in
     let many = f.many in
     let below = c.loop-number-test.true in
     let end = c.len-number-end.ensures in
     let len = c.args.shards.now.ok.0 in
     let there = at_item c.loop-number.shards.items c.loop-number.number c.index_mut.result.now (omega (arith, many, below, end, len)) c.index_mut.ensures.value in
-    (c.requires.ready c.loop-number.number c.index_mut.result.now (sym (f.left c.loop-number.number (omega arith)) ∙ there)).valid
-
-pub free_older-requires-clause-live : goal.free_older-requires-clause-live
-free_older-requires-clause-live g c =
-    let f = c.loop-number.invariant.freeing in
-    let many = f.many in
-    let below = c.loop-number-test.true in
-    let end = c.len-number-end.ensures in
-    let len = c.args.shards.now.ok.0 in
-    let there = at_item c.loop-number.shards.items c.loop-number.number c.index_mut.result.now (omega (arith, many, below, end, len)) c.index_mut.ensures.value in
-    (c.requires.ready c.loop-number.number c.index_mut.result.now (sym (f.left c.loop-number.number (omega arith)) ∙ there)).live
-
-pub free_older-requires-clause-floor : goal.free_older-requires-clause-floor
-free_older-requires-clause-floor g c =
-    let f = c.loop-number.invariant.freeing in
-    let many = f.many in
-    let below = c.loop-number-test.true in
-    let end = c.len-number-end.ensures in
-    let len = c.args.shards.now.ok.0 in
-    let there = at_item c.loop-number.shards.items c.loop-number.number c.index_mut.result.now (omega (arith, many, below, end, len)) c.index_mut.ensures.value in
-    c.requires.floor c.loop-number.number c.index_mut.result.now (sym (f.left c.loop-number.number (omega arith)) ∙ there)
+    record {
+      valid = (c.requires.ready c.loop-number.number c.index_mut.result.now (sym (f.left c.loop-number.number (omega arith)) ∙ there)).valid;
+      live = (c.requires.ready c.loop-number.number c.index_mut.result.now (sym (f.left c.loop-number.number (omega arith)) ∙ there)).live;
+      floor = c.requires.floor c.loop-number.number c.index_mut.result.now (sym (f.left c.loop-number.number (omega arith)) ∙ there);
+      last = c.requires.last;
+    }
 
 pub loop-number-preserved : goal.loop-number-preserved
 loop-number-preserved g c =

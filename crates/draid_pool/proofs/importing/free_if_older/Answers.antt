@@ -7,17 +7,14 @@ returns-then-is_newest g c = record {
   frees = record { valid = c.requires.valid; part = refl; open_group_is = refl; done = inl (c.is_newest.ensures.0 c.if-is_newest.true, refl) };
 }
 
-pub free_block-requires-clause-valid : goal.free_block-requires-clause-valid
-free_block-requires-clause-valid g c = c.requires.valid
-
-pub free_block-requires-clause-live : goal.free_block-requires-clause-live
-free_block-requires-clause-live g c = c.requires.live
-
-pub free_block-requires-clause-floor : goal.free_block-requires-clause-floor
-free_block-requires-clause-floor g c = c.requires.floor
-
-pub free_block-requires-clause-last : goal.free_block-requires-clause-last
-free_block-requires-clause-last g c = c.requires.last
+pub free_block-requires : goal.free_block-requires
+free_block-requires g c =
+    record {
+      valid = c.requires.valid;
+      live = c.requires.live;
+      floor = c.requires.floor;
+      last = c.requires.last;
+    }
 
 pub returns : goal.returns
 returns g c =

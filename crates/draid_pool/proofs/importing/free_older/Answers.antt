@@ -49,24 +49,19 @@ loop-pointer-preserved g c =
       only = only_step g.R.Rack g.A.Area newest c.args.floor c.loop-pointer.from c.loop-pointer.shard c.free_if_older.new.shard c.in-Some.pointer next c.free_if_older.ensures.frees i.only;
     }
 
-pub free_if_older-requires-clause-valid : goal.free_if_older-requires-clause-valid
-free_if_older-requires-clause-valid g c = c.loop-pointer.invariant.frees.valid
+pub free_if_older-requires : goal.free_if_older-requires
+free_if_older-requires g c =
+    record {
+      valid = c.loop-pointer.invariant.frees.valid;
+      live = next_live g.R.Rack c.loop-pointer.shard c.loop-pointer.from c.in-Some.pointer c.loop-pointer.invariant.left c.in-Some.ensures.some;
+      floor = (let floor = c.requires.floor in let same = c.loop-pointer.invariant.open_group in omega (arith, floor, same));
+      last = c.requires.last;
+    }
 
-pub free_if_older-requires-clause-live : goal.free_if_older-requires-clause-live
-free_if_older-requires-clause-live g c = next_live g.R.Rack c.loop-pointer.shard c.loop-pointer.from c.in-Some.pointer c.loop-pointer.invariant.left c.in-Some.ensures.some
-
-pub free_if_older-requires-clause-floor : goal.free_if_older-requires-clause-floor
-free_if_older-requires-clause-floor g c = (let floor = c.requires.floor in let same = c.loop-pointer.invariant.open_group in omega (arith, floor, same))
-
-pub free_if_older-requires-clause-last : goal.free_if_older-requires-clause-last
-free_if_older-requires-clause-last g c = c.requires.last
-
-pub returns-clause-frees : goal.returns-clause-frees
-returns-clause-frees g c = c.loop-pointer.invariant.frees
-
-pub returns-clause-keeps : goal.returns-clause-keeps
-returns-clause-keeps g c = c.loop-pointer.invariant.keeps
-
-pub returns-clause-only : goal.returns-clause-only
-returns-clause-only g c =
-    only_all g.R.Rack g.A.Area (get nat_eq c.args.newest.now) c.args.floor c.loop-pointer.from c.loop-pointer.shard c.in_default.ensures.none c.loop-pointer.invariant.only
+pub returns : goal.returns
+returns g c =
+    record {
+      frees = c.loop-pointer.invariant.frees;
+      only = only_all g.R.Rack g.A.Area (get nat_eq c.args.newest.now) c.args.floor c.loop-pointer.from c.loop-pointer.shard c.in_default.ensures.none c.loop-pointer.invariant.only;
+      keeps = c.loop-pointer.invariant.keeps;
+    }

@@ -33,16 +33,14 @@ find_blocks-requires g c = record {
 pub reopen_shards-requires-clause-uber : goal.reopen_shards-requires-clause-uber
 reopen_shards-requires-clause-uber g c κs within = c.in_ok-uber.ensures.found
 
-pub pool_of-requires-clause-uber : goal.pool_of-requires-clause-uber
-pool_of-requires-clause-uber g c = c.in_ok-uber.ensures.found
-
-pub pool_of-requires-clause-shards : goal.pool_of-requires-clause-shards
-pool_of-requires-clause-shards g c = c.in-Ok.ensures.reopened
-
-pub pool_of-requires-clause-found : goal.pool_of-requires-clause-found
-pool_of-requires-clause-found g c =
-    let found = c.in-Ok-find_blocks.found in
-    subst (λ (xs : List (Shard g.row.H-R.Denot g.row.H-A.Denot)). AreFound xs (get nat_eq found.newest) found.seq) c.deref.ensures.value c.in-Ok-find_blocks.ensures.found
+pub pool_of-requires : goal.pool_of-requires
+pool_of-requires g c =
+    record {
+      uber = c.in_ok-uber.ensures.found;
+      shards = c.in-Ok.ensures.reopened;
+      found = (let found = c.in-Ok-find_blocks.found in
+          subst (λ (xs : List (Shard g.row.H-R.Denot g.row.H-A.Denot)). AreFound xs (get nat_eq found.newest) found.seq) c.deref.ensures.value c.in-Ok-find_blocks.ensures.found);
+    }
 
 pub give_back-requires-clause-few : goal.give_back-requires-clause-few
 give_back-requires-clause-few g c κs within =
@@ -50,230 +48,138 @@ give_back-requires-clause-few g c κs within =
     let most = c.in-Ok.ensures.reopened.layout.geometry_is.props.most_metaslabs in
     omega (arith, many, most)
 
-pub returns-in-Ok-find_blocks-clause-none : goal.returns-in-Ok-find_blocks-clause-none
-returns-in-Ok-find_blocks-clause-none g c = absent_not c.in_ok-uber.uber (g.H.Shelf.told c.args.shelf.now) _ _ c.in_ok-uber.ensures.none
-
-pub returns-in-Ok-find_blocks-clause-held : goal.returns-in-Ok-find_blocks-clause-held
-returns-in-Ok-find_blocks-clause-held g c =
+pub returns-in-Ok-find_blocks : goal.returns-in-Ok-find_blocks
+returns-in-Ok-find_blocks g c =
     let shelf = g.H.Shelf in
-    checks_more (shelf.told c.args.shelf.now) (shelf.told c.find_uber.new.shelf) (shelf.told c.reopen_shards.new.shelf) c.in_ok-uber.ensures.held c.reopen_shards.ensures.held
+    record {
+      whole = c.pool_of.ensures.whole;
+      none = absent_not c.in_ok-uber.uber (g.H.Shelf.told c.args.shelf.now) _ _ c.in_ok-uber.ensures.none;
+      made = λ geometry made. absurd (c.in_ok-uber.ensures.made geometry made).none;
+      import = λ x pieces there. (let u = c.in_ok-uber.ensures in
+          let newest = get nat_eq c.in-Ok-find_blocks.found.newest in
+          c.pool_of.ensures.imports x pieces
+          (pool_found c.args.alloc g.H.R.Rack g.H.A.Area x pieces (shelf.told c.args.shelf.now) (shelf.told c.find_uber.new.shelf) (shelf.leaves c.args.shelf.now) (shelf.counts c.args.shelf.now) (shelf.counts c.find_uber.new.shelf)
+          (shelf.uber_count c.args.shelf.now) c.in_ok-uber.uber c.in-Ok.shards.items newest c.in-Ok-find_blocks.found.seq there u.found u.recovered c.find_uber.ensures.counts u.told c.in-Ok.ensures.reopened c.in-Ok.ensures.over
+          (subst (λ (xs : List (Shard g.row.H-R.Denot g.row.H-A.Denot)). AreFound xs newest c.in-Ok-find_blocks.found.seq) c.deref.ensures.value c.in-Ok-find_blocks.ensures.found)));
+      not_spec = tt;
+      tells = tells_as_before (layout_of c.in_ok-uber.uber).props.metaslabs (shelf.told c.args.shelf.now) (shelf.told c.find_uber.new.shelf) (shelf.told c.reopen_shards.new.shelf) c.in_ok-uber.ensures.told c.in-Ok.ensures.told;
+      faulty = λ metaslab place kind err. absurd (no_refusal err);
+      held = checks_more (shelf.told c.args.shelf.now) (shelf.told c.find_uber.new.shelf) (shelf.told c.reopen_shards.new.shelf) c.in_ok-uber.ensures.held c.reopen_shards.ensures.held;
+      checks = c.reopen_shards.ensures.checks ∙ c.find_uber.ensures.checks;
+      later = (let first = c.find_uber.ensures.later in let more = c.reopen_shards.ensures.later in omega (arith, first, more));
+      cause = λ failed. absurd (no_refusal failed);
+    }
 
-pub returns-in-Ok-find_blocks-clause-import : goal.returns-in-Ok-find_blocks-clause-import
-returns-in-Ok-find_blocks-clause-import g c x pieces there =
-    let shelf = g.H.Shelf in
-    let u = c.in_ok-uber.ensures in
-    let newest = get nat_eq c.in-Ok-find_blocks.found.newest in
-    c.pool_of.ensures.imports x pieces
-    (pool_found c.args.alloc g.H.R.Rack g.H.A.Area x pieces (shelf.told c.args.shelf.now) (shelf.told c.find_uber.new.shelf) (shelf.leaves c.args.shelf.now) (shelf.counts c.args.shelf.now) (shelf.counts c.find_uber.new.shelf)
-    (shelf.uber_count c.args.shelf.now) c.in_ok-uber.uber c.in-Ok.shards.items newest c.in-Ok-find_blocks.found.seq there u.found u.recovered c.find_uber.ensures.counts u.told c.in-Ok.ensures.reopened c.in-Ok.ensures.over
-    (subst (λ (xs : List (Shard g.row.H-R.Denot g.row.H-A.Denot)). AreFound xs newest c.in-Ok-find_blocks.found.seq) c.deref.ensures.value c.in-Ok-find_blocks.ensures.found))
-
-pub returns-in-Ok-find_blocks-clause-tells : goal.returns-in-Ok-find_blocks-clause-tells
-returns-in-Ok-find_blocks-clause-tells g c =
-    let shelf = g.H.Shelf in
-    tells_as_before (layout_of c.in_ok-uber.uber).props.metaslabs (shelf.told c.args.shelf.now) (shelf.told c.find_uber.new.shelf) (shelf.told c.reopen_shards.new.shelf) c.in_ok-uber.ensures.told c.in-Ok.ensures.told
-
-pub returns-in-Err-clause-import : goal.returns-in-Err-clause-import
-returns-in-Err-clause-import g c x pieces there =
-    let shelf = g.H.Shelf in
-    let u = c.in_ok-uber.ensures in
-    refusal_is g.H.R.Rack g.H.A.Area x pieces (shelf.told c.give_uber.new.self) (shelf.leaves c.give_uber.new.self) (shelf.counts c.give_uber.new.self) (shelf.uber_count c.give_uber.new.self) c.in-Err.fault c.in-Err.ensures.fault
-    (c.in-Err.ensures.opens x pieces (shelf.told c.args.shelf.now) (shelf.counts c.args.shelf.now) (shelf.uber_count c.args.shelf.now)
-    (rests_known x pieces (shelf.told c.args.shelf.now) (shelf.leaves c.args.shelf.now) (shelf.leaves c.find_uber.new.shelf) (shelf.counts c.args.shelf.now) (shelf.uber_count c.args.shelf.now) c.find_uber.ensures.leaves there) u.recovered u.told)
-    (refused_pool c.args.alloc g.H.R.Rack g.H.A.Area x pieces (shelf.told c.args.shelf.now) (shelf.told c.find_uber.new.shelf) (shelf.told c.reopen_shards.new.shelf) (shelf.told c.give_uber.new.self)
-    (shelf.leaves c.args.shelf.now) (shelf.leaves c.find_uber.new.shelf) (shelf.leaves c.reopen_shards.new.shelf) (shelf.leaves c.give_uber.new.self)
-    (shelf.counts c.args.shelf.now) (shelf.counts c.find_uber.new.shelf) (shelf.counts c.reopen_shards.new.shelf) (shelf.counts c.give_uber.new.self) (shelf.uber_count c.args.shelf.now) (shelf.uber_count c.give_uber.new.self)
-    c.in_ok-uber.uber there u.found u.recovered u.told c.find_uber.ensures.leaves c.find_uber.ensures.counts c.in-Err.ensures.back
-    (c.give_uber.ensures.told ∙ ap (λ a. gives_uber (g.H.A.Area.told a) (shelf.told c.reopen_shards.new.shelf)) c.into_area.ensures) c.give_uber.ensures.leaves c.give_uber.ensures.counts
-    (c.give_uber.ensures.count ∙ ap g.H.A.Area.faults c.into_area.ensures))
-
-pub returns-in-Err-find_blocks-clause-import : goal.returns-in-Err-find_blocks-clause-import
-returns-in-Err-find_blocks-clause-import g c x pieces there =
-    let shelf = g.H.Shelf in
-    let rack = g.H.R.Rack in
-    let area = g.H.A.Area in
-    let u = c.in_ok-uber.ensures in
-    let uber = c.in_ok-uber.uber in
-    let e = c.in-Ok.ensures in
-    let shards = c.in-Ok.shards.items in
-    let f = c.in-Err-find_blocks.ensures in
-    refusal_is rack area x pieces (shelf.told c.give_uber-in-Err-find_blocks.new.self) (shelf.leaves c.give_uber-in-Err-find_blocks.new.self) (shelf.counts c.give_uber-in-Err-find_blocks.new.self) (shelf.uber_count c.give_uber-in-Err-find_blocks.new.self) c.in-Err-find_blocks.fault f.fault
-    (no_fault_apart c.args.alloc rack area x pieces (shelf.told c.args.shelf.now) (shelf.told c.find_uber.new.shelf) (shelf.leaves c.args.shelf.now) (shelf.counts c.args.shelf.now) (shelf.counts c.find_uber.new.shelf)
-    (shelf.uber_count c.args.shelf.now) uber shards c.in-Err-find_blocks.fault there u.found u.recovered c.find_uber.ensures.counts u.told e.reopened e.over
-    (λ metaslab place kind err. subst (λ (xs : List (Shard g.row.H-R.Denot g.row.H-A.Denot)). AreApart xs metaslab place kind) c.deref.ensures.value (f.faulty metaslab place kind err)))
-    (refused_pool c.args.alloc rack area x pieces (shelf.told c.args.shelf.now) (shelf.told c.find_uber.new.shelf) (shelf.told c.give_back.new.shelf) (shelf.told c.give_uber-in-Err-find_blocks.new.self)
-    (shelf.leaves c.args.shelf.now) (shelf.leaves c.find_uber.new.shelf) (shelf.leaves c.give_back.new.shelf) (shelf.leaves c.give_uber-in-Err-find_blocks.new.self)
-    (shelf.counts c.args.shelf.now) (shelf.counts c.find_uber.new.shelf) (shelf.counts c.give_back.new.shelf) (shelf.counts c.give_uber-in-Err-find_blocks.new.self) (shelf.uber_count c.args.shelf.now) (shelf.uber_count c.give_uber-in-Err-find_blocks.new.self)
-    uber there u.found u.recovered u.told c.find_uber.ensures.leaves c.find_uber.ensures.counts
-    (leaves_all rack area (layout_of uber) (group_of (kept_of uber)) (next_leaf_of uber) shards (shelf.told c.find_uber.new.shelf) (shelf.told c.reopen_shards.new.shelf) (shelf.told c.give_back.new.shelf)
-    (shelf.counts c.find_uber.new.shelf) (shelf.counts c.reopen_shards.new.shelf) (shelf.counts c.give_back.new.shelf) (shelf.leaves c.find_uber.new.shelf) (shelf.leaves c.reopen_shards.new.shelf) (shelf.leaves c.give_back.new.shelf)
-    e.reopened e.over e.told c.give_back.ensures.returns c.give_back.ensures.leaves)
-    (c.give_uber-in-Err-find_blocks.ensures.told ∙ ap (λ a. gives_uber (g.H.A.Area.told a) (shelf.told c.give_back.new.shelf)) c.into_area-in-Err-find_blocks.ensures) c.give_uber-in-Err-find_blocks.ensures.leaves c.give_uber-in-Err-find_blocks.ensures.counts
-    (c.give_uber-in-Err-find_blocks.ensures.count ∙ ap g.H.A.Area.faults c.into_area-in-Err-find_blocks.ensures))
-
-pub returns-in-Err-clause-faulty : goal.returns-in-Err-clause-faulty
-returns-in-Err-clause-faulty g c metaslab place kind err =
+pub returns-in-Err : goal.returns-in-Err
+returns-in-Err g c =
     let shelf = g.H.Shelf in
     let u = c.in_ok-uber.ensures in
-    let uber = c.in_ok-uber.uber in
-    let z = c.in-Err.ensures.faulty metaslab place kind (ap Err (err_is c.in-Err.fault _ err)) in
-    inr (record {
-      uber = uber;
-      found = u.found;
-      recovered = u.recovered;
-      bad = inl (subst (λ (o : Option Held). OneIsUnread g.H.R.Rack g.H.A.Area (layout_of uber) (group_of (kept_of uber)) (next_leaf_of uber) o (shelf.counts c.args.shelf.now) metaslab place kind) u.told
-          (z.0, subst (λ (k : KitCounts). IsUnread g.H.R.Rack g.H.A.Area (layout_of uber) (group_of (kept_of uber)) (next_leaf_of uber) z.0 (shelf.told c.find_uber.new.shelf) k metaslab place kind) (c.find_uber.ensures.counts z.0) z.1));
-    })
+    record {
+      whole = tt;
+      none = absent_not c.in_ok-uber.uber (g.H.Shelf.told c.args.shelf.now) _ _ c.in_ok-uber.ensures.none;
+      made = λ geometry made. absurd (c.in_ok-uber.ensures.made geometry made).none;
+      import = λ x pieces there. refusal_is g.H.R.Rack g.H.A.Area x pieces (shelf.told c.give_uber.new.self) (shelf.leaves c.give_uber.new.self) (shelf.counts c.give_uber.new.self) (shelf.uber_count c.give_uber.new.self) c.in-Err.fault c.in-Err.ensures.fault
+          (c.in-Err.ensures.opens x pieces (shelf.told c.args.shelf.now) (shelf.counts c.args.shelf.now) (shelf.uber_count c.args.shelf.now)
+          (rests_known x pieces (shelf.told c.args.shelf.now) (shelf.leaves c.args.shelf.now) (shelf.leaves c.find_uber.new.shelf) (shelf.counts c.args.shelf.now) (shelf.uber_count c.args.shelf.now) c.find_uber.ensures.leaves there) u.recovered u.told)
+          (refused_pool c.args.alloc g.H.R.Rack g.H.A.Area x pieces (shelf.told c.args.shelf.now) (shelf.told c.find_uber.new.shelf) (shelf.told c.reopen_shards.new.shelf) (shelf.told c.give_uber.new.self)
+          (shelf.leaves c.args.shelf.now) (shelf.leaves c.find_uber.new.shelf) (shelf.leaves c.reopen_shards.new.shelf) (shelf.leaves c.give_uber.new.self)
+          (shelf.counts c.args.shelf.now) (shelf.counts c.find_uber.new.shelf) (shelf.counts c.reopen_shards.new.shelf) (shelf.counts c.give_uber.new.self) (shelf.uber_count c.args.shelf.now) (shelf.uber_count c.give_uber.new.self)
+          c.in_ok-uber.uber there u.found u.recovered u.told c.find_uber.ensures.leaves c.find_uber.ensures.counts c.in-Err.ensures.back
+          (c.give_uber.ensures.told ∙ ap (λ a. gives_uber (g.H.A.Area.told a) (shelf.told c.reopen_shards.new.shelf)) c.into_area.ensures) c.give_uber.ensures.leaves c.give_uber.ensures.counts
+          (c.give_uber.ensures.count ∙ ap g.H.A.Area.faults c.into_area.ensures));
+      not_spec = shard_not_spec c.in-Err.fault c.in-Err.ensures.fault;
+      tells = tt;
+      faulty = λ metaslab place kind err. (let uber = c.in_ok-uber.uber in
+          let z = c.in-Err.ensures.faulty metaslab place kind (ap Err (err_is c.in-Err.fault _ err)) in
+          inr (record {
+            uber = uber;
+            found = u.found;
+            recovered = u.recovered;
+            bad = inl (subst (λ (o : Option Held). OneIsUnread g.H.R.Rack g.H.A.Area (layout_of uber) (group_of (kept_of uber)) (next_leaf_of uber) o (shelf.counts c.args.shelf.now) metaslab place kind) u.told
+                (z.0, subst (λ (k : KitCounts). IsUnread g.H.R.Rack g.H.A.Area (layout_of uber) (group_of (kept_of uber)) (next_leaf_of uber) z.0 (shelf.told c.find_uber.new.shelf) k metaslab place kind) (c.find_uber.ensures.counts z.0) z.1));
+          }));
+      held = checks_given (g.H.A.Area.told c.into_area.result) (shelf.told c.args.shelf.now) (shelf.told c.reopen_shards.new.shelf) (shelf.told c.give_uber.new.self)
+          (checks_more (shelf.told c.args.shelf.now) (shelf.told c.find_uber.new.shelf) (shelf.told c.reopen_shards.new.shelf) c.find_uber.ensures.held c.reopen_shards.ensures.held) c.give_uber.ensures.told;
+      checks = c.give_uber.ensures.check_counts ∙ (c.reopen_shards.ensures.checks ∙ c.find_uber.ensures.checks);
+      later = (let first = c.find_uber.ensures.later in let more = c.reopen_shards.ensures.later in let same = c.give_uber.ensures.faults in omega (arith, first, more, same));
+      cause = λ failed. risen_behind g.H.A.Area (shelf.told c.args.shelf.now) (shelf.faults c.args.shelf.now) (shelf.faults c.find_uber.new.shelf) (shelf.faults c.reopen_shards.new.shelf) (shelf.faults c.give_uber.new.self) (shelf.uber_count c.args.shelf.now) (shelf.uber_count c.give_uber.new.self)
+          (shelf.counts c.args.shelf.now) (shelf.counts c.find_uber.new.shelf) (shelf.counts c.reopen_shards.new.shelf) (shelf.counts c.give_uber.new.self)
+          c.in_ok-uber.uber c.in_ok-uber.ensures.found c.in_ok-uber.ensures.recovered c.find_uber.ensures.later c.give_uber.ensures.faults
+          c.find_uber.ensures.counts c.give_uber.ensures.counts (c.in-Err.ensures.cause (refused_too c.in-Err.fault failed));
+    }
 
-pub returns-in-Err-find_blocks-clause-faulty : goal.returns-in-Err-find_blocks-clause-faulty
-returns-in-Err-find_blocks-clause-faulty g c metaslab place kind err =
+pub returns-in-Err-find_blocks : goal.returns-in-Err-find_blocks
+returns-in-Err-find_blocks g c =
     let shelf = g.H.Shelf in
     let u = c.in_ok-uber.ensures in
     let uber = c.in_ok-uber.uber in
     let e = c.in-Ok.ensures in
-    inr (record {
-      uber = uber;
-      found = u.found;
-      recovered = u.recovered;
-      bad = inr (record {
-        shards = c.in-Ok.shards.items;
-        reopened = e.reopened;
-        over = subst (λ (o : Option Held). OpensAllOver g.H.R.Rack g.H.A.Area (limit_of (layout_of uber)) (group_of (kept_of uber)) (next_leaf_of uber) o (shelf.counts c.args.shelf.now) c.in-Ok.shards.items) u.told
-            (λ m shard there. subst (λ (k : KitCounts). OpensOver g.H.R.Rack g.H.A.Area (limit_of (layout_of uber)) (group_of (kept_of uber)) (next_leaf_of uber) m (shelf.told c.find_uber.new.shelf) k shard) (c.find_uber.ensures.counts m) (e.over m shard there));
-        apart = subst (λ (xs : List (Shard g.row.H-R.Denot g.row.H-A.Denot)). AreApart xs metaslab place kind) c.deref.ensures.value
-            (c.in-Err-find_blocks.ensures.faulty metaslab place kind (ap Err (err_is c.in-Err-find_blocks.fault _ err)));
+    record {
+      whole = tt;
+      none = absent_not c.in_ok-uber.uber (g.H.Shelf.told c.args.shelf.now) _ _ c.in_ok-uber.ensures.none;
+      made = λ geometry made. absurd (c.in_ok-uber.ensures.made geometry made).none;
+      import = λ x pieces there. (let rack = g.H.R.Rack in
+          let area = g.H.A.Area in
+          let shards = c.in-Ok.shards.items in
+          let f = c.in-Err-find_blocks.ensures in
+          refusal_is rack area x pieces (shelf.told c.give_uber-in-Err-find_blocks.new.self) (shelf.leaves c.give_uber-in-Err-find_blocks.new.self) (shelf.counts c.give_uber-in-Err-find_blocks.new.self) (shelf.uber_count c.give_uber-in-Err-find_blocks.new.self) c.in-Err-find_blocks.fault f.fault
+          (no_fault_apart c.args.alloc rack area x pieces (shelf.told c.args.shelf.now) (shelf.told c.find_uber.new.shelf) (shelf.leaves c.args.shelf.now) (shelf.counts c.args.shelf.now) (shelf.counts c.find_uber.new.shelf)
+          (shelf.uber_count c.args.shelf.now) uber shards c.in-Err-find_blocks.fault there u.found u.recovered c.find_uber.ensures.counts u.told e.reopened e.over
+          (λ metaslab place kind err. subst (λ (xs : List (Shard g.row.H-R.Denot g.row.H-A.Denot)). AreApart xs metaslab place kind) c.deref.ensures.value (f.faulty metaslab place kind err)))
+          (refused_pool c.args.alloc rack area x pieces (shelf.told c.args.shelf.now) (shelf.told c.find_uber.new.shelf) (shelf.told c.give_back.new.shelf) (shelf.told c.give_uber-in-Err-find_blocks.new.self)
+          (shelf.leaves c.args.shelf.now) (shelf.leaves c.find_uber.new.shelf) (shelf.leaves c.give_back.new.shelf) (shelf.leaves c.give_uber-in-Err-find_blocks.new.self)
+          (shelf.counts c.args.shelf.now) (shelf.counts c.find_uber.new.shelf) (shelf.counts c.give_back.new.shelf) (shelf.counts c.give_uber-in-Err-find_blocks.new.self) (shelf.uber_count c.args.shelf.now) (shelf.uber_count c.give_uber-in-Err-find_blocks.new.self)
+          uber there u.found u.recovered u.told c.find_uber.ensures.leaves c.find_uber.ensures.counts
+          (leaves_all rack area (layout_of uber) (group_of (kept_of uber)) (next_leaf_of uber) shards (shelf.told c.find_uber.new.shelf) (shelf.told c.reopen_shards.new.shelf) (shelf.told c.give_back.new.shelf)
+          (shelf.counts c.find_uber.new.shelf) (shelf.counts c.reopen_shards.new.shelf) (shelf.counts c.give_back.new.shelf) (shelf.leaves c.find_uber.new.shelf) (shelf.leaves c.reopen_shards.new.shelf) (shelf.leaves c.give_back.new.shelf)
+          e.reopened e.over e.told c.give_back.ensures.returns c.give_back.ensures.leaves)
+          (c.give_uber-in-Err-find_blocks.ensures.told ∙ ap (λ a. gives_uber (g.H.A.Area.told a) (shelf.told c.give_back.new.shelf)) c.into_area-in-Err-find_blocks.ensures) c.give_uber-in-Err-find_blocks.ensures.leaves c.give_uber-in-Err-find_blocks.ensures.counts
+          (c.give_uber-in-Err-find_blocks.ensures.count ∙ ap g.H.A.Area.faults c.into_area-in-Err-find_blocks.ensures)));
+      not_spec = shard_not_spec c.in-Err-find_blocks.fault c.in-Err-find_blocks.ensures.fault;
+      tells = tt;
+      faulty = λ metaslab place kind err. inr (record {
+        uber = uber;
+        found = u.found;
+        recovered = u.recovered;
+        bad = inr (record {
+          shards = c.in-Ok.shards.items;
+          reopened = e.reopened;
+          over = subst (λ (o : Option Held). OpensAllOver g.H.R.Rack g.H.A.Area (limit_of (layout_of uber)) (group_of (kept_of uber)) (next_leaf_of uber) o (shelf.counts c.args.shelf.now) c.in-Ok.shards.items) u.told
+              (λ m shard there. subst (λ (k : KitCounts). OpensOver g.H.R.Rack g.H.A.Area (limit_of (layout_of uber)) (group_of (kept_of uber)) (next_leaf_of uber) m (shelf.told c.find_uber.new.shelf) k shard) (c.find_uber.ensures.counts m) (e.over m shard there));
+          apart = subst (λ (xs : List (Shard g.row.H-R.Denot g.row.H-A.Denot)). AreApart xs metaslab place kind) c.deref.ensures.value
+              (c.in-Err-find_blocks.ensures.faulty metaslab place kind (ap Err (err_is c.in-Err-find_blocks.fault _ err)));
+        });
       });
-    })
+      held = checks_given (g.H.A.Area.told c.into_area-in-Err-find_blocks.result) (shelf.told c.args.shelf.now) (shelf.told c.give_back.new.shelf) (shelf.told c.give_uber-in-Err-find_blocks.new.self)
+          (checks_more (shelf.told c.args.shelf.now) (shelf.told c.reopen_shards.new.shelf) (shelf.told c.give_back.new.shelf)
+          (checks_more (shelf.told c.args.shelf.now) (shelf.told c.find_uber.new.shelf) (shelf.told c.reopen_shards.new.shelf) c.find_uber.ensures.held c.reopen_shards.ensures.held)
+          (checks_back g.H.R.Rack g.H.A.Area c.in-Ok.shards.items (shelf.told c.reopen_shards.new.shelf) (shelf.told c.give_back.new.shelf) (shelf.counts c.reopen_shards.new.shelf) (shelf.counts c.give_back.new.shelf) c.give_back.ensures.returns))
+          c.give_uber-in-Err-find_blocks.ensures.told;
+      checks = c.give_uber-in-Err-find_blocks.ensures.check_counts ∙ (c.give_back.ensures.checks ∙ (c.reopen_shards.ensures.checks ∙ c.find_uber.ensures.checks));
+      later = (let first = c.find_uber.ensures.later in
+          let more = c.reopen_shards.ensures.later in
+          let back = c.give_back.ensures.faults in
+          let same = c.give_uber-in-Err-find_blocks.ensures.faults in
+          omega (arith, first, more, back, same));
+      cause = λ failed. absurd (c.in-Err-find_blocks.ensures.no_device (refused_too c.in-Err-find_blocks.fault failed));
+    }
 
-pub returns-in_err-uber-clause-faulty : goal.returns-in_err-uber-clause-faulty
-returns-in_err-uber-clause-faulty g c metaslab place kind err =
-    let p = err_from_is_err_and c.from_residual.result c.from_residual.ensures.1 in
-    inl (c.in_err-uber.ensures.faulty metaslab place kind (passed_on c.from_residual.result p.0 c.in_err-uber.field-0.0 _ p.1 p.2 err))
-
-pub returns-in-Err-clause-none : goal.returns-in-Err-clause-none
-returns-in-Err-clause-none g c = absent_not c.in_ok-uber.uber (g.H.Shelf.told c.args.shelf.now) _ _ c.in_ok-uber.ensures.none
-
-pub returns-in-Err-find_blocks-clause-none : goal.returns-in-Err-find_blocks-clause-none
-returns-in-Err-find_blocks-clause-none g c = absent_not c.in_ok-uber.uber (g.H.Shelf.told c.args.shelf.now) _ _ c.in_ok-uber.ensures.none
-
-pub returns-in-Err-clause-cause : goal.returns-in-Err-clause-cause
-returns-in-Err-clause-cause g c failed =
-    let shelf = g.H.Shelf in
-    risen_behind g.H.A.Area (shelf.told c.args.shelf.now) (shelf.faults c.args.shelf.now) (shelf.faults c.find_uber.new.shelf) (shelf.faults c.reopen_shards.new.shelf) (shelf.faults c.give_uber.new.self) (shelf.uber_count c.args.shelf.now) (shelf.uber_count c.give_uber.new.self)
-    (shelf.counts c.args.shelf.now) (shelf.counts c.find_uber.new.shelf) (shelf.counts c.reopen_shards.new.shelf) (shelf.counts c.give_uber.new.self)
-    c.in_ok-uber.uber c.in_ok-uber.ensures.found c.in_ok-uber.ensures.recovered c.find_uber.ensures.later c.give_uber.ensures.faults
-    c.find_uber.ensures.counts c.give_uber.ensures.counts (c.in-Err.ensures.cause (refused_too c.in-Err.fault failed))
-
-pub returns-in-Ok-find_blocks-clause-made : goal.returns-in-Ok-find_blocks-clause-made
-returns-in-Ok-find_blocks-clause-made g c geometry made = absurd (c.in_ok-uber.ensures.made geometry made).none
-
-pub returns-in-Err-clause-made : goal.returns-in-Err-clause-made
-returns-in-Err-clause-made g c geometry made = absurd (c.in_ok-uber.ensures.made geometry made).none
-
-pub returns-in-Err-find_blocks-clause-made : goal.returns-in-Err-find_blocks-clause-made
-returns-in-Err-find_blocks-clause-made g c geometry made = absurd (c.in_ok-uber.ensures.made geometry made).none
-
-pub returns-in-Ok-find_blocks-clause-whole : goal.returns-in-Ok-find_blocks-clause-whole
-returns-in-Ok-find_blocks-clause-whole g c = c.pool_of.ensures.whole
-
-pub returns-in-Ok-find_blocks-clause-not_spec : goal.returns-in-Ok-find_blocks-clause-not_spec
-returns-in-Ok-find_blocks-clause-not_spec g c = tt
-
-pub returns-in-Ok-find_blocks-clause-faulty : goal.returns-in-Ok-find_blocks-clause-faulty
-returns-in-Ok-find_blocks-clause-faulty g c metaslab place kind err = absurd (no_refusal err)
-
-pub returns-in-Ok-find_blocks-clause-checks : goal.returns-in-Ok-find_blocks-clause-checks
-returns-in-Ok-find_blocks-clause-checks g c = c.reopen_shards.ensures.checks ∙ c.find_uber.ensures.checks
-
-pub returns-in-Ok-find_blocks-clause-later : goal.returns-in-Ok-find_blocks-clause-later
-returns-in-Ok-find_blocks-clause-later g c = (let first = c.find_uber.ensures.later in let more = c.reopen_shards.ensures.later in omega (arith, first, more))
-
-pub returns-in-Ok-find_blocks-clause-cause : goal.returns-in-Ok-find_blocks-clause-cause
-returns-in-Ok-find_blocks-clause-cause g c failed = absurd (no_refusal failed)
-
-pub returns-in-Err-clause-whole : goal.returns-in-Err-clause-whole
-returns-in-Err-clause-whole g c = tt
-
-pub returns-in-Err-clause-not_spec : goal.returns-in-Err-clause-not_spec
-returns-in-Err-clause-not_spec g c = shard_not_spec c.in-Err.fault c.in-Err.ensures.fault
-
-pub returns-in-Err-clause-tells : goal.returns-in-Err-clause-tells
-returns-in-Err-clause-tells g c = tt
-
-pub returns-in-Err-clause-held : goal.returns-in-Err-clause-held
-returns-in-Err-clause-held g c =
-    let shelf = g.H.Shelf in
-    checks_given (g.H.A.Area.told c.into_area.result) (shelf.told c.args.shelf.now) (shelf.told c.reopen_shards.new.shelf) (shelf.told c.give_uber.new.self)
-    (checks_more (shelf.told c.args.shelf.now) (shelf.told c.find_uber.new.shelf) (shelf.told c.reopen_shards.new.shelf) c.find_uber.ensures.held c.reopen_shards.ensures.held) c.give_uber.ensures.told
-
-pub returns-in-Err-clause-checks : goal.returns-in-Err-clause-checks
-returns-in-Err-clause-checks g c = c.give_uber.ensures.check_counts ∙ (c.reopen_shards.ensures.checks ∙ c.find_uber.ensures.checks)
-
-pub returns-in-Err-clause-later : goal.returns-in-Err-clause-later
-returns-in-Err-clause-later g c = (let first = c.find_uber.ensures.later in let more = c.reopen_shards.ensures.later in let same = c.give_uber.ensures.faults in omega (arith, first, more, same))
-
-pub returns-in-Err-find_blocks-clause-whole : goal.returns-in-Err-find_blocks-clause-whole
-returns-in-Err-find_blocks-clause-whole g c = tt
-
-pub returns-in-Err-find_blocks-clause-not_spec : goal.returns-in-Err-find_blocks-clause-not_spec
-returns-in-Err-find_blocks-clause-not_spec g c = shard_not_spec c.in-Err-find_blocks.fault c.in-Err-find_blocks.ensures.fault
-
-pub returns-in-Err-find_blocks-clause-tells : goal.returns-in-Err-find_blocks-clause-tells
-returns-in-Err-find_blocks-clause-tells g c = tt
-
-pub returns-in-Err-find_blocks-clause-held : goal.returns-in-Err-find_blocks-clause-held
-returns-in-Err-find_blocks-clause-held g c =
-    let shelf = g.H.Shelf in
-    checks_given (g.H.A.Area.told c.into_area-in-Err-find_blocks.result) (shelf.told c.args.shelf.now) (shelf.told c.give_back.new.shelf) (shelf.told c.give_uber-in-Err-find_blocks.new.self)
-    (checks_more (shelf.told c.args.shelf.now) (shelf.told c.reopen_shards.new.shelf) (shelf.told c.give_back.new.shelf)
-    (checks_more (shelf.told c.args.shelf.now) (shelf.told c.find_uber.new.shelf) (shelf.told c.reopen_shards.new.shelf) c.find_uber.ensures.held c.reopen_shards.ensures.held)
-    (checks_back g.H.R.Rack g.H.A.Area c.in-Ok.shards.items (shelf.told c.reopen_shards.new.shelf) (shelf.told c.give_back.new.shelf) (shelf.counts c.reopen_shards.new.shelf) (shelf.counts c.give_back.new.shelf) c.give_back.ensures.returns))
-    c.give_uber-in-Err-find_blocks.ensures.told
-
-pub returns-in-Err-find_blocks-clause-checks : goal.returns-in-Err-find_blocks-clause-checks
-returns-in-Err-find_blocks-clause-checks g c = c.give_uber-in-Err-find_blocks.ensures.check_counts ∙ (c.give_back.ensures.checks ∙ (c.reopen_shards.ensures.checks ∙ c.find_uber.ensures.checks))
-
-pub returns-in-Err-find_blocks-clause-later : goal.returns-in-Err-find_blocks-clause-later
-returns-in-Err-find_blocks-clause-later g c =
-    let first = c.find_uber.ensures.later in
-    let more = c.reopen_shards.ensures.later in
-    let back = c.give_back.ensures.faults in
-    let same = c.give_uber-in-Err-find_blocks.ensures.faults in
-    omega (arith, first, more, back, same)
-
-pub returns-in-Err-find_blocks-clause-cause : goal.returns-in-Err-find_blocks-clause-cause
-returns-in-Err-find_blocks-clause-cause g c failed = absurd (c.in-Err-find_blocks.ensures.no_device (refused_too c.in-Err-find_blocks.fault failed))
-
-pub returns-in_err-uber-clause-held : goal.returns-in_err-uber-clause-held
-returns-in_err-uber-clause-held g c = c.find_uber.ensures.held
-
-pub returns-in_err-uber-clause-checks : goal.returns-in_err-uber-clause-checks
-returns-in_err-uber-clause-checks g c = c.find_uber.ensures.checks
-
-pub returns-in_err-uber-clause-later : goal.returns-in_err-uber-clause-later
-returns-in_err-uber-clause-later g c = c.find_uber.ensures.later
-
-pub returns-in_err-uber-clause-whole : goal.returns-in_err-uber-clause-whole
-returns-in_err-uber-clause-whole g c = if_ok_passed _ c.from_residual.result _ c.from_residual.ensures.1
-
-pub returns-in_err-uber-clause-tells : goal.returns-in_err-uber-clause-tells
-returns-in_err-uber-clause-tells g c = on_ok_passed _ c.from_residual.result _ c.from_residual.ensures.1
-
-pub returns-in_err-uber-clause-not_spec : goal.returns-in_err-uber-clause-not_spec
-returns-in_err-uber-clause-not_spec g c = if_err_passed c.from_residual.result c.in_err-uber.field-0.0 _ c.from_residual.ensures.1 c.in_err-uber.ensures.not_spec
-
-pub returns-in_err-uber-clause-cause : goal.returns-in_err-uber-clause-cause
-returns-in_err-uber-clause-cause g c failed = inl (c.in_err-uber.ensures.cause (passed c.from_residual.result c.in_err-uber.field-0.0 _ c.from_residual.ensures.1 failed))
-
-pub returns-in_err-uber-clause-none : goal.returns-in_err-uber-clause-none
-returns-in_err-uber-clause-none g c = none_passed (Uber g.row.H-A.Denot) (Pool g.row.H-R.Denot g.row.H-A.Denot) (g.H.Shelf.told c.args.shelf.now) c.from_residual.result c.in_err-uber.field-0.0 _ c.from_residual.ensures.1 c.in_err-uber.ensures.none
-
-pub returns-in_err-uber-clause-made : goal.returns-in_err-uber-clause-made
-returns-in_err-uber-clause-made g c geometry made = made_passed (Uber g.row.H-A.Denot) (Pool g.row.H-R.Denot g.row.H-A.Denot) geometry c.from_residual.result c.in_err-uber.field-0.0 _ _ _ _ _ c.from_residual.ensures.1 (c.in_err-uber.ensures.made geometry made)
-
-pub returns-in_err-uber-clause-import : goal.returns-in_err-uber-clause-import
-returns-in_err-uber-clause-import g c x pieces there =
-    let shelf = g.H.Shelf in
-    let new = c.find_uber.new.shelf in
-    subst (λ (r : Result (Pool g.row.H-R.Denot g.row.H-A.Denot) PoolFault). ImportIs g.H.R.Rack g.H.A.Area x pieces (shelf.told new) (shelf.leaves new) (shelf.counts new) (shelf.uber_count new) r) (sym (passed_is c.from_residual.result c.in_err-uber.field-0.0 c.from_residual.ensures.1))
-    (c.in_err-uber.ensures.import x pieces there)
+pub returns-in_err-uber : goal.returns-in_err-uber
+returns-in_err-uber g c =
+    record {
+      whole = if_ok_passed _ c.from_residual.result _ c.from_residual.ensures.1;
+      none = none_passed (Uber g.row.H-A.Denot) (Pool g.row.H-R.Denot g.row.H-A.Denot) (g.H.Shelf.told c.args.shelf.now) c.from_residual.result c.in_err-uber.field-0.0 _ c.from_residual.ensures.1 c.in_err-uber.ensures.none;
+      made = λ geometry made. made_passed (Uber g.row.H-A.Denot) (Pool g.row.H-R.Denot g.row.H-A.Denot) geometry c.from_residual.result c.in_err-uber.field-0.0 _ _ _ _ _ c.from_residual.ensures.1 (c.in_err-uber.ensures.made geometry made);
+      import = λ x pieces there. (let shelf = g.H.Shelf in
+          let new = c.find_uber.new.shelf in
+          subst (λ (r : Result (Pool g.row.H-R.Denot g.row.H-A.Denot) PoolFault). ImportIs g.H.R.Rack g.H.A.Area x pieces (shelf.told new) (shelf.leaves new) (shelf.counts new) (shelf.uber_count new) r) (sym (passed_is c.from_residual.result c.in_err-uber.field-0.0 c.from_residual.ensures.1))
+          (c.in_err-uber.ensures.import x pieces there));
+      not_spec = if_err_passed c.from_residual.result c.in_err-uber.field-0.0 _ c.from_residual.ensures.1 c.in_err-uber.ensures.not_spec;
+      tells = on_ok_passed _ c.from_residual.result _ c.from_residual.ensures.1;
+      faulty = λ metaslab place kind err. (let p = err_from_is_err_and c.from_residual.result c.from_residual.ensures.1 in
+          inl (c.in_err-uber.ensures.faulty metaslab place kind (passed_on c.from_residual.result p.0 c.in_err-uber.field-0.0 _ p.1 p.2 err)));
+      held = c.find_uber.ensures.held;
+      checks = c.find_uber.ensures.checks;
+      later = c.find_uber.ensures.later;
+      cause = λ failed. inl (c.in_err-uber.ensures.cause (passed c.from_residual.result c.in_err-uber.field-0.0 _ c.from_residual.ensures.1 failed));
+    }

@@ -9,16 +9,17 @@ use Rattle.draid_pool.proofs.ImportFreed.{found_group}
 use Rattle.draid_pool.proofs.Found.{all_ready, imported_whole}
 use Rattle.draid_pool.proofs.importing.pool_of.Goals as goal
 
-pub free_all-requires-clause-ready : goal.free_all-requires-clause-ready
-free_all-requires-clause-ready g c = all_ready g.R.Rack (layout_of c.args.uber) (group_of (kept_of c.args.uber)) c.args.shards.items c.requires.shards
-
-pub free_all-requires-clause-floor : goal.free_all-requires-clause-floor
-free_all-requires-clause-floor g c m shard there =
-    let is = c.requires.shards.each m shard there in
-    let high = open_high shard.open_group shard.closing shard.committed shard.sealed is.valid.groups in
-    let committed = is.committed in
-    let group = c.committed-floor.ensures in
-    omega (arith, high, committed, group)
+pub free_all-requires : goal.free_all-requires
+free_all-requires g c =
+    record {
+      ready = all_ready g.R.Rack (layout_of c.args.uber) (group_of (kept_of c.args.uber)) c.args.shards.items c.requires.shards;
+      floor = λ m shard there. (let is = c.requires.shards.each m shard there in
+          let high = open_high shard.open_group shard.closing shard.committed shard.sealed is.valid.groups in
+          let committed = is.committed in
+          let group = c.committed-floor.ensures in
+          omega (arith, high, committed, group));
+      last = (let low = c.requires.uber.low in let group = c.committed-floor.ensures in omega (arith, low, group));
+    }
 
 pub returns : goal.returns
 returns g c = record {
@@ -31,9 +32,6 @@ returns g c = record {
       found_imports g.R.Rack g.A.Area x pieces c.args.uber newest c.args.found.seq _ freed _ c.free_all.ensures.only refl refl c.geometry.ensures refl
       (floor ∙ ap (λ n. n + 1) (found_group g.R.Rack g.A.Area x c.args.uber pieces newest c.args.found.seq _ freed)) (λ object. refl));
 }
-
-pub free_all-requires-clause-last : goal.free_all-requires-clause-last
-free_all-requires-clause-last g c = (let low = c.requires.uber.low in let group = c.committed-floor.ensures in omega (arith, low, group))
 
 pub overflow_add-floor : goal.overflow_add-floor
 overflow_add-floor g c = (let low = c.requires.uber.low in let group = c.committed-floor.ensures in omega (arith, low, group))

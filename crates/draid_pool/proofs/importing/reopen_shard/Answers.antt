@@ -13,226 +13,117 @@ use Rattle.draid_pool.proofs.ImportLeft.{keeps_equal, keeps_known, tells_put, te
 use Rattle.draid_pool.proofs.Refusing.{no_refusal}
 use Rattle.draid_pool.proofs.importing.reopen_shard.Goals as goal
 
-pub returns-in-Ok-reopen-clause-reopened : goal.returns-in-Ok-reopen-clause-reopened
-returns-in-Ok-reopen-clause-reopened g c =
+pub returns-in-Ok-reopen : goal.returns-in-Ok-reopen
+returns-in-Ok-reopen g c =
     let e = c.in-Ok-reopen.ensures in
-    let part : Geometry → Part = λ geometry. record { geometry = geometry; perms = c.args.perms; number = c.args.number } in
-    reopened g.H.R.Rack g.H.A.Area.told c.in-Ok.kit _ _ _ _ c.in-Ok-reopen.shard e.valid (e.part ∙ ap part c.geometry.ensures) (e.begins.1 ∙ c.committed-group.ensures) e.opened
+    record {
+      reopened = (let part : Geometry → Part = λ geometry. record { geometry = geometry; perms = c.args.perms; number = c.args.number } in
+          reopened g.H.R.Rack g.H.A.Area.told c.in-Ok.kit _ _ _ _ c.in-Ok-reopen.shard e.valid (e.part ∙ ap part c.geometry.ensures) (e.begins.1 ∙ c.committed-group.ensures) e.opened);
+      over = (let t = c.in-Ok.ensures in
+          record {
+            kit = c.in-Ok.kit;
+            taken = record { told = t.kit; some = t.needs; rack_count = t.rack_count; even_count = t.even_count; odd_count = t.odd_count };
+            opens = subst (λ n. Opens g.H.R.Rack g.H.A.Area.told c.in-Ok.kit n (next_leaf_of c.args.uber.now) c.in-Ok-reopen.shard) c.committed-group.ensures
+                (subst (λ n. Opens g.H.R.Rack g.H.A.Area.told c.in-Ok.kit c.committed-group.result n c.in-Ok-reopen.shard) c.next_leaf.ensures e.opened);
+            later = e.counts;
+            limit_is = e.begins.0 ∙ ap (λ n. 16_777_216 / n) (c.from-events.ensures ∙ ap (λ (x : Geometry). x.props.metaslabs) c.geometry.ensures);
+          });
+      told = c.in-Ok.ensures.told;
+      back = tt;
+      tells = tt;
+      leaves = c.take.ensures.others;
+      known = tt;
+      fault = tt;
+      faulty = λ metaslab place kind err. absurd (no_refusal err);
+      opens = λ x pieces held leaves counts count there r takes same metaslab place kind err. no_refusal err;
+      back_counts = tt;
+      held = checks_taken c.args.number (g.H.Shelf.told c.args.shelf.now) (g.H.Shelf.told c.take.new.self) c.in-Ok.ensures.told;
+      checks = c.take.ensures.check_counts;
+      counts = c.take.ensures.counts;
+      later = c.take.ensures.cause.later;
+      cause = λ failed. absurd (no_refusal failed);
+    }
 
-pub returns-in-Err-reopen-clause-cause : goal.returns-in-Err-reopen-clause-cause
-returns-in-Err-reopen-clause-cause g c failed =
+pub returns-in-Err-reopen : goal.returns-in-Err-reopen
+returns-in-Err-reopen g c =
     let shelf = g.H.Shelf in
+    let rack = g.H.R.Rack in
     let area = g.H.A.Area in
     let t = c.in-Ok.ensures in
     let r = c.in-Err-reopen in
-    let rose = refused_area g.H.R.Rack area.faults area.told c.geometry.result.now c.args.number c.in-Ok.kit r.field-0.kit c.committed-group.result c.next_leaf.result r.field-0.why r.ensures.refused (c.open_fault.ensures.area (fault_is c.open_fault.result failed)) in
-    inr (records_rose area.faults c.in-Ok.kit r.field-0.kit c.committed-group.result (shelf.counts c.args.shelf.now c.args.number) (shelf.counts c.give.new.self c.args.number) t.even_count t.odd_count
-    c.give.ensures.even_count c.give.ensures.odd_count rose)
-
-pub returns-in-Ok-reopen-clause-over : goal.returns-in-Ok-reopen-clause-over
-returns-in-Ok-reopen-clause-over g c =
-    let e = c.in-Ok-reopen.ensures in
-    let t = c.in-Ok.ensures in
     record {
-      kit = c.in-Ok.kit;
-      taken = record { told = t.kit; some = t.needs; rack_count = t.rack_count; even_count = t.even_count; odd_count = t.odd_count };
-      opens = subst (λ n. Opens g.H.R.Rack g.H.A.Area.told c.in-Ok.kit n (next_leaf_of c.args.uber.now) c.in-Ok-reopen.shard) c.committed-group.ensures
-          (subst (λ n. Opens g.H.R.Rack g.H.A.Area.told c.in-Ok.kit c.committed-group.result n c.in-Ok-reopen.shard) c.next_leaf.ensures e.opened);
-      later = e.counts;
-      limit_is = e.begins.0 ∙ ap (λ n. 16_777_216 / n) (c.from-events.ensures ∙ ap (λ (x : Geometry). x.props.metaslabs) c.geometry.ensures);
+      reopened = tt;
+      over = tt;
+      told = tt;
+      back = stays_put c.args.number (shelf.told c.args.shelf.now) (shelf.told c.take.new.self) (shelf.told c.give.new.self) _ c.in-Ok.ensures.told c.give.ensures.told
+          (kit_back g.H.R.Rack g.H.A.Area.told c.in-Ok.kit c.in-Err-reopen.field-0.kit c.committed-group.result (shelf.told c.args.shelf.now) c.args.number c.in-Err-reopen.ensures.back c.in-Ok.ensures.kit);
+      tells = tells_put c.args.number (shelf.told c.args.shelf.now) (shelf.told c.take.new.self) (shelf.told c.give.new.self) _ c.in-Ok.ensures.told c.give.ensures.told
+          (kit_back g.H.R.Rack g.H.A.Area.told c.in-Ok.kit c.in-Err-reopen.field-0.kit c.committed-group.result (shelf.told c.args.shelf.now) c.args.number c.in-Err-reopen.ensures.back c.in-Ok.ensures.kit);
+      leaves = λ m other. c.give.ensures.others m other ∙ c.take.ensures.others m other;
+      known = keeps_known (shelf.leaves c.args.shelf.now c.args.number) (shelf.leaves c.give.new.self c.args.number) (rack.shape c.in-Ok.kit.rack) (rack.shape c.in-Err-reopen.field-0.kit.rack) c.in-Ok.ensures.leaves
+          (ap rack.shape c.in-Err-reopen.ensures.back.rack) c.give.ensures.leaves;
+      fault = c.open_fault.ensures.fault;
+      faulty = λ metaslab place kind err. (let e = c.in-Err-reopen in
+          unread rack area (layout_of c.args.uber.now) (group_of (kept_of c.args.uber.now)) (next_leaf_of c.args.uber.now) c.args.number (g.H.Shelf.told c.args.shelf.now) (g.H.Shelf.counts c.args.shelf.now c.args.number)
+          c.in-Ok.kit e.field-0.kit e.field-0.why metaslab place kind
+          (record { told = t.kit; some = t.needs; rack_count = t.rack_count; even_count = t.even_count; odd_count = t.odd_count })
+          (subst (λ (l : Geometry). OpenIsRefused rack area.faults area.told l c.args.number c.in-Ok.kit e.field-0.kit (group_of (kept_of c.args.uber.now)) (next_leaf_of c.args.uber.now) e.field-0.why) c.geometry.ensures
+          (subst (λ n. OpenIsRefused rack area.faults area.told c.geometry.result.now c.args.number c.in-Ok.kit e.field-0.kit n (next_leaf_of c.args.uber.now) e.field-0.why) c.committed-group.ensures
+          (subst (λ n. OpenIsRefused rack area.faults area.told c.geometry.result.now c.args.number c.in-Ok.kit e.field-0.kit c.committed-group.result n e.field-0.why) c.next_leaf.ensures e.ensures.refused)))
+          (sym c.open_fault.ensures.is ∙ err_is c.open_fault.result _ err));
+      opens = λ x pieces held leaves counts count there r takes same. (let e = c.in-Err-reopen in
+          no_open_record rack area x pieces held (g.H.Shelf.told c.args.shelf.now) leaves counts count c.args.uber.now c.args.number c.in-Ok.kit e.field-0.kit (g.H.Shelf.leaves c.args.shelf.now c.args.number) e.field-0.why
+          c.open_fault.result c.open_fault.ensures.is there c.requires.uber r c.requires.number takes t.kit same t.leaves
+          (subst (λ (l : Geometry). OpenIsRefused rack area.faults area.told l c.args.number c.in-Ok.kit e.field-0.kit (group_of (kept_of c.args.uber.now)) (next_leaf_of c.args.uber.now) e.field-0.why) c.geometry.ensures
+          (subst (λ n. OpenIsRefused rack area.faults area.told c.geometry.result.now c.args.number c.in-Ok.kit e.field-0.kit n (next_leaf_of c.args.uber.now) e.field-0.why) c.committed-group.ensures
+          (subst (λ n. OpenIsRefused rack area.faults area.told c.geometry.result.now c.args.number c.in-Ok.kit e.field-0.kit c.committed-group.result n e.field-0.why) c.next_leaf.ensures e.ensures.refused))));
+      back_counts = (let e = c.give.ensures in
+          let later = r.ensures.counts in
+          record {
+            rack = λ who. e.rack_count who ∙ (ap (λ x. g.H.R.Rack.faults x who) r.ensures.back.rack ∙ t.rack_count who);
+            even = (let now = e.even_count in let was = t.even_count in let up = later.even in omega (arith, now, was, up));
+            odd = (let now = e.odd_count in let was = t.odd_count in let up = later.odd in omega (arith, now, was, up));
+          });
+      held = checks_put c.args.number _ (shelf.told c.args.shelf.now) (shelf.told c.take.new.self) (shelf.told c.give.new.self) (checks_taken c.args.number (shelf.told c.args.shelf.now) (shelf.told c.take.new.self) c.in-Ok.ensures.told) c.give.ensures.told;
+      checks = c.give.ensures.check_counts ∙ c.take.ensures.check_counts;
+      counts = λ m other. c.give.ensures.counts m other ∙ c.take.ensures.counts m other;
+      later = (let first = c.take.ensures.cause.later in let same = c.give.ensures.faults in omega (arith, first, same));
+      cause = λ failed. (let rose = refused_area g.H.R.Rack area.faults area.told c.geometry.result.now c.args.number c.in-Ok.kit r.field-0.kit c.committed-group.result c.next_leaf.result r.field-0.why r.ensures.refused (c.open_fault.ensures.area (fault_is c.open_fault.result failed)) in
+          inr (records_rose area.faults c.in-Ok.kit r.field-0.kit c.committed-group.result (shelf.counts c.args.shelf.now c.args.number) (shelf.counts c.give.new.self c.args.number) t.even_count t.odd_count
+          c.give.ensures.even_count c.give.ensures.odd_count rose));
     }
 
-pub returns-in-Err-clause-back : goal.returns-in-Err-clause-back
-returns-in-Err-clause-back g c = stays_same (g.H.Shelf.told c.args.shelf.now) (g.H.Shelf.told c.take.new.self) c.in-Err.ensures.err
-
-pub returns-in-Err-reopen-clause-back : goal.returns-in-Err-reopen-clause-back
-returns-in-Err-reopen-clause-back g c =
-    let shelf = g.H.Shelf in
-    stays_put c.args.number (shelf.told c.args.shelf.now) (shelf.told c.take.new.self) (shelf.told c.give.new.self) _ c.in-Ok.ensures.told c.give.ensures.told
-    (kit_back g.H.R.Rack g.H.A.Area.told c.in-Ok.kit c.in-Err-reopen.field-0.kit c.committed-group.result (shelf.told c.args.shelf.now) c.args.number c.in-Err-reopen.ensures.back c.in-Ok.ensures.kit)
-
-pub returns-in-Err-reopen-clause-back_counts : goal.returns-in-Err-reopen-clause-back_counts
-returns-in-Err-reopen-clause-back_counts g c =
-    let t = c.in-Ok.ensures in
-    let r = c.in-Err-reopen in
-    let e = c.give.ensures in
-    let later = r.ensures.counts in
+pub returns-in-Err : goal.returns-in-Err
+returns-in-Err g c =
     record {
-      rack = λ who. e.rack_count who ∙ (ap (λ x. g.H.R.Rack.faults x who) r.ensures.back.rack ∙ t.rack_count who);
-      even = (let now = e.even_count in let was = t.even_count in let up = later.even in omega (arith, now, was, up));
-      odd = (let now = e.odd_count in let was = t.odd_count in let up = later.odd in omega (arith, now, was, up));
+      reopened = tt;
+      over = tt;
+      told = tt;
+      back = stays_same (g.H.Shelf.told c.args.shelf.now) (g.H.Shelf.told c.take.new.self) c.in-Err.ensures.err;
+      tells = tells_same c.args.number (g.H.Shelf.told c.args.shelf.now) (g.H.Shelf.told c.take.new.self) c.in-Err.ensures.err;
+      leaves = c.take.ensures.others;
+      known = keeps_equal (g.H.Shelf.leaves c.args.shelf.now c.args.number) (g.H.Shelf.leaves c.take.new.self c.args.number) c.in-Err.ensures.err_leaves;
+      fault = c.shelf_fault.ensures.fault;
+      faulty = λ metaslab place kind err. absurd (shelf_no_record c.in-Err.why metaslab place kind (sym c.shelf_fault.ensures.is ∙ err_is c.shelf_fault.result _ err));
+      opens = λ x pieces held leaves counts count there r takes same. no_shelf_record c.in-Err.why c.shelf_fault.result c.shelf_fault.ensures.is;
+      back_counts = counts_later (g.H.Shelf.counts c.args.shelf.now c.args.number) (g.H.Shelf.counts c.take.new.self c.args.number) c.in-Err.ensures.err_counts;
+      held = checks_equal (g.H.Shelf.told c.args.shelf.now) (g.H.Shelf.told c.take.new.self) c.in-Err.ensures.err;
+      checks = c.take.ensures.check_counts;
+      counts = c.take.ensures.counts;
+      later = c.take.ensures.cause.later;
+      cause = λ failed. inl (c.in-Err.ensures.cause.cause (ap Err (c.shelf_fault.ensures.failed (err_is c.shelf_fault.result _ failed))));
     }
-
-pub returns-in-Err-clause-opens : goal.returns-in-Err-clause-opens
-returns-in-Err-clause-opens g c x pieces held leaves counts count there r takes same = no_shelf_record c.in-Err.why c.shelf_fault.result c.shelf_fault.ensures.is
-
-pub returns-in-Err-reopen-clause-opens : goal.returns-in-Err-reopen-clause-opens
-returns-in-Err-reopen-clause-opens g c x pieces held leaves counts count there r takes same =
-    let rack = g.H.R.Rack in
-    let area = g.H.A.Area in
-    let t = c.in-Ok.ensures in
-    let e = c.in-Err-reopen in
-    no_open_record rack area x pieces held (g.H.Shelf.told c.args.shelf.now) leaves counts count c.args.uber.now c.args.number c.in-Ok.kit e.field-0.kit (g.H.Shelf.leaves c.args.shelf.now c.args.number) e.field-0.why
-    c.open_fault.result c.open_fault.ensures.is there c.requires.uber r c.requires.number takes t.kit same t.leaves
-    (subst (λ (l : Geometry). OpenIsRefused rack area.faults area.told l c.args.number c.in-Ok.kit e.field-0.kit (group_of (kept_of c.args.uber.now)) (next_leaf_of c.args.uber.now) e.field-0.why) c.geometry.ensures
-    (subst (λ n. OpenIsRefused rack area.faults area.told c.geometry.result.now c.args.number c.in-Ok.kit e.field-0.kit n (next_leaf_of c.args.uber.now) e.field-0.why) c.committed-group.ensures
-    (subst (λ n. OpenIsRefused rack area.faults area.told c.geometry.result.now c.args.number c.in-Ok.kit e.field-0.kit c.committed-group.result n e.field-0.why) c.next_leaf.ensures e.ensures.refused)))
-
-pub returns-in-Err-clause-tells : goal.returns-in-Err-clause-tells
-returns-in-Err-clause-tells g c = tells_same c.args.number (g.H.Shelf.told c.args.shelf.now) (g.H.Shelf.told c.take.new.self) c.in-Err.ensures.err
-
-pub returns-in-Err-reopen-clause-tells : goal.returns-in-Err-reopen-clause-tells
-returns-in-Err-reopen-clause-tells g c =
-    let shelf = g.H.Shelf in
-    tells_put c.args.number (shelf.told c.args.shelf.now) (shelf.told c.take.new.self) (shelf.told c.give.new.self) _ c.in-Ok.ensures.told c.give.ensures.told
-    (kit_back g.H.R.Rack g.H.A.Area.told c.in-Ok.kit c.in-Err-reopen.field-0.kit c.committed-group.result (shelf.told c.args.shelf.now) c.args.number c.in-Err-reopen.ensures.back c.in-Ok.ensures.kit)
-
-pub returns-in-Err-clause-known : goal.returns-in-Err-clause-known
-returns-in-Err-clause-known g c = keeps_equal (g.H.Shelf.leaves c.args.shelf.now c.args.number) (g.H.Shelf.leaves c.take.new.self c.args.number) c.in-Err.ensures.err_leaves
-
-pub returns-in-Err-reopen-clause-known : goal.returns-in-Err-reopen-clause-known
-returns-in-Err-reopen-clause-known g c =
-    let shelf = g.H.Shelf in
-    let rack = g.H.R.Rack in
-    keeps_known (shelf.leaves c.args.shelf.now c.args.number) (shelf.leaves c.give.new.self c.args.number) (rack.shape c.in-Ok.kit.rack) (rack.shape c.in-Err-reopen.field-0.kit.rack) c.in-Ok.ensures.leaves
-    (ap rack.shape c.in-Err-reopen.ensures.back.rack) c.give.ensures.leaves
-
-pub returns-in-Err-clause-faulty : goal.returns-in-Err-clause-faulty
-returns-in-Err-clause-faulty g c metaslab place kind err = absurd (shelf_no_record c.in-Err.why metaslab place kind (sym c.shelf_fault.ensures.is ∙ err_is c.shelf_fault.result _ err))
-
-pub returns-in-Err-reopen-clause-faulty : goal.returns-in-Err-reopen-clause-faulty
-returns-in-Err-reopen-clause-faulty g c metaslab place kind err =
-    let rack = g.H.R.Rack in
-    let area = g.H.A.Area in
-    let t = c.in-Ok.ensures in
-    let e = c.in-Err-reopen in
-    unread rack area (layout_of c.args.uber.now) (group_of (kept_of c.args.uber.now)) (next_leaf_of c.args.uber.now) c.args.number (g.H.Shelf.told c.args.shelf.now) (g.H.Shelf.counts c.args.shelf.now c.args.number)
-    c.in-Ok.kit e.field-0.kit e.field-0.why metaslab place kind
-    (record { told = t.kit; some = t.needs; rack_count = t.rack_count; even_count = t.even_count; odd_count = t.odd_count })
-    (subst (λ (l : Geometry). OpenIsRefused rack area.faults area.told l c.args.number c.in-Ok.kit e.field-0.kit (group_of (kept_of c.args.uber.now)) (next_leaf_of c.args.uber.now) e.field-0.why) c.geometry.ensures
-    (subst (λ n. OpenIsRefused rack area.faults area.told c.geometry.result.now c.args.number c.in-Ok.kit e.field-0.kit n (next_leaf_of c.args.uber.now) e.field-0.why) c.committed-group.ensures
-    (subst (λ n. OpenIsRefused rack area.faults area.told c.geometry.result.now c.args.number c.in-Ok.kit e.field-0.kit c.committed-group.result n e.field-0.why) c.next_leaf.ensures e.ensures.refused)))
-    (sym c.open_fault.ensures.is ∙ err_is c.open_fault.result _ err)
-
-pub returns-in-Ok-reopen-clause-told : goal.returns-in-Ok-reopen-clause-told
-returns-in-Ok-reopen-clause-told g c = c.in-Ok.ensures.told
-
-pub returns-in-Ok-reopen-clause-back : goal.returns-in-Ok-reopen-clause-back
-returns-in-Ok-reopen-clause-back g c = tt
-
-pub returns-in-Ok-reopen-clause-tells : goal.returns-in-Ok-reopen-clause-tells
-returns-in-Ok-reopen-clause-tells g c = tt
-
-pub returns-in-Ok-reopen-clause-known : goal.returns-in-Ok-reopen-clause-known
-returns-in-Ok-reopen-clause-known g c = tt
-
-pub returns-in-Ok-reopen-clause-fault : goal.returns-in-Ok-reopen-clause-fault
-returns-in-Ok-reopen-clause-fault g c = tt
-
-pub returns-in-Ok-reopen-clause-back_counts : goal.returns-in-Ok-reopen-clause-back_counts
-returns-in-Ok-reopen-clause-back_counts g c = tt
-
-pub returns-in-Ok-reopen-clause-leaves : goal.returns-in-Ok-reopen-clause-leaves
-returns-in-Ok-reopen-clause-leaves g c = c.take.ensures.others
-
-pub returns-in-Ok-reopen-clause-faulty : goal.returns-in-Ok-reopen-clause-faulty
-returns-in-Ok-reopen-clause-faulty g c metaslab place kind err = absurd (no_refusal err)
-
-pub returns-in-Ok-reopen-clause-opens : goal.returns-in-Ok-reopen-clause-opens
-returns-in-Ok-reopen-clause-opens g c x pieces held leaves counts count there r takes same metaslab place kind err = no_refusal err
-
-pub returns-in-Ok-reopen-clause-held : goal.returns-in-Ok-reopen-clause-held
-returns-in-Ok-reopen-clause-held g c = checks_taken c.args.number (g.H.Shelf.told c.args.shelf.now) (g.H.Shelf.told c.take.new.self) c.in-Ok.ensures.told
-
-pub returns-in-Ok-reopen-clause-checks : goal.returns-in-Ok-reopen-clause-checks
-returns-in-Ok-reopen-clause-checks g c = c.take.ensures.check_counts
-
-pub returns-in-Ok-reopen-clause-counts : goal.returns-in-Ok-reopen-clause-counts
-returns-in-Ok-reopen-clause-counts g c = c.take.ensures.counts
-
-pub returns-in-Ok-reopen-clause-later : goal.returns-in-Ok-reopen-clause-later
-returns-in-Ok-reopen-clause-later g c = c.take.ensures.cause.later
-
-pub returns-in-Ok-reopen-clause-cause : goal.returns-in-Ok-reopen-clause-cause
-returns-in-Ok-reopen-clause-cause g c failed = absurd (no_refusal failed)
-
-pub returns-in-Err-clause-reopened : goal.returns-in-Err-clause-reopened
-returns-in-Err-clause-reopened g c = tt
-
-pub returns-in-Err-clause-over : goal.returns-in-Err-clause-over
-returns-in-Err-clause-over g c = tt
-
-pub returns-in-Err-clause-told : goal.returns-in-Err-clause-told
-returns-in-Err-clause-told g c = tt
-
-pub returns-in-Err-clause-leaves : goal.returns-in-Err-clause-leaves
-returns-in-Err-clause-leaves g c = c.take.ensures.others
-
-pub returns-in-Err-clause-fault : goal.returns-in-Err-clause-fault
-returns-in-Err-clause-fault g c = c.shelf_fault.ensures.fault
-
-pub returns-in-Err-clause-back_counts : goal.returns-in-Err-clause-back_counts
-returns-in-Err-clause-back_counts g c = counts_later (g.H.Shelf.counts c.args.shelf.now c.args.number) (g.H.Shelf.counts c.take.new.self c.args.number) c.in-Err.ensures.err_counts
-
-pub returns-in-Err-clause-held : goal.returns-in-Err-clause-held
-returns-in-Err-clause-held g c = checks_equal (g.H.Shelf.told c.args.shelf.now) (g.H.Shelf.told c.take.new.self) c.in-Err.ensures.err
-
-pub returns-in-Err-clause-checks : goal.returns-in-Err-clause-checks
-returns-in-Err-clause-checks g c = c.take.ensures.check_counts
-
-pub returns-in-Err-clause-counts : goal.returns-in-Err-clause-counts
-returns-in-Err-clause-counts g c = c.take.ensures.counts
-
-pub returns-in-Err-clause-later : goal.returns-in-Err-clause-later
-returns-in-Err-clause-later g c = c.take.ensures.cause.later
-
-pub returns-in-Err-reopen-clause-reopened : goal.returns-in-Err-reopen-clause-reopened
-returns-in-Err-reopen-clause-reopened g c = tt
-
-pub returns-in-Err-reopen-clause-over : goal.returns-in-Err-reopen-clause-over
-returns-in-Err-reopen-clause-over g c = tt
-
-pub returns-in-Err-reopen-clause-told : goal.returns-in-Err-reopen-clause-told
-returns-in-Err-reopen-clause-told g c = tt
-
-pub returns-in-Err-reopen-clause-leaves : goal.returns-in-Err-reopen-clause-leaves
-returns-in-Err-reopen-clause-leaves g c m other = c.give.ensures.others m other ∙ c.take.ensures.others m other
-
-pub returns-in-Err-reopen-clause-counts : goal.returns-in-Err-reopen-clause-counts
-returns-in-Err-reopen-clause-counts g c m other = c.give.ensures.counts m other ∙ c.take.ensures.counts m other
-
-pub returns-in-Err-reopen-clause-fault : goal.returns-in-Err-reopen-clause-fault
-returns-in-Err-reopen-clause-fault g c = c.open_fault.ensures.fault
-
-pub returns-in-Err-reopen-clause-held : goal.returns-in-Err-reopen-clause-held
-returns-in-Err-reopen-clause-held g c =
-    let shelf = g.H.Shelf in
-    checks_put c.args.number _ (shelf.told c.args.shelf.now) (shelf.told c.take.new.self) (shelf.told c.give.new.self) (checks_taken c.args.number (shelf.told c.args.shelf.now) (shelf.told c.take.new.self) c.in-Ok.ensures.told) c.give.ensures.told
-
-pub returns-in-Err-reopen-clause-checks : goal.returns-in-Err-reopen-clause-checks
-returns-in-Err-reopen-clause-checks g c = c.give.ensures.check_counts ∙ c.take.ensures.check_counts
-
-pub returns-in-Err-reopen-clause-later : goal.returns-in-Err-reopen-clause-later
-returns-in-Err-reopen-clause-later g c = (let first = c.take.ensures.cause.later in let same = c.give.ensures.faults in omega (arith, first, same))
-
-pub returns-in-Err-clause-cause : goal.returns-in-Err-clause-cause
-returns-in-Err-clause-cause g c failed = inl (c.in-Err.ensures.cause.cause (ap Err (c.shelf_fault.ensures.failed (err_is c.shelf_fault.result _ failed))))
 
 pub give-requires : goal.give-requires
 give-requires g c = (let below = c.requires.number in let most = c.requires.layout.geometry_is.props.most_metaslabs in omega (arith, below, most))
 
-pub reopen-requires-clause-part : goal.reopen-requires-clause-part
-reopen-requires-clause-part g c =
-    subst (λ (l : Geometry). IsPart (record { geometry = l; perms = c.args.perms; number = c.args.number })) (sym c.geometry.ensures) (record { layout = c.requires.layout; below = c.requires.number })
-
-pub reopen-requires-clause-bytes : goal.reopen-requires-clause-bytes
-reopen-requires-clause-bytes g c = c.in-Ok.ensures.sectors
-
-pub reopen-requires-clause-group : goal.reopen-requires-clause-group
-reopen-requires-clause-group g c = subst (λ n. (1 ≤ n) × (n < LAST_NUMBER)) (sym c.committed-group.ensures) (c.requires.uber.some, c.requires.uber.low)
-
-pub reopen-requires-clause-next : goal.reopen-requires-clause-next
-reopen-requires-clause-next g c =
-    let held = c.requires.uber.valid.held in
-    subst (λ (l : Geometry). (l.spec.children ≤ c.next_leaf.result) × (c.next_leaf.result ≤ LAST_NUMBER)) (sym c.geometry.ensures)
-    (subst (λ n. ((layout_of c.args.uber.now).spec.children ≤ n) × (n ≤ LAST_NUMBER)) (sym c.next_leaf.ensures) (held.leaf_above, held.leaf_below))
+pub reopen-requires : goal.reopen-requires
+reopen-requires g c =
+    record {
+      part = subst (λ (l : Geometry). IsPart (record { geometry = l; perms = c.args.perms; number = c.args.number })) (sym c.geometry.ensures) (record { layout = c.requires.layout; below = c.requires.number });
+      bytes = c.in-Ok.ensures.sectors;
+      group = subst (λ n. (1 ≤ n) × (n < LAST_NUMBER)) (sym c.committed-group.ensures) (c.requires.uber.some, c.requires.uber.low);
+      next = (let held = c.requires.uber.valid.held in
+          subst (λ (l : Geometry). (l.spec.children ≤ c.next_leaf.result) × (c.next_leaf.result ≤ LAST_NUMBER)) (sym c.geometry.ensures)
+          (subst (λ n. ((layout_of c.args.uber.now).spec.children ≤ n) × (n ≤ LAST_NUMBER)) (sym c.next_leaf.ensures) (held.leaf_above, held.leaf_below)));
+    }

@@ -91,159 +91,91 @@ loop-number-preserved g c =
       bound = omega (arith, same, below);
     }
 
-pub returns-clause-reopened : goal.returns-clause-reopened
-returns-clause-reopened g c =
-    let same = ap (λ (x : Geometry). x.props.metaslabs) c.geometry-layout.ensures in
-    let i = c.loop-number.invariant in
-    let many = i.many in
-    let bound = i.bound in
+pub returns : goal.returns
+returns g c =
     let end = c.loop-number-test.false in
     record {
-      perms = c.new-perms.result;
-      layout = subst (λ (x : Geometry). IsLayout x c.new-perms.result) c.geometry-layout.ensures
-          (record { geometry_is = subst IsGeometry (sym c.geometry-layout.ensures) c.requires.uber.valid.held.layout_is; perms_are = c.new-perms.ensures });
-      many = omega (arith, same, many, bound, end);
-      each = i.each;
+      opens = λ x pieces held counts count there r taken metaslab place kind err. no_refusal err;
+      reopened = (let same = ap (λ (x : Geometry). x.props.metaslabs) c.geometry-layout.ensures in
+          let i = c.loop-number.invariant in
+          let many = i.many in
+          let bound = i.bound in
+          record {
+            perms = c.new-perms.result;
+            layout = subst (λ (x : Geometry). IsLayout x c.new-perms.result) c.geometry-layout.ensures
+                (record { geometry_is = subst IsGeometry (sym c.geometry-layout.ensures) c.requires.uber.valid.held.layout_is; perms_are = c.new-perms.ensures });
+            many = omega (arith, same, many, bound, end);
+            each = i.each;
+          });
+      over = c.loop-number.invariant.over;
+      told = (let shelf = g.H.Shelf in
+          let same = ap (λ (x : Geometry). x.props.metaslabs) c.geometry-layout.ensures in
+          let bound = c.loop-number.invariant.bound in
+          let last : c.loop-number.number ≡ (layout_of c.args.uber.now).props.metaslabs = omega (arith, same, bound, end) in
+          subst (λ (n : ℕ). TakesFirst n (shelf.told c.args.shelf.now) (shelf.told c.loop-number.shelf)) last c.loop-number.invariant.told);
+      back = tt;
+      faulty = λ metaslab place kind err. absurd (no_refusal err);
+      fault = tt;
+      held = c.loop-number.invariant.held;
+      checks = c.loop-number.invariant.checks;
+      later = c.loop-number.invariant.later;
+      cause = λ failed. absurd (no_refusal failed);
     }
 
-pub returns-in-Err-clause-held : goal.returns-in-Err-clause-held
-returns-in-Err-clause-held g c =
-    let shelf = g.H.Shelf in
-    checks_more (shelf.told c.args.shelf.now) (shelf.told c.reopen_shard.new.shelf) (shelf.told c.give_back.new.shelf)
-    (checks_more (shelf.told c.args.shelf.now) (shelf.told c.loop-number.shelf) (shelf.told c.reopen_shard.new.shelf) c.loop-number.invariant.held c.reopen_shard.ensures.held)
-    (checks_back g.H.R.Rack g.H.A.Area c.loop-number.shards.items (shelf.told c.reopen_shard.new.shelf) (shelf.told c.give_back.new.shelf) (shelf.counts c.reopen_shard.new.shelf) (shelf.counts c.give_back.new.shelf) c.give_back.ensures.returns)
-
-pub returns-in-Err-clause-cause : goal.returns-in-Err-clause-cause
-returns-in-Err-clause-cause g c failed =
+pub returns-in-Err : goal.returns-in-Err
+returns-in-Err g c =
     let shelf = g.H.Shelf in
     let i = c.loop-number.invariant in
-    let same = ap (λ (x : Geometry). x.props.metaslabs) c.geometry-layout.ensures in
     let test = c.loop-number-test.true in
-    records_rose_back g.H.R.Rack g.H.A.Area c.loop-number.shards.items c.loop-number.number (layout_of c.args.uber.now).props.metaslabs (shelf.faults c.args.shelf.now) (shelf.faults c.loop-number.shelf) (shelf.faults c.reopen_shard.new.shelf) (shelf.faults c.give_back.new.shelf)
-    (shelf.told c.reopen_shard.new.shelf) (shelf.told c.give_back.new.shelf) (shelf.counts c.args.shelf.now) (shelf.counts c.loop-number.shelf) (shelf.counts c.reopen_shard.new.shelf) (shelf.counts c.give_back.new.shelf)
-    i.many (omega (arith, same, test)) i.later c.give_back.ensures.faults i.counts c.give_back.ensures.returns (c.in-Err.ensures.cause (refused_too c.in-Err.fault failed))
+    record {
+      opens = λ x pieces held counts count there r taken. no_record_too c.in-Err.fault (c.in-Err.ensures.opens x pieces held (shelf.leaves c.args.shelf.now) counts count there r
+          (subst (λ (t : Option Held). TakesFirst c.loop-number.number t (shelf.told c.loop-number.shelf)) taken i.told) (i.leaves c.loop-number.number (omega arith)));
+      reopened = tt;
+      over = tt;
+      told = tt;
+      back = (let same = ap (λ (x : Geometry). x.props.metaslabs) c.geometry-layout.ensures in
+          leaves_shards g.H.R.Rack g.H.A.Area (layout_of c.args.uber.now) (group_of (kept_of c.args.uber.now)) (next_leaf_of c.args.uber.now) c.loop-number.number c.new-perms.result c.loop-number.shards.items
+          (shelf.told c.args.shelf.now) (shelf.told c.loop-number.shelf) (shelf.told c.reopen_shard.new.shelf) (shelf.told c.give_back.new.shelf) (shelf.counts c.args.shelf.now) (shelf.counts c.loop-number.shelf)
+          (shelf.counts c.reopen_shard.new.shelf) (shelf.counts c.give_back.new.shelf) (shelf.leaves c.args.shelf.now) (shelf.leaves c.loop-number.shelf) (shelf.leaves c.reopen_shard.new.shelf) (shelf.leaves c.give_back.new.shelf)
+          (subst (λ (x : Geometry). IsLayout x c.new-perms.result) c.geometry-layout.ensures
+          (record { geometry_is = subst IsGeometry (sym c.geometry-layout.ensures) c.requires.uber.valid.held.layout_is; perms_are = c.new-perms.ensures }))
+          i.many (omega (arith, same, test)) i.each i.over i.told c.in-Err.ensures.back c.in-Err.ensures.tells c.give_back.ensures.returns c.give_back.ensures.leaves i.counts c.in-Err.ensures.back_counts c.in-Err.ensures.counts
+          i.leaves c.in-Err.ensures.known c.in-Err.ensures.leaves);
+      faulty = λ metaslab place kind err. (let n = c.loop-number.number in (
+        n,
+        unread_first g.H.R.Rack g.H.A.Area (layout_of c.args.uber.now) (group_of (kept_of c.args.uber.now)) (next_leaf_of c.args.uber.now) n (shelf.told c.args.shelf.now) (shelf.told c.loop-number.shelf)
+            (shelf.counts c.args.shelf.now n) (shelf.counts c.loop-number.shelf n) metaslab place kind i.told (i.counts n (omega arith)) (c.in-Err.ensures.faulty metaslab place kind (ap Err (err_is c.in-Err.fault _ err))),
+      ));
+      fault = c.in-Err.ensures.fault;
+      held = checks_more (shelf.told c.args.shelf.now) (shelf.told c.reopen_shard.new.shelf) (shelf.told c.give_back.new.shelf)
+          (checks_more (shelf.told c.args.shelf.now) (shelf.told c.loop-number.shelf) (shelf.told c.reopen_shard.new.shelf) c.loop-number.invariant.held c.reopen_shard.ensures.held)
+          (checks_back g.H.R.Rack g.H.A.Area c.loop-number.shards.items (shelf.told c.reopen_shard.new.shelf) (shelf.told c.give_back.new.shelf) (shelf.counts c.reopen_shard.new.shelf) (shelf.counts c.give_back.new.shelf) c.give_back.ensures.returns);
+      checks = c.give_back.ensures.checks ∙ (c.reopen_shard.ensures.checks ∙ c.loop-number.invariant.checks);
+      later = (let first = c.loop-number.invariant.later in let more = c.reopen_shard.ensures.later in let same = c.give_back.ensures.faults in omega (arith, first, more, same));
+      cause = λ failed. (let same = ap (λ (x : Geometry). x.props.metaslabs) c.geometry-layout.ensures in
+          records_rose_back g.H.R.Rack g.H.A.Area c.loop-number.shards.items c.loop-number.number (layout_of c.args.uber.now).props.metaslabs (shelf.faults c.args.shelf.now) (shelf.faults c.loop-number.shelf) (shelf.faults c.reopen_shard.new.shelf) (shelf.faults c.give_back.new.shelf)
+          (shelf.told c.reopen_shard.new.shelf) (shelf.told c.give_back.new.shelf) (shelf.counts c.args.shelf.now) (shelf.counts c.loop-number.shelf) (shelf.counts c.reopen_shard.new.shelf) (shelf.counts c.give_back.new.shelf)
+          i.many (omega (arith, same, test)) i.later c.give_back.ensures.faults i.counts c.give_back.ensures.returns (c.in-Err.ensures.cause (refused_too c.in-Err.fault failed)));
+    }
 
-pub returns-in-Err-clause-opens : goal.returns-in-Err-clause-opens
-returns-in-Err-clause-opens g c x pieces held counts count there r taken =
-    let shelf = g.H.Shelf in
-    let i = c.loop-number.invariant in
-    no_record_too c.in-Err.fault (c.in-Err.ensures.opens x pieces held (shelf.leaves c.args.shelf.now) counts count there r
-    (subst (λ (t : Option Held). TakesFirst c.loop-number.number t (shelf.told c.loop-number.shelf)) taken i.told) (i.leaves c.loop-number.number (omega arith)))
-
-pub returns-clause-told : goal.returns-clause-told
-returns-clause-told g c =
-    let shelf = g.H.Shelf in
-    let same = ap (λ (x : Geometry). x.props.metaslabs) c.geometry-layout.ensures in
-    let bound = c.loop-number.invariant.bound in
-    let end = c.loop-number-test.false in
-    let last : c.loop-number.number ≡ (layout_of c.args.uber.now).props.metaslabs = omega (arith, same, bound, end) in
-    subst (λ (n : ℕ). TakesFirst n (shelf.told c.args.shelf.now) (shelf.told c.loop-number.shelf)) last c.loop-number.invariant.told
-
-pub returns-in-Err-clause-back : goal.returns-in-Err-clause-back
-returns-in-Err-clause-back g c =
-    let shelf = g.H.Shelf in
-    let i = c.loop-number.invariant in
-    let same = ap (λ (x : Geometry). x.props.metaslabs) c.geometry-layout.ensures in
-    let test = c.loop-number-test.true in
-    leaves_shards g.H.R.Rack g.H.A.Area (layout_of c.args.uber.now) (group_of (kept_of c.args.uber.now)) (next_leaf_of c.args.uber.now) c.loop-number.number c.new-perms.result c.loop-number.shards.items
-    (shelf.told c.args.shelf.now) (shelf.told c.loop-number.shelf) (shelf.told c.reopen_shard.new.shelf) (shelf.told c.give_back.new.shelf) (shelf.counts c.args.shelf.now) (shelf.counts c.loop-number.shelf)
-    (shelf.counts c.reopen_shard.new.shelf) (shelf.counts c.give_back.new.shelf) (shelf.leaves c.args.shelf.now) (shelf.leaves c.loop-number.shelf) (shelf.leaves c.reopen_shard.new.shelf) (shelf.leaves c.give_back.new.shelf)
-    (subst (λ (x : Geometry). IsLayout x c.new-perms.result) c.geometry-layout.ensures
-    (record { geometry_is = subst IsGeometry (sym c.geometry-layout.ensures) c.requires.uber.valid.held.layout_is; perms_are = c.new-perms.ensures }))
-    i.many (omega (arith, same, test)) i.each i.over i.told c.in-Err.ensures.back c.in-Err.ensures.tells c.give_back.ensures.returns c.give_back.ensures.leaves i.counts c.in-Err.ensures.back_counts c.in-Err.ensures.counts
-    i.leaves c.in-Err.ensures.known c.in-Err.ensures.leaves
-
-pub returns-in-Err-clause-faulty : goal.returns-in-Err-clause-faulty
-returns-in-Err-clause-faulty g c metaslab place kind err =
-    let shelf = g.H.Shelf in
-    let i = c.loop-number.invariant in
-    let n = c.loop-number.number in (
-      n,
-      unread_first g.H.R.Rack g.H.A.Area (layout_of c.args.uber.now) (group_of (kept_of c.args.uber.now)) (next_leaf_of c.args.uber.now) n (shelf.told c.args.shelf.now) (shelf.told c.loop-number.shelf)
-          (shelf.counts c.args.shelf.now n) (shelf.counts c.loop-number.shelf n) metaslab place kind i.told (i.counts n (omega arith)) (c.in-Err.ensures.faulty metaslab place kind (ap Err (err_is c.in-Err.fault _ err))),
-    )
-
-pub returns-in_default-clause-back : goal.returns-in_default-clause-back
-returns-in_default-clause-back g c =
-    let shelf = g.H.Shelf in
-    leaves_none g.H.R.Rack g.H.A.Area (layout_of c.args.uber.now) (group_of (kept_of c.args.uber.now)) (next_leaf_of c.args.uber.now) c.new-perms.result (shelf.told c.args.shelf.now) (shelf.counts c.args.shelf.now)
-    (shelf.leaves c.args.shelf.now) (subst (λ (x : Geometry). IsLayout x c.new-perms.result) c.geometry-layout.ensures
-    (record { geometry_is = subst IsGeometry (sym c.geometry-layout.ensures) c.requires.uber.valid.held.layout_is; perms_are = c.new-perms.ensures }))
-
-pub returns-clause-back : goal.returns-clause-back
-returns-clause-back g c = tt
-
-pub returns-clause-cause : goal.returns-clause-cause
-returns-clause-cause g c failed = absurd (no_refusal failed)
-
-pub returns-clause-checks : goal.returns-clause-checks
-returns-clause-checks g c = c.loop-number.invariant.checks
-
-pub returns-clause-fault : goal.returns-clause-fault
-returns-clause-fault g c = tt
-
-pub returns-clause-faulty : goal.returns-clause-faulty
-returns-clause-faulty g c metaslab place kind err = absurd (no_refusal err)
-
-pub returns-clause-held : goal.returns-clause-held
-returns-clause-held g c = c.loop-number.invariant.held
-
-pub returns-clause-later : goal.returns-clause-later
-returns-clause-later g c = c.loop-number.invariant.later
-
-pub returns-clause-opens : goal.returns-clause-opens
-returns-clause-opens g c x pieces held counts count there r taken metaslab place kind err = no_refusal err
-
-pub returns-clause-over : goal.returns-clause-over
-returns-clause-over g c = c.loop-number.invariant.over
-
-pub returns-in-Err-clause-checks : goal.returns-in-Err-clause-checks
-returns-in-Err-clause-checks g c = c.give_back.ensures.checks ∙ (c.reopen_shard.ensures.checks ∙ c.loop-number.invariant.checks)
-
-pub returns-in-Err-clause-fault : goal.returns-in-Err-clause-fault
-returns-in-Err-clause-fault g c = c.in-Err.ensures.fault
-
-pub returns-in-Err-clause-later : goal.returns-in-Err-clause-later
-returns-in-Err-clause-later g c = (let first = c.loop-number.invariant.later in let more = c.reopen_shard.ensures.later in let same = c.give_back.ensures.faults in omega (arith, first, more, same))
-
-pub returns-in-Err-clause-over : goal.returns-in-Err-clause-over
-returns-in-Err-clause-over g c = tt
-
-pub returns-in-Err-clause-reopened : goal.returns-in-Err-clause-reopened
-returns-in-Err-clause-reopened g c = tt
-
-pub returns-in-Err-clause-told : goal.returns-in-Err-clause-told
-returns-in-Err-clause-told g c = tt
-
-pub returns-in_default-clause-cause : goal.returns-in_default-clause-cause
-returns-in_default-clause-cause g c failed = absurd (no_shelf failed)
-
-pub returns-in_default-clause-checks : goal.returns-in_default-clause-checks
-returns-in_default-clause-checks g c = refl
-
-pub returns-in_default-clause-fault : goal.returns-in_default-clause-fault
-returns-in_default-clause-fault g c = tt
-
-pub returns-in_default-clause-faulty : goal.returns-in_default-clause-faulty
-returns-in_default-clause-faulty g c metaslab place kind err = absurd (no_record metaslab place kind err)
-
-pub returns-in_default-clause-held : goal.returns-in_default-clause-held
-returns-in_default-clause-held g c = checks_same (g.H.Shelf.told c.args.shelf.now)
-
-pub returns-in_default-clause-later : goal.returns-in_default-clause-later
-returns-in_default-clause-later g c = omega arith
-
-pub returns-in_default-clause-opens : goal.returns-in_default-clause-opens
-returns-in_default-clause-opens g c x pieces held counts count there r taken metaslab place kind err = no_record metaslab place kind err
-
-pub returns-in_default-clause-over : goal.returns-in_default-clause-over
-returns-in_default-clause-over g c = tt
-
-pub returns-in_default-clause-reopened : goal.returns-in_default-clause-reopened
-returns-in_default-clause-reopened g c = tt
-
-pub returns-in_default-clause-told : goal.returns-in_default-clause-told
-returns-in_default-clause-told g c = tt
+pub returns-in_default : goal.returns-in_default
+returns-in_default g c =
+    record {
+      opens = λ x pieces held counts count there r taken metaslab place kind err. no_record metaslab place kind err;
+      reopened = tt;
+      over = tt;
+      told = tt;
+      back = (let shelf = g.H.Shelf in
+          leaves_none g.H.R.Rack g.H.A.Area (layout_of c.args.uber.now) (group_of (kept_of c.args.uber.now)) (next_leaf_of c.args.uber.now) c.new-perms.result (shelf.told c.args.shelf.now) (shelf.counts c.args.shelf.now)
+          (shelf.leaves c.args.shelf.now) (subst (λ (x : Geometry). IsLayout x c.new-perms.result) c.geometry-layout.ensures
+          (record { geometry_is = subst IsGeometry (sym c.geometry-layout.ensures) c.requires.uber.valid.held.layout_is; perms_are = c.new-perms.ensures })));
+      faulty = λ metaslab place kind err. absurd (no_record metaslab place kind err);
+      fault = tt;
+      held = checks_same (g.H.Shelf.told c.args.shelf.now);
+      checks = refl;
+      later = omega arith;
+      cause = λ failed. absurd (no_shelf failed);
+    }
 
 pub reopen_shard-requires-clause-uber : goal.reopen_shard-requires-clause-uber
 reopen_shard-requires-clause-uber g c κs within = c.requires.uber
@@ -251,14 +183,12 @@ reopen_shard-requires-clause-uber g c κs within = c.requires.uber
 pub reopen_shard-requires-clause-number : goal.reopen_shard-requires-clause-number
 reopen_shard-requires-clause-number g c κs within = (let below = c.loop-number-test.true in let same = ap (λ (x : Geometry). x.props.metaslabs) c.geometry-layout.ensures in omega (arith, below, same))
 
-pub new-perms-requires-clause-least : goal.new-perms-requires-clause-least
-new-perms-requires-clause-least g c =
+pub new-perms-requires : goal.new-perms-requires
+new-perms-requires g c =
     let same = ap (λ (x : Geometry). x.spec.children) c.geometry-layout.ensures in
-    let least = c.requires.uber.valid.held.layout_is.spec.some_children in
-    omega (arith, same, least)
-
-pub new-perms-requires-clause-most : goal.new-perms-requires-clause-most
-new-perms-requires-clause-most g c =
-    let same = ap (λ (x : Geometry). x.spec.children) c.geometry-layout.ensures in
-    let most = c.requires.uber.valid.held.layout_is.spec.most_children in
-    omega (arith, same, most)
+    record {
+      least = (let least = c.requires.uber.valid.held.layout_is.spec.some_children in
+          omega (arith, same, least));
+      most = (let most = c.requires.uber.valid.held.layout_is.spec.most_children in
+          omega (arith, same, most));
+    }

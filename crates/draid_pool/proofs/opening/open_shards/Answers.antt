@@ -25,20 +25,23 @@ pub open_shard-requires-clause-made : goal.open_shard-requires-clause-made
 open_shard-requires-clause-made g c κs within =
     subst (λ (o : Option Shape). IsSomeAnd o (HasLeavesOf c.args.layout)) (sym (c.loop-number.invariant.opening.leaves_yet c.loop-number.number (omega arith))) (c.requires.made c.loop-number.number c.loop-number-test.true)
 
-pub returns-in-Err-clause-back : goal.returns-in-Err-clause-back
-returns-in-Err-clause-back g c =
+pub returns-in-Err : goal.returns-in-Err
+returns-in-Err g c =
     let shelf = g.H.Shelf in
-    opening_back g.H.R.Rack g.H.A.Area c.args.layout c.new-perms.result c.loop-number.number (shelf.leaves c.args.shelf.now) (shelf.leaves c.loop-number.shelf) (shelf.told c.args.shelf.now) (shelf.told c.loop-number.shelf)
-    (shelf.told c.open_shard.new.shelf) (shelf.told c.give_back.new.shelf) (shelf.counts c.args.shelf.now) (shelf.counts c.loop-number.shelf) (shelf.counts c.open_shard.new.shelf) (shelf.counts c.give_back.new.shelf)
-    c.loop-number.shards.items c.loop-number.invariant.opening c.in-Err.ensures.back c.give_back.ensures.returns
-
-pub returns-in-Err-clause-cause : goal.returns-in-Err-clause-cause
-returns-in-Err-clause-cause g c failed =
-    let shelf = g.H.Shelf in
-    refused_counted g.H.R.Rack g.H.A.Area c.args.layout c.new-perms.result c.loop-number.number (shelf.leaves c.args.shelf.now) (shelf.leaves c.loop-number.shelf) (shelf.told c.args.shelf.now) (shelf.told c.loop-number.shelf)
-    (shelf.told c.open_shard.new.shelf) (shelf.told c.give_back.new.shelf) (shelf.counts c.args.shelf.now) (shelf.counts c.loop-number.shelf) (shelf.counts c.open_shard.new.shelf) (shelf.counts c.give_back.new.shelf)
-    c.loop-number.shards.items (shelf.faults c.args.shelf.now) (shelf.faults c.loop-number.shelf) (shelf.faults c.give_back.new.shelf) c.loop-number.invariant.opening c.give_back.ensures.returns c.loop-number.invariant.later c.loop-number-test.true
-    (subst (λ (n : ℕ). Rose (shelf.faults c.loop-number.shelf) n ⊎ (0 < (shelf.counts c.open_shard.new.shelf c.loop-number.number).odd)) (sym c.give_back.ensures.faults) (c.in-Err.ensures.cause (failed_too c.in-Err.fault failed)))
+    record {
+      opened = tt;
+      told = tt;
+      back = opening_back g.H.R.Rack g.H.A.Area c.args.layout c.new-perms.result c.loop-number.number (shelf.leaves c.args.shelf.now) (shelf.leaves c.loop-number.shelf) (shelf.told c.args.shelf.now) (shelf.told c.loop-number.shelf)
+          (shelf.told c.open_shard.new.shelf) (shelf.told c.give_back.new.shelf) (shelf.counts c.args.shelf.now) (shelf.counts c.loop-number.shelf) (shelf.counts c.open_shard.new.shelf) (shelf.counts c.give_back.new.shelf)
+          c.loop-number.shards.items c.loop-number.invariant.opening c.in-Err.ensures.back c.give_back.ensures.returns;
+      uber = c.give_back.ensures.uber ∙ (c.open_shard.ensures.uber ∙ c.loop-number.invariant.uber);
+      checks = c.give_back.ensures.checks ∙ (c.open_shard.ensures.checks ∙ c.loop-number.invariant.checks);
+      later = (let first = c.loop-number.invariant.later in let more = c.open_shard.ensures.later in let same = c.give_back.ensures.faults in omega (arith, first, more, same));
+      cause = λ failed. refused_counted g.H.R.Rack g.H.A.Area c.args.layout c.new-perms.result c.loop-number.number (shelf.leaves c.args.shelf.now) (shelf.leaves c.loop-number.shelf) (shelf.told c.args.shelf.now) (shelf.told c.loop-number.shelf)
+          (shelf.told c.open_shard.new.shelf) (shelf.told c.give_back.new.shelf) (shelf.counts c.args.shelf.now) (shelf.counts c.loop-number.shelf) (shelf.counts c.open_shard.new.shelf) (shelf.counts c.give_back.new.shelf)
+          c.loop-number.shards.items (shelf.faults c.args.shelf.now) (shelf.faults c.loop-number.shelf) (shelf.faults c.give_back.new.shelf) c.loop-number.invariant.opening c.give_back.ensures.returns c.loop-number.invariant.later c.loop-number-test.true
+          (subst (λ (n : ℕ). Rose (shelf.faults c.loop-number.shelf) n ⊎ (0 < (shelf.counts c.open_shard.new.shelf c.loop-number.number).odd)) (sym c.give_back.ensures.faults) (c.in-Err.ensures.cause (failed_too c.in-Err.fault failed)));
+    }
 
 pub loop-number-preserved : goal.loop-number-preserved
 loop-number-preserved g c =
@@ -61,70 +64,35 @@ loop-number-preserved g c =
       later = omega (arith, later, again);
     }
 
-pub returns-clause-opened : goal.returns-clause-opened
-returns-clause-opened g c =
+pub returns : goal.returns
+returns g c =
     let shelf = g.H.Shelf in
     let end = c.loop-number-test.false in
     let bound = c.loop-number.invariant.bound in
-    opening_all g.H.R.Rack g.H.A.Area c.args.layout c.new-perms.result c.loop-number.number (shelf.leaves c.args.shelf.now) (shelf.leaves c.loop-number.shelf) (shelf.told c.args.shelf.now) (shelf.told c.loop-number.shelf)
-    (shelf.counts c.args.shelf.now) (shelf.counts c.loop-number.shelf) c.loop-number.shards.items c.loop-number.invariant.opening
-    (record { geometry_is = c.requires.layout; perms_are = c.new-perms.ensures }) (omega (arith, end, bound))
+    record {
+      opened = opening_all g.H.R.Rack g.H.A.Area c.args.layout c.new-perms.result c.loop-number.number (shelf.leaves c.args.shelf.now) (shelf.leaves c.loop-number.shelf) (shelf.told c.args.shelf.now) (shelf.told c.loop-number.shelf)
+          (shelf.counts c.args.shelf.now) (shelf.counts c.loop-number.shelf) c.loop-number.shards.items c.loop-number.invariant.opening
+          (record { geometry_is = c.requires.layout; perms_are = c.new-perms.ensures }) (omega (arith, end, bound));
+      told = (let last : c.loop-number.number ≡ c.args.layout.props.metaslabs = omega (arith, end, bound) in
+          subst (λ (n : ℕ). TakesFirst n (shelf.told c.args.shelf.now) (shelf.told c.loop-number.shelf)) last c.loop-number.invariant.opening.told);
+      back = tt;
+      uber = c.loop-number.invariant.uber;
+      checks = c.loop-number.invariant.checks;
+      later = c.loop-number.invariant.later;
+      cause = λ failed. absurd (no_refusal failed);
+    }
 
-pub returns-clause-told : goal.returns-clause-told
-returns-clause-told g c =
-    let shelf = g.H.Shelf in
-    let end = c.loop-number-test.false in
-    let bound = c.loop-number.invariant.bound in
-    let last : c.loop-number.number ≡ c.args.layout.props.metaslabs = omega (arith, end, bound) in
-    subst (λ (n : ℕ). TakesFirst n (shelf.told c.args.shelf.now) (shelf.told c.loop-number.shelf)) last c.loop-number.invariant.opening.told
-
-pub returns-clause-back : goal.returns-clause-back
-returns-clause-back g c = tt
-
-pub returns-clause-uber : goal.returns-clause-uber
-returns-clause-uber g c = c.loop-number.invariant.uber
-
-pub returns-clause-checks : goal.returns-clause-checks
-returns-clause-checks g c = c.loop-number.invariant.checks
-
-pub returns-clause-later : goal.returns-clause-later
-returns-clause-later g c = c.loop-number.invariant.later
-
-pub returns-clause-cause : goal.returns-clause-cause
-returns-clause-cause g c failed = absurd (no_refusal failed)
-
-pub returns-in-Err-clause-opened : goal.returns-in-Err-clause-opened
-returns-in-Err-clause-opened g c = tt
-
-pub returns-in-Err-clause-told : goal.returns-in-Err-clause-told
-returns-in-Err-clause-told g c = tt
-
-pub returns-in-Err-clause-uber : goal.returns-in-Err-clause-uber
-returns-in-Err-clause-uber g c = c.give_back.ensures.uber ∙ (c.open_shard.ensures.uber ∙ c.loop-number.invariant.uber)
-
-pub returns-in-Err-clause-checks : goal.returns-in-Err-clause-checks
-returns-in-Err-clause-checks g c = c.give_back.ensures.checks ∙ (c.open_shard.ensures.checks ∙ c.loop-number.invariant.checks)
-
-pub returns-in-Err-clause-later : goal.returns-in-Err-clause-later
-returns-in-Err-clause-later g c = (let first = c.loop-number.invariant.later in let more = c.open_shard.ensures.later in let same = c.give_back.ensures.faults in omega (arith, first, more, same))
-
-pub returns-in_default-clause-opened : goal.returns-in_default-clause-opened
-returns-in_default-clause-opened g c = tt
-
-pub returns-in_default-clause-told : goal.returns-in_default-clause-told
-returns-in_default-clause-told g c = tt
-
-pub returns-in_default-clause-uber : goal.returns-in_default-clause-uber
-returns-in_default-clause-uber g c = refl
-
-pub returns-in_default-clause-checks : goal.returns-in_default-clause-checks
-returns-in_default-clause-checks g c = refl
-
-pub returns-in_default-clause-later : goal.returns-in_default-clause-later
-returns-in_default-clause-later g c = omega arith
-
-pub returns-in_default-clause-cause : goal.returns-in_default-clause-cause
-returns-in_default-clause-cause g c failed = absurd (no_device failed)
+pub returns-in_default : goal.returns-in_default
+returns-in_default g c =
+    record {
+      opened = tt;
+      told = tt;
+      back = back_nothing (g.H.Shelf.told c.args.shelf.now) (g.H.Shelf.counts c.args.shelf.now);
+      uber = refl;
+      checks = refl;
+      later = omega arith;
+      cause = λ failed. absurd (no_device failed);
+    }
 
 pub open_shard-requires-clause-layout : goal.open_shard-requires-clause-layout
 open_shard-requires-clause-layout g c κs within = record { geometry_is = c.requires.layout; perms_are = c.new-perms.ensures }
@@ -148,6 +116,3 @@ give_back-requires-clause-few g c κs within =
     let many = i.opening.many in
     let most = c.requires.layout.props.most_metaslabs in
     omega (arith, bound, many, most)
-
-pub returns-in_default-clause-back : goal.returns-in_default-clause-back
-returns-in_default-clause-back g c = back_nothing (g.H.Shelf.told c.args.shelf.now) (g.H.Shelf.counts c.args.shelf.now)

@@ -103,21 +103,16 @@ begin_fault-requires g c =
     let room = c.requires.room in
     never_refused c.args.shard.now _ room.0 room.2 c.in-Err.why (c.in-Err.ensures.refused room.0 room.1)
 
-pub returns-in-Err-clause-valid : goal.returns-in-Err-clause-valid
-returns-in-Err-clause-valid g c = c.in-Err.ensures.valid
-
-pub returns-in-Err-clause-part : goal.returns-in-Err-clause-part
-returns-in-Err-clause-part g c = c.in-Err.ensures.none.none.part
-
-pub returns-in-Err-clause-sets : goal.returns-in-Err-clause-sets
-returns-in-Err-clause-sets g c =
-    subst (λ (f : StoreFault). StoreSets c.args.shard.now c.begin.new.self c.args.object c.args.seq c.args.floor (Err f)) (sym c.begin_fault.ensures) c.in-Err.ensures.none.keeps
-
-pub returns-in-Err-clause-stores : goal.returns-in-Err-clause-stores
-returns-in-Err-clause-stores g c part pieces x is =
-    let e = c.in-Err.ensures in
-    subst (λ (f : StoreFault). StoreDoes g.R.Rack g.A.Area part pieces c.args.object c.args.seq c.args.floor c.args.block.now.bytes x c.begin.new.self (Err f)) (sym c.begin_fault.ensures)
-    (none_here g.R.Rack g.A.Area part pieces c.args.shard.now c.begin.new.self x is e.valid e.none.none e.kit.rack e.kit.areas e.reserve.limit e.reserve.reserved)
+pub returns-in-Err : goal.returns-in-Err
+returns-in-Err g c =
+    record {
+      valid = c.in-Err.ensures.valid;
+      part = c.in-Err.ensures.none.none.part;
+      sets = subst (λ (f : StoreFault). StoreSets c.args.shard.now c.begin.new.self c.args.object c.args.seq c.args.floor (Err f)) (sym c.begin_fault.ensures) c.in-Err.ensures.none.keeps;
+      stores = λ part pieces x is. (let e = c.in-Err.ensures in
+          subst (λ (f : StoreFault). StoreDoes g.R.Rack g.A.Area part pieces c.args.object c.args.seq c.args.floor c.args.block.now.bytes x c.begin.new.self (Err f)) (sym c.begin_fault.ensures)
+          (none_here g.R.Rack g.A.Area part pieces c.args.shard.now c.begin.new.self x is e.valid e.none.none e.kit.rack e.kit.areas e.reserve.limit e.reserve.reserved));
+    }
 
 pub put_all-requires : goal.put_all-requires
 put_all-requires g c = record { valid = c.in-Ok.ensures.valid; carries = c.in-Ok.ensures.ticket.carries; fresh = c.in-Ok.ensures.ticket.named.fresh.0 }

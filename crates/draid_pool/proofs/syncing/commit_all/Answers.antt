@@ -21,16 +21,23 @@ loop-metaslab-preserved g c =
 pub loop-metaslab-init : goal.loop-metaslab-init
 loop-metaslab-init g c = record { many = refl; below = λ k shard less there. absurd (omega (arith, less)); others = λ k past. refl }
 
-pub commit-requires-clause-sealed : goal.commit-requires-clause-sealed
-commit-requires-clause-sealed g c =
+pub commit-requires : goal.commit-requires
+commit-requires g c =
     let l = c.loop-metaslab in
     let b = l.invariant in
     let below = c.loop-metaslab-test.true in
     let len = c.len-metaslab-end.ensures in
     let vec = c.args.shards.now.ok.0 in
     let many = b.many in
-    let there = borrowed_at l.shards.items l.metaslab c.index_mut.result.now (omega (arith, below, len, vec, many)) c.index_mut.ensures.value in
-    c.requires.sealed l.metaslab c.index_mut.result.now (sym (b.others l.metaslab (omega arith)) ∙ there)
+    record {
+      valid = (let old = c.args.shards.now.items in
+          let shard = c.index_mut.result.now in
+          let there = borrowed_at l.shards.items l.metaslab shard (omega (arith, below, len, vec, many)) c.index_mut.ensures.value in
+          let was = sym (b.others l.metaslab (omega arith)) ∙ there in
+          subst (Valid g.R.Rack) (get_or_from_slice_get old l.metaslab shard shard was) (c.requires.valid l.metaslab shard (slice_get_within old l.metaslab shard was)));
+      sealed = (let there = borrowed_at l.shards.items l.metaslab c.index_mut.result.now (omega (arith, below, len, vec, many)) c.index_mut.ensures.value in
+          c.requires.sealed l.metaslab c.index_mut.result.now (sym (b.others l.metaslab (omega arith)) ∙ there));
+    }
 
 pub index_mut-requires : goal.index_mut-requires
 index_mut-requires g c =
@@ -41,20 +48,6 @@ index_mut-requires g c =
     let many = l.invariant.many in
     let own = l.shards.ok.0 in
     omega (arith, below, len, vec, many, own)
-
-pub commit-requires-clause-valid : goal.commit-requires-clause-valid
-commit-requires-clause-valid g c =
-    let l = c.loop-metaslab in
-    let b = l.invariant in
-    let old = c.args.shards.now.items in
-    let shard = c.index_mut.result.now in
-    let below = c.loop-metaslab-test.true in
-    let len = c.len-metaslab-end.ensures in
-    let vec = c.args.shards.now.ok.0 in
-    let many = b.many in
-    let there = borrowed_at l.shards.items l.metaslab shard (omega (arith, below, len, vec, many)) c.index_mut.ensures.value in
-    let was = sym (b.others l.metaslab (omega arith)) ∙ there in
-    subst (Valid g.R.Rack) (get_or_from_slice_get old l.metaslab shard shard was) (c.requires.valid l.metaslab shard (slice_get_within old l.metaslab shard was))
 
 pub returns : goal.returns
 returns g c =

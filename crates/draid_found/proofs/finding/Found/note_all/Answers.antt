@@ -2,8 +2,8 @@ use Rattle.std.proofs.Common.{arith, inl}
 use Rattle.std.specs.Prelude.{nat_eq}
 use Rattle.std.specs.HashMap.{get}
 use Rattle.draid_found.specs.Together.{noted_in}
-use Rattle.draid_found.proofs.Together.{count_first, count_next, notes_below, noted_twice}
-use Rattle.draid_found.proofs.Noted.{next_inside, next_low, noting_more, noting_none}
+use Rattle.draid_found.proofs.Together.{count_first, count_next, notes_below, noted_twice, no_fault, starved, notes_all}
+use Rattle.draid_found.proofs.Noted.{next_inside, next_low, noting_more, noting_none, noting_all}
 use Rattle.draid_found.proofs.finding.Found.note_all.Goals as goal
 
 pub overflow_add-from : goal.overflow_add-from
@@ -28,10 +28,16 @@ loop-pointer-preserved g c =
       bound = omega (arith, inside);
     }
 
-pub returns-in-Ok-false-clause-again : goal.returns-in-Ok-false-clause-again
-returns-in-Ok-false-clause-again g c =
-    noted_twice c.args.shard.now c.loop-pointer.from c.in-Some.pointer (noted_in c.args.self.now.keys) (noted_in c.loop-pointer.self.keys) c.loop-pointer.at c.in-Some.ensures.some c.loop-pointer.invariant.at c.loop-pointer.invariant.keys
-    (c.in-Ok-false.ensures.again c.in-Ok-false.field-0-test)
+pub returns-in-Ok-false : goal.returns-in-Ok-false
+returns-in-Ok-false g c = record {
+  noted = tt;
+  keys = tt;
+  again = noted_twice c.args.shard.now c.loop-pointer.from c.in-Some.pointer (noted_in c.args.self.now.keys) (noted_in c.loop-pointer.self.keys) c.loop-pointer.at c.in-Some.ensures.some c.loop-pointer.invariant.at c.loop-pointer.invariant.keys
+      (c.in-Ok-false.ensures.again c.in-Ok-false.field-0-test);
+}
+
+pub returns-in-Err : goal.returns-in-Err
+returns-in-Err g c = record { noted = tt; keys = tt; again = λ metaslab place kind is. absurd (starved metaslab place kind is) }
 
 pub loop-pointer-init : goal.loop-pointer-init
 loop-pointer-init g c = record {
@@ -39,4 +45,11 @@ loop-pointer-init g c = record {
   keys = λ key there. inl there;
   at = (let is = c.blocks_at-at.ensures in let none = count_first c.args.shard.now.entries in let low = c.blocks_at-at.type_inv in omega (arith, is, none, low));
   bound = omega arith;
+}
+
+pub returns : goal.returns
+returns g c = record {
+  noted = noting_all g.R.Rack c.args.shard.now c.loop-pointer.from (get nat_eq c.args.self.now.newest) (get nat_eq c.loop-pointer.self.newest) c.args.self.now.seq c.loop-pointer.self.seq c.in_default.ensures.none c.loop-pointer.invariant.noting;
+  keys = notes_all c.args.shard.now c.loop-pointer.from (noted_in c.args.self.now.keys) (noted_in c.loop-pointer.self.keys) c.loop-pointer.invariant.keys;
+  again = λ metaslab place kind is. absurd (no_fault is);
 }

@@ -8,6 +8,7 @@ use Rattle.draid_pool.proofs.Lifted.{sets_shard, with_shard}
 use Rattle.draid_pool.proofs.Rises.{areas_on, areas_set, areas_still}
 use Rattle.draid_pool.proofs.SyncSteps.{below_all, below_set, borrowed_at, came_none, close_all_stops, close_all_went, close_more, whole_on}
 use Rattle.draid_pool.proofs.Wholes.{whole_valid}
+use Rattle.draid_pool.proofs.Refusing.{no_refusal}
 use Rattle.draid_pool.proofs.pool.Pool.close_all.Goals as goal
 
 pub loop-metaslab-init : goal.loop-metaslab-init
@@ -20,8 +21,8 @@ loop-metaslab-init g c = record {
   many = refl;
 }
 
-pub close_in-requires-clause-valid : goal.close_in-requires-clause-valid
-close_in-requires-clause-valid g c =
+pub close_in-requires : goal.close_in-requires
+close_in-requires g c =
     let l = c.loop-metaslab in
     let i = l.invariant in
     let shard = c.index_mut.result.now in
@@ -30,25 +31,16 @@ close_in-requires-clause-valid g c =
     let vec = c.args.self.now.shards.ok.0 in
     let many = i.many in
     let there = borrowed_at l.self.shards.items l.metaslab shard (omega (arith, below, len, vec, many)) c.index_mut.ensures.value in
-    whole_valid g.R.Rack g.A.Area l.self l.metaslab shard i.whole there
+    record {
+      valid = whole_valid g.R.Rack g.A.Area l.self l.metaslab shard i.whole there;
+      next = (let committed = (i.whole.shards l.metaslab shard there).committed in
+          let next = c.requires.next in
+          let same = ap (λ u. group_of (kept_of u)) i.uber in
+          omega (arith, committed, next, same));
+    }
 
-pub close_in-requires-clause-next : goal.close_in-requires-clause-next
-close_in-requires-clause-next g c =
-    let l = c.loop-metaslab in
-    let i = l.invariant in
-    let shard = c.index_mut.result.now in
-    let below = c.loop-metaslab-test.true in
-    let len = c.len-metaslab-end.ensures in
-    let vec = c.args.self.now.shards.ok.0 in
-    let many = i.many in
-    let there = borrowed_at l.self.shards.items l.metaslab shard (omega (arith, below, len, vec, many)) c.index_mut.ensures.value in
-    let committed = (i.whole.shards l.metaslab shard there).committed in
-    let next = c.requires.next in
-    let same = ap (λ u. group_of (kept_of u)) i.uber in
-    omega (arith, committed, next, same)
-
-pub returns-in-Err-clause-whole : goal.returns-in-Err-clause-whole
-returns-in-Err-clause-whole g c =
+pub returns-in-Err : goal.returns-in-Err
+returns-in-Err g c =
     let l = c.loop-metaslab in
     let i = l.invariant in
     let shard = c.index_mut.result.now in
@@ -60,44 +52,18 @@ returns-in-Err-clause-whole g c =
     let after = c.close_in.new.shard in
     let new = with_shard l.self l.metaslab after in
     let set = sets_shard g.R.Rack g.A.Area l.self l.metaslab shard after there in
-    let e = c.close_in.ensures in
-    whole_on g.R.Rack g.A.Area l.metaslab l.self new shard after i.whole set e.valid e.table
-
-pub returns-in-Err-clause-later : goal.returns-in-Err-clause-later
-returns-in-Err-clause-later g c =
-    let l = c.loop-metaslab in
-    let i = l.invariant in
-    let shard = c.index_mut.result.now in
-    let below = c.loop-metaslab-test.true in
-    let len = c.len-metaslab-end.ensures in
-    let vec = c.args.self.now.shards.ok.0 in
-    let many = i.many in
-    let there = borrowed_at l.self.shards.items l.metaslab shard (omega (arith, below, len, vec, many)) c.index_mut.ensures.value in
-    let after = c.close_in.new.shard in
-    let new = with_shard l.self l.metaslab after in
-    let set = sets_shard g.R.Rack g.A.Area l.self l.metaslab shard after there in
-    let e = c.close_in.ensures in
-    areas_on g.A.Area.faults c.args.self.now l.self new i.later (areas_set g.R.Rack g.A.Area l.metaslab l.self new shard after set e.later)
-
-pub returns-in-Err-clause-carries : goal.returns-in-Err-clause-carries
-returns-in-Err-clause-carries g c = λ x is.
-    let l = c.loop-metaslab in
-    let i = l.invariant in
-    let shard = c.index_mut.result.now in
-    let below = c.loop-metaslab-test.true in
-    let len = c.len-metaslab-end.ensures in
-    let vec = c.args.self.now.shards.ok.0 in
-    let many = i.many in
-    let there = borrowed_at l.self.shards.items l.metaslab shard (omega (arith, below, len, vec, many)) c.index_mut.ensures.value in
-    let after = c.close_in.new.shard in
-    let new = with_shard l.self l.metaslab after in
-    let set = sets_shard g.R.Rack g.A.Area l.self l.metaslab shard after there in
-    let e = c.in-Err.ensures in
-    let all = i.whole.many in
-    close_all_stops g.R.Rack g.A.Area c.args.group l.metaslab l.self new shard after x c.in-Err.fault (i.carries x is) set (omega (arith, below, len, vec, many, all)) e.closes
-
-pub returns-in-Err-clause-cause : goal.returns-in-Err-clause-cause
-returns-in-Err-clause-cause g c = λ is. absurd (c.in-Err.ensures.not_shelf is)
+    record {
+      whole = (let e = c.close_in.ensures in
+          whole_on g.R.Rack g.A.Area l.metaslab l.self new shard after i.whole set e.valid e.table);
+      later = (let e = c.close_in.ensures in
+          areas_on g.A.Area.faults c.args.self.now l.self new i.later (areas_set g.R.Rack g.A.Area l.metaslab l.self new shard after set e.later));
+      cause = λ is. absurd (c.in-Err.ensures.not_shelf is);
+      carries = λ x is. (let e = c.in-Err.ensures in
+          let all = i.whole.many in
+          close_all_stops g.R.Rack g.A.Area c.args.group l.metaslab l.self new shard after x c.in-Err.fault (i.carries x is) set (omega (arith, below, len, vec, many, all)) e.closes);
+      closing = tt;
+      uber = c.loop-metaslab.invariant.uber;
+    }
 
 pub loop-metaslab-preserved : goal.loop-metaslab-preserved
 loop-metaslab-preserved g c =
@@ -122,24 +88,21 @@ loop-metaslab-preserved g c =
       many = length-set l.self.shards.items l.metaslab after ∙ i.many;
     }
 
-pub returns-clause-carries : goal.returns-clause-carries
-returns-clause-carries g c = λ x is.
+pub returns : goal.returns
+returns g c =
     let l = c.loop-metaslab in
     let i = l.invariant in
     let end = c.loop-metaslab-test.false in
     let len = c.len-metaslab-end.ensures in
     let vec = c.args.self.now.shards.ok.0 in
     let many = i.many in
-    let all = i.whole.many in
-    let upto = l.auto.metaslab-end in
-    close_all_went g.R.Rack g.A.Area c.args.group l.metaslab l.self x (i.carries x is) (omega (arith, end, len, vec, many, all, upto))
-
-pub returns-clause-closing : goal.returns-clause-closing
-returns-clause-closing g c =
-    let l = c.loop-metaslab in
-    let i = l.invariant in
-    let end = c.loop-metaslab-test.false in
-    let len = c.len-metaslab-end.ensures in
-    let vec = c.args.self.now.shards.ok.0 in
-    let many = i.many in
-    below_all (λ (z : Shard g.row.R.Denot g.row.A.Denot). z.closing ≡ Some c.args.group) l.self.shards.items l.metaslab (omega (arith, end, len, vec, many)) i.closing
+    record {
+      whole = c.loop-metaslab.invariant.whole;
+      later = c.loop-metaslab.invariant.later;
+      cause = λ is. absurd (no_refusal is);
+      carries = λ x is. (let all = i.whole.many in
+          let upto = l.auto.metaslab-end in
+          close_all_went g.R.Rack g.A.Area c.args.group l.metaslab l.self x (i.carries x is) (omega (arith, end, len, vec, many, all, upto)));
+      closing = below_all (λ (z : Shard g.row.R.Denot g.row.A.Denot). z.closing ≡ Some c.args.group) l.self.shards.items l.metaslab (omega (arith, end, len, vec, many)) i.closing;
+      uber = c.loop-metaslab.invariant.uber;
+    }

@@ -12,20 +12,16 @@ returns-then-metaslab-from g c = record {
       c.if-metaslab-from.true;
 }
 
-pub damage_sector-requires-clause-valid : goal.damage_sector-requires-clause-valid
-damage_sector-requires-clause-valid g c =
+pub damage_sector-requires : goal.damage_sector-requires
+damage_sector-requires g c =
     let k = c.args.sector / c.metaslab_sectors-sectors.result in
     let shard = c.index_mut.result.now in
     let there = damage_shard g.R.Rack g.A.Area c.args.self.now k c.from.result shard c.requires.whole c.from.ensures c.if-metaslab-from.false c.index_mut.ensures.value in
-    whole_valid g.R.Rack g.A.Area c.args.self.now k shard c.requires.whole there
-
-pub damage_sector-requires-clause-sector : goal.damage_sector-requires-clause-sector
-damage_sector-requires-clause-sector g c =
-    let k = c.args.sector / c.metaslab_sectors-sectors.result in
-    let shard = c.index_mut.result.now in
-    let there = damage_shard g.R.Rack g.A.Area c.args.self.now k c.from.result shard c.requires.whole c.from.ensures c.if-metaslab-from.false c.index_mut.ensures.value in
-    sector_below g.R.Rack g.A.Area c.args.self.now k c.args.sector c.metaslab_sectors-sectors.result shard c.requires.whole there c.metaslab_sectors-sectors.ensures.value
-    c.metaslab_sectors-sectors.ensures.some
+    record {
+      valid = whole_valid g.R.Rack g.A.Area c.args.self.now k shard c.requires.whole there;
+      sector = sector_below g.R.Rack g.A.Area c.args.self.now k c.args.sector c.metaslab_sectors-sectors.result shard c.requires.whole there c.metaslab_sectors-sectors.ensures.value
+          c.metaslab_sectors-sectors.ensures.some;
+    }
 
 pub returns : goal.returns
 returns g c =

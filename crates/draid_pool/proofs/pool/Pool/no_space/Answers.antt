@@ -7,17 +7,26 @@ use Rattle.draid_pool.specs.Shards.{AreShut}
 use Rattle.draid_pool.proofs.Wholes.{all_whole, few_whole}
 use Rattle.draid_pool.proofs.pool.Pool.no_space.Goals as goal
 
-pub count_shut-requires-clause-valid : goal.count_shut-requires-clause-valid
-count_shut-requires-clause-valid g c =
-    subst (λ (xs : List (Shard g.row.R.Denot g.row.A.Denot)). All (Valid g.R.Rack) xs) (sym c.as_slice-shards.ensures.value) (all_whole g.R.Rack g.A.Area c.args.self.now c.requires.whole)
+pub count_shut-requires : goal.count_shut-requires
+count_shut-requires g c =
+    record {
+      valid = subst (λ (xs : List (Shard g.row.R.Denot g.row.A.Denot)). All (Valid g.R.Rack) xs) (sym c.as_slice-shards.ensures.value) (all_whole g.R.Rack g.A.Area c.args.self.now c.requires.whole);
+      few = subst (λ (xs : List (Shard g.row.R.Denot g.row.A.Denot)). length xs ≤ 64) (sym c.as_slice-shards.ensures.value) (few_whole g.R.Rack g.A.Area c.args.self.now c.requires.whole);
+    }
 
-pub count_shut-requires-2-clause-valid : goal.count_shut-requires-2-clause-valid
-count_shut-requires-2-clause-valid g c =
-    subst (λ (xs : List (Shard g.row.R.Denot g.row.A.Denot)). All (Valid g.R.Rack) xs) (sym c.as_slice-shards.ensures.value) (all_whole g.R.Rack g.A.Area c.args.self.now c.requires.whole)
+pub count_shut-requires-2 : goal.count_shut-requires-2
+count_shut-requires-2 g c =
+    record {
+      valid = subst (λ (xs : List (Shard g.row.R.Denot g.row.A.Denot)). All (Valid g.R.Rack) xs) (sym c.as_slice-shards.ensures.value) (all_whole g.R.Rack g.A.Area c.args.self.now c.requires.whole);
+      few = subst (λ (xs : List (Shard g.row.R.Denot g.row.A.Denot)). length xs ≤ 64) (sym c.as_slice-shards.ensures.value) (few_whole g.R.Rack g.A.Area c.args.self.now c.requires.whole);
+    }
 
-pub count_shut-requires-3-clause-valid : goal.count_shut-requires-3-clause-valid
-count_shut-requires-3-clause-valid g c =
-    subst (λ (xs : List (Shard g.row.R.Denot g.row.A.Denot)). All (Valid g.R.Rack) xs) (sym c.as_slice-shards.ensures.value) (all_whole g.R.Rack g.A.Area c.args.self.now c.requires.whole)
+pub count_shut-requires-3 : goal.count_shut-requires-3
+count_shut-requires-3 g c =
+    record {
+      valid = subst (λ (xs : List (Shard g.row.R.Denot g.row.A.Denot)). All (Valid g.R.Rack) xs) (sym c.as_slice-shards.ensures.value) (all_whole g.R.Rack g.A.Area c.args.self.now c.requires.whole);
+      few = subst (λ (xs : List (Shard g.row.R.Denot g.row.A.Denot)). length xs ≤ 64) (sym c.as_slice-shards.ensures.value) (few_whole g.R.Rack g.A.Area c.args.self.now c.requires.whole);
+    }
 
 pub returns : goal.returns
 returns g c = (
@@ -26,12 +35,3 @@ returns g c = (
   subst (λ (xs : List (Shard g.row.R.Denot g.row.A.Denot)). AreShut xs shut.Full c.count_shut-2.result) c.as_slice-shards.ensures.value c.count_shut-2.ensures,
   subst (λ (xs : List (Shard g.row.R.Denot g.row.A.Denot)). AreShut xs shut.Worn c.count_shut-3.result) c.as_slice-shards.ensures.value c.count_shut-3.ensures,
 )
-
-pub count_shut-requires-clause-few : goal.count_shut-requires-clause-few
-count_shut-requires-clause-few g c = subst (λ (xs : List (Shard g.row.R.Denot g.row.A.Denot)). length xs ≤ 64) (sym c.as_slice-shards.ensures.value) (few_whole g.R.Rack g.A.Area c.args.self.now c.requires.whole)
-
-pub count_shut-requires-2-clause-few : goal.count_shut-requires-2-clause-few
-count_shut-requires-2-clause-few g c = subst (λ (xs : List (Shard g.row.R.Denot g.row.A.Denot)). length xs ≤ 64) (sym c.as_slice-shards.ensures.value) (few_whole g.R.Rack g.A.Area c.args.self.now c.requires.whole)
-
-pub count_shut-requires-3-clause-few : goal.count_shut-requires-3-clause-few
-count_shut-requires-3-clause-few g c = subst (λ (xs : List (Shard g.row.R.Denot g.row.A.Denot)). length xs ≤ 64) (sym c.as_slice-shards.ensures.value) (few_whole g.R.Rack g.A.Area c.args.self.now c.requires.whole)

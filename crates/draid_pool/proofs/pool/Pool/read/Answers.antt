@@ -16,12 +16,12 @@ returns-in_err-fetched g c = record {
       rw (p.1, p.2) (unread g.R.Rack g.A.Area c.fetch.new.self x c.args.object c.in_err-fetched.field-0.0 f.0 f.1));
 }
 
-pub solve_block-requires-clause-geometry : goal.solve_block-requires-clause-geometry
-solve_block-requires-clause-geometry g c = c.in_ok-fetched.ensures.whole.layout.geometry_is
-
-pub solve_block-requires-clause-fetched : goal.solve_block-requires-clause-fetched
-solve_block-requires-clause-fetched g c =
-    subst (λ (geometry : Geometry). IsFetched (cut_of geometry) c.in_ok-fetched.fetched) (sym c.in_ok-fetched.ensures.geometry) c.in_ok-fetched.ensures.fetched
+pub solve_block-requires : goal.solve_block-requires
+solve_block-requires g c =
+    record {
+      geometry = c.in_ok-fetched.ensures.whole.layout.geometry_is;
+      fetched = subst (λ (geometry : Geometry). IsFetched (cut_of geometry) c.in_ok-fetched.fetched) (sym c.in_ok-fetched.ensures.geometry) c.in_ok-fetched.ensures.fetched;
+    }
 
 pub returns-in-Ok : goal.returns-in-Ok
 returns-in-Ok g c = record {

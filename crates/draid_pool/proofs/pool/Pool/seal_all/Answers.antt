@@ -6,6 +6,7 @@ use Rattle.draid_pool.proofs.Lifted.{sets_shard, with_shard}
 use Rattle.draid_pool.proofs.Rises.{areas_on, areas_set, areas_still, rose_set, rose_then}
 use Rattle.draid_pool.proofs.SyncSteps.{all_set, below_all, below_set, borrowed_at, came_none, seal_all_stops, seal_all_went, seal_more, whole_on}
 use Rattle.draid_pool.proofs.Wholes.{few_whole, whole_valid}
+use Rattle.draid_pool.proofs.Refusing.{no_refusal}
 use Rattle.draid_pool.proofs.pool.Pool.seal_all.Goals as goal
 
 pub loop-metaslab-init : goal.loop-metaslab-init
@@ -20,8 +21,8 @@ loop-metaslab-init g c = record {
   many = refl;
 }
 
-pub seal_in-requires-clause-valid : goal.seal_in-requires-clause-valid
-seal_in-requires-clause-valid g c =
+pub seal_in-requires : goal.seal_in-requires
+seal_in-requires g c =
     let l = c.loop-metaslab in
     let i = l.invariant in
     let shard = c.index_mut.result.now in
@@ -30,34 +31,14 @@ seal_in-requires-clause-valid g c =
     let vec = c.args.self.now.shards.ok.0 in
     let many = i.many in
     let there = borrowed_at l.self.shards.items l.metaslab shard (omega (arith, below, len, vec, many)) c.index_mut.ensures.value in
-    whole_valid g.R.Rack g.A.Area l.self l.metaslab shard i.whole there
+    record {
+      valid = whole_valid g.R.Rack g.A.Area l.self l.metaslab shard i.whole there;
+      closing = i.closing l.metaslab shard there;
+      settled = (i.whole.shards l.metaslab shard there).settled;
+    }
 
-pub seal_in-requires-clause-closing : goal.seal_in-requires-clause-closing
-seal_in-requires-clause-closing g c =
-    let l = c.loop-metaslab in
-    let i = l.invariant in
-    let shard = c.index_mut.result.now in
-    let below = c.loop-metaslab-test.true in
-    let len = c.len-metaslab-end.ensures in
-    let vec = c.args.self.now.shards.ok.0 in
-    let many = i.many in
-    let there = borrowed_at l.self.shards.items l.metaslab shard (omega (arith, below, len, vec, many)) c.index_mut.ensures.value in
-    i.closing l.metaslab shard there
-
-pub seal_in-requires-clause-settled : goal.seal_in-requires-clause-settled
-seal_in-requires-clause-settled g c =
-    let l = c.loop-metaslab in
-    let i = l.invariant in
-    let shard = c.index_mut.result.now in
-    let below = c.loop-metaslab-test.true in
-    let len = c.len-metaslab-end.ensures in
-    let vec = c.args.self.now.shards.ok.0 in
-    let many = i.many in
-    let there = borrowed_at l.self.shards.items l.metaslab shard (omega (arith, below, len, vec, many)) c.index_mut.ensures.value in
-    (i.whole.shards l.metaslab shard there).settled
-
-pub returns-in-Err-clause-whole : goal.returns-in-Err-clause-whole
-returns-in-Err-clause-whole g c =
+pub returns-in-Err : goal.returns-in-Err
+returns-in-Err g c =
     let l = c.loop-metaslab in
     let i = l.invariant in
     let shard = c.index_mut.result.now in
@@ -69,56 +50,18 @@ returns-in-Err-clause-whole g c =
     let after = c.seal_in.new.shard in
     let new = with_shard l.self l.metaslab after in
     let set = sets_shard g.R.Rack g.A.Area l.self l.metaslab shard after there in
-    let e = c.seal_in.ensures in
-    whole_on g.R.Rack g.A.Area l.metaslab l.self new shard after i.whole set e.valid e.table
-
-pub returns-in-Err-clause-later : goal.returns-in-Err-clause-later
-returns-in-Err-clause-later g c =
-    let l = c.loop-metaslab in
-    let i = l.invariant in
-    let shard = c.index_mut.result.now in
-    let below = c.loop-metaslab-test.true in
-    let len = c.len-metaslab-end.ensures in
-    let vec = c.args.self.now.shards.ok.0 in
-    let many = i.many in
-    let there = borrowed_at l.self.shards.items l.metaslab shard (omega (arith, below, len, vec, many)) c.index_mut.ensures.value in
-    let after = c.seal_in.new.shard in
-    let new = with_shard l.self l.metaslab after in
-    let set = sets_shard g.R.Rack g.A.Area l.self l.metaslab shard after there in
-    let e = c.seal_in.ensures in
-    areas_on g.A.Area.faults c.args.self.now l.self new i.later (areas_set g.R.Rack g.A.Area l.metaslab l.self new shard after set e.later)
-
-pub returns-in-Err-clause-carries : goal.returns-in-Err-clause-carries
-returns-in-Err-clause-carries g c = λ x is.
-    let l = c.loop-metaslab in
-    let i = l.invariant in
-    let shard = c.index_mut.result.now in
-    let below = c.loop-metaslab-test.true in
-    let len = c.len-metaslab-end.ensures in
-    let vec = c.args.self.now.shards.ok.0 in
-    let many = i.many in
-    let there = borrowed_at l.self.shards.items l.metaslab shard (omega (arith, below, len, vec, many)) c.index_mut.ensures.value in
-    let after = c.seal_in.new.shard in
-    let new = with_shard l.self l.metaslab after in
-    let set = sets_shard g.R.Rack g.A.Area l.self l.metaslab shard after there in
-    let e = c.in-Err.ensures in
-    let all = i.whole.many in
-    seal_all_stops g.R.Rack g.A.Area c.args.group l.metaslab l.thin l.self new shard after x c.in-Err.fault (i.carries x is) set (omega (arith, below, len, vec, many, all)) e.seals
-
-pub returns-in-Err-clause-cause : goal.returns-in-Err-clause-cause
-returns-in-Err-clause-cause g c = λ is.
-    let l = c.loop-metaslab in
-    let i = l.invariant in
-    let shard = c.index_mut.result.now in
-    let below = c.loop-metaslab-test.true in
-    let len = c.len-metaslab-end.ensures in
-    let vec = c.args.self.now.shards.ok.0 in
-    let many = i.many in
-    let there = borrowed_at l.self.shards.items l.metaslab shard (omega (arith, below, len, vec, many)) c.index_mut.ensures.value in
-    let after = c.seal_in.new.shard in
-    let new = with_shard l.self l.metaslab after in
-    let set = sets_shard g.R.Rack g.A.Area l.self l.metaslab shard after there in
-    rose_then g.A.Area.faults c.args.self.now l.self new i.later (rose_set g.R.Rack g.A.Area l.metaslab l.self new shard after set (c.in-Err.ensures.cause is))
+    record {
+      whole = (let e = c.seal_in.ensures in
+          whole_on g.R.Rack g.A.Area l.metaslab l.self new shard after i.whole set e.valid e.table);
+      later = (let e = c.seal_in.ensures in
+          areas_on g.A.Area.faults c.args.self.now l.self new i.later (areas_set g.R.Rack g.A.Area l.metaslab l.self new shard after set e.later));
+      cause = λ is. rose_then g.A.Area.faults c.args.self.now l.self new i.later (rose_set g.R.Rack g.A.Area l.metaslab l.self new shard after set (c.in-Err.ensures.cause is));
+      carries = λ x is. (let e = c.in-Err.ensures in
+          let all = i.whole.many in
+          seal_all_stops g.R.Rack g.A.Area c.args.group l.metaslab l.thin l.self new shard after x c.in-Err.fault (i.carries x is) set (omega (arith, below, len, vec, many, all)) e.seals);
+      sealed = tt;
+      uber = c.loop-metaslab.invariant.uber;
+    }
 
 pub overflow_add-thin : goal.overflow_add-thin
 overflow_add-thin g c =
@@ -158,24 +101,21 @@ loop-metaslab-preserved g c =
       many = length-set l.self.shards.items l.metaslab after ∙ i.many;
     }
 
-pub returns-clause-carries : goal.returns-clause-carries
-returns-clause-carries g c = λ x is.
+pub returns : goal.returns
+returns g c =
     let l = c.loop-metaslab in
     let i = l.invariant in
     let end = c.loop-metaslab-test.false in
     let len = c.len-metaslab-end.ensures in
     let vec = c.args.self.now.shards.ok.0 in
     let many = i.many in
-    let all = i.whole.many in
-    let upto = l.auto.metaslab-end in
-    seal_all_went g.R.Rack g.A.Area c.args.group l.metaslab l.thin l.self x (i.carries x is) (omega (arith, end, len, vec, many, all, upto))
-
-pub returns-clause-sealed : goal.returns-clause-sealed
-returns-clause-sealed g c =
-    let l = c.loop-metaslab in
-    let i = l.invariant in
-    let end = c.loop-metaslab-test.false in
-    let len = c.len-metaslab-end.ensures in
-    let vec = c.args.self.now.shards.ok.0 in
-    let many = i.many in
-    below_all (λ (z : Shard g.row.R.Denot g.row.A.Denot). (z.closing ≡ Some c.args.group) × (z.sealed ≡ true)) l.self.shards.items l.metaslab (omega (arith, end, len, vec, many)) i.sealed
+    record {
+      whole = c.loop-metaslab.invariant.whole;
+      later = c.loop-metaslab.invariant.later;
+      cause = λ is. absurd (no_refusal is);
+      carries = λ x is. (let all = i.whole.many in
+          let upto = l.auto.metaslab-end in
+          seal_all_went g.R.Rack g.A.Area c.args.group l.metaslab l.thin l.self x (i.carries x is) (omega (arith, end, len, vec, many, all, upto)));
+      sealed = below_all (λ (z : Shard g.row.R.Denot g.row.A.Denot). (z.closing ≡ Some c.args.group) × (z.sealed ≡ true)) l.self.shards.items l.metaslab (omega (arith, end, len, vec, many)) i.sealed;
+      uber = c.loop-metaslab.invariant.uber;
+    }

@@ -39,62 +39,34 @@ index_mut-shard-requires g c =
     let len = c.args.self.now.shards.ok.0 in
     omega (arith, below, len)
 
-pub store-requires-clause-valid : goal.store-requires-clause-valid
-store-requires-clause-valid g c =
+pub store-requires : goal.store-requires
+store-requires g c =
     let at = borrowed g.R.Rack g.A.Area c.args.self.now.shards.items c.args.metaslab c.requires.room.shard c.index_mut-shard.result.now c.requires.room.there c.index_mut-shard.ensures.value in
-    whole_valid g.R.Rack g.A.Area c.args.self.now c.args.metaslab c.index_mut-shard.result.now c.requires.whole at.0
+    record {
+      valid = whole_valid g.R.Rack g.A.Area c.args.self.now c.args.metaslab c.index_mut-shard.result.now c.requires.whole at.0;
+      object = c.requires.object;
+      seq = (omega arith, c.requires.last);
+      unused = whole_unused g.R.Rack g.A.Area c.args.self.now c.args.metaslab c.args.object (c.args.self.now.seq + 1) c.index_mut-shard.result.now c.requires.whole at.0 refl;
+      floor = whole_floor g.R.Rack g.A.Area c.args.self.now c.args.metaslab c.index_mut-shard.result.now c.requires.whole at.0;
+      last = c.requires.whole.low;
+      cut = c.requires.cut ∙ sym (ap cut_of (whole_geometry g.R.Rack g.A.Area c.args.self.now c.args.metaslab c.index_mut-shard.result.now c.requires.whole at.0));
+      room = whole_room g.R.Rack g.A.Area c.args.self.now c.args.metaslab (length c.args.block.now.bytes) c.requires.room.shard c.index_mut-shard.result.now c.requires.whole at.0 at.1 c.requires.room.room;
+    }
 
-pub store-requires-clause-unused : goal.store-requires-clause-unused
-store-requires-clause-unused g c =
-    let at = borrowed g.R.Rack g.A.Area c.args.self.now.shards.items c.args.metaslab c.requires.room.shard c.index_mut-shard.result.now c.requires.room.there c.index_mut-shard.ensures.value in
-    whole_unused g.R.Rack g.A.Area c.args.self.now c.args.metaslab c.args.object (c.args.self.now.seq + 1) c.index_mut-shard.result.now c.requires.whole at.0 refl
-
-pub store-requires-clause-floor : goal.store-requires-clause-floor
-store-requires-clause-floor g c =
-    let at = borrowed g.R.Rack g.A.Area c.args.self.now.shards.items c.args.metaslab c.requires.room.shard c.index_mut-shard.result.now c.requires.room.there c.index_mut-shard.ensures.value in
-    whole_floor g.R.Rack g.A.Area c.args.self.now c.args.metaslab c.index_mut-shard.result.now c.requires.whole at.0
-
-pub store-requires-clause-last : goal.store-requires-clause-last
-store-requires-clause-last g c = c.requires.whole.low
-
-pub store-requires-clause-cut : goal.store-requires-clause-cut
-store-requires-clause-cut g c =
-    let at = borrowed g.R.Rack g.A.Area c.args.self.now.shards.items c.args.metaslab c.requires.room.shard c.index_mut-shard.result.now c.requires.room.there c.index_mut-shard.ensures.value in
-    c.requires.cut ∙ sym (ap cut_of (whole_geometry g.R.Rack g.A.Area c.args.self.now c.args.metaslab c.index_mut-shard.result.now c.requires.whole at.0))
-
-pub store-requires-clause-room : goal.store-requires-clause-room
-store-requires-clause-room g c =
-    let at = borrowed g.R.Rack g.A.Area c.args.self.now.shards.items c.args.metaslab c.requires.room.shard c.index_mut-shard.result.now c.requires.room.there c.index_mut-shard.ensures.value in
-    whole_room g.R.Rack g.A.Area c.args.self.now c.args.metaslab (length c.args.block.now.bytes) c.requires.room.shard c.index_mut-shard.result.now c.requires.whole at.0 at.1 c.requires.room.room
-
-pub replace-requires-clause-room : goal.replace-requires-clause-room
-replace-requires-clause-room g c = on_ok c.reserve.result (1 ≤ spare c.reserve.new.self) c.reserve.ensures.ok (sym c.is_err.ensures.value ∙ c.if-is_err.false)
-
-pub replace-requires-clause-whole : goal.replace-requires-clause-whole
-replace-requires-clause-whole g c =
+pub replace-requires : goal.replace-requires
+replace-requires g c =
     let w = c.requires.whole in
     let old = c.args.self.now in
     let shard = c.index_mut-shard.result.now in
     let at = borrowed g.R.Rack g.A.Area old.shards.items c.args.metaslab c.requires.room.shard shard c.requires.room.there c.index_mut-shard.ensures.value in
     let e = c.in-Ok.ensures in
-    let mid : Pool g.row.R.Denot g.row.A.Denot
-    = record { geometry = old.geometry; shards = with_item old.shards c.args.metaslab c.store.new.shard; uber = old.uber; objects = c.reserve.new.self; seq = old.seq + 1; floor = c.in-Ok.pointer.birth; alloc = old.alloc } in
-    let r : Replaces g.R.Rack g.A.Area c.args.metaslab old mid shard c.store.new.shard
-    = record { there = at.0; sets = refl; geometry = refl; uber = refl; valid = e.valid; part = e.part; committed = e.sets.sets.groups.committed } in
-    (whole_stored g.R.Rack g.A.Area c.args.metaslab c.args.object old mid shard c.store.new.shard c.in-Ok.pointer w r e.sets refl refl (λ q. c.reserve.ensures.entries.2 q)).0
-
-pub replace-requires-clause-newer : goal.replace-requires-clause-newer
-replace-requires-clause-newer g c =
-    let w = c.requires.whole in
-    let old = c.args.self.now in
-    let shard = c.index_mut-shard.result.now in
-    let at = borrowed g.R.Rack g.A.Area old.shards.items c.args.metaslab c.requires.room.shard shard c.requires.room.there c.index_mut-shard.ensures.value in
-    let e = c.in-Ok.ensures in
-    let mid : Pool g.row.R.Denot g.row.A.Denot
-    = record { geometry = old.geometry; shards = with_item old.shards c.args.metaslab c.store.new.shard; uber = old.uber; objects = c.reserve.new.self; seq = old.seq + 1; floor = c.in-Ok.pointer.birth; alloc = old.alloc } in
-    let r : Replaces g.R.Rack g.A.Area c.args.metaslab old mid shard c.store.new.shard
-    = record { there = at.0; sets = refl; geometry = refl; uber = refl; valid = e.valid; part = e.part; committed = e.sets.sets.groups.committed } in
-    (whole_stored g.R.Rack g.A.Area c.args.metaslab c.args.object old mid shard c.store.new.shard c.in-Ok.pointer w r e.sets refl refl (λ q. c.reserve.ensures.entries.2 q)).1
+    let mid : Pool g.row.R.Denot g.row.A.Denot = record { geometry = old.geometry; shards = with_item old.shards c.args.metaslab c.store.new.shard; uber = old.uber; objects = c.reserve.new.self; seq = old.seq + 1; floor = c.in-Ok.pointer.birth; alloc = old.alloc } in
+    let r : Replaces g.R.Rack g.A.Area c.args.metaslab old mid shard c.store.new.shard = record { there = at.0; sets = refl; geometry = refl; uber = refl; valid = e.valid; part = e.part; committed = e.sets.sets.groups.committed } in
+    record {
+      room = on_ok c.reserve.result (1 ≤ spare c.reserve.new.self) c.reserve.ensures.ok (sym c.is_err.ensures.value ∙ c.if-is_err.false);
+      whole = (whole_stored g.R.Rack g.A.Area c.args.metaslab c.args.object old mid shard c.store.new.shard c.in-Ok.pointer w r e.sets refl refl (λ q. c.reserve.ensures.entries.2 q)).0;
+      newer = (whole_stored g.R.Rack g.A.Area c.args.metaslab c.args.object old mid shard c.store.new.shard c.in-Ok.pointer w r e.sets refl refl (λ q. c.reserve.ensures.entries.2 q)).1;
+    }
 
 pub returns-in-Ok : goal.returns-in-Ok
 returns-in-Ok g c =
@@ -165,9 +137,3 @@ overflow_add-self-in-Ok g c = (let last = c.requires.last in omega (arith, last)
 
 pub overflow_add-self-in-Err-Missed : goal.overflow_add-self-in-Err-Missed
 overflow_add-self-in-Err-Missed g c = (let last = c.requires.last in omega (arith, last))
-
-pub store-requires-clause-object : goal.store-requires-clause-object
-store-requires-clause-object g c = c.requires.object
-
-pub store-requires-clause-seq : goal.store-requires-clause-seq
-store-requires-clause-seq g c = (omega arith, c.requires.last)

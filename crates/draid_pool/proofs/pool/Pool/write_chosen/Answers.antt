@@ -5,15 +5,15 @@ use Rattle.draid_pool.proofs.Wholes.{few_whole}
 use Rattle.draid_pool.proofs.ChooseSteps.{as_long, has_room, last_step, no_space_step, written_as}
 use Rattle.draid_pool.proofs.pool.Pool.write_chosen.Goals as goal
 
-pub pick-requires-clause-chooser : goal.pick-requires-clause-chooser
-pick-requires-clause-chooser g c = c.requires.chooser
-
-pub pick-requires-clause-few : goal.pick-requires-clause-few
-pick-requires-clause-few g c =
-    let need = stripes_for c.args.self.now.geometry c.args.block.now.bytes in
-    let long = as_long g.R.Rack g.A.Area need c.args.self.now.shards.items c.args.rooms.now c.requires.rooms in
-    let few = few_whole g.R.Rack g.A.Area c.args.self.now c.requires.whole in
-    omega (arith, long, few)
+pub pick-requires : goal.pick-requires
+pick-requires g c =
+    record {
+      chooser = c.requires.chooser;
+      few = (let need = stripes_for c.args.self.now.geometry c.args.block.now.bytes in
+          let long = as_long g.R.Rack g.A.Area need c.args.self.now.shards.items c.args.rooms.now c.requires.rooms in
+          let few = few_whole g.R.Rack g.A.Area c.args.self.now c.requires.whole in
+          omega (arith, long, few));
+    }
 
 pub returns-in_default : goal.returns-in_default
 returns-in_default g c = record {
@@ -31,12 +31,15 @@ returns-then-self-ge-LAST_NUMBER g c = record {
       (FnReturnsAt g.F.Fn c.args.chooser.now) c.args.object c.in-Some.metaslab c.in-Some.ensures.answer c.if-self-ge-LAST_NUMBER.true;
 }
 
-pub write_block-requires-clause-room : goal.write_block-requires-clause-room
-write_block-requires-clause-room g c =
-    has_room g.R.Rack g.A.Area c.args.self.now c.requires.whole (stripes_for c.args.self.now.geometry c.args.block.now.bytes) c.args.rooms.now c.requires.rooms c.in-Some.metaslab c.requires.some c.in-Some.ensures.picks
-
-pub write_block-requires-clause-last : goal.write_block-requires-clause-last
-write_block-requires-clause-last g c = (let last = c.if-self-ge-LAST_NUMBER.false in omega (arith, last))
+pub write_block-requires : goal.write_block-requires
+write_block-requires g c =
+    record {
+      object = c.requires.object;
+      cut = c.requires.cut;
+      room = has_room g.R.Rack g.A.Area c.args.self.now c.requires.whole (stripes_for c.args.self.now.geometry c.args.block.now.bytes) c.args.rooms.now c.requires.rooms c.in-Some.metaslab c.requires.some c.in-Some.ensures.picks;
+      last = (let last = c.if-self-ge-LAST_NUMBER.false in omega (arith, last));
+      whole = c.requires.whole;
+    }
 
 pub returns : goal.returns
 returns g c = record {
