@@ -12,3 +12,4 @@ pub mod Solves
 pub mod Spread
 pub mod Upto
 pub mod Whole
+pub mod Passed

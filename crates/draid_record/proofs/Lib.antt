@@ -14,3 +14,4 @@ pub mod UberWritten
 pub mod Whole
 pub mod WholeWritten
 pub mod Within
+pub mod Passed
