@@ -1,5 +1,5 @@
 use Rattle.draid_machine.specs.declared.names.Stage.TheVariants.{Writing, Live}
-use Rattle.draid_tests_devices.proofs.entries.comes_turns_and_goes.Goals as goal
+use Rattle.draid_tests_shard.proofs.entries.comes_turns_and_goes.Goals as goal
 
 pub turn-requires : goal.turn-requires
 turn-requires c = record { there = record { stage = Writing 0 0; there = c.in_ok-begin.ensures.entered.at 3 } }

@@ -1,7 +1,7 @@
 use Rattle.std.proofs.Common.{◌<◌, ℕ, zero, suc, [], ◌∷◌, slice_index_or, arith, ap, is_some}
 use Rattle.std.specs.Prelude.{IsSome}
 use Rattle.draid_rack.specs.Rack.{HasJust, Shape}
-use Rattle.draid_tests_devices.proofs.columns.lists.Goals as goal
+use Rattle.draid_tests_shard.proofs.columns.lists.Goals as goal
 
 -- both leaves are there
 are_there : (shape : Shape) → HasJust shape 2 4 512 → (k d : ℕ) → k < 2 → IsSome (shape.leaves (slice_index_or (0 ∷ 1 ∷ []) k d))

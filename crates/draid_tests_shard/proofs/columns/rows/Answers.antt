@@ -2,7 +2,7 @@ use Rattle.std.proofs.Common.{◌+◌, ◌≤◌, arith, subst, sym}
 use Rattle.std.specs.Prelude.{MatchOption}
 use Rattle.draid_rack.specs.Rack.{HasJust, Shape}
 use Rattle.draid_columns.specs.Columns.{HasRows}
-use Rattle.draid_tests_devices.proofs.columns.rows.Goals as goal
+use Rattle.draid_tests_shard.proofs.columns.rows.Goals as goal
 
 -- the rows are on a leaf that is there
 has_rows : (shape : Shape) → HasJust shape 2 4 512 → HasRows shape (record { leaf = 1; first = 1; count = 2; size = 512 })

@@ -2,7 +2,7 @@ use Rattle.std.proofs.Common.{All, List, sym, subst}
 use Rattle.std.proofs.lemmas.List.Elements.{All-push}
 use Rattle.draid_machine.specs.declared.event.Event.{Event}
 use Rattle.draid_replay.specs.Within.{IsSmallEvent}
-use Rattle.draid_tests_devices.proofs.replay.History.add.Goals as goal
+use Rattle.draid_tests_shard.proofs.replay.History.add.Goals as goal
 
 abbrev are_small : List Event → Type 0
 are_small events = All IsSmallEvent events

@@ -2,7 +2,7 @@ use Rattle.std.proofs.Common.{◌≡◌}
 use Rattle.draid_shard.specs.Calls.{Carries}
 use Rattle.draid_shard.specs.Fits.{Valid}
 use Rattle.draid_shard.specs.States.{part_of}
-use Rattle.draid_tests_devices.proofs.shard.put_all.Given as goal
+use Rattle.draid_tests_shard.proofs.shard.put_all.Given as goal
 
 abbrev pub invariant-loop-column : goal.invariant-loop-column
 invariant-loop-column g l = record {

@@ -2,7 +2,7 @@ use Rattle.std.proofs.Common.{◌≡◌, ◌==◌, ℕ, Bool, false, Option, Non
 use Rattle.std.proofs.lemmas.Bool.Decides.{nat_tests}
 use Rattle.draid_rack.specs.Memory.{shape_of_memory, told_by_memory}
 use Rattle.draid_rack.specs.Rack.{Fits, OnTold, Shape, Told, flushes}
-use Rattle.draid_tests_devices.proofs.segments.settle_first.Goals as goal
+use Rattle.draid_tests_shard.proofs.segments.settle_first.Goals as goal
 
 -- a sector that is there has the length of a sector
 fits_own : (shape : Shape) (leaf sector len : ℕ) → Fits shape leaf sector len → Fits shape leaf sector shape.bytes
