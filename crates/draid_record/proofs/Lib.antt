@@ -14,4 +14,3 @@ pub mod UberWritten
 pub mod Whole
 pub mod WholeWritten
 pub mod Within
-pub mod Passed

@@ -1,4 +1,3 @@
-use Rattle.std.proofs.Common.{arith}
 use Rattle.std.proofs.Common.{◌∙◌, ap, refl, subst, sym, ◌%◌, ◌/◌}
 use Rattle.std.specs.Prelude.{◌==◌, ◌&&◌, nat_lt, not}
 use Rattle.draid_names.specs.declared.arm.Arm.{Arm}
@@ -26,21 +25,3 @@ returns c =
     (check_then _ _ 8 _ _ _ _ _ known c.check-2.ensures
     (number_then 1 _ _ _ _ _ _ _ _ _ _ refl refl c.number-flags.ensures.reads
     (check_then _ _ 1 _ _ _ _ _ allowed c.check-3.ensures (done _ _)))))))
-
-pub number-code-requires : goal.number-code-requires
-number-code-requires c = omega arith
-
-pub check-requires : goal.check-requires
-check-requires c = omega arith
-
-pub number-number-requires : goal.number-number-requires
-number-number-requires c = omega arith
-
-pub check-requires-2 : goal.check-requires-2
-check-requires-2 c = omega arith
-
-pub number-flags-requires : goal.number-flags-requires
-number-flags-requires c = omega arith
-
-pub check-requires-3 : goal.check-requires-3
-check-requires-3 c = omega arith

@@ -1,5 +1,3 @@
-use Rattle.draid_record.proofs.Passed.{if_ok_passed}
-use Rattle.std.proofs.Common.{refl}
 use Rattle.std.proofs.Common.{◌≡◌, ◌∙◌, ◌∷◌, ◌++◌, [], List, false, ap, subst, sym, arith}
 use Rattle.std.specs.Prelude.{is_err}
 use Rattle.std.proofs.lemmas.List.{map_push}
@@ -55,18 +53,3 @@ loop-preserved c =
 
 pub returns-clause-arms : goal.returns-clause-arms
 returns-clause-arms c = is_done (spec.arm c.args.limits.now (told_slots c.args.before.now) c.args.count) spec.with_last (told_slot c.loop.arms.items) (told_slot c.loop.arms.items) c.args.count c.loop.counter (state_of c.args.reader.now) (state_of c.loop.reader) (spec.slot_arms c.args.limits.now (told_slots c.args.before.now) c.args.count) c.loop-test.false c.loop.invariant.still
-
-pub returns-then-has_failed-clause-few : goal.returns-then-has_failed-clause-few
-returns-then-has_failed-clause-few c = omega arith
-
-pub same-log : goal.same-log
-same-log c = refl
-
-pub returns-clause-few : goal.returns-clause-few
-returns-clause-few c = omega arith
-
-pub returns-in_err-log : goal.returns-in_err-log
-returns-in_err-log c = record { arms = if_ok_passed _ c.from_residual.result _ c.from_residual.ensures.1; few = if_ok_passed _ c.from_residual.result _ c.from_residual.ensures.1 }
-
-pub returns-in_err-push : goal.returns-in_err-push
-returns-in_err-push c = record { arms = if_ok_passed _ c.from_residual-in_err-push.result _ c.from_residual-in_err-push.ensures.1; few = if_ok_passed _ c.from_residual-in_err-push.result _ c.from_residual-in_err-push.ensures.1 }

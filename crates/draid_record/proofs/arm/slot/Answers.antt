@@ -1,4 +1,3 @@
-use Rattle.std.proofs.Common.{arith}
 use Rattle.std.proofs.Common.{refl}
 use Rattle.draid_record.specs.Record.{told_slot}
 use Rattle.draid_record.proofs.Steps.{number_ok}
@@ -6,6 +5,3 @@ use Rattle.draid_record.proofs.arm.slot.Goals as goal
 
 pub returns-clause-slot : goal.returns-clause-slot
 returns-clause-slot c = number_ok 1 _ _ _ _ _ _ _ _ _ (λ arms. told_slot arms.items) c.arms.result refl refl c.number-count.ensures.reads c.arms.ensures.arms
-
-pub number-count-requires : goal.number-count-requires
-number-count-requires c = omega arith

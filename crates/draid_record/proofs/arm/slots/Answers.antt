@@ -1,4 +1,3 @@
-use Rattle.draid_record.proofs.Passed.{if_ok_passed}
 use Rattle.std.proofs.Common.{◌≡◌, ◌≤◌, ◌∙◌, ◌∷◌, ◌++◌, [], List, false, length, ap, subst, sym, arith, rules}
 use Rattle.std.specs.Prelude.{is_err}
 use Rattle.std.proofs.lemmas.List.{length-map, map_push}
@@ -46,15 +45,3 @@ loop-preserved c =
 
 pub returns-clause-slots : goal.returns-clause-slots
 returns-clause-slots c = is_done (spec.slot c.args.limits.now) spec.with_last (told_slots c.loop.slots.items) (told_slots c.loop.slots.items) c.args.limits.now.children c.loop.counter (state_of c.args.reader.now) (state_of c.loop.reader) (spec.slots c.args.limits.now) c.loop-test.false c.loop.invariant.still
-
-pub returns-then-has_failed-clause-few : goal.returns-then-has_failed-clause-few
-returns-then-has_failed-clause-few c = c.loop.invariant.few
-
-pub returns-clause-few : goal.returns-clause-few
-returns-clause-few c = c.loop.invariant.few
-
-pub returns-in_err-slot : goal.returns-in_err-slot
-returns-in_err-slot c = record { slots = if_ok_passed _ c.from_residual.result _ c.from_residual.ensures.1; few = if_ok_passed _ c.from_residual.result _ c.from_residual.ensures.1 }
-
-pub returns-in_err-push : goal.returns-in_err-push
-returns-in_err-push c = record { slots = if_ok_passed _ c.from_residual-in_err-push.result _ c.from_residual-in_err-push.ensures.1; few = if_ok_passed _ c.from_residual-in_err-push.result _ c.from_residual-in_err-push.ensures.1 }

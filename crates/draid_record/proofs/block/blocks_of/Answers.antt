@@ -1,4 +1,3 @@
-use Rattle.draid_record.proofs.Passed.{if_ok_passed}
 use Rattle.std.proofs.Common.{◌≡◌, ◌≤◌, ◌+◌, ◌-◌, ◌^◌, ◌∙◌, ◌∷◌, ◌++◌, [], ℕ, List, false, subst, sym, arith, rules}
 use Rattle.std.specs.Prelude.{All, is_err}
 use Rattle.std.proofs.lemmas.List.Elements.{All-append}
@@ -42,18 +41,3 @@ loop-preserved c =
 
 pub returns-clause-blocks : goal.returns-clause-blocks
 returns-clause-blocks c = is_done (spec.block c.args.limits.now) spec.end_of c.loop.low c.loop.list.items c.args.count c.loop.counter (state_of c.args.reader.now) (state_of c.loop.reader) (spec.blocks_of c.args.limits.now c.args.count) c.loop-test.false c.loop.invariant.still
-
-pub block-block-requires : goal.block-block-requires
-block-block-requires c = c.requires
-
-pub returns-then-has_failed-clause-range : goal.returns-then-has_failed-clause-range
-returns-then-has_failed-clause-range c = c.loop.invariant.range
-
-pub overflow_add-low : goal.overflow_add-low
-overflow_add-low c = omega arith
-
-pub returns-clause-range : goal.returns-clause-range
-returns-clause-range c = c.loop.invariant.range
-
-pub returns-in_err-push : goal.returns-in_err-push
-returns-in_err-push c = record { blocks = if_ok_passed _ c.from_residual.result _ c.from_residual.ensures.1; range = if_ok_passed _ c.from_residual.result _ c.from_residual.ensures.1; few = if_ok_passed _ c.from_residual.result _ c.from_residual.ensures.1 }

@@ -17,6 +17,3 @@ more_runs (x ∷ y ∷ zs) r long = and_none ((x.first == r.first) && (x.len == 
 
 pub returns-in_default-2 : goal.returns-in_default-2
 returns-in_default-2 c = more_runs c.args.runs.now _ c.in_default.len_at_least
-
-pub bounds-runs-0 : goal.bounds-runs-0
-bounds-runs-0 c = omega arith

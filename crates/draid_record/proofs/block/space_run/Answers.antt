@@ -1,4 +1,3 @@
-use Rattle.std.proofs.Common.{arith}
 use Rattle.std.proofs.Common.{refl}
 use Rattle.draid_record.proofs.Steps.{done, number_then}
 use Rattle.draid_record.proofs.block.space_run.Goals as goal
@@ -7,9 +6,3 @@ pub returns : goal.returns
 returns c =
     number_then 8 _ _ _ _ _ _ _ _ _ _ refl refl c.number-first.ensures.reads
     (number_then 8 _ _ _ _ _ _ _ _ _ _ refl refl c.number-len.ensures.reads (done _ _))
-
-pub number-first-requires : goal.number-first-requires
-number-first-requires c = omega arith
-
-pub number-len-requires : goal.number-len-requires
-number-len-requires c = omega arith

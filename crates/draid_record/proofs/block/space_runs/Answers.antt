@@ -1,4 +1,3 @@
-use Rattle.draid_record.proofs.Passed.{if_ok_passed}
 use Rattle.std.proofs.Common.{◌≡◌, ◌+◌, ◌-◌, ◌∙◌, List, false, subst, sym, arith}
 use Rattle.std.specs.Prelude.{is_err}
 use Rattle.draid_ranges.specs.declared.run.Run.{Run}
@@ -32,12 +31,3 @@ loop-preserved c =
 
 pub returns-clause-runs : goal.returns-clause-runs
 returns-clause-runs c = is_done spec.space_run spec.same_state 0 c.loop.runs.items c.args.count c.loop.counter (state_of c.args.reader.now) (state_of c.loop.reader) (spec.space_runs c.args.count) c.loop-test.false c.loop.invariant.still
-
-pub returns-then-has_failed-clause-few : goal.returns-then-has_failed-clause-few
-returns-then-has_failed-clause-few c = omega arith
-
-pub returns-clause-few : goal.returns-clause-few
-returns-clause-few c = omega arith
-
-pub returns-in_err-push : goal.returns-in_err-push
-returns-in_err-push c = record { runs = if_ok_passed _ c.from_residual.result _ c.from_residual.ensures.1; few = if_ok_passed _ c.from_residual.result _ c.from_residual.ensures.1 }

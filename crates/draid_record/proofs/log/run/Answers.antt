@@ -1,4 +1,3 @@
-use Rattle.std.proofs.Common.{arith}
 use Rattle.std.proofs.Common.{refl, ℕ}
 use Rattle.draid_ranges.specs.declared.run.Run.{Run}
 use Rattle.draid_record.specs.Reader.{state_of}
@@ -13,15 +12,3 @@ returns-clause-run c =
     let value : ℕ → Run = λ len. record { first = c.number-first.result; len = len } in
     rw c.saturating_sub.ensures (number_then 8 _ _ _ _ _ a b e c.number-first.result _ refl refl c.number-first.ensures.reads
     (number_then 8 _ _ _ _ _ b e e c.number-last.result _ refl refl c.number-last.ensures.reads (done e _)))
-
-pub number-first-requires : goal.number-first-requires
-number-first-requires c = omega arith
-
-pub number-last-requires : goal.number-last-requires
-number-last-requires c = omega arith
-
-pub overflow_add-last : goal.overflow_add-last
-overflow_add-last c = omega arith
-
-pub returns-clause-end : goal.returns-clause-end
-returns-clause-end c = omega arith

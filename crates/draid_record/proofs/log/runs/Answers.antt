@@ -1,4 +1,3 @@
-use Rattle.draid_record.proofs.Passed.{if_ok_passed}
 use Rattle.std.proofs.Common.{◌≡◌, ◌+◌, ◌-◌, ◌∙◌, List, false, subst, sym, arith}
 use Rattle.std.specs.Prelude.{is_err}
 use Rattle.draid_ranges.specs.declared.run.Run.{Run}
@@ -46,12 +45,3 @@ returns-clause-runs c = is_done run behind c.loop.low c.loop.runs.items c.args.c
 
 pub returns-clause-apart : goal.returns-clause-apart
 returns-clause-apart c = within_wide 0 c.loop.runs.items c.loop.low 281474976710657 c.loop.invariant.apart c.loop.invariant.low
-
-pub overflow_add-low : goal.overflow_add-low
-overflow_add-low c = omega arith
-
-pub overflow_add-low-in-loop : goal.overflow_add-low-in-loop
-overflow_add-low-in-loop c = omega arith
-
-pub returns-in_err-push : goal.returns-in_err-push
-returns-in_err-push c = record { runs = if_ok_passed _ c.from_residual.result _ c.from_residual.ensures.1; apart = if_ok_passed _ c.from_residual.result _ c.from_residual.ensures.1 }

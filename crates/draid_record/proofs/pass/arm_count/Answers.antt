@@ -24,9 +24,3 @@ loop-list-preserved c =
     let small = c.loop-list.invariant.small in
     let len = c.len.ensures in
     record { rest = omega (arith, x.ok.0); small = omega (arith, x.ok.0) }
-
-pub offset_bounds-all-list-index : goal.offset_bounds-all-list-index
-offset_bounds-all-list-index c = omega arith
-
-pub overflow_add-count : goal.overflow_add-count
-overflow_add-count c = omega arith

@@ -23,18 +23,3 @@ returns-in_default-clause-pass c =
     let D : ℕ → Type 0 = λ n. IfOk c.pass_of-in_default.result (λ pass. Reads (state_of c.number.new.self) (state_of c.pass_of-in_default.new.reader) (option_map told_pass pass) (spec.pass_by c.args.limits.now (told_slots c.args.all.now) n)) in
     let last : 2 ≡ c.number.result = omega arith in
     number_ok 1 _ _ _ _ _ _ _ _ _ (λ pass. option_map told_pass pass) c.pass_of-in_default.result refl refl c.number.ensures.reads (subst D last c.pass_of-in_default.ensures.pass)
-
-pub number-requires : goal.number-requires
-number-requires c = omega arith
-
-pub pass_of-requires : goal.pass_of-requires
-pass_of-requires c = c.requires
-
-pub pass_of-requires-in_default : goal.pass_of-requires-in_default
-pass_of-requires-in_default c = c.requires
-
-pub returns-in-1-clause-number : goal.returns-in-1-clause-number
-returns-in-1-clause-number c = c.pass_of.ensures.number
-
-pub returns-in_default-clause-number : goal.returns-in_default-clause-number
-returns-in_default-clause-number c = c.pass_of-in_default.ensures.number

@@ -1,5 +1,3 @@
-use Rattle.draid_record.proofs.Passed.{if_ok_passed}
-use Rattle.std.proofs.Common.{arith}
 use Rattle.std.proofs.Common.{List, Some, refl}
 use Rattle.std.specs.Prelude.{◌==◌}
 use Rattle.draid_names.specs.declared.arm.ArmAt.{ArmAt}
@@ -17,24 +15,3 @@ returns-clause-pass c =
     (number_then 8 _ _ _ _ _ _ _ _ _ _ refl refl c.number-at.ensures.reads
     (number_then 8 _ _ _ _ _ _ _ _ _ _ refl refl c.number-errors.ensures.reads
     (joins (spec.targets (told_slots c.args.all.now)) (λ (list : List ArmAt). Done (Some (told list))) _ _ _ c.in_ok-targets.targets.items _ c.in_ok-targets.ensures (done _ _)))))
-
-pub number-running-requires : goal.number-running-requires
-number-running-requires c = omega arith
-
-pub number-max-requires : goal.number-max-requires
-number-max-requires c = omega arith
-
-pub number-at-requires : goal.number-at-requires
-number-at-requires c = omega arith
-
-pub number-errors-requires : goal.number-errors-requires
-number-errors-requires c = omega arith
-
-pub targets-requires : goal.targets-requires
-targets-requires c = c.requires
-
-pub returns-clause-number : goal.returns-clause-number
-returns-clause-number c = refl
-
-pub returns-in_err-targets : goal.returns-in_err-targets
-returns-in_err-targets c = record { pass = if_ok_passed _ c.from_residual.result _ c.from_residual.ensures.1; number = if_ok_passed _ c.from_residual.result _ c.from_residual.ensures.1 }

@@ -1,4 +1,3 @@
-use Rattle.std.proofs.Common.{arith}
 use Rattle.std.proofs.Common.{◌∙◌, ap, sym, ◌-◌, Vec, Global}
 use Rattle.std.proofs.lemmas.List.{length-map}
 use Rattle.draid_names.specs.declared.arm.Arm.{Arm}
@@ -12,15 +11,3 @@ returns c =
     let last = c.saturating_sub-most.ensures ∙ ap (λ n. n - 1) (sym (length-map c.args.all.now (λ (list : Vec (Arm × Numbers) Global). told_slot list.items))) in
     number_then 2 _ _ _ _ _ _ _ _ _ _ c.least_slot.ensures last c.number-slot.ensures.reads
     (number_then 1 _ _ _ _ _ _ _ _ _ _ c.least_arm.ensures (c.saturating_sub-most-2.ensures ∙ ap (λ n. n - 1) c.arms_at.ensures) c.number-arm.ensures.reads (done _ _))
-
-pub number-slot-requires : goal.number-slot-requires
-number-slot-requires c = omega arith
-
-pub number-arm-requires : goal.number-arm-requires
-number-arm-requires c = omega arith
-
-pub overflow_cast-result : goal.overflow_cast-result
-overflow_cast-result c = omega arith
-
-pub overflow_cast-result-2 : goal.overflow_cast-result-2
-overflow_cast-result-2 c = omega arith

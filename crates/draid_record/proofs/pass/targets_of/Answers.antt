@@ -1,4 +1,3 @@
-use Rattle.draid_record.proofs.Passed.{if_ok_passed}
 use Rattle.std.proofs.Common.{◌≡◌, ◌+◌, ◌-◌, ◌∙◌, List, Some, None, false, subst, sym}
 use Rattle.std.specs.Prelude.{is_err}
 use Rattle.draid_names.specs.declared.arm.ArmAt.{ArmAt}
@@ -30,6 +29,3 @@ loop-preserved c =
 
 pub returns : goal.returns
 returns c = is_done (spec.target (told_slots c.args.all.now)) spec.some_target c.loop.before c.loop.targets.items c.args.count c.loop.counter (state_of c.args.reader.now) (state_of c.loop.reader) (spec.targets_of (told_slots c.args.all.now) c.args.count) c.loop-test.false c.loop.invariant.still
-
-pub returns-in_err-push : goal.returns-in_err-push
-returns-in_err-push c = if_ok_passed _ c.from_residual.result _ c.from_residual.ensures.1

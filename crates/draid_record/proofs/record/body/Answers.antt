@@ -1,4 +1,3 @@
-use Rattle.draid_record.proofs.Passed.{if_ok_passed}
 use Rattle.std.proofs.Common.{◌≡◌, ◌+◌, ◌*◌, ◌∙◌, ℕ, List, Option, length, ap, refl, subst, arith}
 use Rattle.std.specs.Option.{option_map}
 use Rattle.draid_names.specs.declared.pointer.Pointer.{Pointer}
@@ -28,36 +27,3 @@ returns-clause-body c =
     (joins spec.spaces (λ (runs : List Run). spec.behind_spaces limits all last running runs) _ _ _ runs _ c.in_ok-runs.ensures.runs
     (joins (spec.blocks limits) (λ (list : List Pointer). spec.behind_blocks limits all last running runs list) _ _ _ list _ c.in_ok-list.ensures.blocks
     (check_back _ _ (8 + 16 * length runs + 72 * length list) _ _ _ _ _ _ kept back c.check.ensures (done _ _)))))))
-
-pub number-last_pass-requires : goal.number-last_pass-requires
-number-last_pass-requires c = omega arith
-
-pub blocks-requires : goal.blocks-requires
-blocks-requires c = c.requires
-
-pub overflow_mul-back : goal.overflow_mul-back
-overflow_mul-back c = omega arith
-
-pub overflow_add-back : goal.overflow_add-back
-overflow_add-back c = omega arith
-
-pub overflow_mul-back-2 : goal.overflow_mul-back-2
-overflow_mul-back-2 c = omega arith
-
-pub overflow_add-back-2 : goal.overflow_add-back-2
-overflow_add-back-2 c = omega arith
-
-pub returns-clause-number : goal.returns-clause-number
-returns-clause-number c = c.in_ok-pass.ensures.number
-
-pub returns-in_err-slots : goal.returns-in_err-slots
-returns-in_err-slots c = record { body = if_ok_passed _ c.from_residual.result _ c.from_residual.ensures.1; number = if_ok_passed _ c.from_residual.result _ c.from_residual.ensures.1 }
-
-pub returns-in_err-pass : goal.returns-in_err-pass
-returns-in_err-pass c = record { body = if_ok_passed _ c.from_residual-in_err-pass.result _ c.from_residual-in_err-pass.ensures.1; number = if_ok_passed _ c.from_residual-in_err-pass.result _ c.from_residual-in_err-pass.ensures.1 }
-
-pub returns-in_err-runs : goal.returns-in_err-runs
-returns-in_err-runs c = record { body = if_ok_passed _ c.from_residual-in_err-runs.result _ c.from_residual-in_err-runs.ensures.1; number = if_ok_passed _ c.from_residual-in_err-runs.result _ c.from_residual-in_err-runs.ensures.1 }
-
-pub returns-in_err-list : goal.returns-in_err-list
-returns-in_err-list c = record { body = if_ok_passed _ c.from_residual-in_err-list.result _ c.from_residual-in_err-list.ensures.1; number = if_ok_passed _ c.from_residual-in_err-list.result _ c.from_residual-in_err-list.ensures.1 }

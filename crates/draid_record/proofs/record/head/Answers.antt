@@ -1,4 +1,3 @@
-use Rattle.std.proofs.Common.{arith}
 use Rattle.std.proofs.Common.{ℕ, refl, subst}
 use Rattle.draid_record.specs.Reader.{Reads, state_of}
 use Rattle.draid_record.specs.Record as spec
@@ -12,12 +11,3 @@ returns c =
     (number_then 2 _ _ _ _ _ _ _ _ _ _ c.from.ensures c.from.ensures c.exactly.ensures.reads
     (number_then 8 _ _ _ _ _ _ _ _ _ _ refl refl c.exactly-2.ensures.reads
     (number_then 2 _ _ _ _ _ _ _ _ _ _ c.from-2.ensures c.from-2.ensures c.exactly-3.ensures.reads (done _ _))))
-
-pub exactly-requires : goal.exactly-requires
-exactly-requires c = omega arith
-
-pub exactly-requires-2 : goal.exactly-requires-2
-exactly-requires-2 c = omega arith
-
-pub exactly-requires-3 : goal.exactly-requires-3
-exactly-requires-3 c = omega arith

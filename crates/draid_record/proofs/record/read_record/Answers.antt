@@ -19,9 +19,3 @@ pub returns-clause-only : goal.returns-clause-only
 returns-clause-only c = λ value spelled. (let limits = limits_of c.args.geometry.now c.args.metaslab c.args.group c.args.next_leaf in
     let A : Limits → Type 0 = λ limits. Answers c.told.result (record_of limits c.args.bytes.now) in
     subst (λ found. Answers c.told.result found) (whole_only limits c.args.bytes.now value spelled) (subst A c.limits-limits.ensures.value c.told.ensures.told))
-
-pub limits-limits-requires : goal.limits-limits-requires
-limits-limits-requires c = c.requires
-
-pub returns-clause-number : goal.returns-clause-number
-returns-clause-number c = c.told.ensures.number

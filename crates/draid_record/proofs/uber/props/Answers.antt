@@ -1,4 +1,3 @@
-use Rattle.std.proofs.Common.{arith}
 use Rattle.std.proofs.Common.{refl}
 use Rattle.draid_spec.specs.Spec.{IsSpec}
 use Rattle.draid_record.proofs.Steps.{check_if, check_then, done, kept, number_then}
@@ -20,39 +19,3 @@ returns c =
     (number_then 4 _ _ _ _ _ _ _ _ _ _ refl refl c.number-slices.ensures.reads
     (check_if _ _ 4 _ _ _ _ _ c.is_layout.ensures c.check-3.ensures
     (number_then 8 _ _ _ _ _ _ _ _ _ _ refl refl c.number.ensures.reads (done _ _))))))))
-
-pub number-sector-requires : goal.number-sector-requires
-number-sector-requires c = omega arith
-
-pub check-requires : goal.check-requires
-check-requires c = omega arith
-
-pub number-height-requires : goal.number-height-requires
-number-height-requires c = omega arith
-
-pub check-requires-2 : goal.check-requires-2
-check-requires-2 c = omega arith
-
-pub number-metaslabs-requires : goal.number-metaslabs-requires
-number-metaslabs-requires c = omega arith
-
-pub number-slices-requires : goal.number-slices-requires
-number-slices-requires c = omega arith
-
-pub overflow_cast-props : goal.overflow_cast-props
-overflow_cast-props c = omega arith
-
-pub overflow_cast-props-2 : goal.overflow_cast-props-2
-overflow_cast-props-2 c = omega arith
-
-pub overflow_cast-props-3 : goal.overflow_cast-props-3
-overflow_cast-props-3 c = omega arith
-
-pub overflow_cast-props-4 : goal.overflow_cast-props-4
-overflow_cast-props-4 c = omega arith
-
-pub check-requires-3 : goal.check-requires-3
-check-requires-3 c = omega arith
-
-pub number-requires : goal.number-requires
-number-requires c = omega arith

@@ -8,6 +8,3 @@ returns-clause-found c = is_found (uber c.args.slot) c.args.bytes.now c.told.res
 
 pub returns-clause-only : goal.returns-clause-only
 returns-clause-only c = λ body begins. is_only (uber c.args.slot) c.args.bytes.now c.told.result body c.told.ensures begins
-
-pub returns-clause-exact : goal.returns-clause-exact
-returns-clause-exact c = c.told.ensures

@@ -34,33 +34,3 @@ returns-clause-ranges c =
       most_spares = c.number-spares.ensures.high;
     })
     (both P (D × C) e p (both D C e d k))
-
-pub number-parity-requires : goal.number-parity-requires
-number-parity-requires c = omega arith
-
-pub number-ndata-requires : goal.number-ndata-requires
-number-ndata-requires c = omega arith
-
-pub number-children-requires : goal.number-children-requires
-number-children-requires c = omega arith
-
-pub number-spares-requires : goal.number-spares-requires
-number-spares-requires c = omega arith
-
-pub overflow_add-parity : goal.overflow_add-parity
-overflow_add-parity c = omega arith
-
-pub check-requires : goal.check-requires
-check-requires c = omega arith
-
-pub overflow_cast-result : goal.overflow_cast-result
-overflow_cast-result c = omega arith
-
-pub overflow_cast-result-2 : goal.overflow_cast-result-2
-overflow_cast-result-2 c = omega arith
-
-pub overflow_cast-result-3 : goal.overflow_cast-result-3
-overflow_cast-result-3 c = omega arith
-
-pub overflow_cast-result-4 : goal.overflow_cast-result-4
-overflow_cast-result-4 c = omega arith

@@ -1,4 +1,3 @@
-use Rattle.std.proofs.Common.{arith}
 use Rattle.std.proofs.Common.{refl, ℕ}
 use Rattle.draid_spec.specs.declared.layout.Props.{Props}
 use Rattle.draid_spec.specs.declared.spec.Spec.{Spec}
@@ -15,6 +14,3 @@ returns c =
     (joins (grammar.spec front.0) (λ (s : Spec). grammar.behind_spec front s) _ _ _ c.spec-spec.result _ c.spec-spec.ensures.spec
     (joins (grammar.props front.0 c.spec-spec.result) (λ (p : Props). grammar.behind_props front.1 c.spec-spec.result p) _ _ _ c.props-props.result _ c.props-props.ensures
     (number_then 8 _ _ _ _ _ _ _ _ _ _ c.from.ensures refl c.number-next_leaf.ensures.reads (done _ _))))
-
-pub number-next_leaf-requires : goal.number-next_leaf-requires
-number-next_leaf-requires c = omega arith

@@ -1,4 +1,3 @@
-use Rattle.std.proofs.Common.{refl}
 use Rattle.std.proofs.Common.{◌≡◌, ◌≤◌, ◌++◌, ◌%◌, ℕ, List, length, take, ap, ap₂, subst, sym, ◌∙◌, arith}
 use Rattle.std.proofs.lemmas.List.{take_all}
 use Rattle.byteorder.specs.Endian.{big_bytes}
@@ -28,48 +27,3 @@ returns c =
     let long : length c.put-14.new.bytes ≤ 51 = omega (arith, c.put.ensures.len, c.put-2.ensures.len, c.put-3.ensures.len, c.put-4.ensures.len, c.put-5.ensures.len, c.put-6.ensures.len, c.put-7.ensures.len, c.put-8.ensures.len, c.put-9.ensures.len, c.put-10.ensures.len, c.put-11.ensures.len, c.put-12.ensures.len, c.put-13.ensures.len, c.put-14.ensures.len) in
     let S : List ℕ → Type 0 = λ bytes. Spells (uber (b.group % 2)) bytes b in
     record { spelled = subst S (sym (sym (take_all 51 c.put-14.new.bytes long) ∙ t14)) (uber_spelled b c.requires) }
-
-pub slice_bounds-put-end : goal.slice_bounds-put-end
-slice_bounds-put-end c = refl
-
-pub slice_bounds-put-end-2 : goal.slice_bounds-put-end-2
-slice_bounds-put-end-2 c = omega arith
-
-pub slice_bounds-put-end-3 : goal.slice_bounds-put-end-3
-slice_bounds-put-end-3 c = omega arith
-
-pub slice_bounds-put-end-4 : goal.slice_bounds-put-end-4
-slice_bounds-put-end-4 c = omega arith
-
-pub slice_bounds-put-end-5 : goal.slice_bounds-put-end-5
-slice_bounds-put-end-5 c = omega arith
-
-pub slice_bounds-put-end-6 : goal.slice_bounds-put-end-6
-slice_bounds-put-end-6 c = omega arith
-
-pub slice_bounds-put-end-7 : goal.slice_bounds-put-end-7
-slice_bounds-put-end-7 c = omega arith
-
-pub slice_bounds-put-end-8 : goal.slice_bounds-put-end-8
-slice_bounds-put-end-8 c = omega arith
-
-pub slice_bounds-put-end-9 : goal.slice_bounds-put-end-9
-slice_bounds-put-end-9 c = omega arith
-
-pub slice_bounds-put-end-10 : goal.slice_bounds-put-end-10
-slice_bounds-put-end-10 c = omega arith
-
-pub slice_bounds-put-end-11 : goal.slice_bounds-put-end-11
-slice_bounds-put-end-11 c = omega arith
-
-pub slice_bounds-put-end-12 : goal.slice_bounds-put-end-12
-slice_bounds-put-end-12 c = omega arith
-
-pub slice_bounds-put-end-13 : goal.slice_bounds-put-end-13
-slice_bounds-put-end-13 c = omega arith
-
-pub put-requires-13-clause-fits : goal.put-requires-13-clause-fits
-put-requires-13-clause-fits c = c.requires.seed_below
-
-pub slice_bounds-put-end-14 : goal.slice_bounds-put-end-14
-slice_bounds-put-end-14 c = omega arith

@@ -1,4 +1,3 @@
-use Rattle.draid_record.proofs.Passed.{if_ok_passed}
 use Rattle.std.proofs.Common.{◌≡◌, length, Vec, Global, ap, ◌∙◌, arith}
 use Rattle.std.specs.List.{flat_map}
 use Rattle.std.proofs.lemmas.List.{length-map}
@@ -28,18 +27,3 @@ returns c =
     (as_is _ _ _ _ c.put_spaces.ensures (ap (λ rs. spaces_bytes rs) runs)))
     (as_is _ _ _ _ c.put_blocks.ensures (ap (λ bs. blocks_bytes bs) c.deref-4.ensures.value)))
     c.done.ensures
-
-pub returns-in_err-runs : goal.returns-in_err-runs
-returns-in_err-runs c = if_ok_passed _ c.from_residual.result _ c.from_residual.ensures.1
-
-pub put-requires : goal.put-requires
-put-requires c = omega arith
-
-pub put-requires-2 : goal.put-requires-2
-put-requires-2 c = omega arith
-
-pub put-requires-3 : goal.put-requires-3
-put-requires-3 c = omega arith
-
-pub put-requires-4 : goal.put-requires-4
-put-requires-4 c = omega arith

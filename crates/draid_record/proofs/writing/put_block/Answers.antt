@@ -1,4 +1,3 @@
-use Rattle.std.proofs.Common.{arith}
 use Rattle.std.proofs.Common.{ap}
 use Rattle.byteorder.specs.Endian.{big_bytes}
 use Rattle.draid_record.proofs.Adding.{as_is, both}
@@ -12,21 +11,3 @@ returns c =
     (as_is _ _ _ _ c.put-5.ensures (ap (big_bytes 4) c.from-2.ensures)))
     c.put-6.ensures)
     c.add.ensures
-
-pub put-requires : goal.put-requires
-put-requires c = omega arith
-
-pub put-requires-2 : goal.put-requires-2
-put-requires-2 c = omega arith
-
-pub put-requires-3 : goal.put-requires-3
-put-requires-3 c = omega arith
-
-pub put-requires-4 : goal.put-requires-4
-put-requires-4 c = omega arith
-
-pub put-requires-5 : goal.put-requires-5
-put-requires-5 c = omega arith
-
-pub put-requires-6 : goal.put-requires-6
-put-requires-6 c = omega arith

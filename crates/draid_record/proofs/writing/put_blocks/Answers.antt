@@ -1,4 +1,3 @@
-use Rattle.std.proofs.Common.{arith}
 use Rattle.draid_record.specs.Written.{block_bytes}
 use Rattle.draid_record.proofs.Adding.{all_more, both, nothing, one_more}
 use Rattle.draid_record.proofs.writing.put_blocks.Goals as goal
@@ -12,9 +11,3 @@ loop-block-preserved c = one_more block_bytes c.args.blocks.now c.loop-block.blo
 pub returns : goal.returns
 returns c =
     both _ _ _ _ _ c.put.ensures (all_more block_bytes c.args.blocks.now c.loop-block.block-index _ _ c.loop-block-test.false c.loop-block.invariant)
-
-pub put-requires : goal.put-requires
-put-requires c = omega arith
-
-pub offset_bounds-blocks-block-index : goal.offset_bounds-blocks-block-index
-offset_bounds-blocks-block-index c = omega arith

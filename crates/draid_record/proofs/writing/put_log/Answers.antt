@@ -1,4 +1,3 @@
-use Rattle.std.proofs.Common.{arith}
 use Rattle.std.proofs.Common.{List, subst}
 use Rattle.draid_ranges.specs.declared.run.Run.{Run}
 use Rattle.draid_record.specs.Writer.{Writes, text_of}
@@ -21,9 +20,3 @@ returns c =
     let L : List Run → Type 0 = λ runs. Writes (text_of c.args.out.now) (text_of c.loop-run.out) (log_bytes runs) in
     subst L c.runs-runs.ensures.same
     (both _ _ _ _ _ c.put.ensures (all_more run_bytes c.runs-runs.result.now c.loop-run.run-index _ _ c.loop-run-test.false c.loop-run.invariant))
-
-pub put-requires : goal.put-requires
-put-requires c = omega arith
-
-pub offset_bounds-runs-run-index : goal.offset_bounds-runs-run-index
-offset_bounds-runs-run-index c = omega arith

@@ -1,4 +1,3 @@
-use Rattle.std.proofs.Common.{arith}
 use Rattle.std.proofs.Common.{ap, sym}
 use Rattle.std.proofs.lemmas.List.{length-map}
 use Rattle.byteorder.specs.Endian.{big_bytes}
@@ -22,9 +21,3 @@ pub returns : goal.returns
 returns c =
     both _ _ _ _ _ (as_is _ _ _ _ c.put.ensures (ap (big_bytes 1) (sym (length-map c.args.slot.now told_arm))))
     (all_told arm_bytes told_arm c.args.slot.now c.loop-arm.arm-index _ _ c.loop-arm-test.false c.loop-arm.invariant)
-
-pub put-requires : goal.put-requires
-put-requires c = omega arith
-
-pub offset_bounds-slot-arm-index : goal.offset_bounds-slot-arm-index
-offset_bounds-slot-arm-index c = omega arith

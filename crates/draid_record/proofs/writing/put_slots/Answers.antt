@@ -1,4 +1,3 @@
-use Rattle.std.proofs.Common.{arith}
 use Rattle.std.proofs.Common.{List, Vec, Global, ap, ◌∙◌}
 use Rattle.draid_names.specs.declared.arm.Arm.{Arm}
 use Rattle.draid_ranges.specs.Numbers.{Numbers}
@@ -19,6 +18,3 @@ loop-slot-preserved c =
 
 pub returns : goal.returns
 returns c = all_told slot_bytes (λ (list : Vec (Arm × Numbers) Global). told_slot list.items) c.args.slots.now c.loop-slot.slot-index _ _ c.loop-slot-test.false c.loop-slot.invariant
-
-pub offset_bounds-slots-slot-index : goal.offset_bounds-slots-slot-index
-offset_bounds-slots-slot-index c = omega arith

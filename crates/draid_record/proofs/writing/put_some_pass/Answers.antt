@@ -19,21 +19,3 @@ returns c =
     c.put-5.ensures)
     (as_is _ _ _ _ c.put-6.ensures (ap (big_bytes 2) len)))
     (as_is _ _ _ _ c.put_targets.ensures (ap (λ ts. flat_map target_bytes ts) c.deref.ensures.value))
-
-pub put-requires : goal.put-requires
-put-requires c = omega arith
-
-pub put-requires-2 : goal.put-requires-2
-put-requires-2 c = omega arith
-
-pub put-requires-3 : goal.put-requires-3
-put-requires-3 c = omega arith
-
-pub put-requires-4 : goal.put-requires-4
-put-requires-4 c = omega arith
-
-pub put-requires-5 : goal.put-requires-5
-put-requires-5 c = omega arith
-
-pub put-requires-6 : goal.put-requires-6
-put-requires-6 c = omega arith

@@ -1,4 +1,3 @@
-use Rattle.std.proofs.Common.{arith}
 use Rattle.draid_record.specs.Written.{space_bytes}
 use Rattle.draid_record.proofs.Adding.{all_more, both, nothing, one_more}
 use Rattle.draid_record.proofs.writing.put_spaces.Goals as goal
@@ -14,15 +13,3 @@ loop-run-preserved c =
 pub returns : goal.returns
 returns c =
     both _ _ _ _ _ c.put.ensures (all_more space_bytes c.args.runs.now c.loop-run.run-index _ _ c.loop-run-test.false c.loop-run.invariant)
-
-pub put-requires : goal.put-requires
-put-requires c = omega arith
-
-pub offset_bounds-runs-run-index : goal.offset_bounds-runs-run-index
-offset_bounds-runs-run-index c = omega arith
-
-pub put-requires-in-loop-run : goal.put-requires-in-loop-run
-put-requires-in-loop-run c = omega arith
-
-pub put-requires-in-loop-run-2 : goal.put-requires-in-loop-run-2
-put-requires-in-loop-run-2 c = omega arith

@@ -1,4 +1,3 @@
-use Rattle.std.proofs.Common.{arith}
 use Rattle.std.proofs.Common.{ap}
 use Rattle.byteorder.specs.Endian.{big_bytes}
 use Rattle.draid_record.specs.Written.{target_bytes}
@@ -15,12 +14,3 @@ loop-target-preserved c =
 
 pub returns : goal.returns
 returns c = all_more target_bytes c.args.targets.now c.loop-target.target-index _ _ c.loop-target-test.false c.loop-target.invariant
-
-pub offset_bounds-targets-target-index : goal.offset_bounds-targets-target-index
-offset_bounds-targets-target-index c = omega arith
-
-pub put-requires : goal.put-requires
-put-requires c = omega arith
-
-pub put-requires-in-loop-target : goal.put-requires-in-loop-target
-put-requires-in-loop-target c = omega arith

@@ -1,4 +1,3 @@
-use Rattle.draid_record.proofs.Passed.{if_ok_passed}
 use Rattle.std.proofs.Common.{◌≡◌, ◌<◌, ◌≤◌, ◌+◌, ◌-◌, ◌++◌, ◌∷◌, [], ℕ, true, false, List, length, get_or, drop, refl, sym, ap, ◌∙◌, append_assoc, arith}
 use Rattle.std.specs.Prelude.{◌==◌}
 use Rattle.std.proofs.lemmas.Bool.{eqb-true}
@@ -62,18 +61,3 @@ pub returns : goal.returns
 returns c =
     ended c.args.blocks.now c.loop-next.next c.loop-next.first c.loop-next.upto c.saturating_sub-2.result c.loop-next.runs.items c.push-2.new.self.items
     c.loop-next-test.false c.saturating_sub-2.ensures c.in_ok-push-2.ensures.items c.loop-next.invariant
-
-pub offset_bounds-blocks-next : goal.offset_bounds-blocks-next
-offset_bounds-blocks-next c = omega arith
-
-pub bounds-blocks-next : goal.bounds-blocks-next
-bounds-blocks-next c = omega arith
-
-pub returns-in_err-push : goal.returns-in_err-push
-returns-in_err-push c = if_ok_passed _ c.from_residual.result _ c.from_residual.ensures.1
-
-pub overflow_add-upto-in-loop-next : goal.overflow_add-upto-in-loop-next
-overflow_add-upto-in-loop-next c = omega arith
-
-pub returns-in_err-push-2 : goal.returns-in_err-push-2
-returns-in_err-push-2 c = if_ok_passed _ c.from_residual-in_err-push-2.result _ c.from_residual-in_err-push-2.ensures.1

@@ -1,4 +1,3 @@
-use Rattle.draid_record.proofs.Passed.{if_ok_passed}
 use Rattle.std.proofs.Common.{◌≡◌, ◌+◌, ℕ, length, Vec, Global, ap, ◌∙◌, arith}
 use Rattle.byteorder.specs.Endian.{big_bytes}
 use Rattle.draid_record.specs.Record.{RecordTold, told_record}
@@ -20,33 +19,3 @@ returns c =
     (both _ _ _ _ _ (both _ _ _ _ _ c.put.ensures (as_is _ _ _ _ c.put-2.ensures (ap (big_bytes 2) c.from.ensures))) (as_is _ _ _ _ c.put-3.ensures (ap (big_bytes 4) len)))
     (as_is _ _ _ _ c.add.ensures (c.deref.ensures.value ∙ fields)))
     c.done.ensures)
-
-pub body-requires : goal.body-requires
-body-requires c = c.requires
-
-pub returns-in_err-fields : goal.returns-in_err-fields
-returns-in_err-fields c = if_ok_passed _ c.from_residual.result _ c.from_residual.ensures.1
-
-pub overflow_add-len : goal.overflow_add-len
-overflow_add-len c = omega arith
-
-pub overflow_cast-t-15 : goal.overflow_cast-t-15
-overflow_cast-t-15 c = omega arith
-
-pub overflow_add-len-2 : goal.overflow_add-len-2
-overflow_add-len-2 c = omega arith
-
-pub returns-in_err-out : goal.returns-in_err-out
-returns-in_err-out c = if_ok_passed _ c.from_residual-in_err-out.result _ c.from_residual-in_err-out.ensures.1
-
-pub put-requires : goal.put-requires
-put-requires c = omega arith
-
-pub put-requires-2 : goal.put-requires-2
-put-requires-2 c = omega arith
-
-pub overflow_add-len-3 : goal.overflow_add-len-3
-overflow_add-len-3 c = omega arith
-
-pub put-requires-3 : goal.put-requires-3
-put-requires-3 c = omega arith

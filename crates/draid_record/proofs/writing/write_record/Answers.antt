@@ -11,9 +11,3 @@ returns-clause-spelled c =
     if_ok c.whole.result (λ (bytes : Vec ℕ Global). IsWhole bytes.items v)
     (λ (bytes : Vec ℕ Global). (limits : Limits) (more : List ℕ) → IsRecord limits v → Spelled limits (bytes.items ++ more) v)
     (λ bytes whole limits more is. written_spelled limits v bytes.items more whole is) c.whole.ensures
-
-pub whole-requires : goal.whole-requires
-whole-requires c = c.requires
-
-pub returns-clause-whole : goal.returns-clause-whole
-returns-clause-whole c = c.whole.ensures

@@ -1,4 +1,3 @@
-use Rattle.std.proofs.Common.{arith}
 use Rattle.std.proofs.Common.{◌∙◌, inl, inr, sym}
 use Rattle.draid_record.proofs.Fields.{check_failed, check_kept}
 use Rattle.draid_record.proofs.reader.Reader.check.Goals.{then-holds-via-then-holds, then-holds-via-else-holds+then-is_some}
@@ -12,6 +11,3 @@ returns-then-holds c = elim c.then-holds.branch [
 
 pub returns : goal.returns
 returns c = check_failed c.args.holds c.args.back c.args.self.now.fault c.args.self.now.bytes.now c.if-holds.false (sym c.is_some.ensures ∙ c.if-is_some.false)
-
-pub overflow_add-left : goal.overflow_add-left
-overflow_add-left c = omega arith

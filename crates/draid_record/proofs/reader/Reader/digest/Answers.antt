@@ -1,5 +1,3 @@
-use Rattle.std.proofs.Common.{refl}
-use Rattle.std.proofs.Common.{arith}
 use Rattle.std.proofs.Common.{◌∙◌, sym}
 use Rattle.draid_record.proofs.Fields.{text_cut, text_found}
 use Rattle.draid_record.proofs.reader.Reader.digest.Goals as goal
@@ -11,9 +9,3 @@ pub returns : goal.returns
 returns c =
     text_found 32 c.args.self.now.fault c.args.self.now.bytes.now c.copy_from_slice.new.self c.split_at.result.1.now (sym c.is_some.ensures ∙ c.if-is_some.false) c.if-left-lt32.false
     (c.copy_from_slice.ensures.after ∙ c.split_at.ensures.front) c.split_at.ensures.back
-
-pub split_at-requires : goal.split_at-requires
-split_at-requires c = omega arith
-
-pub slice_bounds-copy_from_slice-end : goal.slice_bounds-copy_from_slice-end
-slice_bounds-copy_from_slice-end c = refl

@@ -1,4 +1,3 @@
-use Rattle.std.proofs.Common.{arith}
 use Rattle.std.proofs.Common.{◌∙◌, sym}
 use Rattle.draid_record.proofs.Digits.{some_power}
 use Rattle.draid_record.proofs.Fields.{number_cut, number_found, number_out}
@@ -24,24 +23,3 @@ pub returns-clause-reads : goal.returns-clause-reads
 returns-clause-reads c =
     number_found c.args.width c.args.low c.args.high c.first_number-number.result c.args.self.now.fault c.args.self.now.bytes.now c.split_at.result.1.now (sym c.is_some.ensures ∙ c.if-is_some.false) c.if-left-width.false
     c.first_number-number.ensures.number c.if-number-low.false c.if-high-number.false c.split_at.ensures.back
-
-pub returns-then-is_some-clause-high : goal.returns-then-is_some-clause-high
-returns-then-is_some-clause-high c = omega arith
-
-pub returns-then-left-width-clause-high : goal.returns-then-left-width-clause-high
-returns-then-left-width-clause-high c = omega arith
-
-pub returns-then-number-low-clause-high : goal.returns-then-number-low-clause-high
-returns-then-number-low-clause-high c = omega arith
-
-pub split_at-requires : goal.split_at-requires
-split_at-requires c = omega arith
-
-pub returns-clause-high : goal.returns-clause-high
-returns-clause-high c = omega arith
-
-pub returns-clause-small : goal.returns-clause-small
-returns-clause-small c = c.first_number-number.ensures.small
-
-pub first_number-number-requires : goal.first_number-number-requires
-first_number-number-requires c = record { width = c.requires; room = omega arith }

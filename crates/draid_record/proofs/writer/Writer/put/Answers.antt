@@ -11,15 +11,3 @@ returns c =
     (ap (λ (t : List ℕ). take (8 - (8 - c.args.width)) (drop (8 - c.args.width) t)) c.to_be_bytes-bytes.ensures
     ∙ take_rest (bytes_high_first 8 c.args.number) (8 - c.args.width)
     ∙ lowest_bytes 8 c.args.width c.args.number (omega arith))
-
-pub overflow_sub-width : goal.overflow_sub-width
-overflow_sub-width c = omega arith
-
-pub slice_bounds-add-count : goal.slice_bounds-add-count
-slice_bounds-add-count c = omega arith
-
-pub slice_bounds-add-start : goal.slice_bounds-add-start
-slice_bounds-add-start c = omega arith
-
-pub slice_bounds-add-end : goal.slice_bounds-add-end
-slice_bounds-add-end c = omega arith
