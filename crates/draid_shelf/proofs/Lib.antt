@@ -1,4 +1,3 @@
 pub mod Holdings
 pub mod Nothing
 pub mod Taken
-pub mod Passed

@@ -1,4 +1,3 @@
-use Rattle.draid_shelf.proofs.Passed.{on_ok_passed}
 use Rattle.std.proofs.Common.{rules, ◌≡◌, true, subst, sym}
 use Rattle.std.specs.Prelude.{is_some}
 use Rattle.draid_shelf.specs.Memory.{IsMade}
@@ -10,6 +9,3 @@ returns c =
     let e = c.put_fuse.ensures in
     let there : is_some c.args.fuse.now ≡ true = search rules in
     λ geometry list is. subst (λ b. IsMade geometry list b c.put_fuse.new.self) (sym there) (made_as geometry list _ _ is (record { next = e.next; list = e.failing; fuse = e.fused }) e.told e.shape e.counts)
-
-pub returns-in_err-share : goal.returns-in_err-share
-returns-in_err-share c = on_ok_passed _ c.from_residual.result _ c.from_residual.ensures.1

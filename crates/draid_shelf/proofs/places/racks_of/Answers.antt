@@ -1,4 +1,3 @@
-use Rattle.draid_shelf.proofs.Passed.{if_ok_passed}
 use Rattle.std.proofs.Common.{◌≡◌, ◌+◌, ◌<◌, ℕ, Bool, List, Option, None, Some, length, get_or, set, sym, ap, subst, arith, rules, inl, inr, get_or-set_other, get_or-set_same, ◌∙◌}
 use Rattle.std.specs.Prelude.{IsSomeAnd, is_some}
 use Rattle.std.proofs.lemmas.Bool.{cases_eq}
@@ -31,30 +30,3 @@ loop-metaslab-preserved c =
     let made : IsMade c.args.geometry.now (list_at lists n) (is_some c.args.fuse.now) rack =
     subst (λ (list : List ℕ). IsMade c.args.geometry.now list (is_some c.args.fuse.now) rack) (sym same) c.in_ok-rack_of.ensures in
     made_more c.args.geometry.now (list_at c.args.lists.now) (is_some c.args.fuse.now) n c.loop-metaslab.racks rack room made c.loop-metaslab.invariant
-
-pub overflow_cast-place : goal.overflow_cast-place
-overflow_cast-place c = omega arith
-
-pub offset_bounds-lists-place : goal.offset_bounds-lists-place
-offset_bounds-lists-place c = omega arith
-
-pub listed : goal.listed
-listed c = omega arith
-
-pub bounds-lists-place : goal.bounds-lists-place
-bounds-lists-place c = omega arith
-
-pub rack_of-requires : goal.rack_of-requires
-rack_of-requires c = c.requires
-
-pub returns-in_err-rack_of : goal.returns-in_err-rack_of
-returns-in_err-rack_of c = if_ok_passed _ c.from_residual.result _ c.from_residual.ensures.1
-
-pub offset_bounds-racks-place : goal.offset_bounds-racks-place
-offset_bounds-racks-place c = omega arith
-
-pub listed-in-loop-metaslab : goal.listed-in-loop-metaslab
-listed-in-loop-metaslab c = omega arith
-
-pub way_replace-racks : goal.way_replace-racks
-way_replace-racks c = omega arith

@@ -1,4 +1,3 @@
-use Rattle.std.proofs.Common.{refl}
 use Rattle.std.proofs.Common.{rules}
 use Rattle.draid_shelf.proofs.Holdings.{crashed_check_counts, crashed_counts, crashed_held, crashed_shapes}
 use Rattle.draid_shelf.proofs.kits.MemoryShelfShelf.crash.Goals as goal
@@ -14,18 +13,3 @@ returns-clause-counts c = crashed_counts c.args.self.now.rule c.args.self.now.de
 
 pub returns-clause-check_counts : goal.returns-clause-check_counts
 returns-clause-check_counts c = crashed_check_counts c.args.self.now.rule c.args.self.now.devices c.crash_all.new.devices c.crash_all.ensures
-
-pub returns-clause-faults : goal.returns-clause-faults
-returns-clause-faults c = refl
-
-pub returns-clause-rule : goal.returns-clause-rule
-returns-clause-rule c = refl
-
-pub returns-clause-lists : goal.returns-clause-lists
-returns-clause-lists c = refl
-
-pub returns-clause-fuse : goal.returns-clause-fuse
-returns-clause-fuse c = refl
-
-pub returns-clause-calls : goal.returns-clause-calls
-returns-clause-calls c = refl

@@ -1,4 +1,3 @@
-use Rattle.std.proofs.Common.{arith}
 use Rattle.std.proofs.Common.{Some, ap, refl}
 use Rattle.std.specs.Prelude.{option_map}
 use Rattle.draid_rack.specs.Memory.{shape_of_memory}
@@ -20,27 +19,3 @@ returns-clause-odd_count c = ap (λ x. area_count x) (set_here _ _ (Some c.args.
 
 pub returns-clause-leaves : goal.returns-clause-leaves
 returns-clause-leaves c = ap (option_map shape_of_memory) (set_here _ _ (Some c.args.kit.rack) c.args.metaslab (c.put_on.ensures c.args.metaslab))
-
-pub put_on-requires : goal.put_on-requires
-put_on-requires c = omega arith
-
-pub put_on-requires-2 : goal.put_on-requires-2
-put_on-requires-2 c = omega arith
-
-pub put_on-requires-3 : goal.put_on-requires-3
-put_on-requires-3 c = omega arith
-
-pub returns-clause-uber : goal.returns-clause-uber
-returns-clause-uber c = refl
-
-pub returns-clause-uber_count : goal.returns-clause-uber_count
-returns-clause-uber_count c = refl
-
-pub returns-clause-check_counts : goal.returns-clause-check_counts
-returns-clause-check_counts c = refl
-
-pub returns-clause-faults : goal.returns-clause-faults
-returns-clause-faults c = refl
-
-pub returns-clause-calls : goal.returns-clause-calls
-returns-clause-calls c = refl

@@ -1,5 +1,3 @@
-use Rattle.draid_shelf.proofs.Passed.{on_err_always}
-use Rattle.draid_shelf.proofs.Passed.{on_ok_passed}
 use Rattle.std.proofs.Common.{◌≡◌, Some, inl, option_map, ap, refl}
 use Rattle.draid_area.specs.Memory.{size_of_memory}
 use Rattle.draid_shelf.specs.Memory.{area_count, check_counts, held_by, kit_counts, shape_at}
@@ -65,42 +63,3 @@ returns-then-fails c =
       risen = just_risen _ _ _ _ e.fault refl e.risen;
       exact = refuses _ c.failed.result c.fails.result c.args.self.now.calls c.fails.new.self c.failed.new.self.calls e.fault c.args.self.now.unfused c.fails.ensures e.calls (inl c.if-fails.true);
     }
-
-pub devices_of-requires : goal.devices_of-requires
-devices_of-requires c = c.requires
-
-pub returns-in_err-devices-clause-told : goal.returns-in_err-devices-clause-told
-returns-in_err-devices-clause-told c = on_ok_passed _ c.from_residual.result _ c.from_residual.ensures.1
-
-pub returns-in_err-devices-clause-leaves : goal.returns-in_err-devices-clause-leaves
-returns-in_err-devices-clause-leaves c = on_ok_passed _ c.from_residual.result _ c.from_residual.ensures.1
-
-pub returns-in_err-devices-clause-uber : goal.returns-in_err-devices-clause-uber
-returns-in_err-devices-clause-uber c = on_ok_passed _ c.from_residual.result _ c.from_residual.ensures.1
-
-pub returns-in_err-devices-clause-counts : goal.returns-in_err-devices-clause-counts
-returns-in_err-devices-clause-counts c = on_ok_passed _ c.from_residual.result _ c.from_residual.ensures.1
-
-pub returns-in_err-devices-clause-check_counts : goal.returns-in_err-devices-clause-check_counts
-returns-in_err-devices-clause-check_counts c = on_ok_passed _ c.from_residual.result _ c.from_residual.ensures.1
-
-pub returns-in_err-devices-clause-uber_count : goal.returns-in_err-devices-clause-uber_count
-returns-in_err-devices-clause-uber_count c = on_ok_passed _ c.from_residual.result _ c.from_residual.ensures.1
-
-pub returns-in_err-devices-clause-err : goal.returns-in_err-devices-clause-err
-returns-in_err-devices-clause-err c = on_err_always c.from_residual.result _ refl
-
-pub returns-in_err-devices-clause-err_uber : goal.returns-in_err-devices-clause-err_uber
-returns-in_err-devices-clause-err_uber c = on_err_always c.from_residual.result _ refl
-
-pub returns-in_err-devices-clause-err_check_counts : goal.returns-in_err-devices-clause-err_check_counts
-returns-in_err-devices-clause-err_check_counts c = on_err_always c.from_residual.result _ refl
-
-pub returns-in_err-devices-clause-err_uber_count : goal.returns-in_err-devices-clause-err_uber_count
-returns-in_err-devices-clause-err_uber_count c = on_err_always c.from_residual.result _ refl
-
-pub returns-in_err-devices-clause-all : goal.returns-in_err-devices-clause-all
-returns-in_err-devices-clause-all c = on_ok_passed _ c.from_residual.result _ c.from_residual.ensures.1
-
-pub returns-in_err-devices-clause-kept : goal.returns-in_err-devices-clause-kept
-returns-in_err-devices-clause-kept c = on_err_always c.from_residual.result _ refl
