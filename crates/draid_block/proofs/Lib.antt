@@ -12,4 +12,3 @@ pub mod Solves
 pub mod Spread
 pub mod Upto
 pub mod Whole
-pub mod Passed

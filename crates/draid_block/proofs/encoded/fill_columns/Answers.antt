@@ -52,18 +52,3 @@ loop-i-preserved c =
       written = written_more cut c.args.bytes.now c.loop-i.stripe.columns _ c.loop-i.i (omega (arith, many, c.loop-i-test.true)) (column_is c) was.written;
       zero = zero_more cut.parity c.loop-i.stripe.columns _ _ c.loop-i.i cut.ndata was.zero;
     }
-
-pub overflow_cast-len : goal.overflow_cast-len
-overflow_cast-len c = omega arith
-
-pub split_at-requires : goal.split_at-requires
-split_at-requires c = omega arith
-
-pub overflow_add-geometry : goal.overflow_add-geometry
-overflow_add-geometry c = omega arith
-
-pub column_mut-requires : goal.column_mut-requires
-column_mut-requires c = omega arith
-
-pub part_bytes-requires : goal.part_bytes-requires
-part_bytes-requires c = record { geometry = c.requires.geometry; short = c.requires.short }

@@ -29,12 +29,3 @@ returns-clause-read c =
     (λ i below. c.requires.stripe.restored.solution.solves.stays (c.args.geometry.now.spec.parity + i)
     (c.first_restored-first.ensures.before i (let count = c.take_before.ensures.count in omega (arith, below, count))))
     c.take_before.ensures.front
-
-pub take_before-requires-clause-geometry : goal.take_before-requires-clause-geometry
-take_before-requires-clause-geometry c = c.requires.geometry
-
-pub take_before-requires-clause-short : goal.take_before-requires-clause-short
-take_before-requires-clause-short c = omega arith
-
-pub take_before-requires-clause-end : goal.take_before-requires-clause-end
-take_before-requires-clause-end c = omega arith

@@ -10,12 +10,3 @@ pub returns-clause-before : goal.returns-clause-before
 returns-clause-before c = λ i below.
     not_before c.args.set.now c.args.geometry.now.spec.parity c.loop-i.i-index i c.requires.ascending c.loop-i.invariant
     (λ there. absurd (let past = c.loop-i-test.false in omega (arith, there, past)))
-
-pub offset_bounds-set-i-index : goal.offset_bounds-set-i-index
-offset_bounds-set-i-index c = omega arith
-
-pub overflow_sub-result : goal.overflow_sub-result
-overflow_sub-result c = omega arith
-
-pub returns-clause-bound : goal.returns-clause-bound
-returns-clause-bound c = omega arith

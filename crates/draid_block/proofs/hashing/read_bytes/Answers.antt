@@ -1,4 +1,3 @@
-use Rattle.draid_block.proofs.Passed.{if_ok_passed}
 use Rattle.std.proofs.Common.{◌≡◌, ℕ, ◌+◌, ◌*◌, ◌∙◌, List, length, take, min, arith, refl, ap}
 use Rattle.draid_parity.specs.Columns.{column_at}
 use Rattle.draid_block.specs.Columns.{Cut, sectors_in}
@@ -39,21 +38,3 @@ slice_bounds-extend_from_slice-end c =
     let count = c.requires.count in
     let long = c.requires.long (c.args.geometry.now.spec.parity + c.loop-i.i) (omega arith) in
     part_fits cut c.args.len c.loop-i.i c.min-end.result c.loop-i.left c.read_column.result.now end (ap length c.read_column.ensures ∙ long)
-
-pub returns-in_err-bytes : goal.returns-in_err-bytes
-returns-in_err-bytes c = if_ok_passed _ c.from_residual.result _ c.from_residual.ensures.1
-
-pub overflow_add-geometry : goal.overflow_add-geometry
-overflow_add-geometry c = omega arith
-
-pub read_column-requires : goal.read_column-requires
-read_column-requires c = omega arith
-
-pub returns-in_err-extend_from_slice : goal.returns-in_err-extend_from_slice
-returns-in_err-extend_from_slice c = if_ok_passed _ c.from_residual-in_err-extend_from_slice.result _ c.from_residual-in_err-extend_from_slice.ensures.1
-
-pub overflow_sub-left : goal.overflow_sub-left
-overflow_sub-left c = omega arith
-
-pub part_bytes-requires : goal.part_bytes-requires
-part_bytes-requires c = record { geometry = c.requires.geometry; short = c.requires.short }

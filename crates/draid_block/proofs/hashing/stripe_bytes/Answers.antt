@@ -1,8 +1,7 @@
-use Rattle.draid_block.proofs.Passed.{if_ok_passed}
-use Rattle.std.proofs.Common.{take, subst, ◌≡◌, ◌*◌, ◌∙◌, min, arith, refl, ap}
+use Rattle.std.proofs.Common.{◌≡◌, ◌*◌, ◌∙◌, min, arith, refl, ap}
 use Rattle.draid_parity.specs.Columns.{StripeValue}
 use Rattle.draid_block.specs.Columns.{Cut, sectors_in}
-use Rattle.draid_block.specs.Blocks.{sectors_upto, cut_of}
+use Rattle.draid_block.specs.Blocks.{cut_of}
 use Rattle.draid_block.proofs.Upto.{upto_none, upto_more, part_fits, left_more}
 use Rattle.draid_block.proofs.hashing.stripe_bytes.Goals as goal
 
@@ -33,32 +32,3 @@ loop-i-preserved c =
       holds = rw same more;
       left = left_more c.loop-i.left c.min-end.result _ c.column-column.result.now c.args.len was.left (omega arith) fits;
     })
-
-pub returns-in_err-bytes : goal.returns-in_err-bytes
-returns-in_err-bytes c = if_ok_passed _ c.from_residual.result _ c.from_residual.ensures.1
-
-pub overflow_add-geometry : goal.overflow_add-geometry
-overflow_add-geometry c = omega arith
-
-pub returns-in_err-extend_from_slice : goal.returns-in_err-extend_from_slice
-returns-in_err-extend_from_slice c = if_ok_passed _ c.from_residual-in_err-extend_from_slice.result _ c.from_residual-in_err-extend_from_slice.ensures.1
-
-pub overflow_sub-left : goal.overflow_sub-left
-overflow_sub-left c = omega arith
-
-pub part_bytes-requires : goal.part_bytes-requires
-part_bytes-requires c = record { geometry = c.requires.geometry; short = c.requires.short }
-
-pub column-column-requires : goal.column-column-requires
-column-column-requires c =
-    let parity = ap (λ (s : StripeValue). s.parity) c.requires.shape in
-    let ndata = ap (λ (s : StripeValue). s.ndata) c.requires.shape in
-    let less = c.loop-i-test.true in
-    omega (arith, parity, ndata, less)
-
-pub returns : goal.returns
-returns c =
-    let past = c.loop-i-test.false in
-    let upto = c.loop-i.auto.i-end in
-    let all : c.loop-i.i ≡ c.args.geometry.now.spec.ndata = omega (arith, past, upto) in
-    subst (λ i. c.loop-i.bytes.items ≡ take c.args.len (sectors_upto (cut_of c.args.geometry.now) c.args.len c.args.stripe.now.columns i)) all c.loop-i.invariant.holds

@@ -8,6 +8,3 @@ pub returns-in-Err-Unreadable : goal.returns-in-Err-Unreadable
 returns-in-Err-Unreadable c =
     solved_is (cut_of c.args.geometry.now) c.args.fetched.now c.solve_block.result (Unreadable c.in-Err-Unreadable.absent c.in-Err-Unreadable.tried)
     (c.in-Err-Unreadable.is ∙ ap Err c.in-Err-Unreadable.field-0-is) c.solve_block.ensures.solves c.solve_block.ensures.digest c.solve_block.ensures.readable
-
-pub solve_block-requires : goal.solve_block-requires
-solve_block-requires c = record { geometry = c.requires.geometry; fetched = c.requires.fetched }

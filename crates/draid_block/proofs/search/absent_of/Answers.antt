@@ -1,5 +1,3 @@
-use Rattle.draid_block.proofs.Passed.{if_ok_passed}
-use Rattle.std.proofs.Common.{arith}
 use Rattle.std.proofs.Common.{◌∙◌, ◌++◌, [], ◌∷◌, sym, ap, List, ℕ, Vec, Global}
 use Rattle.draid_block.proofs.Held.{none_is, absent_none, absent_more, present_more}
 use Rattle.draid_block.proofs.search.absent_of.Goals as goal
@@ -19,15 +17,3 @@ loop-i-preserved c = elim c.if-is_none.branch [
       ap (λ (v : Vec ℕ Global). v.items) w.absent-is ∙ c.loop-i.invariant
       ∙ sym (present_more c.args.columns.now c.loop-i.i c.index-columns-i.result c.loop-i-test.true c.index-columns-i.is some)
 ]
-
-pub offset_bounds-columns-i : goal.offset_bounds-columns-i
-offset_bounds-columns-i c = omega arith
-
-pub bounds-columns-i : goal.bounds-columns-i
-bounds-columns-i c = omega arith
-
-pub overflow_cast-i : goal.overflow_cast-i
-overflow_cast-i c = omega arith
-
-pub returns-in_err-push : goal.returns-in_err-push
-returns-in_err-push c = if_ok_passed _ c.from_residual.result _ c.from_residual.ensures.1

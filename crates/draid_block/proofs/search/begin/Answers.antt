@@ -1,4 +1,3 @@
-use Rattle.draid_block.proofs.Passed.{if_ok_passed}
 use Rattle.std.proofs.Common.{arith}
 use Rattle.draid_block.specs.Blocks.{cut_of}
 use Rattle.draid_block.specs.Solving.{read_of}
@@ -12,6 +11,3 @@ returns c =
     (λ full. elim c.if-is_empty.branch [ then-is_empty w ↦ w.result-is | else-is_empty w ↦ absurd (cc (full, w.if-is_empty.false)) ])
     (λ part. elim c.if-is_empty.branch [ then-is_empty w ↦ absurd (cc (part, w.if-is_empty.true)) | else-is_empty w ↦ w.result-is ]) in
     record { ready = record { holds = c.in_ok-stripe.ensures; has = c.new.ensures.front (cut_of c.args.search.now.geometry.now) (read_of c.args.search.now.fetched.now.columns.items) }; failed = c.requires.failed; counted = omega (arith, count) }
-
-pub returns-in_err-stripe : goal.returns-in_err-stripe
-returns-in_err-stripe c = if_ok_passed _ c.from_residual.result _ c.from_residual.ensures.1

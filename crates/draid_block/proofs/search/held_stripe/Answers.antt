@@ -1,4 +1,3 @@
-use Rattle.draid_block.proofs.Passed.{if_ok_passed}
 use Rattle.std.proofs.Common.{arith}
 use Rattle.draid_block.specs.Blocks.{cut_of}
 use Rattle.draid_block.proofs.Held.{held_count, held_last, held_long, held_next, held_none, held_range}
@@ -47,6 +46,3 @@ put_column-requires-clause-there c = rw (c.deref.ensures.value, c.requires.fetch
 
 pub returns : goal.returns
 returns c = held_last (cut_of c.args.geometry.now) c.args.fetched.now c.loop-i.i c.loop-i.stripe c.requires.fetched c.loop-i-test.false c.loop-i.invariant
-
-pub returns-in_err-stripe : goal.returns-in_err-stripe
-returns-in_err-stripe c = if_ok_passed _ c.from_residual.result _ c.from_residual.ensures.1

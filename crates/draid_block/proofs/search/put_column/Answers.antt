@@ -42,6 +42,3 @@ returns-in_default-clause-others c = λ k differs. refl
 
 pub returns-in_default-clause-shape : goal.returns-in_default-clause-shape
 returns-in_default-clause-shape c = refl
-
-pub offset_bounds-columns-i : goal.offset_bounds-columns-i
-offset_bounds-columns-i c = omega arith

@@ -45,12 +45,3 @@ returns c =
     let cut : Cut = cut_of c.args.search.now.geometry.now in
     let n : ℕ = c.args.search.now.geometry.now.spec.parity + c.args.search.now.geometry.now.spec.ndata in
     none_all cut c.args.search.now.fetched.now c.args.search.now.absent.now c.loop-size.size n c.loop-size.attempts 0 c.loop-size.attempts.tried (omega arith) refl c.requires.search.absent_is c.loop-size.invariant.none
-
-pub overflow_add-size-end : goal.overflow_add-size-end
-overflow_add-size-end c = omega arith
-
-pub try_sets-requires-clause-search : goal.try_sets-requires-clause-search
-try_sets-requires-clause-search c = c.requires.search
-
-pub try_sets-requires-clause-ready : goal.try_sets-requires-clause-ready
-try_sets-requires-clause-ready c = c.loop-size.invariant.none.ready

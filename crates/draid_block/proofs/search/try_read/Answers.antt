@@ -1,4 +1,3 @@
-use Rattle.std.proofs.Common.{arith}
 use Rattle.std.proofs.Common.{◌≡◌, ◌∙◌, true, false, sym, ap}
 use Rattle.std.specs.Cmp.Lexicographic.{same_text, other_text}
 use Rattle.sha2.specs.Sha256.{sha256}
@@ -37,12 +36,3 @@ returns c =
     let digest = rw c.deref.ensures.value at c.read_digest.ensures in
     read_fails c.args.search.now.geometry.now c.args.search.now.fetched.now c.args.search.now.absent.now c.requires.search.layout c.requires.search.read c.requires.search.absent_is
     (empty_is c.args.search.now.absent.now c.is_empty.result c.is_empty.ensures full) (λ same. other_text _ _ c.if-eq.ensures (digest ∙ same))
-
-pub read_digest-requires-clause-short : goal.read_digest-requires-clause-short
-read_digest-requires-clause-short c = omega arith
-
-pub eq-requires : goal.eq-requires
-eq-requires c = omega arith
-
-pub read_bytes-requires-clause-short : goal.read_bytes-requires-clause-short
-read_bytes-requires-clause-short c = omega arith

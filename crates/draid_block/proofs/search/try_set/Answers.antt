@@ -1,4 +1,3 @@
-use Rattle.std.proofs.Common.{arith}
 use Rattle.std.proofs.Common.{◌∙◌, sym, ap, refl}
 use Rattle.std.specs.Cmp.Lexicographic.{same_text, other_text}
 use Rattle.sha2.specs.Sha256.{sha256}
@@ -93,18 +92,3 @@ returns-then-eq-clause-tried c = refl
 
 pub returns-clause-tried : goal.returns-clause-tried
 returns-clause-tried c = c.loop-i.invariant.tried
-
-pub returns-in_err-set_digest-clause-tried : goal.returns-in_err-set_digest-clause-tried
-returns-in_err-set_digest-clause-tried c = refl
-
-pub eq-requires : goal.eq-requires
-eq-requires c = omega arith
-
-pub returns-in_err-bytes-clause-tried : goal.returns-in_err-bytes-clause-tried
-returns-in_err-bytes-clause-tried c = refl
-
-pub offset_bounds-set-i-index : goal.offset_bounds-set-i-index
-offset_bounds-set-i-index c = omega arith
-
-pub bounds-set-i-index : goal.bounds-set-i-index
-bounds-set-i-index c = omega arith

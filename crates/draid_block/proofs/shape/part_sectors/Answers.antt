@@ -19,6 +19,3 @@ returns c = past_full (cut_of c.args.geometry.now) c.args.len c.args.i c.div_cei
 pub returns-then-full-eq0 : goal.returns-then-full-eq0
 returns-then-full-eq0 c = in_full (cut_of c.args.geometry.now) c.args.len c.args.i c.div_ceil.result c.stripes_for-stripes.result c.div_ceil.ensures c.stripes_for-stripes.ensures
     (elim c.then-full-eq0.branch [ then-full-eq0-via-then-full-eq0 w ↦ inl w.if-full-eq0.true | then-full-eq0-via-else-full-eq0+then-i-full w ↦ inr w.if-i-full.true ])
-
-pub stripes_for-stripes-requires : goal.stripes_for-stripes-requires
-stripes_for-stripes-requires c = c.requires

@@ -1,4 +1,3 @@
-use Rattle.draid_block.proofs.Passed.{if_ok_passed}
 use Rattle.std.proofs.Common.{rules, ◌≡◌, ℕ, ◌<◌, ◌+◌, ◌∙◌, List, length, arith, ap, sym, subst}
 use Rattle.std.specs.Prelude.{slice_index}
 use Rattle.draid_gf.specs.Field.{IsByte}
@@ -41,21 +40,3 @@ returns-clause-bytes c =
     let P = λ (s : StripeValue). (block_value c.args.geometry.now.props.sector (length c.args.bytes.now) s).bytes ≡ c.args.bytes.now in
     subst P (sym (shape c))
     (bytes_are (cut_of c.args.geometry.now) c.args.bytes.now c.encode.new.self.columns g.spec.some_data (some_sector c.args.geometry.now g) (columns_are c))
-
-pub overflow_cast-len : goal.overflow_cast-len
-overflow_cast-len c = omega arith
-
-pub fill_columns-requires-clause-geometry : goal.fill_columns-requires-clause-geometry
-fill_columns-requires-clause-geometry c = c.requires.geometry
-
-pub fill_columns-requires-clause-short : goal.fill_columns-requires-clause-short
-fill_columns-requires-clause-short c = c.requires.short
-
-pub column_bytes-requires : goal.column_bytes-requires
-column_bytes-requires c = record { geometry = c.requires.geometry; short = c.requires.short }
-
-pub new-requires : goal.new-requires
-new-requires c = record { some_parity = omega arith; parity = omega arith; some_data = omega arith; ndata = omega arith }
-
-pub returns-in_err-stripe : goal.returns-in_err-stripe
-returns-in_err-stripe c = record { bytes = if_ok_passed _ c.from_residual.result _ c.from_residual.ensures.1; cut = if_ok_passed _ c.from_residual.result _ c.from_residual.ensures.1 }

@@ -1,5 +1,3 @@
-use Rattle.std.proofs.Common.{refl}
-use Rattle.std.proofs.Common.{arith}
 use Rattle.std.proofs.Common.{◌∙◌, min, ap}
 use Rattle.draid_block.specs.Blocks.{cut_of}
 use Rattle.draid_block.proofs.Fronts.{front_more}
@@ -15,15 +13,3 @@ pub returns-clause-front : goal.returns-clause-front
 returns-clause-front c = λ columns was column.
     front_more (cut_of c.args.geometry.now) c.args.len columns c.args.column.now c.min-end.result c.part_bytes.result c.args.self.now c.update.new.self
     c.requires.more c.min-end.ensures c.part_bytes.ensures c.requires.long c.update.ensures was column
-
-pub overflow_sub-self : goal.overflow_sub-self
-overflow_sub-self c = omega arith
-
-pub overflow_add-self : goal.overflow_add-self
-overflow_add-self c = omega arith
-
-pub returns-clause-count : goal.returns-clause-count
-returns-clause-count c = refl
-
-pub part_bytes-requires : goal.part_bytes-requires
-part_bytes-requires c = record { geometry = c.requires.geometry; short = c.requires.short }
