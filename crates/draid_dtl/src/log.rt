@@ -91,7 +91,7 @@ impl Log {
     pub fn excise(&mut self, upto: u64)
         requires { upto < 2 ^ 48 }
         ensures members { Has self.new (λ x. has self.old x && nat_lt upto x) }
-        ensures left { self.old.room ≤ self.new.room + 1 }
+        ensures left { self.old.room ≤ self.new.room }
     {
         let Ok(()) = self.groups.remove(0, upto) else {
             unreachable!()

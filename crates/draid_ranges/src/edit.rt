@@ -23,6 +23,7 @@ pub(crate) fn put(runs: &mut Vec<Run>, from: usize, to: usize, run: Run) -> Resu
     ensures err { OnErr result (runs.new.items ≡ runs.old.items) }
     ensures room { (from < to → IsOk result) × (vec_len runs.old < vec_capacity runs.old → IsOk result) }
     ensures left { vec_capacity runs.old + vec_len runs.new ≤ vec_capacity runs.new + vec_len runs.old + 1 }
+    ensures kept { from < to → vec_capacity runs.old + vec_len runs.new ≤ vec_capacity runs.new + vec_len runs.old }
 {
     if from == to {
         runs.insert(from, run)?;
@@ -86,6 +87,7 @@ pub(crate) fn keep_sides(
     ensures room { vec_len runs.old < vec_capacity runs.old → IsOk result }
     ensures no_left { whole.first ≡ first → IsOk result }
     ensures left { vec_capacity runs.old + vec_len runs.new ≤ vec_capacity runs.new + vec_len runs.old + 1 }
+    ensures kept { whole.first ≡ first → vec_capacity runs.old + vec_len runs.new ≤ vec_capacity runs.new + vec_len runs.old }
 {
     match (whole.first < first, end < whole.end()) {
         (false, false) => cut(runs, from, to),

@@ -69,7 +69,8 @@ impl RangeSet {
         put(&mut self.runs, at, end, whole)
     }
 
-    /// Takes the numbers from `first` to `last` out. Memory is asked for only where a run falls in two.
+    /// Takes the numbers from `first` to `last` out. Memory is asked for, and room used, only where a run falls in two,
+    /// which no run does from which all up to `last` go.
     pub fn remove(&mut self, first: u64, last: u64) -> Result<(), AllocError>
         requires order { first ≤ last }
         requires range { last < 2 ^ 48 }
@@ -78,6 +79,7 @@ impl RangeSet {
         ensures room { 0 < self.old.room → IsOk result }
         ensures from_zero { first ≡ 0 → IsOk result }
         ensures left { self.old.room ≤ self.new.room + 1 }
+        ensures kept { first ≡ 0 → self.old.room ≤ self.new.room }
     {
         let at = ending_before(&self.runs, first);
         let (whole, end) = absorb(&self.runs, at, Run::between(first, last + 1));

@@ -9,8 +9,8 @@ use Rattle.draid_spec.specs.declared.layout.Geometry.{Geometry}
 use Rattle.draid_slots.specs.declared.slot.Detached.{Detached}
 use Rattle.draid_slots.specs.declared.slot.Slot.{Slot}
 use Rattle.draid_slots.specs.Changes.{ChangesLog, SetsLog}
-use Rattle.draid_slots.specs.Table.{AreKept, IsThere, SlotTable, arms_in, log_at, logs_in, table_of}
-use Rattle.draid_slots.proofs.Tables.{IsPlace, changes_log, its_place, kept_log, log_found, sets_log, slot_there}
+use Rattle.draid_slots.specs.Table.{AreKept, IsThere, SlotTable, arms_in, log_at, logs_in, room_at, table_of}
+use Rattle.draid_slots.proofs.Tables.{IsPlace, changes_log, its_place, kept_log, log_found, rooms_kept, sets_log, slot_there}
 
 -- the slot with another log of an arm
 abbrev pub with_log : Slot → ℕ → Numbers → Slot
@@ -48,3 +48,10 @@ module _ (geometry : Geometry) (perms : Perms) (metaslab : ℕ) (slots : List Sl
     log_changed before log test found members room =
         let had = ap (λ (l : Numbers). l.room) (log_was before found) in
         changes_log t _ at log test (log_set log) members (omega (arith, had, room))
+
+    -- where it has as much room as before, no log has less
+    pub log_roomy : (before log : Numbers) → before ≡ get_or (logs_in old) at.arm before → before.room ≤ log.room
+        → (other : ArmAt) → room_at t other ≤ room_at (table_of geometry perms metaslab (set slots at.slot (with_log old at.arm log)) detached next places) other
+    log_roomy before log found room =
+        let had = ap (λ (l : Numbers). l.room) (log_was before found) in
+        rooms_kept t _ at log (log_set log) (omega (arith, had, room))

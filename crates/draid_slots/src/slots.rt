@@ -253,7 +253,8 @@ impl Slots {
     pub fn excise(&mut self, at: ArmAt, upto: u64)
         requires there { IsThere self.old at }
         requires range { upto < 2 ^ 48 }
-        ensures { ChangesLog self.old self.new at (λ x. is_logged self.old at x && nat_lt upto x) }
+        ensures changes { ChangesLog self.old self.new at (λ x. is_logged self.old at x && nat_lt upto x) }
+        ensures room { (other : ArmAt) → room_at self.old other ≤ room_at self.new other }
     {
         self.slots[at.slot as usize].logs[at.arm as usize].excise(upto);
     }

@@ -24,8 +24,8 @@ invariant_of-self c =
     one.log_kept s.geometry s.perms s.metaslab s.slots.items s.detached.items (next_rooms s.next.items) (vec_capacity s.detached - vec_len s.detached) _ c.self.view_is c.args.at c.requires.there c.self.invariant c.index_mut.result.now c.index_mut.ensures.value
     c.excise.new.self
 
-pub returns : goal.returns
-returns c =
+pub returns-clause-changes : goal.returns-clause-changes
+returns-clause-changes c =
     let s = c.self.inside in
     let before : Numbers = c.index_mut-2.result.now in
     let was = one.log_was s.geometry s.perms s.metaslab s.slots.items s.detached.items (next_rooms s.next.items) (vec_capacity s.detached - vec_len s.detached) _ c.self.view_is c.args.at c.requires.there c.self.invariant c.index_mut.result.now c.index_mut.ensures.value
@@ -33,3 +33,9 @@ returns c =
     let left = c.excise.ensures.left in
     one.log_changed s.geometry s.perms s.metaslab s.slots.items s.detached.items (next_rooms s.next.items) (vec_capacity s.detached - vec_len s.detached) _ c.self.view_is c.args.at c.requires.there c.self.invariant c.index_mut.result.now c.index_mut.ensures.value
     before c.excise.new.self _ c.index_mut-2.ensures.value (λ x. c.excise.ensures.members x ∙ sym (ap (λ l. has l x && nat_lt c.args.upto x) was)) (omega (arith, left))
+
+pub returns-clause-room : goal.returns-clause-room
+returns-clause-room c =
+    let s = c.self.inside in
+    one.log_roomy s.geometry s.perms s.metaslab s.slots.items s.detached.items (next_rooms s.next.items) (vec_capacity s.detached - vec_len s.detached) _ c.self.view_is c.args.at c.requires.there c.self.invariant c.index_mut.result.now c.index_mut.ensures.value
+    c.index_mut-2.result.now c.excise.new.self c.index_mut-2.ensures.value c.excise.ensures.left
