@@ -1,4 +1,4 @@
-ghost use Rattle.std.specs.Prelude.{◌≡◌, ◌≢◌, ◌+◌, ◌<◌, ◌≤◌, ◌⊎◌, ℕ, Some, None, Ok, Err, [], All, Contains, IfOk, IfSome, MatchResult, OnErr, length, drop, position, vec_len};
+ghost use Rattle.std.specs.Prelude.{◌≡◌, ◌≢◌, ◌+◌, ◌<◌, ◌≤◌, ◌⊎◌, ℕ, Some, None, Ok, Err, [], All, Contains, IfOk, IfSome, MatchResult, OnErr, OnOk, length, drop, position, vec_len};
 ghost use Rattle.std.specs.List.{position_or_len};
 ghost use Rattle.std.specs.Io.KnownBytes.{IsAtEnd, prepend_known};
 ghost use Rattle.draid_names.specs.Faults.{Rose};
@@ -61,7 +61,7 @@ impl Lines {
     }
 
     /// The next line without its end, which is the byte 0a, or `None` at the end of the input. The source is asked
-    /// only where no whole line is held.
+    /// only where no whole line is held, and not again once one is: what is held behind a line came with one call.
     pub fn next<S: Source>(
         &mut self,
         alloc: Global,
@@ -83,6 +83,7 @@ impl Lines {
         ensures too_long { (line : ℕ) → self.old.fault ≡ None → result ≡ Err (TooLong line)
             → (line ≡ self.old.given + 1) × IsTooLong self.old.given self.new.held }
         ensures waits { Contains self.old.held 10 → source.new ≡ source.old }
+        ensures ahead { length self.old.held < 8_192 → OnOk result (length self.new.held < 8_192) }
 
         // A refusal stays.
         ensures again { IfSome self.old.fault (λ fault.
@@ -127,6 +128,7 @@ fn next_line<S: Source>(
     ensures too_long { (line : ℕ) → result ≡ Err (TooLong line)
         → (line ≡ given + 1) × IsTooLong given (drop start.new held.new.items) }
     ensures waits { Contains (drop start.old held.old.items) 10 → source.new ≡ source.old }
+    ensures ahead { vec_len held.old < start.old + 8_192 → OnOk result (vec_len held.new < start.new + 8_192) }
     ensures later { S.faults source.old ≤ S.faults source.new }
     ensures cause { result ≡ Err SourceFault → Rose (S.faults source.old) (S.faults source.new) }
 {
@@ -156,6 +158,7 @@ fn find_end<S: Source>(
         (S.left source.old) (S.left source.new) }
     ensures found { IfOk result (λ len. Finds longest (drop start.new held.new.items) (S.left source.new) len) }
     ensures waits { Contains (drop start.old held.old.items) 10 → source.new ≡ source.old }
+    ensures ahead { vec_len held.old < start.old + 8_192 → IfOk result (λ len. vec_len held.new ≤ start.new + len + 8_192) }
     ensures later { S.faults source.old ≤ S.faults source.new }
     ensures cause { result ≡ Err SourceFault → Rose (S.faults source.old) (S.faults source.new) }
     ensures read { (line : ℕ) → result ≡ Err (TooLong line) → ⊥ }
@@ -207,6 +210,7 @@ fn fill<S: Source>(held: &mut Vec<u8>, longest: usize, source: &mut S) -> Result
     requires { position_or_len is_end held.old.items ≡ length held.old.items }
     ensures takes { Takes held.old.items held.new.items (S.left source.old) (S.left source.new) }
     ensures found { IfOk result (λ len. Finds longest held.new.items (S.left source.new) len) }
+    ensures ahead { IfOk result (λ len. vec_len held.new ≤ len + 8_192) }
     ensures later { S.faults source.old ≤ S.faults source.new }
     ensures cause { result ≡ Err SourceFault → Rose (S.faults source.old) (S.faults source.new) }
     ensures read { (line : ℕ) → result ≡ Err (TooLong line) → ⊥ }
@@ -236,6 +240,7 @@ fn end_behind(bytes: &[u8], from: usize) -> Option<usize>
 fn take_more<S: Source>(held: &mut Vec<u8>, source: &mut S) -> Result<usize, ReadFault>
     ensures takes { Takes held.old.items held.new.items (S.left source.old) (S.left source.new) }
     ensures count { IfOk result (λ taken. length held.new.items ≡ length held.old.items + taken) }
+    ensures few { IfOk result (λ taken. taken ≤ 8_192) }
     ensures end { result ≡ Ok 0 → IsAtEnd (S.left source.new) }
     ensures later { S.faults source.old ≤ S.faults source.new }
     ensures cause { result ≡ Err SourceFault → Rose (S.faults source.old) (S.faults source.new) }
