@@ -1,6 +1,6 @@
 -- A legal history of arms alone: version 2 is asked for, a spare is attached and rebuilt; then a second one takes the place of the leaf on which the
 -- first lies, so the first moves; and a leaf joins while both are rebuilt, so the rebuild is planned again.
-use Rattle.std.proofs.Common.{◌≡◌, ◌≢◌, ◌+◌, ◌<◌, ◌==◌, ℕ, zero, suc, Bool, true, false, List, [], ◌∷◌, Option, Some, None, refl, sym, ◌∙◌, ap, subst, inl, arith, if◌then◌else◌}
+use Rattle.std.proofs.Common.{◌≡◌, ◌≢◌, ◌+◌, ◌<◌, ◌==◌, ℕ, zero, suc, Bool, true, false, List, [], ◌∷◌, Option, Some, None, refl, sym, ◌∙◌, ap, inl, arith, if◌then◌else◌}
 use Rattle.std.proofs.lemmas.Bool.{true≢false}
 use Rattle.draid_names.specs.Spares.{IsArm}
 use Rattle.draid_names.specs.declared.pass_kind.PassKind.TheVariants.{Rebuild}
@@ -8,7 +8,7 @@ use Rattle.draid_machine.specs.declared.names.Key.{Key}
 use Rattle.draid_machine.specs.declared.names.ArmName.{ArmName}
 use Rattle.draid_machine.specs.declared.names.ArmName.TheVariants.{Leaf, Spare}
 use Rattle.draid_machine.specs.declared.names.Held.{Held}
-use Rattle.draid_machine.specs.State.{Layout, IsLayout, Pass, Image, State}
+use Rattle.draid_machine.specs.State.{Layout, IsLayout, Image, State}
 use Rattle.draid_machine.specs.Arms.{has_moved, is_fresh, leaf_at, logged, targets_of}
 use Rattle.draid_machine.specs.After.{attach_state, close_state, commit_state, done_state, ended_pass, image_of, plan_state, ready_state, seal_state, sealed_core, upgrade_state}
 use Rattle.draid_machine.specs.Created.{created}

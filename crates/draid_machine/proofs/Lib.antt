@@ -3,6 +3,7 @@ pub mod Calm
 pub mod Chained
 pub mod Fitted
 pub mod Follows
+pub mod Freshness
 pub mod Landings
 pub mod Lent
 pub mod Listing

@@ -9,7 +9,7 @@ use Rattle.draid_machine.specs.declared.names.Held.{Held}
 use Rattle.draid_machine.specs.declared.event.Patched.{Patched}
 use Rattle.draid_machine.specs.declared.event.Event.{Event}
 use Rattle.draid_machine.specs.declared.event.Event.TheVariants.{Begin, Put, Finish, Abort, Free, Fetch, Damage, Offline, Online, Attach, Detach, Upgrade, Close, Seal, Commit, Plan, Ready, Lend, LandStripe, LandBlock, Done, Cancel, Reopen}
-use Rattle.draid_machine.specs.Concerns.{is_opening}
+use Rattle.draid_machine.specs.Concerns.{is_done, is_opening}
 use Rattle.draid_machine.specs.Names.{has_name, is_heal}
 use Rattle.draid_machine.specs.State.{Layout, IsLayout, Arm, Pass, Core, Loan, State}
 use Rattle.draid_machine.specs.Arms.{lies_on, is_silent, has_moved, targets_of}
@@ -94,7 +94,7 @@ module _ (l : Layout) where
       r = rearranged_state l w last (attached_core w.core slot n last)
 
       Lost : State → Type 0
-      Lost v = (c : Arm) → v.core.arm m ≡ Some c → c.log g ≡ false → MadeGood w v m g ⊎ ((has_moved l w.core v.core m ≡ true) ⊎ (is_opening e ≡ true))
+      Lost v = (c : Arm) → v.core.arm m ≡ Some c → c.log g ≡ false → MadeGood w e v m g ⊎ ((has_moved l w.core v.core m ≡ true) ⊎ (is_opening e ≡ true))
 
       went : (c : Arm) → r.core.arm m ≡ Some c → c.log g ≡ false → has_moved l w.core q m ≡ true
       went c z f = elim (rearranged_logs w last (attached_core w.core slot n last) m a c g (set_logs w.core.arm n _ (λ d k found. absurd (none_some (w.core.arm n) d unused found))) x
@@ -141,8 +141,8 @@ module _ (l : Layout) where
   block_logs w p n h failed patched false whole e = grown w _ e (same_logs w.core.arm)
 
 module _ (l : Layout) (lay : IsLayout l) where
-  done_logs : (w : State) (p : Pass) (failed : List ℕ) (e : Event) → w.core.pass ≡ Some p → KeepsLogs l w e (done_state w (ended_pass l w.core p failed))
-  done_logs w p failed e pass n a b g x y t out =
+  done_logs : (w : State) (p : Pass) (failed : List ℕ) (e : Event) → is_done e ≡ true → w.core.pass ≡ Some p → p.running ≡ true → KeepsLogs l w e (done_state w (ended_pass l w.core p failed))
+  done_logs w p failed e done pass running n a b g x y t out =
       let r = ended_pass l w.core p failed in
       let same = ended_same l lay w.core p failed in
       let z = mapped_arm (excise_if ((r.errors == 0) && has_name r.targets n) r.max) (w.core.arm n) b y in
@@ -150,8 +150,10 @@ module _ (l : Layout) (lay : IsLayout l) where
       let lost = taken (z.0.log g) ((r.errors == 0) && has_name r.targets n) (nat_le g r.max) was (subst (λ (v : Arm). v.log g ≡ false) z.2 out) in
       let both = both_true (r.errors == 0) (has_name r.targets n) lost.0 in
       inl (record {
+        done = done;
         p = p;
         pass = pass;
+        running = running;
         target = same.targets n both.1;
         errors = same.errors (is_equal r.errors 0 both.0);
         group = subst (λ m. g ≤ m) same.max (is_low g r.max lost.1);
@@ -200,7 +202,7 @@ module _ (l : Layout) (lay : IsLayout l) where
   step_logs w (LandBlock pass serial failed patched unreadable) new x s =
       subst (λ v. KeepsLogs l w (LandBlock pass serial failed patched unreadable) v) (sym x.made)
       (block_logs l w x.p x.n x.h failed.items patched.items unreadable x.whole (LandBlock pass serial failed patched unreadable))
-  step_logs w (Done failed) new x s = subst (λ v. KeepsLogs l w (Done failed) v) (sym x.made) (done_logs w x.p failed.items (Done failed) x.pass)
+  step_logs w (Done failed) new x s = subst (λ v. KeepsLogs l w (Done failed) v) (sym x.made) (done_logs w x.p failed.items (Done failed) refl x.pass x.running)
   step_logs w Cancel new x s = subst (λ v. KeepsLogs l w Cancel v) (sym x.made) (grown l w _ Cancel (same_logs w.core.arm))
   step_logs w (Reopen group doubtful) new x s = λ n a b g y z t out. inr (inr refl)
 

@@ -1,13 +1,12 @@
 -- What a rebuild makes of readings that aren't in doubt isn't in doubt.
-use Rattle.std.proofs.Common.{◌≡◌, ◌==◌, ◌+◌, ◌&&◌, ◌||◌, not, ℕ, zero, suc, Bool, true, false, nat_lt, List, Option, Some, None, is_none, if◌then◌else◌, refl, sym, ◌∙◌, ap, ap₂, subst, arith}
+use Rattle.std.proofs.Common.{◌≡◌, ◌+◌, ◌&&◌, ◌||◌, not, ℕ, zero, suc, Bool, true, false, nat_lt, List, Option, Some, None, is_none, if◌then◌else◌, refl, sym, ◌∙◌, ap, ap₂, subst, arith}
 use Rattle.std.proofs.lemmas.Bool.Decides.{nat_tests}
 use Rattle.draid_machine.specs.declared.names.ArmName.{ArmName}
 use Rattle.draid_machine.specs.declared.names.Held.{Held}
 use Rattle.draid_machine.specs.declared.names.Segment.{Segment}
-use Rattle.draid_machine.specs.Names.{any_below, has_name, key_eq}
+use Rattle.draid_machine.specs.Names.{any_below, key_eq}
 use Rattle.draid_machine.specs.State.{Layout, Pass, Loan, State}
-use Rattle.draid_machine.specs.Arms.{answers, fails, leaf_at, passes}
-use Rattle.draid_machine.specs.Claims.{is_on}
+use Rattle.draid_machine.specs.Arms.{fails, leaf_at, passes}
 use Rattle.draid_machine.specs.After.{is_chosen_aside, is_mended, is_source_aside, land_stripe_state, mend_state, pass_over, unsourced}
 use Rattle.draid_machine.specs.Step.{LandStripeStep}
 use Rattle.draid_machine.specs.Mended.{IsMade, IsTrusted}

@@ -1,7 +1,7 @@
--- Which object an event concerns.
+-- Which object an event concerns, and what kind of event it is.
 use Rattle.std.specs.Prelude.{ℕ, Bool, true, false, Option, None, Some}
 use Rattle.draid_machine.specs.declared.event.Event.{Event}
-use Rattle.draid_machine.specs.declared.event.Event.TheVariants.{Begin, Put, Finish, Abort, Free, Fetch, Reopen}
+use Rattle.draid_machine.specs.declared.event.Event.TheVariants.{Begin, Put, Finish, Abort, Free, Fetch, Done, Reopen}
 use Rattle.draid_machine.specs.declared.names.Held.{Held}
 use Rattle.draid_machine.specs.declared.names.Stage.{Stage}
 use Rattle.draid_machine.specs.declared.names.Stage.TheVariants.{Freed}
@@ -19,6 +19,11 @@ object_of _ = None
 abbrev pub is_opening : Event → Bool
 is_opening (Reopen group doubtful) = true
 is_opening _ = false
+
+-- an event is the end of a pass, at which it has done its work
+abbrev pub is_done : Event → Bool
+is_done (Done failed) = true
+is_done _ = false
 
 abbrev pub is_freed_stage : Stage → Bool
 is_freed_stage (Freed group) = true

@@ -7,7 +7,7 @@ use Rattle.draid_machine.specs.declared.names.ArmName.{ArmName}
 use Rattle.draid_machine.specs.declared.names.ArmName.TheVariants.{Leaf}
 use Rattle.draid_machine.specs.declared.names.Held.{Held}
 use Rattle.draid_machine.specs.declared.event.Event.{Event}
-use Rattle.draid_machine.specs.Concerns.{is_opening}
+use Rattle.draid_machine.specs.Concerns.{is_done, is_opening}
 use Rattle.draid_machine.specs.Names.{has_name}
 use Rattle.draid_machine.specs.State.{Layout, Arm, Pass, Core, Loan, Image, State}
 use Rattle.draid_machine.specs.Arms.{arms_below, has_moved, leaf_at}
@@ -74,10 +74,12 @@ pub record LoanReads (l : Layout) (w : State) (n : Loan) : Type 0 where
       → h.first + row ≡ n.stripe → leaf_at l w.core.order m n.stripe ≡ Some leaf → w.present (record { key = n.key; column = c; arm = m; leaf = leaf; row = row }) ≡ true
 
 -- ---- logs
--- a pass without errors ends, that had the arm among its targets, and made the group good
-pub record MadeGood (w : State) (new : State) (n : ArmName) (g : ℕ) : Type 0 where
+-- a pass that ran is done, without errors, that had the arm among its targets, and made the group good
+pub record MadeGood (w : State) (event : Event) (new : State) (n : ArmName) (g : ℕ) : Type 0 where
+  pub done : is_done event ≡ true
   pub p : Pass
   pub pass : w.core.pass ≡ Some p
+  pub running : p.running ≡ true
   pub target : has_name p.targets n ≡ true
   pub errors : p.errors ≡ 0
   pub group : g ≤ p.max
@@ -87,4 +89,19 @@ pub record MadeGood (w : State) (new : State) (n : ArmName) (g : ℕ) : Type 0 w
 abbrev pub KeepsLogs : Layout → State → Event → State → Type 0
 KeepsLogs l w event new =
     (n : ArmName) (a b : Arm) (g : ℕ) → w.core.arm n ≡ Some a → new.core.arm n ≡ Some b → a.log g ≡ true → b.log g ≡ false
-    → MadeGood w new n g ⊎ ((has_moved l w.core new.core n ≡ true) ⊎ (is_opening event ≡ true))
+    → MadeGood w event new n g ⊎ ((has_moved l w.core new.core n ≡ true) ⊎ (is_opening event ≡ true))
+
+-- ---- freshness
+-- a pass that ran is done, without errors, that had the arm among its targets
+pub record MadeWhole (w : State) (event : Event) (n : ArmName) : Type 0 where
+  pub done : is_done event ≡ true
+  pub p : Pass
+  pub pass : w.core.pass ≡ Some p
+  pub running : p.running ≡ true
+  pub target : has_name p.targets n ≡ true
+  pub errors : p.errors ≡ 0
+
+-- an arm is fresh until the end of such a pass, or an opening
+abbrev pub KeepsFresh : State → Event → State → Type 0
+KeepsFresh w event new =
+    (n : ArmName) (a b : Arm) → w.core.arm n ≡ Some a → new.core.arm n ≡ Some b → a.fresh ≡ true → b.fresh ≡ false → MadeWhole w event n ⊎ (is_opening event ≡ true)

@@ -7,7 +7,7 @@ ghost use Rattle.draid_machine.specs.declared.event.Event.{Event};
 ghost use Rattle.draid_machine.specs.declared.event.Event.TheVariants.{Commit, LandStripe, Reopen, Seal};
 ghost use Rattle.draid_machine.specs.declared.names.Key.{Key};
 ghost use Rattle.draid_machine.specs.declared.names.Segment.{Segment};
-ghost use Rattle.draid_machine.specs.Fitting.{Fitting, KeepsLogs, LoanReads};
+ghost use Rattle.draid_machine.specs.Fitting.{Fitting, KeepsFresh, KeepsLogs, LoanReads};
 ghost use Rattle.draid_machine.specs.Images.{ImagesStand, IsImage, IsThere, LiesAt, Owned};
 ghost use Rattle.draid_machine.specs.Sound.{LogSound, LogsWithin, Sound};
 ghost use Rattle.draid_machine.specs.Mended.{IsMade, IsTrusted};
@@ -68,6 +68,13 @@ pub fn loans_read_what_is_there()
 pub fn logs_are_kept()
     ensures { (layout : Layout) (state new : State) (event : Event) → IsLayout layout
         → IsReached layout state → Step layout state event new → KeepsLogs layout state event new }
+{}
+
+/// Law: an arm that is fresh stays so under each legal event but the end of a pass that ran without errors and had the
+/// arm among its targets, and an opening.
+pub fn arms_stay_fresh()
+    ensures { (layout : Layout) (state new : State) (event : Event) → IsLayout layout
+        → Step layout state event new → KeepsFresh state event new }
 {}
 
 /// Law: a seal keeps the pass in the image that it makes, a commit takes over that image, and an opening
