@@ -1,9 +1,11 @@
 -- The leaves that a seal flushes.
-use Rattle.std.proofs.Common.{◌≡◌, ◌==◌, ◌<◌, ◌≤◌, ◌^◌, ◌&&◌, not, ◌∙◌, ℕ, zero, suc, Bool, true, false, List, [], ◌∷◌, Option, Some, None, arith, refl, sym, ap, subst, inl, inr, length, slice_get}
+use Rattle.std.proofs.Common.{◌≡◌, ◌==◌, ◌<◌, ◌≤◌, ◌^◌, ◌&&◌, not, ◌∙◌, ℕ, zero, suc, Bool, true, false, List, [], ◌∷◌, Option, Some, None, arith, refl, sym, ap, subst, inl, inr, length, get_or, slice_get}
 use Rattle.std.specs.Prelude.{Contains, is_some, slice_index_or}
 use Rattle.std.specs.List.{list_any}
 use Rattle.std.proofs.lemmas.Bool.{cases_lt, true≢false}
+use Rattle.std.proofs.lemmas.Bool.Decides.{nat_tests}
 use Rattle.std.proofs.lemmas.List.Elements.{All-nil}
+use Rattle.std.proofs.lemmas.List.Folds.{list_any_at}
 use Rattle.draid_names.specs.declared.arm.Arm.{Arm}
 use Rattle.draid_names.specs.declared.arm.ArmAt.{ArmAt}
 use Rattle.draid_names.specs.declared.arm.ArmKind.{ArmKind}
@@ -12,12 +14,13 @@ use Rattle.draid_machine.specs.declared.names.ArmName.{ArmName}
 use Rattle.draid_machine.specs.declared.names.ArmName.TheVariants.{Leaf, Spare}
 use Rattle.draid_machine.specs.Arms.{is_here, leaf_answers, online}
 use Rattle.draid_machine.specs.State as machine
-use Rattle.draid_machine.proofs.Small.{absurd_test, both_true, either_true, is_equal, none_some, not_true, some_injective, some_same}
+use Rattle.draid_machine.proofs.Small.{absurd_test, both_true, either_true, true_both, is_equal, none_some, not_true, some_injective, some_same}
 use Rattle.draid_rack.specs.Rack.{Shape}
 use Rattle.draid_slots.specs.declared.slot.Detached.{Detached}
 use Rattle.draid_slots.specs.Table.{IsArmOf, IsTable, IsThere, SlotTable, arm_at, arms_of, is_leaf_kind, is_leaving_online}
 use Rattle.draid_slots.specs.States.{HasSlots, IsGone, arm_in, name_of, named}
 use Rattle.draid_groups.specs.Sealing.{AreFlushed, FlushedBelow, IsOnline}
+use Rattle.draid_shard.specs.Fits.{IsLeaf}
 use Rattle.draid_groups.proofs.Missing.{slot_inside}
 
 -- ---- leaves that answer
@@ -27,6 +30,10 @@ leaf_there q leaf is = by (q.arm (Leaf leaf)) refl
     by : (o : Option machine.Arm) → q.arm (Leaf leaf) ≡ o → (a : machine.Arm) × (q.arm (Leaf leaf) ≡ Some a) × (is_here (Some a) ≡ true)
     by None at = absurd_test false (sym (ap (λ o. is_here o && online o) at) ∙ is) refl
     by (Some a) at = (a, at, (both_true (is_here (Some a)) (online (Some a)) (sym (ap (λ o. is_here o && online o) at) ∙ is)).0)
+
+number_in : ArmName → ℕ
+number_in (Leaf m) = m
+number_in (Spare t) = t
 
 is_arm_leaf : (a : Arm) (leaf : ℕ) → name_of a ≡ Leaf leaf → (a.kind ≡ kind.Leaf) × (a.number ≡ leaf)
 is_arm_leaf a leaf is = by a.kind refl
@@ -42,6 +49,9 @@ is_arm_leaf a leaf is = by a.kind refl
     by : (k : ArmKind) → a.kind ≡ k → (a.kind ≡ kind.Leaf) × (a.number ≡ leaf)
     by kind.Leaf e = (e, ap number (sym (ap (λ k. named k a.number) e) ∙ is))
     by kind.Spare e = absurd (true≢false (sym (ap leaves (sym (ap (λ k. named k a.number) e) ∙ is))))
+
+leaf_number : (m n : ArmName) → m ≡ n → number_in m ≡ number_in n
+leaf_number m n is = ap number_in is
 
 not_here : (a : machine.Arm) (g : machine.Gone) → a.gone ≡ Some g → is_here (Some a) ≡ false
 not_here a g is = ap (λ o. elim o as (λ g. Bool) [ None ↦ true | Some g ↦ false ]) is
@@ -83,8 +93,12 @@ found_online slots leaf at arms d are found q has is = record {
   online = ap (λ (a : Arm). a.offline) (sym (ap (λ xs. slice_index_or xs at.arm d) are ∙ got (arms_of slots at.slot) at.arm found.0 d found.1)) ∙ not_true (slice_index_or arms at.arm d).offline is;
 }
 
-pub none_answers : (slots : SlotTable) (leaf : ℕ) (b : Bool) → ((at : ArmAt) → IsArmOf kind.Leaf leaf (arm_at slots at) → ⊥) → (q : machine.Core) → HasSlots slots q → leaf_answers q leaf ≡ true → b ≡ true
-none_answers slots leaf b none q has is = let a = answers_leaf slots q leaf has is in absurd (none a.0 (a.1, a.2, a.3, a.4))
+pub found_flushed : (slots : SlotTable) (leaf : ℕ) (at : ArmAt) (arms : List Arm) (d : Arm) → arms ≡ arms_of slots at.slot → IsArmOf kind.Leaf leaf (arm_at slots at) → (q : machine.Core) → HasSlots slots q
+    → IsOnline q leaf → not (slice_index_or arms at.arm d).offline ≡ true
+found_flushed slots leaf at arms d are found q has on =
+    let there = subst (λ n. q.arm (Leaf n) ≡ Some (arm_in slots at found.0)) found.3 (subst (λ k. q.arm (named k found.0.number) ≡ Some (arm_in slots at found.0)) found.2 (has.arms at found.0 found.1)) in
+    let off : found.0.offline ≡ false = ap (λ (a : machine.Arm). a.offline) (some_same (q.arm (Leaf leaf)) (arm_in slots at found.0) on.arm there on.found) ∙ on.online in
+    ap (λ (a : Arm). not a.offline) (ap (λ xs. slice_index_or xs at.arm d) are ∙ got (arms_of slots at.slot) at.arm found.0 d found.1) ∙ ap not off
 
 leaf_kind : (k : ArmKind) → is_leaf_kind k ≡ true → k ≡ kind.Leaf
 leaf_kind kind.Leaf is = refl
@@ -108,6 +122,57 @@ leaving_is_online slots leaf is q has =
       found = subst (λ n. q.arm (Leaf n) ≡ Some was.arm) z.3 (subst (λ k. q.arm (named k z.0.number) ≡ Some was.arm) z.2 was.there);
       online = was.offline ∙ z.4;
     }
+
+same_is : (x y : ℕ) → x ≡ y → (x == y) ≡ true
+same_is x y e = grind (arith, nat_tests)
+
+is_named_leaf : (k : ArmKind) (number leaf : ℕ) → named k number ≡ Leaf leaf → (k ≡ kind.Leaf) × (number ≡ leaf)
+is_named_leaf kind.Leaf number leaf is = (refl, leaf_number (Leaf number) (Leaf leaf) is)
+is_named_leaf kind.Spare number leaf is = absurd (cc is)
+
+kind_of_leaf : (k : ArmKind) → k ≡ kind.Leaf → is_leaf_kind k ≡ true
+kind_of_leaf k is = ap is_leaf_kind is
+
+among_left : (list : List Detached) (leaf i : ℕ) (gone : Detached) → i < length list → get_or list i gone ≡ gone → gone.kind ≡ kind.Leaf → gone.number ≡ leaf → gone.offline ≡ false
+    → list_any (λ (gone : Detached). is_leaf_kind gone.kind && ((gone.number == leaf) && not gone.offline)) list ≡ true
+among_left list leaf i gone less is leaves number off =
+    list_any_at (λ (gone : Detached). is_leaf_kind gone.kind && ((gone.number == leaf) && not gone.offline)) list i gone less
+    (ap (λ (g : Detached). is_leaf_kind g.kind && ((g.number == leaf) && not g.offline)) is
+    ∙ true_both (is_leaf_kind gone.kind) ((gone.number == leaf) && not gone.offline) (kind_of_leaf gone.kind leaves)
+    (true_both (gone.number == leaf) (not gone.offline) (same_is gone.number leaf number) (ap not off)))
+
+leaving_too : (list : List Detached) (leaf i : ℕ) (gone : Detached) → i < length list → get_or list i gone ≡ gone → gone.kind ≡ kind.Leaf → gone.number ≡ leaf
+    → list_any (λ (gone : Detached). is_leaf_kind gone.kind && (gone.number == leaf)) list ≡ true
+leaving_too list leaf i gone less is leaves number =
+    list_any_at (λ (gone : Detached). is_leaf_kind gone.kind && (gone.number == leaf)) list i gone less
+    (ap (λ (g : Detached). is_leaf_kind g.kind && (g.number == leaf)) is
+    ∙ true_both (is_leaf_kind gone.kind) (gone.number == leaf) (kind_of_leaf gone.kind leaves) (same_is gone.number leaf number))
+
+-- what isn't offline, and is no arm, is leaving
+pub left_flushed : (slots : SlotTable) (leaf : ℕ) → ((at : ArmAt) → IsArmOf kind.Leaf leaf (arm_at slots at) → ⊥) → (q : machine.Core) → HasSlots slots q → IsOnline q leaf → is_leaving_online slots leaf ≡ true
+left_flushed slots leaf none q has on = elim (has.only (Leaf leaf) (λ gone. none_some (q.arm (Leaf leaf)) on.arm gone on.found)) [
+  | inl arm ↦ (let z = is_arm_leaf arm.arm leaf arm.name_is in absurd (none arm.at (arm.arm, arm.there, z.0, z.1)))
+  | inr was ↦
+      let g = has.detached was.gone was.among in
+      let z = is_named_leaf was.gone.kind was.gone.number leaf was.name_is in
+      let same : g.arm ≡ on.arm = some_same (q.arm (Leaf leaf)) g.arm on.arm (ap q.arm (sym was.name_is) ∙ g.there) on.found in
+      among_left slots.detached leaf was.among.0 was.gone was.among.1 was.among.2 z.0 z.1 (sym g.offline ∙ ap (λ (a : machine.Arm). a.offline) same ∙ on.online)
+]
+
+-- it is an arm, or is leaving
+pub online_leaf : (slots : SlotTable) (q : machine.Core) (leaf : ℕ) → HasSlots slots q → IsOnline q leaf → IsLeaf slots leaf
+online_leaf slots q leaf has on = elim (has.only (Leaf leaf) (λ gone. none_some (q.arm (Leaf leaf)) on.arm gone on.found)) [
+  | inl arm ↦ (let z = is_arm_leaf arm.arm leaf arm.name_is in inl (arm.at, arm.arm, arm.there, z.0, z.1))
+  | inr was ↦ (let z = is_named_leaf was.gone.kind was.gone.number leaf was.name_is in inr (leaving_too slots.detached leaf was.among.0 was.gone was.among.1 was.among.2 z.0 z.1))
+]
+
+-- a leaf that answers isn't offline
+pub answers_online : (q : machine.Core) (leaf : ℕ) → leaf_answers q leaf ≡ true → IsOnline q leaf
+answers_online q leaf is = by (q.arm (Leaf leaf)) refl
+  where
+    by : (o : Option machine.Arm) → q.arm (Leaf leaf) ≡ o → IsOnline q leaf
+    by None at = absurd (absurd_test false (sym (ap (λ o. is_here o && online o) at) ∙ is) refl)
+    by (Some a) at = record { arm = a; found = at; online = not_true a.offline ((both_true (is_here (Some a)) (online (Some a)) (sym (ap (λ o. is_here o && online o) at) ∙ is)).1) }
 
 -- ---- the leaves that were found so far
 pub flushed_none : (shape : Shape) (slots : SlotTable) → FlushedBelow shape slots [] 0

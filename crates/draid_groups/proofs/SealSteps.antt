@@ -45,7 +45,7 @@ use Rattle.draid_shard.proofs.Putting.{pass_same}
 use Rattle.draid_shard.proofs.Staging.{leaves_left, logs_left, same_of}
 use Rattle.draid_groups.specs.Groups.{OpenUpto}
 use Rattle.draid_groups.specs.Sealing.{AreFlushed, AreSilent, IsOnline, MarksTable, lies_silent}
-use Rattle.draid_groups.proofs.LeavesFlushed.{answers_leaf}
+use Rattle.draid_groups.proofs.LeavesFlushed.{answers_leaf, answers_online, online_leaf}
 use Rattle.draid_groups.proofs.Silent.{same_number, silent_is}
 
 -- ---- a pass loses its marked targets
@@ -233,7 +233,10 @@ flushes_one shape slots leaves failed q has there small are x y f = record {
       let z = neither (not (leaf_answers q leaf)) (has_number failed leaf) quiet in
       let answers : leaf_answers q leaf ≡ true = not_off (leaf_answers q leaf) z.0 in
       let arm = answers_leaf slots q leaf has answers in
-      f.firm leaf sector (are.all q leaf has (subst (λ n. n < 2 ^ 64) arm.4 (small arm.0 arm.1 arm.2)) (there leaf (inl (arm.0, arm.1, arm.2, arm.3, arm.4))) answers) (same_number failed leaf ∙ z.1);
+      f.firm leaf sector (are.all q leaf has (subst (λ n. n < 2 ^ 64) arm.4 (small arm.0 arm.1 arm.2)) (there leaf (inl (arm.0, arm.1, arm.2, arm.3, arm.4))) (answers_online q leaf answers)) (same_number failed leaf ∙ z.1);
+  leaving = λ leaf sector arm low found on quiet.
+      let is : IsOnline q leaf = record { arm = arm; found = found; online = on } in
+      f.firm leaf sector (are.all q leaf has low (there leaf (online_leaf slots q leaf has is)) is) (same_number failed leaf ∙ quiet);
 } where
   neither : (a b : Bool) → (a || b) ≡ false → (a ≡ false) × (b ≡ false)
   neither true b e = absurd (true≢false e)

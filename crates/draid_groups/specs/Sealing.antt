@@ -54,17 +54,17 @@ pub record IsOnline (q : machine.Core) (leaf : ℕ) : Type 0 where
   pub found : q.arm (Leaf leaf) ≡ Some arm
   pub online : arm.offline ≡ false
 
--- The leaves are there, and in each state of the slots none is offline; they are all those of the rack that answer.
+-- The leaves are there, and in each state of the slots none is offline; they are all those of the rack that aren't.
 pub record AreFlushed (shape : Shape) (slots : SlotTable) (leaves : List ℕ) : Type 0 where
   pub there : All (λ leaf. IsSome (shape.leaves leaf)) leaves
   pub online : (q : machine.Core) → HasSlots slots q → All (IsOnline q) leaves
-  pub all : (q : machine.Core) (leaf : ℕ) → HasSlots slots q → leaf < 2 ^ 64 → IsSome (shape.leaves leaf) → leaf_answers q leaf ≡ true → has_leaf leaves leaf ≡ true
+  pub all : (q : machine.Core) (leaf : ℕ) → HasSlots slots q → leaf < 2 ^ 64 → IsSome (shape.leaves leaf) → IsOnline q leaf → has_leaf leaves leaf ≡ true
 
 -- the same of those below a number
 pub record FlushedBelow (shape : Shape) (slots : SlotTable) (leaves : List ℕ) (from : ℕ) : Type 0 where
   pub there : All (λ leaf. IsSome (shape.leaves leaf)) leaves
   pub online : (q : machine.Core) → HasSlots slots q → All (IsOnline q) leaves
-  pub below : (q : machine.Core) (leaf : ℕ) → HasSlots slots q → leaf < from → IsSome (shape.leaves leaf) → leaf_answers q leaf ≡ true → has_leaf leaves leaf ≡ true
+  pub below : (q : machine.Core) (leaf : ℕ) → HasSlots slots q → leaf < from → IsSome (shape.leaves leaf) → IsOnline q leaf → has_leaf leaves leaf ≡ true
 
 -- ---- the plan
 

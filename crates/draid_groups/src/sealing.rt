@@ -1,5 +1,4 @@
 ghost use Rattle.std.specs.Prelude.{◌≡◌, ◌+◌, Some, true, false, IsSome, IfErr, IfOk, OnErr, OnOk, length};
-ghost use Rattle.draid_machine.specs.Arms.{leaf_answers};
 ghost use Rattle.draid_machine.specs.State as machine;
 ghost use Rattle.draid_rack.specs.Rack.{Shape};
 ghost use Rattle.draid_slots.specs.Table.{IsTable};
@@ -165,7 +164,7 @@ fn add_flushed(slots: &Slots, leaf: u64, leaves: &mut Vec<u64>) -> Result<(), No
 /// Whether a leaf is an arm that isn't offline, or was one that wasn't as it was detached, which isn't committed.
 fn is_flushed(slots: &Slots, leaf: u64) -> bool
     requires { IsTable slots.now }
-    ensures answers { (q : machine.Core) → HasSlots slots.now q → leaf_answers q leaf ≡ true → result ≡ true }
+    ensures all { (q : machine.Core) → HasSlots slots.now q → IsOnline q leaf → result ≡ true }
     ensures online { (q : machine.Core) → HasSlots slots.now q → result ≡ true → IsOnline q leaf }
 {
     match slots.find(ArmKind::Leaf, leaf) {

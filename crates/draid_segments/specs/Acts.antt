@@ -1,5 +1,5 @@
 -- What the call of an event does to what the rack tells.
-use Rattle.std.specs.Prelude.{◌≡◌, ◌==◌, ◌&&◌, ◌||◌, ◌⊎◌, ℕ, Bool, true, false, nat_lt, List, Option, Some, None, is_none, IsSome, if◌then◌else◌}
+use Rattle.std.specs.Prelude.{◌≡◌, ◌==◌, ◌<◌, ◌^◌, ◌&&◌, ◌||◌, ◌⊎◌, ℕ, Bool, true, false, nat_lt, List, Option, Some, None, is_none, IsSome, if◌then◌else◌}
 use Rattle.draid_machine.specs.declared.names.Key.{Key}
 use Rattle.draid_machine.specs.declared.names.ArmName.{ArmName}
 use Rattle.draid_machine.specs.declared.names.ArmName.TheVariants.{Leaf}
@@ -56,10 +56,11 @@ Damages leaf sector false x y = y ≡ damages leaf sector x
 
 -- ---- flushes
 
--- a seal flushes each leaf that answers, but for those on which it failed
+-- A seal flushes each leaf that answers, but for those on which it failed; so also the leaf of an arm that was detached and answered then, until that is committed.
 pub record Flushes (q : Core) (failed : List ℕ) (x y : Told) : Type 0 where
   pub same : Leaves nowhere x y
   pub done : (leaf sector : ℕ) → is_silent q failed leaf ≡ false → y.soft leaf sector ≡ false
+  pub leaving : (leaf sector : ℕ) (arm : Arm) → leaf < 2 ^ 64 → q.arm (Leaf leaf) ≡ Some arm → arm.offline ≡ false → has_number failed leaf ≡ false → y.soft leaf sector ≡ false
 
 -- the end of a rebuild flushes the leaves on which its targets lie
 pub record FlushesTargets (l : Layout) (q : Core) (p : Pass) (failed : List ℕ) (x y : Told) : Type 0 where
