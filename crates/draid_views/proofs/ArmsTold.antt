@@ -207,6 +207,12 @@ stands_in slots q slot k name has at = by (slice_get (arms_of slots slot) k) ref
         let named_ : slots_of.name_of arm ≡ name = some_injective (slots_of.name_of arm) name (sym (ap (option_map slots_of.name_of) is) ∙ listed) in
         (place, arm, named_, ap q.arm (sym named_) ∙ has.arms place arm is)
 
+-- what is told of as many slots as there are is by the arms of the first shard
+pub slots_first : {R A : Type 0} (geometry : Geometry) (shards : List (Shard R A)) (shard first : Shard R A) (slots : List (Vec ArmView Global)) (count : ℕ) → slice_get shards 0 ≡ Some shard
+    → length slots ≡ geometry.spec.children → AreSlotsTold geometry shards shard.slots count slots → slice_get shards 0 ≡ Some first → AreSlotsTold geometry shards first.slots geometry.spec.children slots
+slots_first {R} {A} geometry shards shard first slots count at many told there =
+    subst (λ (s : Shard R A). AreSlotsTold geometry shards s.slots geometry.spec.children slots) (some_injective shard first (sym at ∙ there)) (record { many = many; each = told.each })
+
 module _ {R A : Type 0} (geometry : Geometry) (shards : List (Shard R A)) (shard : Shard R A) (slots : List (Vec ArmView Global)) where
   pub slots_seen : (count : ℕ) → slice_get shards 0 ≡ Some shard → AreSlotsTold geometry shards shard.slots count slots → AreSlotViews geometry shards slots
   slots_seen count first told perms views shown same slot arms at = record { order = order; each = each }

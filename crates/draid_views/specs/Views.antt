@@ -90,6 +90,10 @@ pub record AreSlotsTold {R A : Type 0} (geometry : Geometry) (shards : List (Sha
   pub many : length slots ≡ count
   pub each : (slot : ℕ) (arms : Vec ArmView Global) → slice_get slots slot ≡ Some arms → AreArmsTold geometry shards (arms_of table slot) arms.items
 
+-- what is told of all slots is by the arms of the first shard
+abbrev pub TellFirst : {R A : Type 0} → Geometry → List (Shard R A) → List (Vec ArmView Global) → Type 0
+TellFirst {R} {A} geometry shards slots = (first : Shard R A) → slice_get shards 0 ≡ Some first → AreSlotsTold geometry shards first.slots geometry.spec.children slots
+
 -- what is told of all slots, for looks that show the same arms
 abbrev pub AreSlotViews : {R A : Type 0} → Geometry → List (Shard R A) → List (Vec ArmView Global) → Type 0
 AreSlotViews geometry shards slots =

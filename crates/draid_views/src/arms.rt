@@ -5,7 +5,7 @@ ghost use Rattle.draid_perm.specs.declared.perms.Perms.{Perms};
 ghost use Rattle.draid_slots.specs.Table.{IsTable, arms_of};
 ghost use Rattle.draid_shard.specs.Fits.{Valid};
 ghost use Rattle.draid_session.specs.Status.{named, spare_name_in};
-ghost use Rattle.draid_views.specs.Views.{AreArmsTold, AreSlotViews, IsArmTold, IsLogCount, LogsAre};
+ghost use Rattle.draid_views.specs.Views.{AreArmsTold, AreSlotViews, IsArmTold, IsLogCount, LogsAre, TellFirst};
 
 use draid_area::Area;
 use draid_names::{Arm, ArmKind, NoMemory};
@@ -27,6 +27,7 @@ pub fn slot_views<R: Rack, A: Area>(
     requires valid { All (Valid R.Rack) shards.now }
     requires layout { All (λ (shard : Shard R A). shard.geometry ≡ geometry) shards.now }
     ensures many { IfOk result (λ views. length views.items ≡ geometry.spec.children) }
+    ensures first { IfOk result (λ views. TellFirst geometry shards.now views.items) }
     ensures slots { IfOk result (λ views. AreSlotViews geometry shards.now views.items) }
 {
     let mut views = Vec::new(alloc);
