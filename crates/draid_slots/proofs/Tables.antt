@@ -110,14 +110,14 @@ changes_log old new at log test sets is room =
 -- a log is set to one that has as much room, and none has less
 pub rooms_kept : (old new : SlotTable) (at : ArmAt) (log : Numbers) → SetsLog old new at log → room_at old at ≤ log.room → (other : ArmAt) → room_at old other ≤ room_at new other
 rooms_kept old new at log sets room = λ other. by_place other (is_at at other) refl (sets.logs_are other) where
-    by_place : (other : ArmAt) (b : Bool) → is_at at other ≡ b → log_at new other ≡ cond b log (log_at old other) → room_at old other ≤ room_at new other
-    by_place other true here set =
-        let same : room_at old other ≡ room_at old at = ap (λ l. l.room) (its_at at other old.logs here) in
-        let now : room_at new other ≡ log.room = ap (λ l. l.room) set in
-        omega arith
-    by_place other false elsewhere set =
-        let now : room_at new other ≡ room_at old other = ap (λ l. l.room) set in
-        omega arith
+  by_place : (other : ArmAt) (b : Bool) → is_at at other ≡ b → log_at new other ≡ cond b log (log_at old other) → room_at old other ≤ room_at new other
+  by_place other true here set =
+      let same : room_at old other ≡ room_at old at = ap (λ l. l.room) (its_at at other old.logs here) in
+      let now : room_at new other ≡ log.room = ap (λ l. l.room) set in
+      omega arith
+  by_place other false elsewhere set =
+      let now : room_at new other ≡ room_at old other = ap (λ l. l.room) set in
+      omega arith
 
 pub arm_found : (slots : List Slot) (at : ArmAt) (slot : Slot) (arm : Arm) → IsPlace slots at slot → arm ≡ get_or (arms_in slot) at.arm arm
     → slice_get (get_or (map arms_in slots) at.slot []) at.arm ≡ Some arm

@@ -20,13 +20,13 @@ loop-slot-preserved g c =
 pub returns : goal.returns
 returns g c =
     let many : length c.loop-slot.views.items ≡ c.args.geometry.spec.children = (let laid = c.requires.layout 0 c.index-shards-0.result c.requires.some in
-          let of = (c.requires.valid 0 c.index-shards-0.result c.requires.some).slots.geometry_is in
-          let children = ap (λ (k : Geometry). k.spec.children) (of ∙ laid) in
-          let past = c.loop-slot-test.false in
-          let upto = c.loop-slot.auto.slot-end in
-          let count = c.children-slot-end.ensures.count in
-          let many = c.loop-slot.invariant.many in
-          omega (arith, children, past, upto, count, many)) in
+    let of = (c.requires.valid 0 c.index-shards-0.result c.requires.some).slots.geometry_is in
+    let children = ap (λ (k : Geometry). k.spec.children) (of ∙ laid) in
+    let past = c.loop-slot-test.false in
+    let upto = c.loop-slot.auto.slot-end in
+    let count = c.children-slot-end.ensures.count in
+    let many = c.loop-slot.invariant.many in
+    omega (arith, children, past, upto, count, many)) in
     record {
       many = many;
       first = λ s there. slots_first c.args.geometry c.args.shards.now (slice_index_or c.args.shards.now 0 c.index-shards-0.result) s c.loop-slot.views.items c.loop-slot.slot
