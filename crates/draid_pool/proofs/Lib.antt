@@ -21,6 +21,7 @@ pub mod Lives
 pub mod Moved
 pub mod OneHold
 pub mod Opened
+pub mod Pointed
 pub mod PutSteps
 pub mod ReadSteps
 pub mod ReplaceSteps

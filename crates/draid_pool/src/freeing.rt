@@ -14,6 +14,7 @@ ghost use Rattle.draid_pool.specs.Shards.{FreesIn, Goes};
 ghost use Rattle.draid_session.specs.State.{State};
 ghost use Rattle.draid_pool.specs.Answers.{FreeDoes};
 ghost use Rattle.draid_pool.specs.Carries.{CarriesOut};
+ghost use Rattle.draid_pool.specs.Pointers.{FreeTakes};
 ghost use Rattle.draid_pool.specs.Pools.{Represents};
 ghost use Rattle.draid_pool.specs.Whole.{IsWhole};
 
@@ -53,6 +54,7 @@ impl<R: Rack, A: Area> Pool<R, A> {
     pub fn free(&mut self, object: u64) -> Result<(), FreeFault>
         requires whole { IsWhole R.Rack A.Area self.old }
         ensures whole { IsWhole R.Rack A.Area self.new }
+        ensures frees { FreeTakes object self.old self.new result }
         ensures step { (x : State) → Represents R.Rack A.Area self.old x
             → CarriesOut R.Rack A.Area self.new x (FreeDoes x object result) }
     {

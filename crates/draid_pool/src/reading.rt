@@ -4,6 +4,7 @@ ghost use Rattle.draid_block.specs.Solving.{IsFetched};
 ghost use Rattle.draid_session.specs.State.{State};
 ghost use Rattle.draid_pool.specs.Answers.{ReadDoes};
 ghost use Rattle.draid_pool.specs.Carries.{CarriesOut, FetchLeads};
+ghost use Rattle.draid_pool.specs.Pointers.{FetchFinds, ReadFinds, SamePointers, pointer_in};
 ghost use Rattle.draid_pool.specs.Pools.{Represents};
 ghost use Rattle.draid_pool.specs.Whole.{IsWhole};
 
@@ -19,6 +20,8 @@ impl<R: Rack, A: Area> Pool<R, A> {
     pub fn read(&mut self, object: u64) -> Result<Vec<u8>, ObjectFault>
         requires whole { IsWhole R.Rack A.Area self.old }
         ensures whole { IsWhole R.Rack A.Area self.new }
+        ensures same { SamePointers self.old self.new }
+        ensures read { ReadFinds (pointer_in self.old object) result }
         ensures step { (x : State) → Represents R.Rack A.Area self.old x
             → CarriesOut R.Rack A.Area self.new x (ReadDoes x object result) }
     {
@@ -37,6 +40,8 @@ impl<R: Rack, A: Area> Pool<R, A> {
         requires whole { IsWhole R.Rack A.Area self.old }
         ensures whole { IsWhole R.Rack A.Area self.new }
         ensures geometry { self.new.geometry ≡ self.old.geometry }
+        ensures objects { self.new.objects ≡ self.old.objects }
+        ensures found { FetchFinds (pointer_in self.old object) result }
         ensures fetched { IfOk result (IsFetched (cut_of self.old.geometry)) }
         ensures step { (x : State) → Represents R.Rack A.Area self.old x
             → FetchLeads R.Rack A.Area self.new x object result }

@@ -1,5 +1,5 @@
-ghost use Rattle.std.specs.Prelude.{◌≡◌, ◌≤◌, ◌<◌, ◌+◌, None, Some, length};
-ghost use Rattle.draid_block.specs.Blocks.{cut_of};
+ghost use Rattle.std.specs.Prelude.{◌≡◌, ◌≤◌, ◌<◌, ◌+◌, IfOk, None, Some, length};
+ghost use Rattle.draid_block.specs.Blocks.{IsContent, cut_of};
 ghost use Rattle.draid_block.specs.Columns.{stripes_of};
 ghost use Rattle.draid_machine.specs.State as machine;
 ghost use Rattle.draid_machine.specs.declared.names.Stage.TheVariants.{Writing};
@@ -84,6 +84,7 @@ pub(crate) fn store<R: Rack, A: Area>(
     ensures valid { Valid R.Rack shard.new }
     ensures part { part_of shard.new ≡ part_of shard.old }
     ensures sets { StoreSets shard.old shard.new object seq floor result }
+    ensures content { IfOk result (λ pointer. IsContent pointer block.now.bytes) }
     ensures stores { (part : Part) (pieces : Pieces) (x : Metaslab) → IsMetaslab R.Rack A.Area part pieces shard.old x
         → StoreDoes R.Rack A.Area part pieces object seq floor block.now.bytes x shard.new result }
 {

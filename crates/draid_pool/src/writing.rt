@@ -1,4 +1,4 @@
-ghost use Rattle.std.specs.Prelude.{◌≡◌, ◌<◌, ◌≤◌, ◌+◌, Option, length};
+ghost use Rattle.std.specs.Prelude.{◌≡◌, ◌<◌, ◌≤◌, ◌+◌, Option, Some, length};
 ghost use Rattle.std.specs.Fn.{FnReturnsAt};
 ghost use Rattle.std.specs.HashMap.{spare};
 ghost use Rattle.std.specs.List.{AllZip};
@@ -11,6 +11,7 @@ ghost use Rattle.draid_session.specs.Rooms.{stripes_for};
 ghost use Rattle.draid_session.specs.State.{State};
 ghost use Rattle.draid_pool.specs.Answers.{ReplaceDoes, WriteDoes, WriteInDoes};
 ghost use Rattle.draid_pool.specs.Carries.{CarriesOut};
+ghost use Rattle.draid_pool.specs.Pointers.{SetsPointer, WriteSets};
 ghost use Rattle.draid_pool.specs.Pools.{Awaits, Represents};
 ghost use Rattle.draid_pool.specs.Whole.{IsNewer, IsWhole};
 ghost use Rattle.draid_pool.specs.Shards.{HasRoomAt, IsNoSpace, RoomIs};
@@ -41,6 +42,7 @@ impl<R: Rack, A: Area> Pool<R, A> {
         requires short { length bytes.now ≤ LONGEST_BLOCK }
         requires whole { IsWhole R.Rack A.Area self.old }
         ensures whole { IsWhole R.Rack A.Area self.new }
+        ensures writes { WriteSets object bytes.now self.old self.new result }
         ensures step { (x : State) → Represents R.Rack A.Area self.old x
             → CarriesOut R.Rack A.Area self.new x (WriteDoes x (FnReturnsAt F.Fn chooser.now) object bytes.now result) }
     {
@@ -69,6 +71,7 @@ impl<R: Rack, A: Area> Pool<R, A> {
         requires rooms { AllZip (RoomIs (stripes_for self.old.geometry block.now.bytes)) self.old.shards.items rooms.now }
         requires whole { IsWhole R.Rack A.Area self.old }
         ensures whole { IsWhole R.Rack A.Area self.new }
+        ensures writes { WriteSets object block.now.bytes self.old self.new result }
         ensures step { (x : State) → Represents R.Rack A.Area self.old x
             → CarriesOut R.Rack A.Area self.new x (WriteDoes x (FnReturnsAt F.Fn chooser.now) object block.now.bytes result) }
     {
@@ -103,6 +106,7 @@ impl<R: Rack, A: Area> Pool<R, A> {
         requires last { self.old.seq + 1 < NUMBERS }
         requires whole { IsWhole R.Rack A.Area self.old }
         ensures whole { IsWhole R.Rack A.Area self.new }
+        ensures writes { WriteSets object block.now.bytes self.old self.new result }
         ensures step { (x : State) → Represents R.Rack A.Area self.old x
             → CarriesOut R.Rack A.Area self.new x (WriteInDoes x metaslab object block.now.bytes result) }
     {
@@ -132,6 +136,7 @@ impl<R: Rack, A: Area> Pool<R, A> {
         requires whole { IsWhole R.Rack A.Area self.old }
         requires newer { IsNewer self.old object pointer }
         ensures whole { IsWhole R.Rack A.Area self.new }
+        ensures sets { SetsPointer object (Some pointer) self.old self.new }
         ensures step { (x : State) (earlier : Option Write) → Awaits R.Rack A.Area self.old object pointer earlier x
             → CarriesOut R.Rack A.Area self.new x (ReplaceDoes x earlier) }
     {

@@ -1,4 +1,6 @@
 use Rattle.std.proofs.Common.{◌∙◌, Some, Err, arith, sym, ap, subst}
+use Rattle.draid_names.specs.declared.pointer.Pointer.{Pointer}
+use Rattle.draid_block.specs.Blocks.{IsContent}
 use Rattle.draid_machine.specs.declared.names.Stage.TheVariants.{Writing}
 use Rattle.draid_entries.specs.Maps.{staged}
 use Rattle.draid_shard.specs.Part.{Part}
@@ -44,6 +46,7 @@ returns-in-Ok-finish g c =
       part = f.event.part ∙ (p.part ∙ e.event.part);
       sets = stores_block old c.begin.new.self c.put_all.new.shard c.finish.new.self c.args.object c.args.seq c.args.floor c.in-Ok.ticket c.put_all.new.ticket (Some (staged (Writing c.put_all.new.ticket.next c.put_all.new.ticket.missed) c.in-Ok.ticket.pointer)) e.ticket.was
           e.ticket.named e.ticket.enters p.sets p.pointer c.in-Ok-finish.pointer f.live.1 f.sets;
+      content = subst (λ (p : Pointer). IsContent p block.bytes) (sym f.live.1) p.carries.content;
       stores = λ part pieces x is.
           (let few = f.live.0 in
           let parity = ap (λ (q : Part). q.geometry.spec.parity) p.part ∙ (ap (λ (q : Part). q.geometry.spec.parity) e.event.part ∙ ap (λ (q : Part). q.geometry.spec.parity) is.part_is) in
@@ -87,6 +90,7 @@ returns-in-Err-finish g c =
       part = f.event.part ∙ (p.part ∙ e.event.part);
       sets = drops_block old c.begin.new.self c.put_all.new.shard c.finish.new.self c.args.object c.args.seq c.args.floor c.in-Ok.ticket c.put_all.new.ticket (Some (staged (Writing c.put_all.new.ticket.next c.put_all.new.ticket.missed) c.in-Ok.ticket.pointer)) e.ticket.was
           e.ticket.named e.ticket.enters p.sets p.pointer f.gone;
+      content = tt;
       stores = λ part pieces x is.
           (let many = f.missed.0 in
           let parity = ap (λ (q : Part). q.geometry.spec.parity) p.part ∙ (ap (λ (q : Part). q.geometry.spec.parity) e.event.part ∙ ap (λ (q : Part). q.geometry.spec.parity) is.part_is) in
@@ -109,6 +113,7 @@ returns-in-Err g c =
       valid = c.in-Err.ensures.valid;
       part = c.in-Err.ensures.none.none.part;
       sets = subst (λ (f : StoreFault). StoreSets c.args.shard.now c.begin.new.self c.args.object c.args.seq c.args.floor (Err f)) (sym c.begin_fault.ensures) c.in-Err.ensures.none.keeps;
+      content = tt;
       stores = λ part pieces x is. (let e = c.in-Err.ensures in
           subst (λ (f : StoreFault). StoreDoes g.R.Rack g.A.Area part pieces c.args.object c.args.seq c.args.floor c.args.block.now.bytes x c.begin.new.self (Err f)) (sym c.begin_fault.ensures)
           (none_here g.R.Rack g.A.Area part pieces c.args.shard.now c.begin.new.self x is e.valid e.none.none e.kit.rack e.kit.areas e.reserve.limit e.reserve.reserved));

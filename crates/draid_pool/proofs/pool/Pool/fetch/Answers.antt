@@ -9,6 +9,8 @@ use Rattle.draid_shard.specs.Calls.{FetchIsWorn}
 use Rattle.draid_shard.specs.declared.fault.FetchFault.TheVariants as fault
 use Rattle.draid_pool.proofs.FetchSteps.{fetch_done, fetch_none, fetch_starved, fetch_worn}
 use Rattle.draid_pool.proofs.Lifted.{sets_shard, with_shard}
+use Rattle.draid_pool.proofs.Pointed as pointed
+use Rattle.draid_pool.proofs.Pointed.{fetch_block, fetch_nothing}
 use Rattle.draid_pool.proofs.Wholes.{Replaces, whole_geometry, whole_kept, whole_shard, whole_valid}
 use Rattle.draid_pool.proofs.pool.Pool.fetch.Goals as goal
 
@@ -16,6 +18,8 @@ pub returns-in_default : goal.returns-in_default
 returns-in_default g c = record {
   whole = c.requires.whole;
   geometry = refl;
+  objects = refl;
+  found = fetch_nothing (get nat_eq c.args.self.now.objects c.args.object) (sym (sym c.get.ensures.value ∙ (sym c.copied.ensures ∙ c.in_default.is)));
   fetched = tt;
   step = λ x is. fetch_none g.R.Rack g.A.Area c.args.self.now x c.args.object is (sym c.get.ensures.value ∙ (sym c.copied.ensures ∙ c.in_default.is));
 }
@@ -56,6 +60,8 @@ returns-in-Ok g c =
     record {
       whole = whole_kept g.R.Rack g.A.Area m old new before after w r e.fetches.keeps refl refl (λ q. refl);
       geometry = refl;
+      objects = refl;
+      found = fetch_block (get nat_eq c.args.self.now.objects c.args.object) c.in-Some.pointer c.in-Ok.fetched there e.fetched.0;
       fetched = subst (λ (geometry : Geometry). IsFetched (cut_of geometry) c.in-Ok.fetched) (whole_geometry g.R.Rack g.A.Area old m before w at.0) e.fetched.1;
       step = λ x is. fetch_done g.R.Rack g.A.Area old new before after x c.args.object c.in-Some.pointer c.in-Ok.fetched is there set e.fetches e.valid e.areas e.told e.reserve e.not_worn;
     }
@@ -78,6 +84,8 @@ returns-in-Err-Worn g c =
     record {
       whole = whole_kept g.R.Rack g.A.Area m old new before after w r e.none.keeps refl refl (λ q. refl);
       geometry = refl;
+      objects = refl;
+      found = pointed.fetch_worn (get nat_eq c.args.self.now.objects c.args.object) c.in-Some.pointer there;
       fetched = tt;
       step = λ x is. fetch_worn g.R.Rack g.A.Area old new before after x c.args.object c.in-Some.pointer is there set e.valid e.none.none e.kit e.reserve worn.0;
     }
@@ -99,6 +107,8 @@ returns-in-Err-NoMemory g c =
     record {
       whole = whole_kept g.R.Rack g.A.Area m old new before after w r e.none.keeps refl refl (λ q. refl);
       geometry = refl;
+      objects = refl;
+      found = pointed.fetch_starved (get nat_eq c.args.self.now.objects c.args.object) c.in-Some.pointer there;
       fetched = tt;
       step = λ x is. fetch_starved g.R.Rack g.A.Area old new before after x c.args.object c.in-Some.pointer is there set e.valid e.none.none e.kit e.reserve;
     }

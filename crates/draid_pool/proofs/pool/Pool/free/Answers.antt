@@ -5,6 +5,7 @@ use Rattle.std.specs.Vec.{with_item}
 use Rattle.std.proofs.lemmas.Option.{slice_get_within}
 use Rattle.draid_pool.specs.declared.fault.FreeFault.TheVariants.{NoObject}
 use Rattle.draid_pool.specs.declared.pool.Pool.{Pool}
+use Rattle.draid_pool.proofs.Pointed.{none_taken}
 use Rattle.draid_pool.proofs.FreeSteps.{free_step, unfreed_step}
 use Rattle.draid_pool.proofs.Wholes.{Replaces, others_left, removed, whole_floor, whole_freed, whole_shard, whole_table, whole_valid}
 use Rattle.draid_pool.proofs.pool.Pool.free.Goals as goal
@@ -16,6 +17,9 @@ returns-in_default g c =
     record {
       whole = whole_table g.R.Rack g.A.Area old new c.requires.whole refl refl refl refl refl
           (λ o q at. c.requires.whole.objects o q (removed (λ i. get nat_eq new.objects i) (λ i. get nat_eq old.objects i) c.args.object (λ i. c.remove.ensures.updates.0 i) o q at).0);
+      frees =
+          (sym c.remove.ensures.value ∙ c.in_default.is,
+          none_taken (λ i. get nat_eq new.objects i) (λ i. get nat_eq old.objects i) c.args.object (λ i. c.remove.ensures.updates.0 i) (sym c.remove.ensures.value ∙ c.in_default.is));
       step = λ x is.
           unfreed_step g.R.Rack g.A.Area c.args.object NoObject old new x is (sym c.remove.ensures.value ∙ c.in_default.is) refl refl refl refl refl (λ q. c.remove.ensures.updates.0 q);
     }
@@ -56,6 +60,7 @@ returns g c =
     record {
       whole = whole_freed g.R.Rack g.A.Area old new before after p group w r at.1 e.sets e.group refl refl
           (others_left g.R.Rack g.A.Area old c.args.object p (λ i. get nat_eq new.objects i) w there (λ i. c.remove.ensures.updates.0 i));
+      frees = (p, there, λ i. c.remove.ensures.updates.0 i);
       step = λ x is.
           free_step g.R.Rack g.A.Area c.args.object p old new before after group x is there at.0 e.frees refl refl refl refl refl (λ q. c.remove.ensures.updates.0 q);
     }

@@ -4,12 +4,19 @@ use Rattle.draid_spec.specs.declared.layout.Geometry.{Geometry}
 use Rattle.draid_block.specs.Blocks.{cut_of}
 use Rattle.draid_block.specs.Solving.{IsFetched}
 use Rattle.draid_block.specs.declared.many.Solve.TheVariants.{Bytes, Unreadable}
+use Rattle.draid_pool.specs.Pointers.{pointer_in}
+use Rattle.draid_pool.proofs.Pointed as pointed
+use Rattle.draid_pool.proofs.Pointed.{read_bytes, read_lost, read_stops, same_pointers}
 use Rattle.draid_pool.proofs.ReadSteps.{read_solved, read_starved, unread, unread_is}
 use Rattle.draid_pool.proofs.pool.Pool.read.Goals as goal
 
 pub returns-in_err-fetched : goal.returns-in_err-fetched
 returns-in_err-fetched g c = record {
   whole = c.in_err-fetched.ensures.whole;
+  same = same_pointers c.args.self.now c.fetch.new.self c.in_err-fetched.ensures.objects;
+  read =
+      (let p = err_from_is_err_and c.from_residual.result c.from_residual.ensures.1 in
+      rw (p.1, p.2) (read_stops (pointer_in c.args.self.now c.args.object) c.in_err-fetched.field-0.0 c.in_err-fetched.ensures.found));
   step = λ x is.
       (let p = err_from_is_err_and c.from_residual.result c.from_residual.ensures.1 in
       let f = c.in_err-fetched.ensures.step x is in
@@ -26,6 +33,8 @@ solve_block-requires g c =
 pub returns-in-Ok : goal.returns-in-Ok
 returns-in-Ok g c = record {
   whole = c.in_ok-fetched.ensures.whole;
+  same = same_pointers c.args.self.now c.fetch.new.self c.in_ok-fetched.ensures.objects;
+  read = read_bytes (pointer_in c.args.self.now c.args.object) c.in_ok-fetched.fetched c.in-Ok.bytes c.in_ok-fetched.ensures.found c.in-Ok.ensures.digest;
   step = λ x is.
       (let e = c.in-Ok.ensures in
       read_solved g.R.Rack g.A.Area c.fetch.new.self x c.args.object c.in_ok-fetched.fetched (Bytes c.in-Ok.bytes) (c.in_ok-fetched.ensures.step x is)
@@ -35,6 +44,8 @@ returns-in-Ok g c = record {
 pub returns-in-Err-Unreadable : goal.returns-in-Err-Unreadable
 returns-in-Err-Unreadable g c = record {
   whole = c.in_ok-fetched.ensures.whole;
+  same = same_pointers c.args.self.now c.fetch.new.self c.in_ok-fetched.ensures.objects;
+  read = read_lost (pointer_in c.args.self.now c.args.object) c.in_ok-fetched.fetched c.in-Err-Unreadable.absent c.in-Err-Unreadable.tried c.in_ok-fetched.ensures.found;
   step = λ x is.
       (let e = c.in-Err-Unreadable.ensures in
       read_solved g.R.Rack g.A.Area c.fetch.new.self x c.args.object c.in_ok-fetched.fetched (Unreadable c.in-Err-Unreadable.absent c.in-Err-Unreadable.tried) (c.in_ok-fetched.ensures.step x is)
@@ -44,5 +55,7 @@ returns-in-Err-Unreadable g c = record {
 pub returns : goal.returns
 returns g c = record {
   whole = c.in_ok-fetched.ensures.whole;
+  same = same_pointers c.args.self.now c.fetch.new.self c.in_ok-fetched.ensures.objects;
+  read = pointed.read_starved (pointer_in c.args.self.now c.args.object) c.in_ok-fetched.fetched c.in_ok-fetched.ensures.found;
   step = λ x is. read_starved g.R.Rack g.A.Area c.fetch.new.self x c.args.object c.in_ok-fetched.fetched (c.in_ok-fetched.ensures.step x is);
 }

@@ -44,6 +44,7 @@ returns-in-Some g c =
     record {
       whole = whole_freed g.R.Rack g.A.Area old new before after p group w r at.1 e.sets e.group refl refl
           (others_beside g.R.Rack g.A.Area old c.args.object c.args.pointer p (λ i. get nat_eq new.objects i) w c.requires.newer there (λ i. c.in-Ok.ensures.updates.0 i));
+      sets = λ i. c.in-Ok.ensures.updates.0 i;
       step = λ x earlier a.
           replaced_some g.R.Rack g.A.Area c.args.object c.args.pointer p old new before after group earlier x a there at.0
           e.frees refl refl refl refl refl (λ q. c.in-Ok.ensures.updates.0 q);
@@ -56,6 +57,7 @@ returns-in_default-earlier g c =
     record {
       whole = whole_table g.R.Rack g.A.Area old new c.requires.whole refl refl refl refl refl
           (pointers_with g.R.Rack g.A.Area old c.args.object c.args.pointer (λ i. get nat_eq new.objects i) c.requires.whole c.requires.newer (λ i. c.in-Ok.ensures.updates.0 i));
+      sets = λ i. c.in-Ok.ensures.updates.0 i;
       step = λ x earlier a.
           replaced_none g.R.Rack g.A.Area c.args.object c.args.pointer old new earlier x a (sym c.in-Ok.ensures.old ∙ c.in_default-earlier.is) refl refl refl refl refl (λ q. c.in-Ok.ensures.updates.0 q);
     }

@@ -1,4 +1,4 @@
-use Rattle.std.proofs.Common.{◌∙◌, ◌≤◌, List, ℕ, ap, sym, subst, length}
+use Rattle.std.proofs.Common.{◌∙◌, ◌≤◌, List, ℕ, ap, refl, sym, subst, length}
 use Rattle.std.specs.Prelude.{All}
 use Rattle.std.specs.Fn.{FnReturnsAt}
 use Rattle.std.specs.List.{AllZip}
@@ -9,20 +9,21 @@ use Rattle.draid_shard.specs.Fits.{Valid}
 use Rattle.draid_session.specs.Rooms.{stripes_for}
 use Rattle.draid_pool.specs.Answers.{WriteDoes}
 use Rattle.draid_pool.specs.Carries.{CarriesOut}
+use Rattle.draid_pool.specs.Pointers.{WriteSets}
 use Rattle.draid_pool.specs.Shards.{RoomIs}
 use Rattle.draid_pool.proofs.Wholes.{all_whole}
 use Rattle.draid_pool.proofs.ChooseSteps.{starved_step}
 use Rattle.draid_pool.proofs.pool.Pool.write.Goals as goal
 
 pub returns-in_default : goal.returns-in_default
-returns-in_default g c = record { whole = c.requires.whole; step = λ x is. starved_step g.R.Rack g.A.Area c.args.self.now x is (FnReturnsAt g.F.Fn c.args.chooser.now) c.args.object c.args.bytes.now }
+returns-in_default g c = record { whole = c.requires.whole; writes = λ o. refl; step = λ x is. starved_step g.R.Rack g.A.Area c.args.self.now x is (FnReturnsAt g.F.Fn c.args.chooser.now) c.args.object c.args.bytes.now }
 
 pub rooms_of-requires : goal.rooms_of-requires
 rooms_of-requires g c =
     subst (λ (xs : List (Shard g.row.R.Denot g.row.A.Denot)). All (Valid g.R.Rack) xs) (sym c.as_slice.ensures.value) (all_whole g.R.Rack g.A.Area c.args.self.now c.requires.whole)
 
 pub returns-in_default-rooms_of : goal.returns-in_default-rooms_of
-returns-in_default-rooms_of g c = record { whole = c.requires.whole; step = λ x is. starved_step g.R.Rack g.A.Area c.args.self.now x is (FnReturnsAt g.F.Fn c.args.chooser.now) c.args.object c.args.bytes.now }
+returns-in_default-rooms_of g c = record { whole = c.requires.whole; writes = λ o. refl; step = λ x is. starved_step g.R.Rack g.A.Area c.args.self.now x is (FnReturnsAt g.F.Fn c.args.chooser.now) c.args.object c.args.bytes.now }
 
 pub write_chosen-requires : goal.write_chosen-requires
 write_chosen-requires g c =
@@ -41,6 +42,8 @@ write_chosen-requires g c =
 pub returns : goal.returns
 returns g c = record {
   whole = c.write_chosen.ensures.whole;
+  writes =
+      subst (λ (w : List ℕ). WriteSets c.args.object w c.args.self.now c.write_chosen.new.self c.write_chosen.result) c.in-Ok.ensures.bytes c.write_chosen.ensures.writes;
   step = λ x is.
       subst (λ (w : List ℕ). CarriesOut g.R.Rack g.A.Area c.write_chosen.new.self x (WriteDoes x (FnReturnsAt g.F.Fn c.args.chooser.now) c.args.object w c.write_chosen.result)) c.in-Ok.ensures.bytes
       (c.write_chosen.ensures.step x is);

@@ -1,4 +1,4 @@
-use Rattle.std.proofs.Common.{◌≡◌, ◌≤◌, ◌+◌, ◌∙◌, [], false, Ok, Err, arith, refl, sym, ap, length, subst}
+use Rattle.std.proofs.Common.{◌≡◌, ◌≤◌, ◌+◌, ◌∙◌, [], Some, false, Ok, Err, arith, refl, sym, ap, length, subst}
 use Rattle.std.specs.Prelude.{OnOk, Result, is_err}
 use Rattle.std.specs.HashMap.{spare}
 use Rattle.std.specs.Vec.{with_item}
@@ -6,8 +6,10 @@ use Rattle.std.proofs.lemmas.Option.{slice_get_within}
 use Rattle.draid_block.specs.Blocks.{cut_of}
 use Rattle.draid_objects.specs.Changes.{write_of}
 use Rattle.draid_shard.specs.Changes.{KeepsBlocks}
+use Rattle.draid_pool.specs.Pointers.{pointer_in}
 use Rattle.draid_pool.specs.Shards.{DropsBlock, StoreSets}
 use Rattle.draid_pool.specs.declared.pool.Pool.{Pool}
+use Rattle.draid_pool.proofs.Pointed.{behind, content_fits}
 use Rattle.draid_pool.proofs.FreeSteps.{same_represents}
 use Rattle.draid_pool.proofs.Wholes.{Replaces, whole_dropped, whole_floor, whole_geometry, whole_kept, whole_room, whole_stored, whole_table, whole_unused, whole_valid}
 use Rattle.draid_pool.proofs.WriteSteps.{awaits, between, borrowed, missed, missed_here, stored_here, unwritten, unwritten_here, wrote}
@@ -23,6 +25,7 @@ returns-then-is_err g c =
     let new : Pool g.row.R.Denot g.row.A.Denot = record old { objects = c.reserve.new.self } in
     record {
       whole = whole_table g.R.Rack g.A.Area old new c.requires.whole refl refl refl refl refl (λ o q at. c.requires.whole.objects o q (sym (c.reserve.ensures.entries.2 o) ∙ at));
+      writes = λ q. c.reserve.ensures.entries.2 q;
       step = λ x is. record {
         holds = [];
         reached = x;
@@ -79,6 +82,8 @@ returns-in-Ok g c =
     = record { geometry = old.geometry; shards = with_item old.shards c.args.metaslab c.store.new.shard; uber = old.uber; objects = c.reserve.new.self; seq = old.seq + 1; floor = c.in-Ok.pointer.birth; alloc = old.alloc } in
     record {
       whole = c.replace.ensures.whole;
+      writes = (c.in-Ok.pointer, content_fits c.in-Ok.pointer c.args.block.now.bytes e.content,
+          behind (pointer_in c.replace.new.self) (pointer_in mid) (pointer_in old) c.args.object (Some c.in-Ok.pointer) c.replace.ensures.sets (λ q. c.reserve.ensures.entries.2 q));
       step = λ x is.
           (let n = stored_here g.R.Rack g.A.Area c.args.metaslab c.args.object c.args.block.now.bytes old shard c.store.new.shard x is at.0 c.in-Ok.pointer e.stores in
           wrote g.R.Rack g.A.Area c.args.metaslab c.args.object c.args.block.now.bytes old shard c.store.new.shard x is at.0 c.in-Ok.pointer n mid refl refl refl refl refl (λ q. c.reserve.ensures.entries.2 q) c.replace.new.self
@@ -101,6 +106,7 @@ returns-in-Err-Missed g c =
     = record { there = at.0; sets = refl; geometry = refl; uber = refl; valid = e.valid; part = e.part; committed = drops.sets.groups.committed } in
     record {
       whole = whole_dropped g.R.Rack g.A.Area c.args.metaslab c.in-Err-Missed.birth old new shard c.store.new.shard w r drops refl refl (λ q. c.reserve.ensures.entries.2 q);
+      writes = λ q. c.reserve.ensures.entries.2 q;
       step = λ x is.
           (let n = missed_here g.R.Rack g.A.Area c.args.metaslab c.args.object c.args.block.now.bytes old shard c.store.new.shard x is at.0 c.in-Err-Missed.field-0 c.in-Err-Missed.columns c.in-Err-Missed.birth c.in-Err-Missed.field-0-is e.stores in
           missed g.R.Rack g.A.Area c.args.metaslab c.args.object c.args.block.now.bytes old shard c.store.new.shard x is at.0 c.in-Err-Missed.columns c.in-Err-Missed.birth new n refl refl refl refl refl (λ q. c.reserve.ensures.entries.2 q));
@@ -119,6 +125,7 @@ returns-in-Err-NoMemory g c =
     = record { there = at.0; sets = refl; geometry = refl; uber = refl; valid = e.valid; part = e.part; committed = keeps.groups.committed } in
     record {
       whole = whole_kept g.R.Rack g.A.Area c.args.metaslab old new shard c.store.new.shard w r keeps refl refl (λ q. c.reserve.ensures.entries.2 q);
+      writes = λ q. c.reserve.ensures.entries.2 q;
       step = λ x is. record {
         holds = [];
         reached = x;

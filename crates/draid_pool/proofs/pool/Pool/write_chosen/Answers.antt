@@ -18,6 +18,7 @@ pick-requires g c =
 pub returns-in_default : goal.returns-in_default
 returns-in_default g c = record {
   whole = c.requires.whole;
+  writes = λ o. refl;
   step = λ x is.
       no_space_step g.R.Rack g.A.Area c.args.self.now x is c.args.block.now.bytes (stripes_for c.args.self.now.geometry c.args.block.now.bytes) c.args.rooms.now refl c.requires.rooms
       (FnReturnsAt g.F.Fn c.args.chooser.now) c.args.object c.no_space.result c.requires.some c.in_default.ensures.picks c.no_space.ensures;
@@ -26,6 +27,7 @@ returns-in_default g c = record {
 pub returns-then-self-ge-LAST_NUMBER : goal.returns-then-self-ge-LAST_NUMBER
 returns-then-self-ge-LAST_NUMBER g c = record {
   whole = c.requires.whole;
+  writes = λ o. refl;
   step = λ x is.
       last_step g.R.Rack g.A.Area c.args.self.now x is c.args.block.now.bytes (stripes_for c.args.self.now.geometry c.args.block.now.bytes) c.args.rooms.now refl c.requires.rooms
       (FnReturnsAt g.F.Fn c.args.chooser.now) c.args.object c.in-Some.metaslab c.in-Some.ensures.answer c.if-self-ge-LAST_NUMBER.true;
@@ -44,6 +46,7 @@ write_block-requires g c =
 pub returns : goal.returns
 returns g c = record {
   whole = c.write_block.ensures.whole;
+  writes = c.write_block.ensures.writes;
   step = λ x is.
       written_as g.R.Rack g.A.Area c.args.self.now x is c.args.block.now.bytes (stripes_for c.args.self.now.geometry c.args.block.now.bytes) c.args.rooms.now refl c.requires.rooms
       (FnReturnsAt g.F.Fn c.args.chooser.now) c.args.object c.in-Some.metaslab c.write_block.result c.write_block.new.self c.in-Some.ensures.answer
