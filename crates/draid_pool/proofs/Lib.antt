@@ -11,6 +11,8 @@ pub mod Feeding
 pub mod FetchSteps
 pub mod Fetched
 pub mod FreeSteps
+pub mod Findings
+pub mod Flushed
 pub mod Found
 pub mod Freed
 pub mod Fresh

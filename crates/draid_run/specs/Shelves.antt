@@ -126,4 +126,4 @@ FailsIn area command before now = ⊥
 
 -- the uberblock that a shelf held, or a record of a metaslab, has this fault
 abbrev pub HoldsFault : {R A : Type 0} → racks.Ghosts R → areas.Ghosts A → OnShelf → Option ℕ → (place kind : ℕ) → Type 0
-HoldsFault rack area before metaslab place kind = RecordIsBad rack area before.held before.counts before.own.uber metaslab place kind
+HoldsFault rack area before metaslab place kind = RecordIsBad rack area before.held before.leaves before.counts metaslab place kind
