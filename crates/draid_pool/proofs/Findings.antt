@@ -28,7 +28,7 @@ use Rattle.draid_pool.specs.Closing.{TakesBack, kit_in}
 use Rattle.draid_pool.specs.Faulty.{OneIsUnread, TellsBody}
 use Rattle.draid_pool.specs.Findings.{IsHeldAgain, IsKitBack, IsOpenedKit, KeepsKitCounts, LeavesAll, LeavesOpened}
 use Rattle.draid_pool.specs.Found.{IsFoundUber, IsRecovered, IsReopened, LeavesShards, LeavesUber, OpensAllOver, OpensOver}
-use Rattle.draid_pool.proofs.Closed.{kit_is}
+use Rattle.draid_pool.proofs.Closed.{KitIs, kit_is}
 use Rattle.draid_pool.proofs.ImportMetaslab.{of_told}
 use Rattle.draid_pool.proofs.Lists.{ext, present}
 
@@ -73,7 +73,7 @@ left_unfound area o n before after count now same left = record {
 both_told : (o n : Option Told) (x y : Told) (P : Told → Told → Type 0) → o ≡ Some x → n ≡ Some y → OnBothTold o n P → P x y
 both_told o n x y P is now holds = subst (λ z. OnBothTold (Some x) z P) now (subst (λ z. OnBothTold z n P) is holds)
 
-some_kit : (o : Option KitTold) → (o ≡ None → ⊥) → (k : KitTold) × (o ≡ Some k)
+pub some_kit : (o : Option KitTold) → (o ≡ None → ⊥) → (k : KitTold) × (o ≡ Some k)
 some_kit None some = absurd (some refl)
 some_kit (Some k) some = (k, refl)
 
@@ -87,8 +87,10 @@ module _ {R A : Type 0} (rack : racks.Ghosts R) (area : areas.Ghosts A) (geometr
       was : (k : KitTold) × (o.kits m ≡ Some k)
       was = some_kit (o.kits m) (λ none. (let failed = over.taken.some none in cc))
 
+      k : KitIs (rack.told over.kit.rack) (area.told over.kit.even) (area.told over.kit.odd) was.0
       k = kit_is (rack.told over.kit.rack) (area.told over.kit.even) (area.told over.kit.odd) was.0 (over.taken.told ∙ was.1)
 
+      j : KitIs (rack.told shard.rack) (area.told shard.even) (area.told shard.odd) kit
       j = kit_is (rack.told shard.rack) (area.told shard.even) (area.told shard.odd) kit tells
 
       read : record_of (limits_of shard.geometry shard.number group next) (stable.area_of group was.0.even was.0.odd).bytes ≡ Ok over.opens.value

@@ -204,7 +204,7 @@ leaves_all rack area geometry group next shards first last new before late after
   each = are.each;
   over = over;
   held = back_by rack area geometry.props.metaslabs shards are.many first last last new takes (stays_same last last refl) r.held;
-  tells = still first last takes (all_tell_over rack area (limit_of geometry) group next first leaves before shards over);
+  tells = still first last takes r.tells (all_tell_over rack area (limit_of geometry) group next first leaves before shards over);
   rack_count = r.rack_count;
   even_count = r.even_count;
   odd_count = r.odd_count;
@@ -212,10 +212,10 @@ leaves_all rack area geometry group next shards first last new before late after
   leaves_own = l.own;
   leaves_left = λ m past. (let many = are.many in keeps_equal (leaves m) (now m) (l.others m past ∙ (left m (omega (arith, past, many))).1));
 } where
-  still : (a b : Option Held) → TakesFirst geometry.props.metaslabs a b → OnHeld a (λ x. AllTell rack area shards) → OnHeld a (λ x. IsSome new)
-  still None b t all = tt
-  still (Some x) None t all = absurd t
-  still (Some x) (Some y) t all = r.tells refl all
+  still : (a b : Option Held) → TakesFirst geometry.props.metaslabs a b → (IsSome b → AllTell rack area shards → IsSome new) → OnHeld a (λ x. AllTell rack area shards) → OnHeld a (λ x. IsSome new)
+  still None b t h all = tt
+  still (Some x) None t h all = absurd t
+  still (Some x) (Some y) t h all = h refl all
 
 -- ---- the pool
 

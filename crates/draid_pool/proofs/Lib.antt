@@ -21,6 +21,7 @@ pub mod Lifted
 pub mod Lists
 pub mod Lives
 pub mod Moved
+pub mod OneAnswer
 pub mod OneHold
 pub mod Opened
 pub mod PutSteps

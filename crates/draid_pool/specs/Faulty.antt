@@ -1,11 +1,13 @@
 -- Which record of what a shelf holds has a fault, where an import is refused for one.
-use Rattle.std.specs.Prelude.{◌≡◌, ◌<◌, ◌⊎◌, ℕ, List, Option, Some, None, Ok, Err, IsSomeAnd, length}
+use Rattle.std.specs.Prelude.{◌≡◌, ◌<◌, ◌⊎◌, ℕ, List, Option, Some, None, Ok, Err, IsSomeAnd, length, slice_get}
 use Rattle.draid_rack.specs.Rack.{Shape}
 use Rattle.draid_rack.specs.declared.Rack as racks
 use Rattle.draid_area.specs.Area.{OnTold}
 use Rattle.draid_area.specs.declared.Area as areas
 use Rattle.draid_spec.specs.Geometry.{metaslab_sectors}
 use Rattle.draid_spec.specs.declared.layout.Geometry.{Geometry}
+use Rattle.draid_perm.specs.declared.perms.Perms.{Perms}
+use Rattle.draid_map.specs.Place.{IsLayout}
 use Rattle.draid_record.specs.Record.{limits_of}
 use Rattle.draid_record.specs.declared.fault.RecordFault.TheVariants.{Bad}
 use Rattle.draid_stable.specs.Opening.{has_leaf, opening_of}
@@ -19,7 +21,7 @@ use Rattle.draid_uber.specs.Uber.{kept_of, layout_of, next_leaf_of}
 use Rattle.draid_uber.specs.declared.uber.Uber.{Uber}
 use Rattle.draid_session.specs.State.{limit_of}
 use Rattle.draid_record.specs.declared.uber.UberBody.{UberBody}
-use Rattle.draid_pool.specs.Found.{AreReopened, IsFoundUber, IsKitOf, OpensAllOver}
+use Rattle.draid_pool.specs.Found.{AreReopened, IsFoundUber, IsKitOf, IsReopened, OpensAllOver}
 use Rattle.draid_found.specs.Together.{AreApart}
 
 -- ---- the uberblock
@@ -59,8 +61,11 @@ pub record OneIsUnread {R A : Type 0} (rack : racks.Ghosts R) (area : areas.Ghos
   pub m : ℕ
   pub inside : m < geometry.props.metaslabs
   pub unread : IsUnread rack area geometry group next m held (leaves m) (counts m) metaslab place kind
+  pub perms : Perms
+  pub layout : IsLayout geometry perms
   pub below : List (Shard R A)
   pub many : length below ≡ m
+  pub each : (k : ℕ) (shard : Shard R A) → slice_get below k ≡ Some shard → IsReopened rack (record { geometry = geometry; perms = perms; number = k }) group shard
   pub over : OpensAllOver rack area (limit_of geometry) group next held leaves counts below
 
 -- all records were read, and aren't those of one pool: this is the first fault

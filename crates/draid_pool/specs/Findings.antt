@@ -79,6 +79,10 @@ pub record FindsPool {R A : Type 0} (rack : racks.Ghosts R) (area : areas.Ghosts
   pub name_is : name ≡ vdev_name_of (layout_of uber).spec
   pub names : HasNames newest objects
 
+-- a shelf knows the leaves of each metaslab whose devices it holds
+abbrev pub KnowsLeaves : Held → (ℕ → Option Shape) → Type 0
+KnowsLeaves held leaves = (m : ℕ) → IsSome (held.kits m) → IsSome (leaves m)
+
 -- ---- what a refusal leaves
 
 -- The devices of a metaslab as its opening from a record of this group leaves them: the areas tell what they did, and of the rack no leaf went that the record names.

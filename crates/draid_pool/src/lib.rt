@@ -25,7 +25,7 @@ pub use closing::close;
 pub use draid_names::{ObjectFault, WriteFault};
 pub use fault::{DamageFault, FreeFault, PoolFault, SumFault, SyncFault, Synced};
 pub use importing::import;
-pub use laws::finds_the_same_before_a_flush;
+pub use laws::{finds_the_same_before_a_flush, imports_find_one_thing};
 pub use opening::create;
 pub use pool::Pool;
 pub use viewing::vdev_name;

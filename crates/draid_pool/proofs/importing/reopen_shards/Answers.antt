@@ -155,8 +155,12 @@ returns-in-Err g c =
             unread = unread_first g.H.R.Rack g.H.A.Area (layout_of c.args.uber.now) (group_of (kept_of c.args.uber.now)) (next_leaf_of c.args.uber.now) n (shelf.told c.args.shelf.now) (shelf.told c.loop-number.shelf)
                 (shelf.leaves c.args.shelf.now n) (shelf.leaves c.loop-number.shelf n) (shelf.counts c.args.shelf.now n) (shelf.counts c.loop-number.shelf n) metaslab place kind i.told (i.leaves n (omega arith)) (i.counts n (omega arith))
                 (c.in-Err.ensures.faulty metaslab place kind (ap Err (err_is c.in-Err.fault _ err)));
+            perms = c.new-perms.result;
+            layout = subst (λ (x : Geometry). IsLayout x c.new-perms.result) c.geometry-layout.ensures
+                (record { geometry_is = subst IsGeometry (sym c.geometry-layout.ensures) c.requires.uber.valid.held.layout_is; perms_are = c.new-perms.ensures });
             below = c.loop-number.shards.items;
             many = i.many;
+            each = i.each;
             over = i.over;
           });
       fault = c.in-Err.ensures.fault;
