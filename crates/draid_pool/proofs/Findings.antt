@@ -1,6 +1,7 @@
 -- What an import finds on a shelf, and what it leaves there where it is refused.
 use Rattle.std.proofs.Common.{arith, ◌≡◌, ◌==◌, ◌%◌, ◌<◌, ◌≤◌, ◌∙◌, ◌⊎◌, inl, inr, ℕ, List, Option, Some, None, Ok, length, refl, sym, ap, subst}
-use Rattle.std.specs.Prelude.{IsSome, IsSomeAnd, MatchOption, option_map, slice_get}
+use Rattle.std.specs.Prelude.{IsSome, IsSomeAnd, MatchOption, nat_eq, option_map, slice_get}
+use Rattle.std.specs.HashMap.{get}
 use Rattle.std.proofs.lemmas.Bool.{cases_lt}
 use Rattle.draid_area.specs.Area.{Content, flushes}
 use Rattle.draid_area.specs.declared.Area as areas
@@ -23,10 +24,12 @@ use Rattle.draid_groups.proofs.Reopened.{told_read}
 use Rattle.draid_uber.specs.Slots.{chosen_of, group_of}
 use Rattle.draid_uber.specs.Uber.{area_of, kept_of, layout_of, next_leaf_of}
 use Rattle.draid_uber.specs.declared.uber.Uber.{Uber}
+use Rattle.draid_session.specs.Making.{vdev_name_of}
 use Rattle.draid_session.specs.State.{limit_of}
+use Rattle.draid_pool.specs.declared.pool.Pool.{Pool}
 use Rattle.draid_pool.specs.Closing.{TakesBack, kit_in}
 use Rattle.draid_pool.specs.Faulty.{OneIsUnread, TellsBody}
-use Rattle.draid_pool.specs.Findings.{IsHeldAgain, IsKitBack, IsOpenedKit, KeepsKitCounts, LeavesAll, LeavesOpened}
+use Rattle.draid_pool.specs.Findings.{FindsPool, HasNames, IsHeldAgain, IsKitBack, IsOpenedKit, IsReadPool, KeepsKitCounts, LeavesAll, LeavesOpened}
 use Rattle.draid_pool.specs.Found.{IsFoundUber, IsRecovered, IsReopened, LeavesShards, LeavesUber, OpensAllOver, OpensOver}
 use Rattle.draid_pool.proofs.Closed.{KitIs, kit_is}
 use Rattle.draid_pool.proofs.ImportMetaslab.{of_told}
@@ -50,6 +53,28 @@ unread_entry rack area geometry group next o mid leaves yet_leaves counts yet me
     subst (λ (h : Option Held). OneIsUnread rack area geometry group next h leaves counts metaslab place kind) taken
     (subst (λ (s : ℕ → Option Shape). OneIsUnread rack area geometry group next mid s counts metaslab place kind) (ext yet_leaves leaves same_leaves)
     (subst (λ (k : ℕ → KitCounts). OneIsUnread rack area geometry group next mid yet_leaves k metaslab place kind) (ext yet counts same) one))
+
+-- the finding that a pool is of which so much was read
+pub finds_pool : {R A : Type 0} (rack : racks.Ghosts R) (area : areas.Ghosts A) (held : Option Held) (leaves : ℕ → Option Shape) (counts : ℕ → KitCounts) (count : ℕ) (pool : Pool R A) (group : ℕ) (name : List ℕ) (objects : ℕ)
+    → IsReadPool rack area held leaves counts count pool → group ≡ group_of (kept_of pool.uber) → name ≡ vdev_name_of pool.geometry.spec → HasNames (get nat_eq pool.objects) objects
+    → FindsPool rack area held leaves counts group name objects
+finds_pool rack area held leaves counts count pool group name objects is group_is name_is names = record {
+  uber = is.uber;
+  shards = is.shards;
+  newest = is.newest;
+  seq = is.seq;
+  read = is.read;
+  group_is = group_is ∙ ap (λ u. group_of (kept_of u)) is.made.uber_is;
+  name_is = name_is ∙ ap (λ (g : Geometry). vdev_name_of g.spec) is.made.layout;
+  names = record {
+    names = names.names;
+    ascending = names.ascending;
+    each = λ object.
+        (let own = names.each object in
+        (λ c. subst IsSome (is.made.objects object) (own.0 c), λ some. own.1 (subst IsSome (sym (is.made.objects object)) some)));
+    many = names.many;
+  };
+}
 
 -- ---- a refusal
 

@@ -1,7 +1,11 @@
 //! What an open pool tells of its committed group and of its objects.
-ghost use Rattle.std.specs.Prelude.{◌≡◌};
+ghost use Rattle.std.specs.Prelude.{◌≡◌, nat_eq};
+ghost use Rattle.std.specs.HashMap.{get};
+ghost use Rattle.draid_uber.specs.Slots.{group_of};
+ghost use Rattle.draid_uber.specs.Uber.{kept_of};
 ghost use Rattle.draid_session.specs.Opening.{HasObjects};
 ghost use Rattle.draid_session.specs.State.{State};
+ghost use Rattle.draid_pool.specs.Findings.{HasNames};
 ghost use Rattle.draid_pool.specs.Pools.{Represents};
 
 use crate::pool::Pool;
@@ -11,14 +15,16 @@ use draid_rack::Rack;
 impl<R: Rack, A: Area> Pool<R, A> {
     /// The committed group.
     pub fn committed(&self) -> u64
-        ensures { (x : State) → Represents R.Rack A.Area self.now x → result ≡ x.committed }
+        ensures group { result ≡ group_of (kept_of self.now.uber) }
+        ensures state { (x : State) → Represents R.Rack A.Area self.now x → result ≡ x.committed }
     {
         self.uber.committed()
     }
 
     /// How many objects have bytes.
     pub fn objects(&self) -> u64
-        ensures { (x : State) → Represents R.Rack A.Area self.now x → HasObjects x.store.changes result }
+        ensures names { HasNames (get nat_eq self.now.objects) result }
+        ensures state { (x : State) → Represents R.Rack A.Area self.now x → HasObjects x.store.changes result }
     {
         self.objects.len() as u64
     }

@@ -281,13 +281,7 @@ static UBERS: [Field; 21] = [
     (35, &[255, 255, 255, 255, 255, 255, 255, 255], 0, "import draid1:2d:3c:0s-0 group=2 objects=2\n"),
     (43, &[0, 0, 0, 0, 0, 0, 0, 2], 8, "record uber at=43 kind=2\n"),
     (43, &[0, 1, 0, 0, 0, 0, 0, 0], 8, "record uber at=43 kind=2\n"),
-    (
-        Some((Place::Uber, 43, &[0, 0, 255, 255, 255, 255, 255, 255])),
-        None,
-        "import\n",
-        0,
-        "import draid1:2d:3c:0s-0 group=2 objects=2\n",
-    ),
+    (43, &[0, 0, 255, 255, 255, 255, 255, 255], 0, "import draid1:2d:3c:0s-0 group=2 objects=2\n"),
 ];
 
 // Fields of the record of group 2, in their order.

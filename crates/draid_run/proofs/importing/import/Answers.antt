@@ -32,7 +32,7 @@ returns-in-Ok-vdev_name g c = record {
       let none = sym c.is_some.ensures ∙ c.if-is_some.false in
       imported g.H.R.Rack g.H.A.Area entry before now c.import.result
       (record { whole = e.whole; none = e.none; imports = e.import; tells = e.tells; checks_held = e.held; checks = e.checks; cause = e.cause; made = e.made }) c.in-Ok.open c.in-Ok.is
-      c.in-Ok-vdev_name.name c.geometry.result.now c.committed-group.result c.objects-objects.result c.in-Ok-vdev_name.ensures c.geometry.ensures.state c.committed-group.ensures c.objects-objects.ensures
+      c.in-Ok-vdev_name.name c.geometry.result.now c.committed-group.result c.objects-objects.result c.in-Ok-vdev_name.ensures c.geometry.ensures.state c.committed-group.ensures.state c.objects-objects.ensures.state
       x (shut g.H.R.Rack g.H.A.Area c.args.pool.now x none desk.stands) desk.shelf);
   later = c.import.ensures.later;
 }
