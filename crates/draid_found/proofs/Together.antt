@@ -158,11 +158,11 @@ module _ {R A : Type 0} (shard : Shard R A) where
   below_next from p key next h = elim (cases_lt h.first from) [
     | inl low ↦ inl (record { first = h.first; e = h.e; there = h.there; key_is = h.key_is; below = low })
     | inr past ↦ elim (cases_eq h.first p.first) [
-        | inl same ↦
-            (let own : staged next.entered.stage p ≡ h.e = some_injective (staged next.entered.stage p) h.e (sym next.entered.there ∙ (ap (entry_at shard.entries) (sym same) ∙ h.there)) in
-            inr (ap (λ (e : Entry). key_of e.pointer) own ∙ h.key_is))
-        | inr other ↦ (let below = h.below in let none = next.first h.first past (omega (arith, below, other)) in absurd (let there = h.there in cc))
-      ]
+      | inl same ↦
+          (let own : staged next.entered.stage p ≡ h.e = some_injective (staged next.entered.stage p) h.e (sym next.entered.there ∙ (ap (entry_at shard.entries) (sym same) ∙ h.there)) in
+          inr (ap (λ (e : Entry). key_of e.pointer) own ∙ h.key_is))
+      | inr other ↦ (let below = h.below in let none = next.first h.first past (omega (arith, below, other)) in absurd (let there = h.there in cc))
+    ]
   ]
 
   own_below : (from : ℕ) (p : Pointer) (key : Key) → IsNextHeld shard from p → key_of p ≡ key → HasBelow shard (p.first + 1) key

@@ -86,7 +86,7 @@ opened_stands rack told kit shard group next w image doubtful pieces opens part 
     let l = layout_by shard in
     let lay = has_layout (part_of shard) part in
     let same : image_by opens.value ≡ image = image_read shard.geometry shard.number group next image opens.value (told (area_of_kit kit group)) own version below has
-        (told_read (told (area_of_kit kit group)) (limits_of shard.geometry shard.number group next) (has_leaf (rack.shape kit.rack) (metaslab_sectors shard.geometry)) opens.value opens.read) in
+    (told_read (told (area_of_kit kit group)) (limits_of shard.geometry shard.number group next) (has_leaf (rack.shape kit.rack) (metaslab_sectors shard.geometry)) opens.value opens.read) in
     let step : ReopenStep l w group doubtful.items (reopen_state l w image doubtful.items) =
     record { image = image; one = chosen l w image group (reached_sound l lay w reached) is own; made = refl } in
     record {

@@ -10,7 +10,6 @@ use Rattle.draid_rack.specs.declared.Rack as racks
 use Rattle.draid_spec.specs.declared.layout.Geometry.{Geometry}
 use Rattle.draid_spec.specs.Geometry.{metaslab_sectors}
 use Rattle.draid_record.specs.Record.{limits_of, record_of}
-use Rattle.draid_record.specs.declared.uber.UberBody.{UberBody}
 use Rattle.draid_segments.specs.Acts.{DropsBut, IsNamed}
 use Rattle.draid_shelf.specs.Kits.{Held, KitCounts, KitTold, OnHeld, gives_uber, puts_uber, takes_uber}
 use Rattle.draid_stable.specs.Images.{image_by}
@@ -29,8 +28,8 @@ use Rattle.draid_session.specs.State.{limit_of}
 use Rattle.draid_pool.specs.declared.pool.Pool.{Pool}
 use Rattle.draid_pool.specs.Closing.{TakesBack, kit_in}
 use Rattle.draid_pool.specs.Faulty.{OneIsUnread, TellsBody}
-use Rattle.draid_pool.specs.Findings.{FindsPool, HasNames, IsHeldAgain, IsKitBack, IsOpenedKit, IsReadPool, KeepsKitCounts, LeavesAll, LeavesOpened}
-use Rattle.draid_pool.specs.Found.{IsFoundUber, IsRecovered, IsReopened, LeavesShards, LeavesUber, OpensAllOver, OpensOver}
+use Rattle.draid_pool.specs.Findings.{FindsPool, HasNames, IsHeldAgain, IsKitBack, IsOpenedKit, IsReadPool, KeepsKitCounts, LeavesAll}
+use Rattle.draid_pool.specs.Found.{IsFoundUber, IsRecovered, LeavesShards, LeavesUber, OpensAllOver, OpensOver}
 use Rattle.draid_pool.proofs.Closed.{KitIs, kit_is}
 use Rattle.draid_pool.proofs.ImportMetaslab.{of_told}
 use Rattle.draid_pool.proofs.Lists.{ext, present}

@@ -1,9 +1,8 @@
 -- What an import finds on a shelf that tells what it holds, and knows its leaves, is one thing.
-use Rattle.std.proofs.Common.{arith, ◌≡◌, ◌==◌, ◌%◌, ◌+◌, ◌*◌, ◌^◌, ◌-◌, ◌<◌, ◌≤◌, ◌∙◌, ◌⊎◌, inl, inr, ℕ, zero, suc, List, [], Option, Some, None, Result, Ok, Err, length, slice_index_or, if◌then◌else◌, refl, sym, ap, subst}
-use Rattle.std.specs.Prelude.{◌↔◌, Contains, IsSome, IsSomeAnd, is_some, min, slice_get}
+use Rattle.std.proofs.Common.{arith, ◌≡◌, ◌==◌, ◌%◌, ◌+◌, ◌*◌, ◌^◌, ◌-◌, ◌<◌, ◌∙◌, ◌⊎◌, inl, inr, ℕ, zero, suc, List, [], Option, Some, None, Result, Ok, Err, length, slice_index_or, if◌then◌else◌, refl, sym, ap, subst}
+use Rattle.std.specs.Prelude.{Contains, IsSome, IsSomeAnd, is_some, min, slice_get}
 use Rattle.std.proofs.lemmas.Bool.{cases_eq, cases_lt}
 use Rattle.std.proofs.lemmas.Option.{slice_get_within}
-use Rattle.std.specs.List.Sorted.{IsStrictlyIncreasing}
 use Rattle.draid_names.specs.declared.arm.Arm.{Arm}
 use Rattle.draid_names.specs.declared.pointer.Pointer.{Pointer}
 use Rattle.draid_area.specs.Area.{Content, OnTold}
@@ -23,10 +22,9 @@ use Rattle.draid_stable.specs.Stable as stable
 use Rattle.draid_machine.specs.declared.names.Key.{Key}
 use Rattle.draid_machine.proofs.Small.{none_some, some_same}
 use Rattle.draid_entries.specs.declared.entries.Entries.{Entries}
-use Rattle.draid_entries.specs.declared.entry.Entry.{Entry}
 use Rattle.draid_entries.specs.Entries.{entry_at}
 use Rattle.draid_entries.specs.Live.{live_at}
-use Rattle.draid_entries.specs.Maps.{key_of, staged}
+use Rattle.draid_entries.specs.Maps.{staged}
 use Rattle.draid_machine.specs.declared.names.Stage.TheVariants.{Live}
 use Rattle.draid_perm.specs.declared.perms.Perms.{Perms}
 use Rattle.draid_slots.specs.Table.{arms_of}
@@ -37,10 +35,10 @@ use Rattle.draid_uber.specs.Uber.{kept_of, layout_of, next_leaf_of}
 use Rattle.draid_uber.specs.declared.uber.Uber.{Uber}
 use Rattle.draid_session.specs.Making.{vdev_name_of}
 use Rattle.draid_session.specs.State.{limit_of}
-use Rattle.draid_found.specs.Found.{AreFound, LeadsTo}
+use Rattle.draid_found.specs.Found.{AreFound}
 use Rattle.draid_found.specs.Together.{AreApart, AreSameArms, AreTogether, HasBlock, HasBlockTwice, HasEarlier, HasOtherArms, HaveSameArms, blocks_below, place_in}
-use Rattle.draid_pool.specs.Faulty.{AreReadApart, HoldsNoGroup, IsUnread, OneIsUnread, RecordIsBad, ShardIsBad, TellsBody}
-use Rattle.draid_pool.specs.Findings.{FindsPool, HasNames, IsRead, KnowsLeaves}
+use Rattle.draid_pool.specs.Faulty.{AreReadApart, HoldsNoGroup, IsUnread, OneIsUnread, RecordIsBad, TellsBody}
+use Rattle.draid_pool.specs.Findings.{FindsPool, KnowsLeaves}
 use Rattle.draid_pool.specs.Found.{AreReopened, IsFoundUber, IsReopened, OpensAllOver, OpensOver}
 use Rattle.draid_pool.proofs.Absent.{fewer}
 use Rattle.draid_pool.proofs.Closed.{KitIs, kit_is}
@@ -288,13 +286,13 @@ module _ {R A : Type 0} (rack : racks.Ghosts R) (area : areas.Ghosts A) (geometr
     other_and_twice a b p k q l o u = elim (cases_lt o.m u.m) [
       | inl less ↦ not_other n ts ss too are u.m a p k u.together o less
       | inr past ↦ elim (cases_eq o.m u.m) [
-          | inl same ↦
-              (let first = twin n ts ss too are 0 o.first o.begins in
-              let s = twin n ts ss too are o.m o.shard o.there in
-              let own : s.0 ≡ u.shard = some_same (slice_get ts u.m) s.0 u.shard (subst (λ m. slice_get ts m ≡ Some s.0) same s.1) u.there in
-              o.differ (arms_too first.0 o.first s.0 o.shard (turned o.first first.0 first.2) (turned o.shard s.0 s.2) (subst (λ (t : Shard R A). HaveSameArms first.0.slots t.slots) (sym own) (u.alike first.0 first.1))))
-          | inr other ↦ not_twice n ss ts are too o.m b q l o.together u (omega (arith, past, other))
-        ]
+        | inl same ↦
+            (let first = twin n ts ss too are 0 o.first o.begins in
+            let s = twin n ts ss too are o.m o.shard o.there in
+            let own : s.0 ≡ u.shard = some_same (slice_get ts u.m) s.0 u.shard (subst (λ m. slice_get ts m ≡ Some s.0) same s.1) u.there in
+            o.differ (arms_too first.0 o.first s.0 o.shard (turned o.first first.0 first.2) (turned o.shard s.0 s.2) (subst (λ (t : Shard R A). HaveSameArms first.0.slots t.slots) (sym own) (u.alike first.0 first.1))))
+        | inr other ↦ not_twice n ss ts are too o.m b q l o.together u (omega (arith, past, other))
+      ]
     ]
 
     lower_twice : (a b : Option ℕ) (p k q l : ℕ) (o : HasBlockTwice ss a p k) (u : HasBlockTwice ts b q l) → o.m ≡ u.m → o.block.first < u.block.first → ⊥
@@ -316,31 +314,30 @@ module _ {R A : Type 0} (rack : racks.Ghosts R) (area : areas.Ghosts A) (geometr
     one_apart a b p k q l (inl o) (inl u) = elim (cases_lt o.m u.m) [
       | inl less ↦ absurd (not_other n ts ss too are u.m a p k u.together o less)
       | inr past ↦ elim (cases_eq o.m u.m) [
-          | inl same ↦ (o.metaslab_is ∙ (ap (λ m. Some m) same ∙ sym u.metaslab_is), o.place_is ∙ sym u.place_is, o.kind_is ∙ sym u.kind_is)
-          | inr other ↦ absurd (not_other n ss ts are too o.m b q l o.together u (omega (arith, past, other)))
-        ]
+        | inl same ↦ (o.metaslab_is ∙ (ap (λ m. Some m) same ∙ sym u.metaslab_is), o.place_is ∙ sym u.place_is, o.kind_is ∙ sym u.kind_is)
+        | inr other ↦ absurd (not_other n ss ts are too o.m b q l o.together u (omega (arith, past, other)))
+      ]
     ]
     one_apart a b p k q l (inl o) (inr u) = absurd (other_and_twice n ss ts are too a b p k q l o u)
     one_apart a b p k q l (inr o) (inl u) = absurd (other_and_twice n ts ss too are b a q l p k u o)
     one_apart a b p k q l (inr o) (inr u) = elim (cases_lt o.m u.m) [
       | inl less ↦ absurd (not_twice n ts ss too are u.m a p k u.together o less)
       | inr past ↦ elim (cases_eq o.m u.m) [
-          | inl same ↦ elim (cases_lt o.block.first u.block.first) [
-              | inl less ↦ absurd (lower_twice n ss ts are too a b p k q l o u same less)
-              | inr high ↦ elim (cases_eq o.block.first u.block.first) [
-                  | inl here ↦
-                      (let s = twin n ts ss too are o.m o.shard o.there in
-                      let own : s.0 ≡ u.shard = some_same (slice_get ts u.m) s.0 u.shard (subst (λ m. slice_get ts m ≡ Some s.0) same s.1) u.there in
-                      (
-                        o.metaslab_is ∙ (ap (λ m. Some m) same ∙ sym u.metaslab_is),
-                        o.place_is ∙ (place_too o.shard s.0 o.block.first s.2 ∙ ((λ i. place_in (own i) (here i)) ∙ sym u.place_is)),
-                        o.kind_is ∙ sym u.kind_is,
-                      ))
-                  | inr there ↦ absurd (lower_twice n ts ss too are b a q l p k u o (sym same) (omega (arith, high, there)))
-                ]
-            ]
-          | inr other ↦ absurd (not_twice n ss ts are too o.m b q l o.together u (omega (arith, past, other)))
+        | inl same ↦ elim (cases_lt o.block.first u.block.first) [
+          | inl less ↦ absurd (lower_twice n ss ts are too a b p k q l o u same less)
+          | inr high ↦ elim (cases_eq o.block.first u.block.first) [
+            | inl here ↦
+                (let s = twin n ts ss too are o.m o.shard o.there in
+                let own : s.0 ≡ u.shard = some_same (slice_get ts u.m) s.0 u.shard (subst (λ m. slice_get ts m ≡ Some s.0) same s.1) u.there in (
+                  o.metaslab_is ∙ (ap (λ m. Some m) same ∙ sym u.metaslab_is),
+                  o.place_is ∙ (place_too o.shard s.0 o.block.first s.2 ∙ ((λ i. place_in (own i) (here i)) ∙ sym u.place_is)),
+                  o.kind_is ∙ sym u.kind_is,
+                ))
+            | inr there ↦ absurd (lower_twice n ts ss too are b a q l p k u o (sym same) (omega (arith, high, there)))
+          ]
         ]
+        | inr other ↦ absurd (not_twice n ss ts are too o.m b q l o.together u (omega (arith, past, other)))
+      ]
     ]
 
   -- ---- faults of records
@@ -370,9 +367,9 @@ module _ {R A : Type 0} (rack : racks.Ghosts R) (area : areas.Ghosts A) (geometr
   one_fault a b p k q l (inl u) (inl v) = elim (cases_lt u.m v.m) [
     | inl less ↦ absurd (not_refused v.m u.m v.below a p k (below_here b q l v) less u.unread)
     | inr past ↦ elim (cases_eq u.m v.m) [
-        | inl same ↦ one_refused u.m a b p k q l u.unread (subst (λ m. IsUnread rack area geometry group next m (Some y) (leaves m) (counts m) b q l) (sym same) v.unread)
-        | inr other ↦ absurd (not_refused u.m v.m u.below b q l (below_here a p k u) (omega (arith, past, other)) v.unread)
-      ]
+      | inl same ↦ one_refused u.m a b p k q l u.unread (subst (λ m. IsUnread rack area geometry group next m (Some y) (leaves m) (counts m) b q l) (sym same) v.unread)
+      | inr other ↦ absurd (not_refused u.m v.m u.below b q l (below_here a p k u) (omega (arith, past, other)) v.unread)
+    ]
   ]
   one_fault a b p k q l (inl u) (inr v) = absurd (not_refused geometry.props.metaslabs u.m v.shards a p k (all_here v.shards v.reopened v.over) u.inside u.unread)
   one_fault a b p k q l (inr u) (inl v) = absurd (not_refused geometry.props.metaslabs v.m u.shards b q l (all_here u.shards u.reopened u.over) v.inside v.unread)
@@ -441,10 +438,10 @@ module _ {R A : Type 0} (rack : racks.Ghosts R) (area : areas.Ghosts A) (x : Hel
       f.group_is ∙ (sym same.group ∙ sym e.group_is),
       f.name_is ∙ (ap (λ (l : Geometry). vdev_name_of l.spec) (sym same.layout) ∙ sym e.name_is),
       (let one = fewer f.names.names e.names.names f.names.ascending e.names.ascending there in
-      let other = fewer e.names.names f.names.names e.names.ascending f.names.ascending back in
-      let many = f.names.many in
-      let more = e.names.many in
-      omega (arith, one, other, many, more)),
+          let other = fewer e.names.names f.names.names e.names.ascending f.names.ascending back in
+          let many = f.names.many in
+          let more = e.names.many in
+          omega (arith, one, other, many, more)),
     )
       where
         same : IsSameUber f.uber e.uber

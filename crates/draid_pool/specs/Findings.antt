@@ -1,5 +1,5 @@
 -- What an import finds on a shelf, and what it leaves there where it is refused, for each shelf that tells.
-use Rattle.std.specs.Prelude.{◌≡◌, ◌≤◌, ◌+◌, ◌⊎◌, ◌↔◌, ℕ, List, Option, Some, None, Ok, Contains, IsSome, MatchOption, length, nat_eq, option_map}
+use Rattle.std.specs.Prelude.{◌≡◌, ◌≤◌, ◌+◌, ◌⊎◌, ◌↔◌, ℕ, List, Option, None, Ok, Contains, IsSome, MatchOption, length, nat_eq, option_map}
 use Rattle.std.specs.HashMap.{get}
 use Rattle.std.specs.List.Sorted.{IsStrictlyIncreasing}
 use Rattle.draid_names.specs.declared.pointer.Pointer.{Pointer}

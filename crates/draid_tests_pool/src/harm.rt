@@ -259,9 +259,19 @@ static UBERS: [Field; 21] = [
     // The version, the group and the layout in the slot of group 2.
     (5, &[0, 3], 8, "record uber at=5 kind=2\n"),
     // Both gates are open: the slot counts whose group is the greater number, be it in its range or not.
-    (7, &[0, 0, 0, 0, 0, 0, 0, 0], 0, "import draid1:2d:3c:0s-0 group=1 objects=0\n"),
+    (
+        7,
+        &[0, 0, 0, 0, 0, 0, 0, 0],
+        0,
+        "import draid1:2d:3c:0s-0 group=1 objects=0\n",
+    ),
     (7, &[0, 1, 0, 0, 0, 0, 0, 0], 8, "record uber at=7 kind=2\n"),
-    (7, &[0, 0, 255, 255, 255, 255, 255, 255], 8, "record uber at=7 kind=2\n"),
+    (
+        7,
+        &[0, 0, 255, 255, 255, 255, 255, 255],
+        8,
+        "record uber at=7 kind=2\n",
+    ),
     // Parity, data, children, spares.
     (15, &[0], 8, "record uber at=15 kind=2\n"),
     (15, &[4], 8, "record uber at=15 kind=2\n"),
@@ -278,10 +288,30 @@ static UBERS: [Field; 21] = [
     (31, &[0, 0, 0, 0], 8, "record uber at=31 kind=2\n"),
     (31, &[0, 0, 4, 1], 8, "record uber at=31 kind=2\n"),
     // Any seed, and a next leaf from the children to the last number.
-    (35, &[255, 255, 255, 255, 255, 255, 255, 255], 0, "import draid1:2d:3c:0s-0 group=2 objects=2\n"),
-    (43, &[0, 0, 0, 0, 0, 0, 0, 2], 8, "record uber at=43 kind=2\n"),
-    (43, &[0, 1, 0, 0, 0, 0, 0, 0], 8, "record uber at=43 kind=2\n"),
-    (43, &[0, 0, 255, 255, 255, 255, 255, 255], 0, "import draid1:2d:3c:0s-0 group=2 objects=2\n"),
+    (
+        35,
+        &[255, 255, 255, 255, 255, 255, 255, 255],
+        0,
+        "import draid1:2d:3c:0s-0 group=2 objects=2\n",
+    ),
+    (
+        43,
+        &[0, 0, 0, 0, 0, 0, 0, 2],
+        8,
+        "record uber at=43 kind=2\n",
+    ),
+    (
+        43,
+        &[0, 1, 0, 0, 0, 0, 0, 0],
+        8,
+        "record uber at=43 kind=2\n",
+    ),
+    (
+        43,
+        &[0, 0, 255, 255, 255, 255, 255, 255],
+        0,
+        "import draid1:2d:3c:0s-0 group=2 objects=2\n",
+    ),
 ];
 
 // Fields of the record of group 2, in their order.
@@ -307,7 +337,12 @@ static RECORDS: [Field; 28] = [
     (96, &[0, 0, 16, 1], 8, "record metaslab=0 at=96 kind=2\n"),
     (96, &[0, 0, 0, 3], 8, "record metaslab=0 at=244 kind=1\n"),
     (172, &[0, 0, 0, 1], 8, "record metaslab=0 at=172 kind=2\n"),
-    (180, &[0, 0, 0, 0, 0, 0, 0, 0], 8, "record metaslab=0 at=180 kind=2\n"),
+    (
+        180,
+        &[0, 0, 0, 0, 0, 0, 0, 0],
+        8,
+        "record metaslab=0 at=180 kind=2\n",
+    ),
     (180, &[0, 1], 8, "record metaslab=0 at=180 kind=2\n"),
     (195, &[0], 8, "record metaslab=0 at=188 kind=2\n"),
     (199, &[0], 8, "record metaslab=0 at=196 kind=2\n"),
@@ -318,7 +353,12 @@ static RECORDS: [Field; 28] = [
     (211, &[0], 8, "record metaslab=0 at=204 kind=2\n"),
     (211, &[3], 8, "record metaslab=0 at=204 kind=2\n"),
     // Any digest.
-    (212, &[1, 2, 3, 4], 0, "import draid1:2d:3c:0s-0 group=2 objects=2\n"),
+    (
+        212,
+        &[1, 2, 3, 4],
+        0,
+        "import draid1:2d:3c:0s-0 group=2 objects=2\n",
+    ),
 ];
 
 // Leaves that the rack of metaslab 0 hasn't, beside other faults.
@@ -488,11 +528,17 @@ fn imports_tell_what_the_areas_have(rt: HostRuntime) {
     }
     for field in UBERS.iter() {
         let wanted = field.3;
-        assert!(rt; is_told(&rt, &BLOCKS, &harm_of(Place::Uber, field)), "{wanted}");
+        assert!(rt;
+            is_told(&rt, &BLOCKS, &harm_of(Place::Uber, field)),
+            "{wanted}"
+        );
     }
     for field in RECORDS.iter() {
         let wanted = field.3;
-        assert!(rt; is_told(&rt, &BLOCKS, &harm_of(Place::Even, field)), "{wanted}");
+        assert!(rt;
+            is_told(&rt, &BLOCKS, &harm_of(Place::Even, field)),
+            "{wanted}"
+        );
     }
     for harm in LEAVES.iter() {
         let wanted = harm.4;

@@ -1,10 +1,10 @@
-use Rattle.std.proofs.Common.{◌∙◌, inl, inr, length, List, Option, Result, Err, ap, subst, sym, arith}
+use Rattle.std.proofs.Common.{◌∙◌, inl, inr, length, List, Result, Err, ap, subst, sym, arith}
 use Rattle.std.specs.Prelude.{nat_eq}
 use Rattle.std.proofs.lemmas.Result.{err_from_is_err_and}
 use Rattle.std.specs.HashMap.{get}
 use Rattle.draid_shard.specs.declared.shard.Shard.{Shard}
 use Rattle.draid_uber.specs.Slots.{group_of}
-use Rattle.draid_shelf.specs.Kits.{Held, KitCounts, gives_uber}
+use Rattle.draid_shelf.specs.Kits.{gives_uber}
 use Rattle.draid_uber.specs.declared.uber.Uber.{Uber}
 use Rattle.draid_uber.specs.Uber.{kept_of, layout_of, next_leaf_of}
 use Rattle.draid_found.specs.Together.{AreApart, AreTogether}

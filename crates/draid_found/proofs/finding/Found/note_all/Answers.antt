@@ -39,8 +39,12 @@ returns-in-Ok-false g c = record {
 }
 
 pub returns-in-Err : goal.returns-in-Err
-returns-in-Err g c = record { noted = tt; keys = tt;
-  fresh = tt; again = λ metaslab place kind is. absurd (starved metaslab place kind is) }
+returns-in-Err g c = record {
+  noted = tt;
+  keys = tt;
+  fresh = tt;
+  again = λ metaslab place kind is. absurd (starved metaslab place kind is);
+}
 
 pub loop-pointer-init : goal.loop-pointer-init
 loop-pointer-init g c = record {
