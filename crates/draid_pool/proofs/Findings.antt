@@ -28,7 +28,7 @@ use Rattle.draid_session.specs.State.{limit_of}
 use Rattle.draid_pool.specs.declared.pool.Pool.{Pool}
 use Rattle.draid_pool.specs.Closing.{TakesBack, kit_in}
 use Rattle.draid_pool.specs.Faulty.{OneIsUnread, TellsBody}
-use Rattle.draid_pool.specs.Findings.{FindsPool, HasNames, IsHeldAgain, IsKitBack, IsOpenedKit, IsReadPool, KeepsKitCounts, LeavesAll}
+use Rattle.draid_pool.specs.Findings.{FindsPool, HasNames, IsHeldAgain, IsKitBack, IsOpenedKit, IsReadPool, KeepsKitCounts, LeavesAll, group_in}
 use Rattle.draid_pool.specs.Found.{IsFoundUber, IsRecovered, LeavesShards, LeavesUber, OpensAllOver, OpensOver}
 use Rattle.draid_pool.proofs.Closed.{KitIs, kit_is}
 use Rattle.draid_pool.proofs.ImportMetaslab.{of_told}
@@ -55,7 +55,7 @@ unread_entry rack area geometry group next o mid leaves yet_leaves counts yet me
 
 -- the finding that a pool is of which so much was read
 pub finds_pool : {R A : Type 0} (rack : racks.Ghosts R) (area : areas.Ghosts A) (held : Option Held) (leaves : ℕ → Option Shape) (counts : ℕ → KitCounts) (count : ℕ) (pool : Pool R A) (group : ℕ) (name : List ℕ) (objects : ℕ)
-    → IsReadPool rack area held leaves counts count pool → group ≡ group_of (kept_of pool.uber) → name ≡ vdev_name_of pool.geometry.spec → HasNames (get nat_eq pool.objects) objects
+    → IsReadPool rack area held leaves counts count pool → group ≡ group_in pool → name ≡ vdev_name_of pool.geometry.spec → HasNames (get nat_eq pool.objects) objects
     → FindsPool rack area held leaves counts group name objects
 finds_pool rack area held leaves counts count pool group name objects is group_is name_is names = record {
   uber = is.uber;

@@ -61,6 +61,10 @@ pub record IsReadPool {R A : Type 0} (rack : racks.Ghosts R) (area : areas.Ghost
 
 -- ---- findings
 
+-- the group that a pool's uberblock names
+abbrev pub group_in : {R A : Type 0} → Pool R A → ℕ
+group_in pool = group_of (kept_of pool.uber)
+
 -- so many objects have a block
 pub record HasNames (newest : ℕ → Option Pointer) (objects : ℕ) : Type 0 where
   pub names : List ℕ

@@ -1,11 +1,9 @@
 //! What an open pool tells of its committed group and of its objects.
 ghost use Rattle.std.specs.Prelude.{◌≡◌, nat_eq};
 ghost use Rattle.std.specs.HashMap.{get};
-ghost use Rattle.draid_uber.specs.Slots.{group_of};
-ghost use Rattle.draid_uber.specs.Uber.{kept_of};
 ghost use Rattle.draid_session.specs.Opening.{HasObjects};
 ghost use Rattle.draid_session.specs.State.{State};
-ghost use Rattle.draid_pool.specs.Findings.{HasNames};
+ghost use Rattle.draid_pool.specs.Findings.{HasNames, group_in};
 ghost use Rattle.draid_pool.specs.Pools.{Represents};
 
 use crate::pool::Pool;
@@ -15,7 +13,7 @@ use draid_rack::Rack;
 impl<R: Rack, A: Area> Pool<R, A> {
     /// The committed group.
     pub fn committed(&self) -> u64
-        ensures group { result ≡ group_of (kept_of self.now.uber) }
+        ensures group { result ≡ group_in self.now }
         ensures state { (x : State) → Represents R.Rack A.Area self.now x → result ≡ x.committed }
     {
         self.uber.committed()
