@@ -1,5 +1,5 @@
 -- What the records of all metaslabs of one pool have in common, and which fault it is where they haven't.
-use Rattle.std.specs.Prelude.{◌≡◌, ◌<◌, ◌+◌, ◌-◌, ◌*◌, ◌^◌, ◌&&◌, ◌⊎◌, ℕ, zero, suc, Bool, true, List, Option, Some, if◌then◌else◌, is_some, length, min, nat_eq, slice_get}
+use Rattle.std.specs.Prelude.{◌≡◌, ◌<◌, ◌+◌, ◌-◌, ◌*◌, ◌^◌, ◌&&◌, ◌⊎◌, ◌↔◌, ℕ, zero, suc, Bool, true, false, List, Option, Some, if◌then◌else◌, is_some, length, min, nat_eq, slice_get}
 use Rattle.std.specs.HashSet.{HashSet, contains}
 use Rattle.draid_names.specs.declared.arm.Arm.{Arm}
 use Rattle.draid_names.specs.declared.pointer.Pointer.{Pointer}
@@ -54,17 +54,34 @@ blocks_below t (suc n) = blocks_below t n + (if is_some (entry_at t n) then 1 el
 abbrev pub place_in : {R A : Type 0} → Shard R A → ℕ → ℕ
 place_in shard first = min (shard.blocks_at + 72 * blocks_below shard.entries first) (2 ^ 64 - 1)
 
--- nothing but a block was noted
-abbrev pub NotesOnly : Pointer → (Key → Bool) → (Key → Bool) → Type 0
-NotesOnly pointer old new = (key : Key) → new key ≡ true → (old key ≡ true) ⊎ (key_of pointer ≡ key)
+-- just a block was noted besides
+abbrev pub NotesJust : Pointer → (Key → Bool) → (Key → Bool) → Type 0
+NotesJust pointer old new = (key : Key) → (new key ≡ true) ↔ ((old key ≡ true) ⊎ (key_of pointer ≡ key))
 
--- nothing but blocks of a metaslab was noted
-abbrev pub NotesOnlyOf : {R A : Type 0} → Shard R A → (Key → Bool) → (Key → Bool) → Type 0
-NotesOnlyOf shard old new = (key : Key) → new key ≡ true → (old key ≡ true) ⊎ HasBlock shard key
+-- just the blocks of a metaslab were noted besides
+abbrev pub NotesJustOf : {R A : Type 0} → Shard R A → (Key → Bool) → (Key → Bool) → Type 0
+NotesJustOf shard old new = (key : Key) → (new key ≡ true) ↔ ((old key ≡ true) ⊎ HasBlock shard key)
+
+-- no block of a metaslab was noted
+abbrev pub IsUnnoted : {R A : Type 0} → Shard R A → (Key → Bool) → Type 0
+IsUnnoted shard noted = (key : Key) → HasBlock shard key → noted key ≡ false
+
+-- a metaslab below a number has a block of this object and number
+pub record HasEarlier {R A : Type 0} (shards : List (Shard R A)) (n : ℕ) (key : Key) : Type 0 where
+  pub m : ℕ
+  pub below : m < n
+  pub shard : Shard R A
+  pub there : slice_get shards m ≡ Some shard
+  pub block : HasBlock shard key
+
+-- The metaslabs below a number are those of one pool: each has the arms of the first, and no block has the object and the number that a block of an earlier one has.
+pub record AreTogether {R A : Type 0} (shards : List (Shard R A)) (n : ℕ) : Type 0 where
+  pub alike : (m : ℕ) (first shard : Shard R A) → m < n → slice_get shards 0 ≡ Some first → slice_get shards m ≡ Some shard → HaveSameArms first.slots shard.slots
+  pub once : (m : ℕ) (shard : Shard R A) (key : Key) → m < n → slice_get shards m ≡ Some shard → HasBlock shard key → HasEarlier shards m key → ⊥
 
 -- ---- faults
 
--- a block of this metaslab has the object and the number of one that was noted
+-- a block of this metaslab is the first that has the object and the number of one that was noted
 pub record IsNotedTwice {R A : Type 0} (shard : Shard R A) (noted : Key → Bool) (metaslab : Option ℕ) (place kind : ℕ) : Type 0 where
   pub metaslab_is : metaslab ≡ Some shard.number
   pub kind_is : kind ≡ 5
@@ -72,8 +89,9 @@ pub record IsNotedTwice {R A : Type 0} (shard : Shard R A) (noted : Key → Bool
   pub block : HasBlock shard key
   pub place_is : place ≡ place_in shard block.first
   pub twice : noted key ≡ true
+  pub lowest : (first : ℕ) (e : Entry) → first < block.first → entry_at shard.entries first ≡ Some e → noted (key_of e.pointer) ≡ false
 
--- a metaslab has other arms than the first one
+-- a metaslab is the first that has other arms than the first one, and those below it are together
 pub record HasOtherArms {R A : Type 0} (shards : List (Shard R A)) (metaslab : Option ℕ) (place kind : ℕ) : Type 0 where
   pub m : ℕ
   pub metaslab_is : metaslab ≡ Some m
@@ -84,8 +102,10 @@ pub record HasOtherArms {R A : Type 0} (shards : List (Shard R A)) (metaslab : O
   pub shard : Shard R A
   pub there : slice_get shards m ≡ Some shard
   pub differ : HaveSameArms first.slots shard.slots → ⊥
+  pub together : AreTogether shards m
 
--- a metaslab has a block of the object and the number that a block of an earlier one has
+-- A metaslab has a block of the object and the number that a block of an earlier one has, and none that begins at a lower stripe. It has the arms of the first one,
+-- and those below it are together.
 pub record HasBlockTwice {R A : Type 0} (shards : List (Shard R A)) (metaslab : Option ℕ) (place kind : ℕ) : Type 0 where
   pub m : ℕ
   pub metaslab_is : metaslab ≡ Some m
@@ -100,7 +120,10 @@ pub record HasBlockTwice {R A : Type 0} (shards : List (Shard R A)) (metaslab : 
   pub block : HasBlock shard key
   pub place_is : place ≡ place_in shard block.first
   pub twice : HasBlock other key
+  pub lowest : (first : ℕ) (e : Entry) → first < block.first → entry_at shard.entries first ≡ Some e → HasEarlier shards m (key_of e.pointer) → ⊥
+  pub alike : (first : Shard R A) → slice_get shards 0 ≡ Some first → HaveSameArms first.slots shard.slots
+  pub together : AreTogether shards m
 
--- which fault the record of a metaslab has that was read whole, among those of the others
+-- which fault metaslabs have first whose records were read whole
 abbrev pub AreApart : {R A : Type 0} → List (Shard R A) → Option ℕ → (place kind : ℕ) → Type 0
 AreApart shards metaslab place kind = HasOtherArms shards metaslab place kind ⊎ HasBlockTwice shards metaslab place kind

@@ -1,10 +1,10 @@
-ghost use Rattle.std.specs.Prelude.{◌≡◌, ◌<◌, ◌⊎◌, ℕ, Some, IfOk, IsErrOf, IsTrue, OnOk, false, nat_eq, true};
+ghost use Rattle.std.specs.Prelude.{◌≡◌, ◌<◌, ◌⊎◌, ℕ, Some, IfOk, IsErrOf, IsTrue, OnOk, false, length, nat_eq, true};
 ghost use Rattle.std.specs.HashMap.{get};
 ghost use Rattle.draid_names.specs.declared.pointer.Pointer.{Pointer};
 ghost use Rattle.draid_entries.specs.Maps.{key_of};
 ghost use Rattle.draid_shard.specs.Fits.{Valid};
 ghost use Rattle.draid_found.specs.Found.{AllLive, AreFound, AreReady, KeepsNewer, Notes, NotesOne, Reaches};
-ghost use Rattle.draid_found.specs.Together.{AreApart, IsNotedTwice, NotesOnly, NotesOnlyOf, noted_in};
+ghost use Rattle.draid_found.specs.Together.{AreApart, AreTogether, IsNotedTwice, IsUnnoted, NotesJust, NotesJustOf, noted_in};
 
 use crate::alike::are_alike;
 use crate::fault::FoundFault;
@@ -56,8 +56,9 @@ pub struct Found {
 impl Found {
     /// Notes a block. The answer is whether no other has its object and number.
     fn note(&mut self, pointer: Pointer) -> Result<bool, NoMemory>
-        ensures keys { OnOk result (NotesOnly pointer (noted_in self.old.keys) (noted_in self.new.keys)) }
+        ensures keys { OnOk result (NotesJust pointer (noted_in self.old.keys) (noted_in self.new.keys)) }
         ensures again { IfOk result (λ new. new ≡ false → noted_in self.old.keys (key_of pointer) ≡ true) }
+        ensures fresh { IfOk result (λ new. IsTrue new → noted_in self.old.keys (key_of pointer) ≡ false) }
         ensures noted { IfOk result (λ new. IsTrue new → NotesOne pointer (get nat_eq self.old.newest) (get nat_eq self.new.newest) self.old.seq self.new.seq) }
     {
         if !self.keys.insert((pointer.object, pointer.seq))? {
@@ -73,7 +74,9 @@ impl Found {
         requires valid { Valid R.Rack shard.now }
         requires live { AllLive shard.now }
         ensures noted { OnOk result (Notes shard.now (get nat_eq self.old.newest) (get nat_eq self.new.newest) self.old.seq self.new.seq) }
-        ensures keys { OnOk result (NotesOnlyOf shard.now (noted_in self.old.keys) (noted_in self.new.keys)) }
+        ensures keys { OnOk result (NotesJustOf shard.now (noted_in self.old.keys) (noted_in self.new.keys)) }
+        ensures fresh { OnOk result (IsUnnoted shard.now (noted_in self.old.keys)) }
+        // The block for which it is refused is the first that was noted before.
         ensures again { (metaslab place kind : ℕ) → IsErrOf result (FoundFault.Record metaslab place kind) → IsNotedTwice shard.now (noted_in self.old.keys) (Some metaslab) place kind }
     {
         let mut from = 0;
@@ -104,7 +107,8 @@ pub fn find_blocks<R: Rack, A: Area>(
 ) -> Result<Found, FoundFault>
     requires ready { AreReady R.Rack shards.now }
     ensures found { IfOk result (λ found. AreFound shards.now (get nat_eq found.newest) found.seq) }
-    // A record for which it is refused has the fault.
+    ensures together { OnOk result (AreTogether shards.now (length shards.now)) }
+    // A record for which it is refused has the first fault.
     ensures faulty { (metaslab place kind : ℕ) → IsErrOf result (FoundFault.Record metaslab place kind) → AreApart shards.now (Some metaslab) place kind }
 {
     let mut found = Found {

@@ -5,6 +5,7 @@ use Rattle.draid_area.specs.Area as content
 use Rattle.draid_rack.specs.Rack.{OnTold, Told}
 use Rattle.draid_rack.specs.declared.Rack.{Ghosts}
 use Rattle.draid_spec.specs.declared.layout.Geometry.{Geometry}
+use Rattle.draid_spec.specs.Geometry.{metaslab_sectors}
 use Rattle.draid_machine.specs.declared.event.Event.TheVariants as event
 use Rattle.draid_machine.specs.declared.names.Segment.{Segment}
 use Rattle.draid_machine.specs.After.{reopen_state}
@@ -25,6 +26,7 @@ use Rattle.draid_segments.specs.Segments.{Backed, Firm, Pieces}
 use Rattle.draid_segments.proofs.Leaving.{open_backed}
 use Rattle.draid_shelf.specs.declared.kit.Kit.{Kit}
 use Rattle.draid_stable.specs.Images.{LeavesBelow, image_by}
+use Rattle.draid_stable.specs.Opening.{has_leaf}
 use Rattle.draid_stable.specs.Stable.{HasRecord}
 use Rattle.draid_shard.specs.declared.shard.Shard.{Shard}
 use Rattle.draid_shard.specs.Calls.{OnBothTold}
@@ -33,6 +35,7 @@ use Rattle.draid_shard.specs.Stands.{StandsFor}
 use Rattle.draid_shard.specs.States.{IsIn, layout_by, part_of}
 use Rattle.draid_shard.proofs.Standing.{has_layout, reached_more}
 use Rattle.draid_groups.specs.Groups.{Opens, area_of_kit, at_version}
+use Rattle.draid_groups.proofs.Reopened.{told_read}
 
 -- a record that stands is read, with the bytes behind it
 read_now : (geometry : Geometry) (metaslab next : ℕ) (image : machine.Image) (x : content.Content) (has : HasRecord geometry metaslab image x) → LeavesBelow next image
@@ -82,7 +85,8 @@ pub opened_stands : {R A : Type 0} (rack : Ghosts R) (told : A → Option conten
 opened_stands rack told kit shard group next w image doubtful pieces opens part reached is own version below has firm =
     let l = layout_by shard in
     let lay = has_layout (part_of shard) part in
-    let same : image_by opens.value ≡ image = image_read shard.geometry shard.number group next image opens.value (told (area_of_kit kit group)) own version below has opens.read in
+    let same : image_by opens.value ≡ image = image_read shard.geometry shard.number group next image opens.value (told (area_of_kit kit group)) own version below has
+    (told_read (told (area_of_kit kit group)) (limits_of shard.geometry shard.number group next) (has_leaf (rack.shape kit.rack) (metaslab_sectors shard.geometry)) opens.value opens.read) in
     let step : ReopenStep l w group doubtful.items (reopen_state l w image doubtful.items) =
     record { image = image; one = chosen l w image group (reached_sound l lay w reached) is own; made = refl } in
     record {

@@ -39,7 +39,7 @@ use Rattle.draid_record.specs.Record as spec
 use Rattle.draid_record.specs.Record.{ArmTold, RecordTold, limits_of, record_of}
 use Rattle.draid_stable.specs.declared.opening.Tables as opening
 use Rattle.draid_stable.specs.Images.{image_by}
-use Rattle.draid_stable.specs.Opening.{AreRead, arms_told, block_at, has_leaf, has_leaf_arm, lacking_from, run_of, slots_at}
+use Rattle.draid_stable.specs.Opening.{AreRead, arms_told, block_at, has_leaf, has_leaf_arm, lacking_from, opening_of, run_of, slots_at}
 use Rattle.draid_stable.proofs.Opened.{found_at}
 use Rattle.draid_stable.proofs.Places.{each_block, inside, sound_limits}
 use Rattle.draid_stable.proofs.Settled.{get_is}
@@ -326,10 +326,15 @@ parity n a b = let x : n % 2 ≡ 0 = grind (arith, nat_tests, a) in let y : (n +
 no_parity : (n : ℕ) → (n % 2 == 0) ≡ false → ((n + 1) % 2 == 0) ≡ false → ⊥
 no_parity n a b = let x : n % 2 ≡ 0 → ⊥ = (λ e. grind (arith, nat_tests, a, e)) in let y : (n + 1) % 2 ≡ 0 → ⊥ = (λ e. grind (arith, nat_tests, b, e)) in omega (arith, x, y)
 
-pub told_read : (o : Option Content) (limits : Limits) (bytes : List ℕ) (value : RecordTold) → OnTold o (λ x. x.bytes ≡ bytes) → record_of limits bytes ≡ Ok value
-    → OnTold o (λ x. record_of limits x.bytes ≡ Ok value)
-told_read None limits bytes value are found = tt
-told_read (Some x) limits bytes value are found = ap (record_of limits) are ∙ found
+pub told_opening : (o : Option Content) (limits : Limits) (there : ℕ → Bool) (bytes : List ℕ) (value : RecordTold) → OnTold o (λ x. x.bytes ≡ bytes) → opening_of limits there bytes ≡ Ok value
+    → OnTold o (λ x. opening_of limits there x.bytes ≡ Ok value)
+told_opening None limits there bytes value are found = tt
+told_opening (Some x) limits there bytes value are found = ap (opening_of limits there) are ∙ found
+
+-- and a record without a fault to a rack has none
+pub told_read : (o : Option Content) (limits : Limits) (there : ℕ → Bool) (value : RecordTold) → OnTold o (λ x. opening_of limits there x.bytes ≡ Ok value) → OnTold o (λ x. record_of limits x.bytes ≡ Ok value)
+told_read None limits there value found = tt
+told_read (Some x) limits there value found = (whole_parts limits there x.bytes value found).read
 
 -- what was read has a front
 pub read_long : (geometry : Geometry) (perms : Perms) (limits : Limits) (there : ℕ → Bool) (bytes : List ℕ) (t : opening.Tables) → AreRead geometry perms limits there bytes t → IsBytes bytes → 10 ≤ length bytes

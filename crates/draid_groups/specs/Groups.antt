@@ -5,6 +5,7 @@ use Rattle.std.specs.declared.vec.Vec.{Vec}
 use Rattle.draid_names.specs.Faults.{Rose}
 use Rattle.draid_names.specs.declared.numbers.TheConstants.{LAST_NUMBER, NUMBERS}
 use Rattle.draid_spec.specs.declared.layout.Geometry.{Geometry}
+use Rattle.draid_spec.specs.Geometry.{metaslab_sectors}
 use Rattle.draid_area.specs.Area as content
 use Rattle.draid_rack.specs.Moments.{LeavesTold}
 use Rattle.draid_rack.specs.declared.Rack.{Ghosts}
@@ -18,19 +19,19 @@ use Rattle.draid_machine.specs.Step.{Step}
 use Rattle.draid_segments.specs.Acts.{DropsBut, IsNamed, nowhere}
 use Rattle.draid_segments.specs.Segments.{Pieces}
 use Rattle.draid_entries.specs.History.{Passes, owed_of, reserved_of, stored_of}
-use Rattle.draid_entries.specs.Live.{first_twice}
+use Rattle.draid_entries.specs.Live.{HasLive, first_twice}
 use Rattle.draid_entries.specs.Thin.{Distinct, ThinIs}
 use Rattle.draid_stable.specs.Stable.{HasRecord}
 use Rattle.draid_names.specs.declared.arm.ArmKind.TheVariants as kind
 use Rattle.draid_machine.specs.declared.names.Segment.{Segment}
 use Rattle.draid_machine.specs.After.{reopen_state}
-use Rattle.draid_record.specs.Record.{RecordTold, limits_of, record_of}
+use Rattle.draid_record.specs.Record.{RecordTold, limits_of}
 use Rattle.draid_record.specs.Written.{IsRecord}
 use Rattle.draid_shelf.specs.declared.kit.Kit.{Kit}
 use Rattle.draid_slots.specs.Table.{SlotTable}
 use Rattle.draid_slots.specs.declared.slot.Detached.{Detached}
 use Rattle.draid_stable.specs.Images.{image_by}
-use Rattle.draid_stable.specs.Opening.{KeepsCounts, block_at}
+use Rattle.draid_stable.specs.Opening.{KeepsCounts, arms_told, block_at, has_leaf, opening_of}
 use Rattle.draid_shard.specs.Calls.{ActsOn, CountsFailed, OnBothTold}
 use Rattle.draid_shard.specs.Fits.{IsLeaf}
 use Rattle.draid_shard.specs.States.{Does, DoesNone, IsIn, layout_by, stored_in}
@@ -137,12 +138,14 @@ pub record DropsDetached {R A : Type 0} (rack : Ghosts R) (old new : Shard R A) 
 abbrev pub area_of_kit : {R A : Type 0} → Kit R A → ℕ → A
 area_of_kit kit group = if group % 2 == 0 then kit.even else kit.odd
 
--- A metaslab is opened from the record of a group that was read: it stands for what a state's opening from that image gives. Leaves that the image doesn't name
--- went, and no other; the areas tell what they did.
+-- A metaslab is opened from the record of a group, which has no fault to a rack with these leaves: its slots have the record's arms, its entries are the record's
+-- blocks, and it stands for what a state's opening from that image gives. Leaves that the image doesn't name went, and no other; the areas tell what they did.
 pub record Opens {R A : Type 0} (rack : Ghosts R) (told : A → Option content.Content) (kit : Kit R A) (group next : ℕ) (shard : Shard R A) : Type 0 where
   pub value : RecordTold
   pub in_range : IsRecord (limits_of shard.geometry shard.number group next) value
-  pub read : content.OnTold (told (area_of_kit kit group)) (λ x. record_of (limits_of shard.geometry shard.number group next) x.bytes ≡ Ok value)
+  pub read : content.OnTold (told (area_of_kit kit group)) (λ x. opening_of (limits_of shard.geometry shard.number group next) (has_leaf (rack.shape kit.rack) (metaslab_sectors shard.geometry)) x.bytes ≡ Ok value)
+  pub arms : shard.slots.arms ≡ arms_told value.slots
+  pub entries : HasLive shard.entries value.blocks
   pub is_in : (w : machine.State) (doubtful : List Segment) → IsIn shard (reopen_state (layout_by shard) w (image_by value) doubtful)
   pub leaves : OnBothTold (rack.told kit.rack) (rack.told shard.rack) (DropsBut (IsNamed (image_by value)))
   -- where the first block of the record stands, behind which the others follow

@@ -12,6 +12,7 @@ use Rattle.draid_names.specs.declared.pointer.Pointer.{Pointer}
 use Rattle.draid_objects.specs.Changes.{Change, Write, write_of}
 use Rattle.draid_shard.specs.declared.shard.Shard.{Shard}
 use Rattle.draid_session.specs.Opening.{HasObjects}
+use Rattle.draid_pool.specs.Findings.{HasNames}
 use Rattle.draid_pool.specs.Objects.{PointsTo}
 
 -- ---- numbers in ascending order
@@ -127,6 +128,23 @@ some_written shards None None is = (λ e. absurd (cc e), λ e. absurd (e refl))
 some_written shards (Some p) (Some w) is = (λ e f. cc f, λ e. refl)
 some_written shards None (Some w) is = absurd is
 some_written shards (Some p) None is = absurd is
+
+pub has_names : {S : Type 0} (objects : HashMap ℕ Pointer S) (result : ℕ) → IsUnique nat_eq objects → result ≡ hash_map_len objects → HasNames (get nat_eq objects) result
+has_names objects result unique counted = record {
+  names = sorted (keys objects);
+  ascending = increasing (sorted (keys objects)) (distinct_ascend (keys objects) unique);
+  each = each;
+  many = counted ∙ (sym (length-keys_of objects.entries) ∙ sym (length-sorted (keys objects)));
+} where
+  exact : (x y : ℕ) → nat_eq x y ≡ true → x ≡ y
+  exact x y is = grind (arith, nat_tests)
+
+  each : (object : ℕ) → Contains (sorted (keys objects)) object ↔ IsSome (get nat_eq objects object)
+  each object =
+      let has = hash_map_contains_key_iff nat_eq_equiv exact objects object in (
+        λ c. has.1 (in_contains (keys objects) object (in_sorted object (keys objects) (contains_in (sorted (keys objects)) object c.0 c.1 c.2))),
+        λ w. (let c = has.0 w in in_contains (sorted (keys objects)) object (sorted_in object (keys objects) (contains_in (keys objects) object c.0 c.1 c.2))),
+      )
 
 pub has_objects : {R A S : Type 0} (shards : List (Shard R A)) (objects : HashMap ℕ Pointer S) (changes : List Change) (result : ℕ) → IsUnique nat_eq objects → result ≡ hash_map_len objects
     → ((object : ℕ) → PointsTo shards (get nat_eq objects object) (write_of changes object)) → HasObjects changes result

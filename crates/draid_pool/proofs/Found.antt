@@ -8,6 +8,7 @@ use Rattle.std.proofs.lemmas.Option.{slice_get_within}
 use Rattle.draid_names.specs.Faults.{Rose}
 use Rattle.draid_names.specs.declared.fault.DeviceFault.{DeviceFault}
 use Rattle.draid_names.specs.declared.pointer.Pointer.{Pointer}
+use Rattle.draid_rack.specs.Rack.{Shape}
 use Rattle.draid_rack.specs.declared.Rack as racks
 use Rattle.draid_area.specs.Area as content
 use Rattle.draid_area.specs.declared.Area as areas
@@ -24,6 +25,7 @@ use Rattle.draid_entries.specs.Entries.{entry_at}
 use Rattle.draid_entries.specs.Listed.{has_key, held_of}
 use Rattle.draid_entries.specs.Maps.{held_at, key_of, staged}
 use Rattle.draid_shelf.specs.Kits as shelf
+use Rattle.draid_shelf.specs.Shelf.{IsKnown}
 use Rattle.draid_shelf.specs.declared.kit.Kit.{Kit}
 use Rattle.draid_spec.specs.declared.layout.Geometry.{Geometry}
 use Rattle.draid_map.specs.Place.{IsLayout}
@@ -83,18 +85,37 @@ leaf_found uber both = by (kept_of uber) both
 -- ---- the shelf
 
 pub uber_left : (o n : Option shelf.Held) (count count' : ℕ) → n ≡ o → count' ≡ count → LeavesUber o n count count'
-uber_left o n count count' same counted = record { held = subst (λ (z : Option shelf.Held). shelf.OnHeld z (λ y. MatchOption o ⊥ (λ x. SameButFlushed x y))) (sym same) (by o); later = omega (arith, counted) }
+uber_left o n count count' same counted = record {
+  held = subst (λ (z : Option shelf.Held). shelf.OnHeld z (λ y. MatchOption o ⊥ (λ x. SameButFlushed x y))) (sym same) (by o);
+  tells = subst (λ (z : Option shelf.Held). shelf.OnHeld o (λ x. IsSome z)) (sym same) (still o);
+  later = omega (arith, counted);
+}
   where
+    still : (p : Option shelf.Held) → shelf.OnHeld p (λ x. IsSome p)
+    still None = tt
+    still (Some x) = refl
+
     by : (p : Option shelf.Held) → shelf.OnHeld p (λ y. MatchOption p ⊥ (λ x. SameButFlushed x y))
     by None = tt
     by (Some x) = record { uber = inl refl; checks = refl; kits = λ m. refl }
 
-pub uber_put : (o mid n : Option shelf.Held) (was now : Option content.Content) (count count' : ℕ) → mid ≡ shelf.takes_uber o → n ≡ shelf.gives_uber now mid → shelf.OnHeld o (λ x. was ≡ x.uber)
+pub uber_put : {T : Type 0} (taken : T) (o mid n : Option shelf.Held) (was now : Option content.Content) (count count' : ℕ) → mid ≡ shelf.takes_uber o → n ≡ shelf.gives_uber now mid → shelf.OnHeld o (λ x. was ≡ x.uber) → shelf.NeedsUber (Ok taken) o
     → (now ≡ was) ⊎ (now ≡ option_map content.flushes was) → count ≤ count' → LeavesUber o n count count'
-uber_put o mid n was now count count' takes gives is left later = record {
+uber_put taken o mid n was now count count' takes gives is needs left later = record {
   held = subst (λ (z : Option shelf.Held). shelf.OnHeld z (λ y. MatchOption o ⊥ (λ x. SameButFlushed x y))) (sym (gives ∙ ap (shelf.gives_uber now) takes)) (by now o left is);
+  tells = subst (λ (z : Option shelf.Held). shelf.OnHeld o (λ x. IsSome z)) (sym (gives ∙ ap (shelf.gives_uber now) takes)) (still o is needs);
   later = later;
 } where
+  -- what was left tells where what was taken did
+  some_left : (w c : Option content.Content) → (c ≡ w) ⊎ (c ≡ option_map content.flushes w) → (w ≡ None → ⊥) → (x : shelf.Held) → IsSome (shelf.gives_uber c (shelf.takes_uber (Some x)))
+  some_left None c left some x = absurd (some refl)
+  some_left (Some w) c (inl same) some x = subst (λ z. IsSome (shelf.gives_uber z (shelf.takes_uber (Some x)))) (sym same) refl
+  some_left (Some w) c (inr flushed) some x = subst (λ z. IsSome (shelf.gives_uber z (shelf.takes_uber (Some x)))) (sym flushed) refl
+
+  still : (p : Option shelf.Held) → shelf.OnHeld p (λ x. was ≡ x.uber) → shelf.NeedsUber (Ok taken) p → shelf.OnHeld p (λ x. IsSome (shelf.gives_uber now (shelf.takes_uber p)))
+  still None is needs = tt
+  still (Some x) is needs = some_left was now left (λ none. (let failed = needs (sym is ∙ none) in cc)) x
+
   by : (c : Option content.Content) (p : Option shelf.Held) → (c ≡ was) ⊎ (c ≡ option_map content.flushes was) → shelf.OnHeld p (λ x. was ≡ x.uber) → shelf.OnHeld (shelf.gives_uber c (shelf.takes_uber p)) (λ y. MatchOption p ⊥ (λ x. SameButFlushed x y))
   by None p left is = tt
   by (Some c) None left is = tt
@@ -280,15 +301,16 @@ pub each_none : {X : Type 0} (P : ℕ → X → Type 0) (xs : List X) → xs ≡
 each_none P xs none m y there = (let at : slice_get [] m ≡ Some y = subst (λ zs. slice_get zs m ≡ Some y) none there in absurd (cc))
 
 -- what was held for it was so from the beginning
-pub over_first : {R A : Type 0} (rack : racks.Ghosts R) (area : areas.Ghosts A) (limit group next n : ℕ) (old mid : Option shelf.Held) (before middle : shelf.KitCounts) (shard : Shard R A) → TakesFirst n old mid → middle ≡ before
-    → OpensOver rack area limit group next n mid middle shard → OpensOver rack area limit group next n old before shard
-over_first rack area limit group next n old mid before middle shard takes same o =
+pub over_first : {R A : Type 0} (rack : racks.Ghosts R) (area : areas.Ghosts A) (limit group next n : ℕ) (old mid : Option shelf.Held) (known yet : Option Shape) (before middle : shelf.KitCounts) (shard : Shard R A) → TakesFirst n old mid → yet ≡ known → middle ≡ before
+    → OpensOver rack area limit group next n mid yet middle shard → OpensOver rack area limit group next n old known before shard
+over_first rack area limit group next n old mid known yet before middle shard takes same_leaves same o =
     let t = o.taken in
     record {
       kit = o.kit;
       taken = record {
         told = from_first rack area n old mid (λ k. shelf.kit_of (rack.told o.kit.rack) (area.told o.kit.even) (area.told o.kit.odd) ≡ k) takes t.told;
         some = from_first rack area n old mid (λ k. k ≡ None → IsErrOf (Ok o.kit) DeviceFault.Failed) takes t.some;
+        leaves = subst (λ (s : Option Shape). IsKnown s (rack.shape o.kit.rack)) same_leaves t.leaves;
         rack_count = λ who. t.rack_count who ∙ ap (λ (c : shelf.KitCounts). c.rack who) same;
         even_count = t.even_count ∙ ap (λ (c : shelf.KitCounts). c.even) same;
         odd_count = t.odd_count ∙ ap (λ (c : shelf.KitCounts). c.odd) same;

@@ -1,7 +1,7 @@
 -- A pool that is given back to a shelf is one of which no record has a fault to an import.
 use Rattle.std.proofs.Common.{arith, ◌≡◌, ◌==◌, ◌%◌, ◌<◌, ◌≤◌, ◌∙◌, ℕ, Bool, true, false, List, Option, Some, None, length, take, sym, subst, if◌then◌else◌}
 use Rattle.std.proofs.lemmas.List.{places, same_lists}
-use Rattle.std.specs.Prelude.{IsSomeAnd, MatchOption, slice_get}
+use Rattle.std.specs.Prelude.{⊤, IsSomeAnd, MatchOption, slice_get}
 use Rattle.std.proofs.lemmas.Option.{slice_get_within}
 use Rattle.draid_area.specs.Area.{Content, MayLeave}
 use Rattle.draid_area.specs.Moments.{IsCrashOutcome}
@@ -12,11 +12,11 @@ use Rattle.draid_machine.specs.State as machine
 use Rattle.draid_spec.specs.declared.layout.Geometry.{Geometry}
 use Rattle.draid_record.specs.Written.{record_bytes}
 use Rattle.draid_segments.specs.Segments.{Pieces}
-use Rattle.draid_shelf.specs.Kits.{Both, CrashedHeld, CrashedKit, Held, KitCounts, KitTold, OnHeld, gives_uber, puts_uber}
+use Rattle.draid_shelf.specs.Kits.{Both, ChecksTold, CrashedChecks, CrashedHeld, CrashedKit, Held, KitCounts, KitTold, OnHeld, gives_uber, puts_uber}
 use Rattle.draid_stable.specs.Stable as stable
 use Rattle.draid_shard.specs.declared.shard.Shard.{Shard}
 use Rattle.draid_session.specs.State.{Metaslab, State}
-use Rattle.draid_pool.specs.Closing.{Returns, TakesBack}
+use Rattle.draid_pool.specs.Closing.{IsFirm, IsFirmArea, IsFirmKit, Returns, TakesBack}
 use Rattle.draid_groups.specs.Groups.{ListsOnce}
 use Rattle.draid_pool.specs.Importable.{AllAlike, HasImageLeaves, IsImportable}
 use Rattle.draid_pool.specs.Metaslabs.{IsMetaslab}
@@ -118,3 +118,30 @@ pub importable_left : (x : State) (o n : Option Held) (leaves now : ℕ → Opti
 importable_left x o None leaves now both same h = tt
 importable_left x None (Some left) leaves now both same h = absurd (cc)
 importable_left x (Some held) (Some left) leaves now both same h = importable_crashed x held left leaves now both same h
+
+-- ---- a crash
+
+-- nothing is soft behind it
+firm_area : (o n : Option Content) → Both IsCrashOutcome o n → MatchOption n ⊤ IsFirmArea
+firm_area o None crash = tt
+firm_area None (Some y) crash = absurd (cc)
+firm_area (Some x) (Some y) crash = crash.soft
+
+firm_checks : (o n : Option ChecksTold) → Both CrashedChecks o n → MatchOption n ⊤ (λ checks. IsFirmArea checks.even × IsFirmArea checks.odd)
+firm_checks o None crash = tt
+firm_checks None (Some y) crash = absurd (cc)
+firm_checks (Some x) (Some y) crash = (crash.even.soft, crash.odd.soft)
+
+firm_kit : (o n : Option KitTold) → Both CrashedKit o n → MatchOption n ⊤ IsFirmKit
+firm_kit o None crash = tt
+firm_kit None (Some y) crash = absurd (cc)
+firm_kit (Some x) (Some y) crash = record { rack = crash.rack.soft; even = crash.even.soft; odd = crash.odd.soft }
+
+pub firm_crashed : (o n : Option Held) → Both CrashedHeld o n → OnHeld n IsFirm
+firm_crashed o None crash = tt
+firm_crashed None (Some y) crash = absurd (cc)
+firm_crashed (Some x) (Some y) crash = record {
+  uber = firm_area x.uber y.uber crash.uber;
+  checks = firm_checks x.checks y.checks crash.checks;
+  kits = λ m. firm_kit (x.kits m) (y.kits m) (crash.kits m);
+}

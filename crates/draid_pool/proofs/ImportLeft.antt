@@ -1,5 +1,5 @@
 -- What an import leaves that was refused behind the uberblock: the metaslabs that were opened are given back, and the others are as they were.
-use Rattle.std.proofs.Common.{arith, ◌≡◌, ◌<◌, ◌≤◌, ◌∙◌, ◌⊎◌, inl, inr, ℕ, List, [], Option, Some, None, Err, length, refl, sym, ap, subst}
+use Rattle.std.proofs.Common.{arith, ◌≡◌, ◌<◌, ◌≤◌, ◌∙◌, ◌⊎◌, inl, inr, ℕ, List, [], Option, Some, None, Ok, Err, length, refl, sym, ap, subst}
 use Rattle.std.specs.declared.alloc.Global.{Global}
 use Rattle.std.specs.Prelude.{IsSome, IsSomeAnd, MatchOption, option_map, slice_get}
 use Rattle.std.proofs.lemmas.Bool.{cases_eq, cases_lt}
@@ -15,7 +15,7 @@ use Rattle.draid_map.specs.Place.{IsLayout}
 use Rattle.draid_record.specs.declared.uber.UberBody.{UberBody}
 use Rattle.draid_segments.specs.Acts.{DropsBut, IsNamed}
 use Rattle.draid_segments.specs.Segments.{Pieces}
-use Rattle.draid_shelf.specs.Kits.{AreNewChecks, Held, KitCounts, KitTold, OnHeld, gives_kit, gives_uber, kit_of, puts_uber, takes_kit, takes_uber}
+use Rattle.draid_shelf.specs.Kits.{AreNewChecks, Held, KitCounts, KitTold, NeedsKit, OnHeld, gives_kit, gives_uber, kit_of, puts_uber, takes_kit, takes_uber}
 use Rattle.draid_shelf.specs.Shelf.{IsKnown, SameOthers}
 use Rattle.draid_shelf.specs.declared.kit.Kit.{Kit}
 use Rattle.draid_stable.specs.Images.{image_by}
@@ -28,7 +28,7 @@ use Rattle.draid_uber.specs.Uber.{area_of, kept_of, layout_of, next_leaf_of}
 use Rattle.draid_uber.specs.declared.uber.Uber.{Uber}
 use Rattle.draid_session.specs.State.{Metaslab, State, limit_of}
 use Rattle.draid_pool.specs.Closing.{AllTell, RestsOn, Returns, ReturnsLeaves, TakesBack, kit_in}
-use Rattle.draid_pool.specs.Found.{AnyRecordsRose, AreReopened, CountsLater, HasRisen, HoldsKits, IsFoundUber, IsRecovered, IsReopened, IsShardFault, KeepsKnown, LeavesShards, NoRecord, OpensAllOver, RecordsRose, StaysHeld}
+use Rattle.draid_pool.specs.Found.{AnyRecordsRose, AreReopened, CountsLater, HasRisen, IsFoundUber, IsRecovered, IsReopened, IsShardFault, KeepsKnown, LeavesShards, NoRecord, OpensAllOver, OpensOver, RecordsRose, StaysHeld}
 use Rattle.draid_pool.specs.Importable.{HasImageLeaves}
 use Rattle.draid_pool.specs.Imported.{FindsBody, OpensFound, RestsFound}
 use Rattle.draid_pool.specs.Importing.{ImportIs, LeavesPool, RestsThere}
@@ -37,7 +37,7 @@ use Rattle.draid_pool.specs.Ubers.{UberStands}
 use Rattle.draid_pool.specs.declared.fault.PoolFault.{PoolFault}
 use Rattle.draid_pool.specs.declared.fault.PoolFault.TheVariants as fault
 use Rattle.draid_pool.proofs.Closed.{kit_is}
-use Rattle.draid_pool.proofs.Found.{stays_same}
+use Rattle.draid_pool.proofs.Found.{counts_later, stays_same}
 use Rattle.draid_pool.proofs.ImportFound.{finds_image}
 use Rattle.draid_pool.proofs.ImportMetaslab.{FindsImage}
 use Rattle.draid_pool.proofs.ImportOpened.{rested}
@@ -49,19 +49,19 @@ use Rattle.draid_pool.proofs.Opened.{rose_since}
 -- ---- one metaslab
 
 -- the shelf is as it was
-pub tells_same : (n : ℕ) (o new : Option Held) → new ≡ o → OnHeld o (λ x. IsSome (x.kits n) → IsSome new)
-tells_same n None new same = tt
-tells_same n (Some x) new same = λ kit. subst IsSome (sym same) refl
+pub tells_same : (o new : Option Held) → new ≡ o → OnHeld o (λ x. IsSome new)
+tells_same None new same = tt
+tells_same (Some x) new same = subst IsSome (sym same) refl
 
 -- a kit that tells what was held is put back
-pub tells_put : (n : ℕ) (old mid new : Option Held) (k : Option KitTold) → mid ≡ takes_kit n old → new ≡ gives_kit n k mid → OnHeld old (λ x. k ≡ x.kits n)
-    → OnHeld old (λ x. IsSome (x.kits n) → IsSome new)
-tells_put n None mid new k takes gives is = tt
-tells_put n (Some x) mid new k takes gives is = λ kit. by k (subst IsSome (sym is) kit) (gives ∙ ap (gives_kit n k) takes)
+pub tells_put : {T : Type 0} (taken : T) (n : ℕ) (old mid new : Option Held) (k : Option KitTold) → mid ≡ takes_kit n old → new ≡ gives_kit n k mid → OnHeld old (λ x. k ≡ x.kits n) → NeedsKit n (Ok taken) old
+    → OnHeld old (λ x. IsSome new)
+tells_put taken n None mid new k takes gives is needs = tt
+tells_put taken n (Some x) mid new k takes gives is needs = by k is (gives ∙ ap (gives_kit n k) takes)
   where
-    by : (j : Option KitTold) → IsSome j → new ≡ gives_kit n j (takes_kit n (Some x)) → IsSome new
-    by None some gives = absurd (cc)
-    by (Some j) some gives = subst IsSome (sym gives) refl
+    by : (j : Option KitTold) → j ≡ x.kits n → new ≡ gives_kit n j (takes_kit n (Some x)) → IsSome new
+    by None own gives = (let failed = needs (sym own) in absurd (cc))
+    by (Some j) own gives = subst IsSome (sym gives) refl
 
 pub keeps_same : (o : Option Shape) → KeepsKnown o o
 keeps_same None = tt
@@ -94,104 +94,6 @@ back_by rack area n shards many (Some x) (Some y) (Some z) (Some w) t s h = reco
   others = λ m past. h.others m past ∙ (s.kits m ∙ t.others m (omega (arith, past, many)));
 }
 
--- none was opened yet
-pub leaves_none : {R A : Type 0} (rack : racks.Ghosts R) (area : areas.Ghosts A) (geometry : Geometry) (group next : ℕ) (perms : Perms) (told : Option Held) (counts : ℕ → KitCounts) (leaves : ℕ → Option Shape)
-    → IsLayout geometry perms → LeavesShards rack area geometry group next told told counts counts leaves leaves
-leaves_none {R} {A} rack area geometry group next perms told counts leaves layout = record {
-  perms = perms;
-  layout = layout;
-  shards = [];
-  few = omega arith;
-  each = λ m shard there. absurd (cc);
-  over = λ m shard there. absurd (cc);
-  held = by told;
-  tells = still told;
-  rack_count = λ m shard who there. absurd (cc);
-  even_count = λ m shard there. absurd (cc);
-  odd_count = λ m shard there. absurd (cc);
-  others = λ m past below. record { rack = λ who. refl; even = omega arith; odd = omega arith };
-  leaves_own = λ m shard there. absurd (cc);
-  leaves_left = λ m past below. keeps_same (leaves m);
-} where
-  empty : List (Shard R A)
-  empty = []
-
-  by : (o : Option Held) → OnHeld o (λ y. MatchOption o ⊥ (λ x. TakesBack rack area empty x y))
-  by None = tt
-  by (Some x) = record { uber = refl; checks = refl; kits = λ m shard there. absurd (cc); others = λ m past. refl }
-
-  still : (o : Option Held) → OnHeld o (λ x. HoldsKits geometry x → AllTell rack area empty → IsSome o)
-  still None = tt
-  still (Some x) = λ kits all. refl
-
--- one of them wasn't opened, and those below it were given back
-pub leaves_shards : {R A : Type 0} (rack : racks.Ghosts R) (area : areas.Ghosts A) (geometry : Geometry) (group next n : ℕ) (perms : Perms) (shards : List (Shard R A)) (first mid last new : Option Held)
-    (before middle late after : ℕ → KitCounts) (leaves yet_leaves late_leaves now : ℕ → Option Shape)
-    → IsLayout geometry perms → length shards ≡ n → n < geometry.props.metaslabs
-    → ((m : ℕ) (shard : Shard R A) → slice_get shards m ≡ Some shard → IsReopened rack (record { geometry = geometry; perms = perms; number = m }) group shard)
-    → OpensAllOver rack area (limit_of geometry) group next first before shards → TakesFirst n first mid → StaysHeld mid last → OnHeld mid (λ x. IsSome (x.kits n) → IsSome last)
-    → Returns rack area shards last new late after → ReturnsLeaves rack shards late_leaves now → ((m : ℕ) → n ≤ m → middle m ≡ before m) → CountsLater (middle n) (late n) → SameOthers n middle late
-    → ((m : ℕ) → n ≤ m → yet_leaves m ≡ leaves m) → KeepsKnown (yet_leaves n) (late_leaves n) → SameOthers n yet_leaves late_leaves
-    → LeavesShards rack area geometry group next first new before after leaves now
-leaves_shards rack area geometry group next n perms shards first mid last new before middle late after leaves yet_leaves late_leaves now layout many below each over takes stays tells r l yet later others yet_known known others_known =
-    record {
-      perms = perms;
-      layout = layout;
-      shards = shards;
-      few = omega (arith, many, below);
-      each = each;
-      over = over;
-      held = back_by rack area n shards many first mid last new takes stays r.held;
-      tells = still first mid takes tells;
-      rack_count = r.rack_count;
-      even_count = r.even_count;
-      odd_count = r.odd_count;
-      others = λ m past inside. subst (λ (k : KitCounts). CountsLater k (after m)) (yet m (omega (arith, past, many))) (subst (λ (k : KitCounts). CountsLater (middle m) k) (sym (r.others m past)) (count_at m (cases_eq m n)));
-      leaves_own = l.own;
-      leaves_left = λ m past inside. subst (λ o. KeepsKnown o (now m)) (yet_known m (omega (arith, past, many))) (subst (KeepsKnown (yet_leaves m)) (sym (l.others m past)) (known_at m (cases_eq m n)));
-    }
-  where
-    count_at : (m : ℕ) → (m ≡ n) ⊎ (m ≡ n → ⊥) → CountsLater (middle m) (late m)
-    count_at m (inl same) = subst (λ (k : ℕ). CountsLater (middle k) (late k)) (sym same) later
-    count_at m (inr other) = subst (λ (k : KitCounts). CountsLater (middle m) k) (sym (others m other)) (record { rack = λ who. refl; even = omega arith; odd = omega arith })
-
-    known_at : (m : ℕ) → (m ≡ n) ⊎ (m ≡ n → ⊥) → KeepsKnown (yet_leaves m) (late_leaves m)
-    known_at m (inl same) = subst (λ (k : ℕ). KeepsKnown (yet_leaves k) (late_leaves k)) (sym same) known
-    known_at m (inr other) = keeps_equal (yet_leaves m) (late_leaves m) (others_known m other)
-
-    still : (a b : Option Held) → TakesFirst n a b → OnHeld b (λ x. IsSome (x.kits n) → IsSome last) → OnHeld a (λ x. HoldsKits geometry x → AllTell rack area shards → IsSome new)
-    still None b t h = tt
-    still (Some x) None t h = absurd t
-    still (Some x) (Some y) t h = λ kits all. r.tells (h (subst IsSome (sym (t.others n (omega arith))) (kits n below))) all
-
--- all were opened, and were given back
-pub leaves_all : {R A : Type 0} (rack : racks.Ghosts R) (area : areas.Ghosts A) (geometry : Geometry) (group next : ℕ) (shards : List (Shard R A)) (first last new : Option Held)
-    (before late after : ℕ → KitCounts) (leaves late_leaves now : ℕ → Option Shape)
-    → AreReopened rack geometry group shards → OpensAllOver rack area (limit_of geometry) group next first before shards → TakesFirst geometry.props.metaslabs first last
-    → Returns rack area shards last new late after → ReturnsLeaves rack shards late_leaves now → LeavesShards rack area geometry group next first new before after leaves now
-leaves_all rack area geometry group next shards first last new before late after leaves late_leaves now are over takes r l = record {
-  perms = are.perms;
-  layout = are.layout;
-  shards = shards;
-  few = (let many = are.many in omega (arith, many));
-  each = are.each;
-  over = over;
-  held = back_by rack area geometry.props.metaslabs shards are.many first last last new takes (stays_same last last refl) r.held;
-  tells = still first last takes r.tells;
-  rack_count = r.rack_count;
-  even_count = r.even_count;
-  odd_count = r.odd_count;
-  others = λ m past inside. (let many = are.many in absurd (omega (arith, past, inside, many)));
-  leaves_own = l.own;
-  leaves_left = λ m past inside. (let many = are.many in absurd (omega (arith, past, inside, many)));
-} where
-  still : (a b : Option Held) → TakesFirst geometry.props.metaslabs a b → (IsSome b → AllTell rack area shards → IsSome new) → OnHeld a (λ x. HoldsKits geometry x → AllTell rack area shards → IsSome new)
-  still None b t h = tt
-  still (Some x) None t h = absurd t
-  still (Some x) (Some y) t h = λ kits all. h refl all
-
--- ---- the pool
-
 told_there : (o n : Option Told) (t : Told) (P : Told → Told → Type 0) → o ≡ Some t → OnBothTold o n P → (s : Told) × (n ≡ Some s)
 told_there None n t P is both = absurd (cc)
 told_there (Some o) None t P is both = absurd both
@@ -209,6 +111,114 @@ tells_over rack area old shard group next kit told opens =
     let t = told_there (rack.told old.rack) (rack.told shard.rack) kit.rack (DropsBut (IsNamed (image_by opens.value))) k.rack opens.leaves in
     all_some (rack.told shard.rack) (area.told shard.even) (area.told shard.odd) t.0 kit.even kit.odd t.1 (opens.even ∙ k.even) (opens.odd ∙ k.odd)
 
+-- so all of them, where the shelf told what it held
+all_tell_over : {R A : Type 0} (rack : racks.Ghosts R) (area : areas.Ghosts A) (limit group next : ℕ) (o : Option Held) (leaves : ℕ → Option Shape) (counts : ℕ → KitCounts) (shards : List (Shard R A))
+    → OpensAllOver rack area limit group next o leaves counts shards → OnHeld o (λ x. AllTell rack area shards)
+all_tell_over rack area limit group next None leaves counts shards over = tt
+all_tell_over {R} {A} rack area limit group next (Some x) leaves counts shards over = λ m shard at. by m shard (over m shard at) (x.kits m) refl
+  where
+    by : (m : ℕ) (shard : Shard R A) → OpensOver rack area limit group next m (Some x) (leaves m) (counts m) shard → (k : Option KitTold) → x.kits m ≡ k → IsSome (kit_in rack area shard)
+    by m shard o None none = (let failed = o.taken.some none in absurd (cc))
+    by m shard o (Some kit) is = tells_over rack area o.kit shard group next kit (o.taken.told ∙ is) o.opens
+
+-- none was opened yet
+pub leaves_none : {R A : Type 0} (rack : racks.Ghosts R) (area : areas.Ghosts A) (geometry : Geometry) (group next : ℕ) (perms : Perms) (told : Option Held) (counts : ℕ → KitCounts) (leaves : ℕ → Option Shape)
+    → IsLayout geometry perms → LeavesShards rack area geometry group next told told counts counts leaves leaves
+leaves_none {R} {A} rack area geometry group next perms told counts leaves layout = record {
+  perms = perms;
+  layout = layout;
+  shards = [];
+  few = omega arith;
+  each = λ m shard there. absurd (cc);
+  over = λ m shard there. absurd (cc);
+  held = by told;
+  tells = still told;
+  rack_count = λ m shard who there. absurd (cc);
+  even_count = λ m shard there. absurd (cc);
+  odd_count = λ m shard there. absurd (cc);
+  others = λ m past. record { rack = λ who. refl; even = omega arith; odd = omega arith };
+  leaves_own = λ m shard there. absurd (cc);
+  leaves_left = λ m past. keeps_same (leaves m);
+} where
+  empty : List (Shard R A)
+  empty = []
+
+  by : (o : Option Held) → OnHeld o (λ y. MatchOption o ⊥ (λ x. TakesBack rack area empty x y))
+  by None = tt
+  by (Some x) = record { uber = refl; checks = refl; kits = λ m shard there. absurd (cc); others = λ m past. refl }
+
+  still : (o : Option Held) → OnHeld o (λ x. IsSome o)
+  still None = tt
+  still (Some x) = refl
+
+-- one of them wasn't opened, and those below it were given back
+pub leaves_shards : {R A : Type 0} (rack : racks.Ghosts R) (area : areas.Ghosts A) (geometry : Geometry) (group next n : ℕ) (perms : Perms) (shards : List (Shard R A)) (first mid last new : Option Held)
+    (before middle late after : ℕ → KitCounts) (leaves yet_leaves late_leaves now : ℕ → Option Shape)
+    → IsLayout geometry perms → length shards ≡ n → n < geometry.props.metaslabs
+    → ((m : ℕ) (shard : Shard R A) → slice_get shards m ≡ Some shard → IsReopened rack (record { geometry = geometry; perms = perms; number = m }) group shard)
+    → OpensAllOver rack area (limit_of geometry) group next first leaves before shards → TakesFirst n first mid → StaysHeld mid last → OnHeld mid (λ x. IsSome last)
+    → Returns rack area shards last new late after → ReturnsLeaves rack shards late_leaves now → ((m : ℕ) → n ≤ m → middle m ≡ before m) → CountsLater (middle n) (late n) → SameOthers n middle late
+    → ((m : ℕ) → n ≤ m → yet_leaves m ≡ leaves m) → KeepsKnown (yet_leaves n) (late_leaves n) → SameOthers n yet_leaves late_leaves
+    → LeavesShards rack area geometry group next first new before after leaves now
+leaves_shards rack area geometry group next n perms shards first mid last new before middle late after leaves yet_leaves late_leaves now layout many below each over takes stays tells r l yet later others yet_known known others_known =
+    record {
+      perms = perms;
+      layout = layout;
+      shards = shards;
+      few = omega (arith, many, below);
+      each = each;
+      over = over;
+      held = back_by rack area n shards many first mid last new takes stays r.held;
+      tells = still first mid takes tells (all_tell_over rack area (limit_of geometry) group next first leaves before shards over);
+      rack_count = r.rack_count;
+      even_count = r.even_count;
+      odd_count = r.odd_count;
+      others = λ m past. subst (λ (k : KitCounts). CountsLater k (after m)) (yet m (omega (arith, past, many))) (subst (λ (k : KitCounts). CountsLater (middle m) k) (sym (r.others m past)) (count_at m (cases_eq m n)));
+      leaves_own = l.own;
+      leaves_left = λ m past. subst (λ o. KeepsKnown o (now m)) (yet_known m (omega (arith, past, many))) (subst (KeepsKnown (yet_leaves m)) (sym (l.others m past)) (known_at m (cases_eq m n)));
+    }
+  where
+    count_at : (m : ℕ) → (m ≡ n) ⊎ (m ≡ n → ⊥) → CountsLater (middle m) (late m)
+    count_at m (inl same) = subst (λ (k : ℕ). CountsLater (middle k) (late k)) (sym same) later
+    count_at m (inr other) = subst (λ (k : KitCounts). CountsLater (middle m) k) (sym (others m other)) (record { rack = λ who. refl; even = omega arith; odd = omega arith })
+
+    known_at : (m : ℕ) → (m ≡ n) ⊎ (m ≡ n → ⊥) → KeepsKnown (yet_leaves m) (late_leaves m)
+    known_at m (inl same) = subst (λ (k : ℕ). KeepsKnown (yet_leaves k) (late_leaves k)) (sym same) known
+    known_at m (inr other) = keeps_equal (yet_leaves m) (late_leaves m) (others_known m other)
+
+    still : (a b : Option Held) → TakesFirst n a b → OnHeld b (λ x. IsSome last) → OnHeld a (λ x. AllTell rack area shards) → OnHeld a (λ x. IsSome new)
+    still None b t h all = tt
+    still (Some x) None t h all = absurd t
+    still (Some x) (Some y) t h all = r.tells h all
+
+-- all were opened, and were given back
+pub leaves_all : {R A : Type 0} (rack : racks.Ghosts R) (area : areas.Ghosts A) (geometry : Geometry) (group next : ℕ) (shards : List (Shard R A)) (first last new : Option Held)
+    (before late after : ℕ → KitCounts) (leaves late_leaves now : ℕ → Option Shape)
+    → AreReopened rack geometry group shards → OpensAllOver rack area (limit_of geometry) group next first leaves before shards → TakesFirst geometry.props.metaslabs first last
+    → ((m : ℕ) → geometry.props.metaslabs ≤ m → (late m ≡ before m) × (late_leaves m ≡ leaves m)) → Returns rack area shards last new late after → ReturnsLeaves rack shards late_leaves now → LeavesShards rack area geometry group next first new before after leaves now
+leaves_all rack area geometry group next shards first last new before late after leaves late_leaves now are over takes left r l = record {
+  perms = are.perms;
+  layout = are.layout;
+  shards = shards;
+  few = (let many = are.many in omega (arith, many));
+  each = are.each;
+  over = over;
+  held = back_by rack area geometry.props.metaslabs shards are.many first last last new takes (stays_same last last refl) r.held;
+  tells = still first last takes r.tells (all_tell_over rack area (limit_of geometry) group next first leaves before shards over);
+  rack_count = r.rack_count;
+  even_count = r.even_count;
+  odd_count = r.odd_count;
+  others = λ m past. (let many = are.many in counts_later (before m) (after m) (r.others m past ∙ (left m (omega (arith, past, many))).0));
+  leaves_own = l.own;
+  leaves_left = λ m past. (let many = are.many in keeps_equal (leaves m) (now m) (l.others m past ∙ (left m (omega (arith, past, many))).1));
+} where
+  still : (a b : Option Held) → TakesFirst geometry.props.metaslabs a b → (IsSome b → AllTell rack area shards → IsSome new) → OnHeld a (λ x. AllTell rack area shards) → OnHeld a (λ x. IsSome new)
+  still None b t h all = tt
+  still (Some x) None t h all = absurd t
+  still (Some x) (Some y) t h all = h refl all
+
+-- ---- the pool
+
 some_is : {X : Type 0} (o : Option X) → IsSome o → (x : X) × (o ≡ Some x)
 some_is None some = absurd (cc)
 some_is (Some x) some = (x, refl)
@@ -223,22 +233,8 @@ module _ {R A : Type 0} (rack : racks.Ghosts R) (area : areas.Ghosts A) (x : Sta
   many : length x.metaslabs ≡ geometry.props.metaslabs
   many = there.held.many ∙ ap (λ (g : Geometry). g.props.metaslabs) (sym same)
 
-  holds : HoldsKits geometry (puts_uber None held)
-  holds m below =
-      let y = present x.metaslabs m (omega (arith, below, many)) in
-      subst IsSome (sym (held_kit m y.0 y.1).1) refl
-
-  all_tell : AllTell rack area l.shards
-  all_tell m shard at =
-      let within = slice_get_within l.shards m shard at in
-      let few = l.few in
-      let y = present x.metaslabs m (omega (arith, within, few, many)) in
-      let kit = held_kit m y.0 y.1 in
-      let o = l.over m shard at in
-      tells_over rack area o.kit shard group next kit.0 (o.taken.told ∙ kit.1) o.opens
-
   given : (b : Held) × (back ≡ Some b)
-  given = some_is back (l.tells holds all_tell)
+  given = some_is back l.tells
 
   takes : TakesBack rack area l.shards (puts_uber None held) given.0
   takes = subst (λ o. OnHeld o (λ y. TakesBack rack area l.shards (puts_uber None held) y)) given.1 l.held
@@ -258,13 +254,13 @@ module _ {R A : Type 0} (rack : racks.Ghosts R) (area : areas.Ghosts A) (x : Sta
           let below : m < geometry.props.metaslabs = omega (arith, within, many) in
           let f : FindsImage x m (pieces m) y kit.0 body.group body.next_leaf
           = finds_image x there.held.layout there.held.many there.held.images there.held.leaves there.importable.findable m (pieces m) y kit.0 body.group body.next_leaf at kit.2 finds.may finds.some finds.leaf in
-          let later = l.others m past below in
+          let later = l.others m past in
           let had = there.counted m y at in (
             kit.0,
             takes.others m past ∙ kit.1,
             left_found x body.group body.next_leaf m (pieces m) y kit.0 (now m) (after m) alloc f
                 (subst (λ q. IsSomeAnd q (λ k. ListsOnce x.geometry m f.image (stable.area_of f.image.group k.even k.odd))) kit.1 (there.importable.once m y f.image at f.is))
-                (on_known (leaves m) (now m) (HasImageLeaves x.geometry f.image) (l.leaves_left m past below) (there.importable.there m y f.image at f.is))
+                (on_known (leaves m) (now m) (HasImageLeaves x.geometry f.image) (l.leaves_left m past) (there.importable.there m y f.image at f.is))
                 (λ who. (let a = had.rack who in let b = later.rack who in omega (arith, a, b)))
                 (let a = had.even in let b = later.even in omega (arith, a, b))
                 (let a = had.odd in let b = later.odd in omega (arith, a, b)),
@@ -310,7 +306,7 @@ refused_pool {R} {A} alloc rack area x pieces (Some held) mid back new leaves ye
     opened : (m : ℕ) (shard : Shard R A) (y : Metaslab) → slice_get left.shards m ≡ Some shard → slice_get x.metaslabs m ≡ Some y → OpensFound rack area x b.body.group m (pieces m) y shard
     opened m shard y at here =
         let perms = one_table x.geometry left.perms x.perms (subst (λ (g : Geometry). IsLayout g left.perms) b.layout left.layout) there.held.layout in
-        shard_found rack area x pieces held leaves counts count there uber found r alloc counts m shard y left.perms perms (λ k. refl) (left.each m shard at).valid (left.each m shard at).part_is (left.over m shard at) here
+        shard_found rack area x pieces held leaves counts count there uber found r alloc (leaves m) counts m shard y left.perms perms (λ k. refl) (left.each m shard at).valid (left.each m shard at).part_is (left.over m shard at) here
 
 -- ---- the answer
 

@@ -10,6 +10,7 @@ use Rattle.draid_area.specs.declared.Area as areas
 use Rattle.draid_rack.specs.Rack.{Told}
 use Rattle.draid_rack.specs.declared.Rack as racks
 use Rattle.draid_spec.specs.declared.layout.Geometry.{Geometry}
+use Rattle.draid_spec.specs.Geometry.{metaslab_sectors}
 use Rattle.draid_machine.specs.declared.event.Event.TheVariants as event
 use Rattle.draid_names.specs.declared.arm.ArmKind.TheVariants as kind
 use Rattle.draid_slots.specs.Table.{SlotTable}
@@ -39,7 +40,7 @@ use Rattle.draid_shelf.specs.Kits.{KitTold, kit_of}
 use Rattle.draid_shelf.specs.declared.kit.Kit.{Kit}
 use Rattle.draid_stable.specs.Images.{LeavesBelow, image_by}
 use Rattle.draid_stable.specs.Kits.{IsStable}
-use Rattle.draid_stable.specs.Opening.{has_leaf_arm}
+use Rattle.draid_stable.specs.Opening.{has_leaf, has_leaf_arm}
 use Rattle.draid_slots.specs.States.{HasSlots, named}
 use Rattle.draid_stable.proofs.There.{arm_named}
 use Rattle.draid_stable.specs.Stable as stable
@@ -47,11 +48,12 @@ use Rattle.draid_stable.specs.Stable.{HasRecord}
 use Rattle.draid_entries.specs.History.{limit_in}
 use Rattle.draid_shard.specs.Calls.{OnBothTold}
 use Rattle.draid_shard.specs.Fits.{Valid}
-use Rattle.draid_groups.specs.Groups.{ListsOnce, Opens, at_version}
+use Rattle.draid_groups.specs.Groups.{ListsOnce, Opens, area_of_kit, at_version}
 use Rattle.draid_shard.specs.Part.{IsPart, Part, layout_in}
 use Rattle.draid_shard.specs.Stands.{StandsFor}
 use Rattle.draid_shard.specs.States.{layout_by, part_of}
 use Rattle.draid_shard.specs.declared.shard.Shard.{Shard}
+use Rattle.draid_groups.proofs.Reopened.{told_read}
 use Rattle.draid_groups.proofs.Opened.{opened_stands}
 use Rattle.draid_shard.proofs.Standing.{has_layout, reached_more}
 use Rattle.draid_session.specs.Follows.{CountsRise, HarmBoth}
@@ -319,7 +321,8 @@ module _ (x : State) (m : ℕ) (pieces : Pieces) (y : Metaslab) (kit : KitTold) 
             (own_version f.image.version shard.geometry (f.version ∙ ap (λ (p : Part). p.geometry.props.version) (sym part_is))) here
 
         read : record_of (limits_of shard.geometry shard.number group next) (stable.area_of group kit.even kit.odd).bytes ≡ Ok opens.value
-        read = of_told (group % 2 == 0) area.told old.even old.odd kit.even kit.odd (λ c. record_of (limits_of shard.geometry shard.number group next) c.bytes ≡ Ok opens.value) k.even k.odd opens.read
+        read = of_told (group % 2 == 0) area.told old.even old.odd kit.even kit.odd (λ c. record_of (limits_of shard.geometry shard.number group next) c.bytes ≡ Ok opens.value) k.even k.odd
+            (told_read (area.told (area_of_kit old group)) (limits_of shard.geometry shard.number group next) (has_leaf (rack.shape old.rack) (metaslab_sectors shard.geometry)) opens.value opens.read)
 
         again : record_of (limits_of shard.geometry shard.number group next) (stable.area_of group kit.even kit.odd).bytes ≡ Ok has.value
         again = subst (λ n. record_of (limits_of shard.geometry shard.number n next) (stable.area_of group kit.even kit.odd).bytes ≡ Ok has.value) f.of

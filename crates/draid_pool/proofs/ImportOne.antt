@@ -52,8 +52,8 @@ reopened_held x group m y z k lay reached r =
 
 module _ {R A : Type 0} (rack : racks.Ghosts R) (area : areas.Ghosts A) (x : State) (pieces : ℕ → Pieces) (held : Held) (leaves : ℕ → Option Shape) (counts : ℕ → KitCounts) (count : ℕ)
     (there : RestsThere x pieces (Some held) leaves counts count) (uber : Uber A) (found : IsFoundUber area uber) (r : IsRecovered area (Some held) count uber)
-    (alloc : Global) (now : ℕ → KitCounts) (shards : List (Shard R A)) (counted : (k : ℕ) → now k ≡ counts k) (re : AreReopened rack (layout_of uber) (group_of (kept_of uber)) shards)
-    (over : OpensAllOver rack area (limit_of (layout_of uber)) (group_of (kept_of uber)) (next_leaf_of uber) (takes_uber (Some held)) now shards) where
+    (alloc : Global) (known : ℕ → Option Shape) (now : ℕ → KitCounts) (shards : List (Shard R A)) (counted : (k : ℕ) → now k ≡ counts k) (re : AreReopened rack (layout_of uber) (group_of (kept_of uber)) shards)
+    (over : OpensAllOver rack area (limit_of (layout_of uber)) (group_of (kept_of uber)) (next_leaf_of uber) (takes_uber (Some held)) known now shards) where
   abbrev b : FoundBody area x pieces held there.held uber count found r
   b = body_found area x pieces held there.held uber count found r
 
@@ -68,7 +68,7 @@ module _ {R A : Type 0} (rack : racks.Ghosts R) (area : areas.Ghosts A) (x : Sta
       let within = slice_get_within shards m shard here in
       let many = as_many_found rack area x pieces held leaves counts count there uber found r shards re in
       let y = present x.metaslabs m (omega (arith, within, many)) in
-      record { y = y.0; at = y.1; opens = each_found rack area x pieces held leaves counts count there uber found r alloc now shards counted re over m shard y.0 here y.1 }
+      record { y = y.0; at = y.1; opens = each_found rack area x pieces held leaves counts count there uber found r alloc known now shards counted re over m shard y.0 here y.1 }
 
   layout_is : (m : ℕ) (shard : Shard R A) → slice_get shards m ≡ Some shard → shard.slots.geometry ≡ layout_of uber
   layout_is m shard here = (let is = re.each m shard here in is.valid.slots.geometry_is ∙ ap (λ (p : Part). p.geometry) is.part_is)
@@ -111,13 +111,13 @@ module _ {R A : Type 0} (rack : racks.Ghosts R) (area : areas.Ghosts A) (x : Sta
       absurd (omega (arith, one, before))
 
 -- and no fault of them is an answer
-pub no_fault_apart : {R A T : Type 0} (alloc : Global) (rack : racks.Ghosts R) (area : areas.Ghosts A) (x : State) (pieces : ℕ → Pieces) (o mid : Option Held) (leaves : ℕ → Option Shape) (counts now : ℕ → KitCounts) (count : ℕ) (uber : Uber A)
+pub no_fault_apart : {R A T : Type 0} (alloc : Global) (rack : racks.Ghosts R) (area : areas.Ghosts A) (x : State) (pieces : ℕ → Pieces) (o mid : Option Held) (leaves known : ℕ → Option Shape) (counts now : ℕ → KitCounts) (count : ℕ) (uber : Uber A)
     (shards : List (Shard R A)) (f : PoolFault) → RestsThere x pieces o leaves counts count → IsFoundUber area uber → IsRecovered area o count uber
     → ((k : ℕ) → now k ≡ counts k) → mid ≡ takes_uber o → AreReopened rack (layout_of uber) (group_of (kept_of uber)) shards
-    → OpensAllOver rack area (limit_of (layout_of uber)) (group_of (kept_of uber)) (next_leaf_of uber) mid now shards
+    → OpensAllOver rack area (limit_of (layout_of uber)) (group_of (kept_of uber)) (next_leaf_of uber) mid known now shards
     → ((metaslab : Option ℕ) (place kind : ℕ) → IsErrOf {T = T} (Err f) (fault.Record metaslab place kind) → AreApart shards metaslab place kind) → NoRecord {T = T} (Err f)
-no_fault_apart alloc rack area x pieces None mid leaves counts now count uber shards f there found r counted taken re over faulty metaslab place kind err = absurd there.held
-no_fault_apart alloc rack area x pieces (Some held) mid leaves counts now count uber shards f there found r counted taken re over faulty metaslab place kind err =
-    not_apart rack area x pieces held leaves counts count there uber found r alloc now shards counted re
-    (subst (λ o. OpensAllOver rack area (limit_of (layout_of uber)) (group_of (kept_of uber)) (next_leaf_of uber) o now shards) taken over) metaslab place kind
+no_fault_apart alloc rack area x pieces None mid leaves known counts now count uber shards f there found r counted taken re over faulty metaslab place kind err = absurd there.held
+no_fault_apart alloc rack area x pieces (Some held) mid leaves known counts now count uber shards f there found r counted taken re over faulty metaslab place kind err =
+    not_apart rack area x pieces held leaves counts count there uber found r alloc known now shards counted re
+    (subst (λ o. OpensAllOver rack area (limit_of (layout_of uber)) (group_of (kept_of uber)) (next_leaf_of uber) o known now shards) taken over) metaslab place kind
     (faulty metaslab place kind err)

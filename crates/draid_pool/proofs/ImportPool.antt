@@ -129,11 +129,11 @@ module _ {R A : Type 0} (rack : racks.Ghosts R) (area : areas.Ghosts A) (x : Sta
   b = body_found area x pieces held rests uber count found r
 
   -- one that was opened from its record of the group
-  pub shard_found : (alloc : Global) (now : ℕ → KitCounts) (m : ℕ) (shard : Shard R A) (y : Metaslab) (perms : Perms) → perms ≡ x.perms → ((k : ℕ) → now k ≡ counts k)
+  pub shard_found : (alloc : Global) (known : Option Shape) (now : ℕ → KitCounts) (m : ℕ) (shard : Shard R A) (y : Metaslab) (perms : Perms) → perms ≡ x.perms → ((k : ℕ) → now k ≡ counts k)
       → Valid rack shard → part_of shard ≡ record { geometry = layout_of uber; perms = perms; number = m }
-      → OpensOver rack area (limit_of (layout_of uber)) (group_of (kept_of uber)) (next_leaf_of uber) m (takes_uber (Some held)) (now m) shard
+      → OpensOver rack area (limit_of (layout_of uber)) (group_of (kept_of uber)) (next_leaf_of uber) m (takes_uber (Some held)) known (now m) shard
       → slice_get x.metaslabs m ≡ Some y → OpensFound rack area x b.body.group m (pieces m) y shard
-  shard_found alloc now m shard y perms same counted valid part over at =
+  shard_found alloc known now m shard y perms same counted valid part over at =
       let kit = rested (held.kits m) x m (pieces m) y (rests.kits m y at) in
       let f : FindsImage x m (pieces m) y kit.0 b.body.group b.body.next_leaf
       = finds_image x rests.layout rests.many rests.images rests.leaves importable.findable m (pieces m) y kit.0 b.body.group b.body.next_leaf at kit.2 b.finds.may b.finds.some b.finds.leaf in
@@ -148,39 +148,39 @@ module _ {R A : Type 0} (rack : racks.Ghosts R) (area : areas.Ghosts A) (x : Sta
       (record { rack_count = over.later.on_rack.own; leaf_counts = over.later.on_rack.leaves; even = over.later.even; odd = over.later.odd })
 
   -- each of them
-  pub each_found : (alloc : Global) (now : ℕ → KitCounts) (shards : List (Shard R A)) → ((k : ℕ) → now k ≡ counts k) → AreReopened rack (layout_of uber) (group_of (kept_of uber)) shards
-      → OpensAllOver rack area (limit_of (layout_of uber)) (group_of (kept_of uber)) (next_leaf_of uber) (takes_uber (Some held)) now shards
+  pub each_found : (alloc : Global) (known : ℕ → Option Shape) (now : ℕ → KitCounts) (shards : List (Shard R A)) → ((k : ℕ) → now k ≡ counts k) → AreReopened rack (layout_of uber) (group_of (kept_of uber)) shards
+      → OpensAllOver rack area (limit_of (layout_of uber)) (group_of (kept_of uber)) (next_leaf_of uber) (takes_uber (Some held)) known now shards
       → (m : ℕ) (shard : Shard R A) (y : Metaslab) → slice_get shards m ≡ Some shard → slice_get x.metaslabs m ≡ Some y → OpensFound rack area x b.body.group m (pieces m) y shard
-  each_found alloc now shards counted re over m shard y at here =
+  each_found alloc known now shards counted re over m shard y at here =
       let perms = one_table x.geometry re.perms x.perms (subst (λ (g : Geometry). IsLayout g re.perms) b.layout re.layout) rests.layout in
-      shard_found alloc now m shard y re.perms perms counted (re.each m shard at).valid (re.each m shard at).part_is (over m shard at) here
+      shard_found alloc (known m) now m shard y re.perms perms counted (re.each m shard at).valid (re.each m shard at).part_is (over m shard at) here
 
   pub as_many_found : (shards : List (Shard R A)) → AreReopened rack (layout_of uber) (group_of (kept_of uber)) shards → length shards ≡ length x.metaslabs
   as_many_found shards re = re.many ∙ (ap (λ (g : Geometry). g.props.metaslabs) b.layout ∙ sym rests.many)
 
   -- all of them, and what their blocks say of the objects
-  pub shards_found : (alloc : Global) (now : ℕ → KitCounts) (shards : List (Shard R A)) (newest : ℕ → Option Pointer) (seq : ℕ) → ((k : ℕ) → now k ≡ counts k)
+  pub shards_found : (alloc : Global) (known : ℕ → Option Shape) (now : ℕ → KitCounts) (shards : List (Shard R A)) (newest : ℕ → Option Pointer) (seq : ℕ) → ((k : ℕ) → now k ≡ counts k)
       → AreReopened rack (layout_of uber) (group_of (kept_of uber)) shards
-      → OpensAllOver rack area (limit_of (layout_of uber)) (group_of (kept_of uber)) (next_leaf_of uber) (takes_uber (Some held)) now shards
+      → OpensAllOver rack area (limit_of (layout_of uber)) (group_of (kept_of uber)) (next_leaf_of uber) (takes_uber (Some held)) known now shards
       → AreFound shards newest seq → IsFoundOf rack area x uber pieces newest seq shards
-  shards_found alloc now shards newest seq counted re over blocks =
+  shards_found alloc known now shards newest seq counted re over blocks =
       let later = r.later in
       let own = there.uber in
       let low = found.low in
       let group = b.group in
       found_begins rack area x pieces uber newest seq held rests importable.findable importable.alike b.body b.finds shards
-      (as_many_found shards re) (each_found alloc now shards counted re over)
+      (as_many_found shards re) (each_found alloc known now shards counted re over)
       (omega (arith, later, own)) (last_found shards newest seq blocks) (newest_found shards newest seq blocks) (omega (arith, low, group)) found.valid b.kept b.version b.next r.stands
 
 -- what the pool is made of, whatever the shelf tells
-pub pool_found : {R A : Type 0} (alloc : Global) (rack : racks.Ghosts R) (area : areas.Ghosts A) (x : State) (pieces : ℕ → Pieces) (o mid : Option Held) (leaves : ℕ → Option Shape) (counts now : ℕ → KitCounts) (count : ℕ) (uber : Uber A)
+pub pool_found : {R A : Type 0} (alloc : Global) (rack : racks.Ghosts R) (area : areas.Ghosts A) (x : State) (pieces : ℕ → Pieces) (o mid : Option Held) (leaves known : ℕ → Option Shape) (counts now : ℕ → KitCounts) (count : ℕ) (uber : Uber A)
     (shards : List (Shard R A)) (newest : ℕ → Option Pointer) (seq : ℕ) → RestsThere x pieces o leaves counts count → IsFoundUber area uber → (r : IsRecovered area o count uber)
     → ((k : ℕ) → now k ≡ counts k) → mid ≡ takes_uber o → AreReopened rack (layout_of uber) (group_of (kept_of uber)) shards
-    → OpensAllOver rack area (limit_of (layout_of uber)) (group_of (kept_of uber)) (next_leaf_of uber) mid now shards → AreFound shards newest seq → IsFoundOf rack area x uber pieces newest seq shards
-pool_found alloc rack area x pieces None mid leaves counts now count uber shards newest seq there found r counted taken re over blocks = absurd there.held
-pool_found alloc rack area x pieces (Some held) mid leaves counts now count uber shards newest seq there found r counted taken re over blocks =
-    shards_found rack area x pieces held leaves counts count there uber found r alloc now shards newest seq counted re
-    (subst (λ o. OpensAllOver rack area (limit_of (layout_of uber)) (group_of (kept_of uber)) (next_leaf_of uber) o now shards) taken over) blocks
+    → OpensAllOver rack area (limit_of (layout_of uber)) (group_of (kept_of uber)) (next_leaf_of uber) mid known now shards → AreFound shards newest seq → IsFoundOf rack area x uber pieces newest seq shards
+pool_found alloc rack area x pieces None mid leaves known counts now count uber shards newest seq there found r counted taken re over blocks = absurd there.held
+pool_found alloc rack area x pieces (Some held) mid leaves known counts now count uber shards newest seq there found r counted taken re over blocks =
+    shards_found rack area x pieces held leaves counts count there uber found r alloc known now shards newest seq counted re
+    (subst (λ o. OpensAllOver rack area (limit_of (layout_of uber)) (group_of (kept_of uber)) (next_leaf_of uber) o known now shards) taken over) blocks
 
 -- ---- the shelf
 

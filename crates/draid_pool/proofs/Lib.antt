@@ -11,6 +11,8 @@ pub mod Feeding
 pub mod FetchSteps
 pub mod Fetched
 pub mod FreeSteps
+pub mod Findings
+pub mod Flushed
 pub mod Found
 pub mod Freed
 pub mod Fresh
@@ -19,6 +21,7 @@ pub mod Lifted
 pub mod Lists
 pub mod Lives
 pub mod Moved
+pub mod OneAnswer
 pub mod OneHold
 pub mod Opened
 pub mod Pointed

@@ -1,7 +1,8 @@
 -- What a shelf holds of a pool that was given back to it.
-use Rattle.std.specs.Prelude.{◌≡◌, ◌≤◌, ℕ, Bool, false, List, Option, Some, MatchOption, IsSome, IsSomeAnd, length, slice_get}
+use Rattle.std.specs.Prelude.{◌≡◌, ◌≤◌, ⊤, ℕ, Bool, false, List, Option, Some, MatchOption, IsSome, IsSomeAnd, length, slice_get}
 use Rattle.draid_rack.specs.Rack.{Shape}
 use Rattle.draid_rack.specs.declared.Rack as racks
+use Rattle.draid_area.specs.Area.{Content}
 use Rattle.draid_area.specs.declared.Area as areas
 use Rattle.draid_map.specs.Place.{IsLayout}
 use Rattle.draid_machine.specs.Created.{IsReached}
@@ -70,6 +71,24 @@ pub record GivesBack (x : State) (crash : Bool) (old new : Option Held) (leaves 
   pub importable : OnHeld new (λ held. IsImportable x held leaves)
   pub counted : (m : ℕ) (y : Metaslab) → slice_get x.metaslabs m ≡ Some y → SameCounts y.counts (counts m)
   pub uber : uber_count ≡ x.uber_count
+
+-- ---- a crash
+
+-- no byte of an area is soft
+abbrev pub IsFirmArea : Content → Type 0
+IsFirmArea content = (i : ℕ) → content.soft i ≡ false
+
+-- nothing of the devices of a metaslab is soft
+pub record IsFirmKit (kit : KitTold) : Type 0 where
+  pub rack : (leaf sector : ℕ) → kit.rack.soft leaf sector ≡ false
+  pub even : IsFirmArea kit.even
+  pub odd : IsFirmArea kit.odd
+
+-- nothing that is held is soft
+pub record IsFirm (held : Held) : Type 0 where
+  pub uber : MatchOption held.uber ⊤ IsFirmArea
+  pub checks : MatchOption held.checks ⊤ (λ checks. IsFirmArea checks.even × IsFirmArea checks.odd)
+  pub kits : (m : ℕ) → MatchOption (held.kits m) ⊤ IsFirmKit
 
 -- ---- shards
 

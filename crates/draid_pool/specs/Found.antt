@@ -8,6 +8,7 @@ use Rattle.draid_rack.specs.declared.Rack as racks
 use Rattle.draid_area.specs.Area.{Content, IsOfSize, OnTold, flushes}
 use Rattle.draid_area.specs.declared.Area as areas
 use Rattle.draid_shelf.specs.Kits as shelf
+use Rattle.draid_shelf.specs.Shelf.{IsKnown}
 use Rattle.draid_shelf.specs.declared.kit.Kit.{Kit}
 use Rattle.draid_spec.specs.declared.layout.Geometry.{Geometry}
 use Rattle.draid_perm.specs.declared.perms.Perms.{Perms}
@@ -24,7 +25,7 @@ use Rattle.draid_segments.specs.Segments.{Pieces}
 use Rattle.draid_session.specs.State.{Metaslab, State, limit_of}
 use Rattle.draid_pool.specs.declared.fault.PoolFault.{PoolFault}
 use Rattle.draid_pool.specs.declared.fault.PoolFault.TheVariants as fault
-use Rattle.draid_pool.specs.Closing.{AllTell, TakesBack}
+use Rattle.draid_pool.specs.Closing.{TakesBack}
 use Rattle.draid_pool.specs.Imported.{IsFoundOf}
 use Rattle.draid_pool.specs.Metaslabs.{IsMetaslab}
 use Rattle.draid_pool.specs.Shards.{FreesIn, Goes}
@@ -91,37 +92,33 @@ pub record AreReopened {R A : Type 0} (rack : racks.Ghosts R) (geometry : Geomet
   pub many : length shards ≡ geometry.props.metaslabs
   pub each : (m : ℕ) (shard : Shard R A) → slice_get shards m ≡ Some shard → IsReopened rack (record { geometry = geometry; perms = perms; number = m }) group shard
 
--- the devices that a shelf held for a metaslab, with their counts
-pub record IsKitOf {R A : Type 0} (rack : racks.Ghosts R) (area : areas.Ghosts A) (m : ℕ) (held : Option shelf.Held) (counts : shelf.KitCounts) (kit : Kit R A) : Type 0 where
+-- the devices that a shelf held for a metaslab, with their counts and with the leaves that were known
+pub record IsKitOf {R A : Type 0} (rack : racks.Ghosts R) (area : areas.Ghosts A) (m : ℕ) (held : Option shelf.Held) (known : Option Shape) (counts : shelf.KitCounts) (kit : Kit R A) : Type 0 where
   pub told : shelf.OnHeld held (λ x. shelf.kit_of (rack.told kit.rack) (area.told kit.even) (area.told kit.odd) ≡ x.kits m)
   pub some : shelf.NeedsKit m (Ok kit) held
+  pub leaves : IsKnown known (rack.shape kit.rack)
   pub rack_count : (who : Option ℕ) → rack.faults kit.rack who ≡ counts.rack who
   pub even_count : area.faults kit.even ≡ counts.even
   pub odd_count : area.faults kit.odd ≡ counts.odd
 
 -- A metaslab was opened from the record of a group, over the devices that the shelf held for it.
-pub record OpensOver {R A : Type 0} (rack : racks.Ghosts R) (area : areas.Ghosts A) (limit group next m : ℕ) (held : Option shelf.Held) (counts : shelf.KitCounts) (shard : Shard R A) : Type 0 where
+pub record OpensOver {R A : Type 0} (rack : racks.Ghosts R) (area : areas.Ghosts A) (limit group next m : ℕ) (held : Option shelf.Held) (known : Option Shape) (counts : shelf.KitCounts) (shard : Shard R A) : Type 0 where
   pub kit : Kit R A
-  pub taken : IsKitOf rack area m held counts kit
+  pub taken : IsKitOf rack area m held known counts kit
   pub opens : Opens rack area.told kit group next shard
   pub later : OpensCounts rack area.faults kit shard
   pub limit_is : limit_in shard.history ≡ limit
 
 -- so each of some metaslabs
-abbrev pub OpensAllOver : {R A : Type 0} → racks.Ghosts R → areas.Ghosts A → ℕ → ℕ → ℕ → Option shelf.Held → (ℕ → shelf.KitCounts) → List (Shard R A) → Type 0
-OpensAllOver {R} {A} rack area limit group next held counts shards =
-    (m : ℕ) (shard : Shard R A) → slice_get shards m ≡ Some shard → OpensOver rack area limit group next m held (counts m) shard
+abbrev pub OpensAllOver : {R A : Type 0} → racks.Ghosts R → areas.Ghosts A → ℕ → ℕ → ℕ → Option shelf.Held → (ℕ → Option Shape) → (ℕ → shelf.KitCounts) → List (Shard R A) → Type 0
+OpensAllOver {R} {A} rack area limit group next held leaves counts shards =
+    (m : ℕ) (shard : Shard R A) → slice_get shards m ≡ Some shard → OpensOver rack area limit group next m held (leaves m) (counts m) shard
 
 -- where the leaves of a rack were known they are so still
 abbrev pub KeepsKnown : Option Shape → Option Shape → Type 0
 KeepsKnown old new = MatchOption old ⊤ (λ shape. new ≡ Some shape)
 
--- the devices of all metaslabs of a layout are held
-abbrev pub HoldsKits : Geometry → shelf.Held → Type 0
-HoldsKits geometry x = (m : ℕ) → m < geometry.props.metaslabs → IsSome (x.kits m)
-
--- Some metaslabs of a layout were opened and given back, and the devices of all others are as they were, but that no count of their areas fell. The shelf tells where it
--- did, held all devices, and those that were opened tell.
+-- Some metaslabs of a layout were opened and given back, and the devices of all others are as they were, but that no count of their areas fell. The shelf tells where it did.
 pub record LeavesShards {R A : Type 0} (rack : racks.Ghosts R) (area : areas.Ghosts A) (geometry : Geometry) (group next : ℕ) (old new : Option shelf.Held) (before after : ℕ → shelf.KitCounts)
     (leaves now : ℕ → Option Shape) : Type 0 where
   pub perms : Perms
@@ -129,15 +126,15 @@ pub record LeavesShards {R A : Type 0} (rack : racks.Ghosts R) (area : areas.Gho
   pub shards : List (Shard R A)
   pub few : length shards ≤ geometry.props.metaslabs
   pub each : (m : ℕ) (shard : Shard R A) → slice_get shards m ≡ Some shard → IsReopened rack (record { geometry = geometry; perms = perms; number = m }) group shard
-  pub over : OpensAllOver rack area (limit_of geometry) group next old before shards
+  pub over : OpensAllOver rack area (limit_of geometry) group next old leaves before shards
   pub held : shelf.OnHeld new (λ y. MatchOption old ⊥ (λ x. TakesBack rack area shards x y))
-  pub tells : shelf.OnHeld old (λ x. HoldsKits geometry x → AllTell rack area shards → IsSome new)
+  pub tells : shelf.OnHeld old (λ x. IsSome new)
   pub rack_count : (m : ℕ) (shard : Shard R A) (who : Option ℕ) → slice_get shards m ≡ Some shard → (after m).rack who ≡ rack.faults shard.rack who
   pub even_count : (m : ℕ) (shard : Shard R A) → slice_get shards m ≡ Some shard → (after m).even ≡ area.faults shard.even
   pub odd_count : (m : ℕ) (shard : Shard R A) → slice_get shards m ≡ Some shard → (after m).odd ≡ area.faults shard.odd
-  pub others : (m : ℕ) → length shards ≤ m → m < geometry.props.metaslabs → CountsLater (before m) (after m)
+  pub others : (m : ℕ) → length shards ≤ m → CountsLater (before m) (after m)
   pub leaves_own : (m : ℕ) (shard : Shard R A) → slice_get shards m ≡ Some shard → now m ≡ Some (rack.shape shard.rack)
-  pub leaves_left : (m : ℕ) → length shards ≤ m → m < geometry.props.metaslabs → KeepsKnown (leaves m) (now m)
+  pub leaves_left : (m : ℕ) → length shards ≤ m → KeepsKnown (leaves m) (now m)
 
 -- ---- refusals
 
@@ -186,9 +183,10 @@ pub record SameButFlushed (old new : shelf.Held) : Type 0 where
   pub checks : new.checks ≡ old.checks
   pub kits : (m : ℕ) → new.kits m ≡ old.kits m
 
--- what is left where no uberblock was found: so much where it is told, and no count of its area fell
+-- what is left where no uberblock was found: so much where it is told, as it is where it was, and no count of its area fell
 pub record LeavesUber (old new : Option shelf.Held) (count count' : ℕ) : Type 0 where
   pub held : shelf.OnHeld new (λ y. MatchOption old ⊥ (λ x. SameButFlushed x y))
+  pub tells : shelf.OnHeld old (λ x. IsSome new)
   pub later : count ≤ count'
 
 -- an uberblock was recovered from the area that the shelf held: it is what the bytes say, and a crash leaves it alone from then on

@@ -6,6 +6,7 @@ pub mod Importable
 pub mod Imported
 pub mod Failing
 pub mod Faulty
+pub mod Findings
 pub mod Found
 pub mod Importing
 pub mod Metaslabs

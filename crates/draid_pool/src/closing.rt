@@ -1,7 +1,8 @@
-ghost use Rattle.std.specs.Prelude.{◌≡◌, ◌≤◌, length};
+ghost use Rattle.std.specs.Prelude.{◌≡◌, ◌≤◌, length, true};
 ghost use Rattle.draid_session.specs.State.{State};
+ghost use Rattle.draid_shelf.specs.Kits.{OnHeld};
 ghost use Rattle.draid_shelf.specs.Shelf.{most_metaslabs};
-ghost use Rattle.draid_pool.specs.Closing.{GivesBack, Returns, ReturnsLeaves};
+ghost use Rattle.draid_pool.specs.Closing.{GivesBack, IsFirm, Returns, ReturnsLeaves};
 ghost use Rattle.draid_pool.specs.Failing.{AreaFails};
 ghost use Rattle.draid_pool.specs.Opening.{AreaFailed};
 ghost use Rattle.draid_pool.specs.Pools.{Represents};
@@ -34,6 +35,8 @@ pub fn close<H: Shelf>(pool: Pool<H::R, H::A>, shelf: &mut H, crash: bool)
     ensures back { (x : State) → Represents H.R.Rack H.A.Area pool x
         → GivesBack x crash (H.told shelf.old) (H.told shelf.new) (H.leaves shelf.new) (H.counts shelf.new)
         (H.uber_count shelf.new) }
+    // Behind a crash nothing that the shelf tells is soft.
+    ensures crash { crash ≡ true → OnHeld (H.told shelf.new) IsFirm }
     // What has failed on an area of the pool shows on the shelf.
     ensures failed { AreaFails H.A.faults pool → AreaFailed (H.counts shelf.new)
         (record { uber = H.uber_count shelf.new; checks = H.check_counts shelf.new }) }

@@ -1,6 +1,6 @@
 //! A pool is imported from what was given back to a shelf: its uberblock is found, each metaslab is opened from the
 //! record of the group that it names, and of each object the block with the greatest number counts.
-ghost use Rattle.std.specs.Prelude.{◌≡◌, ◌<◌, ◌≤◌, ◌+◌, ◌⊎◌, ◌↔◌, ℕ, None, Some, Err, IfErr, IfOk, IsErrOf, IsSome, IsSomeAnd, IsTrue, OnErr, OnOk, is_some, nat_eq, slice_get, Option};
+ghost use Rattle.std.specs.Prelude.{◌≡◌, ◌<◌, ◌≤◌, ◌+◌, ◌⊎◌, ◌↔◌, ℕ, None, Some, Err, IfErr, IfOk, IsErrOf, IsSome, IsSomeAnd, IsTrue, OnErr, OnOk, is_some, length, nat_eq, slice_get, Option};
 ghost use Rattle.std.specs.HashMap.{get};
 ghost use Rattle.draid_names.specs.Faults.{Rose};
 ghost use Rattle.draid_names.specs.declared.numbers.TheConstants.{LAST_NUMBER};
@@ -17,13 +17,14 @@ ghost use Rattle.draid_uber.specs.Slots.{group_of};
 ghost use Rattle.draid_uber.specs.Uber.{kept_of, layout_of, next_leaf_of};
 ghost use Rattle.draid_segments.specs.Segments.{Pieces};
 ghost use Rattle.draid_session.specs.State.{State, limit_of};
-ghost use Rattle.draid_pool.specs.Faulty.{IsUnread, OneIsUnread, RecordIsBad, UberIsBad};
+ghost use Rattle.draid_pool.specs.Faulty.{HoldsNoGroup, IsUnread, OneIsUnread, RecordIsBad, TellsBody, UberIsBad};
+ghost use Rattle.draid_pool.specs.Findings.{IsMadeOf, IsReadPool, LeavesAll};
 ghost use Rattle.draid_pool.specs.Imported.{AreNewest, IsFoundOf};
 ghost use Rattle.draid_pool.specs.Importing.{ImportIs, ImportsPool, IsNotSpec, LeavesMade, RestsThere};
 ghost use Rattle.draid_pool.specs.Opening.{HoldsMade, IsAsBefore, TakesFirst};
 ghost use Rattle.draid_pool.specs.Found.{AnyRecordsRose, AreFreed, AreReopened, CountsLater, FreesIfOlder, FreesOlder, HasOnly, HasRisen, IsFoundUber, IsRecovered, IsReopened, IsShardFault, KeepsFound, KeepsFoundAt, KeepsKnown, LeavesShards, LeavesUber, NoRecord, OpensAllOver, OpensOver, RecordsRose, SameChecks, StaysHeld, shelf_fault_of, uber_fault_of, open_fault_of};
 ghost use Rattle.draid_found.specs.Found.{AllLive, AreFound, AreReady};
-ghost use Rattle.draid_found.specs.Together.{AreApart};
+ghost use Rattle.draid_found.specs.Together.{AreApart, AreTogether};
 ghost use Rattle.draid_pool.specs.Whole.{IsWhole};
 ghost use Rattle.draid_found.specs.declared.finding.Found.{Found};
 
@@ -103,6 +104,8 @@ fn find_uber<H: Shelf>(shelf: &mut H) -> Result<Uber<H::A>, PoolFault>
     ensures not_spec { IfErr result IsNotSpec }
     ensures recovered { IfOk result (IsRecovered H.A.Area (H.told shelf.old) (H.uber_count shelf.old)) }
     ensures told { OnOk result (H.told shelf.new ≡ takes_uber (H.told shelf.old)) }
+    ensures body { IfOk result (TellsBody (H.told shelf.old)) }
+    ensures empty { IsErrOf result PoolFault.NoPool → HoldsNoGroup (H.told shelf.old) }
     ensures back { OnErr result (LeavesUber (H.told shelf.old) (H.told shelf.new) (H.uber_count shelf.old) (H.uber_count shelf.new)) }
     ensures import { (x : State) (pieces : ℕ → Pieces)
         → RestsThere x pieces (H.told shelf.old) (H.leaves shelf.old) (H.counts shelf.old) (H.uber_count shelf.old)
@@ -153,15 +156,15 @@ fn reopen_shard<H: Shelf>(
     requires layout { IsLayout (layout_of uber.now) perms }
     requires number { number < (layout_of uber.now).props.metaslabs }
     ensures reopened { IfOk result (IsReopened H.R.Rack (record { geometry = layout_of uber.now; perms = perms; number = number }) (group_of (kept_of uber.now))) }
-    ensures over { IfOk result (OpensOver H.R.Rack H.A.Area (limit_of (layout_of uber.now)) (group_of (kept_of uber.now)) (next_leaf_of uber.now) number (H.told shelf.old) (H.counts shelf.old number)) }
+    ensures over { IfOk result (OpensOver H.R.Rack H.A.Area (limit_of (layout_of uber.now)) (group_of (kept_of uber.now)) (next_leaf_of uber.now) number (H.told shelf.old) (H.leaves shelf.old number) (H.counts shelf.old number)) }
     ensures told { OnOk result (H.told shelf.new ≡ takes_kit number (H.told shelf.old)) }
     ensures back { OnErr result (StaysHeld (H.told shelf.old) (H.told shelf.new)) }
-    ensures tells { OnErr result (OnHeld (H.told shelf.old) (λ held. IsSome (held.kits number) → IsSome (H.told shelf.new))) }
+    ensures tells { OnErr result (OnHeld (H.told shelf.old) (λ held. IsSome (H.told shelf.new))) }
     ensures leaves { SameOthers number (H.leaves shelf.old) (H.leaves shelf.new) }
     ensures known { OnErr result (KeepsKnown (H.leaves shelf.old number) (H.leaves shelf.new number)) }
     ensures fault { IfErr result IsShardFault }
     ensures faulty { (metaslab : Option ℕ) (place kind : ℕ) → IsErrOf result (PoolFault.Record metaslab place kind)
-        → IsUnread H.R.Rack H.A.Area (layout_of uber.now) (group_of (kept_of uber.now)) (next_leaf_of uber.now) number (H.told shelf.old) (H.counts shelf.old number) metaslab place kind }
+        → IsUnread H.R.Rack H.A.Area (layout_of uber.now) (group_of (kept_of uber.now)) (next_leaf_of uber.now) number (H.told shelf.old) (H.leaves shelf.old number) (H.counts shelf.old number) metaslab place kind }
     // No record of a pool that rests on a shelf has a fault.
     ensures opens { (x : State) (pieces : ℕ → Pieces) (held : Option Held) (leaves : ℕ → Option Shape) (counts : ℕ → KitCounts) (count : ℕ)
         → RestsThere x pieces held leaves counts count → IsRecovered H.A.Area held count uber.now → TakesFirst number (takes_uber held) (H.told shelf.old)
@@ -208,12 +211,13 @@ fn reopen_shards<H: Shelf>(
     ensures opens { (x : State) (pieces : ℕ → Pieces) (held : Option Held) (counts : ℕ → KitCounts) (count : ℕ)
         → RestsThere x pieces held (H.leaves shelf.old) counts count → IsRecovered H.A.Area held count uber.now → H.told shelf.old ≡ takes_uber held → NoRecord result }
     ensures reopened { IfOk result (λ shards. AreReopened H.R.Rack (layout_of uber.now) (group_of (kept_of uber.now)) shards.items) }
-    ensures over { IfOk result (λ shards. OpensAllOver H.R.Rack H.A.Area (limit_of (layout_of uber.now)) (group_of (kept_of uber.now)) (next_leaf_of uber.now) (H.told shelf.old) (H.counts shelf.old) shards.items) }
+    ensures over { IfOk result (λ shards. OpensAllOver H.R.Rack H.A.Area (limit_of (layout_of uber.now)) (group_of (kept_of uber.now)) (next_leaf_of uber.now) (H.told shelf.old) (H.leaves shelf.old) (H.counts shelf.old) shards.items) }
     ensures told { OnOk result (TakesFirst (layout_of uber.now).props.metaslabs (H.told shelf.old) (H.told shelf.new)) }
+    ensures left { OnOk result ((m : ℕ) → (layout_of uber.now).props.metaslabs ≤ m → (H.counts shelf.new m ≡ H.counts shelf.old m) × (H.leaves shelf.new m ≡ H.leaves shelf.old m)) }
     ensures back { OnErr result (LeavesShards H.R.Rack H.A.Area (layout_of uber.now) (group_of (kept_of uber.now)) (next_leaf_of uber.now) (H.told shelf.old) (H.told shelf.new) (H.counts shelf.old) (H.counts shelf.new)
         (H.leaves shelf.old) (H.leaves shelf.new)) }
     ensures faulty { (metaslab : Option ℕ) (place kind : ℕ) → IsErrOf result (PoolFault.Record metaslab place kind)
-        → OneIsUnread H.R.Rack H.A.Area (layout_of uber.now) (group_of (kept_of uber.now)) (next_leaf_of uber.now) (H.told shelf.old) (H.counts shelf.old) metaslab place kind }
+        → OneIsUnread H.R.Rack H.A.Area (layout_of uber.now) (group_of (kept_of uber.now)) (next_leaf_of uber.now) (H.told shelf.old) (H.leaves shelf.old) (H.counts shelf.old) metaslab place kind }
     ensures fault { IfErr result IsShardFault }
     ensures held { SameChecks (H.told shelf.old) (H.told shelf.new) }
     ensures checks { H.check_counts shelf.new ≡ H.check_counts shelf.old }
@@ -241,6 +245,7 @@ fn reopen_shards<H: Shelf>(
 fn find_blocks<R: Rack, A: Area>(alloc: Global, shards: &[Shard<R, A>]) -> Result<Found, PoolFault>
     requires ready { AreReady R.Rack shards.now }
     ensures found { IfOk result (λ found. AreFound shards.now (get nat_eq found.newest) found.seq) }
+    ensures together { OnOk result (AreTogether shards.now (length shards.now)) }
     ensures faulty { (metaslab : Option ℕ) (place kind : ℕ) → IsErrOf result (PoolFault.Record metaslab place kind) → AreApart shards.now metaslab place kind }
     ensures no_device { IsErrOf result PoolFault.Shelf → ⊥ }
     ensures fault { IfErr result IsShardFault }
@@ -328,6 +333,7 @@ fn pool_of<R: Rack, A: Area>(
     requires shards { AreReopened R.Rack (layout_of uber) (group_of (kept_of uber)) shards.items }
     requires found { AreFound shards.items (get nat_eq found.newest) found.seq }
     ensures whole { IsWhole R.Rack A.Area result }
+    ensures made { IsMadeOf R.Rack shards.items uber (get nat_eq found.newest) found.seq result }
     ensures imports { (x : State) (pieces : ℕ → Pieces) → IsFoundOf R.Rack A.Area x uber pieces (get nat_eq found.newest) found.seq shards.items → ImportsPool R.Rack A.Area x result }
 {
     let floor = uber.committed() + 1;
@@ -359,11 +365,14 @@ pub fn import<H: Shelf>(alloc: Global, shelf: &mut H) -> Result<Pool<H::R, H::A>
     ensures import { (x : State) (pieces : ℕ → Pieces)
         → RestsThere x pieces (H.told shelf.old) (H.leaves shelf.old) (H.counts shelf.old) (H.uber_count shelf.old)
         → ImportIs H.R.Rack H.A.Area x pieces (H.told shelf.new) (H.leaves shelf.new) (H.counts shelf.new) (H.uber_count shelf.new) result }
+    // The answer by what the shelf held: the pool that was read, no group, or the first fault.
+    ensures read { IfOk result (IsReadPool H.R.Rack H.A.Area (H.told shelf.old) (H.leaves shelf.old) (H.counts shelf.old) (H.uber_count shelf.old)) }
+    ensures empty { IsErrOf result PoolFault.NoPool → HoldsNoGroup (H.told shelf.old) }
+    ensures faulty { (metaslab : Option ℕ) (place kind : ℕ) → IsErrOf result (PoolFault.Record metaslab place kind)
+        → RecordIsBad H.R.Rack H.A.Area (H.told shelf.old) (H.leaves shelf.old) (H.counts shelf.old) metaslab place kind }
+    ensures back { OnErr result (LeavesAll H.A.Area (H.told shelf.old) (H.told shelf.new) (H.counts shelf.old) (H.counts shelf.new) (H.uber_count shelf.old) (H.uber_count shelf.new)) }
     ensures not_spec { IfErr result IsNotSpec }
     ensures tells { OnOk result (is_some (H.told shelf.new) ≡ is_some (H.told shelf.old)) }
-    // A record for which it is refused has the fault.
-    ensures faulty { (metaslab : Option ℕ) (place kind : ℕ) → IsErrOf result (PoolFault.Record metaslab place kind)
-        → RecordIsBad H.R.Rack H.A.Area (H.told shelf.old) (H.counts shelf.old) (H.uber_count shelf.old) metaslab place kind }
     ensures held { SameChecks (H.told shelf.old) (H.told shelf.new) }
     ensures checks { H.check_counts shelf.new ≡ H.check_counts shelf.old }
     ensures later { H.faults shelf.old ≤ H.faults shelf.new }

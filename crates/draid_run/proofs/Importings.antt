@@ -1,6 +1,7 @@
 -- An import, in the words of a session.
 use Rattle.std.proofs.Common.{◌≡◌, ◌≤◌, ◌∙◌, ◌⊎◌, inl, inr, refl, sym, ap, subst, ℕ, List, Bool, true, false, [], ◌∷◌, Option, Some, None, Result, Ok, Err, String, Global}
-use Rattle.std.specs.Prelude.{IfOk, IsErrOf, IsSomeAnd, OnOk, is_some, string_bytes}
+use Rattle.std.specs.Prelude.{IfOk, IsErrOf, IsSomeAnd, OnOk, is_some, nat_eq, string_bytes}
+use Rattle.std.specs.HashMap.{get}
 use Rattle.draid_names.specs.declared.room.Room.{Room}
 use Rattle.draid_rack.specs.declared.Rack as racks
 use Rattle.draid_area.specs.declared.Area as areas
@@ -19,6 +20,8 @@ use Rattle.draid_session.specs.Opening.{FreesOlder, HasObjects, Imports}
 use Rattle.draid_session.specs.Session.{BreaksGiven, Cause, Desk, Untouched, Bare, Made, Open, Shut, Foreign, Unknown, FindsAny, FindsGiven, FindsGivenIf, LeavesState, RecordFails, ShelfFails, TurnsBy}
 use Rattle.draid_session.specs.State.{State}
 use Rattle.draid_pool.specs.Closing.{GivesBack, HoldsPool, Rests}
+use Rattle.draid_pool.specs.Faulty.{HoldsNoGroup}
+use Rattle.draid_pool.specs.Findings.{FindsPool, HasNames, IsReadPool, group_in}
 use Rattle.draid_pool.specs.Found.{HasRisen, SameChecks}
 use Rattle.draid_pool.specs.Importable.{IsImportable}
 use Rattle.draid_pool.specs.Importing as pools
@@ -27,12 +30,14 @@ use Rattle.draid_pool.specs.Opening.{HoldsMade, IsAsBefore, NoChecks}
 use Rattle.draid_pool.specs.Pools.{Represents}
 use Rattle.draid_pool.specs.Whole.{IsWhole}
 use Rattle.draid_pool.specs.declared.fault.PoolFault.{PoolFault}
+use Rattle.draid_pool.proofs.Findings.{finds_pool}
+use Rattle.draid_pool.proofs.Lists.{ext}
 use Rattle.draid_pool.specs.declared.fault.PoolFault.TheVariants as fault
 use Rattle.draid_pool.specs.declared.pool.Pool.{Pool}
 use Rattle.draid_run.specs.Desks.{Broken, IsDesk, IsPool, IsShelf, Turned}
 use Rattle.draid_run.specs.Importing.{ImportDid, ImportDoes, ImportIs, UnopenedIs}
 use Rattle.draid_run.specs.Serve.{AnswerIs, IsSaid}
-use Rattle.draid_run.specs.Shelves.{HasChecks, HoldsFault, HoldsNew, HoldsShut, IsOut, MayFind, OnShelf, TellsAsBefore}
+use Rattle.draid_run.specs.Shelves.{HasChecks, HoldsFault, HoldsNew, HoldsShut, IsOut, IsSame, MayFind, OnShelf, TellsAsBefore}
 use Rattle.draid_run.specs.declared.answer.Stop.{Stop}
 use Rattle.draid_run.specs.declared.answer.Stop.TheVariants as stop
 use Rattle.draid_run.proofs.Following.{same_layout, same_told}
@@ -182,6 +187,8 @@ fault_named rack area before m m' p p' k k' same_m same_p same_k fault =
 pub record Called {R A : Type 0} (rack : racks.Ghosts R) (area : areas.Ghosts A) (before now : OnShelf) (result : Result (Pool R A) PoolFault) : Type 0 where
   pub whole : IfOk result (IsWhole rack area)
   pub none : OnHeld before.held (λ held. held.uber ≡ None → IsErrOf result fault.NoPool × IsAsBefore before.held now.held before.counts now.counts before.own now.own)
+  pub read : IfOk result (IsReadPool rack area before.held before.leaves before.counts before.own.uber)
+  pub empty : IsErrOf result fault.NoPool → HoldsNoGroup before.held
   pub imports : (x : State) (pieces : ℕ → Pieces) → RestsThere x pieces before.held before.leaves before.counts before.own.uber → pools.ImportIs rack area x pieces now.held now.leaves now.counts now.own.uber result
   pub tells : OnOk result (is_some now.held ≡ is_some before.held)
   pub checks_held : SameChecks before.held now.held
@@ -227,7 +234,8 @@ module _ {R A : Type 0} (rack : racks.Ghosts R) (area : areas.Ghosts A) (entry b
     -- ---- refusals
 
     pub no_pool : result ≡ Err fault.NoPool → (x : Desk) → IsPool rack area None x → IsShelf x entry before → ImportDid rack area entry x (NoPool name.Import) now None
-    no_pool is Untouched stands shelf = record { new = Unknown; desk = record { stands = tt; shelf = tt }; turns = (tt, refl) }
+    no_pool is Untouched stands shelf =
+        record { new = Unknown; desk = record { stands = tt; shelf = tt }; turns = (subst HoldsNoGroup shelf.0.held (called.empty is), refl) }
     no_pool is (Made true failed geometry) stands shelf =
         let left = new_left failed geometry shelf in
         record { new = Made true now.own.uber geometry; desk = record { stands = tt; shelf = left.0 }; turns = (now.own.uber, left.1, refl) }
@@ -330,17 +338,30 @@ module _ {R A : Type 0} (rack : racks.Ghosts R) (area : areas.Ghosts A) (entry b
         told = told ∙ (sym (some_is before.held (Rests y rest.pieces) rest.rests.held) ∙ sym tells);
       }
 
-      pub imported : (called_name : String Global) (geometry : Geometry) (group objects : ℕ) → string_bytes called_name ≡ vdev_name_of geometry.spec
+      -- what was found there now was there at the entry
+      pool_at : (called_name : List ℕ) (group objects : ℕ) → IsSame entry before → FindsPool rack area before.held before.leaves before.counts group called_name objects
+          → FindsPool rack area entry.held entry.leaves entry.counts group called_name objects
+      pool_at called_name group objects same finds =
+          subst (λ h. FindsPool rack area h entry.leaves entry.counts group called_name objects) same.0.held
+          (subst (λ s. FindsPool rack area before.held s entry.counts group called_name objects) (ext before.leaves entry.leaves same.1)
+          (subst (λ k. FindsPool rack area before.held before.leaves k group called_name objects) (ext before.counts entry.counts same.0.counts) finds))
+
+      pub imported : (called_name : String Global) (geometry : Geometry) (group objects : ℕ) → string_bytes called_name ≡ vdev_name_of geometry.spec → geometry ≡ pool.geometry
+          → group ≡ group_in pool → HasNames (get nat_eq pool.objects) objects
           → ((s : State) → Represents rack area pool s → geometry ≡ s.geometry)
           → ((s : State) → Represents rack area pool s → group ≡ s.committed)
           → ((s : State) → Represents rack area pool s → HasObjects s.store.changes objects)
           → (x : Desk) → IsPool rack area None x → IsShelf x entry before → ImportDid rack area entry x (Imported called_name group objects) now (Some pool)
-      imported called_name geometry group objects named layout committed counted = by where
+      imported called_name geometry group objects named own of names layout committed counted = by where
         foreign : (x : Desk) → ImportDoes rack area entry x (Imported called_name group objects) Foreign → ImportDid rack area entry x (Imported called_name group objects) now (Some pool)
         foreign x turns = record { new = Foreign; desk = record { stands = whole; shelf = tt }; turns = turns }
 
         by : (x : Desk) → IsPool rack area None x → IsShelf x entry before → ImportDid rack area entry x (Imported called_name group objects) now (Some pool)
-        by Untouched stands shelf = foreign Untouched (tt, refl)
+        by Untouched stands shelf = foreign Untouched (
+          pool_at (string_bytes called_name) group objects shelf (finds_pool rack area before.held before.leaves before.counts before.own.uber pool group (string_bytes called_name) objects
+              (subst (λ r. IfOk r (IsReadPool rack area before.held before.leaves before.counts before.own.uber)) is called.read) of (named ∙ ap (λ (l : Geometry). vdev_name_of l.spec) own) names),
+          refl,
+        )
         by (Made true failed geo) stands shelf = absurd (new_none failed geo (Ok pool) is shelf)
         by (Made false failed geo) stands shelf = foreign (Made false failed geo) refl
         by Unknown stands shelf = foreign Unknown refl

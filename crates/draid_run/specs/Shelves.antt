@@ -8,11 +8,13 @@ use Rattle.draid_spec.specs.declared.layout.Geometry.{Geometry}
 use Rattle.draid_script.specs.Line.{Command, CreatePool, ImportPool}
 use Rattle.draid_shelf.specs.Kits.{AreNewChecks, Held, KitCounts, OnHeld}
 use Rattle.draid_shelf.specs.declared.Shelf as shelves
-use Rattle.draid_session.specs.Session.{Desk, Finding, Untouched, Bare, Made, Open, Shut, Foreign, Unknown, HasLayout}
+use Rattle.draid_session.specs.Session.{Desk, Finding, Fault, Nothing, Untouched, Bare, Made, Open, Shut, Foreign, Unknown, HasLayout}
+use Rattle.draid_session.specs.Session as finding
 use Rattle.draid_session.specs.State.{Metaslab, State}
 use Rattle.draid_pool.specs.Closing.{HoldsPool, OwnCounts, SameCounts}
 use Rattle.draid_pool.specs.Failing.{AreaFails}
-use Rattle.draid_pool.specs.Faulty.{RecordIsBad}
+use Rattle.draid_pool.specs.Faulty.{HoldsNoGroup, RecordIsBad}
+use Rattle.draid_pool.specs.Findings.{FindsPool}
 use Rattle.draid_pool.specs.Found.{HasRisen}
 use Rattle.draid_pool.specs.Importable.{IsImportable}
 use Rattle.draid_pool.specs.Opening.{AreaFailed, IsAsBefore, NewPoolFailed, NoChecks, SameLeaves, StaysMade}
@@ -86,9 +88,11 @@ HoldsDesk (Shut crash state) entry now = HoldsShut crash state now
 HoldsDesk Foreign entry now = ⊥
 HoldsDesk Unknown entry now = ⊤
 
--- What an import may find on a shelf that is as it was at the entry. It isn't said yet what that depends on.
+-- what an import may find on a shelf that is as it was at the entry, by what that held
 abbrev pub MayFind : {R A : Type 0} → racks.Ghosts R → areas.Ghosts A → OnShelf → Finding → Type 0
-MayFind rack area entry finding = ⊤
+MayFind rack area entry Nothing = HoldsNoGroup entry.held
+MayFind rack area entry (Fault metaslab place kind) = RecordIsBad rack area entry.held entry.leaves entry.counts metaslab place kind
+MayFind rack area entry (finding.Pool group called objects) = FindsPool rack area entry.held entry.leaves entry.counts group called objects
 
 -- the shelf tells before and after, or neither
 abbrev pub TellsAsBefore : OnShelf → OnShelf → Type 0
@@ -134,4 +138,4 @@ FailsIn area command before now = ⊥
 
 -- the uberblock that a shelf held, or a record of a metaslab, has this fault
 abbrev pub HoldsFault : {R A : Type 0} → racks.Ghosts R → areas.Ghosts A → OnShelf → Option ℕ → (place kind : ℕ) → Type 0
-HoldsFault rack area before metaslab place kind = RecordIsBad rack area before.held before.counts before.own.uber metaslab place kind
+HoldsFault rack area before metaslab place kind = RecordIsBad rack area before.held before.leaves before.counts metaslab place kind

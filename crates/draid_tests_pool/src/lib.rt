@@ -5,6 +5,8 @@
 #![tactic(auto)]
 
 #[cfg(test)]
+mod harm;
+#[cfg(test)]
 mod import;
 #[cfg(test)]
 mod log;

@@ -11,7 +11,7 @@ use Rattle.draid_shard.specs.Fits.{is_rebuild}
 use Rattle.draid_groups.specs.Groups.{area_of_kit}
 use Rattle.draid_groups.proofs.Creation.{own_version}
 use Rattle.draid_groups.proofs.Once.{told_once}
-use Rattle.draid_groups.proofs.Reopened.{are_here, both_same, drops_but, enough_room, leaves_there, no_writes, tables_fit, told_place, told_read}
+use Rattle.draid_groups.proofs.Reopened.{are_here, both_same, drops_but, enough_room, leaves_there, no_writes, tables_fit, told_opening, told_place}
 use Rattle.draid_groups.proofs.reopening.reopen.Goals as goal
 
 pub returns-in-Err : goal.returns-in-Err
@@ -81,7 +81,9 @@ returns g c =
           record {
             value = r.value;
             in_range = ranged_spelled limits r.value r.ranged;
-            read = told_read (g.A.Area.told (area_of_kit c.args.kit c.args.group)) limits c.in-Ok.ensures.read.bytes r.value c.in-Ok.ensures.read.are parts.read;
+            read = told_opening (g.A.Area.told (area_of_kit c.args.kit c.args.group)) limits there c.in-Ok.ensures.read.bytes r.value c.in-Ok.ensures.read.are r.found;
+            arms = t.arms;
+            entries = t.entries;
             is_in = λ w doubtful. record {
               held = λ key. sym (t.entries.held key);
               slots = t.slots;

@@ -2,11 +2,12 @@ use Rattle.std.proofs.Common.{arith, ◌∙◌, ℕ, Option, ap, sym}
 use Rattle.std.specs.Prelude.{nat_eq}
 use Rattle.std.specs.HashMap.{get}
 use Rattle.draid_names.specs.declared.pointer.Pointer.{Pointer}
+use Rattle.draid_machine.proofs.Small.{absurd_test}
 use Rattle.draid_shelf.specs.Kits.{gives_uber}
 use Rattle.draid_uber.specs.Uber.{area_of}
 use Rattle.draid_pool.proofs.Closed.{counted_as, holds_pool, pool_crashed, pool_uncrashed, stands_parts}
 use Rattle.draid_pool.proofs.Failing.{shows_there}
-use Rattle.draid_pool.proofs.ImportClosed.{importable_back, importable_left}
+use Rattle.draid_pool.proofs.ImportClosed.{firm_crashed, importable_back, importable_left}
 use Rattle.draid_pool.proofs.Wholes.{few_whole}
 use Rattle.draid_pool.proofs.closing.close.Goals as goal
 
@@ -29,6 +30,7 @@ returns-then-crash g c =
                 c.give_back.ensures.returns (shelf.counts c.crash.new.self) (λ m. c.crash.ensures.counts m ∙ c.give_uber.ensures.counts m);
             uber = c.crash.ensures.uber_count ∙ (c.give_uber.ensures.count ∙ (ap g.H.A.Area.faults c.into_area.ensures ∙ sym represents.stands.uber.count));
           });
+      crash = λ asked. firm_crashed (shelf.told c.give_uber.new.self) (shelf.told c.crash.new.self) c.crash.ensures.told;
       failed = shows_there g.H.R.Rack g.H.A.Area c.args.pool (shelf.told c.args.shelf.now) (shelf.told c.give_back.new.shelf) (shelf.counts c.args.shelf.now) (shelf.counts c.give_back.new.shelf) (shelf.counts c.crash.new.self)
           (record { uber = shelf.uber_count c.crash.new.self; checks = shelf.check_counts c.crash.new.self }) c.give_back.ensures.returns
           (λ m. c.crash.ensures.counts m ∙ c.give_uber.ensures.counts m) (c.crash.ensures.uber_count ∙ (c.give_uber.ensures.count ∙ ap g.H.A.Area.faults c.into_area.ensures));
@@ -55,6 +57,7 @@ returns g c =
                 c.give_back.ensures.returns (shelf.counts c.give_uber.new.self) (λ m. c.give_uber.ensures.counts m);
             uber = c.give_uber.ensures.count ∙ (ap g.H.A.Area.faults c.into_area.ensures ∙ sym represents.stands.uber.count);
           });
+      crash = λ asked. absurd_test c.args.crash asked c.if-crash.false;
       failed = shows_there g.H.R.Rack g.H.A.Area c.args.pool (shelf.told c.args.shelf.now) (shelf.told c.give_back.new.shelf) (shelf.counts c.args.shelf.now) (shelf.counts c.give_back.new.shelf) (shelf.counts c.give_uber.new.self)
           (record { uber = shelf.uber_count c.give_uber.new.self; checks = shelf.check_counts c.give_uber.new.self }) c.give_back.ensures.returns
           (λ m. c.give_uber.ensures.counts m) (c.give_uber.ensures.count ∙ ap g.H.A.Area.faults c.into_area.ensures);

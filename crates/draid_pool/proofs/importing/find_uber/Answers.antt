@@ -3,7 +3,7 @@ use Rattle.draid_uber.specs.Uber.{kept_of}
 use Rattle.draid_pool.specs.Importing.{ImportIs}
 use Rattle.draid_pool.specs.declared.fault.PoolFault.{PoolFault}
 use Rattle.draid_pool.proofs.Found.{leaf_found, uber_left, uber_put, checks_equal, checks_given, checks_same, checks_uber_taken, found_uber, none_there, pool_there}
-use Rattle.draid_pool.proofs.ImportFaulty.{err_is, shelf_no_record, uber_bad}
+use Rattle.draid_pool.proofs.ImportFaulty.{err_is, no_uber, shelf_no_record, shelf_not_empty, tells_body, uber_bad, uber_empty}
 use Rattle.draid_pool.proofs.ImportMade.{made_left, made_not, made_same, made_untaken}
 use Rattle.draid_pool.proofs.ImportTaken.{no_pool, not_found, not_taken, taken_not}
 use Rattle.draid_pool.proofs.Refusing.{absent_no_record, absent_no_shelf, no_refusal}
@@ -29,6 +29,8 @@ returns-in-Ok-recover g c =
             later = (let was = t.count in let up = e.later in omega (arith, was, up));
           });
       told = c.in-Ok.ensures.told;
+      body = tells_body g.H.A.Area c.in-Ok.area c.in-Ok-recover.uber (g.H.Shelf.told c.args.shelf.now) (g.H.A.Area.told c.in-Ok.area) e.valid e.some t.area t.needs e.finds;
+      empty = λ err. absurd (no_refusal err);
       back = tt;
       import = λ x pieces there. tt;
       leaves = c.take_uber.ensures.leaves;
@@ -50,6 +52,8 @@ returns-then-not-has_pool g c =
       not_spec = tt;
       recovered = tt;
       told = tt;
+      body = tt;
+      empty = λ err. no_uber (shelf.told c.args.shelf.now) c.has_pool.result c.has_pool.ensures c.if-not-has_pool.true;
       back = uber_left (shelf.told c.args.shelf.now) (shelf.told c.args.shelf.now) (shelf.uber_count c.args.shelf.now) (shelf.uber_count c.args.shelf.now) refl refl;
       import = λ x pieces there. no_pool g.H.R.Rack g.H.A.Area x pieces (shelf.told c.args.shelf.now) (shelf.told c.args.shelf.now) (shelf.leaves c.args.shelf.now) (shelf.leaves c.args.shelf.now) (shelf.counts c.args.shelf.now) (shelf.counts c.args.shelf.now)
           (shelf.uber_count c.args.shelf.now) (shelf.uber_count c.args.shelf.now) c.has_pool.result c.has_pool.ensures c.if-not-has_pool.true there;
@@ -73,6 +77,8 @@ returns-in-Err g c =
       not_spec = c.shelf_fault.ensures.not_spec;
       recovered = tt;
       told = tt;
+      body = tt;
+      empty = λ err. absurd (shelf_not_empty c.in-Err.why (sym c.shelf_fault.ensures.is ∙ err_is c.shelf_fault.result _ err));
       back = uber_left (shelf.told c.args.shelf.now) (shelf.told c.take_uber.new.self) (shelf.uber_count c.args.shelf.now) (shelf.uber_count c.take_uber.new.self) c.in-Err.ensures.err c.in-Err.ensures.err_count;
       import = λ x pieces there. subst (λ (why : PoolFault). ImportIs g.H.R.Rack g.H.A.Area x pieces (shelf.told c.take_uber.new.self) (shelf.leaves c.take_uber.new.self) (shelf.counts c.take_uber.new.self) (shelf.uber_count c.take_uber.new.self) (Err why))
           (sym c.shelf_fault.ensures.is)
@@ -102,8 +108,10 @@ returns-in-Err-recover g c =
       not_spec = c.uber_fault.ensures.not_spec;
       recovered = tt;
       told = tt;
-      back = uber_put (shelf.told c.args.shelf.now) (shelf.told c.take_uber.new.self) (shelf.told c.give_uber.new.self) (area.told c.in-Ok.area) (area.told r.field-0.area) (shelf.uber_count c.args.shelf.now) (shelf.uber_count c.give_uber.new.self)
-          t.told e.told t.area r.ensures.err (let was = t.count in let up = r.ensures.err_later in let now = e.count in omega (arith, was, up, now));
+      body = tt;
+      empty = λ err. uber_empty (shelf.told c.args.shelf.now) (area.told c.in-Ok.area) r.field-0.why t.area r.ensures.finds (sym c.uber_fault.ensures.is ∙ err_is c.uber_fault.result _ err);
+      back = uber_put c.in-Ok.area (shelf.told c.args.shelf.now) (shelf.told c.take_uber.new.self) (shelf.told c.give_uber.new.self) (area.told c.in-Ok.area) (area.told r.field-0.area) (shelf.uber_count c.args.shelf.now) (shelf.uber_count c.give_uber.new.self)
+          t.told e.told t.area t.needs r.ensures.err (let was = t.count in let up = r.ensures.err_later in let now = e.count in omega (arith, was, up, now));
       import = λ x pieces there. subst (λ (why : PoolFault). ImportIs g.H.R.Rack g.H.A.Area x pieces (shelf.told c.give_uber.new.self) (shelf.leaves c.give_uber.new.self) (shelf.counts c.give_uber.new.self) (shelf.uber_count c.give_uber.new.self) (Err why))
           (sym c.uber_fault.ensures.is)
           (not_found g.H.R.Rack g.H.A.Area x pieces (shelf.told c.args.shelf.now) (shelf.told c.take_uber.new.self) (shelf.told c.give_uber.new.self) (shelf.leaves c.args.shelf.now) (shelf.leaves c.give_uber.new.self)
@@ -111,7 +119,7 @@ returns-in-Err-recover g c =
           r.field-0.why t.area c.has_length_told.ensures r.ensures.finds r.ensures.err r.ensures.empty t.told e.told (λ m. e.leaves m ∙ t.leaves m) (λ m. e.counts m ∙ t.counts m)
           (let was = t.count in let up = r.ensures.err_later in let now = e.count in omega (arith, was, up, now)) there);
       leaves = λ m. c.give_uber.ensures.leaves m ∙ c.take_uber.ensures.leaves m;
-      faulty = λ metaslab place kind err. uber_bad (g.H.Shelf.told c.args.shelf.now) (g.H.A.Area.told c.in-Ok.area) r.field-0.why metaslab place kind c.in-Ok.ensures.area r.ensures.finds (sym c.uber_fault.ensures.is ∙ err_is c.uber_fault.result _ err);
+      faulty = λ metaslab place kind err. uber_bad c.in-Ok.area (g.H.Shelf.told c.args.shelf.now) (g.H.A.Area.told c.in-Ok.area) r.field-0.why metaslab place kind c.in-Ok.ensures.area t.needs r.ensures.finds (sym c.uber_fault.ensures.is ∙ err_is c.uber_fault.result _ err);
       none = taken_not c.in-Ok.area (g.H.Shelf.told c.args.shelf.now) _ c.in-Ok.ensures.needs;
       made = λ geometry made. made_left geometry (shelf.told c.args.shelf.now) (shelf.told c.take_uber.new.self) (shelf.told c.give_uber.new.self) (shelf.counts c.args.shelf.now) (shelf.counts c.give_uber.new.self) _ _
           (area.told c.in-Ok.area) (area.told r.field-0.area) r.field-0.why (Err c.uber_fault.result) (ap Err c.uber_fault.ensures.is) t.area r.ensures.finds r.ensures.err t.told e.told (λ m. e.counts m ∙ t.counts m)

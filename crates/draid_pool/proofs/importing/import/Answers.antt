@@ -1,27 +1,27 @@
-use Rattle.std.proofs.Common.{◌∙◌, inl, inr, List, Option, Result, Err, ap, subst, sym, arith}
+use Rattle.std.proofs.Common.{◌∙◌, inl, inr, length, List, Result, Err, ap, subst, sym, arith}
 use Rattle.std.specs.Prelude.{nat_eq}
 use Rattle.std.proofs.lemmas.Result.{err_from_is_err_and}
 use Rattle.std.specs.HashMap.{get}
 use Rattle.draid_shard.specs.declared.shard.Shard.{Shard}
 use Rattle.draid_uber.specs.Slots.{group_of}
-use Rattle.draid_shelf.specs.Kits.{Held, KitCounts, gives_uber}
+use Rattle.draid_shelf.specs.Kits.{gives_uber}
 use Rattle.draid_uber.specs.declared.uber.Uber.{Uber}
 use Rattle.draid_uber.specs.Uber.{kept_of, layout_of, next_leaf_of}
-use Rattle.draid_found.specs.Together.{AreApart}
+use Rattle.draid_found.specs.Together.{AreApart, AreTogether}
 use Rattle.draid_session.specs.State.{limit_of}
-use Rattle.draid_pool.specs.Faulty.{IsUnread, OneIsUnread}
+use Rattle.draid_pool.specs.Findings.{LeavesAll}
 use Rattle.draid_found.specs.Found.{AreFound, AreReady}
-use Rattle.draid_pool.specs.Found.{OpensAllOver, OpensOver}
 use Rattle.draid_pool.specs.Importing.{ImportIs}
 use Rattle.draid_pool.specs.declared.fault.PoolFault.{PoolFault}
 use Rattle.draid_pool.specs.declared.pool.Pool.{Pool}
-use Rattle.draid_pool.proofs.ImportFaulty.{err_is, passed_on}
+use Rattle.draid_pool.proofs.Findings.{left_found, left_unfound, over_entry, unread_entry}
+use Rattle.draid_pool.proofs.ImportFaulty.{err_is, passed_on, shard_not_empty}
 use Rattle.draid_pool.proofs.ImportMade.{made_passed, none_passed}
 use Rattle.draid_pool.proofs.ImportLeft.{leaves_all, refusal_is, refused_pool, rests_known, risen_behind}
 use Rattle.draid_pool.proofs.ImportOne.{no_fault_apart}
 use Rattle.draid_pool.proofs.ImportPool.{pool_found, tells_as_before}
 use Rattle.draid_pool.proofs.Found.{absent_not, all_ready, checks_more, refused_too, checks_back, checks_given, shard_not_spec}
-use Rattle.draid_pool.proofs.Refusing.{if_err_passed, if_ok_passed, no_refusal, on_ok_passed, passed, passed_is}
+use Rattle.draid_pool.proofs.Refusing.{if_err_passed, if_ok_passed, no_refusal, on_err_always, on_ok_passed, passed, passed_is}
 use Rattle.draid_pool.proofs.importing.import.Goals as goal
 
 pub find_blocks-requires : goal.find_blocks-requires
@@ -58,9 +58,32 @@ returns-in-Ok-find_blocks g c =
       import = λ x pieces there. (let u = c.in_ok-uber.ensures in
           let newest = get nat_eq c.in-Ok-find_blocks.found.newest in
           c.pool_of.ensures.imports x pieces
-          (pool_found c.args.alloc g.H.R.Rack g.H.A.Area x pieces (shelf.told c.args.shelf.now) (shelf.told c.find_uber.new.shelf) (shelf.leaves c.args.shelf.now) (shelf.counts c.args.shelf.now) (shelf.counts c.find_uber.new.shelf)
+          (pool_found c.args.alloc g.H.R.Rack g.H.A.Area x pieces (shelf.told c.args.shelf.now) (shelf.told c.find_uber.new.shelf) (shelf.leaves c.args.shelf.now) (shelf.leaves c.find_uber.new.shelf) (shelf.counts c.args.shelf.now) (shelf.counts c.find_uber.new.shelf)
           (shelf.uber_count c.args.shelf.now) c.in_ok-uber.uber c.in-Ok.shards.items newest c.in-Ok-find_blocks.found.seq there u.found u.recovered c.find_uber.ensures.counts u.told c.in-Ok.ensures.reopened c.in-Ok.ensures.over
           (subst (λ (xs : List (Shard g.row.H-R.Denot g.row.H-A.Denot)). AreFound xs newest c.in-Ok-find_blocks.found.seq) c.deref.ensures.value c.in-Ok-find_blocks.ensures.found)));
+      read = (let u = c.in_ok-uber.ensures in
+          let uber = c.in_ok-uber.uber in
+          let e = c.in-Ok.ensures in
+          let newest = get nat_eq c.in-Ok-find_blocks.found.newest in
+          record {
+            uber = uber;
+            shards = c.in-Ok.shards.items;
+            newest = newest;
+            seq = c.in-Ok-find_blocks.found.seq;
+            recovered = u.recovered;
+            read = record {
+              found = u.found;
+              body = u.body;
+              reopened = e.reopened;
+              over = over_entry g.H.R.Rack g.H.A.Area (limit_of (layout_of uber)) (group_of (kept_of uber)) (next_leaf_of uber) (shelf.told c.args.shelf.now) (shelf.told c.find_uber.new.shelf)
+                  (shelf.leaves c.args.shelf.now) (shelf.leaves c.find_uber.new.shelf) (shelf.counts c.args.shelf.now) (shelf.counts c.find_uber.new.shelf) c.in-Ok.shards.items u.told c.find_uber.ensures.leaves c.find_uber.ensures.counts e.over;
+              together = subst (λ (xs : List (Shard g.row.H-R.Denot g.row.H-A.Denot)). AreTogether xs (length xs)) c.deref.ensures.value c.in-Ok-find_blocks.ensures.together;
+              blocks = subst (λ (xs : List (Shard g.row.H-R.Denot g.row.H-A.Denot)). AreFound xs newest c.in-Ok-find_blocks.found.seq) c.deref.ensures.value c.in-Ok-find_blocks.ensures.found;
+            };
+            made = c.pool_of.ensures.made;
+          });
+      empty = λ err. absurd (no_refusal err);
+      back = tt;
       not_spec = tt;
       tells = tells_as_before (layout_of c.in_ok-uber.uber).props.metaslabs (shelf.told c.args.shelf.now) (shelf.told c.find_uber.new.shelf) (shelf.told c.reopen_shards.new.shelf) c.in_ok-uber.ensures.told c.in-Ok.ensures.told;
       faulty = λ metaslab place kind err. absurd (no_refusal err);
@@ -87,16 +110,24 @@ returns-in-Err g c =
           c.in_ok-uber.uber there u.found u.recovered u.told c.find_uber.ensures.leaves c.find_uber.ensures.counts c.in-Err.ensures.back
           (c.give_uber.ensures.told ∙ ap (λ a. gives_uber (g.H.A.Area.told a) (shelf.told c.reopen_shards.new.shelf)) c.into_area.ensures) c.give_uber.ensures.leaves c.give_uber.ensures.counts
           (c.give_uber.ensures.count ∙ ap g.H.A.Area.faults c.into_area.ensures));
+      read = tt;
+      empty = λ err. absurd (shard_not_empty c.in-Err.fault c.in-Err.ensures.fault err);
+      back = left_found g.H.R.Rack g.H.A.Area (shelf.told c.args.shelf.now) (shelf.told c.find_uber.new.shelf) (shelf.told c.reopen_shards.new.shelf) (shelf.told c.give_uber.new.self)
+          (shelf.leaves c.find_uber.new.shelf) (shelf.leaves c.reopen_shards.new.shelf)
+          (shelf.counts c.args.shelf.now) (shelf.counts c.find_uber.new.shelf) (shelf.counts c.reopen_shards.new.shelf) (shelf.counts c.give_uber.new.self) (shelf.uber_count c.args.shelf.now) (shelf.uber_count c.give_uber.new.self)
+          c.in_ok-uber.uber u.found u.recovered u.body u.told c.find_uber.ensures.counts c.in-Err.ensures.back
+          (c.give_uber.ensures.told ∙ ap (λ a. gives_uber (g.H.A.Area.told a) (shelf.told c.reopen_shards.new.shelf)) c.into_area.ensures) c.give_uber.ensures.counts
+          (c.give_uber.ensures.count ∙ ap g.H.A.Area.faults c.into_area.ensures);
       not_spec = shard_not_spec c.in-Err.fault c.in-Err.ensures.fault;
       tells = tt;
       faulty = λ metaslab place kind err. (let uber = c.in_ok-uber.uber in
-          let z = c.in-Err.ensures.faulty metaslab place kind (ap Err (err_is c.in-Err.fault _ err)) in
           inr (record {
             uber = uber;
             found = u.found;
-            recovered = u.recovered;
-            bad = inl (subst (λ (o : Option Held). OneIsUnread g.H.R.Rack g.H.A.Area (layout_of uber) (group_of (kept_of uber)) (next_leaf_of uber) o (shelf.counts c.args.shelf.now) metaslab place kind) u.told
-                (z.0, subst (λ (k : KitCounts). IsUnread g.H.R.Rack g.H.A.Area (layout_of uber) (group_of (kept_of uber)) (next_leaf_of uber) z.0 (shelf.told c.find_uber.new.shelf) k metaslab place kind) (c.find_uber.ensures.counts z.0) z.1));
+            body = u.body;
+            bad = inl (unread_entry g.H.R.Rack g.H.A.Area (layout_of uber) (group_of (kept_of uber)) (next_leaf_of uber) (shelf.told c.args.shelf.now) (shelf.told c.find_uber.new.shelf)
+                (shelf.leaves c.args.shelf.now) (shelf.leaves c.find_uber.new.shelf) (shelf.counts c.args.shelf.now) (shelf.counts c.find_uber.new.shelf) metaslab place kind u.told c.find_uber.ensures.leaves c.find_uber.ensures.counts
+                (c.in-Err.ensures.faulty metaslab place kind (ap Err (err_is c.in-Err.fault _ err))));
           }));
       held = checks_given (g.H.A.Area.told c.into_area.result) (shelf.told c.args.shelf.now) (shelf.told c.reopen_shards.new.shelf) (shelf.told c.give_uber.new.self)
           (checks_more (shelf.told c.args.shelf.now) (shelf.told c.find_uber.new.shelf) (shelf.told c.reopen_shards.new.shelf) c.find_uber.ensures.held c.reopen_shards.ensures.held) c.give_uber.ensures.told;
@@ -123,7 +154,7 @@ returns-in-Err-find_blocks g c =
           let shards = c.in-Ok.shards.items in
           let f = c.in-Err-find_blocks.ensures in
           refusal_is rack area x pieces (shelf.told c.give_uber-in-Err-find_blocks.new.self) (shelf.leaves c.give_uber-in-Err-find_blocks.new.self) (shelf.counts c.give_uber-in-Err-find_blocks.new.self) (shelf.uber_count c.give_uber-in-Err-find_blocks.new.self) c.in-Err-find_blocks.fault f.fault
-          (no_fault_apart c.args.alloc rack area x pieces (shelf.told c.args.shelf.now) (shelf.told c.find_uber.new.shelf) (shelf.leaves c.args.shelf.now) (shelf.counts c.args.shelf.now) (shelf.counts c.find_uber.new.shelf)
+          (no_fault_apart c.args.alloc rack area x pieces (shelf.told c.args.shelf.now) (shelf.told c.find_uber.new.shelf) (shelf.leaves c.args.shelf.now) (shelf.leaves c.find_uber.new.shelf) (shelf.counts c.args.shelf.now) (shelf.counts c.find_uber.new.shelf)
           (shelf.uber_count c.args.shelf.now) uber shards c.in-Err-find_blocks.fault there u.found u.recovered c.find_uber.ensures.counts u.told e.reopened e.over
           (λ metaslab place kind err. subst (λ (xs : List (Shard g.row.H-R.Denot g.row.H-A.Denot)). AreApart xs metaslab place kind) c.deref.ensures.value (f.faulty metaslab place kind err)))
           (refused_pool c.args.alloc rack area x pieces (shelf.told c.args.shelf.now) (shelf.told c.find_uber.new.shelf) (shelf.told c.give_back.new.shelf) (shelf.told c.give_uber-in-Err-find_blocks.new.self)
@@ -132,20 +163,34 @@ returns-in-Err-find_blocks g c =
           uber there u.found u.recovered u.told c.find_uber.ensures.leaves c.find_uber.ensures.counts
           (leaves_all rack area (layout_of uber) (group_of (kept_of uber)) (next_leaf_of uber) shards (shelf.told c.find_uber.new.shelf) (shelf.told c.reopen_shards.new.shelf) (shelf.told c.give_back.new.shelf)
           (shelf.counts c.find_uber.new.shelf) (shelf.counts c.reopen_shards.new.shelf) (shelf.counts c.give_back.new.shelf) (shelf.leaves c.find_uber.new.shelf) (shelf.leaves c.reopen_shards.new.shelf) (shelf.leaves c.give_back.new.shelf)
-          e.reopened e.over e.told c.give_back.ensures.returns c.give_back.ensures.leaves)
+          e.reopened e.over e.told e.left c.give_back.ensures.returns c.give_back.ensures.leaves)
           (c.give_uber-in-Err-find_blocks.ensures.told ∙ ap (λ a. gives_uber (g.H.A.Area.told a) (shelf.told c.give_back.new.shelf)) c.into_area-in-Err-find_blocks.ensures) c.give_uber-in-Err-find_blocks.ensures.leaves c.give_uber-in-Err-find_blocks.ensures.counts
           (c.give_uber-in-Err-find_blocks.ensures.count ∙ ap g.H.A.Area.faults c.into_area-in-Err-find_blocks.ensures)));
+      read = tt;
+      empty = λ err. absurd (shard_not_empty c.in-Err-find_blocks.fault c.in-Err-find_blocks.ensures.fault err);
+      back = (let rack = g.H.R.Rack in
+          let area = g.H.A.Area in
+          let shards = c.in-Ok.shards.items in
+          left_found rack area (shelf.told c.args.shelf.now) (shelf.told c.find_uber.new.shelf) (shelf.told c.give_back.new.shelf) (shelf.told c.give_uber-in-Err-find_blocks.new.self)
+          (shelf.leaves c.find_uber.new.shelf) (shelf.leaves c.give_back.new.shelf)
+          (shelf.counts c.args.shelf.now) (shelf.counts c.find_uber.new.shelf) (shelf.counts c.give_back.new.shelf) (shelf.counts c.give_uber-in-Err-find_blocks.new.self) (shelf.uber_count c.args.shelf.now) (shelf.uber_count c.give_uber-in-Err-find_blocks.new.self)
+          uber u.found u.recovered u.body u.told c.find_uber.ensures.counts
+          (leaves_all rack area (layout_of uber) (group_of (kept_of uber)) (next_leaf_of uber) shards (shelf.told c.find_uber.new.shelf) (shelf.told c.reopen_shards.new.shelf) (shelf.told c.give_back.new.shelf)
+          (shelf.counts c.find_uber.new.shelf) (shelf.counts c.reopen_shards.new.shelf) (shelf.counts c.give_back.new.shelf) (shelf.leaves c.find_uber.new.shelf) (shelf.leaves c.reopen_shards.new.shelf) (shelf.leaves c.give_back.new.shelf)
+          e.reopened e.over e.told e.left c.give_back.ensures.returns c.give_back.ensures.leaves)
+          (c.give_uber-in-Err-find_blocks.ensures.told ∙ ap (λ a. gives_uber (g.H.A.Area.told a) (shelf.told c.give_back.new.shelf)) c.into_area-in-Err-find_blocks.ensures) c.give_uber-in-Err-find_blocks.ensures.counts
+          (c.give_uber-in-Err-find_blocks.ensures.count ∙ ap g.H.A.Area.faults c.into_area-in-Err-find_blocks.ensures));
       not_spec = shard_not_spec c.in-Err-find_blocks.fault c.in-Err-find_blocks.ensures.fault;
       tells = tt;
       faulty = λ metaslab place kind err. inr (record {
         uber = uber;
         found = u.found;
-        recovered = u.recovered;
+        body = u.body;
         bad = inr (record {
           shards = c.in-Ok.shards.items;
           reopened = e.reopened;
-          over = subst (λ (o : Option Held). OpensAllOver g.H.R.Rack g.H.A.Area (limit_of (layout_of uber)) (group_of (kept_of uber)) (next_leaf_of uber) o (shelf.counts c.args.shelf.now) c.in-Ok.shards.items) u.told
-              (λ m shard there. subst (λ (k : KitCounts). OpensOver g.H.R.Rack g.H.A.Area (limit_of (layout_of uber)) (group_of (kept_of uber)) (next_leaf_of uber) m (shelf.told c.find_uber.new.shelf) k shard) (c.find_uber.ensures.counts m) (e.over m shard there));
+          over = over_entry g.H.R.Rack g.H.A.Area (limit_of (layout_of uber)) (group_of (kept_of uber)) (next_leaf_of uber) (shelf.told c.args.shelf.now) (shelf.told c.find_uber.new.shelf)
+              (shelf.leaves c.args.shelf.now) (shelf.leaves c.find_uber.new.shelf) (shelf.counts c.args.shelf.now) (shelf.counts c.find_uber.new.shelf) c.in-Ok.shards.items u.told c.find_uber.ensures.leaves c.find_uber.ensures.counts e.over;
           apart = subst (λ (xs : List (Shard g.row.H-R.Denot g.row.H-A.Denot)). AreApart xs metaslab place kind) c.deref.ensures.value
               (c.in-Err-find_blocks.ensures.faulty metaslab place kind (ap Err (err_is c.in-Err-find_blocks.fault _ err)));
         });
@@ -174,6 +219,12 @@ returns-in_err-uber g c =
           let new = c.find_uber.new.shelf in
           subst (λ (r : Result (Pool g.row.H-R.Denot g.row.H-A.Denot) PoolFault). ImportIs g.H.R.Rack g.H.A.Area x pieces (shelf.told new) (shelf.leaves new) (shelf.counts new) (shelf.uber_count new) r) (sym (passed_is c.from_residual.result c.in_err-uber.field-0.0 c.from_residual.ensures.1))
           (c.in_err-uber.ensures.import x pieces there));
+      read = if_ok_passed _ c.from_residual.result _ c.from_residual.ensures.1;
+      empty = λ err. c.in_err-uber.ensures.empty (passed c.from_residual.result c.in_err-uber.field-0.0 _ c.from_residual.ensures.1 err);
+      back = (let shelf = g.H.Shelf in
+          on_err_always c.from_residual.result (LeavesAll g.H.A.Area (shelf.told c.args.shelf.now) (shelf.told c.find_uber.new.shelf) (shelf.counts c.args.shelf.now) (shelf.counts c.find_uber.new.shelf) (shelf.uber_count c.args.shelf.now) (shelf.uber_count c.find_uber.new.shelf))
+          (left_unfound g.H.A.Area (shelf.told c.args.shelf.now) (shelf.told c.find_uber.new.shelf) (shelf.counts c.args.shelf.now) (shelf.counts c.find_uber.new.shelf) (shelf.uber_count c.args.shelf.now) (shelf.uber_count c.find_uber.new.shelf)
+          c.find_uber.ensures.counts c.in_err-uber.ensures.back));
       not_spec = if_err_passed c.from_residual.result c.in_err-uber.field-0.0 _ c.from_residual.ensures.1 c.in_err-uber.ensures.not_spec;
       tells = on_ok_passed _ c.from_residual.result _ c.from_residual.ensures.1;
       faulty = λ metaslab place kind err. (let p = err_from_is_err_and c.from_residual.result c.from_residual.ensures.1 in

@@ -25,6 +25,15 @@ pub returns : goal.returns
 returns g c = record {
   whole = imported_whole g.R.Rack g.A.Area _ (layout_of c.args.uber) c.args.shards.items (get nat_eq c.args.found.newest) c.requires.uber refl c.geometry.ensures c.requires.shards c.requires.found c.free_all.ensures.freed
       (λ object. refl) (ap (λ n. n + 1) c.committed-floor.ensures);
+  made = record {
+    uber_is = refl;
+    layout = c.geometry.ensures;
+    objects = λ object. refl;
+    seq_is = refl;
+    floor = ap (λ n. n + 1) c.committed-floor.ensures;
+    freed = c.free_all.ensures.freed;
+    only = c.free_all.ensures.only;
+  };
   imports = λ x pieces f.
       (let newest = get nat_eq c.args.found.newest in
       let floor = ap (λ n. n + 1) c.committed-floor.ensures in

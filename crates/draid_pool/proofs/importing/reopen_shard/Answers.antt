@@ -22,7 +22,7 @@ returns-in-Ok-reopen g c =
       over = (let t = c.in-Ok.ensures in
           record {
             kit = c.in-Ok.kit;
-            taken = record { told = t.kit; some = t.needs; rack_count = t.rack_count; even_count = t.even_count; odd_count = t.odd_count };
+            taken = record { told = t.kit; some = t.needs; leaves = t.leaves; rack_count = t.rack_count; even_count = t.even_count; odd_count = t.odd_count };
             opens = subst (λ n. Opens g.H.R.Rack g.H.A.Area.told c.in-Ok.kit n (next_leaf_of c.args.uber.now) c.in-Ok-reopen.shard) c.committed-group.ensures
                 (subst (λ n. Opens g.H.R.Rack g.H.A.Area.told c.in-Ok.kit c.committed-group.result n c.in-Ok-reopen.shard) c.next_leaf.ensures e.opened);
             later = e.counts;
@@ -57,16 +57,16 @@ returns-in-Err-reopen g c =
       told = tt;
       back = stays_put c.args.number (shelf.told c.args.shelf.now) (shelf.told c.take.new.self) (shelf.told c.give.new.self) _ c.in-Ok.ensures.told c.give.ensures.told
           (kit_back g.H.R.Rack g.H.A.Area.told c.in-Ok.kit c.in-Err-reopen.field-0.kit c.committed-group.result (shelf.told c.args.shelf.now) c.args.number c.in-Err-reopen.ensures.back c.in-Ok.ensures.kit);
-      tells = tells_put c.args.number (shelf.told c.args.shelf.now) (shelf.told c.take.new.self) (shelf.told c.give.new.self) _ c.in-Ok.ensures.told c.give.ensures.told
-          (kit_back g.H.R.Rack g.H.A.Area.told c.in-Ok.kit c.in-Err-reopen.field-0.kit c.committed-group.result (shelf.told c.args.shelf.now) c.args.number c.in-Err-reopen.ensures.back c.in-Ok.ensures.kit);
+      tells = tells_put c.in-Ok.kit c.args.number (shelf.told c.args.shelf.now) (shelf.told c.take.new.self) (shelf.told c.give.new.self) _ c.in-Ok.ensures.told c.give.ensures.told
+          (kit_back g.H.R.Rack g.H.A.Area.told c.in-Ok.kit c.in-Err-reopen.field-0.kit c.committed-group.result (shelf.told c.args.shelf.now) c.args.number c.in-Err-reopen.ensures.back c.in-Ok.ensures.kit) t.needs;
       leaves = λ m other. c.give.ensures.others m other ∙ c.take.ensures.others m other;
       known = keeps_known (shelf.leaves c.args.shelf.now c.args.number) (shelf.leaves c.give.new.self c.args.number) (rack.shape c.in-Ok.kit.rack) (rack.shape c.in-Err-reopen.field-0.kit.rack) c.in-Ok.ensures.leaves
           (ap rack.shape c.in-Err-reopen.ensures.back.rack) c.give.ensures.leaves;
       fault = c.open_fault.ensures.fault;
       faulty = λ metaslab place kind err. (let e = c.in-Err-reopen in
-          unread rack area (layout_of c.args.uber.now) (group_of (kept_of c.args.uber.now)) (next_leaf_of c.args.uber.now) c.args.number (g.H.Shelf.told c.args.shelf.now) (g.H.Shelf.counts c.args.shelf.now c.args.number)
+          unread rack area (layout_of c.args.uber.now) (group_of (kept_of c.args.uber.now)) (next_leaf_of c.args.uber.now) c.args.number (g.H.Shelf.told c.args.shelf.now) (g.H.Shelf.leaves c.args.shelf.now c.args.number) (g.H.Shelf.counts c.args.shelf.now c.args.number)
           c.in-Ok.kit e.field-0.kit e.field-0.why metaslab place kind
-          (record { told = t.kit; some = t.needs; rack_count = t.rack_count; even_count = t.even_count; odd_count = t.odd_count })
+          (record { told = t.kit; some = t.needs; leaves = t.leaves; rack_count = t.rack_count; even_count = t.even_count; odd_count = t.odd_count })
           (subst (λ (l : Geometry). OpenIsRefused rack area.faults area.told l c.args.number c.in-Ok.kit e.field-0.kit (group_of (kept_of c.args.uber.now)) (next_leaf_of c.args.uber.now) e.field-0.why) c.geometry.ensures
           (subst (λ n. OpenIsRefused rack area.faults area.told c.geometry.result.now c.args.number c.in-Ok.kit e.field-0.kit n (next_leaf_of c.args.uber.now) e.field-0.why) c.committed-group.ensures
           (subst (λ n. OpenIsRefused rack area.faults area.told c.geometry.result.now c.args.number c.in-Ok.kit e.field-0.kit c.committed-group.result n e.field-0.why) c.next_leaf.ensures e.ensures.refused)))
@@ -100,7 +100,7 @@ returns-in-Err g c =
       over = tt;
       told = tt;
       back = stays_same (g.H.Shelf.told c.args.shelf.now) (g.H.Shelf.told c.take.new.self) c.in-Err.ensures.err;
-      tells = tells_same c.args.number (g.H.Shelf.told c.args.shelf.now) (g.H.Shelf.told c.take.new.self) c.in-Err.ensures.err;
+      tells = tells_same (g.H.Shelf.told c.args.shelf.now) (g.H.Shelf.told c.take.new.self) c.in-Err.ensures.err;
       leaves = c.take.ensures.others;
       known = keeps_equal (g.H.Shelf.leaves c.args.shelf.now c.args.number) (g.H.Shelf.leaves c.take.new.self c.args.number) c.in-Err.ensures.err_leaves;
       fault = c.shelf_fault.ensures.fault;

@@ -1,4 +1,4 @@
-use Rattle.std.proofs.Common.{arith, Option, ◌≡◌, ◌+◌, ℕ, ◌∷◌, ◌∙◌, [], ap, length, length-append, refl, subst, sym, Err}
+use Rattle.std.proofs.Common.{arith, Option, ◌≡◌, ◌+◌, ◌≤◌, ℕ, ◌∷◌, ◌∙◌, [], ap, length, length-append, refl, subst, sym, Err}
 use Rattle.draid_spec.specs.Geometry.{IsGeometry}
 use Rattle.draid_spec.specs.declared.layout.Geometry.{Geometry}
 use Rattle.draid_map.specs.Place.{IsLayout}
@@ -26,7 +26,7 @@ loop-number-init g c =
       each = each_none (λ m (s : Shard g.row.H-R.Denot g.row.H-A.Denot). IsReopened g.H.R.Rack (record { geometry = layout_of c.args.uber.now; perms = c.new-perms.result; number = m }) (group_of (kept_of c.args.uber.now)) s)
           c.in-Ok.shards.items c.in-Ok.ensures.items;
       room = omega (arith, same, room);
-      over = each_none (λ m (s : Shard g.row.H-R.Denot g.row.H-A.Denot). OpensOver g.H.R.Rack g.H.A.Area (limit_of (layout_of c.args.uber.now)) (group_of (kept_of c.args.uber.now)) (next_leaf_of c.args.uber.now) m (g.H.Shelf.told c.args.shelf.now) (g.H.Shelf.counts c.args.shelf.now m) s)
+      over = each_none (λ m (s : Shard g.row.H-R.Denot g.row.H-A.Denot). OpensOver g.H.R.Rack g.H.A.Area (limit_of (layout_of c.args.uber.now)) (group_of (kept_of c.args.uber.now)) (next_leaf_of c.args.uber.now) m (g.H.Shelf.told c.args.shelf.now) (g.H.Shelf.leaves c.args.shelf.now m) (g.H.Shelf.counts c.args.shelf.now m) s)
           c.in-Ok.shards.items c.in-Ok.ensures.items;
       told = none_taken g.H.R.Rack g.H.A.Area (g.H.Shelf.told c.args.shelf.now);
       held = checks_same (g.H.Shelf.told c.args.shelf.now);
@@ -77,10 +77,11 @@ loop-number-preserved g c =
       each = each_pushed (λ m (s : Shard g.row.H-R.Denot g.row.H-A.Denot). IsReopened g.H.R.Rack (record { geometry = layout_of c.args.uber.now; perms = c.new-perms.result; number = m }) (group_of (kept_of c.args.uber.now)) s)
           c.loop-number.shards.items c.push_reserved.new.self.items c.in-Ok-reopen_shard.shard c.loop-number.number more i.many i.each c.in-Ok-reopen_shard.ensures.reopened;
       room = omega (arith, room, capacity);
-      over = each_pushed (λ m (s : Shard g.row.H-R.Denot g.row.H-A.Denot). OpensOver g.H.R.Rack g.H.A.Area (limit_of (layout_of c.args.uber.now)) (group_of (kept_of c.args.uber.now)) (next_leaf_of c.args.uber.now) m (g.H.Shelf.told c.args.shelf.now) (g.H.Shelf.counts c.args.shelf.now m) s)
+      over = each_pushed (λ m (s : Shard g.row.H-R.Denot g.row.H-A.Denot). OpensOver g.H.R.Rack g.H.A.Area (limit_of (layout_of c.args.uber.now)) (group_of (kept_of c.args.uber.now)) (next_leaf_of c.args.uber.now) m (g.H.Shelf.told c.args.shelf.now) (g.H.Shelf.leaves c.args.shelf.now m) (g.H.Shelf.counts c.args.shelf.now m) s)
           c.loop-number.shards.items c.push_reserved.new.self.items c.in-Ok-reopen_shard.shard c.loop-number.number more i.many i.over
           (over_first g.H.R.Rack g.H.A.Area (limit_of (layout_of c.args.uber.now)) (group_of (kept_of c.args.uber.now)) (next_leaf_of c.args.uber.now) c.loop-number.number (shelf.told c.args.shelf.now) (shelf.told c.loop-number.shelf)
-          (shelf.counts c.args.shelf.now c.loop-number.number) (shelf.counts c.loop-number.shelf c.loop-number.number) c.in-Ok-reopen_shard.shard i.told (i.counts c.loop-number.number (omega arith)) c.in-Ok-reopen_shard.ensures.over);
+          (shelf.leaves c.args.shelf.now c.loop-number.number) (shelf.leaves c.loop-number.shelf c.loop-number.number) (shelf.counts c.args.shelf.now c.loop-number.number) (shelf.counts c.loop-number.shelf c.loop-number.number) c.in-Ok-reopen_shard.shard i.told
+          (i.leaves c.loop-number.number (omega arith)) (i.counts c.loop-number.number (omega arith)) c.in-Ok-reopen_shard.ensures.over);
       told = subst (TakesFirst (c.loop-number.number + 1) (shelf.told c.args.shelf.now)) (sym c.in-Ok-reopen_shard.ensures.told)
           (takes_more g.H.R.Rack g.H.A.Area c.loop-number.number (shelf.told c.args.shelf.now) (shelf.told c.loop-number.shelf) i.told);
       held = checks_more (shelf.told c.args.shelf.now) (shelf.told c.loop-number.shelf) (shelf.told c.reopen_shard.new.shelf) i.held c.reopen_shard.ensures.held;
@@ -113,6 +114,10 @@ returns g c =
           let bound = c.loop-number.invariant.bound in
           let last : c.loop-number.number ≡ (layout_of c.args.uber.now).props.metaslabs = omega (arith, same, bound, end) in
           subst (λ (n : ℕ). TakesFirst n (shelf.told c.args.shelf.now) (shelf.told c.loop-number.shelf)) last c.loop-number.invariant.told);
+      left = λ m past. (let same = ap (λ (x : Geometry). x.props.metaslabs) c.geometry-layout.ensures in
+          let i = c.loop-number.invariant in
+          let bound = i.bound in
+          let behind : c.loop-number.number ≤ m = omega (arith, same, bound, past) in (i.counts m behind, i.leaves m behind));
       back = tt;
       faulty = λ metaslab place kind err. absurd (no_refusal err);
       fault = tt;
@@ -133,6 +138,7 @@ returns-in-Err g c =
       reopened = tt;
       over = tt;
       told = tt;
+      left = tt;
       back = (let same = ap (λ (x : Geometry). x.props.metaslabs) c.geometry-layout.ensures in
           leaves_shards g.H.R.Rack g.H.A.Area (layout_of c.args.uber.now) (group_of (kept_of c.args.uber.now)) (next_leaf_of c.args.uber.now) c.loop-number.number c.new-perms.result c.loop-number.shards.items
           (shelf.told c.args.shelf.now) (shelf.told c.loop-number.shelf) (shelf.told c.reopen_shard.new.shelf) (shelf.told c.give_back.new.shelf) (shelf.counts c.args.shelf.now) (shelf.counts c.loop-number.shelf)
@@ -141,11 +147,22 @@ returns-in-Err g c =
           (record { geometry_is = subst IsGeometry (sym c.geometry-layout.ensures) c.requires.uber.valid.held.layout_is; perms_are = c.new-perms.ensures }))
           i.many (omega (arith, same, test)) i.each i.over i.told c.in-Err.ensures.back c.in-Err.ensures.tells c.give_back.ensures.returns c.give_back.ensures.leaves i.counts c.in-Err.ensures.back_counts c.in-Err.ensures.counts
           i.leaves c.in-Err.ensures.known c.in-Err.ensures.leaves);
-      faulty = λ metaslab place kind err. (let n = c.loop-number.number in (
-        n,
-        unread_first g.H.R.Rack g.H.A.Area (layout_of c.args.uber.now) (group_of (kept_of c.args.uber.now)) (next_leaf_of c.args.uber.now) n (shelf.told c.args.shelf.now) (shelf.told c.loop-number.shelf)
-            (shelf.counts c.args.shelf.now n) (shelf.counts c.loop-number.shelf n) metaslab place kind i.told (i.counts n (omega arith)) (c.in-Err.ensures.faulty metaslab place kind (ap Err (err_is c.in-Err.fault _ err))),
-      ));
+      faulty = λ metaslab place kind err. (let n = c.loop-number.number in
+          let same = ap (λ (x : Geometry). x.props.metaslabs) c.geometry-layout.ensures in
+          record {
+            m = n;
+            inside = omega (arith, same, test);
+            unread = unread_first g.H.R.Rack g.H.A.Area (layout_of c.args.uber.now) (group_of (kept_of c.args.uber.now)) (next_leaf_of c.args.uber.now) n (shelf.told c.args.shelf.now) (shelf.told c.loop-number.shelf)
+                (shelf.leaves c.args.shelf.now n) (shelf.leaves c.loop-number.shelf n) (shelf.counts c.args.shelf.now n) (shelf.counts c.loop-number.shelf n) metaslab place kind i.told (i.leaves n (omega arith)) (i.counts n (omega arith))
+                (c.in-Err.ensures.faulty metaslab place kind (ap Err (err_is c.in-Err.fault _ err)));
+            perms = c.new-perms.result;
+            layout = subst (λ (x : Geometry). IsLayout x c.new-perms.result) c.geometry-layout.ensures
+                (record { geometry_is = subst IsGeometry (sym c.geometry-layout.ensures) c.requires.uber.valid.held.layout_is; perms_are = c.new-perms.ensures });
+            below = c.loop-number.shards.items;
+            many = i.many;
+            each = i.each;
+            over = i.over;
+          });
       fault = c.in-Err.ensures.fault;
       held = checks_more (shelf.told c.args.shelf.now) (shelf.told c.reopen_shard.new.shelf) (shelf.told c.give_back.new.shelf)
           (checks_more (shelf.told c.args.shelf.now) (shelf.told c.loop-number.shelf) (shelf.told c.reopen_shard.new.shelf) c.loop-number.invariant.held c.reopen_shard.ensures.held)
@@ -165,6 +182,7 @@ returns-in_default g c =
       reopened = tt;
       over = tt;
       told = tt;
+      left = tt;
       back = (let shelf = g.H.Shelf in
           leaves_none g.H.R.Rack g.H.A.Area (layout_of c.args.uber.now) (group_of (kept_of c.args.uber.now)) (next_leaf_of c.args.uber.now) c.new-perms.result (shelf.told c.args.shelf.now) (shelf.counts c.args.shelf.now)
           (shelf.leaves c.args.shelf.now) (subst (λ (x : Geometry). IsLayout x c.new-perms.result) c.geometry-layout.ensures

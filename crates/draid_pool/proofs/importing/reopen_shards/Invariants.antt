@@ -15,7 +15,7 @@ invariant-loop-number g l = let shelf = g.H.Shelf in record {
   each : (m : ℕ) (shard : Shard g.row.H-R.Denot g.row.H-A.Denot) → slice_get l.shards.items m ≡ Some shard
       → IsReopened g.H.R.Rack (record { geometry = layout_of l.uber; perms = l.perms; number = m }) (group_of (kept_of l.uber)) shard;
   room : (layout_of l.uber).props.metaslabs ≤ vec_capacity l.shards;
-  over : OpensAllOver g.H.R.Rack g.H.A.Area (limit_of (layout_of l.uber)) (group_of (kept_of l.uber)) (next_leaf_of l.uber) (shelf.told l.initial.shelf) (shelf.counts l.initial.shelf) l.shards.items;
+  over : OpensAllOver g.H.R.Rack g.H.A.Area (limit_of (layout_of l.uber)) (group_of (kept_of l.uber)) (next_leaf_of l.uber) (shelf.told l.initial.shelf) (shelf.leaves l.initial.shelf) (shelf.counts l.initial.shelf) l.shards.items;
   told : TakesFirst l.number (shelf.told l.initial.shelf) (shelf.told l.shelf);
   held : SameChecks (shelf.told l.initial.shelf) (shelf.told l.shelf);
   checks : shelf.check_counts l.shelf ≡ shelf.check_counts l.initial.shelf;

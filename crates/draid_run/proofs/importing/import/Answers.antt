@@ -18,7 +18,7 @@ returns-in_default g c = record {
       let none = sym c.is_some.ensures ∙ c.if-is_some.false in
       subst (λ p. ImportDid g.H.R.Rack g.H.A.Area entry x (NoMemory name.Import) late p) (sym (none_open c.args.pool.now none))
       (unnamed g.H.R.Rack g.H.A.Area entry before now c.import.result
-      (record { whole = e.whole; none = e.none; imports = e.import; tells = e.tells; checks_held = e.held; checks = e.checks; cause = e.cause; made = e.made }) c.in-Ok.open c.in-Ok.is late c.close.ensures.back c.close.ensures.checks (g.met.H.Shelf.steady c.import.new.shelf c.close.new.shelf)
+      (record { whole = e.whole; none = e.none; read = e.read; empty = e.empty; imports = e.import; tells = e.tells; checks_held = e.held; checks = e.checks; cause = e.cause; made = e.made }) c.in-Ok.open c.in-Ok.is late c.close.ensures.back c.close.ensures.checks (g.met.H.Shelf.steady c.import.new.shelf c.close.new.shelf)
       x (shut g.H.R.Rack g.H.A.Area c.args.pool.now x none desk.stands) desk.shelf));
   later = later_same _ _ _ c.import.ensures.later c.close.ensures.faults;
 }
@@ -31,8 +31,9 @@ returns-in-Ok-vdev_name g c = record {
       let e = c.import.ensures in
       let none = sym c.is_some.ensures ∙ c.if-is_some.false in
       imported g.H.R.Rack g.H.A.Area entry before now c.import.result
-      (record { whole = e.whole; none = e.none; imports = e.import; tells = e.tells; checks_held = e.held; checks = e.checks; cause = e.cause; made = e.made }) c.in-Ok.open c.in-Ok.is
-      c.in-Ok-vdev_name.name c.geometry.result.now c.committed-group.result c.objects-objects.result c.in-Ok-vdev_name.ensures c.geometry.ensures.state c.committed-group.ensures c.objects-objects.ensures
+      (record { whole = e.whole; none = e.none; read = e.read; empty = e.empty; imports = e.import; tells = e.tells; checks_held = e.held; checks = e.checks; cause = e.cause; made = e.made }) c.in-Ok.open c.in-Ok.is
+      c.in-Ok-vdev_name.name c.geometry.result.now c.committed-group.result c.objects-objects.result c.in-Ok-vdev_name.ensures c.geometry.ensures.value c.committed-group.ensures.group c.objects-objects.ensures.names
+      c.geometry.ensures.state c.committed-group.ensures.state c.objects-objects.ensures.state
       x (shut g.H.R.Rack g.H.A.Area c.args.pool.now x none desk.stands) desk.shelf);
   later = c.import.ensures.later;
 }
@@ -48,7 +49,7 @@ returns-in-Err g c = record {
   answer = λ entry x desk.
       (let e = c.import.ensures in
       import_unopened g.H.R.Rack g.H.A.Area entry (on_shelf g.H.Shelf c.args.shelf.now) (on_shelf g.H.Shelf c.import.new.shelf) c.import.result
-      (record { whole = e.whole; none = e.none; imports = e.import; tells = e.tells; checks_held = e.held; checks = e.checks; cause = e.cause; made = e.made })
+      (record { whole = e.whole; none = e.none; read = e.read; empty = e.empty; imports = e.import; tells = e.tells; checks_held = e.held; checks = e.checks; cause = e.cause; made = e.made })
       e.faulty c.args.pool.now x (sym c.is_some.ensures ∙ c.if-is_some.false) desk c.in-Err.fault c.in-Err.is c.unopened.result c.unopened.ensures);
   later = c.import.ensures.later;
 }

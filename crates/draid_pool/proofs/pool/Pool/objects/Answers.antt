@@ -1,5 +1,8 @@
-use Rattle.draid_pool.proofs.Counted.{has_objects}
+use Rattle.draid_pool.proofs.Counted.{has_names, has_objects}
 use Rattle.draid_pool.proofs.pool.Pool.objects.Goals as goal
 
 pub returns : goal.returns
-returns g c x represents = has_objects c.args.self.now.shards.items c.args.self.now.objects x.store.changes c.len.result c.len.ensures.unique c.len.ensures.len represents.stands.objects
+returns g c = record {
+  names = has_names c.args.self.now.objects c.len.result c.len.ensures.unique c.len.ensures.len;
+  state = λ x represents. has_objects c.args.self.now.shards.items c.args.self.now.objects x.store.changes c.len.result c.len.ensures.unique c.len.ensures.len represents.stands.objects;
+}

@@ -36,6 +36,6 @@ returns g c = record {
         slots = c.in_ok-slots.slots;
         metaslabs = c.in_ok-metaslabs.metaslabs;
       })
-      c.in_ok-name.ensures (c.committed.ensures x represents) c.last_open_group.ensures (c.objects.ensures x represents) c.in_ok-slots.ensures.many c.in_ok-slots.ensures.slots
+      c.in_ok-name.ensures (c.committed.ensures.state x represents) c.last_open_group.ensures (c.objects.ensures.state x represents) c.in_ok-slots.ensures.many c.in_ok-slots.ensures.slots
       c.in_ok-metaslabs.ensures;
 }
