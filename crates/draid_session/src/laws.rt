@@ -1,15 +1,17 @@
-ghost use Rattle.std.specs.Prelude.{◌≡◌, ◌<◌, ℕ, List, Option, Some};
+ghost use Rattle.std.specs.Prelude.{◌≡◌, ◌<◌, ℕ, true, List, Option, Some};
 ghost use Rattle.std.specs.Fn.{FnReturnsAt};
 ghost use Rattle.draid_spec.specs.declared.layout.Geometry.{Geometry};
 ghost use Rattle.draid_perm.specs.declared.perms.Perms.{Perms};
 ghost use Rattle.draid_objects.specs.Changes.{Write, write_of};
 ghost use Rattle.draid_reply.specs.declared.reply.Reply.{Reply};
 ghost use Rattle.draid_script.specs.Line.{Command, ReadObject, SyncPool, WriteObject};
+ghost use Rattle.draid_session.specs.Book.{AnswersAll, Book, BreaksBook, blank, closed};
 ghost use Rattle.draid_session.specs.Certain.{AllAnswer, EndsFailed, FailsNoPut, HasPlace, MaySync, ReadsLast, StaysReadable, SyncsNext, WritesOnce};
 ghost use Rattle.draid_session.specs.Holds.{Hold, View, layout_at};
+ghost use Rattle.draid_session.specs.Keeping.{Keeps, finds_any};
 ghost use Rattle.draid_session.specs.Looks.{AllOf, Looks};
 ghost use Rattle.draid_session.specs.Rooms.{FitsNowhere, stripes_for};
-ghost use Rattle.draid_session.specs.Session.{BreaksOpen, CarriesOut};
+ghost use Rattle.draid_session.specs.Session.{Agrees, Bare, Breaks, BreaksOpen, CarriesOut, Cause, Desk, Made, Runs, left_of};
 ghost use Rattle.draid_session.specs.State.{State};
 ghost use Rattle.draid_session.specs.Writes.{HasNoSpace};
 
@@ -49,4 +51,25 @@ pub fn idle_pools_are_synced<F: Fn(&[Room]) -> Option<u32>>(chooser: &F)
 /// Law: a command breaks off on an open pool where the count of an area rose in its last hold.
 pub fn broken_commands_end_failed()
     ensures { (command : Command) (old new : State) → (it : BreaksOpen command old new) → EndsFailed it.holds old new }
+{}
+
+/// Law: over a shelf that tells what it holds, lines are answered as a book has it: which objects there are, with their
+/// bytes, what a group keeps of them, and what an import finds. It is blank where there is no pool.
+pub fn sessions_keep_the_book<F: Fn(&[Room]) -> Option<u32>>(chooser: &F)
+    ensures from_blank { (lines : List (List ℕ)) (replies : List (Option Reply)) (last : Desk)
+        → Runs (FnReturnsAt F.Fn chooser.now) finds_any true Bare lines replies last
+        → (book : Book) × AnswersAll blank lines replies book }
+
+    ensures bare { Keeps Bare blank }
+    ensures made { (failed : ℕ) (geometry : Geometry) → Keeps (Made true failed geometry) blank }
+    ensures goes_on { (lines : List (List ℕ)) (replies : List (Option Reply)) (old new : Desk) (book : Book)
+        → Keeps old book → Runs (FnReturnsAt F.Fn chooser.now) finds_any true old lines replies new
+        → (later : Book) × AnswersAll book lines replies later × Keeps new later }
+{}
+
+/// Law: and so does the end of a run: where a device fails in a command, and where a pool that is open is given back.
+pub fn endings_keep_the_book()
+    ensures breaks { (cause : Cause) (old new : Desk) (book : Book) (command : Command)
+        → Keeps old book → Breaks cause old command new → Agrees true new → (later : Book) × BreaksBook book command later × Keeps new later }
+    ensures left { (desk : Desk) (book : Book) → Keeps desk book → Keeps (left_of desk) (closed book) }
 {}

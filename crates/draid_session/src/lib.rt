@@ -6,6 +6,7 @@
 mod laws;
 
 pub use laws::{
-    broken_commands_end_failed, idle_pools_are_synced, no_space_means_no_room,
-    readable_objects_are_read, writes_that_fit_are_done,
+    broken_commands_end_failed, endings_keep_the_book, idle_pools_are_synced,
+    no_space_means_no_room, readable_objects_are_read, sessions_keep_the_book,
+    writes_that_fit_are_done,
 };
