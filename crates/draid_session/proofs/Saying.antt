@@ -1,11 +1,12 @@
 -- What a book says of what befell the objects of a pool.
-use Rattle.std.proofs.Common.{◌≡◌, ◌∙◌, ◌==◌, ◌<◌, ◌≤◌, ℕ, Bool, true, false, nat_le, List, ◌∷◌, Option, Some, All, inl, inr, refl, sym, ap, subst, arith, if◌then◌else◌}
+use Rattle.std.proofs.Common.{◌≡◌, ◌∙◌, ◌==◌, ◌<◌, ◌≤◌, ℕ, Bool, true, false, nat_le, List, ◌∷◌, Option, Some, All, inl, inr, refl, sym, ap, subst, arith, if◌then◌else◌, None, ◌⊎◌}
 use Rattle.std.proofs.lemmas.Bool.Decides.{nat_tests}
 use Rattle.std.proofs.lemmas.List.Elements.{All-weaker}
-use Rattle.draid_machine.proofs.Small.{bool_cases, is_low}
-use Rattle.draid_objects.specs.Changes.{Change, group_of, kept, object_of, write_in, write_of}
+use Rattle.draid_machine.proofs.Small.{absurd_test, bool_cases, equal, is_equal, is_low, none_some}
+use Rattle.draid_objects.specs.Changes.{Change, group_of, kept, object_of, write_in, write_of, Write}
 use Rattle.draid_objects.proofs.Finding.{changes_it, kept_all, kept_later, kept_other, kept_own, other_changes}
-use Rattle.draid_session.specs.Book.{Book, HasHad, changed, with_object, synced}
+use Rattle.draid_session.specs.Opening.{HasObjects}
+use Rattle.draid_session.specs.Book.{AreMany, Objects, Book, HasHad, changed, with_object, synced}
 use Rattle.draid_session.specs.Keeping.{SaysObjects, bytes_in}
 
 not_low : (x y : ℕ) → y < x → nat_le x y ≡ false
@@ -58,3 +59,28 @@ tells_later old new cs b less other t = record { now = t.now; keeps = λ same. a
 
 pub high : (x y : ℕ) → nat_le x y ≡ false → y < x
 high x y is = grind (arith, nat_tests, is)
+
+-- so many objects have bytes
+pub are_many : (changes : List Change) (many : ℕ) (objects : Objects) → ((o : ℕ) → objects o ≡ bytes_in (write_of changes o)) → HasObjects changes many → AreMany objects many
+are_many changes many objects same h = record {
+  names = h.names;
+  ascending = h.ascending;
+  each = λ o. (
+    (λ has none. (h.each o).0 has (by o none)),
+    (λ some. (h.each o).1 (λ none. some (same o ∙ ap bytes_in none))),
+  );
+  many_is = h.many;
+}
+  where
+    by : (o : ℕ) → objects o ≡ None → write_of changes o ≡ None
+    by o none = case (write_of changes o) refl
+      where
+        case : (w : Option Write) → write_of changes o ≡ w → write_of changes o ≡ None
+        case None is = is
+        case (Some w) is = absurd (none_some (bytes_in (write_of changes o)) w.bytes (sym (same o) ∙ none) (ap bytes_in is))
+
+pub same_or_low : (m n : ℕ) → m ≤ n → (m ≡ n) ⊎ (m < n)
+same_or_low m n low = elim (bool_cases (m == n)) [
+  | inl is ↦ inl (is_equal m n is)
+  | inr is ↦ (let not : m ≡ n → ⊥ = λ at. absurd_test (m == n) (equal m n at) is in inr (omega (arith, low, not)))
+]

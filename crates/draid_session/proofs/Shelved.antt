@@ -1,14 +1,14 @@
 -- A pool that was given back and its book, and how an import takes it up.
-use Rattle.std.proofs.Common.{◌≡◌, ◌∙◌, ◌+◌, ◌<◌, ◌≤◌, ◌⊎◌, ℕ, zero, suc, Bool, true, false, nat_le, List, [], ◌∷◌, Option, Some, None, All, inl, inr, refl, sym, ap, subst, arith, length}
+use Rattle.std.proofs.Common.{◌≡◌, ◌∙◌, ◌+◌, ◌<◌, ◌≤◌, ◌⊎◌, ℕ, zero, suc, Bool, true, false, nat_le, List, [], ◌∷◌, Some, All, inl, inr, refl, sym, ap, subst, arith, length}
 use Rattle.std.specs.Prelude.{slice_get}
 use Rattle.std.proofs.lemmas.List.Elements.{All-weaker, filter_passes}
 use Rattle.draid_spec.specs.declared.layout.Geometry.{Geometry}
 use Rattle.draid_machine.specs.declared.event.Event.TheVariants as event
 use Rattle.draid_machine.specs.State as machine
 use Rattle.draid_machine.proofs.Small.{bool_cases, is_low, none_some}
-use Rattle.draid_objects.specs.Changes.{Change, Write, group_of, kept, upto, write_of}
+use Rattle.draid_objects.specs.Changes.{Change, group_of, kept, upto, write_of}
 use Rattle.draid_objects.proofs.Finding.{upto_upto}
-use Rattle.draid_session.specs.Book.{AreMany, Book, HasHad, MayBeFound, Objects, IsFound, certain, closed, opened}
+use Rattle.draid_session.specs.Book.{Book, HasHad, MayBeFound, Objects, IsFound, certain, closed, opened}
 use Rattle.draid_session.specs.Holds.{Did, Hold, On}
 use Rattle.draid_session.specs.Looks.{AllOf}
 use Rattle.draid_session.specs.Opening.{Finds, FreesOlder, HasObjects, Imports, MayFind, Reopens}
@@ -16,7 +16,7 @@ use Rattle.draid_session.specs.Session.{FindsNoGroup, ImportsBack, IsStill, Leav
 use Rattle.draid_session.specs.State.{Metaslab, State, Store}
 use Rattle.draid_session.proofs.Changing.{calm_fit}
 use Rattle.draid_session.proofs.Calm.{IsCalmHold, calm_follows, follows_store}
-use Rattle.draid_session.proofs.Saying.{high}
+use Rattle.draid_session.proofs.Saying.{are_many, high}
 use Rattle.draid_session.specs.Keeping.{SaysObjects, bytes_in, TellsGroups, AreInStep, AreNoted, AreInside, HasMetaslab, KeepsOpen, KeepsShut}
 
 -- ---- lists of metaslabs
@@ -103,24 +103,6 @@ found_may x b group f may = elim (found_which x b group f may) [
   | inl own ↦ inl (own.0, λ o. subst (λ n. bytes_in (kept n x.store.changes o) ≡ b.kept o) own.1 (sym (f.keeps (sym own.0 ∙ sym own.1) o)))
   | inr later ↦ inr (later.0, later.1, λ o. f.had group o (found_from x group may))
 ]
-
-are_many : (changes : List Change) (many : ℕ) (objects : Objects) → ((o : ℕ) → objects o ≡ bytes_in (write_of changes o)) → HasObjects changes many → AreMany objects many
-are_many changes many objects same h = record {
-  names = h.names;
-  ascending = h.ascending;
-  each = λ o. (
-    (λ has none. (h.each o).0 has (by o none)),
-    (λ some. (h.each o).1 (λ none. some (same o ∙ ap bytes_in none))),
-  );
-  many_is = h.many;
-}
-  where
-    by : (o : ℕ) → objects o ≡ None → write_of changes o ≡ None
-    by o none = case (write_of changes o) refl
-      where
-        case : (w : Option Write) → write_of changes o ≡ w → write_of changes o ≡ None
-        case None is = is
-        case (Some w) is = absurd (none_some (bytes_in (write_of changes o)) w.bytes (sym (same o) ∙ none) (ap bytes_in is))
 
 all_upto : (group : ℕ) (cs : List Change) → All (λ c. group_of c ≤ group) (upto group cs)
 all_upto group cs = All-weaker (λ c. nat_le (group_of c) group ≡ true) (λ c. group_of c ≤ group) (λ c is. is_low (group_of c) group is) (upto group cs) (filter_passes (λ c. nat_le (group_of c) group) cs)

@@ -2,12 +2,12 @@
 use Rattle.std.proofs.Common.{◌≡◌, ℕ, true, List, [], ◌∷◌, Option, Some, None, Result, Ok, Err, refl, sym, subst}
 use Rattle.draid_names.specs.declared.room.Room.{Room}
 use Rattle.draid_script.specs.Grammar.{line_of}
-use Rattle.draid_script.specs.Line.{Command, Silent}
+use Rattle.draid_script.specs.Line.{Command, ImportPool, Silent}
 use Rattle.draid_script.specs.declared.fault.LineFault.{LineFault}
 use Rattle.draid_reply.specs.declared.reply.Reply.{Reply}
 use Rattle.draid_session.specs.Book.{Answers, AnswersAll, AnswersLine, Book, closed}
 use Rattle.draid_session.specs.Keeping.{Keeps}
-use Rattle.draid_session.specs.Session.{Agrees, Bare, Breaks, Cause, Desk, Finding, Made, Open, ReplyTurns, Runs, Shut, Turns, TurnsBy, left_of}
+use Rattle.draid_session.specs.Session.{Agrees, Bare, Breaks, BreaksGiven, BreaksImport, BreaksNew, BreaksShut, Cause, RecordFails, Desk, Finding, Made, Open, ReplyTurns, Runs, Shut, Turns, TurnsBy, left_of}
 use Rattle.draid_session.proofs.NoPool.{shut_breaks, shut_turns}
 use Rattle.draid_session.proofs.Shelved.{closed_shut}
 use Rattle.draid_session.proofs.WithPool.{EndsIn, Next, open_breaks, open_turns}
@@ -68,6 +68,25 @@ breaks_ends cause (Made told failed geometry) new b command keeps breaks agrees 
 breaks_ends cause (Open x) new b command keeps breaks agrees = open_breaks (λ rooms m. ⊥) x b keeps cause command new breaks
 breaks_ends cause (Shut crash x) new b command keeps breaks agrees = shut_breaks cause (Shut crash x) new b command tt keeps breaks agrees
 breaks_ends cause old new b command keeps breaks agrees = absurd keeps
+
+-- no record has a fault
+import_no_fault : (old new : Desk) (b : Book) → Keeps old b → BreaksImport RecordFails old new → ⊥
+import_no_fault Bare new b keeps breaks = breaks
+import_no_fault (Made told failed geometry) new b keeps breaks = subst (λ t. BreaksNew t RecordFails failed geometry new) keeps.1 breaks
+import_no_fault (Open x) new b keeps breaks = breaks
+import_no_fault (Shut crash x) new b keeps breaks = subst (λ t. BreaksGiven t RecordFails x new) keeps.told breaks
+import_no_fault old new b keeps breaks = keeps
+
+shut_no_fault : (old new : Desk) (b : Book) (command : Command) → Keeps old b → BreaksShut RecordFails old command new → ⊥
+shut_no_fault old new b ImportPool keeps breaks = import_no_fault old new b keeps breaks
+shut_no_fault old new b command keeps breaks = breaks
+
+pub no_record_fails : (old new : Desk) (b : Book) (command : Command) → Keeps old b → Breaks RecordFails old command new → ⊥
+no_record_fails Bare new b command keeps breaks = shut_no_fault Bare new b command keeps breaks
+no_record_fails (Made told failed geometry) new b command keeps breaks = shut_no_fault (Made told failed geometry) new b command keeps breaks
+no_record_fails (Open x) new b command keeps breaks = breaks
+no_record_fails (Shut crash x) new b command keeps breaks = shut_no_fault (Shut crash x) new b command keeps breaks
+no_record_fails old new b command keeps breaks = keeps
 
 -- what is left is given back
 pub left_keeps : (desk : Desk) (b : Book) → Keeps desk b → Keeps (left_of desk) (closed b)

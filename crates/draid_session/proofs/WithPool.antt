@@ -1,10 +1,9 @@
 -- Where a pool is open: each command is answered as the book has it.
-use Rattle.std.proofs.Common.{◌≡◌, ◌≢◌, ◌∙◌, ◌==◌, ◌<◌, ◌≤◌, ◌⊎◌, ℕ, true, false, List, [], ◌∷◌, Option, All, inl, inr, refl, sym, ap, subst, arith}
+use Rattle.std.proofs.Common.{◌≡◌, ◌≢◌, ◌∙◌, ◌<◌, ◌≤◌, ◌⊎◌, ℕ, true, false, List, [], ◌∷◌, Option, All, inl, inr, refl, sym, ap, subst, arith}
 use Rattle.std.proofs.lemmas.List.Elements.{All-weaker}
 use Rattle.draid_names.specs.declared.room.Room.{Room}
 use Rattle.draid_spec.specs.declared.layout.Geometry.{Geometry}
 use Rattle.draid_perm.specs.declared.perms.Perms.{Perms}
-use Rattle.draid_machine.proofs.Small.{absurd_test, bool_cases, equal, is_equal}
 use Rattle.draid_objects.specs.Changes.{group_of, object_of}
 use Rattle.draid_objects.proofs.Finding.{kept_all}
 use Rattle.draid_script.specs.Line.{Command, CreatePool, ImportPool, ExportPool, SyncPool, CrashPool, WriteObject, FillObjects, ReadObject, FreeObject, SumObjects, DamageSector, ShowStatus}
@@ -27,7 +26,7 @@ use Rattle.draid_session.proofs.Answering.{IsOnObjects, objects_answer}
 use Rattle.draid_session.proofs.Calm.{CalmTo, calm_follows, calm_store, follows_store, looks_calm}
 use Rattle.draid_session.proofs.Changing.{calm_fit, looks_from_calm}
 use Rattle.draid_session.proofs.Looked.{follows_split, looks_at}
-use Rattle.draid_session.proofs.Saying.{tells_synced}
+use Rattle.draid_session.proofs.Saying.{same_or_low, tells_synced}
 use Rattle.draid_session.proofs.Shelved.{closed_shut}
 use Rattle.draid_session.proofs.Syncing.{fit_doubt, syncs_fit}
 
@@ -82,12 +81,6 @@ with_store mid new store b made f =
     subst (λ (s : State). KeepsOpen s s.store b) (sym made) (calm_fit mid (record mid { store = store }) store b (calm_store mid store) f)
 
 -- ---- exports that find nothing unsynced
-
-same_or_low : (m n : ℕ) → m ≤ n → (m ≡ n) ⊎ (m < n)
-same_or_low m n low = elim (bool_cases (m == n)) [
-  | inl is ↦ inl (is_equal m n is)
-  | inr is ↦ (let not : m ≡ n → ⊥ = λ at. absurd_test (m == n) (equal m n at) is in inr (omega (arith, low, not)))
-]
 
 -- the committed group keeps the objects as they are
 kept_now : (x : State) (store : Store) (b : Book) → KeepsOpen x store b → All (λ c. group_of c ≤ x.committed) store.changes → NamesKept b x.committed

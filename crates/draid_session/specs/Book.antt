@@ -7,7 +7,12 @@ use Rattle.draid_names.specs.declared.refusal.ObjectFault.TheVariants as fault
 use Rattle.draid_script.specs.Grammar.{line_of}
 use Rattle.draid_script.specs.Line.{Command, Silent, CreatePool, ImportPool, ExportPool, SyncPool, CrashPool, WriteObject, FillObjects, ReadObject, FreeObject, SumObjects, DamageSector, ShowStatus}
 use Rattle.draid_script.specs.declared.fault.LineFault.{LineFault}
+use Rattle.draid_script.specs.declared.line.StatusFormat.{StatusFormat}
+use Rattle.draid_script.specs.declared.line.StatusFormat.TheVariants as format
 use Rattle.draid_script.specs.declared.name.CommandName.TheVariants as name
+use Rattle.draid_report.specs.Text.{text_of}
+use Rattle.draid_report.specs.Tree.{json_of}
+use Rattle.draid_report.specs.declared.view.View.{View}
 use Rattle.draid_reply.specs.declared.reply.Reply.{Reply}
 use Rattle.draid_reply.specs.declared.reply.Reply.TheVariants.{NoPool, PoolOpen, NoMemory, Worn, Last, Created, CreateRefused, Imported, Exported, Crashed, Synced, Written, NoSpace, Missed, WriteLast, Filled, FillRefused, Contents, NoObject, Unreadable, ReadWorn, Summed, SumRefused, Freed, FreeNoObject, Damaged, DamageRefused, DamageFailed, DamageWorn, Status}
 use Rattle.draid_session.specs.Making.{content_of}
@@ -142,9 +147,21 @@ pub record IsDigest (objects : Objects) (first count : ℕ) (digest : List ℕ) 
 abbrev pub NamesKept : Book → ℕ → Type 0
 NamesKept old group = (old.group < group) ⊎ ((group ≡ old.group) × ((object : ℕ) → old.kept object ≡ old.now object))
 
+-- the text of a status in its format
+abbrev pub text_in : StatusFormat → View → List ℕ
+text_in format.Text view = text_of view
+text_in format.Json view = json_of view
+
 -- a pool was to be made and none was opened: nothing changed, or nothing is left of an earlier pool
 abbrev pub LeavesNone : Book → Book → Type 0
 LeavesNone old new = (new ≡ old) ⊎ (new ≡ doubtful blank)
+
+-- A status tells how many objects there are, and which group is committed: the last that a reply named, or a later one where one may be there.
+pub record IsStatusOf (old : Book) (format : StatusFormat) (text : List ℕ) : Type 0 where
+  pub view : View
+  pub text_is : text ≡ text_in format view
+  pub objects : AreMany old.now view.objects
+  pub group : (view.group ≡ old.group) ⊎ ((old.later ≡ true) × (old.group < view.group))
 
 -- what a command does where a pool is open
 abbrev pub OpenAnswers : Book → Command → Reply → Book → Type 0
@@ -183,8 +200,8 @@ OpenAnswers old (DamageSector leaf sector) (DamageFailed l s) new = (l ≡ leaf)
 OpenAnswers old (DamageSector leaf sector) (DamageRefused l s) new = (l ≡ leaf) × (s ≡ sector) × (new ≡ old)
 OpenAnswers old (DamageSector leaf sector) (DamageWorn l s) new = (l ≡ leaf) × (s ≡ sector) × (new ≡ old)
 OpenAnswers old (DamageSector leaf sector) (NoMemory name.Damage) new = new ≡ old
-OpenAnswers old (ShowStatus form) (Status text) new = new ≡ old
-OpenAnswers old (ShowStatus form) (NoMemory name.Status) new = new ≡ old
+OpenAnswers old (ShowStatus format) (Status text) new = IsStatusOf old format text.items × (new ≡ old)
+OpenAnswers old (ShowStatus format) (NoMemory name.Status) new = new ≡ old
 OpenAnswers old command reply new = ⊥
 
 -- What it does where none is. Where an import says that there is no pool, none is found till one is made.

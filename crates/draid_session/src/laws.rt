@@ -11,7 +11,7 @@ ghost use Rattle.draid_session.specs.Holds.{Hold, View, layout_at};
 ghost use Rattle.draid_session.specs.Keeping.{Keeps, finds_any};
 ghost use Rattle.draid_session.specs.Looks.{AllOf, Looks};
 ghost use Rattle.draid_session.specs.Rooms.{FitsNowhere, stripes_for};
-ghost use Rattle.draid_session.specs.Session.{Agrees, Bare, Breaks, BreaksOpen, CarriesOut, Cause, Desk, Made, Runs, left_of};
+ghost use Rattle.draid_session.specs.Session.{Agrees, Bare, Breaks, BreaksOpen, CarriesOut, Cause, Desk, Made, RecordFails, Runs, left_of};
 ghost use Rattle.draid_session.specs.State.{State};
 ghost use Rattle.draid_session.specs.Writes.{HasNoSpace};
 
@@ -71,5 +71,6 @@ pub fn sessions_keep_the_book<F: Fn(&[Room]) -> Option<u32>>(chooser: &F)
 pub fn endings_keep_the_book()
     ensures breaks { (cause : Cause) (old new : Desk) (book : Book) (command : Command)
         → Keeps old book → Breaks cause old command new → Agrees true new → (later : Book) × BreaksBook book command later × Keeps new later }
+    ensures records { (old new : Desk) (book : Book) (command : Command) → Keeps old book → Breaks RecordFails old command new → ⊥ }
     ensures left { (desk : Desk) (book : Book) → Keeps desk book → Keeps (left_of desk) (closed book) }
 {}
