@@ -1,5 +1,5 @@
 -- What a run is: the lines that were answered, why it ended, what the sink got, and what the shelf holds then.
-use Rattle.std.specs.Prelude.{◌≡◌, ◌≤◌, ◌+◌, ◌⊎◌, ⊤, ℕ, List, [], ◌∷◌, ◌++◌, Option, Some, None, Result, Ok, Err, MatchOption, flat_map, length}
+use Rattle.std.specs.Prelude.{◌≡◌, ◌≤◌, ◌+◌, ◌⊎◌, ⊤, ℕ, Bool, List, [], ◌∷◌, ◌++◌, Option, Some, None, Result, Ok, Err, MatchOption, flat_map, is_some, length}
 use Rattle.std.specs.Io.KnownBytes.{Appends}
 use Rattle.draid_names.specs.declared.room.Room.{Room}
 use Rattle.draid_rack.specs.declared.Rack as racks
@@ -12,8 +12,8 @@ use Rattle.draid_script.specs.declared.fault.LineFault.{LineFault}
 use Rattle.draid_reply.specs.Reply.{text_of}
 use Rattle.draid_reply.specs.declared.reply.Reply.{Reply}
 use Rattle.draid_words.specs.Mode.{OfSession, asked}
-use Rattle.draid_session.specs.Session.{Desk, Open, Foreign, Breaks, Cause, IsLeft, RecordFails, Runs, ShelfFails}
-use Rattle.draid_run.specs.Shelves.{AreaRose, FailsIn, HasFailed, HoldsDesk, HoldsFault, OnShelf}
+use Rattle.draid_session.specs.Session.{Desk, Finding, Open, Foreign, Breaks, Cause, RecordFails, Runs, ShelfFails, left_of}
+use Rattle.draid_run.specs.Shelves.{AreaRose, FailsIn, HasFailed, HoldsDesk, HoldsFault, MayFind, OnShelf, TellsAsBefore}
 use Rattle.draid_run.specs.Status.{HasNumber, last_text}
 use Rattle.draid_run.specs.declared.status.Status.{Status}
 use Rattle.draid_run.specs.declared.status.Status.TheVariants.{Done, Usage, Line, SourceFault, SinkFault, NoMemory, TooLong, ShelfFault, Record}
@@ -136,8 +136,8 @@ pub record EndsWithLine (ended status : Status) (old new : Option (List ℕ)) : 
 -- ---- the run
 
 -- A run: some lines were answered by replies, one after another; it ended for a cause, by a line of its own where the shelf failed or a record has a fault; and the sink got the replies'
--- texts and the last line. Blocks go to metaslabs that the chooser may name.
-pub record HasRun (chosen : List Room → Option ℕ → Type 0) (words : List (List ℕ)) (status : Status) (input old new : Option (List ℕ)) (first last : Desk) : Type 0 where
+-- texts and the last line. Blocks go to metaslabs that the chooser may name; an import of the shelf as it was found finds what it may; and the shelf tells what it holds, or it doesn't.
+pub record HasRun (chosen : List Room → Option ℕ → Type 0) (finds : Finding → Type 0) (tells : Bool) (words : List (List ℕ)) (status : Status) (input old new : Option (List ℕ)) (first last : Desk) : Type 0 where
   pub lines : List (List ℕ)
   pub replies : List (Option Reply)
   pub shown : List (Option Reply)
@@ -146,7 +146,7 @@ pub record HasRun (chosen : List Room → Option ℕ → Type 0) (words : List (
   pub broken : Option (List ℕ)
   pub usage : ended ≡ Usage → IsSession words → ⊥
   pub refused : (IsSession words → ⊥) → IsRefused ended lines
-  pub runs : Runs chosen first lines replies mid
+  pub runs : Runs chosen finds tells first lines replies mid
   pub breaks : BreaksOff ended broken mid last
   pub ends : MatchOption input ⊤ (Ends ended broken lines)
   pub shows : Shows ended replies shown
@@ -180,13 +180,12 @@ Fails area broken lines (Open x) last entry now = ⊥
 Fails area broken lines Foreign last entry now = HasFailed entry now
 Fails area broken lines mid last entry now = FailsShut area broken lines mid entry now
 
--- a session from one desk to a last one, whose pool is given back; and the shelf holds what is left
+-- a session from one desk to a last one, whose pool is given back; and the shelf holds what is left, and tells where it did
 pub record RunsFrom {R A : Type 0} (rack : racks.Ghosts R) (area : areas.Ghosts A) (chosen : List Room → Option ℕ → Type 0) (words : List (List ℕ)) (status : Status) (input old new : Option (List ℕ)) (entry now : OnShelf) (first : Desk) : Type 0 where
   pub last : Desk
-  pub session : HasRun chosen words status input old new first last
-  pub left : Desk
-  pub is_left : IsLeft last left
-  pub shelf : HoldsDesk left entry now
+  pub session : HasRun chosen (MayFind rack area entry) (is_some entry.held) words status input old new first last
+  pub shelf : HoldsDesk (left_of last) entry now
+  pub tells : TellsAsBefore entry now
   pub failed : session.ended ≡ ShelfFault → Fails area session.broken session.lines session.mid last entry now
   pub bad : (metaslab : Option ℕ) (place kind : ℕ) → session.ended ≡ Record metaslab place kind → FaultyShut rack area session.broken session.lines session.mid entry metaslab place kind
 

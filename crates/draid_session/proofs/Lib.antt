@@ -1,3 +1,4 @@
+pub mod Again
 pub mod Answering
 pub mod Calm
 pub mod Certain

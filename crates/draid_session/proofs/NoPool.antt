@@ -140,8 +140,9 @@ module _ (finds : Finding → Type 0) where
   given_imports crash x b (NoPool name.Import) (Shut true new) keeps none =
       let is = none_shut x new b none keeps in shut_next (Shut crash x) b tt keeps ImportPool (NoPool name.Import) (Shut true new) (certain b) (is.0, refl) is.1
   given_imports crash x b (NoMemory name.Import) (Shut true new) keeps leaves =
-      shut_next (Shut crash x) b tt keeps ImportPool (NoMemory name.Import) (Shut true new) b refl
-      (elim leaves [ inl found ↦ leaves_shut x new b found keeps | inr back ↦ back_shut x new b back keeps ])
+      shut_next (Shut crash x) b tt keeps ImportPool (NoMemory name.Import) (Shut true new) b refl (leaves_shut x new b leaves keeps)
+  given_imports crash x b (NoMemory name.Import) (Shut false new) keeps back =
+      shut_next (Shut crash x) b tt keeps ImportPool (NoMemory name.Import) (Shut false new) b refl (back_shut x new b back keeps)
   given_imports crash x b reply new keeps finds = absurd finds
 
   import_next : (old new : Desk) (b : Book) (reply : Reply) → IsShutDesk old → Keeps old b → ImportTurns finds old reply new → Next b ImportPool reply new

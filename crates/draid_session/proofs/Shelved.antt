@@ -8,7 +8,7 @@ use Rattle.draid_machine.specs.State as machine
 use Rattle.draid_machine.proofs.Small.{bool_cases, is_low, none_some}
 use Rattle.draid_objects.specs.Changes.{Change, group_of, kept, upto, write_of}
 use Rattle.draid_objects.proofs.Finding.{upto_upto}
-use Rattle.draid_session.specs.Book.{Book, HasHad, MayBeFound, Objects, IsFound, certain, closed, opened}
+use Rattle.draid_session.specs.Book.{Book, HasHad, MayBeFound, Objects, TakesUp, certain, closed, opened}
 use Rattle.draid_session.specs.Holds.{Did, Hold, On}
 use Rattle.draid_session.specs.Looks.{AllOf}
 use Rattle.draid_session.specs.Opening.{Finds, FreesOlder, HasObjects, Imports, MayFind, Reopens}
@@ -144,7 +144,7 @@ import_fit x new b group f i =
     (calm_fit i.mid new i.mid.store (opened group (objects_in group x.store.changes)) (calm_follows i.holds i.mid new calm i.follows) (found_fit x i.mid b group f i.finds))
 
 pub import_takes : (x new : State) (b : Book) (group many : ℕ) → KeepsShut x b → Imports x group new → HasObjects new.store.changes many
-    → IsFound b group many (opened group (objects_in group x.store.changes))
+    → TakesUp b group many (opened group (objects_in group x.store.changes))
 import_takes x new b group many f i has = record {
   objects = objects_in group x.store.changes;
   some = i.finds.some;

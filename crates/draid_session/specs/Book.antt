@@ -111,8 +111,8 @@ MayBeFound book group objects =
     ((group ≡ book.group) × ((object : ℕ) → objects object ≡ book.kept object))
     ⊎ ((book.later ≡ true) × (book.group < group) × ((object : ℕ) → HasHad book object (objects object)))
 
--- a group is found, with so many objects
-pub record IsFound (old : Book) (group many : ℕ) (new : Book) : Type 0 where
+-- an import takes up a group that is found, with so many objects
+pub record TakesUp (old : Book) (group many : ℕ) (new : Book) : Type 0 where
   pub objects : Objects
   pub some : 0 < group
   pub may : MayBeFound old group objects
@@ -210,7 +210,7 @@ ShutAnswers old (CreatePool text children keys) (Created called stripes) new = n
 ShutAnswers old (CreatePool text children keys) (CreateRefused why) new = new ≡ old
 ShutAnswers old (CreatePool text children keys) (NoMemory name.Create) new = LeavesNone old new
 ShutAnswers old (CreatePool text children keys) reply new = ⊥
-ShutAnswers old ImportPool (Imported called group many) new = IsFound old group many new
+ShutAnswers old ImportPool (Imported called group many) new = TakesUp old group many new
 ShutAnswers old ImportPool (NoPool name.Import) new = (old.group ≡ 0) × (new ≡ certain old)
 ShutAnswers old ImportPool (NoMemory name.Import) new = new ≡ old
 ShutAnswers old ImportPool reply new = ⊥

@@ -1,11 +1,11 @@
 -- Of which desks a book is: what an open pool, or one that was given back, has to be for it, so that what comes next is as the book has it.
-use Rattle.std.specs.Prelude.{◌≡◌, ◌<◌, ◌≤◌, ◌+◌, ◌||◌, ◌⊎◌, ⊤, ℕ, Bool, true, false, List, [], ◌∷◌, Option, Some, None, All, slice_get}
+use Rattle.std.specs.Prelude.{◌≡◌, ◌<◌, ◌≤◌, ◌+◌, ◌||◌, ◌⊎◌, ℕ, Bool, true, false, List, [], ◌∷◌, Option, Some, None, All, slice_get}
 use Rattle.draid_machine.specs.declared.event.Event.{Event}
 use Rattle.draid_machine.specs.State as machine
 use Rattle.draid_objects.specs.Changes.{Change, Write, group_of, kept, write_of}
 use Rattle.draid_session.specs.Book.{Book, HasHad}
 use Rattle.draid_session.specs.Groups.{behind_close, has_commit, has_other, is_close_of, is_unsynced}
-use Rattle.draid_session.specs.Session.{Desk, Finding, Untouched, Bare, Made, Open, Shut, Foreign, Unknown}
+use Rattle.draid_session.specs.Session.{Desk, Untouched, Bare, Made, Open, Shut, Foreign, Unknown}
 use Rattle.draid_session.specs.State.{Metaslab, State, Store}
 
 -- ---- objects
@@ -127,7 +127,3 @@ Keeps (Open x) book = KeepsOpen x x.store book
 Keeps (Shut crash x) book = KeepsShut x book
 Keeps Foreign book = ⊥
 Keeps Unknown book = ⊥
-
--- What an import of a shelf as it was found may find: anything. No desk of a book has such a shelf.
-abbrev pub finds_any : Finding → Type 0
-finds_any finding = ⊤

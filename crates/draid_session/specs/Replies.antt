@@ -1,5 +1,5 @@
 -- Which replies a command may have where a pool is open, whatever the pool is: each names what the command names.
-use Rattle.std.specs.Prelude.{◌≡◌, ◌<◌, ⊤, ℕ}
+use Rattle.std.specs.Prelude.{◌≡◌, ◌<◌, ⊤}
 use Rattle.draid_script.specs.Line.{Command, CreatePool, ImportPool, ExportPool, SyncPool, CrashPool, WriteObject, FillObjects, ReadObject, FreeObject, SumObjects, DamageSector, ShowStatus}
 use Rattle.draid_script.specs.declared.name.CommandName.TheVariants as name
 use Rattle.draid_reply.specs.declared.reply.Reply.{Reply}

@@ -8,10 +8,10 @@ ghost use Rattle.draid_script.specs.Line.{Command, ReadObject, SyncPool, WriteOb
 ghost use Rattle.draid_session.specs.Book.{AnswersAll, Book, BreaksBook, blank, closed};
 ghost use Rattle.draid_session.specs.Certain.{AllAnswer, EndsFailed, FailsNoPut, HasPlace, MaySync, ReadsLast, StaysReadable, SyncsNext, WritesOnce};
 ghost use Rattle.draid_session.specs.Holds.{Hold, View, layout_at};
-ghost use Rattle.draid_session.specs.Keeping.{Keeps, finds_any};
+ghost use Rattle.draid_session.specs.Keeping.{Keeps};
 ghost use Rattle.draid_session.specs.Looks.{AllOf, Looks};
 ghost use Rattle.draid_session.specs.Rooms.{FitsNowhere, stripes_for};
-ghost use Rattle.draid_session.specs.Session.{Agrees, Bare, Breaks, BreaksOpen, CarriesOut, Cause, Desk, Made, RecordFails, Runs, left_of};
+ghost use Rattle.draid_session.specs.Session.{Agrees, Bare, Breaks, BreaksOpen, CarriesOut, Cause, Desk, IsAnything, Made, RecordFails, Runs, left_of};
 ghost use Rattle.draid_session.specs.State.{State};
 ghost use Rattle.draid_session.specs.Writes.{HasNoSpace};
 
@@ -57,13 +57,13 @@ pub fn broken_commands_end_failed()
 /// bytes, what a group keeps of them, and what an import finds. It is blank where there is no pool.
 pub fn sessions_keep_the_book<F: Fn(&[Room]) -> Option<u32>>(chooser: &F)
     ensures from_blank { (lines : List (List ℕ)) (replies : List (Option Reply)) (last : Desk)
-        → Runs (FnReturnsAt F.Fn chooser.now) finds_any true Bare lines replies last
+        → Runs (FnReturnsAt F.Fn chooser.now) IsAnything true Bare lines replies last
         → (book : Book) × AnswersAll blank lines replies book }
 
     ensures bare { Keeps Bare blank }
     ensures made { (failed : ℕ) (geometry : Geometry) → Keeps (Made true failed geometry) blank }
     ensures goes_on { (lines : List (List ℕ)) (replies : List (Option Reply)) (old new : Desk) (book : Book)
-        → Keeps old book → Runs (FnReturnsAt F.Fn chooser.now) finds_any true old lines replies new
+        → Keeps old book → Runs (FnReturnsAt F.Fn chooser.now) IsAnything true old lines replies new
         → (later : Book) × AnswersAll book lines replies later × Keeps new later }
 {}
 
