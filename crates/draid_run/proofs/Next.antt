@@ -12,7 +12,7 @@ use Rattle.draid_script.specs.Grammar.{line_of}
 use Rattle.draid_script.specs.Line.{CrashPool, ImportPool}
 use Rattle.draid_reply.specs.declared.reply.Reply.{Reply}
 use Rattle.draid_reply.specs.declared.reply.Reply.TheVariants.{Crashed, Imported}
-use Rattle.draid_shelf.specs.Kits.{AreNewChecks, Both, CrashedChecks, CrashedHeld, CrashedKit, Held, IsNewArea, IsNewRack, KitCounts, KitTold, OnHeld, uber_bytes}
+use Rattle.draid_shelf.specs.Kits.{AreNewChecks, Both, ChecksTold, CrashedChecks, CrashedHeld, CrashedKit, Held, IsNewArea, IsNewRack, KitCounts, KitTold, OnHeld, uber_bytes}
 use Rattle.draid_session.specs.Session.{Agrees, Desk, Finding, Untouched, Bare, Made, Open, Shut, Foreign, Unknown, KnowsShelf, Runs, TurnsBy, left_of}
 use Rattle.draid_session.specs.State.{State}
 use Rattle.draid_session.proofs.Again.{crash_found, runs_known}
@@ -56,7 +56,7 @@ zeros_left geometry a b crash new = record {
   harmed = λ l s. crash.harmed l s ∙ new.harmed l s;
 }
 
-checks_left : (a b : Option _) → Both CrashedChecks a b → IsSomeAnd a AreNewChecks → IsSomeAnd b AreNewChecks
+checks_left : (a b : Option ChecksTold) → Both CrashedChecks a b → IsSomeAnd a AreNewChecks → IsSomeAnd b AreNewChecks
 checks_left a b both = both_and CrashedChecks AreNewChecks AreNewChecks a b both (λ x y crash new. record { even = new_left [] x.even y.even crash.even new.even; odd = new_left [] x.odd y.odd crash.odd new.odd })
 
 made_left : (geometry : Geometry) (a b : Held) → CrashedHeld a b → HoldsMade geometry a → HoldsMade geometry b
@@ -141,14 +141,14 @@ module _ (chosen : List Room → Option ℕ → Type 0) (finds : Finding → Typ
   here : (first : Desk) → KnowsShelf first → Agrees true first → Runs chosen finds true first (crash ∷ import ∷ back) (Some Crashed ∷ Some (Imported called group objects) ∷ behind) last
       → FindsAgain chosen finds first [] [] group objects back behind last
   here first known agrees runs =
-      let it = crash_found chosen finds crash import back called group objects behind first last known is_crash is_import runs in
+      let it = crash_found chosen finds crash import back called group objects behind last is_crash is_import first known runs in
       record { old = it.old; new = it.new; before = sym it.was; imports = it.imports; counted = it.counted; after = it.after }
 
   pub again : (front : List (List ℕ)) (said : List (Option Reply)) (first : Desk) → length said ≡ length front → KnowsShelf first → Agrees true first
       → Runs chosen finds true first (front ++ (crash ∷ import ∷ back)) (said ++ (Some Crashed ∷ Some (Imported called group objects) ∷ behind)) last → FindsAgain chosen finds first front said group objects back behind last
   again [] [] first same known agrees runs = here first known agrees runs
-  again [] (reply ∷ said) first same known agrees runs = absurd (cc same)
-  again (line ∷ front) [] first same known agrees runs = absurd (cc same)
+  again [] (reply ∷ said) first same known agrees runs = absurd (omega (arith, same))
+  again (line ∷ front) [] first same known agrees runs = absurd (omega (arith, same))
   again (line ∷ front) (reply ∷ said) first same known agrees runs =
       let one = runs_known chosen finds (line ∷ []) (reply ∷ []) first runs.0 known agrees (runs.0, runs.1, runs.2, refl) in
       let it = again front said runs.0 (omega (arith, same)) one.0 one.1 runs.3 in

@@ -8,7 +8,7 @@ use Rattle.draid_reply.specs.declared.reply.Reply.{Reply}
 use Rattle.draid_session.specs.Session.{Agrees, Desk, Finding, Untouched, Bare, Made, Open, Shut, Foreign, Unknown, Runs, TurnsBy}
 use Rattle.draid_pool.specs.declared.pool.Pool.{Pool}
 use Rattle.draid_run.specs.Desks.{IsDesk}
-use Rattle.draid_run.specs.Shelves.{OnShelf, TellsAsBefore}
+use Rattle.draid_run.specs.Shelves.{HoldsDesk, OnShelf, TellsAsBefore}
 
 -- one more line is answered
 pub runs_more : (chosen : List Room → Option ℕ → Type 0) (finds : Finding → Type 0) (tells : Bool) (start : Desk) (lines : List (List ℕ)) (replies : List (Option Reply)) (mid : Desk) (line : List ℕ) (reply : Option Reply) (new : Desk)
@@ -37,3 +37,13 @@ desk_tells rack area entry now pool Unknown is = tt
 pub desk_agrees : {R A : Type 0} (rack : racks.Ghosts R) (area : areas.Ghosts A) (entry now : OnShelf) (pool : Option (Pool R A)) (x : Desk) → TellsAsBefore entry now → IsDesk rack area entry now pool x
     → Agrees (is_some entry.held) x
 desk_agrees rack area entry now pool x tells is = subst (λ b. Agrees b x) tells (desk_tells rack area entry now pool x is)
+
+-- so does one without a pool
+pub shelf_agrees : (x : Desk) (entry now : OnShelf) → HoldsDesk x entry now → Agrees (is_some now.held) x
+shelf_agrees Untouched entry now is = tt
+shelf_agrees Bare entry now is = some_told now.held _ is
+shelf_agrees (Made told failed geometry) entry now is = is.told_is
+shelf_agrees (Open x) entry now is = absurd is
+shelf_agrees (Shut crash x) entry now is = is.told
+shelf_agrees Foreign entry now is = absurd is
+shelf_agrees Unknown entry now is = tt

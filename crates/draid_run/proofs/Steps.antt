@@ -92,7 +92,7 @@ module _ (chosen : List Room → Option ℕ → Type 0) (finds : Finding → Typ
   shut_says (ShowStatus form) called is x = (called, is, refl, refl)
   shut_says command called is x = absurd (cc is)
 
-  by_desk : {R A : Type 0} (rack : racks.Ghosts R) (area : areas.Ghosts A) (command : Command) (reply : Reply) (x : Desk) → IsPool {R} {A} rack area None x → session.ShutTurns finds x command reply x
+  by_desk : {R A : Type 0} (rack : racks.Ghosts R) (area : areas.Ghosts A) (command : Command) (reply : Reply) (x : Desk) → IsPool rack area None x → session.ShutTurns finds x command reply x
       → session.ReplyTurns chosen finds x command reply x
   by_desk rack area command reply Untouched stands says = says
   by_desk rack area command reply Bare stands says = says
