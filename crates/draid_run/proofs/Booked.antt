@@ -132,7 +132,8 @@ module _ {R A : Type 0} (rack : racks.Ghosts R) (area : areas.Ghosts A) (chosen 
       let rest = more_keep runs run.now one.0 one.2 more in
       (rest.0, (one.0, one.1, rest.1))
 
-  pub runs_keep : (runs : List OneRun) (shelf : OnShelf) (desk : Desk) (b : Book) → AreRuns rack area chosen shelf runs → HoldsDesk desk shelf shelf → is_some shelf.held ≡ true → Keeps desk b
+  pub runs_keep : (runs : List OneRun) (shelf : OnShelf) (desk : Desk) (b : Book) → AreRuns rack area chosen shelf runs → HoldsDesk desk shelf shelf
+      → is_some shelf.held ≡ true → Keeps desk b
       → (later : Book) × KeepBook b runs later
   runs_keep runs shelf desk b are holds tells keeps =
       let same = holds_left desk shelf holds in
@@ -145,7 +146,8 @@ module _ {R A : Type 0} (rack : racks.Ghosts R) (area : areas.Ghosts A) (chosen 
       } in
       more_keep runs shelf b left are
 
-  pub bare_keeps : (words : List (List ℕ)) (status : Status) (input old new : Option (List ℕ)) (entry now : OnShelf) → RunIs rack area chosen words status input old new entry now → HoldsBare entry
+  pub bare_keeps : (words : List (List ℕ)) (status : Status) (input old new : Option (List ℕ)) (entry now : OnShelf)
+      → RunIs rack area chosen words status input old new entry now → HoldsBare entry
       → (book : Book) × KeepsBook words status input old new blank book
   bare_keeps words status input old new entry now is bare =
       let tells = bare_tells entry.held (λ held. held.uber ≡ None) bare in

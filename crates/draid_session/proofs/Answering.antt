@@ -83,7 +83,8 @@ module _ (x : State) (store : Store) (b : Book) (fit : KeepsOpen x store b) wher
     stops object fault.Worn holds s = (let one = worn object s.0 s.2 in (one.0, subst (AllOf IsCalmHold) (sym s.1) (one.1, tt)))
     stops object fault.NoMemory holds s = (tt, subst (AllOf IsCalmHold) (sym s.2) (calm_both s.0 s.1 (fetches_calm object s.0 s.3) (looks_calm s.1 s.4)))
 
-    sums : (first count : ℕ) (digest : List ℕ) (holds : List Hold) → reads.Sums geometry perms store first count digest holds → book.IsDigest b.now first count digest × AllOf IsCalmHold holds
+    sums : (first count : ℕ) (digest : List ℕ) (holds : List Hold) → reads.Sums geometry perms store first count digest holds
+        → book.IsDigest b.now first count digest × AllOf IsCalmHold holds
     sums first count digest holds s = (let g = gives_all first s.contents holds s.gives in (record { contents = s.contents; many = s.many; have = g.0; is = s.is }, g.1))
 
     sum_stops : (first count object : ℕ) (why : ObjectFault) (holds : List Hold) → reads.SumStops geometry perms store first count object why holds
@@ -108,7 +109,8 @@ IsOnObjects command = ⊥
 
 -- a refused write leaves the objects
 module _ (geometry : Geometry) (perms : Perms) (chosen : List Room → Option ℕ → Type 0) where
-  pub refuses_fit : (object : ℕ) (bytes : List ℕ) (why : WriteFault) (old new : Store) (holds : List Hold) (x z : State) (b : Book) → writes.Refuses geometry perms chosen object bytes why old holds new
+  pub refuses_fit : (object : ℕ) (bytes : List ℕ) (why : WriteFault) (old new : Store) (holds : List Hold) (x z : State) (b : Book)
+      → writes.Refuses geometry perms chosen object bytes why old holds new
       → Follows holds x z → KeepsOpen x old b → KeepsOpen z new b
   refuses_fit object bytes (refusal.NoSpace run disabled full worn) old new holds x z b r follows fit =
       subst (λ s. KeepsOpen z s b) (sym r.1) (calm_fit x z old b (calm_follows holds x z (looks_from_calm 0 geometry.props.metaslabs holds r.0.views r.0.looked.looked) follows) fit)
@@ -148,7 +150,8 @@ module _ (chosen : List Room → Option ℕ → Type 0) (old mid : State) (store
   one_calm hold is calm = subst (AllOf IsCalmHold) (sym is) (calm, tt)
 
   module _ (geometry : Geometry) (perms : Perms) where
-    write_answers : (object : ℕ) (bytes : List ℕ) (reply : Reply) → Does geometry perms chosen content_of (WriteObject object bytes) old.store holds reply store → Books (WriteObject object bytes) reply
+    write_answers : (object : ℕ) (bytes : List ℕ) (reply : Reply) → Does geometry perms chosen content_of (WriteObject object bytes) old.store holds reply store
+        → Books (WriteObject object bytes) reply
     write_answers object bytes (Written o) d =
         record { next = changed object (Some bytes) b; answers = (d.0, refl); fits = writes_fit geometry perms chosen object bytes old.store store holds old mid b d.1 follows fit }
     write_answers object bytes (NoSpace o run disabled full worn) d =
@@ -197,7 +200,8 @@ module _ (chosen : List Room → Option ℕ → Type 0) (old mid : State) (store
     read_answers object (NoMemory name.Read) d = record { next = b; answers = refl; fits = stays d.0 (starves_calm old old.store b fit geometry perms object 1 holds d.1) }
     read_answers object reply d = absurd d
 
-    sum_answers : (first count : ℕ) (reply : Reply) → Does geometry perms chosen content_of (SumObjects first count) old.store holds reply store → Books (SumObjects first count) reply
+    sum_answers : (first count : ℕ) (reply : Reply) → Does geometry perms chosen content_of (SumObjects first count) old.store holds reply store
+        → Books (SumObjects first count) reply
     sum_answers first count (Summed f c digest) d =
         let g = sums old old.store b fit geometry perms first count digest holds d.3 in
         record { next = b; answers = (d.0, d.1, g.0, refl); fits = stays d.2 g.1 }
@@ -214,7 +218,8 @@ module _ (chosen : List Room → Option ℕ → Type 0) (old mid : State) (store
     lacks_calm leaf sector (inl none) = none_calm none.1
     lacks_calm leaf sector (inr lacks) = one_calm lacks.hold lacks.are (subst IsCalmHold (sym lacks.looked.looked) tt)
 
-    damage_answers : (leaf sector : ℕ) (reply : Reply) → Does geometry perms chosen content_of (DamageSector leaf sector) old.store holds reply store → Books (DamageSector leaf sector) reply
+    damage_answers : (leaf sector : ℕ) (reply : Reply) → Does geometry perms chosen content_of (DamageSector leaf sector) old.store holds reply store
+        → Books (DamageSector leaf sector) reply
     damage_answers leaf sector (Damaged l s) d = record { next = b; answers = (d.0, d.1, refl); fits = stays d.2 (damaged_calm leaf sector false d.3) }
     damage_answers leaf sector (DamageFailed l s) d = record { next = b; answers = (d.0, d.1, refl); fits = stays d.2 (damaged_calm leaf sector true d.3) }
     damage_answers leaf sector (DamageRefused l s) d = record { next = b; answers = (d.0, d.1, refl); fits = stays d.2 (lacks_calm leaf sector d.3) }

@@ -203,4 +203,11 @@ follows_store (hold ∷ holds) x z follows = follows_store holds follows.0 z fol
 
 -- another store
 pub calm_store : (x : State) (store : Store) → CalmTo x (record x { store = store })
-calm_store x store = record { committed = refl; pending = refl; told = refl; geometry = refl; each = λ k y there. (y, there, alike_same y.world, goes_none y); back = λ k z there. (z, there, alike_same z.world, goes_none z) }
+calm_store x store = record {
+  committed = refl;
+  pending = refl;
+  told = refl;
+  geometry = refl;
+  each = λ k y there. (y, there, alike_same y.world, goes_none y);
+  back = λ k z there. (z, there, alike_same z.world, goes_none z);
+}

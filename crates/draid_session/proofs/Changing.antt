@@ -15,12 +15,11 @@ use Rattle.draid_session.specs.Groups.{behind_close, ends_group, has_other}
 use Rattle.draid_session.specs.Rooms.{stripes_for}
 use Rattle.sha2.specs.Sha256.{sha256}
 use Rattle.draid_layouts.specs.Layout.{layout_of}
-use Rattle.draid_machine.proofs.Small.{some_same}
 use Rattle.draid_machine.specs.declared.event.Event.{Event}
 use Rattle.draid_session.specs.Looks.{AllOf, LooksFrom}
 use Rattle.draid_session.specs.State.{State, Store}
 use Rattle.draid_session.specs.Writes.{FreesBlock, FreesEarlier, Frees, Fills, PutsColumns, Tries, Writes}
-use Rattle.draid_session.proofs.Noted.{ahead_last, uns_last}
+use Rattle.draid_session.proofs.Noted.{ahead_last, unsynced_last, ahead_in}
 use Rattle.draid_session.proofs.Calm.{alike_by, calm_commit, hold_each, step_alike, IsCalm, CalmTo, IsCalmHold, calm_both, calm_follows, calm_more, Alike}
 use Rattle.draid_session.proofs.Looked.{follows_split}
 use Rattle.draid_session.proofs.Saying.{tells_change}
@@ -37,7 +36,10 @@ calm_steps x z c steps k m there =
     }
 
 pub calm_busy : (x z : State) → CalmTo x z → HasAhead x → HasAhead z
-calm_busy x z c b = (let one = c.each b.k b.y b.there in record { k = b.k; y = one.0; group = b.group; there = one.1; closing = one.2.closing ∙ b.closing; ahead = (let a = one.3.ahead (b.group, b.closing, b.ahead) in subst (λ g. has_other g (behind_close g one.0.events) ≡ true) (some_same one.0.world.closing a.0 b.group a.1 (one.2.closing ∙ b.closing)) a.2) })
+calm_busy x z c b =
+    let one = c.each b.k b.y b.there in
+    let closing = one.2.closing ∙ b.closing in
+    record { k = b.k; y = one.0; group = b.group; there = one.1; closing = closing; ahead = ahead_in one.0 b.group closing (one.3.ahead (b.group, b.closing, b.ahead)) }
 
 pub calm_floor : (x z : State) (floor : ℕ) → CalmTo x z → IsLowFloor x floor → IsLowFloor z floor
 calm_floor x z floor c (inl low) = (let same = c.committed in inl (omega (arith, low, same)))
@@ -46,12 +48,12 @@ calm_floor x z floor c (inr busy) = (let same = c.committed in let low = busy.0 
 pub calm_noted : (x z : State) → CalmTo x z → AreNoted x → AreNoted z
 calm_noted x z c noted k m there = (let one = c.back k m there in one.3.noted (noted k one.0 one.1))
 
-pub calm_uns : (x z : State) → CalmTo x z → HasUnsynced x → HasUnsynced z
-calm_uns x z c u = (let one = c.each u.k u.y u.there in record { k = u.k; y = one.0; there = one.1; unsynced = one.3.unsynced u.unsynced })
+pub calm_unsynced : (x z : State) → CalmTo x z → HasUnsynced x → HasUnsynced z
+calm_unsynced x z c u = (let one = c.each u.k u.y u.there in record { k = u.k; y = one.0; there = one.1; unsynced = one.3.unsynced u.unsynced })
 
 calm_used : (x z : State) (store : Store) → CalmTo x z → ShowsUnsynced x store → ShowsUnsynced z store
 calm_used x z store c (inl none) = inl (subst (λ n. All (λ d. group_of d ≤ n) store.changes) (sym c.committed) none.0, c.pending ∙ none.1)
-calm_used x z store c (inr unsynced) = inr (calm_uns x z c unsynced)
+calm_used x z store c (inr unsynced) = inr (calm_unsynced x z c unsynced)
 
 pub calm_fit : (x z : State) (store : Store) (b : Book) → CalmTo x z → KeepsOpen x store b → KeepsOpen z store b
 calm_fit x z store b c f = record {
@@ -105,7 +107,7 @@ uses_by v e w x z floor group calm other it steps noted low is = by it.before.wo
       y = it.after;
       there = there;
       unsynced = subst (λ es. UnsyncedIn it.after.world.committed es) (sym it.acts.stored) (subst (λ c. UnsyncedIn c (it.before.events ++ e ∷ [])) (sym alike.committed)
-          (uns_last it.before.world.committed it.before.world.closing it.before.events e n (calm_commit e calm) (other it.before.world.committed)));
+          (unsynced_last it.before.world.committed it.before.world.closing it.before.events e n (calm_commit e calm) (other it.before.world.committed)));
     }
 
     busy : (t : ℕ) → it.before.world.closing ≡ Some t → HasAhead z
@@ -133,10 +135,11 @@ uses_by v e w x z floor group calm other it steps noted low is = by it.before.wo
 
 uses_calm : (x z : State) (floor group : ℕ) → CalmTo x z → Uses x floor group → Uses z floor group
 uses_calm x z floor group c u =
-    (let same = c.committed in let later = u.later in record { later = omega (arith, later, same); above = u.above; is_floor = calm_floor x z group c u.is_floor; unsynced = calm_uns x z c u.unsynced })
+    (let same = c.committed in let later = u.later in record { later = omega (arith, later, same); above = u.above; is_floor = calm_floor x z group c u.is_floor; unsynced = calm_unsynced x z c u.unsynced })
 
 -- a change of an object, in a group that a call uses, where the floor comes to be one that it uses then
-pub fit_change : (x : State) (c : Change) (store new : Store) (b : Book) → KeepsOpen x store b → x.committed < group_of c → group_of c ≤ new.floor → store.floor ≤ new.floor → IsLowFloor x new.floor → HasUnsynced x
+pub fit_change : (x : State) (c : Change) (store new : Store) (b : Book) → KeepsOpen x store b → x.committed < group_of c → group_of c ≤ new.floor → store.floor ≤ new.floor
+    → IsLowFloor x new.floor → HasUnsynced x
     → new.changes ≡ c ∷ store.changes → (object : ℕ) (bytes : Option (List ℕ)) → object_of c ≡ object
     → bytes_in (write_in (Some c)) ≡ bytes → KeepsOpen x new (changed object bytes b)
 fit_change x c store new b f later within above floor unsynced made object bytes o is = record {
@@ -159,7 +162,8 @@ fit_change x c store new b f later within above floor unsynced made object bytes
 }
 
 -- only the floor rises
-pub fit_floor : (x : State) (store new : Store) (b : Book) → KeepsOpen x store b → store.floor ≤ new.floor → IsLowFloor x new.floor → HasUnsynced x → new.changes ≡ store.changes → KeepsOpen x new b
+pub fit_floor : (x : State) (store new : Store) (b : Book) → KeepsOpen x store b → store.floor ≤ new.floor → IsLowFloor x new.floor → HasUnsynced x
+    → new.changes ≡ store.changes → KeepsOpen x new b
 fit_floor x store new b f above floor unsynced made = record {
   is_open = f.is_open;
   says = subst (λ cs. SaysObjects x.committed cs b) (sym made) f.says;
@@ -188,7 +192,8 @@ puts_calm key m zero holds puts = subst (AllOf IsCalmHold) (sym puts) tt
 puts_calm key m (suc n) holds puts = subst (AllOf IsCalmHold) (sym puts.2) (subst IsCalmHold (sym puts.3.did) tt, puts_calm key m n puts.1 puts.4)
 
 -- a block is freed
-pub frees_uses : (w : Write) (floor group : ℕ) (holds : List Hold) (x z : State) → FreesBlock w floor group holds → Follows holds x z → AreInStep x → AreNoted x → IsLowFloor x floor → Uses z floor group × CalmTo x z
+pub frees_uses : (w : Write) (floor group : ℕ) (holds : List Hold) (x z : State) → FreesBlock w floor group holds → Follows holds x z → AreInStep x → AreNoted x
+    → IsLowFloor x floor → Uses z floor group × CalmTo x z
 frees_uses w floor group holds x z f follows steps noted low =
     let all : Follows (On f.v (Did (event.Free (key_of w) group) f.after) ∷ []) x z = subst (λ hs. Follows hs x z) f.did follows in
     let it = all.1 in
@@ -197,7 +202,8 @@ frees_uses w floor group holds x z f follows steps noted low =
     let u = uses_by f.v (event.Free (key_of w) group) f.after x all.0 floor group tt (λ g. refl) it steps noted low is in
     (subst (λ (s : State). Uses s floor group) (sym all.2) u, calm)
 
-pub frees_fit : (object : ℕ) (old new : Store) (holds : List Hold) (x z : State) (b : Book) → Frees object old holds new → Follows holds x z → KeepsOpen x old b → KeepsOpen z new (changed object None b)
+pub frees_fit : (object : ℕ) (old new : Store) (holds : List Hold) (x z : State) (b : Book) → Frees object old holds new → Follows holds x z → KeepsOpen x old b
+    → KeepsOpen z new (changed object None b)
 frees_fit object old new holds x z b f follows fit =
     let u = frees_uses f.w old.floor f.group holds x z f.frees follows fit.steps fit.noted fit.floor in
     let c : Change = Freed object f.group in
@@ -207,7 +213,8 @@ frees_fit object old new holds x z b f follows fit =
 
 module _ (geometry : Geometry) (perms : Perms) (chosen : List Room → Option ℕ → Type 0) where
   -- a block is tried
-  pub tries_uses : (object : ℕ) (bytes : List ℕ) (old : Store) (m birth columns : ℕ) (holds : List Hold) (x z : State) → Tries geometry perms chosen object bytes old m birth columns holds
+  pub tries_uses : (object : ℕ) (bytes : List ℕ) (old : Store) (m birth columns : ℕ) (holds : List Hold) (x z : State)
+      → Tries geometry perms chosen object bytes old m birth columns holds
       → Follows holds x z → AreInStep x → AreNoted x → IsLowFloor x old.floor → Uses z old.floor birth × CalmTo x z
   tries_uses object bytes old m birth columns holds x z t follows steps noted low =
       let parts = follows_split t.looks t.written x z (subst (λ hs. Follows hs x z) t.are follows) in
@@ -224,7 +231,8 @@ module _ (geometry : Geometry) (perms : Perms) (chosen : List Room → Option �
       let calm : CalmTo s z = calm_follows t.written s z (subst (AllOf IsCalmHold) (sym w.are) (tt, rest)) parts.2 in
       (uses_calm all.0 z old.floor birth (calm_follows (w.puts ++ On w.last (Did (event.Finish w.key) w.ended) ∷ []) all.0 z rest all.2) u, calm_more x s z looked calm)
 
-  earlier_uses : (o : Option Write) (floor group : ℕ) (holds : List Hold) (x z : State) → FreesEarlier o floor group holds → Follows holds x z → AreInStep x → AreNoted x → IsLowFloor x floor
+  earlier_uses : (o : Option Write) (floor group : ℕ) (holds : List Hold) (x z : State) → FreesEarlier o floor group holds → Follows holds x z → AreInStep x → AreNoted x
+      → IsLowFloor x floor
       → (floor ≤ group) × IsLowFloor z group × CalmTo x z
   earlier_uses None floor group holds x z f follows steps noted low =
       let calm : CalmTo x z = calm_follows holds x z (subst (AllOf IsCalmHold) (sym f.0) tt) follows in
@@ -232,7 +240,8 @@ module _ (geometry : Geometry) (perms : Perms) (chosen : List Room → Option �
       (omega (arith, same), calm_floor x z group calm (subst (IsLowFloor x) (sym same) low), calm)
   earlier_uses (Some w) floor group holds x z f follows steps noted low = (let u = frees_uses w floor group holds x z f follows steps noted low in (u.0.above, u.0.is_floor, u.1))
 
-  pub writes_fit : (object : ℕ) (bytes : List ℕ) (old new : Store) (holds : List Hold) (x z : State) (b : Book) → Writes geometry perms chosen object bytes old holds new → Follows holds x z
+  pub writes_fit : (object : ℕ) (bytes : List ℕ) (old new : Store) (holds : List Hold) (x z : State) (b : Book) → Writes geometry perms chosen object bytes old holds new
+      → Follows holds x z
       → KeepsOpen x old b → KeepsOpen z new (changed object (Some bytes) b)
   writes_fit object bytes old new holds x z b w follows fit =
       let parts = follows_split w.tried w.freed x z (subst (λ hs. Follows hs x z) w.are follows) in
@@ -247,7 +256,8 @@ module _ (geometry : Geometry) (perms : Perms) (chosen : List Room → Option �
       fit_change z (Wrote (record { object = object; seq = old.seq + 1; metaslab = w.m; birth = w.birth; bytes = bytes })) old new b (calm_fit x z old b calm fit) later within above
       (subst (IsLowFloor z) (sym made) e.1) (uses_calm a z old.floor w.birth e.2 t.0).unsynced (ap (λ (s : Store). s.changes) w.made) object (Some bytes) refl refl
 
-  pub fills_fit : (content : ℕ → List ℕ) (first n : ℕ) (old new : Store) (holds : List Hold) (x z : State) (b : Book) → Fills geometry perms chosen content first n old holds new → Follows holds x z
+  pub fills_fit : (content : ℕ → List ℕ) (first n : ℕ) (old new : Store) (holds : List Hold) (x z : State) (b : Book)
+      → Fills geometry perms chosen content first n old holds new → Follows holds x z
       → KeepsOpen x old b → KeepsOpen z new (filled content first n b)
   fills_fit content first zero old new holds x z b f follows fit =
       let is : z ≡ x = subst (λ hs. Follows hs x z) f.0 follows in

@@ -155,7 +155,8 @@ module _ (finds : Finding → Type 0) where
 
   -- ---- each command
 
-  pub shut_turns : (old new : Desk) (b : Book) (command : Command) (reply : Reply) → IsShutDesk old → Keeps old b → ShutTurns finds old command reply new → Agrees true new → Next b command reply new
+  pub shut_turns : (old new : Desk) (b : Book) (command : Command) (reply : Reply) → IsShutDesk old → Keeps old b → ShutTurns finds old command reply new → Agrees true new
+      → Next b command reply new
   shut_turns old new b command reply is keeps turns agrees = by command turns
     where
       told_none : (command : Command) → ((book : Book) (called : CommandName) → name_of command ≡ Some called → ShutAnswers b command (NoPool called) b)
@@ -185,7 +186,8 @@ import_ends cause Bare new b is keeps breaks = absurd breaks
 import_ends cause (Open x) new b is keeps breaks = absurd is
 import_ends cause old new b is keeps breaks = absurd keeps
 
-pub shut_breaks : (cause : Cause) (old new : Desk) (b : Book) (command : Command) → IsShutDesk old → Keeps old b → BreaksShut cause old command new → Agrees true new → EndsIn b command new
+pub shut_breaks : (cause : Cause) (old new : Desk) (b : Book) (command : Command) → IsShutDesk old → Keeps old b → BreaksShut cause old command new → Agrees true new
+    → EndsIn b command new
 shut_breaks ShelfFails old new b (CreatePool text children keys) is keeps breaks agrees =
     let left = makes_none old b is keeps text children keys new breaks agrees in
     shut_ends old b is keeps (CreatePool text children keys) new left.book left.leaves left.later

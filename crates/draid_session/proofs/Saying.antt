@@ -36,7 +36,8 @@ tells_change committed c cs b later t = record { now = now; keeps = kept_; had =
         old : HasHad (changed (object_of c) (bytes_in (write_in (Some c))) b) o (bytes_in (kept group cs o))
         old = had_more b (object_of c) o (bytes_in (write_in (Some c))) (bytes_in (kept group cs o)) (t.had group o from)
 
-        by : (x y : Bool) → nat_le (group_of c) group ≡ x → (object_of c == o) ≡ y → HasHad (changed (object_of c) (bytes_in (write_in (Some c))) b) o (bytes_in (kept group (c ∷ cs) o))
+        by : (x y : Bool) → nat_le (group_of c) group ≡ x → (object_of c == o) ≡ y
+            → HasHad (changed (object_of c) (bytes_in (write_in (Some c))) b) o (bytes_in (kept group (c ∷ cs) o))
         by true true up is =
             inr (inl (ap bytes_in (kept_own group c cs o up is) ∙ sym (ap (λ z. if z then bytes_in (write_in (Some c)) else b.now o) is)))
         by true false up is = subst (HasHad (changed (object_of c) (bytes_in (write_in (Some c))) b) o) (sym (ap bytes_in (kept_other group c cs o is))) old

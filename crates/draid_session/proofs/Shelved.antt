@@ -33,7 +33,8 @@ low_there (y ∷ xs) (suc k) low = low_there xs k (omega (arith, low))
 
 -- ---- a group is found
 
-found_there : (x mid : State) (group : ℕ) → Finds x group mid → (k : ℕ) (z : Metaslab) → slice_get mid.metaslabs k ≡ Some z → (y : Metaslab) × (slice_get x.metaslabs k ≡ Some y) × Reopens x.geometry x.perms group k y z
+found_there : (x mid : State) (group : ℕ) → Finds x group mid → (k : ℕ) (z : Metaslab) → slice_get mid.metaslabs k ≡ Some z
+    → (y : Metaslab) × (slice_get x.metaslabs k ≡ Some y) × Reopens x.geometry x.perms group k y z
 found_there x mid group f k z there =
     let low : k < length mid.metaslabs = there_low mid.metaslabs k z there in
     let many = f.many in
@@ -90,7 +91,8 @@ found_which x b group f may = elim (bool_cases b.later) [
   ])
 ]
   where
-    by : b.later ≡ true → MayFind x group → (nat_le group b.group ≡ true) ⊎ (nat_le group b.group ≡ false) → ((group ≡ b.group) × (x.committed ≡ group)) ⊎ ((b.later ≡ true) × (b.group < group))
+    by : b.later ≡ true → MayFind x group → (nat_le group b.group ≡ true) ⊎ (nat_le group b.group ≡ false)
+        → ((group ≡ b.group) × (x.committed ≡ group)) ⊎ ((b.later ≡ true) × (b.group < group))
     by later may (inl less) =
         (let l = is_low group b.group less in let low = f.low in let from = found_from x group may in inl (omega (arith, l, low, from), omega (arith, l, low, from)))
     by later may (inr more) = inr (later, high group b.group more)
@@ -181,7 +183,8 @@ finds_shut x mid b group f finds = record {
     by same = (let low = f.low in let at = finds.committed in let from = found_from x group finds.found in omega (arith, same, low, at, from))
 
 -- another state of which the same is said
-same_shut : (x y : State) (b : Book) → y.committed ≡ x.committed → (x.pending ≡ false → y.pending ≡ false) → y.store ≡ x.store → y.told ≡ true → AreInside y → HasMetaslab y → KeepsShut x b → KeepsShut y b
+same_shut : (x y : State) (b : Book) → y.committed ≡ x.committed → (x.pending ≡ false → y.pending ≡ false) → y.store ≡ x.store → y.told ≡ true → AreInside y → HasMetaslab y
+    → KeepsShut x b → KeepsShut y b
 same_shut x y b committed pending store told inside place f = record {
   is_shut = f.is_shut;
   keeps = λ same o. f.keeps (same ∙ committed) o ∙ (ap (λ n. bytes_in (kept n x.store.changes o)) (sym committed) ∙ ap (λ (s : Store). bytes_in (kept y.committed s.changes o)) (sym store));

@@ -15,7 +15,7 @@ use Rattle.draid_session.specs.Phases.{End, NoneOf, Went}
 use Rattle.draid_session.specs.State.{Metaslab, State, Store}
 use Rattle.draid_session.proofs.Changing.{calm_fit, looks_from_calm}
 use Rattle.draid_session.proofs.Calm.{CalmTo, calm_follows}
-use Rattle.draid_session.proofs.Grouping.{Done, Steady, group_walk, steady_busy, steady_inside, steady_steps, steady_noted, steady_uns}
+use Rattle.draid_session.proofs.Grouping.{Done, Steady, group_walk, steady_busy, steady_inside, steady_steps, steady_noted, steady_unsynced}
 use Rattle.draid_session.proofs.Lists.{all_at}
 use Rattle.draid_session.proofs.Looked.{Seen, follows_split, looks_all, looks_at, looks_seen}
 use Rattle.draid_session.proofs.Saying.{tells_later, tells_synced}
@@ -54,7 +54,7 @@ steady_used x z store s (inl none) = elim s.pending [
   | inl same ↦ inl (subst (λ n. All (λ c. group_of c ≤ n) store.changes) (sym s.committed) none.0, same ∙ none.1)
   | inr unsynced ↦ inr unsynced
 ]
-steady_used x z store s (inr unsynced) = inr (steady_uns x z s unsynced)
+steady_used x z store s (inr unsynced) = inr (steady_unsynced x z s unsynced)
 
 pub steady_fit : (x z : State) (store : Store) (b : Book) → Steady x z → KeepsOpen x store b → KeepsOpen z store (doubtful b)
 steady_fit x z store b s f = record {
@@ -106,7 +106,8 @@ module _ (geometry : Geometry) (perms : Perms) where
       ]
 
   -- the group behind the committed one is committed where no metaslab was closing one
-  synced_fit : (group : ℕ) (x z : State) (store : Store) (b : Book) → group ≡ x.committed + 1 → AreIdle x → Done geometry perms group x z → KeepsOpen x store b → KeepsOpen z store (synced group b)
+  synced_fit : (group : ℕ) (x z : State) (store : Store) (b : Book) → group ≡ x.committed + 1 → AreIdle x → Done geometry perms group x z → KeepsOpen x store b
+      → KeepsOpen z store (synced group b)
   synced_fit group x z store b next idle d f = record {
     is_open = f.is_open;
     says = subst (λ n. SaysObjects n store.changes (synced group b)) (sym d.committed)
@@ -146,7 +147,8 @@ module _ (geometry : Geometry) (perms : Perms) where
     pub layout : end ≡ Went → z.geometry ≡ geometry
     pub idle : end ≡ Went → AreIdle z
 
-  finishes : (holds : List Hold) (end : End) (x z : State) (store : Store) (b : Book) → groups.Finishes geometry perms holds end → Follows holds x z → x.geometry ≡ geometry → KeepsOpen x store b
+  finishes : (holds : List Hold) (end : End) (x z : State) (store : Store) (b : Book) → groups.Finishes geometry perms holds end → Follows holds x z → x.geometry ≡ geometry
+      → KeepsOpen x store b
       → (end ≡ Went → ⊥) ⊎ (end ≡ Went) → Finished end x z store b
   finishes holds end x z store b f follows of fit which = by f.does
     where
@@ -206,7 +208,8 @@ module _ (geometry : Geometry) (perms : Perms) where
   went_or Went = inr refl
   went_or end = inl (λ h. absurd (cc))
 
-  next_fit : (group thin : ℕ) (holds : List Hold) (end : End) (x z : State) (store : Store) (b : Book) → groups.Next geometry perms group thin holds end → Follows holds x z → x.geometry ≡ geometry
+  next_fit : (group thin : ℕ) (holds : List Hold) (end : End) (x z : State) (store : Store) (b : Book) → groups.Next geometry perms group thin holds end → Follows holds x z
+      → x.geometry ≡ geometry
       → AreIdle x → KeepsOpen x store b → (end ≡ Went → (group ≡ x.committed + 1) × KeepsOpen z store (synced group b)) × ((end ≡ Went → ⊥) → KeepsOpen z store (doubtful b))
   next_fit group thin holds end x z store b n follows of idle fit =
       let all : Follows (OnUber n.0 LookedUber ∷ n.1) x z = subst (λ hs. Follows hs x z) n.2 follows in
@@ -216,7 +219,8 @@ module _ (geometry : Geometry) (perms : Perms) where
       (λ went. (next, synced_fit group x z store b next idle (g.0 went) fit), λ stopped. steady_fit x z store b (g.1 stopped) fit)
 
   -- a sync commits a group that keeps the objects as they are, or leaves a doubt
-  pub syncs_fit : (group thin : ℕ) (holds : List Hold) (end : End) (x z : State) (store : Store) (b : Book) → groups.Syncs geometry perms group thin holds end → Follows holds x z → x.geometry ≡ geometry
+  pub syncs_fit : (group thin : ℕ) (holds : List Hold) (end : End) (x z : State) (store : Store) (b : Book) → groups.Syncs geometry perms group thin holds end
+      → Follows holds x z → x.geometry ≡ geometry
       → KeepsOpen x store b → (end ≡ Went → (b.group < group) × KeepsOpen z store (synced group b)) × ((end ≡ Went → ⊥) → KeepsOpen z store (doubtful b))
   syncs_fit group thin holds end x z store b (inr w) follows of fit =
       (λ went. absurd (w.0 went), λ stopped. (finishes holds end x z store b w.1 follows of fit (inl stopped)).fit)

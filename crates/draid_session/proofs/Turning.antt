@@ -15,7 +15,8 @@ use Rattle.draid_session.proofs.WithPool.{EndsIn, Next, open_breaks, open_turns}
 -- ---- lines
 
 module _ (chosen : List Room → Option ℕ → Type 0) (finds : Finding → Type 0) where
-  reply_turns : (old new : Desk) (b : Book) (command : Command) (reply : Reply) → Keeps old b → ReplyTurns chosen finds old command reply new → Agrees true new → Next b command reply new
+  reply_turns : (old new : Desk) (b : Book) (command : Command) (reply : Reply) → Keeps old b → ReplyTurns chosen finds old command reply new → Agrees true new
+      → Next b command reply new
   reply_turns Bare new b command reply keeps turns agrees = shut_turns finds Bare new b command reply tt keeps turns agrees
   reply_turns (Made told failed geometry) new b command reply keeps turns agrees = shut_turns finds (Made told failed geometry) new b command reply tt keeps turns agrees
   reply_turns (Open x) new b command reply keeps turns agrees = open_turns chosen x b keeps command reply new turns
@@ -35,7 +36,8 @@ module _ (chosen : List Room → Option ℕ → Type 0) (finds : Finding → Typ
       by Silent speaks answers = absurd (speaks refl)
       by command speaks answers = answers
 
-  line_turns : (line : Result Command LineFault) (old new : Desk) (b : Book) (reply : Option Reply) → Keeps old b → TurnsBy chosen finds line old reply new → Agrees true new → NextLine b line reply new
+  line_turns : (line : Result Command LineFault) (old new : Desk) (b : Book) (reply : Option Reply) → Keeps old b → TurnsBy chosen finds line old reply new
+      → Agrees true new → NextLine b line reply new
   line_turns (Err fault) old new b reply keeps turns agrees = absurd turns
   line_turns (Ok command) old new b reply keeps turns agrees = by command reply turns
     where
@@ -51,7 +53,8 @@ module _ (chosen : List Room → Option ℕ → Type 0) (finds : Finding → Typ
     pub answers : AnswersAll b lines replies book
     pub keeps : Keeps new book
 
-  pub run_turns : (lines : List (List ℕ)) (replies : List (Option Reply)) (old new : Desk) (b : Book) → Keeps old b → Runs chosen finds true old lines replies new → AllAnswered b lines replies new
+  pub run_turns : (lines : List (List ℕ)) (replies : List (Option Reply)) (old new : Desk) (b : Book) → Keeps old b → Runs chosen finds true old lines replies new
+      → AllAnswered b lines replies new
   run_turns [] [] old new b keeps runs = record { book = b; answers = refl; keeps = subst (λ desk. Keeps desk b) (sym runs) keeps }
   run_turns (line ∷ lines) (reply ∷ replies) old new b keeps (mid, turns, agrees, runs) =
       let one = line_turns (line_of line) old mid b reply keeps turns agrees in

@@ -95,7 +95,8 @@ kept_now x store b f all = by (same_or_low b.group x.committed f.low)
           ∙ sym (f.says.now o)),
     )
 
-synced_again : (x : State) (store : Store) (b : Book) → KeepsOpen x store b → All (λ c. group_of c ≤ x.committed) store.changes → x.pending ≡ false → KeepsOpen x store (synced x.committed b)
+synced_again : (x : State) (store : Store) (b : Book) → KeepsOpen x store b → All (λ c. group_of c ≤ x.committed) store.changes → x.pending ≡ false
+    → KeepsOpen x store (synced x.committed b)
 synced_again x store b f all idle = record {
   is_open = f.is_open;
   says = tells_synced x.committed x.committed store.changes b f.says all;
@@ -248,7 +249,8 @@ module _ (chosen : List Room → Option ℕ → Type 0) (old : State) (b : Book)
       → Next b (CreatePool text children keys) reply (desk_behind reply state)
   create_turns text children keys reply state it = by reply it.does
     where
-      by : (r : Reply) → Does old.geometry old.perms chosen content_of (CreatePool text children keys) old.store it.holds r it.store → Next b (CreatePool text children keys) r (desk_behind r state)
+      by : (r : Reply) → Does old.geometry old.perms chosen content_of (CreatePool text children keys) old.store it.holds r it.store
+          → Next b (CreatePool text children keys) r (desk_behind r state)
       by (PoolOpen name.Create) d =
           open_next (CreatePool text children keys) (PoolOpen name.Create) (Open state) b refl (held_none (CreatePool text children keys) reply state it d.0 d.1)
       by r d = absurd d
@@ -260,7 +262,8 @@ module _ (chosen : List Room → Option ℕ → Type 0) (old : State) (b : Book)
       by (PoolOpen name.Import) d = open_next ImportPool (PoolOpen name.Import) (Open state) b refl (held_none ImportPool reply state it d.0 d.1)
       by r d = absurd d
 
-  on_objects : (command : Command) (reply : Reply) (state : State) → IsOnObjects command → CarriesOut chosen command reply old state → Next b command reply (desk_behind reply state)
+  on_objects : (command : Command) (reply : Reply) (state : State) → IsOnObjects command → CarriesOut chosen command reply old state
+      → Next b command reply (desk_behind reply state)
   on_objects command reply state is it =
       let one = objects_answer chosen old it.mid it.store it.holds b fit it.follows old.geometry old.perms command reply is it.does in
       next_at b command reply (Open state) (desk_behind reply state) (stays_open old.geometry old.perms chosen old.store it.store it.holds command is reply it.does state)
