@@ -4,6 +4,7 @@ pub mod Calm
 pub mod Certain
 pub mod Changing
 pub mod Failed
+pub mod Following
 pub mod Grouping
 pub mod Lists
 pub mod Looked
