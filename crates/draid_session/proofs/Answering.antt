@@ -1,5 +1,5 @@
 -- What the commands on objects do to an open pool and to its book.
-use Rattle.std.proofs.Common.{◌≡◌, ◌≢◌, ◌∙◌, ◌+◌, ◌≤◌, ℕ, Bool, true, false, List, [], ◌∷◌, Option, Some, None, inl, inr, refl, sym, ap, subst, arith, ◌⊎◌, ◌++◌, ◌<◌}
+use Rattle.std.proofs.Common.{◌≡◌, ◌≢◌, ◌∙◌, ◌+◌, ◌≤◌, ℕ, Bool, true, false, List, [], ◌∷◌, Option, Some, None, inl, inr, refl, sym, ap, subst, arith, ◌++◌}
 use Rattle.std.specs.Prelude.{⊤}
 use Rattle.draid_names.specs.declared.refusal.ObjectFault.{ObjectFault}
 use Rattle.draid_names.specs.declared.refusal.ObjectFault.TheVariants as fault
@@ -8,7 +8,7 @@ use Rattle.draid_names.specs.declared.refusal.WriteFault.TheVariants as refusal
 use Rattle.draid_names.specs.declared.room.Room.{Room}
 use Rattle.draid_spec.specs.declared.layout.Geometry.{Geometry}
 use Rattle.draid_perm.specs.declared.perms.Perms.{Perms}
-use Rattle.draid_machine.proofs.Small.{bool_cases, none_some}
+use Rattle.draid_machine.proofs.Small.{none_some}
 use Rattle.draid_objects.specs.Changes.{Write, write_of}
 use Rattle.draid_reply.specs.declared.reply.Reply.{Reply}
 use Rattle.draid_reply.specs.declared.reply.Reply.TheVariants.{NoMemory, Written, NoSpace, Missed, WriteLast, Filled, FillRefused, Contents, NoObject, Unreadable, ReadWorn, Summed, SumRefused, Freed, FreeNoObject, Damaged, DamageRefused, DamageFailed, DamageWorn, Status}
@@ -32,7 +32,7 @@ use Rattle.draid_session.specs.Writes as writes
 use Rattle.draid_session.proofs.Changing.{calm_fit, fills_fit, fit_floor, frees_fit, looks_from_calm, tries_uses, writes_fit}
 use Rattle.draid_session.proofs.Calm.{IsCalmHold, calm_both, calm_follows, looks_calm}
 use Rattle.draid_session.proofs.Looked.{follows_split}
-use Rattle.draid_session.proofs.Saying.{are_many, same_or_low}
+use Rattle.draid_session.proofs.Saying.{are_many}
 use Rattle.draid_session.specs.Keeping.{bytes_in, IsLowFloor, KeepsOpen}
 
 -- ---- what the book says of an object
@@ -238,21 +238,17 @@ module _ (chosen : List Room → Option ℕ → Type 0) (old mid : State) (store
         let parts = follows_split looks (OnUber u LookedUber ∷ []) old mid (subst (λ hs. Follows hs old mid) are follows) in
         ap (λ (v : UberView). v.committed) parts.2.1.sees ∙ (calm_follows looks old parts.0 calm parts.1).committed
 
-    named_group : (group : ℕ) → group ≡ old.committed → (group ≡ b.group) ⊎ ((b.later ≡ true) × (b.group < group))
-    named_group group is = elim (bool_cases b.later) [
-      | inl later ↦ elim (same_or_low b.group old.committed fit.low) [ inl same ↦ inl (is ∙ sym same) | inr low ↦ inr (later, (omega (arith, is, low))) ]
-      | inr sure ↦ inl (is ∙ sym (fit.sure sure).0)
-    ]
-
     status_answers : (form : StatusFormat) (reply : Reply) → Does geometry perms chosen content_of (ShowStatus form) old.store holds reply store → Books (ShowStatus form) reply
     status_answers form (Status text) d =
         let t = d.1 in
         let looks = looks_from_calm 0 geometry.props.metaslabs t.looks t.views t.each in
+        let is : t.view.group ≡ old.committed = t.is.group ∙ sees_group t.looks t.u t.holds_are looks in
         let told : IsStatusOf b form text.items = record {
           view = t.view;
           text_is = t.text_is ∙ text_same form t.view;
           objects = are_many old.store.changes t.view.objects b.now fit.says.now t.is.objects;
-          group = named_group t.view.group (t.is.group ∙ sees_group t.looks t.u t.holds_are looks);
+          last = (let low = fit.low in omega (arith, is, low));
+          few = (let few = fit.few in omega (arith, is, few));
         } in
         record { next = b; answers = (told, refl); fits = stays d.0 (subst (AllOf IsCalmHold) (sym t.holds_are) (calm_both t.looks _ looks (tt, tt))) }
     status_answers form (NoMemory name.Status) d = record { next = b; answers = refl; fits = stays d.0 (none_calm d.1) }

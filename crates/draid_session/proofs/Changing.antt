@@ -23,7 +23,7 @@ use Rattle.draid_session.proofs.Noted.{ahead_last, unsynced_last, ahead_in}
 use Rattle.draid_session.proofs.Calm.{alike_by, calm_commit, hold_each, step_alike, IsCalm, CalmTo, IsCalmHold, calm_both, calm_follows, calm_more, Alike}
 use Rattle.draid_session.proofs.Looked.{follows_split}
 use Rattle.draid_session.proofs.Saying.{tells_change}
-use Rattle.draid_session.specs.Keeping.{SaysObjects, bytes_in, IsInStep, UnsyncedIn, IsNoted, AreInStep, AreNoted, HasUnsynced, HasAhead, ShowsUnsynced, IsLowFloor, KeepsOpen}
+use Rattle.draid_session.specs.Keeping.{SaysObjects, bytes_in, IsInStep, UnsyncedIn, IsNoted, AreInStep, AreNoted, HasUnsynced, HasAhead, ShowsUnsynced, IsLowFloor, KeepsOpen, IsUnderWay}
 
 pub calm_steps : (x z : State) → CalmTo x z → AreInStep x → AreInStep z
 calm_steps x z c steps k m there =
@@ -55,12 +55,18 @@ calm_used : (x z : State) (store : Store) → CalmTo x z → ShowsUnsynced x sto
 calm_used x z store c (inl none) = inl (subst (λ n. All (λ d. group_of d ≤ n) store.changes) (sym c.committed) none.0, c.pending ∙ none.1)
 calm_used x z store c (inr unsynced) = inr (calm_unsynced x z c unsynced)
 
+-- a group that is under way was so before
+pub calm_under : (x z : State) → CalmTo x z → IsUnderWay z → IsUnderWay x
+calm_under x z c (inl (k, y, group, there, closing)) = (let one = c.back k y there in inl (k, one.0, group, one.1, sym one.2.closing ∙ closing))
+calm_under x z c (inr pending) = inr (sym c.pending ∙ pending)
+
 pub calm_fit : (x z : State) (store : Store) (b : Book) → CalmTo x z → KeepsOpen x store b → KeepsOpen z store b
 calm_fit x z store b c f = record {
   is_open = f.is_open;
   says = subst (λ n. SaysObjects n store.changes b) (sym c.committed) f.says;
   low = (let same = c.committed in let low = f.low in omega (arith, low, same));
-  sure = λ no. ((f.sure no).0 ∙ sym c.committed, c.pending ∙ (f.sure no).1);
+  few = (let same = c.committed in let few = f.few in omega (arith, same, few));
+  under = λ u. (let same = c.committed in let under = f.under (calm_under x z c u) in omega (arith, same, under));
   told = c.told ∙ f.told;
   some = (let same = c.committed in let some = f.some in omega (arith, some, same));
   steps = calm_steps x z c f.steps;
@@ -148,7 +154,8 @@ fit_change x c store new b f later within above floor unsynced made object bytes
       (subst (λ n. SaysObjects x.committed (c ∷ store.changes) (changed n bytes b)) o
       (subst (λ w. SaysObjects x.committed (c ∷ store.changes) (changed (object_of c) w b)) is (tells_change x.committed c store.changes b later f.says)));
   low = f.low;
-  sure = f.sure;
+  few = f.few;
+  under = f.under;
   told = f.told;
   some = f.some;
   steps = f.steps;
@@ -168,7 +175,8 @@ fit_floor x store new b f above floor unsynced made = record {
   is_open = f.is_open;
   says = subst (λ cs. SaysObjects x.committed cs b) (sym made) f.says;
   low = f.low;
-  sure = f.sure;
+  few = f.few;
+  under = f.under;
   told = f.told;
   some = f.some;
   steps = f.steps;

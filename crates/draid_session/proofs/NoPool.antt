@@ -13,7 +13,7 @@ use Rattle.draid_script.specs.declared.name.CommandName.TheVariants as name
 use Rattle.draid_reply.specs.declared.reply.Reply.{Reply}
 use Rattle.draid_reply.specs.declared.reply.Reply.TheVariants.{NoPool, NoMemory, Created, CreateRefused, Imported}
 use Rattle.draid_session.specs.Book.{AnswersBy, Book, BreaksBy, LeavesNone, ShutAnswers, ShutBreaks, blank, certain, doubtful, no_objects, opened}
-use Rattle.draid_session.specs.Keeping.{AreInside, Keeps, KeepsNone, KeepsOpen, KeepsShut, SaysObjects, TellsGroups, bytes_in}
+use Rattle.draid_session.specs.Keeping.{AreInside, Keeps, KeepsNone, KeepsOpen, KeepsShut, SaysObjects, TellsGroups, bytes_in, IsUnderWay}
 use Rattle.draid_session.specs.Making.{IsFresh}
 use Rattle.draid_session.specs.Session.{Agrees, Bare, BreaksGiven, BreaksImport, BreaksNew, BreaksShut, Cause, Creates, Desk, FindsGiven, FindsGivenIf, FindsNew, FindsNewIf, Finding, ImportTurns, Made, MakesNone, Open, RecordFails, ShelfFails, Shut, ShutTurns, name_of, uncommitted}
 use Rattle.draid_session.specs.State.{State, Store}
@@ -27,12 +27,19 @@ many_inside : (x : State) (geometry : Geometry) → x.geometry ≡ geometry → 
 many_inside x geometry layout many k y there =
     (let low = there_low x.metaslabs k y there in subst (λ (g : Geometry). k < g.props.metaslabs) (sym layout) (omega (arith, low, many)))
 
+fresh_idle : (geometry : Geometry) (x : State) → IsFresh geometry x → IsUnderWay x → ⊥
+fresh_idle geometry x f (inl (k, y, t, there, closing)) =
+    let one = f.each k y there in
+    none_some y.world.closing t (ap (λ (s : machine.State). s.closing) (one.world ∙ one.opened)) closing
+fresh_idle geometry x f (inr pending) = (let idle = sym pending ∙ f.pending in cc)
+
 fresh_fit : (geometry : Geometry) (x : State) → 1 ≤ geometry.props.metaslabs → IsFresh geometry x → x.told ≡ true → KeepsOpen x x.store (opened 1 no_objects)
 fresh_fit geometry x has f told = record {
   is_open = refl;
   says = subst (λ (s : Store). SaysObjects x.committed s.changes (opened 1 no_objects)) (sym f.store) (record { now = λ o. refl; keeps = λ same o. refl; had = λ group o from. inl refl });
   low = (let is = f.committed in omega (arith, is));
-  sure = λ not. (sym f.committed, f.pending);
+  few = (let is = f.committed in omega (arith, is));
+  under = λ u. absurd (fresh_idle geometry x f u);
   told = told;
   some = (let is = f.committed in omega (arith, is));
   steps = λ k y there. (let one = f.each k y there in let w = one.world ∙ one.opened in record {
@@ -54,7 +61,8 @@ uncommitted_fit geometry x has f told = record {
   keeps = λ same o. subst (λ (s : Store). no_objects o ≡ bytes_in (kept 0 s.changes o)) (sym f.store) refl;
   had = λ group o from. inl (subst (λ (s : Store). bytes_in (kept group s.changes o) ≡ no_objects o) (sym f.store) refl);
   low = omega arith;
-  sure = λ not. absurd (cc);
+  few = omega arith;
+  under = λ pending. omega arith;
   told = told;
   inside = many_inside x geometry f.layout f.many;
   place = (let many = f.many in low_there x.metaslabs 0 (omega (arith, many, has)));

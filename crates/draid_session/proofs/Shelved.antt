@@ -17,7 +17,7 @@ use Rattle.draid_session.specs.State.{Metaslab, State, Store}
 use Rattle.draid_session.proofs.Changing.{calm_fit}
 use Rattle.draid_session.proofs.Calm.{IsCalmHold, calm_follows, follows_store}
 use Rattle.draid_session.proofs.Saying.{are_many, high}
-use Rattle.draid_session.specs.Keeping.{SaysObjects, bytes_in, TellsGroups, AreInStep, AreNoted, AreInside, HasMetaslab, KeepsOpen, KeepsShut}
+use Rattle.draid_session.specs.Keeping.{SaysObjects, bytes_in, TellsGroups, AreInStep, AreNoted, AreInside, HasMetaslab, KeepsOpen, KeepsShut, IsUnderWay}
 
 -- ---- lists of metaslabs
 
@@ -70,32 +70,35 @@ found_steps x mid group f k z there =
       busy = λ t some. absurd (none_some z.world.closing t (ap (λ (s : machine.State). s.closing) w) some);
     }
 
+not_both : (b : Bool) → b ≡ true → b ≡ false → ⊥
+not_both b a c = (let h = sym a ∙ c in cc)
+
+-- no group is under way
+found_idle : (x mid : State) (group : ℕ) → Finds x group mid → IsUnderWay mid → ⊥
+found_idle x mid group f (inl (k, y, t, there, closing)) =
+    let r = (found_there x mid group f k y there).2 in
+    none_some y.world.closing t (ap (λ (s : machine.State). s.closing) (r.world ∙ r.opened)) closing
+found_idle x mid group f (inr pending) = not_both mid.pending pending f.pending
+
 -- what a group keeps of what it keeps
 kept_upto : (t u o : ℕ) (cs : List Change) → t ≤ u → kept u (upto t cs) o ≡ kept t cs o
 kept_upto t u o cs less = ap (λ xs. write_of xs o) (upto_upto t u less cs)
-
-not_both : (b : Bool) → b ≡ true → b ≡ false → ⊥
-not_both b a c = (let h = sym a ∙ c in cc)
 
 found_from : (x : State) (group : ℕ) → MayFind x group → x.committed ≤ group
 found_from x group (inl same) = omega (arith, same)
 found_from x group (inr next) = (let is = next.1 in omega (arith, is))
 
--- it is the book's, or a later one that may be there
-found_which : (x : State) (b : Book) (group : ℕ) → KeepsShut x b → MayFind x group → ((group ≡ b.group) × (x.committed ≡ group)) ⊎ ((b.later ≡ true) × (b.group < group))
-found_which x b group f may = elim (bool_cases b.later) [
-  | inl later ↦ by later may (bool_cases (nat_le group b.group))
-  | inr sure ↦ (let s = f.sure sure in elim may [
-    | inl same ↦ inl (same ∙ sym s.0, sym same)
-    | inr next ↦ absurd (not_both x.pending next.0 s.1)
-  ])
+-- it is no later than by as many as were refused
+found_few : (x : State) (b : Book) (group : ℕ) → KeepsShut x b → MayFind x group → group ≤ b.group + b.refused
+found_few x b group f (inl same) = (let few = f.few in omega (arith, same, few))
+found_few x b group f (inr next) = (let under = f.under next.0 in let is = next.1 in omega (arith, is, under))
+
+-- it is the book's, or a later one
+found_which : (x : State) (b : Book) (group : ℕ) → KeepsShut x b → MayFind x group → ((group ≡ b.group) × (x.committed ≡ group)) ⊎ (b.group < group)
+found_which x b group f may = elim (bool_cases (nat_le group b.group)) [
+  | inl less ↦ (let l = is_low group b.group less in let low = f.low in let from = found_from x group may in inl (omega (arith, l, low, from), omega (arith, l, low, from)))
+  | inr more ↦ inr (high group b.group more)
 ]
-  where
-    by : b.later ≡ true → MayFind x group → (nat_le group b.group ≡ true) ⊎ (nat_le group b.group ≡ false)
-        → ((group ≡ b.group) × (x.committed ≡ group)) ⊎ ((b.later ≡ true) × (b.group < group))
-    by later may (inl less) =
-        (let l = is_low group b.group less in let low = f.low in let from = found_from x group may in inl (omega (arith, l, low, from), omega (arith, l, low, from)))
-    by later may (inr more) = inr (later, high group b.group more)
 
 abbrev pub objects_in : ℕ → List Change → Objects
 objects_in group changes = λ o. bytes_in (kept group changes o)
@@ -103,7 +106,7 @@ objects_in group changes = λ o. bytes_in (kept group changes o)
 found_may : (x : State) (b : Book) (group : ℕ) → KeepsShut x b → MayFind x group → MayBeFound b group (objects_in group x.store.changes)
 found_may x b group f may = elim (found_which x b group f may) [
   | inl own ↦ inl (own.0, λ o. subst (λ n. bytes_in (kept n x.store.changes o) ≡ b.kept o) own.1 (sym (f.keeps (sym own.0 ∙ sym own.1) o)))
-  | inr later ↦ inr (later.0, later.1, λ o. f.had group o (found_from x group may))
+  | inr later ↦ inr (later, found_few x b group f may, λ o. f.had group o (found_from x group may))
 ]
 
 all_upto : (group : ℕ) (cs : List Change) → All (λ c. group_of c ≤ group) (upto group cs)
@@ -120,7 +123,8 @@ found_fit x mid b group f finds = record {
         had = λ later o from. inl (ap bytes_in (kept_upto group later o x.store.changes from));
       }));
   low = (let is = finds.committed in omega (arith, is));
-  sure = λ no. (sym finds.committed, finds.pending);
+  few = (let is = finds.committed in omega (arith, is));
+  under = λ u. absurd (found_idle x mid group finds u);
   told = finds.told;
   some = (let is = finds.committed in let some = finds.some in omega (arith, is, some));
   steps = found_steps x mid group finds;
@@ -170,10 +174,8 @@ finds_shut x mid b group f finds = record {
       subst (HasHad b o) (sym (ap (λ cs. bytes_in (kept later cs o)) finds.changes ∙ ap bytes_in (kept_upto group later o x.store.changes (omega (arith, at, from)))))
       (f.had group o (found_from x group finds.found)));
   low = (let low = f.low in let at = finds.committed in let from = found_from x group finds.found in omega (arith, low, at, from));
-  sure = λ no. (elim (found_which x b group f finds.found) [
-    | inl own ↦ (sym own.0 ∙ sym finds.committed, finds.pending)
-    | inr later ↦ absurd (not_both b.later later.0 no)
-  ]);
+  few = (let at = finds.committed in let few = found_few x b group f finds.found in omega (arith, at, few));
+  under = λ pending. absurd (not_both mid.pending pending finds.pending);
   told = finds.told;
   inside = found_inside x mid group finds f.inside;
   place = found_place x mid group finds f.place;
@@ -183,14 +185,15 @@ finds_shut x mid b group f finds = record {
     by same = (let low = f.low in let at = finds.committed in let from = found_from x group finds.found in omega (arith, same, low, at, from))
 
 -- another state of which the same is said
-same_shut : (x y : State) (b : Book) → y.committed ≡ x.committed → (x.pending ≡ false → y.pending ≡ false) → y.store ≡ x.store → y.told ≡ true → AreInside y → HasMetaslab y
+same_shut : (x y : State) (b : Book) → y.committed ≡ x.committed → (y.pending ≡ true → x.pending ≡ true) → y.store ≡ x.store → y.told ≡ true → AreInside y → HasMetaslab y
     → KeepsShut x b → KeepsShut y b
 same_shut x y b committed pending store told inside place f = record {
   is_shut = f.is_shut;
   keeps = λ same o. f.keeps (same ∙ committed) o ∙ (ap (λ n. bytes_in (kept n x.store.changes o)) (sym committed) ∙ ap (λ (s : Store). bytes_in (kept y.committed s.changes o)) (sym store));
   had = λ group o from. subst (HasHad b o) (ap (λ (s : Store). bytes_in (kept group s.changes o)) (sym store)) (f.had group o (omega (arith, from, committed)));
   low = (let low = f.low in omega (arith, low, committed));
-  sure = λ no. ((f.sure no).0 ∙ sym committed, pending (f.sure no).1);
+  few = (let few = f.few in omega (arith, few, committed));
+  under = λ is. (let under = f.under (pending is) in omega (arith, under, committed));
   told = told;
   inside = inside;
   place = place;
@@ -208,7 +211,7 @@ back_shut x y b (group, i) f =
     let calm = older_calm i.mid group i.holds i.older in
     let c = calm_follows i.holds i.mid y calm i.follows in
     let m = finds_shut x i.mid b group f i.finds in
-    same_shut i.mid y b c.committed (λ is. c.pending ∙ is) (follows_store i.holds i.mid y i.follows) (c.told ∙ m.told)
+    same_shut i.mid y b c.committed (λ is. sym c.pending ∙ is) (follows_store i.holds i.mid y i.follows) (c.told ∙ m.told)
     (λ k w there. (let one = c.back k w there in subst (λ (g : Geometry). k < g.props.metaslabs) (sym c.geometry) (m.inside k one.0 one.1)))
     (let one = c.each 0 m.place.0 m.place.1 in (one.0, one.1)) m
 
@@ -219,8 +222,11 @@ none_shut x y b n f = (none, still_shut (record x { pending = false }) y (certai
     none : b.group ≡ 0
     none = (let low = f.low in let is = n.none in omega (arith, low, is))
 
+    few : x.committed ≤ b.group + 0
+    few = (let is = n.none in omega (arith, is))
+
     settled : KeepsShut (record x { pending = false }) (certain b)
-    settled = record { is_shut = f.is_shut; keeps = f.keeps; had = f.had; low = f.low; sure = λ no. (none ∙ sym n.none, refl); told = f.told; inside = f.inside; place = f.place }
+    settled = record { is_shut = f.is_shut; keeps = f.keeps; had = f.had; low = f.low; few = few; under = λ pending. absurd (cc); told = f.told; inside = f.inside; place = f.place }
 
 -- an open pool is given back
 pub closed_shut : (x : State) (b : Book) → KeepsOpen x x.store b → KeepsShut x (closed b)
@@ -229,7 +235,8 @@ closed_shut x b f = record {
   keeps = f.says.keeps;
   had = f.says.had;
   low = f.low;
-  sure = f.sure;
+  few = f.few;
+  under = λ pending. f.under (inr pending);
   told = f.told;
   inside = f.inside;
   place = f.place;

@@ -6,7 +6,7 @@ use Rattle.draid_spec.specs.declared.layout.Geometry.{Geometry}
 use Rattle.draid_perm.specs.declared.perms.Perms.{Perms}
 use Rattle.draid_machine.proofs.Small.{none_some}
 use Rattle.draid_objects.specs.Changes.{group_of}
-use Rattle.draid_session.specs.Book.{Book, doubtful, synced}
+use Rattle.draid_session.specs.Book.{Book, NamesNext, doubtful, synced}
 use Rattle.draid_session.specs.Follows.{Follows}
 use Rattle.draid_session.specs.Groups as groups
 use Rattle.draid_session.specs.Holds.{Hold, LookedUber, OnUber, UberView, View}
@@ -19,7 +19,7 @@ use Rattle.draid_session.proofs.Grouping.{Done, Steady, group_walk, steady_busy,
 use Rattle.draid_session.proofs.Lists.{all_at}
 use Rattle.draid_session.proofs.Looked.{Seen, follows_split, looks_all, looks_at, looks_seen}
 use Rattle.draid_session.proofs.Saying.{tells_later, tells_synced}
-use Rattle.draid_session.specs.Keeping.{SaysObjects, IsInStep, AreInStep, ShowsUnsynced, IsLowFloor, KeepsOpen}
+use Rattle.draid_session.specs.Keeping.{SaysObjects, IsInStep, AreInStep, ShowsUnsynced, IsLowFloor, KeepsOpen, IsUnderWay}
 
 -- ---- books
 
@@ -33,7 +33,8 @@ fit_doubt x store b f = record {
   is_open = f.is_open;
   says = record { now = f.says.now; keeps = f.says.keeps; had = f.says.had };
   low = f.low;
-  sure = λ no. absurd (cc);
+  few = (let few = f.few in omega (arith, few));
+  under = λ u. (let under = f.under u in omega (arith, under));
   told = f.told;
   some = f.some;
   steps = f.steps;
@@ -61,7 +62,8 @@ steady_fit x z store b s f = record {
   is_open = f.is_open;
   says = subst (λ n. SaysObjects n store.changes (doubtful b)) (sym s.committed) (record { now = f.says.now; keeps = f.says.keeps; had = f.says.had });
   low = (let same = s.committed in let low = f.low in omega (arith, low, same));
-  sure = λ no. absurd (cc);
+  few = (let same = s.committed in let few = f.few in omega (arith, same, few));
+  under = λ u. (let same = s.committed in let few = f.few in omega (arith, same, few));
   told = s.told ∙ f.told;
   some = (let same = s.committed in let some = f.some in omega (arith, some, same));
   steps = steady_steps x z s f.steps;
@@ -79,15 +81,22 @@ module _ (geometry : Geometry) (perms : Perms) where
       let one = d.idle k y there in
       record { idle = λ none. one.0 ∙ ap (λ n. n + 1) (sym d.committed); busy = λ t some. absurd (none_some y.world.closing t one.1 some) }
 
+  -- no group is under way
+  done_idle : (group : ℕ) (x z : State) → Done geometry perms group x z → IsUnderWay z → ⊥
+  done_idle group x z d (inl (k, y, t, there, closing)) = none_some y.world.closing t (d.idle k y there).1 closing
+  done_idle group x z d (inr pending) = (let done = sym pending ∙ d.pending in cc)
+
   -- a group was finished, of which no reply tells
-  done_fit : (group : ℕ) (x z : State) (store : Store) (b : Book) → group ≡ x.committed + 1 → Done geometry perms group x z → KeepsOpen x store b → KeepsOpen z store (doubtful b)
-  done_fit group x z store b next d f = record {
+  done_fit : (group : ℕ) (x z : State) (store : Store) (b : Book) → group ≡ x.committed + 1 → group ≤ b.group + b.refused → Done geometry perms group x z → KeepsOpen x store b
+      → KeepsOpen z store b
+  done_fit group x z store b next few d f = record {
     is_open = f.is_open;
     says =
         let t = tells_later x.committed group store.changes b (omega (arith, next)) (λ same. (let low = f.low in omega (arith, low, same, next))) f.says in
-        subst (λ n. SaysObjects n store.changes (doubtful b)) (sym d.committed) (record { now = t.now; keeps = t.keeps; had = t.had });
+        subst (λ n. SaysObjects n store.changes b) (sym d.committed) t;
     low = (let same = d.committed in let low = f.low in omega (arith, low, same, next));
-    sure = λ no. absurd (cc);
+    few = (let same = d.committed in omega (arith, same, few));
+    under = λ u. absurd (done_idle group x z d u);
     told = d.told ∙ f.told;
     some = (let same = d.committed in omega (arith, same, next));
     steps = done_steps group x z d;
@@ -113,7 +122,8 @@ module _ (geometry : Geometry) (perms : Perms) where
     says = subst (λ n. SaysObjects n store.changes (synced group b)) (sym d.committed)
         (tells_synced x.committed group store.changes b f.says (All-weaker (λ c. group_of c ≤ store.floor) (λ c. group_of c ≤ group) (λ c less. omega (arith, less, low)) store.changes f.groups));
     low = (let same = d.committed in omega (arith, same));
-    sure = λ no. (sym d.committed, d.pending);
+    few = (let same = d.committed in omega (arith, same));
+    under = λ u. absurd (done_idle group x z d u);
     told = d.told ∙ f.told;
     some = (let same = d.committed in omega (arith, same, next));
     steps = done_steps group x z d;
@@ -141,16 +151,20 @@ module _ (geometry : Geometry) (perms : Perms) where
       by None is = is
       by (Some group) is = absurd (none.0 (group, is))
 
+  -- where it is seen that a group is closing, the book says that it may be there
+  abbrev IsFew : State → Book → View → Type 0
+  IsFew x b v = (group : ℕ) → v.world.closing ≡ Some group → x.committed + 1 ≤ b.group + b.refused
+
   -- what a finishing leaves
-  record Finished (end : End) (x z : State) (store : Store) (b : Book) : Type 0 where
-    pub fit : KeepsOpen z store (doubtful b)
+  record FinishLeaves (end : End) (z : State) (store : Store) (b : Book) : Type 0 where
+    pub went : end ≡ Went → KeepsOpen z store b
+    pub stopped : (end ≡ Went → ⊥) → KeepsOpen z store (doubtful b)
     pub layout : end ≡ Went → z.geometry ≡ geometry
     pub idle : end ≡ Went → AreIdle z
 
   finishes : (holds : List Hold) (end : End) (x z : State) (store : Store) (b : Book) → groups.Finishes geometry perms holds end → Follows holds x z → x.geometry ≡ geometry
-      → KeepsOpen x store b
-      → (end ≡ Went → ⊥) ⊎ (end ≡ Went) → Finished end x z store b
-  finishes holds end x z store b f follows of fit which = by f.does
+      → KeepsOpen x store b → FinishLeaves end z store b
+  finishes holds end x z store b f follows of fit = by f.does
     where
       parts : (y : State) × Follows f.looks x y × Follows f.rest y z
       parts = follows_split f.looks f.rest x z (subst (λ hs. Follows hs x z) f.are follows)
@@ -181,32 +195,38 @@ module _ (geometry : Geometry) (perms : Perms) where
           let one = (all_at (λ v. IsInStep x.committed v.world) f.views there.0 v all there.1 there.2).busy group closing in
           one.0 ∙ ap (λ n. n + 1) (sym calm.committed)
 
-      by : (NoneOf groups.HasClosing f.views × (f.rest ≡ []) × (end ≡ Went)) ⊎ ((group : ℕ) × (v : View) × (thin : ℕ) × Contains f.views v × groups.IsClosing group v × groups.Group geometry perms group thin f.rest end)
-          → Finished end x z store b
+      -- a closing group is at most as far as the book says
+      closing_few : (group : ℕ) (v : View) → Contains f.views v → groups.IsClosing group v → x.committed + 1 ≤ b.group + b.refused
+      closing_few group v there closing = all_at (IsFew x b) f.views there.0 v all there.1 there.2 group closing
+        where
+          all : AllOf (IsFew x b) f.views
+          all = looks_all (IsFew x b) 0 geometry.props.metaslabs f.looks f.views x parts.0 f.looked parts.1 (λ k y at g is. fit.under (inl (k, y, g, at, is)))
+
+      by : (NoneOf groups.HasClosing f.views × (f.rest ≡ []) × (end ≡ Went))
+          ⊎ ((group : ℕ) × (v : View) × (thin : ℕ) × Contains f.views v × groups.IsClosing group v × groups.Group geometry perms group thin f.rest end)
+          → FinishLeaves end z store b
       by (inl none) =
           let is : z ≡ parts.0 = subst (λ hs. Follows hs parts.0 z) none.1 parts.2 in
           record {
-            fit = fit_doubt z store b (subst (λ (s : State). KeepsOpen s store b) (sym is) fit_s);
+            went = λ went. subst (λ (s : State). KeepsOpen s store b) (sym is) fit_s;
+            stopped = λ stopped. absurd (stopped none.2);
             layout = λ went. ap (λ (s : State). s.geometry) is ∙ layout_s;
             idle = λ went. subst AreIdle (sym is) (idle_s none.0);
           }
       by (inr more) =
           let next = closing_is more.0 more.1 more.3 more.4 in
+          let low = closing_few more.0 more.1 more.3 more.4 in
+          let same = calm.committed in
+          let few : more.0 ≤ b.group + b.refused = omega (arith, next, low, same) in
           let g = group_walk geometry perms more.0 more.2 f.rest end parts.0 z more.5 parts.2 next fit_s.steps fit_s.inside fit_s.place fit_s.noted layout_s in
           record {
-            fit = elim which [
-              | inl stopped ↦ steady_fit parts.0 z store b (g.1 stopped) fit_s
-              | inr went ↦ done_fit more.0 parts.0 z store b next (g.0 went) fit_s
-            ];
+            went = λ went. done_fit more.0 parts.0 z store b next few (g.0 went) fit_s;
+            stopped = λ stopped. steady_fit parts.0 z store b (g.1 stopped) fit_s;
             layout = λ went. (g.0 went).layout;
             idle = λ went k y there. ((g.0 went).idle k y there).1;
           }
 
   -- ---- a sync
-
-  went_or : (end : End) → (end ≡ Went → ⊥) ⊎ (end ≡ Went)
-  went_or Went = inr refl
-  went_or end = inl (λ h. absurd (cc))
 
   next_fit : (group thin : ℕ) (holds : List Hold) (end : End) (x z : State) (store : Store) (b : Book) → groups.Next geometry perms group thin holds end → Follows holds x z
       → x.geometry ≡ geometry
@@ -221,11 +241,12 @@ module _ (geometry : Geometry) (perms : Perms) where
   -- a sync commits a group that keeps the objects as they are, or leaves a doubt
   pub syncs_fit : (group thin : ℕ) (holds : List Hold) (end : End) (x z : State) (store : Store) (b : Book) → groups.Syncs geometry perms group thin holds end
       → Follows holds x z → x.geometry ≡ geometry
-      → KeepsOpen x store b → (end ≡ Went → (b.group < group) × KeepsOpen z store (synced group b)) × ((end ≡ Went → ⊥) → KeepsOpen z store (doubtful b))
+      → KeepsOpen x store b → (end ≡ Went → NamesNext b group × KeepsOpen z store (synced group b)) × ((end ≡ Went → ⊥) → KeepsOpen z store (doubtful b))
   syncs_fit group thin holds end x z store b (inr w) follows of fit =
-      (λ went. absurd (w.0 went), λ stopped. (finishes holds end x z store b w.1 follows of fit (inl stopped)).fit)
+      (λ went. absurd (w.0 went), λ stopped. (finishes holds end x z store b w.1 follows of fit).stopped stopped)
   syncs_fit group thin holds end x z store b (inl (front, back, are, f, next)) follows of fit =
       let parts = follows_split front back x z (subst (λ hs. Follows hs x z) are follows) in
-      let d = finishes front Went x parts.0 store b f parts.1 of fit (inr refl) in
-      let n = next_fit group thin back end parts.0 z store (doubtful b) next parts.2 (d.layout refl) (d.idle refl) d.fit in
-      (λ went. (let one = n.0 went in let low = d.fit.low in let is = one.0 in (omega (arith, low, is), one.1)), n.1)
+      let d = finishes front Went x parts.0 store b f parts.1 of fit in
+      let kept = d.went refl in
+      let n = next_fit group thin back end parts.0 z store b next parts.2 (d.layout refl) (d.idle refl) kept in
+      (λ went. (let one = n.0 went in let low = kept.low in let few = kept.few in let is = one.0 in ((omega (arith, low, is), omega (arith, few, is)), one.1)), n.1)

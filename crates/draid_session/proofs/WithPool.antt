@@ -1,5 +1,6 @@
 -- Where a pool is open: each command is answered as the book has it.
-use Rattle.std.proofs.Common.{◌≡◌, ◌≢◌, ◌∙◌, ◌<◌, ◌≤◌, ◌⊎◌, ℕ, true, false, List, [], ◌∷◌, Option, All, inl, inr, refl, sym, ap, subst, arith}
+use Rattle.std.proofs.Common.{◌≡◌, ◌≢◌, ◌∙◌, ◌<◌, ◌≤◌, ◌⊎◌, ℕ, true, false, List, [], ◌∷◌, Option, All, inl, inr, refl, sym, ap, subst, arith, Some}
+use Rattle.std.specs.Prelude.{slice_get}
 use Rattle.std.proofs.lemmas.List.Elements.{All-weaker}
 use Rattle.draid_names.specs.declared.room.Room.{Room}
 use Rattle.draid_spec.specs.declared.layout.Geometry.{Geometry}
@@ -16,15 +17,15 @@ use Rattle.draid_session.specs.Does.{Broken, Does}
 use Rattle.draid_session.specs.Follows.{Follows}
 use Rattle.draid_session.specs.Groups as groups
 use Rattle.draid_session.specs.Holds.{Hold, LookedUber, OnUber, UberView, View}
-use Rattle.draid_session.specs.Keeping.{Keeps, KeepsOpen, bytes_in}
+use Rattle.draid_session.specs.Keeping.{Keeps, KeepsOpen, bytes_in, IsUnderWay, UnsyncedIn}
 use Rattle.draid_session.specs.Looks.{AllOf, OnlyLooks}
 use Rattle.draid_session.specs.Making.{content_of}
 use Rattle.draid_session.specs.Phases.{Broke, End, NoneOf, Starved, WasLast, WasWorn, Went}
 use Rattle.draid_session.specs.Session.{CarriesOut, Cause, BreaksIn, Desk, Open, OpenTurns, RecordFails, ShelfFails, Shut, desk_behind}
-use Rattle.draid_session.specs.State.{State, Store}
+use Rattle.draid_session.specs.State.{State, Store, Metaslab}
 use Rattle.draid_session.proofs.Answering.{IsOnObjects, objects_answer}
 use Rattle.draid_session.proofs.Calm.{CalmTo, calm_follows, calm_store, follows_store, looks_calm}
-use Rattle.draid_session.proofs.Changing.{calm_fit, looks_from_calm}
+use Rattle.draid_session.proofs.Changing.{calm_fit, looks_from_calm, calm_under}
 use Rattle.draid_session.proofs.Looked.{follows_split, looks_at}
 use Rattle.draid_session.proofs.Saying.{same_or_low, tells_synced}
 use Rattle.draid_session.proofs.Shelved.{closed_shut}
@@ -87,7 +88,7 @@ kept_now : (x : State) (store : Store) (b : Book) → KeepsOpen x store b → Al
 kept_now x store b f all = by (same_or_low b.group x.committed f.low)
   where
     by : (b.group ≡ x.committed) ⊎ (b.group < x.committed) → NamesKept b x.committed
-    by (inr low) = inl low
+    by (inr low) = (let few = f.few in inl (low, omega (arith, few)))
     by (inl same) = inr (
       sym same,
       λ o. f.says.keeps same o
@@ -95,13 +96,14 @@ kept_now x store b f all = by (same_or_low b.group x.committed f.low)
           ∙ sym (f.says.now o)),
     )
 
-synced_again : (x : State) (store : Store) (b : Book) → KeepsOpen x store b → All (λ c. group_of c ≤ x.committed) store.changes → x.pending ≡ false
+synced_again : (x : State) (store : Store) (b : Book) → KeepsOpen x store b → All (λ c. group_of c ≤ x.committed) store.changes → (IsUnderWay x → ⊥)
     → KeepsOpen x store (synced x.committed b)
 synced_again x store b f all idle = record {
   is_open = f.is_open;
   says = tells_synced x.committed x.committed store.changes b f.says all;
   low = omega arith;
-  sure = λ no. (refl, idle);
+  few = omega arith;
+  under = λ u. absurd (idle u);
   told = f.told;
   some = f.some;
   steps = f.steps;
@@ -157,13 +159,25 @@ module _ (chosen : List Room → Option ℕ → Type 0) (old : State) (b : Book)
       rest : Follows e.rest parts.0 z
       rest = subst (λ (s : State). Follows e.rest s z) parts.2.1.acts parts.2.2
 
+      unsynced_none : NoneOf groups.IsUnsynced e.views → (k : ℕ) (y : Metaslab) → slice_get old.metaslabs k ≡ Some y → UnsyncedIn y.world.committed y.events → ⊥
+      unsynced_none none k y there =
+          let low = fit.inside k y there in
+          looks_at (λ v. groups.IsUnsynced v → ⊥) 0 old.geometry.props.metaslabs e.looks e.views old parts.0 e.looked parts.1 (none_at e.views none) k y (omega arith) (omega (arith, low)) there
+
       -- where no metaslab is unsynced, each change is of a committed group
       safe : NoneOf groups.IsUnsynced e.views → All (λ c. group_of c ≤ parts.0.committed) old.store.changes × (parts.0.pending ≡ false)
       safe none = elim fit.shows [
         | inl all ↦ (subst (λ n. All (λ c. group_of c ≤ n) old.store.changes) (sym calm.committed) all.0, calm.pending ∙ all.1)
-        | inr u ↦ absurd (looks_at (λ v. groups.IsUnsynced v → ⊥) 0 old.geometry.props.metaslabs e.looks e.views old parts.0 e.looked parts.1
-            (none_at e.views none) u.k u.y (omega arith) (let low = fit.inside u.k u.y u.there in omega (arith, low)) u.there u.unsynced)
+        | inr u ↦ absurd (unsynced_none none u.k u.y u.there u.unsynced)
       ]
+
+      -- nor is a group under way
+      not_under : NoneOf groups.IsUnsynced e.views → IsUnderWay parts.0 → ⊥
+      not_under none u = by (calm_under old parts.0 calm u)
+        where
+          by : IsUnderWay old → ⊥
+          by (inl (k, y, t, there, closing)) = unsynced_none none k y there ((fit.noted k y there).closes t closing).1
+          by (inr pending) = (let idle = sym pending ∙ (sym calm.pending ∙ (safe none).1) in cc)
 
       again : NoneOf groups.IsUnsynced e.views → e.rest ≡ [] → end ≡ Went → group ≡ e.u.committed → ExportLeaves group end z
       again none nothing went is = record { went = λ _. subst (λ n. NamesKept b n × KeepsOpen z old.store (synced n b)) (sym same) kept; stopped = λ other. absurd (other went) }
@@ -178,7 +192,8 @@ module _ (chosen : List Room → Option ℕ → Type 0) (old : State) (b : Book)
           stays = subst (λ hs. Follows hs parts.0 z) nothing rest
 
           kept : NamesKept b parts.0.committed × KeepsOpen z old.store (synced parts.0.committed b)
-          kept = (kept_now parts.0 old.store b seen all.0, subst (λ (s : State). KeepsOpen s old.store (synced parts.0.committed b)) (sym stays) (synced_again parts.0 old.store b seen all.0 all.1))
+          kept = (kept_now parts.0 old.store b seen all.0,
+              subst (λ (s : State). KeepsOpen s old.store (synced parts.0.committed b)) (sym stays) (synced_again parts.0 old.store b seen all.0 (not_under none)))
 
       sync : (thin : ℕ) → groups.Syncs old.geometry old.perms group thin e.rest end → ExportLeaves group end z
       sync thin s =

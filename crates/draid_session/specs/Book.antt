@@ -1,5 +1,5 @@
 -- The book of a session, in words of objects alone: which objects there are, with their bytes, what a group keeps of them, and what each reply says of that.
-use Rattle.std.specs.Prelude.{◌≡◌, ◌≢◌, ◌==◌, ◌+◌, ◌<◌, ◌⊎◌, ◌↔◌, ⊤, ℕ, zero, suc, Bool, true, false, List, [], ◌∷◌, Option, Some, None, Result, Ok, Contains, flat_map, length, if◌then◌else◌}
+use Rattle.std.specs.Prelude.{◌≡◌, ◌≢◌, ◌==◌, ◌+◌, ◌<◌, ◌≤◌, ◌⊎◌, ◌↔◌, ⊤, ℕ, zero, suc, Bool, true, false, List, [], ◌∷◌, Option, Some, None, Result, Ok, Contains, flat_map, length, if◌then◌else◌}
 use Rattle.std.specs.List.Sorted.{IsStrictlyIncreasing}
 use Rattle.sha2.specs.Sha256.{sha256}
 use Rattle.draid_names.specs.declared.refusal.ObjectFault.{ObjectFault}
@@ -51,22 +51,22 @@ pub record AreMany (objects : Objects) (many : ℕ) : Type 0 where
 -- ---- the book
 
 -- Whether a pool is open. The objects as they are now. The last group that a reply named, 0 where none did; the objects as it keeps them; and as they were after each
--- change since, the newest first. And whether a later group may be there, as one was refused.
+-- change since, the newest first. And how many groups were refused since, which may be there all the same.
 pub record Book : Type 0 where
   pub is_open : Bool
   pub now : Objects
   pub group : ℕ
   pub kept : Objects
   pub since : List Objects
-  pub later : Bool
+  pub refused : ℕ
 
 -- no pool is open, and there is none
 abbrev pub blank : Book
-blank = record { is_open = false; now = no_objects; group = 0; kept = no_objects; since = []; later = false }
+blank = record { is_open = false; now = no_objects; group = 0; kept = no_objects; since = []; refused = 0 }
 
 -- one is open, with these objects, which this group keeps
 abbrev pub opened : ℕ → Objects → Book
-opened group objects = record { is_open = true; now = objects; group = group; kept = objects; since = []; later = false }
+opened group objects = record { is_open = true; now = objects; group = group; kept = objects; since = []; refused = 0 }
 
 -- an object is written, or freed
 abbrev pub changed : ℕ → Option (List ℕ) → Book → Book
@@ -79,15 +79,15 @@ filled content first (suc n) book = changed (first + n) (Some (content (first + 
 
 -- a group keeps the objects as they are now
 abbrev pub synced : ℕ → Book → Book
-synced group book = record book { group = group; kept = book.now; since = []; later = false }
+synced group book = record book { group = group; kept = book.now; since = []; refused = 0 }
 
 -- a group was refused, which may be there all the same
 abbrev pub doubtful : Book → Book
-doubtful book = record book { later = true }
+doubtful book = record book { refused = book.refused + 1 }
 
--- no later group is there
+-- none that was refused is there
 abbrev pub certain : Book → Book
-certain book = record book { later = false }
+certain book = record book { refused = 0 }
 
 -- the pool is given back
 abbrev pub closed : Book → Book
@@ -104,12 +104,12 @@ WasSo (objects ∷ more) object bytes = (bytes ≡ objects object) ⊎ WasSo mor
 abbrev pub HasHad : Book → ℕ → Option (List ℕ) → Type 0
 HasHad book object bytes = (bytes ≡ book.kept object) ⊎ WasSo book.since object bytes
 
--- Which group may be found, with which objects: the last that a reply named, with what it keeps; or a later one, where one may be there, and then each object is as it was at some
--- time since.
+-- Which group may be found, with which objects: the last that a reply named, with what it keeps; or a later one, by at most as many as were refused, and then each object is as it
+-- was at some time since.
 abbrev pub MayBeFound : Book → ℕ → Objects → Type 0
 MayBeFound book group objects =
     ((group ≡ book.group) × ((object : ℕ) → objects object ≡ book.kept object))
-    ⊎ ((book.later ≡ true) × (book.group < group) × ((object : ℕ) → HasHad book object (objects object)))
+    ⊎ ((book.group < group) × (group ≤ book.group + book.refused) × ((object : ℕ) → HasHad book object (objects object)))
 
 -- an import takes up a group that is found, with so many objects
 pub record TakesUp (old : Book) (group many : ℕ) (new : Book) : Type 0 where
@@ -143,9 +143,13 @@ pub record IsDigest (objects : Objects) (first count : ℕ) (digest : List ℕ) 
   pub have : HaveContents objects first contents
   pub is : digest ≡ sha256 (flat_map (λ bytes. bytes) contents)
 
--- An export names a later group than any reply before; or the last one again, where that keeps the objects as they are.
+-- A sync names the group behind the last that a reply named, or behind those that were refused since.
+abbrev pub NamesNext : Book → ℕ → Type 0
+NamesNext old group = (old.group < group) × (group ≤ old.group + old.refused + 1)
+
+-- An export names such a one; or the last one again, where that keeps the objects as they are.
 abbrev pub NamesKept : Book → ℕ → Type 0
-NamesKept old group = (old.group < group) ⊎ ((group ≡ old.group) × ((object : ℕ) → old.kept object ≡ old.now object))
+NamesKept old group = NamesNext old group ⊎ ((group ≡ old.group) × ((object : ℕ) → old.kept object ≡ old.now object))
 
 -- the text of a status in its format
 abbrev pub text_in : StatusFormat → View → List ℕ
@@ -156,12 +160,13 @@ text_in format.Json view = json_of view
 abbrev pub LeavesNone : Book → Book → Type 0
 LeavesNone old new = (new ≡ old) ⊎ (new ≡ doubtful blank)
 
--- A status tells how many objects there are, and which group is committed: the last that a reply named, or a later one where one may be there.
+-- A status tells how many objects there are, and which group is committed: the last that a reply named, or a later one, by at most as many as were refused.
 pub record IsStatusOf (old : Book) (format : StatusFormat) (text : List ℕ) : Type 0 where
   pub view : View
   pub text_is : text ≡ text_in format view
   pub objects : AreMany old.now view.objects
-  pub group : (view.group ≡ old.group) ⊎ ((old.later ≡ true) × (old.group < view.group))
+  pub last : old.group ≤ view.group
+  pub few : view.group ≤ old.group + old.refused
 
 -- what a command does where a pool is open
 abbrev pub OpenAnswers : Book → Command → Reply → Book → Type 0
@@ -184,7 +189,7 @@ OpenAnswers old (ReadObject object) (NoMemory name.Read) new = new ≡ old
 OpenAnswers old (SumObjects first count) (Summed f c digest) new = (f ≡ first) × (c ≡ count) × IsDigest old.now first count digest × (new ≡ old)
 OpenAnswers old (SumObjects first count) (SumRefused object why) new = IsFirstLost old.now first count object why × (new ≡ old)
 OpenAnswers old (SumObjects first count) (NoMemory name.Sum) new = new ≡ old
-OpenAnswers old SyncPool (Synced group thin) new = (old.group < group) × (new ≡ synced group old)
+OpenAnswers old SyncPool (Synced group thin) new = NamesNext old group × (new ≡ synced group old)
 OpenAnswers old SyncPool (Worn name.Sync) new = new ≡ doubtful old
 OpenAnswers old SyncPool (Last name.Sync) new = new ≡ doubtful old
 OpenAnswers old SyncPool (NoMemory name.Sync) new = new ≡ doubtful old

@@ -80,18 +80,24 @@ pub record HasAhead (x : State) : Type 0 where
 abbrev pub ShowsUnsynced : State → Store → Type 0
 ShowsUnsynced x store = (All (λ c. group_of c ≤ x.committed) store.changes × (x.pending ≡ false)) ⊎ HasUnsynced x
 
+-- a group is under way: it is closing in some metaslab, or its commit was refused
+abbrev pub IsUnderWay : State → Type 0
+IsUnderWay x =
+    ((k : ℕ) × (y : Metaslab) × (group : ℕ) × (slice_get x.metaslabs k ≡ Some y) × (y.world.closing ≡ Some group)) ⊎ (x.pending ≡ true)
+
 -- no call used a group behind the open one
 abbrev pub IsLowFloor : State → ℕ → Type 0
 IsLowFloor x floor = (floor ≤ x.committed + 1) ⊎ ((floor ≤ x.committed + 2) × HasAhead x)
 
 -- ---- desks
 
--- An open pool, of which the changes are of this store. Where the book says that no later group is there, its last group is the committed one, and no commit was refused.
+-- An open pool, of which the changes are of this store. The committed group is the last that a reply named or a later one, by at most as many as were refused; so is one that is under way.
 pub record KeepsOpen (x : State) (store : Store) (book : Book) : Type 0 where
   pub is_open : book.is_open ≡ true
   pub says : SaysObjects x.committed store.changes book
   pub low : book.group ≤ x.committed
-  pub sure : book.later ≡ false → (book.group ≡ x.committed) × (x.pending ≡ false)
+  pub few : x.committed ≤ book.group + book.refused
+  pub under : IsUnderWay x → x.committed + 1 ≤ book.group + book.refused
   pub told : x.told ≡ true
   pub some : 0 < x.committed
   pub steps : AreInStep x
@@ -108,7 +114,8 @@ pub record KeepsShut (x : State) (book : Book) : Type 0 where
   pub keeps : book.group ≡ x.committed → (o : ℕ) → book.kept o ≡ bytes_in (kept x.committed x.store.changes o)
   pub had : (group o : ℕ) → x.committed ≤ group → HasHad book o (bytes_in (kept group x.store.changes o))
   pub low : book.group ≤ x.committed
-  pub sure : book.later ≡ false → (book.group ≡ x.committed) × (x.pending ≡ false)
+  pub few : x.committed ≤ book.group + book.refused
+  pub under : x.pending ≡ true → x.committed + 1 ≤ book.group + book.refused
   pub told : x.told ≡ true
   pub inside : AreInside x
   pub place : HasMetaslab x
