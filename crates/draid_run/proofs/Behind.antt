@@ -1,12 +1,12 @@
 -- Which replies leave the pool open.
-use Rattle.std.proofs.Common.{◌≡◌, refl, Option, Some}
+use Rattle.std.proofs.Common.{◌≡◌, refl, Some}
 use Rattle.std.specs.Prelude.{⊤}
-use Rattle.draid_script.specs.Line.{Command, Silent, CreatePool, ImportPool, ExportPool, SyncPool, CancelPasses, CrashPool, WriteObject, FillObjects, ReadObject, FreeObject, SumObjects, TakeOffline, TakeOnline, DamageSector, AttachSpare, ReplaceDisk, DetachArm, RebuildPool, ScrubPool, RebalanceSlot, ShowStatus, OpenLanes, UpgradePool, RunAgent, ShowJournal, TakeCheckpoint, RewindPool, DiscardCheckpoint}
+use Rattle.draid_script.specs.Line.{Command, SyncPool, WriteObject, FillObjects, ReadObject, FreeObject, SumObjects, DamageSector, ShowStatus}
 use Rattle.draid_script.specs.declared.name.CommandName.{CommandName}
 use Rattle.draid_reply.specs.declared.reply.Reply.{Reply}
 use Rattle.draid_reply.specs.declared.reply.Reply.TheVariants.{Crashed, Exported}
 use Rattle.draid_session.specs.Replies.{IsReplyTo}
-use Rattle.draid_session.specs.Session.{Desk, Open, Foreign, desk_behind, foreign_behind}
+use Rattle.draid_session.specs.Session.{Open, Foreign, desk_behind, foreign_behind}
 use Rattle.draid_session.specs.State.{State}
 use Rattle.draid_run.specs.Desks.{asked_in}
 

@@ -1,6 +1,6 @@
 -- The pool that is open is given back to the shelf.
-use Rattle.std.proofs.Common.{◌≡◌, ◌∙◌, inl, inr, arith, refl, sym, subst, ℕ, Bool, true, false, Option, Some, None, MatchOption}
-use Rattle.std.specs.Prelude.{IsSomeAnd, is_some}
+use Rattle.std.proofs.Common.{◌≡◌, ◌∙◌, inl, inr, arith, refl, sym, subst, ℕ, Bool, false, Option, Some, None, MatchOption}
+use Rattle.std.specs.Prelude.{IsSomeAnd}
 use Rattle.draid_rack.specs.declared.Rack as racks
 use Rattle.draid_area.specs.Area.{Content}
 use Rattle.draid_area.specs.declared.Area as areas

@@ -247,11 +247,11 @@ module _ {R A : Type 0} (rack : racks.Ghosts R) (area : areas.Ghosts A) (chosen 
   pub by_crash : (x : Desk) (reply : Reply) (new : Option (Pool R A)) → CrashDid rack area entry x reply now new → Turned rack area chosen (Ok CrashPool) entry x (Some reply) now new
   by_crash x reply new did = record { new = did.new; desk = did.desk; turns = by x did.turns } where
     by : (x : Desk) → CrashTurns x reply did.new → TurnsTo CrashPool x reply did.new
-    by Untouched turns = (name.Crash, refl, turns)
-    by (Made tells count geometry) turns = (name.Crash, refl, turns)
-    by (Shut crash y) turns = (name.Crash, refl, turns)
-    by Bare turns = (name.Crash, refl, turns)
-    by Unknown turns = (name.Crash, refl, turns)
+    by Untouched turns = (name.Crash, refl, turns.0, turns.1)
+    by (Made tells count geometry) turns = (name.Crash, refl, turns.0, turns.1)
+    by (Shut crash y) turns = (name.Crash, refl, turns.0, turns.1)
+    by Bare turns = (name.Crash, refl, turns.0, turns.1)
+    by Unknown turns = (name.Crash, refl, turns.0, turns.1)
     by Foreign turns = subst (λ r. TurnsTo CrashPool Foreign r did.new) (sym turns.0) (tt, turns.1)
     by (Open y) turns = subst (λ r. TurnsTo CrashPool (Open y) r did.new) (sym turns.0)
         (y, record { holds = []; mid = y; store = y.store; follows = refl; does = (refl, refl); made = refl }, turns.1)
@@ -409,12 +409,12 @@ module _ {R A : Type 0} (rack : racks.Ghosts R) (area : areas.Ghosts A) (entry b
   pub crashed : ((y : State) → Represents rack area was y → GivesBack y true before.held now.held now.leaves now.counts now.own.uber) → now.own.checks ≡ before.own.checks → TellsAsBefore before now
       → (left : Option (Pool R A)) → left ≡ None → (x : Desk) → IsDesk rack area entry before desk x → CrashDid rack area entry x Crashed now left
   crashed back checks tells left none = on_open (λ x. CrashDid rack area entry x Crashed now left) (λ y stands out. record {
-      new = Shut true y;
-      desk = record { stands = subst (λ l. IsPool rack area l (Shut true y)) (sym none) tt; shelf = shelf_has y true before now (back y stands) checks tells out };
-      turns = (refl, refl);
-    })
-    (record {
-      new = Unknown;
-      desk = record { stands = subst (λ l. IsPool rack area l Unknown) (sym none) tt; shelf = tt };
-      turns = (refl, refl);
-    })
+    new = Shut true y;
+    desk = record { stands = subst (λ l. IsPool rack area l (Shut true y)) (sym none) tt; shelf = shelf_has y true before now (back y stands) checks tells out };
+    turns = (refl, refl);
+  })
+      (record {
+        new = Unknown;
+        desk = record { stands = subst (λ l. IsPool rack area l Unknown) (sym none) tt; shelf = tt };
+        turns = (refl, refl);
+      })

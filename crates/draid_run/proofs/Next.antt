@@ -13,11 +13,10 @@ use Rattle.draid_script.specs.Line.{CrashPool, ImportPool}
 use Rattle.draid_reply.specs.declared.reply.Reply.{Reply}
 use Rattle.draid_reply.specs.declared.reply.Reply.TheVariants.{Crashed, Imported}
 use Rattle.draid_shelf.specs.Kits.{AreNewChecks, Both, ChecksTold, CrashedChecks, CrashedHeld, CrashedKit, Held, IsNewArea, IsNewRack, KitCounts, KitTold, OnHeld, uber_bytes}
-use Rattle.draid_session.specs.Session.{Agrees, Desk, Finding, Untouched, Bare, Made, Open, Shut, Foreign, Unknown, KnowsShelf, Runs, TurnsBy, left_of}
+use Rattle.draid_session.specs.Session.{Agrees, Desk, Finding, Untouched, Bare, Made, Open, Shut, Foreign, Unknown, KnowsShelf, Runs, left_of}
 use Rattle.draid_session.specs.State.{State}
 use Rattle.draid_session.proofs.Again.{crash_found, runs_known}
 use Rattle.draid_pool.specs.Closing.{HoldsPool, SameCounts}
-use Rattle.draid_pool.specs.Importable.{IsImportable}
 use Rattle.draid_pool.specs.Opening.{HoldsMade}
 use Rattle.draid_pool.proofs.Closed.{rests_crashed}
 use Rattle.draid_pool.proofs.ImportClosed.{importable_left}

@@ -1,5 +1,5 @@
 -- Runs one after another over one shelf, and what a run tells of crashes.
-use Rattle.std.specs.Prelude.{◌≡◌, ◌∷◌, ◌++◌, ℕ, Bool, true, false, List, Option, Some}
+use Rattle.std.specs.Prelude.{◌≡◌, ℕ, Bool, true, false, List, Option}
 use Rattle.draid_names.specs.declared.room.Room.{Room}
 use Rattle.draid_reply.specs.declared.reply.Reply.{Reply}
 use Rattle.draid_shelf.specs.Kits.{Both, CrashedHeld}

@@ -1,4 +1,4 @@
-use Rattle.std.proofs.Common.{subst, true}
+use Rattle.std.proofs.Common.{◌∷◌, ◌++◌, subst, true}
 use Rattle.std.specs.Fn.{FnReturnsAt}
 use Rattle.draid_session.specs.Session.{Agrees, Runs}
 use Rattle.draid_run.specs.Shelves.{MayFind}
