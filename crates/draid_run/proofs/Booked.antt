@@ -91,23 +91,24 @@ module _ {R A : Type 0} (rack : racks.Ghosts R) (area : areas.Ghosts A) (chosen 
   run_keeps : (words : List (List ℕ)) (status : Status) (input old new : Option (List ℕ)) (entry now : OnShelf) (first : Desk) (b : Book)
       → RunsFrom rack area chosen words status input old new entry now first → is_some entry.held ≡ true → Keeps first b
       → (later : Book) × KeepsBook words status input old new b later × Leaves now later
-  run_keeps words status input old new entry now first b it tells keeps =
-      (closed ends.book,
-      record {
-        lines = it.session.lines;
-        replies = it.session.replies;
-        shown = it.session.shown;
-        ended = it.session.ended;
-        broken = it.session.broken;
-        usage = it.session.usage;
-        refused = it.session.refused;
-        answers = record { mid = all.book; last = ends.book; answers = all.answers; ends = ends.ends; made = refl };
-        broke = ends.broke;
-        ends = it.session.ends;
-        shows = it.session.shows;
-        prints = it.session.prints;
-      },
-      record { last = it.last; entry = entry; holds = it.shelf; tells = now_tells; keeps = left_keeps it.last ends.book ends.keeps })
+  run_keeps words status input old new entry now first b it tells keeps = (
+    closed ends.book,
+    record {
+      lines = it.session.lines;
+      replies = it.session.replies;
+      shown = it.session.shown;
+      ended = it.session.ended;
+      broken = it.session.broken;
+      usage = it.session.usage;
+      refused = it.session.refused;
+      answers = record { mid = all.book; last = ends.book; answers = all.answers; ends = ends.ends; made = refl };
+      broke = ends.broke;
+      ends = it.session.ends;
+      shows = it.session.shows;
+      prints = it.session.prints;
+    },
+    record { last = it.last; entry = entry; holds = it.shelf; tells = now_tells; keeps = left_keeps it.last ends.book ends.keeps },
+  )
     where
       now_tells : is_some now.held ≡ true
       now_tells = it.tells ∙ tells

@@ -192,8 +192,10 @@ module _ (chosen : List Room → Option ℕ → Type 0) (old : State) (b : Book)
           stays = subst (λ hs. Follows hs parts.0 z) nothing rest
 
           kept : NamesKept b parts.0.committed × KeepsOpen z old.store (synced parts.0.committed b)
-          kept = (kept_now parts.0 old.store b seen all.0,
-              subst (λ (s : State). KeepsOpen s old.store (synced parts.0.committed b)) (sym stays) (synced_again parts.0 old.store b seen all.0 (not_under none)))
+          kept = (
+            kept_now parts.0 old.store b seen all.0,
+            subst (λ (s : State). KeepsOpen s old.store (synced parts.0.committed b)) (sym stays) (synced_again parts.0 old.store b seen all.0 (not_under none)),
+          )
 
       sync : (thin : ℕ) → groups.Syncs old.geometry old.perms group thin e.rest end → ExportLeaves group end z
       sync thin s =

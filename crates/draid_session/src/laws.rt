@@ -70,7 +70,8 @@ pub fn sessions_keep_the_book<F: Fn(&[Room]) -> Option<u32>>(chooser: &F)
         → (later : Book) × AnswersAll book lines replies later × Keeps new later }
 {}
 
-/// Law: and so does the end of a run: where a device fails in a command, and where a pool that is open is given back.
+/// Law: the end of a run is as a book has it too: where a device fails in a command, and where a pool that is open is given
+/// back. No run that keeps a book ends by a fault in a record.
 pub fn endings_keep_the_book()
     ensures breaks { (cause : Cause) (old new : Desk) (book : Book) (command : Command)
         → Keeps old book → Breaks cause old command new → Agrees true new → (later : Book) × BreaksBook book command later × Keeps new later }
