@@ -1,5 +1,6 @@
 pub mod Asking
 pub mod Behind
+pub mod Booked
 pub mod Broke
 pub mod Ended
 pub mod Ending

@@ -1,3 +1,4 @@
+pub mod Books
 pub mod Desks
 pub mod Ending
 pub mod Groups

@@ -3,6 +3,7 @@
 #![tactic(auto)]
 
 mod answer;
+mod books;
 mod fill;
 mod groups;
 mod importing;
@@ -14,6 +15,7 @@ mod status;
 mod top;
 mod words;
 
+pub use books::runs_keep_the_book;
 pub use laws::{
     crashed_pools_are_found_again, new_shelves_have_no_pool, runs_follow_one_another,
     undisturbed_runs_are_done,

@@ -1,9 +1,11 @@
+pub mod Book
 pub mod Certain
 pub mod Damage
 pub mod Does
 pub mod Follows
 pub mod Groups
 pub mod Holds
+pub mod Keeping
 pub mod Looks
 pub mod Making
 pub mod Opening

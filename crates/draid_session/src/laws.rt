@@ -1,15 +1,20 @@
-ghost use Rattle.std.specs.Prelude.{◌≡◌, ◌<◌, ℕ, List, Option, Some};
+ghost use Rattle.std.specs.Prelude.{◌≡◌, ◌<◌, ℕ, false, true, List, Option, Some, String};
 ghost use Rattle.std.specs.Fn.{FnReturnsAt};
+ghost use Rattle.std.specs.declared.alloc.Global.{Global as Heap};
+ghost use Rattle.std.specs.declared.vec.Vec.{Vec};
 ghost use Rattle.draid_spec.specs.declared.layout.Geometry.{Geometry};
 ghost use Rattle.draid_perm.specs.declared.perms.Perms.{Perms};
 ghost use Rattle.draid_objects.specs.Changes.{Write, write_of};
 ghost use Rattle.draid_reply.specs.declared.reply.Reply.{Reply};
-ghost use Rattle.draid_script.specs.Line.{Command, ReadObject, SyncPool, WriteObject};
+ghost use Rattle.draid_script.specs.Line.{Command, CrashPool, FreeObject, ImportPool, ReadObject, SyncPool, WriteObject};
+ghost use Rattle.draid_session.specs.Book.{Answers, AnswersAll, Book, BreaksBook, HasHad, blank, closed};
 ghost use Rattle.draid_session.specs.Certain.{AllAnswer, EndsFailed, FailsNoPut, HasPlace, MaySync, ReadsLast, StaysReadable, SyncsNext, WritesOnce};
 ghost use Rattle.draid_session.specs.Holds.{Hold, View, layout_at};
+ghost use Rattle.draid_session.specs.Keeping.{Keeps};
 ghost use Rattle.draid_session.specs.Looks.{AllOf, Looks};
+ghost use Rattle.draid_session.specs.Reads.{ReadsAs};
 ghost use Rattle.draid_session.specs.Rooms.{FitsNowhere, stripes_for};
-ghost use Rattle.draid_session.specs.Session.{BreaksOpen, CarriesOut};
+ghost use Rattle.draid_session.specs.Session.{Agrees, Bare, Breaks, BreaksOpen, CarriesOut, Cause, Desk, IsAnything, Made, RecordFails, Runs, left_of};
 ghost use Rattle.draid_session.specs.State.{State};
 ghost use Rattle.draid_session.specs.Writes.{HasNoSpace};
 
@@ -49,4 +54,45 @@ pub fn idle_pools_are_synced<F: Fn(&[Room]) -> Option<u32>>(chooser: &F)
 /// Law: a command breaks off on an open pool where the count of an area rose in its last hold.
 pub fn broken_commands_end_failed()
     ensures { (command : Command) (old new : State) → (it : BreaksOpen command old new) → EndsFailed it.holds old new }
+{}
+
+/// Law: over a shelf that tells what it holds, lines are answered as a book has it: which objects there are, with their
+/// bytes, what a group keeps of them, and what an import finds. It is blank where there is no pool.
+pub fn sessions_keep_the_book<F: Fn(&[Room]) -> Option<u32>>(chooser: &F)
+    ensures from_blank { (lines : List (List ℕ)) (replies : List (Option Reply)) (last : Desk)
+        → Runs (FnReturnsAt F.Fn chooser.now) IsAnything true Bare lines replies last
+        → (book : Book) × AnswersAll blank lines replies book }
+
+    ensures bare { Keeps Bare blank }
+    ensures made { (failed : ℕ) (geometry : Geometry) → Keeps (Made true failed geometry) blank }
+    ensures goes_on { (lines : List (List ℕ)) (replies : List (Option Reply)) (old new : Desk) (book : Book)
+        → Keeps old book → Runs (FnReturnsAt F.Fn chooser.now) IsAnything true old lines replies new
+        → (later : Book) × AnswersAll book lines replies later × Keeps new later }
+{}
+
+/// Law: the end of a run is as a book has it too: where a device fails in a command, and where a pool that is open is given
+/// back. No run that keeps a book ends by a fault in a record.
+pub fn endings_keep_the_book()
+    ensures breaks { (cause : Cause) (old new : Desk) (book : Book) (command : Command)
+        → Keeps old book → Breaks cause old command new → Agrees true new → (later : Book) × BreaksBook book command later × Keeps new later }
+    ensures records { (old new : Desk) (book : Book) (command : Command) → Keeps old book → Breaks RecordFails old command new → ⊥ }
+    ensures left { (desk : Desk) (book : Book) → Keeps desk book → Keeps (left_of desk) (closed book) }
+{}
+
+/// Law: what follows of a book. An object is read as it was written last, and isn't where it was freed. Behind a sync, a
+/// crash and an import all objects are as they were at the sync; and behind any import each is as it was at some time
+/// since the last group that a reply named.
+pub fn books_give_back_what_was_kept()
+    ensures written { (object o p : ℕ) (bytes : List ℕ) (read : Vec ℕ Heap) (old mid new : Book)
+        → old.is_open ≡ true → Answers old (WriteObject object bytes) (Reply.Written o) mid
+        → Answers mid (ReadObject object) (Reply.Contents p read) new → ReadsAs bytes read.items }
+    ensures freed { (object o p : ℕ) (read : Vec ℕ Heap) (old mid new : Book)
+        → old.is_open ≡ true → Answers old (FreeObject object) (Reply.Freed o) mid
+        → Answers mid (ReadObject object) (Reply.Contents p read) new → ⊥ }
+    ensures synced { (group thin found many : ℕ) (called : String Heap) (old mid left new : Book)
+        → old.is_open ≡ true → Answers old SyncPool (Reply.Synced group thin) mid → Answers mid CrashPool (Reply.Crashed) left
+        → Answers left ImportPool (Reply.Imported called found many) new
+        → (found ≡ group) × ((object : ℕ) → new.now object ≡ old.now object) }
+    ensures imported { (found many object : ℕ) (called : String Heap) (old new : Book)
+        → old.is_open ≡ false → Answers old ImportPool (Reply.Imported called found many) new → HasHad old object (new.now object) }
 {}

@@ -1,0 +1,156 @@
+-- Each run is answered as the book has it, and so are runs one after another.
+use Rattle.std.proofs.Common.{◌≡◌, ◌∙◌, refl, sym, ap, subst, ℕ, Bool, true, false, List, [], ◌∷◌, Option, Some, None, Ok, MatchOption}
+use Rattle.std.specs.Prelude.{⊤, is_some, IsSomeAnd}
+use Rattle.draid_names.specs.declared.room.Room.{Room}
+use Rattle.draid_rack.specs.declared.Rack as racks
+use Rattle.draid_area.specs.declared.Area as areas
+use Rattle.draid_script.specs.Grammar.{line_of}
+use Rattle.draid_shelf.specs.Kits.{Held}
+use Rattle.draid_session.specs.Book.{AnswersRun, Book, BreaksAtLine, BreaksBook, EndsBook, blank, closed}
+use Rattle.draid_session.specs.Keeping.{Keeps}
+use Rattle.draid_session.specs.Session.{Agrees, Bare, Breaks, Desk, Finding, Foreign, Made, Open, RecordFails, Runs, ShelfFails, Shut, Unknown, Untouched, left_of}
+use Rattle.draid_session.proofs.Turning.{breaks_ends, left_keeps, no_record_fails, run_turns, AllAnswered}
+use Rattle.draid_run.specs.Books.{AreRuns, BrokeAt, KeepBook, KeepsBook, OneRun}
+use Rattle.draid_run.specs.Next.{IsFound, next_desk}
+use Rattle.draid_run.specs.Script.{BreaksAt, BreaksOff, RunIs, RunsFrom}
+use Rattle.draid_run.specs.Shelves.{HoldsBare, HoldsDesk, MayFind, OnShelf}
+use Rattle.draid_run.specs.declared.status.Status.{Status}
+use Rattle.draid_run.specs.declared.status.Status.TheVariants.{NoMemory, ShelfFault, Record}
+use Rattle.draid_run.proofs.Next.{desk_found, tells_found}
+
+-- ---- a run breaks off
+
+-- a desk whose shelf tells, agrees
+left_agrees : (desk : Desk) (entry now : OnShelf) → HoldsDesk (left_of desk) entry now → is_some now.held ≡ true → Agrees true desk
+left_agrees Untouched entry now holds tells = tt
+left_agrees Bare entry now holds tells = refl
+left_agrees (Made told failed geometry) entry now holds tells = holds.told_is ∙ tells
+left_agrees (Open x) entry now holds tells = holds.told ∙ tells
+left_agrees (Shut crash x) entry now holds tells = holds.told ∙ tells
+left_agrees Foreign entry now holds tells = tt
+left_agrees Unknown entry now holds tells = tt
+
+-- a book at the end of a run, before the pool is given back
+record EndsAt (ended : Status) (broken : Option (List ℕ)) (b : Book) (last : Desk) : Type 0 where
+  pub book : Book
+  pub ends : EndsBook broken b book
+  pub broke : BrokeAt ended broken
+  pub keeps : Keeps last book
+
+shelf_breaks : (text : List ℕ) (mid last : Desk) (b : Book) → Keeps mid b → Agrees true last → BreaksAt ShelfFails text mid last → EndsAt ShelfFault (Some text) b last
+shelf_breaks text mid last b keeps agrees it =
+    let ends = breaks_ends ShelfFails mid last b it.command keeps it.breaks agrees in
+    record { book = ends.book; ends = subst (λ line. BreaksAtLine line b ends.book) (sym it.line) ends.breaks; broke = tt; keeps = ends.keeps }
+
+no_record : (text : List ℕ) (mid last : Desk) (b : Book) → Keeps mid b → BreaksAt RecordFails text mid last → ⊥
+no_record text mid last b keeps it = no_record_fails mid last b it.command keeps it.breaks
+
+goes_through : (ended : Status) (mid last : Desk) (b : Book) → Keeps mid b → BrokeAt ended None → last ≡ mid → EndsAt ended None b last
+goes_through ended mid last b keeps broke same = record { book = b; ends = refl; broke = broke; keeps = subst (λ desk. Keeps desk b) (sym same) keeps }
+
+ends_at : (ended : Status) (broken : Option (List ℕ)) (mid last : Desk) (b : Book) → Keeps mid b → Agrees true last → BreaksOff ended broken mid last → EndsAt ended broken b last
+ends_at ShelfFault None mid last b keeps agrees off = absurd off
+ends_at ShelfFault (Some text) mid last b keeps agrees off = shelf_breaks text mid last b keeps agrees off
+ends_at (Record metaslab at kind) None mid last b keeps agrees off = absurd off
+ends_at (Record metaslab at kind) (Some text) mid last b keeps agrees off = absurd (no_record text mid last b keeps off)
+ends_at NoMemory (Some text) mid last b keeps agrees off = absurd (no_record text mid last b keeps off)
+ends_at ended None mid last b keeps agrees off = goes_through ended mid last b keeps tt off
+ends_at ended (Some text) mid last b keeps agrees off = absurd off
+
+-- ---- desks of the next run
+
+-- a desk that a shelf holds has no open pool
+holds_left : (desk : Desk) (shelf : OnShelf) → HoldsDesk desk shelf shelf → left_of desk ≡ desk
+holds_left (Open x) shelf holds = absurd holds
+holds_left Foreign shelf holds = absurd holds
+holds_left desk shelf holds = refl
+
+next_keeps : (crash : Bool) (desk : Desk) (b : Book) → Keeps (left_of desk) b → Keeps (next_desk crash desk) b
+next_keeps crash Bare b keeps = keeps
+next_keeps crash (Made told failed geometry) b keeps = keeps
+next_keeps crash (Open x) b keeps = keeps
+next_keeps true (Shut crashed x) b keeps = keeps
+next_keeps false (Shut crashed x) b keeps = keeps
+next_keeps crash desk b keeps = absurd keeps
+
+pub bare_tells : (o : Option Held) (P : Held → Type 0) → IsSomeAnd o P → is_some o ≡ true
+bare_tells None P holds = absurd holds
+bare_tells (Some held) P holds = refl
+
+module _ {R A : Type 0} (rack : racks.Ghosts R) (area : areas.Ghosts A) (chosen : List Room → Option ℕ → Type 0) where
+  -- ---- one run
+
+  -- what a run leaves on its shelf
+  record Leaves (shelf : OnShelf) (b : Book) : Type 0 where
+    pub last : Desk
+    pub entry : OnShelf
+    pub holds : HoldsDesk (left_of last) entry shelf
+    pub tells : is_some shelf.held ≡ true
+    pub keeps : Keeps (left_of last) b
+
+  run_keeps : (words : List (List ℕ)) (status : Status) (input old new : Option (List ℕ)) (entry now : OnShelf) (first : Desk) (b : Book)
+      → RunsFrom rack area chosen words status input old new entry now first → is_some entry.held ≡ true → Keeps first b
+      → (later : Book) × KeepsBook words status input old new b later × Leaves now later
+  run_keeps words status input old new entry now first b it tells keeps = (
+    closed ends.book,
+    record {
+      lines = it.session.lines;
+      replies = it.session.replies;
+      shown = it.session.shown;
+      ended = it.session.ended;
+      broken = it.session.broken;
+      usage = it.session.usage;
+      refused = it.session.refused;
+      answers = record { mid = all.book; last = ends.book; answers = all.answers; ends = ends.ends; made = refl };
+      broke = ends.broke;
+      ends = it.session.ends;
+      shows = it.session.shows;
+      prints = it.session.prints;
+    },
+    record { last = it.last; entry = entry; holds = it.shelf; tells = now_tells; keeps = left_keeps it.last ends.book ends.keeps },
+  )
+    where
+      now_tells : is_some now.held ≡ true
+      now_tells = it.tells ∙ tells
+
+      all : AllAnswered chosen (MayFind rack area entry) b it.session.lines it.session.replies it.session.mid
+      all = run_turns chosen (MayFind rack area entry) it.session.lines it.session.replies first it.session.mid b keeps
+          (subst (λ t. Runs chosen (MayFind rack area entry) t first it.session.lines it.session.replies it.session.mid) tells it.session.runs)
+
+      ends : EndsAt it.session.ended it.session.broken all.book it.last
+      ends = ends_at it.session.ended it.session.broken it.session.mid it.last all.book all.keeps (left_agrees it.last entry now it.shelf now_tells) it.session.breaks
+
+  -- ---- several runs
+
+  more_keep : (runs : List OneRun) (shelf : OnShelf) (b : Book) → Leaves shelf b → AreRuns rack area chosen shelf runs → (later : Book) × KeepBook b runs later
+  more_keep [] shelf b left are = (b, refl)
+  more_keep (run ∷ runs) shelf b left (found, is, more) =
+      let first = next_desk run.crash left.last in
+      let holds : HoldsDesk first run.entry run.entry = desk_found run.crash left.last left.entry shelf run.entry found left.holds in
+      let tells = tells_found run.crash shelf shelf run.entry found refl in
+      let keeps = next_keeps run.crash left.last b left.keeps in
+      let one = run_keeps run.words run.status run.input run.old run.new run.entry run.now first b (is first holds) (tells ∙ left.tells) keeps in
+      let rest = more_keep runs run.now one.0 one.2 more in
+      (rest.0, (one.0, one.1, rest.1))
+
+  pub runs_keep : (runs : List OneRun) (shelf : OnShelf) (desk : Desk) (b : Book) → AreRuns rack area chosen shelf runs → HoldsDesk desk shelf shelf
+      → is_some shelf.held ≡ true → Keeps desk b
+      → (later : Book) × KeepBook b runs later
+  runs_keep runs shelf desk b are holds tells keeps =
+      let same = holds_left desk shelf holds in
+      let left : Leaves shelf b = record {
+        last = desk;
+        entry = shelf;
+        holds = subst (λ d. HoldsDesk d shelf shelf) (sym same) holds;
+        tells = tells;
+        keeps = subst (λ d. Keeps d b) (sym same) keeps;
+      } in
+      more_keep runs shelf b left are
+
+  pub bare_keeps : (words : List (List ℕ)) (status : Status) (input old new : Option (List ℕ)) (entry now : OnShelf)
+      → RunIs rack area chosen words status input old new entry now → HoldsBare entry
+      → (book : Book) × KeepsBook words status input old new blank book
+  bare_keeps words status input old new entry now is bare =
+      let tells = bare_tells entry.held (λ held. held.uber ≡ None) bare in
+      let one = run_keeps words status input old new entry now Bare blank (is Bare bare) tells (record { is_shut = refl; none = refl }) in
+      (one.0, one.1)

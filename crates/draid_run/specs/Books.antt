@@ -1,0 +1,60 @@
+-- Runs in words of objects alone: what the input of a run and its sink say of the objects, and those of several runs over one shelf.
+use Rattle.std.specs.Prelude.{◌≡◌, ⊤, ℕ, Bool, List, [], ◌∷◌, Option, Some, None, MatchOption}
+use Rattle.draid_names.specs.declared.room.Room.{Room}
+use Rattle.draid_rack.specs.declared.Rack as racks
+use Rattle.draid_area.specs.declared.Area as areas
+use Rattle.draid_reply.specs.declared.reply.Reply.{Reply}
+use Rattle.draid_session.specs.Book.{AnswersRun, Book}
+use Rattle.draid_run.specs.Next.{IsFound}
+use Rattle.draid_run.specs.Script.{Ends, IsRefused, IsSession, PrintsAll, RunIs, Shows}
+use Rattle.draid_run.specs.Shelves.{OnShelf}
+use Rattle.draid_run.specs.declared.status.Status.{Status}
+use Rattle.draid_run.specs.declared.status.Status.TheVariants.{Usage, ShelfFault, Record}
+
+-- A run broke off at a line of its own just where the shelf failed. No record had a fault.
+abbrev pub BrokeAt : Status → Option (List ℕ) → Type 0
+BrokeAt ShelfFault None = ⊥
+BrokeAt ShelfFault (Some text) = ⊤
+BrokeAt (Record metaslab at kind) broken = ⊥
+BrokeAt ended None = ⊤
+BrokeAt ended (Some text) = ⊥
+
+-- A run from one book to another: lines of its input were answered by replies, as the book has it; it ended for a cause; and the sink got the replies' texts and the last line.
+pub record KeepsBook (words : List (List ℕ)) (status : Status) (input old new : Option (List ℕ)) (before after : Book) : Type 0 where
+  pub lines : List (List ℕ)
+  pub replies : List (Option Reply)
+  pub shown : List (Option Reply)
+  pub ended : Status
+  pub broken : Option (List ℕ)
+  pub usage : ended ≡ Usage → IsSession words → ⊥
+  pub refused : (IsSession words → ⊥) → IsRefused ended lines
+  pub answers : AnswersRun before lines replies broken after
+  pub broke : BrokeAt ended broken
+  pub ends : MatchOption input ⊤ (Ends ended broken lines)
+  pub shows : Shows ended replies shown
+  pub prints : PrintsAll status ended shown old new
+
+-- ---- several runs
+
+-- One of them: whether all that the shelf holds had a crash before it; its words, status and input, what its sink had got before and after, and what the shelf held before and after.
+pub record OneRun : Type 0 where
+  pub crash : Bool
+  pub words : List (List ℕ)
+  pub status : Status
+  pub input : Option (List ℕ)
+  pub old : Option (List ℕ)
+  pub new : Option (List ℕ)
+  pub entry : OnShelf
+  pub now : OnShelf
+
+-- Such runs, one after another, over a shelf that holds this at first: each finds what the one before left, or what a crash left of that.
+module _ {R A : Type 0} (rack : racks.Ghosts R) (area : areas.Ghosts A) (chosen : List Room → Option ℕ → Type 0) where
+  abbrev pub AreRuns : OnShelf → List OneRun → Type 0
+  AreRuns shelf [] = ⊤
+  AreRuns shelf (run ∷ runs) =
+      IsFound run.crash shelf run.entry × RunIs rack area chosen run.words run.status run.input run.old run.new run.entry run.now × AreRuns run.now runs
+
+-- they are answered by one book
+abbrev pub KeepBook : Book → List OneRun → Book → Type 0
+KeepBook before [] after = after ≡ before
+KeepBook before (run ∷ runs) after = (mid : Book) × KeepsBook run.words run.status run.input run.old run.new before mid × KeepBook mid runs after
